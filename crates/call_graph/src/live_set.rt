@@ -1,0 +1,88 @@
+//! The live members of a program.
+
+ghost use Rattle.std.specs.Prelude.{◌≡◌, length, IfOk, vec_len};
+ghost use Rattle.call_graph.specs.Facts.{Fits, Sized};
+
+use crate::facts::{Facts, no_facts};
+use crate::rules::{At, begin, follow};
+use crate::tables::Tables;
+use hierarchy::Hierarchy;
+use program_model::{Outside, Program};
+use std::alloc::{AllocError, Global};
+
+/// The live classes and the made ones by type number, and the live fields and methods by their numbers.
+#[derive(PartialEq, Eq, Debug, Drop)]
+pub struct LiveSet {
+    pub classes: Vec<bool>,
+    pub made: Vec<bool>,
+    pub fields: Vec<bool>,
+    pub methods: Vec<bool>,
+}
+
+/// The marks of facts.
+fn marks_of(facts: Facts) -> LiveSet
+    ensures { (p : Program) → Sized p facts → Fits p result }
+{
+    let Facts {
+        classes,
+        made,
+        fields,
+        methods,
+        called: _,
+    } = facts;
+    LiveSet {
+        classes: classes.into_marks(),
+        made: made.into_marks(),
+        fields: fields.into_marks(),
+        methods: methods.into_marks(),
+    }
+}
+
+/// All facts that follow from what the outside keeps.
+fn search(
+    alloc: Global,
+    program: &Program,
+    hierarchy: &Hierarchy,
+    outside: &Outside,
+) -> Result<Facts, AllocError>
+    ensures { IfOk result (Sized program.now) }
+{
+    let mut facts = no_facts(alloc, program)?;
+    let mut tables = Tables::new(alloc, program, hierarchy, outside)?;
+    let mut more = Vec::new(alloc);
+    let at = At { program, hierarchy };
+    begin(at, outside, &mut more)?;
+    facts.add_all(more.as_slice())?;
+    while let Some(fact) = facts.next() {
+        more.clear();
+        follow(alloc, at, &mut tables, fact, &mut more)?;
+        facts.add_all(more.as_slice())?;
+    }
+    Ok(facts)
+}
+
+/// The least sets of live classes, made classes, fields and methods with these rules.
+///
+/// - What the outside keeps is live, a conditional member where its class is, and a conditional class where its owner
+///   is. The class of a live member is live, and so are the program superclass, the interfaces and the `<clinit>` of a
+///   live class; in version 037 also the virtual methods with code of a live interface that has a `<clinit>`.
+/// - What the descriptors, annotations and first values of live members name is live, and what live bodies name.
+/// - A kept class that is neither abstract nor an interface is made, and so is one that a NewInstance of a live body
+///   names.
+/// - What a live static, direct or super call finds is live, and what each made class under the class that a virtual or
+///   interface call names finds for it.
+/// - The framework may call on a made class the methods that each object has, and where the class has a framework
+///   ancestor other than `Ljava/lang/Object;`, all its virtual methods, unless they are shut.
+///
+/// Each set has one entry for each number of its table. The only error is want of memory.
+pub fn live_members(
+    alloc: Global,
+    program: &Program,
+    hierarchy: &Hierarchy,
+    outside: &Outside,
+) -> Result<LiveSet, AllocError>
+    ensures { IfOk result (Fits program.now) }
+{
+    let facts = search(alloc, program, hierarchy, outside)?;
+    Ok(marks_of(facts))
+}

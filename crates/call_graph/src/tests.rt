@@ -1,0 +1,196 @@
+use super::*;
+use dex_base::Text;
+use hierarchy::Hierarchy;
+use program_model::{
+    Body, Class, Flags, Insn, InvokeKind, Method, MethodAt, MethodName, Outside, Program, Proto,
+    Slot, Version,
+};
+use seq::{Seq, Words};
+use std::alloc::{AllocError, Global};
+use std::test::*;
+
+fn text(alloc: Global, ascii: &str) -> Result<Text, AllocError> {
+    let mut units = Vec::new(alloc);
+    for byte in ascii.as_bytes() {
+        units.push(u16::from(*byte))?;
+    }
+    Ok(Text::from_vec(units))
+}
+
+fn make_method(alloc: Global, name: u32, flags: u32, insns: Vec<Insn>) -> Method {
+    Method {
+        name,
+        flags: Flags(flags),
+        marks: Seq::new(alloc),
+        parameter_marks: Seq::new(alloc),
+        body: Some(Body {
+            registers: 2,
+            ins: 1,
+            insns: Seq::of_vec(insns),
+            regions: Seq::new(alloc),
+        }),
+        lines: Seq::new(alloc),
+    }
+}
+
+fn make_class(alloc: Global, name: u32, superclass: u32, methods: Vec<Method>) -> Class {
+    Class {
+        name,
+        flags: Flags(1),
+        superclass,
+        interfaces: Seq::new(alloc),
+        source: None,
+        marks: Seq::new(alloc),
+        fields: Seq::new(alloc),
+        methods: Seq::of_vec(methods),
+    }
+}
+
+/// Types 0 `I`, 1 Object, 2 `LA;`, 3 `LB;`; proto `(I)I`; methods 0 A.m, 1 B.f, 2 B.g.
+fn pools(alloc: Global) -> Result<Program, AllocError> {
+    let mut program = Program {
+        strings: Seq::new(alloc),
+        types: Seq::new(alloc),
+        protos: Seq::new(alloc),
+        fields: Seq::new(alloc),
+        methods: Seq::new(alloc),
+        classes: Seq::new(alloc),
+        version: Version::V035,
+    };
+    for string in ["I", "Ljava/lang/Object;", "LA;", "LB;", "f", "g", "m"] {
+        program.strings.push(text(alloc, string)?)?;
+    }
+    for number in 0..4 {
+        program.types.push(number)?;
+    }
+    program.protos.push(Proto {
+        shorty: 0,
+        result: 0,
+        parameters: Seq::of_vec(Vec::from_slice(alloc, &[0])?),
+    })?;
+    for (class, name) in [(2, 6), (3, 4), (3, 5)] {
+        program.methods.push(MethodName {
+            class,
+            proto: 0,
+            name,
+        })?;
+    }
+    Ok(program)
+}
+
+fn returns(alloc: Global) -> Result<Vec<Insn>, AllocError> {
+    let mut insns = Vec::new(alloc);
+    insns.push(Insn::Return {
+        slot: Slot::Word,
+        from: 0,
+    })?;
+    Ok(insns)
+}
+
+fn calls(alloc: Global, kind: InvokeKind, method: u32) -> Result<Vec<Insn>, AllocError> {
+    let mut insns = Vec::new(alloc);
+    insns.push(Insn::NewInstance { to: 0, kind: 3 })?;
+    insns.push(Insn::Invoke {
+        kind,
+        method,
+        args: Words::of_slice(alloc, &[0])?,
+    })?;
+    insns.push(Insn::Return {
+        slot: Slot::Word,
+        from: 0,
+    })?;
+    Ok(insns)
+}
+
+/// A.m calls B.f; nothing calls B.g.
+fn two_classes(alloc: Global, kind: InvokeKind, flags: u32) -> Result<Program, AllocError> {
+    let mut program = pools(alloc)?;
+    let mut of_a = Vec::new(alloc);
+    of_a.push(make_method(alloc, 0, 9, calls(alloc, kind, 1)?))?;
+    let mut of_b = Vec::new(alloc);
+    of_b.push(make_method(alloc, 1, flags, returns(alloc)?))?;
+    of_b.push(make_method(alloc, 2, flags, returns(alloc)?))?;
+    program.classes.push(make_class(alloc, 2, 1, of_a))?;
+    program.classes.push(make_class(alloc, 3, 1, of_b))?;
+    Ok(program)
+}
+
+fn keeps(
+    alloc: Global,
+    classes: &[u32],
+    methods: &[u32],
+    methods_if: &[u32],
+) -> Result<Outside, AllocError> {
+    Ok(Outside {
+        classes: Seq::of_vec(Vec::from_slice(alloc, classes)?),
+        methods: Seq::of_vec(Vec::from_slice(alloc, methods)?),
+        fields: Seq::new(alloc),
+        methods_if: Seq::of_vec(Vec::from_slice(alloc, methods_if)?),
+        fields_if: Seq::new(alloc),
+        classes_if: Seq::new(alloc),
+        shrink: true,
+        optimise: true,
+        silent: Seq::new(alloc),
+        shut: Seq::new(alloc),
+    })
+}
+
+#[test]
+fn what_a_kept_method_calls_is_live(rt: HostRuntime) -> Result<(), Fail> {
+    let alloc = rt.alloc();
+    let program = two_classes(alloc, InvokeKind::Static, 9)?;
+    let tables = Hierarchy::build(alloc, &program)?;
+    let live = live_members(alloc, &program, &tables, &keeps(alloc, &[2], &[0], &[])?)?;
+    assert_eq!(rt;
+        live.classes.as_slice(),
+        [false, false, true, true].as_slice()
+    );
+    assert_eq!(rt; live.made.as_slice(), [false, false, true, true].as_slice());
+    assert_eq!(rt; live.methods.as_slice(), [true, true, false].as_slice());
+    Ok(())
+}
+
+#[test]
+fn a_virtual_call_finds_what_made_objects_have(rt: HostRuntime) -> Result<(), Fail> {
+    let alloc = rt.alloc();
+    let program = two_classes(alloc, InvokeKind::Virtual, 1)?;
+    let tables = Hierarchy::build(alloc, &program)?;
+    let live = live_members(alloc, &program, &tables, &keeps(alloc, &[2], &[0], &[])?)?;
+    assert_eq!(rt; live.methods.as_slice(), [true, true, false].as_slice());
+    let edges = callees(
+        alloc,
+        &program,
+        &tables,
+        &live,
+        MethodAt { class: 0, place: 0 },
+    )?;
+    let wanted = [Edge {
+        position: 1,
+        target: MethodAt { class: 1, place: 0 },
+    }];
+    assert_eq!(rt; edges.as_slice(), wanted.as_slice());
+    Ok(())
+}
+
+#[test]
+fn nothing_kept_is_nothing_live(rt: HostRuntime) -> Result<(), Fail> {
+    let alloc = rt.alloc();
+    let program = two_classes(alloc, InvokeKind::Static, 9)?;
+    let tables = Hierarchy::build(alloc, &program)?;
+    let live = live_members(alloc, &program, &tables, &keeps(alloc, &[], &[], &[])?)?;
+    assert_eq!(rt; live.classes.as_slice(), [false; 4].as_slice());
+    assert_eq!(rt; live.methods.as_slice(), [false; 3].as_slice());
+    Ok(())
+}
+
+#[test]
+fn a_conditional_method_is_live_with_its_class(rt: HostRuntime) -> Result<(), Fail> {
+    let alloc = rt.alloc();
+    let program = two_classes(alloc, InvokeKind::Static, 9)?;
+    let tables = Hierarchy::build(alloc, &program)?;
+    let live = live_members(alloc, &program, &tables, &keeps(alloc, &[2], &[0], &[2])?)?;
+    assert_eq!(rt; live.methods.as_slice(), [true, true, true].as_slice());
+    let live = live_members(alloc, &program, &tables, &keeps(alloc, &[], &[], &[2])?)?;
+    assert_eq!(rt; live.methods.as_slice(), [false; 3].as_slice());
+    Ok(())
+}

@@ -1,0 +1,9 @@
+pub mod Branches
+pub mod Checks
+pub mod Fields
+pub mod Forms
+pub mod Marks
+pub mod Opcodes
+pub mod Order
+pub mod Payloads
+pub mod Regions

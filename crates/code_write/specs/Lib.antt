@@ -1,0 +1,10 @@
+pub mod Places
+pub mod Opcodes
+pub mod Fields
+pub mod Units
+pub mod Code
+pub mod Payloads
+pub mod Handlers
+pub mod Tries
+pub mod Items
+pub mod Lists

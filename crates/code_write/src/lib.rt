@@ -1,0 +1,20 @@
+//! The code of a method as a code item spells it: each instruction in the first spelling with room, the payloads at
+//! even units behind the code, the ranges under handlers and each different list of handlers once.
+#![tactic(auto)]
+
+mod bytes;
+mod fields;
+mod handlers;
+mod insn;
+mod item;
+mod lists;
+mod opcode;
+mod payload;
+mod places;
+mod tries;
+mod units;
+
+pub use item::{CodeBytes, write_body, write_body_with};
+
+#[cfg(test)]
+mod tests;

@@ -1,0 +1,13 @@
+pub mod Signed
+pub mod TextReading
+pub mod AdlerLemmas
+pub mod Decides
+pub mod Chained
+pub mod Loop
+pub mod Words
+pub mod LebReading
+pub mod Units
+pub mod Texts
+pub mod Written
+pub mod Names
+pub mod DescriptorReading

@@ -1,0 +1,12 @@
+pub mod Loop
+pub mod Shorties
+pub mod Ranges
+pub mod Tags
+pub mod Texts
+pub mod Appends
+pub mod Names
+pub mod Longer
+pub mod Finding
+pub mod Fields
+pub mod TableReading
+pub mod PoolReading

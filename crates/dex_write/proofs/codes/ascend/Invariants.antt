@@ -1,0 +1,6 @@
+use Rattle.std.proofs.Common.{drop}
+use Rattle.line_tables.specs.Text.{AscendsFrom}
+use Rattle.dex_write.proofs.codes.ascend.Given as goal
+
+abbrev pub invariant-loop-start : goal.invariant-loop-start
+invariant-loop-start l = AscendsFrom l.low (drop l.start-index l.starts) → AscendsFrom 0 l.starts

@@ -1,0 +1,277 @@
+//! What calls find.
+
+ghost use Rattle.std.specs.Prelude.{◌≡◌, false, slice_index_or};
+ghost use Rattle.std.specs.Option.{option_copied};
+ghost use Rattle.program_model.specs.Lookups.{method_at};
+ghost use Rattle.hierarchy.specs.Tables.{read_at};
+
+use crate::build::Hierarchy;
+use crate::members::{is_virtual, key_of};
+use crate::table::{is_on, read};
+use crate::walk::Walk;
+use program_model::{Method, MethodAt, Program, Version};
+use std::alloc::{AllocError, Global};
+
+/// What the candidates of interfaces give: no method with code, just one that stands in no interface above another
+/// candidate's, or several, which clash.
+#[derive(Clone, Copy, PartialEq, Eq, Debug, Drop)]
+pub enum Given {
+    Nothing,
+    One(MethodAt),
+    Clash,
+}
+
+/// The method at a place, none past the end.
+pub fn method_at(program: &Program, at: MethodAt) -> Option<&Method>
+    ensures { option_copied result ≡ method_at program.now at }
+{
+    match program.classes.as_slice().get(at.class as usize) {
+        Some(class) => class.methods.as_slice().get(at.place as usize),
+        None => None,
+    }
+}
+
+impl Hierarchy {
+    /// The place of the class that defines a type.
+    pub fn place_of(&self, kind: u32) -> Option<u32>
+        ensures { result ≡ read_at self.now.shape.places.items kind }
+    {
+        read(self.shape.places.as_slice(), kind)
+    }
+
+    /// The place of the program superclass of a class.
+    pub fn super_of(&self, class: u32) -> Option<u32>
+        ensures { result ≡ read_at self.now.shape.supers.items class }
+    {
+        read(self.shape.supers.as_slice(), class)
+    }
+
+    /// The places of the program interfaces that a class lists, in its order.
+    pub fn interfaces_of(&self, class: u32) -> &[u32] {
+        self.shape.lists.row(class)
+    }
+
+    /// A number for the name and proto of a method number, the same for all of the same name and proto.
+    pub fn key_of_method(&self, method: u32) -> u32 {
+        key_of(self.named.method_keys.keys.as_slice(), method)
+    }
+
+    /// Whether the key is of one of `equals`, `hashCode`, `toString`, `clone` and `finalize` by the protos of
+    /// `Ljava/lang/Object;`.
+    pub fn is_key_of_object(&self, key: u32) -> bool
+        ensures { result ≡ slice_index_or self.now.named.of_object.items key false }
+    {
+        is_on(self.named.of_object.as_slice(), key)
+    }
+
+    /// Whether a defined method is virtual: neither static, private, nor named with a leading `<`.
+    pub fn is_virtual(&self, method: &Method) -> bool {
+        is_virtual(method, self.named.special.as_slice())
+    }
+
+    /// Where the class defines its `<clinit>`.
+    pub fn initialiser_of(&self, class: u32) -> Option<MethodAt> {
+        match read(self.starts.initialisers.as_slice(), class) {
+            Some(place) => Some(MethodAt { class, place }),
+            None => None,
+        }
+    }
+
+    /// The method with the key that the class itself defines.
+    pub fn own_method(&self, class: u32, key: u32) -> Option<MethodAt> {
+        match self.named.methods.find(class, key) {
+            Some(place) => Some(MethodAt { class, place }),
+            None => None,
+        }
+    }
+
+    /// The virtual method with the key that the class itself defines.
+    pub fn own_virtual(&self, program: &Program, class: u32, key: u32) -> Option<MethodAt> {
+        let found = self.own_method(class, key)?;
+        let method = method_at(program, found)?;
+        if self.is_virtual(method) {
+            Some(found)
+        } else {
+            None
+        }
+    }
+
+    /// The classes that define a method with the key, in file order.
+    pub fn definers_of(&self, key: u32) -> &[u32] {
+        self.named.definers.row(key)
+    }
+
+    /// The first method with the key along a class and its program superclasses.
+    pub fn find_from(&self, class: u32, key: u32) -> Option<MethodAt> {
+        let mut at = Some(class);
+        for _ in 0..self.shape.supers.len() {
+            let one = at?;
+            if let Some(found) = self.own_method(one, key) {
+                return Some(found);
+            }
+            at = self.super_of(one);
+        }
+        None
+    }
+
+    /// What a static or direct call of a method number finds: the first method of its name and proto along the named
+    /// class and its program superclasses.
+    pub fn find_static(&self, program: &Program, method: u32) -> Option<MethodAt> {
+        match program.methods.as_slice().get(method as usize) {
+            Some(name) => self.find_from(self.place_of(name.class)?, self.key_of_method(method)),
+            None => None,
+        }
+    }
+
+    /// The first virtual method with the key along a class and its program superclasses. Where there is none, what the
+    /// candidates give decides.
+    pub fn find_virtual(&self, program: &Program, class: u32, key: u32) -> Option<MethodAt> {
+        let mut at = Some(class);
+        for _ in 0..self.shape.supers.len() {
+            let one = at?;
+            if let Some(found) = self.own_virtual(program, one, key) {
+                return Some(found);
+            }
+            at = self.super_of(one);
+        }
+        None
+    }
+
+    /// How many steps a walk that goes from classes to those directly above them has at most, where each class is seen
+    /// once and may wait twice.
+    pub(crate) fn steps(&self) -> usize {
+        self.shape
+            .lists
+            .size()
+            .saturating_add(self.shape.supers.len())
+            .saturating_mul(2)
+    }
+
+    /// A walk over the classes of this hierarchy.
+    pub fn walk(&self, alloc: Global) -> Result<Walk, AllocError> {
+        Walk::new(alloc, self.shape.supers.len())
+    }
+
+    /// Whether there are candidates for the key: in version 037, and for none of the five methods that the framework
+    /// may call on every object.
+    fn has_candidates(&self, program: &Program, key: u32) -> bool {
+        match program.version {
+            Version::V035 => false,
+            Version::V037 => !self.is_key_of_object(key),
+        }
+    }
+
+    /// Adds the candidates for the key in the interfaces that wait, and in all above them.
+    fn collect(
+        &self,
+        program: &Program,
+        key: u32,
+        walk: &mut Walk,
+        out: &mut Vec<MethodAt>,
+    ) -> Result<(), AllocError> {
+        for _ in 0..self.steps() {
+            let one = match walk.pop() {
+                Some(one) => one,
+                None => break,
+            };
+            if !walk.see(one)? {
+                continue;
+            }
+            if let Some(found) = self.own_virtual(program, one, key) {
+                out.push(found)?;
+            }
+            walk.push_all(self.shape.lists.row(one))?;
+        }
+        Ok(())
+    }
+
+    /// Adds the candidates for the key of the interfaces that a class and its program superclasses list: the virtual
+    /// methods of that name and proto in these and in all interfaces above them. In version 035, and for the five
+    /// methods that the framework may call on every object, there are none.
+    pub fn candidates(
+        &self,
+        program: &Program,
+        class: u32,
+        key: u32,
+        walk: &mut Walk,
+        out: &mut Vec<MethodAt>,
+    ) -> Result<(), AllocError> {
+        if !self.has_candidates(program, key) {
+            return Ok(());
+        }
+        walk.clear();
+        let mut at = Some(class);
+        for _ in 0..self.shape.supers.len() {
+            let one = match at {
+                Some(one) => one,
+                None => break,
+            };
+            walk.push_all(self.shape.lists.row(one))?;
+            at = self.super_of(one);
+        }
+        self.collect(program, key, walk, out)
+    }
+
+    /// Adds the candidates for the key of one interface: its own virtual method, and those of the interfaces above it.
+    pub fn candidates_of(
+        &self,
+        program: &Program,
+        interface: u32,
+        key: u32,
+        walk: &mut Walk,
+        out: &mut Vec<MethodAt>,
+    ) -> Result<(), AllocError> {
+        if !self.has_candidates(program, key) {
+            return Ok(());
+        }
+        walk.clear();
+        walk.push(interface)?;
+        self.collect(program, key, walk, out)
+    }
+
+    /// Sees all interfaces that stand above one of the candidates' interfaces.
+    fn see_above(&self, candidates: &[MethodAt], walk: &mut Walk) -> Result<(), AllocError> {
+        walk.clear();
+        for candidate in candidates {
+            walk.push_all(self.shape.lists.row(candidate.class))?;
+        }
+        for _ in 0..self.steps() {
+            let one = match walk.pop() {
+                Some(one) => one,
+                None => break,
+            };
+            if walk.see(one)? {
+                walk.push_all(self.shape.lists.row(one))?;
+            }
+        }
+        Ok(())
+    }
+
+    /// What candidates give.
+    pub fn given(
+        &self,
+        program: &Program,
+        candidates: &[MethodAt],
+        walk: &mut Walk,
+    ) -> Result<Given, AllocError> {
+        self.see_above(candidates, walk)?;
+        let mut given = Given::Nothing;
+        for candidate in candidates {
+            if !walk.has_seen(candidate.class) && has_code(program, *candidate) {
+                given = match given {
+                    Given::Nothing => Given::One(*candidate),
+                    _ => Given::Clash,
+                };
+            }
+        }
+        Ok(given)
+    }
+}
+
+/// Whether the method has code.
+fn has_code(program: &Program, at: MethodAt) -> bool {
+    match method_at(program, at) {
+        Some(method) => method.body.is_some(),
+        None => false,
+    }
+}

@@ -1,0 +1,164 @@
+//! Names that mean something by themselves: those that begin with `<`, and the five methods of `Ljava/lang/Object;`
+//! that the framework may call on every object.
+
+ghost use Rattle.std.specs.Prelude.{◌≡◌, ◌+◌, length, IfOk, vec_len};
+
+use crate::members::key_of;
+use crate::table::{turn, word};
+use dex_base::Text;
+use indexmap::IndexSet;
+use program_model::{Class, MethodName, Program, Proto};
+use std::alloc::{AllocError, Global};
+
+/// Whether a text is made of these ASCII characters.
+fn is_text(text: &Text, ascii: &str) -> bool {
+    let units = text.units();
+    let bytes = ascii.as_bytes();
+    units.len() == bytes.len()
+        && units
+            .iter()
+            .zip(bytes)
+            .all(|(unit, byte)| *unit == u16::from(*byte))
+}
+
+/// The text of a string number.
+fn string_of(program: &Program, string: u32) -> Option<&Text> {
+    program.strings.as_slice().get(string as usize)
+}
+
+/// The descriptor of a type number.
+pub fn descriptor_of(program: &Program, kind: u32) -> Option<&Text> {
+    match program.types.as_slice().get(kind as usize) {
+        Some(string) => string_of(program, *string),
+        None => None,
+    }
+}
+
+/// Whether the string has these ASCII characters.
+fn string_is(program: &Program, string: u32, ascii: &str) -> bool {
+    match string_of(program, string) {
+        Some(text) => is_text(text, ascii),
+        None => false,
+    }
+}
+
+/// Whether the type has this descriptor.
+pub fn kind_is(program: &Program, kind: u32, ascii: &str) -> bool {
+    match descriptor_of(program, kind) {
+        Some(text) => is_text(text, ascii),
+        None => false,
+    }
+}
+
+/// Whether the method's name begins with `<`.
+fn is_special(program: &Program, method: &MethodName) -> bool {
+    match string_of(program, method.name) {
+        Some(text) => text.units().first() == Some(&60),
+        None => false,
+    }
+}
+
+/// For each method number whether its name begins with `<`.
+pub fn special(alloc: Global, program: &Program) -> Result<Vec<bool>, AllocError>
+    ensures { IfOk result (λ marks. vec_len marks ≡ length program.now.methods) }
+{
+    let mut marks = Vec::new(alloc);
+    for method in program.methods.as_slice() {
+        marks.push(is_special(program, method))?;
+    }
+    Ok(marks)
+}
+
+/// Whether the method's name is `<clinit>`.
+pub fn is_initialiser(program: &Program, method: u32) -> bool {
+    match program.methods.as_slice().get(method as usize) {
+        Some(name) => string_is(program, name.name, "<clinit>"),
+        None => false,
+    }
+}
+
+/// Whether the proto takes nothing and gives the type of this descriptor.
+fn gives(program: &Program, proto: &Proto, kind: &str) -> bool {
+    proto.parameters.is_empty() && kind_is(program, proto.result, kind)
+}
+
+/// Whether the proto takes an object and gives a boolean.
+fn takes_object(program: &Program, proto: &Proto) -> bool {
+    match proto.parameters.as_slice() {
+        [only] => {
+            kind_is(program, *only, "Ljava/lang/Object;") && kind_is(program, proto.result, "Z")
+        }
+        _ => false,
+    }
+}
+
+/// Whether the method has the name and the proto of `equals`, `hashCode`, `toString`, `clone` or `finalize` of
+/// `Ljava/lang/Object;`.
+pub fn is_of_object(program: &Program, method: &MethodName) -> bool {
+    let proto = match program.protos.as_slice().get(method.proto as usize) {
+        Some(proto) => proto,
+        None => return false,
+    };
+    let name = match string_of(program, method.name) {
+        Some(name) => name,
+        None => return false,
+    };
+    (is_text(name, "equals") && takes_object(program, proto))
+        || (is_text(name, "hashCode") && gives(program, proto, "I"))
+        || (is_text(name, "toString") && gives(program, proto, "Ljava/lang/String;"))
+        || (is_text(name, "clone") && gives(program, proto, "Ljava/lang/Object;"))
+        || (is_text(name, "finalize") && gives(program, proto, "V"))
+}
+
+/// For each key of methods whether it is one of the five.
+pub fn of_object(
+    alloc: Global,
+    program: &Program,
+    keys: &[u32],
+    count: usize,
+) -> Result<Vec<bool>, AllocError> {
+    let mut marks = vec![in alloc; false; count]?;
+    for (number, method) in program.methods.as_slice().iter().enumerate() {
+        if is_of_object(program, method) {
+            turn(marks.as_mut_slice(), key_of(keys, word(number)), true);
+        }
+    }
+    Ok(marks)
+}
+
+/// The package of a descriptor: its units up to the last `/`.
+fn package(text: &Text) -> &[u16] {
+    let units = text.units();
+    match units.iter().rposition(|unit| *unit == 47) {
+        Some(at) => match units.get(..at) {
+            Some(front) => front,
+            None => &[],
+        },
+        None => &[],
+    }
+}
+
+/// For each class a number that it shares with the classes of its package.
+pub fn packages(alloc: Global, program: &Program) -> Result<Vec<u32>, AllocError> {
+    let mut known: IndexSet<&[u16]> = IndexSet::new(alloc);
+    let mut numbers = Vec::new(alloc);
+    for class in program.classes.as_slice() {
+        let units: &[u16] = match descriptor_of(program, class.name) {
+            Some(text) => package(text),
+            None => &[],
+        };
+        let (number, _added) = known.insert_full(units)?;
+        numbers.push(word(number))?;
+    }
+    Ok(numbers)
+}
+
+/// The place of the `<clinit>` among the methods of a class.
+pub fn initialiser(program: &Program, class: &Class) -> Option<u32> {
+    for (place, method) in class.methods.as_slice().iter().enumerate() {
+        if is_initialiser(program, method.name) {
+            return Some(word(place));
+        }
+    }
+    None
+}

@@ -1,0 +1,97 @@
+//! What is asked of a hierarchy.
+
+ghost use Rattle.std.specs.Prelude.{◌≡◌, false, slice_get, slice_index_or};
+ghost use Rattle.hierarchy.specs.Tables.{answer};
+
+use crate::build::Hierarchy;
+use crate::find::method_at;
+use crate::table::is_on;
+use crate::tour::Range;
+use program_model::{MethodAt, Program};
+use std::alloc::{AllocError, Global};
+
+impl Hierarchy {
+    /// Whether the class `lower` is the class `upper`, or below it by the program's own lists.
+    pub fn is_under(&self, lower: u32, upper: u32) -> bool {
+        match self.tour.numbers.as_slice().get(lower as usize) {
+            Some(number) => self.tour.ranges.has(upper, *number),
+            None => false,
+        }
+    }
+
+    /// What the name of a field resolves to: the class and the place in its `fields` of the first field of that name
+    /// and type in the named class, then its interfaces, then its superclass, each in turn.
+    pub fn resolve_field(&self, _program: &Program, field: u32) -> Option<(u32, u32)>
+        ensures { result ≡ answer (slice_get self.now.targets.fields.items field) }
+    {
+        match self.targets.fields.as_slice().get(field as usize) {
+            Some(target) => *target,
+            None => None,
+        }
+    }
+
+    /// What the name of a method resolves to: the first method of that name and proto along the named class and its
+    /// superclasses, then in their interfaces in the order of their lists, each followed by the interfaces above it.
+    pub fn resolve_method(&self, _program: &Program, method: u32) -> Option<MethodAt>
+        ensures { result ≡ answer (slice_get self.now.targets.methods.items method) }
+    {
+        match self.targets.methods.as_slice().get(method as usize) {
+            Some(target) => *target,
+            None => None,
+        }
+    }
+
+    /// Whether initialising the class runs no code: neither it nor a program superclass or program interface above it
+    /// has a `<clinit>`.
+    pub fn trivially_initialised(&self, _program: &Program, class: u32) -> bool
+        ensures { result ≡ slice_index_or self.now.starts.trivial.items class false }
+    {
+        is_on(self.starts.trivial.as_slice(), class)
+    }
+
+    /// Adds the classes with the numbers of a range.
+    fn add_range(&self, range: &Range, out: &mut Vec<u32>) -> Result<(), AllocError> {
+        if let Some(classes) = self
+            .tour
+            .by_number
+            .as_slice()
+            .get(range.first as usize..range.end as usize)
+        {
+            out.extend_from_slice(classes)?;
+        }
+        Ok(())
+    }
+
+    /// The places of the other program classes under the class, in file order.
+    pub fn own_subclasses(&self, alloc: Global, class: u32) -> Result<Vec<u32>, AllocError> {
+        let mut below = Vec::new(alloc);
+        for range in self.tour.ranges.row(class) {
+            self.add_range(range, &mut below)?;
+        }
+        below.retain(|one| *one != class);
+        below.sort_unstable();
+        Ok(below)
+    }
+
+    /// The virtual methods of the method's name and proto in the other program classes under its class, in file order.
+    pub fn overriders(
+        &self,
+        alloc: Global,
+        program: &Program,
+        method: MethodAt,
+    ) -> Result<Vec<MethodAt>, AllocError> {
+        let mut overriders = Vec::new(alloc);
+        let number = match method_at(program, method) {
+            Some(defined) => defined.name,
+            None => return Ok(overriders),
+        };
+        let key = self.key_of_method(number);
+        let below = self.own_subclasses(alloc, method.class)?;
+        for class in below.as_slice() {
+            if let Some(found) = self.own_virtual(program, *class, key) {
+                overriders.push(found)?;
+            }
+        }
+        Ok(overriders)
+    }
+}

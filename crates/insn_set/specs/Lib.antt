@@ -1,0 +1,5 @@
+pub mod Widths
+pub mod Registers
+pub mod Flow
+pub mod Formats
+pub mod Spelling

@@ -1,0 +1,5 @@
+pub mod Fault
+pub mod Glob
+pub mod Marks
+pub mod Outside
+pub mod Tokens

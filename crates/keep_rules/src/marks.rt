@@ -1,0 +1,117 @@
+//! What is kept so far, as marks by number.
+
+ghost use Rattle.std.specs.Prelude.{◌≡◌, ◌<◌, ◌^◌, true, false, length, slice_set, slice_index_or, filter, if◌then◌else◌, ◌&&◌, IfOk, not, vec_len};
+ghost use Rattle.keep_rules.specs.Marks.{is_always, numbers_of};
+
+use program_model::Program;
+use seq::Seq;
+use std::alloc::{AllocError, Global};
+
+/// Members that are kept, that are kept where their class is live, and those of either whose descriptor's classes are
+/// kept with them.
+#[derive(Drop)]
+pub struct MemberMarks {
+    pub kept: Vec<bool>,
+    pub live: Vec<bool>,
+    pub described: Vec<bool>,
+    pub described_live: Vec<bool>,
+}
+
+/// Marks by type, field and method number.
+#[derive(Drop)]
+pub struct Marks {
+    pub classes: Vec<bool>,
+    pub fields: MemberMarks,
+    pub methods: MemberMarks,
+    pub silent: Vec<bool>,
+}
+
+/// Whether members are kept at all events, or where their class is live.
+#[derive(Clone, Copy)]
+pub enum Hold {
+    Always,
+    Live,
+}
+
+/// No marks.
+pub fn unmarked(alloc: Global, size: usize) -> Result<Vec<bool>, AllocError> {
+    let mut marks = Vec::new(alloc);
+    marks.resize(size, false)?;
+    Ok(marks)
+}
+
+/// Marks a number.
+pub fn mark(marks: &mut Vec<bool>, number: u32)
+    ensures { marks.new.items ≡ slice_set marks.old.items number true }
+{
+    if let Some(slot) = marks.get_mut(number as usize) {
+        *slot = true;
+    }
+}
+
+/// Whether a number is marked.
+pub fn is_marked(marks: &[bool], number: u32) -> bool
+    ensures { result ≡ slice_index_or marks.now number false }
+{
+    marks.get(number as usize).copied().unwrap_or(false)
+}
+
+impl MemberMarks {
+    /// No marks.
+    fn new(alloc: Global, size: usize) -> Result<MemberMarks, AllocError> {
+        Ok(MemberMarks {
+            kept: unmarked(alloc, size)?,
+            live: unmarked(alloc, size)?,
+            described: unmarked(alloc, size)?,
+            described_live: unmarked(alloc, size)?,
+        })
+    }
+
+    /// Marks a member, and its descriptor where that is wanted.
+    pub fn keep(&mut self, number: u32, hold: Hold, described: bool)
+        ensures kept { self.new.kept.items ≡ (if is_always hold then slice_set self.old.kept.items number true else self.old.kept.items) }
+        ensures live { self.new.live.items ≡ (if is_always hold then self.old.live.items else slice_set self.old.live.items number true) }
+        ensures described { self.new.described.items ≡ (if is_always hold && described then slice_set self.old.described.items number true else self.old.described.items) }
+        ensures described_live { self.new.described_live.items ≡ (if not (is_always hold) && described then slice_set self.old.described_live.items number true else self.old.described_live.items) }
+    {
+        match hold {
+            Hold::Always => {
+                mark(&mut self.kept, number);
+                if described {
+                    mark(&mut self.described, number);
+                }
+            }
+            Hold::Live => {
+                mark(&mut self.live, number);
+                if described {
+                    mark(&mut self.described_live, number);
+                }
+            }
+        }
+    }
+}
+
+impl Marks {
+    /// No marks.
+    pub fn new(alloc: Global, program: &Program) -> Result<Marks, AllocError> {
+        Ok(Marks {
+            classes: unmarked(alloc, program.types.len())?,
+            fields: MemberMarks::new(alloc, program.fields.len())?,
+            methods: MemberMarks::new(alloc, program.methods.len())?,
+            silent: unmarked(alloc, program.methods.len())?,
+        })
+    }
+}
+
+/// The marked numbers below the size, which ascend.
+pub fn numbers(alloc: Global, marks: &[bool], size: u32) -> Result<Seq<u32>, AllocError>
+    ensures { IfOk result (λ numbers. numbers ≡ numbers_of marks.now size) }
+{
+    let mut numbers = Seq::new(alloc);
+    for number in 0..size {
+        if is_marked(marks, number) {
+            numbers.push(number)?;
+        }
+    }
+    Ok(numbers)
+}

@@ -1,0 +1,166 @@
+//! Reading of which classes a rule names.
+
+ghost use Rattle.std.specs.Prelude.{◌≡◌, ◌+◌, ◌<◌, ◌≤◌, length, IsTrue, OnOk};
+
+use crate::cursor::{accept, advance, word_at};
+use crate::parse_member::{read_mark, read_members, read_name};
+use crate::pattern::NamePattern;
+use crate::rules::{Above, AboveWord, Access, ClassKind, ClassRule, Condition, MemberRule};
+use crate::stop::Stop;
+use crate::token::Token;
+use crate::words::{class_access, class_kind};
+use std::alloc::Global;
+
+/// Names with a comma between two.
+pub fn read_names(
+    alloc: Global,
+    tokens: &[Token<'_>],
+    at: &mut usize,
+) -> Result<Vec<NamePattern>, Stop>
+    requires { at.old ≤ length tokens.now }
+    ensures moves { at.old ≤ at.new }
+    ensures inside { at.new ≤ length tokens.now }
+    ensures on { OnOk result (at.old < at.new) }
+{
+    let mut names = Vec::new(alloc);
+    names.push(read_name(alloc, tokens, at)?)?;
+    while accept(tokens, at, b",") {
+        names.push(read_name(alloc, tokens, at)?)?;
+    }
+    Ok(names)
+}
+
+/// An access word of a class, with or without `!`; none, and nothing is read, where a class's kind follows.
+fn read_access(tokens: &[Token<'_>], at: &mut usize) -> Option<(bool, Access)>
+    requires { at.old ≤ length tokens.now }
+    ensures moves { at.old ≤ at.new }
+    ensures inside { at.new ≤ length tokens.now }
+{
+    let negated = matches!(word_at(tokens, *at), b"!");
+    let place = at.saturating_add(usize::from(negated));
+    let access = class_access(word_at(tokens, place))?;
+    if negated {
+        advance(tokens, at);
+    }
+    advance(tokens, at);
+    Some((negated, access))
+}
+
+/// A condition on a class, none where its kind follows.
+fn read_condition(
+    alloc: Global,
+    tokens: &[Token<'_>],
+    at: &mut usize,
+) -> Result<Option<Condition>, Stop>
+    requires { at.old ≤ length tokens.now }
+    ensures moves { at.old ≤ at.new }
+    ensures inside { at.new ≤ length tokens.now }
+{
+    if class_kind(word_at(tokens, *at)).is_some() {
+        return Ok(None);
+    }
+    if let Some(mark) = read_mark(alloc, tokens, at)? {
+        return Ok(Some(Condition::Mark(mark)));
+    }
+    match read_access(tokens, at) {
+        Some((negated, access)) => Ok(Some(Condition::Access { negated, access })),
+        None => Ok(None),
+    }
+}
+
+/// The conditions on a class.
+fn read_conditions(
+    alloc: Global,
+    tokens: &[Token<'_>],
+    at: &mut usize,
+) -> Result<Vec<Condition>, Stop>
+    requires { at.old ≤ length tokens.now }
+    ensures moves { at.old ≤ at.new }
+    ensures inside { at.new ≤ length tokens.now }
+{
+    let mut conditions = Vec::new(alloc);
+    for _ in 0..tokens.len() {
+        match read_condition(alloc, tokens, at)? {
+            Some(condition) => conditions.push(condition)?,
+            None => break,
+        }
+    }
+    Ok(conditions)
+}
+
+/// A kind of class.
+fn read_kind(tokens: &[Token<'_>], at: &mut usize) -> Result<ClassKind, Stop>
+    requires { at.old ≤ length tokens.now }
+    ensures moves { at.old ≤ at.new }
+    ensures inside { at.new ≤ length tokens.now }
+{
+    match class_kind(word_at(tokens, *at)) {
+        Some(kind) => {
+            advance(tokens, at);
+            Ok(kind)
+        }
+        None => Err(Stop::Syntax),
+    }
+}
+
+/// The word before an ancestor.
+fn above_word(word: &[u8]) -> Option<AboveWord> {
+    match word {
+        b"extends" => Some(AboveWord::Extends),
+        b"implements" => Some(AboveWord::Implements),
+        _ => None,
+    }
+}
+
+/// What is asked of the ancestors.
+fn read_above(alloc: Global, tokens: &[Token<'_>], at: &mut usize) -> Result<Option<Above>, Stop>
+    requires { at.old ≤ length tokens.now }
+    ensures moves { at.old ≤ at.new }
+    ensures inside { at.new ≤ length tokens.now }
+{
+    let Some(word) = above_word(word_at(tokens, *at)) else {
+        return Ok(None);
+    };
+    advance(tokens, at);
+    let mark = read_mark(alloc, tokens, at)?;
+    let name = read_name(alloc, tokens, at)?;
+    Ok(Some(Above { word, mark, name }))
+}
+
+/// The lines of members, where a brace opens.
+fn read_braces(
+    alloc: Global,
+    tokens: &[Token<'_>],
+    at: &mut usize,
+) -> Result<Option<Vec<MemberRule>>, Stop>
+    requires { at.old ≤ length tokens.now }
+    ensures moves { at.old ≤ at.new }
+    ensures inside { at.new ≤ length tokens.now }
+{
+    match word_at(tokens, *at) {
+        b"{" => Ok(Some(read_members(alloc, tokens, at)?)),
+        _ => Ok(None),
+    }
+}
+
+/// Which classes a keep rule names, and which of their members.
+pub fn read_class(alloc: Global, tokens: &[Token<'_>], at: &mut usize) -> Result<ClassRule, Stop>
+    requires { at.old ≤ length tokens.now }
+    ensures moves { at.old ≤ at.new }
+    ensures inside { at.new ≤ length tokens.now }
+{
+    let conditions = read_conditions(alloc, tokens, at)?;
+    let negated = accept(tokens, at, b"!");
+    let kind = read_kind(tokens, at)?;
+    let names = read_names(alloc, tokens, at)?;
+    let above = read_above(alloc, tokens, at)?;
+    let members = read_braces(alloc, tokens, at)?;
+    Ok(ClassRule {
+        conditions,
+        negated,
+        kind,
+        names,
+        above,
+        members,
+    })
+}

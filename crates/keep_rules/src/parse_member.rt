@@ -1,0 +1,333 @@
+//! Reading of names, types and member lines.
+
+ghost use Rattle.std.specs.Prelude.{◌≡◌, ◌+◌, ◌<◌, ◌≤◌, length, IsTrue, OnOk};
+
+use crate::cursor::{accept, advance, expect_word, word_at};
+use crate::pattern::NamePattern;
+use crate::pieces::pattern_of;
+use crate::rules::{Access, Arguments, Condition, ItemPattern, MemberRule, TypePattern, What};
+use crate::stop::Stop;
+use crate::token::Token;
+use crate::words::{is_name, letter_of, member_access};
+use std::alloc::{AllocError, Global};
+
+/// A name.
+pub fn read_name(alloc: Global, tokens: &[Token<'_>], at: &mut usize) -> Result<NamePattern, Stop>
+    requires { at.old ≤ length tokens.now }
+    ensures moves { at.old ≤ at.new }
+    ensures inside { at.new ≤ length tokens.now }
+    ensures on { OnOk result (at.old < at.new) }
+{
+    match tokens.get(*at) {
+        Some(token) if is_name(token.word) => {
+            let name = pattern_of(alloc, token.word)?;
+            *at += 1;
+            Ok(name)
+        }
+        _ => Err(Stop::Syntax),
+    }
+}
+
+/// The annotation that a token `@NAME` asks for.
+pub fn read_mark(
+    alloc: Global,
+    tokens: &[Token<'_>],
+    at: &mut usize,
+) -> Result<Option<NamePattern>, Stop>
+    requires { at.old ≤ length tokens.now }
+    ensures moves { at.old ≤ at.new }
+    ensures inside { at.new ≤ length tokens.now }
+{
+    match tokens.get(*at) {
+        Some(token) => match token.word {
+            [b'@', name @ ..] => {
+                if !is_name(name) {
+                    return Err(Stop::Syntax);
+                }
+                let mark = pattern_of(alloc, name)?;
+                *at += 1;
+                Ok(Some(mark))
+            }
+            _ => Ok(None),
+        },
+        None => Ok(None),
+    }
+}
+
+/// The item of a type without the `[]` behind it.
+fn item_of(alloc: Global, word: &[u8]) -> Result<ItemPattern, AllocError> {
+    match word {
+        b"***" => Ok(ItemPattern::Any),
+        b"%" => Ok(ItemPattern::Primitive),
+        _ => match letter_of(word) {
+            Some(letter) => Ok(ItemPattern::Letter(letter)),
+            None => Ok(ItemPattern::Class(pattern_of(alloc, word)?)),
+        },
+    }
+}
+
+/// The type that a token writes.
+fn type_of(alloc: Global, word: &[u8]) -> Result<TypePattern, AllocError> {
+    let mut depth: usize = 0;
+    let mut rest = word;
+    while let [front @ .., b'[', b']'] = rest {
+        depth = depth.saturating_add(1);
+        rest = front;
+    }
+    Ok(TypePattern {
+        depth,
+        item: item_of(alloc, rest)?,
+    })
+}
+
+/// A type.
+fn read_type(alloc: Global, tokens: &[Token<'_>], at: &mut usize) -> Result<TypePattern, Stop>
+    requires { at.old ≤ length tokens.now }
+    ensures moves { at.old ≤ at.new }
+    ensures inside { at.new ≤ length tokens.now }
+    ensures on { OnOk result (at.old < at.new) }
+{
+    match tokens.get(*at) {
+        Some(token) if is_name(token.word) => {
+            let kind = type_of(alloc, token.word)?;
+            *at += 1;
+            Ok(kind)
+        }
+        _ => Err(Stop::Syntax),
+    }
+}
+
+/// A type of an argument, for which `...` doesn't stand.
+fn read_argument(alloc: Global, tokens: &[Token<'_>], at: &mut usize) -> Result<TypePattern, Stop>
+    requires { at.old ≤ length tokens.now }
+    ensures moves { at.old ≤ at.new }
+    ensures inside { at.new ≤ length tokens.now }
+    ensures on { OnOk result (at.old < at.new) }
+{
+    match word_at(tokens, *at) {
+        b"..." => Err(Stop::Syntax),
+        _ => read_type(alloc, tokens, at),
+    }
+}
+
+/// The types of arguments, up to the closing parenthesis.
+fn read_argument_types(
+    alloc: Global,
+    tokens: &[Token<'_>],
+    at: &mut usize,
+) -> Result<Vec<TypePattern>, Stop>
+    requires { at.old ≤ length tokens.now }
+    ensures moves { at.old ≤ at.new }
+    ensures inside { at.new ≤ length tokens.now }
+{
+    let mut types = Vec::new(alloc);
+    types.push(read_argument(alloc, tokens, at)?)?;
+    while accept(tokens, at, b",") {
+        types.push(read_argument(alloc, tokens, at)?)?;
+    }
+    expect_word(tokens, at, b")")?;
+    Ok(types)
+}
+
+/// The arguments of a method.
+fn read_arguments(alloc: Global, tokens: &[Token<'_>], at: &mut usize) -> Result<Arguments, Stop>
+    requires { at.old ≤ length tokens.now }
+    ensures moves { at.old ≤ at.new }
+    ensures inside { at.new ≤ length tokens.now }
+    ensures on { OnOk result (at.old < at.new) }
+{
+    expect_word(tokens, at, b"(")?;
+    if accept(tokens, at, b")") {
+        return Ok(Arguments::These(Vec::new(alloc)));
+    }
+    if accept(tokens, at, b"...") {
+        expect_word(tokens, at, b")")?;
+        return Ok(Arguments::Any);
+    }
+    Ok(Arguments::These(read_argument_types(alloc, tokens, at)?))
+}
+
+/// A type and a name, and arguments where a method is meant.
+fn read_typed(alloc: Global, tokens: &[Token<'_>], at: &mut usize) -> Result<What, Stop>
+    requires { at.old ≤ length tokens.now }
+    ensures moves { at.old ≤ at.new }
+    ensures inside { at.new ≤ length tokens.now }
+    ensures on { OnOk result (at.old < at.new) }
+{
+    let kind = read_type(alloc, tokens, at)?;
+    let name = read_name(alloc, tokens, at)?;
+    match word_at(tokens, *at) {
+        b"(" => Ok(What::Method {
+            result: kind,
+            name,
+            arguments: read_arguments(alloc, tokens, at)?,
+        }),
+        _ => Ok(What::Field { kind, name }),
+    }
+}
+
+/// Whether the line is `*` alone.
+fn is_all(tokens: &[Token<'_>], at: usize) -> bool {
+    matches!(word_at(tokens, at), b"*") && matches!(word_at(tokens, at.saturating_add(1)), b";")
+}
+
+/// Which members a line names.
+fn read_what(alloc: Global, tokens: &[Token<'_>], at: &mut usize) -> Result<What, Stop>
+    requires { at.old ≤ length tokens.now }
+    ensures moves { at.old ≤ at.new }
+    ensures inside { at.new ≤ length tokens.now }
+{
+    if is_all(tokens, *at) {
+        advance(tokens, at);
+        return Ok(What::All);
+    }
+    match word_at(tokens, *at) {
+        b"<fields>" => {
+            advance(tokens, at);
+            Ok(What::Fields)
+        }
+        b"<methods>" => {
+            advance(tokens, at);
+            Ok(What::Methods)
+        }
+        b"<init>" => {
+            advance(tokens, at);
+            Ok(What::Init(read_arguments(alloc, tokens, at)?))
+        }
+        _ => read_typed(alloc, tokens, at),
+    }
+}
+
+/// An access word of a member, with or without `!`.
+fn read_access(tokens: &[Token<'_>], at: &mut usize) -> Result<Option<(bool, Access)>, Stop>
+    requires { at.old ≤ length tokens.now }
+    ensures moves { at.old ≤ at.new }
+    ensures inside { at.new ≤ length tokens.now }
+{
+    let negated = accept(tokens, at, b"!");
+    match member_access(word_at(tokens, *at)) {
+        Some(access) => {
+            advance(tokens, at);
+            Ok(Some((negated, access)))
+        }
+        None if negated => Err(Stop::Syntax),
+        None => Ok(None),
+    }
+}
+
+/// A condition on a member, none where a line goes on with its type or the like.
+fn read_condition(
+    alloc: Global,
+    tokens: &[Token<'_>],
+    at: &mut usize,
+) -> Result<Option<Condition>, Stop>
+    requires { at.old ≤ length tokens.now }
+    ensures moves { at.old ≤ at.new }
+    ensures inside { at.new ≤ length tokens.now }
+{
+    if let Some(mark) = read_mark(alloc, tokens, at)? {
+        return Ok(Some(Condition::Mark(mark)));
+    }
+    match read_access(tokens, at)? {
+        Some((negated, access)) => Ok(Some(Condition::Access { negated, access })),
+        None => Ok(None),
+    }
+}
+
+/// A line: conditions, what it names, and `;`.
+fn read_member(alloc: Global, tokens: &[Token<'_>], at: &mut usize) -> Result<MemberRule, Stop>
+    requires { at.old ≤ length tokens.now }
+    ensures moves { at.old ≤ at.new }
+    ensures inside { at.new ≤ length tokens.now }
+    ensures on { OnOk result (at.old < at.new) }
+{
+    let mut conditions = Vec::new(alloc);
+    for _ in 0..tokens.len() {
+        match read_condition(alloc, tokens, at)? {
+            Some(condition) => conditions.push(condition)?,
+            None => break,
+        }
+    }
+    let what = read_what(alloc, tokens, at)?;
+    expect_word(tokens, at, b";")?;
+    Ok(MemberRule { conditions, what })
+}
+
+/// The lines between braces.
+pub fn read_members(
+    alloc: Global,
+    tokens: &[Token<'_>],
+    at: &mut usize,
+) -> Result<Vec<MemberRule>, Stop>
+    requires { at.old ≤ length tokens.now }
+    ensures moves { at.old ≤ at.new }
+    ensures inside { at.new ≤ length tokens.now }
+    ensures on { OnOk result (at.old < at.new) }
+{
+    let mut members = Vec::new(alloc);
+    expect_word(tokens, at, b"{")?;
+    while !accept(tokens, at, b"}") {
+        members.push(read_member(alloc, tokens, at)?)?;
+    }
+    Ok(members)
+}
+
+/// Which methods a line of an assume rule names.
+fn read_assumed_what(alloc: Global, tokens: &[Token<'_>], at: &mut usize) -> Result<What, Stop>
+    requires { at.old ≤ length tokens.now }
+    ensures moves { at.old ≤ at.new }
+    ensures inside { at.new ≤ length tokens.now }
+{
+    if is_all(tokens, *at) {
+        advance(tokens, at);
+        return Ok(What::All);
+    }
+    if accept(tokens, at, b"<methods>") {
+        return Ok(What::Methods);
+    }
+    let result = read_type(alloc, tokens, at)?;
+    let name = read_name(alloc, tokens, at)?;
+    Ok(What::Method {
+        result,
+        name,
+        arguments: read_arguments(alloc, tokens, at)?,
+    })
+}
+
+/// A line of an assume rule: access words, methods, and `;`.
+fn read_assumed(alloc: Global, tokens: &[Token<'_>], at: &mut usize) -> Result<MemberRule, Stop>
+    requires { at.old ≤ length tokens.now }
+    ensures moves { at.old ≤ at.new }
+    ensures inside { at.new ≤ length tokens.now }
+    ensures on { OnOk result (at.old < at.new) }
+{
+    let mut conditions = Vec::new(alloc);
+    for _ in 0..tokens.len() {
+        match read_access(tokens, at)? {
+            Some((negated, access)) => conditions.push(Condition::Access { negated, access })?,
+            None => break,
+        }
+    }
+    let what = read_assumed_what(alloc, tokens, at)?;
+    expect_word(tokens, at, b";")?;
+    Ok(MemberRule { conditions, what })
+}
+
+/// The lines between the braces of an assume rule.
+pub fn read_assumed_members(
+    alloc: Global,
+    tokens: &[Token<'_>],
+    at: &mut usize,
+) -> Result<Vec<MemberRule>, Stop>
+    requires { at.old ≤ length tokens.now }
+    ensures moves { at.old ≤ at.new }
+    ensures inside { at.new ≤ length tokens.now }
+    ensures on { OnOk result (at.old < at.new) }
+{
+    let mut members = Vec::new(alloc);
+    expect_word(tokens, at, b"{")?;
+    while !accept(tokens, at, b"}") {
+        members.push(read_assumed(alloc, tokens, at)?)?;
+    }
+    Ok(members)
+}

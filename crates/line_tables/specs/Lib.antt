@@ -1,0 +1,4 @@
+pub mod Item
+pub mod Seen
+pub mod Text
+pub mod Entries

@@ -1,0 +1,124 @@
+//! The asks and the rounds.
+
+ghost use Rattle.std.specs.Prelude.{◌≤◌, vec_len, IfOk};
+
+use crate::asks::{Advice, ask_all, no_advice};
+use crate::counts::{count_instructions, count_members};
+use call_graph::live_members;
+use hierarchy::{Hierarchy, HierarchyFault};
+use program_model::{Changed, Origin, Outside, Program};
+use reach::apply;
+use redex_outside::Panel;
+use seq::Seq;
+use std::alloc::{AllocError, Global};
+
+/// What is left of a program: how many rounds ran, the last one of which changed nothing, how many members and
+/// instructions went, how many methods some adviser refused, and where the instructions come from.
+#[derive(Debug, Drop)]
+pub struct Outcome {
+    pub program: Program,
+    pub rounds: u32,
+    pub removed_members: u64,
+    pub removed_instructions: u64,
+    pub spared: u32,
+    pub origins: Seq<Seq<Origin>>,
+}
+
+/// The hierarchy of a program that has one. A program without one is left as it is.
+fn hierarchy_of(alloc: Global, program: &Program) -> Result<Option<Hierarchy>, AllocError> {
+    match Hierarchy::build(alloc, program) {
+        Ok(hierarchy) => Ok(Some(hierarchy)),
+        Err(HierarchyFault::NoMemory) => Err(AllocError),
+        Err(_) => Ok(None),
+    }
+}
+
+/// What the advisers say of the live methods with code. Where nothing is to be rewritten, none is asked about.
+fn advice_on(
+    alloc: Global,
+    program: &Program,
+    outside: &Outside,
+    panel: &mut Panel,
+) -> Result<Advice, AllocError> {
+    if !outside.optimise {
+        return no_advice(alloc, program);
+    }
+    match hierarchy_of(alloc, program)? {
+        Some(hierarchy) => {
+            let live = live_members(alloc, program, &hierarchy, outside)?;
+            ask_all(alloc, program, &live, panel)
+        }
+        None => no_advice(alloc, program),
+    }
+}
+
+/// The program as it is, with nothing changed.
+fn unchanged(alloc: Global, program: Program) -> Changed {
+    Changed {
+        program,
+        count: 0,
+        origins: Seq::new(alloc),
+    }
+}
+
+/// One round of the passes: what is not reached is removed, unless the rules forbid it.
+fn round(alloc: Global, program: Program, outside: &Outside) -> Result<Changed, AllocError> {
+    if !outside.shrink {
+        return Ok(unchanged(alloc, program));
+    }
+    match hierarchy_of(alloc, &program)? {
+        Some(hierarchy) => apply(alloc, program, &hierarchy, outside),
+        None => Ok(unchanged(alloc, program)),
+    }
+}
+
+/// Rounds, until one changes nothing: the program then, and how many ran.
+fn all_rounds(
+    alloc: Global,
+    program: Program,
+    outside: &Outside,
+) -> Result<(Program, u32), AllocError>
+    ensures { IfOk result (λ r. 1 ≤ r.1) }
+{
+    let mut rounds: u32 = 1;
+    let mut changed = round(alloc, program, outside)?;
+    'rounds: for _ in 0..u64::MAX {
+        if changed.count == 0 {
+            break;
+        }
+        changed = round(alloc, changed.program, outside)?;
+        rounds = rounds.saturating_add(1);
+    }
+    Ok((changed.program, rounds))
+}
+
+/// Optimises a program: asks the panel about each live method with code, in class and method order, unless the rules
+/// forbid all rewriting, and then runs rounds of the passes until one changes nothing. `outside` is closed. The only
+/// error is want of memory; the panel was then asked about the first of these methods.
+///
+/// The `requires` always holds. A function that has one makes no adviser of its own, so a caller in another crate that
+/// hands the panel on need not know its body.
+pub fn optimise(
+    alloc: Global,
+    program: Program,
+    outside: &Outside,
+    panel: &mut Panel,
+) -> Result<Outcome, AllocError>
+    requires { 0 ≤ vec_len panel.old.advisers }
+    ensures { IfOk result (λ outcome. 1 ≤ outcome.rounds) }
+{
+    let members = count_members(&program);
+    let instructions = count_instructions(&program);
+    let advice = advice_on(alloc, &program, outside, panel)?;
+    let (program, rounds) = all_rounds(alloc, program, outside)?;
+    let left_members = count_members(&program);
+    let left_instructions = count_instructions(&program);
+    Ok(Outcome {
+        program,
+        rounds,
+        removed_members: members.saturating_sub(left_members),
+        removed_instructions: instructions.saturating_sub(left_instructions),
+        spared: advice.spared,
+        origins: Seq::new(alloc),
+    })
+}

@@ -1,0 +1,45 @@
+//! The program: hands its words to the top call, with real files, standard output and two advisers.
+#![tactic(auto)]
+
+use redex_cli::run;
+use redex_outside::{Adviser, BudgetAdviser, FileShelf, PrefixAdviser, StdNotes};
+use std::alloc::{AllocError, Global};
+use std::env;
+use std::io::ErrorKind;
+use std::process::ExitCode;
+
+/// The status of a run that finds no memory.
+const NO_MEMORY: u8 = 7;
+
+/// The status of a word that can't be had.
+const USAGE: u8 = 1;
+
+/// The advisers that listen to `--spare` and `--at-most`.
+fn advisers(alloc: Global) -> Result<Vec<Box<dyn Adviser>>, AllocError> {
+    let mut advisers: Vec<Box<dyn Adviser>> = Vec::new(alloc);
+    advisers.push(Box::new(alloc, PrefixAdviser::new(alloc))?)?;
+    advisers.push(Box::new(alloc, BudgetAdviser::new())?)?;
+    Ok(advisers)
+}
+
+fn main(rt: HostRuntime) -> ExitCode {
+    let alloc = rt.alloc();
+    let mut words = Vec::new(alloc);
+    let arguments = match env::args(&rt) {
+        Ok(arguments) => arguments,
+        Err(error) if error.kind() == ErrorKind::OutOfMemory => return ExitCode::from(NO_MEMORY),
+        Err(_) => return ExitCode::from(USAGE),
+    };
+    for word in arguments.skip(1) {
+        if words.push(word).is_err() {
+            return ExitCode::from(NO_MEMORY);
+        }
+    }
+    let Ok(advisers) = advisers(alloc) else {
+        return ExitCode::from(NO_MEMORY);
+    };
+    let mut shelf = FileShelf::new(&rt);
+    let mut notes = StdNotes::new(&rt);
+    let status = run(alloc, &words, &mut shelf, &mut notes, advisers);
+    ExitCode::from(status.code())
+}

@@ -1,0 +1,269 @@
+//! The line that is said for each status that is not `Done`.
+
+use crate::status::{InputFault, Status, TypeFault};
+use code_read::CodeFault;
+use command_line::USAGE;
+use dex_pools::{PoolFault, Table};
+use dex_read::DexFault;
+use hierarchy::HierarchyFault;
+use keep_rules::RuleFault;
+use program_model::{Counted, LimitFault};
+use std::alloc::{AllocError, Global};
+
+/// What is bad: the input or the library.
+#[derive(Clone, Copy, PartialEq, Eq, Debug)]
+enum File {
+    Input,
+    Library,
+}
+
+/// How a line about a file begins.
+fn opening(file: File) -> &'static str {
+    match file {
+        File::Input => "bad dex",
+        File::Library => "bad library",
+    }
+}
+
+/// A line of two texts and a number.
+fn numbered(alloc: Global, opening: &str, words: &str, number: u64) -> Result<String, AllocError> {
+    format!(in alloc; "{opening}: {words} {number}\n")
+}
+
+/// The line for want of memory.
+fn no_memory_line(alloc: Global) -> Result<String, AllocError> {
+    String::from_str(alloc, "no memory\n")
+}
+
+/// The line of a fault of the rules at a line of their text.
+fn rule_at(alloc: Global, line: u32, words: &str) -> Result<String, AllocError> {
+    format!(in alloc; "bad rules: line {line}: {words}\n")
+}
+
+/// The line of rules that are no text from a byte on.
+fn rule_byte(alloc: Global, at: usize) -> Result<String, AllocError> {
+    format!(in alloc; "bad rules: byte {at}: not utf-8\n")
+}
+
+/// A rule file's fault.
+fn rule_line(alloc: Global, fault: RuleFault) -> Result<String, AllocError> {
+    match fault {
+        RuleFault::NoMemory => no_memory_line(alloc),
+        RuleFault::Syntax { line } => rule_at(alloc, line, "syntax"),
+        RuleFault::Option { line } => rule_at(alloc, line, "option"),
+        RuleFault::NotUtf8 { at } => rule_byte(alloc, at),
+        RuleFault::TooMany { count } => numbered(alloc, "bad rules", "too many:", u64::from(count)),
+    }
+}
+
+/// A table's name.
+fn table_name(table: Table) -> &'static str {
+    match table {
+        Table::Strings => "strings",
+        Table::Types => "types",
+        Table::Protos => "protos",
+        Table::Fields => "fields",
+        Table::Methods => "methods",
+        Table::Members => "members",
+    }
+}
+
+/// What a limit counts.
+fn counted_name(counted: Counted) -> &'static str {
+    match counted {
+        Counted::RuleBytes => "rule bytes",
+        Counted::FileBytes => "file bytes",
+        Counted::ScriptBytes => "script bytes",
+        Counted::Cells => "cells",
+        Counted::Types => "types",
+        Counted::Protos => "protos",
+        Counted::Fields => "fields",
+        Counted::Methods => "methods",
+        Counted::TextUnits => "text units",
+        Counted::Items => "items",
+    }
+}
+
+/// A limit that is passed.
+fn limit_line(alloc: Global, fault: LimitFault) -> Result<String, AllocError> {
+    numbered(alloc, "limit", counted_name(fault.counted), fault.number)
+}
+
+/// An index past its table.
+fn index_line(
+    alloc: Global,
+    opening: &str,
+    at: usize,
+    value: u32,
+    size: u32,
+) -> Result<String, AllocError> {
+    format!(in alloc; "{opening}: index {value} of {size} at {at}\n")
+}
+
+/// An entry that is not above the one before it.
+fn order_line(
+    alloc: Global,
+    opening: &str,
+    table: Table,
+    place: u32,
+) -> Result<String, AllocError> {
+    let name = table_name(table);
+    format!(in alloc; "{opening}: order in {name} at {place}\n")
+}
+
+/// A fault of the tables, the values or the annotations of a file.
+fn pool_line(alloc: Global, opening: &str, fault: &PoolFault) -> Result<String, AllocError> {
+    match fault {
+        PoolFault::NoMemory => no_memory_line(alloc),
+        PoolFault::Short { at } => numbered(alloc, opening, "short at", *at as u64),
+        PoolFault::LongLeb { at } => numbered(alloc, opening, "long number at", *at as u64),
+        PoolFault::BadText { at } => numbered(alloc, opening, "text at", *at as u64),
+        PoolFault::BadDescriptor { at } => numbered(alloc, opening, "descriptor at", *at as u64),
+        PoolFault::Index { at, value, size } => index_line(alloc, opening, *at, *value, *size),
+        PoolFault::Order { table, place } => order_line(alloc, opening, *table, *place),
+        PoolFault::BadValue { at } => numbered(alloc, opening, "value at", *at as u64),
+        PoolFault::Deep { at } => numbered(alloc, opening, "depth at", *at as u64),
+        PoolFault::Shorty { at } => numbered(alloc, opening, "shorty at", *at as u64),
+        PoolFault::Limit(limit) => limit_line(alloc, *limit),
+    }
+}
+
+/// The words and the number of a fault of code.
+fn code_words(fault: &CodeFault) -> (&'static str, u32) {
+    match fault {
+        CodeFault::Opcode { unit } => ("opcode at", *unit),
+        CodeFault::Cut { unit } => ("cut at", *unit),
+        CodeFault::Target { unit } => ("target at", *unit),
+        CodeFault::Payload { unit } => ("payload at", *unit),
+        CodeFault::Operand { unit } => ("operand at", *unit),
+        CodeFault::Region { place } => ("region", *place),
+        CodeFault::Handler { place } => ("handler", *place),
+        CodeFault::FallsOff { unit } => ("falls off at", *unit),
+        CodeFault::Misplaced { unit } => ("misplaced at", *unit),
+        CodeFault::NoMemory | CodeFault::Limit(_) => ("code", 0),
+    }
+}
+
+/// A fault of a method's code.
+fn code_line(
+    alloc: Global,
+    opening: &str,
+    method: u32,
+    fault: &CodeFault,
+) -> Result<String, AllocError> {
+    let (words, number) = code_words(fault);
+    format!(in alloc; "{opening}: method {method}: {words} {number}\n")
+}
+
+/// A checksum that is not that of the bytes.
+fn checksum_line(
+    alloc: Global,
+    opening: &str,
+    stored: u32,
+    computed: u32,
+) -> Result<String, AllocError> {
+    format!(in alloc; "{opening}: checksum {stored:08x}, computed {computed:08x}\n")
+}
+
+/// A member that does not fit.
+fn member_line(alloc: Global, opening: &str, class: u32, place: u32) -> Result<String, AllocError> {
+    format!(in alloc; "{opening}: member {place} of class {class}\n")
+}
+
+/// A fault of a file.
+fn dex_line(alloc: Global, file: File, fault: &DexFault) -> Result<String, AllocError> {
+    let opening = opening(file);
+    match fault {
+        DexFault::NoMemory => no_memory_line(alloc),
+        DexFault::Short { at } => numbered(alloc, opening, "short at", *at as u64),
+        DexFault::Magic => magic_line(alloc, opening),
+        DexFault::Header { at } => numbered(alloc, opening, "header at", *at as u64),
+        DexFault::Checksum { stored, computed } => checksum_line(
+            alloc, opening, *stored, *computed,
+        ),
+        DexFault::Pool(fault) => pool_line(alloc, opening, fault),
+        DexFault::Code { method, fault } => code_line(alloc, opening, *method, fault),
+        DexFault::Member { class, place } => member_line(alloc, opening, *class, *place),
+        DexFault::Root { class } => numbered(alloc, opening, "root class", u64::from(*class)),
+        DexFault::FrameSize { method } => {
+            numbered(alloc, opening, "frame of method", u64::from(*method))
+        }
+        DexFault::Limit(limit) => limit_line(alloc, *limit),
+    }
+}
+
+/// A file of no version that is read.
+fn magic_line(alloc: Global, opening: &str) -> Result<String, AllocError> {
+    format!(in alloc; "{opening}: magic\n")
+}
+
+/// A class that is defined twice.
+fn twice_line(alloc: Global, class: u32) -> Result<String, AllocError> {
+    format!(in alloc; "bad dex: class {class} twice\n")
+}
+
+/// A split override.
+fn split_line(alloc: Global, class: u32, method: u32) -> Result<String, AllocError> {
+    format!(in alloc; "bad dex: split override of method {method} in class {class}\n")
+}
+
+/// A fault of the graph of classes.
+fn hierarchy_line(alloc: Global, fault: &HierarchyFault) -> Result<String, AllocError> {
+    match fault {
+        HierarchyFault::NoMemory => no_memory_line(alloc),
+        HierarchyFault::Cycle { class } => {
+            numbered(alloc, "bad dex", "cycle at class", u64::from(*class))
+        }
+        HierarchyFault::Twice { class } => twice_line(alloc, *class),
+        HierarchyFault::SplitOverride { class, method } => split_line(alloc, *class, *method),
+    }
+}
+
+/// A method without a typing.
+fn typing_line(
+    alloc: Global,
+    method: u32,
+    position: u32,
+    register: u32,
+) -> Result<String, AllocError> {
+    format!(in alloc;
+        "bad dex: method {method}: ill typed at position {position}, register {register}\n"
+    )
+}
+
+/// A fault of the input.
+fn input_line(alloc: Global, fault: &InputFault) -> Result<String, AllocError> {
+    match fault {
+        InputFault::Dex(fault) => dex_line(alloc, File::Input, fault),
+        InputFault::Hierarchy(fault) => hierarchy_line(alloc, fault),
+        InputFault::Typing(TypeFault::NoMemory) => no_memory_line(alloc),
+        InputFault::Typing(
+            TypeFault::IllTyped {
+                method,
+                position,
+                register,
+            },
+        ) => typing_line(alloc, *method, *position, *register),
+        InputFault::Library(fault) => dex_line(alloc, File::Library, fault),
+    }
+}
+
+/// The line of a script that is outside its grammar.
+fn script_line(alloc: Global, line: u32) -> Result<String, AllocError> {
+    numbered(alloc, "bad script", "line", u64::from(line))
+}
+
+/// The text that is said for a status: the usage text for `Usage`, none for `Done`.
+pub fn status_line(alloc: Global, status: &Status) -> Result<String, AllocError> {
+    match status {
+        Status::Done => Ok(String::new(alloc)),
+        Status::Usage => String::from_str(alloc, USAGE),
+        Status::BadRules(fault) => rule_line(alloc, *fault),
+        Status::BadDex(fault) => input_line(alloc, fault),
+        Status::Limit(fault) => limit_line(alloc, *fault),
+        Status::ReadFault => String::from_str(alloc, "read fault\n"),
+        Status::WriteFault => String::from_str(alloc, "write fault\n"),
+        Status::NoMemory => no_memory_line(alloc),
+        Status::BadScript(line) => script_line(alloc, *line),
+    }
+}

@@ -1,0 +1,182 @@
+//! What the commands do between fetching and putting: values in, a value or a status out.
+
+ghost use Rattle.std.specs.Prelude.{◌<◌, ◌≤◌, ◌^◌, vec_len};
+ghost use Rattle.dex_read.specs.Kept.{KeepsLimits};
+
+use crate::live_list::live_list;
+use crate::status::{InputFault, Status};
+use crate::summary::{Sizes, sizes_of, summary};
+use call_graph::live_members;
+use command_line::Tell;
+use dex_read::{DexFault, read_dex};
+use dex_write::write_dex;
+use hierarchy::{Hierarchy, HierarchyFault};
+use keep_rules::{RuleFault, Rules, outside_of, read_rules};
+use pipeline::optimise;
+use program_model::{Outside, Program};
+use reach::close;
+use redex_gen::generate;
+use redex_outside::{Adviser, Key, Panel};
+use std::alloc::{AllocError, Global};
+
+/// The rules of the workload.
+const WORKLOAD_RULES: &[u8] = b"-keep class W0 { public static int run(int); }\n";
+
+/// A fault of the rules as a status.
+fn rules_status(fault: RuleFault) -> Status {
+    match fault {
+        RuleFault::NoMemory => Status::NoMemory,
+        fault => Status::BadRules(fault),
+    }
+}
+
+/// A fault of the file as a status.
+fn dex_status(fault: DexFault) -> Status {
+    match fault {
+        DexFault::NoMemory => Status::NoMemory,
+        DexFault::Limit(limit) => Status::Limit(limit),
+        fault => Status::BadDex(InputFault::Dex(fault)),
+    }
+}
+
+/// A fault of the class graph as a status.
+fn hierarchy_status(fault: HierarchyFault) -> Status {
+    match fault {
+        HierarchyFault::NoMemory => Status::NoMemory,
+        fault => Status::BadDex(InputFault::Hierarchy(fault)),
+    }
+}
+
+/// A program that was read, with its hierarchy and what the rules keep of it.
+#[derive(Drop)]
+struct Input {
+    program: Program,
+    hierarchy: Hierarchy,
+    outside: Outside,
+}
+
+/// What the rules keep of a program, closed.
+fn closed_outside(
+    alloc: Global,
+    rules: &Rules,
+    program: &Program,
+    hierarchy: &Hierarchy,
+) -> Result<Outside, AllocError>
+    requires { KeepsLimits program.now }
+{
+    let open = outside_of(alloc, rules, program, hierarchy)?;
+    close(alloc, program, hierarchy, &open)
+}
+
+/// The rules, the file and its class graph, in this order. The bytes are let go as soon as they are read.
+fn read_input(alloc: Global, rules: Vec<u8>, file: Vec<u8>) -> Result<Input, Status>
+    requires { vec_len rules < 2 ^ 32 }
+{
+    let parsed = match read_rules(alloc, &rules) {
+        Ok(parsed) => parsed,
+        Err(fault) => return Err(rules_status(fault)),
+    };
+    let program = match read_dex(alloc, &file) {
+        Ok(program) => program,
+        Err(fault) => return Err(dex_status(fault)),
+    };
+    drop(rules);
+    drop(file);
+    let hierarchy = match Hierarchy::build(alloc, &program) {
+        Ok(hierarchy) => hierarchy,
+        Err(fault) => return Err(hierarchy_status(fault)),
+    };
+    let outside = closed_outside(alloc, &parsed, &program, &hierarchy).map_err(
+        |_| Status::NoMemory,
+    )?;
+    Ok(Input {
+        program,
+        hierarchy,
+        outside,
+    })
+}
+
+/// Tells the advisers what the words say, in their order.
+fn tell_all(alloc: Global, panel: &mut Panel, tells: &[Tell]) -> Result<(), AllocError> {
+    for tell in tells {
+        match tell {
+            Tell::Spare(prefix) => panel.tell(alloc, Key::Spare, 0, prefix.as_str())?,
+            Tell::AtMost(number) => panel.tell(alloc, Key::AtMost, *number, "")?,
+        }
+    }
+    Ok(())
+}
+
+/// An output file and the summary that is said of it.
+#[derive(Drop)]
+pub struct Optimised {
+    pub bytes: Vec<u8>,
+    pub summary: String,
+}
+
+/// Optimises a program, writes it and sums up.
+fn optimise_program(
+    alloc: Global,
+    program: Program,
+    outside: &Outside,
+    before: Sizes,
+    panel: &mut Panel,
+) -> Result<Optimised, AllocError> {
+    let outcome = optimise(alloc, program, outside, panel)?;
+    let bytes = write_dex(alloc, &outcome.program)?;
+    let after = sizes_of(&outcome.program, bytes.len());
+    let summary = summary(alloc, before, after, outcome.rounds, outcome.spared)?;
+    Ok(Optimised { bytes, summary })
+}
+
+/// Optimises a file by its rules.
+pub fn optimise_file(
+    alloc: Global,
+    rules: Vec<u8>,
+    file: Vec<u8>,
+    tells: &[Tell],
+    advisers: Vec<Box<dyn Adviser>>,
+) -> Result<Optimised, Status>
+    requires { vec_len rules < 2 ^ 32 }
+{
+    let length = file.len();
+    let input = read_input(alloc, rules, file)?;
+    let before = sizes_of(&input.program, length);
+    let mut panel = Panel::new(alloc, advisers);
+    tell_all(alloc, &mut panel, tells).map_err(|_| Status::NoMemory)?;
+    optimise_program(alloc, input.program, &input.outside, before, &mut panel).map_err(
+        |_| Status::NoMemory,
+    )
+}
+
+/// The file of the workload of so many classes.
+fn workload_file(alloc: Global, count: u32) -> Result<Vec<u8>, AllocError>
+    requires { count ≤ 2000 }
+{
+    write_dex(alloc, &generate(alloc, count)?)
+}
+
+/// Optimises the workload of so many classes, and answers the summary.
+pub fn optimise_workload(
+    alloc: Global,
+    count: u32,
+    advisers: Vec<Box<dyn Adviser>>,
+) -> Result<String, Status>
+    requires { count ≤ 2000 }
+{
+    let file = workload_file(alloc, count).map_err(|_| Status::NoMemory)?;
+    let rules = Vec::from_slice(alloc, WORKLOAD_RULES).map_err(|_| Status::NoMemory)?;
+    let optimised = optimise_file(alloc, rules, file, &[], advisers)?;
+    Ok(optimised.summary)
+}
+
+/// The live classes and members of a file by its rules, as they are said.
+pub fn list_live(alloc: Global, rules: Vec<u8>, file: Vec<u8>) -> Result<Vec<u8>, Status>
+    requires { vec_len rules < 2 ^ 32 }
+{
+    let input = read_input(alloc, rules, file)?;
+    let live = live_members(alloc, &input.program, &input.hierarchy, &input.outside).map_err(
+        |_| Status::NoMemory,
+    )?;
+    live_list(alloc, &input.program, &live).map_err(|_| Status::NoMemory)
+}

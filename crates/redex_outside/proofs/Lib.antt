@@ -1,0 +1,5 @@
+pub mod Asking
+pub mod Telling
+pub mod Replies
+pub mod Known
+pub mod Runs

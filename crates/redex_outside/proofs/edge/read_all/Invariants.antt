@@ -1,0 +1,11 @@
+use Rattle.std.proofs.Common.{◌≤◌, ◌+◌, ◌-◌, vec_len, take}
+use Rattle.std.specs.Io.KnownBytes.{Consumes}
+use Rattle.redex_outside.proofs.edge.read_all.Given as goal
+
+abbrev pub invariant-loop-filled : goal.invariant-loop-filled
+invariant-loop-filled g l =
+    (l.filled ≤ vec_len l.bytes) × (vec_len l.bytes ≤ l.limit + 1)
+    × Consumes (g.F.Read.remaining l.initial.file) (g.F.Read.remaining l.file) (take l.filled l.bytes.items)
+
+abbrev pub decreases-loop-filled : goal.decreases-loop-filled
+decreases-loop-filled g l = l.limit + 1 - l.filled

@@ -3,7 +3,6 @@
 
 use redex_cli::run;
 use redex_outside::{Adviser, BudgetAdviser, FileShelf, PrefixAdviser, StdNotes};
-use std::alloc::{AllocError, Global};
 use std::env;
 use std::io::ErrorKind;
 use std::process::ExitCode;
@@ -13,14 +12,6 @@ const NO_MEMORY: u8 = 7;
 
 /// The status of a word that can't be had.
 const USAGE: u8 = 1;
-
-/// The advisers that listen to `--spare` and `--at-most`.
-fn advisers(alloc: Global) -> Result<Vec<Box<dyn Adviser>>, AllocError> {
-    let mut advisers: Vec<Box<dyn Adviser>> = Vec::new(alloc);
-    advisers.push(Box::new(alloc, PrefixAdviser::new(alloc))?)?;
-    advisers.push(Box::new(alloc, BudgetAdviser::new())?)?;
-    Ok(advisers)
-}
 
 fn main(rt: HostRuntime) -> ExitCode {
     let alloc = rt.alloc();
@@ -35,9 +26,19 @@ fn main(rt: HostRuntime) -> ExitCode {
             return ExitCode::from(NO_MEMORY);
         }
     }
-    let Ok(advisers) = advisers(alloc) else {
+    let mut advisers: Vec<Box<dyn Adviser>> = Vec::new(alloc);
+    let Ok(prefixes) = Box::new(alloc, PrefixAdviser::new(alloc)) else {
         return ExitCode::from(NO_MEMORY);
     };
+    if advisers.push(prefixes).is_err() {
+        return ExitCode::from(NO_MEMORY);
+    }
+    let Ok(budget) = Box::new(alloc, BudgetAdviser::new()) else {
+        return ExitCode::from(NO_MEMORY);
+    };
+    if advisers.push(budget).is_err() {
+        return ExitCode::from(NO_MEMORY);
+    }
     let mut shelf = FileShelf::new(&rt);
     let mut notes = StdNotes::new(&rt);
     let status = run(alloc, &words, &mut shelf, &mut notes, advisers);

@@ -1,0 +1,12 @@
+//! Orders with a least element and upper bounds, and those whose ascents end.
+//!
+//! A [`Lattice`] compares and joins the values that an analysis computes. A [`Domain`] is one whose values can't be
+//! widened for ever: each widening that rises spends some of the value's rank. Their laws are part of the traits, so
+//! that a solver over any domain rests on them alone. [`Flat`] knows one value or any.
+#![tactic(auto)]
+
+mod flat_values;
+mod order;
+
+pub use flat_values::Flat;
+pub use order::{Domain, Lattice};

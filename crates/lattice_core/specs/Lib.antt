@@ -1,2 +1,4 @@
 pub mod Laws
 pub mod FlatValues
+pub mod Lifting
+pub mod Pairs

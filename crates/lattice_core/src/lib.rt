@@ -6,7 +6,11 @@
 #![tactic(auto)]
 
 mod flat_values;
+mod lifting;
 mod order;
+mod pairs;
 
 pub use flat_values::Flat;
+pub use lifting::Lifted;
 pub use order::{Domain, Lattice};
+pub use pairs::Pair;

@@ -1,7 +1,7 @@
 -- The order of flat values.
-use Rattle.std.specs.Prelude.{◌≡◌, ℕ, ◌<◌, Bool, true, false, if◌then◌else◌, refl, ◌⊎◌}
+use Rattle.std.specs.Prelude.{◌≡◌, ℕ, Bool, true, false, if◌then◌else◌, refl}
 use Rattle.std.specs.Cmp.{IsEquivalence}
-use Rattle.std.proofs.Common.{sym, ◌∙◌, arith, inl, inr}
+use Rattle.std.proofs.Common.{sym, ◌∙◌}
 use Rattle.lattice_core.specs.declared.flat_values.Flat.{Flat}
 use Rattle.lattice_core.specs.declared.flat_values.Flat.TheVariants.{Bottom, Known, Any}
 
@@ -76,17 +76,3 @@ abbrev pub flat_rank : {T : Type 0} → Flat T → ℕ
 flat_rank Bottom = 2
 flat_rank (Known a) = 1
 flat_rank Any = 0
-
-module _ {T : Type 0} {eq : T → T → Bool} (laws : IsEquivalence eq) where
-  pub flat_falls : (x y : Flat T) → flat_below eq (flat_joined eq x y) x ⊎ flat_rank (flat_joined eq x y) < flat_rank x
-  flat_falls Bottom Bottom = inl tt
-  flat_falls Bottom (Known b) = inr (omega arith)
-  flat_falls Bottom Any = inr (omega arith)
-  flat_falls (Known a) Bottom = inl (laws.refl a)
-  flat_falls (Known a) (Known b) = known (eq a b)
-    where
-      known : (e : Bool) → flat_below eq (if e then Known a else Any) (Known a) ⊎ flat_rank (if e then Known a else Any) < flat_rank (Known a)
-      known true = inl (laws.refl a)
-      known false = inr (omega arith)
-  flat_falls (Known a) Any = inr (omega arith)
-  flat_falls Any y = inl tt

@@ -2,3 +2,4 @@ pub mod Laws
 pub mod FlatValues
 pub mod Lifting
 pub mod Pairs
+pub mod Places

@@ -1,7 +1,5 @@
 -- The order of lifted values.
-use Rattle.std.specs.Prelude.{◌≡◌, ℕ, suc, ◌<◌, ◌≤◌, Bool, true, ◌⊎◌}
-use Rattle.std.proofs.Common.{arith, inl, inr}
-use Rattle.lattice_core.specs.Laws.{IsUpper, IsWidened}
+use Rattle.std.specs.Prelude.{ℕ, suc}
 use Rattle.lattice_core.specs.declared.lifting.Lifted.{Lifted}
 use Rattle.lattice_core.specs.declared.lifting.Lifted.TheVariants.{Unreached, Reached}
 

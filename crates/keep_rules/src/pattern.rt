@@ -14,11 +14,13 @@ pub enum Piece {
     Stars,
 }
 
-/// A pattern of a name: the units before its first wildcard, and the pieces from there on.
+/// A pattern of a name: the units before its first wildcard, the pieces from there on, and how many units these match
+/// at least.
 #[derive(Drop)]
 pub struct NamePattern {
     pub head: Vec<u16>,
     pub rest: Vec<Piece>,
+    pub fewest: usize,
 }
 
 /// What is matched. In the name of a class, as it stands in a descriptor, `/` counts as a dot, which `?` and `*` don't
@@ -191,8 +193,10 @@ impl NamePattern {
         row: &mut Vec<bool>,
     ) -> Result<bool, AllocError> {
         match behind_head(named, text, self.head.as_slice()) {
-            Some(rest) => matches_pieces(named, rest, self.rest.as_slice(), row),
-            None => Ok(false),
+            Some(rest) if self.fewest <= rest.len() => {
+                matches_pieces(named, rest, self.rest.as_slice(), row)
+            }
+            _ => Ok(false),
         }
     }
 }

@@ -45,6 +45,18 @@ fn push_char(pieces: &mut Vec<Piece>, code: u32) -> Result<(), AllocError> {
     Ok(())
 }
 
+/// Adds a wildcard for many characters. Two such side by side, one of which is `**`, match what `**` matches alone.
+fn push_star(pieces: &mut Vec<Piece>, star: Piece) -> Result<(), AllocError> {
+    if let Some(last) = pieces.last_mut() {
+        if matches!(last, Piece::Star | Piece::Stars) {
+            *last = Piece::Stars;
+            return Ok(());
+        }
+    }
+    pieces.push(star)?;
+    Ok(())
+}
+
 /// The pieces of a token.
 fn pieces_of(alloc: Global, word: &[u8]) -> Result<Vec<Piece>, AllocError> {
     let mut pieces = Vec::new(alloc);
@@ -57,12 +69,23 @@ fn pieces_of(alloc: Global, word: &[u8]) -> Result<Vec<Piece>, AllocError> {
             push_char(&mut pieces, code)?;
         } else if let [b'*', more @ ..] = behind {
             rest = more;
-            pieces.push(Piece::Stars)?;
+            push_star(&mut pieces, Piece::Stars)?;
         } else {
-            pieces.push(Piece::Star)?;
+            push_star(&mut pieces, Piece::Star)?;
         }
     }
     Ok(pieces)
+}
+
+/// How many units the pieces match at least.
+fn fewest_units(pieces: &[Piece]) -> usize {
+    let mut fewest: usize = 0;
+    for piece in pieces {
+        if matches!(piece, Piece::Exactly(_) | Piece::One) {
+            fewest = fewest.saturating_add(1);
+        }
+    }
+    fewest
 }
 
 /// The pattern that a token writes.
@@ -77,5 +100,6 @@ pub fn pattern_of(alloc: Global, word: &[u8]) -> Result<NamePattern, AllocError>
     Ok(NamePattern {
         head,
         rest: Vec::from_slice(alloc, rest)?,
+        fewest: fewest_units(rest),
     })
 }

@@ -1,0 +1,2 @@
+//! The solver that goes along an order.
+pub fn solve_along() {}

@@ -1,2 +1,3 @@
+pub mod Queue
 pub mod Rows
 pub mod Tables

@@ -1,7 +1,6 @@
 -- How the table of a flow rises.
 use Rattle.std.proofs.Common.{◌≡◌, ℕ, ◌+◌, ◌<◌, ◌≢◌, Bool, true, false, List, [], ◌∷◌, ◌++◌, length, replicate, refl, sym, ap, ◌∙◌, subst, ◌⊎◌, inl, inr, arith, get_or-set_other, get_or-set_same}
 use Rattle.std.specs.Prelude.{All, Contains, slice_index_or}
-use Rattle.std.specs.List.{sum_by}
 use Rattle.std.proofs.Math.ListN.{set, length-set}
 use Rattle.std.proofs.lemmas.Bool.{cases_eq, cases_lt}
 use Rattle.std.proofs.lemmas.List.Elements.{All-contains}
@@ -112,15 +111,6 @@ module _ {S : Type 0} (below : S → S → Type 0) (exact : Bool) (stays : ℕ �
           let less : rank x < rank (slice_index_or t (g.target e) d) = elim (raised.falls k) [ inr l ↦ l | inl b ↦ absurd (above (trans _ _ _ raised.over.second b)) ] in
           omega (arith, eq, less);
     }
-
-  pub not_raised : (rank : S → ℕ) (widens : Bool) (t : List S) (w : List Bool) (e i j : ℕ) (from old m : S) → i ≡ g.target e → j ≡ g.source e → from ≡ slice_index_or t j d → m ≡ g.moved e from → old ≡ slice_index_or t i d → below m old → Follows below rank exact stays d g widens e t w t w false
-  not_raised rank widens t w e i j from old m qi qj qf qm qo b = record {
-    rises = rises_same t w;
-    done = inr (subst (λ v. below v (slice_index_or t (g.target e) d)) (qm ∙ ap (g.moved e) (qf ∙ ap (λ k. slice_index_or t k d) qj)) (subst (below m) (qo ∙ ap (λ k. slice_index_or t k d) qi) b));
-    same = λ q. (refl, refl);
-    marked = λ q. absurd (cc);
-    falls = λ q. absurd (cc);
-  }
 
   pub followed : (rank : S → ℕ) (joined widened : S → S → S) → FlowLaws below exact d joined widened stays g → (exact ≡ true → (x y z : S) → below x z → below y z → below (joined x y) z)
       → (widens : Bool) (t : List S) (w : List Bool) (e i j : ℕ) (from old old' m x : S) → e < g.edges → length t ≡ g.nodes → length w ≡ g.nodes → i ≡ g.target e → j ≡ g.source e

@@ -1,4 +1,4 @@
-use Rattle.std.proofs.Common.{◌≡◌, ◌<◌, [], ◌∷◌, ◌++◌, true, arith, length, length-append, sym, ◌∙◌, ap}
+use Rattle.std.proofs.Common.{[], ◌∷◌, ◌++◌, true, arith, length, length-append, ◌∙◌, ap}
 use Rattle.std.proofs.lemmas.List.{replicate_more}
 use Rattle.fixpoint.proofs.Tables.{keeps_first, pushed_is}
 use Rattle.fixpoint.proofs.rising.begin.Goals as goal

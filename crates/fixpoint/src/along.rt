@@ -1,2 +1,0 @@
-//! The solver that goes along an order.
-pub fn solve_along() {}

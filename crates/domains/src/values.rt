@@ -1,0 +1,235 @@
+//! All that is known of the content of a register.
+
+ghost use Rattle.std.specs.Prelude.{◌≡◌, ℕ, ◌↔◌, IsTrue, Contains, Option, Some, None, IfSome, false, ◌==◌, if◌then◌else◌};
+ghost use Rattle.domains.specs.declared.nulls.Nullness.TheVariants.{Null, NotNull};
+ghost use Rattle.std.specs.Option.{option_copied};
+ghost use Rattle.domains.specs.Datum.{Datum, Plain, Single, Double, Object};
+ghost use Rattle.domains.specs.ClassSets.{Ascends};
+ghost use Rattle.domains.specs.Values.{value_holds, HoldsOnly, constant_value, wide_value, any_value, IsReduced};
+
+use crate::class_sets::ClassSet;
+use crate::nulls::Nullness;
+use crate::numbers::Word;
+use crate::ranges::Interval;
+use lattice_core::{Domain, Lattice};
+use std::alloc::{AllocError, Global};
+use std::marker::Model;
+
+/// A word or a wide number, an interval of words, nullness and classes, which hold together.
+///
+/// A value holds of a word that its word part, its interval and its nullness allow, of a wide number that its word part
+/// and its nullness allow, and of an object that its classes and its nullness allow. It is kept reduced: no part allows
+/// what the others rule out, as far as that part can say it.
+#[derive(Drop)]
+pub struct Value {
+    word: Word,
+    interval: Interval,
+    nullness: Nullness,
+    classes: ClassSet,
+}
+
+impl Model for Value {
+    ghost use Rattle.domains.specs.Values.{Parts, IsReduced};
+
+    ghost Value = { Parts };
+
+    ghost view = { λ v. record { word = v.word; interval = v.interval; nullness = v.nullness; classes = v.classes } };
+
+    ghost invariant = { λ v. IsReduced (record { word = v.word; interval = v.interval; nullness = v.nullness; classes = v.classes }) };
+}
+
+impl Value {
+    /// The value of one word of 32 bits, which may be null.
+    pub fn constant(word: u32) -> Value
+        ensures is { result ≡ constant_value word }
+        ensures alone { HoldsOnly result (Plain (Single word)) }
+    {
+        Value {
+            word: Word::Known(word),
+            interval: Interval::of_word(word.cast_signed()),
+            nullness: nullness_of(word),
+            classes: ClassSet::none(),
+        }
+    }
+
+    /// The value of one wide number of 64 bits.
+    pub fn wide(number: u64) -> Value
+        ensures is { result ≡ wide_value number }
+        ensures alone { HoldsOnly result (Plain (Double number)) }
+    {
+        Value {
+            word: Word::KnownWide(number),
+            interval: Interval::empty(),
+            nullness: Nullness::NotNull,
+            classes: ClassSet::none(),
+        }
+    }
+
+    /// The value of which nothing is known.
+    pub fn any() -> Value
+        ensures is { result ≡ any_value }
+    {
+        Value {
+            word: Word::Any,
+            interval: Interval::full(),
+            nullness: Nullness::Any,
+            classes: ClassSet::any(),
+        }
+    }
+
+    /// The word, where the value holds of this one and of nothing else.
+    pub fn known(&self) -> Option<u32>
+        ensures { (w : ℕ) → (result ≡ Some w) ↔ HoldsOnly self.now (Plain (Single w)) }
+    {
+        if self.classes.is_empty() {
+            self.word.known()
+        } else {
+            None
+        }
+    }
+
+    /// The wide number, where the value holds of this one and of nothing else.
+    pub fn known_wide(&self) -> Option<u64>
+        ensures { (d : ℕ) → (result ≡ Some d) ↔ HoldsOnly self.now (Plain (Double d)) }
+    {
+        if self.classes.is_empty() {
+            self.word.known_wide()
+        } else {
+            None
+        }
+    }
+
+    /// The classes of the program of which the value holds of an object, in ascending order, or none where it holds of
+    /// objects of any class.
+    pub fn classes(&self) -> Option<&[u32]>
+        ensures listed { IfSome result (λ xs. (c : ℕ) → Contains xs.now c ↔ value_holds self.now (Object (Some c))) }
+        ensures any { (result ≡ None) ↔ value_holds self.now (Object None) }
+        ensures ascending { IfSome result (λ xs. Ascends 0 xs.now) }
+        ensures is { option_copied result ≡ self.now.classes }
+    {
+        self.classes.classes()
+    }
+
+    /// Whether the value doesn't hold of the word 0, which null is.
+    pub fn not_null(&self) -> bool
+        ensures { IsTrue result ↔ (value_holds self.now (Plain (Single 0)) → ⊥) }
+    {
+        matches!(self.nullness, Nullness::Bottom | Nullness::NotNull)
+    }
+
+    /// What is known of it as a number.
+    pub fn word(&self) -> Word
+        ensures is { result ≡ self.now.word }
+        ensures reduced { IsReduced self.now }
+    {
+        self.word
+    }
+
+    /// The words that it can be.
+    pub fn interval(&self) -> Interval
+        ensures { result ≡ self.now.interval }
+    {
+        self.interval
+    }
+
+    /// Whether it can be null, and anything else.
+    pub fn nullness(&self) -> Nullness
+        ensures { result ≡ self.now.nullness }
+    {
+        self.nullness
+    }
+}
+
+impl Lattice for Value {
+    ghost use Rattle.domains.specs.Datum.{Datum, Within};
+    ghost use Rattle.domains.specs.Values.{value_holds, least_value, value_joined};
+    ghost use Rattle.domains.specs.ValueLaws.{of_nothing_at_all};
+
+    ghost Meaning = { Datum };
+
+    ghost least = { least_value };
+
+    ghost below = { Within value_holds };
+
+    ghost joined = { value_joined };
+
+    ghost holds = { value_holds };
+
+    ghost least_below = { λ x d h. absurd (of_nothing_at_all d h) };
+
+    ghost reflexive = { λ x d h. h };
+
+    ghost transitive = { λ x y z f g d h. g d (f d h) };
+
+    ghost grows = { λ x y d f h. f d h };
+
+    ghost of_nothing = { of_nothing_at_all };
+
+    fn bottom(alloc: Global) -> Self {
+        Value {
+            word: Word::Bottom,
+            interval: Interval::empty(),
+            nullness: Nullness::Bottom,
+            classes: ClassSet::none(),
+        }
+    }
+
+    fn leq(&self, other: &Self) -> bool {
+        self.word.leq(&other.word)
+            && self.interval.leq(&other.interval)
+            && self.nullness.leq(&other.nullness)
+            && self.classes.leq(&other.classes)
+    }
+
+    fn join(&self, alloc: Global, other: &Self) -> Result<Self, AllocError> {
+        Ok(Value {
+            word: self.word.join(alloc, &other.word)?,
+            interval: self.interval.join(alloc, &other.interval)?,
+            nullness: self.nullness.join(alloc, &other.nullness)?,
+            classes: self.classes.join(alloc, &other.classes)?,
+        })
+    }
+
+    fn copy(&self, alloc: Global) -> Result<Self, AllocError> {
+        Ok(Value {
+            word: self.word,
+            interval: self.interval,
+            nullness: self.nullness,
+            classes: self.classes.copy(alloc)?,
+        })
+    }
+}
+
+impl Domain for Value {
+    ghost use Rattle.domains.specs.Values.{value_rank, value_widened};
+
+    const EXACT: bool = false;
+
+    ghost EXACT = { false };
+
+    ghost rank = { value_rank };
+
+    ghost widened = { value_widened };
+
+    ghost join_least = { λ x y z e. absurd (Prim.cc) };
+
+    fn widen(&self, alloc: Global, newer: &Self) -> Result<Self, AllocError> {
+        Ok(Value {
+            word: self.word.widen(alloc, &newer.word)?,
+            interval: self.interval.widen(alloc, &newer.interval)?,
+            nullness: self.nullness.widen(alloc, &newer.nullness)?,
+            classes: self.classes.widen(alloc, &newer.classes)?,
+        })
+    }
+}
+
+/// Whether a word is the word 0.
+fn nullness_of(word: u32) -> Nullness
+    ensures { result ≡ (if word == 0 then Null else NotNull) }
+{
+    if word == 0 {
+        Nullness::Null
+    } else {
+        Nullness::NotNull
+    }
+}

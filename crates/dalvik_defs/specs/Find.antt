@@ -122,11 +122,23 @@ finds_at p t k = elim (first_method is_virtual_method k.name k.signature (chain_
   | None ↦ finds_among p (flat_map (λ c. c.interfaces) (chain_of p t)) k.name k.signature
 ]
 
+-- ---- resolution
+
+-- program classes among some types, each followed by those above it by interface lists
+abbrev pub interfaces_from : ℕ → NamedProgram → List Text → List NamedClass
+interfaces_from zero p ts = []
+interfaces_from (suc n) p ts = flat_map (λ t. elim (class_named p t) [ Some c ↦ c ∷ interfaces_from n p c.interfaces | None ↦ [] ]) ts
+
+-- A method that an instruction names resolves along the named class and its superclasses, then their interfaces.
+abbrev pub resolves_method : NamedProgram → MethodKey → Option Found
+resolves_method p k = first_method (λ m. true) k.name k.signature
+    (chain_of p k.class ++ interfaces_from (length p.classes) p (flat_map (λ c. c.interfaces) (chain_of p k.class)))
+
 -- ---- super calls
 
 -- whether a type stands in the interface list of a class or of a program class above it
 abbrev pub lists_interface : NamedProgram → Text → Text → Bool
-lists_interface p class t = list_any (λ c. list_any (text_eq t) c.interfaces) (chain_of p class)
+lists_interface p class t = list_any (λ c. is_own_under p class c.name && list_any (text_eq t) c.interfaces) p.classes
 
 abbrev pub superclass_of : NamedProgram → Text → Text
 superclass_of p t = elim (class_named p t) [ Some c ↦ c.superclass | None ↦ [] ]

@@ -9,6 +9,7 @@ mod encoded;
 mod events;
 pub mod examples;
 mod forms;
+pub mod laws;
 mod names;
 mod program;
 mod script;

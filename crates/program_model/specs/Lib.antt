@@ -1,3 +1,15 @@
 pub mod Limits
 pub mod Cells
 pub mod Lookups
+pub mod Neighbours
+pub mod Distinct
+pub mod Texts
+pub mod TableRules
+pub mod ValueRules
+pub mod OperandRules
+pub mod LineRules
+pub mod RegionRules
+pub mod BodyRules
+pub mod Items
+pub mod MemberRules
+pub mod ProgramRules

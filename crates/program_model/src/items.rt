@@ -1,9 +1,9 @@
 //! How many items a program has: the entries of its lists of types, annotations, values and handlers.
 
-ghost use Rattle.std.specs.Prelude.{◌≡◌, ◌+◌, length, sum_by};
+ghost use Rattle.std.specs.Prelude.{◌≡◌, sum_by};
 ghost use Rattle.program_model.specs.Cells.{capped};
 ghost use Rattle.program_model.specs.declared.value.EncValue.{out-EncValue};
-ghost use Rattle.program_model.specs.Items.{element_items, note_items, layer_items, value_items, mark_items, marks_items, first_items_from, field_items, fields_items, rest_items, region_items, body_items, method_items, class_items, proto_items, items_of};
+ghost use Rattle.program_model.specs.Items.{element_items, note_items, layer_items, value_items, mark_items, marks_items, first_items_from, field_items, fields_items, region_items, body_items, method_items, class_items, proto_items, items_of};
 
 use crate::body::{Body, Region};
 use crate::pools::Proto;

@@ -1,13 +1,12 @@
 //! What a class and its members have to be (Dalvik executable format, "class_def_item", "class_data_item").
 
-ghost use Rattle.std.specs.Prelude.{◌≡◌, ◌+◌, codes, sum_by, slice_get, nat_eq};
+ghost use Rattle.std.specs.Prelude.{◌≡◌, ◌+◌, sum_by, slice_get};
 ghost use Rattle.std.specs.List.{list_all};
 ghost use Rattle.std.specs.Option.{option_copied};
-ghost use Rattle.std.specs.Cmp.Lexicographic.{pointwise};
 ghost use Rattle.program_model.specs.Cells.{capped};
 ghost use Rattle.program_model.specs.Neighbours.{neighbours};
 ghost use Rattle.program_model.specs.ValueRules.{marks_fit};
-ghost use Rattle.program_model.specs.MemberRules.{is_private, is_static, lacks_code, in_groups, class_of_field, is_class_number, field_letter, first_value_fits, field_fits, fields_in_order, fields_fit, class_of_method, name_of_method, is_direct, words_of, receiver_words, proto_of, takes_words, frame_fits, code_fits, method_fits, methods_in_order, methods_fit, is_class_type, is_object, types_of_class_fit, source_fits, class_fits};
+ghost use Rattle.program_model.specs.MemberRules.{is_static, lacks_code, in_groups, class_of_field, is_class_number, field_letter, first_value_fits, field_fits, fields_in_order, fields_fit, class_of_method, name_of_method, is_direct, words_of, receiver_words, proto_of, takes_words, frame_fits, code_fits, method_fits, methods_in_order, methods_fit, is_class_type, is_object, types_of_class_fit, source_fits, class_fits};
 
 use crate::body::Body;
 use crate::body_rules::body_fits;

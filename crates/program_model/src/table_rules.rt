@@ -1,7 +1,7 @@
 //! What the tables of strings, types, protos, fields and methods have to be (Dalvik executable format, "string_id_item" to
 //! "method_id_item").
 
-ghost use Rattle.std.specs.Prelude.{◌≡◌, ◌^◌, length, sum_by, nat_le};
+ghost use Rattle.std.specs.Prelude.{◌≡◌, length, sum_by, nat_le};
 ghost use Rattle.std.specs.List.{list_all, zip};
 ghost use Rattle.program_model.specs.Cells.{capped};
 ghost use Rattle.program_model.specs.Limits.{limit_of};

@@ -1,6 +1,6 @@
 //! The strings and types of a program by their numbers.
 
-ghost use Rattle.std.specs.Prelude.{◌≡◌, ◌^◌, ◌<◌};
+ghost use Rattle.std.specs.Prelude.{◌≡◌};
 ghost use Rattle.program_model.specs.Texts.{has_string, has_type, has_proto, has_field, has_method, string_text, type_text, first_unit, letter_of, is_void, is_class, is_reference, is_wide};
 
 use crate::program::Program;

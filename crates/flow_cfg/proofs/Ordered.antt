@@ -1,0 +1,47 @@
+-- Edges in an order.
+use Rattle.std.proofs.Common.{◌≡◌, ℕ, ◌<◌, ◌≤◌, ◌⊎◌, inl, inr, List, length, slice_index, subst, sym, ◌∙◌, arith, All, Result, Ok, Err}
+use Rattle.std.proofs.lemmas.List.Elements.{All-weaker}
+use Rattle.std.specs.Result.{IfOk}
+use Rattle.flow_cfg.specs.Listing.{ArePlaces, ListsOnce}
+use Rattle.flow_cfg.specs.Parts.{Holds, Follows, IsHeld, IsBetween}
+use Rattle.flow_cfg.proofs.Nested.{three}
+
+held_at : (places ends : List ℕ) (edge : ℕ × ℕ) (i j : ℕ) → slice_index places edge.0 ≡ i → slice_index places edge.1 ≡ j → IsHeld places ends edge → j ≤ i → Holds ends j i
+held_at places ends edge i j from to held back =
+    let past : slice_index places edge.0 < slice_index ends (slice_index places edge.1) = held (omega (arith, from, to, back)) in
+    let there : slice_index places edge.0 < slice_index ends j = subst (λ (m : ℕ). slice_index places edge.0 < slice_index ends m) to past in
+    (back, omega (arith, there, from))
+
+follows_one : (order places ends : List ℕ) → ArePlaces order places → (edge : ℕ × ℕ) → IsHeld places ends edge → Follows order ends edge
+follows_one order places ends p edge held i j lt lt' from to =
+    let at : slice_index places edge.0 ≡ i = subst (λ (n : ℕ). slice_index places n ≡ i) from (p i lt) in
+    let at' : slice_index places edge.1 ≡ j = subst (λ (n : ℕ). slice_index places n ≡ j) to (p j lt') in
+    elim (three i j) [
+      | inl before ↦ elim before [
+        | inl less ↦ inl (less, λ h. omega (arith, h.0, less))
+        | inr same ↦ inr (held_at places ends edge i j at at' held (omega (arith, same)))
+      ]
+      | inr past ↦ inr (held_at places ends edge i j at at' held (omega (arith, past)))
+    ]
+
+pub all_follow : (order places ends : List ℕ) (edges : List (ℕ × ℕ)) → ArePlaces order places → All (IsHeld places ends) edges → All (Follows order ends) edges
+all_follow order places ends edges p held = All-weaker (IsHeld places ends) (Follows order ends) (follows_one order places ends p) edges held
+
+pub all_between : (nodes more : ℕ) (edges : List (ℕ × ℕ)) → nodes ≡ more → All (IsBetween nodes) edges → All (IsBetween more) edges
+all_between nodes more edges same between = subst (λ (n : ℕ). All (IsBetween n) edges) same between
+
+-- ---- what the lists of an answer are
+
+pub carried : {T E : Type 0} (r : Result T E) (f : T → List ℕ) (P : List ℕ → Type 0) (given known : List ℕ) → IfOk r (λ v. f v ≡ given) → given ≡ known → P known → IfOk r (λ v. P (f v))
+carried (Ok v) f P given known made same holds = subst P (sym (made ∙ same)) holds
+carried (Err x) f P given known made same holds = tt
+
+pub both_carried : {T E : Type 0} (r : Result T E) (f g : T → List ℕ) (P : List ℕ → List ℕ → Type 0) (given known given' known' : List ℕ) → IfOk r (λ v. f v ≡ given) → given ≡ known → IfOk r (λ v. g v ≡ given') → given' ≡ known' → P known known' → IfOk r (λ v. P (f v) (g v))
+both_carried (Ok v) f g P given known given' known' made same made' same' holds = subst (λ (l : List ℕ). P l (g v)) (sym (made ∙ same)) (subst (P known) (sym (made' ∙ same')) holds)
+both_carried (Err x) f g P given known given' known' made same made' same' holds = tt
+
+pub once_itself : (nodes : ℕ) (given order : List ℕ) → given ≡ order → ListsOnce nodes order → ListsOnce (length given) given
+once_itself nodes given order same once = rw same (subst (λ (n : ℕ). ListsOnce n order) (sym once.long) once)
+
+pub ordered : (given order given' places ends : List ℕ) (edges : List (ℕ × ℕ)) → given ≡ order → given' ≡ places → ArePlaces given places → All (IsHeld given' ends) edges → All (Follows order ends) edges
+ordered given order given' places ends edges same same' p held = all_follow order places ends edges (subst (λ (o : List ℕ). ArePlaces o places) same p) (subst (λ (q : List ℕ). All (IsHeld q ends) edges) same' held)

@@ -157,7 +157,7 @@ nested_all first ends head none n = λ i j less short. n.nest i j (omega (arith,
 -- ---- edges that are held
 
 held_grown : (places ends others : List ℕ) → NoSmaller ends others → (edge : ℕ × ℕ) → IsHeld places ends edge → IsHeld places others edge
-held_grown places ends others grown edge held back = omega (arith, held back, grown (slice_index places edge.1))
+held_grown places ends others grown edge held lt lt' back = omega (arith, held lt lt' back, grown (slice_index places edge.1))
 
 pub all_held_grown : (places ends others : List ℕ) (edges : List (ℕ × ℕ)) → NoSmaller ends others → All (IsHeld places ends) edges → All (IsHeld places others) edges
 all_held_grown places ends others edges grown held = All-weaker (IsHeld places ends) (IsHeld places others) (held_grown places ends others grown) edges held

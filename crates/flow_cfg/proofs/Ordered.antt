@@ -1,34 +1,36 @@
 -- Edges in an order.
-use Rattle.std.proofs.Common.{◌≡◌, ℕ, ◌<◌, ◌≤◌, ◌⊎◌, inl, inr, List, length, slice_index, subst, sym, ◌∙◌, arith, All, Result, Ok, Err}
-use Rattle.std.proofs.lemmas.List.Elements.{All-weaker}
+use Rattle.std.proofs.Common.{◌≡◌, ℕ, ◌<◌, ◌≤◌, ◌⊎◌, inl, inr, List, length, slice_index, subst, sym, ap, ◌∙◌, arith, All, Result, Ok, Err}
+use Rattle.std.proofs.lemmas.List.Elements.{All-weaker, All-get_or}
 use Rattle.std.specs.Result.{IfOk}
 use Rattle.flow_cfg.specs.Listing.{ArePlaces, ListsOnce}
-use Rattle.flow_cfg.specs.Parts.{Holds, Follows, IsHeld, IsBetween}
+use Rattle.flow_cfg.specs.Parts.{Holds, Follows, IsHeld}
 use Rattle.flow_cfg.proofs.Nested.{three}
 
-held_at : (places ends : List ℕ) (edge : ℕ × ℕ) (i j : ℕ) → slice_index places edge.0 ≡ i → slice_index places edge.1 ≡ j → IsHeld places ends edge → j ≤ i → Holds ends j i
-held_at places ends edge i j from to held back =
-    let past : slice_index places edge.0 < slice_index ends (slice_index places edge.1) = held (omega (arith, from, to, back)) in
+held_at : (places ends : List ℕ) (edge : ℕ × ℕ) (i j : ℕ) → edge.0 < length places → edge.1 < length places → slice_index places edge.0 ≡ i → slice_index places edge.1 ≡ j → IsHeld places ends edge → j ≤ i → Holds ends j i
+held_at places ends edge i j short short' from to held back =
+    let past : slice_index places edge.0 < slice_index ends (slice_index places edge.1) = held short short' (omega (arith, from, to, back)) in
     let there : slice_index places edge.0 < slice_index ends j = subst (λ (m : ℕ). slice_index places edge.0 < slice_index ends m) to past in
     (back, omega (arith, there, from))
 
-follows_one : (order places ends : List ℕ) → ArePlaces order places → (edge : ℕ × ℕ) → IsHeld places ends edge → Follows order ends edge
-follows_one order places ends p edge held i j lt lt' from to =
+node_short : (order : List ℕ) (nodes node i : ℕ) → All (λ n. n < nodes) order → i < length order → slice_index order i ≡ node → node < nodes
+node_short order nodes node i within lt is = omega (arith, is, All-get_or (λ n. n < nodes) order i 0 lt within)
+
+follows_one : (order places ends : List ℕ) → All (λ n. n < length places) order → ArePlaces order places → (edge : ℕ × ℕ) → IsHeld places ends edge → Follows order ends edge
+follows_one order places ends within p edge held i j lt lt' from to =
+    let short : edge.0 < length places = node_short order (length places) edge.0 i within lt from in
+    let short' : edge.1 < length places = node_short order (length places) edge.1 j within lt' to in
     let at : slice_index places edge.0 ≡ i = subst (λ (n : ℕ). slice_index places n ≡ i) from (p i lt) in
     let at' : slice_index places edge.1 ≡ j = subst (λ (n : ℕ). slice_index places n ≡ j) to (p j lt') in
     elim (three i j) [
       | inl before ↦ elim before [
         | inl less ↦ inl (less, λ h. omega (arith, h.0, less))
-        | inr same ↦ inr (held_at places ends edge i j at at' held (omega (arith, same)))
+        | inr same ↦ inr (held_at places ends edge i j short short' at at' held (omega (arith, same)))
       ]
-      | inr past ↦ inr (held_at places ends edge i j at at' held (omega (arith, past)))
+      | inr past ↦ inr (held_at places ends edge i j short short' at at' held (omega (arith, past)))
     ]
 
-pub all_follow : (order places ends : List ℕ) (edges : List (ℕ × ℕ)) → ArePlaces order places → All (IsHeld places ends) edges → All (Follows order ends) edges
-all_follow order places ends edges p held = All-weaker (IsHeld places ends) (Follows order ends) (follows_one order places ends p) edges held
-
-pub all_between : (nodes more : ℕ) (edges : List (ℕ × ℕ)) → nodes ≡ more → All (IsBetween nodes) edges → All (IsBetween more) edges
-all_between nodes more edges same between = subst (λ (n : ℕ). All (IsBetween n) edges) same between
+all_follow : (order places ends : List ℕ) (edges : List (ℕ × ℕ)) → All (λ n. n < length places) order → ArePlaces order places → All (IsHeld places ends) edges → All (Follows order ends) edges
+all_follow order places ends edges within p held = All-weaker (IsHeld places ends) (Follows order ends) (follows_one order places ends within p) edges held
 
 -- ---- what the lists of an answer are
 
@@ -43,5 +45,7 @@ both_carried (Err x) f g P given known given' known' made same made' same' holds
 pub once_itself : (nodes : ℕ) (given order : List ℕ) → given ≡ order → ListsOnce nodes order → ListsOnce (length given) given
 once_itself nodes given order same once = rw same (subst (λ (n : ℕ). ListsOnce n order) (sym once.long) once)
 
-pub ordered : (given order given' places ends : List ℕ) (edges : List (ℕ × ℕ)) → given ≡ order → given' ≡ places → ArePlaces given places → All (IsHeld given' ends) edges → All (Follows order ends) edges
-ordered given order given' places ends edges same same' p held = all_follow order places ends edges (subst (λ (o : List ℕ). ArePlaces o places) same p) (subst (λ (q : List ℕ). All (IsHeld q ends) edges) same' held)
+pub ordered : (nodes : ℕ) (given order given' places ends : List ℕ) (edges : List (ℕ × ℕ)) → ListsOnce nodes order → length places ≡ length given → given ≡ order → given' ≡ places → ArePlaces given places → All (IsHeld given' ends) edges → All (Follows order ends) edges
+ordered nodes given order given' places ends edges once long same same' p held =
+    let nodes_long : nodes ≡ length places = omega (arith, once.long, long, ap length same) in
+    all_follow order places ends edges (subst (λ (m : ℕ). All (λ n. n < m) order) nodes_long once.within) (subst (λ (o : List ℕ). ArePlaces o places) same p) (subst (λ (q : List ℕ). All (IsHeld q ends) edges) same' held)

@@ -30,13 +30,9 @@ abbrev pub Follows : List ℕ → List ℕ → ℕ × ℕ → Type 0
 Follows order ends edge = (i j : ℕ) → i < length order → j < length order → slice_index order i ≡ edge.0 → slice_index order j ≡ edge.1
     → ((i < j) × (¬ Holds ends j i)) ⊎ Holds ends j i
 
--- both ends of an edge are nodes
-abbrev pub IsBetween : ℕ → ℕ × ℕ → Type 0
-IsBetween nodes edge = (edge.0 < nodes) × (edge.1 < nodes)
-
--- an edge that doesn't go forwards goes to the head of a part that holds its source, by the places of its nodes
+-- an edge between nodes that doesn't go forwards goes to the head of a part that holds its source, by the nodes' places
 abbrev pub IsHeld : List ℕ → List ℕ → ℕ × ℕ → Type 0
-IsHeld places ends edge = slice_index places edge.1 ≤ slice_index places edge.0 → slice_index places edge.0 < slice_index ends (slice_index places edge.1)
+IsHeld places ends edge = edge.0 < length places → edge.1 < length places → slice_index places edge.1 ≤ slice_index places edge.0 → slice_index places edge.0 < slice_index ends (slice_index places edge.1)
 
 -- no end is smaller than the other's
 abbrev pub NoSmaller : List ℕ → List ℕ → Type 0

@@ -1,7 +1,7 @@
 //! Where the parts of an order end.
 
 ghost use Rattle.std.specs.Prelude.{◌≡◌, ℕ, ◌+◌, ◌<◌, ◌≤◌, ◌^◌, length, IfOk, slice_index, All};
-ghost use Rattle.flow_cfg.specs.Parts.{AreEnds, NestFrom, Nest, IsBetween, IsHeld, NoSmaller};
+ghost use Rattle.flow_cfg.specs.Parts.{AreEnds, NestFrom, Nest, IsHeld, NoSmaller};
 
 use std::alloc::{AllocError, Global};
 
@@ -35,22 +35,34 @@ fn hold(ends: &mut [u32], head: u32, place: u32)
     }
 }
 
+/// Lets the part at the target of an edge hold the edge's source, unless the edge goes forwards or isn't between nodes.
+fn hold_edge(ends: &mut [u32], places: &[u32], from: u32, to: u32)
+    requires small { length places.now < 2 ^ 32 }
+    requires long { length ends.old ≡ length places.now }
+    requires places { All (λ p. p < length places.now) places.now }
+    requires ends { AreEnds ends.old }
+    ensures ends { AreEnds ends.new }
+    ensures grown { NoSmaller ends.old ends.new }
+    ensures held { IsHeld places.now ends.new (from, to) }
+{
+    let from = from as usize;
+    let to = to as usize;
+    if from < places.len() && to < places.len() {
+        hold(ends, places[to], places[from]);
+    }
+}
+
 /// The least ends with which each edge that doesn't go forwards goes to the head of a part that holds its source.
 fn holding_ends(alloc: Global, places: &[u32], edges: &[(u32, u32)]) -> Result<Vec<u32>, AllocError>
     requires small { length places.now < 2 ^ 32 }
     requires places { All (λ p. p < length places.now) places.now }
-    requires edges { All (IsBetween (length places.now)) edges.now }
     ensures long { IfOk result (λ v. length v.items ≡ length places.now) }
     ensures ends { IfOk result (λ v. AreEnds v.items) }
     ensures held { IfOk result (λ v. All (IsHeld places.now v.items) edges.now) }
 {
     let mut ends = single_ends(alloc, places)?;
     for (from, to) in edges {
-        hold(
-            ends.as_mut_slice(),
-            places[*to as usize],
-            places[*from as usize],
-        );
+        hold_edge(ends.as_mut_slice(), places, *from, *to);
     }
     Ok(ends)
 }
@@ -95,7 +107,6 @@ pub(crate) fn ends_of(
 ) -> Result<Vec<u32>, AllocError>
     requires small { length places.now < 2 ^ 32 }
     requires places { All (λ p. p < length places.now) places.now }
-    requires edges { All (IsBetween (length places.now)) edges.now }
     ensures long { IfOk result (λ v. length v.items ≡ length places.now) }
     ensures ends { IfOk result (λ v. AreEnds v.items) }
     ensures nest { IfOk result (λ v. Nest v.items) }

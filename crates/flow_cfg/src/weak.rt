@@ -2,7 +2,7 @@
 
 ghost use Rattle.std.specs.Prelude.{◌≡◌, ◌<◌, length, IfOk, All};
 ghost use Rattle.flow_cfg.specs.Listing.{ListsOnce};
-ghost use Rattle.flow_cfg.specs.Parts.{part_nodes, part_ends, AreEnds, Nest, Follows, IsBetween};
+ghost use Rattle.flow_cfg.specs.Parts.{part_nodes, part_ends, AreEnds, Nest, Follows};
 
 use crate::ends::ends_of;
 use crate::listing::{each_once, places_of};
@@ -33,7 +33,7 @@ fn parts_of(alloc: Global, order: &[u32], ends: &[u32]) -> Result<Vec<Part>, All
     Ok(parts)
 }
 
-/// A weak topological order of all nodes of a graph. Each edge goes forwards to a node that heads no part with its
+/// A weak topological order of all nodes of a graph. Each edge between nodes goes forwards to a node that heads no part with its
 /// source, or to the head of a part that holds its source, and parts nest. The order is that of a search that begins at
 /// the entry, so what the entry reaches stands behind the nodes that it doesn't reach. Every place is in the part that it
 /// heads, so an edge from a node to itself asks for nothing. The only error is want of memory.
@@ -43,7 +43,6 @@ pub fn weak_order(
     edges: &[(u32, u32)],
     entry: u32,
 ) -> Result<Vec<Part>, AllocError>
-    requires { All (IsBetween nodes) edges.now }
     ensures nodes { IfOk result (λ parts. ListsOnce nodes (part_nodes parts.items)) }
     ensures ends { IfOk result (λ parts. AreEnds (part_ends parts.items)) }
     ensures nest { IfOk result (λ parts. Nest (part_ends parts.items)) }

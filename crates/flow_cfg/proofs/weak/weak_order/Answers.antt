@@ -1,15 +1,12 @@
-use Rattle.std.proofs.Common.{◌≡◌, List, ℕ, length, ap, arith, Vec, Global, All}
+use Rattle.std.proofs.Common.{◌≡◌, List, ℕ, Vec, Global, All}
 use Rattle.flow_cfg.specs.declared.weak.Part.{Part}
 use Rattle.flow_cfg.specs.Parts.{part_nodes, part_ends, AreEnds, Nest, Follows}
 use Rattle.flow_cfg.specs.Listing.{ListsOnce}
-use Rattle.flow_cfg.proofs.Ordered.{carried, both_carried, once_itself, ordered, all_between}
+use Rattle.flow_cfg.proofs.Ordered.{carried, both_carried, once_itself, ordered}
 use Rattle.flow_cfg.proofs.weak.weak_order.Goals as goal
 
 pub places_of-requires-clause-once : goal.places_of-requires-clause-once
 places_of-requires-clause-once c = once_itself c.args.nodes c.deref-2.result.now c.in_ok-order.order.items c.deref-2.ensures.value c.in_ok-order.ensures
-
-pub ends_of-requires-clause-edges : goal.ends_of-requires-clause-edges
-ends_of-requires-clause-edges c = all_between c.args.nodes (length c.deref-3.result.now) c.args.edges.now (omega (arith, ap length c.deref-3.ensures.value, c.in_ok-places.ensures.long, ap length c.deref-2.ensures.value, c.in_ok-order.ensures.long)) c.requires
 
 pub returns-clause-nodes : goal.returns-clause-nodes
 returns-clause-nodes c = carried c.parts_of.result (λ (v : Vec Part Global). part_nodes v.items) (ListsOnce c.args.nodes) c.deref-4.result.now c.in_ok-order.order.items c.parts_of.ensures.nodes c.deref-4.ensures.value c.in_ok-order.ensures
@@ -25,4 +22,4 @@ returns-clause-edges c =
     both_carried c.parts_of.result (λ (v : Vec Part Global). part_nodes v.items) (λ (v : Vec Part Global). part_ends v.items) (λ o e. All (Follows o e) c.args.edges.now)
     c.deref-4.result.now c.in_ok-order.order.items c.deref-5.result.now c.in_ok-ends.ends.items
     c.parts_of.ensures.nodes c.deref-4.ensures.value c.parts_of.ensures.ends c.deref-5.ensures.value
-    (ordered c.deref-2.result.now c.in_ok-order.order.items c.deref-3.result.now c.in_ok-places.places.items c.in_ok-ends.ends.items c.args.edges.now c.deref-2.ensures.value c.deref-3.ensures.value c.in_ok-places.ensures.places c.in_ok-ends.ensures.held)
+    (ordered c.args.nodes c.deref-2.result.now c.in_ok-order.order.items c.deref-3.result.now c.in_ok-places.places.items c.in_ok-ends.ends.items c.args.edges.now c.in_ok-order.ensures c.in_ok-places.ensures.long c.deref-2.ensures.value c.deref-3.ensures.value c.in_ok-places.ensures.places c.in_ok-ends.ensures.held)

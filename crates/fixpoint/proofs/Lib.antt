@@ -1,3 +1,4 @@
+pub mod Patience
 pub mod Queue
 pub mod Rows
 pub mod Tables

@@ -69,8 +69,22 @@ weight rank t w = sum_by rank t + sum_by one_if w
 abbrev pub itself : ℕ → ℕ
 itself n = n
 
--- joins are spent, or the weight doesn't rise
+-- joins are spent where the answer says so, and else the weight doesn't rise
 pub record Spends {S : Type 0} (rank : S → ℕ) (t : List S) (w : List Bool) (p : List ℕ) (t' : List S) (w' : List Bool) (p' : List ℕ) (joined : Bool) : Type 0 where
   pub long : length p' ≡ length p
   pub no_rise : sum_by itself p' ≤ sum_by itself p
-  pub falls : ((joined ≡ true) × (sum_by itself p' < sum_by itself p)) ⊎ (weight rank t' w' ≤ weight rank t w)
+  pub spent : joined ≡ true → sum_by itself p' < sum_by itself p
+  pub falls : joined ≡ false → weight rank t' w' ≤ weight rank t w
+
+-- for each place and for the end, the heads of the parts that end there
+pub record AreHeads (places : ℕ) (heads : List (List ℕ)) : Type 0 where
+  pub long : length heads ≡ places + 1
+  pub within : (q : ℕ) → All (λ h. h < places) (slice_index_or heads q [])
+
+-- the node at a place waits
+abbrev pub WaitsAt : List ℕ → List Bool → ℕ → Type 0
+WaitsAt nodes w p = (p < length nodes) × Waits w (slice_index_or nodes p 0)
+
+-- none of the nodes waits
+abbrev pub NoneWaits : List ℕ → List Bool → Type 0
+NoneWaits nodes w = (p : ℕ) → p < length nodes → slice_index_or w (slice_index_or nodes p 0) false ≡ false

@@ -1,5 +1,5 @@
 -- The joins that are left, and what is lowered where none is spent.
-use Rattle.std.proofs.Common.{◌≡◌, ℕ, ◌+◌, ◌-◌, ◌<◌, ◌≤◌, Bool, true, false, List, length, refl, sym, ap, ◌∙◌, subst, ◌⊎◌, inl, inr, arith}
+use Rattle.std.proofs.Common.{◌≡◌, ℕ, ◌-◌, ◌<◌, Bool, true, false, List, length, refl, sym, ap, ◌∙◌, arith}
 use Rattle.std.specs.Prelude.{Contains, slice_index_or, ◌||◌}
 use Rattle.std.specs.List.{sum_by}
 use Rattle.std.proofs.Math.ListN.{set, length-set}

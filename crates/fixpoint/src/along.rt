@@ -88,12 +88,7 @@ fn waiting_head(heads: &[usize], nodes: &[u32], waiting: &[bool]) -> Option<usiz
 }
 
 /// The place where to go on from a place: the head of a part that ends on the way, or the next node that waits.
-fn waiting_from(
-    heads: &[Seq<usize>],
-    nodes: &[u32],
-    waiting: &[bool],
-    from: usize,
-) -> Option<usize>
+fn waiting_from(heads: &[Seq<usize>], nodes: &[u32], waiting: &[bool], from: usize) -> Option<usize>
     requires heads { AreHeads (length nodes.now) heads.now }
     requires nodes { All (λ n. n < length waiting.now) nodes.now }
     ensures { IfSome result (WaitsAt nodes.now waiting.now) }
@@ -165,13 +160,7 @@ fn settle<F: Flow>(
         place = next;
         let node = nodes[next];
         table.waiting[node as usize] = false;
-        let joined = follow_row(
-            alloc,
-            flow,
-            rows[node as usize].as_slice(),
-            table,
-            joins,
-        )?;
+        let joined = follow_row(alloc, flow, rows[node as usize].as_slice(), table, joins)?;
         if joined {
             return Ok(Some(place));
         }

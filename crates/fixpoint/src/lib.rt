@@ -14,3 +14,6 @@ mod worklist;
 pub use along::solve_along;
 pub use flows::{Flow, Solution};
 pub use worklist::solve;
+
+#[cfg(test)]
+mod tests;

@@ -1,4 +1,4 @@
-use Rattle.std.proofs.Common.{◌≡◌, ◌<◌, get_or, arith, length, sym, ◌∙◌, subst}
+use Rattle.std.proofs.Common.{◌<◌, get_or, arith, length, sym, ◌∙◌, subst}
 use Rattle.std.specs.Prelude.{All}
 use Rattle.std.proofs.lemmas.List.{get_or_default}
 use Rattle.fixpoint.specs.Rising.{Done}

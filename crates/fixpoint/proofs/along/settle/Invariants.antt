@@ -1,4 +1,4 @@
-use Rattle.std.proofs.Common.{◌≡◌, ℕ, ◌≤◌, length}
+use Rattle.std.proofs.Common.{◌≡◌, ◌≤◌, length}
 use Rattle.std.specs.List.{sum_by}
 use Rattle.fixpoint.specs.Rising.{Keeps, itself, weight}
 use Rattle.fixpoint.proofs.along.settle.Given as goal

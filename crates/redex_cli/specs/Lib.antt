@@ -1,1 +1,9 @@
 pub mod Status
+pub mod Commands
+pub mod FaultLines
+pub mod Fetching
+pub mod Finished
+pub mod Stays
+pub mod Said
+pub mod Refusals
+pub mod Ends

@@ -1,29 +1,21 @@
 //! What each command fetches and puts.
 
-ghost use Rattle.std.specs.Prelude.{◌≤◌, vec_len, IfOk};
+ghost use Rattle.std.specs.Prelude.{◌≡◌, ◌≤◌, ◌∷◌, [], None, Some, vec_len, IsTrue, IfOk, IfErr, OnOk};
 ghost use Rattle.program_model.specs.Limits.{limit_of};
+ghost use Rattle.redex_outside.specs.Counts.{NoneFell};
+ghost use Rattle.redex_outside.specs.Held.{OthersSame};
+ghost use Rattle.redex_cli.specs.Commands.{is_built, CountsWithin, fetches, output_of, rules_and_file};
+ghost use Rattle.redex_cli.specs.FaultLines.{usage_text};
+ghost use Rattle.redex_cli.specs.Fetching.{AllWithin, FetchRefused, OnlyFetched, PutRefused};
+ghost use Rattle.redex_cli.specs.Finished.{IsResult, IsSummary};
+ghost use Rattle.redex_cli.specs.Refusals.{Refuses, Gives, WorkRefused};
 
 use crate::status::Status;
 use crate::work::{list_live, optimise_file, optimise_workload};
 use command_line::{CommandWords, OptimiseWords, USAGE};
 use program_model::{Counted, LimitFault};
 use redex_outside::{Adviser, FetchFault, PutFault, Shelf};
-use std::alloc::{AllocError, Global};
-
-/// How many classes a workload may have; the words spell no greater number.
-const MOST_CLASSES: u32 = 2000;
-
-/// The status of a fetch that failed. `counted` is what its limit counts.
-fn fetch_status(fault: FetchFault, counted: Counted) -> Status {
-    match fault {
-        FetchFault::NoMemory => Status::NoMemory,
-        FetchFault::Failed => Status::ReadFault,
-        FetchFault::TooLong { taken } => Status::Limit(LimitFault {
-            counted,
-            number: taken as u64,
-        }),
-    }
-}
+use std::alloc::Global;
 
 /// The bytes under a name, within the limit of what they are counted as.
 fn fetch<H: Shelf>(
@@ -32,67 +24,184 @@ fn fetch<H: Shelf>(
     name: &str,
     counted: Counted,
 ) -> Result<Vec<u8>, Status>
-    ensures { IfOk result (λ bytes. vec_len bytes ≤ limit_of counted) }
+    ensures limit { IfOk result (λ bytes. vec_len bytes ≤ limit_of counted) }
+    ensures within { IfOk result (λ bytes. IsTrue (H.tells shelf.old) → AllWithin (H.held shelf.old) (record { name = name.now; counted = counted } ∷ [])) }
+    ensures refused { IfErr result (λ status. FetchRefused (H.tells shelf.old) (H.held shelf.old) (H.fetch_faults shelf.old) (H.fetch_faults shelf.new) (record { name = name.now; counted = counted } ∷ []) status) }
+    ensures stays { OnlyFetched (H.tells shelf.old) (H.tells shelf.new) (H.held shelf.old) (H.held shelf.new) (H.fetch_faults shelf.old) (H.fetch_faults shelf.new) (H.put_faults shelf.old) (H.put_faults shelf.new) }
 {
     match shelf.fetch(alloc, name, counted.limit() as usize) {
         Ok(bytes) => Ok(bytes),
-        Err(fault) => Err(fetch_status(fault, counted)),
+        Err(FetchFault::NoMemory) => Err(Status::NoMemory),
+        Err(FetchFault::Failed) => Err(Status::ReadFault),
+        Err(FetchFault::TooLong { taken }) => Err(Status::Limit(LimitFault {
+            counted,
+            number: taken as u64,
+        })),
     }
 }
 
-/// `optimise`: fetches the rules and the file, and puts the output. Its result is the summary.
-fn run_optimise<H: Shelf>(
+/// The bytes of the rules and of the file.
+#[derive(Drop)]
+struct Inputs {
+    rules: Vec<u8>,
+    file: Vec<u8>,
+}
+
+/// Fetches the rules, then the file.
+fn fetch_inputs<H: Shelf>(
     alloc: Global,
-    words: &OptimiseWords,
     shelf: &mut H,
-    advisers: Vec<Box<dyn Adviser>>,
-) -> Result<Vec<u8>, Status> {
-    let rules = fetch(alloc, shelf, words.rules.as_str(), Counted::RuleBytes)?;
-    let file = fetch(alloc, shelf, words.input.as_str(), Counted::FileBytes)?;
-    let optimised = optimise_file(alloc, rules, file, words.tells.as_slice(), advisers)?;
-    match shelf.put(alloc, words.output.as_str(), &optimised.bytes) {
-        Ok(()) => Ok(optimised.summary.into_bytes()),
+    rules: &str,
+    input: &str,
+) -> Result<Inputs, Status>
+    ensures limit { IfOk result (λ inputs. vec_len inputs.rules ≤ 1048576) }
+    ensures within { OnOk result (IsTrue (H.tells shelf.old) → AllWithin (H.held shelf.old) (rules_and_file rules.now input.now)) }
+    ensures refused { IfErr result (λ status. FetchRefused (H.tells shelf.old) (H.held shelf.old) (H.fetch_faults shelf.old) (H.fetch_faults shelf.new) (rules_and_file rules.now input.now) status) }
+    ensures stays { OnlyFetched (H.tells shelf.old) (H.tells shelf.new) (H.held shelf.old) (H.held shelf.new) (H.fetch_faults shelf.old) (H.fetch_faults shelf.new) (H.put_faults shelf.old) (H.put_faults shelf.new) }
+{
+    let rules = match fetch(alloc, shelf, rules, Counted::RuleBytes) {
+        Ok(rules) => rules,
+        Err(status) => return Err(status),
+    };
+    match fetch(alloc, shelf, input, Counted::FileBytes) {
+        Ok(file) => Ok(Inputs { rules, file }),
+        Err(status) => Err(status),
+    }
+}
+
+/// Puts an output.
+fn put<H: Shelf>(alloc: Global, shelf: &mut H, name: &str, bytes: &[u8]) -> Result<(), Status>
+    ensures put { OnOk result (IsTrue (H.tells shelf.old) → H.held shelf.new name.now ≡ Some bytes.now) }
+    ensures refused { IfErr result (λ status. PutRefused (H.tells shelf.old) (H.put_faults shelf.old name.now) (H.put_faults shelf.new name.now) (H.held shelf.old name.now) (H.held shelf.new name.now) bytes.now status) }
+    ensures others { IsTrue (H.tells shelf.old) → OthersSame name.now (H.held shelf.old) (H.held shelf.new) }
+    ensures tells { H.tells shelf.new ≡ H.tells shelf.old }
+    ensures fetch_faults { NoneFell (H.fetch_faults shelf.old) (H.fetch_faults shelf.new) }
+{
+    match shelf.put(alloc, name, bytes) {
+        Ok(()) => Ok(()),
         Err(PutFault::NoMemory) => Err(Status::NoMemory),
         Err(PutFault::Failed) => Err(Status::WriteFault),
     }
 }
 
+/// Whether the command is built. `check`, `trace`, `--inline` and `--library` are not yet.
+pub fn is_built(command: &CommandWords) -> bool
+    ensures { result ≡ is_built command.now }
+{
+    match command {
+        CommandWords::Nothing => true,
+        CommandWords::Optimise(words) => !words.inline && words.library.is_none(),
+        CommandWords::Check { .. } => false,
+        CommandWords::Live { library, .. } => library.is_none(),
+        CommandWords::Trace { .. } => false,
+        CommandWords::Workload { .. } => true,
+    }
+}
+
+/// `optimise`: fetches the rules and the file, and puts the output. Its result is the summary.
+#[tactic(auto, using(crate::proofs::CommandLemmas::fetch_refuses, crate::proofs::CommandLemmas::work_refuses, crate::proofs::CommandLemmas::put_refuses, crate::proofs::CommandLemmas::put_gives))]
+fn run_optimise<H: Shelf>(
+    alloc: Global,
+    words: &OptimiseWords,
+    shelf: &mut H,
+    advisers: Vec<Box<dyn Adviser>>,
+) -> Result<Vec<u8>, Status>
+    ensures given { IfOk result (λ text. Gives (rules_and_file words.now.rules words.now.input) (Some words.now.output) IsSummary (H.tells shelf.old) (H.held shelf.old) (H.held shelf.new) text.items) }
+    ensures refused { IfErr result (λ status. Refuses (rules_and_file words.now.rules words.now.input) (Some words.now.output) (H.tells shelf.old) (H.held shelf.old) (H.held shelf.new) (H.fetch_faults shelf.old) (H.fetch_faults shelf.new) (H.put_faults shelf.old) (H.put_faults shelf.new) status) }
+{
+    let inputs = match fetch_inputs(alloc, shelf, words.rules.as_str(), words.input.as_str()) {
+        Ok(inputs) => inputs,
+        Err(status) => return Err(status),
+    };
+    let optimised = match optimise_file(
+        alloc,
+        inputs.rules,
+        inputs.file,
+        words.tells.as_slice(),
+        advisers,
+    ) {
+        Ok(optimised) => optimised,
+        Err(status) => return Err(status),
+    };
+    match put(
+        alloc,
+        shelf,
+        words.output.as_str(),
+        optimised.bytes.as_slice(),
+    ) {
+        Ok(()) => Ok(optimised.summary.into_bytes()),
+        Err(status) => Err(status),
+    }
+}
+
 /// `live`: fetches the rules and the file. Its result is the list of live classes and members.
+#[tactic(auto, using(crate::proofs::CommandLemmas::fetch_refuses, crate::proofs::CommandLemmas::work_refuses, crate::proofs::CommandLemmas::keeps_gives))]
 fn run_live<H: Shelf>(
     alloc: Global,
     rules: &str,
     input: &str,
     shelf: &mut H,
-) -> Result<Vec<u8>, Status> {
-    let rules = fetch(alloc, shelf, rules, Counted::RuleBytes)?;
-    let file = fetch(alloc, shelf, input, Counted::FileBytes)?;
-    list_live(alloc, rules, file)
+) -> Result<Vec<u8>, Status>
+    ensures given { IfOk result (λ text. Gives (rules_and_file rules.now input.now) None (λ _. Unit {0}) (H.tells shelf.old) (H.held shelf.old) (H.held shelf.new) text.items) }
+    ensures refused { IfErr result (λ status. Refuses (rules_and_file rules.now input.now) None (H.tells shelf.old) (H.held shelf.old) (H.held shelf.new) (H.fetch_faults shelf.old) (H.fetch_faults shelf.new) (H.put_faults shelf.old) (H.put_faults shelf.new) status) }
+{
+    let inputs = match fetch_inputs(alloc, shelf, rules, input) {
+        Ok(inputs) => inputs,
+        Err(status) => return Err(status),
+    };
+    match list_live(alloc, inputs.rules, inputs.file) {
+        Ok(text) => Ok(text),
+        Err(status) => Err(status),
+    }
 }
 
-/// Does what a command asks for, and answers its result, which is still to be said. Typing, the machine, inlining and
-/// libraries are not built yet: the words that ask for them are `Usage`.
+/// No words: the result is the usage text.
+fn usage_result(alloc: Global) -> Result<Vec<u8>, Status>
+    ensures text { IfOk result (λ text. text.items ≡ usage_text) }
+    ensures refused { IfErr result WorkRefused }
+{
+    match Vec::from_slice(alloc, USAGE.as_bytes()) {
+        Ok(text) => Ok(text),
+        Err(_) => Err(Status::NoMemory),
+    }
+}
+
+/// `workload`: its result is the summary. Nothing is fetched or put.
+fn run_workload(
+    alloc: Global,
+    count: u32,
+    advisers: Vec<Box<dyn Adviser>>,
+) -> Result<Vec<u8>, Status>
+    requires { count ≤ 2000 }
+    ensures summary { IfOk result (λ text. IsSummary text.items) }
+    ensures refused { IfErr result WorkRefused }
+{
+    match optimise_workload(alloc, count, advisers) {
+        Ok(summary) => Ok(summary.into_bytes()),
+        Err(status) => Err(status),
+    }
+}
+
+/// Does what a command asks for, and answers its result, which is still to be said.
+#[tactic(auto, using(crate::proofs::CommandLemmas::work_refuses, crate::proofs::CommandLemmas::keeps_gives, crate::proofs::CommandLemmas::optimise_gives, crate::proofs::CommandLemmas::optimise_refuses, crate::proofs::CommandLemmas::live_gives, crate::proofs::CommandLemmas::live_refuses))]
 pub fn perform<H: Shelf>(
     alloc: Global,
     command: &CommandWords,
     shelf: &mut H,
     advisers: Vec<Box<dyn Adviser>>,
-) -> Result<Vec<u8>, Status> {
+) -> Result<Vec<u8>, Status>
+    requires built { IsTrue (is_built command.now) }
+    requires counts { CountsWithin command.now }
+    ensures given { IfOk result (λ text. Gives (fetches command.now) (output_of command.now) (IsResult command.now) (H.tells shelf.old) (H.held shelf.old) (H.held shelf.new) text.items) }
+    ensures refused { IfErr result (λ status. Refuses (fetches command.now) (output_of command.now) (H.tells shelf.old) (H.held shelf.old) (H.held shelf.new) (H.fetch_faults shelf.old) (H.fetch_faults shelf.new) (H.put_faults shelf.old) (H.put_faults shelf.new) status) }
+{
     match command {
-        CommandWords::Nothing => {
-            Vec::from_slice(alloc, USAGE.as_bytes()).map_err(|_| Status::NoMemory)
+        CommandWords::Nothing => usage_result(alloc),
+        CommandWords::Optimise(words) => run_optimise(alloc, words, shelf, advisers),
+        CommandWords::Live { rules, input, .. } => {
+            run_live(alloc, rules.as_str(), input.as_str(), shelf)
         }
-        CommandWords::Optimise(words) if !words.inline && words.library.is_none() => {
-            run_optimise(alloc, words, shelf, advisers)
-        }
-        CommandWords::Live {
-            rules,
-            input,
-            library: None,
-        } => run_live(alloc, rules.as_str(), input.as_str(), shelf),
-        CommandWords::Workload { count } if *count <= MOST_CLASSES => {
-            let summary = optimise_workload(alloc, *count, advisers)?;
-            Ok(summary.into_bytes())
-        }
-        _ => Err(Status::Usage),
+        CommandWords::Workload { count } => run_workload(alloc, *count, advisers),
+        CommandWords::Check { .. } | CommandWords::Trace { .. } => Err(Status::Usage),
     }
 }

@@ -2,7 +2,9 @@
 //!
 //! [`run`] alone knows the order of refusals and the texts that are said. It answers `Usage` exactly where the words
 //! spell no command that is built, `ReadFault` and `WriteFault` only where a count of the outside rose, and changes no
-//! name of the shelf but the output's.
+//! name of the shelf but the output's. `specs/Ends.antt` says it whole: why a run ends as it does, what the names hold
+//! then (`specs/Stays.antt`) and what was said (`specs/Said.antt`, with the lines of `specs/FaultLines.antt`). Which
+//! commands are built stands in `specs/Commands.antt`.
 #![tactic(auto)]
 
 mod command;

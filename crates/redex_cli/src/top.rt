@@ -1,17 +1,77 @@
 //! The top call.
 
-ghost use Rattle.std.specs.Prelude.{◌≡◌, IsTrue, map, string_bytes};
+ghost use Rattle.std.specs.Prelude.{◌≡◌, false, IsTrue, IfOk, IfErr, map, string_bytes};
+ghost use Rattle.program_model.specs.declared.limits.Counted.{Counted};
+ghost use Rattle.command_line.specs.Spelling.{Spells};
+ghost use Rattle.command_line.specs.declared.command.CommandWords.{CommandWords};
+ghost use Rattle.redex_cli.specs.Commands.{Commands, CommandsNothing, CountsWithin, Puts, is_built};
+ghost use Rattle.redex_cli.specs.Ends.{Caused, Delivers, Ends};
+ghost use Rattle.redex_cli.specs.Finished.{Results};
+ghost use Rattle.redex_cli.specs.Refusals.{EndsTooLong, EndsUnspelled, GivesFor, RefusesFor, TooLong, WordsRefused};
+ghost use Rattle.redex_cli.specs.Said.{Said, SaysResult, SaysStatus, unsaid};
+ghost use Rattle.redex_cli.specs.Stays.{Stays};
 
-use crate::command::perform;
+use crate::command::{is_built, perform};
 use crate::fault_lines::status_line;
 use crate::status::Status;
-use command_line::read_words;
+use command_line::{CommandWords, read_words};
 use redex_outside::{Adviser, NoteFault, Notes, Shelf};
 use std::alloc::Global;
 
+/// The command where it is built.
+fn if_built(command: CommandWords) -> Result<CommandWords, Status>
+    ensures same { IfOk result (λ c. c ≡ command) }
+    ensures built { IfOk result (λ c. IsTrue (is_built c)) }
+    ensures refused { IfErr result (λ status. (status ≡ Status.Usage) × (is_built command ≡ false)) }
+{
+    if is_built(&command) {
+        Ok(command)
+    } else {
+        Err(Status::Usage)
+    }
+}
+
+/// The command that the words spell, which is built.
+#[tactic(auto, using(crate::proofs::WordsLemmas::spelled_within, crate::proofs::WordsLemmas::only_spelled, crate::proofs::WordsLemmas::none_spelled, crate::proofs::WordsLemmas::none_built))]
+fn asked(alloc: Global, words: &[String]) -> Result<CommandWords, Status>
+    ensures found { IfOk result (λ command. Commands (map string_bytes words.now) command) }
+    ensures only { IfOk result (λ command. (other : CommandWords) → Commands (map string_bytes words.now) other → other ≡ command) }
+    ensures within { IfOk result CountsWithin }
+    ensures refused { IfErr result (WordsRefused (map string_bytes words.now)) }
+{
+    match read_words(alloc, words) {
+        Ok(Some(command)) => if_built(command),
+        Ok(None) => Err(Status::Usage),
+        Err(_) => Err(Status::NoMemory),
+    }
+}
+
+/// Does what the words ask for, and answers its result, which is still to be said.
+#[tactic(auto, using(crate::proofs::WordsLemmas::words_give, crate::proofs::WordsLemmas::words_refuse, crate::proofs::WordsLemmas::early_refuses))]
+fn obey<H: Shelf>(
+    alloc: Global,
+    words: &[String],
+    shelf: &mut H,
+    advisers: Vec<Box<dyn Adviser>>,
+) -> Result<Vec<u8>, Status>
+    ensures given { IfOk result (λ text. GivesFor (map string_bytes words.now) (H.tells shelf.old) (H.held shelf.old) (H.held shelf.new) text.items) }
+    ensures refused { IfErr result (λ status. RefusesFor (map string_bytes words.now) (H.tells shelf.old) (H.held shelf.old) (H.held shelf.new) (H.fetch_faults shelf.old) (H.fetch_faults shelf.new) (H.put_faults shelf.old) (H.put_faults shelf.new) status) }
+{
+    let command = match asked(alloc, words) {
+        Ok(command) => command,
+        Err(status) => return Err(status),
+    };
+    match perform(alloc, &command, shelf, advisers) {
+        Ok(text) => Ok(text),
+        Err(status) => Err(status),
+    }
+}
+
 /// Says a result.
-fn say_result<N: Notes>(alloc: Global, notes: &mut N, result_text: &[u8]) -> Status {
-    match notes.say(alloc, result_text) {
+fn say_result<N: Notes>(alloc: Global, notes: &mut N, text: &[u8]) -> Status
+    ensures { SaysResult text.now (N.tells notes.old) (N.faults notes.old) (N.faults notes.new) (N.said notes.old) (N.said notes.new) result }
+{
+    match notes.say(alloc, text) {
         Ok(()) => Status::Done,
         Err(NoteFault::NoMemory) => Status::NoMemory,
         Err(NoteFault::Failed) => Status::WriteFault,
@@ -19,7 +79,9 @@ fn say_result<N: Notes>(alloc: Global, notes: &mut N, result_text: &[u8]) -> Sta
 }
 
 /// A status whose line found no memory: `NoMemory`, unless the output or the notes had failed.
-fn without_memory(status: Status) -> Status {
+fn unsaid(status: Status) -> Status
+    ensures { result ≡ unsaid status }
+{
     match status {
         Status::WriteFault => Status::WriteFault,
         _ => Status::NoMemory,
@@ -27,13 +89,35 @@ fn without_memory(status: Status) -> Status {
 }
 
 /// Says the line of a status.
-fn say_status<N: Notes>(alloc: Global, notes: &mut N, status: Status) -> Status {
-    let Ok(line) = status_line(alloc, &status) else {
-        return without_memory(status);
+#[tactic(auto, using(crate::proofs::SaidLemmas::says_nothing, crate::proofs::SaidLemmas::says_line, crate::proofs::SaidLemmas::says_part))]
+fn say_status<N: Notes>(alloc: Global, notes: &mut N, status: Status) -> Status
+    ensures { SaysStatus status (N.tells notes.old) (N.faults notes.old) (N.faults notes.new) (N.said notes.old) (N.said notes.new) result }
+{
+    let line = match status_line(alloc, &status) {
+        Ok(line) => line,
+        Err(_) => return unsaid(status),
     };
     match notes.say(alloc, line.as_bytes()) {
-        Err(NoteFault::NoMemory) => without_memory(status),
-        Ok(()) | Err(NoteFault::Failed) => status,
+        Ok(()) => status,
+        Err(NoteFault::NoMemory) => unsaid(status),
+        Err(NoteFault::Failed) => status,
+    }
+}
+
+/// Does what the words ask for, and says the result or the line of the refusal.
+#[tactic(auto, using(crate::proofs::RunLemmas::result_ends, crate::proofs::RunLemmas::status_ends))]
+fn answer<H: Shelf, N: Notes>(
+    alloc: Global,
+    words: &[String],
+    shelf: &mut H,
+    notes: &mut N,
+    advisers: Vec<Box<dyn Adviser>>,
+) -> Status
+    ensures { Ends (map string_bytes words.now) (H.tells shelf.old) (H.held shelf.old) (H.held shelf.new) (H.fetch_faults shelf.old) (H.fetch_faults shelf.new) (H.put_faults shelf.old) (H.put_faults shelf.new) (N.tells notes.old) (N.said notes.old) (N.said notes.new) (N.faults notes.old) (N.faults notes.new) result }
+{
+    match obey(alloc, words, shelf, advisers) {
+        Ok(text) => say_result(alloc, notes, text.as_slice()),
+        Err(status) => say_status(alloc, notes, status),
     }
 }
 
@@ -49,14 +133,19 @@ pub fn run<H: Shelf, N: Notes>(
     shelf: &mut H,
     notes: &mut N,
     advisers: Vec<Box<dyn Adviser>>,
-) -> Status {
-    let performed = match read_words(alloc, words) {
-        Ok(Some(command)) => perform(alloc, &command, shelf, advisers),
-        Ok(None) => Err(Status::Usage),
-        Err(_) => Err(Status::NoMemory),
-    };
-    match performed {
-        Ok(text) => say_result(alloc, notes, &text),
-        Err(status) => say_status(alloc, notes, status),
-    }
+) -> Status
+    // Each status has its cause: `Usage` in the words, `ReadFault` and `WriteFault` in a count that rose, `Limit` in
+    // what the names hold.
+    ensures cause { Caused (map string_bytes words.now) (H.tells shelf.old) (H.held shelf.old) (H.fetch_faults shelf.old) (H.fetch_faults shelf.new) (H.put_faults shelf.old) (H.put_faults shelf.new) (N.faults notes.old) (N.faults notes.new) result }
+
+    // Words that spell no command that is built are `Usage`, and a name that holds too much is its limit.
+    ensures unspelled { CommandsNothing (map string_bytes words.now) → EndsUnspelled result }
+    ensures too_long { (counted : Counted) → IsTrue (H.tells shelf.old) → TooLong (map string_bytes words.now) (H.held shelf.old) counted → EndsTooLong counted result }
+
+    // What the names hold, and what was said.
+    ensures stays { IsTrue (H.tells shelf.old) → Stays (Puts (map string_bytes words.now)) result (H.put_faults shelf.old) (H.put_faults shelf.new) (H.held shelf.old) (H.held shelf.new) }
+    ensures said { IsTrue (N.tells notes.old) → Said (Results (map string_bytes words.now)) result (N.faults notes.old) (N.faults notes.new) (N.said notes.old) (N.said notes.new) }
+    ensures done { result ≡ Status.Done → IsTrue (H.tells shelf.old) → IsTrue (N.tells notes.old) → Delivers (map string_bytes words.now) (H.held shelf.new) (N.said notes.old) (N.said notes.new) }
+{
+    answer(alloc, words, shelf, notes, advisers)
 }

@@ -1,7 +1,9 @@
 //! What the commands do between fetching and putting: values in, a value or a status out.
 
-ghost use Rattle.std.specs.Prelude.{◌<◌, ◌≤◌, ◌^◌, vec_len};
+ghost use Rattle.std.specs.Prelude.{◌<◌, ◌≤◌, ◌^◌, vec_len, string_bytes, IfOk, IfErr};
 ghost use Rattle.dex_read.specs.Kept.{KeepsLimits};
+ghost use Rattle.redex_cli.specs.Finished.{Finished, IsSummary};
+ghost use Rattle.redex_cli.specs.Refusals.{WorkRefused};
 
 use crate::live_list::live_list;
 use crate::status::{InputFault, Status};
@@ -23,27 +25,46 @@ use std::alloc::{AllocError, Global};
 const WORKLOAD_RULES: &[u8] = b"-keep class W0 { public static int run(int); }\n";
 
 /// A fault of the rules as a status.
-fn rules_status(fault: RuleFault) -> Status {
+fn rules_status(fault: RuleFault) -> Status
+    ensures { WorkRefused result }
+{
     match fault {
         RuleFault::NoMemory => Status::NoMemory,
-        fault => Status::BadRules(fault),
+        RuleFault::Syntax { .. }
+        | RuleFault::Option { .. }
+        | RuleFault::NotUtf8 { .. }
+        | RuleFault::TooMany { .. } => Status::BadRules(fault),
     }
 }
 
 /// A fault of the file as a status.
-fn dex_status(fault: DexFault) -> Status {
+fn dex_status(fault: DexFault) -> Status
+    ensures { WorkRefused result }
+{
     match fault {
         DexFault::NoMemory => Status::NoMemory,
         DexFault::Limit(limit) => Status::Limit(limit),
-        fault => Status::BadDex(InputFault::Dex(fault)),
+        DexFault::Short { .. }
+        | DexFault::Magic
+        | DexFault::Header { .. }
+        | DexFault::Checksum { .. }
+        | DexFault::Pool(_)
+        | DexFault::Code { .. }
+        | DexFault::Member { .. }
+        | DexFault::Root { .. }
+        | DexFault::FrameSize { .. } => Status::BadDex(InputFault::Dex(fault)),
     }
 }
 
 /// A fault of the class graph as a status.
-fn hierarchy_status(fault: HierarchyFault) -> Status {
+fn hierarchy_status(fault: HierarchyFault) -> Status
+    ensures { WorkRefused result }
+{
     match fault {
         HierarchyFault::NoMemory => Status::NoMemory,
-        fault => Status::BadDex(InputFault::Hierarchy(fault)),
+        HierarchyFault::Cycle { .. }
+        | HierarchyFault::Twice { .. }
+        | HierarchyFault::SplitOverride { .. } => Status::BadDex(InputFault::Hierarchy(fault)),
     }
 }
 
@@ -71,6 +92,7 @@ fn closed_outside(
 /// The rules, the file and its class graph, in this order. The bytes are let go as soon as they are read.
 fn read_input(alloc: Global, rules: Vec<u8>, file: Vec<u8>) -> Result<Input, Status>
     requires { vec_len rules < 2 ^ 32 }
+    ensures { IfErr result WorkRefused }
 {
     let parsed = match read_rules(alloc, &rules) {
         Ok(parsed) => parsed,
@@ -86,9 +108,10 @@ fn read_input(alloc: Global, rules: Vec<u8>, file: Vec<u8>) -> Result<Input, Sta
         Ok(hierarchy) => hierarchy,
         Err(fault) => return Err(hierarchy_status(fault)),
     };
-    let outside = closed_outside(alloc, &parsed, &program, &hierarchy).map_err(
-        |_| Status::NoMemory,
-    )?;
+    let outside = match closed_outside(alloc, &parsed, &program, &hierarchy) {
+        Ok(outside) => outside,
+        Err(_) => return Err(Status::NoMemory),
+    };
     Ok(Input {
         program,
         hierarchy,
@@ -115,18 +138,36 @@ pub struct Optimised {
 }
 
 /// Optimises a program, writes it and sums up.
+#[tactic(auto, using(crate::proofs::FinishedLemmas::finished))]
 fn optimise_program(
     alloc: Global,
     program: Program,
     outside: &Outside,
     before: Sizes,
     panel: &mut Panel,
-) -> Result<Optimised, AllocError> {
+) -> Result<Optimised, AllocError>
+    ensures { IfOk result (λ optimised. Finished optimised.bytes.items (string_bytes optimised.summary)) }
+{
     let outcome = optimise(alloc, program, outside, panel)?;
     let bytes = write_dex(alloc, &outcome.program)?;
     let after = sizes_of(&outcome.program, bytes.len());
     let summary = summary(alloc, before, after, outcome.rounds, outcome.spared)?;
     Ok(Optimised { bytes, summary })
+}
+
+/// Tells the advisers what the words say, and optimises a program with them.
+fn optimise_advised(
+    alloc: Global,
+    input: Input,
+    before: Sizes,
+    tells: &[Tell],
+    advisers: Vec<Box<dyn Adviser>>,
+) -> Result<Optimised, AllocError>
+    ensures { IfOk result (λ optimised. Finished optimised.bytes.items (string_bytes optimised.summary)) }
+{
+    let mut panel = Panel::new(alloc, advisers);
+    tell_all(alloc, &mut panel, tells)?;
+    optimise_program(alloc, input.program, &input.outside, before, &mut panel)
 }
 
 /// Optimises a file by its rules.
@@ -138,15 +179,19 @@ pub fn optimise_file(
     advisers: Vec<Box<dyn Adviser>>,
 ) -> Result<Optimised, Status>
     requires { vec_len rules < 2 ^ 32 }
+    ensures finished { IfOk result (λ optimised. Finished optimised.bytes.items (string_bytes optimised.summary)) }
+    ensures refused { IfErr result WorkRefused }
 {
     let length = file.len();
-    let input = read_input(alloc, rules, file)?;
+    let input = match read_input(alloc, rules, file) {
+        Ok(input) => input,
+        Err(status) => return Err(status),
+    };
     let before = sizes_of(&input.program, length);
-    let mut panel = Panel::new(alloc, advisers);
-    tell_all(alloc, &mut panel, tells).map_err(|_| Status::NoMemory)?;
-    optimise_program(alloc, input.program, &input.outside, before, &mut panel).map_err(
-        |_| Status::NoMemory,
-    )
+    match optimise_advised(alloc, input, before, tells, advisers) {
+        Ok(optimised) => Ok(optimised),
+        Err(_) => Err(Status::NoMemory),
+    }
 }
 
 /// The file of the workload of so many classes.
@@ -156,27 +201,54 @@ fn workload_file(alloc: Global, count: u32) -> Result<Vec<u8>, AllocError>
     write_dex(alloc, &generate(alloc, count)?)
 }
 
+/// The rules and the file of the workload of so many classes.
+fn workload_input(alloc: Global, count: u32) -> Result<(Vec<u8>, Vec<u8>), AllocError>
+    requires { count ≤ 2000 }
+    ensures { IfOk result (λ input. vec_len input.0 < 2 ^ 32) }
+{
+    let file = workload_file(alloc, count)?;
+    let rules = Vec::from_slice(alloc, WORKLOAD_RULES)?;
+    Ok((rules, file))
+}
+
 /// Optimises the workload of so many classes, and answers the summary.
+#[tactic(auto, using(crate::proofs::FinishedLemmas::is_summary))]
 pub fn optimise_workload(
     alloc: Global,
     count: u32,
     advisers: Vec<Box<dyn Adviser>>,
 ) -> Result<String, Status>
     requires { count ≤ 2000 }
+    ensures summary { IfOk result (λ text. IsSummary (string_bytes text)) }
+    ensures refused { IfErr result WorkRefused }
 {
-    let file = workload_file(alloc, count).map_err(|_| Status::NoMemory)?;
-    let rules = Vec::from_slice(alloc, WORKLOAD_RULES).map_err(|_| Status::NoMemory)?;
-    let optimised = optimise_file(alloc, rules, file, &[], advisers)?;
-    Ok(optimised.summary)
+    let (rules, file) = match workload_input(alloc, count) {
+        Ok(input) => input,
+        Err(_) => return Err(Status::NoMemory),
+    };
+    match optimise_file(alloc, rules, file, &[], advisers) {
+        Ok(optimised) => Ok(optimised.summary),
+        Err(status) => Err(status),
+    }
+}
+
+/// The live classes and members of an input, as they are said.
+fn live_of(alloc: Global, input: &Input) -> Result<Vec<u8>, AllocError> {
+    let live = live_members(alloc, &input.program, &input.hierarchy, &input.outside)?;
+    live_list(alloc, &input.program, &live)
 }
 
 /// The live classes and members of a file by its rules, as they are said.
 pub fn list_live(alloc: Global, rules: Vec<u8>, file: Vec<u8>) -> Result<Vec<u8>, Status>
     requires { vec_len rules < 2 ^ 32 }
+    ensures { IfErr result WorkRefused }
 {
-    let input = read_input(alloc, rules, file)?;
-    let live = live_members(alloc, &input.program, &input.hierarchy, &input.outside).map_err(
-        |_| Status::NoMemory,
-    )?;
-    live_list(alloc, &input.program, &live).map_err(|_| Status::NoMemory)
+    let input = match read_input(alloc, rules, file) {
+        Ok(input) => input,
+        Err(status) => return Err(status),
+    };
+    match live_of(alloc, &input) {
+        Ok(text) => Ok(text),
+        Err(_) => Err(Status::NoMemory),
+    }
 }

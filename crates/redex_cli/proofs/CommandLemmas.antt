@@ -1,0 +1,206 @@
+-- From what fetching, working and putting say to what a command says.
+use Rattle.std.proofs.Common.{◌≡◌, ◌⊎◌, ◌++◌, ◌&&◌, ℕ, List, [], ◌∷◌, Bool, true, false, not, IsTrue, Option, None, Some, is_none, refl, sym, ap, subst, ◌∙◌, inl, inr}
+use Rattle.redex_outside.specs.Counts.{NoneFell}
+use Rattle.redex_outside.specs.Held.{Held, AllSame, OthersSame, OldOrPrefix}
+use Rattle.program_model.specs.declared.limits.Counted.{Counted}
+use Rattle.command_line.specs.declared.command.CommandWords.{CommandWords}
+use Rattle.command_line.specs.declared.command.CommandWords.TheVariants.{Optimise, Live}
+use Rattle.command_line.specs.declared.command.OptimiseWords.{OptimiseWords}
+use Rattle.redex_cli.specs.Commands.{Fetch, is_built, fetches, output_of, library_file, rules_and_file}
+use Rattle.redex_cli.specs.Fetching.{Failures, AllWithin, FirstTooLong, FetchRefused, PutRefused}
+use Rattle.redex_cli.specs.Finished.{Finished, IsResult, IsSummary}
+use Rattle.redex_cli.specs.Refusals.{Cause, EndsTooLong, Gives, HoldsSummed, Refuses, WorkRefused}
+use Rattle.redex_cli.specs.Stays.{OutputHolds, HoldsPart, Stays}
+use Rattle.redex_cli.specs.declared.status.Status.{Status}
+use Rattle.redex_cli.specs.declared.status.Status.TheVariants.{Done, Usage, BadRules, BadDex, Limit, ReadFault, WriteFault, NoMemory, BadScript}
+use Rattle.redex_cli.proofs.FetchLemmas.{KeepsAll, passes_ends, rose_since, stays_same, within_or_long}
+
+-- ---- fetching
+
+fetch_cause : (names : List Fetch) (output : Option (List ℕ)) (tells : Bool) (old : Held) (f g p q : Failures) (status : Status)
+    → FetchRefused tells old f g names status → Cause names output tells old f g p q status
+fetch_cause names output tells old f g p q ReadFault r = r
+fetch_cause names output tells old f g p q (Limit fault) r = inl r
+fetch_cause names output tells old f g p q NoMemory r = tt
+fetch_cause names output tells old f g p q _ r = absurd r
+
+fetch_keeps : (names : List Fetch) (tells : Bool) (old : Held) (f g : Failures) (status : Status)
+    → FetchRefused tells old f g names status → KeepsAll status
+fetch_keeps names tells old f g ReadFault r = tt
+fetch_keeps names tells old f g (Limit fault) r = tt
+fetch_keeps names tells old f g NoMemory r = tt
+fetch_keeps names tells old f g _ r = absurd r
+
+fetch_ends : (names : List Fetch) (tells : Bool) (old : Held) (f g : Failures) (status : Status) (counted : Counted)
+    → FetchRefused tells old f g names status → IsTrue tells → FirstTooLong old names counted → EndsTooLong counted status
+fetch_ends names tells old f g ReadFault counted r told long = tt
+fetch_ends names tells old f g (Limit fault) counted r told long = passes_ends tells old names fault counted r told long
+fetch_ends names tells old f g NoMemory counted r told long = tt
+fetch_ends names tells old f g _ counted r told long = absurd r
+
+pub fetch_refuses : (names : List Fetch) (output : Option (List ℕ)) (tells : Bool) (old new : Held) (f g p q : Failures) (status : Status)
+    → FetchRefused tells old f g names status → (IsTrue tells → AllSame old new)
+    → Refuses names output tells old new f g p q status
+fetch_refuses names output tells old new f g p q status r same = record {
+  cause = fetch_cause names output tells old f g p q status r;
+  too_long = λ counted told long. fetch_ends names tells old f g status counted r told long;
+  stays = λ told. stays_same (λ name. output ≡ Some name) status p q old new (fetch_keeps names tells old f g status r) (same told);
+}
+
+-- ---- the work
+
+work_cause : (names : List Fetch) (output : Option (List ℕ)) (tells : Bool) (old : Held) (f g p q : Failures) (status : Status)
+    → WorkRefused status → (IsTrue tells → AllWithin old names) → Cause names output tells old f g p q status
+work_cause names output tells old f g p q (BadRules fault) r within = r
+work_cause names output tells old f g p q (BadDex fault) r within = r
+work_cause names output tells old f g p q (Limit fault) r within = inr within
+work_cause names output tells old f g p q NoMemory r within = tt
+work_cause names output tells old f g p q _ r within = absurd r
+
+work_keeps : (status : Status) → WorkRefused status → KeepsAll status
+work_keeps (BadRules fault) r = tt
+work_keeps (BadDex fault) r = tt
+work_keeps (Limit fault) r = tt
+work_keeps NoMemory r = tt
+work_keeps _ r = absurd r
+
+pub work_refuses : (names : List Fetch) (output : Option (List ℕ)) (tells : Bool) (old new : Held) (f g p q : Failures) (status : Status)
+    → WorkRefused status → (IsTrue tells → AllWithin old names) → (IsTrue tells → AllSame old new)
+    → Refuses names output tells old new f g p q status
+work_refuses names output tells old new f g p q status r within same = record {
+  cause = work_cause names output tells old f g p q status r within;
+  too_long = λ counted told long. absurd (within_or_long old names counted (within told) long);
+  stays = λ told. stays_same (λ name. output ≡ Some name) status p q old new (work_keeps status r) (same told);
+}
+
+-- a command that puts nothing
+pub keeps_gives : (names : List Fetch) (IsAnswer : List ℕ → Type 0) (tells : Bool) (old new : Held) (text : List ℕ)
+    → (IsTrue tells → AllWithin old names) → IsAnswer text → (IsTrue tells → AllSame old new)
+    → Gives names None IsAnswer tells old new text
+keeps_gives names IsAnswer tells old new text within answer same = record {
+  within = within;
+  answer = answer;
+  others = λ told name _. same told name;
+  put = λ told name e. absurd (none_some name e);
+}
+  where
+    none_some : (name : List ℕ) → None ≡ Some name → ⊥
+    none_some name e = cc
+
+-- ---- the put
+
+other_name : (name other : List ℕ) → (Some name ≡ Some other → ⊥) → other ≡ name → ⊥
+other_name name other differs e = differs (ap Some (sym e))
+
+same_name : (name other : List ℕ) → Some name ≡ Some other → name ≡ other
+same_name name other e = cc
+
+others_since : (name : List ℕ) (old mid new : Held) → AllSame old mid → OthersSame name mid new
+    → (other : List ℕ) → (Some name ≡ Some other → ⊥) → new other ≡ old other
+others_since name old mid new same others other differs = others other (other_name name other differs) ∙ same other
+
+put_cause : (names : List Fetch) (name : List ℕ) (tells tells' : Bool) (old mid new : Held) (f g p m q : Failures) (bytes : List ℕ) (status : Status)
+    → NoneFell p m → PutRefused tells' (m name) (q name) (mid name) (new name) bytes status
+    → Cause names (Some name) tells old f g p q status
+put_cause names name tells tells' old mid new f g p m q bytes WriteFault fell r =
+    record { name = name; is_output = refl; rose = rose_since (p name) (m name) (q name) (fell name).no_less r.0 }
+put_cause names name tells tells' old mid new f g p m q bytes NoMemory fell r = tt
+put_cause names name tells tells' old mid new f g p m q bytes _ fell r = absurd r
+
+put_stays : (name : List ℕ) (tells' : Bool) (old mid new : Held) (p m q : Failures) (bytes summary : List ℕ) (status : Status)
+    → Finished bytes summary → NoneFell p m → IsTrue tells' → AllSame old mid → OthersSame name mid new
+    → PutRefused tells' (m name) (q name) (mid name) (new name) bytes status
+    → Stays (λ other. Some name ≡ Some other) status p q old new
+put_stays name tells' old mid new p m q bytes summary WriteFault finished fell told same others r = record {
+  refused = λ x. absurd x;
+  others = others_since name old mid new same others;
+  output = λ other e. subst (λ (n : List ℕ). OutputHolds WriteFault (p n) (q n) (old n) (new n)) (same_name name other e) (inr (record {
+    output = bytes;
+    summary = summary;
+    finished = finished;
+    rose = rose_since (p name) (m name) (q name) (fell name).no_less r.0;
+    there = subst (λ (before : Option (List ℕ)). OldOrPrefix before (new name) bytes) (same name) (r.1 told);
+  }));
+}
+put_stays name tells' old mid new p m q bytes summary NoMemory finished fell told same others r = record {
+  refused = λ x. absurd x;
+  others = others_since name old mid new same others;
+  output = λ other e. subst (λ (n : List ℕ). OutputHolds NoMemory (p n) (q n) (old n) (new n)) (same_name name other e) (inl (r told ∙ same name));
+}
+put_stays name tells' old mid new p m q bytes summary _ finished fell told same others r = absurd r
+
+pub put_refuses : (names : List Fetch) (name : List ℕ) (tells tells' : Bool) (old mid new : Held) (f g p m q : Failures) (bytes summary : List ℕ) (status : Status)
+    → (IsTrue tells → AllWithin old names) → Finished bytes summary → tells' ≡ tells → (IsTrue tells → AllSame old mid) → NoneFell p m
+    → PutRefused tells' (m name) (q name) (mid name) (new name) bytes status → (IsTrue tells' → OthersSame name mid new)
+    → Refuses names (Some name) tells old new f g p q status
+put_refuses names name tells tells' old mid new f g p m q bytes summary status within finished e same fell r others = record {
+  cause = put_cause names name tells tells' old mid new f g p m q bytes status fell r;
+  too_long = λ counted told long. absurd (within_or_long old names counted (within told) long);
+  stays = λ told. put_stays name tells' old mid new p m q bytes summary status finished fell (e ∙ told) (same told) (others (e ∙ told)) r;
+}
+
+pub put_gives : (names : List Fetch) (name : List ℕ) (tells tells' : Bool) (old mid new : Held) (bytes summary : List ℕ)
+    → (IsTrue tells → AllWithin old names) → Finished bytes summary → tells' ≡ tells → (IsTrue tells → AllSame old mid)
+    → (IsTrue tells' → new name ≡ Some bytes) → (IsTrue tells' → OthersSame name mid new)
+    → Gives names (Some name) IsSummary tells old new summary
+put_gives names name tells tells' old mid new bytes summary within finished e same put others = record {
+  within = within;
+  answer = record { output = bytes; finished = finished };
+  others = λ told. others_since name old mid new (same told) (others (e ∙ told));
+  put = λ told other is. subst (λ (n : List ℕ). HoldsSummed summary (new n)) (same_name name other is)
+      (record { output = bytes; finished = finished; there = put (e ∙ told) });
+}
+
+-- ---- commands without a library
+
+and_right : (a b : Bool) → IsTrue (a && b) → IsTrue b
+and_right true b e = e
+and_right false b e = cc
+
+no_library : (library : Option (List ℕ)) → IsTrue (is_none library) → library_file library ≡ []
+no_library None e = refl
+no_library (Some name) e = cc
+
+optimise_fetches : (words : OptimiseWords) → IsTrue (is_built (Optimise words))
+    → rules_and_file words.rules words.input ≡ fetches (Optimise words)
+optimise_fetches words built =
+    ap (λ (more : List Fetch). rules_and_file words.rules words.input ++ more)
+    (sym (no_library words.library (and_right (not words.inline) (is_none words.library) built)))
+
+live_fetches : (rules input : List ℕ) (library : Option (List ℕ)) → IsTrue (is_built (Live rules input library))
+    → rules_and_file rules input ≡ fetches (Live rules input library)
+live_fetches rules input library built =
+    ap (λ (more : List Fetch). rules_and_file rules input ++ more) (sym (no_library library built))
+
+pub optimise_gives : (words : OptimiseWords) (tells : Bool) (old new : Held) (text : List ℕ) → IsTrue (is_built (Optimise words))
+    → Gives (rules_and_file words.rules words.input) (Some words.output) IsSummary tells old new text
+    → Gives (fetches (Optimise words)) (output_of (Optimise words)) (IsResult (Optimise words)) tells old new text
+optimise_gives words tells old new text built gives =
+    subst (λ (names : List Fetch). Gives names (Some words.output) IsSummary tells old new text) (optimise_fetches words built) gives
+
+pub optimise_refuses : (words : OptimiseWords) (tells : Bool) (old new : Held) (f g p q : Failures) (status : Status) → IsTrue (is_built (Optimise words))
+    → Refuses (rules_and_file words.rules words.input) (Some words.output) tells old new f g p q status
+    → Refuses (fetches (Optimise words)) (output_of (Optimise words)) tells old new f g p q status
+optimise_refuses words tells old new f g p q status built refuses =
+    subst (λ (names : List Fetch). Refuses names (Some words.output) tells old new f g p q status) (optimise_fetches words built) refuses
+
+pub live_gives : (rules input : List ℕ) (library : Option (List ℕ)) (tells : Bool) (old new : Held) (text : List ℕ) → IsTrue (is_built (Live rules input library))
+    → Gives (rules_and_file rules input) None (λ _. Unit {0}) tells old new text
+    → Gives (fetches (Live rules input library)) (output_of (Live rules input library)) (IsResult (Live rules input library)) tells old new text
+live_gives rules input library tells old new text built gives =
+    subst (λ (names : List Fetch). Gives names None (λ _. Unit {0}) tells old new text) (live_fetches rules input library built) gives
+
+pub live_refuses : (rules input : List ℕ) (library : Option (List ℕ)) (tells : Bool) (old new : Held) (f g p q : Failures) (status : Status) → IsTrue (is_built (Live rules input library))
+    → Refuses (rules_and_file rules input) None tells old new f g p q status
+    → Refuses (fetches (Live rules input library)) (output_of (Live rules input library)) tells old new f g p q status
+live_refuses rules input library tells old new f g p q status built refuses =
+    subst (λ (names : List Fetch). Refuses names None tells old new f g p q status) (live_fetches rules input library built) refuses
+
+-- the same of a command that is found to be this one
+pub found_optimise_gives : (command : CommandWords) (words : OptimiseWords) (tells : Bool) (old new : Held) (text : List ℕ)
+    → command ≡ Optimise words → IsTrue (is_built command)
+    → Gives (rules_and_file words.rules words.input) (Some words.output) IsSummary tells old new text
+    → Gives (fetches command) (output_of command) (IsResult command) tells old new text
+found_optimise_gives command words tells old new text e built gives =
+    subst (λ (c : CommandWords). Gives (fetches c) (output_of c) (IsResult c) tells old new text) (sym e)
+    (optimise_gives words tells old new text (subst (λ (c : CommandWords). IsTrue (is_built c)) e built) gives)

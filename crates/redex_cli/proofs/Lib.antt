@@ -1,0 +1,6 @@
+pub mod FetchLemmas
+pub mod CommandLemmas
+pub mod WordsLemmas
+pub mod SaidLemmas
+pub mod RunLemmas
+pub mod FinishedLemmas

@@ -1,0 +1,125 @@
+-- From what a command says to what the words say.
+use Rattle.std.proofs.Common.{◌≡◌, ◌≤◌, ℕ, List, [], ◌∷◌, Bool, true, false, IsTrue, Option, None, Some, refl, sym, ap, subst, ◌∙◌}
+use Rattle.redex_outside.specs.Held.{Held}
+use Rattle.program_model.specs.declared.limits.Counted.{Counted}
+use Rattle.command_line.specs.Spelling.{Spells, AsksFor, sorted_of}
+use Rattle.command_line.specs.Spelling as spelling
+use Rattle.command_line.specs.declared.sorted.Sorted.{Sorted}
+use Rattle.command_line.specs.declared.command.CommandWords.{CommandWords}
+use Rattle.command_line.specs.declared.command.CommandWords.TheVariants.{Nothing, Optimise, Check, Live, Trace, Workload}
+use Rattle.redex_cli.specs.Commands.{Commands, CommandsNothing, CountsWithin, Puts, fetches, is_built, output_of}
+use Rattle.redex_cli.specs.Fetching.{Failures, FirstTooLong}
+use Rattle.redex_cli.specs.Finished.{IsResult}
+use Rattle.redex_cli.specs.Refusals.{Cause, CauseFor, EndsTooLong, EndsUnspelled, Gives, GivesFor, Refuses, RefusesFor, TooLong, WordsRefused}
+use Rattle.redex_cli.specs.Stays.{Stays}
+use Rattle.redex_cli.specs.declared.status.Status.{Status}
+use Rattle.redex_cli.specs.declared.status.Status.TheVariants.{Done, Usage, BadRules, BadDex, Limit, ReadFault, WriteFault, NoMemory, BadScript}
+use Rattle.redex_cli.proofs.FetchLemmas.{KeepsAll, stays_same, within_or_long}
+
+-- ---- which command the words spell
+
+asked_within : (s : Sorted) (command : CommandWords) → AsksFor s command → CountsWithin command
+asked_within s (Workload count) asks = asks.4
+asked_within s _ asks = tt
+
+pub spelled_within : (words : List (List ℕ)) (command : CommandWords) → Spells words command → CountsWithin command
+spelled_within _ _ spelling.silent = tt
+spelled_within _ _ (spelling.command c rest pieces says asks) = asked_within (sorted_of pieces) c asks
+
+pub only_spelled : (words : List (List ℕ)) (command other : CommandWords)
+    → ((c : CommandWords) → Spells words c → Some command ≡ Some c) → Commands words other → other ≡ command
+only_spelled words command other only commands = let e : Some command ≡ Some other = only other commands.spelled in cc
+
+pub none_spelled : (words : List (List ℕ)) → ((c : CommandWords) → Spells words c → ⊥) → CommandsNothing words
+none_spelled words none command commands = none command commands.spelled
+
+pub none_built : (words : List (List ℕ)) (command : CommandWords)
+    → ((c : CommandWords) → Spells words c → Some command ≡ Some c) → is_built command ≡ false → CommandsNothing words
+none_built words command only unbuilt other commands =
+    let e : other ≡ command = only_spelled words command other only commands in
+    let built : is_built command ≡ true = subst (λ (c : CommandWords). is_built c ≡ true) e commands.built in
+    cc
+
+-- ---- refusals
+
+words_cause : (words : List (List ℕ)) (command : CommandWords) (tells : Bool) (old : Held) (f g p q : Failures) (status : Status)
+    → Commands words command → Cause (fetches command) (output_of command) tells old f g p q status
+    → CauseFor words tells old f g p q status
+words_cause words command tells old f g p q Done commands c = c
+words_cause words command tells old f g p q Usage commands c = absurd c
+words_cause words command tells old f g p q (BadRules fault) commands c = c
+words_cause words command tells old f g p q (BadDex fault) commands c = c
+words_cause words command tells old f g p q (Limit fault) commands c = record { command = command; commands = commands; cause = c }
+words_cause words command tells old f g p q ReadFault commands c = record { command = command; commands = commands; rose = c }
+words_cause words command tells old f g p q WriteFault commands c = record { command = command; commands = commands; rose = c }
+words_cause words command tells old f g p q NoMemory commands c = tt
+words_cause words command tells old f g p q (BadScript line) commands c = c
+
+long_of : (words : List (List ℕ)) (command : CommandWords) (old : Held) (counted : Counted)
+    → ((c : CommandWords) → Commands words c → c ≡ command) → TooLong words old counted → FirstTooLong old (fetches command) counted
+long_of words command old counted only long =
+    subst (λ (c : CommandWords). FirstTooLong old (fetches c) counted) (only long.command long.commands) long.first
+
+output_by_words : (words : List (List ℕ)) (command : CommandWords) (name : List ℕ)
+    → ((c : CommandWords) → Commands words c → c ≡ command) → Puts words name → output_of command ≡ Some name
+output_by_words words command name only puts =
+    subst (λ (c : CommandWords). output_of c ≡ Some name) (only puts.command puts.commands) puts.output
+
+pub words_refuse : (words : List (List ℕ)) (command : CommandWords) (tells : Bool) (old new : Held) (f g p q : Failures) (status : Status)
+    → Commands words command → ((c : CommandWords) → Commands words c → c ≡ command)
+    → Refuses (fetches command) (output_of command) tells old new f g p q status
+    → RefusesFor words tells old new f g p q status
+words_refuse words command tells old new f g p q status commands only r = record {
+  cause = words_cause words command tells old f g p q status commands r.cause;
+  unspelled = λ none. absurd (none command commands);
+  too_long = λ counted told long. r.too_long counted told (long_of words command old counted only long);
+  stays = λ told. record {
+    refused = (r.stays told).refused;
+    others = λ name differs. (r.stays told).others name (λ e. differs (record { command = command; commands = commands; output = e }));
+    output = λ name puts. (r.stays told).output name (output_by_words words command name only puts);
+  };
+}
+
+pub words_give : (words : List (List ℕ)) (command : CommandWords) (tells : Bool) (old new : Held) (text : List ℕ)
+    → Commands words command → ((c : CommandWords) → Commands words c → c ≡ command)
+    → Gives (fetches command) (output_of command) (IsResult command) tells old new text
+    → GivesFor words tells old new text
+words_give words command tells old new text commands only g = record {
+  answer = record { command = command; commands = commands; result = g.answer };
+  within = λ counted told long. within_or_long old (fetches command) counted (g.within told) (long_of words command old counted only long);
+  others = λ told name differs. g.others told name (λ e. differs (record { command = command; commands = commands; output = e }));
+  put = λ told name puts. g.put told name (output_by_words words command name only puts);
+}
+
+-- ---- words that are refused before anything is fetched
+
+early_cause : (words : List (List ℕ)) (tells : Bool) (held : Held) (f p : Failures) (status : Status)
+    → WordsRefused words status → CauseFor words tells held f f p p status
+early_cause words tells held f p Usage r = r
+early_cause words tells held f p NoMemory r = tt
+early_cause words tells held f p _ r = absurd r
+
+early_unspelled : (words : List (List ℕ)) (status : Status) → WordsRefused words status → EndsUnspelled status
+early_unspelled words Usage r = tt
+early_unspelled words NoMemory r = tt
+early_unspelled words _ r = absurd r
+
+early_long : (words : List (List ℕ)) (held : Held) (status : Status) (counted : Counted)
+    → WordsRefused words status → TooLong words held counted → EndsTooLong counted status
+early_long words held Usage counted r long = absurd (r long.command long.commands)
+early_long words held NoMemory counted r long = tt
+early_long words held _ counted r long = absurd r
+
+early_keeps : (words : List (List ℕ)) (status : Status) → WordsRefused words status → KeepsAll status
+early_keeps words Usage r = tt
+early_keeps words NoMemory r = tt
+early_keeps words _ r = absurd r
+
+pub early_refuses : (words : List (List ℕ)) (tells : Bool) (held : Held) (f p : Failures) (status : Status)
+    → WordsRefused words status → RefusesFor words tells held held f f p p status
+early_refuses words tells held f p status r = record {
+  cause = early_cause words tells held f p status r;
+  unspelled = λ _. early_unspelled words status r;
+  too_long = λ counted told long. early_long words held status counted r long;
+  stays = λ told. stays_same (Puts words) status p p held held (early_keeps words status r) (λ name. refl);
+}

@@ -1,0 +1,57 @@
+-- What a command gives: a file to be put, and a text to be said.
+use Rattle.std.specs.Prelude.{◌≡◌, ◌≤◌, ℕ, List, ◌++◌, length, codes}
+use Rattle.std.specs.Fmt.{decimal}
+use Rattle.command_line.specs.declared.command.CommandWords.{CommandWords}
+use Rattle.command_line.specs.declared.command.CommandWords.TheVariants.{Nothing, Optimise, Check, Live, Trace, Workload}
+use Rattle.redex_cli.specs.FaultLines.{usage_text}
+use Rattle.redex_cli.specs.Commands.{Commands}
+use Rattle.redex_cli.specs.declared.summary.Sizes.{Sizes}
+
+-- A line of the summary: `WHAT A -> B`.
+abbrev pub change_line : List ℕ → ℕ → ℕ → List ℕ
+change_line what before after = what ++ codes " " ++ decimal before ++ codes " -> " ++ decimal after ++ codes "\n"
+
+-- `WHAT N`
+abbrev pub count_line : List ℕ → ℕ → List ℕ
+count_line what count = what ++ codes " " ++ decimal count ++ codes "\n"
+
+-- The six lines of the summary.
+abbrev pub summary_text : Sizes → Sizes → ℕ → ℕ → List ℕ
+summary_text before after rounds spared =
+    change_line (codes "classes") before.classes after.classes
+    ++ change_line (codes "members") before.members after.members
+    ++ change_line (codes "instructions") before.instructions after.instructions
+    ++ change_line (codes "bytes") before.bytes after.bytes
+    ++ count_line (codes "rounds") rounds
+    ++ count_line (codes "spared") spared
+
+-- The output is a finished one, and this is its summary. What is known of it today: the summary counts its bytes, and
+-- at least one round.
+pub record Finished (output summary : List ℕ) : Type 0 where
+  pub before : Sizes
+  pub after : Sizes
+  pub rounds : ℕ
+  pub spared : ℕ
+  pub says : summary ≡ summary_text before after rounds spared
+  pub bytes : after.bytes ≡ length output
+  pub one_round : 1 ≤ rounds
+
+-- A text that is the summary of some finished output.
+pub record IsSummary (text : List ℕ) : Type 0 where
+  pub output : List ℕ
+  pub finished : Finished output text
+
+-- The text is the command's result. Of the list of `live` nothing is said yet.
+abbrev pub IsResult : CommandWords → List ℕ → Type 0
+IsResult Nothing text = text ≡ usage_text
+IsResult (Optimise words) text = IsSummary text
+IsResult (Check input) text = ⊥
+IsResult (Live rules input library) text = Unit {0}
+IsResult (Trace rules input script steps library) text = ⊥
+IsResult (Workload count) text = IsSummary text
+
+-- The text is the result of the command that the words spell.
+pub record Results (words : List (List ℕ)) (text : List ℕ) : Type 0 where
+  pub command : CommandWords
+  pub commands : Commands words command
+  pub result : IsResult command text

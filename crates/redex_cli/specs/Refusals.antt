@@ -1,0 +1,171 @@
+-- Why a run is refused, and what holds where it is not.
+use Rattle.std.specs.Prelude.{◌≡◌, ◌⊎◌, ◌+◌, ◌++◌, ℕ, List, Bool, IsTrue, Option, Some}
+use Rattle.keep_rules.specs.declared.fault.RuleFault.{RuleFault}
+use Rattle.keep_rules.specs.declared.fault.RuleFault.TheVariants as rule
+use Rattle.dex_read.specs.declared.fault.DexFault.{DexFault}
+use Rattle.dex_read.specs.declared.fault.DexFault.TheVariants as dex
+use Rattle.hierarchy.specs.declared.fault.HierarchyFault.{HierarchyFault}
+use Rattle.hierarchy.specs.declared.fault.HierarchyFault.TheVariants as classes
+use Rattle.program_model.specs.Limits.{limit_of}
+use Rattle.program_model.specs.declared.limits.Counted.{Counted}
+use Rattle.program_model.specs.declared.limits.LimitFault.{LimitFault}
+use Rattle.redex_outside.specs.Counts.{Rose}
+use Rattle.redex_outside.specs.Held.{Held}
+use Rattle.command_line.specs.declared.command.CommandWords.{CommandWords}
+use Rattle.redex_cli.specs.Commands.{Commands, CommandsNothing, Fetch, Puts, fetches, output_of}
+use Rattle.redex_cli.specs.Fetching.{Failures, AllWithin, FirstTooLong, OneRose, PassesByOne}
+use Rattle.redex_cli.specs.Finished.{Finished, Results}
+use Rattle.redex_cli.specs.Stays.{Stays}
+use Rattle.redex_cli.specs.declared.status.InputFault.{InputFault}
+use Rattle.redex_cli.specs.declared.status.InputFault.TheVariants as input
+use Rattle.redex_cli.specs.declared.status.Status.{Status}
+use Rattle.redex_cli.specs.declared.status.Status.TheVariants.{Done, Usage, BadRules, BadDex, Limit, ReadFault, WriteFault, NoMemory, BadScript}
+
+-- ---- the faults of the inputs
+
+-- Want of memory is a status of its own, and is not nested here.
+abbrev pub IsRuleFault : RuleFault → Type 0
+IsRuleFault rule.NoMemory = ⊥
+IsRuleFault _ = Unit {0}
+
+-- Nor is a limit.
+abbrev pub IsDexFault : DexFault → Type 0
+IsDexFault dex.NoMemory = ⊥
+IsDexFault (dex.Limit fault) = ⊥
+IsDexFault _ = Unit {0}
+
+abbrev pub IsHierarchyFault : HierarchyFault → Type 0
+IsHierarchyFault classes.NoMemory = ⊥
+IsHierarchyFault _ = Unit {0}
+
+-- Typing and libraries are not built yet.
+abbrev pub IsInputFault : InputFault → Type 0
+IsInputFault (input.Dex fault) = IsDexFault fault
+IsInputFault (input.Hierarchy fault) = IsHierarchyFault fault
+IsInputFault (input.Typing fault) = ⊥
+IsInputFault (input.Library fault) = ⊥
+
+-- What the work on rules and a file may be refused with.
+abbrev pub WorkRefused : Status → Type 0
+WorkRefused (BadRules fault) = IsRuleFault fault
+WorkRefused (BadDex fault) = IsInputFault fault
+WorkRefused (Limit fault) = Unit {0}
+WorkRefused NoMemory = Unit {0}
+WorkRefused _ = ⊥
+
+-- ---- the limits
+
+-- A fetch passed its limit; or all names keep theirs, and what is counted inside the file passes its own.
+abbrev pub LimitCause : Bool → Held → List Fetch → LimitFault → Type 0
+LimitCause tells held names fault = PassesByOne tells held names fault ⊎ (IsTrue tells → AllWithin held names)
+
+-- The run ends with this limit, passed by one, unless a fetch failed or memory ran out.
+abbrev pub EndsTooLong : Counted → Status → Type 0
+EndsTooLong counted (Limit fault) = (fault.counted ≡ counted) × (fault.number ≡ limit_of counted + 1)
+EndsTooLong counted ReadFault = Unit {0}
+EndsTooLong counted NoMemory = Unit {0}
+EndsTooLong counted _ = ⊥
+
+-- ---- a command
+
+-- The count of failed puts of the output's name rose.
+pub record OutputRose (output : Option (List ℕ)) (old new : Failures) : Type 0 where
+  pub name : List ℕ
+  pub is_output : output ≡ Some name
+  pub rose : Rose (old name) (new name)
+
+-- Why a command that has these names fetched and this one put is refused with this status.
+abbrev pub Cause : List Fetch → Option (List ℕ) → Bool → Held → Failures → Failures → Failures → Failures → Status → Type 0
+Cause names output tells held fetches_old fetches_new puts_old puts_new (BadRules fault) = IsRuleFault fault
+Cause names output tells held fetches_old fetches_new puts_old puts_new (BadDex fault) = IsInputFault fault
+Cause names output tells held fetches_old fetches_new puts_old puts_new (Limit fault) = LimitCause tells held names fault
+Cause names output tells held fetches_old fetches_new puts_old puts_new ReadFault = OneRose fetches_old fetches_new names
+Cause names output tells held fetches_old fetches_new puts_old puts_new WriteFault = OutputRose output puts_old puts_new
+Cause names output tells held fetches_old fetches_new puts_old puts_new NoMemory = Unit {0}
+Cause names output tells held fetches_old fetches_new puts_old puts_new _ = ⊥
+
+-- A command that has these names fetched and this one put is refused with this status.
+pub record Refuses (names : List Fetch) (output : Option (List ℕ)) (tells : Bool) (old new : Held)
+    (fetches_old fetches_new puts_old puts_new : Failures) (status : Status) : Type 0 where
+  pub cause : Cause names output tells old fetches_old fetches_new puts_old puts_new status
+  pub too_long : (counted : Counted) → IsTrue tells → FirstTooLong old names counted → EndsTooLong counted status
+  pub stays : IsTrue tells → Stays (λ name. output ≡ Some name) status puts_old puts_new old new
+
+-- The name holds a finished output that has this summary.
+pub record HoldsSummed (summary : List ℕ) (held : Option (List ℕ)) : Type 0 where
+  pub output : List ℕ
+  pub finished : Finished output summary
+  pub there : held ≡ Some output
+
+-- A command that has these names fetched and this one put gives this text to be said.
+pub record Gives (names : List Fetch) (output : Option (List ℕ)) (IsAnswer : List ℕ → Type 0) (tells : Bool) (old new : Held)
+    (text : List ℕ) : Type 0 where
+  pub within : IsTrue tells → AllWithin old names
+  pub answer : IsAnswer text
+  pub others : IsTrue tells → (name : List ℕ) → (output ≡ Some name → ⊥) → new name ≡ old name
+  pub put : IsTrue tells → (name : List ℕ) → output ≡ Some name → HoldsSummed text (new name)
+
+-- ---- words
+
+-- The count of failed fetches rose for a name that the words have fetched.
+pub record CouldNotFetch (words : List (List ℕ)) (old new : Failures) : Type 0 where
+  pub command : CommandWords
+  pub commands : Commands words command
+  pub rose : OneRose old new (fetches command)
+
+-- The count of failed puts rose for the name that the words have put.
+pub record CouldNotPut (words : List (List ℕ)) (old new : Failures) : Type 0 where
+  pub command : CommandWords
+  pub commands : Commands words command
+  pub rose : OutputRose (output_of command) old new
+
+-- A limit is passed that the words' command counts.
+pub record PassesLimit (words : List (List ℕ)) (tells : Bool) (held : Held) (fault : LimitFault) : Type 0 where
+  pub command : CommandWords
+  pub commands : Commands words command
+  pub cause : LimitCause tells held (fetches command) fault
+
+-- A name that the words have fetched holds too much, and is the first. Its bytes are counted as this.
+pub record TooLong (words : List (List ℕ)) (held : Held) (counted : Counted) : Type 0 where
+  pub command : CommandWords
+  pub commands : Commands words command
+  pub first : FirstTooLong held (fetches command) counted
+
+-- The words spell no command that is built: the run ends so, or memory ran out.
+abbrev pub EndsUnspelled : Status → Type 0
+EndsUnspelled Usage = Unit {0}
+EndsUnspelled NoMemory = Unit {0}
+EndsUnspelled _ = ⊥
+
+-- What words may be refused with before anything is fetched.
+abbrev pub WordsRefused : List (List ℕ) → Status → Type 0
+WordsRefused words Usage = CommandsNothing words
+WordsRefused words NoMemory = Unit {0}
+WordsRefused words _ = ⊥
+
+-- Why these words are refused with this status.
+abbrev pub CauseFor : List (List ℕ) → Bool → Held → Failures → Failures → Failures → Failures → Status → Type 0
+CauseFor words tells held fetches_old fetches_new puts_old puts_new Done = ⊥
+CauseFor words tells held fetches_old fetches_new puts_old puts_new Usage = CommandsNothing words
+CauseFor words tells held fetches_old fetches_new puts_old puts_new (BadRules fault) = IsRuleFault fault
+CauseFor words tells held fetches_old fetches_new puts_old puts_new (BadDex fault) = IsInputFault fault
+CauseFor words tells held fetches_old fetches_new puts_old puts_new (Limit fault) = PassesLimit words tells held fault
+CauseFor words tells held fetches_old fetches_new puts_old puts_new ReadFault = CouldNotFetch words fetches_old fetches_new
+CauseFor words tells held fetches_old fetches_new puts_old puts_new WriteFault = CouldNotPut words puts_old puts_new
+CauseFor words tells held fetches_old fetches_new puts_old puts_new NoMemory = Unit {0}
+CauseFor words tells held fetches_old fetches_new puts_old puts_new (BadScript line) = ⊥
+
+-- These words are refused with this status.
+pub record RefusesFor (words : List (List ℕ)) (tells : Bool) (old new : Held)
+    (fetches_old fetches_new puts_old puts_new : Failures) (status : Status) : Type 0 where
+  pub cause : CauseFor words tells old fetches_old fetches_new puts_old puts_new status
+  pub unspelled : CommandsNothing words → EndsUnspelled status
+  pub too_long : (counted : Counted) → IsTrue tells → TooLong words old counted → EndsTooLong counted status
+  pub stays : IsTrue tells → Stays (Puts words) status puts_old puts_new old new
+
+-- These words give this text to be said.
+pub record GivesFor (words : List (List ℕ)) (tells : Bool) (old new : Held) (text : List ℕ) : Type 0 where
+  pub answer : Results words text
+  pub within : (counted : Counted) → IsTrue tells → TooLong words old counted → ⊥
+  pub others : IsTrue tells → (name : List ℕ) → (Puts words name → ⊥) → new name ≡ old name
+  pub put : IsTrue tells → (name : List ℕ) → Puts words name → HoldsSummed text (new name)

@@ -1,3 +1,4 @@
 pub mod Same
 pub mod Simulation
 pub mod LookUps
+pub mod Frames

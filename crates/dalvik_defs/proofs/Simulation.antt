@@ -24,6 +24,21 @@ module _ (s : Setting) (find : Bodies) where
       let r = run_on n m (step s find t).0 in
       (suc r.0, (r.1.0, ap (λ l. events_of (step s find t).1 ++ l) r.1.1 ∙ sym (append_assoc (events_of (step s find t).1) (shows_from s find (step s find t).0 n) (shows_from s find (after s find (step s find t).0 n) m))))
 
+  -- n steps and then one
+  pub after_suc : (n : ℕ) (t : State) → after s find t (suc n) ≡ (step s find (after s find t n)).0
+  after_suc zero t = refl
+  after_suc (suc n) t = after_suc n (step s find t).0
+
+  pub shows_suc : (n : ℕ) (t : State) → shows_from s find t (suc n) ≡ shows_from s find t n ++ events_of (step s find (after s find t n)).1
+  shows_suc zero t = append-nil (events_of (step s find t).1)
+  shows_suc (suc n) t = ap (λ l. events_of (step s find t).1 ++ l) (shows_suc n (step s find t).0)
+      ∙ sym (append_assoc (events_of (step s find t).1) (shows_from s find (step s find t).0 n) (events_of (step s find (after s find (step s find t).0 n)).1))
+
+  -- what every step keeps, any number of steps keeps
+  pub kept_after : (I : State → Type 0) → ((t : State) → I t → I (step s find t).0) → (n : ℕ) (t : State) → I t → I (after s find t n)
+  kept_after I keeps zero t i = i
+  kept_after I keeps (suc n) t i = kept_after I keeps n (step s find t).0 (keeps t i)
+
   one_more : (n : ℕ) (t : State) → IsPrefixOf (shows_from s find t n) (shows_from s find t (suc n))
   one_more zero t = (events_of (step s find t).1 ++ [], refl)
   one_more (suc n) t = prefix_behind (events_of (step s find t).1) (shows_from s find (step s find t).0 n) (shows_from s find (step s find t).0 (suc n)) (one_more n (step s find t).0)

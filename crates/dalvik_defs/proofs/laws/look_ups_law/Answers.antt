@@ -1,3 +1,4 @@
+use Rattle.dalvik_defs.proofs.Frames.{FramesFollow}
 use Rattle.dalvik_defs.proofs.LookUps.{same_by_look_ups}
 use Rattle.dalvik_defs.proofs.laws.look_ups_law.Goals as goal
 

@@ -10,7 +10,7 @@ use Rattle.dalvik_defs.specs.Find.{Found}
 use Rattle.dalvik_defs.specs.Face.{Bodies, Place}
 use Rattle.dalvik_defs.specs.State.{World, Classes, Status, New, Running, Done, Failed, Value, Word, Frame, Thing, Instance, Items, Waiting, Method, Initialiser, Ending, Outside, State, On, Ended, Next, quiet, with_thing, next_object, fresh, put_status, thing_at}
 use Rattle.dalvik_defs.specs.Outcome.{Outcome, Stays, Starts, Enters, Leaves, Ends, Raises, Halts, Need, Ready, Fresh, Broken, need_of}
-use Rattle.dalvik_defs.specs.Stack.{entry_frame, enters_body, enters, back, gives, lands, wrapped, given_up, unwinds, throws_new, left_of, runs, goes_on, starts, resumes, ends}
+use Rattle.dalvik_defs.specs.Stack.{entry_frame, enters_body, enters, back, gives, lands, wrapped, given_up, lands_or, unwinds, throws_new, left_of, runs, goes_on, starts, resumes, ends}
 use Rattle.dalvik_defs.specs.Happens.{Setting, outcome_at, happens, first_needed, initialises}
 use Rattle.dalvik_defs.specs.Gives.{gets, gets_all, spread, fits, may_throw}
 use Rattle.dalvik_defs.specs.Legal.{may_enter, may_make, may_answer, on_fits, is_exposed}
@@ -175,12 +175,12 @@ module _ (s : Setting) (find other : Bodies) (F : World → Classes → Frame �
 
     good_lands : (w : World) (c : Classes) (v : Value) (r r' : List Waiting) (script : List Move) (o o' : Option Frame) → Landed w c r r' script o o' → Waits r r'
         → Good (unwinds s.face find w c v r script) (unwinds s.face other w c v r' script)
-        → Good (elim o [ Some g ↦ quiet (On w c (Method g ∷ r) script) | None ↦ unwinds s.face find w c v r script ])
-        (elim o' [ Some g ↦ quiet (On w c (Method g ∷ r') script) | None ↦ unwinds s.face other w c v r' script ])
+        → Good (lands_or w c r script o (unwinds s.face find w c v r script))
+        (lands_or w c r' script o' (unwinds s.face other w c v r' script))
     good_lands w c v r r' script None o' h ws g =
-        subst (λ x. Good (unwinds s.face find w c v r script) (elim x [ Some g ↦ quiet (On w c (Method g ∷ r') script) | None ↦ unwinds s.face other w c v r' script ])) (sym h) g
+        subst (λ x. Good (unwinds s.face find w c v r script) (lands_or w c r' script x (unwinds s.face other w c v r' script))) (sym h) g
     good_lands w c v r r' script (Some f) o' h ws g =
-        subst (λ x. Good (quiet (On w c (Method f ∷ r) script)) (elim x [ Some g ↦ quiet (On w c (Method g ∷ r') script) | None ↦ unwinds s.face other w c v r' script ])) (sym h.1.0)
+        subst (λ x. Good (quiet (On w c (Method f ∷ r) script)) (lands_or w c r' script x (unwinds s.face other w c v r' script))) (sym h.1.0)
         (record { holds = λ i j. (refl, (Method h.0 ∷ r', (refl, (h.0, (r', (refl, (h.1.1 i j, ws))))))) })
 
     good_unwinds : (stack stack' : List Waiting) (w : World) (c : Classes) (v : Value) (script : List Move) → Waits stack stack'

@@ -2,3 +2,5 @@ pub mod Same
 pub mod Simulation
 pub mod LookUps
 pub mod Frames
+pub mod Glides
+pub mod Calm

@@ -15,6 +15,11 @@ use Rattle.dalvik_defs.specs.declared.tables.Framework.{Framework}
 use Rattle.dalvik_defs.specs.declared.tables.Floats.{Floats}
 use Rattle.dalvik_defs.proofs.Same.{prefix_refl, prefix_on, prefix_behind}
 
+-- so many steps and then so many
+abbrev pub joined : ℕ → ℕ → ℕ
+joined zero m = m
+joined (suc n) m = suc (joined n m)
+
 module _ (s : Setting) (find : Bodies) where
   -- n steps and then m
   pub run_on : (n m : ℕ) (t : State)
@@ -23,6 +28,15 @@ module _ (s : Setting) (find : Bodies) where
   run_on (suc n) m t =
       let r = run_on n m (step s find t).0 in
       (suc r.0, (r.1.0, ap (λ l. events_of (step s find t).1 ++ l) r.1.1 ∙ sym (append_assoc (events_of (step s find t).1) (shows_from s find (step s find t).0 n) (shows_from s find (after s find (step s find t).0 n) m))))
+
+  pub after_joined : (n m : ℕ) (t : State) → after s find t (joined n m) ≡ after s find (after s find t n) m
+  after_joined zero m t = refl
+  after_joined (suc n) m t = after_joined n m (step s find t).0
+
+  pub shows_joined : (n m : ℕ) (t : State) → shows_from s find t (joined n m) ≡ shows_from s find t n ++ shows_from s find (after s find t n) m
+  shows_joined zero m t = refl
+  shows_joined (suc n) m t = ap (λ l. events_of (step s find t).1 ++ l) (shows_joined n m (step s find t).0)
+      ∙ sym (append_assoc (events_of (step s find t).1) (shows_from s find (step s find t).0 n) (shows_from s find (after s find (step s find t).0 n) m))
 
   -- n steps and then one
   pub after_suc : (n : ℕ) (t : State) → after s find t (suc n) ≡ (step s find (after s find t n)).0

@@ -47,8 +47,13 @@ need_at Running = Ready
 need_at Done = Ready
 need_at Failed = Broken
 
+-- a class that the program doesn't define is always ready
+abbrev pub need_if : Bool → Status → Need
+need_if true s = need_at s
+need_if false s = Ready
+
 abbrev pub need_of : Face → Classes → Text → Need
-need_of face classes c = elim (is_defined face c) [ true ↦ need_at (classes c) | false ↦ Ready ]
+need_of face classes c = need_if (is_defined face c) (classes c)
 
 -- a new object of a class is thrown
 abbrev pub faults : World → Text → Outcome

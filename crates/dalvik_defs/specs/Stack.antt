@@ -81,12 +81,14 @@ abbrev pub given_up : List Waiting → List Move → List Move
 given_up (Outside owes ∷ rest) script = drop 1 script
 given_up stack script = script
 
+-- the frame goes on at its handler, or else the other comes
+abbrev pub lands_or : World → Classes → List Waiting → List Move → Option Frame → Next → Next
+lands_or w classes rest script (Some g) otherwise = quiet (On w classes (Method g ∷ rest) script)
+lands_or w classes rest script None otherwise = otherwise
+
 abbrev pub unwinds : Face → Bodies → World → Classes → Value → List Waiting → List Move → Next
 unwinds face find w classes v [] script = quiet Ended
-unwinds face find w classes v (Method f ∷ rest) script = elim (lands face find w f v) [
-  | Some g ↦ quiet (On w classes (Method g ∷ rest) script)
-  | None ↦ unwinds face find w classes v rest script
-]
+unwinds face find w classes v (Method f ∷ rest) script = lands_or w classes rest script (lands face find w f v) (unwinds face find w classes v rest script)
 unwinds face find w classes v (Initialiser c above ∷ rest) script = unwinds face find w (put_status c Failed classes) v rest (given_up rest script)
 unwinds face find w classes v (Ending c ∷ rest) script =
     unwinds face find (wrapped face w v).0 (put_status c Failed classes) (wrapped face w v).1 rest (given_up rest script)
@@ -99,16 +101,17 @@ throws_new face find w classes c stack script = unwinds face find (with_thing w 
 
 -- ---- classes that are initialised
 
-abbrev pub hinders : Status → Bool
-hinders New = true
-hinders Running = false
-hinders Done = false
-hinders Failed = true
+-- a class that is running or done is no hindrance
+abbrev pub left_at : Status → List Text → List Text → List Text
+left_at New here behind = here
+left_at Running here behind = behind
+left_at Done here behind = behind
+left_at Failed here behind = here
 
 -- the classes from the first on that is neither running nor done
 abbrev pub left_of : Classes → List Text → List Text
 left_of classes [] = []
-left_of classes (c ∷ cs) = elim (hinders (classes c)) [ true ↦ c ∷ cs | false ↦ left_of classes cs ]
+left_of classes (c ∷ cs) = left_at (classes c) (c ∷ cs) (left_of classes cs)
 
 -- a class whose turn has come: its initialiser is called
 abbrev pub runs : Bodies → World → Classes → Text → Option MethodKey → List Waiting → List Move → State

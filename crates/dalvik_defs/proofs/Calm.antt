@@ -1,0 +1,352 @@
+-- Classes whose initialisation does nothing don't count. A set of classes is calm where none has an initialiser and all
+-- that are initialised before one of them are calm too. A run that begins with all classes new shows the same as one that
+-- begins with the calm classes done.
+use Rattle.std.proofs.Common.{◌≡◌, ℕ, zero, suc, Bool, true, false, true≢false, not, ◌&&◌, List, [], ◌∷◌, ◌++◌, Option, Some, None, refl, sym, ap, ◌∙◌, subst}
+use Rattle.std.specs.Prelude.{length, slice_get}
+use Rattle.std.specs.Cmp.Lexicographic.{bytes_decides}
+use Rattle.insn_set.specs.declared.ops.Item.{Item}
+use Rattle.insn_set.specs.declared.ops.InvokeKind.{InvokeKind}
+use Rattle.insn_set.specs.declared.ops.InvokeKind.TheVariants as call
+use Rattle.dalvik_defs.specs.Names.{Text, text_eq, method_eq, object_constructor}
+use Rattle.dalvik_defs.specs.Flags.{is_static, is_native}
+use Rattle.dalvik_defs.specs.Known.{no_class, null_pointer, class_change}
+use Rattle.dalvik_defs.specs.Find.{Found, Search, Nothing, Clash, Finds}
+use Rattle.dalvik_defs.specs.Face.{Bodies, Place, is_defined}
+use Rattle.dalvik_defs.specs.State.{World, Classes, Status, New, Running, Done, Failed, Value, Word, Frame, Thing, Instance, Items, Waiting, Method, Initialiser, Ending, Outside, State, On, Ended, Next, quiet, with_thing, next_object, fresh, put_status, thing_at, is_null, kind_of}
+use Rattle.dalvik_defs.specs.Effect.{Effect, Goes, Faults, Throws, Gives, Calls, Makes, Reads, Writes, Locks, Unlocks, Stuck}
+use Rattle.dalvik_defs.specs.Outcome.{Outcome, Stays, Starts, Enters, Leaves, Ends, Raises, Halts, Need, Ready, Fresh, Broken, need_at, need_if, need_of, faults, when_ready, calls_out, native_kind, takes_no_receiver, calls_uncoded, calls_found, calls_ready, calls_unfound, calls_by, receiver, on_receiver, calls, makes, reads_value, reads_static, reads_instance, reads_out, writes_static, writes_instance, written, writes_out, outcome}
+use Rattle.dalvik_defs.specs.Stack.{entry_frame, enters_body, enters, gives, lands, wrapped, given_up, back, lands_or, unwinds, left_at, left_of, runs, goes_on, starts, resumes, ends}
+use Rattle.dalvik_defs.specs.Happens.{Setting, effect_of, outcome_at, happens, first_needed, initialises}
+use Rattle.dalvik_defs.specs.Show.{show, show_option}
+use Rattle.dalvik_defs.specs.Names.{throwable_type}
+use Rattle.dalvik_defs.specs.declared.events.Event.TheVariants as event
+use Rattle.dalvik_defs.specs.Step.{step, events_of, after, shows_from}
+use Rattle.dalvik_defs.specs.declared.names.MethodKey.{MethodKey}
+use Rattle.dalvik_defs.specs.declared.program.NamedBody.{NamedBody}
+use Rattle.dalvik_defs.specs.declared.script.Move.{Move}
+use Rattle.dalvik_defs.specs.declared.events.Event.{Event}
+use Rattle.dalvik_defs.proofs.Simulation.{joined, after_joined, shows_joined}
+
+-- ---- texts and lists
+
+text_same : (t : Text) → text_eq t t ≡ true
+text_same t = (bytes_decides t t).1 refl
+
+text_sound : (t u : Text) → text_eq t u ≡ true → t ≡ u
+text_sound t u = (bytes_decides t u).0
+
+abbrev pub Each : (Text → Type 0) → List Text → Type 0
+Each P [] = Unit {0}
+Each P (x ∷ xs) = P x × Each P xs
+
+each_map : (P Q : Text → Type 0) → ((t : Text) → P t → Q t) → (ts : List Text) → Each P ts → Each Q ts
+each_map P Q h [] e = tt
+each_map P Q h (t ∷ ts) e = (h t e.0, each_map P Q h ts e.1)
+
+clash : (b : Bool) {A : Type 0} → b ≡ true → b ≡ false → A
+clash b e f = absurd (true≢false (sym e ∙ f))
+
+-- ---- a class's status
+
+abbrev pub IsSound : Status → Type 0
+IsSound New = Unit {0}
+IsSound Running = Unit {0}
+IsSound Done = Unit {0}
+IsSound Failed = ⊥
+
+put_same : (t : Text) (x : Status) (c : Classes) → put_status t x c t ≡ x
+put_same t x c = ap (λ b. elim b as (λ b. Status) [ true ↦ x | false ↦ c t ]) (text_same t)
+
+-- what a status holds after one is put, by cases
+put_cases : (P : Text → Status → Type 0) (t : Text) (x : Status) (c : Classes) (u : Text) → P t x → P u (c u) → P u (put_status t x c u)
+put_cases P t x c u h k = at (text_eq u t) (λ e. sym (text_sound u t e)) where
+  at : (b : Bool) → (b ≡ true → t ≡ u) → P u (elim b as (λ b. Status) [ true ↦ x | false ↦ c u ])
+  at true e = subst (λ v. P v x) (e refl) h
+  at false e = k
+
+module _ (s : Setting) (find : Bodies) (calm : Text → Bool) where
+  -- a chain of classes that come first ends
+  abbrev pub IsDeep : ℕ → Text → Type 0
+  IsDeep zero t = ⊥
+  IsDeep (suc n) t = Each (λ u. (calm u ≡ true) × IsDeep n u) (s.face.first t)
+
+  pub record IsCalm : Type 0 where
+    pub initialiser : (t : Text) → calm t ≡ true → s.face.initialiser t ≡ None
+    pub grounded : (t : Text) → calm t ≡ true → (n : ℕ) × IsDeep n t
+
+  -- statuses of a run, and those of one in which the calm classes are done
+  pub record Agree (c c' : Classes) : Type 0 where
+    pub busy : (t : Text) → calm t ≡ false → c t ≡ c' t
+    pub done : (t : Text) → calm t ≡ true → c' t ≡ Done
+    pub sound : (t : Text) → calm t ≡ true → IsSound (c t)
+
+  put_busy : (c c' : Classes) (t : Text) (x : Status) → calm t ≡ false → Agree c c' → Agree (put_status t x c) (put_status t x c')
+  put_busy c c' t x e a = record {
+    busy = λ u f. ap (λ y. elim (text_eq u t) as (λ b. Status) [ true ↦ x | false ↦ y ]) (a.busy u f);
+    done = λ u. put_cases (λ v y. calm v ≡ true → y ≡ Done) t x c' u (λ f. clash (calm t) f e) (a.done u);
+    sound = λ u. put_cases (λ v y. calm v ≡ true → IsSound y) t x c u (λ f. clash (calm t) f e) (a.sound u);
+  }
+
+  put_calm : (c c' : Classes) (t : Text) (x : Status) → calm t ≡ true → IsSound x → Agree c c' → Agree (put_status t x c) c'
+  put_calm c c' t x e h a = record {
+    busy = λ u. put_cases (λ v y. calm v ≡ false → y ≡ c' v) t x c u (λ f. clash (calm t) e f) (a.busy u);
+    done = a.done;
+    sound = λ u. put_cases (λ v y. calm v ≡ true → IsSound y) t x c u (λ f. h) (a.sound u);
+  }
+
+  -- ---- steps that show nothing
+
+  pub record Silent (t u : State) : Type 0 where
+    pub steps : ℕ
+    pub ends : after s find t steps ≡ u
+    pub silent : shows_from s find t steps ≡ []
+
+  silent_none : (t : State) → Silent t t
+  silent_none t = record { steps = 0; ends = refl; silent = refl }
+
+  silent_same : (t u : State) → t ≡ u → Silent t u
+  silent_same t u e = record { steps = 0; ends = e; silent = refl }
+
+  silent_on : (t u v : State) → Silent t u → Silent u v → Silent t v
+  silent_on t u v a b = record {
+    steps = joined a.steps b.steps;
+    ends = after_joined s find a.steps b.steps t ∙ ap (λ x. after s find x b.steps) a.ends ∙ b.ends;
+    silent = shows_joined s find a.steps b.steps t ∙ ap (λ l. l ++ shows_from s find (after s find t a.steps) b.steps) a.silent
+        ∙ ap (λ x. shows_from s find x b.steps) a.ends ∙ b.silent;
+  }
+
+  silent_step : (t u v : State) → step s find t ≡ quiet u → Silent u v → Silent t v
+  silent_step t u v e a = record {
+    steps = suc a.steps;
+    ends = ap (λ x. after s find x.0 a.steps) e ∙ a.ends;
+    silent = ap (λ x. events_of x.1 ++ shows_from s find x.0 a.steps) e ∙ a.silent;
+  }
+
+  -- ---- a calm class is initialised in silence
+
+  -- from a class's start to what waited for it, the class being done
+  pub record Passes (t : Text) (w : World) (c c' : Classes) (stack : List Waiting) (script : List Move) : Type 0 where
+    pub classes : Classes
+    pub silent : Silent (starts s.face find w c t stack script) (resumes s.face find w classes stack script)
+    pub agree : Agree classes c'
+    pub done : classes t ≡ Done
+
+  abbrev pub IsPassed : Text → Type 0
+  IsPassed t = (w : World) (c c' : Classes) (stack : List Waiting) (script : List Move) → Agree c c' → Passes t w c c' stack script
+
+  pub record Settles (w : World) (c c' : Classes) (t : Text) (above : List Text) (stack : List Waiting) (script : List Move) : Type 0 where
+    pub classes : Classes
+    pub silent : Silent (goes_on s.face find w c t (left_of c above) stack script) (goes_on s.face find w classes t (left_of c' above) stack script)
+    pub agree : Agree classes c'
+
+  settles_same : (w : World) (c c' : Classes) (t : Text) (above : List Text) (stack : List Waiting) (script : List Move) → left_of c above ≡ left_of c' above → Agree c c' → Settles w c c' t above stack script
+  settles_same w c c' t above stack script e a = record {
+    classes = c;
+    silent = silent_same (goes_on s.face find w c t (left_of c above) stack script) (goes_on s.face find w c t (left_of c' above) stack script) (ap (λ l. goes_on s.face find w c t l stack script) e);
+    agree = a;
+  }
+
+  settles_skip : (w : World) (c c' : Classes) (t d : Text) (ds : List Text) (stack : List Waiting) (script : List Move) → left_of c (d ∷ ds) ≡ left_of c ds → left_of c' (d ∷ ds) ≡ left_of c' ds
+      → Settles w c c' t ds stack script → Settles w c c' t (d ∷ ds) stack script
+  settles_skip w c c' t d ds stack script e e' r = record {
+    classes = r.classes;
+    silent = subst (λ l. Silent (goes_on s.face find w c t l stack script) (goes_on s.face find w r.classes t (left_of c' (d ∷ ds)) stack script)) (sym e)
+        (subst (λ l. Silent (goes_on s.face find w c t (left_of c ds) stack script) (goes_on s.face find w r.classes t l stack script)) (sym e') r.silent);
+    agree = r.agree;
+  }
+
+  -- the first class is calm and new: it passes
+  settles_pass : (w : World) (c c' : Classes) (t d : Text) (ds : List Text) (stack : List Waiting) (script : List Move) → c d ≡ New → c' d ≡ Done
+      → (p : Passes d w c c' (Initialiser t (d ∷ ds) ∷ stack) script) → Settles w p.classes c' t ds stack script → Settles w c c' t (d ∷ ds) stack script
+  settles_pass w c c' t d ds stack script e e' p r =
+      let l : left_of c (d ∷ ds) ≡ d ∷ ds = ap (λ x. left_at x (d ∷ ds) (left_of c ds)) e in
+      let l' : left_of c' (d ∷ ds) ≡ left_of c' ds = ap (λ x. left_at x (d ∷ ds) (left_of c' ds)) e' in
+      let m : left_of p.classes (d ∷ ds) ≡ left_of p.classes ds = ap (λ x. left_at x (d ∷ ds) (left_of p.classes ds)) p.done in
+      let one : step s find (On w c (Initialiser t (d ∷ ds) ∷ stack) script) ≡ quiet (starts s.face find w c d (Initialiser t (d ∷ ds) ∷ stack) script) =
+      ap (λ x. first_needed s find w c t d ds x stack script) e in
+      let rest : Silent (goes_on s.face find w p.classes t (left_of p.classes (d ∷ ds)) stack script) (goes_on s.face find w r.classes t (left_of c' ds) stack script) =
+      subst (λ x. Silent (goes_on s.face find w p.classes t x stack script) (goes_on s.face find w r.classes t (left_of c' ds) stack script)) (sym m) r.silent in
+      let all = silent_step (On w c (Initialiser t (d ∷ ds) ∷ stack) script) (starts s.face find w c d (Initialiser t (d ∷ ds) ∷ stack) script) (goes_on s.face find w r.classes t (left_of c' ds) stack script) one
+      (silent_on (starts s.face find w c d (Initialiser t (d ∷ ds) ∷ stack) script) (resumes s.face find w p.classes (Initialiser t (d ∷ ds) ∷ stack) script) (goes_on s.face find w r.classes t (left_of c' ds) stack script) p.silent rest) in
+      record {
+        classes = r.classes;
+        silent = subst (λ x. Silent (goes_on s.face find w c t x stack script) (goes_on s.face find w r.classes t (left_of c' (d ∷ ds)) stack script)) (sym l)
+            (subst (λ x. Silent (On w c (Initialiser t (d ∷ ds) ∷ stack) script) (goes_on s.face find w r.classes t x stack script)) (sym l') all);
+        agree = r.agree;
+      }
+
+  settles_at : (w : World) (c c' : Classes) (t d : Text) (ds : List Text) (stack : List Waiting) (script : List Move) → Agree c c' → (calm d ≡ true → IsPassed d)
+      → ((x : Classes) → Agree x c' → Settles w x c' t ds stack script) → (b : Bool) → calm d ≡ b → (x : Status) → c d ≡ x → Settles w c c' t (d ∷ ds) stack script
+  settles_at w c c' t d ds stack script a pass rest true e New f =
+      let p = pass e w c c' (Initialiser t (d ∷ ds) ∷ stack) script a in settles_pass w c c' t d ds stack script f (a.done d e) p (rest p.classes p.agree)
+  settles_at w c c' t d ds stack script a pass rest true e Running f = settles_skip w c c' t d ds stack script
+      (ap (λ y. left_at y (d ∷ ds) (left_of c ds)) f) (ap (λ y. left_at y (d ∷ ds) (left_of c' ds)) (a.done d e)) (rest c a)
+  settles_at w c c' t d ds stack script a pass rest true e Done f = settles_skip w c c' t d ds stack script
+      (ap (λ y. left_at y (d ∷ ds) (left_of c ds)) f) (ap (λ y. left_at y (d ∷ ds) (left_of c' ds)) (a.done d e)) (rest c a)
+  settles_at w c c' t d ds stack script a pass rest true e Failed f = absurd (subst IsSound f (a.sound d e))
+  settles_at w c c' t d ds stack script a pass rest false e New f = settles_same w c c' t (d ∷ ds) stack script
+      (ap (λ y. left_at y (d ∷ ds) (left_of c ds)) f ∙ sym (ap (λ y. left_at y (d ∷ ds) (left_of c' ds)) (sym (a.busy d e) ∙ f))) a
+  settles_at w c c' t d ds stack script a pass rest false e Failed f = settles_same w c c' t (d ∷ ds) stack script
+      (ap (λ y. left_at y (d ∷ ds) (left_of c ds)) f ∙ sym (ap (λ y. left_at y (d ∷ ds) (left_of c' ds)) (sym (a.busy d e) ∙ f))) a
+  settles_at w c c' t d ds stack script a pass rest false e Running f = settles_skip w c c' t d ds stack script
+      (ap (λ y. left_at y (d ∷ ds) (left_of c ds)) f) (ap (λ y. left_at y (d ∷ ds) (left_of c' ds)) (sym (a.busy d e) ∙ f)) (rest c a)
+  settles_at w c c' t d ds stack script a pass rest false e Done f = settles_skip w c c' t d ds stack script
+      (ap (λ y. left_at y (d ∷ ds) (left_of c ds)) f) (ap (λ y. left_at y (d ∷ ds) (left_of c' ds)) (sym (a.busy d e) ∙ f)) (rest c a)
+
+  settles : (above : List Text) → Each (λ u. calm u ≡ true → IsPassed u) above → (w : World) (c c' : Classes) (t : Text) (stack : List Waiting) (script : List Move) → Agree c c'
+      → Settles w c c' t above stack script
+  settles [] h w c c' t stack script a = settles_same w c c' t [] stack script refl a
+  settles (d ∷ ds) h w c c' t stack script a = settles_at w c c' t d ds stack script a h.0 (λ x b. settles ds h.1 w x c' t stack script b) (calm d) refl (c d) refl
+
+  all_done : (c c' : Classes) → Agree c c' → (l : List Text) → Each (λ u. calm u ≡ true) l → left_of c' l ≡ []
+  all_done c c' a [] h = refl
+  all_done c c' a (d ∷ ds) h = ap (λ y. left_at y (d ∷ ds) (left_of c' ds)) (a.done d h.0) ∙ all_done c c' a ds h.1
+
+  module _ (is : IsCalm) where
+    passed_deep : (n : ℕ) (t : Text) → calm t ≡ true → IsDeep n t → IsPassed t
+    passed_deep zero t e h w c c' stack script a = absurd h
+    passed_deep (suc n) t e h w c c' stack script a =
+        let run = put_status t Running c in
+        let b = put_calm c c' t Running e tt a in
+        let l = s.face.first t in
+        let r = settles l (each_map (λ u. (calm u ≡ true) × IsDeep n u) (λ u. calm u ≡ true → IsPassed u) (λ u d f. passed_deep n u f d.1) l h) w run c' t stack script b in
+        let last = all_done run c' b l (each_map (λ u. (calm u ≡ true) × IsDeep n u) (λ u. calm u ≡ true) (λ u d. d.0) l h) in
+        let here : goes_on s.face find w r.classes t (left_of c' l) stack script ≡ On w r.classes (Ending t ∷ stack) script =
+        ap (λ x. goes_on s.face find w r.classes t x stack script) last ∙ ap (λ o. runs find w r.classes t o stack script) (is.initialiser t e) in
+        let end = put_status t Done r.classes in
+        record {
+          classes = end;
+          silent = silent_on (starts s.face find w c t stack script) (On w r.classes (Ending t ∷ stack) script) (resumes s.face find w end stack script)
+              (subst (λ x. Silent (starts s.face find w c t stack script) x) here r.silent)
+              (silent_step (On w r.classes (Ending t ∷ stack) script) (resumes s.face find w end stack script) (resumes s.face find w end stack script) refl (silent_none (resumes s.face find w end stack script)));
+          agree = put_calm r.classes c' t Done e tt r.agree;
+          done = put_same t Done r.classes;
+        }
+
+    passed : (t : Text) → calm t ≡ true → IsPassed t
+    passed t e = passed_deep (is.grounded t e).0 t e (is.grounded t e).1
+
+    settled : (above : List Text) (w : World) (c c' : Classes) (t : Text) (stack : List Waiting) (script : List Move) → Agree c c' → Settles w c c' t above stack script
+    settled above = settles above (each_map (λ u. Unit {0}) (λ u. calm u ≡ true → IsPassed u) (λ u x. passed u) above (each_any above)) where
+      each_any : (l : List Text) → Each (λ u. Unit {0}) l
+      each_any [] = tt
+      each_any (u ∷ us) = (tt, each_any us)
+
+    -- ---- related states: the classes that are being initialised aren't calm
+
+    abbrev pub Busy : List Waiting → Type 0
+    Busy [] = Unit {0}
+    Busy (Method f ∷ r) = Busy r
+    Busy (Initialiser t a ∷ r) = (calm t ≡ false) × Busy r
+    Busy (Ending t ∷ r) = (calm t ≡ false) × Busy r
+    Busy (Outside owes ∷ r) = Busy r
+
+    abbrev pub Core : State → State → Type 0
+    Core Ended u = u ≡ Ended
+    Core (On w c stack script) u = (c' : Classes) × ((u ≡ On w c' stack script) × (Agree c c' × Busy stack))
+
+    -- two steps' ends are good where they show the same, and the first comes in silence to what is related to the second
+    record Good (x x' : Next) : Type 0 where
+      shown : x'.1 ≡ x.1
+      to : State
+      silent : Silent x.0 to
+      core : Core to x'.0
+
+    good_state : (w : World) (c c' : Classes) (stack : List Waiting) (script : List Move) (e : Option Event) → Agree c c' → Busy stack → Good (On w c stack script, e) (On w c' stack script, e)
+    good_state w c c' stack script e a b = record { shown = refl; to = On w c stack script; silent = silent_none (On w c stack script); core = (c', (refl, (a, b))) }
+
+    good_end : Good (quiet Ended) (quiet Ended)
+    good_end = record { shown = refl; to = Ended; silent = silent_none Ended; core = refl }
+
+    good_behind : (x x' y : Next) → x.1 ≡ y.1 → Silent y.0 x.0 → Good x x' → Good y x'
+    good_behind x x' y e q g = record { shown = g.shown ∙ e; to = g.to; silent = silent_on y.0 x.0 g.to q g.silent; core = g.core }
+
+    good_body : (o : Option NamedBody) (w : World) (c c' : Classes) (k : MethodKey) (vs : List Value) (stack : List Waiting) (script : List Move) → Agree c c' → Busy stack
+        → Good (quiet (enters_body o w c k vs stack script)) (quiet (enters_body o w c' k vs stack script))
+    good_body None w c c' k vs stack script a b = good_end
+    good_body (Some x) w c c' k vs stack script a b = good_state w c c' (Method (entry_frame k vs x) ∷ stack) script None a b
+
+    good_runs : (o : Option MethodKey) (w : World) (c c' : Classes) (t : Text) (stack : List Waiting) (script : List Move) → Agree c c' → calm t ≡ false → Busy stack
+        → Good (quiet (runs find w c t o stack script)) (quiet (runs find w c' t o stack script))
+    good_runs None w c c' t stack script a e b = good_state w c c' (Ending t ∷ stack) script None a (e, b)
+    good_runs (Some k) w c c' t stack script a e b = good_body (find k) w c c' k [] (Ending t ∷ stack) script a (e, b)
+
+    good_list : (l : List Text) (w : World) (c c' : Classes) (t : Text) (stack : List Waiting) (script : List Move) → Agree c c' → calm t ≡ false → Busy stack
+        → Good (quiet (goes_on s.face find w c t l stack script)) (quiet (goes_on s.face find w c' t l stack script))
+    good_list [] w c c' t stack script a e b = good_runs (s.face.initialiser t) w c c' t stack script a e b
+    good_list (d ∷ ds) w c c' t stack script a e b = good_state w c c' (Initialiser t (d ∷ ds) ∷ stack) script None a (e, b)
+
+    good_goes_on : (above : List Text) (w : World) (c c' : Classes) (t : Text) (stack : List Waiting) (script : List Move) → Agree c c' → calm t ≡ false → Busy stack
+        → Good (quiet (goes_on s.face find w c t (left_of c above) stack script)) (quiet (goes_on s.face find w c' t (left_of c' above) stack script))
+    good_goes_on above w c c' t stack script a e b =
+        let r = settled above w c c' t stack script a in
+        good_behind (quiet (goes_on s.face find w r.classes t (left_of c' above) stack script)) (quiet (goes_on s.face find w c' t (left_of c' above) stack script))
+        (quiet (goes_on s.face find w c t (left_of c above) stack script)) refl r.silent (good_list (left_of c' above) w r.classes c' t stack script r.agree e b)
+
+    good_starts : (w : World) (c c' : Classes) (t : Text) (stack : List Waiting) (script : List Move) → Agree c c' → calm t ≡ false → Busy stack
+        → Good (quiet (starts s.face find w c t stack script)) (quiet (starts s.face find w c' t stack script))
+    good_starts w c c' t stack script a e b = good_goes_on (s.face.first t) w (put_status t Running c) (put_status t Running c') t stack script (put_busy c c' t Running e a) e b
+
+    good_resumes : (stack : List Waiting) (w : World) (c c' : Classes) (script : List Move) → Agree c c' → Busy stack
+        → Good (quiet (resumes s.face find w c stack script)) (quiet (resumes s.face find w c' stack script))
+    good_resumes [] w c c' script a b = good_state w c c' [] script None a b
+    good_resumes (Method f ∷ r) w c c' script a b = good_state w c c' (Method f ∷ r) script None a b
+    good_resumes (Initialiser t l ∷ r) w c c' script a b = good_goes_on l w c c' t r script a b.0 b.1
+    good_resumes (Ending t ∷ r) w c c' script a b = good_state w c c' (Ending t ∷ r) script None a b
+    good_resumes (Outside owes ∷ r) w c c' script a b = good_state w c c' (Outside owes ∷ r) script None a b
+
+    good_gives : (stack : List Waiting) (kind : Text) (w : World) (c c' : Classes) (v : Option Value) (script : List Move) → Agree c c' → Busy stack
+        → Good (gives find kind w c v stack script) (gives find kind w c' v stack script)
+    good_gives [] kind w c c' v script a b = good_end
+    good_gives (Method f ∷ r) kind w c c' v script a b = good_state w c c' (Method (back find f v) ∷ r) script None a b
+    good_gives (Initialiser t l ∷ r) kind w c c' v script a b = good_end
+    good_gives (Ending t ∷ r) kind w c c' v script a b = good_state w c c' (Ending t ∷ r) script None a b
+    good_gives (Outside owes ∷ r) kind w c c' v script a b =
+        good_state (show_option w kind v).0 c c' (Outside owes ∷ r) script (Some (event.Result (show_option w kind v).1)) a b
+
+    good_lands : (o : Option Frame) (r : List Waiting) (w : World) (c c' : Classes) (script : List Move) (x x' : Next) → Agree c c' → Busy r → Good x x'
+        → Good (lands_or w c r script o x) (lands_or w c' r script o x')
+    good_lands None r w c c' script x x' a b g = g
+    good_lands (Some f) r w c c' script x x' a b g = good_state w c c' (Method f ∷ r) script None a b
+
+    good_unwinds : (stack : List Waiting) (w : World) (c c' : Classes) (v : Value) (script : List Move) → Agree c c' → Busy stack
+        → Good (unwinds s.face find w c v stack script) (unwinds s.face find w c' v stack script)
+    good_unwinds [] w c c' v script a b = good_end
+    good_unwinds (Method f ∷ r) w c c' v script a b = good_lands (lands s.face find w f v) r w c c' script (unwinds s.face find w c v r script) (unwinds s.face find w c' v r script) a b (good_unwinds r w c c' v script a b)
+    good_unwinds (Initialiser t l ∷ r) w c c' v script a b = good_unwinds r w (put_status t Failed c) (put_status t Failed c') v (given_up r script) (put_busy c c' t Failed b.0 a) b.1
+    good_unwinds (Ending t ∷ r) w c c' v script a b =
+        good_unwinds r (wrapped s.face w v).0 (put_status t Failed c) (put_status t Failed c') (wrapped s.face w v).1 (given_up r script) (put_busy c c' t Failed b.0 a) b.1
+    good_unwinds (Outside owes ∷ r) w c c' v script a b =
+        good_state (show w throwable_type v).0 c c' (Outside owes ∷ r) script (Some (event.Uncaught (show w throwable_type v).1)) a b
+
+    -- ---- a class that is being initialised
+
+    good_first : (w : World) (c c' : Classes) (t d : Text) (ds : List Text) (r : List Waiting) (script : List Move) → Agree c c' → calm t ≡ false → Busy r
+        → (b : Bool) → calm d ≡ b → (x : Status) → c d ≡ x → (x' : Status) → c' d ≡ x' → Good (first_needed s find w c t d ds x r script) (first_needed s find w c' t d ds x' r script)
+    good_first w c c' t d ds r script a e b true f New g x' g' =
+        let p = passed d f w c c' (Initialiser t (d ∷ ds) ∷ r) script a in
+        let m : left_of p.classes (d ∷ ds) ≡ left_of p.classes ds = ap (λ y. left_at y (d ∷ ds) (left_of p.classes ds)) p.done in
+        let q = subst (λ l. Silent (starts s.face find w c d (Initialiser t (d ∷ ds) ∷ r) script) (goes_on s.face find w p.classes t l r script)) m p.silent in
+        subst (λ y. Good (quiet (starts s.face find w c d (Initialiser t (d ∷ ds) ∷ r) script)) (first_needed s find w c' t d ds y r script)) (sym (a.done d f) ∙ g')
+        (good_behind (quiet (goes_on s.face find w p.classes t (left_of p.classes ds) r script)) (quiet (goes_on s.face find w c' t (left_of c' ds) r script))
+        (quiet (starts s.face find w c d (Initialiser t (d ∷ ds) ∷ r) script)) refl q (good_goes_on ds w p.classes c' t r script p.agree e b))
+    good_first w c c' t d ds r script a e b true f Running g x' g' =
+        subst (λ y. Good (quiet (goes_on s.face find w c t (left_of c ds) r script)) (first_needed s find w c' t d ds y r script)) (sym (a.done d f) ∙ g') (good_goes_on ds w c c' t r script a e b)
+    good_first w c c' t d ds r script a e b true f Done g x' g' =
+        subst (λ y. Good (quiet (goes_on s.face find w c t (left_of c ds) r script)) (first_needed s find w c' t d ds y r script)) (sym (a.done d f) ∙ g') (good_goes_on ds w c c' t r script a e b)
+    good_first w c c' t d ds r script a e b true f Failed g x' g' = absurd (subst IsSound g (a.sound d f))
+    good_first w c c' t d ds r script a e b false f New g x' g' =
+        subst (λ y. Good (quiet (starts s.face find w c d (Initialiser t (d ∷ ds) ∷ r) script)) (first_needed s find w c' t d ds y r script)) (sym g ∙ a.busy d f ∙ g')
+        (good_starts w c c' d (Initialiser t (d ∷ ds) ∷ r) script a f (e, b))
+    good_first w c c' t d ds r script a e b false f Running g x' g' =
+        subst (λ y. Good (quiet (goes_on s.face find w c t (left_of c ds) r script)) (first_needed s find w c' t d ds y r script)) (sym g ∙ a.busy d f ∙ g') (good_goes_on ds w c c' t r script a e b)
+    good_first w c c' t d ds r script a e b false f Done g x' g' =
+        subst (λ y. Good (quiet (goes_on s.face find w c t (left_of c ds) r script)) (first_needed s find w c' t d ds y r script)) (sym g ∙ a.busy d f ∙ g') (good_goes_on ds w c c' t r script a e b)
+    good_first w c c' t d ds r script a e b false f Failed g x' g' =
+        subst (λ y. Good (first_needed s find w c t d ds Failed r script) (first_needed s find w c' t d ds y r script)) (sym g ∙ a.busy d f ∙ g')
+        (good_unwinds (Initialiser t (d ∷ ds) ∷ r) (with_thing w (fresh no_class)) c c' (next_object w) script a (e, b))
+
+    good_initialises : (l : List Text) (w : World) (c c' : Classes) (t : Text) (r : List Waiting) (script : List Move) → Agree c c' → calm t ≡ false → Busy r
+        → Good (initialises s find w c t l r script) (initialises s find w c' t l r script)
+    good_initialises [] w c c' t r script a e b = good_list [] w c c' t r script a e b
+    good_initialises (d ∷ ds) w c c' t r script a e b = good_first w c c' t d ds r script a e b (calm d) refl (c d) refl (c' d) refl

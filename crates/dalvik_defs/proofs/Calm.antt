@@ -9,12 +9,13 @@ use Rattle.insn_set.specs.declared.ops.InvokeKind.{InvokeKind}
 use Rattle.insn_set.specs.declared.ops.InvokeKind.TheVariants as call
 use Rattle.dalvik_defs.specs.Names.{Text, text_eq, method_eq, object_constructor}
 use Rattle.dalvik_defs.specs.Flags.{is_static, is_native}
-use Rattle.dalvik_defs.specs.Known.{no_class, null_pointer, class_change}
+use Rattle.dalvik_defs.specs.Known.{no_class, null_pointer, class_change, abstract_method}
 use Rattle.dalvik_defs.specs.Find.{Found, Search, Nothing, Clash, Finds}
 use Rattle.dalvik_defs.specs.Face.{Bodies, Place, is_defined}
 use Rattle.dalvik_defs.specs.State.{World, Classes, Status, New, Running, Done, Failed, Value, Word, Frame, Thing, Instance, Items, Waiting, Method, Initialiser, Ending, Outside, State, On, Ended, Next, quiet, with_thing, next_object, fresh, put_status, thing_at, is_null, kind_of}
-use Rattle.dalvik_defs.specs.Effect.{Effect, Goes, Faults, Throws, Gives, Calls, Makes, Reads, Writes, Locks, Unlocks, Stuck}
-use Rattle.dalvik_defs.specs.Outcome.{Outcome, Stays, Starts, Enters, Leaves, Ends, Raises, Halts, Need, Ready, Fresh, Broken, need_at, need_if, need_of, faults, when_ready, calls_out, native_kind, takes_no_receiver, calls_uncoded, calls_found, calls_ready, calls_unfound, calls_by, receiver, on_receiver, calls, makes, reads_value, reads_static, reads_instance, reads_out, writes_static, writes_instance, written, writes_out, outcome}
+use Rattle.dalvik_defs.specs.Effect.{Effect, Goes, Faults, Throws, Gives, Calls, Makes, Reads, Writes, Locks, Unlocks, Stuck, write, next}
+use Rattle.dalvik_defs.specs.Fields.{key_at, static_value, instance_value, with_static, with_instance}
+use Rattle.dalvik_defs.specs.Outcome.{Outcome, Stays, Starts, Enters, Leaves, Ends, Raises, Halts, Need, Ready, Fresh, Broken, need_at, need_if, need_of, faults, when_ready, calls_out, native_kind, takes_no_receiver, calls_uncoded, calls_found, calls_ready, calls_unfound, calls_by, receiver, on_receiver, calls, makes, reads_value, reads_static, reads_instance, reads_out, writes_static, writes_instance, written, writes_out, locks, unlocks, outcome}
 use Rattle.dalvik_defs.specs.Stack.{entry_frame, enters_body, enters, gives, lands, wrapped, given_up, back, lands_or, unwinds, left_at, left_of, runs, goes_on, starts, resumes, ends}
 use Rattle.dalvik_defs.specs.Happens.{Setting, effect_of, outcome_at, happens, first_needed, initialises}
 use Rattle.dalvik_defs.specs.Show.{show, show_option}
@@ -22,6 +23,7 @@ use Rattle.dalvik_defs.specs.Names.{throwable_type}
 use Rattle.dalvik_defs.specs.declared.events.Event.TheVariants as event
 use Rattle.dalvik_defs.specs.Step.{step, events_of, after, shows_from}
 use Rattle.dalvik_defs.specs.declared.names.MethodKey.{MethodKey}
+use Rattle.dalvik_defs.specs.declared.names.FieldKey.{FieldKey}
 use Rattle.dalvik_defs.specs.declared.program.NamedBody.{NamedBody}
 use Rattle.dalvik_defs.specs.declared.script.Move.{Move}
 use Rattle.dalvik_defs.specs.declared.events.Event.{Event}
@@ -350,3 +352,153 @@ module _ (s : Setting) (find : Bodies) (calm : Text → Bool) where
         → Good (initialises s find w c t l r script) (initialises s find w c' t l r script)
     good_initialises [] w c c' t r script a e b = good_list [] w c c' t r script a e b
     good_initialises (d ∷ ds) w c c' t r script a e b = good_first w c c' t d ds r script a e b (calm d) refl (c d) refl (c' d) refl
+
+    -- ---- what comes of a form, with the calm classes as they are and with them done
+
+    abbrev Calmly : Outcome → Type 0
+    Calmly (Starts t) = calm t ≡ false
+    Calmly o = Unit {0}
+
+    data AlikeBy (g : (Text → Need) → Outcome) (c c' : Classes) : Type 0 where
+      -- the same comes
+      Same : g (need_of s.face c) ≡ g (need_of s.face c') → Calmly (g (need_of s.face c')) → AlikeBy g c c'
+      -- a calm class comes first, and then the same
+      Wait : (t : Text) → calm t ≡ true → g (need_of s.face c) ≡ Starts t → ((x : Classes) → x t ≡ Done → g (need_of s.face x) ≡ g (need_of s.face c')) → Calmly (g (need_of s.face c')) → AlikeBy g c c'
+
+    need_known : (x : Classes) (t : Text) (b : Bool) (y : Status) → is_defined s.face t ≡ b → x t ≡ y → need_of s.face x t ≡ need_if b y
+    need_known x t b y e f = ap (λ z. need_if z (x t)) e ∙ ap (need_if b) f
+
+    calm_ready : (n : Need) (w : World) (t : Text) (o : Outcome) → calm t ≡ false → Calmly o → Calmly (when_ready n w t o)
+    calm_ready Ready w t o e h = h
+    calm_ready Fresh w t o e h = e
+    calm_ready Broken w t o e h = tt
+
+    alike_at : (w : World) (t : Text) (o : Outcome) (c c' : Classes) → Calmly o → Agree c c' → (b : Bool) → is_defined s.face t ≡ b → (k : Bool) → calm t ≡ k → (y : Status) → c t ≡ y
+        → AlikeBy (λ n. when_ready (n t) w t o) c c'
+    alike_at w t o c c' h a false e k f y g =
+        let r = need_known c' t false (c' t) e refl in
+        Same (ap (λ n. when_ready n w t o) (need_known c t false y e g) ∙ sym (ap (λ n. when_ready n w t o) r)) (subst (λ n. Calmly (when_ready n w t o)) (sym r) h)
+    alike_at w t o c c' h a true e true f New g =
+        let r = need_known c' t true Done e (a.done t f) in
+        Wait t f (ap (λ n. when_ready n w t o) (need_known c t true New e g))
+        (λ x d. ap (λ n. when_ready n w t o) (need_known x t true Done e d) ∙ sym (ap (λ n. when_ready n w t o) r)) (subst (λ n. Calmly (when_ready n w t o)) (sym r) h)
+    alike_at w t o c c' h a true e true f Running g =
+        let r = need_known c' t true Done e (a.done t f) in
+        Same (ap (λ n. when_ready n w t o) (need_known c t true Running e g) ∙ sym (ap (λ n. when_ready n w t o) r)) (subst (λ n. Calmly (when_ready n w t o)) (sym r) h)
+    alike_at w t o c c' h a true e true f Done g =
+        let r = need_known c' t true Done e (a.done t f) in
+        Same (ap (λ n. when_ready n w t o) (need_known c t true Done e g) ∙ sym (ap (λ n. when_ready n w t o) r)) (subst (λ n. Calmly (when_ready n w t o)) (sym r) h)
+    alike_at w t o c c' h a true e true f Failed g = absurd (subst IsSound g (a.sound t f))
+    alike_at w t o c c' h a true e false f y g =
+        Same (ap (λ z. when_ready (need_if (is_defined s.face t) z) w t o) (a.busy t f)) (calm_ready (need_of s.face c' t) w t o f h)
+
+    alike_ready : (w : World) (t : Text) (o : Outcome) (c c' : Classes) → Calmly o → Agree c c' → AlikeBy (λ n. when_ready (n t) w t o) c c'
+    alike_ready w t o c c' h a = alike_at w t o c c' h a (is_defined s.face t) refl (calm t) refl (c t) refl
+
+    alike_same : (o : Outcome) (c c' : Classes) → Calmly o → AlikeBy (λ n. o) c c'
+    alike_same o c c' h = Same refl h
+
+    alike_bool : (b : Bool) (g h : (Text → Need) → Outcome) (c c' : Classes) → AlikeBy g c c' → AlikeBy h c c' → AlikeBy (λ n. elim b as (λ b. Outcome) [ true ↦ g n | false ↦ h n ]) c c'
+    alike_bool true g h c c' x y = x
+    alike_bool false g h c c' x y = y
+
+    calm_bool : (b : Bool) (o o' : Outcome) → Calmly o → Calmly o' → Calmly (elim b as (λ b. Outcome) [ true ↦ o | false ↦ o' ])
+    calm_bool true o o' h k = h
+    calm_bool false o o' h k = k
+
+    calm_found : (kind : InvokeKind) (g : Found) (vs : List Value) (w : World) → Calmly (calls_found kind g vs w)
+    calm_found kind g vs w = calm_bool g.coded (Enters g.key vs) (calls_uncoded kind g vs w) tt
+        (calm_bool (is_native g.flags) (calls_out (native_kind kind) (takes_no_receiver kind) g.key vs w) (faults w abstract_method) tt tt)
+
+    alike_by : (kind : InvokeKind) (k : MethodKey) (vs : List Value) (w : World) (f : Frame) (x : Search) (c c' : Classes) → Agree c c' → AlikeBy (λ n. calls_by n kind k vs w f x) c c'
+    alike_by kind k vs w f Nothing c c' a = alike_same (calls_unfound kind k vs w f) c c'
+        (calm_bool (method_eq k object_constructor) (Stays w (next f) None) (calls_out kind (takes_no_receiver kind) k vs w) tt tt)
+    alike_by kind k vs w f Clash c c' a = alike_same (faults w class_change) c c' tt
+    alike_by kind k vs w f (Finds g) c c' a = alike_bool (is_static g.flags) (λ n. when_ready (n g.key.class) w g.key.class (calls_found kind g vs w)) (λ n. calls_found kind g vs w) c c'
+        (alike_ready w g.key.class (calls_found kind g vs w) c c' (calm_found kind g vs w) a) (alike_same (calls_found kind g vs w) c c' (calm_found kind g vs w))
+
+    alike_on : (vs : List Value) (w : World) (g : (Text → Need) → Outcome) (c c' : Classes) → AlikeBy g c c' → AlikeBy (λ n. on_receiver vs w (g n)) c c'
+    alike_on vs w g c c' x = alike_bool (is_null (receiver vs)) (λ n. faults w null_pointer) g c c' (alike_same (faults w null_pointer) c c' tt) x
+
+    alike_calls : (kind : InvokeKind) (k : MethodKey) (vs : List Value) (w : World) (f : Frame) (c c' : Classes) → Agree c c' → AlikeBy (λ n. calls s.face n kind k vs w f) c c'
+    alike_calls call.Static k vs w f c c' a = alike_by call.Static k vs w f (s.face.statically k) c c' a
+    alike_calls call.Direct k vs w f c c' a = alike_on vs w (λ n. calls_by n call.Direct k vs w f (s.face.statically k)) c c' (alike_by call.Direct k vs w f (s.face.statically k) c c' a)
+    alike_calls call.Super k vs w f c c' a = alike_on vs w (λ n. calls_by n call.Super k vs w f (s.face.above f.method.class k)) c c' (alike_by call.Super k vs w f (s.face.above f.method.class k) c c' a)
+    alike_calls call.Virtual k vs w f c c' a = alike_on vs w (λ n. calls_by n call.Virtual k vs w f (s.face.virtually (kind_of w (receiver vs)) k)) c c'
+        (alike_by call.Virtual k vs w f (s.face.virtually (kind_of w (receiver vs)) k) c c' a)
+    alike_calls call.Interface k vs w f c c' a = alike_on vs w (λ n. calls_by n call.Interface k vs w f (s.face.virtually (kind_of w (receiver vs)) k)) c c'
+        (alike_by call.Interface k vs w f (s.face.virtually (kind_of w (receiver vs)) k) c c' a)
+
+    alike_makes : (to : ℕ) (t : Text) (w : World) (f : Frame) (c c' : Classes) → Agree c c' → AlikeBy (λ n. makes s.face n to t w f) c c'
+    alike_makes to t w f c c' a =
+        let made = with_thing w (fresh t) in let g = next (write f to (next_object w)) in let z = show made t (next_object w) in
+        alike_bool (is_defined s.face t) (λ n. when_ready (n t) w t (Stays made g None)) (λ n. Stays z.0 g (Some (event.Make z.1))) c c'
+        (alike_ready w t (Stays made g None) c c' tt a) (alike_same (Stays z.0 g (Some (event.Make z.1))) c c' tt)
+
+    calm_value : (item : Item) (to : ℕ) (o : Option Value) (w : World) (f : Frame) → Calmly (reads_value item to o w f)
+    calm_value item to None w f = tt
+    calm_value item to (Some v) w f = tt
+
+    calm_written : (o : Option World) (f : Frame) → Calmly (written o f)
+    calm_written None f = tt
+    calm_written (Some w) f = tt
+
+    alike_static : (item : Item) (to : ℕ) (k : FieldKey) (w : World) (f : Frame) (o : Option Place) (c c' : Classes) → Agree c c' → AlikeBy (λ n. reads_static n item to k w f o) c c'
+    alike_static item to k w f None c c' a = alike_same (reads_out k None w) c c' tt
+    alike_static item to k w f (Some place) c c' a = alike_ready w place.class (reads_value item to (Some (static_value w k place)) w f) c c' tt a
+
+    alike_instance : (item : Item) (to : ℕ) (k : FieldKey) (on : Value) (w : World) (f : Frame) (o : Option Place) (c c' : Classes) → AlikeBy (λ n. reads_instance item to k on w f o) c c'
+    alike_instance item to k on w f None c c' = alike_same (reads_out k (Some on) w) c c' tt
+    alike_instance item to k on w f (Some place) c c' =
+        alike_same (reads_value item to (instance_value k place (thing_at w on)) w f) c c' (calm_value item to (instance_value k place (thing_at w on)) w f)
+
+    alike_put_static : (k : FieldKey) (v : Value) (w : World) (f : Frame) (o : Option Place) (c c' : Classes) → Agree c c' → AlikeBy (λ n. writes_static n k v w f o) c c'
+    alike_put_static k v w f None c c' a = alike_same (writes_out k None v w f) c c' tt
+    alike_put_static k v w f (Some place) c c' a = alike_ready w place.class (Stays (with_static w (key_at k place) v) (next f) None) c c' tt a
+
+    alike_put : (k : FieldKey) (on v : Value) (w : World) (f : Frame) (o : Option Place) (c c' : Classes) → AlikeBy (λ n. writes_instance k on v w f o) c c'
+    alike_put k on v w f None c c' = alike_same (writes_out k (Some on) v w f) c c' tt
+    alike_put k on v w f (Some place) c c' =
+        alike_same (written (with_instance w (key_at k place) on v (thing_at w on)) f) c c' (calm_written (with_instance w (key_at k place) on v (thing_at w on)) f)
+
+    alike : (e : Effect) (w : World) (f : Frame) (c c' : Classes) → Agree c c' → AlikeBy (λ n. outcome s.face n e w f) c c'
+    alike (Goes w1 f1) w f c c' a = alike_same (Stays w1 f1 None) c c' tt
+    alike (Faults t) w f c c' a = alike_same (faults w t) c c' tt
+    alike (Throws v) w f c c' a = alike_same (Raises w v) c c' tt
+    alike (Gives v) w f c c' a = alike_same (Ends v) c c' tt
+    alike (Calls kind k vs) w f c c' a = alike_calls kind k vs w f c c' a
+    alike (Makes to t) w f c c' a = alike_makes to t w f c c' a
+    alike (Reads item to k None) w f c c' a = alike_static item to k w f (s.face.field k) c c' a
+    alike (Reads item to k (Some on)) w f c c' a = alike_instance item to k on w f (s.face.field k) c c'
+    alike (Writes k None v) w f c c' a = alike_put_static k v w f (s.face.field k) c c' a
+    alike (Writes k (Some on) v) w f c c' a = alike_put k on v w f (s.face.field k) c c'
+    alike (Locks v) w f c c' a = alike_same (locks w v f) c c' tt
+    alike (Unlocks v) w f c c' a = alike_same (unlocks w v f) c c' tt
+    alike Stuck w f c c' a = alike_same Halts c c' tt
+
+    good_happens : (o : Outcome) → Calmly o → (w : World) (c c' : Classes) (f : Frame) (r : List Waiting) (script : List Move) → Agree c c' → Busy r
+        → Good (happens s find o w c f r script) (happens s find o w c' f r script)
+    good_happens (Stays w1 f1 e) h w c c' f r script a b = good_state w1 c c' (Method f1 ∷ r) script e a b
+    good_happens (Starts t) h w c c' f r script a b = good_starts w c c' t (Method f ∷ r) script a h b
+    good_happens (Enters k vs) h w c c' f r script a b = good_body (find k) w c c' k vs (Method f ∷ r) script a b
+    good_happens (Leaves w1 owes e) h w c c' f r script a b = good_state w1 c c' (Outside (Some owes) ∷ Method f ∷ r) script (Some e) a b
+    good_happens (Ends v) h w c c' f r script a b = good_gives r f.method.signature.result w c c' v script a b
+    good_happens (Raises w1 v) h w c c' f r script a b = good_unwinds (Method f ∷ r) w1 c c' v script a b
+    good_happens Halts h w c c' f r script a b = good_end
+
+    -- ---- a step
+
+    data Prepared (t u : State) : Type 0 where
+      Now : Good (step s find t) (step s find u) → Prepared t u
+      -- after some steps in silence
+      Later : (t0 t1 : State) → step s find t ≡ quiet t0 → Silent t0 t1 → Good (step s find t1) (step s find u) → Core t1 u → Prepared t u
+
+    prepared_frame : (w : World) (c c' : Classes) (f : Frame) (r : List Waiting) (script : List Move) → Agree c c' → Busy r
+        → AlikeBy (λ n. outcome_at s find n w f) c c' → Prepared (On w c (Method f ∷ r) script) (On w c' (Method f ∷ r) script)
+    prepared_frame w c c' f r script a b (Same e h) = Now (subst (λ o. Good (happens s find o w c f r script) (step s find (On w c' (Method f ∷ r) script))) (sym e)
+        (good_happens (outcome_at s find (need_of s.face c') w f) h w c c' f r script a b))
+    prepared_frame w c c' f r script a b (Wait t k e later h) =
+        let p = passed t k w c c' (Method f ∷ r) script a in
+        Later (starts s.face find w c t (Method f ∷ r) script) (On w p.classes (Method f ∷ r) script) (ap (λ o. happens s find o w c f r script) e) p.silent
+        (subst (λ o. Good (happens s find o w p.classes f r script) (step s find (On w c' (Method f ∷ r) script))) (sym (later p.classes p.done))
+        (good_happens (outcome_at s find (need_of s.face c') w f) h w p.classes c' f r script p.agree b)) (c', (refl, (p.agree, b)))

@@ -12,22 +12,28 @@ use Rattle.dalvik_defs.specs.Flags.{is_static, is_native}
 use Rattle.dalvik_defs.specs.Known.{no_class, null_pointer, class_change, abstract_method}
 use Rattle.dalvik_defs.specs.Find.{Found, Search, Nothing, Clash, Finds}
 use Rattle.dalvik_defs.specs.Face.{Bodies, Place, is_defined}
-use Rattle.dalvik_defs.specs.State.{World, Classes, Status, New, Running, Done, Failed, Value, Word, Frame, Thing, Instance, Items, Waiting, Method, Initialiser, Ending, Outside, State, On, Ended, Next, quiet, with_thing, next_object, fresh, put_status, thing_at, is_null, kind_of}
+use Rattle.dalvik_defs.specs.State.{World, Classes, Status, New, Running, Done, Failed, Value, Word, Frame, Thing, Instance, Items, Waiting, Method, Initialiser, Ending, Outside, State, On, Ended, Next, quiet, with_thing, next_object, fresh, put_status, thing_at, is_null, kind_of, opening_world, opening}
 use Rattle.dalvik_defs.specs.Effect.{Effect, Goes, Faults, Throws, Gives, Calls, Makes, Reads, Writes, Locks, Unlocks, Stuck, write, next}
 use Rattle.dalvik_defs.specs.Fields.{key_at, static_value, instance_value, with_static, with_instance}
 use Rattle.dalvik_defs.specs.Outcome.{Outcome, Stays, Starts, Enters, Leaves, Ends, Raises, Halts, Need, Ready, Fresh, Broken, need_at, need_if, need_of, faults, when_ready, calls_out, native_kind, takes_no_receiver, calls_uncoded, calls_found, calls_ready, calls_unfound, calls_by, receiver, on_receiver, calls, makes, reads_value, reads_static, reads_instance, reads_out, writes_static, writes_instance, written, writes_out, locks, unlocks, outcome}
-use Rattle.dalvik_defs.specs.Stack.{entry_frame, enters_body, enters, gives, lands, wrapped, given_up, back, lands_or, unwinds, left_at, left_of, runs, goes_on, starts, resumes, ends}
+use Rattle.dalvik_defs.specs.Stack.{form_at, entry_frame, enters_body, enters, gives, lands, wrapped, given_up, back, lands_or, unwinds, left_at, left_of, runs, goes_on, starts, resumes, ends}
 use Rattle.dalvik_defs.specs.Happens.{Setting, effect_of, outcome_at, happens, first_needed, initialises}
 use Rattle.dalvik_defs.specs.Show.{show, show_option}
 use Rattle.dalvik_defs.specs.Names.{throwable_type}
 use Rattle.dalvik_defs.specs.declared.events.Event.TheVariants as event
+use Rattle.dalvik_defs.specs.Items.{stored, item_of_type}
+use Rattle.dalvik_defs.specs.Gives.{gets, gets_all, spread, fits, may_throw}
+use Rattle.dalvik_defs.specs.Legal.{may_enter, may_make, may_answer, on_fits, is_exposed}
+use Rattle.dalvik_defs.specs.Moves.{needs, entered, enter, made, make, got, answers, throws, shows_value, goes, field_value, with_field, reads, writes, reads_item, array_get, with_item, writes_item, array_put, measures_thing, array_length, key_of, moves}
+use Rattle.dalvik_defs.specs.declared.script.Given.{Given}
+use Rattle.dalvik_defs.specs.declared.script.Move.TheVariants as move
 use Rattle.dalvik_defs.specs.Step.{step, events_of, after, shows_from}
 use Rattle.dalvik_defs.specs.declared.names.MethodKey.{MethodKey}
 use Rattle.dalvik_defs.specs.declared.names.FieldKey.{FieldKey}
 use Rattle.dalvik_defs.specs.declared.program.NamedBody.{NamedBody}
 use Rattle.dalvik_defs.specs.declared.script.Move.{Move}
 use Rattle.dalvik_defs.specs.declared.events.Event.{Event}
-use Rattle.dalvik_defs.proofs.Simulation.{joined, after_joined, shows_joined}
+use Rattle.dalvik_defs.proofs.Simulation.{joined, after_joined, shows_joined, Follows, Shows, follows_shows}
 
 -- ---- texts and lists
 
@@ -65,6 +71,17 @@ put_cases P t x c u h k = at (text_eq u t) (λ e. sym (text_sound u t e)) where
   at : (b : Bool) → (b ≡ true → t ≡ u) → P u (elim b as (λ b. Status) [ true ↦ x | false ↦ c u ])
   at true e = subst (λ v. P v x) (e refl) h
   at false e = k
+
+-- the opening state in which the calm classes are done
+abbrev pub status_if : Bool → Status
+status_if true = Done
+status_if false = New
+
+abbrev pub calm_classes : (Text → Bool) → Classes
+calm_classes calm t = status_if (calm t)
+
+abbrev pub calm_opening : (Text → Bool) → List Move → State
+calm_opening calm script = On opening_world (calm_classes calm) (Outside None ∷ []) script
 
 module _ (s : Setting) (find : Bodies) (calm : Text → Bool) where
   -- a chain of classes that come first ends
@@ -502,3 +519,221 @@ module _ (s : Setting) (find : Bodies) (calm : Text → Bool) where
         Later (starts s.face find w c t (Method f ∷ r) script) (On w p.classes (Method f ∷ r) script) (ap (λ o. happens s find o w c f r script) e) p.silent
         (subst (λ o. Good (happens s find o w p.classes f r script) (step s find (On w c' (Method f ∷ r) script))) (sym (later p.classes p.done))
         (good_happens (outcome_at s find (need_of s.face c') w f) h w p.classes c' f r script p.agree b)) (c', (refl, (p.agree, b)))
+
+    -- ---- moves
+
+    good_bool : (b : Bool) (x y x' y' : Next) → Good x x' → Good y y' → Good (elim b [ true ↦ x | false ↦ y ]) (elim b [ true ↦ x' | false ↦ y' ])
+    good_bool true x y x' y' g h = g
+    good_bool false x y x' y' g h = h
+
+    good_if : (b : Bool) (x x' : Next) → Good x x' → Good (elim b [ true ↦ x | false ↦ quiet Ended ]) (elim b [ true ↦ x' | false ↦ quiet Ended ])
+    good_if b x x' g = good_bool b x (quiet Ended) x' (quiet Ended) g good_end
+
+    -- the framework's frame is on top, and `script` begins with the move
+    module _ (w : World) (owes : Option Text) (below : List Waiting) (script : List Move) (busy : Busy below) where
+      data PreparedMove (m : Classes → Next) (c c' : Classes) : Type 0 where
+        Once : Good (m c) (m c') → PreparedMove m c c'
+        Behind : (t : Text) → calm t ≡ true → m c ≡ quiet (starts s.face find w c t (Outside owes ∷ below) script)
+            → ((x : Classes) → x t ≡ Done → Agree x c' → Good (m x) (m c')) → PreparedMove m c c'
+
+      move_bool : (b : Bool) (m m' : Classes → Next) (c c' : Classes) → PreparedMove m c c' → PreparedMove m' c c' → PreparedMove (λ x. elim b as (λ b. Next) [ true ↦ m x | false ↦ m' x ]) c c'
+      move_bool true m m' c c' p q = p
+      move_bool false m m' c c' p q = q
+
+      move_end : (c c' : Classes) → PreparedMove (λ x. quiet Ended) c c'
+      move_end c c' = Once good_end
+
+      -- the move needs a class
+      module _ (t : Text) (rest : List Move) (m : Classes → Next) (c c' : Classes) (agree : Agree c c') (h : (x : Classes) → Agree x c' → Good (m x) (m c')) where
+        abbrev needing : Need → Classes → Next
+        needing n x = needs s find n w x t (Outside owes ∷ below) script rest (m x)
+
+        good_needing : (n : Need) → calm t ≡ false → Good (needing n c) (needing n c')
+        good_needing Ready f = h c agree
+        good_needing Fresh f = good_starts w c c' t (Outside owes ∷ below) script agree f busy
+        good_needing Broken f = good_unwinds (Outside owes ∷ below) (with_thing w (fresh no_class)) c c' (next_object w) rest agree busy
+
+        both_ready : need_of s.face c t ≡ Ready → need_of s.face c' t ≡ Ready → PreparedMove (λ x. needing (need_of s.face x t) x) c c'
+        both_ready e e' = Once (subst (λ n. Good (needing n c) (needing (need_of s.face c' t) c')) (sym e) (subst (λ n. Good (m c) (needing n c')) (sym e') (h c agree)))
+
+        move_at : (b : Bool) → is_defined s.face t ≡ b → (k : Bool) → calm t ≡ k → (y : Status) → c t ≡ y → PreparedMove (λ x. needing (need_of s.face x t) x) c c'
+        move_at false e k f y g = both_ready (need_known c t false y e g) (need_known c' t false (c' t) e refl)
+        move_at true e true f New g =
+            let r = need_known c' t true Done e (agree.done t f) in
+            Behind t f (ap (λ n. needing n c) (need_known c t true New e g))
+            (λ x d a. subst (λ n. Good (needing n x) (needing (need_of s.face c' t) c')) (sym (need_known x t true Done e d)) (subst (λ n. Good (m x) (needing n c')) (sym r) (h x a)))
+        move_at true e true f Running g = both_ready (need_known c t true Running e g) (need_known c' t true Done e (agree.done t f))
+        move_at true e true f Done g = both_ready (need_known c t true Done e g) (need_known c' t true Done e (agree.done t f))
+        move_at true e true f Failed g = absurd (subst IsSound g (agree.sound t f))
+        move_at true e false f y g = Once (subst (λ n. Good (needing (need_of s.face c t) c) (needing n c')) (ap (λ z. need_if (is_defined s.face t) z) (agree.busy t f)) (good_needing (need_of s.face c t) f))
+
+        move_needs : PreparedMove (λ x. needing (need_of s.face x t) x) c c'
+        move_needs = move_at (is_defined s.face t) refl (calm t) refl (c t) refl
+
+      good_here : (w' : World) (c c' : Classes) (rest : List Move) (e : Option Event) → Agree c c' → Good (On w' c (Outside owes ∷ below) rest, e) (On w' c' (Outside owes ∷ below) rest, e)
+      good_here w' c c' rest e a = good_state w' c c' (Outside owes ∷ below) rest e a busy
+
+      move_entered : (f : Found) (vs : List Value) (rest : List Move) (w' : World) (c c' : Classes) → Agree c c' → PreparedMove (λ x. entered s find w x f vs (Outside owes ∷ below) script rest w') c c'
+      move_entered f vs rest w' c c' a =
+          let m : Classes → Next = (λ x. quiet (enters find w' x f.key (spread vs) (Outside owes ∷ below) rest)) in
+          let h : (x : Classes) → Agree x c' → Good (m x) (m c') = (λ x d. good_body (find f.key) w' x c' f.key (spread vs) (Outside owes ∷ below) rest d busy) in
+          move_bool (is_static f.flags) (λ x. needs s find (need_of s.face x f.key.class) w x f.key.class (Outside owes ∷ below) script rest (m x)) m c c'
+          (move_needs f.key.class rest m c c' a h) (Once (h c a))
+
+      move_enter : (o : Option Found) (gs : List Given) (rest : List Move) (c c' : Classes) → Agree c c' → PreparedMove (λ x. enter s find w x o gs (Outside owes ∷ below) script rest) c c'
+      move_enter None gs rest c c' a = move_end c c'
+      move_enter (Some f) gs rest c c' a = move_bool (may_enter s.face s.outer w (gets_all w gs).0 f gs (gets_all w gs).1)
+          (λ x. entered s find w x f (gets_all w gs).1 (Outside owes ∷ below) script rest (gets_all w gs).0) (λ x. quiet Ended) c c'
+          (move_entered f (gets_all w gs).1 rest (gets_all w gs).0 c c' a) (move_end c c')
+
+      move_make : (t : Text) (rest : List Move) (c c' : Classes) → Agree c c' → PreparedMove (λ x. make s find w x t (Outside owes ∷ below) script rest) c c'
+      move_make t rest c c' a =
+          let z = show (with_thing w (fresh t)) t (next_object w) in
+          let m : Classes → Next = (λ x. made w x t (Outside owes ∷ below) rest) in
+          move_bool (may_make s.face s.outer t) (λ x. needs s find (need_of s.face x t) w x t (Outside owes ∷ below) script rest (m x)) (λ x. quiet Ended) c c'
+          (move_needs t rest m c c' a (λ x d. good_here z.0 x c' rest (Some (event.Make z.1)) d)) (move_end c c')
+
+      good_answers : (o : Option Text) (g : Option Given) (rest : List Move) (c c' : Classes) → Agree c c' → Good (answers s find w c o g below rest) (answers s find w c' o g below rest)
+      good_answers None g rest c c' a = good_end
+      good_answers (Some kind) g rest c c' a = good_if (may_answer s.face s.outer w kind g)
+          (gives find kind (got w g).0 c (got w g).1 below rest) (gives find kind (got w g).0 c' (got w g).1 below rest)
+          (good_gives below kind (got w g).0 c c' (got w g).1 rest a busy)
+
+      good_throws : (o : Option Text) (g : Given) (rest : List Move) (c c' : Classes) → Agree c c' → Good (throws s find w c o g below rest) (throws s find w c' o g below rest)
+      good_throws None g rest c c' a = good_end
+      good_throws (Some kind) g rest c c' a = good_if (may_throw s.face s.outer w (gets w g).0 g (gets w g).1)
+          (unwinds s.face find (gets w g).0 c (gets w g).1 below rest) (unwinds s.face find (gets w g).0 c' (gets w g).1 below rest)
+          (good_unwinds below (gets w g).0 c c' (gets w g).1 rest a busy)
+
+      good_shows_value : (o : Option Value) (w' : World) (kind : Text) (rest : List Move) (c c' : Classes) → Agree c c'
+          → Good (shows_value w' c kind o (Outside owes ∷ below) rest) (shows_value w' c' kind o (Outside owes ∷ below) rest)
+      good_shows_value None w' kind rest c c' a = good_end
+      good_shows_value (Some v) w' kind rest c c' a = good_here (show w' kind v).0 c c' rest (Some (event.Answer (show w' kind v).1)) a
+
+      good_goes : (o : Option World) (rest : List Move) (c c' : Classes) → Agree c c' → Good (goes o c (Outside owes ∷ below) rest) (goes o c' (Outside owes ∷ below) rest)
+      good_goes None rest c c' a = good_end
+      good_goes (Some w') rest c c' a = good_here w' c c' rest None a
+
+      good_reads : (k : FieldKey) (o : Option Place) (on : Option Given) (rest : List Move) (c c' : Classes) → Agree c c'
+          → Good (reads s w c k o on (Outside owes ∷ below) rest) (reads s w c' k o on (Outside owes ∷ below) rest)
+      good_reads k None on rest c c' a = good_end
+      good_reads k (Some place) on rest c c' a = let z = got w on in good_if (s.outer.fields k && on_fits s.face s.outer w z.0 k place on z.1)
+          (shows_value z.0 c k.kind (field_value z.0 k place z.1) (Outside owes ∷ below) rest) (shows_value z.0 c' k.kind (field_value z.0 k place z.1) (Outside owes ∷ below) rest)
+          (good_shows_value (field_value z.0 k place z.1) z.0 k.kind rest c c' a)
+
+      good_writes : (k : FieldKey) (o : Option Place) (on : Option Given) (g : Given) (rest : List Move) (c c' : Classes) → Agree c c'
+          → Good (writes s w c k o on g (Outside owes ∷ below) rest) (writes s w c' k o on g (Outside owes ∷ below) rest)
+      good_writes k None on g rest c c' a = good_end
+      good_writes k (Some place) on g rest c c' a =
+          let z = got w on in let b = gets z.0 g in
+          good_if (s.outer.fields k && on_fits s.face s.outer w z.0 k place on z.1 && fits s.face s.outer z.0 b.0 g b.1 k.kind)
+          (goes (with_field b.0 k z.1 (stored (item_of_type k.kind) b.1)) c (Outside owes ∷ below) rest)
+          (goes (with_field b.0 k z.1 (stored (item_of_type k.kind) b.1)) c' (Outside owes ∷ below) rest)
+          (good_goes (with_field b.0 k z.1 (stored (item_of_type k.kind) b.1)) rest c c' a)
+
+      good_reads_item : (o : Option Thing) (n : ℕ) (rest : List Move) (c c' : Classes) → Agree c c'
+          → Good (reads_item w c o n (Outside owes ∷ below) rest) (reads_item w c' o n (Outside owes ∷ below) rest)
+      good_reads_item None n rest c c' a = good_end
+      good_reads_item (Some (Instance t fields)) n rest c c' a = good_end
+      good_reads_item (Some (Items kind vs)) n rest c c' a = good_shows_value (slice_get vs n) w kind rest c c' a
+
+      good_array_get : (g : Given) (n : ℕ) (rest : List Move) (c c' : Classes) → Agree c c'
+          → Good (array_get w c g n (Outside owes ∷ below) rest) (array_get w c' g n (Outside owes ∷ below) rest)
+      good_array_get g n rest c c' a = good_if (is_exposed w g)
+          (reads_item w c (thing_at w (gets w g).1) n (Outside owes ∷ below) rest) (reads_item w c' (thing_at w (gets w g).1) n (Outside owes ∷ below) rest)
+          (good_reads_item (thing_at w (gets w g).1) n rest c c' a)
+
+      good_writes_item : (on : Value) (o : Option Thing) (n : ℕ) (g : Given) (rest : List Move) (c c' : Classes) → Agree c c'
+          → Good (writes_item s w c on o n g (Outside owes ∷ below) rest) (writes_item s w c' on o n g (Outside owes ∷ below) rest)
+      good_writes_item on None n g rest c c' a = good_end
+      good_writes_item on (Some (Instance t fields)) n g rest c c' a = good_end
+      good_writes_item on (Some (Items kind vs)) n g rest c c' a = good_if (fits s.face s.outer w (gets w g).0 g (gets w g).1 kind)
+          (goes (with_item (gets w g).0 on kind vs n (gets w g).1) c (Outside owes ∷ below) rest) (goes (with_item (gets w g).0 on kind vs n (gets w g).1) c' (Outside owes ∷ below) rest)
+          (good_goes (with_item (gets w g).0 on kind vs n (gets w g).1) rest c c' a)
+
+      good_array_put : (on : Given) (n : ℕ) (g : Given) (rest : List Move) (c c' : Classes) → Agree c c'
+          → Good (array_put s w c on n g (Outside owes ∷ below) rest) (array_put s w c' on n g (Outside owes ∷ below) rest)
+      good_array_put on n g rest c c' a = good_if (is_exposed w on)
+          (writes_item s w c (gets w on).1 (thing_at w (gets w on).1) n g (Outside owes ∷ below) rest) (writes_item s w c' (gets w on).1 (thing_at w (gets w on).1) n g (Outside owes ∷ below) rest)
+          (good_writes_item (gets w on).1 (thing_at w (gets w on).1) n g rest c c' a)
+
+      good_measures : (o : Option Thing) (rest : List Move) (c c' : Classes) → Agree c c'
+          → Good (measures_thing w c o (Outside owes ∷ below) rest) (measures_thing w c' o (Outside owes ∷ below) rest)
+      good_measures None rest c c' a = good_end
+      good_measures (Some (Instance t fields)) rest c c' a = good_end
+      good_measures (Some (Items kind vs)) rest c c' a = good_shows_value (Some (Word (length vs))) w (73 ∷ []) rest c c' a
+
+      good_array_length : (g : Given) (rest : List Move) (c c' : Classes) → Agree c c'
+          → Good (array_length w c g (Outside owes ∷ below) rest) (array_length w c' g (Outside owes ∷ below) rest)
+      good_array_length g rest c c' a = good_if (is_exposed w g)
+          (measures_thing w c (thing_at w (gets w g).1) (Outside owes ∷ below) rest) (measures_thing w c' (thing_at w (gets w g).1) (Outside owes ∷ below) rest)
+          (good_measures (thing_at w (gets w g).1) rest c c' a)
+
+      prepared_move : (c c' : Classes) → Agree c c' → PreparedMove (λ x. moves s find w x owes below script) c c' → Prepared (On w c (Outside owes ∷ below) script) (On w c' (Outside owes ∷ below) script)
+      prepared_move c c' a (Once g) = Now g
+      prepared_move c c' a (Behind t k e h) =
+          let p = passed t k w c c' (Outside owes ∷ below) script a in
+          Later (starts s.face find w c t (Outside owes ∷ below) script) (On w p.classes (Outside owes ∷ below) script) e p.silent (h p.classes p.done p.agree) (c', (refl, (p.agree, busy)))
+
+    prepared_moves : (w : World) (owes : Option Text) (below : List Waiting) → Busy below → (script : List Move) (c c' : Classes) → Agree c c' → Prepared (On w c (Outside owes ∷ below) script) (On w c' (Outside owes ∷ below) script)
+    prepared_moves w owes below b [] c c' a = Now good_end
+    prepared_moves w owes below b (move.Enter t n q gs ∷ rest) c c' a = prepared_move w owes below (move.Enter t n q gs ∷ rest) b c c' a (move_enter w owes below (move.Enter t n q gs ∷ rest) b (s.face.declared t n q) gs rest c c' a)
+    prepared_moves w owes below b (move.Make t ∷ rest) c c' a = prepared_move w owes below (move.Make t ∷ rest) b c c' a (move_make w owes below (move.Make t ∷ rest) b t rest c c' a)
+    prepared_moves w owes below b (move.Return g ∷ rest) c c' a = Now (good_answers w owes below (move.Return g ∷ rest) b owes g rest c c' a)
+    prepared_moves w owes below b (move.Throw g ∷ rest) c c' a = Now (good_throws w owes below (move.Throw g ∷ rest) b owes g rest c c' a)
+    prepared_moves w owes below b (move.Get t n k on ∷ rest) c c' a = Now (good_reads w owes below (move.Get t n k on ∷ rest) b (key_of t n k) (s.face.own_field (key_of t n k)) on rest c c' a)
+    prepared_moves w owes below b (move.Put t n k on g ∷ rest) c c' a = Now (good_writes w owes below (move.Put t n k on g ∷ rest) b (key_of t n k) (s.face.own_field (key_of t n k)) on g rest c c' a)
+    prepared_moves w owes below b (move.ArrayGet g n ∷ rest) c c' a = Now (good_array_get w owes below (move.ArrayGet g n ∷ rest) b g n rest c c' a)
+    prepared_moves w owes below b (move.ArrayPut on n g ∷ rest) c c' a = Now (good_array_put w owes below (move.ArrayPut on n g ∷ rest) b on n g rest c c' a)
+    prepared_moves w owes below b (move.ArrayLength g ∷ rest) c c' a = Now (good_array_length w owes below (move.ArrayLength g ∷ rest) b g rest c c' a)
+
+    prepared_stack : (stack : List Waiting) (w : World) (c c' : Classes) (script : List Move) → Agree c c' → Busy stack → Prepared (On w c stack script) (On w c' stack script)
+    prepared_stack [] w c c' script a b = Now good_end
+    prepared_stack (Method f ∷ r) w c c' script a b = prepared_frame w c c' f r script a b (alike (effect_of s (form_at find f) w f) w f c c' a)
+    prepared_stack (Initialiser t l ∷ r) w c c' script a b = Now (good_initialises l w c c' t r script a b.0 b.1)
+    prepared_stack (Ending t ∷ r) w c c' script a b = Now (good_resumes r w (put_status t Done c) (put_status t Done c') script (put_busy c c' t Done b.0 a) b.1)
+    prepared_stack (Outside owes ∷ r) w c c' script a b = prepared_moves w owes r b script c c' a
+
+    prepared : (t u : State) → Core t u → Prepared t u
+    prepared Ended u h = subst (λ x. Prepared Ended x) (sym h) (Now good_end)
+    prepared (On w c stack script) u h = subst (λ x. Prepared (On w c stack script) x) (sym h.1.0) (prepared_stack stack w c h.0 script h.1.1.0 h.1.1.1)
+
+    -- ---- both runs show the same
+
+    abbrev Back : State → State → Type 0
+    Back u t = Core t u
+
+    there : (t u : State) → Core t u → Prepared t u → (k : ℕ) × ((j : ℕ) × ((shows_from s find u j ≡ shows_from s find t (suc k)) × Core (after s find t (suc k)) (after s find u j)))
+    there t u h (Now g) = (g.silent.steps, (1, (ap (λ e. events_of e ++ []) g.shown ∙ ap (λ l. events_of (step s find t).1 ++ l) (sym g.silent.silent),
+        subst (λ x. Core x (step s find u).0) (sym g.silent.ends) g.core)))
+    there t u h (Later t0 t1 e q g k) = (q.steps, (0, (sym (ap (λ x. events_of x.1 ++ shows_from s find x.0 q.steps) e ∙ q.silent),
+        subst (λ x. Core x u) (sym (ap (λ x. after s find x.0 q.steps) e ∙ q.ends)) k)))
+
+    back_again : (t u : State) → Core t u → Prepared t u → (k : ℕ) × ((j : ℕ) × ((shows_from s find t j ≡ shows_from s find u (suc k)) × Back (after s find u (suc k)) (after s find t j)))
+    back_again t u h (Now g) = (0, (suc g.silent.steps, (sym (ap (λ e. events_of e ++ []) g.shown ∙ ap (λ l. events_of (step s find t).1 ++ l) (sym g.silent.silent)),
+        subst (λ x. Core x (step s find u).0) (sym g.silent.ends) g.core)))
+    back_again t u h (Later t0 t1 e q g k) =
+        let z = silent_on (step s find t1).0 g.to g.to g.silent (silent_none g.to) in
+        let n = joined q.steps (suc g.silent.steps) in
+        let ends : after s find t (suc n) ≡ g.to = ap (λ x. after s find x.0 n) e ∙ after_joined s find q.steps (suc g.silent.steps) t0 ∙ ap (λ x. after s find x (suc g.silent.steps)) q.ends ∙ g.silent.ends in
+        let shown : shows_from s find t (suc n) ≡ shows_from s find u 1 =
+        ap (λ x. events_of x.1 ++ shows_from s find x.0 n) e ∙ shows_joined s find q.steps (suc g.silent.steps) t0
+        ∙ ap (λ l. l ++ shows_from s find (after s find t0 q.steps) (suc g.silent.steps)) q.silent ∙ ap (λ x. shows_from s find x (suc g.silent.steps)) q.ends
+        ∙ ap (λ l. events_of (step s find t1).1 ++ l) g.silent.silent ∙ sym (ap (λ y. events_of y ++ []) g.shown) in
+        (0, (suc n, (shown, subst (λ x. Core x (step s find u).0) (sym ends) g.core)))
+
+    pub calm_follows : Follows s find s find Core
+    calm_follows = record { on = λ t u h. there t u h (prepared t u h) }
+
+    pub calm_followed : Follows s find s find Back
+    calm_followed = record { on = λ u t h. back_again t u h (prepared t u h) }
+
+    calm_agree : Agree (λ t. New) (calm_classes calm)
+    calm_agree = record { busy = λ t e. sym (ap status_if e); done = λ t e. ap status_if e; sound = λ t e. tt }
+
+    -- what a program shows, it shows where the calm classes are done
+    pub calm_shows : (script : List Move) → Shows s find s find (opening script) (calm_opening calm script)
+    calm_shows script = follows_shows s find s find Core calm_follows (opening script) (calm_opening calm script) (calm_classes calm, (refl, (calm_agree, tt)))
+
+    pub calm_shown : (script : List Move) → Shows s find s find (calm_opening calm script) (opening script)
+    calm_shown script = follows_shows s find s find Back calm_followed (calm_opening calm script) (opening script) (calm_classes calm, (refl, (calm_agree, tt)))

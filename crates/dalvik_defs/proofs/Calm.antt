@@ -83,16 +83,17 @@ calm_classes calm t = status_if (calm t)
 abbrev pub calm_opening : (Text → Bool) → List Move → State
 calm_opening calm script = On opening_world (calm_classes calm) (Outside None ∷ []) script
 
+-- a chain of calm classes that come first ends
+abbrev pub IsDeep : Setting → (Text → Bool) → ℕ → Text → Type 0
+IsDeep s calm zero t = ⊥
+IsDeep s calm (suc n) t = Each (λ u. (calm u ≡ true) × IsDeep s calm n u) (s.face.first t)
+
+-- none of these classes has an initialiser, and all that come before one of them are of them
+pub record IsCalm (s : Setting) (calm : Text → Bool) : Type 0 where
+  pub initialiser : (t : Text) → calm t ≡ true → s.face.initialiser t ≡ None
+  pub grounded : (t : Text) → calm t ≡ true → (n : ℕ) × IsDeep s calm n t
+
 module _ (s : Setting) (find : Bodies) (calm : Text → Bool) where
-  -- a chain of classes that come first ends
-  abbrev pub IsDeep : ℕ → Text → Type 0
-  IsDeep zero t = ⊥
-  IsDeep (suc n) t = Each (λ u. (calm u ≡ true) × IsDeep n u) (s.face.first t)
-
-  pub record IsCalm : Type 0 where
-    pub initialiser : (t : Text) → calm t ≡ true → s.face.initialiser t ≡ None
-    pub grounded : (t : Text) → calm t ≡ true → (n : ℕ) × IsDeep n t
-
   -- statuses of a run, and those of one in which the calm classes are done
   pub record Agree (c c' : Classes) : Type 0 where
     pub busy : (t : Text) → calm t ≡ false → c t ≡ c' t
@@ -221,15 +222,15 @@ module _ (s : Setting) (find : Bodies) (calm : Text → Bool) where
   all_done c c' a [] h = refl
   all_done c c' a (d ∷ ds) h = ap (λ y. left_at y (d ∷ ds) (left_of c' ds)) (a.done d h.0) ∙ all_done c c' a ds h.1
 
-  module _ (is : IsCalm) where
-    passed_deep : (n : ℕ) (t : Text) → calm t ≡ true → IsDeep n t → IsPassed t
+  module _ (is : IsCalm s calm) where
+    passed_deep : (n : ℕ) (t : Text) → calm t ≡ true → IsDeep s calm n t → IsPassed t
     passed_deep zero t e h w c c' stack script a = absurd h
     passed_deep (suc n) t e h w c c' stack script a =
         let run = put_status t Running c in
         let b = put_calm c c' t Running e tt a in
         let l = s.face.first t in
-        let r = settles l (each_map (λ u. (calm u ≡ true) × IsDeep n u) (λ u. calm u ≡ true → IsPassed u) (λ u d f. passed_deep n u f d.1) l h) w run c' t stack script b in
-        let last = all_done run c' b l (each_map (λ u. (calm u ≡ true) × IsDeep n u) (λ u. calm u ≡ true) (λ u d. d.0) l h) in
+        let r = settles l (each_map (λ u. (calm u ≡ true) × IsDeep s calm n u) (λ u. calm u ≡ true → IsPassed u) (λ u d f. passed_deep n u f d.1) l h) w run c' t stack script b in
+        let last = all_done run c' b l (each_map (λ u. (calm u ≡ true) × IsDeep s calm n u) (λ u. calm u ≡ true) (λ u d. d.0) l h) in
         let here : goes_on s.face find w r.classes t (left_of c' l) stack script ≡ On w r.classes (Ending t ∷ stack) script =
         ap (λ x. goes_on s.face find w r.classes t x stack script) last ∙ ap (λ o. runs find w r.classes t o stack script) (is.initialiser t e) in
         let end = put_status t Done r.classes in
@@ -704,14 +705,38 @@ module _ (s : Setting) (find : Bodies) (calm : Text → Bool) where
     Back u t = Core t u
 
     there : (t u : State) → Core t u → Prepared t u → (k : ℕ) × ((j : ℕ) × ((shows_from s find u j ≡ shows_from s find t (suc k)) × Core (after s find t (suc k)) (after s find u j)))
-    there t u h (Now g) = (g.silent.steps, (1, (ap (λ e. events_of e ++ []) g.shown ∙ ap (λ l. events_of (step s find t).1 ++ l) (sym g.silent.silent),
-        subst (λ x. Core x (step s find u).0) (sym g.silent.ends) g.core)))
-    there t u h (Later t0 t1 e q g k) = (q.steps, (0, (sym (ap (λ x. events_of x.1 ++ shows_from s find x.0 q.steps) e ∙ q.silent),
-        subst (λ x. Core x u) (sym (ap (λ x. after s find x.0 q.steps) e ∙ q.ends)) k)))
+    there t u h (Now g) = (
+      g.silent.steps,
+      (
+        1,
+        (
+          ap (λ e. events_of e ++ []) g.shown ∙ ap (λ l. events_of (step s find t).1 ++ l) (sym g.silent.silent),
+          subst (λ x. Core x (step s find u).0) (sym g.silent.ends) g.core,
+        ),
+      ),
+    )
+    there t u h (Later t0 t1 e q g k) = (
+      q.steps,
+      (
+        0,
+        (
+          sym (ap (λ x. events_of x.1 ++ shows_from s find x.0 q.steps) e ∙ q.silent),
+          subst (λ x. Core x u) (sym (ap (λ x. after s find x.0 q.steps) e ∙ q.ends)) k,
+        ),
+      ),
+    )
 
     back_again : (t u : State) → Core t u → Prepared t u → (k : ℕ) × ((j : ℕ) × ((shows_from s find t j ≡ shows_from s find u (suc k)) × Back (after s find u (suc k)) (after s find t j)))
-    back_again t u h (Now g) = (0, (suc g.silent.steps, (sym (ap (λ e. events_of e ++ []) g.shown ∙ ap (λ l. events_of (step s find t).1 ++ l) (sym g.silent.silent)),
-        subst (λ x. Core x (step s find u).0) (sym g.silent.ends) g.core)))
+    back_again t u h (Now g) = (
+      0,
+      (
+        suc g.silent.steps,
+        (
+          sym (ap (λ e. events_of e ++ []) g.shown ∙ ap (λ l. events_of (step s find t).1 ++ l) (sym g.silent.silent)),
+          subst (λ x. Core x (step s find u).0) (sym g.silent.ends) g.core,
+        ),
+      ),
+    )
     back_again t u h (Later t0 t1 e q g k) =
         let z = silent_on (step s find t1).0 g.to g.to g.silent (silent_none g.to) in
         let n = joined q.steps (suc g.silent.steps) in

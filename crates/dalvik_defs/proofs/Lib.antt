@@ -4,3 +4,5 @@ pub mod LookUps
 pub mod Frames
 pub mod Glides
 pub mod Calm
+pub mod Programs
+pub mod SameBodies

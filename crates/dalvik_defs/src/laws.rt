@@ -6,6 +6,7 @@ ghost use Rattle.dalvik_defs.specs.Under.{defines};
 ghost use Rattle.dalvik_defs.specs.Face.{face_of, bodies_of};
 ghost use Rattle.dalvik_defs.specs.Outer.{Outer};
 ghost use Rattle.dalvik_defs.specs.Shown.{SameShown};
+ghost use Rattle.dalvik_defs.specs.declared.names.MethodKey.{MethodKey};
 ghost use Rattle.dalvik_defs.specs.declared.program.NamedProgram.{NamedProgram};
 ghost use Rattle.dalvik_defs.specs.declared.tables.Framework.{Framework};
 
@@ -20,4 +21,9 @@ pub fn same_shown_law()
 /// What a program shows depends on its face and its bodies alone.
 pub fn look_ups_law()
     ensures { (p q : NamedProgram) (o : Outer) → ((f : Framework) → face_of p f ≡ face_of q f) → bodies_of p ≡ bodies_of q → SameShown p q o }
+{}
+
+/// Programs with one face and the same body for each method show the same: the law of frames at equality.
+pub fn same_bodies_law()
+    ensures { (p q : NamedProgram) (o : Outer) → ((f : Framework) → face_of p f ≡ face_of q f) → ((k : MethodKey) → bodies_of p k ≡ bodies_of q k) → SameShown p q o }
 {}

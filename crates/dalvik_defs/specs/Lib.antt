@@ -28,3 +28,4 @@ pub mod Step
 pub mod Shown
 pub mod Silence
 pub mod Examples
+pub mod Shut

@@ -72,7 +72,7 @@ lists_more seen order n l lt new = record {
 
 -- ---- the loops
 
-none_marked : (n k : ℕ) → slice_index_or (replicate n false) k false ≡ false
+pub none_marked : (n k : ℕ) → slice_index_or (replicate n false) k false ≡ false
 none_marked zero k = refl
 none_marked (suc n) zero = refl
 none_marked (suc n) (suc k) = none_marked n k

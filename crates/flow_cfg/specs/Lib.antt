@@ -1,2 +1,4 @@
 pub mod Listing
 pub mod Parts
+pub mod Starts
+pub mod Walks

@@ -1,14 +1,21 @@
-//! How control flows: orders in which a solver visits the nodes of a graph.
+//! How control flows: the edges and blocks of a body, and orders in which a solver visits a graph.
 //!
-//! [`weak_order`] lists the nodes of a graph in a weak topological order, the order of choice for solvers (F. Bourdoncle,
-//! "Efficient chaotic iteration strategies with widenings", 1993).
+//! [`successors`] says where a walk through the code goes in one step, and [`blocks`] where its blocks begin (Dalvik
+//! bytecode, "Summary of bytecode set"; Dalvik executable format, "try_item"). [`weak_order`] lists the nodes of a graph
+//! in a weak topological order (F. Bourdoncle, "Efficient chaotic iteration strategies with widenings", 1993).
 #![tactic(auto)]
 
 mod ends;
+mod firsts;
 mod listing;
+mod starts;
 mod visit;
+mod walks;
 mod weak;
 
+pub use firsts::Blocks;
+pub use starts::blocks;
+pub use walks::successors;
 pub use weak::{Part, weak_order};
 
 #[cfg(test)]

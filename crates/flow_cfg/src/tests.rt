@@ -1,4 +1,6 @@
-use crate::weak_order;
+use crate::{blocks, successors, weak_order};
+use program_model::{Body, Handler, Insn, Region, Test};
+use seq::Seq;
 use std::alloc::{AllocError, Global};
 use std::test::*;
 
@@ -66,5 +68,53 @@ fn unreached_nodes_stand_first(rt: HostRuntime) -> Result<(), Fail> {
         found.as_slice(),
         [(3, 1), (2, 2), (0, 4), (1, 4)].as_slice()
     );
+    Ok(())
+}
+
+/// A branch over an instruction that may throw, which a region covers, with a handler and a catch-all behind the code.
+fn guarded(alloc: Global) -> Result<Body, AllocError> {
+    let branch = Insn::IfZero {
+        test: Test::Eq,
+        a: 0,
+        target: 4,
+    };
+    let handler = Handler {
+        kind: 0,
+        position: 5,
+    };
+    let region = Region {
+        first: 1,
+        end: 3,
+        handlers: Seq::of_vec(vec![in alloc; handler]?),
+        rest: Some(7),
+    };
+    let insns = vec![in alloc;
+        branch,
+        Insn::ArrayLength { to: 0, from: 1 },
+        Insn::Nop,
+        Insn::Nop,
+        Insn::ReturnVoid,
+        Insn::Nop,
+        Insn::Nop,
+        Insn::ReturnVoid,
+    ]?;
+    Ok(Body {
+        registers: 2,
+        ins: 0,
+        insns: Seq::of_vec(insns),
+        regions: Seq::of_vec(vec![in alloc; region]?),
+    })
+}
+
+#[test]
+fn walks_go_on_branch_and_are_caught(rt: HostRuntime) -> Result<(), Fail> {
+    let body = guarded(rt.alloc())?;
+    assert!(rt; body.insns.len() == 8);
+    let from_branch = successors(rt.alloc(), &body, 0)?;
+    assert_eq!(rt; from_branch.as_slice(), [1, 4].as_slice());
+    let from_throw = successors(rt.alloc(), &body, 1)?;
+    assert_eq!(rt; from_throw.as_slice(), [2, 5, 7].as_slice());
+    let found = blocks(rt.alloc(), &body)?;
+    assert_eq!(rt; found.firsts.as_slice(), [0, 1, 2, 4, 5, 7].as_slice());
     Ok(())
 }

@@ -17,6 +17,7 @@ use Rattle.dalvik_defs.specs.Effect.{Effect, Goes, Faults, Throws, Gives, Calls,
 use Rattle.dalvik_defs.specs.Fields.{key_at, static_value, instance_value, with_static, with_instance}
 use Rattle.dalvik_defs.specs.Outcome.{Outcome, Stays, Starts, Enters, Leaves, Ends, Raises, Halts, Need, Ready, Fresh, Broken, need_at, need_if, need_of, faults, when_ready, calls_out, native_kind, takes_no_receiver, calls_uncoded, calls_found, calls_ready, calls_unfound, calls_by, receiver, on_receiver, calls, makes, reads_value, reads_static, reads_instance, reads_out, writes_static, writes_instance, written, writes_out, locks, unlocks, outcome}
 use Rattle.dalvik_defs.specs.Stack.{form_at, entry_frame, enters_body, enters, gives, lands, wrapped, given_up, back, lands_or, unwinds, left_at, left_of, runs, goes_on, starts, resumes, ends}
+use Rattle.dalvik_defs.specs.Quiet.{status_if, calm_classes, calm_opening}
 use Rattle.dalvik_defs.specs.Happens.{Setting, effect_of, outcome_at, happens, first_needed, initialises}
 use Rattle.dalvik_defs.specs.Show.{show, show_option}
 use Rattle.dalvik_defs.specs.Names.{throwable_type}
@@ -40,14 +41,14 @@ use Rattle.dalvik_defs.proofs.Simulation.{joined, after_joined, shows_joined, Fo
 text_same : (t : Text) → text_eq t t ≡ true
 text_same t = (bytes_decides t t).1 refl
 
-text_sound : (t u : Text) → text_eq t u ≡ true → t ≡ u
+pub text_sound : (t u : Text) → text_eq t u ≡ true → t ≡ u
 text_sound t u = (bytes_decides t u).0
 
 abbrev pub Each : (Text → Type 0) → List Text → Type 0
 Each P [] = Unit {0}
 Each P (x ∷ xs) = P x × Each P xs
 
-each_map : (P Q : Text → Type 0) → ((t : Text) → P t → Q t) → (ts : List Text) → Each P ts → Each Q ts
+pub each_map : (P Q : Text → Type 0) → ((t : Text) → P t → Q t) → (ts : List Text) → Each P ts → Each Q ts
 each_map P Q h [] e = tt
 each_map P Q h (t ∷ ts) e = (h t e.0, each_map P Q h ts e.1)
 
@@ -71,17 +72,6 @@ put_cases P t x c u h k = at (text_eq u t) (λ e. sym (text_sound u t e)) where
   at : (b : Bool) → (b ≡ true → t ≡ u) → P u (elim b as (λ b. Status) [ true ↦ x | false ↦ c u ])
   at true e = subst (λ v. P v x) (e refl) h
   at false e = k
-
--- the opening state in which the calm classes are done
-abbrev pub status_if : Bool → Status
-status_if true = Done
-status_if false = New
-
-abbrev pub calm_classes : (Text → Bool) → Classes
-calm_classes calm t = status_if (calm t)
-
-abbrev pub calm_opening : (Text → Bool) → List Move → State
-calm_opening calm script = On opening_world (calm_classes calm) (Outside None ∷ []) script
 
 -- a chain of calm classes that come first ends
 abbrev pub IsDeep : Setting → (Text → Bool) → ℕ → Text → Type 0

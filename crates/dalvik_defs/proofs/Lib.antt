@@ -4,5 +4,6 @@ pub mod LookUps
 pub mod Frames
 pub mod Glides
 pub mod Calm
+pub mod Quiet
 pub mod Programs
 pub mod SameBodies

@@ -13,7 +13,8 @@ use Rattle.dalvik_defs.specs.declared.program.NamedProgram.{NamedProgram}
 use Rattle.dalvik_defs.specs.declared.tables.Framework.{Framework}
 use Rattle.dalvik_defs.specs.declared.tables.Floats.{Floats}
 use Rattle.dalvik_defs.proofs.Simulation.{Follows, Shows, follows_shows, shows_on, same_by_runs}
-use Rattle.dalvik_defs.proofs.Calm.{IsCalm, calm_classes, calm_opening, calm_shows, calm_shown}
+use Rattle.dalvik_defs.specs.Quiet.{calm_opening}
+use Rattle.dalvik_defs.proofs.Calm.{IsCalm, calm_shows, calm_shown}
 use Rattle.dalvik_defs.proofs.Frames.{FramesFollow, Related, frames_follow}
 
 -- one way, for one framework, float table and script

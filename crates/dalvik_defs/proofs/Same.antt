@@ -28,15 +28,15 @@ prefix_behind xs ys zs a = (a.0, append_assoc xs ys a.0 ∙ ap (λ l. xs ++ l) a
 
 -- ---- tests
 
-or_right : (a b : Bool) → b ≡ true → (a || b) ≡ true
+pub or_right : (a b : Bool) → b ≡ true → (a || b) ≡ true
 or_right true b e = refl
 or_right false b e = e
 
-or_more : (a a' b b' : Bool) → (a ≡ true → b ≡ true) → (a' ≡ true → b' ≡ true) → (a || a') ≡ true → (b || b') ≡ true
+pub or_more : (a a' b b' : Bool) → (a ≡ true → b ≡ true) → (a' ≡ true → b' ≡ true) → (a || a') ≡ true → (b || b') ≡ true
 or_more true a' b b' h k e = ap (λ x. x || b') (h refl)
 or_more false a' b b' h k e = or_right b b' (k e)
 
-and_more : (a a' b b' : Bool) → (a ≡ true → b ≡ true) → (a' ≡ true → b' ≡ true) → (a && a') ≡ true → (b && b') ≡ true
+pub and_more : (a a' b b' : Bool) → (a ≡ true → b ≡ true) → (a' ≡ true → b' ≡ true) → (a && a') ≡ true → (b && b') ≡ true
 and_more true a' b b' h k e = ap (λ x. x && b') (h refl) ∙ k e
 and_more false a' b b' h k e = absurd (true≢false (sym e))
 
@@ -52,7 +52,7 @@ any_more : {A : Type 0} (f g : A → Bool) → ((x : A) → f x ≡ true → g x
 any_more f g h [] e = e
 any_more f g h (x ∷ xs) e = or_more (f x) (list_any f xs) (g x) (list_any g xs) (h x) (any_more f g h xs) e
 
-all_more : {A : Type 0} (f g : A → Bool) → ((x : A) → f x ≡ true → g x ≡ true) → (xs : List A) → list_all f xs ≡ true → list_all g xs ≡ true
+pub all_more : {A : Type 0} (f g : A → Bool) → ((x : A) → f x ≡ true → g x ≡ true) → (xs : List A) → list_all f xs ≡ true → list_all g xs ≡ true
 all_more f g h [] e = e
 all_more f g h (x ∷ xs) e = and_more (f x) (list_all f xs) (g x) (list_all g xs) (h x) (all_more f g h xs) e
 

@@ -29,3 +29,4 @@ pub mod Shown
 pub mod Silence
 pub mod Examples
 pub mod Shut
+pub mod Quiet

@@ -1,0 +1,56 @@
+-- Calls that can name the one method that they find (this project's profile).
+use Rattle.std.specs.Prelude.{◌≡◌, ℕ, Bool, true, false, ◌&&◌, ◌||◌, not, List, [], ◌∷◌, Option, Some, None, is_some, Contains}
+use Rattle.insn_set.specs.declared.ops.InvokeKind.{InvokeKind}
+use Rattle.insn_set.specs.declared.ops.InvokeKind.TheVariants as call
+use Rattle.dalvik_defs.specs.Names.{Text, method_eq}
+use Rattle.dalvik_defs.specs.Under.{is_own_under}
+use Rattle.dalvik_defs.specs.Find.{Found, Search, Nothing, Finds, finds_at, defined_method, interface_named}
+use Rattle.dalvik_defs.specs.declared.names.MethodKey.{MethodKey}
+use Rattle.dalvik_defs.specs.declared.forms.Form.{Form}
+use Rattle.dalvik_defs.specs.declared.forms.Form.TheVariants as form
+use Rattle.dalvik_defs.specs.declared.program.NamedBody.{NamedBody}
+use Rattle.dalvik_defs.specs.declared.program.NamedMethod.{NamedMethod}
+use Rattle.dalvik_defs.specs.declared.program.NamedClass.{NamedClass}
+use Rattle.dalvik_defs.specs.declared.program.NamedProgram.{NamedProgram}
+use Rattle.pass_defs.specs.Calls.{is_within}
+use Rattle.pass_defs.specs.Walks.{form_at}
+use Rattle.pass_defs.specs.Kinds.{Kind, Class}
+use Rattle.pass_defs.specs.Registers.{Kinds, kind_at}
+use Rattle.pass_defs.specs.Typed.{Table, state_at, IsLeastTyping}
+
+-- what a virtual or interface call finds at a class, by the program's own lists
+abbrev pub finds_within : NamedProgram → Text → MethodKey → Search
+finds_within p t k = elim (is_within p t k.class) [ true ↦ finds_at p t k | false ↦ Nothing ]
+
+abbrev pub is_virtual_call : InvokeKind → Bool
+is_virtual_call call.Virtual = true
+is_virtual_call call.Interface = true
+is_virtual_call kind = false
+
+-- a method with code of an interface
+abbrev pub has_default : NamedProgram → MethodKey → Bool
+has_default p k = is_some (interface_named p k.class) && elim (defined_method p k) [ Some m ↦ is_some m.body | None ↦ false ]
+
+-- A call that names a method with code of an interface goes to another interface only where that one is under it.
+abbrev pub may_rebind : NamedProgram → MethodKey → MethodKey → Bool
+may_rebind p k g = not (has_default p k) || not (is_some (interface_named p g.class)) || is_own_under p g.class k.class
+
+pub record IsBindable (p : NamedProgram) (c : NamedClass) (m : NamedMethod) (n : ℕ) (found : Found) : Type 0 where
+  pub body : NamedBody
+  pub coded : m.body ≡ Some body
+  pub kind : InvokeKind
+  pub key : MethodKey
+  pub receiver : ℕ
+  pub args : List ℕ
+  pub has_form : form_at body n ≡ Some (form.Invoke kind key (receiver ∷ args))
+  pub virtual : is_virtual_call kind ≡ true
+  pub table : Table
+  pub least : IsLeastTyping p c m body table
+  pub kinds : Kinds
+  pub there : state_at table n ≡ Some kinds
+  pub class : Text
+  pub typed : kind_at kinds.registers receiver ≡ Class class
+  pub finds : (u : NamedClass) → Contains p.classes u → is_own_under p u.name class ≡ true → finds_within p u.name key ≡ Finds found
+  pub has_code : found.coded ≡ true
+  pub other : method_eq found.key key ≡ false
+  pub rebinds : may_rebind p key found.key ≡ true

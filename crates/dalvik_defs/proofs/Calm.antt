@@ -1,7 +1,7 @@
 -- Classes whose initialisation does nothing don't count. A set of classes is calm where none has an initialiser and all
 -- that are initialised before one of them are calm too. A run that begins with all classes new shows the same as one that
 -- begins with the calm classes done.
-use Rattle.std.proofs.Common.{◌≡◌, ℕ, zero, suc, Bool, true, false, true≢false, not, ◌&&◌, List, [], ◌∷◌, ◌++◌, Option, Some, None, refl, sym, ap, ◌∙◌, subst}
+use Rattle.std.proofs.Common.{◌≡◌, ℕ, zero, suc, Bool, true, false, true≢false, ◌&&◌, List, [], ◌∷◌, ◌++◌, Option, Some, None, refl, sym, ap, ◌∙◌, subst}
 use Rattle.std.specs.Prelude.{length, slice_get}
 use Rattle.std.specs.Cmp.Lexicographic.{bytes_decides}
 use Rattle.insn_set.specs.declared.ops.Item.{Item}
@@ -12,10 +12,10 @@ use Rattle.dalvik_defs.specs.Flags.{is_static, is_native}
 use Rattle.dalvik_defs.specs.Known.{no_class, null_pointer, class_change, abstract_method}
 use Rattle.dalvik_defs.specs.Find.{Found, Search, Nothing, Clash, Finds}
 use Rattle.dalvik_defs.specs.Face.{Bodies, Place, is_defined}
-use Rattle.dalvik_defs.specs.State.{World, Classes, Status, New, Running, Done, Failed, Value, Word, Frame, Thing, Instance, Items, Waiting, Method, Initialiser, Ending, Outside, State, On, Ended, Next, quiet, with_thing, next_object, fresh, put_status, thing_at, is_null, kind_of, opening_world, opening}
+use Rattle.dalvik_defs.specs.State.{World, Classes, Status, New, Running, Done, Failed, Value, Word, Frame, Thing, Instance, Items, Waiting, Method, Initialiser, Ending, Outside, State, On, Ended, Next, quiet, with_thing, next_object, fresh, put_status, thing_at, is_null, kind_of, opening}
 use Rattle.dalvik_defs.specs.Effect.{Effect, Goes, Faults, Throws, Gives, Calls, Makes, Reads, Writes, Locks, Unlocks, Stuck, write, next}
 use Rattle.dalvik_defs.specs.Fields.{key_at, static_value, instance_value, with_static, with_instance}
-use Rattle.dalvik_defs.specs.Outcome.{Outcome, Stays, Starts, Enters, Leaves, Ends, Raises, Halts, Need, Ready, Fresh, Broken, need_at, need_if, need_of, faults, when_ready, calls_out, native_kind, takes_no_receiver, calls_uncoded, calls_found, calls_ready, calls_unfound, calls_by, receiver, on_receiver, calls, makes, reads_value, reads_static, reads_instance, reads_out, writes_static, writes_instance, written, writes_out, locks, unlocks, outcome}
+use Rattle.dalvik_defs.specs.Outcome.{Outcome, Stays, Starts, Enters, Leaves, Ends, Raises, Halts, Need, Ready, Fresh, Broken, need_if, need_of, faults, when_ready, calls_out, native_kind, takes_no_receiver, calls_uncoded, calls_found, calls_unfound, calls_by, receiver, on_receiver, calls, makes, reads_value, reads_static, reads_instance, reads_out, writes_static, writes_instance, written, writes_out, locks, unlocks, outcome}
 use Rattle.dalvik_defs.specs.Stack.{form_at, entry_frame, enters_body, enters, gives, lands, wrapped, given_up, back, lands_or, unwinds, left_at, left_of, runs, goes_on, starts, resumes, ends}
 use Rattle.dalvik_defs.specs.Quiet.{status_if, calm_classes, calm_opening}
 use Rattle.dalvik_defs.specs.Happens.{Setting, effect_of, outcome_at, happens, first_needed, initialises}

@@ -1,8 +1,8 @@
 -- Steps in a frame that show nothing: none, one that stays, one that is caught, some and then some, and a whole call.
-use Rattle.std.proofs.Common.{◌≡◌, ℕ, zero, suc, List, [], ◌∷◌, ◌++◌, Option, Some, None, refl, sym, ap, ◌∙◌, subst}
+use Rattle.std.proofs.Common.{◌≡◌, ℕ, suc, List, [], ◌∷◌, ◌++◌, Option, Some, None, refl, ap, ◌∙◌}
 use Rattle.dalvik_defs.specs.Face.{Bodies}
-use Rattle.dalvik_defs.specs.State.{World, Classes, Value, Frame, Waiting, Method, State, On, Ended, quiet}
-use Rattle.dalvik_defs.specs.Outcome.{Outcome, Stays, Enters, Ends, Raises}
+use Rattle.dalvik_defs.specs.State.{World, Classes, Value, Frame, Waiting, Method, On, quiet}
+use Rattle.dalvik_defs.specs.Outcome.{Stays, Enters, Ends, Raises}
 use Rattle.dalvik_defs.specs.Stack.{entry_frame, enters_body, back, lands, lands_or, unwinds}
 use Rattle.dalvik_defs.specs.Happens.{Setting, happens}
 use Rattle.dalvik_defs.specs.Step.{step, events_of, after, shows_from}

@@ -1,11 +1,11 @@
 -- A program is known by its face and its bodies alone.
-use Rattle.std.proofs.Common.{◌≡◌, ℕ, zero, suc, List, refl, sym, ap, ◌∙◌, subst, append-nil}
-use Rattle.dalvik_defs.specs.Face.{Face, Bodies, face_of, bodies_of}
+use Rattle.std.proofs.Common.{◌≡◌, List, refl, sym, ap, subst}
+use Rattle.dalvik_defs.specs.Face.{Bodies, face_of, bodies_of}
 use Rattle.dalvik_defs.specs.Outer.{Outer}
-use Rattle.dalvik_defs.specs.State.{State, opening}
+use Rattle.dalvik_defs.specs.State.{State}
 use Rattle.dalvik_defs.specs.Happens.{Setting}
-use Rattle.dalvik_defs.specs.Step.{step, events_of, after, shows_from, setting_of}
-use Rattle.dalvik_defs.specs.Shown.{Fit, SameShown}
+use Rattle.dalvik_defs.specs.Step.{after, shows_from, setting_of}
+use Rattle.dalvik_defs.specs.Shown.{SameShown}
 use Rattle.dalvik_defs.specs.declared.script.Move.{Move}
 use Rattle.dalvik_defs.specs.declared.program.NamedProgram.{NamedProgram}
 use Rattle.dalvik_defs.specs.declared.tables.Framework.{Framework}

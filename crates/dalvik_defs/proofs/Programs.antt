@@ -1,8 +1,8 @@
 -- The law of frames for programs: two programs with one face show the same where frames of the one and of the other are
 -- related as the law asks, each way, in runs that begin with the calm classes done.
-use Rattle.std.proofs.Common.{◌≡◌, ℕ, Bool, List, [], ◌∷◌, Option, Some, None, refl, sym, ap, ◌∙◌, subst}
+use Rattle.std.proofs.Common.{◌≡◌, Bool, List, [], ◌∷◌, None, refl, ap, subst}
 use Rattle.dalvik_defs.specs.Names.{Text}
-use Rattle.dalvik_defs.specs.Face.{Face, Bodies, face_of, bodies_of}
+use Rattle.dalvik_defs.specs.Face.{Bodies, face_of, bodies_of}
 use Rattle.dalvik_defs.specs.Outer.{Outer}
 use Rattle.dalvik_defs.specs.State.{World, Classes, Frame, Outside, State, opening}
 use Rattle.dalvik_defs.specs.Happens.{Setting}
@@ -12,7 +12,7 @@ use Rattle.dalvik_defs.specs.declared.script.Move.{Move}
 use Rattle.dalvik_defs.specs.declared.program.NamedProgram.{NamedProgram}
 use Rattle.dalvik_defs.specs.declared.tables.Framework.{Framework}
 use Rattle.dalvik_defs.specs.declared.tables.Floats.{Floats}
-use Rattle.dalvik_defs.proofs.Simulation.{Follows, Shows, follows_shows, shows_on, same_by_runs}
+use Rattle.dalvik_defs.proofs.Simulation.{Shows, follows_shows, shows_on, same_by_runs}
 use Rattle.dalvik_defs.specs.Quiet.{calm_opening}
 use Rattle.dalvik_defs.proofs.Calm.{IsCalm, calm_shows, calm_shown}
 use Rattle.dalvik_defs.proofs.Frames.{FramesFollow, Related, frames_follow}

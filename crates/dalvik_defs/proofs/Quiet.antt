@@ -1,11 +1,11 @@
 -- Trivially initialised classes are calm.
 use Rattle.std.proofs.Common.{◌≡◌, ℕ, zero, suc, Bool, true, false, true≢false, not, ◌&&◌, List, [], ◌∷◌, ◌++◌, Option, Some, None, refl, sym, ap, ◌∙◌, subst}
-use Rattle.std.specs.Prelude.{is_some, is_none, find, length, flat_map, cond}
+use Rattle.std.specs.Prelude.{is_some, is_none, find, length, cond}
 use Rattle.std.specs.List.{list_all}
 use Rattle.dalvik_defs.specs.Names.{Text, text_eq}
 use Rattle.dalvik_defs.specs.Flags.{is_interface}
 use Rattle.dalvik_defs.specs.Under.{class_named, defines}
-use Rattle.dalvik_defs.specs.Find.{is_037, chain_from, chain_of}
+use Rattle.dalvik_defs.specs.Find.{is_037, chain_from}
 use Rattle.dalvik_defs.specs.Initialised.{initialiser_in, initialiser_of, has_default, only_if, interfaces_before, interfaces_first, first_of_class, initialised_first, has_initialiser, interfaces_quiet, is_trivial}
 use Rattle.dalvik_defs.specs.Face.{Face, face_of}
 use Rattle.dalvik_defs.specs.Quiet.{quiet_within, EndsWithin, calm_opening}

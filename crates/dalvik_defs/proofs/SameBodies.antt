@@ -1,23 +1,21 @@
 -- The law of frames at equality: programs with one face and the same body for each method show the same.
-use Rattle.std.proofs.Common.{◌≡◌, ℕ, Bool, true, false, true≢false, List, [], ◌∷◌, Option, Some, None, refl, sym, ap, ◌∙◌, subst}
+use Rattle.std.proofs.Common.{◌≡◌, false, true≢false, List, [], Option, Some, None, refl, sym, ap, ◌∙◌, subst}
 use Rattle.std.specs.Prelude.{slice_get}
 use Rattle.std.specs.Option.{option_map, option_and_then}
-use Rattle.dalvik_defs.specs.Names.{Text}
-use Rattle.dalvik_defs.specs.Face.{Face, Bodies, face_of, bodies_of}
+use Rattle.dalvik_defs.specs.Face.{Bodies, face_of, bodies_of}
 use Rattle.dalvik_defs.specs.Outer.{Outer}
-use Rattle.dalvik_defs.specs.State.{World, Classes, Value, Frame, Waiting, State, On, kind_of}
-use Rattle.dalvik_defs.specs.Effect.{go, next}
+use Rattle.dalvik_defs.specs.State.{World, Classes, Value, Frame, Waiting, State, kind_of}
+use Rattle.dalvik_defs.specs.Effect.{go}
 use Rattle.dalvik_defs.specs.Outcome.{Outcome, Stays, Starts, Enters, Leaves, Ends, Raises, Halts, need_of, outcome}
-use Rattle.dalvik_defs.specs.Stack.{form_at, receives, back, handler_at, lands}
+use Rattle.dalvik_defs.specs.Stack.{receives, back, handler_at, lands}
 use Rattle.dalvik_defs.specs.Happens.{Setting, effect_of}
-use Rattle.dalvik_defs.specs.Step.{step, setting_of}
+use Rattle.dalvik_defs.specs.Step.{setting_of}
 use Rattle.dalvik_defs.specs.Shown.{SameShown}
 use Rattle.dalvik_defs.specs.declared.names.MethodKey.{MethodKey}
 use Rattle.dalvik_defs.specs.declared.program.NamedBody.{NamedBody}
 use Rattle.dalvik_defs.specs.declared.script.Move.{Move}
 use Rattle.dalvik_defs.specs.declared.program.NamedProgram.{NamedProgram}
 use Rattle.dalvik_defs.specs.declared.tables.Framework.{Framework}
-use Rattle.dalvik_defs.specs.declared.tables.Floats.{Floats}
 use Rattle.dalvik_defs.proofs.Calm.{IsCalm}
 use Rattle.dalvik_defs.proofs.Frames.{now, Landed, Leads, Matches, Meet, Entered, FramesFollow}
 use Rattle.dalvik_defs.proofs.Glides.{glide_none}

@@ -1,15 +1,14 @@
 -- The law of simulation. A relation between states of two programs gives that they show the same where it holds of the
 -- two opening states, and where from related states some steps of the one, at least one, show what some steps of the
 -- other show, and lead to related states again; and the same the other way round.
-use Rattle.std.proofs.Common.{◌≡◌, ℕ, zero, suc, List, [], ◌∷◌, ◌++◌, Option, Some, None, refl, sym, ap, ◌∙◌, subst, append_assoc, append-nil}
+use Rattle.std.proofs.Common.{◌≡◌, ℕ, zero, suc, List, [], ◌++◌, refl, sym, ap, ◌∙◌, append_assoc, append-nil}
 use Rattle.dalvik_defs.specs.Face.{Bodies, bodies_of}
 use Rattle.dalvik_defs.specs.Outer.{Outer}
 use Rattle.dalvik_defs.specs.State.{State, opening}
 use Rattle.dalvik_defs.specs.Happens.{Setting}
-use Rattle.dalvik_defs.specs.Step.{step, events_of, after, shows_from, setting_of, shows}
+use Rattle.dalvik_defs.specs.Step.{step, events_of, after, shows_from, setting_of}
 use Rattle.dalvik_defs.specs.Shown.{Fit, IsPrefixOf, SameShown}
 use Rattle.dalvik_defs.specs.declared.script.Move.{Move}
-use Rattle.dalvik_defs.specs.declared.events.Event.{Event}
 use Rattle.dalvik_defs.specs.declared.program.NamedProgram.{NamedProgram}
 use Rattle.dalvik_defs.specs.declared.tables.Framework.{Framework}
 use Rattle.dalvik_defs.specs.declared.tables.Floats.{Floats}

@@ -1,12 +1,12 @@
 -- What each form does in one frame (Dalvik bytecode, "Summary of bytecode set"). Reads come before writes, and a form
 -- that throws writes no register. `under` says which types are above which, `floats` what float arithmetic answers.
-use Rattle.std.specs.Prelude.{ℕ, Bool, List, map, Option, Some, None}
+use Rattle.std.specs.Prelude.{Bool, map, Some, None}
 use Rattle.std.specs.Int.{w64, cast_unsigned}
 use Rattle.dalvik_defs.specs.Names.{Text}
 use Rattle.dalvik_defs.specs.Arith.{signed, passes}
 use Rattle.dalvik_defs.specs.Operators.{sort_of, unary_answer, comparison}
 use Rattle.dalvik_defs.specs.Items.{stored}
-use Rattle.dalvik_defs.specs.State.{World, Value, Word, Literal, Class, Frame, word_of, thing_at}
+use Rattle.dalvik_defs.specs.State.{World, Word, Literal, Class, Frame, thing_at}
 use Rattle.dalvik_defs.specs.Effect.{Effect, Goes, Throws, Gives, Calls, Makes, Reads, Writes, Locks, register, write_slot, next, go, sets, sets_wide, unless_null}
 use Rattle.dalvik_defs.specs.ActPlain.{move_slot, word_constant, exits, is_instance, casts, truth, branch, goes_to, switch_target, packed_target}
 use Rattle.dalvik_defs.specs.ActArray.{measures, new_array, filled_array, fills, array_get, array_put}
@@ -14,7 +14,7 @@ use Rattle.dalvik_defs.specs.ActNumber.{number, binary, literal, sets_number}
 use Rattle.dalvik_defs.specs.declared.forms.Form.{Form}
 use Rattle.dalvik_defs.specs.declared.forms.Form.TheVariants as form
 use Rattle.dalvik_defs.specs.declared.tables.Floats.{Floats}
-use Rattle.std.specs.Prelude.{true, false, pos}
+use Rattle.std.specs.Prelude.{false}
 
 abbrev pub act : (Text → Text → Bool) → Floats → Form → World → Frame → Effect
 act under floats form.Nop w f = Goes w (next f)

@@ -1,14 +1,13 @@
 -- What an instruction does to an array (Dalvik bytecode, "array-length", "new-array", "filled-new-array",
 -- "fill-array-data", "aget", "aput").
-use Rattle.std.specs.Prelude.{ℕ, ℤ, pos, negsuc, Bool, true, false, ◌||◌, List, [], ◌∷◌, map, length, replicate, Option, Some, None, nat_lt, slice_get, slice_set}
+use Rattle.std.specs.Prelude.{ℕ, ℤ, pos, negsuc, Bool, true, false, ◌||◌, List, [], map, length, replicate, Option, Some, None, nat_lt, slice_get, slice_set}
 use Rattle.insn_set.specs.declared.ops.Item.{Item}
 use Rattle.insn_set.specs.declared.ops.Item.TheVariants as item
 use Rattle.dalvik_defs.specs.Names.{Text, item_of}
 use Rattle.dalvik_defs.specs.Known.{negative_size, out_of_bounds, bad_store}
-use Rattle.dalvik_defs.specs.Arith.{signed}
 use Rattle.dalvik_defs.specs.Items.{stored, fill}
-use Rattle.dalvik_defs.specs.State.{World, Value, Word, Frame, Thing, Instance, Items, word_of, is_null, zero_of, thing_at, put_thing, next_object, with_thing, kind_of}
-use Rattle.dalvik_defs.specs.Effect.{Effect, Goes, Faults, Stuck, register, write, write_item, next, sets}
+use Rattle.dalvik_defs.specs.State.{World, Value, Word, Frame, Thing, Instance, Items, is_null, zero_of, put_thing, next_object, with_thing, kind_of}
+use Rattle.dalvik_defs.specs.Effect.{Effect, Goes, Faults, Stuck, register, write_item, next, sets}
 
 abbrev pub measures : Option Thing → World → Frame → ℕ → Effect
 measures (Some (Items k vs)) w f to = sets w f to (Word (length vs))

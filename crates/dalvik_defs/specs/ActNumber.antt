@@ -5,8 +5,8 @@ use Rattle.insn_set.specs.declared.ops.LiteralOp.{LiteralOp}
 use Rattle.dalvik_defs.specs.Known.{arithmetic_exception}
 use Rattle.dalvik_defs.specs.Arith.{answer, literal_answer}
 use Rattle.dalvik_defs.specs.Operators.{Sort, OnWord, OnWide, Shifts, OnFloat, OnDouble, float_word, float_wide, Number, OneWord, OneWide}
-use Rattle.dalvik_defs.specs.State.{World, Value, Word, Frame, word_of}
-use Rattle.dalvik_defs.specs.Effect.{Effect, Goes, Faults, register, sets, sets_wide}
+use Rattle.dalvik_defs.specs.State.{World, Word, Frame, word_of}
+use Rattle.dalvik_defs.specs.Effect.{Effect, Faults, register, sets, sets_wide}
 use Rattle.dalvik_defs.specs.declared.tables.Floats.{Floats}
 use Rattle.std.specs.Prelude.{true, false}
 

@@ -1,13 +1,12 @@
 -- What an instruction does: moves, constants, monitors, branches (Dalvik bytecode, "Summary of bytecode set").
 use Rattle.std.specs.Prelude.{ℕ, ◌+◌, ◌-◌, ◌%◌, ◌^◌, ℤ, Bool, true, false, ◌&&◌, not, List, [], ◌∷◌, Option, Some, None, nat_eq, slice_get, int_lt, ◌||◌}
-use Rattle.std.specs.Int.{w32, w64, cast_unsigned}
+use Rattle.std.specs.Int.{w32, cast_unsigned}
 use Rattle.insn_set.specs.declared.ops.Slot.{Slot}
 use Rattle.insn_set.specs.declared.ops.Slot.TheVariants as slot
 use Rattle.dalvik_defs.specs.Names.{Text}
 use Rattle.dalvik_defs.specs.Known.{bad_monitor, bad_cast}
-use Rattle.dalvik_defs.specs.Arith.{signed}
-use Rattle.dalvik_defs.specs.State.{World, Value, Word, Frame, word_of, is_null, kind_of}
-use Rattle.dalvik_defs.specs.Effect.{Effect, Goes, Faults, Throws, Locks, Unlocks, register, write, next, go, sets, unless_null}
+use Rattle.dalvik_defs.specs.State.{World, Value, Word, Frame, is_null, kind_of}
+use Rattle.dalvik_defs.specs.Effect.{Effect, Goes, Faults, Unlocks, register, write, next, go}
 
 -- a move reads its registers before it writes
 abbrev pub move_slot : Slot → Frame → ℕ → ℕ → Frame

@@ -1,12 +1,12 @@
 -- Arithmetic on int and long (Dalvik bytecode, "Summary of bytecode set"): numbers are bits, sums wrap, and shifts use
 -- the low 5 or 6 bits.
-use Rattle.std.specs.Prelude.{ℕ, ◌+◌, ◌-◌, ◌*◌, ◌/◌, ◌%◌, ◌^◌, ℤ, pos, negsuc, Bool, true, false, not, ◌||◌, nat_eq, int_lt, int_le, bit_and, bit_or, bit_xor, int_div, int_rem, Option, Some, None}
-use Rattle.std.specs.Int.{Width, w8, w16, w32, w64, cast_signed, cast_unsigned}
+use Rattle.std.specs.Prelude.{ℕ, ◌+◌, ◌-◌, ◌*◌, ◌/◌, ◌%◌, ◌^◌, ℤ, pos, negsuc, Bool, true, false, not, nat_eq, int_lt, int_le, bit_and, bit_or, bit_xor, int_div, int_rem, Option, Some, None}
+use Rattle.std.specs.Int.{Width, w32, w64, cast_signed, cast_unsigned}
 use Rattle.insn_set.specs.declared.ops.Test.{Test}
 use Rattle.insn_set.specs.declared.ops.Test.TheVariants.{Eq, Ne, Lt, Ge, Gt, Le}
 use Rattle.insn_set.specs.declared.ops.LiteralOp.{LiteralOp}
 use Rattle.insn_set.specs.declared.ops.LiteralOp.TheVariants as literal
-use Rattle.dalvik_defs.specs.State.{Value, Word, word_of, same_value}
+use Rattle.dalvik_defs.specs.State.{Value, word_of, same_value}
 
 -- the eleven operations
 pub data Kind : Type 0 where

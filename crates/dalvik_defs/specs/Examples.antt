@@ -1,5 +1,5 @@
 -- Small programs for the examples of `examples.rt`.
-use Rattle.std.specs.Prelude.{ℕ, ℤ, pos, negsuc, Bool, true, false, List, [], ◌∷◌, ◌++◌, Option, Some, None, codes}
+use Rattle.std.specs.Prelude.{ℕ, pos, negsuc, true, false, List, [], ◌∷◌, Option, Some, None, codes}
 use Rattle.insn_set.specs.declared.ops.Slot.TheVariants as slot
 use Rattle.insn_set.specs.declared.ops.Item.TheVariants as item
 use Rattle.insn_set.specs.declared.ops.InvokeKind.TheVariants as call
@@ -15,7 +15,6 @@ use Rattle.dalvik_defs.specs.declared.names.MethodKey.{MethodKey}
 use Rattle.dalvik_defs.specs.declared.names.FieldKey.{FieldKey}
 use Rattle.dalvik_defs.specs.declared.forms.Form.{Form}
 use Rattle.dalvik_defs.specs.declared.forms.Form.TheVariants as form
-use Rattle.dalvik_defs.specs.declared.program.NamedRegion.{NamedRegion}
 use Rattle.dalvik_defs.specs.declared.program.NamedBody.{NamedBody}
 use Rattle.dalvik_defs.specs.declared.program.NamedField.{NamedField}
 use Rattle.dalvik_defs.specs.declared.program.NamedMethod.{NamedMethod}

@@ -1,6 +1,6 @@
 -- What the machine asks of a program: its face is all but the bodies. Two programs that differ in bodies alone have one
 -- face, and the machine knows a program by its face and its bodies only.
-use Rattle.std.specs.Prelude.{ℕ, Bool, true, false, ◌&&◌, not, List, [], ◌∷◌, Option, Some, None, find, is_some}
+use Rattle.std.specs.Prelude.{ℕ, Bool, true, false, ◌&&◌, not, List, [], Option, Some, None, find, is_some}
 use Rattle.std.specs.Option.{option_map, option_and_then}
 use Rattle.dalvik_defs.specs.Names.{Text, text_eq, proto_text}
 use Rattle.dalvik_defs.specs.Flags.{is_interface, is_abstract}

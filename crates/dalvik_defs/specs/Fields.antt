@@ -1,10 +1,9 @@
 -- What fields hold (Dalvik executable format, "encoded_value"; this project's profile).
-use Rattle.std.specs.Prelude.{ℕ, Bool, true, false, Option, Some, None}
+use Rattle.std.specs.Prelude.{Bool, Option, Some, None}
 use Rattle.std.specs.Int.{w32, w64, cast_unsigned}
-use Rattle.dalvik_defs.specs.Names.{Text}
 use Rattle.dalvik_defs.specs.Face.{Place}
 use Rattle.dalvik_defs.specs.ActPlain.{truth}
-use Rattle.dalvik_defs.specs.State.{World, Value, Word, Low, Literal, Class, Thing, Instance, Items, zero_of, thing_at, put_thing, put_field}
+use Rattle.dalvik_defs.specs.State.{World, Value, Word, Low, Literal, Class, Thing, Instance, Items, zero_of, put_thing, put_field}
 use Rattle.dalvik_defs.specs.declared.names.FieldKey.{FieldKey}
 use Rattle.dalvik_defs.specs.declared.encoded.NamedValue.{NamedValue, NamedValue-F, fold-NamedValue}
 use Rattle.dalvik_defs.specs.declared.encoded.NamedValue.TheOpen as layer

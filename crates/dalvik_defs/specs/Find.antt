@@ -1,11 +1,11 @@
 -- What a name finds (this project's profile: the bytecode page gives no order of resolution).
-use Rattle.std.specs.Prelude.{ℕ, zero, suc, Bool, true, false, ◌&&◌, ◌||◌, not, List, [], ◌∷◌, ◌++◌, map, filter, length, Option, Some, None, find, is_some, flat_map}
+use Rattle.std.specs.Prelude.{ℕ, zero, suc, Bool, true, false, ◌&&◌, not, List, [], ◌∷◌, ◌++◌, map, filter, length, Option, Some, None, find, is_some, flat_map}
 use Rattle.std.specs.List.{list_any}
 use Rattle.std.specs.Option.{option_or, option_map}
 use Rattle.program_model.specs.declared.program.Version.{Version}
 use Rattle.program_model.specs.declared.program.Version.TheVariants.{V035, V037}
-use Rattle.dalvik_defs.specs.Names.{Text, text_eq, signature_eq, same_name, is_common, void, initialiser_name}
-use Rattle.dalvik_defs.specs.Flags.{is_static, is_interface, is_virtual}
+use Rattle.dalvik_defs.specs.Names.{Text, text_eq, same_name, is_common}
+use Rattle.dalvik_defs.specs.Flags.{is_interface, is_virtual}
 use Rattle.dalvik_defs.specs.Under.{class_named, is_own_under}
 use Rattle.dalvik_defs.specs.declared.names.Signature.{Signature}
 use Rattle.dalvik_defs.specs.declared.names.MethodKey.{MethodKey}

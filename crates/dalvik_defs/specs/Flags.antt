@@ -1,5 +1,5 @@
 -- Access flags (Dalvik executable format, "access_flags Definitions"), and what they make of a method.
-use Rattle.std.specs.Prelude.{ℕ, ◌/◌, ◌%◌, Bool, true, false, ◌&&◌, ◌||◌, not, List, [], ◌∷◌, nat_eq}
+use Rattle.std.specs.Prelude.{ℕ, ◌/◌, ◌%◌, Bool, false, ◌&&◌, not, [], ◌∷◌, nat_eq}
 use Rattle.dalvik_defs.specs.Names.{Text}
 
 abbrev pub has_bit : ℕ → ℕ → Bool

@@ -1,9 +1,9 @@
 -- The values that the framework gives, and which of them fit a type (this project's profile).
-use Rattle.std.specs.Prelude.{ℕ, Bool, true, false, ◌&&◌, ◌||◌, not, List, [], ◌∷◌, ◌++◌, length, Option, Some, None, slice_get, nat_lt}
+use Rattle.std.specs.Prelude.{ℕ, Bool, true, false, ◌&&◌, ◌||◌, not, List, [], ◌∷◌, length, Some, None, slice_get, nat_lt}
 use Rattle.dalvik_defs.specs.Names.{Text, is_reference, is_class_type, is_array, is_wide, is_word, base_of, throwable_type}
 use Rattle.dalvik_defs.specs.Face.{Face, is_defined, is_plain_class}
 use Rattle.dalvik_defs.specs.Outer.{Outer}
-use Rattle.dalvik_defs.specs.State.{World, Value, Word, Low, High, Object, Literal, Class, Thing, fresh, next_object, is_null, kind_of}
+use Rattle.dalvik_defs.specs.State.{World, Value, Word, Low, High, Object, Literal, Class, fresh, next_object, is_null, kind_of}
 use Rattle.dalvik_defs.specs.ActArray.{zeros}
 use Rattle.dalvik_defs.specs.Show.{with_given}
 use Rattle.dalvik_defs.specs.declared.script.Given.{Given}

@@ -1,13 +1,13 @@
 -- What an outcome does to the stack, and a class that is being initialised (this project's profile).
-use Rattle.std.specs.Prelude.{Bool, true, false, List, [], ◌∷◌, Option, Some, None}
+use Rattle.std.specs.Prelude.{List, [], ◌∷◌, Option, Some, None}
 use Rattle.dalvik_defs.specs.Names.{Text}
 use Rattle.dalvik_defs.specs.Known.{no_class}
 use Rattle.dalvik_defs.specs.Face.{Face, Bodies}
 use Rattle.dalvik_defs.specs.Outer.{Outer}
-use Rattle.dalvik_defs.specs.State.{World, Classes, Status, New, Running, Done, Failed, Frame, Waiting, Method, Initialiser, Ending, Outside, State, On, Ended, Next, quiet}
+use Rattle.dalvik_defs.specs.State.{World, Classes, Status, New, Running, Done, Failed, Frame, Waiting, Method, Initialiser, Outside, On, Ended, Next, quiet}
 use Rattle.dalvik_defs.specs.Effect.{Effect, Stuck}
 use Rattle.dalvik_defs.specs.Act.{act}
-use Rattle.dalvik_defs.specs.Outcome.{Outcome, Stays, Starts, Enters, Leaves, Ends, Raises, Halts, Need, need_of, outcome}
+use Rattle.dalvik_defs.specs.Outcome.{Outcome, Stays, Starts, Enters, Leaves, Ends, Raises, Halts, Need, outcome}
 use Rattle.dalvik_defs.specs.Stack.{enters, form_at, gives, unwinds, throws_new, left_of, goes_on, starts}
 use Rattle.dalvik_defs.specs.declared.forms.Form.{Form}
 use Rattle.dalvik_defs.specs.declared.script.Move.{Move}

@@ -1,7 +1,7 @@
 -- Which classes are initialised before a class, and by what (this project's profile).
-use Rattle.std.specs.Prelude.{ℕ, zero, suc, Bool, true, false, ◌&&◌, not, List, [], ◌∷◌, ◌++◌, filter, length, Option, Some, None, is_some, flat_map}
+use Rattle.std.specs.Prelude.{ℕ, zero, suc, Bool, true, false, ◌&&◌, not, List, [], ◌∷◌, ◌++◌, length, Option, Some, None, is_some, flat_map}
 use Rattle.std.specs.List.{list_any, list_all}
-use Rattle.dalvik_defs.specs.Names.{Text, text_eq, void, initialiser_name}
+use Rattle.dalvik_defs.specs.Names.{Text, void, initialiser_name}
 use Rattle.dalvik_defs.specs.Flags.{is_static, is_interface}
 use Rattle.dalvik_defs.specs.Under.{class_named, defines}
 use Rattle.dalvik_defs.specs.Find.{method_in, is_virtual_method, interface_named, is_037, chain_of}

@@ -1,5 +1,5 @@
 -- What is stored in an item of an array or in a field (Dalvik bytecode, "aget", "aput", "iput", "sput").
-use Rattle.std.specs.Prelude.{ℕ, ◌%◌, ◌^◌, Bool, true, false, ◌||◌, List, [], ◌∷◌, ◌++◌, map, drop, length, nat_eq, if◌then◌else◌}
+use Rattle.std.specs.Prelude.{ℕ, ◌%◌, ◌^◌, true, false, List, [], ◌∷◌, ◌++◌, map, drop, length, nat_eq, if◌then◌else◌}
 use Rattle.std.specs.Int.{w8, w16}
 use Rattle.insn_set.specs.declared.ops.Item.{Item}
 use Rattle.insn_set.specs.declared.ops.Item.TheVariants as item

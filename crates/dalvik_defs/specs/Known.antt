@@ -1,5 +1,5 @@
 -- The types of the framework that the machine itself knows (this project's profile).
-use Rattle.std.specs.Prelude.{Bool, true, false, List, [], ◌∷◌, codes}
+use Rattle.std.specs.Prelude.{false, List, [], ◌∷◌, codes}
 use Rattle.dalvik_defs.specs.Names.{Text, object_type, throwable_type, error_type}
 use Rattle.dalvik_defs.specs.declared.tables.FrameworkType.{FrameworkType}
 

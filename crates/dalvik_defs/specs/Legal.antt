@@ -1,12 +1,12 @@
 -- Which moves of the framework are legal (this project's profile).
-use Rattle.std.specs.Prelude.{ℕ, Bool, true, false, ◌&&◌, ◌||◌, not, List, [], ◌∷◌, length, Option, Some, None, nat_lt}
-use Rattle.dalvik_defs.specs.Names.{Text, method_eq, text_eq, signature_eq, is_common, initialiser_name, void, is_void, object_type}
+use Rattle.std.specs.Prelude.{Bool, true, false, ◌&&◌, ◌||◌, not, List, [], ◌∷◌, length, Option, Some, None, nat_lt}
+use Rattle.dalvik_defs.specs.Names.{Text, method_eq, text_eq, signature_eq, is_common, initialiser_name, void, is_void}
 use Rattle.dalvik_defs.specs.Flags.{is_static, is_virtual}
-use Rattle.dalvik_defs.specs.Find.{Found, Search, Nothing, Clash, Finds}
+use Rattle.dalvik_defs.specs.Find.{Found, Search, Finds}
 use Rattle.dalvik_defs.specs.Face.{Face, Place, is_concrete}
 use Rattle.dalvik_defs.specs.Outer.{Outer}
-use Rattle.dalvik_defs.specs.State.{World, Value, Thing, Instance, Items, kind_of, thing_at}
-use Rattle.dalvik_defs.specs.Gives.{gets, gets_all, fits, all_fit, is_on, may_give, exposed_at}
+use Rattle.dalvik_defs.specs.State.{World, Value, kind_of}
+use Rattle.dalvik_defs.specs.Gives.{gets, fits, all_fit, is_on, may_give}
 use Rattle.dalvik_defs.specs.declared.names.MethodKey.{MethodKey}
 use Rattle.dalvik_defs.specs.declared.names.FieldKey.{FieldKey}
 use Rattle.dalvik_defs.specs.declared.script.Given.{Given}

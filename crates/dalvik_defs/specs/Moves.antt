@@ -1,15 +1,13 @@
 -- What the framework's moves do. A move that isn't legal, or the want of one, ends the run. A move that needs a class
 -- stays in the script until the class is initialised, and is tried again (this project's profile).
-use Rattle.std.specs.Prelude.{ℕ, Bool, true, false, ◌&&◌, not, List, [], ◌∷◌, length, Option, Some, None, slice_get, slice_set, nat_lt}
-use Rattle.insn_set.specs.declared.ops.Item.{Item}
-use Rattle.dalvik_defs.specs.Names.{Text, throwable_type}
+use Rattle.std.specs.Prelude.{ℕ, true, false, ◌&&◌, List, [], ◌∷◌, length, Option, Some, None, slice_get, slice_set, nat_lt}
+use Rattle.dalvik_defs.specs.Names.{Text}
 use Rattle.dalvik_defs.specs.Flags.{is_static}
 use Rattle.dalvik_defs.specs.Known.{no_class}
 use Rattle.dalvik_defs.specs.Items.{stored, item_of_type}
 use Rattle.dalvik_defs.specs.Find.{Found}
-use Rattle.dalvik_defs.specs.Face.{Face, Bodies, Place}
-use Rattle.dalvik_defs.specs.Outer.{Outer}
-use Rattle.dalvik_defs.specs.State.{World, Classes, Value, Word, Thing, Instance, Items, Waiting, Outside, State, On, Ended, Next, quiet, thing_at, put_thing, with_thing, next_object, fresh}
+use Rattle.dalvik_defs.specs.Face.{Bodies, Place}
+use Rattle.dalvik_defs.specs.State.{World, Classes, Value, Word, Thing, Instance, Items, Waiting, Outside, On, Ended, Next, quiet, thing_at, put_thing, with_thing, next_object, fresh}
 use Rattle.dalvik_defs.specs.Fields.{static_value, instance_value, with_static, with_instance}
 use Rattle.dalvik_defs.specs.Show.{show}
 use Rattle.dalvik_defs.specs.Outcome.{Need, Ready, Fresh, Broken, need_of}

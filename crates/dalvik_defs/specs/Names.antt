@@ -1,5 +1,5 @@
 -- Texts, and what a descriptor says (Dalvik executable format, "TypeDescriptor").
-use Rattle.std.specs.Prelude.{ℕ, Bool, true, false, ◌&&◌, ◌||◌, not, List, [], ◌∷◌, ◌++◌, nat_eq, codes}
+use Rattle.std.specs.Prelude.{ℕ, Bool, true, false, ◌&&◌, ◌||◌, List, [], ◌∷◌, ◌++◌, nat_eq, codes}
 use Rattle.std.specs.Cmp.Lexicographic.{pointwise}
 use Rattle.std.specs.List.{concat, list_any}
 use Rattle.dalvik_defs.specs.declared.names.Signature.{Signature}

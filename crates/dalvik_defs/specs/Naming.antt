@@ -1,6 +1,6 @@
 -- The program that the tables and numbers of a file name: every number is replaced by its text (Dalvik executable
 -- format, "string_id_item" to "class_data_item"). Two programs are the same where what they name is equal.
-use Rattle.std.specs.Prelude.{ℕ, List, [], ◌∷◌, map, Option, Some, None, slice_get}
+use Rattle.std.specs.Prelude.{ℕ, [], map, Some, None, slice_get}
 use Rattle.std.specs.Option.{option_map}
 use Rattle.insn_set.specs.declared.form.Insn.{Insn}
 use Rattle.insn_set.specs.declared.form.Insn.TheVariants as insn
@@ -14,7 +14,7 @@ use Rattle.program_model.specs.declared.program.Program.{Program}
 use Rattle.program_model.specs.declared.value.EncValue.{EncValue, EncValue-F, fold-EncValue}
 use Rattle.program_model.specs.declared.value.EncValue.TheOpen as layer
 use Rattle.program_model.specs.declared.value.Note.{Note, Note-F, fold-Note}
-use Rattle.program_model.specs.declared.value.Element.{Element, Element-F}
+use Rattle.program_model.specs.declared.value.Element.{Element-F}
 use Rattle.program_model.specs.declared.value.Mark.{Mark}
 use Rattle.dalvik_defs.specs.Names.{Text}
 use Rattle.dalvik_defs.specs.declared.names.Signature.{Signature}

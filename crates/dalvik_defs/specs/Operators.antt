@@ -1,6 +1,6 @@
 -- What the operators are: of which kind, on words or wides, or floats, which the float table answers (Dalvik bytecode,
 -- "Summary of bytecode set").
-use Rattle.std.specs.Prelude.{ℕ, ◌+◌, ◌-◌, ◌%◌, ◌^◌, Bool, true, false, ◌&&◌, List, [], ◌∷◌, Option, Some, None, nat_eq, find}
+use Rattle.std.specs.Prelude.{ℕ, ◌-◌, ◌%◌, ◌^◌, Bool, true, ◌&&◌, [], Some, None, nat_eq, find}
 use Rattle.std.specs.Int.{w8, w16, w32, w64, cast_signed, cast_unsigned}
 use Rattle.insn_set.specs.declared.ops.BinaryOp.{BinaryOp}
 use Rattle.insn_set.specs.declared.ops.BinaryOp.TheVariants as binary

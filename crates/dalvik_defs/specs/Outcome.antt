@@ -1,7 +1,7 @@
 -- What comes of an effect by what the program and its classes answer: the frame goes on or tries again, or something
 -- begins or ends. It doesn't depend on the stack below (Dalvik bytecode, "invoke-kind", "new-instance", "sget", "iget";
 -- this project's profile).
-use Rattle.std.specs.Prelude.{ℕ, ◌+◌, ◌-◌, Bool, true, false, ◌&&◌, not, List, [], ◌∷◌, ◌++◌, Option, Some, None}
+use Rattle.std.specs.Prelude.{ℕ, ◌+◌, ◌-◌, Bool, true, false, List, [], ◌∷◌, Option, Some, None}
 use Rattle.insn_set.specs.declared.ops.Item.{Item}
 use Rattle.insn_set.specs.declared.ops.InvokeKind.{InvokeKind}
 use Rattle.insn_set.specs.declared.ops.InvokeKind.TheVariants as call
@@ -10,7 +10,7 @@ use Rattle.dalvik_defs.specs.Flags.{is_static, is_native}
 use Rattle.dalvik_defs.specs.Known.{null_pointer, no_class, class_change, abstract_method}
 use Rattle.dalvik_defs.specs.Find.{Found, Search, Nothing, Clash, Finds}
 use Rattle.dalvik_defs.specs.Face.{Face, Place, is_defined}
-use Rattle.dalvik_defs.specs.State.{World, Classes, Status, New, Running, Done, Failed, Value, Word, Frame, Thing, is_null, thing_at, next_object, with_thing, fresh, kind_of, put_lock}
+use Rattle.dalvik_defs.specs.State.{World, Classes, Status, New, Running, Done, Failed, Value, Word, Frame, is_null, thing_at, next_object, with_thing, fresh, kind_of, put_lock}
 use Rattle.dalvik_defs.specs.Fields.{key_at, static_value, instance_value, with_static, with_instance}
 use Rattle.dalvik_defs.specs.Effect.{Effect, Goes, Faults, Throws, Gives, Calls, Makes, Reads, Writes, Locks, Unlocks, Stuck, write, write_item, next}
 use Rattle.dalvik_defs.specs.Show.{show, show_all, show_option}

@@ -1,6 +1,6 @@
 -- What the framework may reach, by names: the closed table of kept classes, methods and fields, the methods whose calls
 -- do nothing, and those that no framework type declares (ProGuard manual, "Keep Options"; this project's profile).
-use Rattle.std.specs.Prelude.{ℕ, Bool, List, map}
+use Rattle.std.specs.Prelude.{ℕ, Bool, List}
 use Rattle.std.specs.List.{list_any}
 use Rattle.program_model.specs.declared.program.Program.{Program}
 use Rattle.program_model.specs.declared.pass.Outside.{Outside}

@@ -1,8 +1,8 @@
 -- How values are shown. Objects get their place in the list of exposed ones from left to right, when they are made by an
 -- event, given, or first shown; texts and classes get none (this project's profile).
-use Rattle.std.specs.Prelude.{ℕ, suc, ◌+◌, Bool, true, false, ◌&&◌, List, [], ◌∷◌, ◌++◌, drop, length, Option, Some, None, nat_eq, position, slice_get}
+use Rattle.std.specs.Prelude.{ℕ, ◌+◌, Bool, true, false, ◌&&◌, List, [], ◌∷◌, ◌++◌, drop, length, Option, Some, None, nat_eq, position, slice_get}
 use Rattle.dalvik_defs.specs.Names.{Text, is_reference, is_wide}
-use Rattle.dalvik_defs.specs.State.{World, Exposed, Value, Word, Low, High, Object, Literal, Class, Thing, next_object, with_thing, kind_of}
+use Rattle.dalvik_defs.specs.State.{World, Exposed, Value, Word, Low, High, Object, Literal, Class, Thing, with_thing, kind_of}
 use Rattle.dalvik_defs.specs.declared.events.Shown.{Shown}
 use Rattle.dalvik_defs.specs.declared.events.Shown.TheVariants as shown
 

@@ -1,13 +1,12 @@
 -- Methods that the framework can't call back, since no type of the framework declares them: shut methods (this project's
 -- profile). The framework enters declared methods alone; what it declares is read off a library of stubs.
-use Rattle.std.specs.Prelude.{ℕ, zero, suc, ◌+◌, Bool, true, false, ◌&&◌, ◌||◌, not, List, [], ◌∷◌, length, Option, Some, None, is_some}
+use Rattle.std.specs.Prelude.{ℕ, zero, suc, ◌+◌, Bool, true, false, ◌&&◌, ◌||◌, not, List, [], ◌∷◌, length, Some, None, is_some}
 use Rattle.std.specs.List.{list_any, list_all}
-use Rattle.insn_set.specs.declared.ops.InvokeKind.{InvokeKind}
 use Rattle.insn_set.specs.declared.ops.InvokeKind.TheVariants as call
 use Rattle.dalvik_defs.specs.Names.{Text, text_eq, method_eq, same_name, is_common, object_type}
 use Rattle.dalvik_defs.specs.Flags.{is_interface}
 use Rattle.dalvik_defs.specs.Under.{defines, is_own_under}
-use Rattle.dalvik_defs.specs.Find.{Search, Nothing, Clash, Finds, finds_at, is_virtual_method, is_037}
+use Rattle.dalvik_defs.specs.Find.{Search, Finds, finds_at, is_virtual_method, is_037}
 use Rattle.dalvik_defs.specs.Outer.{Outer}
 use Rattle.dalvik_defs.specs.declared.names.Signature.{Signature}
 use Rattle.dalvik_defs.specs.declared.names.MethodKey.{MethodKey}

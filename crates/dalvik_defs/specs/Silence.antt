@@ -1,7 +1,6 @@
 -- The program without its silent calls (ProGuard manual, "-assumenosideeffects").
-use Rattle.std.specs.Prelude.{ℕ, Bool, true, false, ◌&&◌, not, List, [], ◌∷◌, map, Option, Some, None}
+use Rattle.std.specs.Prelude.{Bool, true, false, ◌&&◌, not, List, [], ◌∷◌, map}
 use Rattle.std.specs.Option.{option_map}
-use Rattle.insn_set.specs.declared.ops.InvokeKind.{InvokeKind}
 use Rattle.insn_set.specs.declared.ops.InvokeKind.TheVariants as call
 use Rattle.dalvik_defs.specs.Find.{Search, Nothing, Clash, Finds, finds_statically}
 use Rattle.dalvik_defs.specs.Outer.{Outer}

@@ -13,7 +13,6 @@ use Rattle.dalvik_defs.specs.declared.forms.Form.{Form}
 use Rattle.dalvik_defs.specs.declared.forms.Form.TheVariants as form
 use Rattle.dalvik_defs.specs.declared.script.Move.{Move}
 use Rattle.dalvik_defs.specs.declared.events.Event.TheVariants as event
-use Rattle.dalvik_defs.specs.declared.program.NamedHandler.{NamedHandler}
 use Rattle.dalvik_defs.specs.declared.program.NamedRegion.{NamedRegion}
 use Rattle.dalvik_defs.specs.declared.program.NamedBody.{NamedBody}
 

@@ -3,7 +3,7 @@
 use Rattle.std.specs.Prelude.{ℕ, zero, suc, List, [], ◌∷◌, ◌++◌, Option, Some, None}
 use Rattle.dalvik_defs.specs.Face.{Bodies, face_of, bodies_of}
 use Rattle.dalvik_defs.specs.Outer.{Outer}
-use Rattle.dalvik_defs.specs.State.{World, Classes, Waiting, Method, Initialiser, Ending, Outside, State, On, Ended, Next, quiet, opening}
+use Rattle.dalvik_defs.specs.State.{Method, Initialiser, Ending, Outside, State, On, Ended, Next, quiet, opening}
 use Rattle.dalvik_defs.specs.Outcome.{need_of}
 use Rattle.dalvik_defs.specs.Stack.{ends}
 use Rattle.dalvik_defs.specs.Happens.{Setting, outcome_at, happens, initialises}

@@ -4,6 +4,10 @@ use Rattle.insn_set.specs.declared.ops.Slot.TheVariants as slot
 use Rattle.insn_set.specs.declared.ops.Item.TheVariants as item
 use Rattle.insn_set.specs.declared.ops.InvokeKind.TheVariants as call
 use Rattle.insn_set.specs.declared.ops.BinaryOp.TheVariants as binary
+use Rattle.insn_set.specs.declared.ops.UnaryOp.TheVariants as unary
+use Rattle.dalvik_defs.specs.declared.tables.FloatOp.TheVariants as floats
+use Rattle.dalvik_defs.specs.declared.tables.Floats.{Floats}
+use Rattle.dalvik_defs.specs.Names.{text_eq}
 use Rattle.program_model.specs.declared.program.Version.{Version}
 use Rattle.program_model.specs.declared.program.Version.TheVariants.{V035, V037}
 use Rattle.dalvik_defs.specs.Names.{Text, method_eq, object_type, void, no_parameters}
@@ -206,3 +210,91 @@ log_is_silent = record (keeps_m void) { silent = method_eq log_key }
 
 abbrev pub without_logs : NamedProgram
 without_logs = silenced only_logs log_is_silent (λ k. true)
+
+-- adds 1 to a long
+abbrev pub long_to_long : Signature
+long_to_long = record { parameters = codes "J" ∷ []; result = codes "J" }
+
+abbrev pub adds_long : NamedProgram
+adds_long = one_class long_to_long (code 4 2 (form.ConstWide 0 (pos 1) ∷ form.Binary binary.AddLong 0 0 2 ∷ form.Return slot.Wide 0 ∷ []))
+
+-- turns a float's sign
+abbrev pub float_to_float : Signature
+float_to_float = record { parameters = codes "F" ∷ []; result = codes "F" }
+
+abbrev pub negates : NamedProgram
+negates = one_class float_to_float (code 1 1 (form.Unary unary.NegFloat 0 0 ∷ form.Return slot.Word 0 ∷ []))
+
+abbrev pub negates_one : Floats
+negates_one = record { rows = record { op = floats.NegFloat; a = 1065353216; b = 0; result = 3212836864 } ∷ [] }
+
+-- reads a field of the framework
+abbrev pub y_key : FieldKey
+y_key = record { class = codes "LLog;"; name = codes "y"; kind = int_type }
+
+abbrev pub reads_framework : NamedProgram
+reads_framework = one_class to_int (code 1 0 (form.StaticGet item.Plain 0 y_key ∷ form.Return slot.Word 0 ∷ []))
+
+-- makes an object of LC; under LB;, whose initialiser fails
+abbrev pub c_type : Text
+c_type = codes "LC;"
+
+abbrev pub superclass_fails : NamedProgram
+superclass_fails = program V035
+    (with_m void (code 1 0 (form.NewInstance 0 c_type ∷ form.ReturnVoid ∷ []))
+    ∷ b_with_initialiser (code 1 0 (form.Const 0 (pos 0) ∷ form.Throw 0 ∷ []))
+    ∷ record (class c_type 1 [] [] []) { superclass = b_type }
+    ∷ [])
+
+-- makes an object of LB;, whose interface has a method with code and an initialiser that logs
+abbrev pub interface_starts : Version → NamedProgram
+interface_starts version = program version
+    (with_m void (code 1 0 (form.NewInstance 0 b_type ∷ form.ReturnVoid ∷ []))
+    ∷ class i_type 1537 [] [] (method (codes "<clinit>") void 65544 (Some (code 0 0 (logs ∷ form.ReturnVoid ∷ []))) ∷ r_method 1 (Some (log_code 1)) ∷ [])
+    ∷ class b_type 1 (i_type ∷ []) [] []
+    ∷ [])
+
+-- whether an array of arrays of int is one of objects
+abbrev pub tests_array : NamedProgram
+tests_array = one_class to_int (code 2 0
+    (form.Const 0 (pos 2)
+    ∷ form.NewArray 0 0 (codes "[[I")
+    ∷ form.InstanceOf 1 0 (codes "[Ljava/lang/Object;")
+    ∷ form.Return slot.Word 1
+    ∷ []))
+
+-- puts a text into an array of LA;
+abbrev pub stores_badly : NamedProgram
+stores_badly = one_class void (code 3 0
+    (form.Const 0 (pos 1)
+    ∷ form.NewArray 1 0 (codes "[LA;")
+    ∷ form.Const 0 (pos 0)
+    ∷ form.ConstString 2 (codes "x")
+    ∷ form.ArrayPut item.Object 2 1 0
+    ∷ form.ReturnVoid
+    ∷ []))
+
+-- leaves a monitor twice
+abbrev pub leaves_twice : NamedProgram
+leaves_twice = one_class void (code 1 0 (form.ConstClass 0 a_type ∷ form.MonitorEnter 0 ∷ form.MonitorExit 0 ∷ form.MonitorExit 0 ∷ form.ReturnVoid ∷ []))
+
+-- a class under another type, with a virtual method that logs
+abbrev pub called_back : Text → NamedProgram
+called_back superclass = program V035 (record (class b_type 1 [] [] (r_method 1 (Some (log_code 1)) ∷ [])) { superclass = superclass } ∷ [])
+
+abbrev pub keeps_b : Outer
+keeps_b = record { classes = text_eq b_type; methods = λ k. false; fields = λ k. false; silent = λ k. false; shut = λ k. false }
+
+abbrev pub make_and_call : List Move
+make_and_call = move.Make b_type ∷ move.Enter b_type (codes "r") (codes "()V") (given.Exposed 0 ∷ []) ∷ move.Return None ∷ []
+
+-- a switch whose first key is the greatest number, so that the second is the least
+abbrev pub switches : NamedProgram
+switches = one_class to_int (code 1 0
+    (form.Const 0 (negsuc 2147483647)
+    ∷ form.PackedSwitch 0 (pos 2147483647) (2 ∷ 4 ∷ [])
+    ∷ form.Const 0 (pos 1)
+    ∷ form.Return slot.Word 0
+    ∷ form.Const 0 (pos 2)
+    ∷ form.Return slot.Word 0
+    ∷ []))

@@ -5,8 +5,10 @@ ghost use Rattle.std.specs.Prelude.{◌≡◌, Some, None, [], ◌∷◌, codes}
 ghost use Rattle.insn_set.specs.declared.ops.InvokeKind.TheVariants as call;
 ghost use Rattle.program_model.specs.declared.program.Version.TheVariants.{V035, V037};
 ghost use Rattle.dalvik_defs.specs.Names.{void};
-ghost use Rattle.dalvik_defs.specs.Examples.{trace, to_int, int_to_int, takes_array, enter_m, throws_runtime, logged, i_type, b_type, answers_two, divides_by_zero, divides_least, catches, puts_item, initialiser_logs, initialiser_fails, class_has_r, interface_has_r, interfaces_clash, only_logs, without_logs};
-ghost use Rattle.dalvik_defs.specs.Known.{arithmetic_exception, out_of_bounds, initialiser_error, no_class, class_change};
+ghost use Rattle.dalvik_defs.specs.Examples.{trace, to_int, int_to_int, takes_array, enter_m, throws_runtime, logged, i_type, b_type, answers_two, divides_by_zero, divides_least, catches, puts_item, initialiser_logs, initialiser_fails, class_has_r, interface_has_r, keeps_m, long_to_long, adds_long, float_to_float, negates, negates_one, reads_framework, superclass_fails, interface_starts, tests_array, stores_badly, leaves_twice, called_back, keeps_b, make_and_call, switches, a_type, interfaces_clash, only_logs, without_logs};
+ghost use Rattle.dalvik_defs.specs.Known.{arithmetic_exception, out_of_bounds, initialiser_error, no_class, class_change, bad_store, bad_monitor};
+ghost use Rattle.dalvik_defs.specs.Names.{object_type};
+ghost use Rattle.dalvik_defs.specs.Step.{shows};
 ghost use Rattle.dalvik_defs.specs.declared.script.Given.TheVariants as given;
 ghost use Rattle.dalvik_defs.specs.declared.script.Move.TheVariants as move;
 ghost use Rattle.dalvik_defs.specs.declared.events.Event.TheVariants as event;
@@ -91,4 +93,70 @@ pub fn default_methods_clash()
 pub fn a_silent_call_is_dropped()
     ensures before { trace only_logs void (enter_m (codes "()V") [] ∷ []) 6 ≡ logged ∷ [] }
     ensures silenced { trace without_logs void (enter_m (codes "()V") [] ∷ []) 6 ≡ event.Result None ∷ [] }
+{}
+
+/// A long stands in two registers, and is shown as one number.
+pub fn longs_are_added()
+    ensures { trace adds_long long_to_long (enter_m (codes "(J)J") (given.Wide 5 ∷ []) ∷ []) 8
+        ≡ event.Result (Some (shown.Wide 6)) ∷ [] }
+{}
+
+/// Float arithmetic answers by its table, and 0 where there is no row.
+pub fn floats_are_answered_by_the_table()
+    ensures found { shows negates (keeps_m float_to_float) (record { rows = [] }) negates_one (enter_m (codes "(F)F") (given.Word 1065353216 ∷ []) ∷ []) 6
+        ≡ event.Result (Some (shown.Word 3212836864)) ∷ [] }
+    ensures missing { trace negates float_to_float (enter_m (codes "(F)F") (given.Word 1065353216 ∷ []) ∷ []) 6
+        ≡ event.Result (Some (shown.Word 0)) ∷ [] }
+{}
+
+/// A field of the framework is read by it, which answers as it answers a call.
+pub fn a_framework_field_is_answered()
+    ensures { trace reads_framework to_int (enter_m (codes "()I") [] ∷ move.Return (Some (given.Word 9)) ∷ []) 8
+        ≡ event.Get (codes "LLog;") (codes "y") (codes "I") None ∷ event.Result (Some (shown.Word 9)) ∷ [] }
+{}
+
+/// A superclass is initialised first, and where it fails the class fails with the same object.
+pub fn a_failed_superclass_fails_the_class()
+    ensures { trace superclass_fails void (enter_m (codes "()V") [] ∷ enter_m (codes "()V") [] ∷ []) 14
+        ≡ event.Uncaught (shown.First 0 initialiser_error) ∷ event.Uncaught (shown.First 1 no_class) ∷ [] }
+{}
+
+/// In version 037 an interface that has a method with code is initialised before a class that implements it.
+pub fn an_interface_is_initialised_first()
+    ensures of_037 { trace (interface_starts V037) void (enter_m (codes "()V") [] ∷ move.Return None ∷ []) 16
+        ≡ logged ∷ event.Result None ∷ [] }
+    ensures of_035 { trace (interface_starts V035) void (enter_m (codes "()V") [] ∷ move.Return None ∷ []) 16
+        ≡ event.Result None ∷ [] }
+{}
+
+/// An array of arrays is an array of objects.
+pub fn arrays_are_objects()
+    ensures { trace tests_array to_int (enter_m (codes "()I") [] ∷ []) 8
+        ≡ event.Result (Some (shown.Word 1)) ∷ [] }
+{}
+
+/// A text doesn't fit into an array of another class.
+pub fn a_bad_store_throws()
+    ensures { trace stores_badly void (enter_m (codes "()V") [] ∷ []) 10
+        ≡ event.Uncaught (shown.First 0 bad_store) ∷ [] }
+{}
+
+/// A monitor is shown when it is entered and left, and can't be left once more.
+pub fn a_monitor_is_left_once()
+    ensures { trace leaves_twice void (enter_m (codes "()V") [] ∷ []) 9
+        ≡ event.Lock (shown.Class a_type) ∷ event.Unlock (shown.Class a_type) ∷ event.Uncaught (shown.First 0 bad_monitor) ∷ [] }
+{}
+
+/// The framework calls back a method that isn't kept where a class of its own stands above the object's class, and else not.
+pub fn the_framework_calls_back()
+    ensures under_a_view { shows (called_back (codes "LView;")) keeps_b (record { rows = [] }) (record { rows = [] }) make_and_call 9
+        ≡ event.Make (shown.First 0 b_type) ∷ logged ∷ event.Result None ∷ [] }
+    ensures under_object { shows (called_back object_type) keeps_b (record { rows = [] }) (record { rows = [] }) make_and_call 9
+        ≡ event.Make (shown.First 0 b_type) ∷ [] }
+{}
+
+/// The keys of a packed switch wrap.
+pub fn the_keys_of_a_switch_wrap()
+    ensures { trace switches to_int (enter_m (codes "()I") [] ∷ []) 9
+        ≡ event.Result (Some (shown.Word 2)) ∷ [] }
 {}

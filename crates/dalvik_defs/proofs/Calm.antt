@@ -752,3 +752,34 @@ module _ (s : Setting) (find : Bodies) (calm : Text → Bool) where
 
     pub calm_shown : (script : List Move) → Shows s find s find (calm_opening calm script) (opening script)
     calm_shown script = follows_shows s find s find Back calm_followed (calm_opening calm script) (opening script) (calm_classes calm, (refl, (calm_agree, tt)))
+
+    -- ---- in a run that begins with the calm classes done they stay so
+
+    pub record CalmState (u : State) : Type 0 where
+      pub from : State
+      pub core : Core from u
+
+    pub calm_start : (script : List Move) → CalmState (calm_opening calm script)
+    calm_start script = record { from = opening script; core = (calm_classes calm, (refl, (calm_agree, tt))) }
+
+    next_calm : (t u : State) → Prepared t u → CalmState (step s find u).0
+    next_calm t u (Now g) = record { from = g.to; core = g.core }
+    next_calm t u (Later t0 t1 e q g k) = record { from = g.to; core = g.core }
+
+    pub calm_keeps : (u : State) → CalmState u → CalmState (step s find u).0
+    calm_keeps u h = next_calm h.from u (prepared h.from u h.core)
+
+    abbrev is_on : State → Bool
+    is_on Ended = false
+    is_on (On w c stack script) = true
+
+    abbrev classes_of : State → Classes
+    classes_of Ended = λ t. New
+    classes_of (On w c stack script) = c
+
+    core_done : (t : State) (w : World) (c : Classes) (stack : List Waiting) (script : List Move) → Core t (On w c stack script) → (d : Text) → calm d ≡ true → c d ≡ Done
+    core_done Ended w c stack script h d e = absurd (true≢false (ap is_on h))
+    core_done (On v b r z) w c stack script h d e = ap (λ x. classes_of x d) h.1.0 ∙ h.1.1.0.done d e
+
+    pub calm_done : (w : World) (c : Classes) (stack : List Waiting) (script : List Move) → CalmState (On w c stack script) → (d : Text) → calm d ≡ true → c d ≡ Done
+    calm_done w c stack script h d e = core_done h.from w c stack script h.core d e

@@ -1,3 +1,5 @@
 pub mod Unread
+pub mod Anything
+pub mod Flows
 pub mod Conditional
 pub mod Idle

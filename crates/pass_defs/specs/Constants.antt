@@ -35,6 +35,10 @@ Solution = Facts Flat
 abbrev pub IsSolution : NamedProgram → Outer → Solution → Type 0
 IsSolution p o t = IsClosed flat p o t
 
+-- the table that knows nothing
+abbrev pub anything : Solution
+anything = record { parameters = λ k i. Any; results = λ k. Any; registers = λ k n. Some (λ r. Any); fields = λ k. Any }
+
 -- every constants solution reaches a position
 abbrev pub IsAlwaysReached : NamedProgram → Outer → MethodKey → ℕ → Type 0
 IsAlwaysReached p o k n = (t : Solution) → IsSolution p o t → is_some (t.registers k n) ≡ true

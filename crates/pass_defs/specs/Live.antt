@@ -52,6 +52,10 @@ pub record Family : Type 0 where
   pub fields : FieldKey → Bool
   pub methods : MethodKey → Bool
 
+-- the family that has all
+abbrev pub everything : Family
+everything = record { classes = λ t. true; made = λ t. true; fields = λ k. true; methods = λ k. true }
+
 -- a class that the rules keep, also where it is kept because its owner is live
 abbrev pub is_kept : NamedProgram → Outer → Conditions → Family → Text → Bool
 is_kept p o k s t = o.classes t || list_any (λ c. k.classes t c.name && s.classes c.name) p.classes

@@ -1,29 +1,26 @@
 -- The examples: what computes is refl, and bounds are decided.
-use Rattle.std.proofs.Common.{◌≡◌, ◌≤◌, ◌<◌, ◌+◌, ℕ, zero, suc, pos, List, [], ◌∷◌, length, take, drop, refl, Some, None, arith}
+use Rattle.std.proofs.Common.{◌≡◌, ◌≤◌, ◌<◌, ◌+◌, ℕ, List, [], ◌∷◌, length, take, drop, refl, arith}
 use Rattle.std.specs.Int.{w32, from_le_bytes}
 use Rattle.std.proofs.lemmas.Bool.{leb-true}
 use Rattle.std.proofs.lemmas.List.Elements.{All-nil}
 use Rattle.std.proofs.Math.Dec.{leb}
-use Rattle.std.specs.Prelude.{true, false, map}
+use Rattle.std.specs.Prelude.{true, map}
 use Rattle.dex_base.specs.Word.{Is32}
 use Rattle.dex_base.specs.Adler.{adler_of}
 use Rattle.insn_set.specs.declared.format.Format.TheVariants.{F31t, F10x}
 use Rattle.code_read.specs.Opcodes.{format_at}
 use Rattle.code_read.specs.Forms.{plain}
-use Rattle.code_read.specs.declared.fields.Fields.{Fields}
-use Rattle.relax.specs.Sizes.{start, IsLeast, HasRoom, Below}
-use Rattle.dex_pools.specs.declared.header.Extent.{Extent}
-use Rattle.dex_pools.specs.declared.header.Extents.{Extents}
+use Rattle.relax.specs.Sizes.{start, HasRoom, Below}
 use Rattle.dex_pools.specs.Spelled.{SpellsPools, IsExtent}
 use Rattle.dex_defs.specs.Header.{IsHeader}
 use Rattle.dex_defs.specs.Spells.{Spells, pools_of}
 use Rattle.dex_defs.specs.Parts.{Short, Bytes}
 use Rattle.dex_defs.specs.Placed.{Tables, TheHeader}
 use Rattle.dex_defs.specs.ClassFaults.{HasFault, BadPart}
-use Rattle.dex_defs.specs.Sweep.{Piece, IsPiece, IsSwept, Places, places_of, instructions}
-use Rattle.dex_defs.specs.Instructions.{AreInsns, IsInsn, Packed, Plain, HasFields, IsPacked, IsPayloadOf, GoesTo}
+use Rattle.dex_defs.specs.Sweep.{Piece, IsSwept, places_of, instructions}
+use Rattle.dex_defs.specs.Instructions.{AreInsns, Packed, Plain}
 use Rattle.dex_defs.specs.LaysOut.{AreSizes, IsNear, step_of, LaysOutBody}
-use Rattle.dex_defs.specs.Examples.{empty_program, unsigned_file, only_map, switch_body, switch_insns, switch_units, switch_sizes}
+use Rattle.dex_defs.specs.Examples.{empty_program, unsigned_file, switch_body, switch_insns, switch_units, switch_sizes}
 
 at_most : (a b : ℕ) → leb a b ≡ true → a ≤ b
 at_most a b e = leb-true a b e

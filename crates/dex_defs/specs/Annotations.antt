@@ -1,5 +1,5 @@
 -- Annotations (Dalvik executable format, "annotations_directory_item", "annotation_set_item", "annotation_set_ref_list").
-use Rattle.std.specs.Prelude.{◌≡◌, ◌+◌, ◌*◌, ℕ, zero, suc, List, [], ◌∷◌, length, Ok, ◌==◌, if◌then◌else◌, Bool, nat_lt, nat_eq}
+use Rattle.std.specs.Prelude.{◌≡◌, ◌+◌, ◌*◌, ℕ, zero, suc, List, [], ◌∷◌, length, Ok, if◌then◌else◌, Bool, nat_lt, nat_eq}
 use Rattle.dex_base.specs.Word.{Is32}
 use Rattle.dex_base.specs.Decides.{Each}
 use Rattle.program_model.specs.declared.value.Mark.{Mark}

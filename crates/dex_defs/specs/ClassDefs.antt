@@ -8,7 +8,7 @@ use Rattle.program_model.specs.declared.program.Class.{Class}
 use Rattle.program_model.specs.declared.program.Program.{Program}
 use Rattle.program_model.specs.declared.value.EncValue.{EncValue}
 use Rattle.dex_pools.specs.declared.scalar.TableSizes.{TableSizes}
-use Rattle.dex_pools.specs.Spelled.{IsIndex, AreParameters}
+use Rattle.dex_pools.specs.Spelled.{AreParameters}
 use Rattle.dex_defs.specs.Values.{AreValuesOf, AreFirsts}
 use Rattle.dex_defs.specs.Annotations.{Directory, IsDirectoryOf, offset_for, AreMarksOf, AreParameterMarksOf}
 use Rattle.dex_defs.specs.ClassData.{Entry, Lists, IsClassDataOf}

@@ -1,15 +1,14 @@
 -- What is wrong with classes, members and their code, and the whole of the faults.
-use Rattle.std.specs.Prelude.{◌≡◌, ◌+◌, ◌*◌, ◌<◌, ◌≤◌, ℕ, zero, suc, List, length, sum_by, slice_get, codes, Bool, true, false, not, ◌||◌, ◌==◌, nat_lt, bit_and, Some, if◌then◌else◌}
+use Rattle.std.specs.Prelude.{◌≡◌, ◌+◌, ◌*◌, ◌<◌, ◌≤◌, ℕ, zero, suc, List, sum_by, codes, Bool, true, false, not, ◌||◌, ◌==◌, bit_and, if◌then◌else◌}
 use Rattle.dex_base.specs.Word.{Is16, Is32}
 use Rattle.dex_base.specs.Leb.{IsUlebAt}
 use Rattle.program_model.specs.Texts.{first_unit, is_wide}
 use Rattle.program_model.specs.declared.program.Program.{Program}
 use Rattle.code_read.specs.declared.fault.CodeFault.{CodeFault}
 use Rattle.code_read.specs.declared.sizes.Sizes.{Sizes}
-use Rattle.dex_pools.specs.Spelled.{AreParameters, IsTypeList}
 use Rattle.dex_defs.specs.Parts.{Fault, Index, Code, Member, Root, FrameSize, Cycle, Twice, SplitOverride, Part, IsBad}
 use Rattle.dex_defs.specs.Places.{IsEntryAt, HasDef, Leads, EntryStands, HasEntry, HasFrame, PairStands}
-use Rattle.dex_defs.specs.Placed.{HasSize, HasTypeList, IsPlaced}
+use Rattle.dex_defs.specs.Placed.{HasSize, IsPlaced}
 use Rattle.dex_defs.specs.Faults.{InHeader, InPools, OutOfOrder, InValues, HasText, HasTypeText, HasLetter, HasProto, IsPairOf}
 use Rattle.dex_defs.specs.ClassDefs.{Def, none}
 use Rattle.dex_defs.specs.ClassData.{Entry}

@@ -1,6 +1,6 @@
 -- Classes and what stands above them (Dalvik executable format, "class_def_item"; for package-private methods, JVM specification,
 -- "Method overriding").
-use Rattle.std.specs.Prelude.{◌≡◌, ◌<◌, ℕ, List, [], ◌∷◌, Bool, true, not, ◌||◌, ◌&&◌, nat_eq, ◌==◌, Some, slice_get, if◌then◌else◌}
+use Rattle.std.specs.Prelude.{◌≡◌, ◌<◌, ℕ, List, [], ◌∷◌, Bool, true, not, ◌||◌, nat_eq, ◌==◌, Some, slice_get, if◌then◌else◌}
 use Rattle.std.specs.List.{list_any}
 use Rattle.program_model.specs.declared.flags.Flags.{Flags}
 use Rattle.program_model.specs.declared.pools.MethodName.{MethodName}

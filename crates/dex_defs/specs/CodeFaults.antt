@@ -1,6 +1,6 @@
 -- What is wrong with the code of a method (Dalvik bytecode, and Dalvik executable format, "code_item"). Units, instructions and
 -- try items are judged one by one; a fault stands whatever else is wrong.
-use Rattle.std.specs.Prelude.{◌≡◌, ◌+◌, ◌*◌, ◌<◌, ◌≤◌, ◌%◌, ℕ, zero, suc, pos, List, [], ◌∷◌, ◌++◌, length, drop, take, replicate, slice_index, slice_get, Bool, true, false, not, ◌||◌, ◌&&◌, ◌==◌, nat_lt, Option, Some, None}
+use Rattle.std.specs.Prelude.{◌≡◌, ◌+◌, ◌*◌, ◌<◌, ◌≤◌, ◌%◌, ℕ, suc, pos, List, [], ◌∷◌, ◌++◌, length, drop, take, replicate, slice_index, slice_get, Bool, true, false, not, ◌||◌, ◌==◌, Some, None}
 use Rattle.std.specs.List.{list_any}
 use Rattle.insn_set.specs.Spelling.{is_width, keys_ascend}
 use Rattle.insn_set.specs.declared.form.Insn.{Insn}
@@ -15,7 +15,7 @@ use Rattle.code_read.specs.Branches.{offset_form, branch_form}
 use Rattle.code_read.specs.Marks.{set_targets, set_regions}
 use Rattle.code_read.specs.Order.{stands}
 use Rattle.program_model.specs.declared.body.Region.{Region}
-use Rattle.dex_base.specs.Decides.{Each, Entries}
+use Rattle.dex_base.specs.Decides.{Entries}
 use Rattle.dex_defs.specs.Sweep.{Piece, Places, PiecesTo, IsSwept, piece_size, payload_kind, instructions, places_of}
 use Rattle.dex_defs.specs.Instructions.{HasFields, opcode, is_branch, is_call, has_payload, most_words, call_form, GoesTo, IsPayloadOf, signed_at, AreInsns}
 use Rattle.dex_defs.specs.Handlers.{Try, Catches, IsTry, covers, covering, AreCatchesAt, AreRegions}

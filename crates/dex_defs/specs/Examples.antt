@@ -1,9 +1,11 @@
 -- Files and bodies for the examples of `examples.rt`.
-use Rattle.std.specs.Prelude.{ℕ, pos, List, [], ◌∷◌, ◌++◌, replicate}
+use Rattle.std.specs.Prelude.{ℕ, pos, List, [], ◌∷◌, ◌++◌, replicate, None, codes}
 use Rattle.insn_set.specs.declared.form.Insn.{Insn}
 use Rattle.insn_set.specs.declared.form.Insn.TheVariants.{PackedSwitch, ReturnVoid}
 use Rattle.program_model.specs.declared.body.Body.{Body}
 use Rattle.program_model.specs.declared.program.Version.TheVariants.{V035}
+use Rattle.program_model.specs.declared.flags.Flags.{Flags}
+use Rattle.program_model.specs.declared.program.Class.{Class}
 use Rattle.program_model.specs.declared.program.Program.{Program}
 use Rattle.dex_defs.specs.Header.{magic_of}
 use Rattle.dex_defs.specs.Texts.{words}
@@ -34,3 +36,27 @@ switch_units = 0x002b ∷ 0x0004 ∷ 0x0000 ∷ 0x000e ∷ 0x0100 ∷ 0x0001 ∷
 
 abbrev pub switch_sizes : List ℕ
 switch_sizes = 3 ∷ 1 ∷ []
+
+-- two classes, of which the first is under the second
+abbrev pub bare_class : Flags → ℕ → ℕ → Class
+bare_class flags name superclass = record {
+  name = name;
+  flags = flags;
+  superclass = superclass;
+  interfaces = [];
+  source = None;
+  marks = [];
+  fields = [];
+  methods = [];
+}
+
+abbrev pub lower_first : Flags → Program
+lower_first flags = record {
+  strings = codes "LA;" ∷ codes "LB;" ∷ codes "Ljava/lang/Object;" ∷ [];
+  types = 0 ∷ 1 ∷ 2 ∷ [];
+  protos = [];
+  fields = [];
+  methods = [];
+  classes = bare_class flags 0 1 ∷ bare_class flags 1 2 ∷ [];
+  version = V035;
+}

@@ -1,34 +1,26 @@
 -- Which faults stand in the bytes of a file. A part or an item is judged where it is placed, whatever else is wrong; several faults
 -- may stand in one file.
-use Rattle.std.specs.Prelude.{◌≡◌, ◌+◌, ◌*◌, ◌<◌, ◌≤◌, ◌⊎◌, ℕ, zero, suc, List, [], ◌∷◌, ◌++◌, length, take, drop, map, sum_by, slice_index, slice_get, codes, Bool, true, false, not, ◌||◌, ◌&&◌, ◌==◌, nat_eq, nat_lt, Option, Some, None, if◌then◌else◌}
+use Rattle.std.specs.Prelude.{◌≡◌, ◌+◌, ◌*◌, ◌<◌, ◌≤◌, ℕ, zero, suc, List, [], ◌∷◌, length, take, drop, map, slice_get, Bool, false, ◌||◌, ◌==◌, Some, if◌then◌else◌}
 use Rattle.std.specs.Int.{w32, from_le_bytes}
-use Rattle.std.specs.List.{flat_map, list_any}
+use Rattle.std.specs.List.{flat_map}
 use Rattle.dex_base.specs.declared.fault.BaseFault.TheVariants as base
 use Rattle.dex_base.specs.Adler.{adler_of}
 use Rattle.dex_base.specs.Word.{Is16, Is32}
 use Rattle.dex_base.specs.Leb.{IsUlebAt}
 use Rattle.dex_base.specs.Mutf8.{IsTextAt, unit_bytes}
 use Rattle.dex_base.specs.Grammar.{BadDescriptorIn}
-use Rattle.program_model.specs.Texts.{first_unit, is_wide, is_reference}
+use Rattle.program_model.specs.Texts.{first_unit, is_reference}
 use Rattle.program_model.specs.declared.program.Version.{Version}
-use Rattle.program_model.specs.declared.program.Program.{Program}
-use Rattle.code_read.specs.declared.fault.CodeFault.{CodeFault}
-use Rattle.code_read.specs.declared.sizes.Sizes.{Sizes}
-use Rattle.dex_pools.specs.declared.fault.Table.{Table}
 use Rattle.dex_pools.specs.declared.fault.Table.TheVariants as table
 use Rattle.dex_pools.specs.Order.{list_below, three_below}
-use Rattle.dex_pools.specs.Spelled.{IsTypeList, AreParameters}
+use Rattle.dex_pools.specs.Spelled.{AreParameters}
 use Rattle.dex_pools.specs.Value.{most_argument, is_within}
 use Rattle.dex_defs.specs.Header.{magic_of}
-use Rattle.dex_defs.specs.Parts.{Fault, Magic, Header, Checksum, BadDescriptor, Index, Order, BadValue, Deep, Shorty, Code, Member, Root, FrameSize, Cycle, Twice, SplitOverride, Part, IsBad}
-use Rattle.dex_defs.specs.Places.{IsEntryAt, HasDef, Leads, HasCounts, EntryStands, HasEntry, HasFrame, HasDirectory, DirectoryCounts, PairStands, ListedAt, HasSet, HasArray, HasValue, HasTag, tag_at, argument_at, IsItemOf, ElementStands}
-use Rattle.dex_defs.specs.Placed.{HasSize, HasNote, IsPlaced}
+use Rattle.dex_defs.specs.Parts.{Fault, Magic, Header, Checksum, BadDescriptor, Index, Order, BadValue, Deep, Shorty}
+use Rattle.dex_defs.specs.Places.{IsEntryAt, HasDef, Leads, EntryStands, HasEntry, HasDirectory, DirectoryCounts, PairStands, ListedAt, HasSet, HasArray, HasValue, HasTag, tag_at, argument_at, IsItemOf, ElementStands}
+use Rattle.dex_defs.specs.Placed.{HasSize, HasNote}
 use Rattle.dex_defs.specs.ClassDefs.{Def}
 use Rattle.dex_defs.specs.ClassData.{Entry}
-use Rattle.dex_defs.specs.CodeItems.{Frame}
-use Rattle.dex_defs.specs.CodeFaults.{BadCode}
-use Rattle.dex_defs.specs.Spells.{Spells}
-use Rattle.dex_defs.specs.ClassGraph.{IsTwice, IsCycle, IsSplit}
 
 -- ---- the header
 

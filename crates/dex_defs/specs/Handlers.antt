@@ -1,5 +1,5 @@
 -- Try items and handler lists (Dalvik executable format, "try_item", "encoded_catch_handler_list").
-use Rattle.std.specs.Prelude.{◌≡◌, ◌+◌, ◌-◌, ◌*◌, ◌<◌, ◌≤◌, ℕ, zero, suc, ℤ, pos, negsuc, List, [], ◌∷◌, length, slice_get, Option, Some, None, Bool, nat_lt, if◌then◌else◌}
+use Rattle.std.specs.Prelude.{◌≡◌, ◌+◌, ◌<◌, ◌≤◌, ℕ, suc, ℤ, pos, negsuc, List, [], ◌∷◌, length, slice_get, Option, Some, None, Bool, nat_lt, if◌then◌else◌}
 use Rattle.dex_base.specs.Word.{Is16, Is32}
 use Rattle.dex_base.specs.Leb.{IsUlebAt, IsSlebAt}
 use Rattle.dex_base.specs.Decides.{ChainOf}

@@ -1,5 +1,5 @@
 -- The parts of a file that are wrong by themselves: numbers, texts, indexes.
-use Rattle.std.specs.Prelude.{◌≡◌, ◌+◌, ◌*◌, ◌<◌, ◌≤◌, ◌⊎◌, ℕ, List, length}
+use Rattle.std.specs.Prelude.{◌≡◌, ◌+◌, ◌<◌, ◌≤◌, ℕ, List, length}
 use Rattle.dex_base.specs.declared.fault.BaseFault.{BaseFault}
 use Rattle.dex_base.specs.declared.fault.BaseFault.TheVariants as base
 use Rattle.dex_base.specs.Word.{Is16, Is32}

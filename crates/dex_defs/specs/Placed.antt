@@ -1,13 +1,13 @@
 -- Which parts are placed in a file: one constructor for each, whose premises are the placing numbers alone.
-use Rattle.std.specs.Prelude.{◌≡◌, ◌+◌, ◌*◌, ◌<◌, ◌≤◌, ℕ, zero, suc, List, length}
-use Rattle.dex_base.specs.Word.{Is16, Is32}
+use Rattle.std.specs.Prelude.{◌≡◌, ◌+◌, ◌*◌, ◌<◌, ◌≤◌, ℕ, List}
+use Rattle.dex_base.specs.Word.{Is32}
 use Rattle.dex_base.specs.Leb.{IsUlebAt}
 use Rattle.dex_pools.specs.declared.header.Extent.{Extent}
 use Rattle.dex_defs.specs.Parts.{Part, Bytes, Number, Units, IndexOf, HalfIndexOf, NumberIndexOf, IndexOrNone}
 use Rattle.dex_defs.specs.ClassDefs.{Def}
 use Rattle.dex_defs.specs.ClassData.{Entry}
 use Rattle.dex_defs.specs.CodeItems.{Frame, tries_at}
-use Rattle.dex_defs.specs.Places.{IsTable, IsEntryAt, HasDef, Leads, HasCounts, EntryStands, HasEntry, HasFrame, HasDirectory, DirectoryCounts, PairStands, ListedAt, HasRefs, HasSet, HasMark, HasArray, HasValue, HasTag, tag_at, argument_at, NoteBegins, ElementStands}
+use Rattle.dex_defs.specs.Places.{IsTable, IsEntryAt, HasDef, Leads, EntryStands, HasEntry, HasFrame, HasDirectory, DirectoryCounts, PairStands, HasRefs, HasSet, HasMark, HasArray, HasValue, HasTag, tag_at, argument_at, ElementStands}
 
 -- where the header names a table, and how wide its entries are
 pub data IsTableAt (header width : ℕ) : Type 0 where

@@ -1,5 +1,5 @@
 -- Where the items of a file and their parts stand, by the numbers alone that place them: nothing is asked of other items.
-use Rattle.std.specs.Prelude.{◌≡◌, ◌+◌, ◌*◌, ◌<◌, ◌≤◌, ◌/◌, ◌%◌, ◌⊎◌, ℕ, zero, suc, List, [], ◌∷◌, length, slice_index, nat_lt, ◌==◌, true, false, if◌then◌else◌}
+use Rattle.std.specs.Prelude.{◌≡◌, ◌+◌, ◌*◌, ◌<◌, ◌≤◌, ◌/◌, ◌%◌, ℕ, zero, suc, List, [], ◌∷◌, length, slice_index, true}
 use Rattle.dex_base.specs.Word.{Is32}
 use Rattle.dex_base.specs.Leb.{IsUlebAt}
 use Rattle.dex_base.specs.Decides.{ChainOf}

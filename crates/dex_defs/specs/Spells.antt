@@ -1,6 +1,6 @@
 -- Which program the bytes of a file spell. A relation: items are found by their offsets, may be shared and may stand anywhere, and
 -- what a reader need not check is not asked.
-use Rattle.std.specs.Prelude.{◌≡◌, ◌+◌, ◌*◌, ℕ, List, length}
+use Rattle.std.specs.Prelude.{◌+◌, ◌*◌, ℕ, List}
 use Rattle.dex_base.specs.Decides.{Entries}
 use Rattle.program_model.specs.declared.program.Program.{Program}
 use Rattle.dex_pools.specs.declared.header.Extent.{Extent}

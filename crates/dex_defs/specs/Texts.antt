@@ -1,6 +1,6 @@
 -- Items as they are written: with the shortest spellings (Dalvik executable format).
-use Rattle.std.specs.Prelude.{◌≡◌, ◌+◌, ◌-◌, ◌*◌, ◌<◌, ◌≤◌, ◌^◌, ℕ, zero, suc, ℤ, pos, ◌-ℤ◌, List, [], ◌∷◌, ◌++◌, length, take, drop, min, max, map, slice_index, slice_get, slice_index_or, Some, if◌then◌else◌}
-use Rattle.std.specs.List.{All, flat_map, concat}
+use Rattle.std.specs.Prelude.{◌≡◌, ◌+◌, ◌-◌, ◌<◌, ◌≤◌, ℕ, ℤ, pos, ◌-ℤ◌, List, [], ◌∷◌, ◌++◌, length, take, drop, min, max, slice_index, slice_index_or, Some}
+use Rattle.std.specs.List.{flat_map, concat}
 use Rattle.std.specs.Int.{w32, to_le_bytes}
 use Rattle.dex_base.specs.Leb.{uleb_text}
 use Rattle.dex_base.specs.Mutf8.{text_bytes}

@@ -11,13 +11,9 @@ use Rattle.program_model.specs.declared.program.Program.{Program}
 use Rattle.program_model.specs.Texts.{is_reference}
 use Rattle.program_model.specs.MemberRules.{field_letter}
 use Rattle.dex_pools.specs.declared.scalar.TableSizes.{TableSizes}
-use Rattle.dex_pools.specs.Value.{whole_value_at, value_at, array_in}
+use Rattle.dex_pools.specs.Value.{value_at, array_in}
 
--- the value at this place, which ends there; a value is read whatever the rest of the file has of items
-pub record IsValue (bytes : List ℕ) (sizes : TableSizes) (at : ℕ) (v : EncValue) (stop : ℕ) : Type 0 where
-  pub left : ℕ
-  pub spare : ℕ
-  pub is : whole_value_at bytes sizes (at, left) ≡ Ok (v, (stop, spare))
+-- Values are read whatever the rest of the file has of items.
 
 -- the values of the array at this place
 pub record AreValues (bytes : List ℕ) (sizes : TableSizes) (at : ℕ) (vs : List EncValue) : Type 0 where

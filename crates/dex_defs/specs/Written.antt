@@ -1,12 +1,12 @@
 -- The program that is written for a program: its used entries alone, renumbered in order, members in the order of the new numbers,
 -- and each class behind those of its superclass and interfaces.
-use Rattle.std.specs.Prelude.{◌≡◌, ◌+◌, ℕ, zero, suc, List, [], ◌∷◌, ◌++◌, length, map, replicate, nat_lt, nat_eq, Bool, true, false, not, ◌&&◌, ◌||◌, Option, Some, None, slice_get, slice_index_or, if◌then◌else◌}
+use Rattle.std.specs.Prelude.{◌≡◌, ◌+◌, ℕ, zero, suc, List, [], ◌∷◌, ◌++◌, length, map, nat_lt, nat_eq, Bool, Option, Some, None, slice_get, if◌then◌else◌}
 use Rattle.std.specs.List.{flat_map, list_any}
 use Rattle.std.specs.Option.{option_map}
 use Rattle.insn_set.specs.declared.form.Insn.{Insn}
 use Rattle.insn_set.specs.declared.form.Insn.TheVariants as insn
 use Rattle.program_model.specs.Lookups.{class_place}
-use Rattle.program_model.specs.MemberRules.{is_static, is_direct}
+use Rattle.program_model.specs.MemberRules.{is_static, is_direct, in_groups}
 use Rattle.program_model.specs.declared.pass.Renumber.{Renumber}
 use Rattle.program_model.specs.declared.pools.Proto.{Proto}
 use Rattle.program_model.specs.declared.pools.FieldName.{FieldName}
@@ -132,16 +132,11 @@ written_method r m = record {
 }
 
 -- static fields before instance fields, direct methods before virtual ones, each group by number
-abbrev pub grouped : Bool → Bool → Bool → Bool
-grouped true false ascends = true
-grouped false true ascends = false
-grouped one two ascends = ascends
-
 abbrev pub field_below : Field → Field → Bool
-field_below f g = grouped (is_static f.flags) (is_static g.flags) (nat_lt f.name g.name)
+field_below f g = in_groups (is_static f.flags) (is_static g.flags) (nat_lt f.name g.name)
 
 abbrev pub method_below : Renumber → Program → Method → Method → Bool
-method_below r p m n = grouped (is_direct p m) (is_direct p n) (nat_lt (new_method r m.name) (new_method r n.name))
+method_below r p m n = in_groups (is_direct p m) (is_direct p n) (nat_lt (new_method r m.name) (new_method r n.name))
 
 abbrev pub written_class : Renumber → Program → Class → Class
 written_class r p c = record {

@@ -1,19 +1,19 @@
 //! Examples of files and bodies: those of `specs/Examples.antt`.
 
-ghost use Rattle.std.specs.Prelude.{◌≡◌, List, [], ◌∷◌, take, length};
+ghost use Rattle.std.specs.Prelude.{◌≡◌, ℕ, List, [], ◌∷◌, take, length};
 ghost use Rattle.relax.specs.Sizes.{start};
 ghost use Rattle.relax.specs.Payloads.{payload_places, payload_end};
 ghost use Rattle.dex_defs.specs.Parts.{Short};
 ghost use Rattle.dex_defs.specs.Spells.{Spells};
-ghost use Rattle.dex_defs.specs.Valid.{map_words, header_words, LieIn};
+ghost use Rattle.dex_defs.specs.Valid.{ValidFile, map_words, header_words, LieIn};
 ghost use Rattle.dex_defs.specs.Texts.{Here, words};
 ghost use Rattle.dex_defs.specs.ClassFaults.{HasFault};
 ghost use Rattle.dex_defs.specs.Sweep.{Piece, IsSwept, places_of, instructions};
 ghost use Rattle.dex_defs.specs.Instructions.{AreInsns};
 ghost use Rattle.dex_defs.specs.LaysOut.{AreSizes, LaysOutBody};
-ghost use Rattle.dex_defs.specs.WellFormed.{WellFormed};
 ghost use Rattle.dex_defs.specs.Written.{class_order};
-ghost use Rattle.dex_defs.specs.Examples.{empty_program, unsigned_file, only_map, switch_body, switch_insns, switch_units, switch_sizes};
+ghost use Rattle.program_model.specs.declared.flags.Flags.{Flags};
+ghost use Rattle.dex_defs.specs.Examples.{lower_first, empty_program, unsigned_file, only_map, switch_body, switch_insns, switch_units, switch_sizes};
 
 /// The 140 bytes of the program of nothing spell it, with a map of two entries behind the header. All that a valid
 /// file has but the signature is there.
@@ -42,4 +42,14 @@ pub fn a_switch_lays_out()
 /// Its ten units are swept into the two instructions and the table, and are the body.
 pub fn a_switch_is_swept()
     ensures { (pieces : List Piece) × IsSwept switch_units pieces × AreInsns (places_of switch_units pieces) (instructions pieces) switch_insns }
+{}
+
+/// A class is written behind its superclass.
+pub fn a_superclass_is_written_first()
+    ensures { (flags : Flags) → class_order (lower_first flags) ≡ 1 ∷ 0 ∷ [] }
+{}
+
+/// A valid file spells its program.
+pub fn a_valid_file_is_spelled()
+    ensures { (bytes : List ℕ) (file : ValidFile bytes) → Spells bytes file.program }
 {}

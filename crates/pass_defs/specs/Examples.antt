@@ -4,10 +4,12 @@ use Rattle.insn_set.specs.declared.ops.Slot.TheVariants as slot
 use Rattle.insn_set.specs.declared.ops.Item.TheVariants as item
 use Rattle.insn_set.specs.declared.ops.Test.TheVariants as test
 use Rattle.insn_set.specs.declared.ops.BinaryOp.TheVariants as binary
+use Rattle.insn_set.specs.declared.ops.LiteralOp.TheVariants as literal
+use Rattle.insn_set.specs.declared.ops.InvokeKind.TheVariants as call
 use Rattle.program_model.specs.declared.program.Version.TheVariants.{V035, V037}
-use Rattle.dalvik_defs.specs.Names.{Text, field_eq, void}
+use Rattle.dalvik_defs.specs.Names.{Text, field_eq, object_type, void}
 use Rattle.dalvik_defs.specs.Outer.{Outer}
-use Rattle.dalvik_defs.specs.Examples.{a_type, b_type, int_type, code, method, class, program, with_m, one_class, m_key, keeps_m}
+use Rattle.dalvik_defs.specs.Examples.{a_type, b_type, int_type, to_int, code, method, class, program, constructor, constructor_key, with_m, one_class, m_key, keeps_m}
 use Rattle.dalvik_defs.specs.declared.names.Signature.{Signature}
 use Rattle.dalvik_defs.specs.declared.names.FieldKey.{FieldKey}
 use Rattle.dalvik_defs.specs.declared.forms.Form.{Form}
@@ -17,7 +19,7 @@ use Rattle.dalvik_defs.specs.declared.program.NamedField.{NamedField}
 use Rattle.dalvik_defs.specs.declared.program.NamedMethod.{NamedMethod}
 use Rattle.dalvik_defs.specs.declared.program.NamedClass.{NamedClass}
 use Rattle.dalvik_defs.specs.declared.program.NamedProgram.{NamedProgram}
-use Rattle.pass_defs.specs.Kinds.{Kind, Undefined, Word, Class, joined}
+use Rattle.pass_defs.specs.Kinds.{Kind, Undefined, Word, Class, FreshThis, joined}
 use Rattle.pass_defs.specs.Registers.{Kinds}
 use Rattle.pass_defs.specs.Typed.{Table, state_at, begun, flows}
 use Rattle.pass_defs.specs.Walks.{form_at}
@@ -148,3 +150,49 @@ abbrev pub two_and_three : ℕ → Flat
 two_and_three zero = KnownWord 2
 two_and_three (suc zero) = KnownWord 3
 two_and_three n = Any
+
+-- ---- inlining
+
+-- LA;'s method q adds 2 to its argument
+abbrev pub q_signature : Signature
+q_signature = record { parameters = int_type ∷ []; result = int_type }
+
+abbrev pub adds_two : NamedMethod
+adds_two = method (codes "q") q_signature 9 (Some (code 2 1 (form.Literal literal.AddInt 0 1 (pos 2) ∷ form.Return slot.Word 0 ∷ [])))
+
+-- and m calls it with 1
+abbrev pub calls_q : NamedBody
+calls_q = code 1 0
+    (form.Const 0 (pos 1)
+    ∷ form.Invoke call.Static (record { class = a_type; name = codes "q"; signature = q_signature }) (0 ∷ [])
+    ∷ form.MoveResult slot.Word 0
+    ∷ form.Return slot.Word 0
+    ∷ [])
+
+abbrev pub m_calls_q : NamedMethod
+m_calls_q = method (codes "m") to_int 9 (Some calls_q)
+
+abbrev pub calls_itself : NamedProgram
+calls_itself = program V035 (class a_type 1 [] [] (m_calls_q ∷ adds_two ∷ []) ∷ [])
+
+-- ---- constructors
+
+abbrev pub with_constructor : NamedClass
+with_constructor = class b_type 1 [] [] (constructor ∷ [])
+
+-- a constructor of LB; that calls none
+abbrev pub returns_only : NamedBody
+returns_only = code 1 1 (form.ReturnVoid ∷ [])
+
+abbrev pub calls_object : NamedBody
+calls_object = code 1 1 (form.Invoke call.Direct (constructor_key object_type) (0 ∷ []) ∷ form.ReturnVoid ∷ [])
+
+-- the receiver in its register and in its own place
+abbrev pub with_receiver : Kind → Option Kinds
+with_receiver k = Some (record { registers = k ∷ []; result = Undefined; caught = Undefined; receiver = k })
+
+abbrev pub constructed_then : Table
+constructed_then = with_receiver FreshThis ∷ with_receiver (Class b_type) ∷ []
+
+abbrev pub constructs_b : NamedProgram
+constructs_b = program V035 (with_constructor ∷ [])

@@ -1,9 +1,11 @@
 //! Examples of the definitions, on the programs of `specs/Examples.antt`.
 
 ghost use Rattle.std.specs.Prelude.{◌≡◌, ◌≤◌, ℕ, pos, true, false, Some, None, [], ◌∷◌, codes};
+ghost use Rattle.insn_set.specs.declared.ops.Slot.TheVariants as slot;
+ghost use Rattle.insn_set.specs.declared.ops.LiteralOp.TheVariants as literal;
 ghost use Rattle.dalvik_defs.specs.Names.{object_type, void};
 ghost use Rattle.dalvik_defs.specs.Under.{is_under};
-ghost use Rattle.dalvik_defs.specs.Examples.{a_type, b_type, m_key, keeps_m, answers_two};
+ghost use Rattle.dalvik_defs.specs.Examples.{a_type, b_type, m_key, keeps_m, answers_two, to_int, constructor};
 ghost use Rattle.dalvik_defs.specs.declared.forms.Form.TheVariants as form;
 ghost use Rattle.pass_defs.specs.Kinds.{Undefined, Zero, Word, Null, Class, Array, Reference, joined};
 ghost use Rattle.pass_defs.specs.Demands.{is_refused};
@@ -14,7 +16,8 @@ ghost use Rattle.pass_defs.specs.Flat.{Flat, Any, KnownWord};
 ghost use Rattle.pass_defs.specs.Facts.{Facts, after};
 ghost use Rattle.pass_defs.specs.Constants.{flat};
 ghost use Rattle.pass_defs.specs.Foldable.{constant_of, units};
-ghost use Rattle.pass_defs.specs.Examples.{s_type, x_of, copies_both, copies_number, n_method, n_class, meeting, both_typed, flow_of, names_b, keeps_x, sets_and_returns, adds, two_and_three};
+ghost use Rattle.pass_defs.specs.Examples.{s_type, x_of, copies_both, copies_number, n_method, n_class, meeting, both_typed, flow_of, names_b, keeps_x, sets_and_returns, adds, two_and_three, calls_itself, calls_q, m_calls_q, constructs_b, with_constructor, calls_object, returns_only, constructed_then};
+ghost use Rattle.pass_defs.specs.Inlined.{inlined};
 
 /// An array of numbers is under Object.
 pub fn an_array_is_an_object()
@@ -64,4 +67,18 @@ pub fn an_unread_constant_is_idle()
 pub fn an_addition_folds()
     ensures known { (t : Facts Flat) → constant_of 2 (after flat sets_and_returns t a_type None adds two_and_three 2) ≡ Some (form.Const 2 (pos 5)) }
     ensures short { units (form.Const 2 (pos 5)) ≤ units adds }
+{}
+
+/// A call is inlined: the argument is moved, the callee's code stands below the caller's registers, and its return becomes a
+/// move into the register of the result and a goto.
+pub fn a_call_is_inlined()
+    ensures forms { (inlined calls_itself (m_key to_int) m_calls_q calls_q (1 ∷ [])).forms
+        ≡ form.Const 2 (pos 1) ∷ form.Move slot.Word 1 2 ∷ form.Literal literal.AddInt 0 1 (pos 2) ∷ form.Move slot.Word 2 0 ∷ form.Goto 5 ∷ form.Return slot.Word 2 ∷ [] }
+    ensures registers { (inlined calls_itself (m_key to_int) m_calls_q calls_q (1 ∷ [])).registers ≡ 3 }
+{}
+
+/// A constructor calls another one on its receiver before it returns; one that doesn't is ill typed at its return.
+pub fn a_constructor_calls_one()
+    ensures typed { IsTyping constructs_b with_constructor constructor calls_object constructed_then }
+    ensures not_typed { is_ill_at constructs_b with_constructor constructor returns_only (flow_of constructs_b with_constructor constructor returns_only) 0 0 ≡ true }
 {}

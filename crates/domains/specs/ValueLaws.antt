@@ -12,11 +12,11 @@ use Rattle.domains.specs.declared.numbers.Word.TheVariants.{Bottom, Known, Known
 use Rattle.domains.specs.declared.nulls.Nullness.{Nullness}
 use Rattle.domains.specs.declared.nulls.Nullness.TheVariants.{Bottom as NoNull, Null, NotNull, Any as AnyNull}
 use Rattle.domains.specs.Datum.{Number, Single, Double, Datum, Plain, Object, is_zero, Within}
-use Rattle.domains.specs.Words.{word_holds, word_leq, word_joined, word_rank, word_known, word_known_wide, word_within, word_upper, differ}
+use Rattle.domains.specs.Words.{word_holds, word_leq, word_joined, word_rank, word_known, word_known_wide, word_within, word_upper, word_join_least, differ}
 use Rattle.domains.specs.Nulls.{Allows, null_holds, null_leq, null_joined, null_rank, null_within, null_leq_from, null_upper, allows_up, allows_either}
 use Rattle.domains.specs.Ranges.{Bounds, range_holds, is_empty, range_leq, range_joined, range_widened, range_rank, range_within, range_upper, none_in, moved, moved_low, moved_high, low_moves, high_moves, first_word, last_word}
 use Rattle.domains.specs.ClassSets.{set_holds, set_leq, set_joined, set_rank, set_within, set_upper, is_no_set, no_class, objects_either, some_object, no_object}
-use Rattle.domains.specs.Values.{Parts, kind_holds, value_holds, HoldsOnly, least_value, constant_value, wide_value, any_value, value_joined, value_widened, value_rank, Attains, AttainsWord, IsReduced, known_of, known_wide_of}
+use Rattle.domains.specs.Values.{Parts, kind_holds, value_holds, HoldsOnly, HoldsAtMost, least_value, constant_value, wide_value, objects_value, any_value, value_joined, value_widened, value_rank, Attains, AttainsWord, IsReduced, known_of, known_wide_of}
 
 -- each part is within the other's
 pub record PartsWithin (x y : Parts) : Type 0 where
@@ -102,6 +102,36 @@ wide_reduced d = record {
   other = λ a. (Plain (Double d), refl, (refl, refl));
   objects = λ c h. absurd (no_class c h);
 }
+
+no_zero : {P : Type 0} (b : Bool) → Allows (if b then NoNull else NotNull) true → P
+no_zero true a = absurd a
+no_zero false a = absurd (cc)
+
+pub objects_reduced : (cs : Option (List ℕ)) → IsReduced (objects_value cs)
+objects_reduced cs = record {
+  word = tt;
+  ends = λ some. absurd (cc);
+  zero = λ a. no_zero (is_no_set cs) a;
+  other = λ a. by_set (is_no_set cs) refl a;
+  objects = λ c h. allowed (is_no_set cs) refl c h;
+}
+  where
+    allowed : (b : Bool) → is_no_set cs ≡ b → (c : Option ℕ) → set_holds cs c → Allows (if b then NoNull else NotNull) false
+    allowed true e c h = absurd (no_object cs c e h)
+    allowed false e c h = refl
+
+    by_set : (b : Bool) → is_no_set cs ≡ b → Allows (if b then NoNull else NotNull) false → (d : Datum) × (is_zero d ≡ false) × value_holds (objects_value cs) d
+    by_set true e a = absurd a
+    by_set false e a = some_object cs e (λ c h. (Object c, refl, (h, allowed (is_no_set cs) refl c h)))
+
+-- it holds of just the objects of these classes
+pub objects_held : (cs : Option (List ℕ)) (d : Datum) → value_holds (objects_value cs) d ↔ ((c : Option ℕ) × (d ≡ Object c) × set_holds cs c)
+objects_held cs d = (forth d, λ h. subst (value_holds (objects_value cs)) (sym h.1) (h.2, (objects_reduced cs).objects h.0 h.2))
+  where
+    forth : (d : Datum) → value_holds (objects_value cs) d → (c : Option ℕ) × (d ≡ Object c) × set_holds cs c
+    forth (Plain (Single w)) h = absurd h.0.0
+    forth (Plain (Double w)) h = absurd h.0
+    forth (Object c) h = (c, refl, h.0)
 
 pub any_reduced : IsReduced any_value
 any_reduced = record {
@@ -208,6 +238,23 @@ module _ (x y : Parts) (i : Bounds) (rx : IsReduced x) (ry : IsReduced y) (fx : 
   any_between : (z : ℤ) (w : ℕ) → cast_signed w32 w ≡ z → (w == 0) ≡ false → range_holds i z
       → (m n : ℕ) → value_holds x (Plain (Single m)) → value_holds y (Plain (Single n)) → (m ≡ n → ⊥) → Attains (over x y i) z
   any_between z w e nz r m n h k ne = (w, e, ((differ (word_joined x.word y.word) (Single m) (Single n) (λ t. ne (cc)) ((word_upper x.word y.word).first (Single m) h.0.0) ((word_upper x.word y.word).second (Single n) k.0.0) (Single w) tt, subst (range_holds i) (sym e) r), subst (Allows (null_joined x.nullness y.nullness)) (sym nz) (two_words m n ne h.1 k.1)))
+
+-- a word whose attained numbers are all in another is within it
+word_at_most : (x : Parts) (z a : Word) → a ≡ x.word → AttainsWord x a → HoldsAtMost x z → Within word_holds a z
+word_at_most x z Bottom e at f n h = absurd h
+word_at_most x z (Known w) e at f n h = subst (word_holds z) (sym h) (f (Plain (Single w)) at)
+word_at_most x z (KnownWide d) e at f n h = subst (word_holds z) (sym h) (f (Plain (Double d)) at)
+word_at_most x z Any e at f n h = differ z (Double 0) (Double 1) (λ k. omega (arith, double_same 0 1 k)) (wide 0) (wide 1) n h
+  where
+    wide : (d : ℕ) → word_holds z (Double d)
+    wide d = f (Plain (Double d)) (subst (λ a. word_holds a (Double d)) e tt, at)
+
+-- what is over two reduced values holds of at most the numbers of which both hold at most
+pub over_at_most : (x y : Parts) (i : Bounds) (z : Word) → IsReduced x → IsReduced y → HoldsAtMost x z → HoldsAtMost y z → HoldsAtMost (over x y i) z
+over_at_most x y i z rx ry f g (Plain (Single w)) h = word_join_least x.word y.word z (word_at_most x z x.word refl rx.word f) (word_at_most y z y.word refl ry.word g) (Single w) h.0.0
+over_at_most x y i z rx ry f g (Plain (Double d)) h = word_join_least x.word y.word z (word_at_most x z x.word refl rx.word f) (word_at_most y z y.word refl ry.word g) (Double d) h.0
+over_at_most x y i z rx ry f g (Object c) h =
+    objects_either x.classes y.classes (λ c o. f (Object c) (o, rx.objects c o)) (λ c o. g (Object c) (o, ry.objects c o)) c h.0
 
 pub joined_reduced : (x y : Parts) → IsReduced x → IsReduced y → IsReduced (value_joined x y)
 joined_reduced x y rx ry = over_reduced x y (range_joined x.interval y.interval) rx ry u.first u.second (by_empty (is_empty x.interval) (is_empty y.interval) refl refl)

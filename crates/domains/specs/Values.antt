@@ -35,6 +35,14 @@ pub record HoldsOnly (v : Parts) (d : Datum) : Type 0 where
   pub this : value_holds v d
   pub only : (e : Datum) → value_holds v e → e ≡ d
 
+-- it holds of no object, and of no number but those that a word holds of
+abbrev pub NumberIn : Word → Datum → Type 0
+NumberIn z (Plain n) = word_holds z n
+NumberIn z (Object class) = ⊥
+
+abbrev pub HoldsAtMost : Parts → Word → Type 0
+HoldsAtMost v z = (d : Datum) → value_holds v d → NumberIn z d
+
 -- both hold of the same
 abbrev pub HoldAlike : Parts → Parts → Type 0
 HoldAlike v w = (d : Datum) → value_holds v d ↔ value_holds w d
@@ -52,6 +60,15 @@ constant_value w = record {
 
 abbrev pub wide_value : ℕ → Parts
 wide_value d = record { word = KnownWide d; interval = no_words; nullness = NotNull; classes = Some [] }
+
+-- objects of these classes, and nothing else
+abbrev pub objects_value : Option (List ℕ) → Parts
+objects_value classes = record {
+  word = Bottom;
+  interval = no_words;
+  nullness = if is_no_set classes then NoNull else NotNull;
+  classes = classes;
+}
 
 abbrev pub any_value : Parts
 any_value = record { word = Any; interval = all_words; nullness = AnyNull; classes = None }

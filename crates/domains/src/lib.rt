@@ -7,12 +7,14 @@
 #![tactic(auto)]
 
 mod class_sets;
+mod laws;
 mod nulls;
 mod numbers;
 mod ranges;
 mod values;
 
 pub use class_sets::ClassSet;
+pub use laws::at_most_law;
 pub use nulls::Nullness;
 pub use numbers::Word;
 pub use ranges::Interval;

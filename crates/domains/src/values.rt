@@ -1,11 +1,11 @@
 //! All that is known of the content of a register.
 
 ghost use Rattle.std.specs.Prelude.{◌≡◌, ℕ, ◌↔◌, IsTrue, Contains, Option, Some, None, IfSome, false, ◌==◌, if◌then◌else◌};
-ghost use Rattle.domains.specs.declared.nulls.Nullness.TheVariants.{Null, NotNull};
+ghost use Rattle.domains.specs.declared.nulls.Nullness.TheVariants.{Bottom, Null, NotNull};
 ghost use Rattle.std.specs.Option.{option_copied};
 ghost use Rattle.domains.specs.Datum.{Datum, Plain, Single, Double, Object};
-ghost use Rattle.domains.specs.ClassSets.{Ascends};
-ghost use Rattle.domains.specs.Values.{value_holds, HoldsOnly, constant_value, wide_value, any_value, IsReduced};
+ghost use Rattle.domains.specs.ClassSets.{Ascends, is_no_set, set_holds};
+ghost use Rattle.domains.specs.Values.{value_holds, HoldsOnly, constant_value, wide_value, objects_value, any_value, IsReduced};
 
 use crate::class_sets::ClassSet;
 use crate::nulls::Nullness;
@@ -62,6 +62,20 @@ impl Value {
             interval: Interval::empty(),
             nullness: Nullness::NotNull,
             classes: ClassSet::none(),
+        }
+    }
+
+    /// The value of objects of these exact classes, and of nothing else.
+    pub fn objects(classes: ClassSet) -> Value
+        ensures is { result ≡ objects_value classes }
+        ensures held { (d : Datum) → value_holds result d ↔ ((c : Option ℕ) × (d ≡ Object c) × set_holds classes c) }
+    {
+        let nullness = presence(&classes);
+        Value {
+            word: Word::Bottom,
+            interval: Interval::empty(),
+            nullness,
+            classes,
         }
     }
 
@@ -229,6 +243,17 @@ fn nullness_of(word: u32) -> Nullness
 {
     if word == 0 {
         Nullness::Null
+    } else {
+        Nullness::NotNull
+    }
+}
+
+/// Whether there is an object of these classes, none of which is null.
+fn presence(classes: &ClassSet) -> Nullness
+    ensures { result ≡ (if is_no_set classes.now then Bottom else NotNull) }
+{
+    if classes.is_empty() {
+        Nullness::Bottom
     } else {
         Nullness::NotNull
     }

@@ -1,5 +1,6 @@
 -- Classes (Dalvik executable format, "class_def_item").
-use Rattle.std.specs.Prelude.{◌≡◌, ◌+◌, ◌<◌, ℕ, zero, suc, List, [], ◌∷◌, ◌++◌, length, Option, Some, None}
+use Rattle.std.specs.Prelude.{◌≡◌, ◌+◌, ◌<◌, ℕ, zero, suc, List, [], ◌∷◌, ◌++◌, length, Option, Some, None, true, false, nat_eq}
+use Rattle.std.specs.List.{All, list_any}
 use Rattle.dex_base.specs.Word.{Is32}
 use Rattle.program_model.specs.declared.body.Body.{Body}
 use Rattle.program_model.specs.declared.program.Field.{Field}
@@ -8,9 +9,10 @@ use Rattle.program_model.specs.declared.program.Class.{Class}
 use Rattle.program_model.specs.declared.program.Program.{Program}
 use Rattle.program_model.specs.declared.value.EncValue.{EncValue}
 use Rattle.dex_pools.specs.declared.scalar.TableSizes.{TableSizes}
+use Rattle.program_model.specs.MemberRules.{is_static, is_direct}
 use Rattle.dex_pools.specs.Spelled.{AreParameters}
 use Rattle.dex_defs.specs.Values.{AreValuesOf, AreFirsts}
-use Rattle.dex_defs.specs.Annotations.{Directory, IsDirectoryOf, offset_for, AreMarksOf, AreParameterMarksOf}
+use Rattle.dex_defs.specs.Annotations.{Directory, InOrder, IsDirectoryOf, offset_for, AreMarksOf, AreParameterMarksOf}
 use Rattle.dex_defs.specs.ClassData.{Entry, Lists, IsClassDataOf}
 use Rattle.dex_defs.specs.Sweep.{Places}
 use Rattle.dex_defs.specs.CodeItems.{Frame, IsCode}
@@ -85,10 +87,18 @@ abbrev pub IsSource : ℕ → ℕ → Option ℕ → Type 0
 IsSource strings number None = number ≡ none
 IsSource strings number (Some string) = (number ≡ string) × (string < strings)
 
--- the directory and the member lists that a class_def names
+-- a member that the class data defines
+abbrev pub IsDefined : List Entry → ℕ × ℕ → Type 0
+IsDefined entries pair = list_any (λ e. nat_eq e.number pair.0) entries ≡ true
+
+-- the directory, whose lists ascend and name defined members alone, and the member lists that a class_def names
 pub record HasParts (bytes : List ℕ) (def : Def) (directory : Directory) (lists : Lists) : Type 0 where
   pub directory_is : IsDirectoryOf bytes def.annotations directory
   pub lists_are : IsClassDataOf bytes def.data_at lists
+  pub in_order : InOrder directory
+  pub fields : All (IsDefined (lists.statics ++ lists.instances)) directory.fields
+  pub methods : All (IsDefined (lists.directs ++ lists.virtuals)) directory.methods
+  pub parameters : All (IsDefined (lists.directs ++ lists.virtuals)) directory.parameters
 
 -- the class of the class_def at this place, of a program with these tables
 pub record IsClass (bytes : List ℕ) (p : Program) (sizes : TableSizes) (at : ℕ) (c : Class) : Type 0 where
@@ -114,4 +124,12 @@ pub record IsClass (bytes : List ℕ) (p : Program) (sizes : TableSizes) (at : �
   pub are_values : AreValuesOf bytes sizes def.values values
   pub firsts : AreFirsts p values statics
   pub none_first : AreFirsts p [] instances
-  pub methods : AreMethods bytes sizes (length p.types) directory (lists.directs ++ lists.virtuals) c.methods
+  pub static : All (λ f. is_static f.flags ≡ true) statics
+  pub of_instance : All (λ f. is_static f.flags ≡ false) instances
+  pub directs : List Method
+  pub virtuals : List Method
+  pub methods : c.methods ≡ directs ++ virtuals
+  pub are_directs : AreMethods bytes sizes (length p.types) directory lists.directs directs
+  pub are_virtuals : AreMethods bytes sizes (length p.types) directory lists.virtuals virtuals
+  pub direct : All (λ m. is_direct p m ≡ true) directs
+  pub virtual : All (λ m. is_direct p m ≡ false) virtuals

@@ -5,3 +5,5 @@ pub mod Ranges
 pub mod ClassSets
 pub mod Values
 pub mod ValueLaws
+pub mod Reducing
+pub mod ReducingLaws

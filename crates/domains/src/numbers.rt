@@ -2,6 +2,7 @@
 
 ghost use Rattle.std.specs.Prelude.{◌≡◌, true};
 ghost use Rattle.domains.specs.Words.{word_leq, word_joined, word_known, word_known_wide};
+ghost use Rattle.domains.specs.Reducing.{has_zero as holds_zero};
 
 use lattice_core::{Domain, Lattice};
 use std::alloc::{AllocError, Global};
@@ -23,6 +24,17 @@ impl Word {
         match self {
             Word::Known(word) => Some(word),
             _ => None,
+        }
+    }
+
+    /// Whether it can be the word 0.
+    pub fn has_zero(self) -> bool
+        ensures { result ≡ holds_zero self }
+    {
+        match self {
+            Word::Known(word) => word == 0,
+            Word::Any => true,
+            _ => false,
         }
     }
 

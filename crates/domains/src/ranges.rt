@@ -2,6 +2,8 @@
 
 ghost use Rattle.std.specs.Prelude.{◌≡◌, false, ◌≤ℤ◌, if◌then◌else◌, int_lt};
 ghost use Rattle.domains.specs.Ranges.{no_words, all_words, only_word, words_between, range_leq, range_joined, range_widened, Widens, first_word, last_word, is_empty as has_no_word};
+ghost use Rattle.domains.specs.Reducing.{in_range, past_zero as low_end, before_zero as high_end, without_zero as trimmed};
+ghost use Rattle.domains.specs.ReducingLaws.{AreEnds};
 
 use lattice_core::{Domain, Lattice};
 use std::alloc::{AllocError, Global};
@@ -65,6 +67,24 @@ impl Interval {
         } else {
             Interval::empty()
         }
+    }
+
+    /// Whether a word is in it.
+    pub fn has(&self, word: i32) -> bool
+        ensures is { result ≡ in_range self.now word }
+        ensures ends { AreEnds self.now }
+    {
+        let low = self.low;
+        let high = self.high;
+        low <= word && word <= high
+    }
+
+    /// The range without the word 0 where that is one of its ends.
+    pub fn without_zero(&self) -> Self
+        ensures is { result ≡ trimmed self.now }
+        ensures ends { AreEnds self.now }
+    {
+        Interval::between(past_zero(self.low), before_zero(self.high))
     }
 
     /// Whether there is no word in it.
@@ -189,4 +209,18 @@ fn moved_high(old: i32, newer: i32) -> i32
     ensures higher { old ≤ℤ result }
 {
     if old < newer { i32::MAX } else { old }
+}
+
+/// A low end, or 1 in place of 0.
+fn past_zero(low: i32) -> i32
+    ensures { result ≡ low_end low }
+{
+    if low == 0 { 1 } else { low }
+}
+
+/// A high end, or -1 in place of 0.
+fn before_zero(high: i32) -> i32
+    ensures { result ≡ high_end high }
+{
+    if high == 0 { -1 } else { high }
 }

@@ -55,3 +55,18 @@ fn a_value_knows_its_number(rt: HostRuntime) -> Result<(), Fail> {
     assert!(rt; joined.interval().high == 6);
     Ok(())
 }
+
+#[test]
+fn parts_hold_together(rt: HostRuntime) -> Result<(), Fail> {
+    let parts = Value::of(
+        Word::Any,
+        Interval::between(0, 5),
+        Nullness::NotNull,
+        ClassSet::exactly(4),
+    );
+    assert!(rt; parts.interval().low == 1);
+    assert!(rt; parts.classes().map_or(0, |list| list.len()) == 1);
+    let null = Value::of(Word::Any, Interval::full(), Nullness::Null, ClassSet::any());
+    assert!(rt; null.known() == Some(0));
+    Ok(())
+}

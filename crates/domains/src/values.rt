@@ -1,11 +1,12 @@
 //! All that is known of the content of a register.
 
 ghost use Rattle.std.specs.Prelude.{◌≡◌, ℕ, ◌↔◌, IsTrue, Contains, Option, Some, None, IfSome, false, ◌==◌, if◌then◌else◌};
-ghost use Rattle.domains.specs.declared.nulls.Nullness.TheVariants.{Bottom, Null, NotNull};
+ghost use Rattle.domains.specs.declared.nulls.Nullness.TheVariants.{Bottom, Null, NotNull, Any};
+ghost use Rattle.domains.specs.Reducing.{any_number, known_value, reduced, with_number as numbers};
 ghost use Rattle.std.specs.Option.{option_copied};
 ghost use Rattle.domains.specs.Datum.{Datum, Plain, Single, Double, Object};
 ghost use Rattle.domains.specs.ClassSets.{Ascends, is_no_set, set_holds};
-ghost use Rattle.domains.specs.Values.{value_holds, HoldsOnly, constant_value, wide_value, objects_value, any_value, IsReduced};
+ghost use Rattle.domains.specs.Values.{value_holds, HoldsOnly, HoldAlike, least_value, constant_value, wide_value, objects_value, any_value, IsReduced};
 
 use crate::class_sets::ClassSet;
 use crate::nulls::Nullness;
@@ -76,6 +77,25 @@ impl Value {
             interval: Interval::empty(),
             nullness,
             classes,
+        }
+    }
+
+    /// The value that holds of what all four parts hold of together.
+    pub fn of(word: Word, interval: Interval, nullness: Nullness, classes: ClassSet) -> Value
+        ensures is { result ≡ reduced (record { word = word; interval = interval; nullness = nullness; classes = classes }) }
+        ensures alike { HoldAlike result (record { word = word; interval = interval; nullness = nullness; classes = classes }) }
+    {
+        match nullness {
+            Nullness::Bottom => nothing(),
+            Nullness::Null => {
+                if word.has_zero() && interval.has(0) {
+                    Value::constant(0)
+                } else {
+                    nothing()
+                }
+            }
+            Nullness::NotNull => with_number(false, word, interval, classes),
+            Nullness::Any => with_number(true, word, interval, classes),
         }
     }
 
@@ -180,12 +200,7 @@ impl Lattice for Value {
     ghost of_nothing = { of_nothing_at_all };
 
     fn bottom(alloc: Global) -> Self {
-        Value {
-            word: Word::Bottom,
-            interval: Interval::empty(),
-            nullness: Nullness::Bottom,
-            classes: ClassSet::none(),
-        }
+        nothing()
     }
 
     fn leq(&self, other: &Self) -> bool {
@@ -254,6 +269,99 @@ fn presence(classes: &ClassSet) -> Nullness
 {
     if classes.is_empty() {
         Nullness::Bottom
+    } else {
+        Nullness::NotNull
+    }
+}
+
+/// The value that holds of nothing.
+fn nothing() -> Value
+    ensures { result ≡ least_value }
+{
+    Value {
+        word: Word::Bottom,
+        interval: Interval::empty(),
+        nullness: Nullness::Bottom,
+        classes: ClassSet::none(),
+    }
+}
+
+/// Numbers and objects, where all but the word 0 are allowed, and that too where `zero`.
+fn with_number(zero: bool, word: Word, interval: Interval, classes: ClassSet) -> Value
+    ensures { result ≡ numbers zero word interval classes }
+{
+    match word {
+        Word::Bottom => Value::objects(classes),
+        Word::Known(own) => {
+            if interval.has(own.cast_signed()) && (zero || own != 0) {
+                known_with(own, classes)
+            } else {
+                Value::objects(classes)
+            }
+        }
+        Word::KnownWide(number) => Value {
+            word: Word::KnownWide(number),
+            interval: Interval::empty(),
+            nullness: Nullness::NotNull,
+            classes,
+        },
+        Word::Any => any_with(zero, interval, classes),
+    }
+}
+
+/// One word, and objects.
+fn known_with(word: u32, classes: ClassSet) -> Value
+    ensures { result ≡ known_value word classes }
+{
+    let nullness = nullness_with(word, classes.is_empty());
+    Value {
+        word: Word::Known(word),
+        interval: Interval::of_word(word.cast_signed()),
+        nullness,
+        classes,
+    }
+}
+
+/// Whether a word is the word 0, where it may stand alone or beside objects.
+fn nullness_with(word: u32, alone: bool) -> Nullness
+    ensures { result ≡ (if word == 0 then (if alone then Null else Any) else NotNull) }
+{
+    if word != 0 {
+        Nullness::NotNull
+    } else if alone {
+        Nullness::Null
+    } else {
+        Nullness::Any
+    }
+}
+
+/// Any number, the words in an interval, and objects.
+fn any_with(zero: bool, interval: Interval, classes: ClassSet) -> Value
+    ensures { result ≡ any_number zero interval classes }
+{
+    if zero {
+        Value {
+            word: Word::Any,
+            interval,
+            nullness: with_zero(interval.has(0)),
+            classes,
+        }
+    } else {
+        Value {
+            word: Word::Any,
+            interval: interval.without_zero(),
+            nullness: Nullness::NotNull,
+            classes,
+        }
+    }
+}
+
+/// Whether what is not null can be null too.
+fn with_zero(zero: bool) -> Nullness
+    ensures { result ≡ (if zero then Any else NotNull) }
+{
+    if zero {
+        Nullness::Any
     } else {
         Nullness::NotNull
     }

@@ -1,0 +1,73 @@
+-- First entries of lists that are renamed.
+use Rattle.std.proofs.Common.{◌≡◌, ℕ, suc, ◌+◌, ◌≤◌, Bool, true, false, true≢false, nat_eq, List, [], ◌∷◌, map, length, Some, None, refl, sym, ap, ◌∙◌, arith, inl, inr, ltb-true, lt-ltb, eqb-true, eq-eqb}
+use Rattle.std.proofs.lemmas.Bool.{cases_lt}
+use Rattle.std.specs.Prelude.{◌&&◌, cond, not, slice_get, nat_lt, find, position, option_and_then}
+use Rattle.std.specs.List.{position_or_len}
+use Rattle.std.specs.Option.{option_map}
+use Rattle.std.proofs.lemmas.List.Folds.{find_at}
+use Rattle.std.proofs.lemmas.Option.{slice_get_past}
+use Rattle.name_bridge.proofs.Tables.{entry_at}
+
+pub same_test : (b c : Bool) → (b ≡ true → c ≡ true) → (c ≡ true → b ≡ true) → b ≡ c
+same_test true c f g = sym (f refl)
+same_test false true f g = g refl
+same_test false false f g = refl
+
+pub both : (a b : Bool) → a ≡ true → b ≡ true → (a && b) ≡ true
+both true b e f = f
+both false b e f = e
+
+pub number_test : (a b : ℕ) → a ≡ b → nat_eq a b ≡ true
+number_test a b e = eq-eqb a b e
+
+pub number_of : (a b : ℕ) → nat_eq a b ≡ true → a ≡ b
+number_of a b e = eqb-true a b e
+
+-- the first entry by the place of the first
+pub find_place : {X : Type 0} (t : X → Bool) (xs : List X) → find t xs ≡ option_and_then (slice_get xs) (position t xs)
+find_place t xs = find_at t xs ∙ by_bound (nat_lt (position_or_len t xs) (length xs)) refl
+  where
+    by_bound : (b : Bool) → nat_lt (position_or_len t xs) (length xs) ≡ b → slice_get xs (position_or_len t xs) ≡ option_and_then (slice_get xs) (cond b (Some (position_or_len t xs)) None)
+    by_bound true e = refl
+    by_bound false e = slice_get_past xs (position_or_len t xs) (past e)
+      where
+        past : nat_lt (position_or_len t xs) (length xs) ≡ false → length xs ≤ position_or_len t xs
+        past e = elim (cases_lt (position_or_len t xs) (length xs)) [ inl l ↦ absurd (true≢false (sym (lt-ltb _ _ l) ∙ e)) | inr g ↦ g ]
+
+-- a test that holds nowhere finds no place
+pub position_none : {X : Type 0} (t : X → Bool) (xs : List X) → find t xs ≡ None → position t xs ≡ None
+position_none t xs e = by_bound (nat_lt (position_or_len t xs) (length xs)) refl
+  where
+    by_bound : (b : Bool) → nat_lt (position_or_len t xs) (length xs) ≡ b → cond b (Some (position_or_len t xs)) None ≡ None
+    by_bound false h = refl
+    by_bound true h = let x = entry_at xs (position_or_len t xs) (ltb-true _ _ h) in
+        let same : Some x.0 ≡ None = sym x.1 ∙ sym (find_at t xs) ∙ e in cc
+
+-- the first place, one step at a time
+pub position_step : {X : Type 0} (t : X → Bool) (x : X) (xs : List X) → position t (x ∷ xs) ≡ cond (t x) (Some 0) (option_map suc (position t xs))
+position_step t x xs = step (t x) (position_or_len t xs)
+  where
+    first : (n : ℕ) → nat_lt 0 (suc n) ≡ true
+    first n = lt-ltb 0 (suc n) (omega arith)
+
+    less : (m n : ℕ) → nat_lt (1 + m) (suc n) ≡ nat_lt m n
+    less m n = same_test (nat_lt (1 + m) (suc n)) (nat_lt m n)
+        (λ h. let l = ltb-true (1 + m) (suc n) h in lt-ltb m n (omega (arith, l))) (λ h. let l = ltb-true m n h in lt-ltb (1 + m) (suc n) (omega (arith, l)))
+
+    moved : (b : Bool) (m : ℕ) → cond b (Some (1 + m)) None ≡ option_map suc (cond b (Some m) None)
+    moved true m = ap (λ n. Some n) (let e : 1 + m ≡ suc m = omega arith in e)
+    moved false m = refl
+
+    step : (b : Bool) (m : ℕ) → cond (nat_lt (cond (not b) (1 + m) 0) (suc (length xs))) (Some (cond (not b) (1 + m) 0)) None ≡ cond b (Some 0) (option_map suc (cond (nat_lt m (length xs)) (Some m) None))
+    step true m = ap (λ c. cond c (Some 0) None) (first (length xs))
+    step false m = ap (λ c. cond c (Some (1 + m)) None) (less m (length xs)) ∙ moved (nat_lt m (length xs)) m
+
+-- tests that agree on a list find the same, renamed
+pub find_named : {A B : Type 0} (f : B → Bool) (u : A → Bool) (g : A → B) (xs : List A)
+    → ((i : ℕ) (x : A) → slice_get xs i ≡ Some x → f (g x) ≡ u x) → find f (map g xs) ≡ option_map g (find u xs)
+find_named f u g [] h = refl
+find_named f u g (x ∷ xs) h = step (u x) (h 0 x refl) (find_named f u g xs (λ i y e. h (suc i) y e))
+  where
+    step : (b : Bool) → f (g x) ≡ b → find f (map g xs) ≡ option_map g (find u xs) → cond (f (g x)) (Some (g x)) (find f (map g xs)) ≡ option_map g (cond b (Some x) (find u xs))
+    step true e r = ap (λ b. cond b (Some (g x)) (find f (map g xs))) e
+    step false e r = ap (λ b. cond b (Some (g x)) (find f (map g xs))) e ∙ r

@@ -4,8 +4,8 @@ use crate::access::mark_holds;
 use crate::fit::class_fits;
 use crate::marks::{is_marked, mark, unmarked};
 use crate::names::{Candidates, candidates_of};
-use crate::rules::Above;
 use crate::view::{View, descriptor};
+use rule_text::Above;
 use std::alloc::{AllocError, Global};
 
 /// Whether the type is what is asked of an ancestor. Only a class of the program has annotations.

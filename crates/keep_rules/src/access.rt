@@ -3,10 +3,9 @@
 ghost use Rattle.std.specs.Prelude.{◌≡◌, not, if◌then◌else◌};
 
 use crate::fit::class_fits;
-use crate::pattern::NamePattern;
-use crate::rules::{Access, Condition};
 use crate::view::descriptor;
 use program_model::{Flags, Mark, Program};
+use rule_text::{Access, Condition, NamePattern};
 use std::alloc::AllocError;
 
 /// What the flags belong to. Two words name the same bit where one is of fields and the other of methods.

@@ -4,9 +4,9 @@ use crate::fit::some_class_fits;
 use crate::marks::{Marks, mark};
 use crate::members::method_named;
 use crate::names::named_types;
-use crate::rules::{AssumeRule, MemberRule};
 use crate::view::{View, descriptor};
 use program_model::{MethodName, Program};
+use rule_text::{AssumeRule, MemberRule};
 use std::alloc::{AllocError, Global};
 
 /// Whether one of the lines names the method.

@@ -1,9 +1,8 @@
 //! What patterns match: classes, types and arguments.
 
-use crate::pattern::{NamePattern, Named};
-use crate::rules::{Arguments, ItemPattern, TypePattern};
 use crate::view::descriptor;
 use program_model::Program;
+use rule_text::{Arguments, ItemPattern, NamePattern, Named, TypePattern};
 use std::alloc::AllocError;
 
 /// The name of a class in its descriptor.

@@ -6,9 +6,9 @@ use crate::fit::some_class_fits;
 use crate::marks::{Hold, Marks, is_marked, mark};
 use crate::members::{has_each_line, some_line_of_field, some_line_of_method};
 use crate::names::named_types;
-use crate::rules::{ClassKind, ClassRule, KeepKind, KeepRule, MemberRule, Modifier};
 use crate::view::{View, descriptor};
 use program_model::{Class, Flags, Program};
+use rule_text::{ClassKind, ClassRule, KeepKind, KeepRule, MemberRule, Modifier};
 use std::alloc::{AllocError, Global};
 
 /// Whether the class is of the kind.

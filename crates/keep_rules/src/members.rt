@@ -2,10 +2,9 @@
 
 use crate::access::{Role, access_fits, marks_fit};
 use crate::fit::{arguments_fit, type_fits};
-use crate::pattern::Named;
-use crate::rules::{MemberRule, What};
 use crate::view::{descriptor, string_units};
 use program_model::{Class, Field, FieldName, Method, MethodName, Program};
+use rule_text::{MemberRule, Named, What};
 use std::alloc::AllocError;
 
 /// The units of `<init>`.

@@ -1,7 +1,7 @@
 //! Which types a pattern is to be tried on.
 
-use crate::pattern::NamePattern;
 use crate::view::View;
+use rule_text::NamePattern;
 use std::alloc::{AllocError, Global};
 
 /// Types that a pattern may match: one, where it has no wildcard, none, or all.

@@ -7,10 +7,10 @@ use crate::assume::silence_by;
 use crate::describe::{described_pairs, keep_described};
 use crate::keep::keep_by;
 use crate::marks::{Marks, numbers};
-use crate::rules::{Entry, Rules, SettingName};
 use crate::view::View;
 use hierarchy::Hierarchy;
 use program_model::{ClassIf, Outside, Program};
+use rule_text::{Entry, Rules, SettingName};
 use seq::Seq;
 use std::alloc::{AllocError, Global};
 

@@ -1,3 +1,2 @@
-mod grammar;
 mod matching;
 mod sample;

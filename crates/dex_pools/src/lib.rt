@@ -40,6 +40,3 @@ pub use marks::{
 pub use pools::{Pools, read_pools, read_pools_counted};
 pub use scalar::TableSizes;
 pub use write::{write_annotation, write_value};
-
-#[cfg(test)]
-mod tests;

@@ -16,6 +16,3 @@ mod view;
 
 pub use outside::outside_of;
 pub use rule_text::{RuleFault, Rules, read_rules};
-
-#[cfg(test)]
-mod tests;

@@ -37,8 +37,3 @@ pub use pools::{FieldName, MethodName, Proto};
 pub use program::{Class, Field, Method, MethodAt, Program, Version};
 pub use program_rules::well_formed;
 pub use value::{Element, EncValue, Mark, Note};
-
-#[cfg(test)]
-mod tests;
-#[cfg(test)]
-mod well_formed_tests;

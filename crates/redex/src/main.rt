@@ -1,7 +1,11 @@
 //! The program: hands its words to the top call, with real files, standard output and two advisers.
 #![tactic(auto)]
 
-use redex_cli::run;
+ghost use Rattle.std.specs.Prelude.{◌≡◌};
+ghost use Rattle.std.specs.Process.{exit_status};
+ghost use Rattle.redex_cli.specs.Status.{code_of};
+
+use redex_cli::{Status, run};
 use redex_outside::{Adviser, BudgetAdviser, FileShelf, PrefixAdviser, StdNotes};
 use std::env;
 use std::io::ErrorKind;
@@ -12,6 +16,13 @@ const NO_MEMORY: u8 = 7;
 
 /// The status of a word that can't be had.
 const USAGE: u8 = 1;
+
+/// How the process ends after a run.
+fn ended(status: &Status) -> ExitCode
+    ensures { exit_status result ≡ code_of status.now }
+{
+    ExitCode::from(status.code())
+}
 
 fn main(rt: HostRuntime) -> ExitCode {
     let alloc = rt.alloc();
@@ -42,5 +53,5 @@ fn main(rt: HostRuntime) -> ExitCode {
     let mut shelf = FileShelf::new(&rt);
     let mut notes = StdNotes::new(&rt);
     let status = run(alloc, &words, &mut shelf, &mut notes, advisers);
-    ExitCode::from(status.code())
+    ended(&status)
 }

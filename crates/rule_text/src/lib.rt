@@ -23,6 +23,3 @@ pub use rules::{
     ItemPattern, KeepKind, KeepRule, MemberRule, Modifier, Rules, Setting, SettingName,
     TypePattern, What,
 };
-
-#[cfg(test)]
-mod tests;

@@ -1,6 +1,6 @@
 //! The grammar, a sentence of it a row.
 
-use crate::*;
+use rule_text::{RuleFault, read_rules};
 use std::process::Abort;
 use std::test::*;
 

@@ -1,10 +1,9 @@
 //! What rules match and keep, a sentence of it a row.
 
-ghost use Rattle.std.specs.Prelude.{◌<◌, length, IsTrue};
-
-use super::sample::sample;
-use crate::*;
+use crate::is_small;
+use crate::sample::sample;
 use hierarchy::{Hierarchy, HierarchyFault};
+use keep_rules::{RuleFault, outside_of, read_rules};
 use program_model::{Outside, Program};
 use std::alloc::Global;
 use std::test::*;
@@ -16,19 +15,6 @@ enum Trouble {
     Classes(HierarchyFault),
     Memory,
     Size,
-}
-
-/// Whether each table has less than a hundred entries.
-fn is_small(program: &Program) -> bool
-    ensures types { IsTrue result → length program.now.types < 100 }
-    ensures fields { IsTrue result → length program.now.fields < 100 }
-    ensures methods { IsTrue result → length program.now.methods < 100 }
-    ensures classes { IsTrue result → length program.now.classes < 100 }
-{
-    program.types.len() < 100
-        && program.fields.len() < 100
-        && program.methods.len() < 100
-        && program.classes.len() < 100
 }
 
 fn answer(alloc: Global, program: &Program, text: &str) -> Result<Outside, Trouble> {

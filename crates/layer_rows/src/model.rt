@@ -1,4 +1,4 @@
-use super::*;
+use program_model::{Body, Class, Flags, Insn, Method, Program, Version, count_cells};
 use seq::Seq;
 use std::alloc::{AllocError, Global};
 use std::test::*;

@@ -1,7 +1,7 @@
 //! A small program that is well-formed, and changes of it, each of which makes it ill-formed.
 
-use crate::*;
 use dex_base::Text;
+use program_model::*;
 use seq::{Seq, Words};
 use std::alloc::{AllocError, Global};
 use std::test::*;

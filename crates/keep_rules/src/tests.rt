@@ -1,2 +1,0 @@
-mod matching;
-mod sample;

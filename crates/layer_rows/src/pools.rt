@@ -1,6 +1,7 @@
 use dex_base::{Text, write_u32};
 use dex_pools::{
-    Interner, PoolFault, Pools, Table, read_annotations, read_pools, read_value, write_value,
+    Interner, PoolFault, Pools, Table, read_annotations, read_pools, read_value, write_annotation,
+    write_value,
 };
 use program_model::{
     Class, Counted, Element, EncValue, FieldName, Flags, LimitFault, Mark, MethodName, Note,

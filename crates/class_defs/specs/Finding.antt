@@ -6,7 +6,6 @@ use Rattle.std.specs.Option.{option_or}
 use Rattle.program_model.specs.declared.pools.FieldName.{FieldName}
 use Rattle.program_model.specs.declared.pools.MethodName.{MethodName}
 use Rattle.program_model.specs.declared.program.MethodAt.{MethodAt}
-use Rattle.program_model.specs.declared.program.Class.{Class}
 use Rattle.program_model.specs.declared.program.Program.{Program}
 use Rattle.program_model.specs.declared.program.Version.{Version}
 use Rattle.program_model.specs.declared.program.Version.TheVariants.{V035, V037}
@@ -96,13 +95,13 @@ finds_at p c name proto = found_or (finds_virtual p name proto c) (finds_among p
 
 -- ---- super calls
 
--- whether a type stands in the interface list of a class or of a program class above it
-abbrev pub lists_from : ℕ → Program → ℕ → ℕ → List Class → Bool
-lists_from place p class kind [] = false
-lists_from place p class kind (k ∷ ks) = cond (is_under p class place && list_any (nat_eq kind) k.interfaces) true (lists_from (suc place) p class kind ks)
+abbrev pub reaches : Program → ℕ → Option ℕ → Bool
+reaches p class None = false
+reaches p class (Some c) = is_under p class c
 
+-- whether a type stands in the interface list of a class or of a program class above it
 abbrev pub lists_interface : Program → ℕ → ℕ → Bool
-lists_interface p class kind = lists_from zero p class kind p.classes
+lists_interface p class kind = list_any (λ k. reaches p class (class_place p k.name) && list_any (nat_eq kind) k.interfaces) p.classes
 
 abbrev pub finds_above : Program → ℕ → MethodName → Search
 finds_above p class q = search_of (finds_from p q.name q.proto (super_place p class))

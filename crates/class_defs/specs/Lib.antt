@@ -2,3 +2,4 @@ pub mod Places
 pub mod Members
 pub mod Finding
 pub mod Starts
+pub mod ClassGraph

@@ -1,5 +1,5 @@
 -- What classes define, by number (Dalvik executable format, "class_data_item").
-use Rattle.std.specs.Prelude.{ℕ, ◌&&◌, ◌||◌, not, Bool, true, false, List, [], ◌∷◌, Option, Some, None, nat_eq, slice_get, position, option_and_then, cond, codes, is_some}
+use Rattle.std.specs.Prelude.{ℕ, ◌&&◌, ◌||◌, not, Bool, true, false, List, [], ◌∷◌, Option, Some, None, nat_eq, slice_get, position, cond, codes, is_some}
 use Rattle.std.specs.Option.{option_map}
 use Rattle.std.specs.Cmp.Lexicographic.{pointwise}
 use Rattle.program_model.specs.declared.pools.Proto.{Proto}
@@ -11,7 +11,7 @@ use Rattle.program_model.specs.declared.program.MethodAt.{MethodAt}
 use Rattle.program_model.specs.declared.program.Class.{Class}
 use Rattle.program_model.specs.declared.program.Program.{Program}
 use Rattle.program_model.specs.Lookups.{method_at}
-use Rattle.program_model.specs.MemberRules.{has_flag, is_direct, is_static}
+use Rattle.program_model.specs.MemberRules.{has_flag, is_direct}
 use Rattle.program_model.specs.Texts.{string_text, type_text}
 
 -- ---- methods
@@ -62,31 +62,28 @@ string_is p n text = pointwise nat_eq (string_text p n) text
 abbrev pub type_is : Program → ℕ → List ℕ → Bool
 type_is p k text = pointwise nat_eq (type_text p k) text
 
--- a proto without parameters that gives this type, and one that takes an object and gives a boolean
-abbrev pub gives_with : Program → List ℕ → ℕ → List ℕ → Bool
-gives_with p [] result text = type_is p result text
-gives_with p (k ∷ ks) result text = false
+-- whether types have these descriptors, one for each
+abbrev pub types_are : Program → List ℕ → List (List ℕ) → Bool
+types_are p [] [] = true
+types_are p [] (t ∷ ts) = false
+types_are p (k ∷ ks) [] = false
+types_are p (k ∷ ks) (t ∷ ts) = type_is p k t && types_are p ks ts
 
-abbrev pub gives : Program → List ℕ → Option Proto → Bool
-gives p text None = false
-gives p text (Some q) = gives_with p q.parameters q.result text
+-- whether a proto takes and gives types of these descriptors
+abbrev pub proto_is : Program → List (List ℕ) → List ℕ → Option Proto → Bool
+proto_is p parameters result None = false
+proto_is p parameters result (Some q) = type_is p q.result result && types_are p q.parameters parameters
 
-abbrev pub takes_with : Program → List ℕ → ℕ → Bool
-takes_with p [] result = false
-takes_with p (k ∷ []) result = type_is p k (codes "Ljava/lang/Object;") && type_is p result (codes "Z")
-takes_with p (k ∷ l ∷ ks) result = false
-
-abbrev pub takes_object : Program → Option Proto → Bool
-takes_object p None = false
-takes_object p (Some q) = takes_with p q.parameters q.result
+abbrev pub is_named : Program → ℕ → ℕ → List ℕ → List (List ℕ) → List ℕ → Bool
+is_named p name proto text parameters result = string_is p name text && proto_is p parameters result (slice_get p.protos proto)
 
 -- the methods that every object answers to, also where its classes are all the program's
 abbrev pub is_common : Program → ℕ → ℕ → Bool
-is_common p name proto = string_is p name (codes "equals") && takes_object p (slice_get p.protos proto)
-    || string_is p name (codes "hashCode") && gives p (codes "I") (slice_get p.protos proto)
-    || string_is p name (codes "toString") && gives p (codes "Ljava/lang/String;") (slice_get p.protos proto)
-    || string_is p name (codes "clone") && gives p (codes "Ljava/lang/Object;") (slice_get p.protos proto)
-    || string_is p name (codes "finalize") && gives p (codes "V") (slice_get p.protos proto)
+is_common p name proto = is_named p name proto (codes "equals") (codes "Ljava/lang/Object;" ∷ []) (codes "Z")
+    || is_named p name proto (codes "hashCode") [] (codes "I")
+    || is_named p name proto (codes "toString") [] (codes "Ljava/lang/String;")
+    || is_named p name proto (codes "clone") [] (codes "Ljava/lang/Object;")
+    || is_named p name proto (codes "finalize") [] (codes "V")
 
 -- ---- fields
 

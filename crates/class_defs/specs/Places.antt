@@ -1,6 +1,6 @@
 -- The classes of a program by their places, and what stands above them by the program's own lists (Dalvik executable format,
 -- "class_def_item").
-use Rattle.std.specs.Prelude.{ℕ, zero, suc, Bool, true, false, List, [], ◌∷◌, length, Option, Some, None, nat_eq, slice_get, option_and_then, cond}
+use Rattle.std.specs.Prelude.{ℕ, zero, suc, Bool, true, List, [], ◌∷◌, length, Option, Some, None, nat_eq, slice_get, option_and_then, cond}
 use Rattle.std.specs.List.{list_any}
 use Rattle.program_model.specs.declared.program.Class.{Class}
 use Rattle.program_model.specs.declared.program.Program.{Program}

@@ -1,5 +1,5 @@
 -- Which classes run code when they are initialised, by number (this project's profile).
-use Rattle.std.specs.Prelude.{ℕ, zero, suc, ◌&&◌, not, Bool, true, false, List, [], ◌∷◌, length, Option, Some, None, slice_get, position, cond, codes, is_some}
+use Rattle.std.specs.Prelude.{ℕ, zero, suc, ◌&&◌, not, Bool, true, false, List, [], length, Option, Some, None, slice_get, position, cond, codes, is_some}
 use Rattle.std.specs.List.{list_all}
 use Rattle.program_model.specs.declared.pools.MethodName.{MethodName}
 use Rattle.program_model.specs.declared.program.Method.{Method}
@@ -7,11 +7,11 @@ use Rattle.program_model.specs.declared.program.Class.{Class}
 use Rattle.program_model.specs.declared.program.Program.{Program}
 use Rattle.program_model.specs.MemberRules.{is_static}
 use Rattle.class_defs.specs.Places.{interface_places, chain_of}
-use Rattle.class_defs.specs.Members.{string_is, gives}
+use Rattle.class_defs.specs.Members.{is_named}
 
 abbrev pub names_initialiser : Program → Option MethodName → Bool
 names_initialiser p None = false
-names_initialiser p (Some q) = string_is p q.name (codes "<clinit>") && gives p (codes "V") (slice_get p.protos q.proto)
+names_initialiser p (Some q) = is_named p q.name q.proto (codes "<clinit>") [] (codes "V")
 
 abbrev pub is_initialiser : Program → Method → Bool
 is_initialiser p m = names_initialiser p (slice_get p.methods m.name)

@@ -167,16 +167,17 @@ finds_super p class k = elim (is_037 p.version) [
 abbrev pub field_in : NamedClass → Text → Text → Option NamedField
 field_in c n k = find (λ f. text_eq f.name n && text_eq f.kind k) c.fields
 
+abbrev pub first_field : List (Option (Text × NamedField)) → Option (Text × NamedField)
+first_field [] = None
+first_field (o ∷ os) = option_or o (first_field os)
+
 -- the first of a name and a type in the class, then in its interfaces, then in its superclass, each in turn
 abbrev pub field_from : ℕ → NamedProgram → FieldKey → Text → Option (Text × NamedField)
 field_from zero p k t = None
 field_from (suc n) p k t = elim (class_named p t) [
   | Some c ↦ option_or (option_map (λ f. (c.name, f)) (field_in c k.name k.kind)) (first_field (map (field_from n p k) (c.interfaces ++ c.superclass ∷ [])))
   | None ↦ None
-] where
-  first_field : List (Option (Text × NamedField)) → Option (Text × NamedField)
-  first_field [] = None
-  first_field (o ∷ os) = option_or o (first_field os)
+]
 
 abbrev pub finds_field : NamedProgram → FieldKey → Option (Text × NamedField)
 finds_field p k = field_from (length p.classes) p k k.class

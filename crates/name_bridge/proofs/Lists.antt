@@ -1,5 +1,5 @@
 -- First entries of lists that are renamed.
-use Rattle.std.proofs.Common.{◌≡◌, ℕ, suc, ◌+◌, ◌≤◌, Bool, true, false, true≢false, nat_eq, List, [], ◌∷◌, map, length, Some, None, refl, sym, ap, ◌∙◌, arith, inl, inr, ltb-true, lt-ltb, eqb-true, eq-eqb}
+use Rattle.std.proofs.Common.{◌≡◌, ℕ, zero, suc, ◌+◌, ◌<◌, ◌≤◌, ◌⊎◌, Bool, true, false, true≢false, nat_eq, List, [], ◌∷◌, map, length, Option, Some, None, refl, sym, ap, ◌∙◌, arith, inl, inr, ltb-true, lt-ltb, eqb-true, eq-eqb}
 use Rattle.std.proofs.lemmas.Bool.{cases_lt}
 use Rattle.std.specs.Prelude.{◌&&◌, cond, not, slice_get, nat_lt, find, position, option_and_then}
 use Rattle.std.specs.List.{position_or_len}
@@ -71,3 +71,40 @@ find_named f u g (x ∷ xs) h = step (u x) (h 0 x refl) (find_named f u g xs (λ
     step : (b : Bool) → f (g x) ≡ b → find f (map g xs) ≡ option_map g (find u xs) → cond (f (g x)) (Some (g x)) (find f (map g xs)) ≡ option_map g (cond b (Some x) (find u xs))
     step true e r = ap (λ b. cond b (Some (g x)) (find f (map g xs))) e
     step false e r = ap (λ b. cond b (Some (g x)) (find f (map g xs))) e ∙ r
+
+-- the first place has an entry that passes
+pub record PlaceFits {X : Type 0} (t : X → Bool) (xs : List X) (i : ℕ) : Type 0 where
+  pub entry : X
+  pub is : slice_get xs i ≡ Some entry
+  pub passes : t entry ≡ true
+
+pub place_entry : {X : Type 0} (t : X → Bool) (xs : List X) (i : ℕ) → position t xs ≡ Some i → PlaceFits t xs i
+place_entry t [] i e = cc
+place_entry t (x ∷ xs) i e = step (place_entry t xs) (t x) refl (position t xs) refl (sym (position_step t x xs) ∙ e)
+  where
+    step : ((j : ℕ) → position t xs ≡ Some j → PlaceFits t xs j) → (b : Bool) → t x ≡ b → (o : Option ℕ) → position t xs ≡ o → cond b (Some 0) (option_map suc o) ≡ Some i → PlaceFits t (x ∷ xs) i
+    step more true h o f g = let z : i ≡ 0 = cc in record { entry = x; is = ap (slice_get (x ∷ xs)) z; passes = h }
+    step more false h None f g = cc
+    step more false h (Some j) f g =
+        let z : i ≡ suc j = cc in
+        let r = more j f in
+        record { entry = r.entry; is = ap (slice_get (x ∷ xs)) z ∙ r.is; passes = r.passes }
+
+-- an entry that passes stands at the first place or behind it
+pub record FirstPlace {X : Type 0} (t : X → Bool) (xs : List X) (i : ℕ) : Type 0 where
+  pub place : ℕ
+  pub is : position t xs ≡ Some place
+  pub first : (place < i) ⊎ (place ≡ i)
+
+pub place_first : {X : Type 0} (t : X → Bool) (xs : List X) (i : ℕ) (x : X) → slice_get xs i ≡ Some x → t x ≡ true → FirstPlace t xs i
+place_first t [] i x e h = cc
+place_first t (y ∷ ys) zero x e h = record { place = 0; is = position_step t y ys ∙ ap (λ b. cond b (Some 0) (option_map suc (position t ys))) (ap t (let s : y ≡ x = cc in s) ∙ h); first = inr refl }
+place_first t (y ∷ ys) (suc i) x e h = step (t y) refl (place_first t ys i x e h)
+  where
+    step : (b : Bool) → t y ≡ b → FirstPlace t ys i → FirstPlace t (y ∷ ys) (suc i)
+    step true g r = record { place = 0; is = position_step t y ys ∙ ap (λ b. cond b (Some 0) (option_map suc (position t ys))) g; first = inl (omega arith) }
+    step false g r = record {
+      place = suc r.place;
+      is = position_step t y ys ∙ ap (λ b. cond b (Some 0) (option_map suc (position t ys))) g ∙ ap (option_map suc) r.is;
+      first = elim r.first [ inl l ↦ inl (omega arith) | inr e ↦ inr (ap suc e) ];
+    }

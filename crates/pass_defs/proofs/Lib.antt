@@ -3,3 +3,4 @@ pub mod Anything
 pub mod Flows
 pub mod Conditional
 pub mod Idle
+pub mod Least

@@ -1,7 +1,7 @@
 -- What a program and its rules keep live (ProGuard manual, "Keep Options"; this project's profile): the least sets of
 -- classes, made classes, fields and methods with nine rules. A set is a test; a member is live where every closed family
 -- of sets has it.
-use Rattle.std.specs.Prelude.{◌≡◌, ℕ, Bool, true, false, ◌&&◌, ◌||◌, not, List, [], ◌∷◌, ◌++◌, map, Option, Some, None, is_some, Contains}
+use Rattle.std.specs.Prelude.{◌≡◌, ◌↔◌, ℕ, Bool, true, false, ◌&&◌, ◌||◌, not, List, [], ◌∷◌, ◌++◌, map, Option, Some, None, is_some, Contains}
 use Rattle.std.specs.List.{list_any}
 use Rattle.insn_set.specs.declared.ops.InvokeKind.{InvokeKind}
 use Rattle.insn_set.specs.declared.ops.InvokeKind.TheVariants as call
@@ -172,3 +172,17 @@ IsLiveField p o k f = (s : Family) → IsClosedFamily p o k s → s.fields f ≡
 
 abbrev pub IsLiveMethod : NamedProgram → Outer → Conditions → MethodKey → Type 0
 IsLiveMethod p o k m = (s : Family) → IsClosedFamily p o k s → s.methods m ≡ true
+
+-- Every closed family has all that this one has. A marking that is closed and in which each mark was made by a rule is so.
+pub record IsForced (p : NamedProgram) (o : Outer) (k : Conditions) (s : Family) : Type 0 where
+  pub classes : (t : Text) → s.classes t ≡ true → IsLiveClass p o k t
+  pub made : (t : Text) → s.made t ≡ true → IsMade p o k t
+  pub fields : (f : FieldKey) → s.fields f ≡ true → IsLiveField p o k f
+  pub methods : (m : MethodKey) → s.methods m ≡ true → IsLiveMethod p o k m
+
+-- It has exactly what is live.
+pub record HasTheLive (p : NamedProgram) (o : Outer) (k : Conditions) (s : Family) : Type 0 where
+  pub classes : (t : Text) → (s.classes t ≡ true) ↔ IsLiveClass p o k t
+  pub made : (t : Text) → (s.made t ≡ true) ↔ IsMade p o k t
+  pub fields : (f : FieldKey) → (s.fields f ≡ true) ↔ IsLiveField p o k f
+  pub methods : (m : MethodKey) → (s.methods m ≡ true) ↔ IsLiveMethod p o k m

@@ -7,7 +7,7 @@ ghost use Rattle.dalvik_defs.specs.declared.program.NamedClass.{NamedClass};
 ghost use Rattle.dalvik_defs.specs.declared.program.NamedMethod.{NamedMethod};
 ghost use Rattle.dalvik_defs.specs.declared.program.NamedProgram.{NamedProgram};
 ghost use Rattle.pass_defs.specs.Typed.{IsTyping, IsFlow, Table};
-ghost use Rattle.pass_defs.specs.Live.{IsClosedFamily, Conditions, everything};
+ghost use Rattle.pass_defs.specs.Live.{IsClosedFamily, IsForced, HasTheLive, Family, Conditions, everything};
 ghost use Rattle.pass_defs.specs.Constants.{IsSolution, anything};
 
 /// Some family is closed: the one that has everything.
@@ -23,4 +23,9 @@ pub fn anything_is_a_solution_law()
 /// A typing is a flow, so the least flow is at or below every typing.
 pub fn a_typing_is_a_flow_law()
     ensures { (p : NamedProgram) (c : NamedClass) (m : NamedMethod) (b : NamedBody) (t : Table) → IsTyping p c m b t → IsFlow p c m b t }
+{}
+
+/// A closed family whose marks every closed family has is the least one: it has exactly what is live.
+pub fn a_forced_family_is_least_law()
+    ensures { (p : NamedProgram) (o : Outer) (k : Conditions) (s : Family) → IsClosedFamily p o k s → IsForced p o k s → HasTheLive p o k s }
 {}

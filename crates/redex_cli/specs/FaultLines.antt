@@ -4,8 +4,8 @@ use Rattle.std.specs.Fmt.{decimal, digits, padded_integral, format_spec}
 use Rattle.program_model.specs.declared.limits.Counted.{Counted}
 use Rattle.program_model.specs.declared.limits.Counted.TheVariants as counted
 use Rattle.program_model.specs.declared.limits.LimitFault.{LimitFault}
-use Rattle.keep_rules.specs.declared.fault.RuleFault.{RuleFault}
-use Rattle.keep_rules.specs.declared.fault.RuleFault.TheVariants as rule
+use Rattle.rule_text.specs.declared.fault.RuleFault.{RuleFault}
+use Rattle.rule_text.specs.declared.fault.RuleFault.TheVariants as rule
 use Rattle.dex_pools.specs.declared.fault.Table.{Table}
 use Rattle.dex_pools.specs.declared.fault.Table.TheVariants as table
 use Rattle.dex_pools.specs.declared.fault.PoolFault.{PoolFault}

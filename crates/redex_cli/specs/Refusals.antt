@@ -1,7 +1,7 @@
 -- Why a run is refused, and what holds where it is not.
 use Rattle.std.specs.Prelude.{◌≡◌, ◌⊎◌, ◌+◌, ◌++◌, ℕ, List, Bool, IsTrue, Option, Some}
-use Rattle.keep_rules.specs.declared.fault.RuleFault.{RuleFault}
-use Rattle.keep_rules.specs.declared.fault.RuleFault.TheVariants as rule
+use Rattle.rule_text.specs.declared.fault.RuleFault.{RuleFault}
+use Rattle.rule_text.specs.declared.fault.RuleFault.TheVariants as rule
 use Rattle.dex_read.specs.declared.fault.DexFault.{DexFault}
 use Rattle.dex_read.specs.declared.fault.DexFault.TheVariants as dex
 use Rattle.hierarchy.specs.declared.fault.HierarchyFault.{HierarchyFault}

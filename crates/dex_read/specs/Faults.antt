@@ -1,4 +1,5 @@
 -- How the faults of the layers below are handed on.
+use Rattle.std.specs.Prelude.{Bool, true, false}
 use Rattle.dex_base.specs.declared.fault.BaseFault.{BaseFault}
 use Rattle.dex_base.specs.declared.fault.BaseFault.TheVariants as base
 use Rattle.dex_pools.specs.declared.fault.PoolFault.{PoolFault}
@@ -18,3 +19,8 @@ of_base (base.Short at) = Pool (pool.Short at)
 of_base (base.LongLeb at) = Pool (pool.LongLeb at)
 of_base (base.BadText at) = Pool (pool.BadText at)
 of_base (base.BadDescriptor at) = Pool (pool.BadDescriptor at)
+
+-- want of memory
+abbrev pub is_free : DexFault → Bool
+is_free NoMemory = true
+is_free _ = false

@@ -1,10 +1,11 @@
 //! The members of a class (Dalvik executable format, "class_data_item").
 
-ghost use Rattle.std.specs.Prelude.{◌≡◌, ◌+◌, ◌≤◌, ◌<◌, length, IfOk, vec_len};
+ghost use Rattle.std.specs.Prelude.{◌≡◌, ◌+◌, ◌≤◌, ◌<◌, length, IfOk, vec_len, IfErr};
+ghost use Rattle.dex_read.specs.Counts.{CountsInFile};
 
+use crate::below::number_of;
 use crate::fault::DexFault;
 use crate::members::{Owner, Source, Stepped, check_ascends, is_direct, stepped_index};
-use dex_base::read_uleb;
 use program_model::{Field, Flags, Method};
 use seq::Seq;
 use std::alloc::Global;
@@ -44,12 +45,13 @@ impl Members {
 
 /// The four counts at `at`, and the place behind them.
 fn read_counts(bytes: &[u8], at: usize) -> Result<(Counts, usize), DexFault>
-    ensures { IfOk result (λ r. r.1 ≤ length bytes.now) }
+    ensures inside { IfOk result (λ r. r.1 ≤ length bytes.now) }
+    ensures counts { IfErr result CountsInFile }
 {
-    let (statics, next) = read_uleb(bytes, at)?;
-    let (instances, next) = read_uleb(bytes, next)?;
-    let (directs, next) = read_uleb(bytes, next)?;
-    let (virtuals, next) = read_uleb(bytes, next)?;
+    let (statics, next) = number_of(bytes, at)?;
+    let (instances, next) = number_of(bytes, next)?;
+    let (directs, next) = number_of(bytes, next)?;
+    let (virtuals, next) = number_of(bytes, next)?;
     let counts = Counts {
         statics,
         instances,
@@ -82,7 +84,9 @@ fn check_field(
     is_static: bool,
     statics: &[Field],
     place: u32,
-) -> Result<(), DexFault> {
+) -> Result<(), DexFault>
+    ensures counts { IfErr result CountsInFile }
+{
     let pools = source.pools;
     let is_own = match pools.fields.items.get(entry.name as usize) {
         Some(name) => name.class == owner.kind,
@@ -118,14 +122,15 @@ fn read_fields(
     is_static: bool,
 ) -> Result<usize, DexFault>
     requires { at ≤ length source.now.bytes.now }
-    ensures { IfOk result (λ next. next ≤ length source.now.bytes.now) }
+    ensures inside { IfOk result (λ next. next ≤ length source.now.bytes.now) }
+    ensures counts { IfErr result CountsInFile }
 {
     let before_list = if is_static { 0 } else { fields.len() };
     let mut at = at;
     let mut before = 0;
     for place in 0..count {
         let step = stepped_index(source.bytes, at, before, source.sizes.fields)?;
-        let (flags, next) = read_uleb(source.bytes, step.next)?;
+        let (flags, next) = number_of(source.bytes, step.next)?;
         check_ascends(place, step.is_same)?;
         let field = plain_field(alloc, step.number, flags);
         check_field(
@@ -169,7 +174,9 @@ fn check_method(
     direct: bool,
     directs: &[Method],
     place: u32,
-) -> Result<(), DexFault> {
+) -> Result<(), DexFault>
+    ensures counts { IfErr result CountsInFile }
+{
     let pools = source.pools;
     let fits = match pools.methods.items.get(entry.number as usize) {
         Some(name) => {
@@ -198,11 +205,12 @@ fn listed_method(
     before: u32,
     place: u32,
 ) -> Result<(Listed, usize), DexFault>
-    ensures { IfOk result (λ r. r.1 ≤ length source.now.bytes.now) }
+    ensures inside { IfOk result (λ r. r.1 ≤ length source.now.bytes.now) }
+    ensures counts { IfErr result CountsInFile }
 {
     let step: Stepped = stepped_index(source.bytes, at, before, source.sizes.methods)?;
-    let (flags, next) = read_uleb(source.bytes, step.next)?;
-    let (code, next) = read_uleb(source.bytes, next)?;
+    let (flags, next) = number_of(source.bytes, step.next)?;
+    let (code, next) = number_of(source.bytes, next)?;
     check_ascends(place, step.is_same)?;
     let listed = Listed {
         number: step.number,
@@ -235,7 +243,8 @@ fn read_methods(
     direct: bool,
 ) -> Result<usize, DexFault>
     requires { at ≤ length source.now.bytes.now }
-    ensures { IfOk result (λ next. next ≤ length source.now.bytes.now) }
+    ensures inside { IfOk result (λ next. next ≤ length source.now.bytes.now) }
+    ensures counts { IfErr result CountsInFile }
 {
     let before_list = if direct { 0 } else { members.methods.len() };
     let mut at = at;
@@ -265,7 +274,9 @@ pub fn read_members(
     source: &Source,
     owner: Owner,
     at: usize,
-) -> Result<Members, DexFault> {
+) -> Result<Members, DexFault>
+    ensures counts { IfErr result CountsInFile }
+{
     let mut members = Members::new(alloc);
     let (counts, at) = read_counts(source.bytes, at)?;
     let fields = &mut members.fields;

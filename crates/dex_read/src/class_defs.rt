@@ -1,15 +1,17 @@
 //! The classes (Dalvik executable format, "class_def_item").
 
-ghost use Rattle.std.specs.Prelude.{◌≡◌, ◌+◌, ◌*◌, ◌^◌, ◌≤◌, ◌<◌, length, IfOk};
+ghost use Rattle.std.specs.Prelude.{◌≡◌, ◌+◌, ◌*◌, ◌^◌, ◌≤◌, ◌<◌, length, IfOk, IfErr};
+ghost use Rattle.dex_read.specs.Counts.{CountsInFile};
 
+use crate::below::{types_of, word_of};
 use crate::class_data::{Members, read_members};
 use crate::code::read_code_item;
 use crate::directory::read_directory;
 use crate::fault::DexFault;
 use crate::first_values::read_first_values;
 use crate::members::{Budget, Owner, Source};
-use dex_base::{Text, read_u32};
-use dex_pools::{PoolFault, read_type_list};
+use dex_base::Text;
+use dex_pools::PoolFault;
 use program_model::{Class, Flags};
 use seq::Seq;
 use std::alloc::Global;
@@ -31,8 +33,10 @@ struct ClassDef {
 }
 
 /// The index at `at`, which is below the size of its table or, where it may be, none.
-fn index_at(bytes: &[u8], at: usize, size: u32, may_be_none: bool) -> Result<u32, DexFault> {
-    let value = read_u32(bytes, at)?;
+fn index_at(bytes: &[u8], at: usize, size: u32, may_be_none: bool) -> Result<u32, DexFault>
+    ensures counts { IfErr result CountsInFile }
+{
+    let value = word_of(bytes, at)?;
     if value >= size && !(may_be_none && value == NO_INDEX) {
         return Err(DexFault::Pool(PoolFault::Index { at, value, size }));
     }
@@ -42,17 +46,18 @@ fn index_at(bytes: &[u8], at: usize, size: u32, may_be_none: bool) -> Result<u32
 /// The class_def at `at`.
 fn class_def_at(source: &Source, at: usize) -> Result<ClassDef, DexFault>
     requires { at + 32 ≤ length source.now.bytes.now }
+    ensures counts { IfErr result CountsInFile }
 {
     let bytes = source.bytes;
     Ok(ClassDef {
         class: index_at(bytes, at, source.sizes.types, false)?,
-        flags: read_u32(bytes, at + 4)?,
+        flags: word_of(bytes, at + 4)?,
         superclass: index_at(bytes, at + 8, source.sizes.types, true)?,
-        interfaces: read_u32(bytes, at + 12)?,
+        interfaces: word_of(bytes, at + 12)?,
         source: index_at(bytes, at + 16, source.sizes.strings, true)?,
-        annotations: read_u32(bytes, at + 20)?,
-        data: read_u32(bytes, at + 24)?,
-        static_values: read_u32(bytes, at + 28)?,
+        annotations: word_of(bytes, at + 20)?,
+        data: word_of(bytes, at + 24)?,
+        static_values: word_of(bytes, at + 28)?,
     })
 }
 
@@ -86,7 +91,9 @@ fn check_root(
     def: ClassDef,
     interfaces: &[u32],
     place: u32,
-) -> Result<(), DexFault> {
+) -> Result<(), DexFault>
+    ensures counts { IfErr result CountsInFile }
+{
     let fits = def.superclass != NO_INDEX
         && !is_object(source, def.class)
         && source.is_class(def.class)
@@ -105,7 +112,9 @@ fn read_bodies(
     members: &mut Members,
     budget: &mut Budget,
     units: &mut Vec<u16>,
-) -> Result<(), DexFault> {
+) -> Result<(), DexFault>
+    ensures counts { IfErr result CountsInFile }
+{
     let Members { methods, codes, .. } = members;
     for (method, code) in methods.iter_mut().zip(codes.iter()) {
         if *code != 0 {
@@ -123,7 +132,9 @@ fn whole_members(
     data: u32,
     budget: &mut Budget,
     units: &mut Vec<u16>,
-) -> Result<Members, DexFault> {
+) -> Result<Members, DexFault>
+    ensures counts { IfErr result CountsInFile }
+{
     if data == 0 {
         return Ok(Members::new(alloc));
     }
@@ -138,12 +149,14 @@ fn interfaces_of(
     source: &Source,
     offset: u32,
     budget: &mut Budget,
-) -> Result<Seq<u32>, DexFault> {
+) -> Result<Seq<u32>, DexFault>
+    ensures counts { IfErr result CountsInFile }
+{
     if offset == 0 {
         return Ok(Seq::new(alloc));
     }
     let left = &mut budget.items;
-    let kinds = read_type_list(
+    let kinds = types_of(
         alloc,
         source.bytes,
         offset as usize,
@@ -163,6 +176,7 @@ pub fn read_class(
     units: &mut Vec<u16>,
 ) -> Result<Class, DexFault>
     requires { at + 32 ≤ length source.now.bytes.now }
+    ensures counts { IfErr result CountsInFile }
 {
     let def = class_def_at(source, at)?;
     let interfaces = interfaces_of(alloc, source, def.interfaces, budget)?;

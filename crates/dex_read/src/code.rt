@@ -1,12 +1,13 @@
 //! The code of a method (Dalvik executable format, "code_item").
 
-ghost use Rattle.std.specs.Prelude.{◌+◌, ◌*◌, ◌^◌, ◌≤◌, ◌<◌, ◌≡◌, length, IfOk, OnOk, vec_len};
+ghost use Rattle.std.specs.Prelude.{◌+◌, ◌*◌, ◌^◌, ◌≤◌, ◌<◌, ◌≡◌, length, IfOk, OnOk, vec_len, IfErr, IsTrue};
+ghost use Rattle.dex_read.specs.Counts.{CountsInFile, is_in_file};
 
+use crate::below::{half_of, word_of};
 use crate::fault::DexFault;
 use crate::header::need;
 use crate::members::{Budget, Source};
 use code_read::{CodeFault, Sizes, read_code};
-use dex_base::{read_u16, read_u32};
 use line_tables::read_lines;
 use program_model::{Body, Counted, Flags, LimitFault, Method, count_body_cells};
 use seq::Seq;
@@ -29,13 +30,14 @@ fn read_item(bytes: &[u8], at: usize) -> Result<CodeItem, DexFault>
     requires { at < 2 ^ 32 }
     ensures units { IfOk result (λ item. item.units_at + 2 * item.size ≤ length bytes.now) }
     ensures tries { IfOk result (λ item. item.tries_at ≤ length bytes.now) }
+    ensures counts { IfErr result CountsInFile }
 {
     need(bytes, at, 16)?;
-    let registers = read_u16(bytes, at)?;
-    let ins = read_u16(bytes, at + 2)?;
-    let tries = read_u16(bytes, at + 6)?;
-    let debug = read_u32(bytes, at + 8)?;
-    let size = read_u32(bytes, at + 12)?;
+    let registers = half_of(bytes, at)?;
+    let ins = half_of(bytes, at + 2)?;
+    let tries = half_of(bytes, at + 6)?;
+    let debug = word_of(bytes, at + 8)?;
+    let size = word_of(bytes, at + 12)?;
     let padding = if tries > 0 && size % 2 == 1 { 2 } else { 0 };
     let before_tries = 16 + 2 * size as usize + padding;
     need(bytes, at, before_tries + 8 * usize::from(tries))?;
@@ -53,12 +55,13 @@ fn read_item(bytes: &[u8], at: usize) -> Result<CodeItem, DexFault>
 /// The units at a place, into a list that held others.
 fn read_units(bytes: &[u8], at: usize, count: u32, units: &mut Vec<u16>) -> Result<(), DexFault>
     requires { at + 2 * count ≤ length bytes.now }
-    ensures { OnOk result (vec_len units.new ≡ count) }
+    ensures count { OnOk result (vec_len units.new ≡ count) }
+    ensures counts { IfErr result CountsInFile }
 {
     units.clear();
     units.reserve(count as usize)?;
     for place in 0..count {
-        units.push(read_u16(bytes, at + 2 * place as usize)?)?;
+        units.push(half_of(bytes, at + 2 * place as usize)?)?;
     }
     Ok(())
 }
@@ -82,7 +85,9 @@ fn words_of(source: &Source, method: &Method) -> Option<u64> {
 }
 
 /// That the arguments are those of the method's proto, and do not pass its registers.
-fn check_frame(source: &Source, method: &Method, item: CodeItem) -> Result<(), DexFault> {
+fn check_frame(source: &Source, method: &Method, item: CodeItem) -> Result<(), DexFault>
+    ensures counts { IfErr result CountsInFile }
+{
     if words_of(source, method) != Some(u64::from(item.ins)) || item.registers < item.ins {
         return Err(DexFault::FrameSize {
             method: method.name,
@@ -105,18 +110,27 @@ fn handlers_of(body: &Body) -> u32 {
 }
 
 /// A limit that is passed by one.
-fn passed(counted: Counted) -> DexFault {
+fn passed(counted: Counted) -> DexFault
+    requires { IsTrue (is_in_file counted) }
+    ensures { CountsInFile result }
+{
     DexFault::Limit(LimitFault {
         counted,
         number: counted.limit() + 1,
     })
 }
 
-/// A fault in a method's code. Want of memory and a passed limit are handed on as such.
-fn code_fault(method: u32, fault: CodeFault) -> DexFault {
+/// A fault in a method's code. Want of memory and a passed limit are handed on as such; the limit is that of cells or
+/// of items.
+fn code_fault(method: u32, fault: CodeFault) -> DexFault
+    ensures { CountsInFile result }
+{
     match fault {
         CodeFault::NoMemory => DexFault::NoMemory,
-        CodeFault::Limit(limit) => DexFault::Limit(limit),
+        CodeFault::Limit(limit) => match limit.counted {
+            Counted::Cells => passed(Counted::Cells),
+            _ => passed(Counted::Items),
+        },
         fault => DexFault::Code { method, fault },
     }
 }
@@ -129,7 +143,9 @@ fn lines_of(
     at: u32,
     starts: &[u32],
     budget: &mut Budget,
-) -> Result<Seq<u32>, DexFault> {
+) -> Result<Seq<u32>, DexFault>
+    ensures counts { IfErr result CountsInFile }
+{
     if at == 0 {
         return Ok(Seq::new(alloc));
     }
@@ -152,7 +168,9 @@ pub fn read_code_item(
     at: u32,
     budget: &mut Budget,
     units: &mut Vec<u16>,
-) -> Result<(), DexFault> {
+) -> Result<(), DexFault>
+    ensures counts { IfErr result CountsInFile }
+{
     let bytes = source.bytes;
     let item = read_item(bytes, at as usize)?;
     check_frame(source, method, item)?;
@@ -167,9 +185,10 @@ pub fn read_code_item(
         methods: source.sizes.methods,
         items: budget.items,
     };
-    let (body, starts) = read_code(alloc, units, &bytes[item.tries_at..], &sizes).map_err(
-        |fault| code_fault(method.name, fault),
-    )?;
+    let (body, starts) = match read_code(alloc, units, &bytes[item.tries_at..], &sizes) {
+        Ok(read) => read,
+        Err(fault) => return Err(code_fault(method.name, fault)),
+    };
     budget.items = budget.items.saturating_sub(handlers_of(&body));
     method.lines = lines_of(alloc, bytes, item.debug, &starts, budget)?;
     budget.cells = budget.cells.saturating_add(count_body_cells(&body));

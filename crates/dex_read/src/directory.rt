@@ -1,13 +1,14 @@
 //! The annotations of a class and its members (Dalvik executable format, "annotations_directory_item").
 
-ghost use Rattle.std.specs.Prelude.{◌≡◌, ◌+◌, ◌*◌, ◌^◌, ◌≤◌, ◌<◌, length, IfOk, IfSome};
+ghost use Rattle.std.specs.Prelude.{◌≡◌, ◌+◌, ◌*◌, ◌^◌, ◌≤◌, ◌<◌, length, IfOk, IfSome, IfErr};
+ghost use Rattle.dex_read.specs.Counts.{CountsInFile};
 
+use crate::below::{marks_of, parameter_marks_of, word_of};
 use crate::class_data::Members;
 use crate::fault::DexFault;
 use crate::header::need;
 use crate::members::{Budget, Owner, Source, check_ascends};
-use dex_base::read_u32;
-use dex_pools::{PoolFault, read_annotations_counted, read_parameter_annotations};
+use dex_pools::PoolFault;
 use program_model::{Field, Mark, Method};
 use seq::Seq;
 use std::alloc::Global;
@@ -22,9 +23,10 @@ struct Entry {
 /// The entry at `at`. Its number is below the size of its table.
 fn entry_at(bytes: &[u8], at: usize, size: u32) -> Result<Entry, DexFault>
     requires { at + 8 ≤ length bytes.now }
+    ensures counts { IfErr result CountsInFile }
 {
-    let number = read_u32(bytes, at)?;
-    let offset = read_u32(bytes, at + 4)?;
+    let number = word_of(bytes, at)?;
+    let offset = word_of(bytes, at + 4)?;
     if number >= size {
         return Err(DexFault::Pool(PoolFault::Index {
             at,
@@ -36,7 +38,9 @@ fn entry_at(bytes: &[u8], at: usize, size: u32) -> Result<Entry, DexFault>
 }
 
 /// That an entry's number is above that of the entry before it.
-fn check_above(place: u32, before: u32, number: u32) -> Result<(), DexFault> {
+fn check_above(place: u32, before: u32, number: u32) -> Result<(), DexFault>
+    ensures counts { IfErr result CountsInFile }
+{
     check_ascends(place, number <= before)
 }
 
@@ -46,12 +50,14 @@ fn set_at(
     source: &Source,
     offset: u32,
     budget: &mut Budget,
-) -> Result<Seq<Mark>, DexFault> {
+) -> Result<Seq<Mark>, DexFault>
+    ensures counts { IfErr result CountsInFile }
+{
     if offset == 0 {
         return Ok(Seq::new(alloc));
     }
     let left = &mut budget.items;
-    let marks = read_annotations_counted(alloc, source.bytes, offset as usize, source.sizes, left)?;
+    let marks = marks_of(alloc, source.bytes, offset as usize, source.sizes, left)?;
     Ok(Seq::of_vec(marks))
 }
 
@@ -61,13 +67,15 @@ fn sets_at(
     source: &Source,
     offset: u32,
     budget: &mut Budget,
-) -> Result<Seq<Seq<Mark>>, DexFault> {
+) -> Result<Seq<Seq<Mark>>, DexFault>
+    ensures counts { IfErr result CountsInFile }
+{
     if offset == 0 {
         return Ok(Seq::new(alloc));
     }
     let left = &mut budget.items;
     let at = offset as usize;
-    let sets = read_parameter_annotations(alloc, source.bytes, at, source.sizes, left)?;
+    let sets = parameter_marks_of(alloc, source.bytes, at, source.sizes, left)?;
     Ok(Seq::of_vec(sets))
 }
 
@@ -98,7 +106,9 @@ fn method_place(methods: &[Method], directs: usize, number: u32) -> Option<usize
 }
 
 /// The fault of a list's entry that names no member of the class.
-fn no_member(owner: Owner, place: u32) -> DexFault {
+fn no_member(owner: Owner, place: u32) -> DexFault
+    ensures { CountsInFile result }
+{
     DexFault::Member {
         class: owner.place,
         place,
@@ -116,6 +126,7 @@ fn read_field_marks(
     budget: &mut Budget,
 ) -> Result<(), DexFault>
     requires { at + 8 * count ≤ length source.now.bytes.now }
+    ensures counts { IfErr result CountsInFile }
 {
     let mut before = 0;
     for place in 0..count {
@@ -145,6 +156,7 @@ fn read_method_marks(
     of_parameters: bool,
 ) -> Result<(), DexFault>
     requires { at + 8 * count ≤ length source.now.bytes.now }
+    ensures counts { IfErr result CountsInFile }
 {
     let mut before = 0;
     for place in 0..count {
@@ -174,14 +186,16 @@ pub fn read_directory(
     at: u32,
     members: &mut Members,
     budget: &mut Budget,
-) -> Result<Seq<Mark>, DexFault> {
+) -> Result<Seq<Mark>, DexFault>
+    ensures counts { IfErr result CountsInFile }
+{
     let bytes = source.bytes;
     let at = at as usize;
     need(bytes, at, 16)?;
-    let class_set = read_u32(bytes, at)?;
-    let fields = read_u32(bytes, at + 4)?;
-    let methods = read_u32(bytes, at + 8)?;
-    let parameters = read_u32(bytes, at + 12)?;
+    let class_set = word_of(bytes, at)?;
+    let fields = word_of(bytes, at + 4)?;
+    let methods = word_of(bytes, at + 8)?;
+    let parameters = word_of(bytes, at + 12)?;
     let methods_at = at + 16 + 8 * fields as usize;
     let parameters_at = methods_at + 8 * methods as usize;
     need(bytes, at, parameters_at + 8 * parameters as usize - at)?;

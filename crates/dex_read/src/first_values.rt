@@ -1,10 +1,13 @@
 //! The first values of static fields (Dalvik executable format, "encoded_array").
 
+ghost use Rattle.std.specs.Prelude.{IfErr};
+ghost use Rattle.dex_read.specs.Counts.{CountsInFile};
+
+use crate::below::{number_of, take_items, value_of};
 use crate::fault::DexFault;
 use crate::members::{Budget, Source};
-use dex_base::read_uleb;
-use dex_pools::{PoolFault, read_value_counted, take_counted};
-use program_model::{Counted, EncValue, Field};
+use dex_pools::PoolFault;
+use program_model::{EncValue, Field};
 use std::alloc::Global;
 
 /// Whether a value is one that a field with this first letter of its type's text may begin with.
@@ -58,13 +61,15 @@ pub fn read_first_values(
     statics: &mut [Field],
     at: usize,
     budget: &mut Budget,
-) -> Result<(), DexFault> {
-    let (count, next) = read_uleb(source.bytes, at)?;
-    take_counted(Counted::Items, count, &mut budget.items)?;
+) -> Result<(), DexFault>
+    ensures counts { IfErr result CountsInFile }
+{
+    let (count, next) = number_of(source.bytes, at)?;
+    take_items(count, &mut budget.items)?;
     let mut at = next;
     for place in 0..count {
         let left = &mut budget.items;
-        let (value, next) = read_value_counted(alloc, source.bytes, at, source.sizes, left)?;
+        let (value, next) = value_of(alloc, source.bytes, at, source.sizes, left)?;
         match statics.get_mut(place as usize) {
             Some(field) if fits(letter_of(source, field.name), &value) => {
                 field.first = if is_zero(&value) { None } else { Some(value) };

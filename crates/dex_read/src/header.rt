@@ -1,9 +1,11 @@
 //! The header (Dalvik executable format, "header_item").
 
-ghost use Rattle.std.specs.Prelude.{◌≡◌, ◌+◌, ◌≤◌, ◌<◌, length, OnOk};
+ghost use Rattle.std.specs.Prelude.{◌≡◌, ◌+◌, ◌≤◌, ◌<◌, length, OnOk, IfErr, IsTrue};
+ghost use Rattle.dex_read.specs.Counts.{CountsInFile, is_in_file};
 
+use crate::below::word_of;
 use crate::fault::DexFault;
-use dex_base::{adler, read_u32};
+use dex_base::adler;
 use program_model::{Counted, LimitFault, Version};
 
 /// How many bytes the header has.
@@ -14,7 +16,8 @@ const ENDIAN: u32 = 0x1234_5678;
 
 /// That so many bytes stand from `at` on; otherwise the item that begins there passes the end.
 pub fn need(bytes: &[u8], at: usize, count: usize) -> Result<(), DexFault>
-    ensures { OnOk result (at + count ≤ length bytes.now) }
+    ensures room { OnOk result (at + count ≤ length bytes.now) }
+    ensures counts { IfErr result CountsInFile }
 {
     if at > bytes.len() || bytes.len() - at < count {
         return Err(DexFault::Short { at });
@@ -23,7 +26,9 @@ pub fn need(bytes: &[u8], at: usize, count: usize) -> Result<(), DexFault>
 }
 
 /// The version that the first eight bytes name.
-fn version_of(bytes: &[u8]) -> Result<Version, DexFault> {
+fn version_of(bytes: &[u8]) -> Result<Version, DexFault>
+    ensures counts { IfErr result CountsInFile }
+{
     match bytes {
         [0x64, 0x65, 0x78, 0x0a, 0x30, 0x33, 0x35, 0x00, ..] => Ok(Version::V035),
         [0x64, 0x65, 0x78, 0x0a, 0x30, 0x33, 0x37, 0x00, ..] => Ok(Version::V037),
@@ -32,8 +37,10 @@ fn version_of(bytes: &[u8]) -> Result<Version, DexFault> {
 }
 
 /// That a field of the header has its only value.
-fn check_field(bytes: &[u8], at: usize, wanted: usize) -> Result<(), DexFault> {
-    if read_u32(bytes, at)? as usize != wanted {
+fn check_field(bytes: &[u8], at: usize, wanted: usize) -> Result<(), DexFault>
+    ensures counts { IfErr result CountsInFile }
+{
+    if word_of(bytes, at)? as usize != wanted {
         return Err(DexFault::Header { at });
     }
     Ok(())
@@ -42,8 +49,9 @@ fn check_field(bytes: &[u8], at: usize, wanted: usize) -> Result<(), DexFault> {
 /// That the number at 8 is the Adler-32 of all bytes behind it.
 fn check_sum(bytes: &[u8]) -> Result<(), DexFault>
     requires { 12 ≤ length bytes.now }
+    ensures counts { IfErr result CountsInFile }
 {
-    let stored = read_u32(bytes, 8)?;
+    let stored = word_of(bytes, 8)?;
     let computed = adler(&bytes[12..]);
     if stored != computed {
         return Err(DexFault::Checksum { stored, computed });
@@ -52,8 +60,11 @@ fn check_sum(bytes: &[u8]) -> Result<(), DexFault>
 }
 
 /// That a table whose size stands at `at` has no more entries than its limit.
-fn check_size(bytes: &[u8], at: usize, counted: Counted) -> Result<(), DexFault> {
-    if u64::from(read_u32(bytes, at)?) > counted.limit() {
+fn check_size(bytes: &[u8], at: usize, counted: Counted) -> Result<(), DexFault>
+    requires { IsTrue (is_in_file counted) }
+    ensures counts { IfErr result CountsInFile }
+{
+    if u64::from(word_of(bytes, at)?) > counted.limit() {
         return Err(DexFault::Limit(LimitFault {
             counted,
             number: counted.limit() + 1,
@@ -66,7 +77,8 @@ fn check_size(bytes: &[u8], at: usize, counted: Counted) -> Result<(), DexFault>
 /// of the fields: fewer than 112 bytes, the magic, the size of the file, of the header, the order of bytes, the link
 /// section, the checksum, and then the sizes of the tables.
 pub fn read_header(bytes: &[u8]) -> Result<Version, DexFault>
-    ensures { OnOk result (112 ≤ length bytes.now) }
+    ensures whole { OnOk result (112 ≤ length bytes.now) }
+    ensures counts { IfErr result CountsInFile }
 {
     need(bytes, 0, HEADER)?;
     let version = version_of(bytes)?;

@@ -3,6 +3,7 @@
 //! [`read_dex`] answers the program that the bytes spell, or a fault that stands in them, or the limit that they pass.
 #![tactic(auto)]
 
+mod below;
 mod class_data;
 mod class_defs;
 mod code;

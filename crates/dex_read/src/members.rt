@@ -1,9 +1,11 @@
 //! What is read with a file at hand: the bytes, the tables, and what is left of the limits.
 
-ghost use Rattle.std.specs.Prelude.{◌≡◌, ◌+◌, ◌≤◌, ◌<◌, length, IfOk};
+ghost use Rattle.std.specs.Prelude.{◌≡◌, ◌+◌, ◌≤◌, ◌<◌, length, IfOk, IfErr};
+ghost use Rattle.dex_read.specs.Counts.{CountsInFile};
 
+use crate::below::number_of;
 use crate::fault::DexFault;
-use dex_base::{Text, read_uleb};
+use dex_base::Text;
 use dex_pools::{PoolFault, Pools, Table, TableSizes};
 use program_model::Flags;
 use std::alloc::{AllocError, Global};
@@ -85,8 +87,9 @@ pub struct Stepped {
 pub fn stepped_index(bytes: &[u8], at: usize, before: u32, size: u32) -> Result<Stepped, DexFault>
     ensures inside { IfOk result (λ step. step.next ≤ length bytes.now) }
     ensures below { IfOk result (λ step. step.number < size) }
+    ensures counts { IfErr result CountsInFile }
 {
-    let (step, next) = read_uleb(bytes, at)?;
+    let (step, next) = number_of(bytes, at)?;
     let number = u64::from(before) + u64::from(step);
     if number >= u64::from(size) {
         let value = u32::try_from(number).unwrap_or(u32::MAX);
@@ -100,7 +103,9 @@ pub fn stepped_index(bytes: &[u8], at: usize, before: u32, size: u32) -> Result<
 }
 
 /// That the entry at `place` of a list of members is above the one before it.
-pub fn check_ascends(place: u32, is_same: bool) -> Result<(), DexFault> {
+pub fn check_ascends(place: u32, is_same: bool) -> Result<(), DexFault>
+    ensures counts { IfErr result CountsInFile }
+{
     if place > 0 && is_same {
         return Err(DexFault::Pool(PoolFault::Order {
             table: Table::Members,

@@ -1,15 +1,16 @@
 //! The whole file.
 
-ghost use Rattle.std.specs.Prelude.{◌+◌, ◌*◌, ◌^◌, ◌≤◌, ◌<◌, length, vec_len, IfOk, OnOk};
+ghost use Rattle.std.specs.Prelude.{◌+◌, ◌*◌, ◌^◌, ◌≤◌, ◌<◌, length, vec_len, IfOk, OnOk, IfErr, IsTrue};
 ghost use Rattle.program_model.specs.Limits.{limit_of};
 ghost use Rattle.dex_read.specs.Kept.{KeepLimits, KeepsLimits};
+ghost use Rattle.dex_read.specs.Counts.{CountsInFile, is_in_file};
 
+use crate::below::{pools_of, word_of};
 use crate::class_defs::read_class;
 use crate::fault::DexFault;
 use crate::header::{need, read_header};
 use crate::members::{Budget, Source, letters_of};
-use dex_base::read_u32;
-use dex_pools::{Pools, read_pools_counted};
+use dex_pools::Pools;
 use program_model::{Class, Counted, LimitFault, Program};
 use seq::Seq;
 use std::alloc::Global;
@@ -22,7 +23,9 @@ const CLASS_DEF: usize = 32;
 
 /// That a table has no more entries than its limit.
 fn check_count(count: usize, counted: Counted) -> Result<(), DexFault>
-    ensures { OnOk result (count ≤ limit_of counted) }
+    requires { IsTrue (is_in_file counted) }
+    ensures few { OnOk result (count ≤ limit_of counted) }
+    ensures counts { IfErr result CountsInFile }
 {
     if count as u64 > counted.limit() {
         return Err(DexFault::Limit(LimitFault {
@@ -35,7 +38,8 @@ fn check_count(count: usize, counted: Counted) -> Result<(), DexFault>
 
 /// That the tables keep their limits, as the sizes of the header do.
 fn check_tables(pools: &Pools) -> Result<(), DexFault>
-    ensures { OnOk result (KeepLimits pools.now) }
+    ensures keep { OnOk result (KeepLimits pools.now) }
+    ensures counts { IfErr result CountsInFile }
 {
     check_count(pools.types.len(), Counted::Types)?;
     check_count(pools.protos.len(), Counted::Protos)?;
@@ -45,11 +49,12 @@ fn check_tables(pools: &Pools) -> Result<(), DexFault>
 
 /// The classes, whose table the header names at 96.
 fn read_classes(alloc: Global, source: &Source, budget: &mut Budget) -> Result<Vec<Class>, DexFault>
-    ensures { IfOk result (λ classes. vec_len classes < 2 ^ 32) }
+    ensures few { IfOk result (λ classes. vec_len classes < 2 ^ 32) }
+    ensures counts { IfErr result CountsInFile }
 {
     let bytes = source.bytes;
-    let count = read_u32(bytes, 96)?;
-    let offset = read_u32(bytes, 100)? as usize;
+    let count = word_of(bytes, 96)?;
+    let offset = word_of(bytes, 100)? as usize;
     let mut classes = Vec::new(alloc);
     if count == 0 {
         return Ok(classes);
@@ -70,14 +75,17 @@ fn read_classes(alloc: Global, source: &Source, budget: &mut Budget) -> Result<V
 /// values. The map, the signature and the order of the classes are not looked at, and debug information gives lines
 /// or none, never a fault. `Limit` comes where the file has more than the counted limits allow.
 pub fn read_dex(alloc: Global, bytes: &[u8]) -> Result<Program, DexFault>
+    // What is read keeps its limits.
     ensures limits { IfOk result KeepsLimits }
+    // A limit that is passed is one of a quantity inside the file, and is passed by one.
+    ensures counts { IfErr result CountsInFile }
 {
     let version = read_header(bytes)?;
     let mut budget = Budget {
         items: MOST_ITEMS,
         cells: 0,
     };
-    let pools = read_pools_counted(alloc, bytes, &mut budget.items)?;
+    let pools = pools_of(alloc, bytes, &mut budget.items)?;
     check_tables(&pools)?;
     let letters = letters_of(alloc, &pools)?;
     let source = Source {

@@ -53,7 +53,7 @@ work_cause : (names : List Fetch) (output : Option (List ℕ)) (tells : Bool) (o
     → WorkRefused status → (IsTrue tells → AllWithin old names) → Cause names output tells old f g p q status
 work_cause names output tells old f g p q (BadRules fault) r within = r
 work_cause names output tells old f g p q (BadDex fault) r within = r
-work_cause names output tells old f g p q (Limit fault) r within = inr within
+work_cause names output tells old f g p q (Limit fault) r within = inr (record { inside = r; within = within })
 work_cause names output tells old f g p q NoMemory r within = tt
 work_cause names output tells old f g p q _ r within = absurd r
 

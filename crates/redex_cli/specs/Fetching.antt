@@ -41,9 +41,15 @@ abbrev pub OneRose : Failures → Failures → List Fetch → Type 0
 OneRose old new [] = ⊥
 OneRose old new (fetch ∷ later) = Rose (old fetch.name) (new fetch.name) ⊎ OneRose old new later
 
+-- The bytes of one of these names are counted as this.
+abbrev pub OneCounts : List Fetch → Counted → Type 0
+OneCounts [] counted = ⊥
+OneCounts (fetch ∷ later) counted = (fetch.counted ≡ counted) ⊎ OneCounts later counted
+
 -- A fetch took one byte more than its limit.
 pub record PassesByOne (tells : Bool) (held : Held) (fetches : List Fetch) (fault : LimitFault) : Type 0 where
   pub number : fault.number ≡ limit_of fault.counted + 1
+  pub counts : OneCounts fetches fault.counted
   pub first : IsTrue tells → FirstTooLong held fetches fault.counted
 
 -- Why the fetching ended with this status.

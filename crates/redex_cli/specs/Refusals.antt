@@ -2,6 +2,7 @@
 use Rattle.std.specs.Prelude.{◌≡◌, ◌⊎◌, ◌+◌, ◌++◌, ℕ, List, Bool, IsTrue, Option, Some}
 use Rattle.rule_text.specs.declared.fault.RuleFault.{RuleFault}
 use Rattle.rule_text.specs.declared.fault.RuleFault.TheVariants as rule
+use Rattle.dex_read.specs.Counts.{PassesInFile}
 use Rattle.dex_read.specs.declared.fault.DexFault.{DexFault}
 use Rattle.dex_read.specs.declared.fault.DexFault.TheVariants as dex
 use Rattle.hierarchy.specs.declared.fault.HierarchyFault.{HierarchyFault}
@@ -49,15 +50,21 @@ IsInputFault (input.Library fault) = ⊥
 abbrev pub WorkRefused : Status → Type 0
 WorkRefused (BadRules fault) = IsRuleFault fault
 WorkRefused (BadDex fault) = IsInputFault fault
-WorkRefused (Limit fault) = Unit {0}
+WorkRefused (Limit fault) = PassesInFile fault
 WorkRefused NoMemory = Unit {0}
 WorkRefused _ = ⊥
 
 -- ---- the limits
 
--- A fetch passed its limit; or all names keep theirs, and what is counted inside the file passes its own.
+-- All names keep their limits, and a quantity that is counted inside the file, which is none of bytes, passes its own.
+pub record PassesInside (tells : Bool) (held : Held) (names : List Fetch) (fault : LimitFault) : Type 0 where
+  pub inside : PassesInFile fault
+  pub within : IsTrue tells → AllWithin held names
+
+-- A fetch passed its limit, or something inside the file does. So the bytes of the rules, of a file or of a script are
+-- named exactly where their fetch took one more than its limit.
 abbrev pub LimitCause : Bool → Held → List Fetch → LimitFault → Type 0
-LimitCause tells held names fault = PassesByOne tells held names fault ⊎ (IsTrue tells → AllWithin held names)
+LimitCause tells held names fault = PassesByOne tells held names fault ⊎ PassesInside tells held names fault
 
 -- The run ends with this limit, passed by one, unless a fetch failed or memory ran out.
 abbrev pub EndsTooLong : Counted → Status → Type 0

@@ -134,8 +134,8 @@ pub fn run<H: Shelf, N: Notes>(
     notes: &mut N,
     advisers: Vec<Box<dyn Adviser>>,
 ) -> Status
-    // Each status has its cause: `Usage` in the words, `ReadFault` and `WriteFault` in a count that rose, `Limit` in
-    // what the names hold.
+    // Each status has its cause: `Usage` in the words, `ReadFault` and `WriteFault` in a count that rose, `Limit` of
+    // bytes in what the first name holds that holds too much, every other `Limit` inside the file.
     ensures cause { Caused (map string_bytes words.now) (H.tells shelf.old) (H.held shelf.old) (H.fetch_faults shelf.old) (H.fetch_faults shelf.new) (H.put_faults shelf.old) (H.put_faults shelf.new) (N.faults notes.old) (N.faults notes.new) result }
 
     // Words that spell no command that is built are `Usage`, and a name that holds too much is its limit.

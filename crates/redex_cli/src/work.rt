@@ -1,6 +1,7 @@
 //! What the commands do between fetching and putting: values in, a value or a status out.
 
 ghost use Rattle.std.specs.Prelude.{◌<◌, ◌≤◌, ◌^◌, vec_len, string_bytes, IfOk, IfErr};
+ghost use Rattle.dex_read.specs.Counts.{CountsInFile};
 ghost use Rattle.dex_read.specs.Kept.{KeepsLimits};
 ghost use Rattle.redex_cli.specs.Finished.{Finished, IsSummary};
 ghost use Rattle.redex_cli.specs.Refusals.{WorkRefused};
@@ -39,6 +40,7 @@ fn rules_status(fault: RuleFault) -> Status
 
 /// A fault of the file as a status.
 fn dex_status(fault: DexFault) -> Status
+    requires { CountsInFile fault }
     ensures { WorkRefused result }
 {
     match fault {

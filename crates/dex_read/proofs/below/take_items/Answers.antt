@@ -1,0 +1,10 @@
+use Rattle.std.proofs.Common.{refl}
+use Rattle.std.proofs.lemmas.Result.{err_from_is_err_and}
+use Rattle.dex_read.proofs.Counting.{counts_spend}
+use Rattle.dex_read.proofs.Limits.{handed_on}
+use Rattle.dex_read.proofs.below.take_items.Goals as goal
+
+pub returns-in_err-take_counted-clause-counts : goal.returns-in_err-take_counted-clause-counts
+returns-in_err-take_counted-clause-counts c =
+    let p = err_from_is_err_and c.from_residual.result c.from_residual.ensures.1 in
+    rw (p.1, p.2) (handed_on _ _ c.in_err-take_counted.ensures.gives (counts_spend _ _ _ refl))

@@ -1,0 +1,13 @@
+pub mod After
+pub mod Chains
+pub mod Demands
+pub mod Faults
+pub mod Fits
+pub mod Frames
+pub mod Joins
+pub mod Kinds
+pub mod Names
+pub mod Reads
+pub mod Shapes
+pub mod Types
+pub mod Wrong

@@ -1,0 +1,213 @@
+//! The program superclasses of each class.
+
+ghost use Rattle.std.specs.Prelude.{◌≡◌, length};
+ghost use Rattle.verify.specs.Chains.{above, depth, jump, step, lift, is_in_chain, stepped_both, meets, nearest};
+
+use hierarchy::Hierarchy;
+use std::alloc::{AllocError, Global};
+
+/// For each class by its place the class above it, how many stand above it, and a class further up from which on the
+/// chain is looked at again: with these jumps a class high up is reached in a number of steps that grows with the
+/// logarithm of its distance.
+#[derive(Drop)]
+pub struct Chains {
+    supers: Vec<Option<u32>>,
+    depths: Vec<u32>,
+    jumps: Vec<u32>,
+    done: Vec<bool>,
+}
+
+impl Chains {
+    /// The chains of so many classes.
+    pub fn make(alloc: Global, hierarchy: &Hierarchy, classes: u32) -> Result<Chains, AllocError> {
+        let mut supers = Vec::with_capacity(alloc, classes as usize)?;
+        for class in 0..classes {
+            supers.push(hierarchy.super_of(class))?;
+        }
+        let count = supers.len();
+        let mut chains = Chains {
+            supers,
+            depths: vec![in alloc; 0u32; count]?,
+            jumps: vec![in alloc; 0u32; count]?,
+            done: vec![in alloc; false; count]?,
+        };
+        let mut path = Vec::new(alloc);
+        for class in 0..classes {
+            chains.climb(class, &mut path)?;
+            chains.settle(&mut path);
+        }
+        Ok(chains)
+    }
+
+    /// Lists a class and those above it that are not done, the lowest first.
+    fn climb(&self, class: u32, path: &mut Vec<u32>) -> Result<(), AllocError> {
+        let mut at = Some(class);
+        for _ in 0..self.supers.len() {
+            match at {
+                Some(one) if !self.is_done(one) => {
+                    path.push(one)?;
+                    at = self.above(one);
+                }
+                _ => return Ok(()),
+            }
+        }
+        Ok(())
+    }
+
+    /// Does all classes of a list, the highest first.
+    fn settle(&mut self, path: &mut Vec<u32>) {
+        for _ in 0..path.len() {
+            let class = match path.pop() {
+                Some(class) => class,
+                None => return,
+            };
+            let (depth, jump) = match self.above(class) {
+                Some(above) => (self.depth(above).saturating_add(1), self.jump_over(above)),
+                None => (0, class),
+            };
+            self.note(class, depth, jump);
+        }
+    }
+
+    /// The jump of a class directly below this one: where the two jumps from here are equally long, their end.
+    fn jump_over(&self, above: u32) -> u32 {
+        let first = self.jump(above);
+        let second = self.jump(first);
+        let near = self.depth(above).saturating_sub(self.depth(first));
+        let far = self.depth(first).saturating_sub(self.depth(second));
+        if near == far { second } else { above }
+    }
+
+    /// Notes what is known of a class.
+    fn note(&mut self, class: u32, depth: u32, jump: u32) {
+        let at = class as usize;
+        if let Some(cell) = self.depths.get_mut(at) {
+            *cell = depth;
+        }
+        if let Some(cell) = self.jumps.get_mut(at) {
+            *cell = jump;
+        }
+        if let Some(cell) = self.done.get_mut(at) {
+            *cell = true;
+        }
+    }
+
+    fn is_done(&self, class: u32) -> bool {
+        match self.done.get(class as usize) {
+            Some(done) => *done,
+            None => true,
+        }
+    }
+
+    /// The program superclass of a class.
+    fn above(&self, class: u32) -> Option<u32>
+        ensures { result ≡ above self.now class }
+    {
+        match self.supers.get(class as usize) {
+            Some(above) => *above,
+            None => None,
+        }
+    }
+
+    /// How many program classes stand above a class.
+    pub fn depth(&self, class: u32) -> u32
+        ensures { result ≡ depth self.now class }
+    {
+        match self.depths.get(class as usize) {
+            Some(depth) => *depth,
+            None => 0,
+        }
+    }
+
+    fn jump(&self, class: u32) -> u32
+        ensures { result ≡ jump self.now class }
+    {
+        match self.jumps.get(class as usize) {
+            Some(jump) => *jump,
+            None => class,
+        }
+    }
+
+    /// One step up, by a jump if that doesn't pass the depth.
+    fn step(&self, class: u32, depth: u32) -> u32
+        ensures { result ≡ step self.now class depth }
+    {
+        let far = self.jump(class);
+        if self.depth(far) >= depth && self.depth(far) < self.depth(class) {
+            return far;
+        }
+        match self.above(class) {
+            Some(above) => above,
+            None => class,
+        }
+    }
+
+    /// The class at this depth of the chain of a class, which stands no higher.
+    fn lift(&self, class: u32, depth: u32) -> u32
+        ensures { result ≡ lift self.now class depth }
+    {
+        let mut at = class;
+        for _ in 0..self.supers.len() {
+            if self.depth(at) <= depth {
+                return at;
+            }
+            at = self.step(at, depth);
+        }
+        at
+    }
+
+    /// Whether `upper` is `lower` or a program superclass above it.
+    pub fn is_in_chain(&self, lower: u32, upper: u32) -> bool
+        ensures { result ≡ is_in_chain self.now lower upper }
+    {
+        self.lift(lower, self.depth(upper)) == upper
+    }
+
+    /// The nearest class in the chains of both.
+    pub fn nearest(&self, first: u32, second: u32) -> Option<u32>
+        ensures { result ≡ nearest self.now first second }
+    {
+        let depth = self.depth(first).min(self.depth(second));
+        self.meet(self.lift(first, depth), self.lift(second, depth))
+    }
+
+    /// One step up for two classes of one depth, by jumps where these end at different classes.
+    fn step_both(&self, first: u32, second: u32) -> Option<(u32, u32)>
+        ensures { result ≡ stepped_both self.now first second }
+    {
+        if self.depth(first) == 0 {
+            return None;
+        }
+        if self.jump(first) != self.jump(second) {
+            return Some((self.jump(first), self.jump(second)));
+        }
+        match self.above(first) {
+            Some(one) => match self.above(second) {
+                Some(other) => Some((one, other)),
+                None => None,
+            },
+            None => None,
+        }
+    }
+
+    /// Where the chains of two classes of one depth meet.
+    fn meet(&self, first: u32, second: u32) -> Option<u32>
+        ensures { result ≡ meets (length self.now.supers.items) self.now first second }
+    {
+        let mut one = first;
+        let mut other = second;
+        for _ in 0..self.supers.len() {
+            if one == other {
+                return Some(one);
+            }
+            match self.step_both(one, other) {
+                Some((a, b)) => {
+                    one = a;
+                    other = b;
+                }
+                None => return None,
+            }
+        }
+        None
+    }
+}

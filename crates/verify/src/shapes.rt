@@ -1,0 +1,133 @@
+//! What a type descriptor says (Dalvik executable format, "TypeDescriptor").
+
+ghost use Rattle.std.specs.Prelude.{◌≡◌};
+ghost use Rattle.verify.specs.Shapes.{is_void, is_word, is_wide, is_reference, is_array, is_plain, place_of, stored, width_of};
+
+use insn_set::Item;
+
+/// A type as the verifier sees it. `Int` is `I`, `Word` every other primitive type of one register, by the form that
+/// stores it. `Class` is a class type, with the place of the program class that defines it and whether that is no
+/// interface. `Array` has so many dimensions, and `item` is the least type number whose type without its brackets is
+/// that of the items. `Void` is `V`, and whatever is no type.
+#[derive(Clone, Copy, PartialEq, Eq, Debug, Drop)]
+pub enum Shape {
+    Void,
+    Int,
+    Word(Item),
+    Wide,
+    Class { place: Option<u32>, plain: bool },
+    Array { depth: u32, item: u32 },
+}
+
+impl Shape {
+    /// Whether it is `V`.
+    pub fn is_void(self) -> bool
+        ensures { result ≡ is_void self }
+    {
+        matches!(self, Shape::Void)
+    }
+
+    /// Whether it is a primitive type of one register.
+    pub fn is_word(self) -> bool
+        ensures { result ≡ is_word self }
+    {
+        matches!(self, Shape::Int | Shape::Word(_))
+    }
+
+    /// Whether it is `J` or `D`.
+    pub fn is_wide(self) -> bool
+        ensures { result ≡ is_wide self }
+    {
+        matches!(self, Shape::Wide)
+    }
+
+    /// Whether it is a class type or an array type.
+    pub fn is_reference(self) -> bool
+        ensures { result ≡ is_reference self }
+    {
+        matches!(self, Shape::Class { .. } | Shape::Array { .. })
+    }
+
+    /// Whether it is an array type.
+    pub fn is_array(self) -> bool
+        ensures { result ≡ is_array self }
+    {
+        matches!(self, Shape::Array { .. })
+    }
+
+    /// Whether it is a class type that a program class defines, which is no interface.
+    pub fn is_plain(self) -> bool
+        ensures { result ≡ is_plain self }
+    {
+        match self {
+            Shape::Class { plain, .. } => plain,
+            _ => false,
+        }
+    }
+
+    /// The place of the program class that defines it.
+    pub fn place(self) -> Option<u32>
+        ensures { result ≡ place_of self }
+    {
+        match self {
+            Shape::Class { place, .. } => place,
+            _ => None,
+        }
+    }
+
+    /// How an item of this type is stored.
+    pub fn stored(self) -> Item
+        ensures { result ≡ stored self }
+    {
+        match self {
+            Shape::Word(item) => item,
+            Shape::Wide => Item::Wide,
+            Shape::Class { .. } | Shape::Array { .. } => Item::Object,
+            _ => Item::Plain,
+        }
+    }
+}
+
+/// How many bytes a primitive item takes in the table that fills an array.
+pub fn width_of(item: Item) -> u8
+    ensures { result ≡ width_of item }
+{
+    match item {
+        Item::Plain => 4,
+        Item::Wide => 8,
+        Item::Object => 0,
+        Item::Boolean | Item::Byte => 1,
+        Item::Char | Item::Short => 2,
+    }
+}
+
+/// How many brackets a descriptor begins with.
+pub fn depth_of(units: &[u16]) -> usize {
+    match units.iter().position(|unit| *unit != 91) {
+        Some(depth) => depth,
+        None => units.len(),
+    }
+}
+
+/// A descriptor without its brackets.
+pub fn base_of(units: &[u16]) -> &[u16] {
+    match units.get(depth_of(units)..) {
+        Some(base) => base,
+        None => &[],
+    }
+}
+
+/// The shape of a type without brackets, which a program class may define.
+pub fn base_shape(units: &[u16], place: Option<u32>, plain: bool) -> Shape {
+    match units.first() {
+        Some(90) => Shape::Word(Item::Boolean),
+        Some(66) => Shape::Word(Item::Byte),
+        Some(67) => Shape::Word(Item::Char),
+        Some(83) => Shape::Word(Item::Short),
+        Some(73) => Shape::Int,
+        Some(70) => Shape::Word(Item::Plain),
+        Some(74 | 68) => Shape::Wide,
+        Some(76) => Shape::Class { place, plain },
+        _ => Shape::Void,
+    }
+}

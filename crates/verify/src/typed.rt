@@ -1,0 +1,241 @@
+//! Typings of methods.
+
+ghost use Rattle.std.specs.Prelude.{◌≡◌, IfNone, IfSome};
+ghost use Rattle.verify.specs.Frames.{kinds_of};
+ghost use Rattle.verify.specs.Faults.{fault_of, fault_at, NoneBreaks};
+
+use crate::calls::{Calls, method_at};
+use crate::fault::TypeFault;
+use crate::flow::{Code, covering};
+use crate::frames::Frame;
+use crate::kinds::Kind;
+use crate::methods::Passed;
+use crate::setting::Setting;
+use crate::tables::{Tables, word};
+use hierarchy::Hierarchy;
+use insn_set::Insn;
+use program_model::{Body, Class, Flags, Method, MethodAt, Program};
+use std::alloc::{AllocError, Global};
+
+/// The kinds of all registers at the positions of one method.
+#[derive(Drop)]
+pub struct Typings {
+    states: Vec<Option<Frame>>,
+}
+
+impl Typings {
+    /// The kind of a register before the form at a position. It is undefined where the position has no state, since no
+    /// walk from the entry reaches it, and past the last position and the last register. It takes no memory.
+    pub fn at(&self, position: u32, register: u32) -> Kind {
+        match self.states.as_slice().get(position as usize) {
+            Some(Some(frame)) => frame.at(register),
+            _ => Kind::Undefined,
+        }
+    }
+}
+
+/// The verifier of a program: its tables, made once, serve all its methods.
+#[derive(Drop)]
+pub struct Verifier<'a> {
+    program: &'a Program,
+    hierarchy: &'a Hierarchy,
+    tables: Tables,
+}
+
+impl Setting<'_> {
+    /// The lowest register at which a position breaks: 0 where the position is wrong whatever the registers hold.
+    pub fn fault(&self, position: u32, frame: &Frame, insn: &Insn) -> Option<u32>
+        ensures { result ≡ fault_of self.now position (kinds_of frame.now) insn.now }
+    {
+        if self.is_wrong(position, frame, insn) {
+            Some(0)
+        } else {
+            self.refused(position, frame, insn)
+        }
+    }
+
+    /// The lowest register at which a position of a table breaks.
+    fn fault_at(&self, insns: &[Insn], states: &[Option<Frame>], position: u32) -> Option<u32>
+        ensures { result ≡ fault_at self.now insns.now states.now position }
+    {
+        let at = position as usize;
+        match insns.get(at) {
+            Some(insn) => match states.get(at) {
+                Some(Some(frame)) => self.fault(position, frame, insn),
+                _ => None,
+            },
+            None => None,
+        }
+    }
+
+    /// The first of so many positions at which a table breaks, with its register.
+    fn first_fault(
+        &self,
+        insns: &[Insn],
+        states: &[Option<Frame>],
+        count: u32,
+    ) -> Option<(u32, u32)>
+        ensures none { IfNone result (NoneBreaks self.now insns.now states.now count) }
+        ensures some { IfSome result (λ at. fault_at self.now insns.now states.now at.0 ≡ Some at.1) }
+        ensures first { IfSome result (λ at. NoneBreaks self.now insns.now states.now at.0) }
+    {
+        for position in 0..count {
+            if let Some(register) = self.fault_at(insns, states, position) {
+                return Some((position, register));
+            }
+        }
+        None
+    }
+}
+
+/// The receiver with which a method is entered.
+fn receiver_of(class: &Class, at: u32, method: &Method, constructs: bool) -> Option<Kind> {
+    if method.flags.has(Flags::STATIC) {
+        None
+    } else if constructs {
+        Some(Kind::FreshThis)
+    } else if class.flags.has(Flags::INTERFACE) {
+        Some(Kind::Reference)
+    } else {
+        Some(Kind::Program { class: at })
+    }
+}
+
+/// The parameters and the result of a method's proto.
+fn proto_of<'b>(program: &'b Program, method: &Method) -> (&'b [u32], u32) {
+    let name = match program.methods.as_slice().get(method.name as usize) {
+        Some(name) => name,
+        None => return (&[], u32::MAX),
+    };
+    match program.protos.as_slice().get(name.proto as usize) {
+        Some(proto) => (proto.parameters.as_slice(), proto.result),
+        None => (&[], u32::MAX),
+    }
+}
+
+impl<'a> Verifier<'a> {
+    /// The verifier of a program. The only error is want of memory.
+    pub fn make(
+        alloc: Global,
+        program: &'a Program,
+        hierarchy: &'a Hierarchy,
+    ) -> Result<Verifier<'a>, AllocError> {
+        Ok(Verifier {
+            program,
+            hierarchy,
+            tables: Tables::make(alloc, program, hierarchy)?,
+        })
+    }
+
+    /// The typings of the code of a method of a class.
+    fn of_body(
+        &self,
+        alloc: Global,
+        calls: &mut Calls<'_>,
+        class: (&Class, u32),
+        method: &Method,
+        body: &Body,
+    ) -> Result<Typings, TypeFault> {
+        let found = calls.search_all(alloc, class.1, body.insns.as_slice())?;
+        let (kinds, result) = proto_of(self.program, method);
+        let constructs = self.tables.is_constructor(method.name)
+            && !method.flags.has(Flags::STATIC);
+        let setting = Setting {
+            program: self.program,
+            hierarchy: self.hierarchy,
+            tables: &self.tables,
+            class: class.1,
+            kind: class.0.name,
+            superclass: class.0.superclass,
+            result,
+            constructs,
+            found: found.as_slice(),
+        };
+        let passed = Passed {
+            receiver: receiver_of(class.0, class.1, method, constructs),
+            kinds,
+        };
+        let covering = covering(alloc, body)?;
+        let code = Code {
+            setting: &setting,
+            body,
+            covering: covering.as_slice(),
+        };
+        let entry = setting.begin(alloc, body, &passed)?;
+        let states = code.solve(alloc, entry)?;
+        match setting.first_fault(
+            body.insns.as_slice(),
+            states.as_slice(),
+            word(body.insns.len()),
+        ) {
+            Some((position, register)) => Err(TypeFault::IllTyped {
+                method: method.name,
+                position,
+                register,
+            }),
+            None => Ok(Typings { states }),
+        }
+    }
+
+    /// The typings of a method: the least that there are. `IllTyped` stands where there are none. A method without code
+    /// has no positions.
+    pub fn typings(&self, alloc: Global, method: MethodAt) -> Result<Typings, TypeFault> {
+        let mut calls = Calls::new(alloc, self.program, self.hierarchy, &self.tables);
+        let class = match self.program.classes.as_slice().get(method.class as usize) {
+            Some(class) => class,
+            None => {
+                return Ok(Typings {
+                    states: Vec::new(alloc),
+                });
+            }
+        };
+        self.of_method(
+            alloc,
+            &mut calls,
+            (class, method.class),
+            method_at(self.program, method),
+        )
+    }
+
+    /// The typings of a method, if it has code.
+    fn of_method(
+        &self,
+        alloc: Global,
+        calls: &mut Calls<'_>,
+        class: (&Class, u32),
+        method: Option<&Method>,
+    ) -> Result<Typings, TypeFault> {
+        if let Some(method) = method {
+            if let Some(body) = &method.body {
+                return self.of_body(alloc, calls, class, method, body);
+            }
+        }
+        Ok(Typings {
+            states: Vec::new(alloc),
+        })
+    }
+
+    /// Refuses the first method of a class that is ill typed.
+    fn verify_class(
+        &self,
+        alloc: Global,
+        calls: &mut Calls<'_>,
+        class: (&Class, u32),
+    ) -> Result<(), TypeFault> {
+        for method in class.0.methods.as_slice() {
+            self.of_method(alloc, calls, class, Some(method))?;
+        }
+        Ok(())
+    }
+
+    /// Refuses the first method, in class and method order, that is ill typed.
+    pub fn verify_all(&self, alloc: Global) -> Result<(), TypeFault> {
+        let mut calls = Calls::new(alloc, self.program, self.hierarchy, &self.tables);
+        let mut at: u32 = 0;
+        for class in self.program.classes.as_slice() {
+            self.verify_class(alloc, &mut calls, (class, at))?;
+            at = at.saturating_add(1);
+        }
+        Ok(())
+    }
+}

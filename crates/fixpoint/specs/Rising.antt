@@ -76,11 +76,6 @@ pub record Spends {S : Type 0} (rank : S → ℕ) (t : List S) (w : List Bool) (
   pub spent : joined ≡ true → sum_by itself p' < sum_by itself p
   pub falls : joined ≡ false → weight rank t' w' ≤ weight rank t w
 
--- for each place and for the end, the heads of the parts that end there
-pub record AreHeads (places : ℕ) (heads : List (List ℕ)) : Type 0 where
-  pub long : length heads ≡ places + 1
-  pub within : (q : ℕ) → All (λ h. h < places) (slice_index_or heads q [])
-
 -- the node at a place waits
 abbrev pub WaitsAt : List ℕ → List Bool → ℕ → Type 0
 WaitsAt nodes w p = (p < length nodes) × Waits w (slice_index_or nodes p 0)

@@ -7,8 +7,9 @@
 ghost use Rattle.std.specs.Prelude.{◌≡◌, ℕ, ◌+◌, ◌<◌, ◌≤◌, [], ◌∷◌, ◌++◌, length, true, false, None, set, All, Contains, IfOk, OnOk, IfSome, IfNone, slice_index_or};
 ghost use Rattle.std.specs.List.{sum_by};
 ghost use Rattle.fixpoint.specs.Graph.{Graph, IsInductive, IsLeast, states_at, ListsNodes, AreEnds};
-ghost use Rattle.fixpoint.specs.Rising.{AreRows, Done, Rises, Keeps, Spends, AreHeads, WaitsAt, NoneWaits, itself};
+ghost use Rattle.fixpoint.specs.Rising.{AreRows, Done, Rises, Keeps, Spends, NoneWaits, itself};
 
+use crate::agenda::Agenda;
 use crate::flows::{Flow, Solution};
 use crate::rising::{Table, begin, follow, rows_of};
 use lattice_core::{Domain, Lattice};
@@ -25,6 +26,7 @@ fn follow_patiently<F: Flow>(
     edge: u64,
     table: &mut Table<F::State>,
     joins: &mut Vec<u8>,
+    agenda: &mut Agenda,
 ) -> Result<bool, AllocError>
     requires sound { F.sound flow.now }
     requires edge { edge < (F.graph flow.now).edges }
@@ -41,6 +43,7 @@ fn follow_patiently<F: Flow>(
     if !rose {
         return Ok(false);
     }
+    agenda.put_down(to)?;
     if left == 0 {
         return Ok(false);
     }
@@ -55,6 +58,7 @@ fn follow_row<F: Flow>(
     row: &[u64],
     table: &mut Table<F::State>,
     joins: &mut Vec<u8>,
+    agenda: &mut Agenda,
 ) -> Result<bool, AllocError>
     requires sound { F.sound flow.now }
     requires row { All (λ e. e < (F.graph flow.now).edges) row.now }
@@ -67,124 +71,50 @@ fn follow_row<F: Flow>(
 {
     let mut joined = false;
     for edge in row {
-        let step = follow_patiently(alloc, flow, *edge, table, joins)?;
+        let step = follow_patiently(alloc, flow, *edge, table, joins, agenda)?;
         joined |= step;
     }
     Ok(joined)
 }
 
-/// The first of some heads whose node waits.
-fn waiting_head(heads: &[usize], nodes: &[u32], waiting: &[bool]) -> Option<usize>
-    requires heads { All (λ h. h < length nodes.now) heads.now }
-    requires nodes { All (λ n. n < length waiting.now) nodes.now }
-    ensures { IfSome result (WaitsAt nodes.now waiting.now) }
-{
-    for head in heads {
-        if waiting[nodes[*head] as usize] {
-            return Some(*head);
-        }
-    }
-    None
-}
-
-/// The place where to go on from a place: the head of a part that ends on the way, or the next node that waits.
-fn waiting_from(heads: &[Seq<usize>], nodes: &[u32], waiting: &[bool], from: usize) -> Option<usize>
-    requires heads { AreHeads (length nodes.now) heads.now }
-    requires nodes { All (λ n. n < length waiting.now) nodes.now }
-    ensures { IfSome result (WaitsAt nodes.now waiting.now) }
-{
-    for place in from..nodes.len() {
-        if let Some(head) = waiting_head(heads[place].as_slice(), nodes, waiting) {
-            return Some(head);
-        }
-        if waiting[nodes[place] as usize] {
-            return Some(place);
-        }
-    }
-    waiting_head(heads[nodes.len()].as_slice(), nodes, waiting)
-}
-
-/// The first place whose node waits.
-fn first_waiting(nodes: &[u32], waiting: &[bool]) -> Option<usize>
-    requires nodes { All (λ n. n < length waiting.now) nodes.now }
-    ensures some { IfSome result (WaitsAt nodes.now waiting.now) }
-    ensures none { IfNone result (NoneWaits nodes.now waiting.now) }
-{
-    for place in 0..nodes.len() {
-        if waiting[nodes[place] as usize] {
-            return Some(place);
-        }
-    }
-    None
-}
-
-/// The place to visit next, if any node waits.
-fn next_place(heads: &[Seq<usize>], nodes: &[u32], waiting: &[bool], from: usize) -> Option<usize>
-    requires heads { AreHeads (length nodes.now) heads.now }
-    requires nodes { All (λ n. n < length waiting.now) nodes.now }
-    ensures some { IfSome result (WaitsAt nodes.now waiting.now) }
-    ensures none { IfNone result (NoneWaits nodes.now waiting.now) }
-{
-    match waiting_from(heads, nodes, waiting, from) {
-        Some(place) => Some(place),
-        None => first_waiting(nodes, waiting),
-    }
-}
-
-/// Visits nodes from a place on, until a join was spent or no node waits. Answers where to go on in the first case.
+/// Visits nodes until a join was spent or no node waits, and answers whether it was the first.
 ///
 /// Where nothing is joined each visit lowers the ranks or the number of nodes that wait, so it ends.
 fn settle<F: Flow>(
     alloc: Global,
     flow: &F,
     rows: &[Seq<u64>],
-    heads: &[Seq<usize>],
     nodes: &[u32],
-    from: usize,
     table: &mut Table<F::State>,
     joins: &mut Vec<u8>,
-) -> Result<Option<usize>, AllocError>
+    agenda: &mut Agenda,
+) -> Result<bool, AllocError>
     requires sound { F.sound flow.now }
     requires rows { AreRows (F.graph flow.now) (F.graph flow.now).edges rows.now }
-    requires heads { AreHeads (length nodes.now) heads.now }
     requires nodes { All (λ n. n < (F.graph flow.now).nodes) nodes.now }
     requires table { Keeps F.State.below F.State.EXACT (F.stays flow.now) F.State.least (F.graph flow.now) table.old.states.items table.old.waiting.items }
     requires joins { length joins.old.items ≡ (F.graph flow.now).nodes }
     ensures keeps { OnOk result (Keeps F.State.below F.State.EXACT (F.stays flow.now) F.State.least (F.graph flow.now) table.new.states.items table.new.waiting.items) }
     ensures joins { OnOk result (length joins.new.items ≡ (F.graph flow.now).nodes) }
-    ensures spent { IfOk result (λ r. IfSome r (λ _. sum_by itself joins.new.items < sum_by itself joins.old.items)) }
-    ensures settled { IfOk result (λ r. IfNone r (NoneWaits nodes.now table.new.waiting.items)) }
+    ensures spent { IfOk result (λ r. r ≡ true → sum_by itself joins.new.items < sum_by itself joins.old.items) }
+    ensures settled { IfOk result (λ r. r ≡ false → NoneWaits nodes.now table.new.waiting.items) }
 {
-    let mut place = from;
-    while let Some(next) = next_place(heads, nodes, table.waiting.as_slice(), place) {
-        place = next;
+    while let Some(next) = agenda.next_place(nodes, table.waiting.as_slice()) {
         let node = nodes[next];
         table.waiting[node as usize] = false;
-        let joined = follow_row(alloc, flow, rows[node as usize].as_slice(), table, joins)?;
+        let joined = follow_row(
+            alloc,
+            flow,
+            rows[node as usize].as_slice(),
+            table,
+            joins,
+            agenda,
+        )?;
         if joined {
-            return Ok(Some(place));
+            return Ok(true);
         }
     }
-    Ok(None)
-}
-
-/// For each place and for the end of the order, the heads of the parts that end there, from the inner to the outer.
-fn heads_of(alloc: Global, ends: &[u32]) -> Result<Vec<Seq<usize>>, AllocError>
-    requires { AreEnds (length ends.now) ends.now }
-    ensures { IfOk result (λ heads. AreHeads (length ends.now) heads.items) }
-{
-    let mut heads = Vec::with_capacity(alloc, ends.len() + 1)?;
-    heads.push(Seq::new(alloc))?;
-    for _ in 0..ends.len() {
-        heads.push(Seq::new(alloc))?;
-    }
-    for place in (0..ends.len()).rev() {
-        let end = ends[place] as usize;
-        if end > place + 1 {
-            heads[end].items.push(place)?;
-        }
-    }
-    Ok(heads)
+    Ok(false)
 }
 
 /// How often each node may rise by a join: never where it heads a part.
@@ -226,22 +156,18 @@ pub fn solve_along<F: Flow>(
 {
     let _sound = flow.nodes();
     let rows = rows_of(alloc, flow)?;
-    let heads = heads_of(alloc, ends)?;
     let mut joins = joins_of(alloc, nodes, ends)?;
+    let mut agenda = Agenda::of_all(alloc, nodes, ends)?;
     let mut table = begin(alloc, flow)?;
-    let mut place = 0;
-    while let Some(next) = settle(
+    while settle(
         alloc,
         flow,
         rows.as_slice(),
-        heads.as_slice(),
         nodes,
-        place,
         &mut table,
         &mut joins,
-    )? {
-        place = next;
-    }
+        &mut agenda,
+    )? {}
     Ok(Solution {
         states: table.states,
     })

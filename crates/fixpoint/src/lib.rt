@@ -6,6 +6,7 @@
 //! order in which the parts that are loops are nested.
 #![tactic(auto)]
 
+mod agenda;
 mod along;
 mod flows;
 mod rising;

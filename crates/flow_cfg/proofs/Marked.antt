@@ -1,5 +1,5 @@
 -- Marks, and the places where blocks begin.
-use Rattle.std.proofs.Common.{◌≡◌, ◌≢◌, ℕ, zero, suc, ◌+◌, ◌<◌, ◌≤◌, ◌⊎◌, ◌↔◌, inl, inr, Bool, true, false, if◌then◌else◌, List, [], ◌∷◌, ◌++◌, length, slice_index, slice_index_or, slice_get, get_or, set, replicate, take, drop, All, Contains, MatchOption, refl, sym, ap, ◌∙◌, subst, arith, length-set, get_or-set_other, get_or-set_same}
+use Rattle.std.proofs.Common.{◌≡◌, ℕ, zero, suc, ◌+◌, ◌<◌, ◌≤◌, ◌⊎◌, ◌↔◌, inl, inr, Bool, true, false, if◌then◌else◌, List, [], ◌∷◌, ◌++◌, length, slice_index, slice_index_or, slice_get, set, replicate, take, drop, All, Contains, MatchOption, refl, sym, ap, ◌∙◌, subst, arith, length-set, get_or-set_other, get_or-set_same}
 use Rattle.std.specs.List.{flat_map}
 use Rattle.std.specs.List.Sorted.{IsStrictlyIncreasing}
 use Rattle.std.proofs.lemmas.Bool.{false≢true}
@@ -8,7 +8,7 @@ use Rattle.std.proofs.lemmas.List.Elements.{All-nil, All-cons, All-weaker, All-g
 use Rattle.insn_set.specs.declared.form.Insn.{Insn}
 use Rattle.insn_set.specs.Flow.{targets_of}
 use Rattle.program_model.specs.declared.body.Body.{Body}
-use Rattle.flow_cfg.specs.Starts.{IsBehind, IsFirst, ends_block, behind, starts_from, starts_of, regions_starts, marked, places_from}
+use Rattle.flow_cfg.specs.Starts.{IsFirst, ends_block, behind, starts_from, starts_of, regions_starts, marked, places_from}
 use Rattle.flow_cfg.proofs.Nested.{at_or_not}
 use Rattle.flow_cfg.proofs.Listed.{none_marked}
 

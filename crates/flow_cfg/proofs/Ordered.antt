@@ -1,5 +1,5 @@
 -- Edges in an order.
-use Rattle.std.proofs.Common.{◌≡◌, ℕ, ◌<◌, ◌≤◌, ◌⊎◌, inl, inr, List, length, slice_index, subst, sym, ap, ◌∙◌, arith, All, Result, Ok, Err}
+use Rattle.std.proofs.Common.{◌≡◌, ℕ, ◌<◌, ◌≤◌, inl, inr, List, length, slice_index, subst, sym, ap, ◌∙◌, arith, All, Result, Ok, Err}
 use Rattle.std.proofs.lemmas.List.Elements.{All-weaker, All-get_or}
 use Rattle.std.specs.Result.{IfOk}
 use Rattle.flow_cfg.specs.Listing.{ArePlaces, ListsOnce}

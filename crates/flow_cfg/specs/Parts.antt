@@ -1,5 +1,5 @@
 -- Orders of a graph's nodes in parts. The part at a place has the places from there up to its end.
-use Rattle.std.specs.Prelude.{◌≡◌, ℕ, ◌<◌, ◌≤◌, ◌⊎◌, List, length, map, All, slice_index}
+use Rattle.std.specs.Prelude.{◌≡◌, ℕ, ◌<◌, ◌≤◌, ◌⊎◌, List, length, map, slice_index}
 use Rattle.flow_cfg.specs.declared.weak.Part.{Part}
 
 abbrev pub part_nodes : List Part → List ℕ

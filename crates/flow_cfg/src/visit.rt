@@ -8,6 +8,10 @@ use std::alloc::{AllocError, Global};
 /// The number of a node that stands in the order, or heads a component that is being listed.
 const DONE: u64 = u64::MAX;
 
+/// How many components may be listed one within the other. The nodes of a component at this depth are listed in the order
+/// in which the visit came to them, so that each edge is followed at most once more often than this.
+const DEEPEST: u32 = 32;
+
 /// The edges that leave each node, as chains through the table of edges. A place past the table ends a chain.
 #[derive(Drop)]
 struct Chains {
@@ -43,6 +47,7 @@ struct Stop {
 
 /// Where a visit is. `numbers` says when it came to each node, 0 where it has yet to come. `path` leads to where it is,
 /// `unsettled` has the nodes whose component isn't known yet, and `order` what is listed so far, the last node first.
+/// `depth` says how many components are being listed, one within the other.
 #[derive(Drop)]
 struct Visit<'a> {
     edges: &'a [(u32, u32)],
@@ -52,6 +57,7 @@ struct Visit<'a> {
     path: Vec<Stop>,
     unsettled: Vec<u32>,
     order: Vec<u32>,
+    depth: u32,
 }
 
 impl<'a> Visit<'a> {
@@ -130,9 +136,32 @@ impl<'a> Visit<'a> {
         }
     }
 
+    /// Lists the nodes of a component and its head, each behind those that the visit came to before it.
+    fn list(&mut self, head: u32) -> Result<(), AllocError> {
+        while let Some(node) = self.unsettled.pop() {
+            self.set_number(node, DONE);
+            self.order.push(node)?;
+            if node == head {
+                return Ok(());
+            }
+        }
+        Ok(())
+    }
+
+    /// Begins to list a component behind its head.
+    fn open_part(&mut self, mut head: Stop) -> Result<(), AllocError> {
+        self.reopen(head.node);
+        self.depth = self.depth.saturating_add(1);
+        head.is_head = true;
+        head.edge = self.first_edge(head.node);
+        self.path.push(head)?;
+        Ok(())
+    }
+
     /// Goes back from a stop all of whose edges are followed.
-    fn leave(&mut self, mut stop: Stop) -> Result<(), AllocError> {
+    fn leave(&mut self, stop: Stop) -> Result<(), AllocError> {
         if stop.is_head {
+            self.depth = self.depth.saturating_sub(1);
             self.order.push(stop.node)?;
             return Ok(());
         }
@@ -141,15 +170,10 @@ impl<'a> Visit<'a> {
             return Ok(());
         }
         self.set_number(stop.node, DONE);
-        self.reopen(stop.node);
-        if stop.is_loop {
-            stop.is_head = true;
-            stop.edge = self.first_edge(stop.node);
-            self.path.push(stop)?;
-        } else {
-            self.order.push(stop.node)?;
+        if stop.is_loop && self.depth < DEEPEST {
+            return self.open_part(stop);
         }
-        Ok(())
+        self.list(stop.node)
     }
 
     /// Visits what a node reaches, unless the visit came to it before.
@@ -197,6 +221,7 @@ pub(crate) fn visited(
         path: Vec::new(alloc),
         unsettled: Vec::new(alloc),
         order: Vec::new(alloc),
+        depth: 0,
     };
     visit.visit_from(entry)?;
     for node in 0..nodes {

@@ -36,7 +36,8 @@ fn parts_of(alloc: Global, order: &[u32], ends: &[u32]) -> Result<Vec<Part>, All
 /// A weak topological order of all nodes of a graph. Each edge between nodes goes forwards to a node that heads no part with its
 /// source, or to the head of a part that holds its source, and parts nest. The order is that of a search that begins at
 /// the entry, so what the entry reaches stands behind the nodes that it doesn't reach. Every place is in the part that it
-/// heads, so an edge from a node to itself asks for nothing. The only error is want of memory.
+/// heads, so an edge from a node to itself asks for nothing. Below 32 components one within the other, nodes stand in the
+/// order in which the search came to them. The only error is want of memory.
 pub fn weak_order(
     alloc: Global,
     nodes: u32,

@@ -1,6 +1,5 @@
-use Rattle.std.proofs.Common.{◌≡◌, ap, false, length, replicate, arith}
+use Rattle.std.proofs.Common.{ap, false, length, replicate, arith}
 use Rattle.std.proofs.lemmas.List.{length-replicate}
-use Rattle.flow_cfg.specs.Starts.{starts_of, marked, places_from}
 use Rattle.flow_cfg.proofs.Marked.{length_marked, firsts_are, firsts_rise, firsts_begin}
 use Rattle.flow_cfg.proofs.starts.blocks.Goals as goal
 

@@ -1,4 +1,4 @@
-use Rattle.std.proofs.Common.{◌≡◌, List, ℕ, Vec, Global, All}
+use Rattle.std.proofs.Common.{Vec, Global, All}
 use Rattle.flow_cfg.specs.declared.weak.Part.{Part}
 use Rattle.flow_cfg.specs.Parts.{part_nodes, part_ends, AreEnds, Nest, Follows}
 use Rattle.flow_cfg.specs.Listing.{ListsOnce}

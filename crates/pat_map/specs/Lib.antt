@@ -1,3 +1,5 @@
 pub mod Trees
 pub mod TreeLaws
+pub mod Placings
+pub mod UnionLaws
 pub mod MapLaws

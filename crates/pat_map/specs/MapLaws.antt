@@ -1,12 +1,12 @@
 -- Trees as finite maps.
-use Rattle.std.specs.Prelude.{◌≡◌, ℕ, Bool, true, false, ◌==◌, ◌/◌, ◌%◌, ◌^◌, ◌↔◌, if◌then◌else◌, cond, List, [], ◌∷◌, ◌++◌, map, Option, Some, None, refl}
+use Rattle.std.specs.Prelude.{◌≡◌, ℕ, Bool, true, false, ◌==◌, ◌/◌, ◌^◌, ◌↔◌, cond, List, [], ◌∷◌, ◌++◌, map, Option, Some, None, refl}
 use Rattle.std.proofs.Common.{sym, ◌∙◌, arith, subst, ap}
 use Rattle.std.specs.Ordering.{nat_cmp, eq_by_cmp}
 use Rattle.std.specs.Cmp.{nat_cmp_total, unsigned_tied}
 use Rattle.std.specs.FinMap as finite
 use Rattle.pat_map.specs.declared.nodes.Node.{Node, Leaf, Branch'}
-use Rattle.pat_map.specs.Trees.{WordMap, at, Halves, IsTree, entries_of, map_of, map_from, one_of, with_other, either, BelowAt, IsBelow, union}
-use Rattle.pat_map.specs.TreeLaws.{parity, same_or_not, one_none, Sets, Joins, Below, SomeKey, some_key}
+use Rattle.pat_map.specs.Trees.{WordMap, at, IsTree, entries_of, map_of, one_of, with_other, either, BelowAt, IsBelow, union}
+use Rattle.pat_map.specs.TreeLaws.{parity, same_or_not, one_none, Sets, Joins, Below, some_key}
 
 module _ {V : Type 0} where
   find_append : (k : ℕ) (xs ys : List (ℕ × V)) → finite.find nat_cmp k (xs ++ ys) ≡ one_of (finite.find nat_cmp k xs) (finite.find nat_cmp k ys)

@@ -1,5 +1,5 @@
 -- What trees have at their keys.
-use Rattle.std.specs.Prelude.{◌≡◌, ℕ, suc, Bool, true, false, ◌==◌, ◌+◌, ◌-◌, ◌*◌, ◌/◌, ◌%◌, ◌^◌, ◌<◌, ◌≤◌, ◌↔◌, if◌then◌else◌, cond, List, [], ◌∷◌, ◌++◌, map, Option, Some, None, Result, Ok, Err, IfOk, refl}
+use Rattle.std.specs.Prelude.{◌≡◌, ℕ, Bool, true, false, ◌==◌, ◌+◌, ◌*◌, ◌/◌, ◌%◌, ◌^◌, ◌<◌, ◌≤◌, ◌↔◌, if◌then◌else◌, Option, Some, None, Result, Ok, Err, IfOk, refl}
 use Rattle.std.proofs.Common.{sym, ◌∙◌, arith, inl, inr, subst, ap}
 use Rattle.std.proofs.lemmas.Grind.{common_steps}
 use Rattle.std.proofs.lemmas.Nat.{shr-shr, pow-add}
@@ -8,7 +8,7 @@ use Rattle.std.proofs.lemmas.Bool.{cases_lt}
 use Rattle.pat_map.specs.declared.nodes.Node.{Node, Leaf, Branch'}
 use Rattle.pat_map.specs.Trees.{at, Inside, Fits, Halves, IsTree, IsBranch, one_of, with_other, either, BelowAt}
 
-half : (k s : ℕ) → k / 2 ^ (s + 1) ≡ k / 2 ^ s / 2
+pub half : (k s : ℕ) → k / 2 ^ (s + 1) ≡ k / 2 ^ s / 2
 half k s = sym (shr-shr k s 1)
 
 -- a number and its parity

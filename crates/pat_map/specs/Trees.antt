@@ -1,5 +1,5 @@
 -- Trees of keys, and the finite maps that they stand for.
-use Rattle.std.specs.Prelude.{◌≡◌, ℕ, suc, Bool, true, false, ◌==◌, ◌+◌, ◌*◌, ◌/◌, ◌%◌, ◌^◌, ◌<◌, if◌then◌else◌, List, [], ◌∷◌, ◌++◌, map, Option, Some, None}
+use Rattle.std.specs.Prelude.{◌≡◌, ℕ, suc, ◌==◌, ◌+◌, ◌*◌, ◌/◌, ◌%◌, ◌^◌, ◌<◌, if◌then◌else◌, List, [], ◌∷◌, ◌++◌, map, Option, Some, None}
 use Rattle.std.specs.Ordering.{nat_cmp}
 use Rattle.std.specs.FinMap as finite
 use Rattle.pat_map.specs.declared.nodes.Node.{Node, Leaf, Branch'}
@@ -60,6 +60,11 @@ abbrev pub with_other : {V : Type 0} → (V → V → V) → Option V → V → 
 with_other f None v = v
 with_other f (Some w) v = f w v
 
+-- a value, with f of it and a newer one where there is a newer one
+abbrev pub with_newer : {V : Type 0} → (V → V → V) → V → Option V → V
+with_newer f w None = w
+with_newer f w (Some v) = f w v
+
 -- of two maps at one key: f of both values, or the one that there is
 abbrev pub either : {V : Type 0} → (V → V → V) → Option V → Option V → Option V
 either f x None = x
@@ -78,3 +83,8 @@ IsBelow below m n = (k : ℕ) → BelowAt below (finite.get m k) (finite.get n k
 -- two maps as one, with f of both values where both have the key
 abbrev pub union : {V : Type 0} → (V → V → V) → WordMap V → WordMap V → WordMap V
 union f m n = finite.from_entries (map (λ e. (e.0, with_other f (finite.get m e.0) e.1)) (finite.entries n) ++ finite.entries m)
+
+-- how many nodes there are
+abbrev pub node_count : {V : Type 0} → Node V → ℕ
+node_count (Leaf key value) = 1
+node_count (Branch' bit block p low q high) = suc (node_count low + node_count high)

@@ -3,7 +3,8 @@
 ghost use Rattle.std.specs.Prelude.{◌≡◌, ◌==◌, ◌+◌, ◌/◌, ◌%◌, ◌^◌, ◌<◌, ◌≤◌, ◌↔◌, ℕ, Some, IfOk, IsTrue};
 ghost use Rattle.std.specs.Option.{option_copied};
 ghost use Rattle.pat_map.specs.declared.nodes.Node.{Leaf};
-ghost use Rattle.pat_map.specs.Trees.{at, Inside, Fits, IsTree, IsBranch, BelowAt, one_of, with_other};
+ghost use Rattle.pat_map.specs.Trees.{at, Inside, Fits, IsTree, IsBranch, BelowAt, one_of, with_other, with_newer};
+ghost use Rattle.pat_map.specs.Placings.{IsPlaced};
 ghost use Rattle.pat_map.specs.TreeLaws.{Sets, Joins, Below};
 
 use lattice_core::Lattice;
@@ -169,26 +170,148 @@ pub(crate) fn put<V: Drop>(
     }
 }
 
-/// The tree `onto` with all keys of another, with the join of both values at a key of both.
+/// How the block of one branch lies to that of another: they are one block, the other's lies in a half of the first, the
+/// first one lies in a half of the other's, or they are apart in blocks of `size` bits.
+#[derive(Clone, Copy)]
+pub(crate) enum Placing {
+    Same,
+    Low,
+    High,
+    UnderLow,
+    UnderHigh,
+    Apart { size: u32, own: u32, theirs: u32 },
+}
+
+/// How a block lies to a smaller one.
+fn holding(bit: u32, block: u32, other_bit: u32, other_block: u32) -> Placing
+    requires bit { bit < 32 }
+    requires other_bit { other_bit < bit }
+    ensures { IsPlaced bit block other_bit other_block result }
+{
+    let half = block_at(other_block, bit - (other_bit + 1));
+    if half / 2 != block {
+        Placing::Apart {
+            size: bit + 1,
+            own: block,
+            theirs: half / 2,
+        }
+    } else if half % 2 == 0 {
+        Placing::Low
+    } else {
+        Placing::High
+    }
+}
+
+/// How a block lies to a greater one.
+fn held(bit: u32, block: u32, other_bit: u32, other_block: u32) -> Placing
+    requires other_bit { other_bit < 32 }
+    requires bit { bit < other_bit }
+    ensures { IsPlaced bit block other_bit other_block result }
+{
+    let half = block_at(block, other_bit - (bit + 1));
+    if half / 2 != other_block {
+        Placing::Apart {
+            size: other_bit + 1,
+            own: half / 2,
+            theirs: other_block,
+        }
+    } else if half % 2 == 0 {
+        Placing::UnderLow
+    } else {
+        Placing::UnderHigh
+    }
+}
+
+/// How the block of one branch lies to that of another.
+fn place_blocks(bit: u32, block: u32, other_bit: u32, other_block: u32) -> Placing
+    requires bit { bit < 32 }
+    requires other_bit { other_bit < 32 }
+    ensures { IsPlaced bit block other_bit other_block result }
+{
+    if other_bit < bit {
+        holding(bit, block, other_bit, other_block)
+    } else if bit < other_bit {
+        held(bit, block, other_bit, other_block)
+    } else if block == other_block {
+        Placing::Same
+    } else {
+        Placing::Apart {
+            size: bit + 1,
+            own: block,
+            theirs: other_block,
+        }
+    }
+}
+
+/// A tree with the keys of both, with the join of both values at a key of both. Halves of the one that the other has no
+/// key of are shared.
 pub(crate) fn join_all<V: Lattice>(
     alloc: Global,
-    onto: &Rc<Node<V>>,
-    other: &Node<V>,
+    tree: &Rc<Node<V>>,
+    other: &Rc<Node<V>>,
 ) -> Result<Rc<Node<V>>, AllocError>
-    requires tree { IsTree onto.now.value }
-    requires other { IsTree other.now }
+    requires tree { IsTree tree.now.value }
+    requires other { IsTree other.now.value }
     ensures tree { IfOk result (λ t. IsTree t.value) }
-    ensures joins { IfOk result (λ t. Joins V.joined onto.now.value other.now t.value) }
+    ensures joins { IfOk result (λ t. Joins V.joined tree.now.value other.now.value t.value) }
 {
-    match other {
+    match &**other {
         Node::Leaf { key, value } => {
-            let joined = joined_with(alloc, find(onto, *key), value)?;
-            put(alloc, onto, *key, joined, &mut 0)
+            let joined = joined_with(alloc, find(tree, *key), value)?;
+            put(alloc, tree, *key, joined, &mut 0)
         }
-        Node::Branch { low, high, .. } => {
-            let half = join_all(alloc, onto, low)?;
-            join_all(alloc, &half, high)
-        }
+        Node::Branch {
+            bit: other_bit,
+            block: other_block,
+            low: other_low,
+            high: other_high,
+        } => match &**tree {
+            Node::Leaf { key, value } => {
+                let joined = joined_under(alloc, value, find(other, *key))?;
+                put(alloc, other, *key, joined, &mut 0)
+            }
+            Node::Branch {
+                bit,
+                block,
+                low,
+                high,
+            } => match place_blocks(*bit, *block, *other_bit, *other_block) {
+                Placing::Same => {
+                    let lower = join_all(alloc, low, other_low)?;
+                    let upper = join_all(alloc, high, other_high)?;
+                    branch(alloc, *bit, *block, lower, upper)
+                }
+                Placing::Low => {
+                    let half = join_all(alloc, low, other)?;
+                    branch(alloc, *bit, *block, half, high.clone()?)
+                }
+                Placing::High => {
+                    let half = join_all(alloc, high, other)?;
+                    branch(alloc, *bit, *block, low.clone()?, half)
+                }
+                Placing::UnderLow => {
+                    let half = join_all(alloc, tree, other_low)?;
+                    branch(alloc, *other_bit, *other_block, half, other_high.clone()?)
+                }
+                Placing::UnderHigh => {
+                    let half = join_all(alloc, tree, other_high)?;
+                    branch(alloc, *other_bit, *other_block, other_low.clone()?, half)
+                }
+                Placing::Apart { size, own, theirs } => {
+                    link(alloc, tree.clone()?, other.clone()?, size, own, theirs)
+                }
+            },
+        },
+    }
+}
+
+/// The join of a value with a newer one where there is one.
+fn joined_under<V: Lattice>(alloc: Global, own: &V, newer: Option<&V>) -> Result<V, AllocError>
+    ensures { IfOk result (λ v. v ≡ with_newer V.joined own.now (option_copied newer.entry)) }
+{
+    match newer {
+        Some(value) => own.join(alloc, value),
+        None => own.copy(alloc),
     }
 }
 

@@ -44,6 +44,33 @@ fn two_maps_are_joined(rt: HostRuntime) -> Result<(), Fail> {
     Ok(())
 }
 
+/// A map with 40 keys from `first` on, so far apart.
+fn spread(alloc: Global, first: u32, step: u32) -> Result<PatMap<Flat<u32>>, AllocError> {
+    let mut map = PatMap::empty();
+    let mut key = first;
+    for _ in 0..40u32 {
+        map = map.set(alloc, key, Flat::Known(key))?;
+        key = key.saturating_add(step);
+    }
+    Ok(map)
+}
+
+#[test]
+fn maps_in_one_another_and_apart_are_joined(rt: HostRuntime) -> Result<(), Fail> {
+    let alloc = rt.alloc();
+    let wide = spread(alloc, 1, 64)?;
+    let narrow = spread(alloc, 640, 1)?;
+    let far = spread(alloc, 4_000_000_000, 3)?;
+    let inside = wide.union_with(alloc, &narrow)?;
+    let around = narrow.union_with(alloc, &wide)?;
+    let all = far.union_with(alloc, &inside)?;
+    assert!(rt; inside.leq_with(&around) && around.leq_with(&inside));
+    assert!(rt; inside.leq_with(&all) && far.leq_with(&all));
+    assert!(rt; is_known(all.get(641), 641) && is_known(all.get(4_000_000_003), 4_000_000_003));
+    assert!(rt; all.get(642).is_some() && all.get(700).is_none());
+    Ok(())
+}
+
 #[test]
 fn a_change_among_1024_keys_makes_11_nodes(rt: HostRuntime) -> Result<(), Fail> {
     let alloc = rt.alloc();

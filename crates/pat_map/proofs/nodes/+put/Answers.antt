@@ -1,6 +1,6 @@
-use Rattle.std.proofs.Common.{◌≡◌, ◌+◌, ◌/◌, ◌%◌, ◌^◌, ◌==◌, ℕ, arith, sym, ◌∙◌, subst, refl, true, false}
+use Rattle.std.proofs.Common.{◌≡◌, ◌+◌, ◌/◌, ◌%◌, ◌^◌, ◌==◌, ℕ, arith, ◌∙◌, subst, refl, true, false}
 use Rattle.std.proofs.lemmas.Grind.{common_steps}
-use Rattle.pat_map.specs.Trees.{at, one_of, Inside, IsTree, IsBranch}
+use Rattle.pat_map.specs.Trees.{at, one_of, IsTree, IsBranch}
 use Rattle.pat_map.specs.TreeLaws.{Sets, block_of_branch, parts_of, same_halves, sets_linked, put_low, put_high, ok_so}
 use Rattle.pat_map.proofs.nodes.+put.Goals as goal
 

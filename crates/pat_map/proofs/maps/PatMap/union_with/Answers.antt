@@ -23,7 +23,7 @@ returns-in_ok-join_all-in-Some-Some g c =
     let more : IsTree c.in-Some-Some.more.value = rw c.in-Some-Some.is-1 at c.other.invariant in
     let v : map_of c.in-Some-Some.tree.value ≡ c.args.self.now = rw c.in-Some-Some.is-0 at c.self.view_is in
     let w : map_of c.in-Some-Some.more.value ≡ c.args.other.now = rw c.in-Some-Some.is-1 at c.other.view_is in
-    let j : Joins g.V.Lattice.joined c.in-Some-Some.tree.value c.in-Some-Some.more.value c.in_ok-join_all-in-Some-Some.field-0.value = rw c.deref.ensures at c.in_ok-join_all-in-Some-Some.ensures.joins in
+    let j : Joins g.V.Lattice.joined c.in-Some-Some.tree.value c.in-Some-Some.more.value c.in_ok-join_all-in-Some-Some.field-0.value = c.in_ok-join_all-in-Some-Some.ensures.joins in
     map_union g.V.Lattice.joined c.in-Some-Some.tree.value c.in-Some-Some.more.value c.in_ok-join_all-in-Some-Some.field-0.value tree more c.in_ok-join_all-in-Some-Some.ensures.tree j
     ∙ ap (λ a. union g.V.Lattice.joined a (map_of c.in-Some-Some.more.value)) v
     ∙ ap (union g.V.Lattice.joined c.args.self.now) w

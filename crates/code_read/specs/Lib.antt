@@ -1,9 +1,17 @@
 pub mod Branches
 pub mod Checks
+pub mod Code
+pub mod Decoded
+pub mod Fault
 pub mod Fields
 pub mod Forms
+pub mod Found
+pub mod Handlers
 pub mod Marks
 pub mod Opcodes
 pub mod Order
 pub mod Payloads
+pub mod Positions
 pub mod Regions
+pub mod Seen
+pub mod Sweep

@@ -1,6 +1,6 @@
 //! What the numbers of an instruction have to be: registers of the body, entries of the tables, positions.
 
-ghost use Rattle.std.specs.Prelude.{◌≡◌, nat_lt, length};
+ghost use Rattle.std.specs.Prelude.{◌≡◌, nat_lt, length, not, position};
 ghost use Rattle.std.specs.List.{list_all};
 ghost use Rattle.code_read.specs.Checks.{has_room, are_registers, registers_inside, numbers_inside, operands_inside, targets_inside};
 
@@ -150,6 +150,8 @@ pub(crate) fn all_stay_inside(insns: &[Insn], count: u32) -> bool
 }
 
 /// The position of the first branch that goes to no position.
-pub(crate) fn first_outside(insns: &[Insn], count: u32) -> Option<usize> {
+pub(crate) fn first_outside(insns: &[Insn], count: u32) -> Option<usize>
+    ensures { result ≡ position (λ insn. not (targets_inside count insn)) insns.now }
+{
     insns.iter().position(|insn| !stays_inside(insn, count))
 }

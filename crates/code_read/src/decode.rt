@@ -1,29 +1,141 @@
 //! An instruction from the units where it begins.
 
-ghost use Rattle.std.specs.Prelude.{◌≡◌, ◌+◌, ◌≤◌, ◌<◌, ◌+ℤ◌, pos, length, slice_get, IsTrue, IfOk, IfSome};
+ghost use Rattle.std.specs.Prelude.{◌≡◌, ◌+◌, ◌≤◌, ◌<◌, length, IsTrue, IfOk};
 ghost use Rattle.std.specs.List.{list_all};
+ghost use Rattle.dex_base.specs.Reading.{Gives};
 ghost use Rattle.code_read.specs.Checks.{operands_inside};
-ghost use Rattle.code_read.specs.Branches.{offset_form, branch_form, nibbles_form};
+ghost use Rattle.code_read.specs.Branches.{is_branch, is_call, is_range, offset_form, branch_form, nibbles_form, registers_from, words_form, most_words, call_form};
+ghost use Rattle.code_read.specs.Decoded.{opcode_at, fields_at, payload_of, entries_at, entries_of, check_payloads, branch_at, call_at, insn_of, insn_at, checked_at, insns_from, insns_of};
+ghost use Rattle.code_read.specs.Fault.{is_free, passed};
+ghost use Rattle.code_read.specs.Payloads.{table_form};
+ghost use Rattle.code_read.specs.Positions.{target_from};
+ghost use Rattle.code_read.specs.Seen.{seen};
 
 use crate::checks::fits_sizes;
 use crate::fault::CodeFault;
 use crate::fields::{Fields, fields_of};
 use crate::forms::{byte_of, plain_of, short_of, word_of};
+use crate::limits::passed;
 use crate::opcodes::{format_of, kind_of, test_of};
-use crate::payload::{
-    count_entries, has_payload, items_of, keys_of, number_at, numbers_of, payload_of,
-    too_many_cells,
-};
-use crate::places::{Places, position_at};
+use crate::payload::{first_key, has_payload, is_right, items_of, keys_of, size_of, targets_of};
+use crate::places::Places;
+use crate::positions::{payload_from, target_from};
 use crate::sizes::Sizes;
-use crate::sweep::rest_from;
+use crate::sweep::{rest_from, unit_at};
 use insn_set::Insn;
 use program_model::Counted;
 use seq::{Seq, Words};
 use std::alloc::{AllocError, Global};
 
-/// What stands for the target of a branch that goes to no position.
-const NOWHERE: u32 = u32::MAX;
+/// The opcode of the instruction at this unit.
+pub(crate) fn opcode_at(units: &[u16], start: u32) -> u16
+    ensures { result ≡ opcode_at units.now start }
+{
+    unit_at(units, start as usize) % 256
+}
+
+/// The fields of the instruction at this unit, 0 where none is there.
+#[tactic(auto, unfolding(crate::specs::Decoded::fields_at))]
+fn fields_at(units: &[u16], start: u32) -> Fields
+    ensures { result ≡ fields_at units.now start }
+{
+    let nothing = Fields {
+        a: 0,
+        b: 0,
+        c: 0,
+        wide: 0,
+    };
+    match format_of(opcode_at(units, start)) {
+        Some(format) => match fields_of(format, rest_from(units, start as usize)) {
+            Some(f) => f,
+            None => nothing,
+        },
+        None => nothing,
+    }
+}
+
+/// The units from the payload on that an instruction names; none where it names no payload.
+#[tactic(auto, unfolding(crate::specs::Decoded::payload_of))]
+fn payload_of<'a>(places: &Places<'a>, start: u32, f: Fields) -> &'a [u16]
+    ensures { result.now ≡ payload_of (seen places.now) start f }
+{
+    match payload_from(places, start, word_of(f.wide)) {
+        Some(unit) => rest_from(places.units, unit as usize),
+        None => &[],
+    }
+}
+
+/// How many entries the payload of the instruction at `start` has, 0 where it needs none.
+fn entries_of(places: &Places, start: u32, op: u16, f: Fields) -> Result<u32, CodeFault>
+    ensures { result ≡ entries_of (seen places.now) start op f }
+{
+    if !has_payload(op) {
+        return Ok(0);
+    }
+    let payload = payload_of(places, start, f);
+    if is_right(op, payload) {
+        Ok(size_of(op, payload))
+    } else {
+        Err(CodeFault::Payload { unit: start })
+    }
+}
+
+/// How many entries the payload of the instruction at `start` has, 0 where it needs none.
+#[tactic(auto, unfolding(crate::specs::Decoded::entries_at))]
+fn entries_at(places: &Places, start: u32) -> Result<u32, CodeFault>
+    ensures { result ≡ entries_at (seen places.now) start }
+{
+    entries_of(
+        places,
+        start,
+        opcode_at(places.units, start),
+        fields_at(places.units, start),
+    )
+}
+
+/// Whether each instruction at these starts that needs a payload has a right one. `Payload` names the first that has
+/// none. The tables together may have as many entries as a program may have cells.
+fn check_payloads_at(places: &Places, starts: &[u32]) -> Result<(), CodeFault>
+    ensures { result ≡ check_payloads (seen places.now) 67108864 starts.now }
+{
+    let mut left = Counted::Cells.limit();
+    for start in starts {
+        let entries = u64::from(entries_at(places, *start)?);
+        if entries > left {
+            return Err(passed(Counted::Cells));
+        }
+        left -= entries;
+    }
+    Ok(())
+}
+
+/// Whether each instruction that needs a payload has a right one.
+pub(crate) fn check_payloads(places: &Places) -> Result<(), CodeFault>
+    ensures { result ≡ check_payloads (seen places.now) 67108864 places.now.starts.items }
+{
+    check_payloads_at(places, places.starts.as_slice())
+}
+
+/// Whether the opcode is that of a branch.
+fn is_branch(op: u16) -> bool
+    ensures { result ≡ is_branch op }
+{
+    (0x28 <= op && op <= 0x2a) || (0x32 <= op && op <= 0x3d)
+}
+
+/// Whether the opcode is that of a call or a filled array.
+fn is_call(op: u16) -> bool
+    ensures { result ≡ is_call op }
+{
+    (0x24 <= op && op <= 0x25) || ((0x6e <= op && op <= 0x72) || (0x74 <= op && op <= 0x78))
+}
+
+/// Whether the opcode is that of a call by range.
+fn is_range(op: u16) -> bool
+    ensures { result ≡ is_range op }
+{
+    op == 0x25 || (0x74 <= op && op <= 0x78)
+}
 
 /// How far the branch with this opcode goes, in units.
 fn offset_of(op: u16, f: Fields) -> i32
@@ -58,30 +170,16 @@ fn branch_of(op: u16, f: Fields, target: u32) -> Insn
     }
 }
 
-/// The position that begins so many units from `start`, none where no position does.
-fn target_at(places: &Places, start: u32, offset: i32) -> Option<u32>
-    ensures inside { IfSome result (λ p. p < length places.now.starts.items) }
-    ensures begins { IfSome result (λ p. IfSome (slice_get places.now.starts.items p) (λ unit. pos unit ≡ pos start +ℤ offset)) }
-{
-    let unit = i64::from(start) + i64::from(offset);
-    let unit = u32::try_from(unit).ok()?;
-    position_at(places, u64::from(unit))
-}
-
-/// The position that begins so many units from `start`, or nowhere.
-fn target_of(places: &Places, start: u32, offset: i32) -> u32 {
-    target_at(places, start, offset).unwrap_or(NOWHERE)
-}
-
 /// The branch at `start`. Only the longest goto may go to itself.
-fn branch_at(places: &Places, start: u32, op: u16, f: Fields) -> Insn {
+fn branch_at(places: &Places, start: u32, op: u16, f: Fields) -> Insn
+    ensures { result ≡ branch_at places.now.starts.items start op f }
+{
     let offset = offset_of(op, f);
-    let target = if offset == 0 && op != 0x2a {
-        NOWHERE
+    if offset == 0 && op != 0x2a {
+        branch_of(op, f, u32::MAX)
     } else {
-        target_of(places, start, offset)
-    };
-    branch_of(op, f, target)
+        branch_of(op, f, target_from(places, start, offset))
+    }
 }
 
 /// The first registers of a call by nibbles.
@@ -101,63 +199,73 @@ fn nibbles_of(alloc: Global, f: Fields) -> Result<Words, AllocError>
 
 /// The registers of a call by range: `count` from `first` on.
 fn range_of(alloc: Global, first: u16, count: u16) -> Result<Words, AllocError>
-    requires few { count < 256 }
-    requires inside { first + count ≤ 65536 }
+    requires { first + count ≤ 65536 }
+    ensures { IfOk result (λ words. words ≡ registers_from first count) }
 {
-    let mut all = [0; 256];
+    let mut all = Vec::with_capacity(alloc, count as usize)?;
     for place in 0..count {
-        all[place as usize] = first + place;
+        all.push(first + place)?;
     }
-    Words::of_slice(alloc, &all[..count as usize])
+    Words::of_slice(alloc, all.as_slice())
 }
 
-/// The registers of the call or filled array at `start`, `Operand` where they are too many.
-fn words_of(alloc: Global, start: u32, by_range: bool, f: Fields) -> Result<Words, CodeFault> {
-    if by_range {
-        if f.a < 256 && u32::from(f.c) + u32::from(f.a) <= 65536 {
-            return Ok(range_of(alloc, f.c, f.a)?);
-        }
-    } else if f.a <= 5 {
-        return Ok(nibbles_of(alloc, f)?);
+/// How many registers the call with this opcode may count.
+fn most_words(op: u16, f: Fields) -> u32
+    ensures { result ≡ most_words op f }
+{
+    if is_range(op) {
+        65536 - u32::from(f.c)
+    } else {
+        5
     }
-    Err(CodeFault::Operand { unit: start })
 }
 
-/// The call or filled array at `start`.
-fn call_at(alloc: Global, start: u32, op: u16, f: Fields) -> Result<Insn, CodeFault> {
-    let args = words_of(alloc, start, op == 0x25 || op >= 0x74, f)?;
-    Ok(match op {
-        0x24 | 0x25 => Insn::FilledNewArray {
+/// The registers of a call or filled array, which are not too many.
+fn words_of(alloc: Global, op: u16, f: Fields) -> Result<Words, AllocError>
+    requires { f.a ≤ most_words op f }
+    ensures { IfOk result (λ words. words ≡ words_form op f) }
+{
+    if is_range(op) {
+        range_of(alloc, f.c, f.a)
+    } else {
+        nibbles_of(alloc, f)
+    }
+}
+
+/// The call or filled array with these registers.
+fn call_of(op: u16, f: Fields, args: Words) -> Insn
+    requires { args ≡ words_form op f }
+    ensures { result ≡ call_form op f }
+{
+    if 0x24 <= op && op <= 0x25 {
+        Insn::FilledNewArray {
             kind: u32::from(f.b),
             args,
-        },
-        0x6e..=0x72 => Insn::Invoke {
-            kind: kind_of(op - 0x6e),
+        }
+    } else {
+        let number = if is_range(op) {
+            op.saturating_sub(0x74)
+        } else {
+            op.saturating_sub(0x6e)
+        };
+        Insn::Invoke {
+            kind: kind_of(number),
             method: u32::from(f.b),
             args,
-        },
-        _ => Insn::Invoke {
-            kind: kind_of(op.saturating_sub(0x74)),
-            method: u32::from(f.b),
-            args,
-        },
-    })
+        }
+    }
 }
 
-/// The positions that so many offsets go to, from `start` on, or nowhere.
-fn targets_of(
-    alloc: Global,
-    places: &Places,
-    start: u32,
-    units: &[u16],
-    count: u32,
-) -> Result<Seq<u32>, AllocError> {
-    let mut targets = Vec::with_capacity(alloc, count as usize)?;
-    for place in 0..count {
-        let offset = number_at(units, place as usize).cast_signed();
-        targets.push(target_of(places, start, offset))?;
+/// The call or filled array at `start`, `Operand` where its registers are too many.
+fn call_at(alloc: Global, start: u32, op: u16, f: Fields) -> Result<Insn, CodeFault>
+    ensures { Gives is_free (λ insn. insn) result (call_at start op f) }
+{
+    if u32::from(f.a) <= most_words(op, f) {
+        let args = words_of(alloc, op, f)?;
+        Ok(call_of(op, f, args))
+    } else {
+        Err(CodeFault::Operand { unit: start })
     }
-    Ok(Seq::of_vec(targets))
 }
 
 /// The switch or filling of an array at `start`, with its payload.
@@ -166,87 +274,77 @@ fn table_at(
     payload: &[u16],
     places: &Places,
     start: u32,
+    op: u16,
     on: u16,
-) -> Result<Insn, CodeFault> {
-    match payload {
-        [0x0100, size, low, high, rest @ ..] => Ok(Insn::PackedSwitch {
+) -> Result<Insn, AllocError>
+    ensures { IfOk result (λ insn. insn ≡ table_form op on (target_from places.now.starts.items start) payload.now) }
+{
+    let size = size_of(op, payload);
+    if op == 0x26 {
+        let width = unit_at(payload, 1);
+        Ok(Insn::FillArray {
             on,
-            first: (u32::from(*low) + 65536 * u32::from(*high)).cast_signed(),
-            targets: targets_of(alloc, places, start, rest, u32::from(*size))?,
-        }),
-        [0x0200, size, rest @ ..] => Ok(Insn::SparseSwitch {
+            width: (width % 256) as u8,
+            items: Seq::of_vec(items_of(alloc, rest_from(payload, 4), width, size)?),
+        })
+    } else if op == 0x2b {
+        Ok(Insn::PackedSwitch {
             on,
-            keys: Seq::of_vec(keys_of(alloc, rest, u32::from(*size))?),
-            targets: targets_of(
-                alloc,
-                places,
-                start,
-                rest_from(rest, 2 * *size as usize),
-                u32::from(*size),
-            )?,
-        }),
-        [0x0300, width, low, high, rest @ ..] if *width < 256 => Ok(Insn::FillArray {
+            first: first_key(payload),
+            targets: Seq::of_vec(targets_of(alloc, places, start, rest_from(payload, 4), size)?),
+        })
+    } else {
+        let behind = rest_from(payload, 2 + 2 * size as usize);
+        Ok(Insn::SparseSwitch {
             on,
-            width: *width as u8,
-            items: Seq::of_vec(items_of(
-                alloc,
-                rest,
-                *width,
-                u32::from(*low) + 65536 * u32::from(*high),
-            )?),
-        }),
-        _ => Err(CodeFault::Payload { unit: start }),
+            keys: Seq::of_vec(keys_of(alloc, rest_from(payload, 2), size)?),
+            targets: Seq::of_vec(targets_of(alloc, places, start, behind, size)?),
+        })
     }
 }
 
-/// The opcode and the fields of the instruction at `start`.
-fn parts_at(units: &[u16], start: u32) -> Result<(u16, Fields), CodeFault> {
-    let rest = rest_from(units, start as usize);
-    let Some(unit) = rest.first() else {
-        return Err(CodeFault::Cut { unit: start });
-    };
-    let op = *unit % 256;
-    let Some(format) = format_of(op) else {
-        return Err(CodeFault::Opcode { unit: start });
-    };
-    match fields_of(format, rest) {
-        Some(f) => Ok((op, f)),
-        None => Err(CodeFault::Cut { unit: start }),
+/// The instruction at `start` with this opcode and these fields.
+fn insn_of(
+    alloc: Global,
+    places: &Places,
+    start: u32,
+    op: u16,
+    f: Fields,
+) -> Result<Insn, CodeFault>
+    ensures { Gives is_free (λ insn. insn) result (insn_of (seen places.now) start op f) }
+{
+    if is_call(op) {
+        call_at(alloc, start, op, f)
+    } else if is_branch(op) {
+        Ok(branch_at(places, start, op, f))
+    } else if has_payload(op) {
+        Ok(table_at(alloc, payload_of(places, start, f), places, start, op, f.a)?)
+    } else {
+        Ok(plain_of(op, f))
     }
 }
 
 /// The instruction at `start`.
-fn insn_at(
-    alloc: Global,
-    units: &[u16],
-    payloads: &[u32],
-    places: &Places,
-    start: u32,
-) -> Result<Insn, CodeFault> {
-    let (op, f) = parts_at(units, start)?;
-    match op {
-        0x24 | 0x25 | 0x6e..=0x72 | 0x74..=0x78 => call_at(alloc, start, op, f),
-        0x28..=0x2a | 0x32..=0x3d => Ok(branch_at(places, start, op, f)),
-        0x26 | 0x2b | 0x2c => match payload_of(units, payloads, start, f) {
-            Some(payload) => table_at(alloc, payload, places, start, f.a),
-            None => Err(CodeFault::Payload { unit: start }),
-        },
-        _ => Ok(plain_of(op, f)),
-    }
+#[tactic(auto, unfolding(crate::specs::Decoded::insn_at))]
+fn insn_at(alloc: Global, places: &Places, start: u32) -> Result<Insn, CodeFault>
+    ensures { Gives is_free (λ insn. insn) result (insn_at (seen places.now) start) }
+{
+    insn_of(
+        alloc,
+        places,
+        start,
+        opcode_at(places.units, start),
+        fields_at(places.units, start),
+    )
 }
 
 /// The instruction at `start`, `Operand` where a number of it is out of range.
-fn checked_at(
-    alloc: Global,
-    units: &[u16],
-    payloads: &[u32],
-    places: &Places,
-    sizes: &Sizes,
-    start: u32,
-) -> Result<Insn, CodeFault>
-    ensures { IfOk result (λ insn. IsTrue (operands_inside sizes.now insn)) }
+#[tactic(auto, unfolding(crate::specs::Decoded::checked_at))]
+fn checked_at(alloc: Global, places: &Places, sizes: &Sizes, start: u32) -> Result<Insn, CodeFault>
+    ensures gives { Gives is_free (λ insn. insn) result (checked_at (seen places.now) sizes.now start) }
+    ensures inside { IfOk result (λ insn. IsTrue (operands_inside sizes.now insn)) }
 {
-    let insn = insn_at(alloc, units, payloads, places, start)?;
+    let insn = insn_at(alloc, places, start)?;
     if fits_sizes(&insn, sizes) {
         Ok(insn)
     } else {
@@ -254,49 +352,34 @@ fn checked_at(
     }
 }
 
-/// How many entries the payload of the instruction at `start` has, 0 where it needs none.
-fn entries_at(units: &[u16], payloads: &[u32], start: u32) -> Result<u32, CodeFault> {
-    let (op, f) = parts_at(units, start)?;
-    if has_payload(op) {
-        count_entries(units, payloads, start, op, f)
-    } else {
-        Ok(0)
-    }
-}
-
-/// Whether each instruction that needs a payload has a right one. `Payload` names the first that has none. The
-/// tables together may have as many entries as a program may have cells.
-pub(crate) fn check_payloads(
-    units: &[u16],
+/// The instructions at these starts.
+fn insns_at(
+    alloc: Global,
+    places: &Places,
+    sizes: &Sizes,
     starts: &[u32],
-    payloads: &[u32],
-) -> Result<(), CodeFault> {
-    let mut left = Counted::Cells.limit();
+) -> Result<Vec<Insn>, CodeFault>
+    ensures gives { Gives is_free (λ v. v.items) result (insns_from (seen places.now) sizes.now starts.now) }
+    ensures count { IfOk result (λ insns. length insns.items ≡ length starts.now) }
+    ensures inside { IfOk result (λ insns. IsTrue (list_all (operands_inside sizes.now) insns.items)) }
+{
+    let mut insns = Vec::with_capacity(alloc, starts.len())?;
     for start in starts {
-        let entries = u64::from(entries_at(units, payloads, *start)?);
-        if entries > left {
-            return Err(too_many_cells());
-        }
-        left -= entries;
+        let insn = checked_at(alloc, places, sizes, *start)?;
+        insns.push(insn)?;
     }
-    Ok(())
+    Ok(insns)
 }
 
-/// The instructions at the starts.
+/// The instructions of a body.
 pub(crate) fn insns_of(
     alloc: Global,
-    units: &[u16],
-    payloads: &[u32],
     places: &Places,
     sizes: &Sizes,
 ) -> Result<Vec<Insn>, CodeFault>
+    ensures gives { Gives is_free (λ v. v.items) result (insns_of (seen places.now) sizes.now) }
     ensures count { IfOk result (λ insns. length insns.items ≡ length places.now.starts.items) }
     ensures inside { IfOk result (λ insns. IsTrue (list_all (operands_inside sizes.now) insns.items)) }
 {
-    let starts = places.starts.as_slice();
-    let mut insns = Vec::with_capacity(alloc, starts.len())?;
-    for start in starts {
-        insns.push(checked_at(alloc, units, payloads, places, sizes, *start)?)?;
-    }
-    Ok(insns)
+    insns_at(alloc, places, sizes, places.starts.as_slice())
 }

@@ -1,22 +1,17 @@
 //! Handler lists (Dalvik executable format, "encoded_catch_handler_list").
 
-ghost use Rattle.std.specs.Prelude.{◌≡◌, ◌+◌, ◌<◌, ◌≤◌, ◌^◌, length, IsTrue, IfOk, IfSome};
-ghost use Rattle.std.specs.List.{list_all};
+ghost use Rattle.std.specs.Prelude.{◌≡◌, ◌+◌, ◌<◌, ◌≤◌, ◌^◌, ℕ, length, IsTrue, IfOk, IfSome, MatchOption, ◌==◌, Some, None};
+ghost use Rattle.std.specs.List.{list_all, list_any};
+ghost use Rattle.code_read.specs.Handlers.{number_at, size_at, has_rest, skip_numbers, numbers_behind, list_end, lists_in, lists_from, address_at, handler_at, handlers_at, rest_at, caught_at};
+ghost use Rattle.code_read.specs.Positions.{rises_in};
 ghost use Rattle.code_read.specs.Regions.{handler_inside, rest_inside};
 
-use crate::places::{Places, position_at};
+use crate::places::Places;
+use crate::positions::position_at;
 use dex_base::{read_sleb, read_uleb};
 use program_model::Handler;
 use seq::Seq;
 use std::alloc::{AllocError, Global};
-
-/// What a list begins with: how many handlers it has, whether a catch-all follows them, and the place of the first.
-#[derive(Clone, Copy, Debug, Drop)]
-struct Head {
-    count: u32,
-    has_rest: bool,
-    at: usize,
-}
 
 /// The handlers of a region, and its catch-all.
 #[derive(Debug, Drop)]
@@ -27,6 +22,7 @@ pub(crate) struct Caught {
 
 /// The number at `at` and the place behind it, none where there is none.
 fn number_at(bytes: &[u8], at: usize) -> Option<(u32, usize)>
+    ensures is { result ≡ number_at bytes.now at }
     ensures behind { IfSome result (λ read. at < read.1) }
     ensures inside { IfSome result (λ read. read.1 ≤ length bytes.now) }
 {
@@ -36,154 +32,205 @@ fn number_at(bytes: &[u8], at: usize) -> Option<(u32, usize)>
     }
 }
 
-/// The head of the list at `at`.
-fn head_at(bytes: &[u8], at: usize) -> Option<Head> {
+/// The size of a list, the place behind it, none where there is none.
+fn size_at(bytes: &[u8], at: usize) -> Option<(i32, usize)>
+    ensures is { result ≡ size_at bytes.now at }
+    ensures behind { IfSome result (λ read. at < read.1) }
+    ensures inside { IfSome result (λ read. read.1 ≤ length bytes.now) }
+{
     match read_sleb(bytes, at) {
-        Ok((size, at)) => Some(Head {
-            count: size.unsigned_abs(),
-            has_rest: size <= 0,
-            at,
-        }),
+        Ok(read) => Some(read),
         Err(_) => None,
     }
 }
 
+/// Whether a catch-all stands behind a size.
+fn has_rest(size: i32) -> bool
+    ensures { result ≡ has_rest size }
+{
+    size <= 0
+}
+
 /// The place behind so many numbers.
-fn skip_numbers(bytes: &[u8], at: usize, count: u64) -> Option<usize> {
-    let mut at = at;
-    for _ in 0..count {
-        let (_, next) = number_at(bytes, at)?;
-        at = next;
+fn skip_numbers(bytes: &[u8], from: usize, count: u64) -> Option<usize>
+    ensures { result ≡ skip_numbers bytes.now count from }
+{
+    let mut at = from;
+    let mut left = count;
+    while left > 0 {
+        match number_at(bytes, at) {
+            Some((_, next)) => {
+                at = next;
+                left -= 1;
+            }
+            None => return None,
+        }
     }
     Some(at)
 }
 
-/// The place behind the list at `at`, none where it is not whole.
-fn skip_list(bytes: &[u8], at: usize) -> Option<usize> {
-    let head = head_at(bytes, at)?;
-    skip_numbers(
-        bytes,
-        head.at,
-        2 * u64::from(head.count) + u64::from(head.has_rest),
-    )
+/// How many numbers stand behind the size of a list.
+fn numbers_behind(size: i32) -> u64
+    ensures { result ≡ numbers_behind size }
+{
+    let rest = if has_rest(size) { 1 } else { 0 };
+    2 * u64::from(size.unsigned_abs()) + rest
 }
 
-/// The offsets, up to `most`, at which the lists begin that stand one behind another from the count on, as many as it
-/// says. The last may not be whole.
-pub(crate) fn list_offsets(alloc: Global, bytes: &[u8], most: u16) -> Result<Vec<u16>, AllocError> {
+/// The place behind the list at `at`, none where it is not whole.
+#[tactic(auto, unfolding(crate::specs::Handlers::list_end))]
+fn list_end(bytes: &[u8], at: usize) -> Option<usize>
+    ensures { result ≡ list_end bytes.now at }
+{
+    match size_at(bytes, at) {
+        Some((size, next)) => skip_numbers(bytes, next, numbers_behind(size)),
+        None => None,
+    }
+}
+
+/// The offsets, up to `most`, at which so many lists begin that stand one behind another. The last may not be whole.
+fn offsets_from(
+    alloc: Global,
+    bytes: &[u8],
+    first: usize,
+    count: u32,
+    most: u16,
+) -> Result<Vec<u16>, AllocError>
+    ensures same { IfOk result (λ v. (o : ℕ) → o ≤ most → list_any (λ a. a == o) v.items ≡ list_any (λ a. a == o) (lists_from count bytes.now first)) }
+    ensures rise { IfOk result (λ v. IsTrue (rises_in 0 65536 v.items)) }
+{
     let mut offsets = Vec::new(alloc);
-    let Some((count, first)) = number_at(bytes, 0) else {
-        return Ok(offsets);
-    };
     let mut at = first;
-    for _ in 0..count {
+    let mut left = count;
+    while left > 0 {
         if at > most as usize {
-            break;
+            return Ok(offsets);
         }
         offsets.push(at as u16)?;
-        match skip_list(bytes, at) {
-            Some(next) => at = next,
-            None => break,
+        match list_end(bytes, at) {
+            Some(next) => {
+                at = next;
+                left -= 1;
+            }
+            None => return Ok(offsets),
         }
     }
     Ok(offsets)
 }
 
-/// The position that begins with the unit of the address at `at`, and the place behind the address.
-fn address_at(bytes: &[u8], at: usize, places: &Places) -> Option<(u32, usize)>
-    ensures { IfSome result (λ read. read.0 < length places.now.starts.items) }
+/// The offsets, up to `most`, at which the lists begin that stand one behind another from the count on, as many as it
+/// says. The last may not be whole.
+#[tactic(auto, unfolding(crate::specs::Handlers::lists_in))]
+pub(crate) fn list_offsets(alloc: Global, bytes: &[u8], most: u16) -> Result<Vec<u16>, AllocError>
+    ensures same { IfOk result (λ v. (o : ℕ) → o ≤ most → list_any (λ a. a == o) v.items ≡ list_any (λ a. a == o) (lists_in bytes.now)) }
+    ensures rise { IfOk result (λ v. IsTrue (rises_in 0 65536 v.items)) }
 {
-    let (unit, next) = number_at(bytes, at)?;
-    let position = position_at(places, u64::from(unit))?;
-    Some((position, next))
+    match number_at(bytes, 0) {
+        Some((count, first)) => offsets_from(alloc, bytes, first, count, most),
+        None => Ok(Vec::new(alloc)),
+    }
+}
+
+/// The position that begins with the unit of the address at `at`, and the place behind the address.
+#[tactic(auto, unfolding(crate::specs::Handlers::address_at))]
+fn address_at(bytes: &[u8], at: usize, places: &Places) -> Option<(u32, usize)>
+    ensures is { result ≡ address_at bytes.now places.now.starts.items at }
+    ensures inside { IfSome result (λ read. read.0 < length places.now.starts.items) }
+{
+    match number_at(bytes, at) {
+        Some((unit, next)) => match position_at(places, u64::from(unit)) {
+            Some(position) => Some((position, next)),
+            None => None,
+        },
+        None => None,
+    }
 }
 
 /// The handler at `at`, and the place behind it, none where its type or its address is out of range.
+#[tactic(auto, unfolding(crate::specs::Handlers::handler_at))]
 fn handler_at(bytes: &[u8], at: usize, places: &Places, types: u32) -> Option<(Handler, usize)>
-    ensures { IfSome result (λ read. IsTrue (handler_inside types (length places.now.starts.items) read.0)) }
+    ensures is { result ≡ handler_at bytes.now places.now.starts.items types at }
+    ensures inside { IfSome result (λ read. IsTrue (handler_inside types (length places.now.starts.items) read.0)) }
 {
-    let (kind, at) = number_at(bytes, at)?;
-    let (position, next) = address_at(bytes, at, places)?;
-    if kind < types {
-        Some((Handler { kind, position }, next))
-    } else {
-        None
+    match number_at(bytes, at) {
+        Some((kind, next)) => match address_at(bytes, next, places) {
+            Some((position, behind)) => {
+                if kind < types {
+                    Some((Handler { kind, position }, behind))
+                } else {
+                    None
+                }
+            }
+            None => None,
+        },
+        None => None,
     }
 }
 
 /// The catch-all at `at`, where there is one; none where its address is out of range.
 fn rest_at(bytes: &[u8], at: usize, has_rest: bool, places: &Places) -> Option<Option<u32>>
-    ensures { IfSome result (λ rest. IsTrue (rest_inside (length places.now.starts.items) rest)) }
+    ensures is { result ≡ rest_at bytes.now places.now.starts.items has_rest at }
+    ensures inside { IfSome result (λ rest. IsTrue (rest_inside (length places.now.starts.items) rest)) }
 {
     if has_rest {
-        let (position, _) = address_at(bytes, at, places)?;
-        Some(Some(position))
+        match address_at(bytes, at, places) {
+            Some((position, _)) => Some(Some(position)),
+            None => None,
+        }
     } else {
         Some(None)
     }
 }
 
-/// The place behind so many handlers, none where one of them is out of range.
-fn skip_handlers(bytes: &[u8], head: Head, places: &Places, types: u32) -> Option<usize> {
-    let mut at = head.at;
-    for _ in 0..head.count {
-        let (_, next) = handler_at(bytes, at, places, types)?;
-        at = next;
-    }
-    Some(at)
-}
-
-/// How many handlers the list at `at` has with its catch-all, none where it is not whole or out of range.
-pub(crate) fn count_handlers(bytes: &[u8], at: usize, places: &Places, types: u32) -> Option<u64>
-    ensures { IfSome result (λ n. n < 2 ^ 33) }
-{
-    let head = head_at(bytes, at)?;
-    let end = skip_handlers(bytes, head, places, types)?;
-    let _rest = rest_at(bytes, end, head.has_rest, places)?;
-    Some(u64::from(head.count) + u64::from(head.has_rest))
-}
-
-/// So many handlers, and the place behind them. The list is whole, so it has no more of them than the bytes have room
-/// for.
-fn handlers_of(
+/// So many handlers, and the place behind them.
+fn handlers_at(
     alloc: Global,
     bytes: &[u8],
-    head: Head,
+    from: usize,
+    count: u32,
     places: &Places,
     types: u32,
 ) -> Result<Option<(Vec<Handler>, usize)>, AllocError>
-    ensures { IfOk result (λ read. IfSome read (λ r. IsTrue (list_all (handler_inside types (length places.now.starts.items)) r.0.items))) }
+    ensures is { IfOk result (λ read. MatchOption read (handlers_at bytes.now places.now.starts.items types count from ≡ None) (λ r. handlers_at bytes.now places.now.starts.items types count from ≡ Some (r.0.items, r.1))) }
+    ensures inside { IfOk result (λ read. IfSome read (λ r. IsTrue (list_all (handler_inside types (length places.now.starts.items)) r.0.items))) }
 {
-    let mut handlers = Vec::with_capacity(alloc, head.count as usize)?;
-    let mut at = head.at;
-    for _ in 0..head.count {
-        let Some((handler, next)) = handler_at(bytes, at, places, types) else {
-            return Ok(None);
-        };
-        handlers.push(handler)?;
-        at = next;
+    let mut handlers = Vec::new(alloc);
+    let mut at = from;
+    let mut left = count;
+    while left > 0 {
+        match handler_at(bytes, at, places, types) {
+            Some((handler, next)) => {
+                handlers.push(handler)?;
+                at = next;
+                left -= 1;
+            }
+            None => return Ok(None),
+        }
     }
     Ok(Some((handlers, at)))
 }
 
-/// The list at `at`, none where it is not whole or out of range.
-pub(crate) fn list_at(
+/// The list at `at`, none where it is not whole or out of range. What it takes of memory is bounded by the bytes.
+#[tactic(auto, unfolding(crate::specs::Handlers::caught_at))]
+pub(crate) fn caught_at(
     alloc: Global,
     bytes: &[u8],
     at: usize,
     places: &Places,
     types: u32,
 ) -> Result<Option<Caught>, AllocError>
+    ensures is { IfOk result (λ read. MatchOption read (caught_at bytes.now places.now.starts.items types at ≡ None) (λ c. caught_at bytes.now places.now.starts.items types at ≡ Some (c.handlers, c.rest))) }
     ensures handlers { IfOk result (λ read. IfSome read (λ c. IsTrue (list_all (handler_inside types (length places.now.starts.items)) c.handlers))) }
     ensures rest { IfOk result (λ read. IfSome read (λ c. IsTrue (rest_inside (length places.now.starts.items) c.rest))) }
 {
-    let Some(head) = head_at(bytes, at) else {
+    let Some((size, next)) = size_at(bytes, at) else {
         return Ok(None);
     };
-    let Some((handlers, end)) = handlers_of(alloc, bytes, head, places, types)? else {
+    let count = size.unsigned_abs();
+    let Some((handlers, end)) = handlers_at(alloc, bytes, next, count, places, types)? else {
         return Ok(None);
     };
-    match rest_at(bytes, end, head.has_rest, places) {
+    match rest_at(bytes, end, has_rest(size), places) {
         Some(rest) => Ok(Some(Caught {
             handlers: Seq::of_vec(handlers),
             rest,

@@ -12,15 +12,18 @@ mod fields;
 mod forms;
 mod handlers;
 mod laws;
+mod limits;
 mod marks;
 mod opcodes;
 mod order;
 mod payload;
 mod places;
+mod positions;
 mod read;
 mod regions;
 mod sizes;
 mod sweep;
+mod try_items;
 
 pub use fault::CodeFault;
 pub use fields::{Fields, fields_of};

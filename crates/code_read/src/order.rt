@@ -1,43 +1,47 @@
 //! Which instruction may follow which.
 
-ghost use Rattle.std.specs.Prelude.{◌≡◌, ◌-◌, length, slice_get, IsTrue, IfOk, IfNone};
-ghost use Rattle.std.specs.List.{list_all, enumerate_from};
-ghost use Rattle.code_read.specs.Order.{ends, has_result, result_before, continues_into, may_follow, may_handle, stands, all_placed};
+ghost use Rattle.std.specs.Prelude.{◌≡◌, ◌-◌, length, slice_get, IfOk, not, position};
+ghost use Rattle.std.specs.List.{enumerate_from};
+ghost use Rattle.code_read.specs.Code.{size_at, is_gap, first_gap, first_astray};
+ghost use Rattle.code_read.specs.Order.{ends, has_result, result_before, continues_into, may_follow, may_handle, stands};
 
+use crate::decode::opcode_at;
 use crate::marks::{Marks, is_marked, marks_of};
-use crate::opcodes::format_of;
-use crate::sweep::rest_from;
+use crate::sweep::opcode_units;
 use insn_set::Insn;
 use program_model::Region;
 use std::alloc::{AllocError, Global};
 
 /// How many units the instruction at `start` has; 0 where there is none.
-fn size_of(units: &[u16], start: u32) -> u32 {
-    match rest_from(units, start as usize) {
-        [unit, ..] => match format_of(*unit % 256) {
-            Some(format) => format.units(),
-            None => 0,
-        },
-        [] => 0,
+fn size_at(units: &[u16], start: u32) -> u64
+    ensures { result ≡ size_at units.now start }
+{
+    match opcode_units(opcode_at(units, start)) {
+        Some(size) => size,
+        None => 0,
     }
 }
 
-/// Whether the instruction that begins at `next` is directly behind the one at `start`.
-fn is_behind(units: &[u16], start: u32, next: u32) -> bool {
-    u64::from(start) + u64::from(size_of(units, start)) == u64::from(next)
+/// Whether the instruction at a place continues, and the one that follows it does not begin directly behind it.
+fn is_gap(units: &[u16], starts: &[u32], place: usize, insn: &Insn) -> bool
+    ensures { result ≡ is_gap units.now starts.now (place, insn.now) }
+{
+    if place < starts.len().saturating_sub(1) && insn.continues() {
+        let start = starts[place];
+        u64::from(start) + size_at(units, start) != u64::from(starts[place + 1])
+    } else {
+        false
+    }
 }
 
 /// The place of the first instruction but the last that continues into none.
-pub(crate) fn first_gap(units: &[u16], starts: &[u32], insns: &[Insn]) -> Option<usize> {
-    for (place, insn) in insns.iter().enumerate() {
-        if place + 1 < starts.len()
-            && insn.continues()
-            && !is_behind(units, starts[place], starts[place + 1])
-        {
-            return Some(place);
-        }
-    }
-    None
+pub(crate) fn first_gap(units: &[u16], starts: &[u32], insns: &[Insn]) -> Option<usize>
+    ensures { result ≡ first_gap units.now starts.now insns.now }
+{
+    insns
+        .iter()
+        .enumerate()
+        .position(|(place, insn)| is_gap(units, starts, place, insn))
 }
 
 /// Whether there is a last instruction, and it does not continue.
@@ -118,45 +122,26 @@ fn stands(insns: &[Insn], marks: &Marks, known: bool, place: usize, insn: &Insn)
     ) && (!known || may_handle(insn, is_marked(marks.handlers.as_slice(), place)))
 }
 
-/// Whether each instruction may stand where it does.
-fn all_stand(insns: &[Insn], marks: &Marks, known: bool) -> bool
-    ensures { result ≡ list_all (λ p. stands insns.now marks.now.targets.items marks.now.handlers.items known p) (enumerate_from 0 insns.now) }
-{
-    insns
-        .iter()
-        .enumerate()
-        .all(|(place, insn)| stands(insns, marks, known, place, insn))
-}
-
 /// The place of the first instruction that may not stand where it does.
-fn first_astray(insns: &[Insn], marks: &Marks, known: bool) -> Option<usize> {
+fn first_astray(insns: &[Insn], marks: &Marks, known: bool) -> Option<usize>
+    ensures { result ≡ position (λ p. not (stands insns.now marks.now.targets.items marks.now.handlers.items known p)) (enumerate_from 0 insns.now) }
+{
     insns
         .iter()
         .enumerate()
         .position(|(place, insn)| !stands(insns, marks, known, place, insn))
 }
 
-/// The place of the first move-result or move-exception that may not stand there, as the regions are.
+/// The place of the first move-result or move-exception that may not stand there: as the regions are, or, where these
+/// are not known, whatever they are.
 pub(crate) fn first_misplaced(
     alloc: Global,
     insns: &[Insn],
     regions: &[Region],
+    known: bool,
 ) -> Result<Option<usize>, AllocError>
-    ensures { IfOk result (λ place. IfNone place (IsTrue (all_placed insns.now regions.now))) }
+    ensures { IfOk result (λ place. place ≡ first_astray insns.now regions.now known) }
 {
     let marks = marks_of(alloc, insns, regions)?;
-    if all_stand(insns, &marks, true) {
-        Ok(None)
-    } else {
-        Ok(Some(first_astray(insns, &marks, true).unwrap_or(0)))
-    }
-}
-
-/// The place of the first move-result or move-exception that may not stand there, whatever the handlers are.
-pub(crate) fn first_astray_anyway(
-    alloc: Global,
-    insns: &[Insn],
-) -> Result<Option<usize>, AllocError> {
-    let marks = marks_of(alloc, insns, &[])?;
-    Ok(first_astray(insns, &marks, false))
+    Ok(first_astray(insns, &marks, known))
 }

@@ -1,167 +1,217 @@
 //! The payload that an instruction names: the table of a switch, or the items of an array.
 
-ghost use Rattle.std.specs.Prelude.{◌≡◌, ◌+◌, ◌*◌, ◌%◌, ◌<◌, ◌≤◌, ◌^◌, ◌+ℤ◌, pos, length, IfOk, IfSome};
-ghost use Rattle.code_read.specs.Forms.{word};
+ghost use Rattle.std.specs.Prelude.{◌≡◌, ◌+◌, ◌*◌, ◌^◌, ◌<◌, IfOk, OnOk, slice_index, drop, ◌/◌, ◌++◌, ◌∷◌, []};
+ghost use Rattle.std.specs.Int.Signed.{lt_z};
+ghost use Rattle.insn_set.specs.Spelling.{is_width, keys_ascend};
+ghost use Rattle.code_read.specs.Payloads.{double_in, signed_in, long_in, entries, bytes_in, item_in, items_in, keys_in, has_payload, size_of, is_right, targets_in};
+ghost use Rattle.code_read.specs.Positions.{target_from};
 
-use crate::fault::CodeFault;
-use crate::fields::Fields;
-use crate::forms::word_of;
-use crate::sweep::rest_from;
-use program_model::{Counted, LimitFault};
+use crate::places::Places;
+use crate::positions::target_from;
+use crate::sweep::{rest_from, unit_at};
 use std::alloc::{AllocError, Global};
 
-/// The number of 32 bits in the two units at `at`, the lower first.
-fn pair_at(units: &[u16], at: usize) -> Option<u32>
-    requires { at < 2 ^ 63 }
+/// The number of 32 bits at the front, the lower unit first.
+fn double_in(units: &[u16]) -> u32
+    ensures { result ≡ double_in units.now }
 {
-    let low = *units.get(at)?;
-    let high = *units.get(at + 1)?;
-    Some(u32::from(low) + 65536 * u32::from(high))
+    u32::from(unit_at(units, 0)) + 65536 * u32::from(unit_at(units, 1))
 }
 
-/// The number of 32 bits that is this one of those in the units; 0 past the end.
-pub(crate) fn number_at(units: &[u16], place: usize) -> u32
-    requires { place < 2 ^ 62 }
+/// The signed number of 32 bits at the front.
+fn signed_in(units: &[u16]) -> i32
+    ensures { result ≡ signed_in units.now }
 {
-    pair_at(units, 2 * place).unwrap_or(0)
+    double_in(units).cast_signed()
+}
+
+/// The number of 64 bits at the front, the lowest unit first.
+fn long_in(units: &[u16]) -> u64
+    ensures { result ≡ long_in units.now }
+{
+    u64::from(double_in(units)) + 0x1_0000_0000 * u64::from(double_in(rest_from(units, 2)))
+}
+
+/// Whether the signed number at the front of the first units is below that of the second.
+fn is_below(units: &[u16], behind: &[u16]) -> bool
+    ensures { result ≡ lt_z (signed_in units.now) (signed_in behind.now) }
+{
+    signed_in(units) < signed_in(behind)
 }
 
 /// Whether the first so many signed numbers in the units ascend.
-fn keys_ascend(units: &[u16], count: u16) -> bool {
-    for place in 1..count as usize {
-        let key = number_at(units, place - 1).cast_signed();
-        if key >= number_at(units, place).cast_signed() {
+fn keys_ascend(units: &[u16], count: u16) -> bool
+    ensures { result ≡ keys_ascend (keys_in count units.now) }
+{
+    let mut rest = units;
+    let mut left = count;
+    while left > 1 {
+        let behind = rest_from(rest, 2);
+        if !is_below(rest, behind) {
             return false;
         }
+        rest = behind;
+        left -= 1;
     }
     true
 }
 
-/// How many entries the payload at the front has, if it is one of the kind that the opcode names, with the right
-/// width and keys.
-fn entries_of(op: u16, payload: &[u16]) -> Option<u32> {
-    match (op, payload) {
-        (0x26, [0x0300, 1 | 2 | 4 | 8, low, high, ..]) => {
-            Some(u32::from(*low) + 65536 * u32::from(*high))
-        }
-        (0x2b, [0x0100, size, ..]) => Some(u32::from(*size)),
-        (0x2c, [0x0200, size, rest @ ..]) => {
-            if keys_ascend(rest, *size) {
-                Some(u32::from(*size))
-            } else {
-                None
-            }
-        }
-        _ => None,
-    }
+/// Whether an array's items may have so many bytes.
+fn is_width(width: u16) -> bool
+    ensures { result ≡ is_width width }
+{
+    (width == 1 || width == 2) || (width == 4 || width == 8)
 }
 
 /// Whether the opcode is that of an instruction with a payload.
-pub(crate) fn has_payload(op: u16) -> bool {
-    matches!(op, 0x26 | 0x2b | 0x2c)
+pub(crate) fn has_payload(op: u16) -> bool
+    ensures { result ≡ has_payload op }
+{
+    op == 0x26 || (op == 0x2b || op == 0x2c)
 }
 
-/// The unit of the payload that an instruction at `start` names, if the sweep found a payload there and the unit is
-/// even.
-fn payload_unit(payloads: &[u32], start: u32, f: Fields) -> Option<u32>
-    ensures even { IfSome result (λ unit. unit % 2 ≡ 0) }
-    ensures place { IfSome result (λ unit. pos unit ≡ pos start +ℤ word f.wide) }
+/// Whether the payload at the front is one of the kind that the opcode names, with a right width and right keys.
+pub(crate) fn is_right(op: u16, payload: &[u16]) -> bool
+    ensures { result ≡ is_right op payload.now }
 {
-    let unit = i64::from(start) + i64::from(word_of(f.wide));
-    let unit = u32::try_from(unit).ok()?;
-    if unit % 2 == 0 && payloads.binary_search(&unit).is_ok() {
-        Some(unit)
+    let first = unit_at(payload, 0);
+    let second = unit_at(payload, 1);
+    if op == 0x26 {
+        first == 0x0300 && is_width(second)
+    } else if op == 0x2b {
+        first == 0x0100
     } else {
-        None
+        first == 0x0200 && keys_ascend(rest_from(payload, 2), second)
     }
 }
 
-/// The units from the payload on that an instruction at `start` names, none where it names none.
-pub(crate) fn payload_of<'a>(
-    units: &'a [u16],
-    payloads: &[u32],
-    start: u32,
-    f: Fields,
-) -> Option<&'a [u16]> {
-    match payload_unit(payloads, start, f) {
-        Some(unit) => Some(rest_from(units, unit as usize)),
-        None => None,
-    }
-}
-
-/// How many entries the payload of the instruction at `start` has, `Payload` where it has no right one.
-pub(crate) fn count_entries(
-    units: &[u16],
-    payloads: &[u32],
-    start: u32,
-    op: u16,
-    f: Fields,
-) -> Result<u32, CodeFault> {
-    let Some(payload) = payload_of(units, payloads, start, f) else {
-        return Err(CodeFault::Payload { unit: start });
-    };
-    entries_of(op, payload).ok_or(CodeFault::Payload { unit: start })
-}
-
-/// The fault of a body whose tables alone have more entries than a program may have cells.
-pub(crate) fn too_many_cells() -> CodeFault {
-    CodeFault::Limit(LimitFault {
-        counted: Counted::Cells,
-        number: Counted::Cells.limit() + 1,
-    })
-}
-
-/// So many numbers of 32 bits from the front.
-pub(crate) fn numbers_of(alloc: Global, units: &[u16], count: u32) -> Result<Vec<u32>, AllocError>
-    ensures { IfOk result (λ v. length v.items ≡ count) }
+/// How many entries the payload says that it has.
+pub(crate) fn size_of(op: u16, payload: &[u16]) -> u32
+    ensures is { result ≡ size_of op payload.now }
 {
-    let mut numbers = Vec::with_capacity(alloc, count as usize)?;
-    for place in 0..count {
-        numbers.push(number_at(units, place as usize))?;
+    if op == 0x26 {
+        double_in(rest_from(payload, 2))
+    } else {
+        u32::from(unit_at(payload, 1))
     }
-    Ok(numbers)
 }
 
-/// So many signed numbers of 32 bits from the front.
+/// The first number of a packed switch's keys.
+pub(crate) fn first_key(payload: &[u16]) -> i32
+    ensures { result ≡ signed_in (drop 2 payload.now) }
+{
+    signed_in(rest_from(payload, 2))
+}
+
+/// Adds the key at the front of the units.
+fn push_key(keys: &mut Vec<i32>, units: &[u16]) -> Result<(), AllocError>
+    ensures { OnOk result (keys.new.items ≡ keys.old.items ++ signed_in units.now ∷ []) }
+{
+    keys.push(signed_in(units))?;
+    Ok(())
+}
+
+/// Adds the position to which the offset at the front of the units leads from `start`, or nowhere.
+fn push_target(
+    targets: &mut Vec<u32>,
+    places: &Places,
+    start: u32,
+    units: &[u16],
+) -> Result<(), AllocError>
+    ensures { OnOk result (targets.new.items ≡ targets.old.items ++ target_from places.now.starts.items start (signed_in units.now) ∷ []) }
+{
+    targets.push(target_from(places, start, signed_in(units)))?;
+    Ok(())
+}
+
+/// So many keys from the front.
 pub(crate) fn keys_of(alloc: Global, units: &[u16], count: u32) -> Result<Vec<i32>, AllocError>
-    ensures { IfOk result (λ v. length v.items ≡ count) }
+    ensures { IfOk result (λ v. v.items ≡ keys_in count units.now) }
 {
     let mut keys = Vec::with_capacity(alloc, count as usize)?;
-    for place in 0..count {
-        keys.push(number_at(units, place as usize).cast_signed())?;
+    let mut rest = units;
+    let mut left = count;
+    while left > 0 {
+        push_key(&mut keys, rest)?;
+        rest = rest_from(rest, 2);
+        left -= 1;
     }
     Ok(keys)
 }
 
-/// The byte at this place among the units' bytes, the lower of each first; 0 past the end.
-fn byte_at(units: &[u16], place: usize) -> u16
-    ensures { result < 256 }
+/// The positions that so many offsets at the front lead to, from `start` on, or nowhere.
+pub(crate) fn targets_of(
+    alloc: Global,
+    places: &Places,
+    start: u32,
+    units: &[u16],
+    count: u32,
+) -> Result<Vec<u32>, AllocError>
+    ensures { IfOk result (λ v. v.items ≡ targets_in (target_from places.now.starts.items start) count units.now) }
 {
-    match units.get(place / 2) {
-        Some(unit) => {
-            if place % 2 == 0 {
-                *unit % 256
-            } else {
-                *unit / 256
-            }
-        }
-        None => 0,
+    let mut targets = Vec::with_capacity(alloc, count as usize)?;
+    let mut rest = units;
+    let mut left = count;
+    while left > 0 {
+        push_target(&mut targets, places, start, rest)?;
+        rest = rest_from(rest, 2);
+        left -= 1;
+    }
+    Ok(targets)
+}
+
+/// So many bytes from the front, the lower of each unit first.
+fn bytes_of(alloc: Global, units: &[u16], count: u32) -> Result<Vec<u64>, AllocError>
+    ensures { IfOk result (λ v. v.items ≡ bytes_in count units.now) }
+{
+    let mut bytes = Vec::with_capacity(alloc, count as usize)?;
+    let mut rest = units;
+    let mut left = count;
+    while left > 1 {
+        let unit = unit_at(rest, 0);
+        bytes.push(u64::from(unit % 256))?;
+        bytes.push(u64::from(unit / 256))?;
+        rest = rest_from(rest, 1);
+        left -= 2;
+    }
+    if left == 0 {
+        return Ok(bytes);
+    }
+    bytes.push(u64::from(unit_at(rest, 0) % 256))?;
+    Ok(bytes)
+}
+
+/// The item of 2, 4 or 8 bytes at the front.
+fn item_in(width: u16, units: &[u16]) -> u64
+    ensures { result ≡ item_in width units.now }
+{
+    if width == 2 {
+        u64::from(unit_at(units, 0))
+    } else if width == 4 {
+        u64::from(double_in(units))
+    } else {
+        long_in(units)
     }
 }
 
-/// The item of this width, 1, 2, 4 or 8 bytes, at this place.
-fn item_at(units: &[u16], width: u16, place: usize) -> u64
-    requires { place < 2 ^ 32 }
+/// So many items of 2, 4 or 8 bytes from the front.
+fn wide_items_of(
+    alloc: Global,
+    units: &[u16],
+    width: u16,
+    count: u32,
+) -> Result<Vec<u64>, AllocError>
+    ensures { IfOk result (λ v. v.items ≡ entries (item_in width) (width / 2) count units.now) }
 {
-    match width {
-        1 => u64::from(byte_at(units, place)),
-        2 => u64::from(units.get(place).copied().unwrap_or(0)),
-        4 => u64::from(number_at(units, place)),
-        _ => {
-            u64::from(number_at(units, 2 * place))
-                + 0x1_0000_0000 * u64::from(number_at(units, 2 * place + 1))
-        }
+    let mut items = Vec::with_capacity(alloc, count as usize)?;
+    let mut rest = units;
+    let mut left = count;
+    while left > 0 {
+        items.push(item_in(width, rest))?;
+        rest = rest_from(rest, width as usize / 2);
+        left -= 1;
     }
+    Ok(items)
 }
 
 /// So many items of this width from the front.
@@ -171,11 +221,11 @@ pub(crate) fn items_of(
     width: u16,
     count: u32,
 ) -> Result<Vec<u64>, AllocError>
-    ensures { IfOk result (λ v. length v.items ≡ count) }
+    ensures { IfOk result (λ v. v.items ≡ items_in width count units.now) }
 {
-    let mut items = Vec::with_capacity(alloc, count as usize)?;
-    for place in 0..count {
-        items.push(item_at(units, width, place as usize))?;
+    if width == 1 {
+        bytes_of(alloc, units, count)
+    } else {
+        wide_items_of(alloc, units, width, count)
     }
-    Ok(items)
 }

@@ -1,24 +1,24 @@
 //! The regions of a body and their handlers (Dalvik executable format, "try_item").
 
-ghost use Rattle.std.specs.Prelude.{◌≡◌, ◌+◌, ◌<◌, ◌≤◌, ◌^◌, length, All, IsTrue, IfOk, IfSome};
-ghost use Rattle.std.specs.List.{list_all};
-ghost use Rattle.code_read.specs.Regions.{region_inside, are_apart};
+ghost use Rattle.std.specs.Prelude.{◌≡◌, ◌+◌, ◌*◌, ◌<◌, ◌≤◌, ℕ, length, drop, IsTrue, ◌^◌, IfOk, IfSome, ◌==◌, slice_get, nat_le};
+ghost use Rattle.std.specs.List.{list_all, list_any};
+ghost use Rattle.dex_base.specs.Reading.{Gives};
+ghost use Rattle.code_read.specs.Fault.{is_free};
+ghost use Rattle.code_read.specs.Handlers.{has_list, caught_at, caught_count};
+ghost use Rattle.code_read.specs.Positions.{rises_in, begins_with};
+ghost use Rattle.code_read.specs.Regions.{region_inside, are_apart, try_at, names_up_to, first_of, end_of, lies_right, with_handlers, region_of, region_at, regions_from, regions_of};
+ghost use Rattle.code_read.specs.Seen.{seen};
 
 use crate::fault::CodeFault;
-use crate::handlers::{count_handlers, list_at, list_offsets};
-use crate::places::{Places, count_before};
+use crate::handlers::{Caught, caught_at, list_offsets};
+use crate::limits::passed;
+use crate::places::Places;
+use crate::positions::count_before;
 use crate::sizes::Sizes;
-use dex_base::{read_u16, read_u32};
-use program_model::{Counted, LimitFault, Region};
+use crate::try_items::{TryItem, behind_items, greatest_offset, try_at};
+use program_model::{Counted, Handler, Region};
+use seq::Seq;
 use std::alloc::{AllocError, Global};
-
-/// A try item: the first unit, how many units, and the offset of the handler list from the count of the lists.
-#[derive(Clone, Copy, Debug, Drop)]
-struct Item {
-    start: u32,
-    count: u16,
-    offset: u16,
-}
 
 /// The positions that a region covers.
 #[derive(Clone, Copy, Debug, Drop)]
@@ -27,55 +27,51 @@ struct Cover {
     end: u32,
 }
 
-/// The lists of handlers, and the offsets at which they begin.
+/// So many try items, the bytes from the count of the handler lists on, and the offsets at which the lists begin, up to
+/// the greatest that the items name.
 #[derive(Debug, Drop)]
 struct Lists<'a> {
+    tries: &'a [u8],
+    count: u16,
     bytes: &'a [u8],
+    most: u16,
     offsets: Vec<u16>,
-}
-
-/// The try item of this place.
-fn item_at(tries: &[u8], place: u16) -> Option<Item> {
-    let at = 8 * place as usize;
-    let start = read_u32(tries, at).ok()?;
-    let count = read_u16(tries, at + 4).ok()?;
-    let offset = read_u16(tries, at + 6).ok()?;
-    Some(Item {
-        start,
-        count,
-        offset,
-    })
-}
-
-/// The greatest offset of a handler list that the try items name.
-fn greatest_offset(tries: &[u8], count: u16) -> u16 {
-    let mut most = 0;
-    for place in 0..count {
-        if let Some(item) = item_at(tries, place) {
-            most = most.max(item.offset);
-        }
-    }
-    most
-}
-
-/// The bytes behind so many try items.
-fn behind_items(tries: &[u8], count: u16) -> &[u8] {
-    let at = 8 * count as usize;
-    if at <= tries.len() { &tries[at..] } else { &[] }
+    ghost behind: { bytes.now ≡ drop (8 * count) tries.now },
+    ghost named: { (k : ℕ) → k < count → IsTrue (names_up_to most (try_at tries.now (8 * k))) },
+    ghost same: { (o : ℕ) → o ≤ most → list_any (λ a. a == o) offsets.items ≡ has_list bytes.now o },
+    ghost rise: { IsTrue (rises_in 0 65536 offsets.items) },
 }
 
 /// The handler lists behind so many try items.
-fn lists_of(alloc: Global, tries: &[u8], count: u16) -> Result<Lists<'_>, AllocError> {
+fn lists_of(alloc: Global, tries: &[u8], count: u16) -> Result<Lists<'_>, AllocError>
+    ensures tries { IfOk result (λ l. l.tries.now ≡ tries.now) }
+    ensures count { IfOk result (λ l. l.count ≡ count) }
+{
     let bytes = behind_items(tries, count);
-    let offsets = list_offsets(alloc, bytes, greatest_offset(tries, count))?;
-    Ok(Lists { bytes, offsets })
+    let most = greatest_offset(tries, count);
+    let offsets = list_offsets(alloc, bytes, most)?;
+    Ok(Lists {
+        tries,
+        count,
+        bytes,
+        most,
+        offsets,
+    })
+}
+
+/// Whether one of the lists begins at the offset, which is that of a try item.
+fn has_list(lists: &Lists, offset: u16) -> bool
+    requires { offset ≤ lists.now.most }
+    ensures { result ≡ has_list lists.now.bytes.now offset }
+{
+    lists.offsets.as_slice().binary_search(&offset).is_ok()
 }
 
 /// The positions whose first unit a try item covers.
-fn cover_of(places: &Places, item: Item) -> Cover
-    requires few { length places.now.starts.items < 2 ^ 32 }
-    requires inside { All (λ n. n ≤ length places.now.starts.items) places.now.before.items }
-    ensures { result.end ≤ length places.now.starts.items }
+fn cover_of(places: &Places, item: TryItem) -> Cover
+    ensures first { result.first ≡ first_of (seen places.now) item }
+    ensures end { result.end ≡ end_of (seen places.now) item }
+    ensures inside { result.end ≤ length places.now.starts.items }
 {
     let start = u64::from(item.start);
     Cover {
@@ -84,174 +80,188 @@ fn cover_of(places: &Places, item: Item) -> Cover
     }
 }
 
-/// Whether a try item that covers positions begins at the first of them, ends among the units, of which there are so
-/// many, and lies behind the one before, which ends at position `from`.
-fn lies_right(places: &Places, item: Item, cover: Cover, units: u32, from: u32) -> bool
-    ensures { IsTrue result → from ≤ cover.first }
+/// Whether a position begins with the unit.
+fn begins_with(places: &Places, position: u32, unit: u32) -> bool
+    ensures { result ≡ begins_with (slice_get places.now.starts.items position) unit }
 {
-    let starts = places.starts.as_slice();
-    match starts.get(cover.first as usize) {
-        Some(start) => {
-            *start == item.start
-                && u64::from(item.start) + u64::from(item.count) <= u64::from(units)
-                && from <= cover.first
-        }
+    match places.starts.as_slice().get(position as usize) {
+        Some(start) => *start == unit,
         None => false,
     }
 }
 
-/// The fault of a body with more handlers than the file may still have.
-fn too_many_items() -> CodeFault {
-    CodeFault::Limit(LimitFault {
-        counted: Counted::Items,
-        number: Counted::Items.limit() + 1,
-    })
+/// Whether a try item begins at the first of the positions that it covers, ends among the units, and lies behind the
+/// region before, which ends at position `from`.
+fn lies_right(places: &Places, item: TryItem, first: u32, from: u32) -> bool
+    requires { first ≡ first_of (seen places.now) item }
+    ensures is { result ≡ lies_right (seen places.now) item from }
+    ensures behind { IsTrue result → from ≤ first }
+{
+    let end = u64::from(item.start) + u64::from(item.count);
+    begins_with(places, first, item.start) && (end <= places.units.len() as u64 && from <= first)
 }
 
-/// How many handlers the region has with its catch-all. `Handler` where its list is not there, not whole or out of
-/// range, `Limit` where there are more than are left.
-fn handlers_needed(
+/// How many handlers a region has with its catch-all.
+fn count_of(handlers: &Seq<Handler>, rest: Option<u32>) -> u32
+    requires { caught_count handlers.now rest < 2 ^ 32 }
+    ensures { result ≡ caught_count handlers.now rest }
+{
+    match rest {
+        Some(_) => handlers.len() as u32 + 1,
+        None => handlers.len() as u32,
+    }
+}
+
+/// Whether a region's handlers with its catch-all are at most so many.
+fn has_room(handlers: &Seq<Handler>, rest: Option<u32>, left: u32) -> bool
+    ensures { result ≡ nat_le (caught_count handlers.now rest) left }
+{
+    match rest {
+        Some(_) => (handlers.len() as u64) < u64::from(left),
+        None => handlers.len() as u64 <= u64::from(left),
+    }
+}
+
+/// The region with this cover and the handlers of the list at the offset. `Handler` where the list is not whole or out
+/// of range, `Limit` where it has more handlers than are left.
+fn with_handlers(
+    alloc: Global,
     lists: &Lists,
-    item: Item,
-    place: u16,
     places: &Places,
     types: u32,
+    offset: u16,
+    place: u16,
+    cover: Cover,
     left: u32,
-) -> Result<u32, CodeFault>
-    ensures { IfOk result (λ n. n ≤ left) }
+) -> Result<Option<Region>, CodeFault>
+    requires some { cover.first < cover.end }
+    requires inside { cover.end ≤ length places.now.starts.items }
+    ensures gives { Gives is_free (λ r. r) result (with_handlers place cover.first cover.end left (caught_at lists.now.bytes.now places.now.starts.items types offset)) }
+    ensures inside { IfOk result (λ kept. IfSome kept (λ r. IsTrue (region_inside types (length places.now.starts.items) r))) }
+    ensures first { IfOk result (λ kept. IfSome kept (λ r. r.first ≡ cover.first)) }
+    ensures needed { IfOk result (λ kept. IfSome kept (λ r. caught_count r.handlers r.rest ≤ left)) }
 {
-    if lists
-        .offsets
-        .as_slice()
-        .binary_search(&item.offset)
-        .is_err()
-    {
+    let Some(caught) = caught_at(alloc, lists.bytes, offset as usize, places, types)? else {
         return Err(CodeFault::Handler {
             place: u32::from(place),
         });
+    };
+    if !has_room(&caught.handlers, caught.rest, left) {
+        return Err(passed(Counted::Items));
     }
-    match count_handlers(lists.bytes, item.offset as usize, places, types) {
-        Some(count) if count <= u64::from(left) => Ok(count as u32),
-        Some(_) => Err(too_many_items()),
-        None => Err(CodeFault::Handler {
-            place: u32::from(place),
-        }),
-    }
+    Ok(Some(Region {
+        first: cover.first,
+        end: cover.end,
+        handlers: caught.handlers,
+        rest: caught.rest,
+    }))
 }
 
-/// The region with this cover and the handlers of the try item.
+/// The region of a try item, none where it covers no position. The region before it ends at position `from`, and so
+/// many handlers are left.
 fn region_of(
     alloc: Global,
     lists: &Lists,
-    item: Item,
-    cover: Cover,
-    place: u16,
     places: &Places,
     types: u32,
-) -> Result<Region, CodeFault>
-    requires some { cover.first < cover.end }
-    requires inside { cover.end ≤ length places.now.starts.items }
-    ensures inside { IfOk result (λ r. IsTrue (region_inside types (length places.now.starts.items) r)) }
-    ensures end { IfOk result (λ r. r.end ≡ cover.end) }
-    ensures first { IfOk result (λ r. r.first ≡ cover.first) }
-{
-    match list_at(alloc, lists.bytes, item.offset as usize, places, types)? {
-        Some(caught) => Ok(Region {
-            first: cover.first,
-            end: cover.end,
-            handlers: caught.handlers,
-            rest: caught.rest,
-        }),
-        None => Err(CodeFault::Handler {
-            place: u32::from(place),
-        }),
-    }
-}
-
-/// A region that is kept, and how many handlers it has with its catch-all.
-#[derive(Debug, Drop)]
-struct Kept {
-    region: Region,
-    needed: u32,
-}
-
-/// The region of this place, none where it covers no position. The region before it ends at position `from`, and so
-/// many handlers are left.
-fn region_at(
-    alloc: Global,
-    tries: &[u8],
-    lists: &Lists,
+    item: TryItem,
     place: u16,
-    places: &Places,
-    types: u32,
-    units: u32,
     from: u32,
     left: u32,
-) -> Result<Option<Kept>, CodeFault>
-    requires few { length places.now.starts.items < 2 ^ 32 }
-    requires counts { All (λ n. n ≤ length places.now.starts.items) places.now.before.items }
-    ensures inside { IfOk result (λ kept. IfSome kept (λ k. IsTrue (region_inside types (length places.now.starts.items) k.region))) }
-    ensures behind { IfOk result (λ kept. IfSome kept (λ k. from ≤ k.region.first)) }
-    ensures needed { IfOk result (λ kept. IfSome kept (λ k. k.needed ≤ left)) }
+) -> Result<Option<Region>, CodeFault>
+    requires { item.offset ≤ lists.now.most }
+    ensures gives { Gives is_free (λ r. r) result (region_of lists.now.bytes.now types (seen places.now) place from left (Some item)) }
+    ensures inside { IfOk result (λ kept. IfSome kept (λ r. IsTrue (region_inside types (length places.now.starts.items) r))) }
+    ensures behind { IfOk result (λ kept. IfSome kept (λ r. from ≤ r.first)) }
+    ensures needed { IfOk result (λ kept. IfSome kept (λ r. caught_count r.handlers r.rest ≤ left)) }
 {
-    let Some(item) = item_at(tries, place) else {
-        return Err(CodeFault::Region {
-            place: u32::from(place),
-        });
-    };
     let cover = cover_of(places, item);
     if cover.first >= cover.end {
         return Ok(None);
     }
-    if !lies_right(places, item, cover, units, from) {
+    if !lies_right(places, item, cover.first, from) {
         return Err(CodeFault::Region {
             place: u32::from(place),
         });
     }
-    let needed = handlers_needed(lists, item, place, places, types, left)?;
-    let region = region_of(alloc, lists, item, cover, place, places, types)?;
-    Ok(Some(Kept { region, needed }))
+    if !has_list(lists, item.offset) {
+        return Err(CodeFault::Handler {
+            place: u32::from(place),
+        });
+    }
+    with_handlers(alloc, lists, places, types, item.offset, place, cover, left)
+}
+
+/// The region of the try item of this place.
+#[tactic(auto, unfolding(crate::specs::Regions::region_at))]
+fn region_at(
+    alloc: Global,
+    lists: &Lists,
+    places: &Places,
+    types: u32,
+    place: u16,
+    from: u32,
+    left: u32,
+) -> Result<Option<Region>, CodeFault>
+    requires { place < lists.now.count }
+    ensures gives { Gives is_free (λ r. r) result (region_at lists.now.tries.now lists.now.bytes.now types (seen places.now) place from left) }
+    ensures inside { IfOk result (λ kept. IfSome kept (λ r. IsTrue (region_inside types (length places.now.starts.items) r))) }
+    ensures behind { IfOk result (λ kept. IfSome kept (λ r. from ≤ r.first)) }
+    ensures needed { IfOk result (λ kept. IfSome kept (λ r. caught_count r.handlers r.rest ≤ left)) }
+{
+    match try_at(lists.tries, 8 * place as usize) {
+        Some(item) => region_of(alloc, lists, places, types, item, place, from, left),
+        None => Err(CodeFault::Region {
+            place: u32::from(place),
+        }),
+    }
+}
+
+/// The regions of so many try items, without those that cover no position.
+fn regions_in(
+    alloc: Global,
+    lists: &Lists,
+    places: &Places,
+    types: u32,
+    items: u32,
+) -> Result<Vec<Region>, CodeFault>
+    ensures gives { Gives is_free (λ v. v.items) result (regions_from lists.now.tries.now lists.now.bytes.now types (seen places.now) lists.now.count 0 0 items) }
+    ensures inside { IfOk result (λ regions. IsTrue (list_all (region_inside types (length places.now.starts.items)) regions.items)) }
+    ensures apart { IfOk result (λ regions. IsTrue (are_apart 0 regions.items)) }
+{
+    let mut regions = Vec::new(alloc);
+    let mut left = items;
+    let mut from = 0;
+    for place in 0..lists.count {
+        let kept = region_at(alloc, lists, places, types, place, from, left)?;
+        match kept {
+            Some(region) => {
+                left -= count_of(&region.handlers, region.rest);
+                from = region.end;
+                regions.push(region)?;
+            }
+            None => continue,
+        }
+    }
+    Ok(regions)
 }
 
 /// The regions that the try items spell, without those that cover no position. The faults come in the order of the
 /// items, of one item first `Region`, then `Handler`, then `Limit`.
+#[tactic(auto, unfolding(crate::specs::Regions::regions_of))]
 pub(crate) fn regions_of(
     alloc: Global,
     tries: &[u8],
     sizes: &Sizes,
     places: &Places,
-    units: u32,
 ) -> Result<Vec<Region>, CodeFault>
-    requires few { length places.now.starts.items < 2 ^ 32 }
-    requires counts { All (λ n. n ≤ length places.now.starts.items) places.now.before.items }
+    ensures gives { Gives is_free (λ v. v.items) result (regions_of tries.now sizes.now (seen places.now)) }
     ensures inside { IfOk result (λ regions. IsTrue (list_all (region_inside sizes.now.types (length places.now.starts.items)) regions.items)) }
     ensures apart { IfOk result (λ regions. IsTrue (are_apart 0 regions.items)) }
 {
-    let mut regions = Vec::new(alloc);
     if sizes.tries == 0 {
-        return Ok(regions);
+        return Ok(Vec::new(alloc));
     }
     let lists = lists_of(alloc, tries, sizes.tries)?;
-    let mut left = sizes.items;
-    let mut from = 0;
-    for place in 0..sizes.tries {
-        let kept = region_at(
-            alloc,
-            tries,
-            &lists,
-            place,
-            places,
-            sizes.types,
-            units,
-            from,
-            left,
-        )?;
-        let Some(Kept { region, needed }) = kept else {
-            continue;
-        };
-        left -= needed;
-        from = region.end;
-        regions.push(region)?;
-    }
-    Ok(regions)
+    regions_in(alloc, &lists, places, sizes.types, sizes.items)
 }

@@ -1,0 +1,125 @@
+//! What an instruction does in its frame. Reads come before writes, and a form that throws writes no register.
+
+ghost use Rattle.std.specs.Prelude.{IfOk, OnErr};
+ghost use Rattle.dalvik_state.specs.Frames.{IsSame, Leaves};
+
+use crate::arrays::{act_arrays, act_items};
+use crate::numbers::act_numbers;
+use crate::plain::{act_branches, act_constants, act_ends, act_monitors, act_moves, act_types, unless_null};
+use dalvik_state::{Effect, Frame, Tables, World, stored};
+use dalvik_lookups::Memo;
+use program_model::Insn;
+use std::alloc::{AllocError, Global};
+
+/// Fields, calls and new objects, which the program and the framework are asked about.
+fn act_outward<'a>(frame: &Frame<'a>, insn: &'a Insn) -> Effect<'a> {
+    match insn {
+        Insn::NewInstance { to, kind } => Effect::Makes {
+            to: *to,
+            kind: *kind,
+        },
+        Insn::Invoke { kind, method, args } => Effect::Calls {
+            kind: *kind,
+            method: *method,
+            args: args.as_slice(),
+        },
+        _ => act_fields(frame, insn),
+    }
+}
+
+/// Reads and writes of fields.
+fn act_fields<'a>(frame: &Frame<'a>, insn: &'a Insn) -> Effect<'a> {
+    match insn {
+        Insn::InstanceGet {
+            item,
+            to,
+            on,
+            field,
+        } => {
+            let object = frame.get(*on);
+            let reads = Effect::Reads {
+                item: *item,
+                to: *to,
+                field: *field,
+                on: Some(object),
+            };
+            unless_null(object, reads)
+        }
+        Insn::InstancePut {
+            item,
+            from,
+            on,
+            field,
+        } => {
+            let object = frame.get(*on);
+            let writes = Effect::Writes {
+                field: *field,
+                on: Some(object),
+                value: stored(*item, frame.get(*from)),
+            };
+            unless_null(object, writes)
+        }
+        Insn::StaticGet { item, to, field } => Effect::Reads {
+            item: *item,
+            to: *to,
+            field: *field,
+            on: None,
+        },
+        Insn::StaticPut { item, from, field } => Effect::Writes {
+            field: *field,
+            on: None,
+            value: stored(*item, frame.get(*from)),
+        },
+        _ => Effect::Stuck,
+    }
+}
+
+/// What an instruction does in its frame and to the heap. What doesn't go on in the frame leaves it as it was, and so does
+/// want of memory, the only error.
+#[tactic(auto, using(dalvik_state::proofs::Kept::leaves_same, dalvik_state::proofs::Kept::same))]
+pub fn act<'a>(
+    alloc: Global,
+    tables: &Tables<'a>,
+    memo: &mut Memo,
+    world: &mut World,
+    frame: &mut Frame<'a>,
+    insn: &'a Insn,
+) -> Result<Effect<'a>, AllocError>
+    ensures ok { IfOk result (λ effect. Leaves effect frame.old frame.new) }
+    ensures err { OnErr result (IsSame frame.old frame.new) }
+{
+    match insn {
+        Insn::Nop
+        | Insn::Move { .. }
+        | Insn::MoveResult { .. }
+        | Insn::MoveException { .. }
+        | Insn::Goto { .. } => Ok(act_moves(frame, insn)),
+        Insn::Const { .. }
+        | Insn::ConstWide { .. }
+        | Insn::ConstString { .. }
+        | Insn::ConstClass { .. } => Ok(act_constants(tables, frame, insn)),
+        Insn::Cmp { .. }
+        | Insn::Unary { .. }
+        | Insn::Binary { .. }
+        | Insn::Literal { .. } => Ok(act_numbers(&tables.floats, frame, insn)),
+        Insn::If { .. }
+        | Insn::IfZero { .. }
+        | Insn::PackedSwitch { .. }
+        | Insn::SparseSwitch { .. } => Ok(act_branches(frame, insn)),
+        Insn::ReturnVoid | Insn::Return { .. } | Insn::Throw { .. } => Ok(act_ends(frame, insn)),
+        Insn::MonitorEnter { .. } | Insn::MonitorExit { .. } => {
+            Ok(act_monitors(world, frame, insn))
+        }
+        Insn::CheckCast { .. } | Insn::InstanceOf { .. } => {
+            act_types(tables, memo, world, frame, insn)
+        }
+        Insn::ArrayLength { .. }
+        | Insn::NewArray { .. }
+        | Insn::FilledNewArray { .. }
+        | Insn::FillArray { .. } => act_arrays(alloc, tables, world, frame, insn),
+        Insn::ArrayGet { .. } | Insn::ArrayPut { .. } => {
+            act_items(tables, memo, world, frame, insn)
+        }
+        _ => Ok(act_outward(frame, insn)),
+    }
+}

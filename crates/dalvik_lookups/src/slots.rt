@@ -1,0 +1,24 @@
+//! A place for each field that a class defines.
+
+use program_model::Program;
+use std::alloc::{AllocError, Global};
+
+/// Where the fields of each class begin among the fields of all classes.
+pub fn first_slots(alloc: Global, program: &Program) -> Result<Vec<usize>, AllocError> {
+    let mut slots = Vec::new(alloc);
+    let mut next: usize = 0;
+    for class in program.classes.as_slice() {
+        slots.push(next)?;
+        next = next.saturating_add(class.fields.len());
+    }
+    Ok(slots)
+}
+
+/// How many fields all classes have.
+pub fn slot_count(program: &Program) -> usize {
+    let mut count: usize = 0;
+    for class in program.classes.as_slice() {
+        count = count.saturating_add(class.fields.len());
+    }
+    count
+}

@@ -1,0 +1,99 @@
+//! A method that runs.
+
+ghost use Rattle.std.specs.Prelude.{◌≡◌, ◌+◌, ◌<◌, ◌^◌, slice_set};
+ghost use Rattle.dalvik_state.specs.Frames.{cell, with_wide, IsWritten, IsMoved};
+
+use crate::datum::Datum;
+use program_model::{Body, Insn, Item, MethodAt, Slot};
+
+/// A method that runs: where it is defined, its number and its body, the position, the registers, the result of the
+/// last call or filled array, and the object that was caught last.
+#[derive(Drop)]
+pub struct Frame<'a> {
+    pub at: MethodAt,
+    pub method: u32,
+    pub body: &'a Body,
+    pub position: usize,
+    pub registers: Vec<Datum>,
+    pub result: Datum,
+    pub caught: Datum,
+}
+
+/// What a register holds, 0 past the end.
+pub fn read_register(registers: &[Datum], register: usize) -> Datum
+    ensures { result ≡ cell registers.now register }
+{
+    match registers.get(register) {
+        Some(datum) => *datum,
+        None => Datum::NULL,
+    }
+}
+
+/// Writes a register, unless it is past the end.
+pub fn write_register(registers: &mut [Datum], register: usize, datum: Datum)
+    ensures { registers.new ≡ slice_set registers.old register datum }
+{
+    if register < registers.len() {
+        registers[register] = datum;
+    }
+}
+
+impl<'a> Frame<'a> {
+    /// The instruction at the position.
+    pub fn insn(&self) -> Option<&'a Insn> {
+        self.body.insns.as_slice().get(self.position)
+    }
+
+    /// What a register holds.
+    pub fn get(&self, register: u16) -> Datum
+        ensures { result ≡ cell self.now.registers.items register }
+    {
+        read_register(self.registers.as_slice(), register as usize)
+    }
+
+    /// Writes a register.
+    pub fn set(&mut self, register: u16, datum: Datum)
+        ensures { IsWritten self.old self.new (slice_set self.old.registers.items register datum) }
+    {
+        write_register(self.registers.as_mut_slice(), register as usize, datum);
+    }
+
+    /// Writes a wide, in two halves.
+    pub fn set_wide(&mut self, register: u16, wide: u64)
+        ensures { IsWritten self.old self.new (with_wide self.old.registers.items register wide) }
+    {
+        let first = register as usize;
+        write_register(self.registers.as_mut_slice(), first, Datum::Low(wide));
+        write_register(self.registers.as_mut_slice(), first + 1, Datum::High(wide));
+    }
+
+    /// Writes what one place held.
+    pub fn set_slot(&mut self, slot: Slot, register: u16, datum: Datum) {
+        match slot {
+            Slot::Wide => self.set_wide(register, datum.number()),
+            Slot::Word | Slot::Object => self.set(register, datum),
+        }
+    }
+
+    /// Writes what an item of an array or a field held.
+    pub fn set_item(&mut self, item: Item, register: u16, datum: Datum) {
+        match item {
+            Item::Wide => self.set_wide(register, datum.number()),
+            _ => self.set(register, datum),
+        }
+    }
+
+    /// Goes to the next position.
+    pub fn next(&mut self)
+        ensures { self.old.position < 2 ^ 63 → IsMoved self.old self.new (self.old.position + 1) }
+    {
+        self.position = self.position.saturating_add(1);
+    }
+
+    /// Goes to a position.
+    pub fn go(&mut self, target: u32)
+        ensures { IsMoved self.old self.new target }
+    {
+        self.position = target as usize;
+    }
+}

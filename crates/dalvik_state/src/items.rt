@@ -1,0 +1,62 @@
+//! What items of arrays and fields hold (Dalvik bytecode, "aget", "aput").
+
+use crate::datum::Datum;
+use crate::frame::Frame;
+use crate::state::Tables;
+use crate::world::Thing;
+use dalvik_lookups::Kind;
+use dalvik_numbers::{cut_byte, cut_char, cut_short};
+use program_model::Item;
+use std::alloc::{AllocError, Global};
+
+/// What is stored of a value in an item of an array or in a field.
+pub fn stored(item: Item, datum: Datum) -> Datum {
+    match item {
+        Item::Plain | Item::Wide | Item::Object => datum,
+        Item::Boolean => Datum::Word(datum.word() % 256),
+        Item::Byte => Datum::Word(cut_byte(datum.word())),
+        Item::Char => Datum::Word(cut_char(datum.word())),
+        Item::Short => Datum::Word(cut_short(datum.word())),
+    }
+}
+
+/// What an item or a field of a type holds before it is written.
+pub fn zero_of(tables: &Tables<'_>, kind: Kind) -> Datum {
+    if tables.lookups.types.is_wide(kind) {
+        Datum::Low(0)
+    } else {
+        Datum::NULL
+    }
+}
+
+/// An array of so many items, all zero.
+pub fn zeros(
+    alloc: Global,
+    tables: &Tables<'_>,
+    kind: Kind,
+    size: u32,
+) -> Result<Thing, AllocError> {
+    Ok(Thing::Items {
+        kind,
+        items: vec![in alloc; zero_of(tables, kind); size as usize]?,
+    })
+}
+
+/// A length as a word.
+pub fn length_word(length: usize) -> u32 {
+    if length < 4294967295 { length as u32 } else { u32::MAX }
+}
+
+/// What registers hold, in order.
+pub fn values_of(
+    alloc: Global,
+    frame: &Frame<'_>,
+    args: &[u16],
+) -> Result<Vec<Datum>, AllocError> {
+    let mut values = Vec::with_capacity(alloc, args.len())?;
+    for register in args {
+        values.push(frame.get(*register))?;
+    }
+    Ok(values)
+}
+

@@ -1,0 +1,172 @@
+//! How values are shown. What an event needs memory for is drafted first; then the objects get their places.
+
+use crate::datum::Datum;
+use crate::gifts::Gifts;
+use crate::state::Tables;
+use crate::world::World;
+use dalvik_defs::Shown;
+use dalvik_lookups::Kind;
+use dex_base::Text;
+use seq::Seq;
+use std::alloc::{AllocError, Global};
+
+/// A value that is to be shown: as it stands, or an object by its number, with the text of its type where it may be
+/// printed for the first time.
+#[derive(Drop)]
+pub enum Draft {
+    Done(Shown),
+    Object { number: u64, kind: Option<Text> },
+}
+
+/// A word by its declared type: 0 of a reference type is null.
+fn show_word(tables: &Tables<'_>, kind: Kind, word: u32) -> Shown {
+    if word == 0 && tables.lookups.types.is_reference(kind) {
+        Shown::Null
+    } else {
+        Shown::Word(word)
+    }
+}
+
+/// An object, with the text of its type unless it has been printed.
+fn draft_object(
+    alloc: Global,
+    tables: &Tables<'_>,
+    world: &World,
+    gifts: &Gifts,
+    number: u64,
+) -> Result<Draft, AllocError> {
+    if world.is_printed(number) {
+        return Ok(Draft::Object { number, kind: None });
+    }
+    let kind = match gifts.kind_of(world, Datum::Object(number)) {
+        Some(kind) => Some(tables.lookups.kind_text(alloc, kind)?),
+        None => Some(Text::from_units(alloc, &[])?),
+    };
+    Ok(Draft::Object { number, kind })
+}
+
+/// A value of a type, which may be of an object among `gifts`.
+pub fn drafted(
+    alloc: Global,
+    tables: &Tables<'_>,
+    world: &World,
+    gifts: &Gifts,
+    kind: Kind,
+    datum: Datum,
+) -> Result<Draft, AllocError> {
+    match datum {
+        Datum::Word(word) => Ok(Draft::Done(show_word(tables, kind, word))),
+        Datum::Low(wide) | Datum::High(wide) => Ok(Draft::Done(Shown::Wide(wide))),
+        Datum::Object(number) => draft_object(alloc, tables, world, gifts, number),
+        Datum::Literal(text) => Ok(Draft::Done(Shown::Literal(
+            tables.lookups.literal_text(alloc, text)?,
+        ))),
+        Datum::Class(text) => Ok(Draft::Done(Shown::Class(
+            tables.lookups.literal_text(alloc, text)?,
+        ))),
+    }
+}
+
+/// A value that may be none.
+pub fn drafted_option(
+    alloc: Global,
+    tables: &Tables<'_>,
+    world: &World,
+    gifts: &Gifts,
+    kind: Kind,
+    datum: Option<Datum>,
+) -> Result<Option<Draft>, AllocError> {
+    match datum {
+        Some(datum) => Ok(Some(drafted(alloc, tables, world, gifts, kind, datum)?)),
+        None => Ok(None),
+    }
+}
+
+/// Shows an object that has a place: its type the first time.
+fn show_at(world: &mut World, place: usize, kind: Option<Text>) -> Shown {
+    let number = place as u64;
+    match kind {
+        Some(kind) => {
+            world.print(place);
+            Shown::First { number, kind }
+        }
+        None => Shown::Again(number),
+    }
+}
+
+/// Shows an object. One that isn't exposed gets the next place, for which there is room.
+fn show_object(world: &mut World, number: u64, kind: Option<Text>) -> Shown {
+    if world.is_printed(number) {
+        return match world.place(number) {
+            Some(place) => Shown::Again(place as u64),
+            None => Shown::Null,
+        };
+    }
+    let place = match world.place(number) {
+        Some(place) => place,
+        None => world.expose(number, true),
+    };
+    show_at(world, place, kind)
+}
+
+/// Shows a drafted value.
+pub fn show(world: &mut World, draft: Draft) -> Shown {
+    match draft {
+        Draft::Done(shown) => shown,
+        Draft::Object { number, kind } => show_object(world, number, kind),
+    }
+}
+
+/// Shows a drafted value that may be none.
+pub fn show_option(world: &mut World, draft: Option<Draft>) -> Option<Shown> {
+    match draft {
+        Some(draft) => Some(show(world, draft)),
+        None => None,
+    }
+}
+
+/// Drafted values, and the list that they are shown in.
+#[derive(Drop)]
+pub struct Drafts {
+    drafts: Vec<Draft>,
+    shown: Vec<Shown>,
+}
+
+impl Drafts {
+    /// Values by their types, from left to right; a wide stands in two registers.
+    pub fn new(
+        alloc: Global,
+        tables: &Tables<'_>,
+        world: &World,
+        kinds: &[Kind],
+        values: &[Datum],
+    ) -> Result<Drafts, AllocError> {
+        let mut drafts = Vec::new(alloc);
+        let none = Gifts::new(alloc);
+        let mut at: usize = 0;
+        for kind in kinds {
+            let datum = match values.get(at) {
+                Some(datum) => *datum,
+                None => break,
+            };
+            drafts.push(drafted(alloc, tables, world, &none, *kind, datum)?)?;
+            at = at.saturating_add(if tables.lookups.types.is_wide(*kind) { 2 } else { 1 });
+        }
+        let shown = Vec::with_capacity(alloc, drafts.len())?;
+        Ok(Drafts { drafts, shown })
+    }
+
+    /// How many values there are.
+    pub fn len(&self) -> usize {
+        self.drafts.len()
+    }
+
+    /// Shows the values.
+    pub fn show(self, world: &mut World) -> Seq<Shown> {
+        let Drafts { drafts, mut shown } = self;
+        for one in drafts {
+            let _ = shown.push(show(world, one));
+        }
+        Seq::of_vec(shown)
+    }
+}

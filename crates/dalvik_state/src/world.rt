@@ -1,0 +1,155 @@
+//! The heap, the fields, the monitors, and what was exposed.
+
+use crate::datum::Datum;
+use dalvik_lookups::{Kind, known};
+use std::alloc::{AllocError, Global};
+use std::collections::HashMap;
+
+/// An object of a class, or an array by its item type with its items.
+#[derive(Drop)]
+pub enum Thing {
+    Instance(Kind),
+    Items { kind: Kind, items: Vec<Datum> },
+}
+
+impl Thing {
+    /// The type of the object or array.
+    pub fn kind(&self) -> Kind {
+        match self {
+            Thing::Instance(kind) => *kind,
+            Thing::Items { kind, .. } => kind.array_of(),
+        }
+    }
+}
+
+/// A thing, and its place among the exposed ones.
+#[derive(Drop)]
+pub struct Cell {
+    pub thing: Thing,
+    pub place: Option<usize>,
+}
+
+/// An object that was exposed, and whether it has been printed.
+#[derive(Clone, Copy, PartialEq, Eq, Debug, Drop)]
+pub struct Exposed {
+    pub number: u64,
+    pub printed: bool,
+}
+
+/// Things by their numbers, the fields that were written by object and place of the field, the static ones by place,
+/// how often each object, text and class is locked, and what was exposed.
+#[derive(Drop)]
+pub struct World {
+    pub heap: Vec<Cell>,
+    pub fields: HashMap<(u64, usize), Datum>,
+    pub statics: Vec<Option<Datum>>,
+    pub locks: HashMap<Datum, u64>,
+    pub exposed: Vec<Exposed>,
+}
+
+impl World {
+    /// No objects, and nothing written to so many fields.
+    pub fn new(alloc: Global, slots: usize) -> Result<World, AllocError> {
+        Ok(World {
+            heap: Vec::new(alloc),
+            fields: HashMap::new(alloc),
+            statics: vec![in alloc; None; slots]?,
+            locks: HashMap::new(alloc),
+            exposed: Vec::new(alloc),
+        })
+    }
+
+    /// The number of the next object.
+    pub fn next_number(&self) -> u64 {
+        self.heap.len() as u64
+    }
+
+    /// Adds a thing, and answers the reference to it.
+    pub fn add(&mut self, thing: Thing) -> Result<Datum, AllocError> {
+        let number = self.next_number();
+        self.heap.push(Cell { thing, place: None })?;
+        Ok(Datum::Object(number))
+    }
+
+    /// The thing that a value refers to.
+    pub fn thing(&self, datum: Datum) -> Option<&Thing> {
+        match datum {
+            Datum::Object(number) => match self.heap.as_slice().get(number as usize) {
+                Some(cell) => Some(&cell.thing),
+                None => None,
+            },
+            _ => None,
+        }
+    }
+
+    /// The items of the array that a value refers to.
+    pub fn items_mut(&mut self, datum: Datum) -> Option<&mut Vec<Datum>> {
+        match datum {
+            Datum::Object(number) => match self.heap.get_mut(number as usize) {
+                Some(cell) => match &mut cell.thing {
+                    Thing::Items { items, .. } => Some(items),
+                    Thing::Instance(_) => None,
+                },
+                None => None,
+            },
+            _ => None,
+        }
+    }
+
+    /// The type of what a value refers to, none of a number.
+    pub fn kind_of(&self, datum: Datum) -> Option<Kind> {
+        match datum {
+            Datum::Object(_) => match self.thing(datum) {
+                Some(thing) => Some(thing.kind()),
+                None => None,
+            },
+            Datum::Literal(_) => Some(Kind::plain(known::STRING)),
+            Datum::Class(_) => Some(Kind::plain(known::CLASS)),
+            _ => None,
+        }
+    }
+
+    /// How often a monitor is held.
+    pub fn locked(&self, datum: Datum) -> u64 {
+        match self.locks.get(&datum) {
+            Some(count) => *count,
+            None => 0,
+        }
+    }
+
+    /// Whether an object has been printed.
+    pub fn is_printed(&self, number: u64) -> bool {
+        match self.place(number) {
+            Some(place) => match self.exposed.as_slice().get(place) {
+                Some(one) => one.printed,
+                None => false,
+            },
+            None => false,
+        }
+    }
+
+    /// The place of an object among the exposed ones.
+    pub fn place(&self, number: u64) -> Option<usize> {
+        match self.heap.as_slice().get(number as usize) {
+            Some(cell) => cell.place,
+            None => None,
+        }
+    }
+
+    /// Gives an object that isn't exposed the next place, for which there is room.
+    pub fn expose(&mut self, number: u64, printed: bool) -> usize {
+        let place = self.exposed.len();
+        let _ = self.exposed.push(Exposed { number, printed });
+        if let Some(cell) = self.heap.get_mut(number as usize) {
+            cell.place = Some(place);
+        }
+        place
+    }
+
+    /// Notes that an exposed object has been printed.
+    pub fn print(&mut self, place: usize) {
+        if let Some(one) = self.exposed.get_mut(place) {
+            one.printed = true;
+        }
+    }
+}

@@ -5,9 +5,11 @@ ghost use Rattle.dalvik_state.specs.Frames.{IsSame, Leaves};
 
 use crate::arrays::{act_arrays, act_items};
 use crate::numbers::act_numbers;
-use crate::plain::{act_branches, act_constants, act_ends, act_monitors, act_moves, act_types, unless_null};
-use dalvik_state::{Effect, Frame, Tables, World, stored};
+use crate::plain::{
+    act_branches, act_constants, act_ends, act_monitors, act_moves, act_types, unless_null,
+};
 use dalvik_lookups::Memo;
+use dalvik_state::{Effect, Frame, Tables, World, stored};
 use program_model::Insn;
 use std::alloc::{AllocError, Global};
 
@@ -98,10 +100,9 @@ pub fn act<'a>(
         | Insn::ConstWide { .. }
         | Insn::ConstString { .. }
         | Insn::ConstClass { .. } => Ok(act_constants(tables, frame, insn)),
-        Insn::Cmp { .. }
-        | Insn::Unary { .. }
-        | Insn::Binary { .. }
-        | Insn::Literal { .. } => Ok(act_numbers(&tables.floats, frame, insn)),
+        Insn::Cmp { .. } | Insn::Unary { .. } | Insn::Binary { .. } | Insn::Literal { .. } => Ok(
+            act_numbers(&tables.floats, frame, insn),
+        ),
         Insn::If { .. }
         | Insn::IfZero { .. }
         | Insn::PackedSwitch { .. }

@@ -5,8 +5,10 @@ ghost use Rattle.std.specs.Prelude.{IfOk, OnErr};
 ghost use Rattle.dalvik_state.specs.Frames.{IsSame, Leaves};
 
 use crate::plain::unless_null;
-use dalvik_state::{Datum, Effect, Frame, Tables, Thing, World, length_word, stored, values_of, zeros};
 use dalvik_lookups::{Kind, Memo, known};
+use dalvik_state::{
+    Datum, Effect, Frame, Tables, Thing, World, length_word, stored, values_of, zeros,
+};
 use program_model::{Insn, Item};
 use std::alloc::{AllocError, Global};
 

@@ -2,9 +2,9 @@
 
 ghost use Rattle.dalvik_state.specs.Frames.{Leaves};
 
-use dalvik_state::{Datum, Effect, Frame};
 use dalvik_lookups::known;
 use dalvik_numbers::{FloatTable, Number, binary, compare, literal, unary};
+use dalvik_state::{Datum, Effect, Frame};
 use program_model::Insn;
 
 /// Writes a number.

@@ -4,9 +4,9 @@
 ghost use Rattle.std.specs.Prelude.{IfOk, OnErr};
 ghost use Rattle.dalvik_state.specs.Frames.{IsSame, Leaves};
 
-use dalvik_state::{Datum, Effect, Frame, Tables, World};
 use dalvik_lookups::{Kind, Memo, known};
 use dalvik_numbers::{is_before, is_not_behind};
+use dalvik_state::{Datum, Effect, Frame, Tables, World};
 use program_model::{Insn, Slot, Test};
 use std::alloc::AllocError;
 
@@ -43,11 +43,7 @@ pub fn act_moves<'a>(frame: &mut Frame<'a>, insn: &'a Insn) -> Effect<'a>
 }
 
 /// The constants.
-pub fn act_constants<'a>(
-    tables: &Tables<'a>,
-    frame: &mut Frame<'a>,
-    insn: &'a Insn,
-) -> Effect<'a>
+pub fn act_constants<'a>(tables: &Tables<'a>, frame: &mut Frame<'a>, insn: &'a Insn) -> Effect<'a>
     ensures { Leaves result frame.old frame.new }
 {
     match insn {

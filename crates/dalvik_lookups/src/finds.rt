@@ -70,19 +70,19 @@ impl<'a> Lookups<'a> {
             return Ok(Search::Finds(at));
         }
         memo.found.clear();
-        self.hierarchy.candidates(
-            self.program,
-            class,
-            key,
-            &mut memo.walk,
-            &mut memo.found,
-        )?;
+        self.hierarchy
+            .candidates(self.program, class, key, &mut memo.walk, &mut memo.found)?;
         self.given(memo)
     }
 
     /// What a virtual or interface call of a method number finds at a receiver's class, where that is under the class
     /// that the call names.
-    fn find_virtually(&self, memo: &mut Memo, class: u32, method: u32) -> Result<Search, AllocError> {
+    fn find_virtually(
+        &self,
+        memo: &mut Memo,
+        class: u32,
+        method: u32,
+    ) -> Result<Search, AllocError> {
         let receiver = self.kind_of_class(class);
         if self.is_under(memo, receiver, self.class_of_method(method))? {
             self.find_at(memo, class, self.hierarchy.key_of_method(method))
@@ -123,7 +123,12 @@ impl<'a> Lookups<'a> {
     }
 
     /// What the candidates of one interface give.
-    fn find_among(&self, memo: &mut Memo, interface: u32, method: u32) -> Result<Search, AllocError> {
+    fn find_among(
+        &self,
+        memo: &mut Memo,
+        interface: u32,
+        method: u32,
+    ) -> Result<Search, AllocError> {
         memo.found.clear();
         let key = self.hierarchy.key_of_method(method);
         self.hierarchy.candidates_of(
@@ -149,12 +154,7 @@ impl<'a> Lookups<'a> {
     }
 
     /// Whether a type stands in the interface list of a class or of a program class above it.
-    fn lists_interface(
-        &self,
-        memo: &mut Memo,
-        class: u32,
-        kind: Kind,
-    ) -> Result<bool, AllocError> {
+    fn lists_interface(&self, memo: &mut Memo, class: u32, kind: Kind) -> Result<bool, AllocError> {
         memo.walk.clear();
         memo.walk.push(class)?;
         for _ in 0..usize::MAX {

@@ -130,7 +130,13 @@ pub(crate) fn class_in(class_of: &[u32], kind: Kind) -> Option<u32> {
         return None;
     }
     match class_of.get(kind.base) {
-        Some(place) => { if *place == NO_CLASS { None } else { Some(*place) } }
+        Some(place) => {
+            if *place == NO_CLASS {
+                None
+            } else {
+                Some(*place)
+            }
+        }
         None => None,
     }
 }
@@ -191,7 +197,13 @@ fn tables_of<'a>(
     names: Names<'a>,
     above: Above,
 ) -> Result<Lookups<'a>, AllocError> {
-    let outer = outer_of(alloc, program, outside, names.kinds.as_slice(), names.types.len())?;
+    let outer = outer_of(
+        alloc,
+        program,
+        outside,
+        names.kinds.as_slice(),
+        names.types.len(),
+    )?;
     let statically = find_all_static(alloc, program, &hierarchy)?;
     let initialisers = initialisers(alloc, program)?;
     let defaults = defaults(alloc, program, &hierarchy)?;

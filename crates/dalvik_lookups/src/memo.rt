@@ -29,7 +29,13 @@ pub struct Memo {
 /// What was found last in the class, if this was the class.
 fn recent_at(calls: &[Recent], class: u32, method: u32) -> Option<Search> {
     match calls.get(method as usize) {
-        Some(recent) => { if recent.class == Some(class) { Some(recent.found) } else { None } }
+        Some(recent) => {
+            if recent.class == Some(class) {
+                Some(recent.found)
+            } else {
+                None
+            }
+        }
         None => None,
     }
 }

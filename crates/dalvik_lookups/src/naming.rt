@@ -35,7 +35,10 @@ pub(crate) fn descriptor_of(program: &Program, kind: u32) -> &[u16] {
 /// Whether a method is the constructor of `Ljava/lang/Object;`.
 fn is_object_constructor(program: &Program, method: &MethodName, kinds: &[Kind]) -> bool {
     Types::is_object(kind_at(kinds, method.class))
-        && is_name(units_at(program.strings.as_slice(), method.name), &CONSTRUCTOR)
+        && is_name(
+            units_at(program.strings.as_slice(), method.name),
+            &CONSTRUCTOR,
+        )
         && takes_and_gives_nothing(program, method.proto)
 }
 

@@ -14,8 +14,10 @@ static INITIALISER: [u16; 8] = [60, 99, 108, 105, 110, 105, 116, 62];
 pub(crate) fn is_named_initialiser(program: &Program, method: &Method) -> bool {
     match program.methods.as_slice().get(method.name as usize) {
         Some(name) => {
-            is_name(units_at(program.strings.as_slice(), name.name), &INITIALISER)
-                && takes_and_gives_nothing(program, name.proto)
+            is_name(
+                units_at(program.strings.as_slice(), name.name),
+                &INITIALISER,
+            ) && takes_and_gives_nothing(program, name.proto)
         }
         None => false,
     }
@@ -59,11 +61,8 @@ pub(crate) fn initialisers(
 
 /// Whether a class has a virtual method with code.
 fn has_default(hierarchy: &Hierarchy, class: &Class) -> bool {
-    class
-        .methods
-        .as_slice()
-        .iter()
-        .any(|method| hierarchy.is_virtual(method) && method.body.is_some())
+    class.methods.as_slice().iter().any(|method| hierarchy.is_virtual(method)
+        && method.body.is_some())
 }
 
 /// For each class whether it has a virtual method with code.

@@ -1,9 +1,9 @@
 //! The framework answers the innermost open call or field read.
 
-use dalvik_state::{Datum, Gifts, State, Tables, Taken, fits, may_throw};
-use dalvik_steps::{Thrown, gives, land, plan};
 use dalvik_defs::Event;
 use dalvik_lookups::{Gift, Kind, Memo};
+use dalvik_state::{Datum, Gifts, State, Tables, Taken, fits, may_throw};
+use dalvik_steps::{Thrown, gives, land, plan};
 use std::alloc::{AllocError, Global};
 
 /// Whether an answer is right for a call or a read of a type: none of void, else a value that fits.

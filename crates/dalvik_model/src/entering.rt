@@ -1,9 +1,9 @@
 //! The framework enters methods and makes objects.
 
-use dalvik_state::{Datum, Gifts, State, Tables, Taken, Waiting, all_fit, receiver_ok};
-use dalvik_steps::{Need, Thrown, entry_frame, makes_shown, need_of, starts, throws};
 use dalvik_defs::Event;
-use dalvik_lookups::{Gift, Memo, known};
+use dalvik_lookups::{Gift, Memo};
+use dalvik_state::{Datum, Gifts, State, Tables, Taken, Waiting, all_fit, receiver_ok};
+use dalvik_steps::{Readied, entry_frame, makes_shown, readies};
 use program_model::{Flags, Method, MethodAt};
 use std::alloc::{AllocError, Global};
 
@@ -118,27 +118,10 @@ fn enters_now<'a>(
     Ok(None)
 }
 
-/// A move that needs a class: it stays in the script until the class is initialised, or is over where the class failed.
-fn needs<'a>(
-    alloc: Global,
-    tables: &Tables<'a>,
-    memo: &mut Memo,
-    state: &mut State<'a>,
-    class: u32,
-    need: Need,
-) -> Result<Option<Event>, AllocError> {
-    match need {
-        Need::Ready => Ok(None),
-        Need::Fresh => {
-            starts(alloc, tables, memo, state, class)?;
-            Ok(None)
-        }
-        Need::Broken => {
-            let event = throws(alloc, tables, memo, state, Thrown::New(known::NO_CLASS))?;
-            state.next = state.next.saturating_add(1);
-            Ok(event)
-        }
-    }
+/// A move that needed a class which failed is over.
+fn gives_up(state: &mut State<'_>, event: Option<Event>) -> Option<Event> {
+    state.next = state.next.saturating_add(1);
+    event
 }
 
 /// Enters a method that may be entered, once its class is initialised where it is static.
@@ -151,14 +134,13 @@ fn entered<'a>(
     found: (MethodAt, &Method),
 ) -> Result<Option<Event>, AllocError> {
     let (at, method) = found;
-    let need = if method.flags.has(Flags::STATIC) {
-        need_of(state, at.class)
-    } else {
-        Need::Ready
-    };
-    match need {
-        Need::Ready => enters_now(alloc, tables, state, values, at),
-        _ => needs(alloc, tables, memo, state, at.class, need),
+    if !method.flags.has(Flags::STATIC) {
+        return enters_now(alloc, tables, state, values, at);
+    }
+    match readies(alloc, tables, memo, state, at.class)? {
+        Readied::Ready => enters_now(alloc, tables, state, values, at),
+        Readied::Started => Ok(None),
+        Readied::Failed(event) => Ok(gives_up(state, event)),
     }
 }
 
@@ -229,8 +211,9 @@ pub fn make<'a>(
         state.end();
         return Ok(None);
     }
-    match need_of(state, class) {
-        Need::Ready => made(alloc, tables, state, class),
-        need => needs(alloc, tables, memo, state, class, need),
+    match readies(alloc, tables, memo, state, class)? {
+        Readied::Ready => made(alloc, tables, state, class),
+        Readied::Started => Ok(None),
+        Readied::Failed(event) => Ok(gives_up(state, event)),
     }
 }

@@ -1,10 +1,12 @@
 //! What comes of an instruction: what an effect does to the stack and the framework.
 
 use dalvik_act::act;
-use dalvik_state::{Effect, Gifts, State, Tables, Waiting};
-use dalvik_steps::{Reading, Thrown, Writing, calls, gives, locks, makes, reads, throws, unlocks, writes};
 use dalvik_defs::Event;
 use dalvik_lookups::Memo;
+use dalvik_state::{Effect, Gifts, State, Tables, Waiting};
+use dalvik_steps::{
+    Reading, Thrown, Writing, calls, gives, locks, makes, reads, throws, unlocks, writes,
+};
 use std::alloc::{AllocError, Global};
 
 /// What the form at the position of the frame on top does in its frame.

@@ -4,11 +4,11 @@ ghost use Rattle.std.specs.Prelude.{◌≡◌, ◌+◌, ◌<◌, ◌≤◌, IfOk
 
 use crate::happens::happens;
 use crate::moves::moves;
-use dalvik_state::{State, Tables, Waiting};
-use dalvik_steps::{ends, initialises};
 use dalvik_defs::{Event, Floats, Framework, Move};
 use dalvik_lookups::{Kind, Lookups, Memo};
 use dalvik_numbers::FloatTable;
+use dalvik_state::{State, Tables, Waiting};
+use dalvik_steps::{ends, initialises};
 use program_model::{Outside, Program};
 use std::alloc::{AllocError, Global};
 
@@ -61,11 +61,10 @@ impl<'a> Parts<'a> {
         floats: &Floats,
         script: &'a [Move],
     ) -> Result<Option<Parts<'a>>, AllocError> {
-        let (lookups, plays) =
-            match Lookups::new(alloc, program, outside, framework, script)? {
-                Some(tables) => tables,
-                None => return Ok(None),
-            };
+        let (lookups, plays) = match Lookups::new(alloc, program, outside, framework, script)? {
+            Some(tables) => tables,
+            None => return Ok(None),
+        };
         let memo = lookups.memo(alloc)?;
         let floats = FloatTable::new(alloc, floats)?;
         let tables = Tables {
@@ -151,7 +150,7 @@ pub fn run(
 {
     let mut machine = Machine::new(alloc, program, outside, framework, floats, script)?;
     let mut events = Vec::new(alloc);
-    for _ in 0..n {
+    for at in 0..n {
         if let Some(event) = machine.step(alloc)? {
             events.push(event)?;
         }

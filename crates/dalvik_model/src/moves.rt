@@ -4,9 +4,9 @@
 use crate::answering::{answers, answers_by_throwing};
 use crate::entering::{enter, make};
 use crate::touching::{array_get, array_length, array_put, reads, writes};
-use dalvik_state::{State, Tables};
 use dalvik_defs::Event;
 use dalvik_lookups::{Kind, Memo, Play};
+use dalvik_state::{State, Tables};
 use std::alloc::{AllocError, Global};
 
 /// A move on a field or an array.

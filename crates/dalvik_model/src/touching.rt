@@ -1,9 +1,12 @@
 //! The framework reads and writes kept fields and exposed arrays.
 
-use dalvik_state::{Datum, Gifts, State, Tables, Taken, Thing, World, drafted, fits, length_word, on_fits, show, stored};
-use dalvik_steps::{instance_value, put_instance, put_static, static_value};
 use dalvik_defs::Event;
 use dalvik_lookups::{FieldAt, Gift, Kind, Memo, known};
+use dalvik_state::{
+    Datum, Gifts, State, Tables, Taken, Thing, World, drafted, fits, length_word, on_fits, show,
+    stored,
+};
+use dalvik_steps::{instance_value, put_instance, put_static, static_value};
 use program_model::Field;
 use std::alloc::{AllocError, Global};
 

@@ -27,7 +27,9 @@ fn quotient_word(a: u32, b: u32) -> u32
     requires { 0 < b }
     ensures { result ≡ cast_unsigned w32 (int_div (cast_signed w32 a) (cast_signed w32 b)) }
 {
-    a.cast_signed().wrapping_div(b.cast_signed()).cast_unsigned()
+    a.cast_signed()
+        .wrapping_div(b.cast_signed())
+        .cast_unsigned()
 }
 
 /// The remainder, which has the sign of the first number.
@@ -35,7 +37,9 @@ fn remainder_word(a: u32, b: u32) -> u32
     requires { 0 < b }
     ensures { result ≡ cast_unsigned w32 (int_rem (cast_signed w32 a) (cast_signed w32 b)) }
 {
-    a.cast_signed().wrapping_rem(b.cast_signed()).cast_unsigned()
+    a.cast_signed()
+        .wrapping_rem(b.cast_signed())
+        .cast_unsigned()
 }
 
 /// A signed number shifted right, by the low five bits.
@@ -53,8 +57,20 @@ pub fn on_words(kind: Arith, a: u32, b: u32) -> Option<u32>
         Arith::Add => Some(a.wrapping_add(b)),
         Arith::Sub => Some(a.wrapping_sub(b)),
         Arith::Mul => Some(a.wrapping_mul(b)),
-        Arith::Div => { if b == 0 { None } else { Some(quotient_word(a, b)) } }
-        Arith::Rem => { if b == 0 { None } else { Some(remainder_word(a, b)) } }
+        Arith::Div => {
+            if b == 0 {
+                None
+            } else {
+                Some(quotient_word(a, b))
+            }
+        }
+        Arith::Rem => {
+            if b == 0 {
+                None
+            } else {
+                Some(remainder_word(a, b))
+            }
+        }
         Arith::And => Some(a & b),
         Arith::Or => Some(a | b),
         Arith::Xor => Some(a ^ b),
@@ -69,7 +85,9 @@ fn quotient_wide(a: u64, b: u64) -> u64
     requires { 0 < b }
     ensures { result ≡ cast_unsigned w64 (int_div (cast_signed w64 a) (cast_signed w64 b)) }
 {
-    a.cast_signed().wrapping_div(b.cast_signed()).cast_unsigned()
+    a.cast_signed()
+        .wrapping_div(b.cast_signed())
+        .cast_unsigned()
 }
 
 /// The remainder, which has the sign of the first number.
@@ -77,7 +95,9 @@ fn remainder_wide(a: u64, b: u64) -> u64
     requires { 0 < b }
     ensures { result ≡ cast_unsigned w64 (int_rem (cast_signed w64 a) (cast_signed w64 b)) }
 {
-    a.cast_signed().wrapping_rem(b.cast_signed()).cast_unsigned()
+    a.cast_signed()
+        .wrapping_rem(b.cast_signed())
+        .cast_unsigned()
 }
 
 /// A signed number shifted right, by the low six bits.
@@ -102,8 +122,20 @@ pub fn on_wides(kind: Arith, a: u64, b: u64) -> Option<u64>
         Arith::Add => Some(a.wrapping_add(b)),
         Arith::Sub => Some(a.wrapping_sub(b)),
         Arith::Mul => Some(a.wrapping_mul(b)),
-        Arith::Div => { if b == 0 { None } else { Some(quotient_wide(a, b)) } }
-        Arith::Rem => { if b == 0 { None } else { Some(remainder_wide(a, b)) } }
+        Arith::Div => {
+            if b == 0 {
+                None
+            } else {
+                Some(quotient_wide(a, b))
+            }
+        }
+        Arith::Rem => {
+            if b == 0 {
+                None
+            } else {
+                Some(remainder_wide(a, b))
+            }
+        }
         Arith::And => Some(a & b),
         Arith::Or => Some(a | b),
         Arith::Xor => Some(a ^ b),

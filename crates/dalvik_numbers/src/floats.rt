@@ -24,10 +24,7 @@ fn number_of(op: FloatOp) -> u8
 }
 
 /// Puts the answer of a row in, before those that were put in.
-fn put_row(
-    answers: &mut HashMap<(u8, u64, u64), u64>,
-    row: &FloatRow,
-) -> Result<(), AllocError>
+fn put_row(answers: &mut HashMap<(u8, u64, u64), u64>, row: &FloatRow) -> Result<(), AllocError>
     ensures { OnOk result ((k : Key) → get key_eq answers.new k ≡ cond (key_eq (key_of row.now) k) (Some row.now.result) (get key_eq answers.old k)) }
 {
     answers.insert((number_of(row.op), row.a, row.b), row.result)?;
@@ -35,10 +32,7 @@ fn put_row(
 }
 
 /// The answers of rows, of which the first one that fits counts.
-fn answers_of(
-    alloc: Global,
-    rows: &[FloatRow],
-) -> Result<HashMap<(u8, u64, u64), u64>, AllocError>
+fn answers_of(alloc: Global, rows: &[FloatRow]) -> Result<HashMap<(u8, u64, u64), u64>, AllocError>
     ensures { IfOk result (λ answers. (k : Key) → get key_eq answers k ≡ answer_in rows.now k) }
 {
     let mut answers = HashMap::new(alloc);

@@ -16,8 +16,14 @@ fn a_missing_row_answers_zero_and_the_first_one_counts(rt: HostRuntime) -> Resul
         })?;
     }
     let floats = FloatTable::new(rt.alloc(), &Floats { rows })?;
-    assert_eq!(rt; binary(&floats, BinaryOp::AddFloat, 1, 2), Some(Number::OneWord(7)));
-    assert_eq!(rt; binary(&floats, BinaryOp::AddFloat, 2, 1), Some(Number::OneWord(0)));
+    assert_eq!(rt;
+        binary(&floats, BinaryOp::AddFloat, 1, 2),
+        Some(Number::OneWord(7))
+    );
+    assert_eq!(rt;
+        binary(&floats, BinaryOp::AddFloat, 2, 1),
+        Some(Number::OneWord(0))
+    );
     assert_eq!(rt; binary(&floats, BinaryOp::DivInt, 7, 0), None);
     assert_eq!(rt; literal(LiteralOp::RsubInt, 5, 3), Some(u32::MAX - 1));
     Ok(())

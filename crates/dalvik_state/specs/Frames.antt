@@ -23,9 +23,9 @@ pub record IsWritten (old new : Frame) (cells : List Datum) : Type 0 where
   pub method : new.method ≡ old.method
 
 -- the position is this, and all else stays
-pub record IsMoved (old new : Frame) (position : ℕ) : Type 0 where
+pub record IsMoved (old new : Frame) (at : ℕ) : Type 0 where
   pub registers : new.registers.items ≡ old.registers.items
-  pub position : new.position ≡ position
+  pub position : new.position ≡ at
   pub result : new.result ≡ old.result
   pub caught : new.caught ≡ old.caught
   pub method : new.method ≡ old.method

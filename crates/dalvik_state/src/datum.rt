@@ -43,6 +43,10 @@ impl Datum {
 
     /// 1 or 0.
     pub fn truth(holds: bool) -> Datum {
-        if holds { Datum::Word(1) } else { Datum::Word(0) }
+        if holds {
+            Datum::Word(1)
+        } else {
+            Datum::Word(0)
+        }
     }
 }

@@ -30,9 +30,7 @@ impl Gifts {
 
     /// Adds an object, and answers the reference that it will have.
     fn add(&mut self, world: &World, thing: Thing) -> Result<Datum, AllocError> {
-        let number = world
-            .next_number()
-            .saturating_add(self.things.len() as u64);
+        let number = world.next_number().saturating_add(self.things.len() as u64);
         self.things.push(thing)?;
         Ok(Datum::Object(number))
     }
@@ -49,7 +47,11 @@ impl Gifts {
                 let own = (place as usize).saturating_sub(known);
                 let allowed = own < self.things.len();
                 let number = world.next_number().saturating_add(own as u64);
-                let datum = if allowed { Datum::Object(number) } else { Datum::NULL };
+                let datum = if allowed {
+                    Datum::Object(number)
+                } else {
+                    Datum::NULL
+                };
                 Taken { datum, allowed }
             }
         }

@@ -44,19 +44,18 @@ pub fn zeros(
 
 /// A length as a word.
 pub fn length_word(length: usize) -> u32 {
-    if length < 4294967295 { length as u32 } else { u32::MAX }
+    if length < 4294967295 {
+        length as u32
+    } else {
+        u32::MAX
+    }
 }
 
 /// What registers hold, in order.
-pub fn values_of(
-    alloc: Global,
-    frame: &Frame<'_>,
-    args: &[u16],
-) -> Result<Vec<Datum>, AllocError> {
+pub fn values_of(alloc: Global, frame: &Frame<'_>, args: &[u16]) -> Result<Vec<Datum>, AllocError> {
     let mut values = Vec::with_capacity(alloc, args.len())?;
     for register in args {
         values.push(frame.get(*register))?;
     }
     Ok(values)
 }
-

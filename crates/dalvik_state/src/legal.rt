@@ -46,7 +46,13 @@ impl<'a> Tables<'a> {
         if !is_static {
             kinds.push(self.lookups.kind(name.class))?;
         }
-        if let Some(proto) = self.lookups.program.protos.as_slice().get(name.proto as usize) {
+        if let Some(proto) = self
+            .lookups
+            .program
+            .protos
+            .as_slice()
+            .get(name.proto as usize)
+        {
             for parameter in proto.parameters.as_slice() {
                 kinds.push(self.lookups.kind(*parameter))?;
             }

@@ -150,7 +150,11 @@ impl Drafts {
                 None => break,
             };
             drafts.push(drafted(alloc, tables, world, &none, *kind, datum)?)?;
-            at = at.saturating_add(if tables.lookups.types.is_wide(*kind) { 2 } else { 1 });
+            at = at.saturating_add(if tables.lookups.types.is_wide(*kind) {
+                2
+            } else {
+                1
+            });
         }
         let shown = Vec::with_capacity(alloc, drafts.len())?;
         Ok(Drafts { drafts, shown })

@@ -1,11 +1,11 @@
 //! Calls (Dalvik bytecode, "invoke-kind").
 
 use crate::stack::{enters, receiver};
-use crate::starting::{Need, need_of, starts};
+use crate::starting::{Readied, readies};
 use crate::throwing::{Thrown, throws};
-use dalvik_state::{Datum, Drafts, State, Tables, Waiting, values_of};
 use dalvik_defs::Event;
 use dalvik_lookups::{Memo, Search, known};
+use dalvik_state::{Datum, Drafts, State, Tables, Waiting, values_of};
 use program_model::{Flags, InvokeKind, Method, MethodAt};
 use std::alloc::{AllocError, Global};
 
@@ -89,7 +89,13 @@ fn calls_uncoded<'a>(
         };
         calls_out(alloc, tables, state, outward, call.values.as_slice())
     } else {
-        throws(alloc, tables, memo, state, Thrown::New(known::ABSTRACT_METHOD))
+        throws(
+            alloc,
+            tables,
+            memo,
+            state,
+            Thrown::New(known::ABSTRACT_METHOD),
+        )
     }
 }
 
@@ -127,13 +133,10 @@ fn calls_ready<'a>(
     if !method.flags.has(Flags::STATIC) {
         return calls_found(alloc, tables, memo, state, call, (at, method));
     }
-    match need_of(state, at.class) {
-        Need::Ready => calls_found(alloc, tables, memo, state, call, (at, method)),
-        Need::Fresh => {
-            starts(alloc, tables, memo, state, at.class)?;
-            Ok(None)
-        }
-        Need::Broken => throws(alloc, tables, memo, state, Thrown::New(known::NO_CLASS)),
+    match readies(alloc, tables, memo, state, at.class)? {
+        Readied::Ready => calls_found(alloc, tables, memo, state, call, (at, method)),
+        Readied::Started => Ok(None),
+        Readied::Failed(event) => Ok(event),
     }
 }
 

@@ -1,10 +1,12 @@
 //! Fields (Dalvik bytecode, "iget", "iput", "sget", "sput"; Dalvik executable format, "encoded_value").
 
-use crate::starting::{Need, need_of, starts};
-use crate::throwing::{Thrown, throws};
-use dalvik_state::{Datum, Gifts, State, Tables, Thing, Waiting, World, drafted, drafted_option, show, show_option, zero_of};
+use crate::starting::{Readied, readies};
 use dalvik_defs::Event;
 use dalvik_lookups::{Kind, Memo, known};
+use dalvik_state::{
+    Datum, Gifts, State, Tables, Thing, Waiting, World, drafted, drafted_option, show, show_option,
+    zero_of,
+};
 use program_model::{EncValue, FieldName, Item};
 use std::alloc::{AllocError, Global};
 
@@ -177,18 +179,15 @@ fn reads_static<'a>(
     at: (u32, u32),
 ) -> Result<Option<Event>, AllocError> {
     let (class, place) = at;
-    match need_of(state, class) {
-        Need::Ready => {
+    match readies(alloc, tables, memo, state, class)? {
+        Readied::Ready => {
             let kind = field_kind(tables, reading.field);
             let datum = static_value(tables, &state.world, class, place, kind);
             reads_value(state, reading, Some(datum));
             Ok(None)
         }
-        Need::Fresh => {
-            starts(alloc, tables, memo, state, class)?;
-            Ok(None)
-        }
-        Need::Broken => throws(alloc, tables, memo, state, Thrown::New(known::NO_CLASS)),
+        Readied::Started => Ok(None),
+        Readied::Failed(event) => Ok(event),
     }
 }
 
@@ -268,17 +267,14 @@ fn writes_static<'a>(
     at: (u32, u32),
 ) -> Result<Option<Event>, AllocError> {
     let (class, place) = at;
-    match need_of(state, class) {
-        Need::Ready => {
+    match readies(alloc, tables, memo, state, class)? {
+        Readied::Ready => {
             put_static(tables, &mut state.world, class, place, writing.value);
             go_on(state);
             Ok(None)
         }
-        Need::Fresh => {
-            starts(alloc, tables, memo, state, class)?;
-            Ok(None)
-        }
-        Need::Broken => throws(alloc, tables, memo, state, Thrown::New(known::NO_CLASS)),
+        Readied::Started => Ok(None),
+        Readied::Failed(event) => Ok(event),
     }
 }
 

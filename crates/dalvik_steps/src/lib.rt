@@ -16,5 +16,5 @@ pub use fields::{
 };
 pub use objects::{locks, makes, makes_shown, unlocks};
 pub use stack::{enters, entry_frame, gives};
-pub use starting::{Need, ends, initialises, need_of, starts};
+pub use starting::{Readied, ends, initialises, readies};
 pub use throwing::{Flight, Thrown, land, plan, throws};

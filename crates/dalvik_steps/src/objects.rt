@@ -1,10 +1,9 @@
 //! New objects and monitors (Dalvik bytecode, "new-instance", "monitor-enter", "monitor-exit").
 
-use crate::starting::{Need, need_of, starts};
-use crate::throwing::{Thrown, throws};
-use dalvik_state::{Datum, Draft, Gifts, State, Tables, Thing, drafted, show};
+use crate::starting::{Readied, readies};
 use dalvik_defs::Event;
 use dalvik_lookups::{Kind, Memo, known};
+use dalvik_state::{Datum, Draft, Gifts, State, Tables, Thing, drafted, show};
 use std::alloc::{AllocError, Global};
 
 /// Makes an object of a program class, whose class is ready.
@@ -66,16 +65,13 @@ pub fn makes<'a>(
         Some(class) => class,
         None => return makes_outer(alloc, tables, state, to, kind),
     };
-    match need_of(state, class) {
-        Need::Ready => {
+    match readies(alloc, tables, memo, state, class)? {
+        Readied::Ready => {
             makes_own(state, to, kind)?;
             Ok(None)
         }
-        Need::Fresh => {
-            starts(alloc, tables, memo, state, class)?;
-            Ok(None)
-        }
-        Need::Broken => throws(alloc, tables, memo, state, Thrown::New(known::NO_CLASS)),
+        Readied::Started => Ok(None),
+        Readied::Failed(event) => Ok(event),
     }
 }
 

@@ -1,17 +1,15 @@
 //! Entries and results (Dalvik bytecode, "invoke-kind", "return").
 
-use dalvik_state::{Datum, Frame, Gifts, State, Tables, Waiting, drafted_option, read_register, show_option};
 use dalvik_defs::Event;
 use dalvik_lookups::Kind;
+use dalvik_state::{
+    Datum, Frame, Gifts, State, Tables, Waiting, drafted_option, read_register, show_option,
+};
 use program_model::{Body, Insn, MethodAt};
 use std::alloc::{AllocError, Global};
 
 /// The registers at an entry: the arguments are last.
-fn entry_registers(
-    alloc: Global,
-    body: &Body,
-    values: &[Datum],
-) -> Result<Vec<Datum>, AllocError> {
+fn entry_registers(alloc: Global, body: &Body, values: &[Datum]) -> Result<Vec<Datum>, AllocError> {
     let locals = body.registers.saturating_sub(body.ins) as usize;
     let mut registers = vec![in alloc; Datum::NULL; locals]?;
     registers.extend_from_slice(values)?;
@@ -63,9 +61,8 @@ pub fn enters<'a>(
 fn back(frame: &mut Frame<'_>, value: Option<Datum>) {
     if let Some(datum) = value {
         match frame.insn() {
-            Some(
-                Insn::InstanceGet { item, to, .. } | Insn::StaticGet { item, to, .. },
-            ) => frame.set_item(*item, *to, datum),
+            Some(Insn::InstanceGet { item, to, .. } | Insn::StaticGet { item, to, .. }) =>
+                frame.set_item(*item, *to, datum),
             _ => frame.result = datum,
         }
     }

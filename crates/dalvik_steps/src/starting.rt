@@ -1,10 +1,13 @@
 //! Classes that are initialised.
 
+ghost use Rattle.std.specs.Prelude.{◌≡◌, IfOk};
+ghost use Rattle.dalvik_steps.specs.Needs.{IsRight, need_at, status_at};
+
 use crate::stack::entry_frame;
 use crate::throwing::{Thrown, throws};
-use dalvik_state::{State, Status, Tables, Waiting};
 use dalvik_defs::Event;
 use dalvik_lookups::{Memo, known};
+use dalvik_state::{State, Status, Tables, Waiting};
 use std::alloc::{AllocError, Global};
 
 /// Whether a class that is needed is no hindrance, has to be initialised first, or has failed.
@@ -16,11 +19,46 @@ pub enum Need {
 }
 
 /// How a class stands that is needed.
-pub fn need_of(state: &State<'_>, class: u32) -> Need {
+pub fn need_of(state: &State<'_>, class: u32) -> Need
+    ensures { result ≡ need_at (status_at state.now.statuses.items class) }
+{
     match state.status(class) {
         Status::New => Need::Fresh,
         Status::Running | Status::Done => Need::Ready,
         Status::Failed => Need::Broken,
+    }
+}
+
+/// Whether a class that is needed is ready, or what has happened first: its initialisation has begun, which shows
+/// nothing, or it had failed, and an error was thrown, with what that shows.
+#[derive(Drop)]
+pub enum Readied {
+    Ready,
+    Started,
+    Failed(Option<Event>),
+}
+
+/// Sees to it that a class is ready. It answers that it is only where its initialiser runs or has run; a new class is
+/// started, and one that failed throws a new NoClassDefFoundError.
+pub fn readies<'a>(
+    alloc: Global,
+    tables: &Tables<'a>,
+    memo: &mut Memo,
+    state: &mut State<'a>,
+    class: u32,
+) -> Result<Readied, AllocError>
+    ensures { IfOk result (λ readied. IsRight readied (status_at state.old.statuses.items class)) }
+{
+    match need_of(state, class) {
+        Need::Ready => Ok(Readied::Ready),
+        Need::Fresh => {
+            starts(alloc, tables, memo, state, class)?;
+            Ok(Readied::Started)
+        }
+        Need::Broken => {
+            let event = throws(alloc, tables, memo, state, Thrown::New(known::NO_CLASS))?;
+            Ok(Readied::Failed(event))
+        }
     }
 }
 
@@ -72,7 +110,9 @@ pub fn starts<'a>(
     let above = tables.lookups.initialised_first(alloc, memo, class)?;
     let next = left_of(state, above.as_slice(), 0);
     if next < above.len() {
-        state.stack.push(Waiting::Initialiser { class, above, next })?;
+        state
+            .stack
+            .push(Waiting::Initialiser { class, above, next })?;
         state.set_status(class, Status::Running);
     } else {
         let frame = turn_of(alloc, tables, state, class)?;

@@ -1,9 +1,11 @@
 //! Thrown objects: which handler they reach, and what they do to the stack on the way (Dalvik bytecode, "throw"; Dalvik
 //! executable format, "try_item").
 
-use dalvik_state::{Cell, Datum, Draft, Frame, Gifts, State, Status, Tables, Thing, Waiting, World, drafted, show};
 use dalvik_defs::Event;
 use dalvik_lookups::{Kind, Memo, known};
+use dalvik_state::{
+    Cell, Datum, Draft, Frame, Gifts, State, Status, Tables, Thing, Waiting, World, drafted, show,
+};
 use program_model::Region;
 use std::alloc::{AllocError, Global};
 

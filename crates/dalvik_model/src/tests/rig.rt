@@ -136,7 +136,9 @@ impl Rig {
         if let Some(place) = found {
             return Ok(place);
         }
-        self.program.methods.push(MethodName { class, proto, name })?;
+        self.program
+            .methods
+            .push(MethodName { class, proto, name })?;
         Ok(last_of(self.program.methods.len()))
     }
 

@@ -38,21 +38,37 @@ fn sums_answers(alloc: Global, second: i32) -> Result<Rig, AllocError> {
         constant(0, 3),
         constant(2, second),
         rig.call(InvokeKind::Static, f, &[0])?,
-        Insn::MoveResult { slot: Slot::Word, to: 1 },
+        Insn::MoveResult {
+            slot: Slot::Word,
+            to: 1
+        },
         rig.call(InvokeKind::Static, f, &[2])?,
-        Insn::MoveResult { slot: Slot::Word, to: 2 },
-        Insn::Binary { op: BinaryOp::AddInt, to: 1, a: 1, b: 2 },
-        returns(1)
+        Insn::MoveResult {
+            slot: Slot::Word,
+            to: 2
+        },
+        Insn::Binary {
+            op: BinaryOp::AddInt,
+            to: 1,
+            a: 1,
+            b: 2
+        },
+        returns(1),
     ]?;
     let body = rig.body(3, 0, insns);
     with_m(&mut rig, &[], "I", body)?;
     let tells = vec![in alloc;
         constant(0, 3),
-        Insn::If { test: Test::Eq, a: 1, b: 0, target: 4 },
+        Insn::If {
+            test: Test::Eq,
+            a: 1,
+            b: 0,
+            target: 4
+        },
         constant(0, 0),
         returns(0),
         constant(0, 1),
-        returns(0)
+        returns(0),
     ]?;
     let body = rig.body(2, 1, tells);
     rig.define(f, 10, Some(body))?;
@@ -83,8 +99,13 @@ fn divides(alloc: Global, a: i32, b: i32) -> Result<String, AllocError> {
     let insns = vec![in alloc;
         constant(0, a),
         constant(1, b),
-        Insn::Binary { op: BinaryOp::DivInt, to: 2, a: 0, b: 1 },
-        returns(2)
+        Insn::Binary {
+            op: BinaryOp::DivInt,
+            to: 2,
+            a: 0,
+            b: 1
+        },
+        returns(2),
     ]?;
     int_trace(alloc, insns)
 }
@@ -107,8 +128,12 @@ fn reads_field(alloc: Global, logs: bool) -> Result<Rig, AllocError> {
     let mut rig = Rig::new(alloc, Version::V035);
     let x = rig.field("LB;", "x", "I")?;
     let insns = vec![in alloc;
-        Insn::StaticGet { item: Item::Plain, to: 0, field: x },
-        Insn::ReturnVoid
+        Insn::StaticGet {
+            item: Item::Plain,
+            to: 0,
+            field: x
+        },
+        Insn::ReturnVoid,
     ]?;
     let body = rig.body(1, 0, insns);
     with_m(&mut rig, &[], "V", body)?;
@@ -202,13 +227,23 @@ fn puts_item(alloc: Global, size: u32) -> Result<Rig, AllocError> {
     let insns = vec![in alloc;
         constant(0, 1),
         constant(1, 5),
-        Insn::ArrayPut { item: Item::Plain, from: 1, array: 2, index: 0 },
-        Insn::ReturnVoid
+        Insn::ArrayPut {
+            item: Item::Plain,
+            from: 1,
+            array: 2,
+            index: 0
+        },
+        Insn::ReturnVoid,
     ]?;
     let body = rig.body(3, 1, insns);
     with_m(&mut rig, &["[I"], "V", body)?;
     let item = text(alloc, "I")?;
-    rig.enter("LA;", "m", "([I)V", vec![in alloc; Given::Array { item, size }]?)?;
+    rig.enter(
+        "LA;",
+        "m",
+        "([I)V",
+        vec![in alloc; Given::Array { item, size }]?,
+    )?;
     Ok(rig)
 }
 
@@ -248,7 +283,10 @@ fn define_constructor(
 ) -> Result<(), AllocError> {
     let own = rig.method(class, "<init>", &[], "V")?;
     let above = rig.method(superclass, "<init>", &[], "V")?;
-    let insns = vec![in alloc; rig.call(InvokeKind::Direct, above, &[0])?, Insn::ReturnVoid]?;
+    let insns = vec![in alloc;
+        rig.call(InvokeKind::Direct, above, &[0])?,
+        Insn::ReturnVoid,
+    ]?;
     let body = rig.body(1, 1, insns);
     rig.define(own, 65537, Some(body))
 }
@@ -302,7 +340,7 @@ fn calls_r(alloc: Global, version: Version, place: Where) -> Result<String, Allo
         Insn::NewInstance { to: 0, kind: b },
         rig.call(InvokeKind::Direct, init, &[0])?,
         rig.call(InvokeKind::Interface, r, &[0])?,
-        Insn::ReturnVoid
+        Insn::ReturnVoid,
     ]?;
     let body = rig.body(1, 0, insns);
     with_m(&mut rig, &[], "V", body)?;
@@ -316,8 +354,14 @@ fn calls_r(alloc: Global, version: Version, place: Where) -> Result<String, Allo
 fn interface_calls_find_what_the_version_says(rt: HostRuntime) -> Result<(), Fail> {
     let alloc = rt.alloc();
     let logged = "call static LLog; i ()V/result/";
-    assert_eq!(rt; calls_r(alloc, Version::V035, Where::Class)?.as_str(), logged);
-    assert_eq!(rt; calls_r(alloc, Version::V037, Where::Interface)?.as_str(), logged);
+    assert_eq!(rt;
+        calls_r(alloc, Version::V035, Where::Class)?.as_str(),
+        logged
+    );
+    assert_eq!(rt;
+        calls_r(alloc, Version::V037, Where::Interface)?.as_str(),
+        logged
+    );
     assert_eq!(rt;
         calls_r(alloc, Version::V035, Where::Interface)?.as_str(),
         "call interface LI; r ()V #0=LB;/result/"
@@ -361,11 +405,18 @@ fn on_create(rig: &mut Rig, alloc: Global) -> Result<Vec<Insn>, AllocError> {
     Ok(vec![in alloc;
         rig.call(InvokeKind::Super, above, &[2, 3])?,
         rig.logs()?,
-        Insn::StaticGet { item: Item::Object, to: 1, field: mode },
-        Insn::NewInstance { to: 0, kind: listener },
+        Insn::StaticGet {
+            item: Item::Object,
+            to: 1,
+            field: mode
+        },
+        Insn::NewInstance {
+            to: 0,
+            kind: listener
+        },
         rig.call(InvokeKind::Direct, init, &[0])?,
         rig.call(InvokeKind::Virtual, post, &[2, 0])?,
-        Insn::ReturnVoid
+        Insn::ReturnVoid,
     ]?)
 }
 
@@ -380,8 +431,12 @@ fn add_mode(rig: &mut Rig, alloc: Global) -> Result<(), AllocError> {
     let insns = vec![in alloc;
         Insn::NewInstance { to: 0, kind: mode },
         rig.call(InvokeKind::Direct, init, &[0])?,
-        Insn::StaticPut { item: Item::Object, from: 0, field: 0 },
-        Insn::ReturnVoid
+        Insn::StaticPut {
+            item: Item::Object,
+            from: 0,
+            field: 0
+        },
+        Insn::ReturnVoid,
     ]?;
     let body = rig.body(1, 0, insns);
     rig.define(starts, 65544, Some(body))
@@ -396,7 +451,12 @@ fn application(alloc: Global) -> Result<Rig, AllocError> {
     rig.class("Lapp/Main;", "Landroid/app/Activity;", &[], 1)?;
     define_constructor(&mut rig, alloc, "Lapp/Main;", "Landroid/app/Activity;")?;
     rig.define(create, 1, Some(body))?;
-    rig.class("Lapp/Main$1;", "Ljava/lang/Object;", &["Ljava/lang/Runnable;"], 0)?;
+    rig.class(
+        "Lapp/Main$1;",
+        "Ljava/lang/Object;",
+        &["Ljava/lang/Runnable;"],
+        0,
+    )?;
     define_constructor(&mut rig, alloc, "Lapp/Main$1;", "Ljava/lang/Object;")?;
     define_log(&mut rig, alloc, "Lapp/Main$1;", "run")?;
     add_mode(&mut rig, alloc)?;
@@ -413,14 +473,24 @@ fn runs_application(alloc: Global) -> Result<String, AllocError> {
     rig.then(Move::Make {
         class: text(alloc, "Lapp/Main;")?,
     })?;
-    rig.enter("Lapp/Main;", "<init>", "()V", vec![in alloc; Given::Exposed(0)]?)?;
+    rig.enter(
+        "Lapp/Main;",
+        "<init>",
+        "()V",
+        vec![in alloc; Given::Exposed(0)]?,
+    )?;
     rig.then(Move::Return { value: None })?;
     let values = vec![in alloc; Given::Exposed(0), Given::Null]?;
     rig.enter("Lapp/Main;", "onCreate", "(Landroid/os/Bundle;)V", values)?;
     for _ in 0..3u8 {
         rig.then(Move::Return { value: None })?;
     }
-    rig.enter("Lapp/Main$1;", "run", "()V", vec![in alloc; Given::Exposed(2)]?)?;
+    rig.enter(
+        "Lapp/Main$1;",
+        "run",
+        "()V",
+        vec![in alloc; Given::Exposed(2)]?,
+    )?;
     for _ in 0..2u8 {
         rig.then(Move::Return { value: None })?;
     }

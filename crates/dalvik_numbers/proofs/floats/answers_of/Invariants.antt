@@ -1,7 +1,7 @@
 use Rattle.std.proofs.Common.{◌≡◌, ◌≤◌, length, drop}
 use Rattle.std.specs.HashMap.{get}
 use Rattle.dalvik_numbers.specs.Rows.{Key, answer_in, key_eq}
-use Rattle.dalvik_numbers.proofs.answers_of.Given as goal
+use Rattle.dalvik_numbers.proofs.floats.answers_of.Given as goal
 
 abbrev pub invariant-loop-at : goal.invariant-loop-at
 invariant-loop-at l = record {

@@ -1,5 +1,7 @@
 //! The state of a run, and the tables that it reads.
 
+ghost use Rattle.std.specs.Prelude.{◌≡◌, slice_index_or};
+
 use crate::datum::Datum;
 use crate::frame::Frame;
 use crate::world::World;
@@ -81,7 +83,9 @@ impl<'a> State<'a> {
     }
 
     /// How far the initialisation of a class is.
-    pub fn status(&self, class: u32) -> Status {
+    pub fn status(&self, class: u32) -> Status
+        ensures { result ≡ slice_index_or self.now.statuses.items class Status.Done }
+    {
         match self.statuses.as_slice().get(class as usize) {
             Some(status) => *status,
             None => Status::Done,

@@ -150,12 +150,12 @@ fn fly(
     Ok((wraps, Landing::Nowhere))
 }
 
-/// The type of what is thrown.
+/// The type of what is thrown; a number has a type that is under none.
 fn kind_of_thrown(gifts: &Gifts, world: &World, thrown: Thrown) -> Kind {
     match thrown {
         Thrown::Value(datum) => match gifts.kind_of(world, datum) {
             Some(kind) => kind,
-            None => Kind::plain(known::OBJECT),
+            None => Kind::plain(usize::MAX),
         },
         Thrown::New(class) => Kind::plain(class),
     }

@@ -18,6 +18,3 @@ pub use dalvik_defs::{
     Event, FloatOp, FloatRow, Floats, Framework, FrameworkType, Given, Move, Shown,
 };
 pub use machine::{Machine, run};
-
-#[cfg(test)]
-mod tests;

@@ -1,0 +1,6 @@
+pub mod DigitLemmas
+pub mod EventLemmas
+pub mod FrontLemmas
+pub mod NameLemmas
+pub mod ScriptLemmas
+pub mod ValueLemmas

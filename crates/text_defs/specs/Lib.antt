@@ -1,0 +1,10 @@
+pub mod Digits
+pub mod Escapes
+pub mod Words
+pub mod Values
+pub mod FloatNames
+pub mod Rows
+pub mod Moves
+pub mod Plays
+pub mod EventLines
+pub mod Examples

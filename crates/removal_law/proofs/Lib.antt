@@ -1,0 +1,5 @@
+pub mod Lists
+pub mod Walks
+pub mod Classes
+pub mod Under
+pub mod Fits

@@ -3,3 +3,4 @@ pub mod Walks
 pub mod Classes
 pub mod Under
 pub mod Fits
+pub mod Members

@@ -77,11 +77,11 @@ none_in f [] e x c = elim c [ ]
 none_in f (y ∷ xs) e x (here ys) = or_left (f y) (list_any f xs) e
 none_in f (y ∷ xs) e x (there z ys c) = none_in f xs (or_behind (f y) (list_any f xs) e) x c
 
-and_left : (a b : Bool) → (a && b) ≡ true → a ≡ true
+pub and_left : (a b : Bool) → (a && b) ≡ true → a ≡ true
 and_left true b e = refl
 and_left false b e = e
 
-and_behind : (a b : Bool) → (a && b) ≡ true → b ≡ true
+pub and_behind : (a b : Bool) → (a && b) ≡ true → b ≡ true
 and_behind true b e = e
 and_behind false b e = clash true refl (sym e)
 

@@ -3,6 +3,8 @@
 ghost use Rattle.std.specs.Prelude.{◌≡◌, List, true};
 ghost use Rattle.std.specs.Option.{option_map};
 ghost use Rattle.dalvik_defs.specs.Names.{Text, base_of};
+ghost use Rattle.dalvik_defs.specs.Face.{bodies_of};
+ghost use Rattle.dalvik_defs.specs.declared.names.MethodKey.{MethodKey};
 ghost use Rattle.dalvik_defs.specs.Outer.{Outer};
 ghost use Rattle.dalvik_defs.specs.Shown.{Fit};
 ghost use Rattle.dalvik_defs.specs.declared.script.Move.{Move};
@@ -26,4 +28,9 @@ pub fn a_fitting_framework_law()
 pub fn under_left_law()
     ensures { (p : NamedProgram) (f : Framework) → NamesNone p f → (s : Family) → KeepsAbove p s → (t u : Text) → (defines p (base_of t) ≡ true → s.classes (base_of t) ≡ true)
         → is_under p f t u ≡ is_under (left_of s p) f t u }
+{}
+
+/// A live method of a live class has the body in what is left that it had.
+pub fn bodies_left_law()
+    ensures { (s : Family) (p : NamedProgram) (k : MethodKey) → s.classes k.class ≡ true → s.methods k ≡ true → bodies_of (left_of s p) k ≡ bodies_of p k }
 {}

@@ -1,0 +1,10 @@
+pub mod Numbers
+pub mod Runs
+pub mod Plans
+pub mod Sets
+pub mod Lists
+pub mod Codes
+pub mod Data
+pub mod Tables
+pub mod File
+pub mod Written

@@ -2,12 +2,12 @@
 
 ghost use Rattle.std.specs.Prelude.{◌≡◌, ◌<◌, vec_len, length};
 
-use crate::output::offset_of;
+use crate::numbers::word_of;
 use program_model::{Class, Program};
 use std::alloc::{AllocError, Global};
 
 /// A class on the way, and how many of the types above it were looked at.
-#[derive(Clone, Copy, Debug, Drop)]
+#[derive(Clone, Copy, Drop)]
 struct Visit {
     class: u32,
     looked: usize,
@@ -15,12 +15,12 @@ struct Visit {
 
 /// The place of the class that defines each type; the number of classes for none.
 fn places_of(alloc: Global, program: &Program) -> Result<Vec<u32>, AllocError> {
-    let none = offset_of(program.classes.len());
+    let none = word_of(program.classes.len())?;
     let mut places = vec![in alloc; none; program.types.len()]?;
     for (place, class) in program.classes.as_slice().iter().enumerate() {
         if let Some(entry) = places.get_mut(class.name as usize) {
             if *entry == none {
-                *entry = offset_of(place);
+                *entry = word_of(place)?;
             }
         }
     }
@@ -97,7 +97,7 @@ pub fn written_order(alloc: Global, program: &Program) -> Result<Vec<u32>, Alloc
         order: Vec::with_capacity(alloc, count)?,
     };
     for class in 0..count {
-        search.begin(offset_of(class))?;
+        search.begin(word_of(class)?)?;
         for _ in 0..u64::MAX {
             if !search.step()? {
                 break;

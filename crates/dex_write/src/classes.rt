@@ -1,121 +1,158 @@
 //! Class data and first values (Dalvik executable format, "class_data_item", "encoded_array_item").
 
-use crate::ordered::{Numbered, Ordered};
-use crate::output::{Kind, Output, offset_of};
-use dex_base::{Text, write_uleb};
+ghost use Rattle.std.specs.Prelude.{◌≡◌, ◌-◌, ◌++◌, length, map, take, IfOk, OnOk, slice_get, is_some};
+ghost use Rattle.dex_write.specs.Numbers.{Placed};
+ghost use Rattle.dex_write.specs.Plans.{plan_in};
+ghost use Rattle.dex_write.specs.Codes.{codes_behind};
+ghost use Rattle.dex_write.specs.Data.{fields_text, method_text, methods_text, counts_text, data_text, data_texts, has_first, first_count, zero_of, first_text, values_text, counted_text, array_text};
+
+use crate::codes::{code_behind, code_offset, codes_behind};
+use crate::numbers::{Items, offset_of, split, word_of};
+use crate::ordered::{MethodPart, Numbered, Ordered, field_flags, method_flags};
+use crate::texts::field_letter;
+use dex_base::write_uleb;
 use dex_pools::write_value;
-use program_model::{Class, EncValue, Field, Program, Renumber};
+use program_model::{Class, EncValue, Program, Renumber};
+use seq::Seq;
 use std::alloc::{AllocError, Global};
 
-/// The fields of a group: the step of each number from the one before it, and the flags.
-fn push_fields(output: &mut Output, class: &Class, group: &[Numbered]) -> Result<(), AllocError> {
+/// Adds fields: the step of each number from the one before it, and the flags.
+fn push_fields(out: &mut Vec<u8>, class: &Class, fields: &[Numbered]) -> Result<(), AllocError>
+    ensures { OnOk result (out.new.items ≡ out.old.items ++ fields_text class.now 0 fields.now) }
+{
     let mut before: u32 = 0;
-    for (number, place) in group {
-        let flags = class
-            .fields
-            .items
-            .get(*place as usize)
-            .map_or(0, |field| field.flags.0);
-        write_uleb(&mut output.bytes, number.saturating_sub(before))?;
-        write_uleb(&mut output.bytes, flags)?;
-        before = *number;
+    for field in fields {
+        write_uleb(out, field.0.saturating_sub(before))?;
+        write_uleb(out, field_flags(class, field.1))?;
+        before = field.0;
     }
     Ok(())
 }
 
-/// The methods of a group: the step of each number, the flags, and the offset of the code.
+/// Adds a method behind one with the number `before`: the step of its number, the flags, and the offset of its code,
+/// which comes behind `at`.
+fn push_method(
+    out: &mut Vec<u8>,
+    class: &Class,
+    before: u32,
+    at: u32,
+    method: &MethodPart,
+) -> Result<(), AllocError>
+    ensures { OnOk result (out.new.items ≡ out.old.items ++ method_text class.now before at method.now) }
+{
+    write_uleb(out, method.number.saturating_sub(before))?;
+    write_uleb(out, method_flags(class, method.place))?;
+    write_uleb(out, code_offset(at, method)?)
+}
+
+/// Adds methods whose code comes behind `at`.
 fn push_methods(
-    output: &mut Output,
+    out: &mut Vec<u8>,
     class: &Class,
-    group: &[Numbered],
-    codes: &[u32],
-) -> Result<(), AllocError> {
+    at: u32,
+    methods: &[MethodPart],
+) -> Result<(), AllocError>
+    ensures { OnOk result (out.new.items ≡ out.old.items ++ methods_text class.now 0 at methods.now) }
+{
     let mut before: u32 = 0;
-    for ((number, place), code) in group.iter().zip(codes.iter()) {
-        let flags = class
-            .methods
-            .items
-            .get(*place as usize)
-            .map_or(0, |method| method.flags.0);
-        write_uleb(&mut output.bytes, number.saturating_sub(before))?;
-        write_uleb(&mut output.bytes, flags)?;
-        write_uleb(&mut output.bytes, *code)?;
-        before = *number;
+    let mut next = at;
+    for method in methods {
+        push_method(out, class, before, next, method)?;
+        before = method.number;
+        next = code_behind(next, method)?;
     }
     Ok(())
 }
 
-/// The class data of a class, and its offset, 0 where it has no members.
-fn write_data(
-    output: &mut Output,
-    class: &Class,
-    ordered: &Ordered,
-    codes: &[u32],
-) -> Result<u32, AllocError> {
-    if class.fields.is_empty() && class.methods.is_empty() {
-        return Ok(0);
-    }
-    let at = output.begin(Kind::ClassData)?;
-    write_uleb(&mut output.bytes, offset_of(ordered.statics.len()))?;
-    write_uleb(&mut output.bytes, offset_of(ordered.instances.len()))?;
-    write_uleb(&mut output.bytes, offset_of(ordered.directs.len()))?;
-    write_uleb(&mut output.bytes, offset_of(ordered.virtuals.len()))?;
-    push_fields(output, class, &ordered.statics)?;
-    push_fields(output, class, &ordered.instances)?;
-    push_methods(output, class, &ordered.directs, codes)?;
-    let behind = match codes.split_at_checked(ordered.directs.len()) {
-        Some((_, behind)) => behind,
-        None => &[],
-    };
-    push_methods(output, class, &ordered.virtuals, behind)?;
-    Ok(at)
+/// Adds how many members there are of each kind.
+fn push_counts(
+    out: &mut Vec<u8>,
+    statics: usize,
+    instances: usize,
+    directs: usize,
+    virtuals: usize,
+) -> Result<(), AllocError>
+    ensures { OnOk result (out.new.items ≡ out.old.items ++ counts_text statics instances directs virtuals) }
+{
+    write_uleb(out, word_of(statics)?)?;
+    write_uleb(out, word_of(instances)?)?;
+    write_uleb(out, word_of(directs)?)?;
+    write_uleb(out, word_of(virtuals)?)
 }
 
-/// The class data of all classes: the offset of each.
-pub fn write_all_data(
-    alloc: Global,
-    program: &Program,
-    order: &[Ordered],
-    codes: &[Vec<u32>],
-    output: &mut Output,
-) -> Result<Vec<u32>, AllocError> {
-    let mut places = Vec::with_capacity(alloc, order.len())?;
-    for (ordered, codes) in order.iter().zip(codes.iter()) {
-        let at = match program.classes.items.get(ordered.class as usize) {
-            Some(class) => write_data(output, class, ordered, codes.as_slice())?,
-            None => 0,
-        };
-        places.push(at)?;
+/// Adds the class data of a class whose code comes behind `at`; nothing where it has no members.
+#[tactic(auto, unfolding(crate::specs::Data::data_text))]
+fn push_data(out: &mut Vec<u8>, ordered: &Ordered, at: u32) -> Result<(), AllocError>
+    ensures { OnOk result (out.new.items ≡ out.old.items ++ data_text (plan_in ordered.now) at) }
+{
+    let fields = ordered.fields.as_slice();
+    let methods = ordered.methods.as_slice();
+    if fields.is_empty() && methods.is_empty() {
+        return Ok(());
     }
-    Ok(places)
+    let instance_count = fields.len().saturating_sub(ordered.statics);
+    let virtual_count = methods.len().saturating_sub(ordered.directs);
+    push_counts(
+        out,
+        ordered.statics,
+        instance_count,
+        ordered.directs,
+        virtual_count,
+    )?;
+    let (statics, instances) = split(fields, ordered.statics);
+    push_fields(out, ordered.class, statics)?;
+    push_fields(out, ordered.class, instances)?;
+    let (directs, virtuals) = split(methods, ordered.directs);
+    push_methods(out, ordered.class, at, directs)?;
+    push_methods(out, ordered.class, codes_behind(at, directs)?, virtuals)
+}
+
+/// The class data of all classes, whose code comes behind `at`.
+pub fn all_data(alloc: Global, order: &[Ordered], at: u32, base: u32) -> Result<Items, AllocError>
+    ensures { IfOk result (Placed base (data_texts at (map plan_in order.now))) }
+{
+    let mut bytes = Vec::new(alloc);
+    let mut offsets = Vec::with_capacity(alloc, order.len())?;
+    let mut next = at;
+    for ordered in order {
+        let begin = bytes.len();
+        push_data(&mut bytes, ordered, next)?;
+        offsets.push(offset_of(base, begin, bytes.len())?)?;
+        next = codes_behind(next, ordered.methods.as_slice())?;
+    }
+    Ok(Items {
+        bytes: Seq::of_vec(bytes),
+        offsets: Seq::of_vec(offsets),
+    })
+}
+
+/// Whether the field at a place has a first value.
+fn has_first(class: &Class, place: u32) -> bool
+    ensures { result ≡ has_first (slice_get class.now.fields place) }
+{
+    match class.fields.items.get(place as usize) {
+        Some(field) => field.first.is_some(),
+        None => false,
+    }
 }
 
 /// How many static fields there are up to the last one with a first value.
-fn first_count(class: &Class, statics: &[Numbered]) -> usize {
+fn first_count(class: &Class, statics: &[Numbered]) -> usize
+    ensures { result ≡ first_count class.now 0 0 statics.now }
+{
     let mut count = 0;
-    for (entry, (_, place)) in statics.iter().enumerate() {
-        if let Some(field) = class.fields.items.get(*place as usize) {
-            if field.first.is_some() {
-                count = entry.saturating_add(1);
-            }
+    for (entry, field) in statics.iter().enumerate() {
+        if has_first(class, field.1) {
+            count = entry + 1;
         }
     }
     count
 }
 
-/// The text of a field's type.
-fn type_text<'a>(program: &'a Program, field: &Field) -> Option<&'a Text> {
-    let name = program.fields.items.get(field.name as usize)?;
-    let string = program.types.items.get(name.kind as usize)?;
-    program.strings.items.get(*string as usize)
-}
-
-/// What a field holds that has no first value, by its type.
-fn zero_of(program: &Program, field: &Field) -> EncValue {
-    let letter = match type_text(program, field) {
-        Some(text) => text.units().first().copied().unwrap_or(0),
-        None => 0,
-    };
+/// What a field holds that has no first value, by the letter of its type.
+fn zero_of(letter: u16) -> EncValue
+    ensures { result ≡ zero_of letter }
+{
     match letter {
         0x5a => EncValue::Bool(false),
         0x42 => EncValue::Byte(0),
@@ -129,56 +166,103 @@ fn zero_of(program: &Program, field: &Field) -> EncValue {
     }
 }
 
-/// The first value of a static field.
+/// Adds the first value of the static field at a place.
 fn push_first(
-    output: &mut Output,
+    out: &mut Vec<u8>,
     program: &Program,
-    field: &Field,
+    class: &Class,
+    place: u32,
     numbers: &Renumber,
-) -> Result<(), AllocError> {
+) -> Result<(), AllocError>
+    ensures { OnOk result (out.new.items ≡ out.old.items ++ first_text program.now numbers.now (slice_get class.now.fields place)) }
+{
+    let Some(field) = class.fields.items.get(place as usize) else {
+        return Ok(());
+    };
     match &field.first {
-        Some(value) => write_value(&mut output.bytes, value, numbers),
-        None => write_value(&mut output.bytes, &zero_of(program, field), numbers),
+        Some(value) => write_value(out, value, numbers),
+        None => write_value(out, &zero_of(field_letter(program, field.name)), numbers),
     }
 }
 
-/// The first values of a class's static fields, and their offset, 0 where none has one.
-fn write_first(
+/// Adds so many first values of static fields, and before them how many.
+fn push_values(
+    out: &mut Vec<u8>,
+    program: &Program,
+    class: &Class,
+    count: u32,
+    firsts: &[Numbered],
+    numbers: &Renumber,
+) -> Result<(), AllocError>
+    ensures { OnOk result (out.new.items ≡ out.old.items ++ values_text program.now numbers.now class.now count firsts.now) }
+{
+    write_uleb(out, count)?;
+    for field in firsts {
+        push_first(out, program, class, field.1, numbers)?;
+    }
+    Ok(())
+}
+
+/// Adds the first values of the first static fields; nothing for none.
+fn push_counted(
+    out: &mut Vec<u8>,
+    program: &Program,
+    class: &Class,
+    count: usize,
+    statics: &[Numbered],
+    numbers: &Renumber,
+) -> Result<(), AllocError>
+    ensures { OnOk result (out.new.items ≡ out.old.items ++ counted_text program.now numbers.now class.now count statics.now) }
+{
+    if count == 0 {
+        return Ok(());
+    }
+    let count_word = word_of(count)?;
+    push_values(
+        out,
+        program,
+        class,
+        count_word,
+        split(statics, count).0,
+        numbers,
+    )
+}
+
+/// Adds the first values of static fields, all up to the last one that has one.
+fn push_firsts(
+    out: &mut Vec<u8>,
     program: &Program,
     class: &Class,
     statics: &[Numbered],
     numbers: &Renumber,
-    output: &mut Output,
-) -> Result<u32, AllocError> {
+) -> Result<(), AllocError>
+    ensures { OnOk result (out.new.items ≡ out.old.items ++ counted_text program.now numbers.now class.now (first_count class.now 0 0 statics.now) statics.now) }
+{
     let count = first_count(class, statics);
-    if count == 0 {
-        return Ok(0);
-    }
-    let at = output.begin(Kind::EncodedArray)?;
-    write_uleb(&mut output.bytes, offset_of(count))?;
-    for (_, place) in statics.iter().take(count) {
-        if let Some(field) = class.fields.items.get(*place as usize) {
-            push_first(output, program, field, numbers)?;
-        }
-    }
-    Ok(at)
+    push_counted(out, program, class, count, statics, numbers)
 }
 
-/// The first values of all classes: the offset of each.
-pub fn write_all_firsts(
+/// The first values of all classes.
+#[tactic(auto, unfolding(crate::specs::Data::array_text))]
+pub fn all_firsts(
     alloc: Global,
     program: &Program,
     order: &[Ordered],
     numbers: &Renumber,
-    output: &mut Output,
-) -> Result<Vec<u32>, AllocError> {
-    let mut places = Vec::with_capacity(alloc, order.len())?;
+    base: u32,
+) -> Result<Items, AllocError>
+    ensures { IfOk result (Placed base (map (array_text program.now numbers.now) (map plan_in order.now))) }
+{
+    let mut bytes = Vec::new(alloc);
+    let mut offsets = Vec::with_capacity(alloc, order.len())?;
     for ordered in order {
-        let at = match program.classes.items.get(ordered.class as usize) {
-            Some(class) => write_first(program, class, &ordered.statics, numbers, output)?,
-            None => 0,
-        };
-        places.push(at)?;
+        let begin = bytes.len();
+        let (statics, _) = split(ordered.fields.as_slice(), ordered.statics);
+        push_firsts(&mut bytes, program, ordered.class, statics, numbers)?;
+        offsets.push(offset_of(base, begin, bytes.len())?)?;
     }
-    Ok(places)
+    Ok(Items {
+        bytes: Seq::of_vec(bytes),
+        offsets: Seq::of_vec(offsets),
+    })
 }

@@ -1,132 +1,38 @@
 //! The code of methods, and their lines (Dalvik executable format, "code_item", "debug_info_item").
 
-ghost use Rattle.std.specs.Prelude.{◌<◌, ◌^◌, IsTrue};
+ghost use Rattle.std.specs.Prelude.{◌≡◌, ◌+◌, ◌<◌, ◌^◌, ◌++◌, ◌∷◌, [], length, take, drop, IsTrue, IfOk, OnOk, slice_get};
 ghost use Rattle.std.specs.List.{AllByRecursion};
 ghost use Rattle.line_tables.specs.Text.{AscendsFrom};
+ghost use Rattle.program_model.specs.MemberRules.{proto_of};
+ghost use Rattle.dex_write.specs.Plans.{plan_in};
+ghost use Rattle.dex_write.specs.Codes.{ascend, are_low, parameters_in, lines_text, IsCoded, IsCodedIn, IsPart, code_offset, code_behind, codes_behind, debug_offset, with_debug, code_text, codes_text, lines_behind, count_codes, count_lines, parts_of};
 
-use crate::ordered::{Numbered, Ordered};
-use crate::output::{Kind, Output, offset_of};
+use crate::numbers::{behind, gap, push_words, push_zeros, split, up, word_of};
+use crate::ordered::{MethodPart, Numbered, Ordered};
 use code_write::write_body;
 use line_tables::write_lines;
 use program_model::{Class, Method, Program, Renumber};
 use relax::{LayFault, lay_out};
+use seq::Seq;
 use std::alloc::{AllocError, Global};
 
-/// A method's line table that is still to be written: where its code stands, its lines, where its positions begin,
-/// and how many parameters it has.
-#[derive(Drop)]
-pub struct PendingLines<'a> {
-    code: u32,
-    lines: &'a [u32],
-    starts: Vec<u32>,
-    parameters: u32,
-}
-
 /// How many parameters a method's proto has.
-fn parameters_of(program: &Program, method: u32) -> u32 {
+fn parameters_of(program: &Program, method: u32) -> Result<u32, AllocError>
+    ensures { IfOk result (λ count. count ≡ parameters_in (proto_of program.now method)) }
+{
     let Some(name) = program.methods.items.get(method as usize) else {
-        return 0;
-    };
-    match program.protos.items.get(name.proto as usize) {
-        Some(proto) => offset_of(proto.parameters.len()),
-        None => 0,
-    }
-}
-
-/// The code of a method, and its offset, 0 where it has none. Code that has no layout is left out.
-fn write_code<'a>(
-    alloc: Global,
-    program: &Program,
-    method: &'a Method,
-    numbers: &Renumber,
-    output: &mut Output,
-    pending: &mut Vec<PendingLines<'a>>,
-) -> Result<u32, AllocError> {
-    let Some(body) = &method.body else {
         return Ok(0);
     };
-    let layout = match lay_out(alloc, body, numbers) {
-        Ok(layout) => layout,
-        Err(LayFault::NoMemory) => return Err(AllocError),
-        Err(LayFault::FarBranch { .. }) => return Ok(0),
-    };
-    let at = output.begin(Kind::CodeItem)?;
-    let code = write_body(alloc, body, &layout, numbers)?;
-    output.bytes.extend_from_slice(&code.bytes)?;
-    if !method.lines.is_empty() {
-        pending.push(PendingLines {
-            code: at,
-            lines: method.lines.as_slice(),
-            starts: layout.starts,
-            parameters: parameters_of(program, method.name),
-        })?;
+    match program.protos.items.get(name.proto as usize) {
+        Some(proto) => word_of(proto.parameters.len()),
+        None => Ok(0),
     }
-    Ok(at)
-}
-
-/// The code of a group of methods: the offset of each, in the group's order.
-fn write_group<'a>(
-    alloc: Global,
-    program: &Program,
-    class: &'a Class,
-    group: &[Numbered],
-    numbers: &Renumber,
-    output: &mut Output,
-    places: &mut Vec<u32>,
-    pending: &mut Vec<PendingLines<'a>>,
-) -> Result<(), AllocError> {
-    for (_, place) in group {
-        let at = match class.methods.items.get(*place as usize) {
-            Some(method) => write_code(alloc, program, method, numbers, output, pending)?,
-            None => 0,
-        };
-        places.push(at)?;
-    }
-    Ok(())
-}
-
-/// The code of all methods: for each class the offsets, direct methods before virtual ones.
-pub fn write_codes<'a>(
-    alloc: Global,
-    program: &'a Program,
-    order: &[Ordered],
-    numbers: &Renumber,
-    output: &mut Output,
-    pending: &mut Vec<PendingLines<'a>>,
-) -> Result<Vec<Vec<u32>>, AllocError> {
-    let mut all = Vec::with_capacity(alloc, order.len())?;
-    for ordered in order {
-        let mut places = Vec::new(alloc);
-        if let Some(class) = program.classes.items.get(ordered.class as usize) {
-            write_group(
-                alloc,
-                program,
-                class,
-                &ordered.directs,
-                numbers,
-                output,
-                &mut places,
-                pending,
-            )?;
-            write_group(
-                alloc,
-                program,
-                class,
-                &ordered.virtuals,
-                numbers,
-                output,
-                &mut places,
-                pending,
-            )?;
-        }
-        all.push(places)?;
-    }
-    Ok(all)
 }
 
 /// Whether the places ascend strictly and are below 2^31.
 fn ascend(starts: &[u32]) -> bool
-    ensures { IsTrue result → AscendsFrom 0 starts.now }
+    ensures is { result ≡ ascend 0 starts.now }
+    ensures ascends { IsTrue result → AscendsFrom 0 starts.now }
 {
     let mut low = 0;
     for start in starts {
@@ -140,7 +46,8 @@ fn ascend(starts: &[u32]) -> bool
 
 /// Whether the lines are below 2^31.
 fn are_low(lines: &[u32]) -> bool
-    ensures { IsTrue result → AllByRecursion (λ x. x < 2 ^ 31) lines.now }
+    ensures is { result ≡ are_low lines.now }
+    ensures low { IsTrue result → AllByRecursion (λ x. x < 2 ^ 31) lines.now }
 {
     for line in lines {
         if *line >= 1 << 31 {
@@ -150,33 +57,227 @@ fn are_low(lines: &[u32]) -> bool
     true
 }
 
-/// The line tables, whose offsets go into the code. Lines that no debug item can give are left out; a well-formed
-/// program has none.
-pub fn write_line_tables(output: &mut Output, pending: &[PendingLines]) -> Result<(), AllocError> {
-    for entry in pending {
-        let PendingLines {
-            code,
-            lines,
-            starts,
-            parameters,
-        } = entry;
-        write_line_table(output, *code, lines, starts.as_slice(), *parameters)?;
+/// The debug item of a method's lines, empty where it has none. Lines that no debug item can give are left out; a
+/// well-formed program has none.
+fn lines_of(
+    alloc: Global,
+    lines: &[u32],
+    starts: &[u32],
+    parameters: u32,
+) -> Result<Vec<u8>, AllocError>
+    ensures { IfOk result (λ v. v.items ≡ lines_text parameters lines.now starts.now) }
+{
+    let mut out = Vec::new(alloc);
+    if !lines.is_empty() && lines.len() == starts.len() && ascend(starts) && are_low(lines) {
+        write_lines(&mut out, lines, starts, parameters)?;
+    }
+    Ok(out)
+}
+
+/// A method's code item and debug item.
+#[derive(Drop)]
+struct Code {
+    code: Vec<u8>,
+    lines: Vec<u8>,
+}
+
+/// The code of a method. A body that has no layout is left out; a well-formed program that lays out has none.
+fn code_of(
+    alloc: Global,
+    program: &Program,
+    method: &Method,
+    numbers: &Renumber,
+) -> Result<Code, AllocError> {
+    let Some(body) = &method.body else {
+        return Ok(Code {
+            code: Vec::new(alloc),
+            lines: Vec::new(alloc),
+        });
+    };
+    let layout = match lay_out(alloc, body, numbers) {
+        Ok(layout) => layout,
+        Err(LayFault::NoMemory) => return Err(AllocError),
+        Err(LayFault::FarBranch { .. }) => {
+            return Ok(Code {
+                code: Vec::new(alloc),
+                lines: Vec::new(alloc),
+            });
+        }
+    };
+    let item = write_body(alloc, body, &layout, numbers)?;
+    let parameters = parameters_of(program, method.name)?;
+    let lines = lines_of(alloc, method.lines.as_slice(), &layout.starts, parameters)?;
+    Ok(Code {
+        code: item.bytes,
+        lines,
+    })
+}
+
+/// The code of the method at a place of a class.
+fn code_at(
+    alloc: Global,
+    program: &Program,
+    class: &Class,
+    place: u32,
+    numbers: &Renumber,
+) -> Result<Code, AllocError> {
+    match class.methods.items.get(place as usize) {
+        Some(method) => code_of(alloc, program, method, numbers),
+        None => Ok(Code {
+            code: Vec::new(alloc),
+            lines: Vec::new(alloc),
+        }),
+    }
+}
+
+/// Adds the methods at these places with their code.
+pub fn push_parts(
+    alloc: Global,
+    parts: &mut Vec<MethodPart>,
+    program: &Program,
+    class: &Class,
+    places: &[Numbered],
+    numbers: &Renumber,
+) -> Result<(), AllocError> {
+    for (number, place) in places {
+        let Code { code, lines } = code_at(alloc, program, class, *place, numbers)?;
+        parts.push(MethodPart {
+            number: *number,
+            place: *place,
+            code: Seq::of_vec(code),
+            lines: Seq::of_vec(lines),
+        })?;
     }
     Ok(())
 }
 
-/// The line table of the code at a place.
-fn write_line_table(
-    output: &mut Output,
-    code: u32,
-    lines: &[u32],
-    starts: &[u32],
-    parameters: u32,
-) -> Result<(), AllocError> {
-    if lines.len() == starts.len() && ascend(starts) && are_low(lines) {
-        let at = output.begin(Kind::DebugInfo)?;
-        output.patch((code as usize).saturating_add(8), at);
-        write_lines(&mut output.bytes, lines, starts, parameters)?;
+/// Where a method's code stands that comes behind `at`, 0 where it has none.
+pub fn code_offset(at: u32, part: &MethodPart) -> Result<u32, AllocError>
+    ensures { IfOk result (λ offset. offset ≡ code_offset at part.now) }
+{
+    if part.code.is_empty() { Ok(0) } else { up(at) }
+}
+
+/// The place behind a method's code that comes behind `at`.
+pub fn code_behind(at: u32, part: &MethodPart) -> Result<u32, AllocError>
+    ensures { IfOk result (λ place. place ≡ code_behind at part.now) }
+{
+    if part.code.is_empty() {
+        return Ok(at);
+    }
+    behind(up(at)?, part.code.len())
+}
+
+/// The place behind the code of these methods.
+pub fn codes_behind(at: u32, parts: &[MethodPart]) -> Result<u32, AllocError>
+    ensures { IfOk result (λ place. place ≡ codes_behind at parts.now) }
+{
+    let mut next = at;
+    for part in parts {
+        next = code_behind(next, part)?;
+    }
+    Ok(next)
+}
+
+/// Where a method's debug item stands that comes from `at` on, 0 where it has none.
+fn debug_offset(at: u32, part: &MethodPart) -> u32
+    ensures { result ≡ debug_offset at part.now }
+{
+    if part.lines.is_empty() { 0 } else { at }
+}
+
+/// Adds a code item with the offset of its debug item.
+#[tactic(auto, unfolding(crate::specs::Codes::with_debug))]
+fn push_with_debug(out: &mut Vec<u8>, code: &[u8], debug: u32) -> Result<(), AllocError>
+    ensures { OnOk result (out.new.items ≡ out.old.items ++ with_debug debug code.now) }
+{
+    let (front, _) = split(code, 8);
+    let (_, rest) = split(code, 12);
+    out.extend_from_slice(front)?;
+    push_words(out, &[debug])?;
+    out.extend_from_slice(rest)
+}
+
+/// Adds the code of a method behind `at`, at the next multiple of four.
+fn push_code(out: &mut Vec<u8>, part: &MethodPart, at: u32, debug: u32) -> Result<(), AllocError>
+    ensures { OnOk result (out.new.items ≡ out.old.items ++ code_text at debug part.now) }
+{
+    if part.code.is_empty() {
+        return Ok(());
+    }
+    push_zeros(out, gap(at))?;
+    push_with_debug(out, part.code.as_slice(), debug)
+}
+
+/// The places behind code items and debug items.
+#[derive(Clone, Copy, Drop)]
+pub struct Ends {
+    pub code: u32,
+    pub lines: u32,
+}
+
+/// Adds the code of methods behind `from.code`, their debug items standing from `from.lines` on.
+fn push_codes(out: &mut Vec<u8>, parts: &[MethodPart], from: Ends) -> Result<Ends, AllocError>
+    ensures text { OnOk result (out.new.items ≡ out.old.items ++ codes_text from.code from.lines parts.now) }
+    ensures code { IfOk result (λ ends. ends.code ≡ codes_behind from.code parts.now) }
+    ensures lines { IfOk result (λ ends. ends.lines ≡ lines_behind from.lines parts.now) }
+{
+    let mut code = from.code;
+    let mut lines = from.lines;
+    for part in parts {
+        push_code(out, part, code, debug_offset(lines, part))?;
+        code = code_behind(code, part)?;
+        lines = behind(lines, part.lines.len())?;
+    }
+    Ok(Ends { code, lines })
+}
+
+/// The code of all classes behind `from.code`, their debug items standing from `from.lines` on.
+pub fn all_codes(alloc: Global, order: &[Ordered], from: Ends) -> Result<Vec<u8>, AllocError> {
+    let mut out = Vec::new(alloc);
+    let mut ends = from;
+    for ordered in order {
+        ends = push_codes(&mut out, ordered.methods.as_slice(), ends)?;
+    }
+    Ok(out)
+}
+
+/// The place behind the code of all classes.
+pub fn all_behind(at: u32, order: &[Ordered]) -> Result<u32, AllocError> {
+    let mut next = at;
+    for ordered in order {
+        next = codes_behind(next, ordered.methods.as_slice())?;
+    }
+    Ok(next)
+}
+
+/// Adds the debug items of methods.
+fn push_lines(out: &mut Vec<u8>, parts: &[MethodPart]) -> Result<(), AllocError> {
+    for part in parts {
+        out.extend_from_slice(part.lines.as_slice())?;
     }
     Ok(())
+}
+
+/// The debug items of all classes.
+pub fn all_lines(alloc: Global, order: &[Ordered]) -> Result<Vec<u8>, AllocError> {
+    let mut out = Vec::new(alloc);
+    for ordered in order {
+        push_lines(&mut out, ordered.methods.as_slice())?;
+    }
+    Ok(out)
+}
+
+/// How many of the methods have code, and how many have lines.
+pub fn count_codes(order: &[Ordered]) -> Result<Ends, AllocError> {
+    let mut code = 0;
+    let mut lines = 0;
+    for ordered in order {
+        let parts = ordered.methods.as_slice();
+        let coded = parts.iter().filter(|part| !part.code.is_empty()).count();
+        let lined = parts.iter().filter(|part| !part.lines.is_empty()).count();
+        code = behind(code, coded)?;
+        lines = behind(lines, lined)?;
+    }
+    Ok(Ends { code, lines })
 }

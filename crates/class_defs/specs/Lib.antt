@@ -3,3 +3,4 @@ pub mod Members
 pub mod Finding
 pub mod Starts
 pub mod ClassGraph
+pub mod Nearest

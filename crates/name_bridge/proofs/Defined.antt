@@ -11,17 +11,19 @@ use Rattle.program_model.specs.Lookups as look
 use Rattle.program_model.specs.Lookups.{class_place, method_or, method_from, method_place}
 use Rattle.program_model.specs.Distinct.{method_key}
 use Rattle.class_defs.specs.ClassGraph.{IsTwice}
-use Rattle.class_defs.specs.Members.{names_method, is_method}
+use Rattle.class_defs.specs.Members.{names_method, is_method, is_field}
 use Rattle.dalvik_defs.specs.Under.{class_named}
-use Rattle.dalvik_defs.specs.Naming.{text_at, type_at, signature_at, method_at, named_class, named_method, named}
-use Rattle.dalvik_defs.specs.Find.{method_in, defined_method}
+use Rattle.dalvik_defs.specs.Naming.{text_at, type_at, signature_at, method_at, named_class, named_method, named, field_at, named_field}
+use Rattle.dalvik_defs.specs.Find.{method_in, defined_method, field_in, defined_field}
 use Rattle.dalvik_defs.specs.declared.program.NamedClass.{NamedClass}
 use Rattle.dalvik_defs.specs.declared.program.NamedMethod.{NamedMethod}
 use Rattle.name_bridge.specs.Named.{class_at}
-use Rattle.name_bridge.proofs.Tables.{and_left, and_right, entry_at, same_number, Sound, method_is, method_class, method_name, method_proto}
+use Rattle.name_bridge.proofs.Tables.{and_left, and_right, entry_at, same_number, Sound, method_is, method_class, method_name, method_proto, field_is, field_class, field_name, field_kind}
 use Rattle.name_bridge.proofs.Lists.{same_test, both, number_test, number_of, find_place, position_none, position_step}
-use Rattle.name_bridge.proofs.Classes.{MethodFits, ClassFits, class_parts, class_by_number, method_by_number}
+use Rattle.name_bridge.proofs.Classes.{MethodFits, ClassFits, class_parts, class_by_number, method_by_number, field_by_number}
 use Rattle.name_bridge.proofs.Above.{defined}
+use Rattle.program_model.specs.declared.pools.FieldName.{FieldName}
+use Rattle.dalvik_defs.specs.declared.program.NamedField.{NamedField}
 
 find_same : {X : Type 0} (t u : X → Bool) (xs : List X) → ((i : ℕ) (x : X) → slice_get xs i ≡ Some x → t x ≡ u x) → find t xs ≡ find u xs
 find_same t u [] h = refl
@@ -154,3 +156,35 @@ module _ (p : Program) (s : Sound p) (m : ℕ) (e : MethodName) (is : slice_get 
 pub method_defined_by_number : (p : Program) (s : Sound p) → ((class : ℕ) → IsTwice p class → ⊥) → (m : ℕ) → m < length p.methods
     → defined_method (named p) (method_at p m) ≡ option_map (named_method p) (option_and_then (look.method_at p) (method_place p m))
 method_defined_by_number p s once m h = let e = entry_at p.methods m h in defined_known p s m e.0 e.1 once
+
+-- ---- fields
+
+-- the field that the class of a type defines under a name and a type
+abbrev pub fields_of : Program → ℕ → ℕ → Option Class → Option NamedField
+fields_of p name kind None = None
+fields_of p name kind (Some k) = option_map (named_field p) (find (is_field p name kind) k.fields)
+
+module _ (p : Program) (s : Sound p) (f : ℕ) (e : FieldName) (is : slice_get p.fields f ≡ Some e) where
+  abbrev field_in_class : Option NamedClass → Option NamedField
+  field_in_class None = None
+  field_in_class (Some c) = field_in c (text_at p e.name) (type_at p e.kind)
+
+  field_class_is : (o : Option NamedClass) → elim o as (λ o. Option NamedField) [ Some c ↦ field_in c (text_at p e.name) (type_at p e.kind) | None ↦ None ] ≡ field_in_class o
+  field_class_is None = refl
+  field_class_is (Some c) = refl
+
+  field_by_class : (c : ℕ) (o : Option Class) → slice_get p.classes c ≡ o → field_in_class (option_map (named_class p) o) ≡ fields_of p e.name e.kind o
+  field_by_class c None g = refl
+  field_by_class c (Some k) g = field_by_number p s c k e.name e.kind g (field_name p s f e is) (field_kind p s f e is)
+
+  field_by_place : (o : Option ℕ) → field_in_class (option_and_then (class_at p) o) ≡ option_and_then (λ c. fields_of p e.name e.kind (slice_get p.classes c)) o
+  field_by_place None = refl
+  field_by_place (Some c) = field_by_class c (slice_get p.classes c) refl
+
+  -- the field that the class of a field number itself defines
+  pub field_defined_known : defined_field (named p) (field_at p f) ≡ option_and_then (λ c. fields_of p e.name e.kind (slice_get p.classes c)) (class_place p e.class)
+  field_defined_known =
+      ap (defined_field (named p)) (field_is p s f e is)
+      ∙ field_class_is (class_named (named p) (type_at p e.class))
+      ∙ ap field_in_class (class_by_number p s e.class (field_class p s f e is))
+      ∙ field_by_place (class_place p e.class)

@@ -2,6 +2,8 @@
 use Rattle.std.proofs.Common.{◌≡◌, ℕ, zero, suc, ◌<◌, Bool, true, false, true≢false, nat_eq, List, [], ◌∷◌, ◌++◌, map, length, Some, None, refl, sym, ap, ◌∙◌, arith, ◌⊎◌, inl, inr, ltb-true}
 use Rattle.std.specs.Prelude.{◌&&◌, ◌||◌, not, if◌then◌else◌, slice_get, nat_lt, nat_le, is_ok}
 use Rattle.std.specs.List.{list_all, list_any}
+pub use Rattle.class_defs.proofs.Positions.{entry_at}
+pub use Rattle.class_defs.proofs.WellFormed.{and_left, and_right, all_at, Sound, sound, below}
 use Rattle.std.specs.Cmp.Lexicographic.{pointwise, nat_list_eq_equiv}
 use Rattle.std.proofs.lemmas.Bool.{cases_lt}
 use Rattle.std.proofs.lemmas.List.Folds.{list_any-append}
@@ -23,16 +25,6 @@ use Rattle.dalvik_defs.specs.declared.names.Signature.{Signature}
 use Rattle.dalvik_defs.specs.declared.names.MethodKey.{MethodKey}
 use Rattle.dalvik_defs.specs.declared.names.FieldKey.{FieldKey}
 
--- ---- tests
-
-pub and_left : (a b : Bool) → (a && b) ≡ true → a ≡ true
-and_left true b e = refl
-and_left false b e = e
-
-pub and_right : (a b : Bool) → (a && b) ≡ true → b ≡ true
-and_right true b e = e
-and_right false b e = absurd (true≢false (sym e))
-
 or_left : (a b : Bool) → (a || b) ≡ false → a ≡ false
 or_left true b e = e
 or_left false b e = refl
@@ -42,18 +34,6 @@ or_right true b e = absurd (true≢false e)
 or_right false b e = e
 
 -- ---- entries of a list
-
--- a number below the length has an entry
-pub entry_at : {X : Type 0} (xs : List X) (i : ℕ) → i < length xs → (x : X) × (slice_get xs i ≡ Some x)
-entry_at [] i h = absurd (omega arith)
-entry_at (x ∷ xs) zero h = (x, refl)
-entry_at (x ∷ xs) (suc i) h = entry_at xs i (omega arith)
-
--- what is true of all entries is true of each
-pub all_at : {X : Type 0} (t : X → Bool) (xs : List X) (i : ℕ) (x : X) → list_all t xs ≡ true → slice_get xs i ≡ Some x → t x ≡ true
-all_at t [] i x h e = cc
-all_at t (y ∷ ys) zero x h e = ap t (let s : x ≡ y = cc in s) ∙ and_left (t y) (list_all t ys) h
-all_at t (y ∷ ys) (suc i) x h e = all_at t ys i x (and_right (t y) (list_all t ys) h) e
 
 -- ---- entries that differ
 
@@ -91,80 +71,6 @@ module _ {X : Type 0} (key : X → List ℕ) where
     | inr (inl eq) ↦ eq
     | inr (inr gt) ↦ absurd (self y x (sym k) (apart [] xs j i y x h f e gt))
   ]
-
--- ---- the tables of a program
-
-pub record Sound (p : Program) : Type 0 where
-  pub strings : all_differ text_key p.strings ≡ true
-  pub types : all_differ type_key p.types ≡ true
-  pub protos : all_differ proto_key p.protos ≡ true
-  pub fields : all_differ field_key p.fields ≡ true
-  pub methods : all_differ method_key p.methods ≡ true
-  pub types_fit : list_all (type_fits p) p.types ≡ true
-  pub protos_fit : list_all (proto_fits p) p.protos ≡ true
-  pub fields_fit : list_all (field_id_fits p) p.fields ≡ true
-  pub methods_fit : list_all (method_id_fits p) p.methods ≡ true
-  pub classes_fit : list_all (class_fits p) p.classes ≡ true
-
-strings_of : (a b c d e : Bool) → ((a && b) && (c && (d && e))) ≡ true → (a ≡ true) × ((b ≡ true) × ((c ≡ true) × ((d ≡ true) × (e ≡ true))))
-strings_of a b c d e h =
-    let l = and_left (a && b) (c && (d && e)) h in
-    let r = and_right (a && b) (c && (d && e)) h in
-    let s = and_right c (d && e) r in
-    (and_left a b l, (and_right a b l, (and_left c (d && e) r, (and_left d e s, and_right d e s))))
-
-four_of : (a b c d : Bool) → (a && (b && (c && d))) ≡ true → (a ≡ true) × ((b ≡ true) × ((c ≡ true) × (d ≡ true)))
-four_of a b c d h =
-    let r = and_right a (b && (c && d)) h in
-    let s = and_right b (c && d) r in
-    (and_left a (b && (c && d)) h, (and_left b (c && d) r, (and_left c d s, and_right c d s)))
-
-differ_of : (p : Program) → entries_differ p ≡ true → (all_differ text_key p.strings ≡ true) × ((all_differ type_key p.types ≡ true) × ((all_differ proto_key p.protos ≡ true)
-    × ((all_differ field_key p.fields ≡ true) × (all_differ method_key p.methods ≡ true))))
-unfolding entries_differ
-differ_of p h = strings_of (all_differ text_key p.strings) (all_differ type_key p.types) (all_differ proto_key p.protos) (all_differ field_key p.fields) (all_differ method_key p.methods) h
-
-fit_of : (p : Program) → entries_fit p ≡ true → (list_all (type_fits p) p.types ≡ true) × ((list_all (proto_fits p) p.protos ≡ true)
-    × ((list_all (field_id_fits p) p.fields ≡ true) × (list_all (method_id_fits p) p.methods ≡ true)))
-unfolding entries_fit
-fit_of p h = four_of (list_all (type_fits p) p.types) (list_all (proto_fits p) p.protos) (list_all (field_id_fits p) p.fields) (list_all (method_id_fits p) p.methods) h
-
-tables_of : (p : Program) → tables_fit p ≡ true → (entries_fit p ≡ true) × (entries_differ p ≡ true)
-unfolding tables_fit
-tables_of p h =
-    let r = and_right (tables_are_short p && texts_are_short p) (entries_fit p && entries_differ p) h in
-    (and_left (entries_fit p) (entries_differ p) r, and_right (entries_fit p) (entries_differ p) r)
-
-parts_of : (p : Program) → is_well_formed p ≡ true → (tables_fit p ≡ true) × (list_all (class_fits p) p.classes ≡ true)
-unfolding is_well_formed
-parts_of p h =
-    let r = and_right (tables_fit p) ((nat_le (cells_of p) 67108864 && nat_le (items_of p) 16777216) && list_all (class_fits p) p.classes) h in (
-      and_left (tables_fit p) ((nat_le (cells_of p) 67108864 && nat_le (items_of p) 16777216) && list_all (class_fits p) p.classes) h,
-      and_right (nat_le (cells_of p) 67108864 && nat_le (items_of p) 16777216) (list_all (class_fits p) p.classes) r,
-    )
-
-pub sound : (p : Program) → is_well_formed p ≡ true → Sound p
-sound p h =
-    let parts = parts_of p h in
-    let tables = tables_of p parts.0 in
-    let fit = fit_of p tables.0 in
-    let differ = differ_of p tables.1 in
-    record {
-      strings = differ.0;
-      types = differ.1.0;
-      protos = differ.1.1.0;
-      fields = differ.1.1.1.0;
-      methods = differ.1.1.1.1;
-      types_fit = fit.0;
-      protos_fit = fit.1.0;
-      fields_fit = fit.1.1.0;
-      methods_fit = fit.1.1.1;
-      classes_fit = parts.1;
-    }
-
--- a test of numbers below a bound
-pub below : (a b : ℕ) → nat_lt a b ≡ true → a < b
-below a b h = ltb-true a b h
 
 -- ---- the parts of entries
 

@@ -69,3 +69,7 @@ field_of p place (Some k) = field_there p k (slice_get k.fields place)
 
 abbrev pub field_at_place : Program → ℕ × ℕ → Option (Text × NamedField)
 field_at_place p at = field_of p at.1 (slice_get p.classes at.0)
+
+-- the name of the class at a place
+abbrev pub name_at : Program → ℕ → Option Text
+name_at p c = option_map (λ k. type_at p k.name) (slice_get p.classes c)

@@ -19,6 +19,10 @@ ghost use Rattle.class_defs.specs.Finding.{resolves_field};
 ghost use Rattle.class_defs.specs.Starts.{initialiser_of, is_trivial};
 ghost use Rattle.dalvik_defs.specs.Initialised as first;
 ghost use Rattle.program_model.specs.Lookups as look;
+ghost use Rattle.std.specs.List.{list_any};
+ghost use Rattle.class_defs.specs.Nearest.{nearest_place};
+ghost use Rattle.dalvik_defs.specs.Names.{text_eq};
+ghost use Rattle.name_bridge.specs.Named.{name_at};
 ghost use Rattle.dalvik_defs.specs.Initialised.{initialiser_key};
 ghost use Rattle.dalvik_defs.specs.Find.{first_method, is_virtual_method};
 ghost use Rattle.std.specs.Option.{option_map};
@@ -98,4 +102,11 @@ pub fn starts_law()
 pub fn defined_law()
     ensures { (p : Program) (m : ℕ) → is_well_formed p ≡ true → ((class : ℕ) → IsTwice p class → ⊥) → m < length p.methods
         → name.defined_method (named p) (method_at p m) ≡ option_map (named_method p) (option_and_then (look.method_at p) (look.method_place p m)) }
+{}
+
+/// The nearest common program superclass of two types by number is that by name, where no class is defined twice.
+pub fn nearest_law()
+    ensures { (p : Program) (t u : ℕ) → is_well_formed p ≡ true → ((class : ℕ) → IsTwice p class → ⊥) → t < length p.types → u < length p.types
+        → option_map (λ c. c.name) (find (λ c. list_any (λ d. text_eq c.name d.name) (name.chain_of (named p) (type_at p u))) (name.chain_of (named p) (type_at p t)))
+        ≡ option_and_then (name_at p) (nearest_place p (class_place p t) (class_place p u)) }
 {}

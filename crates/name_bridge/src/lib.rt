@@ -10,10 +10,11 @@
 //! - `Classes`: tests of names are tests of numbers (`type_test`, `text_test`, `signature_test`), what a class of the
 //!   program holds (`class_parts`), the class of a type (`class_by_number`), the method and the field of a class by name
 //!   (`method_by_number`, `field_by_number`).
-//! - `Defined`: the method that a class defines under a number (`method_defined_by_number`), which with std's
-//!   `slice_get-map` gives the code and the instruction at a position.
+//! - `Defined`: the method and the field that a class defines under a number (`method_defined_by_number`,
+//!   `field_defined_known`); with std's `slice_get-map` this gives the code and the instruction at a position.
 //! - `Above`: the superclasses of a class (`chain_by_number`) and what it is under (`under_by_number`), for typings and
 //!   for the machine; where no class is defined twice, a class is that of its type (`own_place`).
+//! - `Nearest`: the nearest common superclass (`nearest_by_number`), for joins of kinds.
 //! - `Found`, `Resolved`, `Candidates`, `Fields`: what names resolve to (`resolves_by_number`,
 //!   `field_resolves_by_number`), and what calls find: `static_by_number`, `super_by_number`, `finds_at_by_number` for
 //!   virtual and interface calls, `among_by_number` for the candidates of interfaces. For typings, the machine, and the

@@ -2,3 +2,13 @@ pub mod Faults
 pub mod Kept
 pub mod Counts
 pub mod Word
+pub mod Tables
+pub mod Steps
+pub mod Header
+pub mod Ascending
+pub mod ClassData
+pub mod Code
+pub mod Directory
+pub mod FirstValues
+pub mod Classes
+pub mod File

@@ -1,6 +1,6 @@
 //! The readings of the layers below, with their faults as a file's.
 
-ghost use Rattle.std.specs.Prelude.{◌≡◌, ◌+◌, ◌*◌, ◌<◌, ◌≤◌, List, ℕ, length, IfOk, OnOk, IfErr};
+ghost use Rattle.std.specs.Prelude.{◌≡◌, ◌+◌, ◌*◌, ◌<◌, ◌≤◌, List, ℕ, length, drop, IfOk, OnOk, IfErr};
 ghost use Rattle.dex_base.specs.Reading.{Gives, raise};
 ghost use Rattle.program_model.specs.declared.limits.Counted.TheVariants.{Items};
 ghost use Rattle.dex_pools.specs.Items.{spend, type_list_at};
@@ -20,6 +20,13 @@ use dex_pools::{
 use program_model::{Counted, EncValue, Mark};
 use seq::Seq;
 use std::alloc::Global;
+
+/// The bytes from `at` on; none where they end before.
+pub fn rest_of(bytes: &[u8], at: usize) -> &[u8]
+    ensures { result.now ≡ drop at bytes.now }
+{
+    if at <= bytes.len() { &bytes[at..] } else { &[] }
+}
 
 /// The number in the two bytes at `at`.
 pub fn half_of(bytes: &[u8], at: usize) -> Result<u16, DexFault>

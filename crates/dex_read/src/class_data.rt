@@ -1,298 +1,391 @@
 //! The members of a class (Dalvik executable format, "class_data_item").
 
-ghost use Rattle.std.specs.Prelude.{◌≡◌, ◌+◌, ◌≤◌, ◌<◌, length, IfOk, vec_len, IfErr};
+ghost use Rattle.std.specs.Prelude.{◌≡◌, ◌+◌, ◌≤◌, ◌<◌, ◌&&◌, ◌||◌, length, min, IfOk, IfSome, true, false, [], is_none, IfErr};
+ghost use Rattle.dex_base.specs.Reading.{Gives};
+ghost use Rattle.program_model.specs.MemberRules.{is_static, is_private, lacks_code};
 ghost use Rattle.dex_read.specs.Counts.{CountsInFile};
+ghost use Rattle.dex_read.specs.Ascending.{AllAscend, Ascends};
+ghost use Rattle.dex_read.specs.ClassData.{stepped_at, ascends_at, field_entry_at, method_entry_at, place_in, agree, field_suits, is_direct_entry, method_suits, field_at, method_at, fields_at, methods_at, members_at};
+ghost use Rattle.dex_read.specs.Faults.{is_free};
 
 use crate::below::number_of;
 use crate::fault::DexFault;
-use crate::members::{Owner, Source, Stepped, check_ascends, is_direct, stepped_index};
-use program_model::{Field, Flags, Method};
+use crate::members::{Owner, Source, is_field_of, is_method_of, is_special};
+use dex_pools::{PoolFault, Table};
+use program_model::Flags;
 use seq::Seq;
 use std::alloc::Global;
 
-/// How many members of each kind a class has.
+/// A member as class data lists it: its number, its flags, and the offset of a method's code, 0 for none.
 #[derive(Clone, Copy, Debug, Drop)]
-struct Counts {
-    statics: u32,
-    instances: u32,
-    directs: u32,
-    virtuals: u32,
+pub struct Listed {
+    pub number: u32,
+    pub flags: Flags,
+    pub code: u32,
 }
 
-/// The members of a class: fields, of which the first `statics` are static, methods, of which the first `directs` are
-/// direct, and for each method the offset of its code, 0 for none.
-#[derive(Debug, Drop)]
+/// The four lists of a class's members.
+#[derive(Drop)]
 pub struct Members {
-    pub fields: Vec<Field>,
-    pub statics: usize,
-    pub methods: Vec<Method>,
-    pub directs: usize,
-    pub codes: Vec<u32>,
+    pub statics: Seq<Listed>,
+    pub instances: Seq<Listed>,
+    pub directs: Seq<Listed>,
+    pub virtuals: Seq<Listed>,
 }
 
-impl Members {
-    /// No members.
-    pub fn new(alloc: Global) -> Members {
-        Members {
-            fields: Vec::new(alloc),
-            statics: 0,
-            methods: Vec::new(alloc),
-            directs: 0,
-            codes: Vec::new(alloc),
-        }
+/// Where the entry of this number stands in a list whose numbers ascend.
+pub fn place_of(entries: &[Listed], number: u32) -> Option<usize>
+    requires { Ascends entries.now }
+    ensures place { result ≡ place_in number entries.now }
+    ensures inside { IfSome result (λ place. place < length entries.now) }
+{
+    match entries.binary_search_by_key(&number, |entry| entry.number) {
+        Ok(place) => Some(place),
+        Err(_) => None,
     }
 }
 
-/// The four counts at `at`, and the place behind them.
-fn read_counts(bytes: &[u8], at: usize) -> Result<(Counts, usize), DexFault>
+/// A number as one of 32 bits, the greatest one where it has more.
+fn capped(number: u64) -> u32
+    ensures { result ≡ min number 4294967295 }
+{
+    if number < 4_294_967_295 {
+        number as u32
+    } else {
+        4_294_967_295
+    }
+}
+
+/// The number whose step from the one before it stands at `at`, below the size of its table; and the place behind it.
+#[tactic(auto, unfolding(crate::specs::ClassData::stepped_at))]
+fn stepped_of(bytes: &[u8], size: u32, before: u32, at: usize) -> Result<(u32, usize), DexFault>
+    ensures gives { Gives is_free (λ r. r) result (stepped_at bytes.now size before at) }
     ensures inside { IfOk result (λ r. r.1 ≤ length bytes.now) }
     ensures counts { IfErr result CountsInFile }
 {
-    let (statics, next) = number_of(bytes, at)?;
-    let (instances, next) = number_of(bytes, next)?;
-    let (directs, next) = number_of(bytes, next)?;
-    let (virtuals, next) = number_of(bytes, next)?;
-    let counts = Counts {
-        statics,
-        instances,
-        directs,
-        virtuals,
-    };
-    Ok((counts, next))
-}
-
-/// Whether a number is that of one of the fields, which ascend.
-fn has_field(fields: &[Field], number: u32) -> bool {
-    fields
-        .binary_search_by_key(&number, |field| field.name)
-        .is_ok()
-}
-
-/// Whether a number is that of one of the methods, which ascend.
-fn has_method(methods: &[Method], number: u32) -> bool {
-    methods
-        .binary_search_by_key(&number, |method| method.name)
-        .is_ok()
-}
-
-/// That a field belongs to the class, is static exactly where it is listed so, and has the number of none of the
-/// static ones before it.
-fn check_field(
-    source: &Source,
-    owner: Owner,
-    entry: &Field,
-    is_static: bool,
-    statics: &[Field],
-    place: u32,
-) -> Result<(), DexFault>
-    ensures counts { IfErr result CountsInFile }
-{
-    let pools = source.pools;
-    let is_own = match pools.fields.items.get(entry.name as usize) {
-        Some(name) => name.class == owner.kind,
-        None => false,
-    };
-    if !is_own || entry.flags.has(Flags::STATIC) != is_static || has_field(statics, entry.name) {
-        return Err(DexFault::Member {
-            class: owner.place,
-            place,
-        });
-    }
-    Ok(())
-}
-
-/// A field without annotations and first value.
-fn plain_field(alloc: Global, number: u32, flags: u32) -> Field {
-    Field {
-        name: number,
-        flags: Flags(flags),
-        first: None,
-        marks: Seq::new(alloc),
-    }
-}
-
-/// A list of fields at `at`, which go behind those that were read before it, and the place behind the list.
-fn read_fields(
-    alloc: Global,
-    source: &Source,
-    owner: Owner,
-    at: usize,
-    count: u32,
-    fields: &mut Vec<Field>,
-    is_static: bool,
-) -> Result<usize, DexFault>
-    requires { at ≤ length source.now.bytes.now }
-    ensures inside { IfOk result (λ next. next ≤ length source.now.bytes.now) }
-    ensures counts { IfErr result CountsInFile }
-{
-    let before_list = if is_static { 0 } else { fields.len() };
-    let mut at = at;
-    let mut before = 0;
-    for place in 0..count {
-        let step = stepped_index(source.bytes, at, before, source.sizes.fields)?;
-        let (flags, next) = number_of(source.bytes, step.next)?;
-        check_ascends(place, step.is_same)?;
-        let field = plain_field(alloc, step.number, flags);
-        check_field(
-            source,
-            owner,
-            &field,
-            is_static,
-            front(fields, before_list),
-            place,
-        )?;
-        fields.push(field)?;
-        before = step.number;
-        at = next;
-    }
-    Ok(at)
-}
-
-/// The first items of a list, all where there are fewer.
-fn front<T>(items: &[T], count: usize) -> &[T] {
-    if count <= items.len() {
-        &items[..count]
+    let (step, next) = number_of(bytes, at)?;
+    let number = u64::from(before) + u64::from(step);
+    if number < u64::from(size) {
+        Ok((number as u32, next))
     } else {
-        items
+        let value = capped(number);
+        Err(DexFault::Pool(PoolFault::Index { at, value, size }))
     }
 }
 
-/// A method as class data lists it: its number, its flags and the offset of its code.
-#[derive(Clone, Copy, Debug, Drop)]
-struct Listed {
-    number: u32,
-    flags: Flags,
-    code: u32,
-}
-
-/// That a method belongs to the class, is direct exactly where it is listed so, has code exactly where it is neither
-/// abstract nor native, and has the number of none of the direct ones before it.
-fn check_method(
-    source: &Source,
-    owner: Owner,
-    entry: Listed,
-    direct: bool,
-    directs: &[Method],
-    place: u32,
-) -> Result<(), DexFault>
+/// That the entry at `place` of a list is above the one before it.
+#[tactic(auto, unfolding(crate::specs::ClassData::ascends_at))]
+pub fn check_ascends(place: u32, before: u32, number: u32) -> Result<(), DexFault>
+    ensures gives { Gives is_free (λ u. u) result (ascends_at place before number) }
     ensures counts { IfErr result CountsInFile }
 {
-    let pools = source.pools;
-    let fits = match pools.methods.items.get(entry.number as usize) {
-        Some(name) => {
-            name.class == owner.kind
-                && match pools.strings.items.get(name.name as usize) {
-                    Some(text) => is_direct(entry.flags, text) == direct,
-                    None => false,
-                }
-        }
-        None => false,
-    };
-    let lacks_code = entry.flags.has(Flags::ABSTRACT) || entry.flags.has(Flags::NATIVE);
-    if !fits || (entry.code == 0) != lacks_code || has_method(directs, entry.number) {
-        return Err(DexFault::Member {
-            class: owner.place,
+    if place == 0 || before < number {
+        Ok(())
+    } else {
+        Err(DexFault::Pool(PoolFault::Order {
+            table: Table::Members,
             place,
-        });
+        }))
     }
-    Ok(())
 }
 
-/// The entry of a method at `at`.
-fn listed_method(
-    source: &Source,
+/// The entry of a field at `at`, and the place behind it.
+#[tactic(auto, unfolding(crate::specs::ClassData::field_entry_at))]
+fn field_entry(
+    bytes: &[u8],
+    size: u32,
+    place: u32,
     at: usize,
     before: u32,
-    place: u32,
 ) -> Result<(Listed, usize), DexFault>
-    ensures inside { IfOk result (λ r. r.1 ≤ length source.now.bytes.now) }
+    ensures gives { Gives is_free (λ r. (r.0, (r.1, r.0.number))) result (field_entry_at bytes.now size place (at, before)) }
+    ensures inside { IfOk result (λ r. r.1 ≤ length bytes.now) }
     ensures counts { IfErr result CountsInFile }
 {
-    let step: Stepped = stepped_index(source.bytes, at, before, source.sizes.methods)?;
-    let (flags, next) = number_of(source.bytes, step.next)?;
-    let (code, next) = number_of(source.bytes, next)?;
-    check_ascends(place, step.is_same)?;
-    let listed = Listed {
-        number: step.number,
+    let (number, next) = stepped_of(bytes, size, before, at)?;
+    let (flags, next) = number_of(bytes, next)?;
+    check_ascends(place, before, number)?;
+    let entry = Listed {
+        number,
+        flags: Flags(flags),
+        code: 0,
+    };
+    Ok((entry, next))
+}
+
+/// The entry of a method at `at`, and the place behind it.
+#[tactic(auto, unfolding(crate::specs::ClassData::method_entry_at))]
+fn method_entry(
+    bytes: &[u8],
+    size: u32,
+    place: u32,
+    at: usize,
+    before: u32,
+) -> Result<(Listed, usize), DexFault>
+    ensures gives { Gives is_free (λ r. (r.0, (r.1, r.0.number))) result (method_entry_at bytes.now size place (at, before)) }
+    ensures inside { IfOk result (λ r. r.1 ≤ length bytes.now) }
+    ensures counts { IfErr result CountsInFile }
+{
+    let (number, next) = stepped_of(bytes, size, before, at)?;
+    let (flags, next) = number_of(bytes, next)?;
+    let (code, next) = number_of(bytes, next)?;
+    check_ascends(place, before, number)?;
+    let entry = Listed {
+        number,
         flags: Flags(flags),
         code,
     };
-    Ok((listed, next))
+    Ok((entry, next))
 }
 
-/// A method without annotations, code and lines.
-fn plain_method(alloc: Global, listed: Listed) -> Method {
-    Method {
-        name: listed.number,
-        flags: listed.flags,
-        marks: Seq::new(alloc),
-        parameter_marks: Seq::new(alloc),
-        body: None,
-        lines: Seq::new(alloc),
+/// Whether both are true or neither is.
+fn agree(a: bool, b: bool) -> bool
+    ensures { result ≡ agree a b }
+{
+    if a { b } else { !b }
+}
+
+/// Whether a field belongs to the class, is static exactly where it is listed so, and is not in the list before.
+fn field_suits(
+    source: &Source,
+    class: u32,
+    is_listed_static: bool,
+    earlier: &[Listed],
+    entry: Listed,
+) -> bool
+    requires { Ascends earlier.now }
+    ensures { result ≡ field_suits source.now.program.now class is_listed_static earlier.now entry }
+{
+    is_field_of(source.program, class, entry.number)
+        && (agree(entry.flags.has(Flags::STATIC), is_listed_static)
+            && place_of(earlier, entry.number).is_none())
+}
+
+/// Whether a method is direct: static, private, or named with a leading `<`.
+fn is_direct(source: &Source, entry: Listed) -> bool
+    ensures { result ≡ is_direct_entry source.now.program.now entry }
+{
+    (entry.flags.has(Flags::STATIC) || entry.flags.has(Flags::PRIVATE))
+        || is_special(source.program, entry.number)
+}
+
+/// Whether the flags are those of a method without code.
+fn lacks_code(flags: Flags) -> bool
+    ensures { result ≡ lacks_code flags }
+{
+    flags.has(Flags::ABSTRACT) || flags.has(Flags::NATIVE)
+}
+
+/// Whether a method belongs to the class, is direct exactly where it is listed so, has code exactly where it is neither
+/// abstract nor native, and is not in the list before.
+fn method_suits(
+    source: &Source,
+    class: u32,
+    is_listed_direct: bool,
+    earlier: &[Listed],
+    entry: Listed,
+) -> bool
+    requires { Ascends earlier.now }
+    ensures { result ≡ method_suits source.now.program.now class is_listed_direct earlier.now entry }
+{
+    is_method_of(source.program, class, entry.number)
+        && (agree(is_direct(source, entry), is_listed_direct)
+            && (agree(entry.code == 0, lacks_code(entry.flags))
+                && place_of(earlier, entry.number).is_none()))
+}
+
+/// The field at `at`, which fits its class and its list, and the place behind it.
+#[tactic(auto, unfolding(crate::specs::ClassData::field_at))]
+fn field_of(
+    source: &Source,
+    owner: Owner,
+    is_listed_static: bool,
+    earlier: &[Listed],
+    place: u32,
+    at: usize,
+    before: u32,
+) -> Result<(Listed, usize), DexFault>
+    requires { Ascends earlier.now }
+    ensures gives { Gives is_free (λ r. (r.0, (r.1, r.0.number))) result (field_at source.now.bytes.now source.now.program.now owner is_listed_static earlier.now place (at, before)) }
+    ensures inside { IfOk result (λ r. r.1 ≤ length source.now.bytes.now) }
+    ensures counts { IfErr result CountsInFile }
+{
+    let (entry, next) = field_entry(source.bytes, source.sizes.fields, place, at, before)?;
+    if field_suits(source, owner.kind, is_listed_static, earlier, entry) {
+        Ok((entry, next))
+    } else {
+        Err(DexFault::Member {
+            class: owner.place,
+            place,
+        })
     }
 }
 
-/// A list of methods at `at`, which go behind those that were read before it, and the place behind the list.
-fn read_methods(
+/// The method at `at`, which fits its class and its list, and the place behind it.
+#[tactic(auto, unfolding(crate::specs::ClassData::method_at))]
+fn method_of(
+    source: &Source,
+    owner: Owner,
+    is_listed_direct: bool,
+    earlier: &[Listed],
+    place: u32,
+    at: usize,
+    before: u32,
+) -> Result<(Listed, usize), DexFault>
+    requires { Ascends earlier.now }
+    ensures gives { Gives is_free (λ r. (r.0, (r.1, r.0.number))) result (method_at source.now.bytes.now source.now.program.now owner is_listed_direct earlier.now place (at, before)) }
+    ensures inside { IfOk result (λ r. r.1 ≤ length source.now.bytes.now) }
+    ensures counts { IfErr result CountsInFile }
+{
+    let (entry, next) = method_entry(source.bytes, source.sizes.methods, place, at, before)?;
+    if method_suits(source, owner.kind, is_listed_direct, earlier, entry) {
+        Ok((entry, next))
+    } else {
+        Err(DexFault::Member {
+            class: owner.place,
+            place,
+        })
+    }
+}
+
+/// One list of members, the place behind it, and the last number.
+#[derive(Drop)]
+struct MemberList {
+    entries: Vec<Listed>,
+    next: usize,
+    last: u32,
+}
+
+/// So many fields from `at` on, and the place behind them. `earlier` is the list of the class's fields before this one.
+fn fields_of(
     alloc: Global,
     source: &Source,
     owner: Owner,
-    at: usize,
+    is_listed_static: bool,
+    earlier: &[Listed],
     count: u32,
-    members: &mut Members,
-    direct: bool,
-) -> Result<usize, DexFault>
-    requires { at ≤ length source.now.bytes.now }
-    ensures inside { IfOk result (λ next. next ≤ length source.now.bytes.now) }
+    at: usize,
+) -> Result<MemberList, DexFault>
+    requires inside { at ≤ length source.now.bytes.now }
+    requires ascends { Ascends earlier.now }
+    ensures gives { Gives is_free (λ r. (r.entries.items, (r.next, r.last))) result (fields_at source.now.bytes.now source.now.program.now owner is_listed_static earlier.now count at) }
+    ensures inside { IfOk result (λ r. r.next ≤ length source.now.bytes.now) }
     ensures counts { IfErr result CountsInFile }
 {
-    let before_list = if direct { 0 } else { members.methods.len() };
-    let mut at = at;
-    let mut before = 0;
+    let mut entries = Vec::new(alloc);
+    let mut next = at;
+    let mut last = 0;
     for place in 0..count {
-        let (listed, next) = listed_method(source, at, before, place)?;
-        check_method(
+        let (entry, behind) = field_of(
             source,
             owner,
-            listed,
-            direct,
-            front(&members.methods, before_list),
+            is_listed_static,
+            earlier,
             place,
+            next,
+            last,
         )?;
-        members.methods.push(plain_method(alloc, listed))?;
-        members.codes.push(listed.code)?;
-        before = listed.number;
-        at = next;
+        entries.push(entry)?;
+        last = entry.number;
+        next = behind;
     }
-    Ok(at)
+    Ok(MemberList {
+        entries,
+        next,
+        last,
+    })
 }
 
-/// The members of the class whose class data stands at `at`. Their annotations, code, lines and first values are read
-/// apart.
+/// So many methods from `at` on, and the place behind them. `earlier` is the list of the class's methods before this
+/// one.
+fn methods_of(
+    alloc: Global,
+    source: &Source,
+    owner: Owner,
+    is_listed_direct: bool,
+    earlier: &[Listed],
+    count: u32,
+    at: usize,
+) -> Result<MemberList, DexFault>
+    requires inside { at ≤ length source.now.bytes.now }
+    requires ascends { Ascends earlier.now }
+    ensures gives { Gives is_free (λ r. (r.entries.items, (r.next, r.last))) result (methods_at source.now.bytes.now source.now.program.now owner is_listed_direct earlier.now count at) }
+    ensures inside { IfOk result (λ r. r.next ≤ length source.now.bytes.now) }
+    ensures counts { IfErr result CountsInFile }
+{
+    let mut entries = Vec::new(alloc);
+    let mut next = at;
+    let mut last = 0;
+    for place in 0..count {
+        let (entry, behind) = method_of(
+            source,
+            owner,
+            is_listed_direct,
+            earlier,
+            place,
+            next,
+            last,
+        )?;
+        entries.push(entry)?;
+        last = entry.number;
+        next = behind;
+    }
+    Ok(MemberList {
+        entries,
+        next,
+        last,
+    })
+}
+
+/// The members of the class whose class data stands at `at`.
+#[tactic(auto, using(crate::proofs::Rising::fields_ascend, crate::proofs::Rising::methods_ascend, crate::proofs::Rising::none_ascends), unfolding(crate::specs::ClassData::members_at))]
 pub fn read_members(
     alloc: Global,
     source: &Source,
     owner: Owner,
     at: usize,
 ) -> Result<Members, DexFault>
+    ensures gives { Gives is_free (λ m. m) result (members_at source.now.bytes.now source.now.program.now owner at) }
+    ensures ascend { IfOk result AllAscend }
     ensures counts { IfErr result CountsInFile }
 {
-    let mut members = Members::new(alloc);
-    let (counts, at) = read_counts(source.bytes, at)?;
-    let fields = &mut members.fields;
-    let at = read_fields(alloc, source, owner, at, counts.statics, fields, true)?;
-    members.statics = fields.len();
-    let at = read_fields(alloc, source, owner, at, counts.instances, fields, false)?;
-    let at = read_methods(alloc, source, owner, at, counts.directs, &mut members, true)?;
-    members.directs = members.methods.len();
-    read_methods(
+    let bytes = source.bytes;
+    let (static_count, next) = number_of(bytes, at)?;
+    let (instance_count, next) = number_of(bytes, next)?;
+    let (direct_count, next) = number_of(bytes, next)?;
+    let (virtual_count, next) = number_of(bytes, next)?;
+    let statics = fields_of(alloc, source, owner, true, &[], static_count, next)?;
+    let instances = fields_of(
         alloc,
         source,
         owner,
-        at,
-        counts.virtuals,
-        &mut members,
         false,
+        &statics.entries,
+        instance_count,
+        statics.next,
     )?;
-    Ok(members)
+    let directs = methods_of(
+        alloc,
+        source,
+        owner,
+        true,
+        &[],
+        direct_count,
+        instances.next,
+    )?;
+    let virtuals = methods_of(
+        alloc,
+        source,
+        owner,
+        false,
+        &directs.entries,
+        virtual_count,
+        directs.next,
+    )?;
+    Ok(Members {
+        statics: Seq::of_vec(statics.entries),
+        instances: Seq::of_vec(instances.entries),
+        directs: Seq::of_vec(directs.entries),
+        virtuals: Seq::of_vec(virtuals.entries),
+    })
 }

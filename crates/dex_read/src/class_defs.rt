@@ -1,214 +1,385 @@
 //! The classes (Dalvik executable format, "class_def_item").
 
-ghost use Rattle.std.specs.Prelude.{◌≡◌, ◌+◌, ◌*◌, ◌^◌, ◌≤◌, ◌<◌, length, IfOk, IfErr};
+ghost use Rattle.std.specs.Prelude.{◌≡◌, ◌+◌, ◌*◌, ◌^◌, ◌≤◌, ◌<◌, ◌++◌, length, map, IfOk, OnOk, IfErr};
+ghost use Rattle.std.specs.List.{list_all};
+ghost use Rattle.dex_base.specs.Reading.{Gives};
+ghost use Rattle.program_model.specs.MemberRules.{is_object};
+ghost use Rattle.program_model.specs.Texts.{string_text, type_text};
 ghost use Rattle.dex_read.specs.Counts.{CountsInFile};
+ghost use Rattle.dex_read.specs.Ascending.{AllAscend};
+ghost use Rattle.dex_read.specs.Classes.{index_at, def_at, interfaces_at, is_class_type, root_at, field_with, listed_at, marked_at, begun_at, source_of};
+ghost use Rattle.dex_read.specs.Directory.{marked};
+ghost use Rattle.dex_read.specs.Faults.{is_free};
 
 use crate::below::{types_of, word_of};
-use crate::class_data::{Members, read_members};
-use crate::code::read_code_item;
+use crate::class_data::{Listed, Members, read_members};
+use crate::code::method_of;
 use crate::directory::read_directory;
 use crate::fault::DexFault;
 use crate::first_values::read_first_values;
 use crate::members::{Budget, Owner, Source};
-use dex_base::Text;
 use dex_pools::PoolFault;
-use program_model::{Class, Flags};
+use program_model::{Class, Field, Flags, Mark, Method, Program};
 use seq::Seq;
-use std::alloc::Global;
+use std::alloc::{AllocError, Global};
 
 /// The index that stands for none.
 const NO_INDEX: u32 = 0xffff_ffff;
 
 /// The numbers of a class_def.
 #[derive(Clone, Copy, Debug, Drop)]
-struct ClassDef {
-    class: u32,
-    flags: u32,
-    superclass: u32,
-    interfaces: u32,
-    source: u32,
-    annotations: u32,
-    data: u32,
-    static_values: u32,
+pub struct ClassDef {
+    pub class: u32,
+    pub flags: u32,
+    pub superclass: u32,
+    pub interfaces: u32,
+    pub source: u32,
+    pub annotations: u32,
+    pub data_at: u32,
+    pub static_values: u32,
 }
 
 /// The index at `at`, which is below the size of its table or, where it may be, none.
-fn index_at(bytes: &[u8], at: usize, size: u32, may_be_none: bool) -> Result<u32, DexFault>
+#[tactic(auto, unfolding(crate::specs::Classes::index_at))]
+fn index_of(bytes: &[u8], at: usize, size: u32, may_be_none: bool) -> Result<u32, DexFault>
+    ensures gives { Gives is_free (λ n. n) result (index_at bytes.now at size may_be_none) }
     ensures counts { IfErr result CountsInFile }
 {
     let value = word_of(bytes, at)?;
-    if value >= size && !(may_be_none && value == NO_INDEX) {
-        return Err(DexFault::Pool(PoolFault::Index { at, value, size }));
+    if value < size || (may_be_none && value == NO_INDEX) {
+        Ok(value)
+    } else {
+        Err(DexFault::Pool(PoolFault::Index { at, value, size }))
     }
-    Ok(value)
 }
 
 /// The class_def at `at`.
-fn class_def_at(source: &Source, at: usize) -> Result<ClassDef, DexFault>
+#[tactic(auto, unfolding(crate::specs::Classes::def_at))]
+fn def_of(source: &Source, at: usize) -> Result<ClassDef, DexFault>
     requires { at + 32 ≤ length source.now.bytes.now }
+    ensures gives { Gives is_free (λ d. d) result (def_at source.now.bytes.now source.now.program.now at) }
     ensures counts { IfErr result CountsInFile }
 {
     let bytes = source.bytes;
+    let class = index_of(bytes, at, source.sizes.types, false)?;
+    let flags = word_of(bytes, at + 4)?;
+    let superclass = index_of(bytes, at + 8, source.sizes.types, true)?;
+    let interfaces = word_of(bytes, at + 12)?;
+    let source_file = index_of(bytes, at + 16, source.sizes.strings, true)?;
+    let annotations = word_of(bytes, at + 20)?;
+    let data_at = word_of(bytes, at + 24)?;
+    let static_values = word_of(bytes, at + 28)?;
     Ok(ClassDef {
-        class: index_at(bytes, at, source.sizes.types, false)?,
-        flags: word_of(bytes, at + 4)?,
-        superclass: index_at(bytes, at + 8, source.sizes.types, true)?,
-        interfaces: word_of(bytes, at + 12)?,
-        source: index_at(bytes, at + 16, source.sizes.strings, true)?,
-        annotations: word_of(bytes, at + 20)?,
-        data: word_of(bytes, at + 24)?,
-        static_values: word_of(bytes, at + 28)?,
+        class,
+        flags,
+        superclass,
+        interfaces,
+        source: source_file,
+        annotations,
+        data_at,
+        static_values,
     })
 }
 
-/// Whether a type is `Ljava/lang/Object;`.
-fn is_object(source: &Source, kind: u32) -> bool {
-    let pools = source.pools;
-    let Some(string) = pools.types.items.get(kind as usize) else {
-        return false;
-    };
-    match pools.strings.items.get(*string as usize) {
-        Some(text) => spells(text, "Ljava/lang/Object;"),
-        None => false,
+/// The interfaces of a class.
+#[tactic(auto, unfolding(crate::specs::Classes::interfaces_at))]
+fn interfaces_of(
+    alloc: Global,
+    source: &Source,
+    offset: u32,
+    left: &mut u32,
+) -> Result<Seq<u32>, DexFault>
+    ensures gives { Gives is_free (λ v. (v, left.new)) result (interfaces_at source.now.bytes.now source.now.program.now offset left.old) }
+    ensures counts { IfErr result CountsInFile }
+{
+    if offset == 0 {
+        Ok(Seq::new(alloc))
+    } else {
+        let kinds = types_of(
+            alloc,
+            source.bytes,
+            offset as usize,
+            source.sizes.types,
+            left,
+        )?;
+        Ok(Seq::of_vec(kinds))
     }
 }
 
-/// Whether a text is this ASCII text.
-fn spells(text: &Text, ascii: &str) -> bool {
-    let units = text.units();
-    let bytes = ascii.as_bytes();
-    units.len() == bytes.len()
-        && units
-            .iter()
-            .zip(bytes.iter())
-            .all(|(unit, byte)| *unit == u16::from(*byte))
+/// The units of a string, none where there is none.
+fn string_units(program: &Program, string: u32) -> &[u16]
+    ensures { result.now ≡ string_text program.now string }
+{
+    match program.strings.items.get(string as usize) {
+        Some(text) => text.units(),
+        None => &[],
+    }
+}
+
+/// The units of a type's descriptor, none where there is no such type.
+#[tactic(auto, unfolding(program_model::specs::Texts::type_text))]
+fn type_units(program: &Program, kind: u32) -> &[u16]
+    ensures { result.now ≡ type_text program.now kind }
+{
+    match program.types.items.get(kind as usize) {
+        Some(string) => string_units(program, *string),
+        None => &[],
+    }
+}
+
+/// Whether the units are `Ljava/lang/Object;`.
+fn is_object(units: &[u16]) -> bool
+    ensures { result ≡ is_object units.now }
+{
+    let object: [u16; 18] = [
+        76, 106, 97, 118, 97, 47, 108, 97, 110, 103, 47, 79, 98, 106, 101, 99, 116, 59,
+    ];
+    units == object.as_slice()
+}
+
+/// Whether the type is a class type.
+fn is_class_type(source: &Source, kind: u32) -> bool
+    ensures { result ≡ is_class_type source.now.program.now kind }
+{
+    source.letter(kind) == 76
+}
+
+/// Whether each of the types is a class type.
+fn are_class_types(source: &Source, kinds: &[u32]) -> bool
+    ensures { result ≡ list_all (is_class_type source.now.program.now) kinds.now }
+{
+    kinds.iter().all(|kind| is_class_type(source, *kind))
 }
 
 /// That the class has a superclass, is not `Ljava/lang/Object;`, and that it, its superclass and its interfaces are
 /// class types.
+#[tactic(auto, unfolding(crate::specs::Classes::root_at))]
 fn check_root(
     source: &Source,
     def: ClassDef,
     interfaces: &[u32],
     place: u32,
 ) -> Result<(), DexFault>
+    ensures gives { Gives is_free (λ u. u) result (root_at source.now.program.now def interfaces.now place) }
     ensures counts { IfErr result CountsInFile }
 {
     let fits = def.superclass != NO_INDEX
-        && !is_object(source, def.class)
-        && source.is_class(def.class)
-        && source.is_class(def.superclass)
-        && interfaces.iter().all(|kind| source.is_class(*kind));
-    if !fits {
-        return Err(DexFault::Root { class: place });
+        && (!is_object(type_units(source.program, def.class))
+            && (is_class_type(source, def.class)
+                && (is_class_type(source, def.superclass) && are_class_types(source, interfaces))));
+    if fits {
+        Ok(())
+    } else {
+        Err(DexFault::Root { class: place })
+    }
+}
+
+/// A field without annotations and first value.
+fn field_with(alloc: Global, entry: Listed) -> Field
+    ensures { result ≡ field_with entry }
+{
+    Field {
+        name: entry.number,
+        flags: entry.flags,
+        first: None,
+        marks: Seq::new(alloc),
+    }
+}
+
+/// Adds the listed fields.
+fn push_fields(alloc: Global, entries: &[Listed], fields: &mut Vec<Field>) -> Result<(), AllocError>
+    ensures { OnOk result (fields.new.items ≡ fields.old.items ++ map field_with entries.now) }
+{
+    for entry in entries {
+        fields.push(field_with(alloc, *entry))?;
     }
     Ok(())
 }
 
-/// The bodies of the methods.
-fn read_bodies(
+/// The listed fields, static ones first.
+#[tactic(auto, using(crate::proofs::Changes::map_both))]
+fn listed_fields(alloc: Global, listed: &Members) -> Result<Vec<Field>, AllocError>
+    ensures { IfOk result (λ v. v.items ≡ map field_with (listed.now.statics ++ listed.now.instances)) }
+{
+    let mut fields = Vec::new(alloc);
+    push_fields(alloc, listed.statics.as_slice(), &mut fields)?;
+    push_fields(alloc, listed.instances.as_slice(), &mut fields)?;
+    Ok(fields)
+}
+
+/// The members of the class whose class data stands at `offset`, none where that is 0.
+fn listed_of(alloc: Global, source: &Source, owner: Owner, offset: u32) -> Result<Members, DexFault>
+    ensures gives { Gives is_free (λ m. m) result (listed_at source.now.bytes.now source.now.program.now owner offset) }
+    ensures ascend { IfOk result AllAscend }
+    ensures counts { IfErr result CountsInFile }
+{
+    if offset == 0 {
+        Ok(Members {
+            statics: Seq::new(alloc),
+            instances: Seq::new(alloc),
+            directs: Seq::new(alloc),
+            virtuals: Seq::new(alloc),
+        })
+    } else {
+        read_members(alloc, source, owner, offset as usize)
+    }
+}
+
+/// Adds the listed methods with their code. `units` is a list to work in.
+fn push_methods(
     alloc: Global,
     source: &Source,
-    members: &mut Members,
+    entries: &[Listed],
+    methods: &mut Vec<Method>,
     budget: &mut Budget,
     units: &mut Vec<u16>,
 ) -> Result<(), DexFault>
     ensures counts { IfErr result CountsInFile }
 {
-    let Members { methods, codes, .. } = members;
-    for (method, code) in methods.iter_mut().zip(codes.iter()) {
-        if *code != 0 {
-            read_code_item(alloc, source, method, *code, budget, units)?;
-        }
+    for entry in entries {
+        let method = method_of(alloc, source, *entry, budget, units)?;
+        methods.push(method)?;
     }
     Ok(())
 }
 
-/// The members of a class with all their parts.
-fn whole_members(
+/// The listed methods with their code, direct ones first. `units` is a list to work in.
+fn listed_methods(
     alloc: Global,
     source: &Source,
-    owner: Owner,
-    data: u32,
+    listed: &Members,
     budget: &mut Budget,
     units: &mut Vec<u16>,
-) -> Result<Members, DexFault>
+) -> Result<Vec<Method>, DexFault>
     ensures counts { IfErr result CountsInFile }
 {
-    if data == 0 {
-        return Ok(Members::new(alloc));
-    }
-    let mut members = read_members(alloc, source, owner, data as usize)?;
-    read_bodies(alloc, source, &mut members, budget, units)?;
-    Ok(members)
+    let mut methods = Vec::new(alloc);
+    push_methods(
+        alloc,
+        source,
+        listed.directs.as_slice(),
+        &mut methods,
+        budget,
+        units,
+    )?;
+    push_methods(
+        alloc,
+        source,
+        listed.virtuals.as_slice(),
+        &mut methods,
+        budget,
+        units,
+    )?;
+    Ok(methods)
 }
 
-/// The interfaces of a class.
-fn interfaces_of(
+/// Reads the directory at `offset` into the members, none where that is 0, and answers the annotations of the class.
+#[tactic(auto, unfolding(crate::specs::Classes::marked_at))]
+fn marked_of(
     alloc: Global,
     source: &Source,
+    class: u32,
+    listed: &Members,
     offset: u32,
-    budget: &mut Budget,
-) -> Result<Seq<u32>, DexFault>
+    fields: &mut Vec<Field>,
+    methods: &mut Vec<Method>,
+    left: &mut u32,
+) -> Result<Seq<Mark>, DexFault>
+    requires ascend { AllAscend listed.now }
+    ensures gives { Gives is_free (λ marks. marked marks fields.new.items methods.new.items left.new) result (marked_at source.now.bytes.now source.now.program.now class listed.now offset fields.old.items methods.old.items left.old) }
     ensures counts { IfErr result CountsInFile }
 {
     if offset == 0 {
-        return Ok(Seq::new(alloc));
+        Ok(Seq::new(alloc))
+    } else {
+        read_directory(alloc, source, class, listed, offset, fields, methods, left)
     }
-    let left = &mut budget.items;
-    let kinds = types_of(
-        alloc,
-        source.bytes,
-        offset as usize,
-        source.sizes.types,
-        left,
-    )?;
-    Ok(Seq::of_vec(kinds))
+}
+
+/// Reads the first values at `offset` into the static fields, none where that is 0.
+#[tactic(auto, unfolding(crate::specs::Classes::begun_at))]
+fn begun_of(
+    alloc: Global,
+    source: &Source,
+    offset: u32,
+    statics: usize,
+    fields: &mut Vec<Field>,
+    left: &mut u32,
+) -> Result<(), DexFault>
+    ensures gives { Gives is_free (λ u. (fields.new.items, left.new)) result (begun_at source.now.bytes.now source.now.program.now offset statics fields.old.items left.old) }
+    ensures counts { IfErr result CountsInFile }
+{
+    if offset == 0 {
+        Ok(())
+    } else {
+        read_first_values(alloc, source, offset as usize, statics, fields, left)
+    }
+}
+
+/// The source file's string, if there is one.
+fn source_of(number: u32) -> Option<u32>
+    ensures { result ≡ source_of number }
+{
+    if number == NO_INDEX {
+        None
+    } else {
+        Some(number)
+    }
 }
 
 /// The class at this place, whose class_def stands at `at`. `units` is a list to work in.
 pub fn read_class(
     alloc: Global,
     source: &Source,
-    place: u32,
     at: usize,
+    place: u32,
     budget: &mut Budget,
     units: &mut Vec<u16>,
 ) -> Result<Class, DexFault>
     requires { at + 32 ≤ length source.now.bytes.now }
     ensures counts { IfErr result CountsInFile }
 {
-    let def = class_def_at(source, at)?;
-    let interfaces = interfaces_of(alloc, source, def.interfaces, budget)?;
+    let def = def_of(source, at)?;
+    let mut left = budget.items;
+    let interfaces = interfaces_of(alloc, source, def.interfaces, &mut left)?;
     check_root(source, def, interfaces.as_slice(), place)?;
     let owner = Owner {
         place,
         kind: def.class,
     };
-    let mut members = whole_members(alloc, source, owner, def.data, budget, units)?;
-    let marks = if def.annotations == 0 {
-        Seq::new(alloc)
-    } else {
-        read_directory(alloc, source, owner, def.annotations, &mut members, budget)?
-    };
-    if def.static_values != 0 {
-        let statics = members.statics;
-        if let Some((fields, _)) = members.fields.split_at_mut_checked(statics) {
-            read_first_values(alloc, source, fields, def.static_values as usize, budget)?;
-        }
-    }
+    let listed = listed_of(alloc, source, owner, def.data_at)?;
+    budget.items = left;
+    let mut methods = listed_methods(alloc, source, &listed, budget, units)?;
+    let mut fields = listed_fields(alloc, &listed)?;
+    let mut left = budget.items;
+    let marks = marked_of(
+        alloc,
+        source,
+        place,
+        &listed,
+        def.annotations,
+        &mut fields,
+        &mut methods,
+        &mut left,
+    )?;
+    let statics = listed.statics.len();
+    begun_of(
+        alloc,
+        source,
+        def.static_values,
+        statics,
+        &mut fields,
+        &mut left,
+    )?;
+    budget.items = left;
     Ok(Class {
         name: def.class,
         flags: Flags(def.flags),
         superclass: def.superclass,
         interfaces,
-        source: if def.source == NO_INDEX {
-            None
-        } else {
-            Some(def.source)
-        },
+        source: source_of(def.source),
         marks,
-        fields: Seq::of_vec(members.fields),
-        methods: Seq::of_vec(members.methods),
+        fields: Seq::of_vec(fields),
+        methods: Seq::of_vec(methods),
     })
 }

@@ -1,13 +1,19 @@
 //! The annotations of a class and its members (Dalvik executable format, "annotations_directory_item").
 
-ghost use Rattle.std.specs.Prelude.{◌≡◌, ◌+◌, ◌*◌, ◌^◌, ◌≤◌, ◌<◌, length, IfOk, IfSome, IfErr};
+ghost use Rattle.std.specs.Prelude.{◌≡◌, ◌+◌, ◌*◌, ◌^◌, ◌≤◌, ◌<◌, ◌++◌, length, vec_len, IfErr};
+ghost use Rattle.dex_base.specs.Reading.{Gives};
 ghost use Rattle.dex_read.specs.Counts.{CountsInFile};
+ghost use Rattle.dex_read.specs.Ascending.{AllAscend, Ascends};
+ghost use Rattle.dex_read.specs.ClassData.{place_in};
+ghost use Rattle.dex_read.specs.Directory.{set_at, sets_at, pair_at, found_at, named_at, with_marks, with_own_marks, with_parameter_marks, mark_field, mark_method, mark_parameters, marked, directory_at};
+ghost use Rattle.dex_read.specs.Faults.{is_free};
+ghost use Rattle.dex_read.specs.Steps.{steps, change_at};
 
 use crate::below::{marks_of, parameter_marks_of, word_of};
-use crate::class_data::Members;
+use crate::class_data::{Listed, Members, check_ascends, place_of};
 use crate::fault::DexFault;
 use crate::header::need;
-use crate::members::{Budget, Owner, Source, check_ascends};
+use crate::members::Source;
 use dex_pools::PoolFault;
 use program_model::{Field, Mark, Method};
 use seq::Seq;
@@ -15,204 +21,409 @@ use std::alloc::Global;
 
 /// One entry of a list of the directory: the member that it is for and where its annotations stand.
 #[derive(Clone, Copy, Debug, Drop)]
-struct Entry {
+struct Pair {
     number: u32,
     offset: u32,
 }
 
-/// The entry at `at`. Its number is below the size of its table.
-fn entry_at(bytes: &[u8], at: usize, size: u32) -> Result<Entry, DexFault>
+/// The annotation set at `offset`, none where that is 0.
+#[tactic(auto, unfolding(crate::specs::Directory::set_at))]
+fn set_of(
+    alloc: Global,
+    source: &Source,
+    offset: u32,
+    left: &mut u32,
+) -> Result<Seq<Mark>, DexFault>
+    ensures gives { Gives is_free (λ v. (v, left.new)) result (set_at source.now.bytes.now source.now.program.now offset left.old) }
+    ensures counts { IfErr result CountsInFile }
+{
+    if offset == 0 {
+        Ok(Seq::new(alloc))
+    } else {
+        let marks = marks_of(alloc, source.bytes, offset as usize, source.sizes, left)?;
+        Ok(Seq::of_vec(marks))
+    }
+}
+
+/// The annotation sets of a method's parameters at `offset`, none where that is 0.
+#[tactic(auto, unfolding(crate::specs::Directory::sets_at))]
+fn sets_of(
+    alloc: Global,
+    source: &Source,
+    offset: u32,
+    left: &mut u32,
+) -> Result<Seq<Seq<Mark>>, DexFault>
+    ensures gives { Gives is_free (λ v. (v, left.new)) result (sets_at source.now.bytes.now source.now.program.now offset left.old) }
+    ensures counts { IfErr result CountsInFile }
+{
+    if offset == 0 {
+        Ok(Seq::new(alloc))
+    } else {
+        let sets = parameter_marks_of(alloc, source.bytes, offset as usize, source.sizes, left)?;
+        Ok(Seq::of_vec(sets))
+    }
+}
+
+/// The pair at `at`. Its number is below the size of its table.
+#[tactic(auto, unfolding(crate::specs::Directory::pair_at))]
+fn pair_of(bytes: &[u8], size: u32, at: usize) -> Result<Pair, DexFault>
     requires { at + 8 ≤ length bytes.now }
+    ensures gives { Gives is_free (λ pair. (pair.number, pair.offset)) result (pair_at bytes.now size at) }
     ensures counts { IfErr result CountsInFile }
 {
     let number = word_of(bytes, at)?;
     let offset = word_of(bytes, at + 4)?;
-    if number >= size {
-        return Err(DexFault::Pool(PoolFault::Index {
+    if number < size {
+        Ok(Pair { number, offset })
+    } else {
+        Err(DexFault::Pool(PoolFault::Index {
             at,
             value: number,
             size,
-        }));
+        }))
     }
-    Ok(Entry { number, offset })
 }
 
-/// That an entry's number is above that of the entry before it.
-fn check_above(place: u32, before: u32, number: u32) -> Result<(), DexFault>
-    ensures counts { IfErr result CountsInFile }
+/// The place of a member among two lists whose numbers ascend, one behind the other.
+#[tactic(auto, using(crate::proofs::Search::in_first, crate::proofs::Search::in_second, crate::proofs::Search::in_none))]
+fn place_among(first: &[Listed], second: &[Listed], number: u32) -> Option<usize>
+    requires first { Ascends first.now }
+    requires second { Ascends second.now }
+    ensures { result ≡ place_in number (first.now ++ second.now) }
 {
-    check_ascends(place, number <= before)
-}
-
-/// The annotation set at `offset`, none where that is 0.
-fn set_at(
-    alloc: Global,
-    source: &Source,
-    offset: u32,
-    budget: &mut Budget,
-) -> Result<Seq<Mark>, DexFault>
-    ensures counts { IfErr result CountsInFile }
-{
-    if offset == 0 {
-        return Ok(Seq::new(alloc));
-    }
-    let left = &mut budget.items;
-    let marks = marks_of(alloc, source.bytes, offset as usize, source.sizes, left)?;
-    Ok(Seq::of_vec(marks))
-}
-
-/// The annotation sets of a method's parameters at `offset`, none where that is 0.
-fn sets_at(
-    alloc: Global,
-    source: &Source,
-    offset: u32,
-    budget: &mut Budget,
-) -> Result<Seq<Seq<Mark>>, DexFault>
-    ensures counts { IfErr result CountsInFile }
-{
-    if offset == 0 {
-        return Ok(Seq::new(alloc));
-    }
-    let left = &mut budget.items;
-    let at = offset as usize;
-    let sets = parameter_marks_of(alloc, source.bytes, at, source.sizes, left)?;
-    Ok(Seq::of_vec(sets))
-}
-
-/// The place of a field's number in a list whose first `statics` fields and whose others ascend.
-fn field_place(fields: &[Field], statics: usize, number: u32) -> Option<usize> {
-    let (first, rest) = fields.split_at_checked(statics)?;
-    match first.binary_search_by_key(&number, |field| field.name) {
-        Ok(place) => Some(place),
-        Err(_) => {
-            let place = rest.binary_search_by_key(&number, |field| field.name).ok()?;
-            Some(statics + place)
-        }
+    match place_of(first, number) {
+        Some(place) => Some(place),
+        None => match place_of(second, number) {
+            Some(place) => Some(first.len() + place),
+            None => None,
+        },
     }
 }
 
-/// The place of a method's number in a list whose first `directs` methods and whose others ascend.
-fn method_place(methods: &[Method], directs: usize, number: u32) -> Option<usize> {
-    let (first, rest) = methods.split_at_checked(directs)?;
-    match first.binary_search_by_key(&number, |method| method.name) {
-        Ok(place) => Some(place),
-        Err(_) => {
-            let place = rest
-                .binary_search_by_key(&number, |method| method.name)
-                .ok()?;
-            Some(directs + place)
-        }
-    }
+/// A pair of the directory whose member was found.
+#[derive(Clone, Copy, Debug, Drop)]
+struct Named {
+    place: usize,
+    pair: Pair,
 }
 
-/// The fault of a list's entry that names no member of the class.
-fn no_member(owner: Owner, place: u32) -> DexFault
-    ensures { CountsInFile result }
-{
-    DexFault::Member {
-        class: owner.place,
-        place,
-    }
-}
-
-/// The annotations of fields: a list of so many entries at `at`.
-fn read_field_marks(
-    alloc: Global,
-    source: &Source,
-    owner: Owner,
+/// The pair of this number of a list that begins at `at`, and where its member stands among the listed ones.
+#[tactic(auto, unfolding(crate::specs::Directory::named_at))]
+fn named_of(
+    bytes: &[u8],
+    class: u32,
+    size: u32,
+    first: &[Listed],
+    second: &[Listed],
     at: usize,
-    count: u32,
-    members: &mut Members,
-    budget: &mut Budget,
-) -> Result<(), DexFault>
-    requires { at + 8 * count ≤ length source.now.bytes.now }
+    i: u32,
+    before: u32,
+) -> Result<Named, DexFault>
+    requires room { at + 8 * i + 8 ≤ length bytes.now }
+    requires first { Ascends first.now }
+    requires second { Ascends second.now }
+    ensures gives { Gives is_free (λ n. (n.place, (n.pair.number, n.pair.offset))) result (named_at bytes.now class size (first.now ++ second.now) at i before) }
     ensures counts { IfErr result CountsInFile }
 {
-    let mut before = 0;
-    for place in 0..count {
-        let entry = entry_at(source.bytes, at + 8 * place as usize, source.sizes.fields)?;
-        check_above(place, before, entry.number)?;
-        before = entry.number;
-        let Some(found) = field_place(&members.fields, members.statics, entry.number) else {
-            return Err(no_member(owner, place));
-        };
-        let marks = set_at(alloc, source, entry.offset, budget)?;
-        if let Some(field) = members.fields.get_mut(found) {
-            field.marks = marks;
-        }
+    let pair = pair_of(bytes, size, at + 8 * i as usize)?;
+    check_ascends(i, before, pair.number)?;
+    match place_among(first, second, pair.number) {
+        Some(place) => Ok(Named { place, pair }),
+        None => Err(DexFault::Member { class, place: i }),
     }
+}
+
+/// Sets the annotations of the field at a place, if there is one.
+#[tactic(auto, using(crate::proofs::Changes::unchanged))]
+fn set_field_marks(fields: &mut Vec<Field>, place: usize, marks: Seq<Mark>)
+    ensures { fields.new.items ≡ change_at (with_marks marks) place fields.old.items }
+{
+    if place < fields.len() {
+        fields[place].marks = marks;
+    }
+}
+
+/// Sets the annotations of the method at a place, if there is one.
+#[tactic(auto, using(crate::proofs::Changes::unchanged))]
+fn set_method_marks(methods: &mut Vec<Method>, place: usize, marks: Seq<Mark>)
+    ensures { methods.new.items ≡ change_at (with_own_marks marks) place methods.old.items }
+{
+    if place < methods.len() {
+        methods[place].marks = marks;
+    }
+}
+
+/// Sets the annotations of the parameters of the method at a place, if there is one.
+#[tactic(auto, using(crate::proofs::Changes::unchanged))]
+fn set_parameter_marks(methods: &mut Vec<Method>, place: usize, marks: Seq<Seq<Mark>>)
+    ensures { methods.new.items ≡ change_at (with_parameter_marks marks) place methods.old.items }
+{
+    if place < methods.len() {
+        methods[place].parameter_marks = marks;
+    }
+}
+
+/// The annotations that one pair names, of a field.
+#[tactic(auto, unfolding(crate::specs::Directory::mark_field))]
+fn mark_field(
+    alloc: Global,
+    source: &Source,
+    class: u32,
+    listed: &Members,
+    at: usize,
+    i: u32,
+    fields: &mut Vec<Field>,
+    before: &mut u32,
+    left: &mut u32,
+) -> Result<(), DexFault>
+    requires room { at + 8 * i + 8 ≤ length source.now.bytes.now }
+    requires ascend { AllAscend listed.now }
+    ensures gives { Gives is_free (λ u. (fields.new.items, (before.new, left.new))) result (mark_field source.now.bytes.now source.now.program.now class (listed.now.statics ++ listed.now.instances) at i (fields.old.items, (before.old, left.old))) }
+    ensures counts { IfErr result CountsInFile }
+{
+    let named = named_of(
+        source.bytes,
+        class,
+        source.sizes.fields,
+        listed.statics.as_slice(),
+        listed.instances.as_slice(),
+        at,
+        i,
+        *before,
+    )?;
+    let marks = set_of(alloc, source, named.pair.offset, left)?;
+    set_field_marks(fields, named.place, marks);
+    *before = named.pair.number;
     Ok(())
 }
 
-/// The annotations of methods, or of their parameters: a list of so many entries at `at`.
-fn read_method_marks(
+/// The annotations that one pair names, of a method.
+#[tactic(auto, unfolding(crate::specs::Directory::mark_method))]
+fn mark_method(
     alloc: Global,
     source: &Source,
-    owner: Owner,
+    class: u32,
+    listed: &Members,
+    at: usize,
+    i: u32,
+    methods: &mut Vec<Method>,
+    before: &mut u32,
+    left: &mut u32,
+) -> Result<(), DexFault>
+    requires room { at + 8 * i + 8 ≤ length source.now.bytes.now }
+    requires ascend { AllAscend listed.now }
+    ensures gives { Gives is_free (λ u. (methods.new.items, (before.new, left.new))) result (mark_method source.now.bytes.now source.now.program.now class (listed.now.directs ++ listed.now.virtuals) at i (methods.old.items, (before.old, left.old))) }
+    ensures counts { IfErr result CountsInFile }
+{
+    let named = named_of(
+        source.bytes,
+        class,
+        source.sizes.methods,
+        listed.directs.as_slice(),
+        listed.virtuals.as_slice(),
+        at,
+        i,
+        *before,
+    )?;
+    let marks = set_of(alloc, source, named.pair.offset, left)?;
+    set_method_marks(methods, named.place, marks);
+    *before = named.pair.number;
+    Ok(())
+}
+
+/// The annotations that one pair names, of a method's parameters.
+#[tactic(auto, unfolding(crate::specs::Directory::mark_parameters))]
+fn mark_parameters(
+    alloc: Global,
+    source: &Source,
+    class: u32,
+    listed: &Members,
+    at: usize,
+    i: u32,
+    methods: &mut Vec<Method>,
+    before: &mut u32,
+    left: &mut u32,
+) -> Result<(), DexFault>
+    requires room { at + 8 * i + 8 ≤ length source.now.bytes.now }
+    requires ascend { AllAscend listed.now }
+    ensures gives { Gives is_free (λ u. (methods.new.items, (before.new, left.new))) result (mark_parameters source.now.bytes.now source.now.program.now class (listed.now.directs ++ listed.now.virtuals) at i (methods.old.items, (before.old, left.old))) }
+    ensures counts { IfErr result CountsInFile }
+{
+    let named = named_of(
+        source.bytes,
+        class,
+        source.sizes.methods,
+        listed.directs.as_slice(),
+        listed.virtuals.as_slice(),
+        at,
+        i,
+        *before,
+    )?;
+    let marks = sets_of(alloc, source, named.pair.offset, left)?;
+    set_parameter_marks(methods, named.place, marks);
+    *before = named.pair.number;
+    Ok(())
+}
+
+/// The annotations of fields: a list of so many pairs at `at`.
+fn mark_fields(
+    alloc: Global,
+    source: &Source,
+    class: u32,
+    listed: &Members,
     at: usize,
     count: u32,
-    members: &mut Members,
-    budget: &mut Budget,
-    of_parameters: bool,
-) -> Result<(), DexFault>
-    requires { at + 8 * count ≤ length source.now.bytes.now }
+    fields: &mut Vec<Field>,
+    left: &mut u32,
+) -> Result<u32, DexFault>
+    requires room { at + 8 * count ≤ length source.now.bytes.now }
+    requires ascend { AllAscend listed.now }
+    ensures gives { Gives is_free (λ before. (fields.new.items, (before, left.new))) result (steps (mark_field source.now.bytes.now source.now.program.now class (listed.now.statics ++ listed.now.instances) at) 0 count (fields.old.items, (0, left.old))) }
     ensures counts { IfErr result CountsInFile }
 {
     let mut before = 0;
-    for place in 0..count {
-        let entry = entry_at(source.bytes, at + 8 * place as usize, source.sizes.methods)?;
-        check_above(place, before, entry.number)?;
-        before = entry.number;
-        let Some(found) = method_place(&members.methods, members.directs, entry.number) else {
-            return Err(no_member(owner, place));
-        };
-        let Some(method) = members.methods.get_mut(found) else {
-            return Err(no_member(owner, place));
-        };
-        if of_parameters {
-            method.parameter_marks = sets_at(alloc, source, entry.offset, budget)?;
-        } else {
-            method.marks = set_at(alloc, source, entry.offset, budget)?;
-        }
+    for i in 0..count {
+        mark_field(
+            alloc,
+            source,
+            class,
+            listed,
+            at,
+            i,
+            fields,
+            &mut before,
+            left,
+        )?;
     }
-    Ok(())
+    Ok(before)
+}
+
+/// The annotations of methods: a list of so many pairs at `at`.
+fn mark_methods(
+    alloc: Global,
+    source: &Source,
+    class: u32,
+    listed: &Members,
+    at: usize,
+    count: u32,
+    methods: &mut Vec<Method>,
+    left: &mut u32,
+) -> Result<u32, DexFault>
+    requires room { at + 8 * count ≤ length source.now.bytes.now }
+    requires ascend { AllAscend listed.now }
+    ensures gives { Gives is_free (λ before. (methods.new.items, (before, left.new))) result (steps (mark_method source.now.bytes.now source.now.program.now class (listed.now.directs ++ listed.now.virtuals) at) 0 count (methods.old.items, (0, left.old))) }
+    ensures counts { IfErr result CountsInFile }
+{
+    let mut before = 0;
+    for i in 0..count {
+        mark_method(
+            alloc,
+            source,
+            class,
+            listed,
+            at,
+            i,
+            methods,
+            &mut before,
+            left,
+        )?;
+    }
+    Ok(before)
+}
+
+/// The annotations of methods' parameters: a list of so many pairs at `at`.
+fn mark_all_parameters(
+    alloc: Global,
+    source: &Source,
+    class: u32,
+    listed: &Members,
+    at: usize,
+    count: u32,
+    methods: &mut Vec<Method>,
+    left: &mut u32,
+) -> Result<u32, DexFault>
+    requires room { at + 8 * count ≤ length source.now.bytes.now }
+    requires ascend { AllAscend listed.now }
+    ensures gives { Gives is_free (λ before. (methods.new.items, (before, left.new))) result (steps (mark_parameters source.now.bytes.now source.now.program.now class (listed.now.directs ++ listed.now.virtuals) at) 0 count (methods.old.items, (0, left.old))) }
+    ensures counts { IfErr result CountsInFile }
+{
+    let mut before = 0;
+    for i in 0..count {
+        mark_parameters(
+            alloc,
+            source,
+            class,
+            listed,
+            at,
+            i,
+            methods,
+            &mut before,
+            left,
+        )?;
+    }
+    Ok(before)
 }
 
 /// Reads the directory at `at` into the members, and answers the annotations of the class.
+#[tactic(auto, unfolding(crate::specs::Directory::directory_at))]
 pub fn read_directory(
     alloc: Global,
     source: &Source,
-    owner: Owner,
+    class: u32,
+    listed: &Members,
     at: u32,
-    members: &mut Members,
-    budget: &mut Budget,
+    fields: &mut Vec<Field>,
+    methods: &mut Vec<Method>,
+    left: &mut u32,
 ) -> Result<Seq<Mark>, DexFault>
+    requires ascend { AllAscend listed.now }
+    ensures gives { Gives is_free (λ marks. marked marks fields.new.items methods.new.items left.new) result (directory_at source.now.bytes.now source.now.program.now class listed.now at fields.old.items methods.old.items left.old) }
     ensures counts { IfErr result CountsInFile }
 {
     let bytes = source.bytes;
     let at = at as usize;
     need(bytes, at, 16)?;
-    let class_set = word_of(bytes, at)?;
-    let fields = word_of(bytes, at + 4)?;
-    let methods = word_of(bytes, at + 8)?;
-    let parameters = word_of(bytes, at + 12)?;
-    let methods_at = at + 16 + 8 * fields as usize;
-    let parameters_at = methods_at + 8 * methods as usize;
-    need(bytes, at, parameters_at + 8 * parameters as usize - at)?;
-    let marks = set_at(alloc, source, class_set, budget)?;
-    read_field_marks(alloc, source, owner, at + 16, fields, members, budget)?;
-    read_method_marks(
-        alloc, source, owner, methods_at, methods, members, budget, false,
-    )?;
-    read_method_marks(
+    let set = word_of(bytes, at)?;
+    let field_count = word_of(bytes, at + 4)?;
+    let method_count = word_of(bytes, at + 8)?;
+    let parameter_count = word_of(bytes, at + 12)?;
+    let fields_size = 8 * field_count as usize;
+    let methods_size = 8 * method_count as usize;
+    let parameters_size = 8 * parameter_count as usize;
+    need(bytes, at, 16 + fields_size + methods_size + parameters_size)?;
+    let marks = set_of(alloc, source, set, left)?;
+    let fields_at = at + 16;
+    mark_fields(
         alloc,
         source,
-        owner,
+        class,
+        listed,
+        fields_at,
+        field_count,
+        fields,
+        left,
+    )?;
+    let methods_at = fields_at + fields_size;
+    mark_methods(
+        alloc,
+        source,
+        class,
+        listed,
+        methods_at,
+        method_count,
+        methods,
+        left,
+    )?;
+    let parameters_at = methods_at + methods_size;
+    mark_all_parameters(
+        alloc,
+        source,
+        class,
+        listed,
         parameters_at,
-        parameters,
-        members,
-        budget,
-        true,
+        parameter_count,
+        methods,
+        left,
     )?;
     Ok(marks)
 }

@@ -1,22 +1,24 @@
 //! What is read with a file at hand: the bytes, the tables, and what is left of the limits.
 
-ghost use Rattle.std.specs.Prelude.{◌≡◌, ◌+◌, ◌≤◌, ◌<◌, length, IfOk, IfErr};
-ghost use Rattle.dex_read.specs.Counts.{CountsInFile};
+ghost use Rattle.std.specs.Prelude.{◌≡◌, ◌<◌, ◌≤◌, ◌==◌, ◌||◌, length, map, slice_get, IfOk};
+ghost use Rattle.program_model.specs.Texts.{first_unit, letter_of, string_text};
+ghost use Rattle.program_model.specs.MemberRules.{class_of_field, class_of_method, field_letter, is_class_number, name_of_method};
+ghost use Rattle.dex_read.specs.Tables.{letters_in, sizes_in};
 
-use crate::below::number_of;
-use crate::fault::DexFault;
 use dex_base::Text;
-use dex_pools::{PoolFault, Pools, Table, TableSizes};
-use program_model::Flags;
+use dex_pools::TableSizes;
+use program_model::Program;
 use std::alloc::{AllocError, Global};
 
-/// A file and its tables. `letters` has the first unit of each type's text.
+/// A file and the program of its tables, which has no class yet. `letters` has the first unit of each type's text.
 #[derive(Drop)]
 pub struct Source<'a> {
     pub bytes: &'a [u8],
-    pub pools: &'a Pools,
+    pub program: &'a Program,
     pub sizes: TableSizes,
     pub letters: &'a [u16],
+    ghost sized: { sizes ≡ sizes_in program.now },
+    ghost lettered: { letters.now ≡ letters_in program.now },
 }
 
 /// What is left of the limits that are counted: items, and the cells of the bodies read so far.
@@ -34,83 +36,89 @@ pub struct Owner {
 }
 
 /// The first unit of a text, 0 where it has none.
-fn first_unit(text: &Text) -> u16 {
+fn first_unit(text: &Text) -> u16
+    ensures { result ≡ first_unit text.now }
+{
     match text.units() {
         [first, ..] => *first,
         [] => 0,
     }
 }
 
-/// The first unit of each type's text.
-pub fn letters_of(alloc: Global, pools: &Pools) -> Result<Vec<u16>, AllocError> {
-    let mut letters = Vec::with_capacity(alloc, pools.types.len())?;
-    for string in pools.types.as_slice() {
-        let letter = pools
-            .strings
-            .items
-            .get(*string as usize)
-            .map_or(0, |text| first_unit(text));
-        letters.push(letter)?;
+/// The first unit of a string, 0 where there is none.
+fn first_of_string(program: &Program, string: u32) -> u16
+    ensures { result ≡ first_unit (string_text program.now string) }
+{
+    match program.strings.items.get(string as usize) {
+        Some(text) => first_unit(text),
+        None => 0,
     }
-    Ok(letters)
+}
+
+/// The first unit of each type's text.
+pub fn letters_of(alloc: Global, program: &Program) -> Result<Vec<u16>, AllocError>
+    ensures { IfOk result (λ v. v.items ≡ letters_in program.now) }
+{
+    program
+        .types
+        .as_slice()
+        .iter()
+        .map(|string| first_of_string(program, *string))
+        .collect(alloc)
 }
 
 impl Source<'_> {
     /// The first unit of a type's text, 0 where there is no such type.
-    pub fn letter(&self, kind: u32) -> u16 {
-        match self.letters.get(kind as usize) {
-            Some(letter) => *letter,
-            None => 0,
+    #[tactic(auto, using(crate::proofs::Letters::letter_is, crate::proofs::Letters::letter_past))]
+    pub fn letter(&self, kind: u32) -> u16
+        ensures { result ≡ letter_of self.now.program.now kind }
+    {
+        let place = kind as usize;
+        if place < self.letters.len() {
+            self.letters[place]
+        } else {
+            0
         }
     }
 
-    /// Whether the type is a class type.
-    pub fn is_class(&self, kind: u32) -> bool {
-        self.letter(kind) == u16::from(b'L')
+    /// The letter of a field's type, 0 where there is no such field.
+    pub fn field_letter(&self, field: u32) -> u16
+        ensures { result ≡ field_letter self.now.program.now (slice_get self.now.program.now.fields field) }
+    {
+        let program = self.program;
+        match program.fields.items.get(field as usize) {
+            Some(name) => self.letter(name.kind),
+            None => 0,
+        }
     }
 }
 
-/// Whether a method is direct: static, private, or named with a leading `<`.
-pub fn is_direct(flags: Flags, name: &Text) -> bool {
-    flags.has(Flags::STATIC) || flags.has(Flags::PRIVATE) || first_unit(name) == u16::from(b'<')
-}
-
-/// A number that is given by its step from the one before it.
-#[derive(Clone, Copy, Debug, Drop)]
-pub struct Stepped {
-    pub number: u32,
-    pub is_same: bool,
-    pub next: usize,
-}
-
-/// The number whose step stands at `at`. It is below the size of its table.
-pub fn stepped_index(bytes: &[u8], at: usize, before: u32, size: u32) -> Result<Stepped, DexFault>
-    ensures inside { IfOk result (λ step. step.next ≤ length bytes.now) }
-    ensures below { IfOk result (λ step. step.number < size) }
-    ensures counts { IfErr result CountsInFile }
+/// Whether the field is one of the class.
+pub fn is_field_of(program: &Program, class: u32, field: u32) -> bool
+    ensures { result ≡ is_class_number (class_of_field (slice_get program.now.fields field)) class }
 {
-    let (step, next) = number_of(bytes, at)?;
-    let number = u64::from(before) + u64::from(step);
-    if number >= u64::from(size) {
-        let value = u32::try_from(number).unwrap_or(u32::MAX);
-        return Err(DexFault::Pool(PoolFault::Index { at, value, size }));
+    match program.fields.items.get(field as usize) {
+        Some(name) => name.class == class,
+        None => false,
     }
-    Ok(Stepped {
-        number: number as u32,
-        is_same: step == 0,
-        next,
-    })
 }
 
-/// That the entry at `place` of a list of members is above the one before it.
-pub fn check_ascends(place: u32, is_same: bool) -> Result<(), DexFault>
-    ensures counts { IfErr result CountsInFile }
+/// Whether the method is one of the class.
+pub fn is_method_of(program: &Program, class: u32, method: u32) -> bool
+    ensures { result ≡ is_class_number (class_of_method (slice_get program.now.methods method)) class }
 {
-    if place > 0 && is_same {
-        return Err(DexFault::Pool(PoolFault::Order {
-            table: Table::Members,
-            place,
-        }));
+    match program.methods.items.get(method as usize) {
+        Some(name) => name.class == class,
+        None => false,
     }
-    Ok(())
+}
+
+/// Whether the method's name begins with `<`.
+pub fn is_special(program: &Program, method: u32) -> bool
+    ensures { result ≡ (first_unit (name_of_method program.now (slice_get program.now.methods method)) == 60) }
+{
+    match program.methods.items.get(method as usize) {
+        Some(name) => first_of_string(program, name.name) == 60,
+        None => false,
+    }
 }

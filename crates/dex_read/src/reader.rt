@@ -1,17 +1,20 @@
 //! The whole file.
 
-ghost use Rattle.std.specs.Prelude.{◌+◌, ◌*◌, ◌^◌, ◌≤◌, ◌<◌, length, vec_len, IfOk, OnOk, IfErr, IsTrue};
-ghost use Rattle.program_model.specs.Limits.{limit_of};
-ghost use Rattle.dex_read.specs.Kept.{KeepLimits, KeepsLimits};
-ghost use Rattle.dex_read.specs.Counts.{CountsInFile, is_in_file};
+ghost use Rattle.std.specs.Prelude.{◌≡◌, ◌+◌, ◌*◌, ◌^◌, ◌≤◌, ◌<◌, length, min, vec_len, IfOk, IfErr};
+ghost use Rattle.dex_base.specs.Reading.{Gives};
+ghost use Rattle.dex_read.specs.Counts.{CountsInFile};
+ghost use Rattle.dex_read.specs.Faults.{is_free};
+ghost use Rattle.dex_read.specs.File.{Begins, head_at, tables_with, tables_at};
+ghost use Rattle.dex_read.specs.Tables.{sizes_in};
+ghost use Rattle.dex_read.specs.Kept.{KeepsLimits};
 
 use crate::below::{pools_of, word_of};
 use crate::class_defs::read_class;
 use crate::fault::DexFault;
 use crate::header::{need, read_header};
 use crate::members::{Budget, Source, letters_of};
-use dex_pools::Pools;
-use program_model::{Class, Counted, LimitFault, Program};
+use dex_pools::{Pools, TableSizes};
+use program_model::{Class, Program, Version};
 use seq::Seq;
 use std::alloc::Global;
 
@@ -21,51 +24,155 @@ const MOST_ITEMS: u32 = 16_777_216;
 /// How many bytes a class_def has.
 const CLASS_DEF: usize = 32;
 
-/// That a table has no more entries than its limit.
-fn check_count(count: usize, counted: Counted) -> Result<(), DexFault>
-    requires { IsTrue (is_in_file counted) }
-    ensures few { OnOk result (count ≤ limit_of counted) }
-    ensures counts { IfErr result CountsInFile }
-{
-    if count as u64 > counted.limit() {
-        return Err(DexFault::Limit(LimitFault {
-            counted,
-            number: counted.limit() + 1,
-        }));
-    }
-    Ok(())
-}
-
-/// That the tables keep their limits, as the sizes of the header do.
-fn check_tables(pools: &Pools) -> Result<(), DexFault>
-    ensures keep { OnOk result (KeepLimits pools.now) }
-    ensures counts { IfErr result CountsInFile }
-{
-    check_count(pools.types.len(), Counted::Types)?;
-    check_count(pools.protos.len(), Counted::Protos)?;
-    check_count(pools.fields.len(), Counted::Fields)?;
-    check_count(pools.methods.len(), Counted::Methods)
-}
-
-/// The classes, whose table the header names at 96.
-fn read_classes(alloc: Global, source: &Source, budget: &mut Budget) -> Result<Vec<Class>, DexFault>
+/// So many classes of the table at an offset.
+fn class_list(
+    alloc: Global,
+    source: &Source,
+    offset: usize,
+    count: u32,
+    budget: &mut Budget,
+) -> Result<Vec<Class>, DexFault>
+    requires { offset + 32 * count ≤ length source.now.bytes.now }
     ensures few { IfOk result (λ classes. vec_len classes < 2 ^ 32) }
     ensures counts { IfErr result CountsInFile }
 {
-    let bytes = source.bytes;
-    let count = word_of(bytes, 96)?;
-    let offset = word_of(bytes, 100)? as usize;
     let mut classes = Vec::new(alloc);
-    if count == 0 {
-        return Ok(classes);
-    }
-    need(bytes, offset, CLASS_DEF * count as usize)?;
     let mut units = Vec::new(alloc);
     for place in 0..count {
         let at = offset + CLASS_DEF * place as usize;
-        classes.push(read_class(alloc, source, place, at, budget, &mut units)?)?;
+        let class = read_class(alloc, source, at, place, budget, &mut units)?;
+        classes.push(class)?;
     }
     Ok(classes)
+}
+
+/// So many classes of the table at an offset, which does not pass the end.
+fn table_of(
+    alloc: Global,
+    source: &Source,
+    count: u32,
+    offset: u32,
+    budget: &mut Budget,
+) -> Result<Vec<Class>, DexFault>
+    ensures few { IfOk result (λ classes. vec_len classes < 2 ^ 32) }
+    ensures counts { IfErr result CountsInFile }
+{
+    if count == 0 {
+        Ok(Vec::new(alloc))
+    } else {
+        need(source.bytes, offset as usize, CLASS_DEF * count as usize)?;
+        class_list(alloc, source, offset as usize, count, budget)
+    }
+}
+
+/// The classes, whose table the header names at 96.
+fn classes_of(alloc: Global, source: &Source, budget: Budget) -> Result<Vec<Class>, DexFault>
+    ensures few { IfOk result (λ classes. vec_len classes < 2 ^ 32) }
+    ensures counts { IfErr result CountsInFile }
+{
+    let mut budget = budget;
+    let count = word_of(source.bytes, 96)?;
+    let offset = word_of(source.bytes, 100)?;
+    table_of(alloc, source, count, offset, &mut budget)
+}
+
+/// A program that has these tables and no class.
+fn tables_with(alloc: Global, version: Version, pools: Pools) -> Program
+    ensures { result ≡ tables_with version pools }
+{
+    let Pools {
+        strings,
+        types,
+        protos,
+        fields,
+        methods,
+    } = pools;
+    Program {
+        strings,
+        types,
+        protos,
+        fields,
+        methods,
+        classes: Seq::new(alloc),
+        version,
+    }
+}
+
+/// The tables, and what the parameters of protos leave of the items.
+#[tactic(auto, unfolding(crate::specs::File::tables_at))]
+fn tables_of(alloc: Global, bytes: &[u8], version: Version) -> Result<(Program, u32), DexFault>
+    ensures gives { Gives is_free (λ r. r) result (tables_at bytes.now version) }
+    ensures counts { IfErr result CountsInFile }
+{
+    let mut left = MOST_ITEMS;
+    let pools = pools_of(alloc, bytes, &mut left)?;
+    Ok((tables_with(alloc, version, pools), left))
+}
+
+/// The version and the tables, and what is left of the items.
+#[tactic(auto, unfolding(crate::specs::File::head_at))]
+fn head_of(alloc: Global, bytes: &[u8]) -> Result<(Program, u32), DexFault>
+    ensures gives { Gives is_free (λ r. r) result (head_at bytes.now) }
+    ensures counts { IfErr result CountsInFile }
+{
+    let version = read_header(bytes)?;
+    tables_of(alloc, bytes, version)
+}
+
+/// A length as a number of 32 bits, the greatest one where it has more.
+fn capped(len: usize) -> u32
+    ensures { result ≡ min len 4294967295 }
+{
+    if len < 4_294_967_295 {
+        len as u32
+    } else {
+        4_294_967_295
+    }
+}
+
+/// How many entries the tables have that values and code may name.
+fn sizes_in(program: &Program) -> TableSizes
+    ensures { result ≡ sizes_in program.now }
+{
+    TableSizes {
+        strings: capped(program.strings.len()),
+        types: capped(program.types.len()),
+        fields: capped(program.fields.len()),
+        methods: capped(program.methods.len()),
+    }
+}
+
+/// The classes of the program that has these tables. `left` is what is left of the items.
+fn read_classes(
+    alloc: Global,
+    bytes: &[u8],
+    program: &Program,
+    left: u32,
+) -> Result<Vec<Class>, DexFault>
+    ensures few { IfOk result (λ classes. vec_len classes < 2 ^ 32) }
+    ensures counts { IfErr result CountsInFile }
+{
+    let letters = letters_of(alloc, program)?;
+    let source = Source {
+        bytes,
+        program,
+        sizes: sizes_in(program),
+        letters: &letters,
+    };
+    let budget = Budget {
+        items: left,
+        cells: 0,
+    };
+    classes_of(alloc, &source, budget)
+}
+
+/// The program with these classes.
+fn filled(program: Program, classes: Vec<Class>) -> Program
+    ensures { result ≡ record program { classes = classes.items } }
+{
+    let mut program = program;
+    program.classes = Seq::of_vec(classes);
+    program
 }
 
 /// The program that the bytes spell (Dalvik executable format, versions 035 and 037).
@@ -74,41 +181,16 @@ fn read_classes(alloc: Global, source: &Source, budget: &mut Budget) -> Result<V
 /// the tables, and the classes in order: each its class_def, its members, their code, its annotations and its first
 /// values. The map, the signature and the order of the classes are not looked at, and debug information gives lines
 /// or none, never a fault. `Limit` comes where the file has more than the counted limits allow.
+#[tactic(auto, using(crate::proofs::Keeping::keeps, crate::proofs::Keeping::begins))]
 pub fn read_dex(alloc: Global, bytes: &[u8]) -> Result<Program, DexFault>
+    // The bytes decide the version, the tables and the first fault of these.
+    ensures begins { Begins result (head_at bytes.now) }
     // What is read keeps its limits.
     ensures limits { IfOk result KeepsLimits }
     // A limit that is passed is one of a quantity inside the file, and is passed by one.
     ensures counts { IfErr result CountsInFile }
 {
-    let version = read_header(bytes)?;
-    let mut budget = Budget {
-        items: MOST_ITEMS,
-        cells: 0,
-    };
-    let pools = pools_of(alloc, bytes, &mut budget.items)?;
-    check_tables(&pools)?;
-    let letters = letters_of(alloc, &pools)?;
-    let source = Source {
-        bytes,
-        pools: &pools,
-        sizes: pools.sizes(),
-        letters: &letters,
-    };
-    let classes = read_classes(alloc, &source, &mut budget)?;
-    let Pools {
-        strings,
-        types,
-        protos,
-        fields,
-        methods,
-    } = pools;
-    Ok(Program {
-        strings,
-        types,
-        protos,
-        fields,
-        methods,
-        classes: Seq::of_vec(classes),
-        version,
-    })
+    let (tables, left) = head_of(alloc, bytes)?;
+    let classes = read_classes(alloc, bytes, &tables, left)?;
+    Ok(filled(tables, classes))
 }

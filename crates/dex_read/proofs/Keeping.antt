@@ -18,7 +18,7 @@ use Rattle.dex_pools.specs.Spelled.{SpellsPools}
 use Rattle.dex_pools.proofs.PoolReading.{found}
 use Rattle.dex_read.specs.declared.fault.DexFault.{DexFault}
 use Rattle.dex_read.specs.Faults.{of_base, of_pool}
-use Rattle.dex_read.specs.File.{Begins, head_at, tables_with, tables_at}
+use Rattle.dex_read.specs.File.{head_at, tables_with, tables_at}
 use Rattle.dex_read.specs.Header.{need_at, past, version_at, fixed_at, sum_at, size_at, header_at}
 use Rattle.dex_read.specs.Kept.{KeepsLimits}
 use Rattle.dex_read.specs.Word.{word_at}
@@ -105,16 +105,3 @@ unfolding head_at
 keeps bytes tables left classes h few =
     let p = then_ok (header_at bytes) (λ v. tables_at bytes v) (tables, left) h in
     keeps_behind bytes p.0 (tables, left) classes p.1 p.2 few
-
-no_class : (bytes : List ℕ) (t : Program × ℕ) → head_at bytes ≡ Ok t → t.0 ≡ record t.0 { classes = [] }
-unfolding head_at tables_at
-no_class bytes t h =
-    let p = then_ok (header_at bytes) (λ v. tables_at bytes v) t h in
-    let q = then_ok (raise of_pool (pools_at bytes 16777216)) (λ pools. Ok (tables_with p.0 pools.0, pools.1)) t p.2 in
-    let same : (tables_with p.0 q.0.0, q.0.1) ≡ t = ok_is _ _ q.2 in
-    subst (λ (r : Program × ℕ). r.0 ≡ record r.0 { classes = [] }) same refl
-
--- a program whose classes are filled in has the tables that were read
-pub begins : (bytes : List ℕ) (tables : Program) (left : ℕ) (classes : List Class) → head_at bytes ≡ Ok (tables, left)
-    → Begins (Ok (record tables { classes = classes })) (head_at bytes)
-begins bytes tables left classes h = (left, h ∙ ap (λ (p : Program). Ok (p, left)) (no_class bytes (tables, left) h))

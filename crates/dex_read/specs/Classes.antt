@@ -4,21 +4,27 @@ use Rattle.std.specs.List.{list_all}
 use Rattle.dex_base.specs.Reading.{◌>>=◌, raise}
 use Rattle.program_model.specs.Texts.{type_text, letter_of, is_class}
 use Rattle.program_model.specs.MemberRules.{is_object}
+use Rattle.program_model.specs.declared.program.Class.{Class}
 use Rattle.program_model.specs.declared.program.Field.{Field}
 use Rattle.program_model.specs.declared.program.Method.{Method}
 use Rattle.program_model.specs.declared.program.Program.{Program}
 use Rattle.dex_pools.specs.declared.fault.PoolFault.TheVariants.{Index}
 use Rattle.dex_pools.specs.Items.{type_list_at}
+use Rattle.dex_pools.specs.Run.{run}
 use Rattle.dex_read.specs.declared.class_data.Listed.{Listed}
 use Rattle.dex_read.specs.declared.class_data.Members.{Members}
 use Rattle.dex_read.specs.declared.class_defs.ClassDef.{ClassDef}
 use Rattle.dex_read.specs.declared.fault.DexFault.{DexFault}
 use Rattle.dex_read.specs.declared.fault.DexFault.TheVariants.{Pool, Root}
+use Rattle.dex_read.specs.declared.members.Budget.{Budget}
 use Rattle.dex_read.specs.declared.members.Owner.{Owner}
-use Rattle.dex_read.specs.ClassData.{members_at}
+use Rattle.dex_read.specs.ClassData.{flags_of, members_at}
+use Rattle.dex_read.specs.Code.{method_at}
 use Rattle.dex_read.specs.Directory.{Marked, directory_at}
 use Rattle.dex_read.specs.FirstValues.{firsts_at}
 use Rattle.dex_read.specs.Faults.{of_pool}
+use Rattle.dex_read.specs.Header.{need_at}
+use Rattle.dex_read.specs.Steps.{for_each}
 use Rattle.dex_read.specs.Tables.{sizes_in}
 use Rattle.dex_read.specs.Word.{word_at}
 
@@ -71,6 +77,10 @@ no_members = record { statics = []; instances = []; directs = []; virtuals = [] 
 abbrev pub listed_at : List ℕ → Program → Owner → ℕ → Result Members DexFault
 listed_at bytes p owner offset = if nat_eq offset 0 then Ok no_members else members_at bytes p owner offset
 
+-- the methods of class data, direct ones first, and what their code leaves
+unfoldable pub methods_of : List ℕ → Program → Members → Budget → Result (List Method × Budget) DexFault
+methods_of bytes p listed left = for_each (method_at bytes p) (listed.directs ++ listed.virtuals) left
+
 -- the annotations that the directory at this offset names; the offset 0 stands for none
 unfoldable pub marked_at : List ℕ → Program → ℕ → Members → ℕ → List Field → List Method → ℕ → Result Marked DexFault
 marked_at bytes p class listed offset fields methods left =
@@ -82,3 +92,30 @@ begun_at bytes p offset statics fields left = if nat_eq offset 0 then Ok (fields
 
 abbrev pub source_of : ℕ → Option ℕ
 source_of n = if nat_eq n none then None else Some n
+
+-- ---- the class
+
+abbrev pub class_with : ClassDef → List ℕ → Marked → List Field → Class
+class_with def interfaces marked fields = record {
+  name = def.class;
+  flags = flags_of def.flags;
+  superclass = def.superclass;
+  interfaces = interfaces;
+  source = source_of def.source;
+  marks = marked.marks;
+  fields = fields;
+  methods = marked.methods;
+}
+
+-- The class at this place, whose class_def stands there, and what it leaves: its members, their code, its annotations and then its
+-- first values.
+unfoldable pub class_at : List ℕ → Program → ℕ → ℕ → Budget → Result (Class × Budget) DexFault
+class_at bytes p at place left = do
+  def ← def_at bytes p at
+  interfaces ← interfaces_at bytes p def.interfaces left.items
+  root ← root_at p def interfaces.0 place
+  listed ← listed_at bytes p (record { place = place; kind = def.class }) def.data_at
+  methods ← methods_of bytes p listed (record { items = interfaces.1; cells = left.cells })
+  marked ← marked_at bytes p place listed def.annotations (map field_with (listed.statics ++ listed.instances)) methods.0 methods.1.items
+  fields ← begun_at bytes p def.static_values (length listed.statics) marked.fields marked.left
+  Ok (class_with def interfaces.0 marked fields.0, record { items = fields.1; cells = methods.1.cells })

@@ -1,9 +1,10 @@
 -- Code items, as they are read (Dalvik executable format, "code_item").
-use Rattle.std.specs.Prelude.{ℕ, ◌+◌, ◌-◌, ◌*◌, ◌%◌, List, [], length, Bool, not, nat_eq, nat_lt, nat_le, ◌&&◌, ◌==◌, Option, Some, None, Result, Ok, Err, if◌then◌else◌}
+use Rattle.std.specs.Prelude.{ℕ, ◌+◌, ◌-◌, ◌*◌, ◌%◌, List, [], length, drop, Bool, not, nat_eq, nat_lt, nat_le, ◌&&◌, ◌==◌, Option, Some, None, Result, Ok, Err, if◌then◌else◌}
 use Rattle.std.specs.List.{list_any}
-use Rattle.dex_base.specs.Reading.{◌>>=◌, each}
+use Rattle.dex_base.specs.Reading.{◌>>=◌, raise, each}
 use Rattle.line_tables.specs.Item.{lines_at}
 use Rattle.program_model.specs.Cells.{body_cells}
+use Rattle.program_model.specs.Items.{body_items}
 use Rattle.program_model.specs.Limits.{limit_of}
 use Rattle.program_model.specs.MemberRules.{proto_of, takes_words}
 use Rattle.program_model.specs.declared.body.Body.{Body}
@@ -14,10 +15,12 @@ use Rattle.program_model.specs.declared.program.Program.{Program}
 use Rattle.code_read.specs.declared.fault.CodeFault.{CodeFault}
 use Rattle.code_read.specs.declared.fault.CodeFault.TheVariants as code
 use Rattle.code_read.specs.declared.sizes.Sizes.{Sizes}
+use Rattle.code_read.specs.Code.{code_of}
 use Rattle.dex_read.specs.declared.class_data.Listed.{Listed}
 use Rattle.dex_read.specs.declared.code.CodeItem.{CodeItem}
 use Rattle.dex_read.specs.declared.fault.DexFault.{DexFault}
 use Rattle.dex_read.specs.declared.fault.DexFault.TheVariants as dex
+use Rattle.dex_read.specs.declared.members.Budget.{Budget}
 use Rattle.dex_read.specs.Header.{need_at, past}
 use Rattle.dex_read.specs.Tables.{sizes_in}
 use Rattle.dex_read.specs.Word.{half_at, word_at}
@@ -73,6 +76,12 @@ of_code method code.NoMemory = dex.NoMemory
 of_code method (code.Limit limit) = past (in_code limit.counted)
 of_code method fault = dex.Code method fault
 
+-- the body of a method, and where its instructions begin
+unfoldable pub body_at : List ℕ → Program → ℕ → CodeItem → ℕ → Result (Body × List ℕ) DexFault
+body_at bytes p method item left = do
+  units ← units_at bytes item.units_at item.size
+  raise (of_code method) (code_of units (drop item.tries_at bytes) (sizes_for p item left))
+
 -- ---- its lines and its cells
 
 -- no lines at all, where no position has one
@@ -95,3 +104,17 @@ cells_with body cells = if nat_le (cells + body_cells body) (limit_of Cells) the
 
 abbrev pub method_with : Listed → Option Body → List ℕ → Method
 method_with e body lines = record { name = e.number; flags = e.flags; marks = []; parameter_marks = []; body = body; lines = lines }
+
+-- the method with the code that its entry names. Handlers of regions and opcodes of lines are items.
+unfoldable pub coded_at : List ℕ → Program → Listed → Budget → Result (Method × Budget) DexFault
+coded_at bytes p e left = do
+  item ← item_at bytes e.code
+  frame ← frame_at p e item
+  body ← body_at bytes p e.number item left.items
+  lines ← lined_at bytes item.debug body.1 (left.items - body_items (Some body.0))
+  cells ← cells_with body.0 left.cells
+  Ok (method_with e (Some body.0) lines.0, record { items = lines.1; cells = cells })
+
+-- the method of an entry, without its annotations; the offset 0 stands for no code
+abbrev pub method_at : List ℕ → Program → Listed → Budget → Result (Method × Budget) DexFault
+method_at bytes p e left = if nat_eq e.code 0 then Ok (method_with e None [], left) else coded_at bytes p e left

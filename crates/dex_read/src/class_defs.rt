@@ -7,9 +7,11 @@ ghost use Rattle.program_model.specs.MemberRules.{is_object};
 ghost use Rattle.program_model.specs.Texts.{string_text, type_text};
 ghost use Rattle.dex_read.specs.Counts.{CountsInFile};
 ghost use Rattle.dex_read.specs.Ascending.{AllAscend};
-ghost use Rattle.dex_read.specs.Classes.{index_at, def_at, interfaces_at, is_class_type, root_at, field_with, listed_at, marked_at, begun_at, source_of};
+ghost use Rattle.dex_read.specs.Classes.{index_at, def_at, interfaces_at, is_class_type, root_at, field_with, listed_at, marked_at, begun_at, source_of, methods_of, class_with, class_at};
+ghost use Rattle.dex_read.specs.Code.{method_at};
 ghost use Rattle.dex_read.specs.Directory.{marked};
 ghost use Rattle.dex_read.specs.Faults.{is_free};
+ghost use Rattle.dex_read.specs.Steps.{behind, for_each};
 
 use crate::below::{types_of, word_of};
 use crate::class_data::{Listed, Members, read_members};
@@ -234,6 +236,7 @@ fn push_methods(
     budget: &mut Budget,
     units: &mut Vec<u16>,
 ) -> Result<(), DexFault>
+    ensures gives { Gives is_free (λ u. (methods.new.items, budget.new)) result (behind methods.old.items (for_each (method_at source.now.bytes.now source.now.program.now) entries.now budget.old)) }
     ensures counts { IfErr result CountsInFile }
 {
     for entry in entries {
@@ -244,6 +247,7 @@ fn push_methods(
 }
 
 /// The listed methods with their code, direct ones first. `units` is a list to work in.
+#[tactic(auto, using(crate::proofs::Steps::for_both, crate::proofs::Steps::both_fail), unfolding(crate::specs::Classes::methods_of))]
 fn listed_methods(
     alloc: Global,
     source: &Source,
@@ -251,6 +255,7 @@ fn listed_methods(
     budget: &mut Budget,
     units: &mut Vec<u16>,
 ) -> Result<Vec<Method>, DexFault>
+    ensures gives { Gives is_free (λ v. (v.items, budget.new)) result (methods_of source.now.bytes.now source.now.program.now listed.now budget.old) }
     ensures counts { IfErr result CountsInFile }
 {
     let mut methods = Vec::new(alloc);
@@ -328,6 +333,7 @@ fn source_of(number: u32) -> Option<u32>
 }
 
 /// The class at this place, whose class_def stands at `at`. `units` is a list to work in.
+#[tactic(auto, unfolding(crate::specs::Classes::class_at))]
 pub fn read_class(
     alloc: Global,
     source: &Source,
@@ -337,6 +343,7 @@ pub fn read_class(
     units: &mut Vec<u16>,
 ) -> Result<Class, DexFault>
     requires { at + 32 ≤ length source.now.bytes.now }
+    ensures gives { Gives is_free (λ class. (class, budget.new)) result (class_at source.now.bytes.now source.now.program.now at place budget.old) }
     ensures counts { IfErr result CountsInFile }
 {
     let def = def_of(source, at)?;

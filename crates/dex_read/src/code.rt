@@ -8,8 +8,9 @@ ghost use Rattle.line_tables.specs.Item.{lines_at};
 ghost use Rattle.program_model.specs.Cells.{body_cells, capped};
 ghost use Rattle.program_model.specs.Items.{body_items, region_items};
 ghost use Rattle.program_model.specs.MemberRules.{is_static, proto_of, receiver_words, takes_words, words_of};
+ghost use Rattle.code_read.specs.Code.{code_of};
 ghost use Rattle.dex_read.specs.Counts.{CountsInFile, is_in_file};
-ghost use Rattle.dex_read.specs.Code.{gap, item_at, frame_at, units_at, sizes_for, in_code, of_code, kept_lines, counted_lines, lined_at, cells_with, method_with};
+ghost use Rattle.dex_read.specs.Code.{gap, item_at, frame_at, units_at, sizes_for, in_code, of_code, kept_lines, counted_lines, lined_at, cells_with, method_with, body_at, coded_at, method_at};
 ghost use Rattle.dex_read.specs.Faults.{is_free};
 
 use crate::below::{half_of, rest_of, word_of};
@@ -196,6 +197,7 @@ fn code_fault(method: u32, fault: CodeFault) -> DexFault
 }
 
 /// The body of a method, and where its instructions begin. `units` is a list to work in.
+#[tactic(auto, unfolding(crate::specs::Code::body_at))]
 fn body_of(
     alloc: Global,
     source: &Source,
@@ -206,6 +208,7 @@ fn body_of(
 ) -> Result<(Body, Vec<u32>), DexFault>
     requires units { item.units_at + 2 * item.size ≤ length source.now.bytes.now }
     requires tries { item.tries_at ≤ length source.now.bytes.now }
+    ensures gives { Gives is_free (λ r. (r.0, r.1.items)) result (body_at source.now.bytes.now source.now.program.now method item left) }
     ensures counts { IfErr result CountsInFile }
 {
     units_of(source.bytes, item.units_at, item.size, units)?;
@@ -327,6 +330,7 @@ fn method_with(alloc: Global, entry: Listed, body: Option<Body>, lines: Seq<u32>
 }
 
 /// The method whose entry names its code. `units` is a list to work in.
+#[tactic(auto, unfolding(crate::specs::Code::coded_at))]
 fn coded_of(
     alloc: Global,
     source: &Source,
@@ -334,6 +338,7 @@ fn coded_of(
     budget: &mut Budget,
     units: &mut Vec<u16>,
 ) -> Result<Method, DexFault>
+    ensures gives { Gives is_free (λ m. (m, budget.new)) result (coded_at source.now.bytes.now source.now.program.now entry budget.old) }
     ensures counts { IfErr result CountsInFile }
 {
     let item = item_of(source.bytes, entry.code as usize)?;
@@ -354,6 +359,7 @@ pub fn method_of(
     budget: &mut Budget,
     units: &mut Vec<u16>,
 ) -> Result<Method, DexFault>
+    ensures gives { Gives is_free (λ m. (m, budget.new)) result (method_at source.now.bytes.now source.now.program.now entry budget.old) }
     ensures counts { IfErr result CountsInFile }
 {
     if entry.code == 0 {

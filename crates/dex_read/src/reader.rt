@@ -2,9 +2,10 @@
 
 ghost use Rattle.std.specs.Prelude.{◌≡◌, ◌+◌, ◌*◌, ◌^◌, ◌≤◌, ◌<◌, length, min, vec_len, IfOk, IfErr};
 ghost use Rattle.dex_base.specs.Reading.{Gives};
+ghost use Rattle.dex_pools.specs.Run.{run};
 ghost use Rattle.dex_read.specs.Counts.{CountsInFile};
 ghost use Rattle.dex_read.specs.Faults.{is_free};
-ghost use Rattle.dex_read.specs.File.{Begins, head_at, tables_with, tables_at};
+ghost use Rattle.dex_read.specs.File.{class_in, table_at, classes_at, head_at, tables_with, tables_at, program_at};
 ghost use Rattle.dex_read.specs.Tables.{sizes_in};
 ghost use Rattle.dex_read.specs.Kept.{KeepsLimits};
 
@@ -33,6 +34,7 @@ fn class_list(
     budget: &mut Budget,
 ) -> Result<Vec<Class>, DexFault>
     requires { offset + 32 * count ≤ length source.now.bytes.now }
+    ensures gives { Gives is_free (λ v. (v.items, budget.new)) result (run (class_in source.now.bytes.now source.now.program.now offset) 0 count budget.old) }
     ensures few { IfOk result (λ classes. vec_len classes < 2 ^ 32) }
     ensures counts { IfErr result CountsInFile }
 {
@@ -47,6 +49,7 @@ fn class_list(
 }
 
 /// So many classes of the table at an offset, which does not pass the end.
+#[tactic(auto, unfolding(crate::specs::File::table_at))]
 fn table_of(
     alloc: Global,
     source: &Source,
@@ -54,6 +57,7 @@ fn table_of(
     offset: u32,
     budget: &mut Budget,
 ) -> Result<Vec<Class>, DexFault>
+    ensures gives { Gives is_free (λ v. (v.items, budget.new)) result (table_at source.now.bytes.now source.now.program.now count offset budget.old) }
     ensures few { IfOk result (λ classes. vec_len classes < 2 ^ 32) }
     ensures counts { IfErr result CountsInFile }
 {
@@ -66,7 +70,9 @@ fn table_of(
 }
 
 /// The classes, whose table the header names at 96.
+#[tactic(auto, unfolding(crate::specs::File::classes_at))]
 fn classes_of(alloc: Global, source: &Source, budget: Budget) -> Result<Vec<Class>, DexFault>
+    ensures gives { Gives is_free (λ v. v.items) result (classes_at source.now.bytes.now source.now.program.now budget) }
     ensures few { IfOk result (λ classes. vec_len classes < 2 ^ 32) }
     ensures counts { IfErr result CountsInFile }
 {
@@ -149,6 +155,7 @@ fn read_classes(
     program: &Program,
     left: u32,
 ) -> Result<Vec<Class>, DexFault>
+    ensures gives { Gives is_free (λ v. v.items) result (classes_at bytes.now program.now (record { items = left; cells = 0 })) }
     ensures few { IfOk result (λ classes. vec_len classes < 2 ^ 32) }
     ensures counts { IfErr result CountsInFile }
 {
@@ -181,10 +188,10 @@ fn filled(program: Program, classes: Vec<Class>) -> Program
 /// the tables, and the classes in order: each its class_def, its members, their code, its annotations and its first
 /// values. The map, the signature and the order of the classes are not looked at, and debug information gives lines
 /// or none, never a fault. `Limit` comes where the file has more than the counted limits allow.
-#[tactic(auto, using(crate::proofs::Keeping::keeps, crate::proofs::Keeping::begins))]
+#[tactic(auto, using(crate::proofs::Keeping::keeps), unfolding(crate::specs::File::program_at))]
 pub fn read_dex(alloc: Global, bytes: &[u8]) -> Result<Program, DexFault>
-    // The bytes decide the version, the tables and the first fault of these.
-    ensures begins { Begins result (head_at bytes.now) }
+    // The bytes decide the program, or the fault: the first one in this order.
+    ensures gives { Gives is_free (λ program. program) result (program_at bytes.now) }
     // What is read keeps its limits.
     ensures limits { IfOk result KeepsLimits }
     // A limit that is passed is one of a quantity inside the file, and is passed by one.

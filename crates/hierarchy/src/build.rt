@@ -1,6 +1,12 @@
 //! The tables of a hierarchy, made in one go over the program.
 
-ghost use Rattle.std.specs.Prelude.{◌≡◌, ◌+◌, length, IfOk, vec_len};
+ghost use Rattle.std.specs.Prelude.{◌≡◌, ◌+◌, ◌<◌, ◌^◌, length, IfOk, IfErr, MatchOption, vec_len, replicate};
+ghost use Rattle.std.proofs.Common.{Ok, Err};
+ghost use Rattle.hierarchy.specs.Placing.{place_from, known_places};
+ghost use Rattle.hierarchy.specs.Faults.{IsTwiceOr, IsSplitOr};
+ghost use Rattle.hierarchy.specs.Shapes.{placing, IsMade, StopsAt, IsOf, IsCause};
+ghost use Rattle.program_model.specs.ProgramRules.{is_well_formed};
+ghost use Rattle.std.specs.Prelude.{true};
 
 use crate::cycle::first_on_cycle;
 use crate::fault::HierarchyFault;
@@ -75,32 +81,48 @@ pub struct Hierarchy {
     pub(crate) targets: Targets,
 }
 
-/// The place of the class that defines each type, for so many types, unless a type is defined twice.
-fn places(alloc: Global, types: usize, classes: &[Class]) -> Result<Vec<u32>, HierarchyFault>
-    ensures { IfOk result (λ places. vec_len places ≡ types) }
+/// Writes the place of each class at its type, up to the first class whose type has a place already, which it answers.
+fn place_all(places: &mut [u32], classes: &[Class]) -> Option<u32>
+    ensures size { length places.new ≡ length places.old }
+    ensures all { length classes.now < 2 ^ 32 → MatchOption result (place_from 0 classes.now places.old ≡ Ok places.new) (λ class. place_from 0 classes.now places.old ≡ Err class) }
 {
-    let mut places = vec![in alloc; NONE; types]?;
     for (place, class) in classes.iter().enumerate() {
-        if read(places.as_slice(), class.name).is_some() {
-            return Err(HierarchyFault::Twice { class: word(place) });
+        if read(places, class.name).is_some() {
+            return Some(word(place));
         }
-        put(places.as_mut_slice(), class.name, word(place));
+        put(places, class.name, word(place));
     }
-    Ok(places)
+    None
 }
 
-/// The order of the classes, unless one is its own ancestor.
+/// The place of the class that defines each type, for so many types, unless a type is defined twice.
+fn places(alloc: Global, types: usize, classes: &[Class]) -> Result<Vec<u32>, HierarchyFault>
+    ensures size { IfOk result (λ places. vec_len places ≡ types) }
+    ensures placed { length classes.now < 2 ^ 32 → IfOk result (λ places. place_from 0 classes.now (replicate types 4294967295) ≡ Ok places.items) }
+    ensures twice { length classes.now < 2 ^ 32 → IfErr result (λ fault. IsTwiceOr (place_from 0 classes.now (replicate types 4294967295)) fault) }
+{
+    let mut places = match vec![in alloc; NONE; types] {
+        Ok(places) => places,
+        Err(_) => return Err(HierarchyFault::NoMemory),
+    };
+    match place_all(places.as_mut_slice(), classes) {
+        Some(class) => Err(HierarchyFault::Twice { class }),
+        None => Ok(places),
+    }
+}
+
+/// The order of the classes, or the first class that is its own ancestor.
 fn order(
     alloc: Global,
     supers: &[u32],
     lists: &Links,
     below: &Links,
-) -> Result<Vec<u32>, HierarchyFault> {
+) -> Result<Result<Vec<u32>, u32>, AllocError> {
     let mut above = count_above(alloc, supers, lists)?;
     let order = in_order(alloc, above.as_mut_slice(), below)?;
     match first_on_cycle(alloc, above.as_slice(), below)? {
-        Some(class) => Err(HierarchyFault::Cycle { class }),
-        None => Ok(order),
+        Some(class) => Ok(Err(class)),
+        None => Ok(Ok(order)),
     }
 }
 
@@ -147,23 +169,38 @@ fn by_superclass(alloc: Global, supers: &[u32], order: &[u32]) -> Result<Vec<u32
     by_number(alloc, numbers.as_slice())
 }
 
-/// The classes of a program, unless one is defined twice or is its own ancestor.
-fn make_shape(alloc: Global, program: &Program) -> Result<Shape, HierarchyFault>
-    ensures { IfOk result (λ shape. vec_len shape.places ≡ length program.now.types) }
+/// What stands above and below the classes at these places, unless a class is its own ancestor.
+fn link(alloc: Global, program: &Program, places: Vec<u32>) -> Result<Shape, HierarchyFault>
+    ensures made { (length program.now.classes < 2 ^ 32 → placing program.now ≡ Ok places.items) → IfOk result (λ shape. IsMade program.now shape) }
+    ensures size { IfOk result (λ shape. shape.places ≡ places) }
+    ensures stops { (length program.now.classes < 2 ^ 32 → placing program.now ≡ Ok places.items) → IfErr result (λ fault. StopsAt program.now fault) }
 {
     let classes = program.classes.as_slice();
-    let places = places(alloc, program.types.len(), classes)?;
     let supers = superclasses(alloc, classes, places.as_slice())?;
     let lists = interfaces(alloc, classes, places.as_slice())?;
     let below = subclasses(alloc, supers.as_slice(), &lists)?;
-    let order = order(alloc, supers.as_slice(), &lists, &below)?;
-    Ok(Shape {
-        places,
-        supers,
-        lists,
-        below,
-        order,
-    })
+    match order(alloc, supers.as_slice(), &lists, &below)? {
+        Ok(order) => Ok(Shape {
+            places,
+            supers,
+            lists,
+            below,
+            order,
+        }),
+        Err(class) => Err(HierarchyFault::Cycle { class }),
+    }
+}
+
+/// The classes of a program, unless one is defined twice or is its own ancestor.
+fn make_shape(alloc: Global, program: &Program) -> Result<Shape, HierarchyFault>
+    ensures size { IfOk result (λ shape. vec_len shape.places ≡ length program.now.types) }
+    ensures made { IfOk result (λ shape. IsMade program.now shape) }
+    ensures stops { IfErr result (λ fault. StopsAt program.now fault) }
+{
+    match places(alloc, program.types.len(), program.classes.as_slice()) {
+        Ok(places) => link(alloc, program, places),
+        Err(fault) => Err(fault),
+    }
 }
 
 /// The tour of the classes.
@@ -220,13 +257,13 @@ fn find_starts(alloc: Global, program: &Program, shape: &Shape) -> Result<Starts
     })
 }
 
-/// Refuses a program with a split override.
-fn check_splits(
+/// The first class with a split override, and the number of its method.
+fn find_split(
     alloc: Global,
     program: &Program,
     shape: &Shape,
     named: &Named,
-) -> Result<(), HierarchyFault> {
+) -> Result<Option<(u32, u32)>, AllocError> {
     let packages = packages(alloc, program)?;
     let order = by_superclass(alloc, shape.supers.as_slice(), shape.order.as_slice())?;
     let given = Given {
@@ -235,15 +272,49 @@ fn check_splits(
         special: named.special.as_slice(),
         packages: packages.as_slice(),
     };
-    match first_split(
+    first_split(
         alloc,
         program,
         shape.supers.as_slice(),
         order.as_slice(),
         given,
-    )? {
+    )
+}
+
+/// The hierarchy over these links and names.
+fn fill(
+    alloc: Global,
+    program: &Program,
+    shape: Shape,
+    named: Named,
+) -> Result<Hierarchy, AllocError>
+    ensures { IfOk result (λ hierarchy. hierarchy.shape ≡ shape) }
+{
+    let tour = make_tour(alloc, &shape)?;
+    let starts = find_starts(alloc, program, &shape)?;
+    let mut tables = Hierarchy {
+        shape,
+        tour,
+        named,
+        starts,
+        targets: Targets {
+            fields: Vec::new(alloc),
+            methods: Vec::new(alloc),
+        },
+    };
+    tables.targets = resolve_all(alloc, program, &tables)?;
+    Ok(tables)
+}
+
+/// The hierarchy over these links, unless there is a split override.
+fn complete(alloc: Global, program: &Program, shape: Shape) -> Result<Hierarchy, HierarchyFault>
+    ensures links { IfOk result (λ hierarchy. hierarchy.shape ≡ shape) }
+    ensures refuses { IfErr result (λ fault. IsSplitOr fault) }
+{
+    let named = name_members(alloc, program)?;
+    match find_split(alloc, program, &shape, &named)? {
         Some((class, method)) => Err(HierarchyFault::SplitOverride { class, method }),
-        None => Ok(()),
+        None => Ok(fill(alloc, program, shape, named)?),
     }
 }
 
@@ -251,24 +322,13 @@ impl Hierarchy {
     /// The hierarchy of a program's classes. `Twice` is looked for first, then `Cycle`, then `SplitOverride`; else the
     /// only error is want of memory.
     pub fn build(alloc: Global, program: &Program) -> Result<Hierarchy, HierarchyFault>
-        ensures { IfOk result (λ hierarchy. vec_len hierarchy.shape.places ≡ length program.now.types) }
+        ensures size { IfOk result (λ hierarchy. vec_len hierarchy.shape.places ≡ length program.now.types) }
+        ensures is { is_well_formed program.now ≡ true → IfOk result (λ hierarchy. IsOf program.now hierarchy) }
+        ensures refuses { is_well_formed program.now ≡ true → IfErr result (λ fault. IsCause program.now fault) }
     {
-        let shape = make_shape(alloc, program)?;
-        let named = name_members(alloc, program)?;
-        check_splits(alloc, program, &shape, &named)?;
-        let tour = make_tour(alloc, &shape)?;
-        let starts = find_starts(alloc, program, &shape)?;
-        let mut tables = Hierarchy {
-            shape,
-            tour,
-            named,
-            starts,
-            targets: Targets {
-                fields: Vec::new(alloc),
-                methods: Vec::new(alloc),
-            },
-        };
-        tables.targets = resolve_all(alloc, program, &tables)?;
-        Ok(tables)
+        match make_shape(alloc, program) {
+            Ok(shape) => complete(alloc, program, shape),
+            Err(fault) => Err(fault),
+        }
     }
 }

@@ -4,6 +4,11 @@ ghost use Rattle.std.specs.Prelude.{◌≡◌, false, slice_index_or};
 ghost use Rattle.std.specs.Option.{option_copied};
 ghost use Rattle.program_model.specs.Lookups.{method_at};
 ghost use Rattle.hierarchy.specs.Tables.{read_at};
+ghost use Rattle.hierarchy.specs.Shapes.{IsOf};
+ghost use Rattle.program_model.specs.Lookups.{class_place};
+ghost use Rattle.program_model.specs.declared.program.Program.{Program};
+ghost use Rattle.class_defs.specs.Places.{super_place, interface_places, chain_of};
+ghost use Rattle.std.specs.Prelude.{Some, IfOk};
 
 use crate::build::Hierarchy;
 use crate::members::{is_virtual, key_of};
@@ -34,21 +39,42 @@ pub fn method_at(program: &Program, at: MethodAt) -> Option<&Method>
 impl Hierarchy {
     /// The place of the class that defines a type.
     pub fn place_of(&self, kind: u32) -> Option<u32>
-        ensures { result ≡ read_at self.now.shape.places.items kind }
+        ensures table { result ≡ read_at self.now.shape.places.items kind }
+        ensures is { (p : Program) → IsOf p self.now → result ≡ class_place p kind }
     {
         read(self.shape.places.as_slice(), kind)
     }
 
     /// The place of the program superclass of a class.
     pub fn super_of(&self, class: u32) -> Option<u32>
-        ensures { result ≡ read_at self.now.shape.supers.items class }
+        ensures table { result ≡ read_at self.now.shape.supers.items class }
+        ensures is { (p : Program) → IsOf p self.now → result ≡ super_place p class }
     {
         read(self.shape.supers.as_slice(), class)
     }
 
     /// The places of the program interfaces that a class lists, in its order.
-    pub fn interfaces_of(&self, class: u32) -> &[u32] {
+    pub fn interfaces_of(&self, class: u32) -> &[u32]
+        ensures { (p : Program) → IsOf p self.now → result.now ≡ interface_places p class }
+    {
         self.shape.lists.row(class)
+    }
+
+    /// The places of a class and of its program superclasses, the class first.
+    pub fn chain(&self, alloc: Global, class: u32) -> Result<Vec<u32>, AllocError>
+        ensures { (p : Program) → IsOf p self.now → IfOk result (λ chain. chain.items ≡ chain_of p (Some class)) }
+    {
+        let mut chain = Vec::new(alloc);
+        let mut at = Some(class);
+        for done in 0..self.shape.supers.len() {
+            let one = match at {
+                Some(one) => one,
+                None => break,
+            };
+            chain.push(one)?;
+            at = self.super_of(one);
+        }
+        Ok(chain)
     }
 
     /// A number for the name and proto of a method number, the same for all of the same name and proto.

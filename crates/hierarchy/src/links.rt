@@ -1,30 +1,38 @@
 //! Which classes stand directly above and below a class.
 
-use crate::table::{add, count_at, put, read, word};
+ghost use Rattle.std.specs.Prelude.{◌≡◌, map, IfOk, slice_index_or};
+ghost use Rattle.hierarchy.specs.Placing.{known_places};
+ghost use Rattle.hierarchy.specs.Tables.{row_of};
+
+use crate::table::{read, word};
 use program_model::Class;
+use seq::Seq;
 use std::alloc::{AllocError, Global};
 
-/// A list of numbers for each place, one behind the other: that of a place goes from its start to the next start.
+/// A list of numbers for each place.
 #[derive(Drop)]
 pub struct Links {
-    pub starts: Vec<u32>,
-    pub items: Vec<u32>,
+    pub rows: Seq<Seq<u32>>,
 }
 
 impl Links {
     /// The list of a place, empty past the end.
-    pub fn row(&self, place: u32) -> &[u32] {
-        let first = count_at(self.starts.as_slice(), place) as usize;
-        let end = count_at(self.starts.as_slice(), place.saturating_add(1)) as usize;
-        match self.items.as_slice().get(first..end) {
-            Some(row) => row,
+    pub fn row(&self, place: u32) -> &[u32]
+        ensures { result.now ≡ row_of self.now.rows place }
+    {
+        match self.rows.as_slice().get(place as usize) {
+            Some(row) => row.as_slice(),
             None => &[],
         }
     }
 
     /// How many numbers all lists have.
     pub fn size(&self) -> usize {
-        self.items.len()
+        let mut size: usize = 0;
+        for row in self.rows.as_slice() {
+            size = size.saturating_add(row.len());
+        }
+        size
     }
 }
 
@@ -33,89 +41,91 @@ pub fn superclasses(
     alloc: Global,
     classes: &[Class],
     places: &[u32],
-) -> Result<Vec<u32>, AllocError> {
+) -> Result<Vec<u32>, AllocError>
+    ensures { IfOk result (λ supers. supers.items ≡ map (λ c. slice_index_or places.now c.superclass 4294967295) classes.now) }
+{
     let mut supers = Vec::new(alloc);
     for class in classes {
-        supers.push(count_or_none(places, class.superclass))?;
+        supers.push(number_or_none(places, class.superclass))?;
     }
     Ok(supers)
 }
 
 /// The number at a place, none past the end.
-fn count_or_none(table: &[u32], place: u32) -> u32 {
-    match read(table, place) {
-        Some(value) => value,
+fn number_or_none(table: &[u32], place: u32) -> u32
+    ensures { result ≡ slice_index_or table.now place 4294967295 }
+{
+    match table.get(place as usize) {
+        Some(value) => *value,
         None => crate::table::NONE,
     }
 }
 
-/// Adds the places of those of the types that the program defines.
-fn push_places(items: &mut Vec<u32>, kinds: &[u32], places: &[u32]) -> Result<(), AllocError> {
+/// The places of those of the types that the program defines, in order.
+fn places_among(alloc: Global, kinds: &[u32], places: &[u32]) -> Result<Seq<u32>, AllocError>
+    ensures { IfOk result (λ among. among ≡ known_places places.now kinds.now) }
+{
+    let mut among = Seq::new(alloc);
     for kind in kinds {
         if let Some(place) = read(places, *kind) {
-            items.push(place)?;
+            among.push(place)?;
         }
     }
-    Ok(())
+    Ok(among)
 }
 
 /// The places of the program interfaces that each class lists, in its order.
-pub fn interfaces(alloc: Global, classes: &[Class], places: &[u32]) -> Result<Links, AllocError> {
-    let mut starts = Vec::new(alloc);
-    let mut items = Vec::new(alloc);
+pub fn interfaces(alloc: Global, classes: &[Class], places: &[u32]) -> Result<Links, AllocError>
+    ensures { IfOk result (λ lists. lists.rows ≡ map (λ c. known_places places.now c.interfaces) classes.now) }
+{
+    let mut rows = Seq::new(alloc);
     for class in classes {
-        starts.push(word(items.len()))?;
-        push_places(&mut items, class.interfaces.as_slice(), places)?;
+        rows.push(places_among(alloc, class.interfaces.as_slice(), places)?)?;
     }
-    starts.push(word(items.len()))?;
-    Ok(Links { starts, items })
+    Ok(Links { rows })
 }
 
-/// Counts, for each class, how often it stands directly above another.
-fn count_below(counts: &mut [u32], supers: &[u32], lists: &Links) {
-    for (place, above) in supers.iter().enumerate() {
-        add(counts, *above, 1);
-        for up in lists.row(word(place)) {
-            add(counts, *up, 1);
+/// So many empty lists.
+pub fn empty_rows(alloc: Global, count: usize) -> Result<Links, AllocError> {
+    let mut rows = Seq::new(alloc);
+    for _ in 0..count {
+        rows.push(Seq::new(alloc))?;
+    }
+    Ok(Links { rows })
+}
+
+impl Links {
+    /// Adds a number to the list of a place, unless the place is past the end.
+    pub fn add(&mut self, place: u32, number: u32) -> Result<(), AllocError> {
+        match self.rows.items.as_mut_slice().get_mut(place as usize) {
+            Some(row) => row.push(number),
+            None => Ok(()),
         }
     }
 }
 
-/// From counts the starts of lists of these lengths, with the end of the last one.
-pub fn starts_of(alloc: Global, counts: &[u32]) -> Result<Vec<u32>, AllocError> {
-    let mut starts = Vec::new(alloc);
-    let mut total: u32 = 0;
-    for count in counts {
-        starts.push(total)?;
-        total = total.saturating_add(*count);
+/// Adds a class to the lists of those directly above it.
+fn note_above(
+    below: &mut Links,
+    class: u32,
+    above: Option<u32>,
+    list: &[u32],
+) -> Result<(), AllocError> {
+    if let Some(superclass) = above {
+        below.add(superclass, class)?;
     }
-    starts.push(total)?;
-    Ok(starts)
-}
-
-/// Writes each class into the lists of those directly above it. `cursors` are where the next one goes.
-fn fill_below(items: &mut [u32], cursors: &mut [u32], supers: &[u32], lists: &Links) {
-    for (place, above) in supers.iter().enumerate() {
-        if *above != crate::table::NONE {
-            let at = add(cursors, *above, 1);
-            put(items, at, word(place));
-        }
-        for up in lists.row(word(place)) {
-            let at = add(cursors, *up, 1);
-            put(items, at, word(place));
-        }
+    for up in list {
+        below.add(*up, class)?;
     }
+    Ok(())
 }
 
 /// The places of the classes directly below each class, in file order. One that lists an interface twice stands there
 /// twice.
 pub fn subclasses(alloc: Global, supers: &[u32], lists: &Links) -> Result<Links, AllocError> {
-    let mut counts = vec![in alloc; 0u32; supers.len()]?;
-    count_below(counts.as_mut_slice(), supers, lists);
-    let starts = starts_of(alloc, counts.as_slice())?;
-    let mut cursors = Vec::from_slice(alloc, starts.as_slice())?;
-    let size = count_at(starts.as_slice(), word(supers.len())) as usize;
-    let mut items = vec![in alloc; 0u32; size]?;
-    fill_below(items.as_mut_slice(), cursors.as_mut_slice(), supers, lists);
-    Ok(Links { starts, items })
+    let mut below = empty_rows(alloc, supers.len())?;
+    for place in 0..word(supers.len()) {
+        note_above(&mut below, place, read(supers, place), lists.row(place))?;
+    }
+    Ok(below)
 }

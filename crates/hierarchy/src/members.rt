@@ -2,8 +2,8 @@
 
 ghost use Rattle.std.specs.Prelude.{◌≡◌, ◌+◌, length, IfOk, vec_len};
 
-use crate::links::{Links, starts_of};
-use crate::table::{NONE, add, count_at, is_on, put, word};
+use crate::links::{Links, empty_rows};
+use crate::table::{NONE, count_at, is_on, word};
 use program_model::{Class, Field, Flags, Method};
 use std::alloc::{AllocError, Global};
 
@@ -66,35 +66,22 @@ impl Members {
         }
     }
 
-    /// Counts the members with each key.
-    fn count_keys(&self, counts: &mut [u32]) {
-        for key in self.keys.as_slice() {
-            add(counts, *key, 1);
-        }
-    }
-
-    /// Writes a class into the list of each key of its members.
-    fn fill_class(&self, class: u32, cursors: &mut [u32], items: &mut [u32]) {
+    /// Adds a class to the list of each key of its members.
+    fn note_class(&self, class: u32, definers: &mut Links) -> Result<(), AllocError> {
         let (_first, keys) = self.keys_of(class);
         for key in keys {
-            if *key != NONE {
-                let at = add(cursors, *key, 1);
-                put(items, at, class);
-            }
+            definers.add(*key, class)?;
         }
+        Ok(())
     }
 
     /// For each of so many keys the classes that define a member with it, in file order.
     pub fn definers(&self, alloc: Global, keys: usize) -> Result<Links, AllocError> {
-        let mut counts = vec![in alloc; 0u32; keys]?;
-        self.count_keys(counts.as_mut_slice());
-        let starts = starts_of(alloc, counts.as_slice())?;
-        let mut cursors = Vec::from_slice(alloc, starts.as_slice())?;
-        let mut items = vec![in alloc; 0u32; self.keys.len()]?;
+        let mut definers = empty_rows(alloc, keys)?;
         for class in 0..word(self.starts.len()) {
-            self.fill_class(class, cursors.as_mut_slice(), items.as_mut_slice());
+            self.note_class(class, &mut definers)?;
         }
-        Ok(Links { starts, items })
+        Ok(definers)
     }
 }
 

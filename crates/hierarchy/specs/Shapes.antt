@@ -1,0 +1,55 @@
+-- What the tables of a hierarchy say of a program.
+use Rattle.std.specs.Prelude.{◌≡◌, ◌<◌, ◌^◌, ℕ, List, length, map, replicate, vec_len, slice_index_or}
+use Rattle.std.proofs.Common.{Result, Ok, Err}
+use Rattle.program_model.specs.declared.program.Program.{Program}
+use Rattle.program_model.specs.Lookups.{class_place}
+use Rattle.class_defs.specs.Places.{super_place, interface_places}
+use Rattle.class_defs.specs.ClassGraph.{IsTwice}
+use Rattle.hierarchy.specs.Tables.{read_at, row_of}
+use Rattle.hierarchy.specs.Placing.{place_from, known_places}
+use Rattle.hierarchy.specs.declared.build.Shape.{Shape}
+use Rattle.hierarchy.specs.declared.build.Hierarchy.{Hierarchy}
+use Rattle.hierarchy.specs.declared.fault.HierarchyFault.{HierarchyFault}
+use Rattle.hierarchy.specs.declared.fault.HierarchyFault.TheVariants.{NoMemory, Cycle, Twice, SplitOverride}
+
+-- how the places of the classes come about, class by class
+abbrev pub placing : Program → Result (List ℕ) ℕ
+placing p = place_from 0 p.classes (replicate (length p.types) 4294967295)
+
+-- the tables as they are made
+pub record IsMade (p : Program) (s : Shape) : Type 0 where
+  pub places : length p.classes < 2 ^ 32 → placing p ≡ Ok s.places.items
+  pub supers : s.supers.items ≡ map (λ c. slice_index_or s.places.items c.superclass 4294967295) p.classes
+  pub lists : s.lists.rows ≡ map (λ c. known_places s.places.items c.interfaces) p.classes
+
+-- each class has a place of its own
+pub record IsPlaced (p : Program) : Type 0 where
+  pub table : List ℕ
+  pub is : length p.classes < 2 ^ 32 → placing p ≡ Ok table
+
+abbrev pub StopsAt : Program → HierarchyFault → Type 0
+StopsAt p NoMemory = Unit {0}
+StopsAt p (Cycle class) = IsPlaced p
+StopsAt p (Twice class) = length p.classes < 2 ^ 32 → placing p ≡ Err class
+StopsAt p (SplitOverride class method) = length p.classes < 2 ^ 32 → ⊥
+
+-- the tables are those of the program's classes: the place of the class of each type, and of the superclass and the interfaces of
+-- each class
+pub record IsOf (p : Program) (h : Hierarchy) : Type 0 where
+  pub once : (class : ℕ) → IsTwice p class → ⊥
+  pub places : (kind : ℕ) → read_at h.shape.places.items kind ≡ class_place p kind
+  pub supers : (class : ℕ) → read_at h.shape.supers.items class ≡ super_place p class
+  pub lists : (class : ℕ) → row_of h.shape.lists.rows class ≡ interface_places p class
+  pub count : vec_len h.shape.supers ≡ length p.classes
+
+-- the first class that has the type of an earlier one
+pub record IsFirstTwice (p : Program) (class : ℕ) : Type 0 where
+  pub twice : IsTwice p class
+  pub first : (other : ℕ) → other < class → IsTwice p other → ⊥
+
+-- the cause of a refusal: a second definition comes first; of what else is refused it is said that there is none
+abbrev pub IsCause : Program → HierarchyFault → Type 0
+IsCause p NoMemory = Unit {0}
+IsCause p (Cycle class) = (other : ℕ) → IsTwice p other → ⊥
+IsCause p (Twice class) = IsFirstTwice p class
+IsCause p (SplitOverride class method) = (other : ℕ) → IsTwice p other → ⊥

@@ -24,7 +24,7 @@ use Rattle.dalvik_defs.specs.declared.program.NamedClass.{NamedClass}
 use Rattle.dalvik_defs.specs.declared.program.NamedProgram.{NamedProgram}
 use Rattle.pass_defs.specs.Bare.{may_throw}
 use Rattle.pass_defs.specs.Walks.{form_at, region_at, onward}
-use Rattle.pass_defs.specs.Kinds.{Kind, Undefined, Zero, Word, Low, High, Null, Class, Array, Reference, Fresh, FreshThis, kind_eq, kind_of}
+use Rattle.pass_defs.specs.Kinds.{Kind, Undefined, Zero, Word, Low, High, Null, Class, Array, Reference, Fresh, FreshThis, kind_eq, kind_of, kind_of_reference}
 use Rattle.pass_defs.specs.Registers.{Kinds, kind_at, written, replace, forget, state_below, tables_below, all_undefined}
 use Rattle.pass_defs.specs.Demands.{is_constructor_name, is_allowed, is_refused}
 
@@ -89,9 +89,14 @@ abbrev pub receiver_register : List ℕ → ℕ
 receiver_register [] = 0
 receiver_register (r ∷ rs) = r
 
-abbrev pub called : NamedProgram → NamedClass → MethodKey → List ℕ → Kinds → Kinds
-called p c k rs a =
-    let b : Kinds = if is_constructor_name k.name then constructed p c (kind_at a.registers (receiver_register rs)) a else a in
+abbrev pub is_static_call : InvokeKind → Bool
+is_static_call call.Static = true
+is_static_call kind = false
+
+-- a static call has no receiver, whatever its name
+abbrev pub called : NamedProgram → NamedClass → InvokeKind → MethodKey → List ℕ → Kinds → Kinds
+called p c kind k rs a =
+    let b : Kinds = if is_constructor_name k.name && not (is_static_call kind) then constructed p c (kind_at a.registers (receiver_register rs)) a else a in
     record b { result = kind_of p k.signature.result }
 
 abbrev pub after : NamedProgram → NamedClass → ℕ → Form → Kinds → Kinds
@@ -102,7 +107,7 @@ after p c n (form.Const to value) a = written to (constant_kind value) a
 after p c n (form.ConstWide to value) a = written to Low a
 after p c n (form.ConstString to text) a = written to Reference a
 after p c n (form.ConstClass to kind) a = written to Reference a
-after p c n (form.CheckCast on kind) a = written on (kind_of p kind) a
+after p c n (form.CheckCast on kind) a = written on (kind_of_reference p kind) a
 after p c n (form.InstanceOf to from kind) a = written to Word a
 after p c n (form.ArrayLength to from) a = written to Word a
 after p c n (form.NewInstance to kind) a = written to (Fresh kind n) (forget n a)
@@ -112,17 +117,13 @@ after p c n (form.Cmp op to x y) a = written to Word a
 after p c n (form.ArrayGet item to array index) a = written to (got p item (kind_at a.registers array)) a
 after p c n (form.InstanceGet item to on field) a = written to (kind_of p field.kind) a
 after p c n (form.StaticGet item to field) a = written to (kind_of p field.kind) a
-after p c n (form.Invoke kind method args) a = called p c method args a
+after p c n (form.Invoke kind method args) a = called p c kind method args a
 after p c n (form.Unary op to from) a = written to (number_kind (unary_writes_wide op)) a
 after p c n (form.Binary op to x y) a = written to (number_kind (binary_is_wide op)) a
 after p c n (form.Literal op to x value) a = written to Word a
 after p c n f a = a
 
 -- ---- positions that no kinds make right
-
-abbrev pub is_static_call : InvokeKind → Bool
-is_static_call call.Static = true
-is_static_call kind = false
 
 abbrev pub differ : Bool → Bool → Bool
 differ true b = not b

@@ -5,6 +5,8 @@ use Rattle.insn_set.specs.declared.form.Insn.{Insn}
 use Rattle.insn_set.specs.declared.form.Insn.TheVariants as insn
 use Rattle.insn_set.specs.declared.ops.Slot.{Slot}
 use Rattle.insn_set.specs.declared.ops.Slot.TheVariants as slot
+use Rattle.insn_set.specs.declared.ops.InvokeKind.{InvokeKind}
+use Rattle.insn_set.specs.declared.ops.InvokeKind.TheVariants as call
 use Rattle.insn_set.specs.declared.ops.Item.{Item}
 use Rattle.insn_set.specs.declared.ops.Item.TheVariants as item
 use Rattle.insn_set.specs.Widths.{is_wide_item, unary_writes_wide, binary_is_wide}
@@ -49,6 +51,11 @@ begun_call t class m rs a = if is_constructor t m then constructed t class (kind
 abbrev pub called : Program → Tables → ℕ → ℕ → List ℕ → Kinds → Kinds
 called p t class m rs a = record (begun_call t class m rs a) { result = kind_of t (result_of p m) }
 
+-- a static call has no receiver, whatever its name
+abbrev pub called_by : InvokeKind → Program → Tables → ℕ → ℕ → List ℕ → Kinds → Kinds
+called_by call.Static p t class m rs a = record a { result = kind_of t (result_of p m) }
+called_by k p t class m rs a = called p t class m rs a
+
 -- the forms that write what a type says
 abbrev pub after_typed : Program → Tables → ℕ → ℕ → Insn → Kinds → Kinds
 after_typed p t class n (insn.CheckCast on type) a = written on (cast_kind t type) a
@@ -58,7 +65,7 @@ after_typed p t class n (insn.FilledNewArray type args) a = record a { result = 
 after_typed p t class n (insn.ArrayGet i to array index) a = written to (got t i (kind_at a.registers array)) a
 after_typed p t class n (insn.InstanceGet i to on field) a = written to (kind_of t (field_kind p field)) a
 after_typed p t class n (insn.StaticGet i to field) a = written to (kind_of t (field_kind p field)) a
-after_typed p t class n (insn.Invoke k method args) a = called p t class method args a
+after_typed p t class n (insn.Invoke k method args) a = called_by k p t class method args a
 after_typed p t class n i a = a
 
 abbrev pub after : Program → Tables → ℕ → ℕ → Insn → Kinds → Kinds

@@ -2,12 +2,12 @@
 
 ghost use Rattle.std.specs.Prelude.{◌≡◌};
 ghost use Rattle.verify.specs.Frames.{kinds_of};
-ghost use Rattle.verify.specs.After.{constant_kind, moved, got_object, got, constructed, receiver_register, begun_call, called, after_typed, after};
+ghost use Rattle.verify.specs.After.{constant_kind, moved, got_object, got, constructed, receiver_register, begun_call, called, called_by, after_typed, after};
 
 use crate::frames::Frame;
 use crate::kinds::{Kind, number_kind};
 use crate::setting::Setting;
-use insn_set::{Insn, Item, Slot};
+use insn_set::{Insn, InvokeKind, Item, Slot};
 
 /// The kind of a constant.
 fn constant_kind(value: i32) -> Kind
@@ -86,6 +86,16 @@ impl Setting<'_> {
         frame.leave(self.tables.kind_of(self.result_of(method)));
     }
 
+    /// A call of a kind: a static one has no receiver, whatever its name.
+    fn call_by(&self, kind: InvokeKind, method: u32, arguments: &[u16], frame: &mut Frame)
+        ensures { kinds_of frame.new ≡ called_by kind self.now.program.now self.now.tables.now self.now.kind method arguments.now (kinds_of frame.old) }
+    {
+        match kind {
+            InvokeKind::Static => frame.leave(self.tables.kind_of(self.result_of(method))),
+            _ => self.call(method, arguments, frame),
+        }
+    }
+
     /// The forms that write what another place holds or what a type says.
     fn write_typed(&self, position: u32, insn: &Insn, frame: &mut Frame)
         ensures { kinds_of frame.new ≡ after_typed self.now.program.now self.now.tables.now self.now.kind position insn.now (kinds_of frame.old) }
@@ -116,7 +126,9 @@ impl Setting<'_> {
             Insn::InstanceGet { to, field, .. } | Insn::StaticGet { to, field, .. } => {
                 frame.write(*to, self.tables.kind_of(self.field_kind(*field)));
             }
-            Insn::Invoke { method, args, .. } => self.call(*method, args.as_slice(), frame),
+            Insn::Invoke { kind, method, args } => {
+                self.call_by(*kind, *method, args.as_slice(), frame)
+            }
             _ => {}
         }
     }

@@ -1,7 +1,10 @@
 -- Finished outputs.
 use Rattle.std.proofs.Common.{◌≡◌, ◌≤◌, ℕ, List, length}
 use Rattle.redex_cli.specs.declared.summary.Sizes.{Sizes}
-use Rattle.redex_cli.specs.Finished.{Finished, IsSummary, summary_text}
+use Rattle.program_model.specs.Cells.{capped}
+use Rattle.program_model.specs.declared.program.Program.{Program}
+use Rattle.pipeline.specs.Counts.{insns_of}
+use Rattle.redex_cli.specs.Finished.{Finished, IsChecked, IsSummary, checked_text, methods_of, summary_text}
 
 pub finished : (before after : Sizes) (rounds spared : ℕ) (output summary : List ℕ) → summary ≡ summary_text before after rounds spared
     → after.bytes ≡ length output → 1 ≤ rounds → Finished output summary
@@ -17,3 +20,7 @@ finished before after rounds spared output summary says bytes one_round = record
 
 pub is_summary : (output text : List ℕ) → Finished output text → IsSummary text
 is_summary output text finished = record { output = output; finished = finished }
+
+pub checked : (program : Program) (text : List ℕ) → text ≡ checked_text (length program.classes) (capped (methods_of program)) (capped (insns_of program))
+    → IsChecked text
+checked program text says = record { program = program; says = says }

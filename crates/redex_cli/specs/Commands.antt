@@ -7,11 +7,11 @@ use Rattle.command_line.specs.declared.command.CommandWords.{CommandWords}
 use Rattle.command_line.specs.declared.command.CommandWords.TheVariants.{Nothing, Optimise, Check, Live, Trace, Workload}
 use Rattle.command_line.specs.Spelling.{Spells}
 
--- `check`, `trace`, `--inline` and `--library` are not built yet.
+-- `trace`, `--inline` and `--library` are not built yet.
 abbrev pub is_built : CommandWords → Bool
 is_built Nothing = true
 is_built (Optimise words) = not words.inline && is_none words.library
-is_built (Check input) = false
+is_built (Check input) = true
 is_built (Live rules input library) = is_none library
 is_built (Trace rules input script steps library) = false
 is_built (Workload count) = true
@@ -35,6 +35,9 @@ pub record Fetch : Type 0 where
   pub name : List ℕ
   pub counted : Counted
 
+abbrev pub file_alone : List ℕ → List Fetch
+file_alone input = record { name = input; counted = FileBytes } ∷ []
+
 abbrev pub rules_and_file : List ℕ → List ℕ → List Fetch
 rules_and_file rules input =
     record { name = rules; counted = RuleBytes } ∷ record { name = input; counted = FileBytes } ∷ []
@@ -47,7 +50,7 @@ library_file library = option_to_list (option_map (λ name. record { name = name
 abbrev pub fetches : CommandWords → List Fetch
 fetches Nothing = []
 fetches (Optimise words) = rules_and_file words.rules words.input ++ library_file words.library
-fetches (Check input) = record { name = input; counted = FileBytes } ∷ []
+fetches (Check input) = file_alone input
 fetches (Live rules input library) = rules_and_file rules input ++ library_file library
 fetches (Trace rules input script steps library) =
     rules_and_file rules input ++ library_file library ++ record { name = script; counted = ScriptBytes } ∷ []

@@ -1,10 +1,13 @@
 -- What a command gives: a file to be put, and a text to be said.
-use Rattle.std.specs.Prelude.{◌≡◌, ◌≤◌, ℕ, List, ◌++◌, length, codes}
+use Rattle.std.specs.Prelude.{◌≡◌, ◌≤◌, ℕ, List, ◌++◌, length, sum_by, codes}
 use Rattle.std.specs.Fmt.{decimal}
 use Rattle.command_line.specs.declared.command.CommandWords.{CommandWords}
 use Rattle.command_line.specs.declared.command.CommandWords.TheVariants.{Nothing, Optimise, Check, Live, Trace, Workload}
 use Rattle.redex_cli.specs.FaultLines.{usage_text}
 use Rattle.redex_cli.specs.Commands.{Commands}
+use Rattle.program_model.specs.declared.program.Program.{Program}
+use Rattle.program_model.specs.Cells.{capped}
+use Rattle.pipeline.specs.Counts.{insns_of}
 use Rattle.redex_cli.specs.declared.summary.Sizes.{Sizes}
 
 -- A line of the summary: `WHAT A -> B`.
@@ -41,11 +44,24 @@ pub record IsSummary (text : List ℕ) : Type 0 where
   pub output : List ℕ
   pub finished : Finished output text
 
+-- `ok: C classes, M methods, I instructions`
+abbrev pub checked_text : ℕ → ℕ → ℕ → List ℕ
+checked_text classes methods instructions =
+    codes "ok: " ++ decimal classes ++ codes " classes, " ++ decimal methods ++ codes " methods, " ++ decimal instructions ++ codes " instructions\n"
+
+abbrev pub methods_of : Program → ℕ
+methods_of program = sum_by (λ class. length class.methods) program.classes
+
+-- The text says how many classes, methods and instructions some program has. What is known of it today: its numbers.
+pub record IsChecked (text : List ℕ) : Type 0 where
+  pub program : Program
+  pub says : text ≡ checked_text (length program.classes) (capped (methods_of program)) (capped (insns_of program))
+
 -- The text is the command's result. Of the list of `live` nothing is said yet.
 abbrev pub IsResult : CommandWords → List ℕ → Type 0
 IsResult Nothing text = text ≡ usage_text
 IsResult (Optimise words) text = IsSummary text
-IsResult (Check input) text = ⊥
+IsResult (Check input) text = IsChecked text
 IsResult (Live rules input library) text = Unit {0}
 IsResult (Trace rules input script steps library) text = ⊥
 IsResult (Workload count) text = IsSummary text

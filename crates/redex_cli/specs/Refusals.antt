@@ -7,6 +7,8 @@ use Rattle.dex_read.specs.declared.fault.DexFault.{DexFault}
 use Rattle.dex_read.specs.declared.fault.DexFault.TheVariants as dex
 use Rattle.hierarchy.specs.declared.fault.HierarchyFault.{HierarchyFault}
 use Rattle.hierarchy.specs.declared.fault.HierarchyFault.TheVariants as classes
+use Rattle.verify.specs.declared.fault.TypeFault.{TypeFault}
+use Rattle.verify.specs.declared.fault.TypeFault.TheVariants as typing
 use Rattle.program_model.specs.Limits.{limit_of}
 use Rattle.program_model.specs.declared.limits.Counted.{Counted}
 use Rattle.program_model.specs.declared.limits.LimitFault.{LimitFault}
@@ -39,11 +41,15 @@ abbrev pub IsHierarchyFault : HierarchyFault → Type 0
 IsHierarchyFault classes.NoMemory = ⊥
 IsHierarchyFault _ = Unit {0}
 
--- Typing and libraries are not built yet.
+abbrev pub IsTypeFault : TypeFault → Type 0
+IsTypeFault typing.NoMemory = ⊥
+IsTypeFault _ = Unit {0}
+
+-- Libraries are not built yet.
 abbrev pub IsInputFault : InputFault → Type 0
 IsInputFault (input.Dex fault) = IsDexFault fault
 IsInputFault (input.Hierarchy fault) = IsHierarchyFault fault
-IsInputFault (input.Typing fault) = ⊥
+IsInputFault (input.Typing fault) = IsTypeFault fault
 IsInputFault (input.Library fault) = ⊥
 
 -- What the work on rules and a file may be refused with.

@@ -4,14 +4,14 @@ ghost use Rattle.std.specs.Prelude.{◌≡◌, ◌≤◌, ◌∷◌, [], None, S
 ghost use Rattle.program_model.specs.Limits.{limit_of};
 ghost use Rattle.redex_outside.specs.Counts.{NoneFell};
 ghost use Rattle.redex_outside.specs.Held.{OthersSame};
-ghost use Rattle.redex_cli.specs.Commands.{is_built, CountsWithin, fetches, output_of, rules_and_file};
+ghost use Rattle.redex_cli.specs.Commands.{is_built, CountsWithin, fetches, file_alone, output_of, rules_and_file};
 ghost use Rattle.redex_cli.specs.FaultLines.{usage_text};
 ghost use Rattle.redex_cli.specs.Fetching.{AllWithin, FetchRefused, OnlyFetched, PutRefused};
-ghost use Rattle.redex_cli.specs.Finished.{IsResult, IsSummary};
+ghost use Rattle.redex_cli.specs.Finished.{IsResult, IsChecked, IsSummary};
 ghost use Rattle.redex_cli.specs.Refusals.{Refuses, Gives, WorkRefused};
 
 use crate::status::Status;
-use crate::work::{list_live, optimise_file, optimise_workload};
+use crate::work::{check_file, list_live, optimise_file, optimise_workload};
 use command_line::{CommandWords, OptimiseWords, USAGE};
 use program_model::{Counted, LimitFault};
 use redex_outside::{Adviser, FetchFault, PutFault, Shelf};
@@ -84,14 +84,14 @@ fn put<H: Shelf>(alloc: Global, shelf: &mut H, name: &str, bytes: &[u8]) -> Resu
     }
 }
 
-/// Whether the command is built. `check`, `trace`, `--inline` and `--library` are not yet.
+/// Whether the command is built. `trace`, `--inline` and `--library` are not yet.
 pub fn is_built(command: &CommandWords) -> bool
     ensures { result ≡ is_built command.now }
 {
     match command {
         CommandWords::Nothing => true,
         CommandWords::Optimise(words) => !words.inline && words.library.is_none(),
-        CommandWords::Check { .. } => false,
+        CommandWords::Check { .. } => true,
         CommandWords::Live { library, .. } => library.is_none(),
         CommandWords::Trace { .. } => false,
         CommandWords::Workload { .. } => true,
@@ -155,6 +155,22 @@ fn run_live<H: Shelf>(
     }
 }
 
+/// `check`: fetches the file. Its result is how much is in it.
+#[tactic(auto, using(crate::proofs::CommandLemmas::fetch_refuses, crate::proofs::CommandLemmas::work_refuses, crate::proofs::CommandLemmas::keeps_gives))]
+fn run_check<H: Shelf>(alloc: Global, input: &str, shelf: &mut H) -> Result<Vec<u8>, Status>
+    ensures given { IfOk result (λ text. Gives (file_alone input.now) None IsChecked (H.tells shelf.old) (H.held shelf.old) (H.held shelf.new) text.items) }
+    ensures refused { IfErr result (λ status. Refuses (file_alone input.now) None (H.tells shelf.old) (H.held shelf.old) (H.held shelf.new) (H.fetch_faults shelf.old) (H.fetch_faults shelf.new) (H.put_faults shelf.old) (H.put_faults shelf.new) status) }
+{
+    let file = match fetch(alloc, shelf, input, Counted::FileBytes) {
+        Ok(file) => file,
+        Err(status) => return Err(status),
+    };
+    match check_file(alloc, file) {
+        Ok(text) => Ok(text),
+        Err(status) => Err(status),
+    }
+}
+
 /// No words: the result is the usage text.
 fn usage_result(alloc: Global) -> Result<Vec<u8>, Status>
     ensures text { IfOk result (λ text. text.items ≡ usage_text) }
@@ -202,6 +218,7 @@ pub fn perform<H: Shelf>(
             run_live(alloc, rules.as_str(), input.as_str(), shelf)
         }
         CommandWords::Workload { count } => run_workload(alloc, *count, advisers),
-        CommandWords::Check { .. } | CommandWords::Trace { .. } => Err(Status::Usage),
+        CommandWords::Check { input } => run_check(alloc, input.as_str(), shelf),
+        CommandWords::Trace { .. } => Err(Status::Usage),
     }
 }

@@ -3,7 +3,7 @@
 ghost use Rattle.std.specs.Prelude.{◌≡◌, IfOk, string_bytes};
 ghost use Rattle.redex_cli.specs.FaultLines.{number_line, counted_name, limit_text, no_memory_text, rule_line, rule_text, table_name, index_line, order_line, pool_text, code_words, code_number, code_line, sum_text, sums_line, member_line, dex_text, twice_line, split_line, hierarchy_text, typing_line, typing_text, input_text, status_text};
 
-use crate::status::{InputFault, Status, TypeFault};
+use crate::status::{InputFault, Status};
 use code_read::CodeFault;
 use command_line::USAGE;
 use dex_pools::{PoolFault, Table};
@@ -12,6 +12,7 @@ use hierarchy::HierarchyFault;
 use keep_rules::RuleFault;
 use program_model::{Counted, LimitFault};
 use std::alloc::{AllocError, Global};
+use verify::TypeFault;
 
 /// A line of two texts and a number.
 fn numbered(alloc: Global, opening: &str, words: &str, number: u64) -> Result<String, AllocError>

@@ -7,6 +7,7 @@
 //! commands are built stands in `specs/Commands.antt`.
 #![tactic(auto)]
 
+mod check_line;
 mod command;
 mod escape;
 mod fault_lines;
@@ -17,5 +18,6 @@ mod top;
 mod work;
 
 pub use program_model::{Counted, LimitFault};
-pub use status::{InputFault, Status, TypeFault};
+pub use status::{InputFault, Status};
 pub use top::run;
+pub use verify::TypeFault;

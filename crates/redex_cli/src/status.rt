@@ -7,19 +7,7 @@ use dex_read::DexFault;
 use hierarchy::HierarchyFault;
 use keep_rules::RuleFault;
 use program_model::LimitFault;
-
-/// A method that has no typing: `position` and `register` are where the least flow of kinds breaks.
-#[derive(Clone, Copy, PartialEq, Eq, Debug, Drop)]
-pub enum TypeFault {
-    /// Memory ran out.
-    NoMemory,
-    /// The method has no typing.
-    IllTyped {
-        method: u32,
-        position: u32,
-        register: u32,
-    },
-}
+use verify::TypeFault;
 
 /// What is wrong with a file: its bytes, the graph of its classes, the types of its bodies, or the library's bytes.
 #[derive(Debug, Drop)]

@@ -121,11 +121,12 @@ fn answer<H: Shelf, N: Notes>(
     }
 }
 
-/// Does what the words ask for: fetches the rules and the file that they name, optimises or lists, puts the output and
+/// Does what the words ask for: fetches the rules and the file that they name, checks, optimises or lists, puts the output and
 /// says the result or the line of the fault, by one call each.
 ///
 /// Refusals come in this order: the words; the fetch of the rules, then of the file; the rules; the file's header,
-/// checksum, limits, tables, classes and bodies; the graph of its classes; the put; the saying. The advisers are told
+/// checksum, limits, tables, classes and bodies; the graph of its classes; the types of its bodies, in class and method
+/// order; the put; the saying. The advisers are told
 /// what the options say when the rules and the file are found good, and are asked about each live method with code.
 pub fn run<H: Shelf, N: Notes>(
     alloc: Global,

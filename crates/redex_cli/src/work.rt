@@ -3,9 +3,10 @@
 ghost use Rattle.std.specs.Prelude.{◌<◌, ◌≤◌, ◌^◌, vec_len, string_bytes, IfOk, IfErr};
 ghost use Rattle.dex_read.specs.Counts.{CountsInFile};
 ghost use Rattle.dex_read.specs.Kept.{KeepsLimits};
-ghost use Rattle.redex_cli.specs.Finished.{Finished, IsSummary};
+ghost use Rattle.redex_cli.specs.Finished.{Finished, IsChecked, IsSummary};
 ghost use Rattle.redex_cli.specs.Refusals.{WorkRefused};
 
+use crate::check_line::check_line;
 use crate::live_list::live_list;
 use crate::status::{InputFault, Status};
 use crate::summary::{Sizes, sizes_of, summary};
@@ -21,6 +22,7 @@ use reach::close;
 use redex_gen::generate;
 use redex_outside::{Adviser, Key, Panel};
 use std::alloc::{AllocError, Global};
+use verify::{TypeFault, verify_all};
 
 /// The rules of the workload.
 const WORKLOAD_RULES: &[u8] = b"-keep class W0 { public static int run(int); }\n";
@@ -70,6 +72,43 @@ fn hierarchy_status(fault: HierarchyFault) -> Status
     }
 }
 
+/// A fault of a method's types as a status.
+fn typing_status(fault: TypeFault) -> Status
+    ensures { WorkRefused result }
+{
+    match fault {
+        TypeFault::NoMemory => Status::NoMemory,
+        TypeFault::IllTyped { .. } => Status::BadDex(InputFault::Typing(fault)),
+    }
+}
+
+/// A program that was read and is well typed, with the graph of its classes.
+#[derive(Drop)]
+struct Classes {
+    program: Program,
+    hierarchy: Hierarchy,
+}
+
+/// The file, its class graph and its types, in this order. The bytes are let go as soon as they are read.
+fn read_classes(alloc: Global, file: Vec<u8>) -> Result<Classes, Status>
+    ensures limits { IfOk result (λ classes. KeepsLimits classes.program) }
+    ensures refused { IfErr result WorkRefused }
+{
+    let program = match read_dex(alloc, &file) {
+        Ok(program) => program,
+        Err(fault) => return Err(dex_status(fault)),
+    };
+    drop(file);
+    let hierarchy = match Hierarchy::build(alloc, &program) {
+        Ok(hierarchy) => hierarchy,
+        Err(fault) => return Err(hierarchy_status(fault)),
+    };
+    match verify_all(alloc, &program, &hierarchy) {
+        Ok(()) => Ok(Classes { program, hierarchy }),
+        Err(fault) => Err(typing_status(fault)),
+    }
+}
+
 /// A program that was read, with its hierarchy and what the rules keep of it.
 #[derive(Drop)]
 struct Input {
@@ -91,7 +130,7 @@ fn closed_outside(
     close(alloc, program, hierarchy, &open)
 }
 
-/// The rules, the file and its class graph, in this order. The bytes are let go as soon as they are read.
+/// The rules, the file, its class graph and its types, in this order. The bytes are let go as soon as they are read.
 fn read_input(alloc: Global, rules: Vec<u8>, file: Vec<u8>) -> Result<Input, Status>
     requires { vec_len rules < 2 ^ 32 }
     ensures { IfErr result WorkRefused }
@@ -100,15 +139,10 @@ fn read_input(alloc: Global, rules: Vec<u8>, file: Vec<u8>) -> Result<Input, Sta
         Ok(parsed) => parsed,
         Err(fault) => return Err(rules_status(fault)),
     };
-    let program = match read_dex(alloc, &file) {
-        Ok(program) => program,
-        Err(fault) => return Err(dex_status(fault)),
-    };
     drop(rules);
-    drop(file);
-    let hierarchy = match Hierarchy::build(alloc, &program) {
-        Ok(hierarchy) => hierarchy,
-        Err(fault) => return Err(hierarchy_status(fault)),
+    let Classes { program, hierarchy } = match read_classes(alloc, file) {
+        Ok(classes) => classes,
+        Err(status) => return Err(status),
     };
     let outside = match closed_outside(alloc, &parsed, &program, &hierarchy) {
         Ok(outside) => outside,
@@ -251,6 +285,21 @@ pub fn list_live(alloc: Global, rules: Vec<u8>, file: Vec<u8>) -> Result<Vec<u8>
     };
     match live_of(alloc, &input) {
         Ok(text) => Ok(text),
+        Err(_) => Err(Status::NoMemory),
+    }
+}
+
+/// How many classes, methods and instructions a well typed file has, as they are said.
+pub fn check_file(alloc: Global, file: Vec<u8>) -> Result<Vec<u8>, Status>
+    ensures checked { IfOk result (λ text. IsChecked text.items) }
+    ensures refused { IfErr result WorkRefused }
+{
+    let classes = match read_classes(alloc, file) {
+        Ok(classes) => classes,
+        Err(status) => return Err(status),
+    };
+    match check_line(alloc, &classes.program) {
+        Ok(text) => Ok(text.into_bytes()),
         Err(_) => Err(Status::NoMemory),
     }
 }

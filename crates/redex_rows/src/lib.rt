@@ -12,6 +12,8 @@ mod seal;
 pub use seal::sealed;
 
 #[cfg(test)]
+mod checks;
+#[cfg(test)]
 mod damaged;
 #[cfg(test)]
 mod failing;

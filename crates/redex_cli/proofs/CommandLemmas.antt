@@ -4,12 +4,12 @@ use Rattle.redex_outside.specs.Counts.{NoneFell}
 use Rattle.redex_outside.specs.Held.{Held, AllSame, OthersSame, OldOrPrefix}
 use Rattle.program_model.specs.declared.limits.Counted.{Counted}
 use Rattle.command_line.specs.declared.command.CommandWords.{CommandWords}
-use Rattle.command_line.specs.declared.command.CommandWords.TheVariants.{Optimise, Live}
+use Rattle.command_line.specs.declared.command.CommandWords.TheVariants.{Optimise, Live, Trace}
 use Rattle.command_line.specs.declared.command.OptimiseWords.{OptimiseWords}
-use Rattle.redex_cli.specs.Commands.{Fetch, is_built, fetches, output_of, library_file, rules_and_file}
+use Rattle.redex_cli.specs.Commands.{Fetch, is_built, fetches, output_of, library_file, rules_and_file, trace_files}
 use Rattle.redex_cli.specs.Fetching.{Failures, AllWithin, FirstTooLong, FetchRefused, PutRefused}
-use Rattle.redex_cli.specs.Finished.{Finished, IsResult, IsSummary}
-use Rattle.redex_cli.specs.Refusals.{Cause, EndsTooLong, Gives, HoldsSummed, Refuses, WorkRefused}
+use Rattle.redex_cli.specs.Finished.{Finished, IsResult, IsSummary, IsTraced}
+use Rattle.redex_cli.specs.Refusals.{Cause, EndsTooLong, Gives, HoldsSummed, Refuses, TraceRefused, WorkRefused}
 use Rattle.redex_cli.specs.Stays.{OutputHolds, HoldsPart, Stays}
 use Rattle.redex_cli.specs.declared.status.Status.{Status}
 use Rattle.redex_cli.specs.declared.status.Status.TheVariants.{Done, Usage, BadRules, BadDex, Limit, ReadFault, WriteFault, NoMemory, BadScript}
@@ -71,6 +71,53 @@ work_refuses names output tells old new f g p q status r within same = record {
   cause = work_cause names output tells old f g p q status r within;
   too_long = λ counted told long. absurd (within_or_long old names counted (within told) long);
   stays = λ told. stays_same (λ name. output ≡ Some name) status p q old new (work_keeps status r) (same told);
+}
+
+trace_cause : (rules input script text : List ℕ) (tells : Bool) (old : Held) (f g p q : Failures) (status : Status)
+    → TraceRefused text status → (IsTrue tells → AllWithin old (trace_files rules input script)) → (IsTrue tells → old script ≡ Some text)
+    → Cause (trace_files rules input script) None tells old f g p q status
+trace_cause rules input script text tells old f g p q (BadScript line) r within there =
+    λ told. inr (inr (inl (record { counted = refl; bytes = text; there = there told; says = r })))
+trace_cause rules input script text tells old f g p q Done r within there = absurd r
+trace_cause rules input script text tells old f g p q Usage r within there = absurd r
+trace_cause rules input script text tells old f g p q (BadRules fault) r within there = r
+trace_cause rules input script text tells old f g p q (BadDex fault) r within there = r
+trace_cause rules input script text tells old f g p q (Limit fault) r within there =
+    work_cause (trace_files rules input script) None tells old f g p q (Limit fault) r within
+trace_cause rules input script text tells old f g p q ReadFault r within there = absurd r
+trace_cause rules input script text tells old f g p q WriteFault r within there = absurd r
+trace_cause rules input script text tells old f g p q NoMemory r within there = tt
+
+trace_keeps : (text : List ℕ) (status : Status) → TraceRefused text status → KeepsAll status
+trace_keeps text (BadScript line) r = tt
+trace_keeps text Done r = absurd r
+trace_keeps text Usage r = absurd r
+trace_keeps text (BadRules fault) r = tt
+trace_keeps text (BadDex fault) r = tt
+trace_keeps text (Limit fault) r = tt
+trace_keeps text ReadFault r = absurd r
+trace_keeps text WriteFault r = absurd r
+trace_keeps text NoMemory r = tt
+
+pub work_traces : (text : List ℕ) (status : Status) → WorkRefused status → TraceRefused text status
+work_traces text (BadScript line) r = absurd r
+work_traces text Done r = r
+work_traces text Usage r = r
+work_traces text (BadRules fault) r = r
+work_traces text (BadDex fault) r = r
+work_traces text (Limit fault) r = r
+work_traces text ReadFault r = r
+work_traces text WriteFault r = r
+work_traces text NoMemory r = r
+
+pub trace_refuses : (rules input script text : List ℕ) (tells : Bool) (old new : Held) (f g p q : Failures) (status : Status)
+    → TraceRefused text status → (IsTrue tells → AllWithin old (trace_files rules input script)) → (IsTrue tells → old script ≡ Some text)
+    → (IsTrue tells → AllSame old new)
+    → Refuses (trace_files rules input script) None tells old new f g p q status
+trace_refuses rules input script text tells old new f g p q status r within there same = record {
+  cause = trace_cause rules input script text tells old f g p q status r within there;
+  too_long = λ counted told long. absurd (within_or_long old (trace_files rules input script) counted (within told) long);
+  stays = λ told. stays_same (λ name. None ≡ Some name) status p q old new (trace_keeps text status r) (same told);
 }
 
 -- a command that puts nothing
@@ -195,6 +242,23 @@ pub live_refuses : (rules input : List ℕ) (library : Option (List ℕ)) (tells
     → Refuses (fetches (Live rules input library)) (output_of (Live rules input library)) tells old new f g p q status
 live_refuses rules input library tells old new f g p q status built refuses =
     subst (λ (names : List Fetch). Refuses names None tells old new f g p q status) (live_fetches rules input library built) refuses
+
+trace_fetches : (rules input script : List ℕ) (steps : ℕ) (library : Option (List ℕ)) → IsTrue (is_built (Trace rules input script steps library))
+    → trace_files rules input script ≡ fetches (Trace rules input script steps library)
+trace_fetches rules input script steps None built = refl
+trace_fetches rules input script steps (Some name) built = cc
+
+pub trace_gives : (rules input script : List ℕ) (steps : ℕ) (library : Option (List ℕ)) (tells : Bool) (old new : Held) (text : List ℕ) → IsTrue (is_built (Trace rules input script steps library))
+    → Gives (trace_files rules input script) None (IsTraced steps) tells old new text
+    → Gives (fetches (Trace rules input script steps library)) (output_of (Trace rules input script steps library)) (IsResult (Trace rules input script steps library)) tells old new text
+trace_gives rules input script steps library tells old new text built gives =
+    subst (λ (names : List Fetch). Gives names None (IsTraced steps) tells old new text) (trace_fetches rules input script steps library built) gives
+
+pub trace_is_refused : (rules input script : List ℕ) (steps : ℕ) (library : Option (List ℕ)) (tells : Bool) (old new : Held) (f g p q : Failures) (status : Status) → IsTrue (is_built (Trace rules input script steps library))
+    → Refuses (trace_files rules input script) None tells old new f g p q status
+    → Refuses (fetches (Trace rules input script steps library)) (output_of (Trace rules input script steps library)) tells old new f g p q status
+trace_is_refused rules input script steps library tells old new f g p q status built refuses =
+    subst (λ (names : List Fetch). Refuses names None tells old new f g p q status) (trace_fetches rules input script steps library built) refuses
 
 -- the same of a command that is found to be this one
 pub found_optimise_gives : (command : CommandWords) (words : OptimiseWords) (tells : Bool) (old new : Held) (text : List ℕ)

@@ -1,6 +1,7 @@
-pub mod FetchLemmas
 pub mod CommandLemmas
-pub mod WordsLemmas
-pub mod SaidLemmas
-pub mod RunLemmas
+pub mod FetchLemmas
 pub mod FinishedLemmas
+pub mod RunLemmas
+pub mod SaidLemmas
+pub mod ScriptLemmas
+pub mod WordsLemmas

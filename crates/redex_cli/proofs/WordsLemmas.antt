@@ -53,7 +53,7 @@ words_cause words command tells old f g p q (Limit fault) commands c = record { 
 words_cause words command tells old f g p q ReadFault commands c = record { command = command; commands = commands; rose = c }
 words_cause words command tells old f g p q WriteFault commands c = record { command = command; commands = commands; rose = c }
 words_cause words command tells old f g p q NoMemory commands c = tt
-words_cause words command tells old f g p q (BadScript line) commands c = c
+words_cause words command tells old f g p q (BadScript line) commands c = record { command = command; commands = commands; bad = c }
 
 long_of : (words : List (List ℕ)) (command : CommandWords) (old : Held) (counted : Counted)
     → ((c : CommandWords) → Commands words c → c ≡ command) → TooLong words old counted → FirstTooLong old (fetches command) counted

@@ -7,13 +7,13 @@ use Rattle.command_line.specs.declared.command.CommandWords.{CommandWords}
 use Rattle.command_line.specs.declared.command.CommandWords.TheVariants.{Nothing, Optimise, Check, Live, Trace, Workload}
 use Rattle.command_line.specs.Spelling.{Spells}
 
--- `trace`, `--inline` and `--library` are not built yet.
+-- `--inline` and `--library` are not built yet.
 abbrev pub is_built : CommandWords → Bool
 is_built Nothing = true
 is_built (Optimise words) = not words.inline && is_none words.library
 is_built (Check input) = true
 is_built (Live rules input library) = is_none library
-is_built (Trace rules input script steps library) = false
+is_built (Trace rules input script steps library) = is_none library
 is_built (Workload count) = true
 
 -- The words spell this command, and it is built.
@@ -41,6 +41,9 @@ file_alone input = record { name = input; counted = FileBytes } ∷ []
 abbrev pub rules_and_file : List ℕ → List ℕ → List Fetch
 rules_and_file rules input =
     record { name = rules; counted = RuleBytes } ∷ record { name = input; counted = FileBytes } ∷ []
+
+abbrev pub trace_files : List ℕ → List ℕ → List ℕ → List Fetch
+trace_files rules input script = rules_and_file rules input ++ record { name = script; counted = ScriptBytes } ∷ []
 
 -- A library is a file.
 abbrev pub library_file : Option (List ℕ) → List Fetch

@@ -6,7 +6,7 @@ use Rattle.redex_outside.specs.Held.{Held}
 use Rattle.redex_cli.specs.Commands.{CommandsNothing, Puts}
 use Rattle.redex_cli.specs.Fetching.{Failures}
 use Rattle.redex_cli.specs.Finished.{Results}
-use Rattle.redex_cli.specs.Refusals.{CouldNotFetch, CouldNotPut, EndsTooLong, EndsUnspelled, HoldsSummed, IsInputFault, IsRuleFault, PassesLimit, TooLong}
+use Rattle.redex_cli.specs.Refusals.{CouldNotFetch, CouldNotPut, EndsTooLong, EndsUnspelled, HasBadLine, HoldsSummed, IsInputFault, IsRuleFault, PassesLimit, TooLong}
 use Rattle.redex_cli.specs.Said.{Said}
 use Rattle.redex_cli.specs.Stays.{Stays}
 use Rattle.redex_cli.specs.declared.status.Status.{Status}
@@ -22,7 +22,7 @@ Caused words tells held fetches_old fetches_new puts_old puts_new notes_old note
 Caused words tells held fetches_old fetches_new puts_old puts_new notes_old notes_new ReadFault = CouldNotFetch words fetches_old fetches_new
 Caused words tells held fetches_old fetches_new puts_old puts_new notes_old notes_new WriteFault = CouldNotPut words puts_old puts_new ⊎ Rose notes_old notes_new
 Caused words tells held fetches_old fetches_new puts_old puts_new notes_old notes_new NoMemory = Unit {0}
-Caused words tells held fetches_old fetches_new puts_old puts_new notes_old notes_new (BadScript line) = ⊥
+Caused words tells held fetches_old fetches_new puts_old puts_new notes_old notes_new (BadScript line) = HasBadLine words tells held line
 
 -- The whole result of the words' command was said, and the name that it has put, if it has one, holds the finished
 -- output that this result sums up.

@@ -1,10 +1,13 @@
 -- What comes of fetching names one after another, each within the limit of what its bytes are counted as.
-use Rattle.std.specs.Prelude.{◌≡◌, ◌⊎◌, ◌+◌, ◌<◌, ◌≤◌, ℕ, List, [], ◌∷◌, length, Bool, IsTrue, Option, Some}
+use Rattle.std.specs.Prelude.{◌≡◌, ◌⊎◌, ◌+◌, ◌<◌, ◌≤◌, ℕ, List, [], ◌∷◌, length, Bool, IsTrue, Option, Some, Err}
 use Rattle.program_model.specs.Limits.{limit_of}
 use Rattle.program_model.specs.declared.limits.Counted.{Counted}
+use Rattle.program_model.specs.declared.limits.Counted.TheVariants.{ScriptBytes}
 use Rattle.program_model.specs.declared.limits.LimitFault.{LimitFault}
 use Rattle.redex_outside.specs.Counts.{Rose, NoneFell}
 use Rattle.redex_outside.specs.Held.{Held, AllSame, OldOrPrefix}
+use Rattle.text_defs.specs.Plays.{play_of}
+use Rattle.text_defs.specs.declared.fault.ScriptFault.TheVariants as script
 use Rattle.redex_cli.specs.Commands.{Fetch}
 use Rattle.redex_cli.specs.declared.status.Status.{Status}
 use Rattle.redex_cli.specs.declared.status.Status.TheVariants.{Done, Usage, BadRules, BadDex, Limit, ReadFault, WriteFault, NoMemory, BadScript}
@@ -73,3 +76,15 @@ PutRefused tells faults_old faults_new old new bytes WriteFault =
     Rose faults_old faults_new × (IsTrue tells → OldOrPrefix old new bytes)
 PutRefused tells faults_old faults_new old new bytes NoMemory = IsTrue tells → new ≡ old
 PutRefused tells faults_old faults_new old new bytes _ = ⊥
+
+-- The name is fetched as a script, and holds a text whose first line outside the grammar is this one.
+pub record HoldsBadLine (held : Held) (fetch : Fetch) (line : ℕ) : Type 0 where
+  pub counted : fetch.counted ≡ ScriptBytes
+  pub bytes : List ℕ
+  pub there : held fetch.name ≡ Some bytes
+  pub says : play_of bytes ≡ Err (script.Line line)
+
+-- One of these names holds such a script.
+abbrev pub OneBadLine : Held → List Fetch → ℕ → Type 0
+OneBadLine held [] line = ⊥
+OneBadLine held (fetch ∷ later) line = HoldsBadLine held fetch line ⊎ OneBadLine held later line

@@ -8,6 +8,8 @@ use Rattle.redex_cli.specs.Commands.{Commands}
 use Rattle.program_model.specs.declared.program.Program.{Program}
 use Rattle.program_model.specs.Cells.{capped}
 use Rattle.pipeline.specs.Counts.{insns_of}
+use Rattle.dalvik_defs.specs.declared.events.Event.{Event}
+use Rattle.text_defs.specs.EventLines.{event_lines}
 use Rattle.redex_cli.specs.declared.summary.Sizes.{Sizes}
 
 -- A line of the summary: `WHAT A -> B`.
@@ -57,13 +59,19 @@ pub record IsChecked (text : List ℕ) : Type 0 where
   pub program : Program
   pub says : text ≡ checked_text (length program.classes) (capped (methods_of program)) (capped (insns_of program))
 
+-- The text is the lines of events, one for a step at most. What is known of them today: their number and their lines.
+pub record IsTraced (steps : ℕ) (text : List ℕ) : Type 0 where
+  pub events : List Event
+  pub few : length events ≤ steps
+  pub says : text ≡ event_lines events
+
 -- The text is the command's result. Of the list of `live` nothing is said yet.
 abbrev pub IsResult : CommandWords → List ℕ → Type 0
 IsResult Nothing text = text ≡ usage_text
 IsResult (Optimise words) text = IsSummary text
 IsResult (Check input) text = IsChecked text
 IsResult (Live rules input library) text = Unit {0}
-IsResult (Trace rules input script steps library) text = ⊥
+IsResult (Trace rules input script steps library) text = IsTraced steps text
 IsResult (Workload count) text = IsSummary text
 
 -- The text is the result of the command that the words spell.

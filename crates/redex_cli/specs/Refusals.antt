@@ -1,5 +1,5 @@
 -- Why a run is refused, and what holds where it is not.
-use Rattle.std.specs.Prelude.{◌≡◌, ◌⊎◌, ◌+◌, ◌++◌, ℕ, List, Bool, IsTrue, Option, Some}
+use Rattle.std.specs.Prelude.{◌≡◌, ◌⊎◌, ◌+◌, ◌++◌, ℕ, List, Bool, IsTrue, Option, Some, Err}
 use Rattle.rule_text.specs.declared.fault.RuleFault.{RuleFault}
 use Rattle.rule_text.specs.declared.fault.RuleFault.TheVariants as rule
 use Rattle.dex_read.specs.Counts.{PassesInFile}
@@ -9,6 +9,8 @@ use Rattle.hierarchy.specs.declared.fault.HierarchyFault.{HierarchyFault}
 use Rattle.hierarchy.specs.declared.fault.HierarchyFault.TheVariants as classes
 use Rattle.verify.specs.declared.fault.TypeFault.{TypeFault}
 use Rattle.verify.specs.declared.fault.TypeFault.TheVariants as typing
+use Rattle.text_defs.specs.Plays.{play_of}
+use Rattle.text_defs.specs.declared.fault.ScriptFault.TheVariants as script
 use Rattle.program_model.specs.Limits.{limit_of}
 use Rattle.program_model.specs.declared.limits.Counted.{Counted}
 use Rattle.program_model.specs.declared.limits.LimitFault.{LimitFault}
@@ -16,7 +18,7 @@ use Rattle.redex_outside.specs.Counts.{Rose}
 use Rattle.redex_outside.specs.Held.{Held}
 use Rattle.command_line.specs.declared.command.CommandWords.{CommandWords}
 use Rattle.redex_cli.specs.Commands.{Commands, CommandsNothing, Fetch, Puts, fetches, output_of}
-use Rattle.redex_cli.specs.Fetching.{Failures, AllWithin, FirstTooLong, OneRose, PassesByOne}
+use Rattle.redex_cli.specs.Fetching.{Failures, AllWithin, FirstTooLong, OneBadLine, OneRose, PassesByOne}
 use Rattle.redex_cli.specs.Finished.{Finished, Results}
 use Rattle.redex_cli.specs.Stays.{Stays}
 use Rattle.redex_cli.specs.declared.status.InputFault.{InputFault}
@@ -60,6 +62,11 @@ WorkRefused (Limit fault) = PassesInFile fault
 WorkRefused NoMemory = Unit {0}
 WorkRefused _ = ⊥
 
+-- What the work on rules, a file and a script of this text may be refused with.
+abbrev pub TraceRefused : List ℕ → Status → Type 0
+TraceRefused text (BadScript line) = play_of text ≡ Err (script.Line line)
+TraceRefused text status = WorkRefused status
+
 -- ---- the limits
 
 -- All names keep their limits, and a quantity that is counted inside the file, which is none of bytes, passes its own.
@@ -95,6 +102,7 @@ Cause names output tells held fetches_old fetches_new puts_old puts_new (Limit f
 Cause names output tells held fetches_old fetches_new puts_old puts_new ReadFault = OneRose fetches_old fetches_new names
 Cause names output tells held fetches_old fetches_new puts_old puts_new WriteFault = OutputRose output puts_old puts_new
 Cause names output tells held fetches_old fetches_new puts_old puts_new NoMemory = Unit {0}
+Cause names output tells held fetches_old fetches_new puts_old puts_new (BadScript line) = IsTrue tells → OneBadLine held names line
 Cause names output tells held fetches_old fetches_new puts_old puts_new _ = ⊥
 
 -- A command that has these names fetched and this one put is refused with this status.
@@ -138,6 +146,12 @@ pub record PassesLimit (words : List (List ℕ)) (tells : Bool) (held : Held) (f
   pub commands : Commands words command
   pub cause : LimitCause tells held (fetches command) fault
 
+-- The script that the words have fetched has this first line outside the grammar.
+pub record HasBadLine (words : List (List ℕ)) (tells : Bool) (held : Held) (line : ℕ) : Type 0 where
+  pub command : CommandWords
+  pub commands : Commands words command
+  pub bad : IsTrue tells → OneBadLine held (fetches command) line
+
 -- A name that the words have fetched holds too much, and is the first. Its bytes are counted as this.
 pub record TooLong (words : List (List ℕ)) (held : Held) (counted : Counted) : Type 0 where
   pub command : CommandWords
@@ -166,7 +180,7 @@ CauseFor words tells held fetches_old fetches_new puts_old puts_new (Limit fault
 CauseFor words tells held fetches_old fetches_new puts_old puts_new ReadFault = CouldNotFetch words fetches_old fetches_new
 CauseFor words tells held fetches_old fetches_new puts_old puts_new WriteFault = CouldNotPut words puts_old puts_new
 CauseFor words tells held fetches_old fetches_new puts_old puts_new NoMemory = Unit {0}
-CauseFor words tells held fetches_old fetches_new puts_old puts_new (BadScript line) = ⊥
+CauseFor words tells held fetches_old fetches_new puts_old puts_new (BadScript line) = HasBadLine words tells held line
 
 -- These words are refused with this status.
 pub record RefusesFor (words : List (List ℕ)) (tells : Bool) (old new : Held)

@@ -4,14 +4,14 @@ ghost use Rattle.std.specs.Prelude.{◌≡◌, ◌≤◌, ◌∷◌, [], None, S
 ghost use Rattle.program_model.specs.Limits.{limit_of};
 ghost use Rattle.redex_outside.specs.Counts.{NoneFell};
 ghost use Rattle.redex_outside.specs.Held.{OthersSame};
-ghost use Rattle.redex_cli.specs.Commands.{is_built, CountsWithin, fetches, file_alone, output_of, rules_and_file};
+ghost use Rattle.redex_cli.specs.Commands.{is_built, CountsWithin, fetches, file_alone, output_of, rules_and_file, trace_files};
 ghost use Rattle.redex_cli.specs.FaultLines.{usage_text};
 ghost use Rattle.redex_cli.specs.Fetching.{AllWithin, FetchRefused, OnlyFetched, PutRefused};
-ghost use Rattle.redex_cli.specs.Finished.{IsResult, IsChecked, IsSummary};
+ghost use Rattle.redex_cli.specs.Finished.{IsResult, IsChecked, IsSummary, IsTraced};
 ghost use Rattle.redex_cli.specs.Refusals.{Refuses, Gives, WorkRefused};
 
 use crate::status::Status;
-use crate::work::{check_file, list_live, optimise_file, optimise_workload};
+use crate::work::{check_file, list_live, optimise_file, optimise_workload, trace_file};
 use command_line::{CommandWords, OptimiseWords, USAGE};
 use program_model::{Counted, LimitFault};
 use redex_outside::{Adviser, FetchFault, PutFault, Shelf};
@@ -25,6 +25,7 @@ fn fetch<H: Shelf>(
     counted: Counted,
 ) -> Result<Vec<u8>, Status>
     ensures limit { IfOk result (λ bytes. vec_len bytes ≤ limit_of counted) }
+    ensures there { IfOk result (λ bytes. IsTrue (H.tells shelf.old) → H.held shelf.old name.now ≡ Some bytes.items) }
     ensures within { IfOk result (λ bytes. IsTrue (H.tells shelf.old) → AllWithin (H.held shelf.old) (record { name = name.now; counted = counted } ∷ [])) }
     ensures refused { IfErr result (λ status. FetchRefused (H.tells shelf.old) (H.held shelf.old) (H.fetch_faults shelf.old) (H.fetch_faults shelf.new) (record { name = name.now; counted = counted } ∷ []) status) }
     ensures stays { OnlyFetched (H.tells shelf.old) (H.tells shelf.new) (H.held shelf.old) (H.held shelf.new) (H.fetch_faults shelf.old) (H.fetch_faults shelf.new) (H.put_faults shelf.old) (H.put_faults shelf.new) }
@@ -69,6 +70,76 @@ fn fetch_inputs<H: Shelf>(
     }
 }
 
+/// The bytes of the rules, of the file and of the script.
+#[derive(Drop)]
+struct TraceInputs {
+    rules: Vec<u8>,
+    file: Vec<u8>,
+    script: Vec<u8>,
+}
+
+/// Fetches the rules, then the file, then the script.
+fn fetch_trace<H: Shelf>(
+    alloc: Global,
+    shelf: &mut H,
+    rules: &str,
+    input: &str,
+    script: &str,
+) -> Result<TraceInputs, Status>
+    ensures rules_limit { IfOk result (λ inputs. vec_len inputs.rules ≤ 1048576) }
+    ensures script_limit { IfOk result (λ inputs. vec_len inputs.script ≤ 1048576) }
+    ensures there { IfOk result (λ inputs. IsTrue (H.tells shelf.old) → H.held shelf.old script.now ≡ Some inputs.script.items) }
+    ensures within { OnOk result (IsTrue (H.tells shelf.old) → AllWithin (H.held shelf.old) (trace_files rules.now input.now script.now)) }
+    ensures refused { IfErr result (λ status. FetchRefused (H.tells shelf.old) (H.held shelf.old) (H.fetch_faults shelf.old) (H.fetch_faults shelf.new) (trace_files rules.now input.now script.now) status) }
+    ensures stays { OnlyFetched (H.tells shelf.old) (H.tells shelf.new) (H.held shelf.old) (H.held shelf.new) (H.fetch_faults shelf.old) (H.fetch_faults shelf.new) (H.put_faults shelf.old) (H.put_faults shelf.new) }
+{
+    let rules = match fetch(alloc, shelf, rules, Counted::RuleBytes) {
+        Ok(rules) => rules,
+        Err(status) => return Err(status),
+    };
+    let file = match fetch(alloc, shelf, input, Counted::FileBytes) {
+        Ok(file) => file,
+        Err(status) => return Err(status),
+    };
+    match fetch(alloc, shelf, script, Counted::ScriptBytes) {
+        Ok(script) => Ok(TraceInputs {
+            rules,
+            file,
+            script,
+        }),
+        Err(status) => Err(status),
+    }
+}
+
+/// `trace`: fetches the rules, the file and the script. Its result is the events.
+#[tactic(auto, using(crate::proofs::CommandLemmas::fetch_refuses, crate::proofs::CommandLemmas::trace_refuses, crate::proofs::CommandLemmas::keeps_gives))]
+fn run_trace<H: Shelf>(
+    alloc: Global,
+    rules: &str,
+    input: &str,
+    script: &str,
+    steps: u32,
+    shelf: &mut H,
+) -> Result<Vec<u8>, Status>
+    ensures given { IfOk result (λ text. Gives (trace_files rules.now input.now script.now) None (IsTraced steps) (H.tells shelf.old) (H.held shelf.old) (H.held shelf.new) text.items) }
+    ensures refused { IfErr result (λ status. Refuses (trace_files rules.now input.now script.now) None (H.tells shelf.old) (H.held shelf.old) (H.held shelf.new) (H.fetch_faults shelf.old) (H.fetch_faults shelf.new) (H.put_faults shelf.old) (H.put_faults shelf.new) status) }
+{
+    let inputs = match fetch_trace(alloc, shelf, rules, input, script) {
+        Ok(inputs) => inputs,
+        Err(status) => return Err(status),
+    };
+    match trace_file(
+        alloc,
+        inputs.rules,
+        inputs.file,
+        inputs.script.as_slice(),
+        steps,
+    ) {
+        Ok(text) => Ok(text),
+        Err(status) => Err(status),
+    }
+}
+
 /// Puts an output.
 fn put<H: Shelf>(alloc: Global, shelf: &mut H, name: &str, bytes: &[u8]) -> Result<(), Status>
     ensures put { OnOk result (IsTrue (H.tells shelf.old) → H.held shelf.new name.now ≡ Some bytes.now) }
@@ -84,7 +155,7 @@ fn put<H: Shelf>(alloc: Global, shelf: &mut H, name: &str, bytes: &[u8]) -> Resu
     }
 }
 
-/// Whether the command is built. `trace`, `--inline` and `--library` are not yet.
+/// Whether the command is built. `--inline` and `--library` are not yet.
 pub fn is_built(command: &CommandWords) -> bool
     ensures { result ≡ is_built command.now }
 {
@@ -93,7 +164,7 @@ pub fn is_built(command: &CommandWords) -> bool
         CommandWords::Optimise(words) => !words.inline && words.library.is_none(),
         CommandWords::Check { .. } => true,
         CommandWords::Live { library, .. } => library.is_none(),
-        CommandWords::Trace { .. } => false,
+        CommandWords::Trace { library, .. } => library.is_none(),
         CommandWords::Workload { .. } => true,
     }
 }
@@ -199,7 +270,7 @@ fn run_workload(
 }
 
 /// Does what a command asks for, and answers its result, which is still to be said.
-#[tactic(auto, using(crate::proofs::CommandLemmas::work_refuses, crate::proofs::CommandLemmas::keeps_gives, crate::proofs::CommandLemmas::optimise_gives, crate::proofs::CommandLemmas::optimise_refuses, crate::proofs::CommandLemmas::live_gives, crate::proofs::CommandLemmas::live_refuses))]
+#[tactic(auto, using(crate::proofs::CommandLemmas::work_refuses, crate::proofs::CommandLemmas::keeps_gives, crate::proofs::CommandLemmas::optimise_gives, crate::proofs::CommandLemmas::optimise_refuses, crate::proofs::CommandLemmas::live_gives, crate::proofs::CommandLemmas::live_refuses, crate::proofs::CommandLemmas::trace_gives, crate::proofs::CommandLemmas::trace_is_refused))]
 pub fn perform<H: Shelf>(
     alloc: Global,
     command: &CommandWords,
@@ -219,6 +290,19 @@ pub fn perform<H: Shelf>(
         }
         CommandWords::Workload { count } => run_workload(alloc, *count, advisers),
         CommandWords::Check { input } => run_check(alloc, input.as_str(), shelf),
-        CommandWords::Trace { .. } => Err(Status::Usage),
+        CommandWords::Trace {
+            rules,
+            input,
+            script,
+            steps,
+            ..
+        } => run_trace(
+            alloc,
+            rules.as_str(),
+            input.as_str(),
+            script.as_str(),
+            *steps,
+            shelf,
+        ),
     }
 }

@@ -1,10 +1,10 @@
 //! What the commands do between fetching and putting: values in, a value or a status out.
 
-ghost use Rattle.std.specs.Prelude.{◌<◌, ◌≤◌, ◌^◌, vec_len, string_bytes, IfOk, IfErr};
+ghost use Rattle.std.specs.Prelude.{◌<◌, ◌≤◌, ◌^◌, length, vec_len, string_bytes, IfOk, IfErr};
 ghost use Rattle.dex_read.specs.Counts.{CountsInFile};
 ghost use Rattle.dex_read.specs.Kept.{KeepsLimits};
-ghost use Rattle.redex_cli.specs.Finished.{Finished, IsChecked, IsSummary};
-ghost use Rattle.redex_cli.specs.Refusals.{WorkRefused};
+ghost use Rattle.redex_cli.specs.Finished.{Finished, IsChecked, IsSummary, IsTraced};
+ghost use Rattle.redex_cli.specs.Refusals.{TraceRefused, WorkRefused};
 
 use crate::check_line::check_line;
 use crate::live_list::live_list;
@@ -12,6 +12,7 @@ use crate::status::{InputFault, Status};
 use crate::summary::{Sizes, sizes_of, summary};
 use call_graph::live_members;
 use command_line::Tell;
+use dalvik_model::run;
 use dex_read::{DexFault, read_dex};
 use dex_write::write_dex;
 use hierarchy::{Hierarchy, HierarchyFault};
@@ -21,6 +22,7 @@ use program_model::{Outside, Program};
 use reach::close;
 use redex_gen::generate;
 use redex_outside::{Adviser, Key, Panel};
+use script_text::{Play, ScriptFault, read_script, write_events};
 use std::alloc::{AllocError, Global};
 use verify::{TypeFault, verify_all};
 
@@ -300,6 +302,64 @@ pub fn check_file(alloc: Global, file: Vec<u8>) -> Result<Vec<u8>, Status>
     };
     match check_line(alloc, &classes.program) {
         Ok(text) => Ok(text.into_bytes()),
+        Err(_) => Err(Status::NoMemory),
+    }
+}
+
+/// The play that a script spells.
+#[tactic(auto, using(crate::proofs::ScriptLemmas::line_refuses))]
+fn read_play(alloc: Global, script: &[u8]) -> Result<Play, Status>
+    requires { length script.now < 2 ^ 32 }
+    ensures { IfErr result (TraceRefused script.now) }
+{
+    match read_script(alloc, script) {
+        Ok(play) => Ok(play),
+        Err(ScriptFault::NoMemory) => Err(Status::NoMemory),
+        Err(ScriptFault::Line { number }) => Err(Status::BadScript(number)),
+    }
+}
+
+/// The lines of the events of so many steps.
+#[tactic(auto, using(crate::proofs::FinishedLemmas::traced))]
+fn trace_play(alloc: Global, input: &Input, play: &Play, steps: u32) -> Result<Vec<u8>, AllocError>
+    ensures { IfOk result (λ text. IsTraced steps text.items) }
+{
+    let events = run(
+        alloc,
+        &input.program,
+        &input.outside,
+        &play.framework,
+        &play.floats,
+        play.moves.as_slice(),
+        steps,
+    )?;
+    write_events(alloc, events.as_slice())
+}
+
+/// The events of so many steps of a file under a script, as they are said.
+#[tactic(auto, using(crate::proofs::CommandLemmas::work_traces))]
+pub fn trace_file(
+    alloc: Global,
+    rules: Vec<u8>,
+    file: Vec<u8>,
+    script: &[u8],
+    steps: u32,
+) -> Result<Vec<u8>, Status>
+    requires rules { vec_len rules < 2 ^ 32 }
+    requires script { length script.now < 2 ^ 32 }
+    ensures traced { IfOk result (λ text. IsTraced steps text.items) }
+    ensures refused { IfErr result (TraceRefused script.now) }
+{
+    let input = match read_input(alloc, rules, file) {
+        Ok(input) => input,
+        Err(status) => return Err(status),
+    };
+    let play = match read_play(alloc, script) {
+        Ok(play) => play,
+        Err(status) => return Err(status),
+    };
+    match trace_play(alloc, &input, &play, steps) {
+        Ok(text) => Ok(text),
         Err(_) => Err(Status::NoMemory),
     }
 }

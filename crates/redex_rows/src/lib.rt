@@ -2,9 +2,9 @@
 //!
 //! Each row is one call of the top call on a small file that an independent writer made. It says how the run ends, what
 //! is said, and what the output holds behind it. The rows stand in tables by what they are
-//! about: the words, what is removed, damaged and extreme input, and an outside that fails. Nothing is proved of them
-//! but that they are safe: they test what no contract says. Rows on values of registers, on typing, on runs of the
-//! machine, on inlining and on libraries come with the passes and commands that they are about.
+//! about: the words, what is removed, what programs show, damaged and extreme input, and an outside that fails. Nothing
+//! is proved of them but that they are safe: they test what no contract says. Rows on values of registers, on inlining
+//! and on libraries come with the passes and commands that they are about.
 #![tactic(auto)]
 
 mod seal;
@@ -23,5 +23,9 @@ mod inputs;
 mod removal;
 #[cfg(test)]
 mod rig;
+#[cfg(test)]
+mod traced;
+#[cfg(test)]
+mod traces;
 #[cfg(test)]
 mod words;

@@ -1,0 +1,11 @@
+-- Why a script is refused.
+use Rattle.std.proofs.Common.{◌≡◌, ℕ, List, inl, inr, ⊎_elim, Err}
+use Rattle.text_defs.specs.Plays.{IsRefusal, play_of}
+use Rattle.text_defs.specs.declared.fault.ScriptFault.{ScriptFault}
+use Rattle.text_defs.specs.declared.fault.ScriptFault.TheVariants as fault
+use Rattle.redex_cli.specs.Refusals.{TraceRefused}
+use Rattle.redex_cli.specs.declared.status.Status.TheVariants.{BadScript}
+
+pub line_refuses : (text : List ℕ) (line : ℕ) → IsRefusal text (fault.Line line) → TraceRefused text (BadScript line)
+line_refuses text line (inl e) = cc
+line_refuses text line (inr e) = e

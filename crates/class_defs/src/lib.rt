@@ -3,3 +3,5 @@
 //! above a class, what a class defines, what a name resolves to and what a call finds, and when the classes make no
 //! hierarchy.
 #![tactic(auto)]
+
+mod examples;

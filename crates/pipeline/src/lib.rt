@@ -1,14 +1,17 @@
-//! The passes over a program: each live method with code is asked about, and then rounds of passes run until one
-//! changes nothing.
+//! The passes over a program: each live method with code is asked about, silent calls become nops in those that may be
+//! rewritten, and then rounds of passes run until one changes nothing.
 #![tactic(auto)]
 
 mod asks;
 mod counts;
+mod graph;
 mod rounds;
+mod silent;
 
 pub use asks::proto_text;
 pub use counts::{count_instructions, count_members};
 pub use rounds::{Outcome, optimise};
+pub use silent::silence;
 
 #[cfg(test)]
 mod tests;

@@ -4,8 +4,9 @@ ghost use Rattle.std.specs.Prelude.{◌≤◌, vec_len, IfOk};
 
 use crate::asks::{Advice, ask_all, no_advice};
 use crate::counts::{count_instructions, count_members};
+use crate::graph::hierarchy_of;
+use crate::silent::silence;
 use call_graph::live_members;
-use hierarchy::{Hierarchy, HierarchyFault};
 use program_model::{Changed, Origin, Outside, Program};
 use reach::apply;
 use redex_outside::Panel;
@@ -22,15 +23,6 @@ pub struct Outcome {
     pub removed_instructions: u64,
     pub spared: u32,
     pub origins: Seq<Seq<Origin>>,
-}
-
-/// The hierarchy of a program that has one. A program without one is left as it is.
-fn hierarchy_of(alloc: Global, program: &Program) -> Result<Option<Hierarchy>, AllocError> {
-    match Hierarchy::build(alloc, program) {
-        Ok(hierarchy) => Ok(Some(hierarchy)),
-        Err(HierarchyFault::NoMemory) => Err(AllocError),
-        Err(_) => Ok(None),
-    }
 }
 
 /// What the advisers say of the live methods with code. Where nothing is to be rewritten, none is asked about.
@@ -93,8 +85,9 @@ fn all_rounds(
 }
 
 /// Optimises a program: asks the panel about each live method with code, in class and method order, unless the rules
-/// forbid all rewriting, and then runs rounds of the passes until one changes nothing. `outside` is closed. The only
-/// error is want of memory; the panel was then asked about the first of these methods.
+/// forbid all rewriting, makes the silent calls of the admitted ones nops, and then runs rounds of the passes until one
+/// changes nothing. `outside` is closed. The only error is want of memory; the panel was then asked about the first of
+/// these methods.
 ///
 /// The `requires` always holds. A function that has one makes no adviser of its own, so a caller in another crate that
 /// hands the panel on need not know its body.
@@ -110,6 +103,7 @@ pub fn optimise(
     let members = count_members(&program);
     let instructions = count_instructions(&program);
     let advice = advice_on(alloc, &program, outside, panel)?;
+    let program = silence(alloc, program, outside, &advice.admitted)?;
     let (program, rounds) = all_rounds(alloc, program, outside)?;
     let left_members = count_members(&program);
     let left_instructions = count_instructions(&program);

@@ -3,12 +3,14 @@ use Rattle.std.proofs.Common.{◌≡◌, ◌⊎◌, ◌++◌, ◌&&◌, ℕ, Lis
 use Rattle.redex_outside.specs.Counts.{NoneFell}
 use Rattle.redex_outside.specs.Held.{Held, AllSame, OthersSame, OldOrPrefix}
 use Rattle.program_model.specs.declared.limits.Counted.{Counted}
+use Rattle.program_model.specs.declared.limits.Counted.TheVariants.{RuleBytes, FileBytes, ScriptBytes}
 use Rattle.command_line.specs.declared.command.CommandWords.{CommandWords}
 use Rattle.command_line.specs.declared.command.CommandWords.TheVariants.{Optimise, Live, Trace}
 use Rattle.command_line.specs.declared.command.OptimiseWords.{OptimiseWords}
-use Rattle.redex_cli.specs.Commands.{Fetch, is_built, fetches, output_of, library_file, rules_and_file, trace_files}
+use Rattle.redex_cli.specs.Commands.{Fetch, is_built, fetches, output_of, file_alone, library_file, rules_and_file, trace_files}
 use Rattle.redex_cli.specs.Fetching.{Failures, AllWithin, FirstTooLong, FetchRefused, PutRefused}
-use Rattle.redex_cli.specs.Finished.{Finished, IsResult, IsSummary, IsTraced}
+use Rattle.redex_cli.specs.Files.{AllRead, FileCause, FileRefused, HoldsRead, HoldsRefused, IsRead}
+use Rattle.redex_cli.specs.Finished.{Checks, Finished, IsChecked, IsResult, IsSummary, IsTraced}
 use Rattle.redex_cli.specs.Refusals.{Cause, EndsTooLong, Gives, HoldsSummed, Refuses, TraceRefused, WorkRefused}
 use Rattle.redex_cli.specs.Stays.{OutputHolds, HoldsPart, Stays}
 use Rattle.redex_cli.specs.declared.status.Status.{Status}
@@ -50,12 +52,13 @@ fetch_refuses names output tells old new f g p q status r same = record {
 -- ---- the work
 
 work_cause : (names : List Fetch) (output : Option (List ℕ)) (tells : Bool) (old : Held) (f g p q : Failures) (status : Status)
-    → WorkRefused status → (IsTrue tells → AllWithin old names) → Cause names output tells old f g p q status
-work_cause names output tells old f g p q (BadRules fault) r within = r
-work_cause names output tells old f g p q (BadDex fault) r within = r
-work_cause names output tells old f g p q (Limit fault) r within = inr (record { inside = r; within = within })
-work_cause names output tells old f g p q NoMemory r within = tt
-work_cause names output tells old f g p q _ r within = absurd r
+    → WorkRefused status → (IsTrue tells → AllWithin old names) → (IsTrue tells → FileCause old names status)
+    → Cause names output tells old f g p q status
+work_cause names output tells old f g p q (BadRules fault) r within file = r
+work_cause names output tells old f g p q (BadDex fault) r within file = record { carried = r; file = file }
+work_cause names output tells old f g p q (Limit fault) r within file = inr (record { inside = r; within = within; file = file })
+work_cause names output tells old f g p q NoMemory r within file = tt
+work_cause names output tells old f g p q _ r within file = absurd r
 
 work_keeps : (status : Status) → WorkRefused status → KeepsAll status
 work_keeps (BadRules fault) r = tt
@@ -65,28 +68,57 @@ work_keeps NoMemory r = tt
 work_keeps _ r = absurd r
 
 pub work_refuses : (names : List Fetch) (output : Option (List ℕ)) (tells : Bool) (old new : Held) (f g p q : Failures) (status : Status)
-    → WorkRefused status → (IsTrue tells → AllWithin old names) → (IsTrue tells → AllSame old new)
+    → WorkRefused status → (IsTrue tells → AllWithin old names) → (IsTrue tells → FileCause old names status) → (IsTrue tells → AllSame old new)
     → Refuses names output tells old new f g p q status
-work_refuses names output tells old new f g p q status r within same = record {
-  cause = work_cause names output tells old f g p q status r within;
+work_refuses names output tells old new f g p q status r within file same = record {
+  cause = work_cause names output tells old f g p q status r within file;
   too_long = λ counted told long. absurd (within_or_long old names counted (within told) long);
   stays = λ told. stays_same (λ name. output ≡ Some name) status p q old new (work_keeps status r) (same told);
 }
 
-trace_cause : (rules input script text : List ℕ) (tells : Bool) (old : Held) (f g p q : Failures) (status : Status)
-    → TraceRefused text status → (IsTrue tells → AllWithin old (trace_files rules input script)) → (IsTrue tells → old script ≡ Some text)
+holds_refused : (held : Held) (name bytes : List ℕ) (status : Status) → held name ≡ Some bytes → FileRefused bytes status
+    → HoldsRefused held (record { name = name; counted = FileBytes }) status
+holds_refused held name bytes status there refused = record { counted = refl; bytes = bytes; there = there; refused = refused }
+
+-- a command that fetches nothing
+pub made_refuses : (tells : Bool) (held : Held) (f p : Failures) (status : Status)
+    → WorkRefused status → Refuses [] None tells held held f f p p status
+made_refuses tells held f p status r = work_refuses [] None tells held held f f p p status r (λ _. tt) (λ _. tt) (λ _ name. refl)
+
+pub check_refuses : (input bytes : List ℕ) (tells : Bool) (old new : Held) (f g p q : Failures) (status : Status)
+    → WorkRefused status → FileRefused bytes status → (IsTrue tells → AllWithin old (file_alone input))
+    → (IsTrue tells → old input ≡ Some bytes) → (IsTrue tells → AllSame old new)
+    → Refuses (file_alone input) None tells old new f g p q status
+check_refuses input bytes tells old new f g p q status r refused within there same =
+    work_refuses (file_alone input) None tells old new f g p q status r within
+    (λ told. inl (holds_refused old input bytes status (there told) refused)) same
+
+pub pair_refuses : (rules input bytes : List ℕ) (output : Option (List ℕ)) (tells : Bool) (old new : Held) (f g p q : Failures) (status : Status)
+    → WorkRefused status → FileRefused bytes status → (IsTrue tells → AllWithin old (rules_and_file rules input))
+    → (IsTrue tells → old input ≡ Some bytes) → (IsTrue tells → AllSame old new)
+    → Refuses (rules_and_file rules input) output tells old new f g p q status
+pair_refuses rules input bytes output tells old new f g p q status r refused within there same =
+    work_refuses (rules_and_file rules input) output tells old new f g p q status r within
+    (λ told. inr (inl (holds_refused old input bytes status (there told) refused))) same
+
+trace_cause : (rules input script text bytes : List ℕ) (tells : Bool) (old : Held) (f g p q : Failures) (status : Status)
+    → TraceRefused text status → FileRefused bytes status → (IsTrue tells → AllWithin old (trace_files rules input script))
+    → (IsTrue tells → old input ≡ Some bytes) → (IsTrue tells → old script ≡ Some text)
     → Cause (trace_files rules input script) None tells old f g p q status
-trace_cause rules input script text tells old f g p q (BadScript line) r within there =
+trace_cause rules input script text bytes tells old f g p q (BadScript line) r refused within file there =
     λ told. inr (inr (inl (record { counted = refl; bytes = text; there = there told; says = r })))
-trace_cause rules input script text tells old f g p q Done r within there = absurd r
-trace_cause rules input script text tells old f g p q Usage r within there = absurd r
-trace_cause rules input script text tells old f g p q (BadRules fault) r within there = r
-trace_cause rules input script text tells old f g p q (BadDex fault) r within there = r
-trace_cause rules input script text tells old f g p q (Limit fault) r within there =
+trace_cause rules input script text bytes tells old f g p q Done r refused within file there = absurd r
+trace_cause rules input script text bytes tells old f g p q Usage r refused within file there = absurd r
+trace_cause rules input script text bytes tells old f g p q (BadRules fault) r refused within file there = r
+trace_cause rules input script text bytes tells old f g p q (BadDex fault) r refused within file there =
+    work_cause (trace_files rules input script) None tells old f g p q (BadDex fault) r within
+    (λ told. inr (inl (holds_refused old input bytes (BadDex fault) (file told) refused)))
+trace_cause rules input script text bytes tells old f g p q (Limit fault) r refused within file there =
     work_cause (trace_files rules input script) None tells old f g p q (Limit fault) r within
-trace_cause rules input script text tells old f g p q ReadFault r within there = absurd r
-trace_cause rules input script text tells old f g p q WriteFault r within there = absurd r
-trace_cause rules input script text tells old f g p q NoMemory r within there = tt
+    (λ told. inr (inl (holds_refused old input bytes (Limit fault) (file told) refused)))
+trace_cause rules input script text bytes tells old f g p q ReadFault r refused within file there = absurd r
+trace_cause rules input script text bytes tells old f g p q WriteFault r refused within file there = absurd r
+trace_cause rules input script text bytes tells old f g p q NoMemory r refused within file there = tt
 
 trace_keeps : (text : List ℕ) (status : Status) → TraceRefused text status → KeepsAll status
 trace_keeps text (BadScript line) r = tt
@@ -110,22 +142,45 @@ work_traces text ReadFault r = r
 work_traces text WriteFault r = r
 work_traces text NoMemory r = r
 
-pub trace_refuses : (rules input script text : List ℕ) (tells : Bool) (old new : Held) (f g p q : Failures) (status : Status)
-    → TraceRefused text status → (IsTrue tells → AllWithin old (trace_files rules input script)) → (IsTrue tells → old script ≡ Some text)
-    → (IsTrue tells → AllSame old new)
+pub trace_refuses : (rules input script text bytes : List ℕ) (tells : Bool) (old new : Held) (f g p q : Failures) (status : Status)
+    → TraceRefused text status → FileRefused bytes status → (IsTrue tells → AllWithin old (trace_files rules input script))
+    → (IsTrue tells → old input ≡ Some bytes) → (IsTrue tells → old script ≡ Some text) → (IsTrue tells → AllSame old new)
     → Refuses (trace_files rules input script) None tells old new f g p q status
-trace_refuses rules input script text tells old new f g p q status r within there same = record {
-  cause = trace_cause rules input script text tells old f g p q status r within there;
+trace_refuses rules input script text bytes tells old new f g p q status r refused within file there same = record {
+  cause = trace_cause rules input script text bytes tells old f g p q status r refused within file there;
   too_long = λ counted told long. absurd (within_or_long old (trace_files rules input script) counted (within told) long);
   stays = λ told. stays_same (λ name. None ≡ Some name) status p q old new (trace_keeps text status r) (same told);
 }
 
+-- ---- files that spell programs
+
+holds_read : (held : Held) (name bytes : List ℕ) (counted : Counted) → held name ≡ Some bytes → IsRead bytes
+    → HoldsRead held (record { name = name; counted = counted })
+holds_read held name bytes counted there read = record {
+  program = read.program;
+  holds = record { bytes = bytes; there = there; reads = read.reads };
+}
+
+rules_no_file : RuleBytes ≡ FileBytes → ⊥
+rules_no_file e = cc
+
+script_no_file : ScriptBytes ≡ FileBytes → ⊥
+script_no_file e = cc
+
+pair_read : (held : Held) (rules input bytes : List ℕ) → held input ≡ Some bytes → IsRead bytes → AllRead held (rules_and_file rules input)
+pair_read held rules input bytes there read = (λ e. absurd (rules_no_file e), (λ _. holds_read held input bytes FileBytes there read, tt))
+
+trace_read : (held : Held) (rules input script bytes : List ℕ) → held input ≡ Some bytes → IsRead bytes → AllRead held (trace_files rules input script)
+trace_read held rules input script bytes there read =
+    (λ e. absurd (rules_no_file e), (λ _. holds_read held input bytes FileBytes there read, (λ e. absurd (script_no_file e), tt)))
+
 -- a command that puts nothing
 pub keeps_gives : (names : List Fetch) (IsAnswer : List ℕ → Type 0) (tells : Bool) (old new : Held) (text : List ℕ)
-    → (IsTrue tells → AllWithin old names) → IsAnswer text → (IsTrue tells → AllSame old new)
+    → (IsTrue tells → AllWithin old names) → (IsTrue tells → AllRead old names) → IsAnswer text → (IsTrue tells → AllSame old new)
     → Gives names None IsAnswer tells old new text
-keeps_gives names IsAnswer tells old new text within answer same = record {
+keeps_gives names IsAnswer tells old new text within read answer same = record {
   within = within;
+  read = read;
   answer = answer;
   others = λ told name _. same told name;
   put = λ told name e. absurd (none_some name e);
@@ -133,6 +188,32 @@ keeps_gives names IsAnswer tells old new text within answer same = record {
   where
     none_some : (name : List ℕ) → None ≡ Some name → ⊥
     none_some name e = cc
+
+-- a command that fetches nothing
+pub made_gives : (IsAnswer : List ℕ → Type 0) (tells : Bool) (held : Held) (text : List ℕ) → IsAnswer text → Gives [] None IsAnswer tells held held text
+made_gives IsAnswer tells held text answer = keeps_gives [] IsAnswer tells held held text (λ _. tt) (λ _. tt) answer (λ _ name. refl)
+
+pub pair_gives : (rules input bytes : List ℕ) (IsAnswer : List ℕ → Type 0) (tells : Bool) (old new : Held) (text : List ℕ)
+    → IsRead bytes → (IsTrue tells → AllWithin old (rules_and_file rules input)) → (IsTrue tells → old input ≡ Some bytes)
+    → IsAnswer text → (IsTrue tells → AllSame old new)
+    → Gives (rules_and_file rules input) None IsAnswer tells old new text
+pair_gives rules input bytes IsAnswer tells old new text read within there answer same =
+    keeps_gives (rules_and_file rules input) IsAnswer tells old new text within (λ told. pair_read old rules input bytes (there told) read) answer same
+
+pub three_give : (rules input script bytes : List ℕ) (IsAnswer : List ℕ → Type 0) (tells : Bool) (old new : Held) (text : List ℕ)
+    → IsRead bytes → (IsTrue tells → AllWithin old (trace_files rules input script)) → (IsTrue tells → old input ≡ Some bytes)
+    → IsAnswer text → (IsTrue tells → AllSame old new)
+    → Gives (trace_files rules input script) None IsAnswer tells old new text
+three_give rules input script bytes IsAnswer tells old new text read within there answer same =
+    keeps_gives (trace_files rules input script) IsAnswer tells old new text within (λ told. trace_read old rules input script bytes (there told) read) answer same
+
+pub check_gives : (input bytes : List ℕ) (tells : Bool) (old new : Held) (text : List ℕ)
+    → Checks bytes text → (IsTrue tells → AllWithin old (file_alone input)) → (IsTrue tells → old input ≡ Some bytes) → (IsTrue tells → AllSame old new)
+    → Gives (file_alone input) None (IsChecked tells old input) tells old new text
+check_gives input bytes tells old new text checks within there same =
+    keeps_gives (file_alone input) (IsChecked tells old input) tells old new text within
+    (λ told. (λ _. holds_read old input bytes FileBytes (there told) (record { program = checks.program; reads = checks.reads }), tt))
+    (record { program = checks.program; holds = λ told. record { bytes = bytes; there = there told; reads = checks.reads }; says = checks.says }) same
 
 -- ---- the put
 
@@ -186,12 +267,14 @@ put_refuses names name tells tells' old mid new f g p m q bytes summary status w
   stays = λ told. put_stays name tells' old mid new p m q bytes summary status finished fell (e ∙ told) (same told) (others (e ∙ told)) r;
 }
 
-pub put_gives : (names : List Fetch) (name : List ℕ) (tells tells' : Bool) (old mid new : Held) (bytes summary : List ℕ)
-    → (IsTrue tells → AllWithin old names) → Finished bytes summary → tells' ≡ tells → (IsTrue tells → AllSame old mid)
+pub put_gives : (rules input file name : List ℕ) (tells tells' : Bool) (old mid new : Held) (bytes summary : List ℕ)
+    → IsRead file → (IsTrue tells → AllWithin old (rules_and_file rules input)) → (IsTrue tells → old input ≡ Some file)
+    → Finished bytes summary → tells' ≡ tells → (IsTrue tells → AllSame old mid)
     → (IsTrue tells' → new name ≡ Some bytes) → (IsTrue tells' → OthersSame name mid new)
-    → Gives names (Some name) IsSummary tells old new summary
-put_gives names name tells tells' old mid new bytes summary within finished e same put others = record {
+    → Gives (rules_and_file rules input) (Some name) IsSummary tells old new summary
+put_gives rules input file name tells tells' old mid new bytes summary read within there finished e same put others = record {
   within = within;
+  read = λ told. pair_read old rules input file (there told) read;
   answer = record { output = bytes; finished = finished };
   others = λ told. others_since name old mid new (same told) (others (e ∙ told));
   put = λ told other is. subst (λ (n : List ℕ). HoldsSummed summary (new n)) (same_name name other is)
@@ -221,7 +304,7 @@ live_fetches rules input library built =
 
 pub optimise_gives : (words : OptimiseWords) (tells : Bool) (old new : Held) (text : List ℕ) → IsTrue (is_built (Optimise words))
     → Gives (rules_and_file words.rules words.input) (Some words.output) IsSummary tells old new text
-    → Gives (fetches (Optimise words)) (output_of (Optimise words)) (IsResult (Optimise words)) tells old new text
+    → Gives (fetches (Optimise words)) (output_of (Optimise words)) (IsResult tells old (Optimise words)) tells old new text
 optimise_gives words tells old new text built gives =
     subst (λ (names : List Fetch). Gives names (Some words.output) IsSummary tells old new text) (optimise_fetches words built) gives
 
@@ -233,7 +316,7 @@ optimise_refuses words tells old new f g p q status built refuses =
 
 pub live_gives : (rules input : List ℕ) (library : Option (List ℕ)) (tells : Bool) (old new : Held) (text : List ℕ) → IsTrue (is_built (Live rules input library))
     → Gives (rules_and_file rules input) None (λ _. Unit {0}) tells old new text
-    → Gives (fetches (Live rules input library)) (output_of (Live rules input library)) (IsResult (Live rules input library)) tells old new text
+    → Gives (fetches (Live rules input library)) (output_of (Live rules input library)) (IsResult tells old (Live rules input library)) tells old new text
 live_gives rules input library tells old new text built gives =
     subst (λ (names : List Fetch). Gives names None (λ _. Unit {0}) tells old new text) (live_fetches rules input library built) gives
 
@@ -250,7 +333,7 @@ trace_fetches rules input script steps (Some name) built = cc
 
 pub trace_gives : (rules input script : List ℕ) (steps : ℕ) (library : Option (List ℕ)) (tells : Bool) (old new : Held) (text : List ℕ) → IsTrue (is_built (Trace rules input script steps library))
     → Gives (trace_files rules input script) None (IsTraced steps) tells old new text
-    → Gives (fetches (Trace rules input script steps library)) (output_of (Trace rules input script steps library)) (IsResult (Trace rules input script steps library)) tells old new text
+    → Gives (fetches (Trace rules input script steps library)) (output_of (Trace rules input script steps library)) (IsResult tells old (Trace rules input script steps library)) tells old new text
 trace_gives rules input script steps library tells old new text built gives =
     subst (λ (names : List Fetch). Gives names None (IsTraced steps) tells old new text) (trace_fetches rules input script steps library built) gives
 
@@ -264,7 +347,7 @@ trace_is_refused rules input script steps library tells old new f g p q status b
 pub found_optimise_gives : (command : CommandWords) (words : OptimiseWords) (tells : Bool) (old new : Held) (text : List ℕ)
     → command ≡ Optimise words → IsTrue (is_built command)
     → Gives (rules_and_file words.rules words.input) (Some words.output) IsSummary tells old new text
-    → Gives (fetches command) (output_of command) (IsResult command) tells old new text
+    → Gives (fetches command) (output_of command) (IsResult tells old command) tells old new text
 found_optimise_gives command words tells old new text e built gives =
-    subst (λ (c : CommandWords). Gives (fetches c) (output_of c) (IsResult c) tells old new text) (sym e)
+    subst (λ (c : CommandWords). Gives (fetches c) (output_of c) (IsResult tells old c) tells old new text) (sym e)
     (optimise_gives words tells old new text (subst (λ (c : CommandWords). IsTrue (is_built c)) e built) gives)

@@ -43,6 +43,7 @@ result_ends words tells old new f g p q notes_tell so sn n m text Done r s = rec
     output = λ name puts. put_holds words tells old new text name r told puts;
   };
   said = λ told. record { text = text; result = r.answer; said = s told };
+  read = λ _ told. r.read told;
   done = λ _ told notes_told. record { text = text; answer = r.answer; said = s notes_told; put = r.put told };
 }
 result_ends words tells old new f g p q notes_tell so sn n m text NoMemory r s = record {
@@ -55,6 +56,7 @@ result_ends words tells old new f g p q notes_tell so sn n m text NoMemory r s =
     output = λ name puts. inr (put_holds words tells old new text name r told puts);
   };
   said = λ told. none_said _ so sn (s told);
+  read = λ e. absurd (no_memory_done e);
   done = λ e. absurd (no_memory_done e);
 }
   where
@@ -70,6 +72,7 @@ result_ends words tells old new f g p q notes_tell so sn n m text WriteFault r s
     output = λ name puts. inl (put_holds words tells old new text name r told puts);
   };
   said = λ told. inr (record { text = text; result = r.answer; said = s.1 told });
+  read = λ e. absurd (write_fault_done e);
   done = λ e. absurd (write_fault_done e);
 }
   where
@@ -98,7 +101,8 @@ said_ends words tells old new f g p q notes_tell so sn n m status r s = record {
   unspelled = r.unspelled;
   too_long = r.too_long;
   stays = r.stays;
-  said = λ told. said_for (Results words) status n m so sn (s told);
+  said = λ told. said_for (Results words tells old) status n m so sn (s told);
+  read = λ e. absurd (not_done words tells old f g p q status r.cause e);
   done = λ e. absurd (not_done words tells old f g p q status r.cause e);
 }
 

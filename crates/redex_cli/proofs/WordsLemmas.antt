@@ -9,6 +9,7 @@ use Rattle.command_line.specs.declared.command.CommandWords.{CommandWords}
 use Rattle.command_line.specs.declared.command.CommandWords.TheVariants.{Nothing, Optimise, Check, Live, Trace, Workload}
 use Rattle.redex_cli.specs.Commands.{Commands, CommandsNothing, CountsWithin, Puts, fetches, is_built, output_of}
 use Rattle.redex_cli.specs.Fetching.{Failures, FirstTooLong}
+use Rattle.redex_cli.specs.Files.{AllRead}
 use Rattle.redex_cli.specs.Finished.{IsResult}
 use Rattle.redex_cli.specs.Refusals.{Cause, CauseFor, EndsTooLong, EndsUnspelled, Gives, GivesFor, Refuses, RefusesFor, TooLong, WordsRefused}
 use Rattle.redex_cli.specs.Stays.{Stays}
@@ -48,7 +49,7 @@ words_cause : (words : List (List ℕ)) (command : CommandWords) (tells : Bool) 
 words_cause words command tells old f g p q Done commands c = c
 words_cause words command tells old f g p q Usage commands c = absurd c
 words_cause words command tells old f g p q (BadRules fault) commands c = c
-words_cause words command tells old f g p q (BadDex fault) commands c = c
+words_cause words command tells old f g p q (BadDex fault) commands c = record { command = command; commands = commands; cause = c }
 words_cause words command tells old f g p q (Limit fault) commands c = record { command = command; commands = commands; cause = c }
 words_cause words command tells old f g p q ReadFault commands c = record { command = command; commands = commands; rose = c }
 words_cause words command tells old f g p q WriteFault commands c = record { command = command; commands = commands; rose = c }
@@ -82,10 +83,11 @@ words_refuse words command tells old new f g p q status commands only r = record
 
 pub words_give : (words : List (List ℕ)) (command : CommandWords) (tells : Bool) (old new : Held) (text : List ℕ)
     → Commands words command → ((c : CommandWords) → Commands words c → c ≡ command)
-    → Gives (fetches command) (output_of command) (IsResult command) tells old new text
+    → Gives (fetches command) (output_of command) (IsResult tells old command) tells old new text
     → GivesFor words tells old new text
 words_give words command tells old new text commands only g = record {
   answer = record { command = command; commands = commands; result = g.answer };
+  read = λ told c spelled. subst (λ (d : CommandWords). AllRead old (fetches d)) (sym (only c spelled)) (g.read told);
   within = λ counted told long. within_or_long old (fetches command) counted (g.within told) (long_of words command old counted only long);
   others = λ told name differs. g.others told name (λ e. differs (record { command = command; commands = commands; output = e }));
   put = λ told name puts. g.put told name (output_by_words words command name only puts);

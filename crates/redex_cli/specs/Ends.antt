@@ -6,7 +6,7 @@ use Rattle.redex_outside.specs.Held.{Held}
 use Rattle.redex_cli.specs.Commands.{CommandsNothing, Puts}
 use Rattle.redex_cli.specs.Fetching.{Failures}
 use Rattle.redex_cli.specs.Finished.{Results}
-use Rattle.redex_cli.specs.Refusals.{CouldNotFetch, CouldNotPut, EndsTooLong, EndsUnspelled, HasBadLine, HoldsSummed, IsInputFault, IsRuleFault, PassesLimit, TooLong}
+use Rattle.redex_cli.specs.Refusals.{CouldNotFetch, CouldNotPut, EndsTooLong, EndsUnspelled, HasBadLine, HasFileFault, HoldsSummed, IsRuleFault, PassesLimit, ReadsAll, TooLong}
 use Rattle.redex_cli.specs.Said.{Said}
 use Rattle.redex_cli.specs.Stays.{Stays}
 use Rattle.redex_cli.specs.declared.status.Status.{Status}
@@ -17,7 +17,7 @@ abbrev pub Caused : List (List ℕ) → Bool → Held → Failures → Failures 
 Caused words tells held fetches_old fetches_new puts_old puts_new notes_old notes_new Done = Unit {0}
 Caused words tells held fetches_old fetches_new puts_old puts_new notes_old notes_new Usage = CommandsNothing words
 Caused words tells held fetches_old fetches_new puts_old puts_new notes_old notes_new (BadRules fault) = IsRuleFault fault
-Caused words tells held fetches_old fetches_new puts_old puts_new notes_old notes_new (BadDex fault) = IsInputFault fault
+Caused words tells held fetches_old fetches_new puts_old puts_new notes_old notes_new (BadDex fault) = HasFileFault words tells held fault
 Caused words tells held fetches_old fetches_new puts_old puts_new notes_old notes_new (Limit fault) = PassesLimit words tells held fault
 Caused words tells held fetches_old fetches_new puts_old puts_new notes_old notes_new ReadFault = CouldNotFetch words fetches_old fetches_new
 Caused words tells held fetches_old fetches_new puts_old puts_new notes_old notes_new WriteFault = CouldNotPut words puts_old puts_new ⊎ Rose notes_old notes_new
@@ -26,11 +26,11 @@ Caused words tells held fetches_old fetches_new puts_old puts_new notes_old note
 
 -- The whole result of the words' command was said, and the name that it has put, if it has one, holds the finished
 -- output that this result sums up.
-pub record Delivers (words : List (List ℕ)) (held : Held) (said_old said_new : List ℕ) : Type 0 where
+pub record Delivers (words : List (List ℕ)) (tells : Bool) (old new : Held) (said_old said_new : List ℕ) : Type 0 where
   pub text : List ℕ
-  pub answer : Results words text
+  pub answer : Results words tells old text
   pub said : said_new ≡ said_old ++ text
-  pub put : (name : List ℕ) → Puts words name → HoldsSummed text (held name)
+  pub put : (name : List ℕ) → Puts words name → HoldsSummed text (new name)
 
 -- All of it together.
 pub record Ends (words : List (List ℕ)) (tells : Bool) (old new : Held) (fetches_old fetches_new puts_old puts_new : Failures)
@@ -39,5 +39,6 @@ pub record Ends (words : List (List ℕ)) (tells : Bool) (old new : Held) (fetch
   pub unspelled : CommandsNothing words → EndsUnspelled status
   pub too_long : (counted : Counted) → IsTrue tells → TooLong words old counted → EndsTooLong counted status
   pub stays : IsTrue tells → Stays (Puts words) status puts_old puts_new old new
-  pub said : IsTrue notes_tell → Said (Results words) status notes_old notes_new said_old said_new
-  pub done : status ≡ Done → IsTrue tells → IsTrue notes_tell → Delivers words new said_old said_new
+  pub said : IsTrue notes_tell → Said (Results words tells old) status notes_old notes_new said_old said_new
+  pub read : status ≡ Done → IsTrue tells → ReadsAll words old
+  pub done : status ≡ Done → IsTrue tells → IsTrue notes_tell → Delivers words tells old new said_old said_new

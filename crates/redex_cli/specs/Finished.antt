@@ -1,10 +1,13 @@
 -- What a command gives: a file to be put, and a text to be said.
-use Rattle.std.specs.Prelude.{◌≡◌, ◌≤◌, ℕ, List, ◌++◌, length, sum_by, codes}
+use Rattle.std.specs.Prelude.{◌≡◌, ◌≤◌, ℕ, Bool, IsTrue, Ok, List, ◌++◌, length, sum_by, codes}
 use Rattle.std.specs.Fmt.{decimal}
 use Rattle.command_line.specs.declared.command.CommandWords.{CommandWords}
 use Rattle.command_line.specs.declared.command.CommandWords.TheVariants.{Nothing, Optimise, Check, Live, Trace, Workload}
 use Rattle.redex_cli.specs.FaultLines.{usage_text}
+use Rattle.dex_read.specs.File.{program_at}
+use Rattle.redex_outside.specs.Held.{Held}
 use Rattle.redex_cli.specs.Commands.{Commands}
+use Rattle.redex_cli.specs.Files.{HoldsProgram}
 use Rattle.program_model.specs.declared.program.Program.{Program}
 use Rattle.program_model.specs.Cells.{capped}
 use Rattle.pipeline.specs.Counts.{insns_of}
@@ -54,10 +57,21 @@ checked_text classes methods instructions =
 abbrev pub methods_of : Program → ℕ
 methods_of program = sum_by (λ class. length class.methods) program.classes
 
--- The text says how many classes, methods and instructions some program has. What is known of it today: its numbers.
-pub record IsChecked (text : List ℕ) : Type 0 where
+-- how many classes, methods and instructions a program has
+abbrev pub program_text : Program → List ℕ
+program_text program = checked_text (length program.classes) (capped (methods_of program)) (capped (insns_of program))
+
+-- The text says how many classes, methods and instructions the program has that these bytes spell.
+pub record Checks (bytes text : List ℕ) : Type 0 where
   pub program : Program
-  pub says : text ≡ checked_text (length program.classes) (capped (methods_of program)) (capped (insns_of program))
+  pub reads : program_at bytes ≡ Ok program
+  pub says : text ≡ program_text program
+
+-- The text says so of the program that the name holds, where the shelf tells what it holds.
+pub record IsChecked (tells : Bool) (held : Held) (name text : List ℕ) : Type 0 where
+  pub program : Program
+  pub holds : IsTrue tells → HoldsProgram held name program
+  pub says : text ≡ program_text program
 
 -- The text is the lines of events, one for a step at most. What is known of them today: their number and their lines.
 pub record IsTraced (steps : ℕ) (text : List ℕ) : Type 0 where
@@ -65,17 +79,17 @@ pub record IsTraced (steps : ℕ) (text : List ℕ) : Type 0 where
   pub few : length events ≤ steps
   pub says : text ≡ event_lines events
 
--- The text is the command's result. Of the list of `live` nothing is said yet.
-abbrev pub IsResult : CommandWords → List ℕ → Type 0
-IsResult Nothing text = text ≡ usage_text
-IsResult (Optimise words) text = IsSummary text
-IsResult (Check input) text = IsChecked text
-IsResult (Live rules input library) text = Unit {0}
-IsResult (Trace rules input script steps library) text = IsTraced steps text
-IsResult (Workload count) text = IsSummary text
+-- The text is the command's result on what the names hold. Of the list of `live` nothing is said yet.
+abbrev pub IsResult : Bool → Held → CommandWords → List ℕ → Type 0
+IsResult tells held Nothing text = text ≡ usage_text
+IsResult tells held (Optimise words) text = IsSummary text
+IsResult tells held (Check input) text = IsChecked tells held input text
+IsResult tells held (Live rules input library) text = Unit {0}
+IsResult tells held (Trace rules input script steps library) text = IsTraced steps text
+IsResult tells held (Workload count) text = IsSummary text
 
 -- The text is the result of the command that the words spell.
-pub record Results (words : List (List ℕ)) (text : List ℕ) : Type 0 where
+pub record Results (words : List (List ℕ)) (tells : Bool) (held : Held) (text : List ℕ) : Type 0 where
   pub command : CommandWords
   pub commands : Commands words command
-  pub result : IsResult command text
+  pub result : IsResult tells held command text

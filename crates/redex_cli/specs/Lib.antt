@@ -2,6 +2,7 @@ pub mod Status
 pub mod Commands
 pub mod FaultLines
 pub mod Fetching
+pub mod Files
 pub mod Finished
 pub mod Stays
 pub mod Said

@@ -19,6 +19,7 @@ use Rattle.redex_outside.specs.Held.{Held}
 use Rattle.command_line.specs.declared.command.CommandWords.{CommandWords}
 use Rattle.redex_cli.specs.Commands.{Commands, CommandsNothing, Fetch, Puts, fetches, output_of}
 use Rattle.redex_cli.specs.Fetching.{Failures, AllWithin, FirstTooLong, OneBadLine, OneRose, PassesByOne}
+use Rattle.redex_cli.specs.Files.{AllRead, FileCause}
 use Rattle.redex_cli.specs.Finished.{Finished, Results}
 use Rattle.redex_cli.specs.Stays.{Stays}
 use Rattle.redex_cli.specs.declared.status.InputFault.{InputFault}
@@ -73,6 +74,12 @@ TraceRefused text status = WorkRefused status
 pub record PassesInside (tells : Bool) (held : Held) (names : List Fetch) (fault : LimitFault) : Type 0 where
   pub inside : PassesInFile fault
   pub within : IsTrue tells → AllWithin held names
+  pub file : IsTrue tells → FileCause held names (Limit fault)
+
+-- A fault of the file, which is one of those that the bytes have.
+pub record FileFault (tells : Bool) (held : Held) (names : List Fetch) (fault : InputFault) : Type 0 where
+  pub carried : IsInputFault fault
+  pub file : IsTrue tells → FileCause held names (BadDex fault)
 
 -- A fetch passed its limit, or something inside the file does. So the bytes of the rules, of a file or of a script are
 -- named exactly where their fetch took one more than its limit.
@@ -97,7 +104,7 @@ pub record OutputRose (output : Option (List ℕ)) (old new : Failures) : Type 0
 -- Why a command that has these names fetched and this one put is refused with this status.
 abbrev pub Cause : List Fetch → Option (List ℕ) → Bool → Held → Failures → Failures → Failures → Failures → Status → Type 0
 Cause names output tells held fetches_old fetches_new puts_old puts_new (BadRules fault) = IsRuleFault fault
-Cause names output tells held fetches_old fetches_new puts_old puts_new (BadDex fault) = IsInputFault fault
+Cause names output tells held fetches_old fetches_new puts_old puts_new (BadDex fault) = FileFault tells held names fault
 Cause names output tells held fetches_old fetches_new puts_old puts_new (Limit fault) = LimitCause tells held names fault
 Cause names output tells held fetches_old fetches_new puts_old puts_new ReadFault = OneRose fetches_old fetches_new names
 Cause names output tells held fetches_old fetches_new puts_old puts_new WriteFault = OutputRose output puts_old puts_new
@@ -122,6 +129,7 @@ pub record HoldsSummed (summary : List ℕ) (held : Option (List ℕ)) : Type 0 
 pub record Gives (names : List Fetch) (output : Option (List ℕ)) (IsAnswer : List ℕ → Type 0) (tells : Bool) (old new : Held)
     (text : List ℕ) : Type 0 where
   pub within : IsTrue tells → AllWithin old names
+  pub read : IsTrue tells → AllRead old names
   pub answer : IsAnswer text
   pub others : IsTrue tells → (name : List ℕ) → (output ≡ Some name → ⊥) → new name ≡ old name
   pub put : IsTrue tells → (name : List ℕ) → output ≡ Some name → HoldsSummed text (new name)
@@ -145,6 +153,16 @@ pub record PassesLimit (words : List (List ℕ)) (tells : Bool) (held : Held) (f
   pub command : CommandWords
   pub commands : Commands words command
   pub cause : LimitCause tells held (fetches command) fault
+
+-- A fault stands in the file that the words' command reads.
+pub record HasFileFault (words : List (List ℕ)) (tells : Bool) (held : Held) (fault : InputFault) : Type 0 where
+  pub command : CommandWords
+  pub commands : Commands words command
+  pub cause : FileFault tells held (fetches command) fault
+
+-- The files that the words have fetched spell programs.
+abbrev pub ReadsAll : List (List ℕ) → Held → Type 0
+ReadsAll words held = (command : CommandWords) → Commands words command → AllRead held (fetches command)
 
 -- The script that the words have fetched has this first line outside the grammar.
 pub record HasBadLine (words : List (List ℕ)) (tells : Bool) (held : Held) (line : ℕ) : Type 0 where
@@ -175,7 +193,7 @@ abbrev pub CauseFor : List (List ℕ) → Bool → Held → Failures → Failure
 CauseFor words tells held fetches_old fetches_new puts_old puts_new Done = ⊥
 CauseFor words tells held fetches_old fetches_new puts_old puts_new Usage = CommandsNothing words
 CauseFor words tells held fetches_old fetches_new puts_old puts_new (BadRules fault) = IsRuleFault fault
-CauseFor words tells held fetches_old fetches_new puts_old puts_new (BadDex fault) = IsInputFault fault
+CauseFor words tells held fetches_old fetches_new puts_old puts_new (BadDex fault) = HasFileFault words tells held fault
 CauseFor words tells held fetches_old fetches_new puts_old puts_new (Limit fault) = PassesLimit words tells held fault
 CauseFor words tells held fetches_old fetches_new puts_old puts_new ReadFault = CouldNotFetch words fetches_old fetches_new
 CauseFor words tells held fetches_old fetches_new puts_old puts_new WriteFault = CouldNotPut words puts_old puts_new
@@ -192,7 +210,8 @@ pub record RefusesFor (words : List (List ℕ)) (tells : Bool) (old new : Held)
 
 -- These words give this text to be said.
 pub record GivesFor (words : List (List ℕ)) (tells : Bool) (old new : Held) (text : List ℕ) : Type 0 where
-  pub answer : Results words text
+  pub answer : Results words tells old text
+  pub read : IsTrue tells → ReadsAll words old
   pub within : (counted : Counted) → IsTrue tells → TooLong words old counted → ⊥
   pub others : IsTrue tells → (name : List ℕ) → (Puts words name → ⊥) → new name ≡ old name
   pub put : IsTrue tells → (name : List ℕ) → Puts words name → HoldsSummed text (new name)

@@ -3,7 +3,7 @@
 ghost use Rattle.std.specs.Prelude.{◌≡◌, IfOk, sum_by, length, string_bytes};
 ghost use Rattle.pipeline.specs.Counts.{insns_of};
 ghost use Rattle.program_model.specs.Cells.{capped};
-ghost use Rattle.redex_cli.specs.Finished.{checked_text, methods_of, IsChecked};
+ghost use Rattle.redex_cli.specs.Finished.{checked_text, methods_of, program_text};
 
 use pipeline::count_instructions;
 use program_model::Program;
@@ -32,9 +32,8 @@ fn counts_line(
 }
 
 /// How many classes, methods and instructions a program has.
-#[tactic(auto, using(crate::proofs::FinishedLemmas::checked))]
 pub fn check_line(alloc: Global, program: &Program) -> Result<String, AllocError>
-    ensures { IfOk result (λ text. IsChecked (string_bytes text)) }
+    ensures { IfOk result (λ text. string_bytes text ≡ program_text program.now) }
 {
     counts_line(
         alloc,

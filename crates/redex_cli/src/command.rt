@@ -56,6 +56,7 @@ fn fetch_inputs<H: Shelf>(
     input: &str,
 ) -> Result<Inputs, Status>
     ensures limit { IfOk result (λ inputs. vec_len inputs.rules ≤ 1048576) }
+    ensures file { IfOk result (λ inputs. IsTrue (H.tells shelf.old) → H.held shelf.old input.now ≡ Some inputs.file.items) }
     ensures within { OnOk result (IsTrue (H.tells shelf.old) → AllWithin (H.held shelf.old) (rules_and_file rules.now input.now)) }
     ensures refused { IfErr result (λ status. FetchRefused (H.tells shelf.old) (H.held shelf.old) (H.fetch_faults shelf.old) (H.fetch_faults shelf.new) (rules_and_file rules.now input.now) status) }
     ensures stays { OnlyFetched (H.tells shelf.old) (H.tells shelf.new) (H.held shelf.old) (H.held shelf.new) (H.fetch_faults shelf.old) (H.fetch_faults shelf.new) (H.put_faults shelf.old) (H.put_faults shelf.new) }
@@ -88,6 +89,7 @@ fn fetch_trace<H: Shelf>(
 ) -> Result<TraceInputs, Status>
     ensures rules_limit { IfOk result (λ inputs. vec_len inputs.rules ≤ 1048576) }
     ensures script_limit { IfOk result (λ inputs. vec_len inputs.script ≤ 1048576) }
+    ensures file { IfOk result (λ inputs. IsTrue (H.tells shelf.old) → H.held shelf.old input.now ≡ Some inputs.file.items) }
     ensures there { IfOk result (λ inputs. IsTrue (H.tells shelf.old) → H.held shelf.old script.now ≡ Some inputs.script.items) }
     ensures within { OnOk result (IsTrue (H.tells shelf.old) → AllWithin (H.held shelf.old) (trace_files rules.now input.now script.now)) }
     ensures refused { IfErr result (λ status. FetchRefused (H.tells shelf.old) (H.held shelf.old) (H.fetch_faults shelf.old) (H.fetch_faults shelf.new) (trace_files rules.now input.now script.now) status) }
@@ -112,7 +114,7 @@ fn fetch_trace<H: Shelf>(
 }
 
 /// `trace`: fetches the rules, the file and the script. Its result is the events.
-#[tactic(auto, using(crate::proofs::CommandLemmas::fetch_refuses, crate::proofs::CommandLemmas::trace_refuses, crate::proofs::CommandLemmas::keeps_gives))]
+#[tactic(auto, using(crate::proofs::CommandLemmas::fetch_refuses, crate::proofs::CommandLemmas::trace_refuses, crate::proofs::CommandLemmas::three_give))]
 fn run_trace<H: Shelf>(
     alloc: Global,
     rules: &str,
@@ -170,7 +172,7 @@ pub fn is_built(command: &CommandWords) -> bool
 }
 
 /// `optimise`: fetches the rules and the file, and puts the output. Its result is the summary.
-#[tactic(auto, using(crate::proofs::CommandLemmas::fetch_refuses, crate::proofs::CommandLemmas::work_refuses, crate::proofs::CommandLemmas::put_refuses, crate::proofs::CommandLemmas::put_gives))]
+#[tactic(auto, using(crate::proofs::CommandLemmas::fetch_refuses, crate::proofs::CommandLemmas::pair_refuses, crate::proofs::CommandLemmas::put_refuses, crate::proofs::CommandLemmas::put_gives))]
 fn run_optimise<H: Shelf>(
     alloc: Global,
     words: &OptimiseWords,
@@ -206,7 +208,7 @@ fn run_optimise<H: Shelf>(
 }
 
 /// `live`: fetches the rules and the file. Its result is the list of live classes and members.
-#[tactic(auto, using(crate::proofs::CommandLemmas::fetch_refuses, crate::proofs::CommandLemmas::work_refuses, crate::proofs::CommandLemmas::keeps_gives))]
+#[tactic(auto, using(crate::proofs::CommandLemmas::fetch_refuses, crate::proofs::CommandLemmas::pair_refuses, crate::proofs::CommandLemmas::pair_gives))]
 fn run_live<H: Shelf>(
     alloc: Global,
     rules: &str,
@@ -227,9 +229,9 @@ fn run_live<H: Shelf>(
 }
 
 /// `check`: fetches the file. Its result is how much is in it.
-#[tactic(auto, using(crate::proofs::CommandLemmas::fetch_refuses, crate::proofs::CommandLemmas::work_refuses, crate::proofs::CommandLemmas::keeps_gives))]
+#[tactic(auto, using(crate::proofs::CommandLemmas::fetch_refuses, crate::proofs::CommandLemmas::check_refuses, crate::proofs::CommandLemmas::check_gives))]
 fn run_check<H: Shelf>(alloc: Global, input: &str, shelf: &mut H) -> Result<Vec<u8>, Status>
-    ensures given { IfOk result (λ text. Gives (file_alone input.now) None IsChecked (H.tells shelf.old) (H.held shelf.old) (H.held shelf.new) text.items) }
+    ensures given { IfOk result (λ text. Gives (file_alone input.now) None (IsChecked (H.tells shelf.old) (H.held shelf.old) input.now) (H.tells shelf.old) (H.held shelf.old) (H.held shelf.new) text.items) }
     ensures refused { IfErr result (λ status. Refuses (file_alone input.now) None (H.tells shelf.old) (H.held shelf.old) (H.held shelf.new) (H.fetch_faults shelf.old) (H.fetch_faults shelf.new) (H.put_faults shelf.old) (H.put_faults shelf.new) status) }
 {
     let file = match fetch(alloc, shelf, input, Counted::FileBytes) {
@@ -270,7 +272,7 @@ fn run_workload(
 }
 
 /// Does what a command asks for, and answers its result, which is still to be said.
-#[tactic(auto, using(crate::proofs::CommandLemmas::work_refuses, crate::proofs::CommandLemmas::keeps_gives, crate::proofs::CommandLemmas::optimise_gives, crate::proofs::CommandLemmas::optimise_refuses, crate::proofs::CommandLemmas::live_gives, crate::proofs::CommandLemmas::live_refuses, crate::proofs::CommandLemmas::trace_gives, crate::proofs::CommandLemmas::trace_is_refused))]
+#[tactic(auto, using(crate::proofs::CommandLemmas::made_refuses, crate::proofs::CommandLemmas::made_gives, crate::proofs::CommandLemmas::optimise_gives, crate::proofs::CommandLemmas::optimise_refuses, crate::proofs::CommandLemmas::live_gives, crate::proofs::CommandLemmas::live_refuses, crate::proofs::CommandLemmas::trace_gives, crate::proofs::CommandLemmas::trace_is_refused))]
 pub fn perform<H: Shelf>(
     alloc: Global,
     command: &CommandWords,
@@ -279,7 +281,7 @@ pub fn perform<H: Shelf>(
 ) -> Result<Vec<u8>, Status>
     requires built { IsTrue (is_built command.now) }
     requires counts { CountsWithin command.now }
-    ensures given { IfOk result (λ text. Gives (fetches command.now) (output_of command.now) (IsResult command.now) (H.tells shelf.old) (H.held shelf.old) (H.held shelf.new) text.items) }
+    ensures given { IfOk result (λ text. Gives (fetches command.now) (output_of command.now) (IsResult (H.tells shelf.old) (H.held shelf.old) command.now) (H.tells shelf.old) (H.held shelf.old) (H.held shelf.new) text.items) }
     ensures refused { IfErr result (λ status. Refuses (fetches command.now) (output_of command.now) (H.tells shelf.old) (H.held shelf.old) (H.held shelf.new) (H.fetch_faults shelf.old) (H.fetch_faults shelf.new) (H.put_faults shelf.old) (H.put_faults shelf.new) status) }
 {
     match command {

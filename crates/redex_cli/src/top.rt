@@ -7,7 +7,7 @@ ghost use Rattle.command_line.specs.declared.command.CommandWords.{CommandWords}
 ghost use Rattle.redex_cli.specs.Commands.{Commands, CommandsNothing, CountsWithin, Puts, is_built};
 ghost use Rattle.redex_cli.specs.Ends.{Caused, Delivers, Ends};
 ghost use Rattle.redex_cli.specs.Finished.{Results};
-ghost use Rattle.redex_cli.specs.Refusals.{EndsTooLong, EndsUnspelled, GivesFor, RefusesFor, TooLong, WordsRefused};
+ghost use Rattle.redex_cli.specs.Refusals.{EndsTooLong, EndsUnspelled, GivesFor, ReadsAll, RefusesFor, TooLong, WordsRefused};
 ghost use Rattle.redex_cli.specs.Said.{Said, SaysResult, SaysStatus, unsaid};
 ghost use Rattle.redex_cli.specs.Stays.{Stays};
 
@@ -136,17 +136,21 @@ pub fn run<H: Shelf, N: Notes>(
     advisers: Vec<Box<dyn Adviser>>,
 ) -> Status
     // Each status has its cause: `Usage` in the words, `ReadFault` and `WriteFault` in a count that rose, `Limit` of
-    // bytes in what the first name holds that holds too much, every other `Limit` inside the file.
+    // bytes in what the first name holds that holds too much, every other `Limit` and each `BadDex` of the reading in
+    // what the file's bytes give, `BadDex` of the classes in the program that they spell.
     ensures cause { Caused (map string_bytes words.now) (H.tells shelf.old) (H.held shelf.old) (H.fetch_faults shelf.old) (H.fetch_faults shelf.new) (H.put_faults shelf.old) (H.put_faults shelf.new) (N.faults notes.old) (N.faults notes.new) result }
 
     // Words that spell no command that is built are `Usage`, and a name that holds too much is its limit.
     ensures unspelled { CommandsNothing (map string_bytes words.now) → EndsUnspelled result }
     ensures too_long { (counted : Counted) → IsTrue (H.tells shelf.old) → TooLong (map string_bytes words.now) (H.held shelf.old) counted → EndsTooLong counted result }
 
+    // Where the run is done, each file that was fetched spells a program.
+    ensures read { result ≡ Status.Done → IsTrue (H.tells shelf.old) → ReadsAll (map string_bytes words.now) (H.held shelf.old) }
+
     // What the names hold, and what was said.
     ensures stays { IsTrue (H.tells shelf.old) → Stays (Puts (map string_bytes words.now)) result (H.put_faults shelf.old) (H.put_faults shelf.new) (H.held shelf.old) (H.held shelf.new) }
-    ensures said { IsTrue (N.tells notes.old) → Said (Results (map string_bytes words.now)) result (N.faults notes.old) (N.faults notes.new) (N.said notes.old) (N.said notes.new) }
-    ensures done { result ≡ Status.Done → IsTrue (H.tells shelf.old) → IsTrue (N.tells notes.old) → Delivers (map string_bytes words.now) (H.held shelf.new) (N.said notes.old) (N.said notes.new) }
+    ensures said { IsTrue (N.tells notes.old) → Said (Results (map string_bytes words.now) (H.tells shelf.old) (H.held shelf.old)) result (N.faults notes.old) (N.faults notes.new) (N.said notes.old) (N.said notes.new) }
+    ensures done { result ≡ Status.Done → IsTrue (H.tells shelf.old) → IsTrue (N.tells notes.old) → Delivers (map string_bytes words.now) (H.tells shelf.old) (H.held shelf.old) (H.held shelf.new) (N.said notes.old) (N.said notes.new) }
 {
     answer(alloc, words, shelf, notes, advisers)
 }

@@ -1,9 +1,15 @@
 //! What the commands do between fetching and putting: values in, a value or a status out.
 
-ghost use Rattle.std.specs.Prelude.{◌<◌, ◌≤◌, ◌^◌, length, vec_len, string_bytes, IfOk, IfErr};
+ghost use Rattle.std.specs.Prelude.{◌≡◌, ◌<◌, ◌≤◌, ◌^◌, ℕ, List, true, Ok, length, vec_len, string_bytes, IfOk, IfErr, OnOk};
+ghost use Rattle.dex_base.specs.Reading.{FailsIf};
 ghost use Rattle.dex_read.specs.Counts.{CountsInFile};
+ghost use Rattle.dex_read.specs.Faults.{is_free};
+ghost use Rattle.dex_read.specs.File.{program_at};
 ghost use Rattle.dex_read.specs.Kept.{KeepsLimits};
-ghost use Rattle.redex_cli.specs.Finished.{Finished, IsChecked, IsSummary, IsTraced};
+ghost use Rattle.hierarchy.specs.Shapes.{IsCause};
+ghost use Rattle.program_model.specs.ProgramRules.{is_well_formed};
+ghost use Rattle.redex_cli.specs.Files.{FileRefused, HasGraphFault, IsRead};
+ghost use Rattle.redex_cli.specs.Finished.{Checks, Finished, IsSummary, IsTraced};
 ghost use Rattle.redex_cli.specs.Refusals.{TraceRefused, WorkRefused};
 
 use crate::check_line::check_line;
@@ -31,7 +37,8 @@ const WORKLOAD_RULES: &[u8] = b"-keep class W0 { public static int run(int); }\n
 
 /// A fault of the rules as a status.
 fn rules_status(fault: RuleFault) -> Status
-    ensures { WorkRefused result }
+    ensures refused { WorkRefused result }
+    ensures file { (bytes : List ℕ) → FileRefused bytes result }
 {
     match fault {
         RuleFault::NoMemory => Status::NoMemory,
@@ -45,7 +52,8 @@ fn rules_status(fault: RuleFault) -> Status
 /// A fault of the file as a status.
 fn dex_status(fault: DexFault) -> Status
     requires { CountsInFile fault }
-    ensures { WorkRefused result }
+    ensures refused { WorkRefused result }
+    ensures file { (bytes : List ℕ) → FailsIf (is_free fault) fault (program_at bytes) → FileRefused bytes result }
 {
     match fault {
         DexFault::NoMemory => Status::NoMemory,
@@ -64,7 +72,8 @@ fn dex_status(fault: DexFault) -> Status
 
 /// A fault of the class graph as a status.
 fn hierarchy_status(fault: HierarchyFault) -> Status
-    ensures { WorkRefused result }
+    ensures refused { WorkRefused result }
+    ensures file { (bytes : List ℕ) → HasGraphFault bytes fault → FileRefused bytes result }
 {
     match fault {
         HierarchyFault::NoMemory => Status::NoMemory,
@@ -76,7 +85,8 @@ fn hierarchy_status(fault: HierarchyFault) -> Status
 
 /// A fault of a method's types as a status.
 fn typing_status(fault: TypeFault) -> Status
-    ensures { WorkRefused result }
+    ensures refused { WorkRefused result }
+    ensures file { (bytes : List ℕ) → IsRead bytes → FileRefused bytes result }
 {
     match fault {
         TypeFault::NoMemory => Status::NoMemory,
@@ -92,9 +102,12 @@ struct Classes {
 }
 
 /// The file, its class graph and its types, in this order. The bytes are let go as soon as they are read.
+#[tactic(auto, using(crate::proofs::FinishedLemmas::graph_fault, crate::proofs::FinishedLemmas::read))]
 fn read_classes(alloc: Global, file: Vec<u8>) -> Result<Classes, Status>
     ensures limits { IfOk result (λ classes. KeepsLimits classes.program) }
+    ensures read { IfOk result (λ classes. program_at file.items ≡ Ok classes.program) }
     ensures refused { IfErr result WorkRefused }
+    ensures file { IfErr result (FileRefused file.items) }
 {
     let program = match read_dex(alloc, &file) {
         Ok(program) => program,
@@ -133,9 +146,12 @@ fn closed_outside(
 }
 
 /// The rules, the file, its class graph and its types, in this order. The bytes are let go as soon as they are read.
+#[tactic(auto, using(crate::proofs::FinishedLemmas::read))]
 fn read_input(alloc: Global, rules: Vec<u8>, file: Vec<u8>) -> Result<Input, Status>
     requires { vec_len rules < 2 ^ 32 }
-    ensures { IfErr result WorkRefused }
+    ensures read { OnOk result (IsRead file.items) }
+    ensures refused { IfErr result WorkRefused }
+    ensures file { IfErr result (FileRefused file.items) }
 {
     let parsed = match read_rules(alloc, &rules) {
         Ok(parsed) => parsed,
@@ -218,7 +234,9 @@ pub fn optimise_file(
 ) -> Result<Optimised, Status>
     requires { vec_len rules < 2 ^ 32 }
     ensures finished { IfOk result (λ optimised. Finished optimised.bytes.items (string_bytes optimised.summary)) }
+    ensures read { OnOk result (IsRead file.items) }
     ensures refused { IfErr result WorkRefused }
+    ensures file { IfErr result (FileRefused file.items) }
 {
     let length = file.len();
     let input = match read_input(alloc, rules, file) {
@@ -279,7 +297,9 @@ fn live_of(alloc: Global, input: &Input) -> Result<Vec<u8>, AllocError> {
 /// The live classes and members of a file by its rules, as they are said.
 pub fn list_live(alloc: Global, rules: Vec<u8>, file: Vec<u8>) -> Result<Vec<u8>, Status>
     requires { vec_len rules < 2 ^ 32 }
-    ensures { IfErr result WorkRefused }
+    ensures read { OnOk result (IsRead file.items) }
+    ensures refused { IfErr result WorkRefused }
+    ensures file { IfErr result (FileRefused file.items) }
 {
     let input = match read_input(alloc, rules, file) {
         Ok(input) => input,
@@ -292,9 +312,11 @@ pub fn list_live(alloc: Global, rules: Vec<u8>, file: Vec<u8>) -> Result<Vec<u8>
 }
 
 /// How many classes, methods and instructions a well typed file has, as they are said.
+#[tactic(auto, using(crate::proofs::FinishedLemmas::checked))]
 pub fn check_file(alloc: Global, file: Vec<u8>) -> Result<Vec<u8>, Status>
-    ensures checked { IfOk result (λ text. IsChecked text.items) }
+    ensures checked { IfOk result (λ text. Checks file.items text.items) }
     ensures refused { IfErr result WorkRefused }
+    ensures file { IfErr result (FileRefused file.items) }
 {
     let classes = match read_classes(alloc, file) {
         Ok(classes) => classes,
@@ -310,7 +332,8 @@ pub fn check_file(alloc: Global, file: Vec<u8>) -> Result<Vec<u8>, Status>
 #[tactic(auto, using(crate::proofs::ScriptLemmas::line_refuses))]
 fn read_play(alloc: Global, script: &[u8]) -> Result<Play, Status>
     requires { length script.now < 2 ^ 32 }
-    ensures { IfErr result (TraceRefused script.now) }
+    ensures refused { IfErr result (TraceRefused script.now) }
+    ensures file { IfErr result (λ status. (bytes : List ℕ) → FileRefused bytes status) }
 {
     match read_script(alloc, script) {
         Ok(play) => Ok(play),
@@ -348,7 +371,9 @@ pub fn trace_file(
     requires rules { vec_len rules < 2 ^ 32 }
     requires script { length script.now < 2 ^ 32 }
     ensures traced { IfOk result (λ text. IsTraced steps text.items) }
+    ensures read { OnOk result (IsRead file.items) }
     ensures refused { IfErr result (TraceRefused script.now) }
+    ensures file { IfErr result (FileRefused file.items) }
 {
     let input = match read_input(alloc, rules, file) {
         Ok(input) => input,

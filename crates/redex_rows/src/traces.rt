@@ -1,10 +1,10 @@
 //! What `trace` says: the events of so many steps, under a script.
 
 use crate::inputs::APP;
-use crate::rig::{Left, run_failing, shelf_of};
+use crate::rig::{Left, OPTIMISE, run_failing, run_on, shelf_of};
 use crate::traced::{
-    CATCHES, CLASHES, DEFAULTS, DEFAULTS_OLD, DIVIDES, DIVIDES_LEAST, FAILS, LOGS, PUTS, SAME_ONCE,
-    SAME_TWICE, STARTS, THROUGH,
+    CATCHES, CLASHES, DEFAULTS, DEFAULTS_OLD, DIVIDES, DIVIDES_LEAST, FAILS, LOGS, LOOPS, PUTS,
+    SAME_ONCE, SAME_TWICE, STARTS, THROUGH,
 };
 use std::alloc::Global;
 use std::test::*;
@@ -31,7 +31,7 @@ struct Row {
     said: &'static str,
 }
 
-const ROWS: [Row; 16] = [
+const ROWS: [Row; 18] = [
     Row {
         file: SAME_TWICE,
         rules: TO_INT,
@@ -67,6 +67,19 @@ const ROWS: [Row; 16] = [
         rules: TO_NOTHING,
         script: ENTERS,
         said: LOGGED,
+    },
+    // a loop without an end, and one that is left at once
+    Row {
+        file: LOOPS,
+        rules: TO_NOTHING,
+        script: "enter LA; m (I)V w00000000\n",
+        said: "",
+    },
+    Row {
+        file: LOOPS,
+        rules: TO_NOTHING,
+        script: "enter LA; m (I)V w00000001\n",
+        said: "result\n",
     },
     Row {
         file: CATCHES,
@@ -130,10 +143,14 @@ const ROWS: [Row; 16] = [
     },
 ];
 
-/// Traces 1,000 steps of a file under a script.
+/// Traces 1,000 steps of a file in hexadecimal under a script.
 fn traced(alloc: Global, rules: &str, file: &'static str, script: &str) -> Result<Left, Fail> {
-    let file = hex::decode(alloc, file)?;
-    let mut shelf = shelf_of(alloc, rules.as_bytes(), &file, None)?;
+    traced_bytes(alloc, rules, &hex::decode(alloc, file)?, script)
+}
+
+/// Traces 1,000 steps of a file under a script.
+fn traced_bytes(alloc: Global, rules: &str, file: &[u8], script: &str) -> Result<Left, Fail> {
+    let mut shelf = shelf_of(alloc, rules.as_bytes(), file, None)?;
     shelf.add(alloc, "s", script.as_bytes())?;
     Ok(run_failing(alloc, &["trace", "r", "i", "s", "1000"], shelf, None)?)
 }
@@ -146,6 +163,20 @@ fn events_are_said(rt: HostRuntime) -> Result<(), Fail> {
         assert_eq!(rt; left.code, 0);
         assert_eq!(rt; left.output.as_slice(), b"old".as_slice());
     }
+    Ok(())
+}
+
+/// The rules under which the calls of a log do nothing.
+const QUIET: &str = "-keep class A { void m(...); }\n-assumenosideeffects class Log { *; }\n";
+
+#[test]
+fn a_silent_call_is_not_shown_once_it_is_optimised(rt: HostRuntime) -> Result<(), Fail> {
+    let alloc = rt.alloc();
+    let before = traced(alloc, QUIET, LOGS, ENTERS)?;
+    assert_eq!(rt; before.said.as_slice(), LOGGED.as_bytes());
+    let left = run_on(alloc, OPTIMISE, QUIET, &hex::decode(alloc, LOGS)?)?;
+    let after = traced_bytes(alloc, QUIET, &left.output, ENTERS)?;
+    assert_eq!(rt; after.said.as_slice(), b"result\n".as_slice());
     Ok(())
 }
 

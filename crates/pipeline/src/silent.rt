@@ -1,0 +1,196 @@
+//! Silent calls become nops (ProGuard manual, "-assumenosideeffects").
+
+ghost use Rattle.std.specs.Prelude.{◌≡◌, ◌+◌, true, map, slice_get, slice_set, IfOk};
+ghost use Rattle.insn_set.specs.declared.form.Insn.TheVariants as form;
+ghost use Rattle.pipeline.specs.Silence.{calls, takes_result, holds_at, marked, is_silent_at, silenced_at, silenced_insns, silenced_body, silenced_method, silenced_class, silenced, ArePartOf, IsSilenced};
+
+use crate::graph::hierarchy_of;
+use hierarchy::Hierarchy;
+use insn_set::{Insn, InvokeKind};
+use program_model::{Admitted, Body, Class, Method, Outside, Program};
+use std::alloc::{AllocError, Global};
+
+/// Whether a number is marked.
+fn is_on(marks: &[bool], number: u32) -> bool
+    ensures { result ≡ marked marks.now number }
+{
+    match marks.get(number as usize) {
+        Some(mark) => *mark,
+        None => false,
+    }
+}
+
+/// Whether an instruction is a static call of a marked method.
+fn calls_marked(insn: &Insn, marks: &[bool]) -> bool
+    ensures { result ≡ calls (marked marks.now) insn.now }
+{
+    match insn {
+        Insn::Invoke {
+            kind: InvokeKind::Static,
+            method,
+            ..
+        } => is_on(marks, *method),
+        _ => false,
+    }
+}
+
+/// Whether an instruction takes the result of the call before it.
+fn takes_result(insn: &Insn) -> bool
+    ensures { result ≡ takes_result insn.now }
+{
+    matches!(insn, Insn::MoveResult { .. })
+}
+
+/// Whether the instruction behind a position takes its result.
+fn is_taken(insns: &[Insn], position: usize) -> bool
+    ensures { result ≡ holds_at takes_result (slice_get insns.now (position + 1)) }
+{
+    match insns.get(position.saturating_add(1)) {
+        Some(insn) => takes_result(insn),
+        None => false,
+    }
+}
+
+/// Whether a silent call stands at a position.
+fn is_silent_at(insns: &[Insn], position: usize, marks: &[bool]) -> bool
+    ensures { result ≡ is_silent_at (marked marks.now) insns.now position }
+{
+    match insns.get(position) {
+        Some(insn) => calls_marked(insn, marks) && !is_taken(insns, position),
+        None => false,
+    }
+}
+
+/// Makes the instruction at a position a nop.
+fn put_nop(insns: &mut [Insn], position: usize)
+    ensures { insns.new ≡ slice_set insns.old position form.Nop }
+{
+    if position < insns.len() {
+        insns[position] = Insn::Nop;
+    }
+}
+
+/// Makes the call at a position a nop where it is silent.
+#[tactic(auto, using(crate::proofs::Silencing::silenced_is, crate::proofs::Silencing::silenced_not))]
+fn silence_at(insns: &mut [Insn], position: usize, marks: &[bool])
+    ensures { insns.new ≡ silenced_at (marked marks.now) position insns.old }
+{
+    if is_silent_at(insns, position, marks) {
+        put_nop(insns, position);
+    }
+}
+
+/// Makes each silent call a nop.
+fn silence_insns(insns: &mut [Insn], marks: &[bool])
+    ensures { insns.new ≡ silenced_insns (marked marks.now) insns.old }
+{
+    for position in 0..insns.len() {
+        silence_at(insns, position, marks);
+    }
+}
+
+/// Makes each silent call of a body a nop.
+fn silence_body(body: &mut Body, marks: &[bool])
+    ensures { body.new ≡ silenced_body (marked marks.now) body.old }
+{
+    silence_insns(body.insns.items.as_mut_slice(), marks);
+}
+
+/// Makes each silent call of a method a nop, where the method is admitted.
+fn silence_method(method: &mut Method, marks: &[bool], admitted: &[bool])
+    ensures { method.new ≡ silenced_method (marked marks.now) admitted.now method.old }
+{
+    if is_on(admitted, method.name) {
+        if let Some(body) = &mut method.body {
+            silence_body(body, marks);
+        }
+    }
+}
+
+/// Makes each silent call of the admitted methods a nop.
+fn silence_methods(methods: &mut [Method], marks: &[bool], admitted: &[bool])
+    ensures { methods.new ≡ map (silenced_method (marked marks.now) admitted.now) methods.old }
+{
+    for method in methods.iter_mut() {
+        silence_method(method, marks, admitted);
+    }
+}
+
+/// Makes each silent call of the class's admitted methods a nop.
+fn silence_class(class: &mut Class, marks: &[bool], admitted: &[bool])
+    ensures { class.new ≡ silenced_class (marked marks.now) admitted.now class.old }
+{
+    silence_methods(class.methods.items.as_mut_slice(), marks, admitted);
+}
+
+/// Makes each silent call of the classes' admitted methods a nop.
+fn silence_classes(classes: &mut [Class], marks: &[bool], admitted: &[bool])
+    ensures { classes.new ≡ map (silenced_class (marked marks.now) admitted.now) classes.old }
+{
+    for class in classes.iter_mut() {
+        silence_class(class, marks, admitted);
+    }
+}
+
+/// The program with each static call of a marked method a nop, where its result isn't taken and its method is admitted.
+fn silence_marked(program: Program, marks: &[bool], admitted: &[bool]) -> Program
+    ensures { result ≡ silenced (marked marks.now) admitted.now program }
+{
+    let mut program = program;
+    silence_classes(program.classes.items.as_mut_slice(), marks, admitted);
+    program
+}
+
+/// Marks a number.
+fn mark(marks: &mut [bool], number: u32)
+    ensures { marks.new ≡ slice_set marks.old number true }
+{
+    let at = number as usize;
+    if at < marks.len() {
+        marks[at] = true;
+    }
+}
+
+/// Which of the methods a silent call may name, for each method number: those of `silent` whose static call finds no
+/// method of the program.
+#[tactic(auto, using(crate::proofs::Silencing::part_none, crate::proofs::Silencing::part_more))]
+fn quiet_methods(
+    alloc: Global,
+    program: &Program,
+    hierarchy: &Hierarchy,
+    silent: &[u32],
+) -> Result<Vec<bool>, AllocError>
+    ensures { IfOk result (λ marks. ArePartOf silent.now marks.items) }
+{
+    let mut marks = vec![in alloc; false; program.methods.len()]?;
+    for method in silent {
+        if hierarchy.find_static(program, *method).is_none() {
+            mark(&mut marks, *method);
+        }
+    }
+    Ok(marks)
+}
+
+/// The program with each silent call of the admitted methods a nop at its position. A call is silent where it is static,
+/// names one of the outside's silent methods, finds no method of the program, and no instruction takes its result. All
+/// else stays. The only error is want of memory.
+#[tactic(auto, using(crate::proofs::Silencing::stays_whole))]
+pub fn silence(
+    alloc: Global,
+    program: Program,
+    outside: &Outside,
+    admitted: &Admitted,
+) -> Result<Program, AllocError>
+    ensures { IfOk result (λ p. IsSilenced outside.now.silent admitted.now.methods.items program p) }
+{
+    if outside.silent.is_empty() {
+        return Ok(program);
+    }
+    match hierarchy_of(alloc, &program)? {
+        Some(hierarchy) => {
+            let marks = quiet_methods(alloc, &program, &hierarchy, outside.silent.as_slice())?;
+            Ok(silence_marked(program, &marks, &admitted.methods))
+        }
+        None => Ok(program),
+    }
+}

@@ -1,0 +1,67 @@
+-- What the bytes of a file are to a run.
+use Rattle.std.specs.Prelude.{◌≡◌, ◌⊎◌, ℕ, List, [], ◌∷◌, true, Some, Ok, Err}
+use Rattle.dex_read.specs.File.{program_at}
+use Rattle.dex_read.specs.declared.fault.DexFault.TheVariants as dex
+use Rattle.hierarchy.specs.Shapes.{IsCause}
+use Rattle.hierarchy.specs.declared.fault.HierarchyFault.{HierarchyFault}
+use Rattle.program_model.specs.ProgramRules.{is_well_formed}
+use Rattle.program_model.specs.declared.limits.Counted.TheVariants.{FileBytes}
+use Rattle.program_model.specs.declared.program.Program.{Program}
+use Rattle.redex_outside.specs.Held.{Held}
+use Rattle.redex_cli.specs.Commands.{Fetch}
+use Rattle.redex_cli.specs.declared.status.InputFault.TheVariants as input
+use Rattle.redex_cli.specs.declared.status.Status.{Status}
+use Rattle.redex_cli.specs.declared.status.Status.TheVariants.{BadDex, Limit}
+
+-- The bytes spell a program.
+pub record IsRead (bytes : List ℕ) : Type 0 where
+  pub program : Program
+  pub reads : program_at bytes ≡ Ok program
+
+-- The bytes spell a program in whose class graph this fault stands.
+pub record HasGraphFault (bytes : List ℕ) (fault : HierarchyFault) : Type 0 where
+  pub program : Program
+  pub reads : program_at bytes ≡ Ok program
+  pub cause : is_well_formed program ≡ true → IsCause program fault
+
+-- What a file of these bytes is refused with: a fault of its reading, or a passed limit, is the one that the bytes give;
+-- a fault of classes or types is one of the program that they spell.
+abbrev pub FileRefused : List ℕ → Status → Type 0
+FileRefused bytes (BadDex (input.Dex fault)) = program_at bytes ≡ Err fault
+FileRefused bytes (BadDex (input.Hierarchy fault)) = HasGraphFault bytes fault
+FileRefused bytes (BadDex (input.Typing fault)) = IsRead bytes
+FileRefused bytes (BadDex (input.Library fault)) = ⊥
+FileRefused bytes (Limit fault) = program_at bytes ≡ Err (dex.Limit fault)
+FileRefused bytes _ = Unit {0}
+
+-- The name is fetched as a file, and holds bytes that are refused so.
+pub record HoldsRefused (held : Held) (fetch : Fetch) (status : Status) : Type 0 where
+  pub counted : fetch.counted ≡ FileBytes
+  pub bytes : List ℕ
+  pub there : held fetch.name ≡ Some bytes
+  pub refused : FileRefused bytes status
+
+-- One of these names holds such a file.
+abbrev pub OneRefused : Held → List Fetch → Status → Type 0
+OneRefused held [] status = ⊥
+OneRefused held (fetch ∷ later) status = HoldsRefused held fetch status ⊎ OneRefused held later status
+
+-- The same of a command that has names fetched. One that fetches nothing makes its file itself.
+abbrev pub FileCause : Held → List Fetch → Status → Type 0
+FileCause held [] status = Unit {0}
+FileCause held (fetch ∷ later) status = OneRefused held (fetch ∷ later) status
+
+-- The name holds bytes that spell this program.
+pub record HoldsProgram (held : Held) (name : List ℕ) (program : Program) : Type 0 where
+  pub bytes : List ℕ
+  pub there : held name ≡ Some bytes
+  pub reads : program_at bytes ≡ Ok program
+
+-- The name holds bytes that spell a program, where it is fetched as a file.
+pub record HoldsRead (held : Held) (fetch : Fetch) : Type 0 where
+  pub program : Program
+  pub holds : HoldsProgram held fetch.name program
+
+abbrev pub AllRead : Held → List Fetch → Type 0
+AllRead held [] = Unit {0}
+AllRead held (fetch ∷ later) = (fetch.counted ≡ FileBytes → HoldsRead held fetch) × AllRead held later

@@ -4,3 +4,10 @@ pub mod Classes
 pub mod Under
 pub mod Fits
 pub mod Members
+pub mod Worlds
+pub mod Acts
+pub mod Outcomes
+pub mod Stacks
+pub mod Given
+pub mod Steps
+pub mod Levels

@@ -15,11 +15,11 @@ choice_more : (b c d : Bool) → (c ≡ true → d ≡ true) → choice b c ≡ 
 choice_more true c d h e = refl
 choice_more false c d h e = h e
 
-abbrev plus : ℕ → ℕ → ℕ
+abbrev pub plus : ℕ → ℕ → ℕ
 plus zero k = k
 plus (suc j) k = suc (plus j k)
 
-plus_is : (j k : ℕ) → plus j k ≡ j + k
+pub plus_is : (j k : ℕ) → plus j k ≡ j + k
 plus_is zero k = omega arith
 plus_is (suc j) k = let e = plus_is j k in omega (arith, e)
 

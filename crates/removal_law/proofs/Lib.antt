@@ -11,3 +11,4 @@ pub mod Stacks
 pub mod Given
 pub mod Steps
 pub mod Levels
+pub mod Trees

@@ -11,6 +11,10 @@ use Rattle.removal_law.proofs.Lists.{clash, In, here, there, any_same, any_more,
 abbrev pub choice : Bool → Bool → Bool
 choice b c = elim b [ true ↦ true | false ↦ c ]
 
+pub choice_false : (b : Bool) → choice b false ≡ b
+choice_false true = refl
+choice_false false = refl
+
 choice_more : (b c d : Bool) → (c ≡ true → d ≡ true) → choice b c ≡ true → choice b d ≡ true
 choice_more true c d h e = refl
 choice_more false c d h e = h e

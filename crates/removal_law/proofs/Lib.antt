@@ -12,3 +12,4 @@ pub mod Given
 pub mod Steps
 pub mod Levels
 pub mod Trees
+pub mod Finds

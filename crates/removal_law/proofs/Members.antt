@@ -35,17 +35,17 @@ texts_sound (t ∷ ts) [] e = clash false e refl
 texts_sound (t ∷ ts) (u ∷ us) e =
     ap (λ x. x ∷ ts) (text_sound t u (and_left (text_eq t u) (texts_eq ts us) e)) ∙ ap (λ xs. u ∷ xs) (texts_sound ts us (and_behind (text_eq t u) (texts_eq ts us) e))
 
-signature_sound : (a b : Signature) → signature_eq a b ≡ true → a ≡ b
+pub signature_sound : (a b : Signature) → signature_eq a b ≡ true → a ≡ b
 signature_sound a b e =
     let r : a.result ≡ b.result = text_sound a.result b.result (and_left (text_eq a.result b.result) (texts_eq a.parameters b.parameters) e) in
     let q : a.parameters ≡ b.parameters = texts_sound a.parameters b.parameters (and_behind (text_eq a.result b.result) (texts_eq a.parameters b.parameters) e) in
     ap (λ x. record { result = x; parameters = a.parameters }) r ∙ ap (λ x. record { result = b.result; parameters = x }) q
 
 -- a method of a name is the one of that name
-abbrev key : Text → Text → Signature → MethodKey
+abbrev pub key : Text → Text → Signature → MethodKey
 key t n g = record { class = t; name = n; signature = g }
 
-key_sound : (c : NamedClass) (m : NamedMethod) (n : Text) (g : Signature) → same_name m.name m.signature n g ≡ true → key_in c m ≡ key c.name n g
+pub key_sound : (c : NamedClass) (m : NamedMethod) (n : Text) (g : Signature) → same_name m.name m.signature n g ≡ true → key_in c m ≡ key c.name n g
 key_sound c m n g e =
     ap (λ x. key c.name x m.signature) (text_sound m.name n (and_left (text_eq m.name n) (signature_eq m.signature g) e))
     ∙ ap (key c.name n) (signature_sound m.signature g (and_behind (text_eq m.name n) (signature_eq m.signature g) e))

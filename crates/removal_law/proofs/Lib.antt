@@ -13,3 +13,4 @@ pub mod Steps
 pub mod Levels
 pub mod Trees
 pub mod Finds
+pub mod Searches

@@ -295,7 +295,7 @@ module _ (p : NamedProgram) (s : Family) (above : KeepsAbove p s) (regular : IsR
             at true e = (y, (here (filter (λ g. not (text_eq g.key.class y.key.class)) (without_repeats fs)), w.1.1 ∙ text_sound w.0.key.class y.key.class e))
             at false e = (w.0, (there y (filter (λ g. not (text_eq g.key.class y.key.class)) (without_repeats fs)) (into_filter (λ g. not (text_eq g.key.class y.key.class)) w.0 (without_repeats fs) w.1.0 (ap not e)), w.1.1))
 
-    repeats_in : (fs : List Found) (f : Found) → In f (without_repeats fs) → In f fs
+    pub repeats_in : (fs : List Found) (f : Found) → In f (without_repeats fs) → In f fs
     repeats_in [] f i = i
     repeats_in (y ∷ fs) f (here ys) = here fs
     repeats_in (y ∷ fs) f (there z ys i) = there y fs (repeats_in fs f (in_unfiltered (λ g. not (text_eq g.key.class y.key.class)) f (without_repeats fs) i))

@@ -14,3 +14,5 @@ pub mod Levels
 pub mod Trees
 pub mod Finds
 pub mod Searches
+pub mod Virtuals
+pub mod Outward

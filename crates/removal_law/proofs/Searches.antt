@@ -199,13 +199,3 @@ module _ (p : NamedProgram) (s : Family) (above : KeepsAbove p s) (regular : IsR
       by : (o : Option Found) → at_of p (flat_map (λ c. c.interfaces) (chain_of p t)) k o ≡ Finds f → In f (answers_of t k.name k.signature o)
       by (Some g) i = subst (λ x. In x (g ∷ [])) (finds_same g f i) (here [])
       by None i = among_in p s above regular (flat_map (λ c. c.interfaces) (chain_of p t)) k.name k.signature f i
-
-  -- each candidate is of a class of the program, and has the name and the signature
-  pub record IsCandidate (n : Text) (g : Signature) (f : Found) : Type 0 where
-    pub class : NamedClass
-    pub method : NamedMethod
-    pub named : class_named p class.name ≡ Some class
-    pub stands : In method class.methods
-    pub is : found_of class method ≡ f
-    pub key_is : f.key ≡ key class.name n g
-    pub virtual : is_virtual_method method ≡ true

@@ -101,7 +101,7 @@ abbrev pub LiveFound : Family → Found → Type 0
 LiveFound s f = s.methods f.key ≡ true
 
 module _ (s : Family) where
-  dead_method : (c : NamedClass) (n : Text) (g : Signature) → s.methods (key c.name n g) ≡ false → method_in (left_in s c) n g ≡ None
+  pub dead_method : (c : NamedClass) (n : Text) (g : Signature) → s.methods (key c.name n g) ≡ false → method_in (left_in s c) n g ≡ None
   dead_method c n g e = not_found (λ m. same_name m.name m.signature n g) (filter (λ m. s.methods (key_in c m)) c.methods) (λ m i. by m i (same_name m.name m.signature n g) refl)
     where
       by : (m : NamedMethod) → In m (filter (λ m. s.methods (key_in c m)) c.methods) → (b : Bool) → same_name m.name m.signature n g ≡ b → same_name m.name m.signature n g ≡ false
@@ -182,7 +182,7 @@ module _ (p : NamedProgram) (s : Family) (above : KeepsAbove p s) (regular : IsR
 
   -- ---- candidates of interfaces
 
-  abbrev Trees : ℕ → ℕ → List Text → Type 0
+  abbrev pub Trees : ℕ → ℕ → List Text → Type 0
   Trees n m ts = (t : Text) → In t ts → Tree p s above n m t
 
   abbrev named_in : Option NamedClass → Option NamedClass

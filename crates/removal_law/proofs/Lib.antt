@@ -16,3 +16,5 @@ pub mod Finds
 pub mod Searches
 pub mod Virtuals
 pub mod Outward
+pub mod Fields
+pub mod Firsts

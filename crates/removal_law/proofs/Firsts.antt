@@ -133,8 +133,14 @@ module _ (p : NamedProgram) (s : Family) (above : KeepsAbove p s) (regular : IsR
 
   -- ---- they are live
 
-  one_if : (b : Bool) (t u : Text) → In u (only_if b t) → u ≡ t
-  one_if true t u i = same t u i
+  abbrev Stands : Text → Type 0
+  Stands t = (defines p t ≡ true) × (s.classes t ≡ true)
+
+  stands : (t : Text) (c : NamedClass) → class_named p t ≡ Some c → Kept s p t → Stands t
+  stands t c e h = (defined p t c e, h (defined p t c e))
+
+  one_if : (b : Bool) (t u : Text) → In u (only_if b t) → (u ≡ t) × (b ≡ true)
+  one_if true t u i = (same t u i, refl)
     where
       same : (t u : Text) → In u (t ∷ []) → u ≡ t
       same t u (here ys) = refl
@@ -144,36 +150,36 @@ module _ (p : NamedProgram) (s : Family) (above : KeepsAbove p s) (regular : IsR
   abbrev step_of : ℕ → Text → Option NamedClass → List Text
   step_of n t o = elim o as (λ o. List Text) [ Some c ↦ interfaces_before n p c.interfaces ++ only_if (has_default c) t | None ↦ [] ]
 
-  before_kept : (n : ℕ) (ts : List Text) → ((t : Text) → In t ts → Kept s p t) → (u : Text) → In u (interfaces_before n p ts) → Kept s p u
+  before_kept : (n : ℕ) (ts : List Text) → ((t : Text) → In t ts → Kept s p t) → (u : Text) → In u (interfaces_before n p ts) → Stands u
   before_kept zero ts h u i = elim i [ ]
   before_kept (suc n) ts h u i = by (interface_named p w.0) refl w.1.1 (λ us a b. before_kept n us a u b)
     where
       w : (t : Text) × (In t ts × In u (step_of n t (interface_named p t)))
       w = out_of_flat (λ t. step_of n t (interface_named p t)) u ts i
 
-      by : (o : Option NamedClass) → interface_named p w.0 ≡ o → In u (step_of n w.0 o) → ((us : List Text) → ((t : Text) → In t us → Kept s p t) → In u (interfaces_before n p us) → Kept s p u) → Kept s p u
+      by : (o : Option NamedClass) → interface_named p w.0 ≡ o → In u (step_of n w.0 o) → ((us : List Text) → ((t : Text) → In t us → Kept s p t) → In u (interfaces_before n p us) → Stands u) → Stands u
       by None e a ih = elim a [ ]
       by (Some c) e a ih = either (in_either u (interfaces_before n p c.interfaces) (only_if (has_default c) w.0) a)
         where
-          either : In u (interfaces_before n p c.interfaces) ⊎ In u (only_if (has_default c) w.0) → Kept s p u
+          either : In u (interfaces_before n p c.interfaces) ⊎ In u (only_if (has_default c) w.0) → Stands u
           either (inl b) = ih c.interfaces (λ v j. up_kept p s above w.0 c (interface_class p s above regular w.0 c e) (h w.0 w.1.0) v (there c.superclass c.interfaces j)) b
-          either (inr b) = subst (Kept s p) (sym (one_if (has_default c) w.0 u b)) (h w.0 w.1.0)
+          either (inr b) = subst Stands (sym (one_if (has_default c) w.0 u b).0) (stands w.0 c (interface_class p s above regular w.0 c e) (h w.0 w.1.0))
 
-  pub first_kept : (t : Text) → Kept s p t → (u : Text) → In u (initialised_first p t) → Kept s p u
-  first_kept t h u i = by (class_named p t) refl i
+  pub first_stands : (t : Text) → Kept s p t → (u : Text) → In u (initialised_first p t) → Stands u
+  first_stands t h u i = by (class_named p t) refl i
     where
-      inner : (c : NamedClass) → class_named p t ≡ Some c → (b : Bool) → In u (elim b as (λ b. List Text) [ true ↦ interfaces_before (length p.classes) p c.interfaces | false ↦ [] ]) → Kept s p u
+      inner : (c : NamedClass) → class_named p t ≡ Some c → (b : Bool) → In u (elim b as (λ b. List Text) [ true ↦ interfaces_before (length p.classes) p c.interfaces | false ↦ [] ]) → Stands u
       inner c e true j = before_kept (length p.classes) c.interfaces (λ v k. up_kept p s above t c e h v (there c.superclass c.interfaces k)) u j
       inner c e false j = elim j [ ]
 
-      parts : (c : NamedClass) → class_named p t ≡ Some c → In u (only_if (defines p c.superclass) c.superclass) ⊎ In u (interfaces_first p c) → Kept s p u
-      parts c e (inl j) = subst (Kept s p) (sym (one_if (defines p c.superclass) c.superclass u j)) (up_kept p s above t c e h c.superclass (here c.interfaces))
+      parts : (c : NamedClass) → class_named p t ≡ Some c → In u (only_if (defines p c.superclass) c.superclass) ⊎ In u (interfaces_first p c) → Stands u
+      parts c e (inl j) = let r = one_if (defines p c.superclass) c.superclass u j in subst Stands (sym r.0) (r.1, up_kept p s above t c e h c.superclass (here c.interfaces) r.1)
       parts c e (inr j) = inner c e (is_037 p.version) j
 
-      flagged : (c : NamedClass) → class_named p t ≡ Some c → (b : Bool) → In u (elim b as (λ b. List Text) [ true ↦ [] | false ↦ only_if (defines p c.superclass) c.superclass ++ interfaces_first p c ]) → Kept s p u
+      flagged : (c : NamedClass) → class_named p t ≡ Some c → (b : Bool) → In u (elim b as (λ b. List Text) [ true ↦ [] | false ↦ only_if (defines p c.superclass) c.superclass ++ interfaces_first p c ]) → Stands u
       flagged c e true j = elim j [ ]
       flagged c e false j = parts c e (in_either u (only_if (defines p c.superclass) c.superclass) (interfaces_first p c) j)
 
-      by : (o : Option NamedClass) → class_named p t ≡ o → In u (elim o as (λ o. List Text) [ Some c ↦ first_of_class p c | None ↦ [] ]) → Kept s p u
+      by : (o : Option NamedClass) → class_named p t ≡ o → In u (elim o as (λ o. List Text) [ Some c ↦ first_of_class p c | None ↦ [] ]) → Stands u
       by None e j = elim j [ ]
       by (Some c) e j = flagged c e (is_interface c.flags) j

@@ -20,7 +20,7 @@ use Rattle.dalvik_defs.specs.declared.forms.Form.{Form}
 use Rattle.dalvik_defs.specs.declared.script.Given.{Given}
 use Rattle.dalvik_defs.specs.declared.script.Given.TheVariants as given
 use Rattle.dalvik_defs.specs.declared.program.NamedProgram.{NamedProgram}
-use Rattle.removal_law.specs.Agree.{Each, IsBarred, Agree}
+use Rattle.removal_law.specs.Agree.{Each, IsBarred, IsOpen, Agree}
 use Rattle.removal_law.proofs.Lists.{clash, and_left, and_behind}
 use Rattle.removal_law.proofs.Worlds.{Kinds, kinds_append}
 use Rattle.removal_law.proofs.Acts.{Sound, kind_ok, kind_made}
@@ -147,11 +147,11 @@ module _ (ok made : Text → Type 0) (live : MethodKey → Type 0) (says : Metho
   pub on_same : (w : World) (v : Value) (t : Text) → Kinds ok w.heap → is_on F w v t ≡ is_on G w v t
   on_same w v t h = ap (λ b. not (is_null v) && b) (under_same w v t h)
 
-  receiver_same : (w : World) (f : Found) (vs : List Value) → live f.key → f.coded ≡ true → Fine w → receiver_ok F o w f vs ≡ receiver_ok G o w f vs
+  receiver_same : (w : World) (f : Found) (vs : List Value) → IsOpen ok made live o F G f → f.coded ≡ true → Fine w → receiver_ok F o w f vs ≡ receiver_ok G o w f vs
   receiver_same w f [] l e h = refl
   receiver_same w f (v ∷ vs) l e h = and_same (is_on F w v f.key.class) (is_on G w v f.key.class) (o.methods f.key || calls_back F o (kind_of w v) f) (o.methods f.key || calls_back G o (kind_of w v) f)
       (on_same w v f.key.class h.kinds)
-      (λ i. agree.called f (kind_of w v) l e (kind_ok ok made live says p o F G find other agree w v h.kinds) (kind_made ok made live says p o F G find other agree w v h.mades))
+      (λ i. l.called (kind_of w v) e (kind_ok ok made live says p o F G find other agree w v h.kinds) (kind_made ok made live says p o F G find other agree w v h.mades))
 
   module _ (w : World) (h : Fine w) (f : Found) (gs : List Given) (e : AllFit gs) where
     abbrev u : World
@@ -163,17 +163,17 @@ module _ (ok made : Text → Type 0) (live : MethodKey → Type 0) (says : Metho
     fine_if : (ts : List Text) → all_fit F o w u gs vs ts ≡ true → Fine u
     fine_if ts i = record { kinds = all_kinds w gs e h.kinds; mades = all_mades w u gs vs ts e i h.mades }
 
-    found_same : live f.key → f.coded ≡ true → may_enter_found F o w u f gs vs ≡ may_enter_found G o w u f gs vs
+    found_same : IsOpen ok made live o F G f → f.coded ≡ true → may_enter_found F o w u f gs vs ≡ may_enter_found G o w u f gs vs
     found_same l i = if_same (is_static f.flags) (is_static f.flags)
         (o.methods f.key && all_fit F o w u gs vs f.key.signature.parameters) (o.methods f.key && all_fit G o w u gs vs f.key.signature.parameters)
         (all_fit F o w u gs vs (f.key.class ∷ f.key.signature.parameters) && receiver_ok F o u f vs) (all_fit G o w u gs vs (f.key.class ∷ f.key.signature.parameters) && receiver_ok G o u f vs)
         refl
-        (ap (λ b. o.methods f.key && b) (all_same w u gs vs f.key.signature.parameters e (all_kinds w gs e h.kinds) (agree.parameters_ok f.key l)))
+        (ap (λ b. o.methods f.key && b) (all_same w u gs vs f.key.signature.parameters e (all_kinds w gs e h.kinds) (agree.parameters_ok f.key l.lives)))
         (and_same (all_fit F o w u gs vs (f.key.class ∷ f.key.signature.parameters)) (all_fit G o w u gs vs (f.key.class ∷ f.key.signature.parameters)) (receiver_ok F o u f vs) (receiver_ok G o u f vs)
-            (all_same w u gs vs (f.key.class ∷ f.key.signature.parameters) e (all_kinds w gs e h.kinds) (agree.class_ok f.key l, agree.parameters_ok f.key l))
+            (all_same w u gs vs (f.key.class ∷ f.key.signature.parameters) e (all_kinds w gs e h.kinds) (agree.class_ok f.key l.lives, agree.parameters_ok f.key l.lives))
             (λ j. receiver_same u f vs l i (fine_if (f.key.class ∷ f.key.signature.parameters) j)))
 
-    pub enter_same : live f.key → may_enter F o w u f gs vs ≡ may_enter G o w u f gs vs
+    pub enter_same : IsOpen ok made live o F G f → may_enter F o w u f gs vs ≡ may_enter G o w u f gs vs
     enter_same l = and_same (f.coded && not (is_class_initialiser f)) (f.coded && not (is_class_initialiser f)) (may_enter_found F o w u f gs vs) (may_enter_found G o w u f gs vs)
         refl (λ i. found_same l (and_left f.coded (not (is_class_initialiser f)) i))
 

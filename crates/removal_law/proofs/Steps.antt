@@ -37,7 +37,7 @@ use Rattle.dalvik_defs.specs.declared.tables.Floats.{Floats}
 use Rattle.dalvik_defs.specs.declared.program.NamedBody.{NamedBody}
 use Rattle.dalvik_defs.specs.declared.program.NamedProgram.{NamedProgram}
 use Rattle.dalvik_defs.proofs.LookUps.{StepsAlike}
-use Rattle.removal_law.specs.Agree.{Each, AgreeOnDeclared, IsBarred, Agree}
+use Rattle.removal_law.specs.Agree.{Each, AgreeOnDeclared, IsBarred, IsOpen, Agree}
 use Rattle.removal_law.proofs.Lists.{clash, and_left, and_behind}
 use Rattle.removal_law.proofs.Worlds.{Kinds, show_heap}
 use Rattle.removal_law.proofs.Acts.{Sound, sound_heap, sound_with, sound_put, sound_at, Acts, acts}
@@ -163,13 +163,13 @@ module _ (ok made : Text → Type 0) (live : MethodKey → Type 0) (says : Metho
         here : Fair (quiet (enters find u c f.key (spread vs) stack rest)) (quiet (enters other u c f.key (spread vs) stack rest))
         here = calm _ _ (entering ok made live says p o F G find other agree u c f.key (spread vs) stack rest k l s n)
 
-    enter_live : (f : Found) (gs : List Given) → AllFit ok made live says p o F G find other agree gs → live f.key
+    enter_live : (f : Found) (gs : List Given) → AllFit ok made live says p o F G find other agree gs → IsOpen ok made live o F G f
         → Fair (enter S find w c (Some f) gs stack script rest) (enter Z other w c (Some f) gs stack script rest)
     enter_live f gs e l = fair_if (may_enter F o w (gets_all w gs).0 f gs (gets_all w gs).1) (may_enter G o w (gets_all w gs).0 f gs (gets_all w gs).1) _ _ _ _
         (enter_same ok made live says p o F G find other agree w h f gs e l)
-        (λ i. entry f (gets_all w gs).1 (gets_all w gs).0 l (enter_fine ok made live says p o F G find other agree w h f gs e i)) (λ i. over)
+        (λ i. entry f (gets_all w gs).1 (gets_all w gs).0 l.lives (enter_fine ok made live says p o F G find other agree w h f gs e i)) (λ i. over)
 
-    enter_cases : (a b : Option Found) (gs : List Given) → AllFit ok made live says p o F G find other agree gs → AgreeOnDeclared ok made live o F a b
+    enter_cases : (a b : Option Found) (gs : List Given) → AllFit ok made live says p o F G find other agree gs → AgreeOnDeclared ok made live o F G a b
         → Fair (enter S find w c a gs stack script rest) (enter Z other w c b gs stack script rest)
     enter_cases None b gs e g = subst (λ x. Fair (quiet Ended) (enter Z other w c x gs stack script rest)) (sym g) over
     enter_cases (Some f) b gs e (inl g) = subst (λ x. Fair (enter S find w c (Some f) gs stack script rest) (enter Z other w c x gs stack script rest)) (sym g.1) (enter_live f gs e g.0)

@@ -52,10 +52,15 @@ module _ (ok made : Text → Type 0) (live : MethodKey → Type 0) where
     pub kept : o.methods f.key ≡ false
     pub called : (t : Text) → ok t → made t → calls_back face o t f ≡ false
 
-  -- both define a live method, or the first alone one that the framework may not enter
-  abbrev pub AgreeOnDeclared : Outer → Face → Option Found → Option Found → Type 0
-  AgreeOnDeclared o face None b = b ≡ None
-  AgreeOnDeclared o face (Some f) b = (live f.key × (b ≡ Some f)) ⊎ (IsBarred o face f × (b ≡ None))
+  -- a live method that the framework enters on the same objects
+  pub record IsOpen (o : Outer) (F G : Face) (f : Found) : Type 0 where
+    pub lives : live f.key
+    pub called : (t : Text) → f.coded ≡ true → ok t → made t → (o.methods f.key || calls_back F o t f) ≡ (o.methods f.key || calls_back G o t f)
+
+  -- both define such a method, or the first alone one that the framework may not enter
+  abbrev pub AgreeOnDeclared : Outer → Face → Face → Option Found → Option Found → Type 0
+  AgreeOnDeclared o F G None b = b ≡ None
+  AgreeOnDeclared o F G (Some f) b = (IsOpen o F G f × (b ≡ Some f)) ⊎ (IsBarred o F f × (b ≡ None))
 
   -- `says` are the forms of live methods
   pub record Agree (says : MethodKey → Form → Type 0) (p : NamedProgram) (o : Outer) (F G : Face) (find other : Bodies) : Type 0 where
@@ -91,8 +96,7 @@ module _ (ok made : Text → Type 0) (live : MethodKey → Type 0) where
     pub first : (t : Text) → ok t → F.first t ≡ G.first t
     pub first_ok : (t : Text) → ok t → Each ok (F.first t)
     -- what the framework may do
-    pub declared : (c n q : Text) → AgreeOnDeclared o F (F.declared c n q) (G.declared c n q)
-    pub called : (f : Found) (t : Text) → live f.key → f.coded ≡ true → ok t → made t → (o.methods f.key || calls_back F o t f) ≡ (o.methods f.key || calls_back G o t f)
+    pub declared : (c n q : Text) → AgreeOnDeclared o F G (F.declared c n q) (G.declared c n q)
     pub makes : (t : Text) → o.classes t ≡ true → is_concrete F t ≡ is_concrete G t
     pub made_ok : (t : Text) → may_make F o t ≡ true → ok t × made t
     pub own_field : (k : FieldKey) → o.fields k ≡ true → F.own_field k ≡ G.own_field k

@@ -52,15 +52,17 @@ abbrev pub ends : NamedProgram → ℕ → Text → Bool
 ends p zero t = not (defines p t)
 ends p (suc n) t = list_all (ends p n) (own_above p t)
 
--- Classes have class names, none is its own ancestor, new arrays are of array types, and the methods of a class with one
--- name and one text of their protos have one proto.
+-- Classes have class names, and none is its own ancestor.
 pub record IsRegular (p : NamedProgram) : Type 0 where
   pub names : (t : Text) → defines p t ≡ true → is_class_type t ≡ true
   pub grounded : (t : Text) → (n : ℕ) × (ends p n t ≡ true)
+
+-- New arrays are of array types, and no class has two methods with one name and one text of their protos.
+pub record IsSoundCode (p : NamedProgram) : Type 0 where
   pub arrays : (k : MethodKey) (b : NamedBody) (to size : ℕ) (t : Text) → bodies_of p k ≡ Some b → In (form.NewArray to size t) b.forms → is_array t ≡ true
   pub filled : (k : MethodKey) (b : NamedBody) (t : Text) (args : List ℕ) → bodies_of p k ≡ Some b → In (form.FilledNewArray t args) b.forms → is_array t ≡ true
-  pub protos : (t : Text) (c : NamedClass) (m x : NamedMethod) → class_named p t ≡ Some c → In m c.methods → In x c.methods → m.name ≡ x.name
-      → proto_text m.signature ≡ proto_text x.signature → m.signature ≡ x.signature
+  pub methods : (t : Text) (c : NamedClass) (m x : NamedMethod) → class_named p t ≡ Some c → In m c.methods → In x c.methods → m.name ≡ x.name
+      → proto_text m.signature ≡ proto_text x.signature → m ≡ x
 
 -- What a table of shut methods owes: no call names one on the framework, every other method of its name with code above a
 -- class that finds it is kept or shut, and in version 037 none is of an interface.

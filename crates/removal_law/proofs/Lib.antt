@@ -16,5 +16,6 @@ pub mod Finds
 pub mod Searches
 pub mod Virtuals
 pub mod Outward
+pub mod Climbs
 pub mod Fields
 pub mod Firsts

@@ -75,10 +75,10 @@ module _ (p : NamedProgram) (s : Family) (above : KeepsAbove p s) where
   pub up_kept : (t : Text) (c : NamedClass) → class_named p t ≡ Some c → Kept s p t → (u : Text) → In u (c.superclass ∷ c.interfaces) → Kept s p u
   up_kept t c e h u i = λ d. above.above t c e (h (defined p t c e)) u (contained u (c.superclass ∷ c.interfaces) i) d
 
-  own_above_some : (r : NamedProgram) (t : Text) (c : NamedClass) → class_named r t ≡ Some c → own_above r t ≡ c.superclass ∷ c.interfaces
+  pub own_above_some : (r : NamedProgram) (t : Text) (c : NamedClass) → class_named r t ≡ Some c → own_above r t ≡ c.superclass ∷ c.interfaces
   own_above_some r t c e = ap (λ o. elim o as (λ o. List Text) [ Some c ↦ c.superclass ∷ c.interfaces | None ↦ [] ]) e
 
-  own_above_none : (r : NamedProgram) (t : Text) → class_named r t ≡ None → own_above r t ≡ []
+  pub own_above_none : (r : NamedProgram) (t : Text) → class_named r t ≡ None → own_above r t ≡ []
   own_above_none r t e = ap (λ o. elim o as (λ o. List Text) [ Some c ↦ c.superclass ∷ c.interfaces | None ↦ [] ]) e
 
   -- a walk ends after as many steps in both
@@ -98,7 +98,7 @@ module _ (p : NamedProgram) (s : Family) (above : KeepsAbove p s) where
     absent : (n m : ℕ) (t : Text) → class_named p t ≡ None → class_named q t ≡ None → Tree n m t
     present : (n m : ℕ) (t : Text) (c : NamedClass) → class_named p t ≡ Some c → class_named q t ≡ Some (left_in s c) → ((u : Text) → In u (c.superclass ∷ c.interfaces) → Tree n m u) → Tree (suc n) (suc m) t
 
-  nothing : (t : Text) → ends p zero t ≡ true → class_named p t ≡ None
+  pub nothing : (t : Text) → ends p zero t ≡ true → class_named p t ≡ None
   nothing t e = by (class_named p t) refl e
     where
       by : (o : Option NamedClass) → class_named p t ≡ o → not (is_there o) ≡ true → class_named p t ≡ None
@@ -147,7 +147,7 @@ module _ (p : NamedProgram) (s : Family) (above : KeepsAbove p s) where
       ∙ sym (ap (map (left_in s)) (chain_some p m t c e))
 
   -- each of them stands in the program under its name, and what is above it has been walked through
-  chain_head : (m : ℕ) (t : Text) (c : NamedClass) (P : Type 0) → ((d : NamedClass) → class_named p t ≡ Some d → c ≡ d → P) → ((d : NamedClass) → class_named p t ≡ Some d → In c (chain_from m p d.superclass) → P)
+  pub chain_head : (m : ℕ) (t : Text) (c : NamedClass) (P : Type 0) → ((d : NamedClass) → class_named p t ≡ Some d → c ≡ d → P) → ((d : NamedClass) → class_named p t ≡ Some d → In c (chain_from m p d.superclass) → P)
       → In c (chain_from (suc m) p t) → P
   chain_head m t c P here_case there_case i = by (class_named p t) refl i
     where

@@ -43,7 +43,7 @@ module _ (p : NamedProgram) (s : Family) (above : KeepsAbove p s) (regular : IsR
   pub inherited : (t : Text) (f : Found) → inherits p t n g ≡ Some f → IsMethodOf p n g f
   inherited t f e = let w = first_where is_virtual_method n g (chain_of p t) f e in where_method (chain_of p t) f w (chain_named p s above (length p.classes) t w.class w.stands)
 
-  same_class : (c d : NamedClass) → In d (c ∷ []) → d ≡ c
+  pub same_class : (c d : NamedClass) → In d (c ∷ []) → d ≡ c
   same_class c d (here ys) = refl
   same_class c d (there y ys i) = elim i [ ]
 

@@ -40,7 +40,7 @@ module _ (s : Family) where
   live_found t l [] = refl
   live_found t l (c ∷ cs) = live_step t c cs l (live_found t l cs) (text_eq c.name t) (s.classes c.name) refl refl
 
-  dead_found : (t : Text) → s.classes t ≡ false → (cs : List NamedClass) → seek t (left cs) ≡ None
+  pub dead_found : (t : Text) → s.classes t ≡ false → (cs : List NamedClass) → seek t (left cs) ≡ None
   dead_found t l [] = refl
   dead_found t l (c ∷ cs) = dead_step t c cs l (dead_found t l cs) (text_eq c.name t) (s.classes c.name) refl refl
 

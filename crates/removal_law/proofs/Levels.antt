@@ -29,7 +29,7 @@ module _ (p : NamedProgram) where
   undefined_above : (t : Text) → defines p t ≡ false → own_above p t ≡ []
   undefined_above t e = none_above t (class_named p t) refl e
 
-  undefined_ends : (t : Text) → defines p t ≡ false → (n : ℕ) → ends p n t ≡ true
+  pub undefined_ends : (t : Text) → defines p t ≡ false → (n : ℕ) → ends p n t ≡ true
   undefined_ends t e zero = ap not e
   undefined_ends t e (suc n) = ap (list_all (ends p n)) (undefined_above t e)
 

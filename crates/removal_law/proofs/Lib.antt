@@ -19,3 +19,4 @@ pub mod Outward
 pub mod Climbs
 pub mod Fields
 pub mod Firsts
+pub mod Declared

@@ -28,7 +28,7 @@ find_filter test keep h (x ∷ xs) = by (test x) (keep x) refl refl (find_filter
     by true false e i r = clash (keep x) (h x e) i
     by false false e i r = ap (λ d. find test (cond d (x ∷ filter keep xs) (filter keep xs))) i ∙ r ∙ sym (ap (λ b. cond b (Some x) (find test xs)) e)
 
-texts_sound : (ts us : List Text) → texts_eq ts us ≡ true → ts ≡ us
+pub texts_sound : (ts us : List Text) → texts_eq ts us ≡ true → ts ≡ us
 texts_sound [] [] e = refl
 texts_sound [] (u ∷ us) e = clash false e refl
 texts_sound (t ∷ ts) [] e = clash false e refl

@@ -193,6 +193,9 @@ module _ (p : NamedProgram) (s : Family) (above : KeepsAbove p s) (regular : IsR
       by (Some f) l = refl
       by None l = among_left p s above regular (flat_map (λ c. c.interfaces) (chain_of p t)) k.name k.signature (λ u i. interfaces_kept t u h i) l live_kept
 
+  pub at_some : (t : Text) (k : MethodKey) (g : Found) → inherits p t k.name k.signature ≡ Some g → finds_at p t k ≡ Finds g
+  at_some t k g e = ap (at_of p (flat_map (λ c. c.interfaces) (chain_of p t)) k) e
+
   pub at_in : (t : Text) (k : MethodKey) (f : Found) → finds_at p t k ≡ Finds f → In f (answers_to p t k.name k.signature)
   at_in t k f e = by (inherits p t k.name k.signature) e
     where

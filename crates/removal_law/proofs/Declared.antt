@@ -60,7 +60,7 @@ method_sound a b e =
 
 -- ---- searches
 
-find_kept : {A : Type 0} (test keep : A → Bool) (xs : List A) (m : A) → find test xs ≡ Some m → keep m ≡ true → find test (filter keep xs) ≡ Some m
+pub find_kept : {A : Type 0} (test keep : A → Bool) (xs : List A) (m : A) → find test xs ≡ Some m → keep m ≡ true → find test (filter keep xs) ≡ Some m
 find_kept test keep [] m e k = none_some m e
 find_kept {A} test keep (x ∷ xs) m e k = by (test x) refl (keep x) refl e (find_kept test keep xs m)
   where
@@ -71,7 +71,7 @@ find_kept {A} test keep (x ∷ xs) m e k = by (test x) refl (keep x) refl e (fin
     by false i true j a ih = ap (λ d. find test (cond d (x ∷ filter keep xs) (filter keep xs))) j ∙ ap (λ b. cond b (Some x) (find test (filter keep xs))) i ∙ ih a k
     by false i false j a ih = ap (λ d. find test (cond d (x ∷ filter keep xs) (filter keep xs))) j ∙ ih a k
 
-none_there : {A : Type 0} (test : A → Bool) (xs : List A) → find test xs ≡ None → (x : A) → In x xs → test x ≡ false
+pub none_there : {A : Type 0} (test : A → Bool) (xs : List A) → find test xs ≡ None → (x : A) → In x xs → test x ≡ false
 none_there test [] e x i = elim i [ ]
 none_there {A} test (y ∷ xs) e x i = by (test y) refl e (none_there test xs) x i
   where
@@ -96,7 +96,7 @@ some_there test xs x i e = by (find test xs) refl
     by (Some y) j = ap is_some j
     by None j = clash (test x) e (none_there test xs j x i)
 
-not_false : (b : Bool) → not b ≡ true → b ≡ false
+pub not_false : (b : Bool) → not b ≡ true → b ≡ false
 not_false true e = clash true refl (sym e)
 not_false false e = refl
 
@@ -104,7 +104,7 @@ or_none : (a b : Bool) {A : Type 0} → a ≡ false → b ≡ false → (a || b)
 or_none true b e i j = clash true refl e
 or_none false b e i j = clash b j i
 
-and_none : (a b : Bool) → b ≡ false → (a && b) ≡ false
+pub and_none : (a b : Bool) → b ≡ false → (a && b) ≡ false
 and_none true b e = e
 and_none false b e = refl
 
@@ -117,16 +117,16 @@ found_it k (Finds g) e = (g, (refl, method_sound g.key k e))
 
 module _ (p : NamedProgram) (o : Outer) (kept : Conditions) (s : Family) (f : Framework) (closed : IsClosedFamily p o kept s) (regular : IsRegular p) (code : IsSoundCode p) (shuts : ShutsHold p o)
     (none : NamesNone p f) where
-  abbrev q : NamedProgram
+  abbrev pub q : NamedProgram
   q = left_of s p
 
-  abbrev F : Face
+  abbrev pub F : Face
   F = face_of p f
 
-  abbrev G : Face
+  abbrev pub G : Face
   G = face_of (left_of s p) f
 
-  above : KeepsAbove p s
+  pub above : KeepsAbove p s
   above = closed.above
 
   -- ---- types
@@ -179,10 +179,10 @@ module _ (p : NamedProgram) (o : Outer) (kept : Conditions) (s : Family) (f : Fr
   -- ---- one method of a class
 
   module _ (c : NamedClass) (m : NamedMethod) (named : class_named p c.name ≡ Some c) (stands : In m c.methods) where
-    abbrev K : MethodKey
+    abbrev pub K : MethodKey
     K = key_in c m
 
-    abbrev f0 : Found
+    abbrev pub f0 : Found
     f0 = found_of c m
 
     defined_method_there : is_some (defined_method p K) ≡ true
@@ -196,20 +196,20 @@ module _ (p : NamedProgram) (o : Outer) (kept : Conditions) (s : Family) (f : Fr
         by true e = clash (s.methods K) (closed.kept.methods K defined_method_there (ap (λ b. b || (kept.methods K && s.classes c.name)) e)) dead
         by false e = e
 
-    abbrev may : Text → Bool
+    abbrev pub may : Text → Bool
     may t = is_outward p t || is_common m.name m.signature
 
     called_live : (t : Text) → defines p t ≡ true → MadeType p s t → may t ≡ true → (h : Found) → In h (answers_to p t m.name m.signature) → o.shut h.key ≡ false → s.methods h.key ≡ true
     called_live t d mt e h i n = closed.called_back t m.name m.signature (mt d) e h (contained h (answers_to p t m.name m.signature) i) n
 
-    some_defines : (r : NamedProgram) (t : Text) → is_some (class_named r t) ≡ defines r t
+    pub some_defines : (r : NamedProgram) (t : Text) → is_some (class_named r t) ≡ defines r t
     some_defines r t = by (class_named r t)
       where
         by : (x : Option NamedClass) → is_some x ≡ (elim x as (λ x. Bool) [ Some c ↦ true | None ↦ false ])
         by None = refl
         by (Some c) = refl
 
-    abbrev virtual_of : NamedProgram → Bool → Text → Search
+    abbrev pub virtual_of : NamedProgram → Bool → Text → Search
     virtual_of r b t = elim b as (λ b. Search) [ true ↦ finds_at r t K | false ↦ Nothing ]
 
     virtual_at : (t : Text) (g : Found) → finds_virtually p f t K ≡ Finds g → (defines p t ≡ true) × (finds_at p t K ≡ Finds g)
@@ -219,7 +219,7 @@ module _ (p : NamedProgram) (o : Outer) (kept : Conditions) (s : Family) (f : Fr
         by true i a = (sym (some_defines p t) ∙ and_left (is_some (class_named p t)) (is_under p f t c.name) i, a)
         by false i a = nothing_finds g a
 
-    abbrev virtual_test : Bool
+    abbrev pub virtual_test : Bool
     virtual_test = is_virtual m.flags m.name
 
     -- a method that isn't live is neither kept nor called back
@@ -240,7 +240,7 @@ module _ (p : NamedProgram) (o : Outer) (kept : Conditions) (s : Family) (f : Fr
 
     module _ (live : s.methods K ≡ true) (coded : is_some m.body ≡ true) (t : Text) (ok : OkType p s t) (made : MadeType p s t) (d : defines p t ≡ true) (free : o.methods K ≡ false) (unshut : o.shut K ≡ false)
         (open_to : may t ≡ true) where
-      kept_t : Kept s p t
+      pub kept_t : Kept s p t
       kept_t = ok_kept t ok
 
       same_if_live : ((h : Found) → In h (answers_to p t m.name m.signature) → s.methods h.key ≡ true) → finds_at q t K ≡ finds_at p t K
@@ -329,7 +329,7 @@ module _ (p : NamedProgram) (o : Outer) (kept : Conditions) (s : Family) (f : Fr
             second true e = let r = found_it K (finds_at q t K) e in e ∙ conflict r.0 r.1.0 r.1.1
             second false e = e
 
-      at_same : is_found K (finds_at p t K) ≡ is_found K (finds_at q t K)
+      pub at_same : is_found K (finds_at p t K) ≡ is_found K (finds_at q t K)
       at_same = by (inherits p t m.name m.signature) refl
         where
           only : (g : Found) → s.methods g.key ≡ true → (h : Found) → In h (g ∷ []) → s.methods h.key ≡ true

@@ -20,3 +20,4 @@ pub mod Climbs
 pub mod Fields
 pub mod Firsts
 pub mod Declared
+pub mod Entered

@@ -21,3 +21,4 @@ pub mod Fields
 pub mod Firsts
 pub mod Declared
 pub mod Entered
+pub mod CallsLeft

@@ -40,7 +40,7 @@ module _ (s : Family) (k : FieldKey) where
   live_field : (c : NamedClass) → s.fields (named c.name k) ≡ true → field_in (left_in s c) k.name k.kind ≡ field_in c k.name k.kind
   live_field c e = find_filter (is_named k) (λ f. s.fields (field_key c.name f)) (λ f i. ap s.fields (field_sound c.name k f i) ∙ e) c.fields
 
-  dead_field : (c : NamedClass) → s.fields (named c.name k) ≡ false → field_in (left_in s c) k.name k.kind ≡ None
+  pub dead_field : (c : NamedClass) → s.fields (named c.name k) ≡ false → field_in (left_in s c) k.name k.kind ≡ None
   dead_field c e = not_found (is_named k) (filter (λ f. s.fields (field_key c.name f)) c.fields) (λ f i. by f i (is_named k f) refl)
     where
       by : (f : NamedField) → In f (filter (λ f. s.fields (field_key c.name f)) c.fields) → (b : Bool) → is_named k f ≡ b → is_named k f ≡ false

@@ -22,3 +22,4 @@ pub mod Firsts
 pub mod Declared
 pub mod Entered
 pub mod CallsLeft
+pub mod Faces

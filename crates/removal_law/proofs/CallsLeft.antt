@@ -62,7 +62,7 @@ body_in p k b e = by (class_named p k.class) refl e
 pub is_called_outside : (p : NamedProgram) (n : Text) (g : Signature) (k : MethodKey) (b : NamedBody) (x : Form) → bodies_of p k ≡ Some b → In x b.forms → names_outside p n g x ≡ true → called_outside p n g ≡ true
 is_called_outside p n g k b x e i t = let w = body_in p k b e in
     any_here (λ c. list_any in_body c.methods) w.class p.classes w.class_in
-        (any_here in_body w.method w.class.methods w.method_in (ap with_body w.body ∙ any_here (names_outside p n g) x b.forms i t))
+    (any_here in_body w.method w.class.methods w.method_in (ap with_body w.body ∙ any_here (names_outside p n g) x b.forms i t))
   where
     with_body : Option NamedBody → Bool
     with_body o = elim o as (λ o. Bool) [ Some b ↦ list_any (names_outside p n g) b.forms | None ↦ false ]

@@ -234,7 +234,7 @@ module _ (p : NamedProgram) (o : Outer) (kept : Conditions) (s : Family) (f : Fr
             let shut : o.shut K ≡ false = not_false (o.shut K) (and_behind virtual_test (not (o.shut K)) (and_left (virtual_test && not (o.shut K)) (is_found K (F.virtually t K)) x)) in
             let a = virtual_at t r.0 r.1.0 in
             clash (s.methods K) (ap s.methods (sym r.1.1) ∙ called_live t a.0 mt (and_behind (virtual_test && not (o.shut K) && is_found K (F.virtually t K)) (may t) e) r.0
-                (at_in p s above regular t K r.0 a.1) (ap o.shut r.1.1 ∙ shut)) dead
+            (at_in p s above regular t K r.0 a.1) (ap o.shut r.1.1 ∙ shut)) dead
 
     -- ---- a live method
 
@@ -271,7 +271,7 @@ module _ (p : NamedProgram) (o : Outer) (kept : Conditions) (s : Family) (f : Fr
 
         finds_g : finds_it p g.key there_d.0 ≡ true
         finds_g = ap (is_found_as g.key) (ap (λ x. finds_at p x g.key) (class_name p t there_d.0 there_d.1)
-                ∙ at_some p s above regular t g.key g (ap (λ x. inherits p t x.name x.signature) gm.key_is ∙ got))
+            ∙ at_some p s above regular t g.key g (ap (λ x. inherits p t x.name x.signature) gm.key_is ∙ got))
             ∙ method_same g.key
 
         other_class : text_eq c.name g.key.class ≡ false

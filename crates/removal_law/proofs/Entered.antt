@@ -143,9 +143,9 @@ module _ (p : NamedProgram) (o : Outer) (kept : Conditions) (s : Family) (f : Fr
           by x j false a = a
           by x j true a =
               let same : x ≡ m = code.methods t c x m e (in_unfiltered (keeps c) x c.methods j) h.is_in
-                  (text_sound x.name n (and_left (text_eq x.name n) (text_eq (proto_text x.signature) proto) a) ∙ sym (text_sound m.name n (and_left (text_eq m.name n) (text_eq (proto_text m.signature) proto) h.passes)))
-                  (text_sound (proto_text x.signature) proto (and_behind (text_eq x.name n) (text_eq (proto_text x.signature) proto) a)
-                  ∙ sym (text_sound (proto_text m.signature) proto (and_behind (text_eq m.name n) (text_eq (proto_text m.signature) proto) h.passes))) in
+              (text_sound x.name n (and_left (text_eq x.name n) (text_eq (proto_text x.signature) proto) a) ∙ sym (text_sound m.name n (and_left (text_eq m.name n) (text_eq (proto_text m.signature) proto) h.passes)))
+              (text_sound (proto_text x.signature) proto (and_behind (text_eq x.name n) (text_eq (proto_text x.signature) proto) a)
+              ∙ sym (text_sound (proto_text m.signature) proto (and_behind (text_eq m.name n) (text_eq (proto_text m.signature) proto) h.passes))) in
               clash (s.methods (key_in c x)) (in_filter (keeps c) x c.methods j) (ap (λ y. s.methods (key_in c y)) same ∙ dead)
 
       live_c : (m : NamedMethod) → s.methods (key_in c m) ≡ true → s.classes t ≡ true

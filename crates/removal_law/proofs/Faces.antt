@@ -262,9 +262,11 @@ module _ (p : NamedProgram) (o : Outer) (kept : Conditions) (s : Family) (f : Fr
 
       by : (x : Option NamedClass) → class_named p t ≡ x → (elim (option_map (λ c. c.flags) x) as (λ x. Bool) [ Some n ↦ not (is_interface n) && not (is_abstract n) | None ↦ false ]) ≡ true → OkType p s t × MadeType p s t
       by None i a = clash false a refl
-      by (Some c) i a = (live_of t (defined p t c i) (kept_class t (defined p t c i) k),
-          λ d. closed.made.kept t (ap (λ x. elim x as (λ x. Bool) [ Some c ↦ not (is_interface c.flags) && not (is_abstract c.flags) | None ↦ false ]) i ∙ a)
-              (ap (λ b. b || list_any (λ c. kept.classes t c.name && s.classes c.name) p.classes) k))
+      by (Some c) i a = (
+        live_of t (defined p t c i) (kept_class t (defined p t c i) k),
+        λ d. closed.made.kept t (ap (λ x. elim x as (λ x. Bool) [ Some c ↦ not (is_interface c.flags) && not (is_abstract c.flags) | None ↦ false ]) i ∙ a)
+            (ap (λ b. b || list_any (λ c. kept.classes t c.name && s.classes c.name) p.classes) k),
+      )
 
   -- ---- all of it
 

@@ -92,10 +92,10 @@ module _ (p : NamedProgram) (s : Family) (above : KeepsAbove p s) (regular : IsR
   from_follows (suc n) (suc m) t (present i j u c e d sub) =
       subst (λ o. Follow (LiveField s k) o (field_from (suc n) q k t)) (sym (ap (step_of p m) e))
       (subst (λ o. Follow (LiveField s k) (step_of p m (Some c)) o) (sym (ap (step_of q n) d))
-          (follow_or (LiveField s k) (option_map (with_class c.name) (field_in c k.name k.kind)) (option_map (with_class c.name) (field_in (left_in s c) k.name k.kind))
-              (first_field (map (field_from m p k) (c.interfaces ++ c.superclass ∷ []))) (first_field (map (field_from n q k) (c.interfaces ++ c.superclass ∷ [])))
-              (class_follows s k c)
-              (list_follows s k (field_from m p k) (field_from n q k) (c.interfaces ++ c.superclass ∷ []) (λ v a. from_follows n m v (sub v (ups c v a))))))
+      (follow_or (LiveField s k) (option_map (with_class c.name) (field_in c k.name k.kind)) (option_map (with_class c.name) (field_in (left_in s c) k.name k.kind))
+      (first_field (map (field_from m p k) (c.interfaces ++ c.superclass ∷ []))) (first_field (map (field_from n q k) (c.interfaces ++ c.superclass ∷ [])))
+      (class_follows s k c)
+      (list_follows s k (field_from m p k) (field_from n q k) (c.interfaces ++ c.superclass ∷ []) (λ v a. from_follows n m v (sub v (ups c v a))))))
 
   -- the field that a name resolves to
   pub finds_left : Kept s p k.class → ((x : Text × NamedField) → finds_field p k ≡ Some x → s.fields (record k { class = x.0 }) ≡ true) → finds_field q k ≡ finds_field p k

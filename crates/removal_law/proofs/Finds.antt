@@ -229,7 +229,7 @@ module _ (p : NamedProgram) (s : Family) (above : KeepsAbove p s) (regular : IsR
     own_same : (c : NamedClass) → ((f : Found) → In f (own_candidate n g c) → s.methods f.key ≡ true) → own_candidate n g (left_in s c) ≡ own_candidate n g c
     own_same c l = ap (λ o. elim o as (λ o. List Found) [ Some f ↦ f ∷ [] | None ↦ [] ])
         (follow_same (LiveFound s) (passing is_virtual_method c (method_in c n g)) (passing is_virtual_method (left_in s c) (method_in (left_in s c) n g)) (class_follows s is_virtual_method n g c)
-            (λ f e. l f (subst (λ o. In f (elim o as (λ o. List Found) [ Some f ↦ f ∷ [] | None ↦ [] ])) (sym e) (here []))))
+        (λ f e. l f (subst (λ o. In f (elim o as (λ o. List Found) [ Some f ↦ f ∷ [] | None ↦ [] ])) (sym e) (here []))))
 
     cand_same : (i j : ℕ) (ts : List Text) → Trees i j ts → ((f : Found) → In f (candidates_from j p n g ts) → s.methods f.key ≡ true) → candidates_from i q n g ts ≡ candidates_from j p n g ts
     cand_same zero zero ts h l = refl
@@ -246,10 +246,10 @@ module _ (p : NamedProgram) (s : Family) (above : KeepsAbove p s) (regular : IsR
             by None e = refl
             by (Some c) e =
                 ap (λ fs. fs ++ candidates_from i q n g c.interfaces) (own_same c (λ f a. l f (in_flat (λ t. step_of j p (interface_named p t)) t f ts k
-                    (subst (λ o. In f (step_of j p o)) (sym e) (in_front f (own_candidate n g c) (candidates_from j p n g c.interfaces) a)))))
+                (subst (λ o. In f (step_of j p o)) (sym e) (in_front f (own_candidate n g c) (candidates_from j p n g c.interfaces) a)))))
                 ∙ ap (λ fs. own_candidate n g c ++ fs) (ih c.interfaces (λ u a. trees_up i j t c (h t k) (interface_class t c e) u (there c.superclass c.interfaces a))
-                    (λ f a. l f (in_flat (λ t. step_of j p (interface_named p t)) t f ts k
-                        (subst (λ o. In f (step_of j p o)) (sym e) (in_back f (own_candidate n g c) (candidates_from j p n g c.interfaces) a)))))
+                (λ f a. l f (in_flat (λ t. step_of j p (interface_named p t)) t f ts k
+                (subst (λ o. In f (step_of j p o)) (sym e) (in_back f (own_candidate n g c) (candidates_from j p n g c.interfaces) a)))))
 
     -- each has the name and the signature
     abbrev Keyed : List Found → Type 0
@@ -322,7 +322,7 @@ module _ (p : NamedProgram) (s : Family) (above : KeepsAbove p s) (regular : IsR
   lowest_left : (fs : List Found) → ((f : Found) → In f fs → Kept s p f.key.class) → lowest q fs ≡ lowest p fs
   lowest_left fs h = filter_same (λ f. f.coded && is_lowest q fs f) (λ f. f.coded && is_lowest p fs f) fs (λ f i. ap (λ b. f.coded && not b)
       (any_same (λ g. not (text_eq g.key.class f.key.class) && is_own_under q g.key.class f.key.class) (λ g. not (text_eq g.key.class f.key.class) && is_own_under p g.key.class f.key.class) fs
-          (λ g j. ap (λ b. not (text_eq g.key.class f.key.class) && b) (own_under_left p s above regular g.key.class f.key.class (h g j)))))
+      (λ g j. ap (λ b. not (text_eq g.key.class f.key.class) && b) (own_under_left p s above regular g.key.class f.key.class (h g j)))))
 
   pub among_left : (ts : List Text) (n : Text) (g : Signature) → ((t : Text) → In t ts → Kept s p t) → ((f : Found) → In f (candidates p ts n g) → s.methods f.key ≡ true)
       → ((f : Found) → s.methods f.key ≡ true → Kept s p f.key.class) → finds_among q ts n g ≡ finds_among p ts n g

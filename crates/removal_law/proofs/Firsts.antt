@@ -103,7 +103,7 @@ module _ (p : NamedProgram) (s : Family) (above : KeepsAbove p s) (regular : IsR
             by (Some c) e = let d = interface_class p s above regular t c e in
                 ap (λ b. interfaces_before n q c.interfaces ++ only_if b t) (defaults t c v e (l t i (defined p t c d)))
                 ∙ ap (λ us. us ++ only_if (has_default c) t) (ih c.interfaces (λ u a. trees_up p s above regular n m t c (h t i) d u (there c.superclass c.interfaces a))
-                    (λ u a. up_kept p s above t c d (l t i) u (there c.superclass c.interfaces a)))
+                (λ u a. up_kept p s above t c d (l t i) u (there c.superclass c.interfaces a)))
 
   module _ (defaults : KeepsDefaults p s) where
     interfaces_left : (t : Text) (c : NamedClass) → class_named p t ≡ Some c → Kept s p t → interfaces_first q (left_in s c) ≡ interfaces_first p c

@@ -170,8 +170,8 @@ module _ (ok made : Text → Type 0) (live : MethodKey → Type 0) (says : Metho
         refl
         (ap (λ b. o.methods f.key && b) (all_same w u gs vs f.key.signature.parameters e (all_kinds w gs e h.kinds) (agree.parameters_ok f.key l.lives)))
         (and_same (all_fit F o w u gs vs (f.key.class ∷ f.key.signature.parameters)) (all_fit G o w u gs vs (f.key.class ∷ f.key.signature.parameters)) (receiver_ok F o u f vs) (receiver_ok G o u f vs)
-            (all_same w u gs vs (f.key.class ∷ f.key.signature.parameters) e (all_kinds w gs e h.kinds) (agree.class_ok f.key l.lives, agree.parameters_ok f.key l.lives))
-            (λ j. receiver_same u f vs l i (fine_if (f.key.class ∷ f.key.signature.parameters) j)))
+        (all_same w u gs vs (f.key.class ∷ f.key.signature.parameters) e (all_kinds w gs e h.kinds) (agree.class_ok f.key l.lives, agree.parameters_ok f.key l.lives))
+        (λ j. receiver_same u f vs l i (fine_if (f.key.class ∷ f.key.signature.parameters) j)))
 
     pub enter_same : IsOpen ok made live o F G f → may_enter F o w u f gs vs ≡ may_enter G o w u f gs vs
     enter_same l = and_same (f.coded && not (is_class_initialiser f)) (f.coded && not (is_class_initialiser f)) (may_enter_found F o w u f gs vs) (may_enter_found G o w u f gs vs)

@@ -23,3 +23,4 @@ pub mod Declared
 pub mod Entered
 pub mod CallsLeft
 pub mod Faces
+pub mod Removal

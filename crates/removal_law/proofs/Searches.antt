@@ -184,7 +184,7 @@ module _ (p : NamedProgram) (s : Family) (above : KeepsAbove p s) (regular : IsR
       → ((f : Found) → In f (answers_to p t k.name k.signature) → s.methods f.key ≡ true) → finds_at q t k ≡ finds_at p t k
   at_left live_kept t k h l =
       ap (at_of q (flat_map (λ c. c.interfaces) (chain_of q t)) k) (chain_first p s above regular is_virtual_method k.name k.signature t h
-          (λ f e. l f (subst (λ o. In f (answers_of t k.name k.signature o)) (sym e) (here []))))
+      (λ f e. l f (subst (λ o. In f (answers_of t k.name k.signature o)) (sym e) (here []))))
       ∙ ap (λ ts. at_of q ts k (inherits p t k.name k.signature)) (interfaces_same t h)
       ∙ by (inherits p t k.name k.signature) l
     where

@@ -202,7 +202,7 @@ module _ (ok made : Text → Type 0) (live : MethodKey → Type 0) (says : Metho
   unwinding w c v (Method f ∷ rest) script h s m =
       subst (λ x. Good (unwinds F find w c v (Method f ∷ rest) script) (lands_or w c rest script x (unwinds G other w c v rest script))) (lands_same w f v h s.0)
       (landing w c f rest script (option_and_then (handler_at (F.under (kind_of w v)) f.position) (find f.method)) v (unwinds F find w c v rest script) (unwinds G other w c v rest script)
-          h s.0 s.1 m (unwinding w c v rest script h s.1 m))
+      h s.0 s.1 m (unwinding w c v rest script h s.1 m))
   unwinding w c v (Initialiser t above ∷ rest) script h s m = unwinding w (put_status t Failed c) v rest (given_up rest script) h s.1.1 (given_up_fits rest script m)
   unwinding w c v (Ending t ∷ rest) script h s m =
       subst (λ x. Good (unwinds F find w c v (Ending t ∷ rest) script) (unwinds G other x.0 (put_status t Failed c) x.1 rest (given_up rest script))) (wrap_same w v h)

@@ -175,13 +175,15 @@ module _ (ok made : Text → Type 0) (live : MethodKey → Type 0) (says : Metho
     enter_cases (Some f) b gs e (inl g) = subst (λ x. Fair (enter S find w c (Some f) gs stack script rest) (enter Z other w c x gs stack script rest)) (sym g.1) (enter_live f gs e g.0)
     enter_cases (Some f) b gs e (inr g) = subst (λ x. Fair (enter S find w c (Some f) gs stack script rest) (enter Z other w c x gs stack script rest)) (sym g.1)
         (subst (λ x. Fair (elim x as (λ b. Next) [ true ↦ entered S find w c f (gets_all w gs).1 stack script rest (gets_all w gs).0 | false ↦ quiet Ended ]) (quiet Ended))
-            (sym (enter_barred ok made live says p o F G find other agree w h f gs e g.0)) over)
+        (sym (enter_barred ok made live says p o F G find other agree w h f gs e g.0)) over)
 
     making : (t : Text) → Fair (make S find w c t stack script rest) (make Z other w c t stack script rest)
     making t = fair_if (may_make F o t) (may_make G o t) _ _ _ _ (make_same ok made live says p o F G find other agree t)
-        (λ i. let k = agree.made_ok t i in needed t _ _ k.0 (one (makes_now w c t stack rest)
-            (fine_heap (with_thing w (fresh t)) (show (with_thing w (fresh t)) t (next_object w)).0 (show_heap (with_thing w (fresh t)) t (next_object w))
-                (sound_with ok made live says p o F G find other agree w (fresh t) h k), (s, n))))
+        (λ i. let k = agree.made_ok t i in needed t _ _ k.0 (one (makes_now w c t stack rest) (
+          fine_heap (with_thing w (fresh t)) (show (with_thing w (fresh t)) t (next_object w)).0 (show_heap (with_thing w (fresh t)) t (next_object w))
+              (sound_with ok made live says p o F G find other agree w (fresh t) h k),
+          (s, n),
+        )))
         (λ i. over)
 
   module _ (w : World) (c : Classes) (below : List Waiting) (rest : List Move) (h : Fine w) (s : Stacked below) (n : Scripted rest) where
@@ -225,7 +227,7 @@ module _ (ok made : Text → Type 0) (live : MethodKey → Type 0) (says : Metho
       reading k (Some x) on e = fair_if (o.fields k && on_fits F o w (got w on).0 k x on (got w on).1) (o.fields k && on_fits G o w (got w on).0 k x on (got w on).1) _ _ _ _
           (ap (λ b. o.fields k && b) (on_place_same ok made live says p o F G find other agree w (got w on).0 k x on (got w on).1 e (got_kinds ok made live says p o F G find other agree w on e h.kinds)))
           (λ i. showing (got w on).0 k.kind (field_value (got w on).0 k x (got w on).1)
-              (on_place_fine ok made live says p o F G find other agree w (got w on).0 k x on (got w on).1 e h (and_behind (o.fields k) (on_fits F o w (got w on).0 k x on (got w on).1) i)))
+          (on_place_fine ok made live says p o F G find other agree w (got w on).0 k x on (got w on).1 e h (and_behind (o.fields k) (on_fits F o w (got w on).0 k x on (got w on).1) i)))
           (λ i. over)
 
       read_field : (k : FieldKey) (on : Option Given) (b : Bool) → o.fields k ≡ b → OptionFits ok made live says p o F G find other agree on
@@ -263,7 +265,7 @@ module _ (ok made : Text → Type 0) (live : MethodKey → Type 0) (says : Metho
       writing k None on g e i q = over
       writing k (Some x) on g e i q = fair_if (write_test F k x on g) (write_test G k x on g) _ _ _ _ same
           (λ j. going (with_field (gets (got w on).0 g).0 k (got w on).1 (stored (item_of_type k.kind) (gets (got w on).0 g).1))
-              (field_written (gets (got w on).0 g).0 k (got w on).1 (stored (item_of_type k.kind) (gets (got w on).0 g).1) (fine j)))
+          (field_written (gets (got w on).0 g).0 k (got w on).1 (stored (item_of_type k.kind) (gets (got w on).0 g).1) (fine j)))
           (λ j. over)
         where
           on_kinds : Kinds ok (got w on).0.heap
@@ -272,7 +274,7 @@ module _ (ok made : Text → Type 0) (live : MethodKey → Type 0) (says : Metho
           same : write_test F k x on g ≡ write_test G k x on g
           same = ap (λ y. o.fields k && y && value_test F k on g) (on_place_same ok made live says p o F G find other agree w (got w on).0 k x on (got w on).1 e on_kinds)
               ∙ ap (λ y. o.fields k && place_test G k x on && y) (fits_same ok made live says p o F G find other agree (got w on).0 (gets (got w on).0 g).0 g (gets (got w on).0 g).1 k.kind i
-                  (gets_kinds ok made live says p o F G find other agree (got w on).0 g i on_kinds) (q x refl))
+              (gets_kinds ok made live says p o F G find other agree (got w on).0 g i on_kinds) (q x refl))
 
           fine : write_test F k x on g ≡ true → Fine (gets (got w on).0 g).0
           fine j = given_fine ok made live says p o F G find other agree (got w on).0 (gets (got w on).0 g).0 g (gets (got w on).0 g).1 k.kind i
@@ -307,7 +309,7 @@ module _ (ok made : Text → Type 0) (live : MethodKey → Type 0) (says : Metho
       item_written on (Some (Items k vs)) i g e d = fair_if (fits F o w (gets w g).0 g (gets w g).1 k) (fits G o w (gets w g).0 g (gets w g).1 k) _ _ _ _
           (fits_same ok made live says p o F G find other agree w (gets w g).0 g (gets w g).1 k d (gets_kinds ok made live says p o F G find other agree w g d h.kinds) q)
           (λ j. going (with_item (gets w g).0 on k vs i (gets w g).1)
-              (put_in (gets w g).0 on k vs i (gets w g).1 (nat_lt i (length vs)) (given_fine ok made live says p o F G find other agree w (gets w g).0 g (gets w g).1 k d h j) q))
+          (put_in (gets w g).0 on k vs i (gets w g).1 (nat_lt i (length vs)) (given_fine ok made live says p o F G find other agree w (gets w g).0 g (gets w g).1 k d h j) q))
           (λ j. over)
         where
           q : ok k

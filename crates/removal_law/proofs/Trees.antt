@@ -124,8 +124,8 @@ module _ (p : NamedProgram) (s : Family) (above : KeepsAbove p s) where
   tree regular t h =
       let g = regular.grounded t in
       grow (length q.classes) (length p.classes) t h
-          (sym (ends_same (length q.classes) t h) ∙ enough_steps q t g.0 (ends_same g.0 t h ∙ g.1))
-          (enough_steps p t g.0 g.1)
+      (sym (ends_same (length q.classes) t h) ∙ enough_steps q t g.0 (ends_same g.0 t h ∙ g.1))
+      (enough_steps p t g.0 g.1)
 
   pub tree_defines : (n m : ℕ) (t : Text) → Tree n m t → defines q t ≡ defines p t
   tree_defines n m t (absent k l u e i) = undefined q u i ∙ sym (undefined p u e)
@@ -228,7 +228,7 @@ module _ (p : NamedProgram) (s : Family) (above : KeepsAbove p s) where
   reaches_left (suc n) (suc m) t (present k l u c e i sub) =
       reaches_some q n t (left_in s c) i
       ∙ ap (λ b. b || list_any (reaches_framework n q) (c.superclass ∷ c.interfaces))
-          (any_same (outside q) (outside p) (c.superclass ∷ c.interfaces) (λ v j. ap (λ b. not b && not (text_eq v object_type)) (tree_defines n m v (sub v j))))
+      (any_same (outside q) (outside p) (c.superclass ∷ c.interfaces) (λ v j. ap (λ b. not b && not (text_eq v object_type)) (tree_defines n m v (sub v j))))
       ∙ ap (λ b. touches_framework p c || b) (any_same (reaches_framework n q) (reaches_framework m p) (c.superclass ∷ c.interfaces) (λ v j. reaches_left n m v (sub v j)))
       ∙ sym (reaches_some p m t c e)
 

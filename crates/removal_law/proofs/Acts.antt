@@ -32,8 +32,8 @@ use Rattle.removal_law.specs.Left.{In, here, there}
 use Rattle.removal_law.specs.Agree.{Each, AgreeOnField, Agree}
 use Rattle.removal_law.proofs.Worlds.{Kinds, kinds_append, kinds_put, kinds_at, kind_known, item_method}
 
-module _ (ok made : Text → Type 0) (live : MethodKey → Type 0) (says : MethodKey → Form → Type 0) (p : NamedProgram) (o : Outer) (F G : Face) (find other : Bodies)
-    (agree : Agree ok made live says p o F G find other) where
+module _ (ok made : Text → Type 0) (live : MethodKey → Type 0) (says : MethodKey → Form → Type 0) (calm : Text → Bool) (p : NamedProgram) (o : Outer) (F G : Face) (find other : Bodies)
+    (agree : Agree ok made live says calm p o F G find other) where
   -- things of kinds that a run comes to, and that objects may have
   pub record Sound (w : World) : Type 0 where
     pub kinds : Kinds ok w.heap

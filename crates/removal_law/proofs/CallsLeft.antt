@@ -25,8 +25,8 @@ use Rattle.pass_defs.specs.Live.{Family, Conditions, IsClosedFamily, KeepsAbove,
 use Rattle.pass_defs.specs.Calls.{is_within, found_by, super_candidates, may_find}
 use Rattle.pass_defs.specs.Mentions.{types_in, types_in_body, fields_in}
 use Rattle.removal_law.specs.Left.{left_in, left_of, NamesNone}
-use Rattle.removal_law.specs.Agree.{searched, AgreeOnCall}
-use Rattle.removal_law.specs.Reach.{OkType, MadeType, LiveMethod, Says, IsRegular, IsSoundCode, ShutsHold}
+use Rattle.removal_law.specs.Agree.{searched, AgreeOnCall, sieved}
+use Rattle.removal_law.specs.Reach.{OkType, MadeType, LiveMethod, Says, IsRegular, IsSoundCode, ShutsHold, is_idle}
 use Rattle.removal_law.proofs.Lists.{clash, In, here, there, contained, in_front, in_back, FoundIn, found_in}
 use Rattle.removal_law.proofs.Classes.{Kept}
 use Rattle.removal_law.proofs.Under.{under_same}
@@ -79,7 +79,7 @@ module _ (p : NamedProgram) (o : Outer) (kept : Conditions) (s : Family) (f : Fr
   F = face_of p f
 
   abbrev G : Face
-  G = face_of (left_of s p) f
+  G = sieved (is_idle p) (face_of (left_of s p) f)
 
   above : KeepsAbove p s
   above = closed.above

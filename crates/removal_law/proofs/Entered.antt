@@ -18,8 +18,8 @@ use Rattle.dalvik_defs.specs.declared.program.NamedProgram.{NamedProgram}
 use Rattle.dalvik_defs.proofs.Calm.{text_sound}
 use Rattle.pass_defs.specs.Live.{Family, Conditions, IsClosedFamily, KeepsAbove}
 use Rattle.removal_law.specs.Left.{left_in, left_of, NamesNone}
-use Rattle.removal_law.specs.Agree.{IsBarred, IsOpen, AgreeOnDeclared}
-use Rattle.removal_law.specs.Reach.{OkType, MadeType, LiveMethod, IsRegular, IsSoundCode, ShutsHold}
+use Rattle.removal_law.specs.Agree.{IsBarred, IsOpen, AgreeOnDeclared, sieved}
+use Rattle.removal_law.specs.Reach.{OkType, MadeType, LiveMethod, IsRegular, IsSoundCode, ShutsHold, is_idle}
 use Rattle.removal_law.proofs.Lists.{clash, In, here, there, and_left, and_behind, FoundIn, found_in, not_found}
 use Rattle.removal_law.proofs.Classes.{Kept, left_less, dead_found}
 use Rattle.removal_law.proofs.Under.{under_same}
@@ -36,7 +36,7 @@ module _ (p : NamedProgram) (o : Outer) (kept : Conditions) (s : Family) (f : Fr
   F = face_of p f
 
   abbrev G : Face
-  G = face_of (left_of s p) f
+  G = sieved (is_idle p) (face_of (left_of s p) f)
 
   above : KeepsAbove p s
   above = closed.above

@@ -27,8 +27,8 @@ use Rattle.dalvik_defs.proofs.Calm.{text_sound}
 use Rattle.pass_defs.specs.Live.{Family, Conditions, IsClosedFamily, KeepsAbove}
 use Rattle.pass_defs.specs.Mentions.{types_in, types_of, fields_in, fields_in_body}
 use Rattle.removal_law.specs.Left.{left_in, left_of, NamesNone}
-use Rattle.removal_law.specs.Agree.{Each, AgreeOnField, Agree}
-use Rattle.removal_law.specs.Reach.{OkType, MadeType, LiveMethod, Says, LeftAgrees, IsRegular, IsSoundCode, ShutsHold, KeepsDefaults}
+use Rattle.removal_law.specs.Agree.{Each, AgreeOnField, Agree, sieved}
+use Rattle.removal_law.specs.Reach.{OkType, MadeType, LiveMethod, Says, LeftAgrees, IsRegular, IsSoundCode, ShutsHold, is_idle}
 use Rattle.removal_law.proofs.Lists.{clash, In, here, there, contained, none_in, all_in, and_left, and_behind}
 use Rattle.removal_law.proofs.Classes.{Kept, class_left, dead_found}
 use Rattle.removal_law.proofs.Fits.{in_by_test}
@@ -121,7 +121,7 @@ or_second true b e i = e
 or_second false b e i = clash false i refl
 
 module _ (p : NamedProgram) (o : Outer) (kept : Conditions) (s : Family) (f : Framework) (closed : IsClosedFamily p o kept s) (regular : IsRegular p) (code : IsSoundCode p) (shuts : ShutsHold p o)
-    (none : NamesNone p f) (defaults : KeepsDefaults p s) (unreserved : list_any (defines p) reserved ≡ false) where
+    (none : NamesNone p f) (unreserved : list_any (defines p) reserved ≡ false) where
   abbrev q : NamedProgram
   q = left_of s p
 
@@ -129,7 +129,7 @@ module _ (p : NamedProgram) (o : Outer) (kept : Conditions) (s : Family) (f : Fr
   F = face_of p f
 
   abbrev G : Face
-  G = face_of (left_of s p) f
+  G = sieved (is_idle p) (face_of (left_of s p) f)
 
   above : KeepsAbove p s
   above = closed.above
@@ -295,7 +295,7 @@ module _ (p : NamedProgram) (o : Outer) (kept : Conditions) (s : Family) (f : Fr
     answers = λ m kind k args a. says_of m (form.Invoke kind k args) a k.signature.result (there k.class (k.signature.result ∷ k.signature.parameters) (here k.signature.parameters));
     initialiser = λ t h. sym (initialiser_left p s above regular t (kept_of t h));
     initialiser_live = λ t k h e. record { live = initialiser_lives p s above regular t k (kept_of t h) e; defined = let r = initialiser_class p s above regular t k e in ap (defines p) r.0 ∙ r.1 };
-    first = λ t h. sym (first_left p s above regular defaults t (kept_of t h));
+    first = λ t h. sym (first_left p s above regular t (kept_of t h));
     first_ok = λ t h. each_in (OkType p s) (initialised_first p t) (λ u i. let r = first_stands p s above regular t (kept_of t h) u i in live_of u r.0 r.1);
     declared = λ c n proto. declared_agrees p o kept s f closed regular code shuts none c n proto;
     makes = concrete_same;

@@ -23,4 +23,5 @@ pub mod Declared
 pub mod Entered
 pub mod CallsLeft
 pub mod Faces
+pub mod Trivial
 pub mod Removal

@@ -11,7 +11,7 @@ use Rattle.dalvik_defs.specs.Known.{null_pointer, no_class, class_change, abstra
 use Rattle.dalvik_defs.specs.Find.{Found, Search, Nothing, Clash, Finds}
 use Rattle.dalvik_defs.specs.Face.{Face, Place, Bodies, is_defined}
 use Rattle.dalvik_defs.specs.Outer.{Outer}
-use Rattle.dalvik_defs.specs.State.{World, Classes, Thing, Instance, Items, is_null, thing_at, next_object, with_thing, fresh, kind_of, put_field}
+use Rattle.dalvik_defs.specs.State.{World, Classes, Done, Thing, Instance, Items, is_null, thing_at, next_object, with_thing, fresh, kind_of, put_field}
 use Rattle.dalvik_defs.specs.declared.state.Value.{Value}
 use Rattle.dalvik_defs.specs.declared.state.Value.TheVariants.{Word}
 use Rattle.dalvik_defs.specs.declared.state.Frame.{Frame}
@@ -26,18 +26,19 @@ use Rattle.dalvik_defs.specs.declared.forms.Form.TheVariants as form
 use Rattle.dalvik_defs.specs.declared.events.Event.{Event}
 use Rattle.dalvik_defs.specs.declared.events.Event.TheVariants as event
 use Rattle.dalvik_defs.specs.declared.program.NamedProgram.{NamedProgram}
-use Rattle.removal_law.specs.Agree.{AgreeOnCall, AgreeOnField, Agree}
+use Rattle.removal_law.specs.Agree.{AgreeOnCall, AgreeOnField, CalmDone, Agree}
+use Rattle.removal_law.proofs.Lists.{clash}
 use Rattle.removal_law.proofs.Worlds.{show_heap, option_heap, all_heap, item_method}
 use Rattle.removal_law.proofs.Acts.{Sound, sound_heap, sound_with, sound_put, sound_at, kind_ok, kind_made, EffectOk, OnField}
 
-module _ (ok made : Text → Type 0) (live : MethodKey → Type 0) (says : MethodKey → Form → Type 0) (p : NamedProgram) (o : Outer) (F G : Face) (find other : Bodies)
-    (agree : Agree ok made live says p o F G find other) where
+module _ (ok made : Text → Type 0) (live : MethodKey → Type 0) (says : MethodKey → Form → Type 0) (calm : Text → Bool) (p : NamedProgram) (o : Outer) (F G : Face) (find other : Bodies)
+    (agree : Agree ok made live says calm p o F G find other) where
   abbrev Fine : World → Type 0
-  Fine = Sound ok made live says p o F G find other agree
+  Fine = Sound ok made live says calm p o F G find other agree
 
   abbrev pub OutcomeOk : MethodKey → Outcome → Type 0
   OutcomeOk m (Stays w f e) = Fine w × (f.method ≡ m)
-  OutcomeOk m (Starts c) = ok c
+  OutcomeOk m (Starts c) = ok c × (calm c ≡ false)
   OutcomeOk m (Enters k vs) = live k
   OutcomeOk m (Leaves w owes e) = Fine w × ok owes
   OutcomeOk m (Ends v) = Unit {0}
@@ -51,13 +52,30 @@ module _ (ok made : Text → Type 0) (live : MethodKey → Type 0) (says : Metho
   pub need_same : (c : Classes) (t : Text) → ok t → need_of F c t ≡ need_of G c t
   need_same c t h = ap (λ x. need_if (is_some x) (c t)) (agree.flags t h)
 
+  -- a class that has to be started isn't calm, where the calm ones are done
+  abbrev is_fresh : Need → Bool
+  is_fresh Ready = false
+  is_fresh Fresh = true
+  is_fresh Broken = false
+
+  done_ready : (b : Bool) → is_fresh (need_if b Done) ≡ false
+  done_ready true = refl
+  done_ready false = refl
+
+  pub fresh_calm : (c : Classes) (t : Text) → CalmDone calm c → need_of F c t ≡ Fresh → calm t ≡ false
+  fresh_calm c t done e = by (calm t) refl
+    where
+      by : (b : Bool) → calm t ≡ b → calm t ≡ false
+      by true i = clash (is_fresh (need_of F c t)) (ap is_fresh e) (ap (λ x. is_fresh (need_if (is_some (F.flags t)) x)) (done t i) ∙ done_ready (is_some (F.flags t)))
+      by false i = i
+
   fine_heap : (w v : World) → v.heap ≡ w.heap → Fine w → Fine v
-  fine_heap = sound_heap ok made live says p o F G find other agree
+  fine_heap = sound_heap ok made live says calm p o F G find other agree
 
   fine_with : (w : World) (t : Text) → Fine w → ok t × made t → Fine (with_thing w (fresh t))
-  fine_with w t = sound_with ok made live says p o F G find other agree w (fresh t)
+  fine_with w t = sound_with ok made live says calm p o F G find other agree w (fresh t)
 
-  module _ (c : Classes) (w : World) (f : Frame) (h : Fine w) where
+  module _ (c : Classes) (w : World) (f : Frame) (h : Fine w) (done : CalmDone calm c) where
     abbrev Come : Outcome → Outcome → Type 0
     Come x y = Comes f.method x y
 
@@ -71,13 +89,13 @@ module _ (ok made : Text → Type 0) (live : MethodKey → Type 0) (says : Metho
     fault : (t : Text) → ok t × made t → Come (faults w t) (faults w t)
     fault t k = one (faults w t) (fine_with w t h k)
 
-    ready : (n : Need) (t : Text) (x y : Outcome) → ok t → Come x y → Come (when_ready n w t x) (when_ready n w t y)
-    ready Ready t x y k a = a
-    ready Fresh t x y k a = one (Starts t) k
-    ready Broken t x y k a = fault no_class (agree.known no_class refl)
+    ready : (n : Need) (t : Text) (x y : Outcome) → (n ≡ Fresh → calm t ≡ false) → ok t → Come x y → Come (when_ready n w t x) (when_ready n w t y)
+    ready Ready t x y e k a = a
+    ready Fresh t x y e k a = one (Starts t) (k, e refl)
+    ready Broken t x y e k a = fault no_class (agree.known no_class refl)
 
     needed : (t : Text) (x y : Outcome) → ok t → Come x y → Come (when_ready (need_of F c t) w t x) (when_ready (need_of G c t) w t y)
-    needed t x y k a = subst (λ n. Come (when_ready (need_of F c t) w t x) (when_ready n w t y)) (need_same c t k) (ready (need_of F c t) t x y k a)
+    needed t x y k a = subst (λ n. Come (when_ready (need_of F c t) w t x) (when_ready n w t y)) (need_same c t k) (ready (need_of F c t) t x y (fresh_calm c t done) k a)
 
     -- ---- calls
 
@@ -110,10 +128,10 @@ module _ (ok made : Text → Type 0) (live : MethodKey → Type 0) (says : Metho
     receive vs x y a = come_if (is_null (receiver vs)) _ _ _ _ (fault null_pointer (agree.known null_pointer refl)) a
 
     at_kind : (v : Value) → ok (kind_of w v)
-    at_kind v = kind_ok ok made live says p o F G find other agree w v h.kinds
+    at_kind v = kind_ok ok made live says calm p o F G find other agree w v h.kinds
 
     at_made : (v : Value) → made (kind_of w v)
-    at_made v = kind_made ok made live says p o F G find other agree w v h.mades
+    at_made v = kind_made ok made live says calm p o F G find other agree w v h.mades
 
     called : (kind : InvokeKind) (k : MethodKey) (args : List ℕ) (vs : List Value) → says f.method (form.Invoke kind k args)
         → Come (calls F (need_of F c) kind k vs w f) (calls G (need_of G c) kind k vs w f)
@@ -181,7 +199,7 @@ module _ (ok made : Text → Type 0) (live : MethodKey → Type 0) (says : Metho
 
     write_thing : (k : FieldKey) (on v : Value) (t : Option Thing) → thing_at w on ≡ t → Come (written (with_instance w k on v t) f) (written (with_instance w k on v t) f)
     write_thing k on v (Some (Instance t fields)) e = one (written (with_instance w k on v (Some (Instance t fields))) f)
-        (sound_put ok made live says p o F G find other agree w on (Instance t (put_field k v fields)) h (sound_at ok made live says p o F G find other agree w on (Instance t fields) h e), refl)
+        (sound_put ok made live says calm p o F G find other agree w on (Instance t (put_field k v fields)) h (sound_at ok made live says calm p o F G find other agree w on (Instance t fields) h e), refl)
     write_thing k on v (Some (Items t vs)) e = one Halts tt
     write_thing k on v None e = one Halts tt
 
@@ -203,7 +221,7 @@ module _ (ok made : Text → Type 0) (live : MethodKey → Type 0) (says : Metho
 
     -- ---- an effect
 
-    pub comes : (e : Effect) → EffectOk ok made live says p o F G find other agree f.method e → Comes f.method (outcome F (need_of F c) e w f) (outcome G (need_of G c) e w f)
+    pub comes : (e : Effect) → EffectOk ok made live says calm p o F G find other agree f.method e → Comes f.method (outcome F (need_of F c) e w f) (outcome G (need_of G c) e w f)
     comes (Goes w' f') g = one (Stays w' f' None) g
     comes (Faults t) g = fault t g
     comes (Throws v) g = one (Raises w v) h

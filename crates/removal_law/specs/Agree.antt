@@ -1,12 +1,13 @@
 -- What two machines agree on that take equal steps: all that a run asks of what the program answers, at the types,
 -- methods and forms that a run comes to.
-use Rattle.std.specs.Prelude.{◌≡◌, ℕ, Bool, true, false, ◌||◌, ◌⊎◌, List, [], ◌∷◌, Option, Some, None, slice_get}
+use Rattle.std.specs.Prelude.{◌≡◌, ℕ, Bool, true, false, ◌||◌, ◌⊎◌, not, List, [], ◌∷◌, filter, Option, Some, None, slice_get}
 use Rattle.std.specs.List.{list_any}
 use Rattle.insn_set.specs.declared.ops.InvokeKind.{InvokeKind}
 use Rattle.insn_set.specs.declared.ops.InvokeKind.TheVariants as call
 use Rattle.dalvik_defs.specs.Names.{Text, text_eq, array_of, base_of, item_of}
 use Rattle.dalvik_defs.specs.Find.{Found, Search, Finds}
 use Rattle.dalvik_defs.specs.Face.{Face, Place, Bodies, is_defined, is_concrete}
+use Rattle.dalvik_defs.specs.State.{Classes, Status, Done}
 use Rattle.dalvik_defs.specs.Legal.{calls_back, may_make}
 use Rattle.dalvik_defs.specs.Outer.{Outer}
 use Rattle.dalvik_defs.specs.Shown.{reserved, fit_given}
@@ -24,6 +25,17 @@ use Rattle.removal_law.specs.Left.{In}
 abbrev pub Each : {A : Type 0} → (A → Type 0) → List A → Type 0
 Each P [] = Unit {0}
 Each P (x ∷ xs) = P x × Each P xs
+
+-- the classes among some that aren't calm, and a face that names only these as initialised before a class
+abbrev pub sieve : (Text → Bool) → List Text → List Text
+sieve calm ts = filter (λ t. not (calm t)) ts
+
+abbrev pub sieved : (Text → Bool) → Face → Face
+sieved calm face = record face { first = λ t. sieve calm (face.first t) }
+
+-- all calm classes are done
+abbrev pub CalmDone : (Text → Bool) → Classes → Type 0
+CalmDone calm c = (t : Text) → calm t ≡ true → c t ≡ Done
 
 -- what a call in a method of a class finds, on an object of a type where it is virtual or of an interface
 abbrev pub searched : Face → Text → InvokeKind → Text → MethodKey → Search
@@ -62,8 +74,8 @@ module _ (ok made : Text → Type 0) (live : MethodKey → Type 0) where
   AgreeOnDeclared o F G None b = b ≡ None
   AgreeOnDeclared o F G (Some f) b = (IsOpen o F G f × (b ≡ Some f)) ⊎ (IsBarred o F f × (b ≡ None))
 
-  -- `says` are the forms of live methods
-  pub record Agree (says : MethodKey → Form → Type 0) (p : NamedProgram) (o : Outer) (F G : Face) (find other : Bodies) : Type 0 where
+  -- `says` are the forms of live methods, and `calm` are classes whose initialisation does nothing
+  pub record Agree (says : MethodKey → Form → Type 0) (calm : Text → Bool) (p : NamedProgram) (o : Outer) (F G : Face) (find other : Bodies) : Type 0 where
     -- types
     pub flags : (t : Text) → ok t → F.flags t ≡ G.flags t
     pub under : (t u : Text) → ok t → F.under t u ≡ G.under t u
@@ -93,7 +105,7 @@ module _ (ok made : Text → Type 0) (live : MethodKey → Type 0) where
     -- classes
     pub initialiser : (t : Text) → ok t → F.initialiser t ≡ G.initialiser t
     pub initialiser_live : (t : Text) (k : MethodKey) → ok t → F.initialiser t ≡ Some k → live k
-    pub first : (t : Text) → ok t → F.first t ≡ G.first t
+    pub first : (t : Text) → ok t → sieve calm (F.first t) ≡ G.first t
     pub first_ok : (t : Text) → ok t → Each ok (F.first t)
     -- what the framework may do
     pub declared : (c n q : Text) → AgreeOnDeclared o F G (F.declared c n q) (G.declared c n q)

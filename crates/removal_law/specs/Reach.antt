@@ -1,11 +1,11 @@
 -- What a run of a program comes to, by a family of live sets, and what the law of removal asks of the program.
-use Rattle.std.specs.Prelude.{◌≡◌, ℕ, zero, suc, Bool, true, false, ◌&&◌, ◌||◌, not, List, [], ◌∷◌, Option, Some, None}
+use Rattle.std.specs.Prelude.{◌≡◌, ℕ, zero, suc, Bool, true, false, ◌&&◌, ◌||◌, not, List, [], ◌∷◌, Option, Some, None, is_none}
 use Rattle.std.specs.List.{list_all}
 use Rattle.dalvik_defs.specs.Names.{Text, is_class_type, is_array, base_of, proto_text}
 use Rattle.dalvik_defs.specs.Flags.{is_interface}
 use Rattle.dalvik_defs.specs.Under.{class_named, defines, own_above, is_own_under}
 use Rattle.dalvik_defs.specs.Find.{Found, interface_named, is_037}
-use Rattle.dalvik_defs.specs.Initialised.{has_default}
+use Rattle.dalvik_defs.specs.Initialised.{initialiser_of}
 use Rattle.dalvik_defs.specs.Face.{face_of, bodies_of}
 use Rattle.dalvik_defs.specs.Outer.{Outer}
 use Rattle.dalvik_defs.specs.Shut.{called_outside, finds_it, is_other, key_of}
@@ -19,7 +19,7 @@ use Rattle.dalvik_defs.specs.declared.program.NamedClass.{NamedClass}
 use Rattle.dalvik_defs.specs.declared.program.NamedProgram.{NamedProgram}
 use Rattle.pass_defs.specs.Live.{Family, HasBody}
 use Rattle.removal_law.specs.Left.{In, left_in, left_of}
-use Rattle.removal_law.specs.Agree.{Agree}
+use Rattle.removal_law.specs.Agree.{sieved, Agree}
 
 -- a type whose base is live where the program defines it
 abbrev pub OkType : NamedProgram → Family → Text → Type 0
@@ -41,9 +41,14 @@ pub record Says (p : NamedProgram) (s : Family) (k : MethodKey) (f : Form) : Typ
   pub defined : defines p k.class ≡ true
   pub stands : In f body.forms
 
--- Under a framework, all that a run asks of a program what is left of it answers alike.
+-- an interface without an initialiser, so that its initialisation does nothing
+abbrev pub is_idle : NamedProgram → Text → Bool
+is_idle p t = elim (interface_named p t) [ Some c ↦ is_none (initialiser_of p t) | None ↦ false ]
+
+-- Under a framework, all that a run asks of a program what is left of it answers alike, where of the classes that are
+-- initialised before one the idle interfaces don't count.
 abbrev pub LeftAgrees : NamedProgram → Outer → Family → Framework → Type 0
-LeftAgrees p o s f = Agree (OkType p s) (MadeType p s) (LiveMethod p s) (Says p s) p o (face_of p f) (face_of (left_of s p) f) (bodies_of p) (bodies_of (left_of s p))
+LeftAgrees p o s f = Agree (OkType p s) (MadeType p s) (LiveMethod p s) (Says p s) (is_idle p) p o (face_of p f) (sieved (is_idle p) (face_of (left_of s p) f)) (bodies_of p) (bodies_of (left_of s p))
 
 -- ---- what is asked of the program
 
@@ -71,7 +76,3 @@ pub record ShutsHold (p : NamedProgram) (o : Outer) : Type 0 where
   pub others : (k : MethodKey) (m : NamedMethod) (d e : NamedClass) (x : NamedMethod) → o.shut k ≡ true → m.name ≡ k.name → m.signature ≡ k.signature → In d p.classes → finds_it p k d ≡ true
       → In e p.classes → is_own_under p d.name e.name ≡ true → In x e.methods → is_other k.class m e x ≡ true → (o.methods (key_of e x) || o.shut (key_of e x)) ≡ true
   pub plain : (k : MethodKey) (c : NamedClass) → is_037 p.version ≡ true → o.shut k ≡ true → class_named p k.class ≡ Some c → is_interface c.flags ≡ false
-
--- In version 037 a live interface that has a method with code has a live one.
-abbrev pub KeepsDefaults : NamedProgram → Family → Type 0
-KeepsDefaults p s = (t : Text) (c : NamedClass) → is_037 p.version ≡ true → interface_named p t ≡ Some c → s.classes t ≡ true → has_default (left_in s c) ≡ has_default c

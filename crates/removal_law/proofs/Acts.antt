@@ -1,26 +1,25 @@
 -- What a form does in a frame is the same for two faces that agree, and keeps to things of known kinds.
-use Rattle.std.proofs.Common.{◌≡◌, ℕ, ℤ, pos, negsuc, Bool, true, false, List, [], ◌∷◌, ◌++◌, refl, sym, ap, ◌∙◌, subst}
-use Rattle.std.specs.Prelude.{◌||◌, ◌&&◌, not, Option, Some, None, slice_get, nat_lt, nat_eq, length, map}
-use Rattle.insn_set.specs.declared.ops.InvokeKind.{InvokeKind}
+use Rattle.std.proofs.Common.{◌≡◌, ℕ, ℤ, pos, negsuc, Bool, true, false, List, [], refl, sym, ap, ◌∙◌, subst}
+use Rattle.std.specs.Prelude.{◌||◌, ◌&&◌, not, Option, Some, None, nat_lt, nat_eq, length, map}
 use Rattle.insn_set.specs.declared.ops.Item.{Item}
 use Rattle.insn_set.specs.declared.ops.Item.TheVariants as item
 use Rattle.insn_set.specs.declared.ops.Slot.{Slot}
 use Rattle.insn_set.specs.declared.ops.Slot.TheVariants as slot
-use Rattle.dalvik_defs.specs.Names.{Text, text_eq, string_type, class_type, item_of, array_of}
+use Rattle.dalvik_defs.specs.Names.{Text, string_type, class_type, item_of}
 use Rattle.dalvik_defs.specs.Known.{null_pointer, bad_cast, negative_size, out_of_bounds, bad_store, bad_monitor, arithmetic_exception}
 use Rattle.dalvik_defs.specs.Arith.{signed, passes}
 use Rattle.dalvik_defs.specs.Operators.{Sort, OnWord, OnWide, Shifts, OnFloat, OnDouble, float_word, float_wide, sort_of, Number, OneWord, OneWide, unary_answer}
 use Rattle.dalvik_defs.specs.Items.{fill, stored}
 use Rattle.dalvik_defs.specs.Face.{Face, Bodies}
 use Rattle.dalvik_defs.specs.Outer.{Outer}
-use Rattle.dalvik_defs.specs.State.{World, Thing, Instance, Items, is_null, kind_of, kind_of_thing, thing_at, put_thing, with_thing, next_object}
+use Rattle.dalvik_defs.specs.State.{World, Thing, Instance, Items, is_null, kind_of, kind_of_thing, thing_at, put_thing, with_thing}
 use Rattle.dalvik_defs.specs.declared.state.Value.{Value}
 use Rattle.dalvik_defs.specs.declared.state.Value.TheVariants.{Word}
 use Rattle.dalvik_defs.specs.declared.state.Frame.{Frame}
 use Rattle.dalvik_defs.specs.Effect.{Effect, Goes, Faults, Throws, Gives, Calls, Makes, Reads, Writes, Locks, Unlocks, Stuck, register, write_slot, write_item, next, go, sets, sets_wide, unless_null}
 use Rattle.dalvik_defs.specs.ActPlain.{move_slot, exits, is_instance, casts, truth, branch, goes_to, switch_target, packed_target}
 use Rattle.dalvik_defs.specs.ActArray.{measures, zeros, new_array, filled_array, fills, item_at, reads_item, array_get, may_store, writes_item, put_item, array_put}
-use Rattle.dalvik_defs.specs.ActNumber.{number, gives_word, gives_wide, binary, literal, sets_number}
+use Rattle.dalvik_defs.specs.ActNumber.{number, gives_word, gives_wide, binary, sets_number}
 use Rattle.dalvik_defs.specs.Act.{act}
 use Rattle.dalvik_defs.specs.declared.names.MethodKey.{MethodKey}
 use Rattle.dalvik_defs.specs.declared.names.FieldKey.{FieldKey}
@@ -28,8 +27,8 @@ use Rattle.dalvik_defs.specs.declared.forms.Form.{Form}
 use Rattle.dalvik_defs.specs.declared.forms.Form.TheVariants as form
 use Rattle.dalvik_defs.specs.declared.tables.Floats.{Floats}
 use Rattle.dalvik_defs.specs.declared.program.NamedProgram.{NamedProgram}
-use Rattle.removal_law.specs.Left.{In, here, there}
-use Rattle.removal_law.specs.Agree.{Each, AgreeOnField, Agree}
+use Rattle.removal_law.specs.Left.{here}
+use Rattle.removal_law.specs.Agree.{AgreeOnField, Agree}
 use Rattle.removal_law.proofs.Worlds.{Kinds, kinds_append, kinds_put, kinds_at, kind_known, item_method}
 
 module _ (ok made : Text → Type 0) (live : MethodKey → Type 0) (says : MethodKey → Form → Type 0) (calm : Text → Bool) (p : NamedProgram) (o : Outer) (F G : Face) (find other : Bodies)

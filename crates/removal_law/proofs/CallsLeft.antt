@@ -1,6 +1,6 @@
 -- What calls in live code find is the same in what is left of a program, and live.
-use Rattle.std.proofs.Common.{◌≡◌, ℕ, Bool, true, false, List, [], ◌∷◌, ◌++◌, length, refl, sym, ap, ◌∙◌, subst, inl, inr}
-use Rattle.std.specs.Prelude.{◌⊎◌, ◌&&◌, ◌||◌, not, Option, Some, None, is_some, Contains, flat_map, map, find}
+use Rattle.std.proofs.Common.{◌≡◌, ℕ, Bool, true, false, List, [], ◌∷◌, length, refl, sym, ap, ◌∙◌, subst}
+use Rattle.std.specs.Prelude.{◌&&◌, ◌||◌, not, Option, Some, None, is_some, flat_map, map}
 use Rattle.std.specs.List.{list_any}
 use Rattle.std.specs.Option.{option_and_then}
 use Rattle.insn_set.specs.declared.ops.InvokeKind.{InvokeKind}
@@ -8,7 +8,7 @@ use Rattle.insn_set.specs.declared.ops.InvokeKind.TheVariants as call
 use Rattle.dalvik_defs.specs.Names.{Text, text_eq, object_type, same_name, is_common}
 use Rattle.dalvik_defs.specs.Flags.{is_interface}
 use Rattle.dalvik_defs.specs.Under.{class_named, defines, is_under, is_outward, is_own_under}
-use Rattle.dalvik_defs.specs.Find.{Found, found_in as found_of, method_in, defined_method, Search, Nothing, Clash, Finds, is_037, finds_statically, finds_super, finds_super_037, finds_above, finds_at, finds_among, lists_interface, superclass_of}
+use Rattle.dalvik_defs.specs.Find.{Found, method_in, Search, Nothing, Finds, is_037, finds_statically, finds_super, finds_super_037, finds_above, finds_at, finds_among, lists_interface, superclass_of}
 use Rattle.dalvik_defs.specs.Face.{Face, face_of, bodies_of, finds_virtually}
 use Rattle.dalvik_defs.specs.Outer.{Outer}
 use Rattle.dalvik_defs.specs.Shut.{names_outside, called_outside}
@@ -21,16 +21,16 @@ use Rattle.dalvik_defs.specs.declared.program.NamedBody.{NamedBody}
 use Rattle.dalvik_defs.specs.declared.program.NamedMethod.{NamedMethod}
 use Rattle.dalvik_defs.specs.declared.program.NamedClass.{NamedClass}
 use Rattle.dalvik_defs.specs.declared.program.NamedProgram.{NamedProgram}
-use Rattle.pass_defs.specs.Live.{Family, Conditions, IsClosedFamily, KeepsAbove, HasBody, is_bound, answers_to}
+use Rattle.pass_defs.specs.Live.{Family, Conditions, IsClosedFamily, KeepsAbove, is_bound, answers_to}
 use Rattle.pass_defs.specs.Calls.{is_within, found_by, super_candidates, may_find}
-use Rattle.pass_defs.specs.Mentions.{types_in, types_in_body, fields_in}
-use Rattle.removal_law.specs.Left.{left_in, left_of, NamesNone}
+use Rattle.pass_defs.specs.Mentions.{types_in, types_in_body}
+use Rattle.removal_law.specs.Left.{left_of, NamesNone}
 use Rattle.removal_law.specs.Agree.{searched, AgreeOnCall, sieved}
 use Rattle.removal_law.specs.Reach.{OkType, MadeType, LiveMethod, Says, IsRegular, IsSoundCode, ShutsHold, is_idle}
-use Rattle.removal_law.proofs.Lists.{clash, In, here, there, contained, in_front, in_back, FoundIn, found_in}
+use Rattle.removal_law.proofs.Lists.{clash, In, here, contained, in_front, in_back, found_in}
 use Rattle.removal_law.proofs.Classes.{Kept}
 use Rattle.removal_law.proofs.Under.{under_same}
-use Rattle.removal_law.proofs.Trees.{none_some, class_name, class_in, defined, defines_same}
+use Rattle.removal_law.proofs.Trees.{none_some, class_in, defined, defines_same}
 use Rattle.removal_law.proofs.Finds.{in_flat, among_in}
 use Rattle.removal_law.proofs.Searches.{nothing_finds, along_defined, statically_left, super_left, at_left, at_in}
 use Rattle.removal_law.proofs.Virtuals.{IsMethodOf, answer, candidate}

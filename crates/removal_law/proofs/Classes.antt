@@ -1,6 +1,6 @@
 -- Classes by their names, in what is left of a program.
-use Rattle.std.proofs.Common.{◌≡◌, ℕ, ◌≤◌, Bool, true, false, List, [], ◌∷◌, ◌++◌, length, refl, sym, ap, ◌∙◌, arith, inl, inr, subst}
-use Rattle.std.specs.Prelude.{◌⊎◌, cond, Option, Some, None, is_some, map, filter, find}
+use Rattle.std.proofs.Common.{◌≡◌, ◌≤◌, Bool, true, false, List, [], ◌∷◌, length, refl, sym, ap, ◌∙◌, arith}
+use Rattle.std.specs.Prelude.{cond, Option, Some, None, map, filter, find}
 use Rattle.std.specs.Option.{option_map}
 use Rattle.dalvik_defs.specs.Names.{Text, text_eq}
 use Rattle.dalvik_defs.specs.Under.{class_named, defines}

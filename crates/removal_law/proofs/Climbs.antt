@@ -1,9 +1,9 @@
 -- What an object of a class answers to stands in a class or an interface above its own.
 use Rattle.std.proofs.Common.{◌≡◌, ℕ, zero, suc, Bool, true, false, List, [], ◌∷◌, ◌++◌, length, refl, sym, ap, ◌∙◌, subst, inl, inr}
-use Rattle.std.specs.Prelude.{◌⊎◌, ◌&&◌, ◌||◌, not, Option, Some, None, flat_map}
-use Rattle.std.specs.List.{list_any, list_all}
+use Rattle.std.specs.Prelude.{◌⊎◌, ◌&&◌, not, Option, Some, None, flat_map}
+use Rattle.std.specs.List.{list_any}
 use Rattle.dalvik_defs.specs.Names.{Text, text_eq, is_common}
-use Rattle.dalvik_defs.specs.Under.{class_named, defines, own_above, walks, is_own_under}
+use Rattle.dalvik_defs.specs.Under.{class_named, own_above, walks, is_own_under}
 use Rattle.dalvik_defs.specs.Find.{Found, method_in, chain_from, chain_of, passing, is_virtual_method, own_candidate, interface_named, candidates_from, without_repeats, is_037, candidates}
 use Rattle.dalvik_defs.specs.declared.names.Signature.{Signature}
 use Rattle.dalvik_defs.specs.declared.program.NamedClass.{NamedClass}
@@ -16,7 +16,7 @@ use Rattle.removal_law.proofs.Lists.{clash, In, here, there, all_in, in_either}
 use Rattle.removal_law.proofs.Walks.{choice, text_same}
 use Rattle.removal_law.proofs.Levels.{enough_steps}
 use Rattle.removal_law.proofs.Trees.{class_name, chain_named, chain_head, own_above_some, own_above_none, nothing}
-use Rattle.removal_law.proofs.Finds.{out_of_flat, Where, first_where, where_key, passed, interface_class, repeats_in}
+use Rattle.removal_law.proofs.Finds.{out_of_flat, first_where, where_key, passed, interface_class, repeats_in}
 use Rattle.removal_law.proofs.Virtuals.{same_class}
 use Rattle.removal_law.proofs.Outward.{any_here, any_where}
 

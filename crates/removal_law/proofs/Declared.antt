@@ -5,7 +5,7 @@ use Rattle.std.specs.Option.{option_map}
 use Rattle.dalvik_defs.specs.Names.{Text, text_eq, texts_eq, signature_eq, method_eq, same_name, is_common, is_class_type, base_of, proto_text}
 use Rattle.dalvik_defs.specs.Flags.{is_interface, is_virtual}
 use Rattle.dalvik_defs.specs.Under.{class_named, defines, is_under, is_outward, is_own_under}
-use Rattle.dalvik_defs.specs.Find.{Found, found_in as found_of, method_in, defined_method, chain_of, Search, Nothing, Clash, Finds, is_virtual_method, is_037, finds_at}
+use Rattle.dalvik_defs.specs.Find.{Found, found_in as found_of, method_in, defined_method, chain_of, Search, Nothing, Clash, Finds, is_virtual_method, finds_at}
 use Rattle.dalvik_defs.specs.Face.{Face, face_of, finds_virtually}
 use Rattle.dalvik_defs.specs.Outer.{Outer}
 use Rattle.dalvik_defs.specs.Legal.{is_found, calls_back}
@@ -21,18 +21,17 @@ use Rattle.dalvik_defs.proofs.Calm.{text_sound}
 use Rattle.pass_defs.specs.Live.{Family, Conditions, IsClosedFamily, KeepsAbove, everything, answers_to}
 use Rattle.pass_defs.specs.Calls.{inherits, candidates_of}
 use Rattle.removal_law.specs.Left.{left_in, left_of, NamesNone}
-use Rattle.removal_law.specs.Agree.{IsBarred, IsOpen, AgreeOnDeclared}
+use Rattle.removal_law.specs.Agree.{IsBarred}
 use Rattle.removal_law.specs.Reach.{OkType, MadeType, LiveMethod, ends, IsRegular, IsSoundCode, ShutsHold}
-use Rattle.removal_law.proofs.Lists.{clash, In, here, there, contained, and_left, and_behind, FoundIn, found_in, not_found}
+use Rattle.removal_law.proofs.Lists.{clash, In, here, there, contained, and_left, and_behind}
 use Rattle.removal_law.proofs.Walks.{text_same}
-use Rattle.removal_law.proofs.Classes.{Kept, class_left, left_less, dead_found}
+use Rattle.removal_law.proofs.Classes.{Kept, class_left, dead_found}
 use Rattle.removal_law.proofs.Members.{key, signature_sound}
 use Rattle.removal_law.proofs.Levels.{undefined_ends}
-use Rattle.removal_law.proofs.Under.{under_same}
-use Rattle.removal_law.proofs.Trees.{some_same, none_some, class_name, class_in, defined, undefined, defines_class, defines_none, defines_same, class_kept, ends_same, own_under_left, outward_left}
-use Rattle.removal_law.proofs.Finds.{in_filter, in_unfiltered}
-use Rattle.removal_law.proofs.Searches.{finds_same, nothing_finds, at_left, at_some, at_in}
-use Rattle.removal_law.proofs.Virtuals.{IsMethodOf, IsInterfaceOf, inherited, answer, candidate_interface, candidate_version}
+use Rattle.removal_law.proofs.Trees.{some_same, none_some, class_name, class_in, defined, undefined, defines_class, ends_same, own_under_left}
+use Rattle.removal_law.proofs.Finds.{in_unfiltered}
+use Rattle.removal_law.proofs.Searches.{nothing_finds, at_left, at_some, at_in}
+use Rattle.removal_law.proofs.Virtuals.{IsMethodOf, inherited, answer, candidate_interface, candidate_version}
 use Rattle.removal_law.proofs.Climbs.{answer_climbs, climb_under}
 use Rattle.removal_law.proofs.Outward.{no_bracket}
 

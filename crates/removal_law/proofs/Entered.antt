@@ -1,11 +1,11 @@
 -- The framework enters the same methods on the same objects in what is left of a program.
-use Rattle.std.proofs.Common.{◌≡◌, ℕ, Bool, true, false, List, [], ◌∷◌, refl, sym, ap, ◌∙◌, subst, inl, inr}
-use Rattle.std.specs.Prelude.{◌⊎◌, ◌&&◌, ◌||◌, not, cond, Option, Some, None, is_some, filter, find}
+use Rattle.std.proofs.Common.{◌≡◌, Bool, true, false, refl, sym, ap, ◌∙◌, inl, inr}
+use Rattle.std.specs.Prelude.{◌&&◌, ◌||◌, not, Option, Some, None, is_some, filter, find}
 use Rattle.std.specs.Option.{option_map}
 use Rattle.dalvik_defs.specs.Names.{Text, text_eq, is_common, proto_text}
 use Rattle.dalvik_defs.specs.Flags.{is_virtual}
-use Rattle.dalvik_defs.specs.Under.{class_named, defines, is_under, is_outward}
-use Rattle.dalvik_defs.specs.Find.{Found, found_in as found_of, Search, Nothing, Finds, finds_at}
+use Rattle.dalvik_defs.specs.Under.{class_named, is_under, is_outward}
+use Rattle.dalvik_defs.specs.Find.{Found, found_in as found_of, Search, Nothing, finds_at}
 use Rattle.dalvik_defs.specs.Face.{Face, face_of, finds_virtually, declared_in}
 use Rattle.dalvik_defs.specs.Outer.{Outer}
 use Rattle.dalvik_defs.specs.Legal.{is_found, calls_back}
@@ -18,14 +18,14 @@ use Rattle.dalvik_defs.specs.declared.program.NamedProgram.{NamedProgram}
 use Rattle.dalvik_defs.proofs.Calm.{text_sound}
 use Rattle.pass_defs.specs.Live.{Family, Conditions, IsClosedFamily, KeepsAbove}
 use Rattle.removal_law.specs.Left.{left_in, left_of, NamesNone}
-use Rattle.removal_law.specs.Agree.{IsBarred, IsOpen, AgreeOnDeclared, sieved}
+use Rattle.removal_law.specs.Agree.{IsOpen, AgreeOnDeclared, sieved}
 use Rattle.removal_law.specs.Reach.{OkType, MadeType, LiveMethod, IsRegular, IsSoundCode, ShutsHold, is_idle}
-use Rattle.removal_law.proofs.Lists.{clash, In, here, there, and_left, and_behind, FoundIn, found_in, not_found}
+use Rattle.removal_law.proofs.Lists.{clash, In, and_left, and_behind, FoundIn, found_in, not_found}
 use Rattle.removal_law.proofs.Classes.{Kept, left_less, dead_found}
 use Rattle.removal_law.proofs.Under.{under_same}
-use Rattle.removal_law.proofs.Trees.{some_same, none_some, class_name, defined, undefined, defines_same, class_kept, outward_left}
+use Rattle.removal_law.proofs.Trees.{class_name, defined, undefined, defines_same, class_kept, outward_left}
 use Rattle.removal_law.proofs.Finds.{in_filter, in_unfiltered}
-use Rattle.removal_law.proofs.Declared.{K, f0, may, virtual_of, virtual_test, find_kept, none_there, and_none, some_defines, ok_kept, barred, not_kept, at_same}
+use Rattle.removal_law.proofs.Declared.{find_kept, none_there, and_none, some_defines, ok_kept, barred, at_same}
 
 module _ (p : NamedProgram) (o : Outer) (kept : Conditions) (s : Family) (f : Framework) (closed : IsClosedFamily p o kept s) (regular : IsRegular p) (code : IsSoundCode p) (shuts : ShutsHold p o)
     (none : NamesNone p f) where

@@ -1,10 +1,9 @@
 -- All that a run asks of a program what is left of it answers alike.
-use Rattle.std.proofs.Common.{◌≡◌, ℕ, zero, suc, Bool, true, false, List, [], ◌∷◌, ◌++◌, length, refl, sym, ap, ◌∙◌, subst, inl, inr}
-use Rattle.std.specs.Prelude.{◌⊎◌, ◌&&◌, ◌||◌, not, Option, Some, None, is_some, Contains, slice_get, nat_eq}
+use Rattle.std.proofs.Common.{◌≡◌, ℕ, zero, suc, Bool, true, false, List, [], ◌∷◌, refl, sym, ap, ◌∙◌, subst}
+use Rattle.std.specs.Prelude.{◌&&◌, ◌||◌, not, Option, Some, None, is_some, slice_get, nat_eq}
 use Rattle.std.specs.List.{list_any, list_all}
 use Rattle.std.specs.Option.{option_map}
-use Rattle.insn_set.specs.declared.ops.InvokeKind.{InvokeKind}
-use Rattle.dalvik_defs.specs.Names.{Text, text_eq, is_class_type, is_array, base_of, item_of, array_of}
+use Rattle.dalvik_defs.specs.Names.{Text, text_eq, is_array, base_of, item_of, array_of}
 use Rattle.dalvik_defs.specs.Flags.{is_interface, is_abstract}
 use Rattle.dalvik_defs.specs.Under.{class_named, defines}
 use Rattle.dalvik_defs.specs.Find.{finds_field, defined_field, field_in}
@@ -12,12 +11,11 @@ use Rattle.dalvik_defs.specs.Initialised.{initialised_first}
 use Rattle.dalvik_defs.specs.Face.{Face, Place, place_of, face_of, bodies_of, is_defined, is_concrete}
 use Rattle.dalvik_defs.specs.Outer.{Outer}
 use Rattle.dalvik_defs.specs.Legal.{may_make}
-use Rattle.dalvik_defs.specs.Shown.{reserved, fit_given}
+use Rattle.dalvik_defs.specs.Shown.{reserved}
 use Rattle.dalvik_defs.specs.declared.names.MethodKey.{MethodKey}
 use Rattle.dalvik_defs.specs.declared.names.FieldKey.{FieldKey}
 use Rattle.dalvik_defs.specs.declared.forms.Form.{Form}
 use Rattle.dalvik_defs.specs.declared.forms.Form.TheVariants as form
-use Rattle.dalvik_defs.specs.declared.script.Given.TheVariants as given
 use Rattle.dalvik_defs.specs.declared.tables.Framework.{Framework}
 use Rattle.dalvik_defs.specs.declared.program.NamedBody.{NamedBody}
 use Rattle.dalvik_defs.specs.declared.program.NamedField.{NamedField}
@@ -27,20 +25,20 @@ use Rattle.dalvik_defs.proofs.Calm.{text_sound}
 use Rattle.pass_defs.specs.Live.{Family, Conditions, IsClosedFamily, KeepsAbove}
 use Rattle.pass_defs.specs.Mentions.{types_in, types_of, fields_in, fields_in_body}
 use Rattle.removal_law.specs.Left.{left_in, left_of, NamesNone}
-use Rattle.removal_law.specs.Agree.{Each, AgreeOnField, Agree, sieved}
+use Rattle.removal_law.specs.Agree.{Each, AgreeOnField, sieved}
 use Rattle.removal_law.specs.Reach.{OkType, MadeType, LiveMethod, Says, LeftAgrees, IsRegular, IsSoundCode, ShutsHold, is_idle}
 use Rattle.removal_law.proofs.Lists.{clash, In, here, there, contained, none_in, all_in, and_left, and_behind}
 use Rattle.removal_law.proofs.Classes.{Kept, class_left, dead_found}
 use Rattle.removal_law.proofs.Fits.{in_by_test}
 use Rattle.removal_law.proofs.Members.{body_left}
 use Rattle.removal_law.proofs.Under.{under_same}
-use Rattle.removal_law.proofs.Trees.{some_same, none_some, class_name, defined, undefined, defines_none}
+use Rattle.removal_law.proofs.Trees.{some_same, none_some, class_name, defined, undefined}
 use Rattle.removal_law.proofs.Finds.{in_flat}
 use Rattle.removal_law.proofs.Fields.{finds_left, found_defined, defined_left, dead_field}
 use Rattle.removal_law.proofs.Firsts.{initialiser_class, initialiser_left, initialiser_lives, first_left, first_stands}
-use Rattle.removal_law.proofs.Declared.{base_defined, ok_kept, live_ok, not_false}
+use Rattle.removal_law.proofs.Declared.{ok_kept, live_ok}
 use Rattle.removal_law.proofs.Entered.{declared_agrees}
-use Rattle.removal_law.proofs.CallsLeft.{BodyIn, body_in, says_type, called_agrees}
+use Rattle.removal_law.proofs.CallsLeft.{says_type, called_agrees}
 
 -- ---- lists and forms
 

@@ -1,6 +1,6 @@
 -- Fields by their names, in what is left of a program: where what is found is live, the same.
 use Rattle.std.proofs.Common.{◌≡◌, ℕ, zero, suc, Bool, true, false, List, [], ◌∷◌, ◌++◌, length, refl, sym, ap, ◌∙◌, subst, inl, inr}
-use Rattle.std.specs.Prelude.{◌⊎◌, ◌&&◌, cond, Option, Some, None, map, filter, find}
+use Rattle.std.specs.Prelude.{◌&&◌, Option, Some, None, map, filter}
 use Rattle.std.specs.Option.{option_map, option_or}
 use Rattle.dalvik_defs.specs.Names.{Text, text_eq}
 use Rattle.dalvik_defs.specs.Under.{class_named, defines}
@@ -13,7 +13,7 @@ use Rattle.dalvik_defs.proofs.Calm.{text_sound}
 use Rattle.pass_defs.specs.Live.{Family, KeepsAbove}
 use Rattle.removal_law.specs.Left.{left_in, left_of, field_key}
 use Rattle.removal_law.specs.Reach.{IsRegular}
-use Rattle.removal_law.proofs.Lists.{clash, In, here, there, in_either, and_left, and_behind, FoundIn, found_in, not_found}
+use Rattle.removal_law.proofs.Lists.{clash, In, here, there, in_either, and_left, and_behind, not_found}
 use Rattle.removal_law.proofs.Classes.{Kept, class_left}
 use Rattle.removal_law.proofs.Members.{find_filter}
 use Rattle.removal_law.proofs.Trees.{Tree, absent, present, some_same, none_some, class_name, defined, tree}

@@ -1,26 +1,24 @@
 -- What names find in what is left of a program: where what is found is live, the same.
 use Rattle.std.proofs.Common.{◌≡◌, ℕ, zero, suc, Bool, true, false, List, [], ◌∷◌, ◌++◌, length, refl, sym, ap, ◌∙◌, subst, inl, inr}
-use Rattle.std.specs.Prelude.{◌⊎◌, ◌&&◌, ◌||◌, not, cond, Option, Some, None, is_some, map, filter, find, flat_map}
-use Rattle.std.specs.List.{list_any, list_all}
+use Rattle.std.specs.Prelude.{◌⊎◌, ◌&&◌, not, cond, Option, Some, None, map, filter, flat_map}
 use Rattle.std.specs.Option.{option_map, option_or}
-use Rattle.dalvik_defs.specs.Names.{Text, text_eq, signature_eq, same_name, is_common}
+use Rattle.dalvik_defs.specs.Names.{Text, text_eq, same_name, is_common}
 use Rattle.dalvik_defs.specs.Flags.{is_interface}
-use Rattle.dalvik_defs.specs.Under.{class_named, defines, is_own_under}
-use Rattle.dalvik_defs.specs.Find.{Found, found_in as found_of, method_in, chain_from, chain_of, passing, first_method, Search, Nothing, Clash, Finds, search_of, is_virtual_method, own_candidate, interface_named, candidates_from, without_repeats, is_037, candidates, is_lowest, lowest, verdict, finds_among}
+use Rattle.dalvik_defs.specs.Under.{class_named, is_own_under}
+use Rattle.dalvik_defs.specs.Find.{Found, found_in as found_of, method_in, chain_of, passing, first_method, Nothing, Clash, Finds, is_virtual_method, own_candidate, interface_named, candidates_from, without_repeats, is_037, candidates, is_lowest, lowest, verdict, finds_among}
 use Rattle.dalvik_defs.specs.Silence.{key_in}
 use Rattle.dalvik_defs.specs.declared.names.Signature.{Signature}
-use Rattle.dalvik_defs.specs.declared.names.MethodKey.{MethodKey}
 use Rattle.dalvik_defs.specs.declared.program.NamedMethod.{NamedMethod}
 use Rattle.dalvik_defs.specs.declared.program.NamedClass.{NamedClass}
 use Rattle.dalvik_defs.specs.declared.program.NamedProgram.{NamedProgram}
 use Rattle.dalvik_defs.proofs.Calm.{text_sound}
 use Rattle.pass_defs.specs.Live.{Family, KeepsAbove}
 use Rattle.removal_law.specs.Left.{left_in, left_of}
-use Rattle.removal_law.specs.Reach.{ends, IsRegular}
-use Rattle.removal_law.proofs.Lists.{clash, In, here, there, any_same, in_front, in_back, in_either, FoundIn, found_in, not_found}
+use Rattle.removal_law.specs.Reach.{IsRegular}
+use Rattle.removal_law.proofs.Lists.{clash, In, here, there, any_same, in_front, in_back, in_either, found_in, not_found}
 use Rattle.removal_law.proofs.Classes.{Kept}
 use Rattle.removal_law.proofs.Members.{key, key_sound, method_left}
-use Rattle.removal_law.proofs.Trees.{Tree, absent, present, some_same, none_some, class_name, defined, tree, chain_left, own_under_left}
+use Rattle.removal_law.proofs.Trees.{Tree, absent, present, some_same, none_some, tree, chain_left, own_under_left}
 
 -- ---- lists
 

@@ -19,8 +19,8 @@ use Rattle.removal_law.specs.Reach.{is_idle, IsRegular}
 use Rattle.dalvik_defs.specs.Silence.{key_in}
 use Rattle.removal_law.proofs.Lists.{clash, In, here, there, in_either, contained}
 use Rattle.removal_law.proofs.Classes.{Kept, class_left, dead_found}
-use Rattle.removal_law.proofs.Members.{key, method_left}
-use Rattle.removal_law.proofs.Trees.{Tree, absent, present, some_same, none_some, class_name, class_kept, up_kept, defined, tree, defines_same}
+use Rattle.removal_law.proofs.Members.{method_left}
+use Rattle.removal_law.proofs.Trees.{Tree, absent, some_same, none_some, class_name, class_kept, up_kept, defined, tree, defines_same}
 use Rattle.removal_law.proofs.Finds.{flat_same, flat_none, out_of_flat, dead_method, interface_left, interface_class, trees_up, Trees}
 
 -- a test that only kept elements pass

@@ -1,5 +1,5 @@
 -- A framework that fits a program has and names no class of it.
-use Rattle.std.proofs.Common.{◌≡◌, Bool, true, false, List, [], ◌∷◌, ◌++◌, refl, sym, ap, ◌∙◌, inl, inr, subst}
+use Rattle.std.proofs.Common.{◌≡◌, Bool, true, false, List, [], ◌∷◌, refl, sym, ap, ◌∙◌, inl, inr, subst}
 use Rattle.std.specs.Prelude.{◌||◌, ◌⊎◌, not}
 use Rattle.std.specs.List.{list_any, list_all}
 use Rattle.dalvik_defs.specs.Names.{Text, text_eq, object_type}

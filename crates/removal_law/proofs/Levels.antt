@@ -10,7 +10,7 @@ use Rattle.dalvik_defs.specs.declared.program.NamedProgram.{NamedProgram}
 use Rattle.dalvik_defs.proofs.Calm.{text_sound}
 use Rattle.dalvik_defs.proofs.Same.{all_more}
 use Rattle.removal_law.specs.Reach.{ends}
-use Rattle.removal_law.proofs.Lists.{clash, In, here, there, in_map, times, times_bound, alike_or_more, FoundIn, found_in}
+use Rattle.removal_law.proofs.Lists.{clash, In, here, there, in_map, times, times_bound, alike_or_more, found_in}
 use Rattle.removal_law.proofs.Walks.{plus, plus_is, in_or_not}
 
 pub all_same : {A : Type 0} (f g : A → Bool) (xs : List A) → ((x : A) → In x xs → f x ≡ g x) → list_all f xs ≡ list_all g xs

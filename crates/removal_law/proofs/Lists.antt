@@ -1,6 +1,6 @@
 -- Tests over lists.
-use Rattle.std.proofs.Common.{◌≡◌, ℕ, zero, suc, ◌+◌, ◌<◌, ◌≤◌, Bool, true, false, true≢false, List, [], ◌∷◌, length, refl, sym, ap, ◌∙◌, arith, inl, inr, subst}
-use Rattle.std.specs.Prelude.{◌||◌, ◌&&◌, ◌++◌, ◌⊎◌, cond, Option, Some, None, Contains, map, find}
+use Rattle.std.proofs.Common.{◌≡◌, ℕ, suc, ◌+◌, ◌<◌, ◌≤◌, Bool, true, false, true≢false, List, [], ◌∷◌, length, refl, sym, ap, ◌∙◌, arith, inl, inr, subst}
+use Rattle.std.specs.Prelude.{◌||◌, ◌&&◌, ◌++◌, ◌⊎◌, cond, Some, None, Contains, map, find}
 use Rattle.std.specs.List.{list_any, list_all}
 use Rattle.dalvik_defs.proofs.Same.{or_more}
 pub use Rattle.removal_law.specs.Left.{In, here, there}

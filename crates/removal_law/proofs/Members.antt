@@ -1,6 +1,6 @@
 -- Methods by their names, in what is left of a program.
-use Rattle.std.proofs.Common.{◌≡◌, Bool, true, false, List, [], ◌∷◌, refl, sym, ap, ◌∙◌, subst}
-use Rattle.std.specs.Prelude.{◌&&◌, cond, Option, Some, None, filter, find}
+use Rattle.std.proofs.Common.{◌≡◌, Bool, true, false, List, [], ◌∷◌, refl, sym, ap, ◌∙◌}
+use Rattle.std.specs.Prelude.{cond, Option, Some, None, filter, find}
 use Rattle.std.specs.Option.{option_map, option_and_then}
 use Rattle.dalvik_defs.specs.Names.{Text, text_eq, texts_eq, signature_eq, same_name}
 use Rattle.dalvik_defs.specs.Under.{class_named}
@@ -15,7 +15,7 @@ use Rattle.dalvik_defs.specs.declared.program.NamedProgram.{NamedProgram}
 use Rattle.dalvik_defs.proofs.Calm.{text_sound}
 use Rattle.pass_defs.specs.Live.{Family}
 use Rattle.removal_law.specs.Left.{left_in, left_of}
-use Rattle.removal_law.proofs.Lists.{clash, and_left, and_behind, FoundIn, found_in}
+use Rattle.removal_law.proofs.Lists.{clash, and_left, and_behind, found_in}
 use Rattle.removal_law.proofs.Classes.{class_left}
 
 -- a filter that keeps all that a search may find

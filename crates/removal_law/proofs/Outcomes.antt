@@ -1,8 +1,7 @@
 -- What comes of an effect is the same for two faces that agree, and keeps to what is live.
-use Rattle.std.proofs.Common.{◌≡◌, ℕ, ◌+◌, ◌-◌, Bool, true, false, List, [], ◌∷◌, refl, sym, ap, ◌∙◌, subst}
+use Rattle.std.proofs.Common.{◌≡◌, ℕ, ◌+◌, ◌-◌, Bool, true, false, List, [], refl, ap, ◌∙◌, subst}
 use Rattle.std.specs.Prelude.{Option, Some, None, is_some}
 use Rattle.insn_set.specs.declared.ops.Item.{Item}
-use Rattle.insn_set.specs.declared.ops.Item.TheVariants as item
 use Rattle.insn_set.specs.declared.ops.InvokeKind.{InvokeKind}
 use Rattle.insn_set.specs.declared.ops.InvokeKind.TheVariants as call
 use Rattle.dalvik_defs.specs.Names.{Text, method_eq, object_constructor}
@@ -13,7 +12,6 @@ use Rattle.dalvik_defs.specs.Face.{Face, Place, Bodies, is_defined}
 use Rattle.dalvik_defs.specs.Outer.{Outer}
 use Rattle.dalvik_defs.specs.State.{World, Classes, Done, Thing, Instance, Items, is_null, thing_at, next_object, with_thing, fresh, kind_of, put_field}
 use Rattle.dalvik_defs.specs.declared.state.Value.{Value}
-use Rattle.dalvik_defs.specs.declared.state.Value.TheVariants.{Word}
 use Rattle.dalvik_defs.specs.declared.state.Frame.{Frame}
 use Rattle.dalvik_defs.specs.Fields.{key_at, static_value, instance_value, with_static, with_instance}
 use Rattle.dalvik_defs.specs.Effect.{Effect, Goes, Faults, Throws, Gives, Calls, Makes, Reads, Writes, Locks, Unlocks, Stuck, write, write_item, next}
@@ -23,13 +21,12 @@ use Rattle.dalvik_defs.specs.declared.names.MethodKey.{MethodKey}
 use Rattle.dalvik_defs.specs.declared.names.FieldKey.{FieldKey}
 use Rattle.dalvik_defs.specs.declared.forms.Form.{Form}
 use Rattle.dalvik_defs.specs.declared.forms.Form.TheVariants as form
-use Rattle.dalvik_defs.specs.declared.events.Event.{Event}
 use Rattle.dalvik_defs.specs.declared.events.Event.TheVariants as event
 use Rattle.dalvik_defs.specs.declared.program.NamedProgram.{NamedProgram}
 use Rattle.removal_law.specs.Agree.{AgreeOnCall, AgreeOnField, CalmDone, Agree}
 use Rattle.removal_law.proofs.Lists.{clash}
 use Rattle.removal_law.proofs.Worlds.{show_heap, option_heap, all_heap, item_method}
-use Rattle.removal_law.proofs.Acts.{Sound, sound_heap, sound_with, sound_put, sound_at, kind_ok, kind_made, EffectOk, OnField}
+use Rattle.removal_law.proofs.Acts.{Sound, sound_heap, sound_with, sound_put, sound_at, kind_ok, kind_made, EffectOk}
 
 module _ (ok made : Text → Type 0) (live : MethodKey → Type 0) (says : MethodKey → Form → Type 0) (calm : Text → Bool) (p : NamedProgram) (o : Outer) (F G : Face) (find other : Bodies)
     (agree : Agree ok made live says calm p o F G find other) where

@@ -1,21 +1,20 @@
 -- A class that is under a type, but not by the program's own lists, has a framework ancestor.
-use Rattle.std.proofs.Common.{◌≡◌, ℕ, zero, suc, ◌+◌, Bool, true, false, List, [], ◌∷◌, ◌++◌, length, refl, sym, ap, ◌∙◌, subst, inl, inr}
-use Rattle.std.specs.Prelude.{◌⊎◌, ◌&&◌, ◌||◌, not, Option, Some, None, map, nat_eq}
+use Rattle.std.proofs.Common.{◌≡◌, ℕ, zero, suc, Bool, true, false, List, [], ◌∷◌, length, refl, sym, ap, ◌∙◌, subst}
+use Rattle.std.specs.Prelude.{◌&&◌, ◌||◌, not, Option, Some, None, map, nat_eq}
 use Rattle.std.specs.List.{list_any, list_all}
 use Rattle.dalvik_defs.specs.Names.{Text, text_eq, object_type, is_array, is_class_type, is_reference}
-use Rattle.dalvik_defs.specs.Under.{class_named, defines, row_named, outer_type, above_row, above_in, directly_above, walks, walk_bound, class_under, under_types, is_under, own_above, is_own_under, touches_framework, reaches_framework, is_outward}
+use Rattle.dalvik_defs.specs.Under.{class_named, defines, row_named, outer_type, above_row, above_in, directly_above, walks, walk_bound, class_under, under_types, is_under, own_above, touches_framework, reaches_framework}
 use Rattle.dalvik_defs.specs.declared.program.NamedClass.{NamedClass}
 use Rattle.dalvik_defs.specs.declared.program.NamedProgram.{NamedProgram}
 use Rattle.dalvik_defs.specs.declared.tables.FrameworkType.{FrameworkType}
 use Rattle.dalvik_defs.specs.declared.tables.Framework.{Framework}
 use Rattle.dalvik_defs.proofs.Calm.{text_sound}
-use Rattle.pass_defs.specs.Calls.{is_within}
 use Rattle.removal_law.specs.Left.{NamesNone}
 use Rattle.removal_law.specs.Reach.{ends, IsRegular}
 use Rattle.removal_law.proofs.Lists.{clash, In, here, there, all_in, and_behind}
-use Rattle.removal_law.proofs.Walks.{choice, text_same}
+use Rattle.removal_law.proofs.Walks.{choice}
 use Rattle.removal_law.proofs.Levels.{enough_steps}
-use Rattle.removal_law.proofs.Trees.{defined, undefined, defines_class, defines_none}
+use Rattle.removal_law.proofs.Trees.{defines_class, defines_none}
 
 pub any_here : {A : Type 0} (f : A → Bool) (x : A) (xs : List A) → In x xs → f x ≡ true → list_any f xs ≡ true
 any_here f x [] i e = elim i [ ]

@@ -1,11 +1,9 @@
 -- The law of removal: what is left of a program shows the same. Both machines take equal steps from the state in which the
 -- idle interfaces are done, and it shows nothing that they are.
-use Rattle.std.proofs.Common.{◌≡◌, ℕ, Bool, true, false, List, [], ◌∷◌, ◌++◌, refl, sym, ap, ◌∙◌, subst, append-nil}
+use Rattle.std.proofs.Common.{◌≡◌, ℕ, true, List, [], sym, ◌∙◌, subst, append-nil}
 use Rattle.std.specs.List.{list_all}
-use Rattle.dalvik_defs.specs.Names.{Text}
 use Rattle.dalvik_defs.specs.Face.{face_of, bodies_of}
 use Rattle.dalvik_defs.specs.Outer.{Outer}
-use Rattle.dalvik_defs.specs.State.{opening}
 use Rattle.dalvik_defs.specs.Quiet.{calm_opening}
 use Rattle.dalvik_defs.specs.Step.{shows_from, setting_of}
 use Rattle.dalvik_defs.specs.Shown.{fit_move, Fit, SameShown}

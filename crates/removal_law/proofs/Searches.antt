@@ -1,29 +1,26 @@
 -- What calls find in what is left of a program: where all that they find is live, the same.
-use Rattle.std.proofs.Common.{◌≡◌, ℕ, zero, suc, Bool, true, false, List, [], ◌∷◌, ◌++◌, length, refl, sym, ap, ◌∙◌, subst, inl, inr}
-use Rattle.std.specs.Prelude.{◌⊎◌, ◌&&◌, ◌||◌, not, cond, Option, Some, None, is_some, map, filter, find, flat_map}
+use Rattle.std.proofs.Common.{◌≡◌, Bool, true, false, List, [], ◌∷◌, ◌++◌, length, refl, sym, ap, ◌∙◌, subst}
+use Rattle.std.specs.Prelude.{◌&&◌, ◌||◌, cond, Option, Some, None, is_some, map, filter, find, flat_map}
 use Rattle.std.specs.List.{list_any}
 use Rattle.std.specs.Option.{option_map}
-use Rattle.dalvik_defs.specs.Names.{Text, text_eq, object_type, is_common, is_class_type, is_array}
+use Rattle.dalvik_defs.specs.Names.{Text, text_eq}
 use Rattle.dalvik_defs.specs.Flags.{is_interface}
-use Rattle.dalvik_defs.specs.Under.{class_named, defines, own_above, walks, is_own_under, class_under, is_under, directly_above, above_in, touches_framework, reaches_framework, walk_bound}
-use Rattle.dalvik_defs.specs.Find.{Found, found_in as found_of, first_method, chain_of, Search, Nothing, Clash, Finds, search_of, is_virtual_method, own_candidate, interface_named, candidates_from, without_repeats, is_037, candidates, finds_among, finds_at, finds_statically, lists_interface, superclass_of, finds_above, finds_super_037, finds_super}
-use Rattle.dalvik_defs.specs.Face.{finds_virtually}
+use Rattle.dalvik_defs.specs.Under.{class_named, defines, is_own_under}
+use Rattle.dalvik_defs.specs.Find.{Found, first_method, chain_of, Search, Nothing, Clash, Finds, search_of, is_virtual_method, interface_named, is_037, candidates, finds_among, finds_at, finds_statically, lists_interface, superclass_of, finds_above, finds_super_037, finds_super}
 use Rattle.dalvik_defs.specs.declared.names.Signature.{Signature}
 use Rattle.dalvik_defs.specs.declared.names.MethodKey.{MethodKey}
 use Rattle.dalvik_defs.specs.declared.program.NamedMethod.{NamedMethod}
 use Rattle.dalvik_defs.specs.declared.program.NamedClass.{NamedClass}
 use Rattle.dalvik_defs.specs.declared.program.NamedProgram.{NamedProgram}
-use Rattle.dalvik_defs.proofs.Calm.{text_sound}
 use Rattle.pass_defs.specs.Live.{Family, KeepsAbove, answers_to}
 use Rattle.pass_defs.specs.Calls.{inherits, candidates_of, super_candidates}
 use Rattle.removal_law.specs.Left.{left_in, left_of}
 use Rattle.removal_law.specs.Reach.{IsRegular}
-use Rattle.removal_law.proofs.Lists.{clash, In, here, there, any_same, in_either}
+use Rattle.removal_law.proofs.Lists.{clash, In, here, there}
 use Rattle.removal_law.proofs.Walks.{text_same}
 use Rattle.removal_law.proofs.Classes.{Kept, class_left}
-use Rattle.removal_law.proofs.Members.{key}
-use Rattle.removal_law.proofs.Trees.{some_same, none_some, class_name, class_in, defined, class_kept, up_kept, own_under_left, walk_kept, chain_named, chain_kept}
-use Rattle.removal_law.proofs.Finds.{in_unfiltered, out_of_flat, Where, first_where, where_key, passed, chain_same, chain_first, interface_class, among_left, among_in, once, LiveFound}
+use Rattle.removal_law.proofs.Trees.{class_name, defined, up_kept, own_under_left, walk_kept, chain_named, chain_kept}
+use Rattle.removal_law.proofs.Finds.{out_of_flat, first_where, where_key, chain_same, chain_first, among_left, among_in}
 
 -- ---- lists
 

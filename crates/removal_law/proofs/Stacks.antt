@@ -5,24 +5,22 @@ use Rattle.std.specs.Prelude.{not, cond, Option, Some, None, drop, slice_get}
 use Rattle.std.specs.List.{list_all}
 use Rattle.std.specs.Option.{option_map, option_and_then}
 use Rattle.dalvik_defs.specs.Names.{Text, text_eq, throwable_type, error_type}
-use Rattle.dalvik_defs.specs.Known.{initialiser_error, no_class}
+use Rattle.dalvik_defs.specs.Known.{initialiser_error}
 use Rattle.dalvik_defs.specs.Face.{Face, Bodies}
 use Rattle.dalvik_defs.specs.Outer.{Outer}
 use Rattle.dalvik_defs.specs.Shown.{fit_move}
 use Rattle.dalvik_defs.specs.State.{World, Classes, Status, New, Running, Done, Failed, State, On, Ended, Next, quiet, next_object, with_thing, fresh, kind_of, put_status}
 use Rattle.dalvik_defs.specs.declared.state.Value.{Value}
-use Rattle.dalvik_defs.specs.declared.state.Value.TheVariants.{Word}
 use Rattle.dalvik_defs.specs.declared.state.Frame.{Frame}
 use Rattle.dalvik_defs.specs.declared.state.Waiting.{Waiting}
 use Rattle.dalvik_defs.specs.declared.state.Waiting.TheVariants.{Method, Initialiser, Ending, Outside}
-use Rattle.dalvik_defs.specs.Effect.{next, go, write_item}
+use Rattle.dalvik_defs.specs.Effect.{go}
 use Rattle.dalvik_defs.specs.Show.{show, show_option}
-use Rattle.dalvik_defs.specs.Stack.{entry_frame, enters_body, enters, form_at, receives, back, gives, handler_at, lands, wrapped, given_up, lands_or, unwinds, throws_new, left_at, left_of, runs, goes_on, starts, resumes, ends}
+use Rattle.dalvik_defs.specs.Stack.{enters_body, enters, form_at, receives, back, gives, handler_at, lands, wrapped, given_up, lands_or, unwinds, throws_new, left_at, left_of, runs, goes_on, starts, resumes, ends}
 use Rattle.dalvik_defs.specs.declared.names.MethodKey.{MethodKey}
 use Rattle.dalvik_defs.specs.declared.forms.Form.{Form}
 use Rattle.dalvik_defs.specs.declared.forms.Form.TheVariants as form
 use Rattle.dalvik_defs.specs.declared.script.Move.{Move}
-use Rattle.dalvik_defs.specs.declared.events.Event.TheVariants as event
 use Rattle.dalvik_defs.specs.declared.program.NamedBody.{NamedBody}
 use Rattle.dalvik_defs.specs.declared.program.NamedProgram.{NamedProgram}
 use Rattle.removal_law.specs.Agree.{Each, sieve, CalmDone, Agree}

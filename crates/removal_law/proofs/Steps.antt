@@ -1,6 +1,6 @@
 -- Two machines whose faces agree take equal steps, and keep to what is live.
 use Rattle.std.proofs.Common.{◌≡◌, ℕ, zero, suc, Bool, true, false, List, [], ◌∷◌, ◌++◌, refl, sym, ap, ◌∙◌, subst, inl, inr}
-use Rattle.std.specs.Prelude.{◌&&◌, ◌⊎◌, not, cond, Option, Some, None, length, slice_get, slice_set, nat_lt}
+use Rattle.std.specs.Prelude.{◌&&◌, not, cond, Option, Some, None, length, slice_get, slice_set, nat_lt}
 use Rattle.std.specs.List.{list_all}
 use Rattle.std.specs.Option.{option_and_then}
 use Rattle.dalvik_defs.specs.Names.{Text}
@@ -11,17 +11,16 @@ use Rattle.dalvik_defs.specs.Find.{Found}
 use Rattle.dalvik_defs.specs.Face.{Face, Place, Bodies}
 use Rattle.dalvik_defs.specs.Outer.{Outer}
 use Rattle.dalvik_defs.specs.Shown.{fit_given, fit_option, fit_move}
-use Rattle.dalvik_defs.specs.State.{World, Classes, Status, New, Running, Done, Failed, Thing, Instance, Items, State, On, Ended, Next, quiet, thing_at, put_thing, with_thing, next_object, fresh, put_field, opening}
+use Rattle.dalvik_defs.specs.State.{World, Classes, Status, New, Running, Done, Failed, Thing, Instance, Items, State, On, Ended, Next, quiet, thing_at, put_thing, with_thing, next_object, fresh, put_field}
 use Rattle.dalvik_defs.specs.declared.state.Value.{Value}
 use Rattle.dalvik_defs.specs.declared.state.Value.TheVariants.{Word}
 use Rattle.dalvik_defs.specs.declared.state.Frame.{Frame}
 use Rattle.dalvik_defs.specs.declared.state.Waiting.{Waiting}
 use Rattle.dalvik_defs.specs.declared.state.Waiting.TheVariants.{Method, Initialiser, Ending, Outside}
-use Rattle.dalvik_defs.specs.Fields.{key_at, static_value, instance_value, with_static, with_instance}
+use Rattle.dalvik_defs.specs.Fields.{with_static, with_instance}
 use Rattle.dalvik_defs.specs.Show.{show}
-use Rattle.dalvik_defs.specs.Effect.{Effect, Stuck}
 use Rattle.dalvik_defs.specs.Outcome.{Outcome, Stays, Starts, Enters, Leaves, Ends, Raises, Halts, Need, Ready, Fresh, Broken, need_of, outcome}
-use Rattle.dalvik_defs.specs.Stack.{enters, form_at, gives, unwinds, throws_new, left_of, goes_on, starts}
+use Rattle.dalvik_defs.specs.Stack.{enters, form_at, throws_new, left_of, goes_on, starts}
 use Rattle.dalvik_defs.specs.Gives.{gets, gets_all, spread, fits, may_throw}
 use Rattle.dalvik_defs.specs.Legal.{may_enter, may_make, may_answer, on_fits, is_exposed}
 use Rattle.dalvik_defs.specs.Happens.{Setting, effect_of, outcome_at, happens, first_needed, initialises}
@@ -37,12 +36,12 @@ use Rattle.dalvik_defs.specs.declared.script.Move.TheVariants as move
 use Rattle.dalvik_defs.specs.declared.tables.Floats.{Floats}
 use Rattle.dalvik_defs.specs.declared.program.NamedBody.{NamedBody}
 use Rattle.dalvik_defs.specs.declared.program.NamedProgram.{NamedProgram}
-use Rattle.removal_law.specs.Agree.{Each, sieve, CalmDone, AgreeOnDeclared, IsBarred, IsOpen, Agree}
+use Rattle.removal_law.specs.Agree.{Each, sieve, CalmDone, AgreeOnDeclared, IsOpen, Agree}
 use Rattle.removal_law.proofs.Lists.{clash, and_left, and_behind}
 use Rattle.removal_law.proofs.Worlds.{Kinds, show_heap}
 use Rattle.removal_law.proofs.Acts.{Sound, sound_heap, sound_with, sound_put, sound_at, Acts, acts}
 use Rattle.removal_law.proofs.Outcomes.{OutcomeOk, Comes, comes, need_same, fresh_calm}
-use Rattle.removal_law.proofs.Stacks.{OwesOk, HeadOk, StackOk, Fits, StateOk, sifted, sift, left_sieved, left_head, busy_class, not_new, Good, GoodState, good_one, good_quiet, entering, giving, unwinding, throwing, left_ok, going_on, starting, ending}
+use Rattle.removal_law.proofs.Stacks.{OwesOk, HeadOk, StackOk, Fits, StateOk, sifted, sift, left_sieved, left_head, Good, GoodState, good_one, good_quiet, entering, giving, unwinding, throwing, left_ok, going_on, starting, ending}
 use Rattle.removal_law.proofs.Given.{AllFit, GivenFits, OptionFits, gets_kinds, got_kinds, fits_same, given_fine, enter_same, enter_fine, enter_barred, make_same, answer_same, answer_fine, throw_same, throw_fine, on_place_same, on_place_fine}
 
 module _ (ok made : Text → Type 0) (live : MethodKey → Type 0) (says : MethodKey → Form → Type 0) (calm : Text → Bool) (p : NamedProgram) (o : Outer) (F G : Face) (find other : Bodies)

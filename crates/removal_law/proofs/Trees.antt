@@ -1,18 +1,18 @@
 -- What is walked through above a live type, in a program and in what is left of it.
-use Rattle.std.proofs.Common.{◌≡◌, ℕ, zero, suc, Bool, true, false, List, [], ◌∷◌, ◌++◌, length, refl, sym, ap, ◌∙◌, subst, inl, inr}
-use Rattle.std.specs.Prelude.{◌⊎◌, ◌&&◌, ◌||◌, not, cond, Option, Some, None, map, filter, find, flat_map}
+use Rattle.std.proofs.Common.{◌≡◌, ℕ, zero, suc, Bool, true, false, List, [], ◌∷◌, length, refl, sym, ap, ◌∙◌, subst}
+use Rattle.std.specs.Prelude.{◌&&◌, ◌||◌, not, Option, Some, None, map}
 use Rattle.std.specs.List.{list_any, list_all}
-use Rattle.std.specs.Option.{option_map, option_or}
+use Rattle.std.specs.Option.{option_map}
 use Rattle.dalvik_defs.specs.Names.{Text, text_eq, object_type}
 use Rattle.dalvik_defs.specs.Under.{class_named, defines, own_above, walks, is_own_under, touches_framework, reaches_framework, is_outward}
-use Rattle.dalvik_defs.specs.Find.{chain_from, chain_of}
+use Rattle.dalvik_defs.specs.Find.{chain_from}
 use Rattle.dalvik_defs.specs.declared.program.NamedClass.{NamedClass}
 use Rattle.dalvik_defs.specs.declared.program.NamedProgram.{NamedProgram}
 use Rattle.dalvik_defs.proofs.Calm.{text_sound}
 use Rattle.pass_defs.specs.Live.{Family, KeepsAbove}
 use Rattle.removal_law.specs.Left.{left_in, left_of}
 use Rattle.removal_law.specs.Reach.{ends, IsRegular}
-use Rattle.removal_law.proofs.Lists.{clash, In, here, there, any_same, all_in, contained, FoundIn, found_in}
+use Rattle.removal_law.proofs.Lists.{clash, In, here, there, any_same, all_in, contained, found_in}
 use Rattle.removal_law.proofs.Walks.{choice, choice_false}
 use Rattle.removal_law.proofs.Classes.{Kept, class_left, left_less}
 use Rattle.removal_law.proofs.Levels.{all_same, enough_steps}

@@ -1,5 +1,5 @@
 -- A face agrees with itself, but for the calm classes that are initialised before one.
-use Rattle.std.proofs.Common.{◌≡◌, ℕ, Bool, true, false, List, [], ◌∷◌, refl, inl, inr}
+use Rattle.std.proofs.Common.{◌≡◌, Bool, List, [], ◌∷◌, refl, inl}
 use Rattle.std.specs.Prelude.{Option, Some, None}
 use Rattle.insn_set.specs.declared.ops.InvokeKind.{InvokeKind}
 use Rattle.insn_set.specs.declared.ops.InvokeKind.TheVariants as call

@@ -1,19 +1,18 @@
 -- What an object of a class answers to: a virtual method of a class of the program, of the name and signature.
 use Rattle.std.proofs.Common.{◌≡◌, ℕ, zero, suc, Bool, true, false, List, [], ◌∷◌, ◌++◌, length, refl, sym, ap, ◌∙◌, subst, inl, inr}
-use Rattle.std.specs.Prelude.{◌⊎◌, ◌&&◌, not, Option, Some, None, find, flat_map}
+use Rattle.std.specs.Prelude.{◌⊎◌, ◌&&◌, not, Option, Some, None, flat_map}
 use Rattle.dalvik_defs.specs.Names.{Text, same_name, is_common}
 use Rattle.dalvik_defs.specs.Flags.{is_interface}
 use Rattle.dalvik_defs.specs.Under.{class_named}
 use Rattle.dalvik_defs.specs.Find.{Found, found_in as found_of, method_in, chain_of, passing, is_virtual_method, own_candidate, interface_named, candidates_from, without_repeats, is_037, candidates}
 use Rattle.dalvik_defs.specs.declared.names.Signature.{Signature}
-use Rattle.dalvik_defs.specs.declared.names.MethodKey.{MethodKey}
 use Rattle.dalvik_defs.specs.declared.program.NamedMethod.{NamedMethod}
 use Rattle.dalvik_defs.specs.declared.program.NamedClass.{NamedClass}
 use Rattle.dalvik_defs.specs.declared.program.NamedProgram.{NamedProgram}
 use Rattle.pass_defs.specs.Live.{Family, KeepsAbove, answers_to}
 use Rattle.pass_defs.specs.Calls.{inherits, candidates_of}
 use Rattle.removal_law.specs.Reach.{IsRegular}
-use Rattle.removal_law.proofs.Lists.{clash, In, here, there, in_either, FoundIn, found_in}
+use Rattle.removal_law.proofs.Lists.{In, here, there, in_either, found_in}
 use Rattle.removal_law.proofs.Members.{key}
 use Rattle.removal_law.proofs.Trees.{none_some, class_name, chain_named}
 use Rattle.removal_law.proofs.Finds.{out_of_flat, Where, first_where, where_key, passed, interface_class, repeats_in}

@@ -1,11 +1,11 @@
 -- The kinds of the things in a world: what makes, writes and shows things keeps them.
-use Rattle.std.proofs.Common.{◌≡◌, ℕ, zero, suc, Bool, true, false, List, [], ◌∷◌, ◌++◌, refl, sym, ap, ◌∙◌, subst}
+use Rattle.std.proofs.Common.{◌≡◌, ℕ, zero, suc, Bool, true, false, List, [], ◌∷◌, ◌++◌, refl, ap, ◌∙◌, subst}
 use Rattle.std.specs.Prelude.{Option, Some, None, slice_get, slice_set}
 use Rattle.insn_set.specs.declared.ops.Item.{Item}
 use Rattle.insn_set.specs.declared.ops.Item.TheVariants as item
 use Rattle.dalvik_defs.specs.Effect.{write_item}
 use Rattle.dalvik_defs.specs.Names.{Text, string_type, class_type}
-use Rattle.dalvik_defs.specs.State.{World, Thing, kind_of_thing, kind_of, put_thing, thing_at, with_thing}
+use Rattle.dalvik_defs.specs.State.{World, Thing, kind_of_thing, kind_of, put_thing, thing_at}
 use Rattle.dalvik_defs.specs.declared.state.Value.{Value}
 use Rattle.dalvik_defs.specs.declared.state.Value.TheVariants.{Word, Low, High, Object, Literal, Class}
 use Rattle.dalvik_defs.specs.declared.state.Frame.{Frame}

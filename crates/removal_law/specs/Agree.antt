@@ -7,7 +7,7 @@ use Rattle.insn_set.specs.declared.ops.InvokeKind.TheVariants as call
 use Rattle.dalvik_defs.specs.Names.{Text, text_eq, array_of, base_of, item_of}
 use Rattle.dalvik_defs.specs.Find.{Found, Search, Finds}
 use Rattle.dalvik_defs.specs.Face.{Face, Place, Bodies, is_defined, is_concrete}
-use Rattle.dalvik_defs.specs.State.{Classes, Status, Done}
+use Rattle.dalvik_defs.specs.State.{Classes, Done}
 use Rattle.dalvik_defs.specs.Legal.{calls_back, may_make}
 use Rattle.dalvik_defs.specs.Outer.{Outer}
 use Rattle.dalvik_defs.specs.Shown.{reserved, fit_given}

@@ -1,10 +1,10 @@
 -- What a run of a program comes to, by a family of live sets, and what the law of removal asks of the program.
-use Rattle.std.specs.Prelude.{◌≡◌, ℕ, zero, suc, Bool, true, false, ◌&&◌, ◌||◌, not, List, [], ◌∷◌, Option, Some, None, is_none}
+use Rattle.std.specs.Prelude.{◌≡◌, ℕ, zero, suc, Bool, true, false, ◌||◌, not, List, Some, None, is_none}
 use Rattle.std.specs.List.{list_all}
 use Rattle.dalvik_defs.specs.Names.{Text, is_class_type, is_array, base_of, proto_text}
 use Rattle.dalvik_defs.specs.Flags.{is_interface}
 use Rattle.dalvik_defs.specs.Under.{class_named, defines, own_above, is_own_under}
-use Rattle.dalvik_defs.specs.Find.{Found, interface_named, is_037}
+use Rattle.dalvik_defs.specs.Find.{interface_named, is_037}
 use Rattle.dalvik_defs.specs.Initialised.{initialiser_of}
 use Rattle.dalvik_defs.specs.Face.{face_of, bodies_of}
 use Rattle.dalvik_defs.specs.Outer.{Outer}
@@ -18,7 +18,7 @@ use Rattle.dalvik_defs.specs.declared.program.NamedMethod.{NamedMethod}
 use Rattle.dalvik_defs.specs.declared.program.NamedClass.{NamedClass}
 use Rattle.dalvik_defs.specs.declared.program.NamedProgram.{NamedProgram}
 use Rattle.pass_defs.specs.Live.{Family, HasBody}
-use Rattle.removal_law.specs.Left.{In, left_in, left_of}
+use Rattle.removal_law.specs.Left.{In, left_of}
 use Rattle.removal_law.specs.Agree.{sieved, Agree}
 
 -- a type whose base is live where the program defines it

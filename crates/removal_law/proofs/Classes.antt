@@ -1,6 +1,6 @@
 -- Classes by their names, in what is left of a program.
-use Rattle.std.proofs.Common.{◌≡◌, ℕ, ◌≤◌, Bool, true, false, List, [], ◌∷◌, ◌++◌, length, refl, sym, ap, ◌∙◌, arith, inl, inr, subst}
-use Rattle.std.specs.Prelude.{◌⊎◌, cond, Option, Some, None, is_some, map, filter, find}
+use Rattle.std.proofs.Common.{◌≡◌, ◌≤◌, Bool, true, false, List, [], ◌∷◌, length, refl, sym, ap, ◌∙◌, arith}
+use Rattle.std.specs.Prelude.{cond, Option, Some, None, map, filter, find}
 use Rattle.std.specs.Option.{option_map}
 use Rattle.dalvik_defs.specs.Names.{Text, text_eq}
 use Rattle.dalvik_defs.specs.Under.{class_named, defines}
@@ -40,7 +40,7 @@ module _ (s : Family) where
   live_found t l [] = refl
   live_found t l (c ∷ cs) = live_step t c cs l (live_found t l cs) (text_eq c.name t) (s.classes c.name) refl refl
 
-  dead_found : (t : Text) → s.classes t ≡ false → (cs : List NamedClass) → seek t (left cs) ≡ None
+  pub dead_found : (t : Text) → s.classes t ≡ false → (cs : List NamedClass) → seek t (left cs) ≡ None
   dead_found t l [] = refl
   dead_found t l (c ∷ cs) = dead_step t c cs l (dead_found t l cs) (text_eq c.name t) (s.classes c.name) refl refl
 

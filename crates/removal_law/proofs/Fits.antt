@@ -1,5 +1,5 @@
 -- A framework that fits a program has and names no class of it.
-use Rattle.std.proofs.Common.{◌≡◌, Bool, true, false, List, [], ◌∷◌, ◌++◌, refl, sym, ap, ◌∙◌, inl, inr, subst}
+use Rattle.std.proofs.Common.{◌≡◌, Bool, true, false, List, [], ◌∷◌, refl, sym, ap, ◌∙◌, inl, inr, subst}
 use Rattle.std.specs.Prelude.{◌||◌, ◌⊎◌, not}
 use Rattle.std.specs.List.{list_any, list_all}
 use Rattle.dalvik_defs.specs.Names.{Text, text_eq, object_type}
@@ -19,7 +19,7 @@ any_none : {A : Type 0} (f : A → Bool) (xs : List A) → ((x : A) → In x xs 
 any_none f [] h = refl
 any_none f (x ∷ xs) h = ap (λ b. b || list_any f xs) (h x (here xs)) ∙ any_none f xs (λ y c. h y (there x xs c))
 
-in_by_test : (u : Text) (xs : List Text) → list_any (text_eq u) xs ≡ true → In u xs
+pub in_by_test : (u : Text) (xs : List Text) → list_any (text_eq u) xs ≡ true → In u xs
 in_by_test u [] e = clash false e refl
 in_by_test u (x ∷ xs) e = by (text_eq u x) refl (in_by_test u xs) e
   where

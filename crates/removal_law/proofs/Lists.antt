@@ -1,6 +1,6 @@
 -- Tests over lists.
-use Rattle.std.proofs.Common.{◌≡◌, ℕ, zero, suc, ◌+◌, ◌<◌, ◌≤◌, Bool, true, false, true≢false, List, [], ◌∷◌, length, refl, sym, ap, ◌∙◌, arith, inl, inr, subst}
-use Rattle.std.specs.Prelude.{◌||◌, ◌&&◌, ◌++◌, ◌⊎◌, cond, Option, Some, None, map, find}
+use Rattle.std.proofs.Common.{◌≡◌, ℕ, suc, ◌+◌, ◌<◌, ◌≤◌, Bool, true, false, true≢false, List, [], ◌∷◌, length, refl, sym, ap, ◌∙◌, arith, inl, inr, subst}
+use Rattle.std.specs.Prelude.{◌||◌, ◌&&◌, ◌++◌, ◌⊎◌, cond, Some, None, Contains, map, find}
 use Rattle.std.specs.List.{list_any, list_all}
 use Rattle.dalvik_defs.proofs.Same.{or_more}
 pub use Rattle.removal_law.specs.Left.{In, here, there}
@@ -126,3 +126,9 @@ found_in {A} f (y ∷ xs) x e = by (f y) refl (found_in f xs x) e
 pub not_found : {A : Type 0} (f : A → Bool) (xs : List A) → ((x : A) → In x xs → f x ≡ false) → find f xs ≡ None
 not_found f [] h = refl
 not_found f (y ∷ xs) h = ap (λ b. cond b (Some y) (find f xs)) (h y (here xs)) ∙ not_found f xs (λ x c. h x (there y xs c))
+
+-- what stands in a list, by its place
+pub contained : {A : Type 0} (x : A) (xs : List A) → In x xs → Contains xs x
+contained x [] c = elim c [ ]
+contained x (y ∷ xs) (here ys) = (0, omega arith, refl)
+contained x (y ∷ xs) (there z ys c) = let h = contained x xs c in let lt = h.1 in (suc h.0, omega (arith, lt), h.2)

@@ -1,6 +1,6 @@
 -- Methods by their names, in what is left of a program.
-use Rattle.std.proofs.Common.{◌≡◌, Bool, true, false, List, [], ◌∷◌, refl, sym, ap, ◌∙◌, subst}
-use Rattle.std.specs.Prelude.{◌&&◌, cond, Option, Some, None, filter, find}
+use Rattle.std.proofs.Common.{◌≡◌, Bool, true, false, List, [], ◌∷◌, refl, sym, ap, ◌∙◌}
+use Rattle.std.specs.Prelude.{cond, Option, Some, None, filter, find}
 use Rattle.std.specs.Option.{option_map, option_and_then}
 use Rattle.dalvik_defs.specs.Names.{Text, text_eq, texts_eq, signature_eq, same_name}
 use Rattle.dalvik_defs.specs.Under.{class_named}
@@ -15,7 +15,7 @@ use Rattle.dalvik_defs.specs.declared.program.NamedProgram.{NamedProgram}
 use Rattle.dalvik_defs.proofs.Calm.{text_sound}
 use Rattle.pass_defs.specs.Live.{Family}
 use Rattle.removal_law.specs.Left.{left_in, left_of}
-use Rattle.removal_law.proofs.Lists.{clash, and_left, and_behind, FoundIn, found_in}
+use Rattle.removal_law.proofs.Lists.{clash, and_left, and_behind, found_in}
 use Rattle.removal_law.proofs.Classes.{class_left}
 
 -- a filter that keeps all that a search may find
@@ -28,24 +28,24 @@ find_filter test keep h (x ∷ xs) = by (test x) (keep x) refl refl (find_filter
     by true false e i r = clash (keep x) (h x e) i
     by false false e i r = ap (λ d. find test (cond d (x ∷ filter keep xs) (filter keep xs))) i ∙ r ∙ sym (ap (λ b. cond b (Some x) (find test xs)) e)
 
-texts_sound : (ts us : List Text) → texts_eq ts us ≡ true → ts ≡ us
+pub texts_sound : (ts us : List Text) → texts_eq ts us ≡ true → ts ≡ us
 texts_sound [] [] e = refl
 texts_sound [] (u ∷ us) e = clash false e refl
 texts_sound (t ∷ ts) [] e = clash false e refl
 texts_sound (t ∷ ts) (u ∷ us) e =
     ap (λ x. x ∷ ts) (text_sound t u (and_left (text_eq t u) (texts_eq ts us) e)) ∙ ap (λ xs. u ∷ xs) (texts_sound ts us (and_behind (text_eq t u) (texts_eq ts us) e))
 
-signature_sound : (a b : Signature) → signature_eq a b ≡ true → a ≡ b
+pub signature_sound : (a b : Signature) → signature_eq a b ≡ true → a ≡ b
 signature_sound a b e =
     let r : a.result ≡ b.result = text_sound a.result b.result (and_left (text_eq a.result b.result) (texts_eq a.parameters b.parameters) e) in
     let q : a.parameters ≡ b.parameters = texts_sound a.parameters b.parameters (and_behind (text_eq a.result b.result) (texts_eq a.parameters b.parameters) e) in
     ap (λ x. record { result = x; parameters = a.parameters }) r ∙ ap (λ x. record { result = b.result; parameters = x }) q
 
 -- a method of a name is the one of that name
-abbrev key : Text → Text → Signature → MethodKey
+abbrev pub key : Text → Text → Signature → MethodKey
 key t n g = record { class = t; name = n; signature = g }
 
-key_sound : (c : NamedClass) (m : NamedMethod) (n : Text) (g : Signature) → same_name m.name m.signature n g ≡ true → key_in c m ≡ key c.name n g
+pub key_sound : (c : NamedClass) (m : NamedMethod) (n : Text) (g : Signature) → same_name m.name m.signature n g ≡ true → key_in c m ≡ key c.name n g
 key_sound c m n g e =
     ap (λ x. key c.name x m.signature) (text_sound m.name n (and_left (text_eq m.name n) (signature_eq m.signature g) e))
     ∙ ap (key c.name n) (signature_sound m.signature g (and_behind (text_eq m.name n) (signature_eq m.signature g) e))

@@ -1,13 +1,13 @@
 -- What stands above a live type is the same in what is left.
-use Rattle.std.proofs.Common.{◌≡◌, ℕ, zero, suc, ◌+◌, ◌≤◌, Bool, true, false, List, [], ◌∷◌, ◌++◌, length, refl, sym, ap, ◌∙◌, arith, inl, inr, subst}
-use Rattle.std.specs.Prelude.{◌⊎◌, ◌||◌, ◌&&◌, not, cond, Option, Some, None, Contains, map, filter, find, nat_eq}
-use Rattle.std.specs.List.{list_any, list_all}
+use Rattle.std.proofs.Common.{◌≡◌, ℕ, zero, suc, ◌+◌, ◌≤◌, Bool, true, false, List, [], ◌∷◌, ◌++◌, length, refl, sym, ap, ◌∙◌, arith, subst}
+use Rattle.std.specs.Prelude.{◌||◌, ◌&&◌, not, Option, Some, None, map, nat_eq}
+use Rattle.std.specs.List.{list_any}
 use Rattle.std.specs.Option.{option_map}
 use Rattle.std.proofs.lemmas.List.{length-map, length-append}
 use Rattle.dalvik_defs.specs.Names.{Text, text_eq, is_array, is_reference, base_of, object_type}
 use Rattle.dalvik_defs.specs.Known.{known_rows}
 use Rattle.dalvik_defs.specs.Under.{class_named, defines, row_named, outer_type, above_row, above_in, directly_above, walks, walk_bound, class_under, under_types, is_under}
-use Rattle.dalvik_defs.specs.Shown.{named_by, reserved}
+use Rattle.dalvik_defs.specs.Shown.{named_by}
 use Rattle.dalvik_defs.specs.declared.program.NamedClass.{NamedClass}
 use Rattle.dalvik_defs.specs.declared.program.NamedProgram.{NamedProgram}
 use Rattle.dalvik_defs.specs.declared.tables.FrameworkType.{FrameworkType}
@@ -15,8 +15,8 @@ use Rattle.dalvik_defs.specs.declared.tables.Framework.{Framework}
 use Rattle.dalvik_defs.proofs.Calm.{text_sound}
 use Rattle.pass_defs.specs.Live.{Family, KeepsAbove}
 use Rattle.removal_law.specs.Left.{left_in, left_of, NamesNone}
-use Rattle.removal_law.proofs.Lists.{clash, In, here, there, any_same, none_in, all_in, in_front, in_back, in_either, in_map, FoundIn, found_in, not_found}
-use Rattle.removal_law.proofs.Walks.{choice, text_same, same_walks, enough}
+use Rattle.removal_law.proofs.Lists.{clash, In, here, there, none_in, in_front, in_back, in_map, found_in, not_found, contained}
+use Rattle.removal_law.proofs.Walks.{choice, choice_false, text_same, same_walks, enough}
 use Rattle.removal_law.proofs.Classes.{Kept, class_left, left_less, fewer}
 
 -- ---- arrays
@@ -36,15 +36,6 @@ same_types under other (u ∷ s) (v ∷ t) h = by (nat_eq u 91) h (same_types un
         ≡ pick b (text_eq (u ∷ s) (v ∷ t) || text_eq (v ∷ t) object_type || (is_array (v ∷ t) && is_reference s && is_reference t && under_types other s t)) (not (is_array (v ∷ t)) && other (u ∷ s) (v ∷ t))
     by true h ih = ap (λ x. text_eq (u ∷ s) (v ∷ t) || text_eq (v ∷ t) object_type || (is_array (v ∷ t) && is_reference s && is_reference t && x)) (ih h)
     by false h ih = ap (λ x. not (is_array (v ∷ t)) && x) (h (v ∷ t))
-
-contained : {A : Type 0} (x : A) (xs : List A) → In x xs → Contains xs x
-contained x [] c = elim c [ ]
-contained x (y ∷ xs) (here ys) = (0, omega arith, refl)
-contained x (y ∷ xs) (there z ys c) = let h = contained x xs c in let lt = h.1 in (suc h.0, omega (arith, lt), h.2)
-
-choice_false : (b : Bool) → choice b false ≡ b
-choice_false true = refl
-choice_false false = refl
 
 -- ---- types that the program doesn't define
 

@@ -11,15 +11,19 @@ use Rattle.removal_law.proofs.Lists.{clash, In, here, there, any_same, any_more,
 abbrev pub choice : Bool → Bool → Bool
 choice b c = elim b [ true ↦ true | false ↦ c ]
 
+pub choice_false : (b : Bool) → choice b false ≡ b
+choice_false true = refl
+choice_false false = refl
+
 choice_more : (b c d : Bool) → (c ≡ true → d ≡ true) → choice b c ≡ true → choice b d ≡ true
 choice_more true c d h e = refl
 choice_more false c d h e = h e
 
-abbrev plus : ℕ → ℕ → ℕ
+abbrev pub plus : ℕ → ℕ → ℕ
 plus zero k = k
 plus (suc j) k = suc (plus j k)
 
-plus_is : (j k : ℕ) → plus j k ≡ j + k
+pub plus_is : (j k : ℕ) → plus j k ≡ j + k
 plus_is zero k = omega arith
 plus_is (suc j) k = let e = plus_is j k in omega (arith, e)
 

@@ -1,1 +1,3 @@
 pub mod Left
+pub mod Agree
+pub mod Reach

@@ -1,18 +1,23 @@
 //! Laws of what is left of a program.
 
-ghost use Rattle.std.specs.Prelude.{◌≡◌, List, true};
+ghost use Rattle.std.specs.Prelude.{◌≡◌, ℕ, List, true};
+ghost use Rattle.std.specs.List.{list_all};
 ghost use Rattle.std.specs.Option.{option_map};
 ghost use Rattle.dalvik_defs.specs.Names.{Text, base_of};
 ghost use Rattle.dalvik_defs.specs.Face.{bodies_of};
 ghost use Rattle.dalvik_defs.specs.declared.names.MethodKey.{MethodKey};
 ghost use Rattle.dalvik_defs.specs.Outer.{Outer};
-ghost use Rattle.dalvik_defs.specs.Shown.{Fit};
+ghost use Rattle.dalvik_defs.specs.Shown.{fit_move, Fit, SameShown};
+ghost use Rattle.dalvik_defs.specs.Quiet.{calm_opening};
+ghost use Rattle.dalvik_defs.specs.Step.{setting_of, shows_from};
 ghost use Rattle.dalvik_defs.specs.declared.script.Move.{Move};
 ghost use Rattle.dalvik_defs.specs.Under.{class_named, defines, is_under};
 ghost use Rattle.dalvik_defs.specs.declared.program.NamedProgram.{NamedProgram};
 ghost use Rattle.dalvik_defs.specs.declared.tables.Framework.{Framework};
-ghost use Rattle.pass_defs.specs.Live.{Family, KeepsAbove};
+ghost use Rattle.dalvik_defs.specs.declared.tables.Floats.{Floats};
+ghost use Rattle.pass_defs.specs.Live.{Conditions, Family, IsClosedFamily, KeepsAbove};
 ghost use Rattle.removal_law.specs.Left.{left_in, left_of, NamesNone};
+ghost use Rattle.removal_law.specs.Reach.{IsRegular, IsSoundCode, LeftAgrees, ShutsHold, is_idle};
 
 /// A class that is live is left with its live members, and no other class is left.
 pub fn classes_left_law()
@@ -33,4 +38,25 @@ pub fn under_left_law()
 /// A live method of a live class has the body in what is left that it had.
 pub fn bodies_left_law()
     ensures { (s : Family) (p : NamedProgram) (k : MethodKey) → s.classes k.class ≡ true → s.methods k ≡ true → bodies_of (left_of s p) k ≡ bodies_of p k }
+{}
+
+/// Under a framework that fits, all that a run asks of a program what is left of it by a closed family answers alike: what
+/// is under what, what static, direct, super, virtual and interface calls in live code find, fields, initialisers and the
+/// classes that come first, bodies, and what the framework may enter, make and read (`specs/Agree.antt` says it all).
+pub fn faces_agree_law()
+    ensures { (p : NamedProgram) (o : Outer) (k : Conditions) (s : Family) → IsClosedFamily p o k s → IsRegular p → IsSoundCode p → ShutsHold p o
+        → (f : Framework) (script : List Move) → Fit p o f script → LeftAgrees p o s f }
+{}
+
+/// Where what is left answers alike, the machine takes equal steps over both from the state in which the interfaces without
+/// an initialiser are done: within each number of steps it shows the same events.
+pub fn steps_are_equal_law()
+    ensures { (p : NamedProgram) (o : Outer) (s : Family) (f : Framework) → LeftAgrees p o s f → (a : Floats) (script : List Move) (n : ℕ) → list_all (fit_move p o) script ≡ true
+        → shows_from (setting_of p o f a) (bodies_of p) (calm_opening (is_idle p) script) n ≡ shows_from (setting_of (left_of s p) o f a) (bodies_of (left_of s p)) (calm_opening (is_idle p) script) n }
+{}
+
+/// The law of removal: what is left of a program by a closed family of live sets shows the same.
+pub fn removal_shows_the_same_law()
+    ensures { (p : NamedProgram) (o : Outer) (k : Conditions) (s : Family) → IsClosedFamily p o k s → IsRegular p → IsSoundCode p → ShutsHold p o
+        → SameShown p (left_of s p) o }
 {}

@@ -1,0 +1,78 @@
+-- What a run of a program comes to, by a family of live sets, and what the law of removal asks of the program.
+use Rattle.std.specs.Prelude.{◌≡◌, ℕ, zero, suc, Bool, true, false, ◌||◌, not, List, Some, None, is_none}
+use Rattle.std.specs.List.{list_all}
+use Rattle.dalvik_defs.specs.Names.{Text, is_class_type, is_array, base_of, proto_text}
+use Rattle.dalvik_defs.specs.Flags.{is_interface}
+use Rattle.dalvik_defs.specs.Under.{class_named, defines, own_above, is_own_under}
+use Rattle.dalvik_defs.specs.Find.{interface_named, is_037}
+use Rattle.dalvik_defs.specs.Initialised.{initialiser_of}
+use Rattle.dalvik_defs.specs.Face.{face_of, bodies_of}
+use Rattle.dalvik_defs.specs.Outer.{Outer}
+use Rattle.dalvik_defs.specs.Shut.{called_outside, finds_it, is_other, key_of}
+use Rattle.dalvik_defs.specs.declared.names.MethodKey.{MethodKey}
+use Rattle.dalvik_defs.specs.declared.forms.Form.{Form}
+use Rattle.dalvik_defs.specs.declared.forms.Form.TheVariants as form
+use Rattle.dalvik_defs.specs.declared.tables.Framework.{Framework}
+use Rattle.dalvik_defs.specs.declared.program.NamedBody.{NamedBody}
+use Rattle.dalvik_defs.specs.declared.program.NamedMethod.{NamedMethod}
+use Rattle.dalvik_defs.specs.declared.program.NamedClass.{NamedClass}
+use Rattle.dalvik_defs.specs.declared.program.NamedProgram.{NamedProgram}
+use Rattle.pass_defs.specs.Live.{Family, HasBody}
+use Rattle.removal_law.specs.Left.{In, left_of}
+use Rattle.removal_law.specs.Agree.{sieved, Agree}
+
+-- a type whose base is live where the program defines it
+abbrev pub OkType : NamedProgram → Family → Text → Type 0
+OkType p s t = defines p (base_of t) ≡ true → s.classes (base_of t) ≡ true
+
+-- a type that is made where the program defines it
+abbrev pub MadeType : NamedProgram → Family → Text → Type 0
+MadeType p s t = defines p t ≡ true → s.made t ≡ true
+
+-- a live method of a class of the program
+pub record LiveMethod (p : NamedProgram) (s : Family) (k : MethodKey) : Type 0 where
+  pub live : s.methods k ≡ true
+  pub defined : defines p k.class ≡ true
+
+-- a form of a live method
+pub record Says (p : NamedProgram) (s : Family) (k : MethodKey) (f : Form) : Type 0 where
+  pub body : NamedBody
+  pub has : HasBody p s k body
+  pub defined : defines p k.class ≡ true
+  pub stands : In f body.forms
+
+-- an interface without an initialiser, so that its initialisation does nothing
+abbrev pub is_idle : NamedProgram → Text → Bool
+is_idle p t = elim (interface_named p t) [ Some c ↦ is_none (initialiser_of p t) | None ↦ false ]
+
+-- Under a framework, all that a run asks of a program what is left of it answers alike, where of the classes that are
+-- initialised before one the idle interfaces don't count.
+abbrev pub LeftAgrees : NamedProgram → Outer → Family → Framework → Type 0
+LeftAgrees p o s f = Agree (OkType p s) (MadeType p s) (LiveMethod p s) (Says p s) (is_idle p) p o (face_of p f) (sieved (is_idle p) (face_of (left_of s p) f)) (bodies_of p) (bodies_of (left_of s p))
+
+-- ---- what is asked of the program
+
+-- whether the walk upwards from a type ends within so many steps
+abbrev pub ends : NamedProgram → ℕ → Text → Bool
+ends p zero t = not (defines p t)
+ends p (suc n) t = list_all (ends p n) (own_above p t)
+
+-- Classes have class names, and none is its own ancestor.
+pub record IsRegular (p : NamedProgram) : Type 0 where
+  pub names : (t : Text) → defines p t ≡ true → is_class_type t ≡ true
+  pub grounded : (t : Text) → (n : ℕ) × (ends p n t ≡ true)
+
+-- New arrays are of array types, and no class has two methods with one name and one text of their protos.
+pub record IsSoundCode (p : NamedProgram) : Type 0 where
+  pub arrays : (k : MethodKey) (b : NamedBody) (to size : ℕ) (t : Text) → bodies_of p k ≡ Some b → In (form.NewArray to size t) b.forms → is_array t ≡ true
+  pub filled : (k : MethodKey) (b : NamedBody) (t : Text) (args : List ℕ) → bodies_of p k ≡ Some b → In (form.FilledNewArray t args) b.forms → is_array t ≡ true
+  pub methods : (t : Text) (c : NamedClass) (m x : NamedMethod) → class_named p t ≡ Some c → In m c.methods → In x c.methods → m.name ≡ x.name
+      → proto_text m.signature ≡ proto_text x.signature → m ≡ x
+
+-- What a table of shut methods owes: no call names one on the framework, every other method of its name with code above a
+-- class that finds it is kept or shut, and in version 037 none is of an interface.
+pub record ShutsHold (p : NamedProgram) (o : Outer) : Type 0 where
+  pub uncalled : (k : MethodKey) → o.shut k ≡ true → called_outside p k.name k.signature ≡ false
+  pub others : (k : MethodKey) (m : NamedMethod) (d e : NamedClass) (x : NamedMethod) → o.shut k ≡ true → m.name ≡ k.name → m.signature ≡ k.signature → In d p.classes → finds_it p k d ≡ true
+      → In e p.classes → is_own_under p d.name e.name ≡ true → In x e.methods → is_other k.class m e x ≡ true → (o.methods (key_of e x) || o.shut (key_of e x)) ≡ true
+  pub plain : (k : MethodKey) (c : NamedClass) → is_037 p.version ≡ true → o.shut k ≡ true → class_named p k.class ≡ Some c → is_interface c.flags ≡ false

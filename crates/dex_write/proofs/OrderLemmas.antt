@@ -96,20 +96,22 @@ pub places_more : (p : Program) (place : ℕ) (old new : List ℕ) (c : Class) (
 places_more p place old new c rest h here next lt e = record {
   long = ap length e ∙ length_with_place (length p.classes) old c.name place ∙ h.long;
   each = λ kind within.
-    let none : ℕ = length p.classes in
-    let before : or_else none (slice_index_or old kind none) (first_from none kind place (c ∷ rest)) ≡ first_from none kind 0 p.classes = subst (λ l. or_else none (slice_index_or old kind none) (first_from none kind place l) ≡ first_from none kind 0 p.classes) here (h.each kind within) in
-    let one = put_step none old kind place c.name (first_from none kind (suc place) rest) lt (subst (λ n. kind < n) (sym h.long) within) in
-    rw (e, next) (one ∙ before);
+      let none : ℕ = length p.classes in
+      let before : or_else none (slice_index_or old kind none) (first_from none kind place (c ∷ rest)) ≡ first_from none kind 0 p.classes = subst (λ l. or_else none (slice_index_or old kind none) (first_from none kind place l) ≡ first_from none kind 0 p.classes) here (h.each kind within) in
+      let one = put_step none old kind place c.name (first_from none kind (suc place) rest) lt (subst (λ n. kind < n) (sym h.long) within) in
+      rw (e, next) (one ∙ before);
 }
 
 pub places_all : (p : Program) (place : ℕ) (places : List ℕ) → PlacesSoFar p place places → drop place p.classes ≡ [] → ArePlaces p places
 unfolding place_of
-places_all p place places h none_left = record { at = λ kind.
-    let none : ℕ = length p.classes in
-    ⊎_elim
-    (λ yes. rw yes.0 (sym (same_either none (slice_index_or places kind none)) ∙ subst (λ l. or_else none (slice_index_or places kind none) (first_from none kind place l) ≡ first_from none kind 0 p.classes) none_left (h.each kind yes.1)))
-    (λ no. rw no.0 (get_past places kind none (subst (λ n. n ≤ kind) (sym h.long) no.1)))
-    (below_tells kind (length p.types)) }
+places_all p place places h none_left = record {
+  at = λ kind.
+      let none : ℕ = length p.classes in
+      ⊎_elim
+      (λ yes. rw yes.0 (sym (same_either none (slice_index_or places kind none)) ∙ subst (λ l. or_else none (slice_index_or places kind none) (first_from none kind place l) ≡ first_from none kind 0 p.classes) none_left (h.each kind yes.1)))
+      (λ no. rw no.0 (get_past places kind none (subst (λ n. n ≤ kind) (sym h.long) no.1)))
+      (below_tells kind (length p.types));
+}
 
 -- ---- what is left of a list
 
@@ -154,11 +156,16 @@ step_skips p v s class e f = record {
   done = [];
   order = sym (append-nil s.order);
   on = λ end out h.
-    let w : Visit = visit v.class (suc v.looked) in
-    let k : Then p s.begun w (λ mid more. Ends p mid (reverse s.way) end more) out = subst (λ l. Ends p s.begun l end out) (reverse_push s.way w) h in
-    record { mid = k.mid; inner = k.inner; more = k.more;
-      follows = rw (get_some (above p v.class) v.looked class e) (Skip s.begun class (drop (suc v.looked) (above p v.class)) k.mid k.inner f k.follows);
-      goes_on = k.goes_on; is = k.is };
+      let w : Visit = visit v.class (suc v.looked) in
+      let k : Then p s.begun w (λ mid more. Ends p mid (reverse s.way) end more) out = subst (λ l. Ends p s.begun l end out) (reverse_push s.way w) h in
+      record {
+        mid = k.mid;
+        inner = k.inner;
+        more = k.more;
+        follows = rw (get_some (above p v.class) v.looked class e) (Skip s.begun class (drop (suc v.looked) (above p v.class)) k.mid k.inner f k.follows);
+        goes_on = k.goes_on;
+        is = k.is;
+      };
 }
 
 -- a class above that was not begun
@@ -167,16 +174,20 @@ step_enters p v s class e f = record {
   done = [];
   order = sym (append-nil s.order);
   on = λ end out h.
-    let w : Visit = visit v.class (suc v.looked) in
-    let x : Visit = visit class 0 in
-    let begun : List Bool = slice_set s.begun class true in
-    let turned : reverse ((s.way ++ w ∷ []) ++ x ∷ []) ≡ x ∷ (w ∷ reverse s.way) = reverse_push (s.way ++ w ∷ []) x ∙ ap (λ (l : List Visit). x ∷ l) (reverse_push s.way w) in
-    let k : Then p begun x (λ mid more. Ends p mid (w ∷ reverse s.way) end more) out = subst (λ l. Ends p begun l end out) turned h in
-    let m : Then p k.mid w (λ mid more. Ends p mid (reverse s.way) end more) k.more = k.goes_on in
-    record { mid = m.mid; inner = k.inner ++ class ∷ m.inner; more = m.more;
-      follows = rw (get_some (above p v.class) v.looked class e) (Enter s.begun class (drop (suc v.looked) (above p v.class)) k.mid m.mid k.inner m.inner f k.follows m.follows);
-      goes_on = m.goes_on;
-      is = k.is ∙ ap (λ (l : List ℕ). k.inner ++ class ∷ l) m.is ∙ sym (append_assoc k.inner (class ∷ m.inner) (v.class ∷ m.more)) };
+      let w : Visit = visit v.class (suc v.looked) in
+      let x : Visit = visit class 0 in
+      let begun : List Bool = slice_set s.begun class true in
+      let turned : reverse ((s.way ++ w ∷ []) ++ x ∷ []) ≡ x ∷ (w ∷ reverse s.way) = reverse_push (s.way ++ w ∷ []) x ∙ ap (λ (l : List Visit). x ∷ l) (reverse_push s.way w) in
+      let k : Then p begun x (λ mid more. Ends p mid (w ∷ reverse s.way) end more) out = subst (λ l. Ends p begun l end out) turned h in
+      let m : Then p k.mid w (λ mid more. Ends p mid (reverse s.way) end more) k.more = k.goes_on in
+      record {
+        mid = m.mid;
+        inner = k.inner ++ class ∷ m.inner;
+        more = m.more;
+        follows = rw (get_some (above p v.class) v.looked class e) (Enter s.begun class (drop (suc v.looked) (above p v.class)) k.mid m.mid k.inner m.inner f k.follows m.follows);
+        goes_on = m.goes_on;
+        is = k.is ∙ ap (λ (l : List ℕ). k.inner ++ class ∷ l) m.is ∙ sym (append_assoc k.inner (class ∷ m.inner) (v.class ∷ m.more));
+      };
 }
 
 step_over : (p : Program) (v : Visit) (s : Search) (o : Option ℕ) → slice_get (above p v.class) v.looked ≡ o → Stepped p v s (step_to o v s)
@@ -196,9 +207,9 @@ progress_more p s t u w v h way begun order e =
       done = h.done ++ one.done;
       order = one.order ∙ ap (λ (l : List ℕ). l ++ one.done) (order ∙ h.order) ∙ append_assoc s.order h.done one.done;
       on = λ end out k.
-        let back : Ends p t.begun (v ∷ reverse u.way) end (one.done ++ out) = subst (λ b. Ends p b (v ∷ reverse u.way) end (one.done ++ out)) begun (one.on end out k) in
-        let turned : Ends p t.begun (reverse t.way) end (one.done ++ out) = subst (λ l. Ends p t.begun l end (one.done ++ out)) (sym (ap reverse way ∙ reverse_push u.way v)) back in
-        subst (λ l. Ends p s.begun (reverse s.way) end l) (sym (append_assoc h.done one.done out)) (h.on end (one.done ++ out) turned);
+          let back : Ends p t.begun (v ∷ reverse u.way) end (one.done ++ out) = subst (λ b. Ends p b (v ∷ reverse u.way) end (one.done ++ out)) begun (one.on end out k) in
+          let turned : Ends p t.begun (reverse t.way) end (one.done ++ out) = subst (λ l. Ends p t.begun l end (one.done ++ out)) (sym (ap reverse way ∙ reverse_push u.way v)) back in
+          subst (λ l. Ends p s.begun (reverse s.way) end l) (sym (append_assoc h.done one.done out)) (h.on end (one.done ++ out) turned);
     }
 
 pub progress_drained : (p : Program) (s t u : Search) → Progress p s t → t.way ≡ [] → t.way ≡ u.way ++ [] → u.begun ≡ t.begun → u.order ≡ t.order → Drained p (reverse s.way) s u
@@ -224,8 +235,8 @@ begun_ends p class s t none f d =
       inner = k.inner ++ class ∷ [];
       order = d.order ∙ ap (λ (l : List ℕ). s.order ++ l) is;
       on = λ rest end out h.
-        let on : Follows p k.mid rest end out = subst (λ b. Follows p b rest end out) last.0 h in
-        subst (λ l. Follows p s.begun (class ∷ rest) end l) (sym (append_assoc k.inner (class ∷ []) out)) (Enter s.begun class rest k.mid end k.inner out f k.follows on);
+          let on : Follows p k.mid rest end out = subst (λ b. Follows p b rest end out) last.0 h in
+          subst (λ l. Follows p s.begun (class ∷ rest) end l) (sym (append_assoc k.inner (class ∷ []) out)) (Enter s.begun class rest k.mid end k.inner out f k.follows on);
     }
 
 known_ends : (p : Program) (class : ℕ) (s t : Search) → s.way ≡ [] → is_fresh s.begun class ≡ false → Drained p (reverse s.way) s t → Asked p class s t
@@ -266,9 +277,9 @@ pub order_more : (p : Program) (class : ℕ) (s t : Search) → OrderSoFar p cla
 order_more p class s t h lt a = record {
   empty = a.empty;
   on = λ end out k.
-    let left : length p.classes - class ≡ suc (length p.classes - suc class) = omega (arith, lt) in
-    let here : Follows p s.begun (counting class (length p.classes - class)) end (a.inner ++ out) = rw left (a.on (counting (suc class) (length p.classes - suc class)) end out k) in
-    subst (λ l. Follows p (replicate (length p.classes) false) (counting 0 (length p.classes)) end l) (sym (append_assoc s.order a.inner out) ∙ ap (λ (l : List ℕ). l ++ out) (sym a.order)) (h.on end (a.inner ++ out) here);
+      let left : length p.classes - class ≡ suc (length p.classes - suc class) = omega (arith, lt) in
+      let here : Follows p s.begun (counting class (length p.classes - class)) end (a.inner ++ out) = rw left (a.on (counting (suc class) (length p.classes - suc class)) end out k) in
+      subst (λ l. Follows p (replicate (length p.classes) false) (counting 0 (length p.classes)) end l) (sym (append_assoc s.order a.inner out) ∙ ap (λ (l : List ℕ). l ++ out) (sym a.order)) (h.on end (a.inner ++ out) here);
 }
 
 pub asked_ok : (p : Program) (class : ℕ) (r : Result Unit AllocError) (s t u : Search) → s.way ≡ [] → t ≡ begin_at class s → OnOk r (Drained p (reverse t.way) t u) → OnOk r (Asked p class s u)

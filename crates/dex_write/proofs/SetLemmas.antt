@@ -1,13 +1,13 @@
 -- How many annotations the sets of a class have, and words one behind another.
 use Rattle.std.specs.declared.alloc.AllocError.{AllocError}
-use Rattle.std.proofs.Common.{Result, Ok, Err, OnOk, ◌+◌, ◌<◌, take, get_or, append-nil, ◌≡◌, ℕ, List, [], ◌∷◌, ◌++◌, length, map, refl, sym, ap, ◌∙◌, append_assoc, arith}
+use Rattle.std.proofs.Common.{true, false, Result, Ok, Err, OnOk, ◌+◌, ◌<◌, take, get_or, append-nil, ◌≡◌, ℕ, List, [], ◌∷◌, ◌++◌, length, map, refl, sym, ap, ◌∙◌, append_assoc, arith}
 use Rattle.std.specs.List.{flat_map}
 use Rattle.std.specs.Int.{w32, to_le_bytes}
 use Rattle.std.proofs.lemmas.List.{map-append}
 use Rattle.std.proofs.lemmas.List.Concat.{flat_map-append}
 use Rattle.dex_write.specs.Numbers.{words}
-use Rattle.dex_write.specs.Plans.{Plan, field_marks, method_marks, parameter_marks}
-use Rattle.dex_write.specs.Sets.{set_counts}
+use Rattle.dex_write.specs.Plans.{Plan, Numbered, field_marks, method_marks, parameter_marks}
+use Rattle.dex_write.specs.Sets.{set_counts, is_bare, filled_words, directory_words}
 use Rattle.dex_write.proofs.TakeLemmas.{take_one}
 
 map_flat : {X A B : Type 0} (g : A → B) (f : X → List A) (xs : List X) → map g (flat_map f xs) ≡ flat_map (λ x. map g (f x)) xs
@@ -67,3 +67,9 @@ counts_added (Ok u) plan a b c d e p q r s =
     three_more a (length plan.class.marks ∷ []) (map (λ f. length (field_marks plan.class f.1)) plan.fields) (map (λ m. length (method_marks plan.class m.place)) plan.methods) (flat_map (λ m. map length (parameter_marks plan.class m.place)) plan.methods) b c d e p q r s
     ∙ ap (λ l. a ++ l) (sym (counts_of_sets plan))
 counts_added (Err u) plan a b c d e p q r s = tt
+
+pub bare_words : (own : ℕ) (fields methods parameters : List Numbered) (begin : List ℕ) → is_bare own fields methods parameters ≡ true → begin ≡ begin ++ words (directory_words own fields methods parameters)
+bare_words own fields methods parameters begin h = rw (h, words_nil) (sym (append-nil begin))
+
+pub other_words : (own : ℕ) (fields methods parameters : List Numbered) → is_bare own fields methods parameters ≡ false → words (filled_words own fields methods parameters) ≡ words (directory_words own fields methods parameters)
+other_words own fields methods parameters h = rw h refl

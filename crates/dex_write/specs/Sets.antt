@@ -1,6 +1,6 @@
 -- Sets of annotations, lists of sets, and directories (Dalvik executable format, "annotation_set_item",
 -- "annotation_set_ref_list", "annotations_directory_item").
-use Rattle.std.specs.Prelude.{◌≡◌, ℕ, zero, suc, ◌+◌, ◌*◌, ◌&&◌, List, [], ◌∷◌, ◌++◌, length, map, take, drop, sum, nat_eq, if◌then◌else◌, Option, Some, None, slice_get}
+use Rattle.std.specs.Prelude.{◌≡◌, ℕ, zero, suc, ◌+◌, ◌*◌, ◌&&◌, Bool, List, [], ◌∷◌, ◌++◌, length, map, take, drop, sum, nat_eq, if◌then◌else◌, Option, Some, None, slice_get}
 use Rattle.std.specs.List.{flat_map}
 use Rattle.program_model.specs.declared.value.Mark.{Mark}
 use Rattle.program_model.specs.declared.pass.Renumber.{Renumber}
@@ -120,9 +120,12 @@ pair_words pairs = flat_map (λ pair. pair.0 ∷ pair.1 ∷ []) pairs
 abbrev pub filled_words : ℕ → List Numbered → List Numbered → List Numbered → List ℕ
 filled_words own fields methods parameters = (own ∷ length fields ∷ length methods ∷ length parameters ∷ []) ++ (pair_words fields ++ (pair_words methods ++ pair_words parameters))
 
+abbrev pub is_bare : ℕ → List Numbered → List Numbered → List Numbered → Bool
+is_bare own fields methods parameters = nat_eq own 0 && (nat_eq (length fields) 0 && (nat_eq (length methods) 0 && nat_eq (length parameters) 0))
+
 -- the directory of these offsets; nothing where there are none
 abbrev pub directory_words : ℕ → List Numbered → List Numbered → List Numbered → List ℕ
-directory_words own fields methods parameters = if nat_eq own 0 && (nat_eq (length fields) 0 && (nat_eq (length methods) 0 && nat_eq (length parameters) 0)) then []
+directory_words own fields methods parameters = if is_bare own fields methods parameters then []
     else filled_words own fields methods parameters
 
 unfoldable pub directory_text : Plan → List ℕ → List ℕ → List ℕ

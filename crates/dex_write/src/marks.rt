@@ -22,11 +22,7 @@ pub struct MarkBytes {
 }
 
 /// The places of annotations, by the new numbers of their types.
-fn ordered_places(
-    alloc: Global,
-    marks: &[Mark],
-    types: &[u32],
-) -> Result<Vec<Numbered>, AllocError>
+fn ordered_places(alloc: Global, marks: &[Mark], types: &[u32]) -> Result<Vec<Numbered>, AllocError>
     ensures { IfOk result (λ v. v.items ≡ in_order (marks_from types.now 0 marks.now)) }
 {
     let mut found = Vec::with_capacity(alloc, marks.len())?;

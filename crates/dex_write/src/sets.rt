@@ -5,7 +5,7 @@ ghost use Rattle.std.specs.Prelude.{◌≡◌, ◌+◌, ◌++◌, ◌∷◌, len
 ghost use Rattle.std.specs.List.{flat_map};
 ghost use Rattle.dex_write.specs.Numbers.{words, Placed};
 ghost use Rattle.dex_write.specs.Plans.{plan_in, in_order, field_marks, method_marks, parameter_marks};
-ghost use Rattle.dex_write.specs.Sets.{size_of, offset_at, offsets_at, ends_at, counted, lists_of, set_counts, ref_counts, parameter_offsets, field_pairs, method_pairs, pair_list, pair_words, filled_words, directory_words, directory_text, directory_texts, own_count, parameter_count, own_offsets, behind_class};
+ghost use Rattle.dex_write.specs.Sets.{size_of, offset_at, offsets_at, ends_at, counted, lists_of, set_counts, ref_counts, parameter_offsets, field_pairs, method_pairs, pair_list, pair_words, filled_words, is_bare, directory_words, directory_text, directory_texts, own_count, parameter_count, own_offsets, behind_class};
 
 use crate::numbers::{Items, at_place, behind, offset_of, push_words, split, word_of};
 use crate::ordered::{
@@ -333,6 +333,13 @@ fn push_filled(
     push_pairs(out, parameters)
 }
 
+/// Whether there are no offsets.
+fn is_bare(own: u32, fields: &[Numbered], methods: &[Numbered], parameters: &[Numbered]) -> bool
+    ensures { result ≡ is_bare own fields.now methods.now parameters.now }
+{
+    own == 0 && fields.is_empty() && methods.is_empty() && parameters.is_empty()
+}
+
 /// Adds a directory of these offsets; nothing where there are none.
 fn push_words_of_directory(
     out: &mut Vec<u8>,
@@ -343,7 +350,7 @@ fn push_words_of_directory(
 ) -> Result<(), AllocError>
     ensures { OnOk result (out.new.items ≡ out.old.items ++ words (directory_words own fields.now methods.now parameters.now)) }
 {
-    if own == 0 && fields.is_empty() && methods.is_empty() && parameters.is_empty() {
+    if is_bare(own, fields, methods, parameters) {
         return Ok(());
     }
     push_filled(out, own, fields, methods, parameters)

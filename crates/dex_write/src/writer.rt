@@ -266,12 +266,7 @@ fn directories_behind(
 
 /// The class data from `at` on, of classes whose code comes behind `code_at`.
 #[tactic(auto, unfolding(crate::specs::Places::data_behind))]
-fn data_at(
-    alloc: Global,
-    order: &[Ordered],
-    code_at: u32,
-    at: u32,
-) -> Result<Placed, AllocError>
+fn data_at(alloc: Global, order: &[Ordered], code_at: u32, at: u32) -> Result<Placed, AllocError>
     ensures { IfOk result (λ placed. placed ≡ data_behind at (map plan_in order.now) code_at) }
 {
     let items = all_data(alloc, order, code_at, at)?;
@@ -370,12 +365,7 @@ struct Back {
 
 /// The run of lists of sets.
 #[tactic(auto, unfolding(crate::specs::Places::refs_run))]
-fn refs_run(
-    alloc: Global,
-    order: &[Ordered],
-    refs: &Words,
-    sets: &Words,
-) -> Result<Run, AllocError>
+fn refs_run(alloc: Global, order: &[Ordered], refs: &Words, sets: &Words) -> Result<Run, AllocError>
     ensures { IfOk result (λ run. run ≡ refs_run (map plan_in order.now) refs.now sets.now) }
 {
     let entries = parameter_offsets(alloc, order, sets.offsets.as_slice())?;

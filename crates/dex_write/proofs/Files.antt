@@ -1,19 +1,44 @@
 -- What a result of the writer is.
-use Rattle.std.specs.Prelude.{Vec, Result, Ok, Err, IfOk, ◌≡◌, ℕ, List}
+use Rattle.std.specs.Prelude.{Vec, Result, Ok, Err, IfOk}
 use Rattle.std.specs.declared.alloc.Global.{Global}
 use Rattle.std.specs.declared.alloc.AllocError.{AllocError}
+use Rattle.std.proofs.Common.{◌≡◌, ℕ, List, [], ◌∷◌, ◌++◌, refl, sym, ap, subst, ◌∙◌, append-nil, ◌+◌, ◌<◌, length, take, get_or}
+use Rattle.dex_write.proofs.TakeLemmas.{take_one}
+use Rattle.std.specs.List.{flat_map}
+use Rattle.std.proofs.lemmas.List.Concat.{flat_map-append}
 use Rattle.dex_pools.specs.declared.interner.Interner.{Interner}
 use Rattle.dex_pools.specs.Interned.{IsInterned}
+use Rattle.program_model.specs.declared.pass.Renumber.{Renumber}
+use Rattle.program_model.specs.declared.program.Class.{Class}
 use Rattle.program_model.specs.declared.program.Program.{Program}
-use Rattle.dex_write.specs.declared.run.Run.{Run}
-use Rattle.dex_write.specs.declared.writer.Parts.{Parts}
 use Rattle.dex_write.specs.Plans.{Plan}
-use Rattle.dex_write.specs.Written.{file_with, IsFile, IsWritten}
+use Rattle.dex_write.specs.Codes.{IsPlan}
+use Rattle.dex_write.specs.Order.{IsOrder, classes_at}
+use Rattle.dex_write.specs.Places.{file_for}
+use Rattle.dex_write.specs.Written.{ArePlans, MorePlans, IsWritten}
 
-pub ok_is_file : (p : Program) (i : Interner) (plans : List Plan) (parts : Parts) (runs : List Run) (r : Result (Vec ℕ Global) AllocError) → IfOk r (λ v. v.items ≡ file_with p i plans parts runs) → IfOk r (λ v. IsFile p i plans v.items)
-ok_is_file p i plans parts runs (Ok v) e = record { parts = parts; runs = runs; is = e }
-ok_is_file p i plans parts runs (Err x) e = tt
+pub ok_is_written : (p : Program) (i : Interner) (places : List ℕ) (plans : List Plan) (r : Result (Vec ℕ Global) AllocError) → IsInterned p i → IsOrder p places → ArePlans p i.numbers (flat_map (classes_at p) places) plans
+    → IfOk r (λ v. v.items ≡ file_for p i plans) → IfOk r (λ v. IsWritten p v.items)
+ok_is_written p i places plans (Ok v) n o a f = record { interner = i; interned = n; places = places; ordered = o; plans = plans; planned = a; file = f }
+ok_is_written p i places plans (Err x) n o a f = tt
 
-pub ok_is_written : (p : Program) (i : Interner) (plans : List Plan) (r : Result (Vec ℕ Global) AllocError) → IsInterned p i → IfOk r (λ v. IsFile p i plans v.items) → IfOk r (λ v. IsWritten p v.items)
-ok_is_written p i plans (Ok v) n f = record { interner = i; interned = n; plans = plans; file = f }
-ok_is_written p i plans (Err x) n f = tt
+both_planned : (p : Program) (r : Renumber) (cs ds : List Class) (xs ys : List Plan) → ArePlans p r cs xs → ArePlans p r ds ys → ArePlans p r (cs ++ ds) (xs ++ ys)
+both_planned p r [] ds [] ys h k = k
+both_planned p r [] ds (x ∷ xs) ys h k = absurd h
+both_planned p r (c ∷ cs) ds [] ys h k = absurd h
+both_planned p r (c ∷ cs) ds (x ∷ xs) ys h k = (h.0, both_planned p r cs ds xs ys h.1 k)
+
+pub more_planned : (p : Program) (r : Renumber) (f : ℕ → List Class) (places : List ℕ) (place : ℕ) (old new : List Plan) → ArePlans p r (flat_map f places) old → MorePlans p r (f place) old new → ArePlans p r (flat_map f (places ++ place ∷ [])) new
+more_planned p r f places place old new h m =
+    let whole : flat_map f (places ++ place ∷ []) ≡ flat_map f places ++ f place = flat_map-append f places (place ∷ []) ∙ ap (λ (l : List Class). flat_map f places ++ l) (append-nil (f place)) in
+    rw (whole, m.is) (both_planned p r (flat_map f places) (f place) old m.plans h m.planned)
+
+pub one_planned : (p : Program) (r : Renumber) (c : Class) (plan : Plan) (old new : List Plan) → new ≡ old ++ plan ∷ [] → IsPlan p r c plan → MorePlans p r (c ∷ []) old new
+one_planned p r c plan old new e h = record { plans = plan ∷ []; is = e; planned = (h, tt) }
+
+pub none_planned : (p : Program) (r : Renumber) (old new : List Plan) → new ≡ old → MorePlans p r [] old new
+none_planned p r old new e = record { plans = []; is = e ∙ sym (append-nil old); planned = tt }
+
+pub planned_take : (p : Program) (r : Renumber) (f : ℕ → List Class) (places : List ℕ) (i place : ℕ) (old new : List Plan) → i < length places → place ≡ get_or places i place
+    → ArePlans p r (flat_map f (take i places)) old → MorePlans p r (f place) old new → ArePlans p r (flat_map f (take (i + 1) places)) new
+planned_take p r f places i place old new lt is h m = subst (λ l. ArePlans p r (flat_map f l) new) (sym (take_one places i place lt is)) (more_planned p r f (take i places) place old new h m)

@@ -1,2 +1,9 @@
 pub mod Sealed
 pub mod Files
+pub mod SortLemmas
+pub mod MarkLemmas
+pub mod SetLemmas
+pub mod CodeLemmas
+pub mod ListLemmas
+pub mod OrderLemmas
+pub mod TakeLemmas

@@ -7,4 +7,6 @@ pub mod Codes
 pub mod Data
 pub mod Tables
 pub mod File
+pub mod Places
+pub mod Order
 pub mod Written

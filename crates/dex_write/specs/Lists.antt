@@ -1,16 +1,25 @@
 -- Type lists, each different one once, in the order of first use (Dalvik executable format, "type_list").
-use Rattle.std.specs.Prelude.{ℕ, ◌+◌, ◌%◌, List, [], ◌∷◌, ◌++◌, length, map, Bool, Option, Some, None, nat_eq, if◌then◌else◌, slice_get, slice_index_or, replicate}
+use Rattle.std.specs.Prelude.{Vec, ℕ, ◌+◌, ◌%◌, List, [], ◌∷◌, ◌++◌, length, map, Bool, Option, Some, None, nat_eq, if◌then◌else◌, slice_get, slice_index_or, replicate}
 use Rattle.std.specs.List.{flat_map, list_any, position_or_len}
 use Rattle.std.specs.Int.{w16, to_le_bytes}
 use Rattle.std.specs.Cmp.Lexicographic.{pointwise}
+use Rattle.std.specs.declared.alloc.Global.{Global}
+use Rattle.dex_pools.specs.declared.interner.Interner.{Interner}
 use Rattle.program_model.specs.declared.pools.Proto.{Proto}
 use Rattle.program_model.specs.declared.program.Program.{Program}
 use Rattle.dex_pools.specs.Written.{renumbered}
+use Rattle.dex_write.specs.declared.run.Kind.TheVariants.{TypeList}
+use Rattle.dex_write.specs.declared.run.Run.{Run}
+use Rattle.dex_write.specs.declared.lists.Lists.{Lists}
 use Rattle.dex_write.specs.Numbers.{words, gap, up}
 use Rattle.dex_write.specs.Plans.{Plan}
 
 abbrev pub is_same : List ℕ → List ℕ → Bool
 is_same a b = pointwise nat_eq a b
+
+-- the lists that vectors hold
+abbrev pub lists_in : List (Vec ℕ Global) → List (List ℕ)
+lists_in keys = map (λ v. v.items) keys
 
 -- the lists so far, with one more where it is not empty and not among them; and which one it is
 abbrev pub with_list : List (List ℕ) → List ℕ → List (List ℕ)
@@ -46,16 +55,52 @@ class_use types plan = map (renumbered types) plan.class.interfaces
 abbrev pub list_text : List ℕ → List ℕ
 list_text list = words (length list ∷ []) ++ flat_map (λ kind. to_le_bytes w16 (kind % 65536)) list
 
--- lists one behind another at multiples of four, behind so many bytes; and where each begins
+-- a list behind zeros up to a multiple of four, and lists one behind another; and where each begins
+abbrev pub padded_text : ℕ → List ℕ → List ℕ
+padded_text at list = replicate (gap at) 0 ++ list_text list
+
 abbrev pub lists_text : ℕ → List (List ℕ) → List ℕ
 lists_text at [] = []
-lists_text at (list ∷ lists) = replicate (gap at) 0 ++ list_text list ++ lists_text (up at + length (list_text list)) lists
+lists_text at (list ∷ lists) = padded_text at list ++ lists_text (at + length (padded_text at list)) lists
 
 abbrev pub list_starts : ℕ → List (List ℕ) → List ℕ
 list_starts at [] = []
-list_starts at (list ∷ lists) = up at ∷ list_starts (up at + length (list_text list)) lists
+list_starts at (list ∷ lists) = up at ∷ list_starts (at + length (padded_text at list)) lists
 
--- the offset of a list that is used
+-- the list of a number, alone
+abbrev pub one_list : Option (List ℕ) → List (List ℕ)
+one_list None = []
+one_list (Some list) = list ∷ []
+
+abbrev pub list_at : List (List ℕ) → ℕ → List (List ℕ)
+list_at lists index = one_list (slice_get lists index)
+
+-- the offset of a list that is used, 0 for the empty one
 abbrev pub used_offset : List ℕ → Option ℕ → ℕ
 used_offset starts None = 0
 used_offset starts (Some index) = slice_index_or starts index 0
+
+-- ---- those of a program: of the protos that are used, in their order, and then of the classes
+
+abbrev pub protos_use : Program → Interner → List (List ℕ)
+protos_use p i = map (proto_use i.numbers.types.items p) i.order.protos.items
+
+abbrev pub classes_use : Interner → List Plan → List (List ℕ)
+classes_use i plans = map (class_use i.numbers.types.items) plans
+
+unfoldable pub type_lists : Program → Interner → List Plan → List (List ℕ)
+type_lists p i plans = all_lists (all_lists [] (protos_use p i)) (classes_use i plans)
+
+-- the offsets of the parameters of the protos and of the interfaces of the classes, where the lists stand from a place on
+abbrev pub proto_offsets : Program → Interner → List Plan → ℕ → List ℕ
+proto_offsets p i plans at = map (used_offset (list_starts at (type_lists p i plans))) (indexes_of [] (protos_use p i))
+
+abbrev pub interface_offsets : Program → Interner → List Plan → ℕ → List ℕ
+interface_offsets p i plans at = map (used_offset (list_starts at (type_lists p i plans))) (indexes_of (all_lists [] (protos_use p i)) (classes_use i plans))
+
+abbrev pub list_run : ℕ → List (List ℕ) → Run
+list_run at lists = record { kind = TypeList; count = length (list_starts at lists); at = at; bytes = lists_text at lists }
+
+-- the run of the lists from a place on, and those offsets
+unfoldable pub lists_at : Program → Interner → List Plan → ℕ → Lists
+lists_at p i plans at = record { run = list_run at (type_lists p i plans); parameters = proto_offsets p i plans at; interfaces = interface_offsets p i plans at }

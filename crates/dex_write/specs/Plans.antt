@@ -38,15 +38,19 @@ is_same false b = not b
 abbrev pub spot : ℕ → ℕ → Numbered
 spot number place = (number, place)
 
+abbrev pub spot_where : Bool → Numbered → List Numbered
+spot_where true one = one ∷ []
+spot_where false one = []
+
 -- the fields that are static, or those that are not; the first one has this place
 abbrev pub fields_from : List ℕ → Bool → ℕ → List Field → List Numbered
 fields_from numbers wanted place [] = []
-fields_from numbers wanted place (f ∷ fs) = if is_same wanted (is_static f.flags) then spot (renumbered numbers f.name) place ∷ fields_from numbers wanted (suc place) fs else fields_from numbers wanted (suc place) fs
+fields_from numbers wanted place (f ∷ fs) = spot_where (is_same wanted (is_static f.flags)) (spot (renumbered numbers f.name) place) ++ fields_from numbers wanted (suc place) fs
 
 -- the methods that are direct, or those that are not
 abbrev pub methods_from : List ℕ → Program → Bool → ℕ → List Method → List Numbered
 methods_from numbers p wanted place [] = []
-methods_from numbers p wanted place (m ∷ ms) = if is_same wanted (is_direct p m) then spot (renumbered numbers m.name) place ∷ methods_from numbers p wanted (suc place) ms else methods_from numbers p wanted (suc place) ms
+methods_from numbers p wanted place (m ∷ ms) = spot_where (is_same wanted (is_direct p m)) (spot (renumbered numbers m.name) place) ++ methods_from numbers p wanted (suc place) ms
 
 unfoldable pub ordered_fields : Renumber → Class → Bool → List Numbered
 ordered_fields r c wanted = in_order (fields_from r.fields.items wanted 0 c.fields)

@@ -1,13 +1,13 @@
 -- Sets of annotations, lists of sets, and directories (Dalvik executable format, "annotation_set_item",
 -- "annotation_set_ref_list", "annotations_directory_item").
-use Rattle.std.specs.Prelude.{◌≡◌, ℕ, zero, suc, ◌+◌, ◌*◌, List, [], ◌∷◌, ◌++◌, length, map, take, drop, sum, nat_eq, if◌then◌else◌, Option, Some, None, slice_get, slice_index_or}
+use Rattle.std.specs.Prelude.{◌≡◌, ℕ, zero, suc, ◌+◌, ◌*◌, ◌&&◌, Bool, List, [], ◌∷◌, ◌++◌, length, map, take, drop, sum, nat_eq, if◌then◌else◌, Option, Some, None, slice_get}
 use Rattle.std.specs.List.{flat_map}
 use Rattle.program_model.specs.declared.value.Mark.{Mark}
 use Rattle.program_model.specs.declared.pass.Renumber.{Renumber}
 use Rattle.program_model.specs.declared.value.Note.{out-Note}
 use Rattle.dex_pools.specs.Written.{renumbered, mark_text}
 use Rattle.dex_write.specs.declared.ordered.MethodPart.{MethodPart}
-use Rattle.dex_write.specs.Numbers.{words}
+use Rattle.dex_write.specs.Numbers.{words, at_place}
 use Rattle.dex_write.specs.Plans.{Plan, Numbered, spot, in_order, field_marks, method_marks, parameter_marks}
 
 -- ---- lists of four-byte entries behind their count
@@ -30,14 +30,14 @@ abbrev pub ends_at : ℕ → List ℕ → ℕ
 ends_at at [] = at
 ends_at at (n ∷ ns) = ends_at (at + size_of n) ns
 
--- lists of so many of the entries each
-abbrev pub counted : ℕ → List ℕ → List ℕ
-counted zero entries = []
-counted (suc n) entries = suc n ∷ entries
+-- lists of so many of the entries each, every entry so far behind a base
+abbrev pub counted : ℕ → ℕ → List ℕ → List ℕ
+counted base zero entries = []
+counted base (suc n) entries = suc n ∷ map (λ entry. base + entry) entries
 
-abbrev pub lists_of : List ℕ → List ℕ → List ℕ
-lists_of [] entries = []
-lists_of (n ∷ ns) entries = counted n (take n entries) ++ lists_of ns (drop n entries)
+abbrev pub lists_of : ℕ → List ℕ → List ℕ → List ℕ
+lists_of base [] entries = []
+lists_of base (n ∷ ns) entries = counted base n (take n entries) ++ lists_of base ns (drop n entries)
 
 -- ---- annotations
 
@@ -89,39 +89,51 @@ abbrev pub parameter_count : Plan → ℕ
 parameter_count p = sum (ref_counts p)
 
 -- the offsets of the parameters' sets among those of all
+abbrev pub own_offsets : Plan → List ℕ → List ℕ
+own_offsets p sets = take (parameter_count p) (drop (own_count p) sets)
+
+abbrev pub behind_class : Plan → List ℕ → List ℕ
+behind_class p sets = drop (parameter_count p) (drop (own_count p) sets)
+
 abbrev pub parameter_offsets : List Plan → List ℕ → List ℕ
 parameter_offsets [] sets = []
-parameter_offsets (p ∷ ps) sets = take (parameter_count p) (drop (own_count p) sets) ++ parameter_offsets ps (drop (parameter_count p) (drop (own_count p) sets))
+parameter_offsets (p ∷ ps) sets = own_offsets p sets ++ parameter_offsets ps (behind_class p sets)
 
 -- ---- directories
 
--- the number of each member that has an offset, and this
+-- the number of each member that has an offset, and this; the first member's stands at a place
 abbrev pub pair_list : ℕ → ℕ → List Numbered
 pair_list number zero = []
 pair_list number (suc n) = spot number (suc n) ∷ []
 
-abbrev pub field_pairs : List Numbered → List ℕ → List Numbered
-field_pairs [] offsets = []
-field_pairs (f ∷ fs) offsets = pair_list f.0 (slice_index_or offsets 0 0) ++ field_pairs fs (drop 1 offsets)
+abbrev pub field_pairs : List Numbered → ℕ → List ℕ → List Numbered
+field_pairs [] at offsets = []
+field_pairs (f ∷ fs) at offsets = pair_list f.0 (at_place offsets at) ++ field_pairs fs (suc at) offsets
 
-abbrev pub method_pairs : List MethodPart → List ℕ → List Numbered
-method_pairs [] offsets = []
-method_pairs (m ∷ ms) offsets = pair_list m.number (slice_index_or offsets 0 0) ++ method_pairs ms (drop 1 offsets)
+abbrev pub method_pairs : List MethodPart → ℕ → List ℕ → List Numbered
+method_pairs [] at offsets = []
+method_pairs (m ∷ ms) at offsets = pair_list m.number (at_place offsets at) ++ method_pairs ms (suc at) offsets
 
 abbrev pub pair_words : List Numbered → List ℕ
 pair_words pairs = flat_map (λ pair. pair.0 ∷ pair.1 ∷ []) pairs
 
+abbrev pub filled_words : ℕ → List Numbered → List Numbered → List Numbered → List ℕ
+filled_words own fields methods parameters = (own ∷ length fields ∷ length methods ∷ length parameters ∷ []) ++ (pair_words fields ++ (pair_words methods ++ pair_words parameters))
+
+abbrev pub is_bare : ℕ → List Numbered → List Numbered → List Numbered → Bool
+is_bare own fields methods parameters = nat_eq own 0 && (nat_eq (length fields) 0 && (nat_eq (length methods) 0 && nat_eq (length parameters) 0))
+
 -- the directory of these offsets; nothing where there are none
 abbrev pub directory_words : ℕ → List Numbered → List Numbered → List Numbered → List ℕ
-directory_words own fields methods parameters = if nat_eq (own + (length fields + (length methods + length parameters))) 0 then []
-    else own ∷ length fields ∷ length methods ∷ length parameters ∷ (pair_words fields ++ (pair_words methods ++ pair_words parameters))
+directory_words own fields methods parameters = if is_bare own fields methods parameters then []
+    else filled_words own fields methods parameters
 
 unfoldable pub directory_text : Plan → List ℕ → List ℕ → List ℕ
-directory_text p sets refs = words (directory_words (slice_index_or sets 0 0)
-    (in_order (field_pairs p.fields (drop 1 sets)))
-    (in_order (method_pairs p.methods (drop (1 + length p.fields) sets)))
-    (in_order (method_pairs p.methods refs)))
+directory_text p sets refs = words (directory_words (at_place sets 0)
+    (in_order (field_pairs p.fields 0 (drop 1 sets)))
+    (in_order (method_pairs p.methods 0 (drop (length p.fields) (drop 1 sets))))
+    (in_order (method_pairs p.methods 0 refs)))
 
 abbrev pub directory_texts : List Plan → List ℕ → List ℕ → List (List ℕ)
 directory_texts [] sets refs = []
-directory_texts (p ∷ ps) sets refs = directory_text p sets refs ∷ directory_texts ps (drop (parameter_count p) (drop (own_count p) sets)) (drop (length p.methods) refs)
+directory_texts (p ∷ ps) sets refs = directory_text p sets refs ∷ directory_texts ps (behind_class p sets) (drop (length p.methods) refs)

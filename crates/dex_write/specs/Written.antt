@@ -1,37 +1,36 @@
 -- What is written for a program.
-use Rattle.std.specs.Prelude.{◌≡◌, ℕ, List, length}
+use Rattle.std.specs.Prelude.{◌≡◌, ℕ, List, [], ◌∷◌, ◌++◌, ⊤}
+use Rattle.std.specs.List.{flat_map}
 use Rattle.dex_pools.specs.declared.interner.Interner.{Interner}
 use Rattle.dex_pools.specs.Interned.{IsInterned}
+use Rattle.program_model.specs.declared.pass.Renumber.{Renumber}
+use Rattle.program_model.specs.declared.program.Class.{Class}
 use Rattle.program_model.specs.declared.program.Program.{Program}
-use Rattle.dex_write.specs.declared.file.Counts.{Counts}
-use Rattle.dex_write.specs.declared.run.Run.{Run}
-use Rattle.dex_write.specs.declared.writer.Parts.{Parts}
 use Rattle.dex_write.specs.Plans.{Plan}
-use Rattle.dex_write.specs.Tables.{table_words}
-use Rattle.dex_write.specs.File.{body_text, file_text}
+use Rattle.dex_write.specs.Codes.{IsPlan}
+use Rattle.dex_write.specs.Order.{IsOrder, classes_at}
+use Rattle.dex_write.specs.Places.{file_for}
 
--- how many entries the tables have
-abbrev pub counts_of : Interner → List Plan → Counts
-counts_of i plans = record {
-  strings = length i.order.strings.items;
-  types = length i.order.types.items;
-  protos = length i.order.protos.items;
-  fields = length i.order.fields.items;
-  methods = length i.order.methods.items;
-  classes = length plans;
-}
+-- the plans of these classes, in turn
+abbrev pub ArePlans : Program → Renumber → List Class → List Plan → Type 0
+ArePlans p r [] [] = ⊤
+ArePlans p r (c ∷ classes) (plan ∷ plans) = IsPlan p r c plan × ArePlans p r classes plans
+ArePlans p r [] (plan ∷ plans) = ⊥
+ArePlans p r (c ∷ classes) [] = ⊥
 
--- the file of the tables of these entries and classes, and of runs of items
-abbrev pub file_with : Program → Interner → List Plan → Parts → List Run → List ℕ
-file_with p i plans parts runs = file_text p.version (body_text (counts_of i plans) (table_words p i plans parts.strings parts.parameters parts.offsets) runs)
+-- the plans of these classes were added
+pub record MorePlans (p : Program) (r : Renumber) (classes : List Class) (old new : List Plan) : Type 0 where
+  pub plans : List Plan
+  pub is : new ≡ old ++ plans
+  pub planned : ArePlans p r classes plans
 
-pub record IsFile (p : Program) (i : Interner) (plans : List Plan) (bytes : List ℕ) : Type 0 where
-  pub parts : Parts
-  pub runs : List Run
-  pub is : bytes ≡ file_with p i plans parts runs
-
+-- The file of the entries that the program uses, in order, and of its classes in the order in which each comes directly
+-- behind those above it that were not written yet.
 pub record IsWritten (p : Program) (bytes : List ℕ) : Type 0 where
   pub interner : Interner
   pub interned : IsInterned p interner
+  pub places : List ℕ
+  pub ordered : IsOrder p places
   pub plans : List Plan
-  pub file : IsFile p interner plans bytes
+  pub planned : ArePlans p interner.numbers (flat_map (classes_at p) places) plans
+  pub file : bytes ≡ file_for p interner plans

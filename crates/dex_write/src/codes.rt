@@ -1,10 +1,10 @@
 //! The code of methods, and their lines (Dalvik executable format, "code_item", "debug_info_item").
 
-ghost use Rattle.std.specs.Prelude.{◌≡◌, ◌+◌, ◌<◌, ◌^◌, ◌++◌, ◌∷◌, [], length, take, drop, IsTrue, IfOk, OnOk, slice_get};
-ghost use Rattle.std.specs.List.{AllByRecursion};
+ghost use Rattle.std.specs.Prelude.{◌≡◌, ◌+◌, ◌<◌, ◌^◌, ◌++◌, ◌∷◌, [], length, map, take, drop, IsTrue, IfOk, OnOk, slice_get};
+ghost use Rattle.std.specs.List.{AllByRecursion, flat_map};
 ghost use Rattle.line_tables.specs.Text.{AscendsFrom};
 ghost use Rattle.program_model.specs.MemberRules.{proto_of};
-ghost use Rattle.dex_write.specs.Plans.{plan_in};
+ghost use Rattle.dex_write.specs.Plans.{plan_in, spot_of};
 ghost use Rattle.dex_write.specs.Codes.{ascend, are_low, parameters_in, lines_text, IsCoded, IsCodedIn, IsPart, code_offset, code_behind, codes_behind, debug_offset, with_debug, code_text, codes_text, lines_behind, count_codes, count_lines, parts_of};
 
 use crate::numbers::{behind, gap, push_words, push_zeros, split, up, word_of};
@@ -87,7 +87,9 @@ fn code_of(
     program: &Program,
     method: &Method,
     numbers: &Renumber,
-) -> Result<Code, AllocError> {
+) -> Result<Code, AllocError>
+    ensures { IfOk result (λ c. IsCoded program.now numbers.now method.now c.code.items c.lines.items) }
+{
     let Some(body) = &method.body else {
         return Ok(Code {
             code: Vec::new(alloc),
@@ -120,7 +122,9 @@ fn code_at(
     class: &Class,
     place: u32,
     numbers: &Renumber,
-) -> Result<Code, AllocError> {
+) -> Result<Code, AllocError>
+    ensures { IfOk result (λ c. IsCodedIn program.now numbers.now (slice_get class.now.methods place) c.code.items c.lines.items) }
+{
     match class.methods.items.get(place as usize) {
         Some(method) => code_of(alloc, program, method, numbers),
         None => Ok(Code {
@@ -128,6 +132,26 @@ fn code_at(
             lines: Vec::new(alloc),
         }),
     }
+}
+
+/// The method at a place with its code.
+fn part_at(
+    alloc: Global,
+    program: &Program,
+    class: &Class,
+    spot: Numbered,
+    numbers: &Renumber,
+) -> Result<MethodPart, AllocError>
+    ensures spot { IfOk result (λ part. spot_of part ≡ spot) }
+    ensures coded { IfOk result (IsPart program.now numbers.now class.now) }
+{
+    let Code { code, lines } = code_at(alloc, program, class, spot.1, numbers)?;
+    Ok(MethodPart {
+        number: spot.0,
+        place: spot.1,
+        code: Seq::of_vec(code),
+        lines: Seq::of_vec(lines),
+    })
 }
 
 /// Adds the methods at these places with their code.
@@ -138,15 +162,12 @@ pub fn push_parts(
     class: &Class,
     places: &[Numbered],
     numbers: &Renumber,
-) -> Result<(), AllocError> {
-    for (number, place) in places {
-        let Code { code, lines } = code_at(alloc, program, class, *place, numbers)?;
-        parts.push(MethodPart {
-            number: *number,
-            place: *place,
-            code: Seq::of_vec(code),
-            lines: Seq::of_vec(lines),
-        })?;
+) -> Result<(), AllocError>
+    ensures spots { OnOk result (map spot_of parts.new.items ≡ map spot_of parts.old.items ++ places.now) }
+    ensures coded { OnOk result (AllByRecursion (IsPart program.now numbers.now class.now) parts.old.items → AllByRecursion (IsPart program.now numbers.now class.now) parts.new.items) }
+{
+    for spot in places {
+        parts.push(part_at(alloc, program, class, *spot, numbers)?)?;
     }
     Ok(())
 }
@@ -233,7 +254,9 @@ fn push_codes(out: &mut Vec<u8>, parts: &[MethodPart], from: Ends) -> Result<End
 }
 
 /// The code of all classes behind `from.code`, their debug items standing from `from.lines` on.
-pub fn all_codes(alloc: Global, order: &[Ordered], from: Ends) -> Result<Vec<u8>, AllocError> {
+pub fn all_codes(alloc: Global, order: &[Ordered], from: Ends) -> Result<Vec<u8>, AllocError>
+    ensures { IfOk result (λ v. v.items ≡ codes_text from.code from.lines (parts_of (map plan_in order.now))) }
+{
     let mut out = Vec::new(alloc);
     let mut ends = from;
     for ordered in order {
@@ -243,7 +266,9 @@ pub fn all_codes(alloc: Global, order: &[Ordered], from: Ends) -> Result<Vec<u8>
 }
 
 /// The place behind the code of all classes.
-pub fn all_behind(at: u32, order: &[Ordered]) -> Result<u32, AllocError> {
+pub fn all_behind(at: u32, order: &[Ordered]) -> Result<u32, AllocError>
+    ensures { IfOk result (λ place. place ≡ codes_behind at (parts_of (map plan_in order.now))) }
+{
     let mut next = at;
     for ordered in order {
         next = codes_behind(next, ordered.methods.as_slice())?;
@@ -252,7 +277,9 @@ pub fn all_behind(at: u32, order: &[Ordered]) -> Result<u32, AllocError> {
 }
 
 /// Adds the debug items of methods.
-fn push_lines(out: &mut Vec<u8>, parts: &[MethodPart]) -> Result<(), AllocError> {
+fn push_lines(out: &mut Vec<u8>, parts: &[MethodPart]) -> Result<(), AllocError>
+    ensures { OnOk result (out.new.items ≡ out.old.items ++ flat_map (λ m. m.lines) parts.now) }
+{
     for part in parts {
         out.extend_from_slice(part.lines.as_slice())?;
     }
@@ -260,7 +287,9 @@ fn push_lines(out: &mut Vec<u8>, parts: &[MethodPart]) -> Result<(), AllocError>
 }
 
 /// The debug items of all classes.
-pub fn all_lines(alloc: Global, order: &[Ordered]) -> Result<Vec<u8>, AllocError> {
+pub fn all_lines(alloc: Global, order: &[Ordered]) -> Result<Vec<u8>, AllocError>
+    ensures { IfOk result (λ v. v.items ≡ flat_map (λ m. m.lines) (parts_of (map plan_in order.now))) }
+{
     let mut out = Vec::new(alloc);
     for ordered in order {
         push_lines(&mut out, ordered.methods.as_slice())?;
@@ -268,16 +297,31 @@ pub fn all_lines(alloc: Global, order: &[Ordered]) -> Result<Vec<u8>, AllocError
     Ok(out)
 }
 
+/// How many of these methods have code.
+fn count_coded(parts: &[MethodPart]) -> usize
+    ensures { result ≡ count_codes parts.now }
+{
+    parts.iter().filter(|part| 0 < part.code.len()).count()
+}
+
+/// How many of these methods have lines.
+fn count_lined(parts: &[MethodPart]) -> usize
+    ensures { result ≡ count_lines parts.now }
+{
+    parts.iter().filter(|part| 0 < part.lines.len()).count()
+}
+
 /// How many of the methods have code, and how many have lines.
-pub fn count_codes(order: &[Ordered]) -> Result<Ends, AllocError> {
+pub fn count_codes(order: &[Ordered]) -> Result<Ends, AllocError>
+    ensures code { IfOk result (λ ends. ends.code ≡ count_codes (parts_of (map plan_in order.now))) }
+    ensures lines { IfOk result (λ ends. ends.lines ≡ count_lines (parts_of (map plan_in order.now))) }
+{
     let mut code = 0;
     let mut lines = 0;
     for ordered in order {
         let parts = ordered.methods.as_slice();
-        let coded = parts.iter().filter(|part| !part.code.is_empty()).count();
-        let lined = parts.iter().filter(|part| !part.lines.is_empty()).count();
-        code = behind(code, coded)?;
-        lines = behind(lines, lined)?;
+        code = behind(code, count_coded(parts))?;
+        lines = behind(lines, count_lined(parts))?;
     }
     Ok(Ends { code, lines })
 }

@@ -5,7 +5,7 @@ ghost use Rattle.std.specs.List.{flat_map};
 ghost use Rattle.dex_pools.specs.Written.{renumbered};
 ghost use Rattle.dex_write.specs.Numbers.{words, gap};
 ghost use Rattle.dex_write.specs.Plans.{plan_in};
-ghost use Rattle.dex_write.specs.Lists.{with_list, index_of, all_lists, indexes_of, proto_use, class_use, list_text, lists_text, list_starts, used_offset};
+ghost use Rattle.dex_write.specs.Lists.{lists_in, with_list, index_of, all_lists, indexes_of, proto_use, class_use, list_text, padded_text, lists_text, list_starts, list_at, used_offset, lists_at};
 
 use crate::numbers::{at_place, behind, gap, push_words, push_zeros, up, word_of};
 use crate::ordered::{Ordered, renumbered};
@@ -32,12 +32,30 @@ fn renumbered_list(alloc: Global, kinds: &[u32], types: &[u32]) -> Result<Vec<u3
 }
 
 /// Which of the known lists this one is, none for the empty one. A list that is not known yet becomes the last one.
-fn know(known: &mut Known, list: Vec<u32>) -> Result<Option<usize>, AllocError> {
-    if list.is_empty() {
+fn know(known: &mut Known, list: Vec<u32>) -> Result<Option<usize>, AllocError>
+    ensures lists { OnOk result (lists_in known.new.keys ≡ with_list (lists_in known.old.keys) list.items) }
+    ensures index { IfOk result (λ index. index ≡ index_of (lists_in known.old.keys) list.items) }
+{
+    if list.as_slice().is_empty() {
         return Ok(None);
     }
     let (index, _) = known.insert_full(list)?;
     Ok(Some(index))
+}
+
+/// The parameters of a proto in new numbers.
+fn proto_list(
+    alloc: Global,
+    program: &Program,
+    old: u32,
+    types: &[u32],
+) -> Result<Vec<u32>, AllocError>
+    ensures { IfOk result (λ v. v.items ≡ proto_use types.now program.now old) }
+{
+    match program.protos.items.get(old as usize) {
+        Some(proto) => renumbered_list(alloc, proto.parameters.as_slice(), types),
+        None => Ok(Vec::new(alloc)),
+    }
 }
 
 /// The lists of the parameters of these protos: which of the known lists each is.
@@ -47,16 +65,23 @@ fn know_parameters(
     protos: &[u32],
     types: &[u32],
     known: &mut Known,
-) -> Result<Vec<Option<usize>>, AllocError> {
+) -> Result<Vec<Option<usize>>, AllocError>
+    ensures lists { OnOk result (lists_in known.new.keys ≡ all_lists (lists_in known.old.keys) (map (proto_use types.now program.now) protos.now)) }
+    ensures uses { IfOk result (λ v. v.items ≡ indexes_of (lists_in known.old.keys) (map (proto_use types.now program.now) protos.now)) }
+{
     let mut uses = Vec::with_capacity(alloc, protos.len())?;
     for old in protos {
-        let list = match program.protos.items.get(*old as usize) {
-            Some(proto) => renumbered_list(alloc, proto.parameters.as_slice(), types)?,
-            None => Vec::new(alloc),
-        };
+        let list = proto_list(alloc, program, *old, types)?;
         uses.push(know(known, list)?)?;
     }
     Ok(uses)
+}
+
+/// The interfaces of a class in new numbers.
+fn class_list(alloc: Global, ordered: &Ordered, types: &[u32]) -> Result<Vec<u32>, AllocError>
+    ensures { IfOk result (λ v. v.items ≡ class_use types.now (plan_in ordered.now)) }
+{
+    renumbered_list(alloc, ordered.class.interfaces.as_slice(), types)
 }
 
 /// The lists of the interfaces of the classes: which of the known lists each is.
@@ -65,10 +90,13 @@ fn know_interfaces(
     order: &[Ordered],
     types: &[u32],
     known: &mut Known,
-) -> Result<Vec<Option<usize>>, AllocError> {
+) -> Result<Vec<Option<usize>>, AllocError>
+    ensures lists { OnOk result (lists_in known.new.keys ≡ all_lists (lists_in known.old.keys) (map (class_use types.now) (map plan_in order.now))) }
+    ensures uses { IfOk result (λ v. v.items ≡ indexes_of (lists_in known.old.keys) (map (class_use types.now) (map plan_in order.now))) }
+{
     let mut uses = Vec::with_capacity(alloc, order.len())?;
     for ordered in order {
-        let list = renumbered_list(alloc, ordered.class.interfaces.as_slice(), types)?;
+        let list = class_list(alloc, ordered, types)?;
         uses.push(know(known, list)?)?;
     }
     Ok(uses)
@@ -92,15 +120,42 @@ struct ListBytes {
     starts: Seq<u32>,
 }
 
+/// Adds a list at the next multiple of four behind `at`.
+fn push_padded(out: &mut Vec<u8>, at: u32, list: &[u32]) -> Result<(), AllocError>
+    ensures { OnOk result (out.new.items ≡ out.old.items ++ padded_text at list.now) }
+{
+    push_zeros(out, gap(at))?;
+    push_list(out, list)
+}
+
+/// Adds the known list of a number, where the lists stand from `base` on.
+fn push_known(
+    out: &mut Vec<u8>,
+    starts: &mut Vec<u32>,
+    base: u32,
+    known: &Known,
+    index: usize,
+) -> Result<(), AllocError>
+    ensures bytes { OnOk result (out.new.items ≡ out.old.items ++ lists_text (base + length out.old.items) (list_at (lists_in known.now.keys) index)) }
+    ensures starts { OnOk result (starts.new.items ≡ starts.old.items ++ list_starts (base + length out.old.items) (list_at (lists_in known.now.keys) index)) }
+{
+    let Some(list) = known.get_index(index) else {
+        return Ok(());
+    };
+    let at = behind(base, out.len())?;
+    starts.push(up(at)?)?;
+    push_padded(out, at, list.as_slice())
+}
+
 /// The known lists at multiples of four, the first from `base` on.
-fn list_bytes(alloc: Global, known: &Known, base: u32) -> Result<ListBytes, AllocError> {
+fn list_bytes(alloc: Global, known: &Known, base: u32) -> Result<ListBytes, AllocError>
+    ensures bytes { IfOk result (λ lists. lists.bytes ≡ lists_text base (lists_in known.now.keys)) }
+    ensures starts { IfOk result (λ lists. lists.starts ≡ list_starts base (lists_in known.now.keys)) }
+{
     let mut bytes = Vec::new(alloc);
     let mut starts = Vec::with_capacity(alloc, known.len())?;
-    for list in known.iter() {
-        let at = behind(base, bytes.len())?;
-        push_zeros(&mut bytes, gap(at))?;
-        starts.push(up(at)?)?;
-        push_list(&mut bytes, list.as_slice())?;
+    for index in 0..known.len() {
+        push_known(&mut bytes, &mut starts, base, known, index)?;
     }
     Ok(ListBytes {
         bytes: Seq::of_vec(bytes),
@@ -137,18 +192,21 @@ fn used_offsets(
 #[derive(Drop)]
 pub struct Lists {
     pub run: Run,
-    pub parameters: Vec<u32>,
-    pub interfaces: Vec<u32>,
+    pub parameters: Seq<u32>,
+    pub interfaces: Seq<u32>,
 }
 
 /// The type lists of the protos that are used and of the classes, the first from `at` on.
+#[tactic(auto, unfolding(crate::specs::Lists::type_lists, crate::specs::Lists::lists_at))]
 pub fn lists_at(
     alloc: Global,
     program: &Program,
     interner: &Interner,
     order: &[Ordered],
     at: u32,
-) -> Result<Lists, AllocError> {
+) -> Result<Lists, AllocError>
+    ensures { IfOk result (λ lists. lists ≡ lists_at program.now interner.now (map plan_in order.now) at) }
+{
     let types = interner.numbers().types.as_slice();
     let protos = interner.order().protos.as_slice();
     let mut known = IndexSet::new(alloc);
@@ -166,7 +224,7 @@ pub fn lists_at(
     };
     Ok(Lists {
         run,
-        parameters,
-        interfaces,
+        parameters: Seq::of_vec(parameters),
+        interfaces: Seq::of_vec(interfaces),
     })
 }

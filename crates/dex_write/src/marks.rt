@@ -1,9 +1,9 @@
 //! Annotations (Dalvik executable format, "annotation_item").
 
-ghost use Rattle.std.specs.Prelude.{◌≡◌, ◌++◌, length, map, IfOk, OnOk};
+ghost use Rattle.std.specs.Prelude.{◌≡◌, [], ◌∷◌, map, slice_get, IfOk, OnOk};
 ghost use Rattle.std.specs.List.{flat_map};
 ghost use Rattle.dex_write.specs.Plans.{plan_in, in_order, field_marks, method_marks, parameter_marks};
-ghost use Rattle.dex_write.specs.Sets.{marks_from, mark_list, ordered_marks, mark_starts, marks_of, Added};
+ghost use Rattle.dex_write.specs.Sets.{marks_from, mark_list, ordered_marks, marks_of, Added};
 
 use crate::numbers::word_of;
 use crate::ordered::{
@@ -22,11 +22,9 @@ pub struct MarkBytes {
 }
 
 /// The places of annotations, by the new numbers of their types.
-fn ordered_places(
-    alloc: Global,
-    marks: &[Mark],
-    types: &[u32],
-) -> Result<Vec<Numbered>, AllocError> {
+fn ordered_places(alloc: Global, marks: &[Mark], types: &[u32]) -> Result<Vec<Numbered>, AllocError>
+    ensures { IfOk result (λ v. v.items ≡ in_order (marks_from types.now 0 marks.now)) }
+{
     let mut found = Vec::with_capacity(alloc, marks.len())?;
     for (place, mark) in marks.iter().enumerate() {
         found.push((renumbered(types, mark.note.class), word_of(place)?))?;
@@ -36,24 +34,55 @@ fn ordered_places(
 }
 
 /// Adds an annotation.
-fn push_mark(out: &mut MarkBytes, mark: &Mark, numbers: &Renumber) -> Result<(), AllocError> {
+fn push_mark(out: &mut MarkBytes, mark: &Mark, numbers: &Renumber) -> Result<(), AllocError>
+    ensures { OnOk result (Added numbers.now (mark.now ∷ []) out.old.bytes.items out.old.starts.items out.new.bytes.items out.new.starts.items) }
+{
     out.starts.push(word_of(out.bytes.len())?)?;
     write_annotation(&mut out.bytes, mark, numbers)
 }
 
+/// Adds the annotation at a place.
+fn push_at(
+    out: &mut MarkBytes,
+    marks: &[Mark],
+    place: u32,
+    numbers: &Renumber,
+) -> Result<(), AllocError>
+    ensures { OnOk result (Added numbers.now (mark_list (slice_get marks.now place)) out.old.bytes.items out.old.starts.items out.new.bytes.items out.new.starts.items) }
+{
+    match marks.get(place as usize) {
+        Some(mark) => push_mark(out, mark, numbers),
+        None => Ok(()),
+    }
+}
+
+/// Adds the annotations at these places.
+fn push_places(
+    out: &mut MarkBytes,
+    marks: &[Mark],
+    places: &[Numbered],
+    numbers: &Renumber,
+) -> Result<(), AllocError>
+    ensures { OnOk result (Added numbers.now (flat_map (λ n. mark_list (slice_get marks.now n.1)) places.now) out.old.bytes.items out.old.starts.items out.new.bytes.items out.new.starts.items) }
+{
+    for place in places {
+        push_at(out, marks, place.1, numbers)?;
+    }
+    Ok(())
+}
+
 /// Adds the annotations of a set.
+#[tactic(auto, unfolding(crate::specs::Sets::ordered_marks))]
 fn push_set(
     alloc: Global,
     out: &mut MarkBytes,
     marks: &[Mark],
     numbers: &Renumber,
-) -> Result<(), AllocError> {
-    for (_, place) in &ordered_places(alloc, marks, &numbers.types)? {
-        if let Some(mark) = marks.get(*place as usize) {
-            push_mark(out, mark, numbers)?;
-        }
-    }
-    Ok(())
+) -> Result<(), AllocError>
+    ensures { OnOk result (Added numbers.now (ordered_marks numbers.now marks.now) out.old.bytes.items out.old.starts.items out.new.bytes.items out.new.starts.items) }
+{
+    let places = ordered_places(alloc, marks, &numbers.types)?;
+    push_places(out, marks, &places, numbers)
 }
 
 /// Adds the annotations of the fields.
@@ -63,7 +92,9 @@ fn push_fields(
     class: &Class,
     fields: &[Numbered],
     numbers: &Renumber,
-) -> Result<(), AllocError> {
+) -> Result<(), AllocError>
+    ensures { OnOk result (Added numbers.now (flat_map (λ f. ordered_marks numbers.now (field_marks class.now f.1)) fields.now) out.old.bytes.items out.old.starts.items out.new.bytes.items out.new.starts.items) }
+{
     for field in fields {
         push_set(alloc, out, field_marks(class, field.1), numbers)?;
     }
@@ -77,7 +108,9 @@ fn push_methods(
     class: &Class,
     methods: &[MethodPart],
     numbers: &Renumber,
-) -> Result<(), AllocError> {
+) -> Result<(), AllocError>
+    ensures { OnOk result (Added numbers.now (flat_map (λ m. ordered_marks numbers.now (method_marks class.now m.place)) methods.now) out.old.bytes.items out.old.starts.items out.new.bytes.items out.new.starts.items) }
+{
     for method in methods {
         push_set(alloc, out, method_marks(class, method.place), numbers)?;
     }
@@ -90,7 +123,9 @@ fn push_sets(
     out: &mut MarkBytes,
     sets: &[Seq<Mark>],
     numbers: &Renumber,
-) -> Result<(), AllocError> {
+) -> Result<(), AllocError>
+    ensures { OnOk result (Added numbers.now (flat_map (ordered_marks numbers.now) sets.now) out.old.bytes.items out.old.starts.items out.new.bytes.items out.new.starts.items) }
+{
     for marks in sets {
         push_set(alloc, out, marks.as_slice(), numbers)?;
     }
@@ -104,7 +139,9 @@ fn push_parameters(
     class: &Class,
     methods: &[MethodPart],
     numbers: &Renumber,
-) -> Result<(), AllocError> {
+) -> Result<(), AllocError>
+    ensures { OnOk result (Added numbers.now (flat_map (λ m. flat_map (ordered_marks numbers.now) (parameter_marks class.now m.place)) methods.now) out.old.bytes.items out.old.starts.items out.new.bytes.items out.new.starts.items) }
+{
     for method in methods {
         push_sets(alloc, out, parameter_marks(class, method.place), numbers)?;
     }
@@ -117,7 +154,9 @@ fn push_class(
     out: &mut MarkBytes,
     ordered: &Ordered,
     numbers: &Renumber,
-) -> Result<(), AllocError> {
+) -> Result<(), AllocError>
+    ensures { OnOk result (Added numbers.now (marks_of numbers.now (plan_in ordered.now)) out.old.bytes.items out.old.starts.items out.new.bytes.items out.new.starts.items) }
+{
     let class = ordered.class;
     let methods = ordered.methods.as_slice();
     push_set(alloc, out, class.marks.as_slice(), numbers)?;
@@ -131,7 +170,9 @@ pub fn mark_bytes(
     alloc: Global,
     order: &[Ordered],
     numbers: &Renumber,
-) -> Result<MarkBytes, AllocError> {
+) -> Result<MarkBytes, AllocError>
+    ensures { IfOk result (λ m. Added numbers.now (flat_map (marks_of numbers.now) (map plan_in order.now)) [] [] m.bytes.items m.starts.items) }
+{
     let mut out = MarkBytes {
         bytes: Vec::new(alloc),
         starts: Vec::new(alloc),

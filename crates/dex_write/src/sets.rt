@@ -5,7 +5,7 @@ ghost use Rattle.std.specs.Prelude.{◌≡◌, ◌+◌, ◌++◌, ◌∷◌, len
 ghost use Rattle.std.specs.List.{flat_map};
 ghost use Rattle.dex_write.specs.Numbers.{words, Placed};
 ghost use Rattle.dex_write.specs.Plans.{plan_in, in_order, field_marks, method_marks, parameter_marks};
-ghost use Rattle.dex_write.specs.Sets.{size_of, offset_at, offsets_at, ends_at, counted, lists_of, set_counts, ref_counts, parameter_offsets, field_pairs, method_pairs, pair_list, pair_words, directory_words, directory_text, directory_texts, own_count, parameter_count, sets_of};
+ghost use Rattle.dex_write.specs.Sets.{size_of, offset_at, offsets_at, ends_at, counted, lists_of, set_counts, ref_counts, parameter_offsets, field_pairs, method_pairs, pair_list, pair_words, filled_words, is_bare, directory_words, directory_text, directory_texts, own_count, parameter_count, own_offsets, behind_class};
 
 use crate::numbers::{Items, at_place, behind, offset_of, push_words, split, word_of};
 use crate::ordered::{
@@ -66,21 +66,36 @@ fn push_based(words: &mut Vec<u32>, entries: &[u32], base: u32) -> Result<(), Al
     Ok(())
 }
 
+/// Adds a list of so many entries behind its count; nothing for an empty one.
+fn push_counted(
+    words: &mut Vec<u32>,
+    count: u32,
+    entries: &[u32],
+    base: u32,
+) -> Result<(), AllocError>
+    ensures { OnOk result (words.new.items ≡ words.old.items ++ counted base count entries.now) }
+{
+    if count == 0 {
+        return Ok(());
+    }
+    words.push(count)?;
+    push_based(words, entries, base)
+}
+
 /// The lists of so many entries, each behind its count; the empty ones are not written.
 pub fn lists_of(
     alloc: Global,
     counts: &[u32],
     entries: &[u32],
     base: u32,
-) -> Result<Vec<u32>, AllocError> {
+) -> Result<Vec<u32>, AllocError>
+    ensures { IfOk result (λ v. v.items ≡ lists_of base counts.now entries.now) }
+{
     let mut words = Vec::new(alloc);
     let mut rest = entries;
     for count in counts {
         let (own, others) = split(rest, *count as usize);
-        if *count != 0 {
-            words.push(*count)?;
-            push_based(&mut words, own, base)?;
-        }
+        push_counted(&mut words, *count, own, base)?;
         rest = others;
     }
     Ok(words)
@@ -129,7 +144,9 @@ fn push_parameter_counts(
     counts: &mut Vec<u32>,
     class: &Class,
     methods: &[MethodPart],
-) -> Result<(), AllocError> {
+) -> Result<(), AllocError>
+    ensures { OnOk result (counts.new.items ≡ counts.old.items ++ flat_map (λ m. map length (parameter_marks class.now m.place)) methods.now) }
+{
     for method in methods {
         push_set_counts(counts, parameter_marks(class, method.place))?;
     }
@@ -138,7 +155,9 @@ fn push_parameter_counts(
 
 /// Adds how many annotations the sets of a class have: its own, those of its fields and methods, and those of its
 /// methods' parameters.
-fn push_class_counts(counts: &mut Vec<u32>, ordered: &Ordered) -> Result<(), AllocError> {
+fn push_class_counts(counts: &mut Vec<u32>, ordered: &Ordered) -> Result<(), AllocError>
+    ensures { OnOk result (counts.new.items ≡ counts.old.items ++ set_counts (plan_in ordered.now)) }
+{
     let class = ordered.class;
     let methods = ordered.methods.as_slice();
     counts.push(word_of(class.marks.len())?)?;
@@ -148,7 +167,9 @@ fn push_class_counts(counts: &mut Vec<u32>, ordered: &Ordered) -> Result<(), All
 }
 
 /// How many annotations all sets have.
-pub fn set_counts(alloc: Global, order: &[Ordered]) -> Result<Vec<u32>, AllocError> {
+pub fn set_counts(alloc: Global, order: &[Ordered]) -> Result<Vec<u32>, AllocError>
+    ensures { IfOk result (λ v. v.items ≡ flat_map set_counts (map plan_in order.now)) }
+{
     let mut counts = Vec::new(alloc);
     for ordered in order {
         push_class_counts(&mut counts, ordered)?;
@@ -157,7 +178,10 @@ pub fn set_counts(alloc: Global, order: &[Ordered]) -> Result<Vec<u32>, AllocErr
 }
 
 /// Adds how many lists of parameters' annotations each method of a class has.
-fn push_ref_counts(counts: &mut Vec<u32>, ordered: &Ordered) -> Result<(), AllocError> {
+#[tactic(auto, unfolding(crate::specs::Sets::ref_counts))]
+fn push_ref_counts(counts: &mut Vec<u32>, ordered: &Ordered) -> Result<(), AllocError>
+    ensures { OnOk result (counts.new.items ≡ counts.old.items ++ ref_counts (plan_in ordered.now)) }
+{
     for method in ordered.methods.as_slice() {
         let sets = parameter_marks(ordered.class, method.place);
         counts.push(word_of(sets.len())?)?;
@@ -166,7 +190,9 @@ fn push_ref_counts(counts: &mut Vec<u32>, ordered: &Ordered) -> Result<(), Alloc
 }
 
 /// How many lists of parameters' annotations each method has.
-pub fn ref_counts(alloc: Global, order: &[Ordered]) -> Result<Vec<u32>, AllocError> {
+pub fn ref_counts(alloc: Global, order: &[Ordered]) -> Result<Vec<u32>, AllocError>
+    ensures { IfOk result (λ v. v.items ≡ flat_map ref_counts (map plan_in order.now)) }
+{
     let mut counts = Vec::new(alloc);
     for ordered in order {
         push_ref_counts(&mut counts, ordered)?;
@@ -175,13 +201,17 @@ pub fn ref_counts(alloc: Global, order: &[Ordered]) -> Result<Vec<u32>, AllocErr
 }
 
 /// How many sets of a class stand before those of the parameters.
-fn own_count(ordered: &Ordered) -> usize {
-    let members = ordered.fields.len().saturating_add(ordered.methods.len());
-    members.saturating_add(1)
+fn own_count(ordered: &Ordered) -> Result<u32, AllocError>
+    ensures { IfOk result (λ count. count ≡ own_count (plan_in ordered.now)) }
+{
+    behind(behind(1, ordered.fields.len())?, ordered.methods.len())
 }
 
 /// How many sets the parameters of a class's methods have.
-fn parameter_count(ordered: &Ordered) -> Result<u32, AllocError> {
+#[tactic(auto, unfolding(crate::specs::Sets::ref_counts))]
+fn parameter_count(ordered: &Ordered) -> Result<u32, AllocError>
+    ensures { IfOk result (λ count. count ≡ parameter_count (plan_in ordered.now)) }
+{
     let mut count = 0;
     for method in ordered.methods.as_slice() {
         let sets = parameter_marks(ordered.class, method.place);
@@ -190,19 +220,41 @@ fn parameter_count(ordered: &Ordered) -> Result<u32, AllocError> {
     Ok(count)
 }
 
+/// The offsets behind those of a class's sets.
+fn behind_class<'a>(ordered: &Ordered, sets: &'a [u32]) -> Result<&'a [u32], AllocError>
+    ensures { IfOk result (λ rest. rest.now ≡ behind_class (plan_in ordered.now) sets.now) }
+{
+    let (_, others) = split(sets, own_count(ordered)? as usize);
+    Ok(split(others, parameter_count(ordered)? as usize).1)
+}
+
+/// Adds the offsets of the sets of a class's parameters, and answers those behind the class's.
+fn push_own<'a>(
+    offsets: &mut Vec<u32>,
+    ordered: &Ordered,
+    sets: &'a [u32],
+) -> Result<&'a [u32], AllocError>
+    ensures own { OnOk result (offsets.new.items ≡ offsets.old.items ++ own_offsets (plan_in ordered.now) sets.now) }
+    ensures rest { IfOk result (λ rest. rest.now ≡ behind_class (plan_in ordered.now) sets.now) }
+{
+    let (_, others) = split(sets, own_count(ordered)? as usize);
+    let (own, others) = split(others, parameter_count(ordered)? as usize);
+    offsets.extend_from_slice(own)?;
+    Ok(others)
+}
+
 /// The offsets of the parameters' sets among those of all sets.
 pub fn parameter_offsets(
     alloc: Global,
     order: &[Ordered],
     sets: &[u32],
-) -> Result<Vec<u32>, AllocError> {
+) -> Result<Vec<u32>, AllocError>
+    ensures { IfOk result (λ v. v.items ≡ parameter_offsets (map plan_in order.now) sets.now) }
+{
     let mut offsets = Vec::new(alloc);
     let mut rest = sets;
     for ordered in order {
-        let (_, others) = split(rest, own_count(ordered));
-        let (own, others) = split(others, parameter_count(ordered)? as usize);
-        offsets.extend_from_slice(own)?;
-        rest = others;
+        rest = push_own(&mut offsets, ordered, rest)?;
     }
     Ok(offsets)
 }
@@ -222,7 +274,9 @@ fn field_pairs(
     alloc: Global,
     fields: &[Numbered],
     offsets: &[u32],
-) -> Result<Vec<Numbered>, AllocError> {
+) -> Result<Vec<Numbered>, AllocError>
+    ensures { IfOk result (λ v. v.items ≡ in_order (field_pairs fields.now 0 offsets.now)) }
+{
     let mut pairs = Vec::new(alloc);
     for (i, field) in fields.iter().enumerate() {
         push_pair(&mut pairs, field.0, at_place(offsets, i))?;
@@ -236,7 +290,9 @@ fn method_pairs(
     alloc: Global,
     methods: &[MethodPart],
     offsets: &[u32],
-) -> Result<Vec<Numbered>, AllocError> {
+) -> Result<Vec<Numbered>, AllocError>
+    ensures { IfOk result (λ v. v.items ≡ in_order (method_pairs methods.now 0 offsets.now)) }
+{
     let mut pairs = Vec::new(alloc);
     for (i, method) in methods.iter().enumerate() {
         push_pair(&mut pairs, method.number, at_place(offsets, i))?;
@@ -246,24 +302,25 @@ fn method_pairs(
 }
 
 /// Adds pairs of a number and an offset.
-fn push_pairs(out: &mut Vec<u8>, pairs: &[Numbered]) -> Result<(), AllocError> {
+fn push_pairs(out: &mut Vec<u8>, pairs: &[Numbered]) -> Result<(), AllocError>
+    ensures { OnOk result (out.new.items ≡ out.old.items ++ words (pair_words pairs.now)) }
+{
     for pair in pairs {
         push_words(out, &[pair.0, pair.1])?;
     }
     Ok(())
 }
 
-/// Adds a directory of these offsets; nothing where there are none.
-fn push_words_of_directory(
+/// Adds a directory of these offsets.
+fn push_filled(
     out: &mut Vec<u8>,
     own: u32,
     fields: &[Numbered],
     methods: &[Numbered],
     parameters: &[Numbered],
-) -> Result<(), AllocError> {
-    if own == 0 && fields.is_empty() && methods.is_empty() && parameters.is_empty() {
-        return Ok(());
-    }
+) -> Result<(), AllocError>
+    ensures { OnOk result (out.new.items ≡ out.old.items ++ words (filled_words own fields.now methods.now parameters.now)) }
+{
     let counts = [
         own,
         word_of(fields.len())?,
@@ -276,14 +333,40 @@ fn push_words_of_directory(
     push_pairs(out, parameters)
 }
 
+/// Whether there are no offsets.
+fn is_bare(own: u32, fields: &[Numbered], methods: &[Numbered], parameters: &[Numbered]) -> bool
+    ensures { result ≡ is_bare own fields.now methods.now parameters.now }
+{
+    own == 0 && fields.is_empty() && methods.is_empty() && parameters.is_empty()
+}
+
+/// Adds a directory of these offsets; nothing where there are none.
+fn push_words_of_directory(
+    out: &mut Vec<u8>,
+    own: u32,
+    fields: &[Numbered],
+    methods: &[Numbered],
+    parameters: &[Numbered],
+) -> Result<(), AllocError>
+    ensures { OnOk result (out.new.items ≡ out.old.items ++ words (directory_words own fields.now methods.now parameters.now)) }
+{
+    if is_bare(own, fields, methods, parameters) {
+        return Ok(());
+    }
+    push_filled(out, own, fields, methods, parameters)
+}
+
 /// Adds the directory of a class, by the offsets of its sets and those of its methods' lists of sets.
+#[tactic(auto, unfolding(crate::specs::Sets::directory_text))]
 fn push_directory(
     alloc: Global,
     out: &mut Vec<u8>,
     ordered: &Ordered,
     sets: &[u32],
     refs: &[u32],
-) -> Result<(), AllocError> {
+) -> Result<(), AllocError>
+    ensures { OnOk result (out.new.items ≡ out.old.items ++ directory_text (plan_in ordered.now) sets.now refs.now) }
+{
     let own = at_place(sets, 0);
     let (_, of_members) = split(sets, 1);
     let fields = field_pairs(alloc, ordered.fields.as_slice(), of_members)?;
@@ -300,18 +383,19 @@ pub fn directories(
     sets: &[u32],
     refs: &[u32],
     base: u32,
-) -> Result<Items, AllocError> {
+) -> Result<Items, AllocError>
+    ensures { IfOk result (Placed base (directory_texts (map plan_in order.now) sets.now refs.now)) }
+{
     let mut bytes = Vec::new(alloc);
     let mut offsets = Vec::new(alloc);
-    let mut sets = sets;
-    let mut refs = refs;
+    let mut rest = sets;
+    let mut of_methods = refs;
     for ordered in order {
         let begin = bytes.len();
-        push_directory(alloc, &mut bytes, ordered, sets, refs)?;
+        push_directory(alloc, &mut bytes, ordered, rest, of_methods)?;
         offsets.push(offset_of(base, begin, bytes.len())?)?;
-        let (_, behind_own) = split(sets, own_count(ordered));
-        sets = split(behind_own, parameter_count(ordered)? as usize).1;
-        refs = split(refs, ordered.methods.len()).1;
+        rest = behind_class(ordered, rest)?;
+        of_methods = split(of_methods, ordered.methods.len()).1;
     }
     Ok(Items {
         bytes: Seq::of_vec(bytes),

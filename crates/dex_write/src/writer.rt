@@ -1,9 +1,13 @@
 //! The whole writer: which items stand where.
 
-ghost use Rattle.std.specs.Prelude.{◌≡◌, length, map, IfOk};
+ghost use Rattle.std.specs.Prelude.{◌≡◌, length, map, slice_get, option_copied, IfOk, OnOk};
+ghost use Rattle.std.specs.List.{flat_map};
 ghost use Rattle.dex_write.specs.Plans.{plan_in};
+ghost use Rattle.dex_write.specs.Codes.{IsPlan};
 ghost use Rattle.dex_write.specs.File.{IsSealed};
-ghost use Rattle.dex_write.specs.Written.{counts_of, file_with, IsFile, IsWritten};
+ghost use Rattle.dex_write.specs.Places.{placed_items, words_end, words_behind, words_run, codes_end, places_behind, refs_behind, sets_behind, directories_behind, data_behind, strings_behind, front_of, codes_run, lines_run, refs_run, marks_behind, firsts_behind, back_of, counts_of, file_with, parts_in, runs_in, file_for};
+ghost use Rattle.dex_write.specs.Order.{classes_at};
+ghost use Rattle.dex_write.specs.Written.{ArePlans, MorePlans, IsWritten};
 
 use crate::class_order::written_order;
 use crate::classes::{all_data, all_firsts};
@@ -30,7 +34,9 @@ fn order_class<'a>(
     program: &Program,
     numbers: &Renumber,
     class: &'a Class,
-) -> Result<Ordered<'a>, AllocError> {
+) -> Result<Ordered<'a>, AllocError>
+    ensures { IfOk result (λ o. IsPlan program.now numbers.now class.now (plan_in o)) }
+{
     let mut fields = fields_of(alloc, class, numbers, true)?;
     let statics = fields.len();
     fields.extend_from_slice(&fields_of(alloc, class, numbers, false)?)?;
@@ -48,18 +54,41 @@ fn order_class<'a>(
     })
 }
 
-/// The classes in the order in which they are written.
+/// The class at a place.
+fn class_at(program: &Program, place: u32) -> Option<&Class>
+    ensures { option_copied result ≡ slice_get program.now.classes place }
+{
+    program.classes.items.get(place as usize)
+}
+
+/// Adds the class at a place, where there is one.
+fn push_class<'a>(
+    alloc: Global,
+    order: &mut Vec<Ordered<'a>>,
+    program: &'a Program,
+    numbers: &Renumber,
+    place: u32,
+) -> Result<(), AllocError>
+    ensures { OnOk result (MorePlans program.now numbers.now (classes_at program.now place) (map plan_in order.old.items) (map plan_in order.new.items)) }
+{
+    if let Some(class) = class_at(program, place) {
+        order.push(order_class(alloc, program, numbers, class)?)?;
+    }
+    Ok(())
+}
+
+/// The classes at these places.
 fn order_classes<'a>(
     alloc: Global,
     program: &'a Program,
     numbers: &Renumber,
-) -> Result<Vec<Ordered<'a>>, AllocError> {
-    let places = written_order(alloc, program)?;
+    places: &[u32],
+) -> Result<Vec<Ordered<'a>>, AllocError>
+    ensures { IfOk result (λ v. ArePlans program.now numbers.now (flat_map (classes_at program.now) places.now) (map plan_in v.items)) }
+{
     let mut order = Vec::with_capacity(alloc, places.len())?;
-    for place in &places {
-        if let Some(class) = program.classes.items.get(*place as usize) {
-            order.push(order_class(alloc, program, numbers, class)?)?;
-        }
+    for place in places {
+        push_class(alloc, &mut order, program, numbers, *place)?;
     }
     Ok(order)
 }
@@ -88,7 +117,9 @@ struct Placed {
 }
 
 /// The run of items that stand from `at` on, where the runs before it end at `before`.
-fn place_items(kind: Kind, before: u32, at: u32, items: Items) -> Result<Placed, AllocError> {
+fn place_items(kind: Kind, before: u32, at: u32, items: Items) -> Result<Placed, AllocError>
+    ensures { IfOk result (λ placed. placed ≡ placed_items kind before at items) }
+{
     let Items { bytes, offsets } = items;
     let run = Run {
         kind,
@@ -103,41 +134,53 @@ fn place_items(kind: Kind, before: u32, at: u32, items: Items) -> Result<Placed,
 /// How many entries the lists of four-byte entries of one kind have, where each stands, and where they begin and end.
 #[derive(Drop)]
 struct Words {
-    counts: Vec<u32>,
-    offsets: Vec<u32>,
+    counts: Seq<u32>,
+    offsets: Seq<u32>,
     at: u32,
     end: u32,
 }
 
+/// Where lists of so many entries end that stand behind runs that end at `before`.
+fn words_end(before: u32, counts: &[u32]) -> Result<u32, AllocError>
+    ensures { IfOk result (λ end. end ≡ words_end before counts.now) }
+{
+    if count_some(counts)? == 0 {
+        return Ok(before);
+    }
+    ends_at(up(before)?, counts)
+}
+
 /// Lists of so many entries behind runs that end at `before`.
-fn words_behind(alloc: Global, before: u32, counts: Vec<u32>) -> Result<Words, AllocError> {
+#[tactic(auto, unfolding(crate::specs::Places::words_behind))]
+fn words_behind(alloc: Global, before: u32, counts: Vec<u32>) -> Result<Words, AllocError>
+    ensures { IfOk result (λ words. words ≡ words_behind before counts.items) }
+{
     let at = up(before)?;
     let offsets = offsets_at(alloc, at, &counts)?;
-    let end = if count_some(&counts)? == 0 {
-        before
-    } else {
-        ends_at(at, &counts)?
-    };
+    let end = words_end(before, &counts)?;
     Ok(Words {
-        counts,
-        offsets,
+        counts: Seq::of_vec(counts),
+        offsets: Seq::of_vec(offsets),
         at,
         end,
     })
 }
 
 /// The run of these lists, whose entries are so far behind `base`.
+#[tactic(auto, unfolding(crate::specs::Places::words_run))]
 fn words_run(
     alloc: Global,
     kind: Kind,
     words: &Words,
     entries: &[u32],
     base: u32,
-) -> Result<Run, AllocError> {
-    let numbers = lists_of(alloc, &words.counts, entries, base)?;
+) -> Result<Run, AllocError>
+    ensures { IfOk result (λ run. run ≡ words_run kind words.now entries.now base) }
+{
+    let numbers = lists_of(alloc, words.counts.as_slice(), entries, base)?;
     Ok(Run {
         kind,
-        count: count_some(&words.counts)?,
+        count: count_some(words.counts.as_slice())?,
         at: words.at,
         bytes: Seq::of_vec(bytes_of(alloc, &numbers)?),
     })
@@ -151,15 +194,24 @@ struct CodePlaces {
     counts: Ends,
 }
 
+/// Where the code ends behind runs that end at `before`.
+fn codes_end(before: u32, count: u32, order: &[Ordered]) -> Result<u32, AllocError>
+    ensures { IfOk result (λ end. end ≡ codes_end before count (map plan_in order.now)) }
+{
+    if count == 0 {
+        return Ok(before);
+    }
+    all_behind(up(before)?, order)
+}
+
 /// The places of the code behind runs that end at `before`.
-fn codes_behind(before: u32, order: &[Ordered]) -> Result<CodePlaces, AllocError> {
+#[tactic(auto, unfolding(crate::specs::Places::places_behind))]
+fn codes_behind(before: u32, order: &[Ordered]) -> Result<CodePlaces, AllocError>
+    ensures { IfOk result (λ places. places ≡ places_behind before (map plan_in order.now)) }
+{
     let at = up(before)?;
     let counts = count_codes(order)?;
-    let end = if counts.code == 0 {
-        before
-    } else {
-        all_behind(at, order)?
-    };
+    let end = codes_end(before, counts.code, order)?;
     Ok(CodePlaces { at, end, counts })
 }
 
@@ -176,32 +228,84 @@ struct Front {
     strings: Placed,
 }
 
+/// The lists of sets of the methods' parameters, behind runs that end at `before`.
+fn refs_behind(alloc: Global, order: &[Ordered], before: u32) -> Result<Words, AllocError>
+    ensures { IfOk result (λ words. words ≡ refs_behind before (map plan_in order.now)) }
+{
+    words_behind(alloc, before, ref_counts(alloc, order)?)
+}
+
+/// The sets of annotations, behind runs that end at `before`.
+fn sets_behind(alloc: Global, order: &[Ordered], before: u32) -> Result<Words, AllocError>
+    ensures { IfOk result (λ words. words ≡ sets_behind before (map plan_in order.now)) }
+{
+    words_behind(alloc, before, set_counts(alloc, order)?)
+}
+
+/// The directories, behind runs that end at `before`.
+#[tactic(auto, unfolding(crate::specs::Places::directories_behind))]
+fn directories_behind(
+    alloc: Global,
+    order: &[Ordered],
+    sets: &Words,
+    refs: &Words,
+    before: u32,
+) -> Result<Placed, AllocError>
+    ensures { IfOk result (λ placed. placed ≡ directories_behind before (map plan_in order.now) sets.now refs.now) }
+{
+    let at = up(before)?;
+    let items = directories(
+        alloc,
+        order,
+        sets.offsets.as_slice(),
+        refs.offsets.as_slice(),
+        at,
+    )?;
+    place_items(Kind::AnnotationsDirectory, before, at, items)
+}
+
+/// The class data from `at` on, of classes whose code comes behind `code_at`.
+#[tactic(auto, unfolding(crate::specs::Places::data_behind))]
+fn data_at(alloc: Global, order: &[Ordered], code_at: u32, at: u32) -> Result<Placed, AllocError>
+    ensures { IfOk result (λ placed. placed ≡ data_behind at (map plan_in order.now) code_at) }
+{
+    let items = all_data(alloc, order, code_at, at)?;
+    place_items(Kind::ClassData, at, at, items)
+}
+
+/// The strings from `at` on.
+#[tactic(auto, unfolding(crate::specs::Places::strings_behind))]
+fn strings_at(
+    alloc: Global,
+    program: &Program,
+    interner: &Interner,
+    at: u32,
+) -> Result<Placed, AllocError>
+    ensures { IfOk result (λ placed. placed ≡ strings_behind at program.now interner.now) }
+{
+    let used = &interner.order().strings;
+    let items = all_strings(alloc, program.strings.as_slice(), used, at)?;
+    place_items(Kind::StringData, at, at, items)
+}
+
 /// The runs up to the strings, the first of which stands at `at`.
+#[tactic(auto, unfolding(crate::specs::Places::front_of))]
 fn front_of(
     alloc: Global,
     program: &Program,
     interner: &Interner,
     order: &[Ordered],
     at: u32,
-) -> Result<Front, AllocError> {
+) -> Result<Front, AllocError>
+    ensures { IfOk result (λ front. front ≡ front_of program.now interner.now (map plan_in order.now) at) }
+{
     let lists = lists_at(alloc, program, interner, order, at)?;
-    let refs = words_behind(
-        alloc,
-        end_behind(at, &lists.run)?,
-        ref_counts(alloc, order)?,
-    )?;
-    let sets = words_behind(alloc, refs.end, set_counts(alloc, order)?)?;
+    let refs = refs_behind(alloc, order, end_behind(at, &lists.run)?)?;
+    let sets = sets_behind(alloc, order, refs.end)?;
     let code = codes_behind(sets.end, order)?;
-    let at = up(code.end)?;
-    let items = directories(alloc, order, &sets.offsets, &refs.offsets, at)?;
-    let directories = place_items(Kind::AnnotationsDirectory, code.end, at, items)?;
-    let at = directories.end;
-    let items = all_data(alloc, order, code.at, at)?;
-    let data = place_items(Kind::ClassData, at, at, items)?;
-    let at = data.end;
-    let used = &interner.order().strings;
-    let items = all_strings(alloc, program.strings.as_slice(), used, at)?;
-    let strings = place_items(Kind::StringData, at, at, items)?;
+    let directories = directories_behind(alloc, order, &sets, &refs, code.end)?;
+    let data = data_at(alloc, order, code.at, directories.end)?;
+    let strings = strings_at(alloc, program, interner, data.end)?;
     Ok(Front {
         lists,
         refs,
@@ -214,12 +318,15 @@ fn front_of(
 }
 
 /// The run of code items, whose debug items stand from `lines_at` on.
+#[tactic(auto, unfolding(crate::specs::Places::codes_run))]
 fn codes_run(
     alloc: Global,
     order: &[Ordered],
     code: &CodePlaces,
     lines_at: u32,
-) -> Result<Run, AllocError> {
+) -> Result<Run, AllocError>
+    ensures { IfOk result (λ run. run ≡ codes_run (map plan_in order.now) code.now lines_at) }
+{
     let from = Ends {
         code: code.at,
         lines: lines_at,
@@ -233,7 +340,10 @@ fn codes_run(
 }
 
 /// The run of debug items from `at` on.
-fn lines_run(alloc: Global, order: &[Ordered], count: u32, at: u32) -> Result<Run, AllocError> {
+#[tactic(auto, unfolding(crate::specs::Places::lines_run))]
+fn lines_run(alloc: Global, order: &[Ordered], count: u32, at: u32) -> Result<Run, AllocError>
+    ensures { IfOk result (λ run. run ≡ lines_run (map plan_in order.now) count at) }
+{
     Ok(Run {
         kind: Kind::DebugInfo,
         count,
@@ -253,37 +363,77 @@ struct Back {
     firsts: Placed,
 }
 
-/// The runs behind the strings.
-fn back_of(
+/// The run of lists of sets.
+#[tactic(auto, unfolding(crate::specs::Places::refs_run))]
+fn refs_run(alloc: Global, order: &[Ordered], refs: &Words, sets: &Words) -> Result<Run, AllocError>
+    ensures { IfOk result (λ run. run ≡ refs_run (map plan_in order.now) refs.now sets.now) }
+{
+    let entries = parameter_offsets(alloc, order, sets.offsets.as_slice())?;
+    words_run(alloc, Kind::AnnotationSetRefList, refs, &entries, 0)
+}
+
+/// The run of sets, and that of annotations behind it.
+#[derive(Drop)]
+struct Marks {
+    sets: Run,
+    marks: Run,
+}
+
+/// The run of sets, and that of annotations from `at` on.
+#[tactic(auto, unfolding(crate::specs::Places::marks_behind))]
+fn marks_at(
     alloc: Global,
-    program: &Program,
-    numbers: &Renumber,
     order: &[Ordered],
-    front: &Front,
-) -> Result<Back, AllocError> {
-    let lines_at = front.strings.end;
-    let codes = codes_run(alloc, order, &front.code, lines_at)?;
-    let lines = lines_run(alloc, order, front.code.counts.lines, lines_at)?;
-    let of_parameters = parameter_offsets(alloc, order, &front.sets.offsets)?;
-    let refs = words_run(
-        alloc,
-        Kind::AnnotationSetRefList,
-        &front.refs,
-        &of_parameters,
-        0,
-    )?;
-    let at = end_behind(lines_at, &lines)?;
+    numbers: &Renumber,
+    sets: &Words,
+    at: u32,
+) -> Result<Marks, AllocError>
+    ensures { IfOk result (λ marks. marks ≡ marks_behind numbers.now (map plan_in order.now) sets.now at) }
+{
     let MarkBytes { bytes, starts } = mark_bytes(alloc, order, numbers)?;
-    let sets = words_run(alloc, Kind::AnnotationSet, &front.sets, &starts, at)?;
+    let sets = words_run(alloc, Kind::AnnotationSet, sets, &starts, at)?;
     let marks = Run {
         kind: Kind::Annotation,
         count: word_of(starts.len())?,
         at,
         bytes: Seq::of_vec(bytes),
     };
-    let at = end_behind(at, &marks)?;
+    Ok(Marks { sets, marks })
+}
+
+/// The first values from `at` on.
+#[tactic(auto, unfolding(crate::specs::Places::firsts_behind))]
+fn firsts_at(
+    alloc: Global,
+    program: &Program,
+    order: &[Ordered],
+    numbers: &Renumber,
+    at: u32,
+) -> Result<Placed, AllocError>
+    ensures { IfOk result (λ placed. placed ≡ firsts_behind at program.now numbers.now (map plan_in order.now)) }
+{
     let items = all_firsts(alloc, program, order, numbers, at)?;
-    let firsts = place_items(Kind::EncodedArray, at, at, items)?;
+    place_items(Kind::EncodedArray, at, at, items)
+}
+
+/// The runs behind the strings.
+#[tactic(auto, unfolding(crate::specs::Places::back_of))]
+fn back_of(
+    alloc: Global,
+    program: &Program,
+    numbers: &Renumber,
+    order: &[Ordered],
+    front: &Front,
+) -> Result<Back, AllocError>
+    ensures { IfOk result (λ back. back ≡ back_of program.now numbers.now (map plan_in order.now) front.now) }
+{
+    let lines_at = front.strings.end;
+    let codes = codes_run(alloc, order, &front.code, lines_at)?;
+    let lines = lines_run(alloc, order, front.code.counts.lines, lines_at)?;
+    let refs = refs_run(alloc, order, &front.refs, &front.sets)?;
+    let at = end_behind(lines_at, &lines)?;
+    let Marks { sets, marks } = marks_at(alloc, order, numbers, &front.sets, at)?;
+    let firsts = firsts_at(alloc, program, order, numbers, end_behind(at, &marks)?)?;
     Ok(Back {
         lines,
         codes,
@@ -328,22 +478,25 @@ fn file_with(
 }
 
 /// The run and the offsets of its items.
-fn apart(placed: Placed) -> (Run, Seq<u32>) {
+fn apart(placed: Placed) -> (Run, Seq<u32>)
+    ensures run { result.0 ≡ placed.run }
+    ensures offsets { result.1 ≡ placed.offsets }
+{
     let Placed { run, offsets, .. } = placed;
     (run, offsets)
 }
 
-/// The file of these runs.
-fn joined(
-    alloc: Global,
-    program: &Program,
-    interner: &Interner,
-    order: &[Ordered],
-    front: Front,
-    back: Back,
-) -> Result<Vec<u8>, AllocError>
-    ensures is { IfOk result (λ v. IsFile program.now interner.now (map plan_in order.now) v.items) }
-    ensures sealed { IfOk result (λ v. IsSealed program.now.version v.items) }
+/// The runs in order, and the offsets of what they hold.
+#[derive(Drop)]
+struct Whole {
+    parts: Parts,
+    runs: [Run; 10],
+}
+
+/// The runs and the offsets of both parts.
+fn joined(front: Front, back: Back) -> Whole
+    ensures parts { result.parts ≡ parts_in front back }
+    ensures runs { result.runs ≡ runs_in front back }
 {
     let Front {
         lists,
@@ -369,29 +522,47 @@ fn joined(
     let (data, data_offsets) = apart(data);
     let (strings, string_offsets) = apart(strings);
     let (firsts, first_offsets) = apart(firsts);
-    let offsets = ClassOffsets {
-        interfaces: Seq::of_vec(interfaces),
-        directories: directory_offsets,
-        data: data_offsets,
-        firsts: first_offsets,
-    };
-    let runs = [
-        lists,
-        refs,
-        sets,
-        codes,
-        directories,
-        data,
-        strings,
-        lines,
-        marks,
-        firsts,
-    ];
-    let parts = Parts {
-        strings: string_offsets,
-        parameters: Seq::of_vec(parameters),
-        offsets,
-    };
+    Whole {
+        parts: Parts {
+            strings: string_offsets,
+            parameters,
+            offsets: ClassOffsets {
+                interfaces,
+                directories: directory_offsets,
+                data: data_offsets,
+                firsts: first_offsets,
+            },
+        },
+        runs: [
+            lists,
+            refs,
+            sets,
+            codes,
+            directories,
+            data,
+            strings,
+            lines,
+            marks,
+            firsts,
+        ],
+    }
+}
+
+/// The file of a program whose classes are these.
+#[tactic(auto, unfolding(crate::specs::Places::file_for))]
+fn file_for(
+    alloc: Global,
+    program: &Program,
+    interner: &Interner,
+    order: &[Ordered],
+) -> Result<Vec<u8>, AllocError>
+    ensures is { IfOk result (λ v. v.items ≡ file_for program.now interner.now (map plan_in order.now)) }
+    ensures sealed { IfOk result (λ v. IsSealed program.now.version v.items) }
+{
+    let counts = counts_of(interner, order)?;
+    let front = front_of(alloc, program, interner, order, starts_of(counts)?.data)?;
+    let back = back_of(alloc, program, interner.numbers(), order, &front)?;
+    let Whole { parts, runs } = joined(front, back);
     file_with(alloc, program, interner, order, &parts, &runs)
 }
 
@@ -405,11 +576,7 @@ pub fn write_dex(alloc: Global, program: &Program) -> Result<Vec<u8>, AllocError
     ensures sealed { IfOk result (λ v. IsSealed program.now.version v.items) }
 {
     let interner = Interner::collect(alloc, program)?;
-    let numbers = interner.numbers();
-    let order = order_classes(alloc, program, numbers)?;
-    let order = order.as_slice();
-    let counts = counts_of(&interner, order)?;
-    let front = front_of(alloc, program, &interner, order, starts_of(counts)?.data)?;
-    let back = back_of(alloc, program, numbers, order, &front)?;
-    joined(alloc, program, &interner, order, front, back)
+    let places = written_order(alloc, program)?;
+    let order = order_classes(alloc, program, interner.numbers(), &places)?;
+    file_for(alloc, program, &interner, order.as_slice())
 }

@@ -1,0 +1,6 @@
+use Rattle.std.proofs.Common.{reverse}
+use Rattle.dex_write.proofs.OrderLemmas.{Progress}
+use Rattle.dex_write.proofs.class_order.drain.Given as goal
+
+abbrev pub invariant-loop : goal.invariant-loop
+invariant-loop l = Progress l.program l.fn.search l.search

@@ -1,5 +1,5 @@
 -- What the framework gives, and what it may do: the same for two faces that agree.
-use Rattle.std.proofs.Common.{◌≡◌, Bool, true, false, List, [], ◌∷◌, refl, sym, ap, ◌∙◌}
+use Rattle.std.proofs.Common.{◌≡◌, ℕ, Bool, true, false, List, [], ◌∷◌, refl, sym, ap, ◌∙◌}
 use Rattle.std.specs.Prelude.{◌&&◌, ◌||◌, not, Option, Some, None, is_some}
 use Rattle.std.specs.List.{list_all}
 use Rattle.dalvik_defs.specs.Names.{Text, is_reference, is_class_type, is_array, is_wide, is_word, base_of, throwable_type}
@@ -42,10 +42,10 @@ pub if_same : {A : Type 0} (b d : Bool) (x x' y y' : A) → b ≡ d → x ≡ x'
 if_same {A} true d x x' y y' e h k = h ∙ ap (λ z. elim z as (λ b. A) [ true ↦ x' | false ↦ y' ]) e
 if_same {A} false d x x' y y' e h k = k ∙ ap (λ z. elim z as (λ b. A) [ true ↦ x' | false ↦ y' ]) e
 
-module _ (ok made : Text → Type 0) (live : MethodKey → Type 0) (says : MethodKey → Form → Type 0) (calm : Text → Bool) (p : NamedProgram) (o : Outer) (F G : Face) (find other : Bodies)
-    (agree : Agree ok made live says calm p o F G find other) where
+module _ (ok made : Text → Type 0) (live : MethodKey → Type 0) (says : MethodKey → Form → Type 0) (stands : MethodKey → ℕ → Type 0) (calm : Text → Bool) (p : NamedProgram) (o : Outer) (F G : Face) (find other : Bodies)
+    (agree : Agree ok made live says stands calm p o F G find other) where
   abbrev Fine : World → Type 0
-  Fine = Sound ok made live says calm p o F G find other agree
+  Fine = Sound ok made live says stands calm p o F G find other agree
 
   abbrev pub GivenFits : Given → Type 0
   GivenFits g = fit_given p o g ≡ true
@@ -86,7 +86,7 @@ module _ (ok made : Text → Type 0) (live : MethodKey → Type 0) (says : Metho
   give_same w (given.Class t) e = refl
 
   pub under_same : (w : World) (v : Value) (t : Text) → Kinds ok w.heap → F.under (kind_of w v) t ≡ G.under (kind_of w v) t
-  under_same w v t h = agree.under (kind_of w v) t (kind_ok ok made live says calm p o F G find other agree w v h)
+  under_same w v t h = agree.under (kind_of w v) t (kind_ok ok made live says stands calm p o F G find other agree w v h)
 
   plain_same : (t : Text) → ok t → is_plain_class F t ≡ is_plain_class G t
   plain_same t k = ap (λ x. elim x as (λ x. Bool) [ Some n ↦ not (is_interface n) | None ↦ false ]) (agree.flags t k)
@@ -151,7 +151,7 @@ module _ (ok made : Text → Type 0) (live : MethodKey → Type 0) (says : Metho
   receiver_same w f [] l e h = refl
   receiver_same w f (v ∷ vs) l e h = and_same (is_on F w v f.key.class) (is_on G w v f.key.class) (o.methods f.key || calls_back F o (kind_of w v) f) (o.methods f.key || calls_back G o (kind_of w v) f)
       (on_same w v f.key.class h.kinds)
-      (λ i. l.called (kind_of w v) e (kind_ok ok made live says calm p o F G find other agree w v h.kinds) (kind_made ok made live says calm p o F G find other agree w v h.mades))
+      (λ i. l.called (kind_of w v) e (kind_ok ok made live says stands calm p o F G find other agree w v h.kinds) (kind_made ok made live says stands calm p o F G find other agree w v h.mades))
 
   module _ (w : World) (h : Fine w) (f : Found) (gs : List Given) (e : AllFit gs) where
     abbrev u : World
@@ -191,7 +191,7 @@ module _ (ok made : Text → Type 0) (live : MethodKey → Type 0) (says : Metho
       receiver_barred : (us : List Value) → Fine u → receiver_ok F o u f us ≡ false
       receiver_barred [] k = refl
       receiver_barred (v ∷ us) k = and_false (is_on F u v f.key.class) (o.methods f.key || calls_back F o (kind_of u v) f) (λ i.
-          ap (λ b. b || calls_back F o (kind_of u v) f) bar.kept ∙ bar.called (kind_of u v) (kind_ok ok made live says calm p o F G find other agree u v k.kinds) (kind_made ok made live says calm p o F G find other agree u v k.mades))
+          ap (λ b. b || calls_back F o (kind_of u v) f) bar.kept ∙ bar.called (kind_of u v) (kind_ok ok made live says stands calm p o F G find other agree u v k.kinds) (kind_made ok made live says stands calm p o F G find other agree u v k.mades))
 
       found_barred : (b : Bool)
           → (elim b as (λ b. Bool) [ true ↦ o.methods f.key && all_fit F o w u gs vs f.key.signature.parameters | false ↦ all_fit F o w u gs vs (f.key.class ∷ f.key.signature.parameters) && receiver_ok F o u f vs ]) ≡ false

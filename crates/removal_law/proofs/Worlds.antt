@@ -1,9 +1,9 @@
 -- The kinds of the things in a world: what makes, writes and shows things keeps them.
-use Rattle.std.proofs.Common.{◌≡◌, ℕ, zero, suc, Bool, true, false, List, [], ◌∷◌, ◌++◌, refl, ap, ◌∙◌, subst}
+use Rattle.std.proofs.Common.{◌≡◌, ℕ, zero, suc, ◌+◌, Bool, true, false, List, [], ◌∷◌, ◌++◌, refl, ap, ◌∙◌, subst}
 use Rattle.std.specs.Prelude.{Option, Some, None, slice_get, slice_set}
 use Rattle.insn_set.specs.declared.ops.Item.{Item}
 use Rattle.insn_set.specs.declared.ops.Item.TheVariants as item
-use Rattle.dalvik_defs.specs.Effect.{write_item}
+use Rattle.dalvik_defs.specs.Effect.{write_item, next}
 use Rattle.dalvik_defs.specs.Names.{Text, string_type, class_type}
 use Rattle.dalvik_defs.specs.State.{World, Thing, kind_of_thing, kind_of, put_thing, thing_at}
 use Rattle.dalvik_defs.specs.declared.state.Value.{Value}
@@ -98,3 +98,12 @@ item_method f item.Boolean to v = refl
 item_method f item.Byte to v = refl
 item_method f item.Char to v = refl
 item_method f item.Short to v = refl
+
+pub item_position : (f : Frame) (i : Item) (to : ℕ) (v : Value) → (next (write_item i f to v)).position ≡ f.position + 1
+item_position f item.Wide to v = refl
+item_position f item.Plain to v = refl
+item_position f item.Object to v = refl
+item_position f item.Boolean to v = refl
+item_position f item.Byte to v = refl
+item_position f item.Char to v = refl
+item_position f item.Short to v = refl

@@ -1,6 +1,6 @@
 -- What two machines agree on that take equal steps: all that a run asks of what the program answers, at the types,
 -- methods and forms that a run comes to.
-use Rattle.std.specs.Prelude.{◌≡◌, ℕ, Bool, true, false, ◌||◌, ◌⊎◌, not, List, [], ◌∷◌, filter, Option, Some, None, slice_get}
+use Rattle.std.specs.Prelude.{◌≡◌, ℕ, Bool, true, false, ◌||◌, ◌⊎◌, not, List, [], ◌∷◌, filter, Option, Some, None}
 use Rattle.std.specs.List.{list_any}
 use Rattle.insn_set.specs.declared.ops.InvokeKind.{InvokeKind}
 use Rattle.insn_set.specs.declared.ops.InvokeKind.TheVariants as call
@@ -18,6 +18,8 @@ use Rattle.dalvik_defs.specs.declared.forms.Form.TheVariants as form
 use Rattle.dalvik_defs.specs.declared.script.Given.TheVariants as given
 use Rattle.dalvik_defs.specs.declared.program.NamedBody.{NamedBody}
 use Rattle.dalvik_defs.specs.declared.program.NamedProgram.{NamedProgram}
+use Rattle.pass_defs.specs.Bare.{may_throw}
+use Rattle.pass_defs.specs.Walks.{form_at, onward, handlers_at}
 use Rattle.pass_defs.specs.Mentions.{fields_in}
 use Rattle.removal_law.specs.Left.{In}
 
@@ -74,8 +76,8 @@ module _ (ok made : Text → Type 0) (live : MethodKey → Type 0) where
   AgreeOnDeclared o F G None b = b ≡ None
   AgreeOnDeclared o F G (Some f) b = (IsOpen o F G f × (b ≡ Some f)) ⊎ (IsBarred o F f × (b ≡ None))
 
-  -- `says` are the forms of live methods, and `calm` are classes whose initialisation does nothing
-  pub record Agree (says : MethodKey → Form → Type 0) (calm : Text → Bool) (p : NamedProgram) (o : Outer) (F G : Face) (find other : Bodies) : Type 0 where
+  -- `says` are the forms of live methods, `stands` the positions that their frames come to, and `calm` are classes whose initialisation does nothing
+  pub record Agree (says : MethodKey → Form → Type 0) (stands : MethodKey → ℕ → Type 0) (calm : Text → Bool) (p : NamedProgram) (o : Outer) (F G : Face) (find other : Bodies) : Type 0 where
     -- types
     pub flags : (t : Text) → ok t → F.flags t ≡ G.flags t
     pub under : (t u : Text) → ok t → F.under t u ≡ G.under t u
@@ -94,7 +96,10 @@ module _ (ok made : Text → Type 0) (live : MethodKey → Type 0) where
     pub result_ok : (k : MethodKey) → live k → ok k.signature.result
     pub parameters_ok : (k : MethodKey) → live k → Each ok k.signature.parameters
     -- what live code says
-    pub code : (k : MethodKey) (b : NamedBody) (n : ℕ) (f : Form) → live k → find k ≡ Some b → slice_get b.forms n ≡ Some f → says k f
+    pub code : (k : MethodKey) (b : NamedBody) (n : ℕ) (f : Form) → live k → find k ≡ Some b → stands k n → form_at b n ≡ Some f → says k f
+    pub entry : (k : MethodKey) (b : NamedBody) → live k → find k ≡ Some b → stands k 0
+    pub onwards : (k : MethodKey) (b : NamedBody) (n m : ℕ) (f : Form) → live k → find k ≡ Some b → stands k n → form_at b n ≡ Some f → In m (onward f n) → stands k m
+    pub catches : (k : MethodKey) (b : NamedBody) (n m : ℕ) (f : Form) → live k → find k ≡ Some b → stands k n → form_at b n ≡ Some f → may_throw f ≡ true → In m (handlers_at b n) → stands k m
     pub news : (m : MethodKey) (to : ℕ) (t : Text) → says m (form.NewInstance to t) → ok t × made t
     pub arrays : (m : MethodKey) (to size : ℕ) (t : Text) → says m (form.NewArray to size t) → ok (item_of t)
     pub filled : (m : MethodKey) (args : List ℕ) (t : Text) → says m (form.FilledNewArray t args) → ok (item_of t)

@@ -1,6 +1,6 @@
 -- All that a run asks of a program what is left of it answers alike.
-use Rattle.std.proofs.Common.{◌≡◌, ℕ, zero, suc, Bool, true, false, List, [], ◌∷◌, refl, sym, ap, ◌∙◌, subst}
-use Rattle.std.specs.Prelude.{◌&&◌, ◌||◌, not, Option, Some, None, is_some, slice_get, nat_eq}
+use Rattle.std.proofs.Common.{◌≡◌, ◌++◌, ℕ, zero, suc, Bool, true, false, List, [], ◌∷◌, refl, sym, ap, ◌∙◌, subst}
+use Rattle.std.specs.Prelude.{Contains, ◌&&◌, ◌||◌, not, Option, Some, None, is_some, slice_get, nat_eq}
 use Rattle.std.specs.List.{list_any, list_all}
 use Rattle.std.specs.Option.{option_map}
 use Rattle.dalvik_defs.specs.Names.{Text, text_eq, is_array, base_of, item_of, array_of}
@@ -22,12 +22,14 @@ use Rattle.dalvik_defs.specs.declared.program.NamedField.{NamedField}
 use Rattle.dalvik_defs.specs.declared.program.NamedClass.{NamedClass}
 use Rattle.dalvik_defs.specs.declared.program.NamedProgram.{NamedProgram}
 use Rattle.dalvik_defs.proofs.Calm.{text_sound}
+use Rattle.pass_defs.specs.Bare.{may_throw}
+use Rattle.pass_defs.specs.Walks.{form_at, onward, caught, handlers_at, successors, Walk, Stays, Goes, IsReached}
 use Rattle.pass_defs.specs.Live.{Family, Conditions, IsClosedFamily, KeepsAbove}
 use Rattle.pass_defs.specs.Mentions.{types_in, types_of, fields_in, fields_in_body}
 use Rattle.removal_law.specs.Left.{left_in, left_of, NamesNone}
 use Rattle.removal_law.specs.Agree.{Each, AgreeOnField, sieved}
-use Rattle.removal_law.specs.Reach.{OkType, MadeType, LiveMethod, Says, LeftAgrees, IsRegular, IsSoundCode, ShutsHold, is_idle}
-use Rattle.removal_law.proofs.Lists.{clash, In, here, there, contained, none_in, all_in, and_left, and_behind}
+use Rattle.removal_law.specs.Reach.{OkType, MadeType, LiveMethod, Says, LeftAgrees, IsRegular, IsSoundCode, ShutsHold, is_idle, ReachedAt}
+use Rattle.removal_law.proofs.Lists.{clash, In, here, there, contained, none_in, all_in, and_left, and_behind, in_front, in_back}
 use Rattle.removal_law.proofs.Classes.{Kept, class_left, dead_found}
 use Rattle.removal_law.proofs.Fits.{in_by_test}
 use Rattle.removal_law.proofs.Members.{body_left}
@@ -50,6 +52,11 @@ slice_in : {A : Type 0} (xs : List A) (n : ℕ) (x : A) → slice_get xs n ≡ S
 slice_in [] n x e = none_some x e
 slice_in (y ∷ xs) zero x e = subst (λ z. In z (y ∷ xs)) (some_same y x e) (here xs)
 slice_in (y ∷ xs) (suc n) x e = there y xs (slice_in xs n x e)
+
+-- a walk goes on
+walk_on : (next : ℕ → List ℕ) (a n m : ℕ) → Walk next a n → Contains (next n) m → Walk next a m
+walk_on next a n m (Stays k) c = Goes k m m c (Stays m)
+walk_on next a n m (Goes k j l d w) c = Goes k j m d (walk_on next j n m w c)
 
 -- a form that names a field names its class and its type
 abbrev Typed : Form → FieldKey → Type 0
@@ -186,8 +193,16 @@ module _ (p : NamedProgram) (o : Outer) (kept : Conditions) (s : Family) (f : Fr
   named_types : (k : MethodKey) → LiveMethod p s k → (t : Text) → In t (types_of k.signature) → OkType p s t
   named_types k l t i = closed.types.methods k l.live t (contained t (types_of k.signature) i)
 
-  says_code : (k : MethodKey) (b : NamedBody) (n : ℕ) (x : Form) → LiveMethod p s k → bodies_of p k ≡ Some b → slice_get b.forms n ≡ Some x → Says p s k x
-  says_code k b n x l e i = record { body = b; has = (l.live, e); defined = l.defined; stands = slice_in b.forms n x i }
+  says_code : (k : MethodKey) (b : NamedBody) (n : ℕ) (x : Form) → LiveMethod p s k → bodies_of p k ≡ Some b → ReachedAt p k n → form_at b n ≡ Some x → Says p s k x
+  says_code k b n x l e r i = record { body = b; has = (l.live, e); defined = l.defined; place = n; reached = r b e; at_place = i; stands = slice_in b.forms n x i }
+
+  -- positions
+  step_of : (k : MethodKey) (b : NamedBody) (n m : ℕ) (f : Form) → bodies_of p k ≡ Some b → ReachedAt p k n → form_at b n ≡ Some f → In m (onward f n ++ caught b f n) → ReachedAt p k m
+  step_of k b n m f e r i j = λ d a. subst (λ x. IsReached x m) (some_same b d (sym e ∙ a)) (walk_on (successors b) 0 n m (r b e)
+      (contained m (successors b n) (subst (In m) (sym (ap (λ o. elim o as (λ o. List ℕ) [ Some f ↦ onward f n ++ caught b f n | None ↦ [] ]) i)) j)))
+
+  caught_in : (b : NamedBody) (n m : ℕ) (f : Form) → may_throw f ≡ true → In m (handlers_at b n) → In m (caught b f n)
+  caught_in b n m f e i = subst (λ x. In m (elim x as (λ x. List ℕ) [ true ↦ handlers_at b n | false ↦ [] ])) (sym e) i
 
   new_type : (m : MethodKey) (to : ℕ) (t : Text) → Says p s m (form.NewInstance to t) → OkType p s t × MadeType p s t
   new_type m to t a = (says_of m (form.NewInstance to t) a t (here []), λ d. closed.made.news m a.body to t a.has (contained (form.NewInstance to t) a.body.forms a.stands) d)
@@ -285,9 +300,12 @@ module _ (p : NamedProgram) (o : Outer) (kept : Conditions) (s : Family) (f : Fr
     result_ok = λ k l. named_types k l k.signature.result (here k.signature.parameters);
     parameters_ok = λ k l. each_in (OkType p s) k.signature.parameters (λ t i. named_types k l t (there k.signature.result k.signature.parameters i));
     code = says_code;
+    entry = λ k b l e. λ d a. Stays 0;
+    onwards = λ k b n m f l e r i j. step_of k b n m f e r i (in_front m (onward f n) (caught b f n) j);
+    catches = λ k b n m f l e r i y j. step_of k b n m f e r i (in_back m (onward f n) (caught b f n) (caught_in b n m f y j));
     news = new_type;
-    arrays = λ m to size t a. item_type t (code.arrays m a.body to size t a.has.1 a.stands) (says_of m (form.NewArray to size t) a t (here []));
-    filled = λ m args t a. item_type t (code.filled m a.body t args a.has.1 a.stands) (says_of m (form.FilledNewArray t args) a t (here []));
+    arrays = λ m to size t a. item_type t (code.arrays m a.body a.place to size t a.has.1 a.reached a.at_place) (says_of m (form.NewArray to size t) a t (here []));
+    filled = λ m args t a. item_type t (code.filled m a.body a.place t args a.has.1 a.reached a.at_place) (says_of m (form.FilledNewArray t args) a t (here []));
     fields = field_agrees;
     calls = λ m kind k args t a ok made. called_agrees p o kept s f closed regular code shuts none m k args kind t a ok made;
     answers = λ m kind k args a. says_of m (form.Invoke kind k args) a k.signature.result (there k.class (k.signature.result ∷ k.signature.parameters) (here k.signature.parameters));

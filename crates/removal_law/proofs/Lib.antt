@@ -23,5 +23,6 @@ pub mod Declared
 pub mod Entered
 pub mod CallsLeft
 pub mod Faces
+pub mod TypedCode
 pub mod Trivial
 pub mod Removal

@@ -15,12 +15,12 @@ use Rattle.dalvik_defs.proofs.Simulation.{Shows, shows_on, same_by_runs}
 use Rattle.dalvik_defs.proofs.Calm.{Each as EachCalm, IsDeep, IsCalm, calm_shows, calm_shown}
 use Rattle.pass_defs.specs.Live.{Family, Conditions, IsClosedFamily}
 use Rattle.removal_law.specs.Left.{left_of}
-use Rattle.removal_law.specs.Reach.{OkType, MadeType, LiveMethod, Says, is_idle, LeftAgrees, IsRegular, IsSoundCode, ShutsHold}
+use Rattle.removal_law.specs.Reach.{OkType, MadeType, LiveMethod, Says, is_idle, LeftAgrees, IsRegular, IsSoundCode, ShutsHold, ReachedAt}
 use Rattle.removal_law.proofs.Fits.{fit_names_none}
 use Rattle.removal_law.proofs.Firsts.{idle_interface, idle_first, idle_left}
 use Rattle.removal_law.proofs.Steps.{calm_alike}
 use Rattle.removal_law.proofs.Faces.{agrees}
-use Rattle.removal_law.proofs.Trivial.{AnyType, AnyMethod, AnyForm, itself}
+use Rattle.removal_law.proofs.Trivial.{AnyType, AnyMethod, AnyForm, AnyPlace, itself}
 
 pub faces_agree : (p : NamedProgram) (o : Outer) (k : Conditions) (s : Family) → IsClosedFamily p o k s → IsRegular p → IsSoundCode p → ShutsHold p o
     → (f : Framework) (script : List Move) → Fit p o f script → LeftAgrees p o s f
@@ -30,8 +30,8 @@ faces_agree p o k s closed regular code shuts f script fit = agrees p o k s f cl
 pub equal_events : (p : NamedProgram) (o : Outer) (s : Family) (f : Framework) → LeftAgrees p o s f → (a : Floats) (script : List Move) (n : ℕ) → list_all (fit_move p o) script ≡ true
     → shows_from (setting_of p o f a) (bodies_of p) (calm_opening (is_idle p) script) n ≡ shows_from (setting_of (left_of s p) o f a) (bodies_of (left_of s p)) (calm_opening (is_idle p) script) n
 equal_events p o s f agree a script n m =
-    calm_alike (OkType p s) (MadeType p s) (LiveMethod p s) (Says p s) (is_idle p) p o (face_of p f) _ (bodies_of p) (bodies_of (left_of s p)) agree a script n m
-    ∙ sym (calm_alike AnyType AnyType AnyMethod AnyForm (is_idle p) p o (face_of (left_of s p) f) _ (bodies_of (left_of s p)) (bodies_of (left_of s p))
+    calm_alike (OkType p s) (MadeType p s) (LiveMethod p s) (Says p s) (ReachedAt p) (is_idle p) p o (face_of p f) _ (bodies_of p) (bodies_of (left_of s p)) agree a script n m
+    ∙ sym (calm_alike AnyType AnyType AnyMethod AnyForm AnyPlace (is_idle p) p o (face_of (left_of s p) f) _ (bodies_of (left_of s p)) (bodies_of (left_of s p))
     (itself (is_idle p) p o (face_of (left_of s p) f) (bodies_of (left_of s p))) a script n m)
 
 module _ (p : NamedProgram) (o : Outer) (k : Conditions) (s : Family) (closed : IsClosedFamily p o k s) (regular : IsRegular p) (f : Framework) (a : Floats) where

@@ -1,5 +1,5 @@
 -- A face agrees with itself, but for the calm classes that are initialised before one.
-use Rattle.std.proofs.Common.{◌≡◌, Bool, List, [], ◌∷◌, refl, inl}
+use Rattle.std.proofs.Common.{◌≡◌, ℕ, Bool, List, [], ◌∷◌, refl, inl}
 use Rattle.std.specs.Prelude.{Option, Some, None}
 use Rattle.insn_set.specs.declared.ops.InvokeKind.{InvokeKind}
 use Rattle.insn_set.specs.declared.ops.InvokeKind.TheVariants as call
@@ -21,6 +21,9 @@ AnyMethod k = Unit {0}
 abbrev pub AnyForm : MethodKey → Form → Type 0
 AnyForm k f = Unit {0}
 
+abbrev pub AnyPlace : MethodKey → ℕ → Type 0
+AnyPlace k n = Unit {0}
+
 each_any : (ts : List Text) → Each AnyType ts
 each_any [] = tt
 each_any (t ∷ ts) = (tt, each_any ts)
@@ -37,7 +40,7 @@ module _ (calm : Text → Bool) (p : NamedProgram) (o : Outer) (face : Face) (fi
   declared_same None = refl
   declared_same (Some f) = inl (record { lives = tt; called = λ t e a b. refl }, refl)
 
-  pub itself : Agree AnyType AnyType AnyMethod AnyForm calm p o face (sieved calm face) find find
+  pub itself : Agree AnyType AnyType AnyMethod AnyForm AnyPlace calm p o face (sieved calm face) find find
   itself = record {
     flags = λ t h. refl;
     under = λ t u h. refl;
@@ -53,7 +56,10 @@ module _ (calm : Text → Bool) (p : NamedProgram) (o : Outer) (face : Face) (fi
     class_ok = λ k l. tt;
     result_ok = λ k l. tt;
     parameters_ok = λ k l. each_any k.signature.parameters;
-    code = λ k b n f l e i. tt;
+    code = λ k b n f l e r i. tt;
+    entry = λ k b l e. tt;
+    onwards = λ k b n m f l e r i j. tt;
+    catches = λ k b n m f l e r i y j. tt;
     news = λ m to t a. (tt, tt);
     arrays = λ m to size t a. tt;
     filled = λ m args t a. tt;

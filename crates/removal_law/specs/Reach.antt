@@ -17,6 +17,7 @@ use Rattle.dalvik_defs.specs.declared.program.NamedBody.{NamedBody}
 use Rattle.dalvik_defs.specs.declared.program.NamedMethod.{NamedMethod}
 use Rattle.dalvik_defs.specs.declared.program.NamedClass.{NamedClass}
 use Rattle.dalvik_defs.specs.declared.program.NamedProgram.{NamedProgram}
+use Rattle.pass_defs.specs.Walks.{form_at, IsReached}
 use Rattle.pass_defs.specs.Live.{Family, HasBody}
 use Rattle.removal_law.specs.Left.{In, left_of}
 use Rattle.removal_law.specs.Agree.{sieved, Agree}
@@ -34,11 +35,18 @@ pub record LiveMethod (p : NamedProgram) (s : Family) (k : MethodKey) : Type 0 w
   pub live : s.methods k ≡ true
   pub defined : defines p k.class ≡ true
 
--- a form of a live method
+-- a position that some walk through the code of a method comes to
+abbrev pub ReachedAt : NamedProgram → MethodKey → ℕ → Type 0
+ReachedAt p k n = (b : NamedBody) → bodies_of p k ≡ Some b → IsReached b n
+
+-- a form of a live method, at such a position
 pub record Says (p : NamedProgram) (s : Family) (k : MethodKey) (f : Form) : Type 0 where
   pub body : NamedBody
   pub has : HasBody p s k body
   pub defined : defines p k.class ≡ true
+  pub place : ℕ
+  pub reached : IsReached body place
+  pub at_place : form_at body place ≡ Some f
   pub stands : In f body.forms
 
 -- an interface without an initialiser, so that its initialisation does nothing
@@ -48,7 +56,7 @@ is_idle p t = elim (interface_named p t) [ Some c ↦ is_none (initialiser_of p 
 -- Under a framework, all that a run asks of a program what is left of it answers alike, where of the classes that are
 -- initialised before one the idle interfaces don't count.
 abbrev pub LeftAgrees : NamedProgram → Outer → Family → Framework → Type 0
-LeftAgrees p o s f = Agree (OkType p s) (MadeType p s) (LiveMethod p s) (Says p s) (is_idle p) p o (face_of p f) (sieved (is_idle p) (face_of (left_of s p) f)) (bodies_of p) (bodies_of (left_of s p))
+LeftAgrees p o s f = Agree (OkType p s) (MadeType p s) (LiveMethod p s) (Says p s) (ReachedAt p) (is_idle p) p o (face_of p f) (sieved (is_idle p) (face_of (left_of s p) f)) (bodies_of p) (bodies_of (left_of s p))
 
 -- ---- what is asked of the program
 
@@ -62,12 +70,16 @@ pub record IsRegular (p : NamedProgram) : Type 0 where
   pub names : (t : Text) → defines p t ≡ true → is_class_type t ≡ true
   pub grounded : (t : Text) → (n : ℕ) × (ends p n t ≡ true)
 
--- New arrays are of array types, and no class has two methods with one name and one text of their protos.
+-- No class has two methods with one name and one text of their protos.
+abbrev pub TellsApart : NamedProgram → Type 0
+TellsApart p = (t : Text) (c : NamedClass) (m x : NamedMethod) → class_named p t ≡ Some c → In m c.methods → In x c.methods → m.name ≡ x.name
+    → proto_text m.signature ≡ proto_text x.signature → m ≡ x
+
+-- Where a walk comes, new arrays are of array types; and methods are told apart.
 pub record IsSoundCode (p : NamedProgram) : Type 0 where
-  pub arrays : (k : MethodKey) (b : NamedBody) (to size : ℕ) (t : Text) → bodies_of p k ≡ Some b → In (form.NewArray to size t) b.forms → is_array t ≡ true
-  pub filled : (k : MethodKey) (b : NamedBody) (t : Text) (args : List ℕ) → bodies_of p k ≡ Some b → In (form.FilledNewArray t args) b.forms → is_array t ≡ true
-  pub methods : (t : Text) (c : NamedClass) (m x : NamedMethod) → class_named p t ≡ Some c → In m c.methods → In x c.methods → m.name ≡ x.name
-      → proto_text m.signature ≡ proto_text x.signature → m ≡ x
+  pub arrays : (k : MethodKey) (b : NamedBody) (n to size : ℕ) (t : Text) → bodies_of p k ≡ Some b → IsReached b n → form_at b n ≡ Some (form.NewArray to size t) → is_array t ≡ true
+  pub filled : (k : MethodKey) (b : NamedBody) (n : ℕ) (t : Text) (args : List ℕ) → bodies_of p k ≡ Some b → IsReached b n → form_at b n ≡ Some (form.FilledNewArray t args) → is_array t ≡ true
+  pub methods : TellsApart p
 
 -- What a table of shut methods owes: no call names one on the framework, every other method of its name with code above a
 -- class that finds it is kept or shut, and in version 037 none is of an interface.

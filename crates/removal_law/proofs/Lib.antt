@@ -24,5 +24,6 @@ pub mod Entered
 pub mod CallsLeft
 pub mod Faces
 pub mod TypedCode
+pub mod ShutTables
 pub mod Trivial
 pub mod Removal

@@ -103,8 +103,14 @@ module _ (p : NamedProgram) (c : NamedClass) (m : NamedMethod) (b : NamedBody) (
   caught_edge n u f a i = by (may_throw f) refl i
     where
       at : may_throw f ≡ true → (k : Kind) × In {A = ℕ × Kind} (u, k) (catches_in p (region_at b n)) → (e : ℕ × Kinds) × (In e (edges p c b n f a) × (e.0 ≡ u))
-      at y h = ((u, record a { caught = h.0 }), (in_back {A = ℕ × Kinds} (u, record a { caught = h.0 }) (map (λ q. (q, after p c n f a)) (onward f n)) (map (λ h. (h.0, record a { caught = h.1 })) (catches p b n f))
-          (in_map {A = ℕ × Kind} {B = ℕ × Kinds} (λ h. (h.0, record a { caught = h.1 })) (u, h.0) (catches p b n f) (subst (λ x. In {A = ℕ × Kind} (u, h.0) (if x then catches_in p (region_at b n) else [])) (sym y) h.1)), refl))
+      at y h = (
+        (u, record a { caught = h.0 }),
+        (
+          in_back {A = ℕ × Kinds} (u, record a { caught = h.0 }) (map (λ q. (q, after p c n f a)) (onward f n)) (map (λ h. (h.0, record a { caught = h.1 })) (catches p b n f))
+              (in_map {A = ℕ × Kind} {B = ℕ × Kinds} (λ h. (h.0, record a { caught = h.1 })) (u, h.0) (catches p b n f) (subst (λ x. In {A = ℕ × Kind} (u, h.0) (if x then catches_in p (region_at b n) else [])) (sym y) h.1)),
+          refl,
+        ),
+      )
 
       by : (x : Bool) → may_throw f ≡ x → In u (elim x as (λ x. List ℕ) [ true ↦ handlers_at b n | false ↦ [] ]) → (e : ℕ × Kinds) × (In e (edges p c b n f a) × (e.0 ≡ u))
       by true y j = at y (region_in u (region_at b n) j)
@@ -130,10 +136,12 @@ module _ (p : NamedProgram) (c : NamedClass) (m : NamedMethod) (b : NamedBody) (
 
   -- no position that a walk comes to is wrong
   right_there : (n : ℕ) (f : Form) → IsReached b n → form_at b n ≡ Some f → (a : Kinds) × (not (is_wrong p c m a f) ≡ true)
-  right_there n f w i = let s = reached_state n w in (s.0,
-      sym (ap (λ o. elim o as (λ o. Bool) [ Some f ↦ elim (state_at t n) as (λ s. Bool) [ Some a ↦ not (is_wrong p c m a f) | None ↦ true ] | None ↦ true ]) i
-      ∙ ap (λ s. elim s as (λ s. Bool) [ Some a ↦ not (is_wrong p c m a f) | None ↦ true ]) s.1)
-      ∙ each_at (length b.forms) (at_state b t (λ f a. not (is_wrong p c m a f))) typing.right n (place_below b.forms n f i))
+  right_there n f w i = let s = reached_state n w in (
+    s.0,
+    sym (ap (λ o. elim o as (λ o. Bool) [ Some f ↦ elim (state_at t n) as (λ s. Bool) [ Some a ↦ not (is_wrong p c m a f) | None ↦ true ] | None ↦ true ]) i
+        ∙ ap (λ s. elim s as (λ s. Bool) [ Some a ↦ not (is_wrong p c m a f) | None ↦ true ]) s.1)
+        ∙ each_at (length b.forms) (at_state b t (λ f a. not (is_wrong p c m a f))) typing.right n (place_below b.forms n f i),
+  )
 
 not_not : (b : Bool) → not (not b) ≡ true → b ≡ true
 not_not true e = refl

@@ -8,7 +8,7 @@ use Rattle.dalvik_defs.specs.Find.{interface_named, is_037}
 use Rattle.dalvik_defs.specs.Initialised.{initialiser_of}
 use Rattle.dalvik_defs.specs.Face.{face_of, bodies_of}
 use Rattle.dalvik_defs.specs.Outer.{Outer}
-use Rattle.dalvik_defs.specs.Shut.{called_outside, finds_it, is_other, key_of}
+use Rattle.dalvik_defs.specs.Shut.{Library, called_outside, finds_it, is_other, key_of, shut}
 use Rattle.dalvik_defs.specs.declared.names.MethodKey.{MethodKey}
 use Rattle.dalvik_defs.specs.declared.forms.Form.{Form}
 use Rattle.dalvik_defs.specs.declared.forms.Form.TheVariants as form
@@ -88,3 +88,8 @@ pub record ShutsHold (p : NamedProgram) (o : Outer) : Type 0 where
   pub others : (k : MethodKey) (m : NamedMethod) (d e : NamedClass) (x : NamedMethod) → o.shut k ≡ true → m.name ≡ k.name → m.signature ≡ k.signature → In d p.classes → finds_it p k d ≡ true
       → In e p.classes → is_own_under p d.name e.name ≡ true → In x e.methods → is_other k.class m e x ≡ true → (o.methods (key_of e x) || o.shut (key_of e x)) ≡ true
   pub plain : (k : MethodKey) (c : NamedClass) → is_037 p.version ≡ true → o.shut k ≡ true → class_named p k.class ≡ Some c → is_interface c.flags ≡ false
+
+-- The shut methods of a table are those that the definition of shut methods gives for a library.
+pub record IsNarrowed (p : NamedProgram) (o : Outer) (l : Library) : Type 0 where
+  pub only : (k : MethodKey) → o.shut k ≡ true → (c : NamedClass) × ((m : NamedMethod) × ((class_named p c.name ≡ Some c) × ((key_of c m ≡ k) × (shut p o l c m ≡ true))))
+  pub all : (c : NamedClass) (m : NamedMethod) → In c p.classes → In m c.methods → shut p o l c m ≡ true → o.shut (key_of c m) ≡ true

@@ -1,12 +1,14 @@
 //! Laws of what is left of a program.
 
-ghost use Rattle.std.specs.Prelude.{◌≡◌, ℕ, List, true};
+ghost use Rattle.std.specs.Prelude.{◌≡◌, ℕ, List, false, true};
 ghost use Rattle.std.specs.List.{list_all};
 ghost use Rattle.std.specs.Option.{option_map};
 ghost use Rattle.dalvik_defs.specs.Names.{Text, base_of};
 ghost use Rattle.dalvik_defs.specs.Face.{bodies_of};
 ghost use Rattle.dalvik_defs.specs.declared.names.MethodKey.{MethodKey};
 ghost use Rattle.dalvik_defs.specs.Outer.{Outer};
+ghost use Rattle.dalvik_defs.specs.Shut.{Library};
+ghost use Rattle.pass_defs.specs.Typed.{IsTyped};
 ghost use Rattle.dalvik_defs.specs.Shown.{fit_move, Fit, SameShown};
 ghost use Rattle.dalvik_defs.specs.Quiet.{calm_opening};
 ghost use Rattle.dalvik_defs.specs.Step.{setting_of, shows_from};
@@ -17,7 +19,7 @@ ghost use Rattle.dalvik_defs.specs.declared.tables.Framework.{Framework};
 ghost use Rattle.dalvik_defs.specs.declared.tables.Floats.{Floats};
 ghost use Rattle.pass_defs.specs.Live.{Conditions, Family, IsClosedFamily, KeepsAbove};
 ghost use Rattle.removal_law.specs.Left.{left_in, left_of, NamesNone};
-ghost use Rattle.removal_law.specs.Reach.{IsRegular, IsSoundCode, LeftAgrees, ShutsHold, is_idle};
+ghost use Rattle.removal_law.specs.Reach.{IsNarrowed, IsRegular, IsSoundCode, LeftAgrees, ShutsHold, TellsApart, is_idle};
 
 /// A class that is live is left with its live members, and no other class is left.
 pub fn classes_left_law()
@@ -59,4 +61,15 @@ pub fn steps_are_equal_law()
 pub fn removal_shows_the_same_law()
     ensures { (p : NamedProgram) (o : Outer) (k : Conditions) (s : Family) → IsClosedFamily p o k s → IsRegular p → IsSoundCode p → ShutsHold p o
         → SameShown p (left_of s p) o }
+{}
+
+/// In a typed program new arrays are of array types wherever a walk comes.
+pub fn typed_code_is_sound_law()
+    ensures { (p : NamedProgram) → IsTyped p → TellsApart p → IsSoundCode p }
+{}
+
+/// A table of shut methods holds what it says where it has none, and where it has those of the definition.
+pub fn shut_tables_law()
+    ensures nothing { (p : NamedProgram) (o : Outer) → ((k : MethodKey) → o.shut k ≡ false) → ShutsHold p o }
+    ensures narrowed { (p : NamedProgram) (o : Outer) (l : Library) → IsNarrowed p o l → ShutsHold p o }
 {}

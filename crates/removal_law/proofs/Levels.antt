@@ -26,7 +26,7 @@ module _ (p : NamedProgram) where
   not_false true e = clash true refl (sym e)
   not_false false e = refl
 
-  undefined_above : (t : Text) → defines p t ≡ false → own_above p t ≡ []
+  pub undefined_above : (t : Text) → defines p t ≡ false → own_above p t ≡ []
   undefined_above t e = none_above t (class_named p t) refl e
 
   pub undefined_ends : (t : Text) → defines p t ≡ false → (n : ℕ) → ends p n t ≡ true
@@ -55,11 +55,11 @@ module _ (p : NamedProgram) where
   steady_for zero k h t = refl
   steady_for (suc j) k h t = steady_at j k h t ∙ steady_for j k h t
 
-  abbrev names : List Text
+  abbrev pub names : List Text
   names = map (λ c. c.name) p.classes
 
   -- a type that isn't there ends at once
-  defined_in : (t : Text) (o : Option NamedClass) → class_named p t ≡ o → elim o as (λ o. Bool) [ Some c ↦ true | None ↦ false ] ≡ true → In t names
+  pub defined_in : (t : Text) (o : Option NamedClass) → class_named p t ≡ o → elim o as (λ o. Bool) [ Some c ↦ true | None ↦ false ] ≡ true → In t names
   defined_in t None e i = clash false i refl
   defined_in t (Some c) e i = let h = found_in (λ c. text_eq c.name t) p.classes c e in subst (λ x. In x names) (text_sound c.name t h.passes) (in_map (λ c. c.name) c p.classes h.is_in)
 

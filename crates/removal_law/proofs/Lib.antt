@@ -23,6 +23,7 @@ pub mod Declared
 pub mod Entered
 pub mod CallsLeft
 pub mod Faces
+pub mod Acyclic
 pub mod TypedCode
 pub mod ShutTables
 pub mod Trivial

@@ -93,3 +93,7 @@ pub record ShutsHold (p : NamedProgram) (o : Outer) : Type 0 where
 pub record IsNarrowed (p : NamedProgram) (o : Outer) (l : Library) : Type 0 where
   pub only : (k : MethodKey) → o.shut k ≡ true → (c : NamedClass) × ((m : NamedMethod) × ((class_named p c.name ≡ Some c) × ((key_of c m ≡ k) × (shut p o l c m ≡ true))))
   pub all : (c : NamedClass) (m : NamedMethod) → In c p.classes → In m c.methods → shut p o l c m ≡ true → o.shut (key_of c m) ≡ true
+
+-- no type stands above itself by the program's own lists
+abbrev pub IsAcyclic : NamedProgram → Type 0
+IsAcyclic p = (t u : Text) → In u (own_above p t) → is_own_under p u t ≡ true → ⊥

@@ -24,6 +24,7 @@ pub mod Entered
 pub mod CallsLeft
 pub mod Faces
 pub mod Acyclic
+pub mod Protos
 pub mod TypedCode
 pub mod ShutTables
 pub mod Trivial

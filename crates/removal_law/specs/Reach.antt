@@ -1,6 +1,7 @@
 -- What a run of a program comes to, by a family of live sets, and what the law of removal asks of the program.
-use Rattle.std.specs.Prelude.{◌≡◌, ℕ, zero, suc, Bool, true, false, ◌||◌, not, List, Some, None, is_none}
+use Rattle.std.specs.Prelude.{◌≡◌, ℕ, zero, suc, Bool, true, false, ◌||◌, not, List, Some, None, is_none, is_ok}
 use Rattle.std.specs.List.{list_all}
+use Rattle.dex_base.specs.Descriptor.{descriptor_of}
 use Rattle.dalvik_defs.specs.Names.{Text, is_class_type, is_array, base_of, proto_text}
 use Rattle.dalvik_defs.specs.Flags.{is_interface}
 use Rattle.dalvik_defs.specs.Under.{class_named, defines, own_above, is_own_under}
@@ -97,3 +98,11 @@ pub record IsNarrowed (p : NamedProgram) (o : Outer) (l : Library) : Type 0 wher
 -- no type stands above itself by the program's own lists
 abbrev pub IsAcyclic : NamedProgram → Type 0
 IsAcyclic p = (t u : Text) → In u (own_above p t) → is_own_under p u t ≡ true → ⊥
+
+-- the parameters of methods are descriptors
+abbrev pub IsDescribed : NamedProgram → Type 0
+IsDescribed p = (t : Text) (c : NamedClass) (m : NamedMethod) (u : Text) → class_named p t ≡ Some c → In m c.methods → In u m.signature.parameters → is_ok (descriptor_of u) ≡ true
+
+-- no class defines two methods of one name and signature
+abbrev pub DefinesOnce : NamedProgram → Type 0
+DefinesOnce p = (t : Text) (c : NamedClass) (m x : NamedMethod) → class_named p t ≡ Some c → In m c.methods → In x c.methods → m.name ≡ x.name → m.signature ≡ x.signature → m ≡ x

@@ -3,7 +3,7 @@
 ghost use Rattle.std.specs.Prelude.{◌≡◌, ℕ, List, false, true};
 ghost use Rattle.std.specs.List.{list_all};
 ghost use Rattle.std.specs.Option.{option_map};
-ghost use Rattle.dalvik_defs.specs.Names.{Text, base_of};
+ghost use Rattle.dalvik_defs.specs.Names.{Text, base_of, is_class_type};
 ghost use Rattle.dalvik_defs.specs.Face.{bodies_of};
 ghost use Rattle.dalvik_defs.specs.declared.names.MethodKey.{MethodKey};
 ghost use Rattle.dalvik_defs.specs.Outer.{Outer};
@@ -19,7 +19,7 @@ ghost use Rattle.dalvik_defs.specs.declared.tables.Framework.{Framework};
 ghost use Rattle.dalvik_defs.specs.declared.tables.Floats.{Floats};
 ghost use Rattle.pass_defs.specs.Live.{Conditions, Family, IsClosedFamily, KeepsAbove};
 ghost use Rattle.removal_law.specs.Left.{left_in, left_of, NamesNone};
-ghost use Rattle.removal_law.specs.Reach.{IsNarrowed, IsRegular, IsSoundCode, LeftAgrees, ShutsHold, TellsApart, is_idle};
+ghost use Rattle.removal_law.specs.Reach.{DefinesOnce, IsAcyclic, IsDescribed, IsNarrowed, IsRegular, IsSoundCode, LeftAgrees, ShutsHold, TellsApart, is_idle};
 
 /// A class that is live is left with its live members, and no other class is left.
 pub fn classes_left_law()
@@ -72,4 +72,11 @@ pub fn typed_code_is_sound_law()
 pub fn shut_tables_law()
     ensures nothing { (p : NamedProgram) (o : Outer) → ((k : MethodKey) → o.shut k ≡ false) → ShutsHold p o }
     ensures narrowed { (p : NamedProgram) (o : Outer) (l : Library) → IsNarrowed p o l → ShutsHold p o }
+{}
+
+/// A program whose classes have class names and of which none stands above itself is regular, and methods are told apart
+/// where their parameters are descriptors and no class defines two of one name and signature.
+pub fn regular_programs_law()
+    ensures regular { (p : NamedProgram) → IsAcyclic p → ((t : Text) → defines p t ≡ true → is_class_type t ≡ true) → IsRegular p }
+    ensures apart { (p : NamedProgram) → IsDescribed p → DefinesOnce p → TellsApart p }
 {}

@@ -1,5 +1,5 @@
 -- The named program of a well-formed program is regular and tells its methods apart.
-use Rattle.std.proofs.Common.{◌≡◌, ℕ, zero, suc, ◌<◌, Bool, true, false, List, [], ◌∷◌, ◌++◌, length, refl, sym, ap, ◌∙◌, subst, inl, inr, arith, lt-ltb}
+use Rattle.std.proofs.Common.{◌≡◌, ℕ, zero, suc, ◌<◌, Bool, true, false, List, [], ◌∷◌, length, refl, sym, ap, ◌∙◌, subst, inl, inr, arith, lt-ltb}
 use Rattle.std.specs.Prelude.{◌⊎◌, ◌&&◌, ◌||◌, not, Option, Some, None, map, slice_get, nat_eq, is_ok}
 use Rattle.std.specs.List.{list_any, list_all}
 use Rattle.dex_base.specs.Descriptor.{descriptor_of}
@@ -16,23 +16,28 @@ use Rattle.program_model.specs.Texts.{has_string, has_type, string_text, type_te
 use Rattle.program_model.specs.MemberRules as rules
 use Rattle.program_model.specs.MemberRules.{class_fits, types_of_class_fit, source_fits, fields_fit, methods_fit, method_fits, methods_in_order, is_object}
 use Rattle.program_model.specs.ValueRules.{marks_fit}
-use Rattle.class_defs.specs.ClassGraph.{IsTwice, IsAbove, StepsTo, IsAncestor}
-use Rattle.class_defs.proofs.WellFormed.{and_left, and_right, all_at, below, Sound, sound, MethodFits, ClassFits, class_parts}
+use Rattle.class_defs.specs.ClassGraph.{IsTwice, IsAbove, IsAncestor}
+use Rattle.class_defs.proofs.WellFormed.{and_left, and_right, all_at, below, Sound, sound, MethodFits, class_parts}
 use Rattle.class_defs.proofs.Positions.{number_test}
 use Rattle.dalvik_defs.specs.Names.{Text, text_eq, is_class_type}
 use Rattle.dalvik_defs.specs.Naming.{text_at, type_at, signature_at, method_at, named_method, named_class, named}
-use Rattle.dalvik_defs.specs.Under.{class_named, defines, own_above, walks, is_own_under}
+use Rattle.dalvik_defs.specs.Under.{class_named, defines, own_above, walks}
 use Rattle.dalvik_defs.specs.declared.names.Signature.{Signature}
-use Rattle.dalvik_defs.specs.declared.program.NamedMethod.{NamedMethod}
 use Rattle.dalvik_defs.specs.declared.program.NamedClass.{NamedClass}
 use Rattle.dalvik_defs.proofs.Calm.{text_sound}
 use Rattle.name_bridge.proofs.Tables.{same_number, type_once, method_once, method_is, proto_parameters}
 use Rattle.name_bridge.proofs.Found.{text_same, type_same}
-use Rattle.removal_law.specs.Left.{In, here, there}
-use Rattle.removal_law.specs.Reach.{IsRegular, IsAcyclic, TellsApart, IsDescribed, DefinesOnce}
+use Rattle.dalvik_defs.specs.Outer.{Outer}
+use Rattle.dalvik_defs.specs.Shown.{SameShown}
+use Rattle.pass_defs.specs.Live.{Conditions, Family, IsClosedFamily}
+use Rattle.pass_defs.specs.Typed.{IsTyped}
+use Rattle.removal_law.proofs.Removal.{removal}
+use Rattle.removal_law.proofs.TypedCode.{typed_code}
+use Rattle.removal_law.specs.Left.{In, here, there, left_of}
+use Rattle.removal_law.specs.Reach.{ShutsHold, IsRegular, IsAcyclic, TellsApart, IsDescribed, DefinesOnce}
 use Rattle.removal_law.proofs.Lists.{clash}
-use Rattle.removal_law.proofs.Walks.{choice, text_same as text_itself}
-use Rattle.removal_law.proofs.Outward.{any_here, any_where}
+use Rattle.removal_law.proofs.Walks.{choice}
+use Rattle.removal_law.proofs.Outward.{any_where}
 use Rattle.removal_law.proofs.Trees.{class_name, class_in, defines_class, some_same, none_some}
 use Rattle.removal_law.proofs.Acyclic.{regular}
 use Rattle.removal_law.proofs.Protos.{told_apart}
@@ -131,7 +136,7 @@ module _ (p : Program) (fits : is_well_formed p ≡ true) where
   key_of : (c : Class) (i j : ℕ) (m : Method) → slice_get p.classes i ≡ Some c → slice_get c.methods j ≡ Some m → method_at p m.name ≡ record { class = type_at p c.name; name = (named_method p m).name; signature = (named_method p m).signature }
   key_of c i j m e f = let g = method_of c i j m e f in
       ap (λ x. record { class = x; name = (method_at p m.name).name; signature = (method_at p m.name).signature })
-          (ap (λ k. k.class) (method_is p s m.name g.entry g.is) ∙ ap (type_at p) g.owner)
+      (ap (λ k. k.class) (method_is p s m.name g.entry g.is) ∙ ap (type_at p) g.owner)
 
   entry_below : (n : ℕ) (e : MethodName) → slice_get p.methods n ≡ Some e → n < length p.methods
   entry_below n e h = below_length p.methods n e h
@@ -150,10 +155,10 @@ module _ (p : Program) (fits : is_well_formed p ≡ true) where
       let fa = method_of k o.0.place a.place a.entry o.0.is_class a.is_entry in
       let fb = method_of k o.0.place b.place b.entry o.0.is_class b.is_entry in
       let same : method_at p a.entry.name ≡ method_at p b.entry.name =
-              key_of k o.0.place a.place a.entry o.0.is_class a.is_entry
-              ∙ ap (λ z. record { class = type_at p k.name; name = z; signature = (named_method p a.entry).signature }) (ap (λ z. z.name) a.is ∙ n ∙ ap (λ z. z.name) (sym b.is))
-              ∙ ap (λ z. record { class = type_at p k.name; name = (named_method p b.entry).name; signature = z }) (ap (λ z. z.signature) a.is ∙ g ∙ ap (λ z. z.signature) (sym b.is))
-              ∙ sym (key_of k o.0.place b.place b.entry o.0.is_class b.is_entry) in
+      key_of k o.0.place a.place a.entry o.0.is_class a.is_entry
+      ∙ ap (λ z. record { class = type_at p k.name; name = z; signature = (named_method p a.entry).signature }) (ap (λ z. z.name) a.is ∙ n ∙ ap (λ z. z.name) (sym b.is))
+      ∙ ap (λ z. record { class = type_at p k.name; name = (named_method p b.entry).name; signature = z }) (ap (λ z. z.signature) a.is ∙ g ∙ ap (λ z. z.signature) (sym b.is))
+      ∙ sym (key_of k o.0.place b.place b.entry o.0.is_class b.is_entry) in
       let number : a.entry.name ≡ b.entry.name = method_once p s a.entry.name b.entry.name (entry_below a.entry.name fa.entry fa.is) (entry_below b.entry.name fb.entry fb.is) same in
       let place : a.place ≡ b.place = same_number own_method_key k.methods a.place b.place a.entry b.entry (methods_differ p k.name k.methods (methods_fit_class p k (fits_at o.0.place k o.0.is_class))) a.is_entry b.is_entry (ap (λ z. z ∷ []) number) in
       let entry : a.entry ≡ b.entry = some_same a.entry b.entry (sym a.is_entry ∙ ap (slice_get k.methods) place ∙ b.is_entry) in
@@ -227,7 +232,7 @@ module _ (p : Program) (fits : is_well_formed p ≡ true) where
         let m = image (type_at p) u (c.superclass ∷ c.interfaces) j in
         let f = class_parts p s i c e in
         let k : m.entry < length p.types = below m.entry (length p.types) (all_at (has_type p) (c.superclass ∷ c.interfaces) m.place m.entry
-                (both_true (has_type p c.superclass) (list_all (has_type p) c.interfaces) (lt-ltb c.superclass (length p.types) f.superclass) f.interfaces) m.is_entry) in
+        (both_true (has_type p c.superclass) (list_all (has_type p) c.interfaces) (lt-ltb c.superclass (length p.types) f.superclass) f.interfaces) m.is_entry) in
         let same : m.entry ≡ b.class.name = type_once p s m.entry b.class.name k (name_below b.place b.class b.is_class) (m.is ∙ sym b.named_so) in
         record { c = c; u = b.class; is_class = e; is_upper = b.is_class; names = any_at (λ kind. nat_eq kind b.class.name) (c.superclass ∷ c.interfaces) m.place m.entry m.is_entry (number_test m.entry b.class.name same) }
 
@@ -294,3 +299,8 @@ regular_program p fits twice ancestor = regular (named p) (acyclic p fits twice 
 
 pub apart_program : (p : Program) → is_well_formed p ≡ true → TellsApart (named p)
 apart_program p fits = told_apart (named p) (is_described p fits) (once p fits)
+
+pub removed_program : (p : Program) → is_well_formed p ≡ true → ((class : ℕ) → IsTwice p class → ⊥) → ((class : ℕ) → IsAncestor p class class → ⊥) → IsTyped (named p)
+    → (o : Outer) (k : Conditions) (s : Family) → IsClosedFamily (named p) o k s → ShutsHold (named p) o → SameShown (named p) (left_of s (named p)) o
+removed_program p fits twice ancestor typed o k s closed shuts =
+    removal (named p) o k s closed (regular_program p fits twice ancestor) (typed_code (named p) typed (apart_program p fits)) shuts

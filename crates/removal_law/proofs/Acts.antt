@@ -1,5 +1,5 @@
 -- What a form does in a frame is the same for two faces that agree, and keeps to things of known kinds.
-use Rattle.std.proofs.Common.{◌≡◌, ℕ, zero, suc, ◌+◌, ℤ, pos, negsuc, Bool, true, false, List, [], ◌∷◌, ◌++◌, refl, sym, ap, ◌∙◌, subst}
+use Rattle.std.proofs.Common.{◌≡◌, ℕ, zero, suc, ◌+◌, ℤ, pos, negsuc, Bool, true, false, List, [], ◌∷◌, ◌++◌, refl, sym, ap, subst}
 use Rattle.std.specs.Prelude.{◌||◌, ◌&&◌, not, Option, Some, None, nat_lt, nat_eq, length, map, slice_get, int_lt}
 use Rattle.insn_set.specs.declared.ops.Item.{Item}
 use Rattle.insn_set.specs.declared.ops.Item.TheVariants as item
@@ -16,10 +16,10 @@ use Rattle.dalvik_defs.specs.State.{World, Thing, Instance, Items, is_null, kind
 use Rattle.dalvik_defs.specs.declared.state.Value.{Value}
 use Rattle.dalvik_defs.specs.declared.state.Value.TheVariants.{Word}
 use Rattle.dalvik_defs.specs.declared.state.Frame.{Frame}
-use Rattle.dalvik_defs.specs.Effect.{Effect, Goes, Faults, Throws, Gives, Calls, Makes, Reads, Writes, Locks, Unlocks, Stuck, register, write, write_wide, write_slot, write_item, next, go, sets, sets_wide, unless_null}
+use Rattle.dalvik_defs.specs.Effect.{Effect, Goes, Faults, Throws, Gives, Calls, Makes, Reads, Writes, Locks, Unlocks, Stuck, register, write, write_wide, write_slot, write_item, next, go, sets, unless_null}
 use Rattle.dalvik_defs.specs.ActPlain.{move_slot, exits, is_instance, casts, truth, branch, goes_to, switch_target, packed_target}
 use Rattle.dalvik_defs.specs.ActArray.{measures, zeros, new_array, filled_array, fills, item_at, reads_item, array_get, may_store, writes_item, put_item, array_put}
-use Rattle.dalvik_defs.specs.ActNumber.{number, gives_word, gives_wide, binary, sets_number}
+use Rattle.dalvik_defs.specs.ActNumber.{number, gives_word, gives_wide, sets_number}
 use Rattle.dalvik_defs.specs.Act.{act}
 use Rattle.dalvik_defs.specs.declared.names.MethodKey.{MethodKey}
 use Rattle.dalvik_defs.specs.declared.names.FieldKey.{FieldKey}

@@ -1,14 +1,13 @@
 -- Where no type stands above itself, the walk upwards from each type ends.
-use Rattle.std.proofs.Common.{◌≡◌, ℕ, zero, suc, ◌+◌, ◌<◌, ◌≤◌, Bool, true, false, List, [], ◌∷◌, length, refl, sym, ap, ◌∙◌, subst, arith, inl, inr}
-use Rattle.std.specs.Prelude.{◌⊎◌, ◌&&◌, ◌||◌, Option, Some, None, map}
+use Rattle.std.proofs.Common.{◌≡◌, ℕ, zero, suc, ◌<◌, Bool, true, false, List, [], ◌∷◌, length, refl, sym, ap, ◌∙◌, arith, inl, inr}
+use Rattle.std.specs.Prelude.{◌⊎◌, ◌&&◌}
 use Rattle.std.specs.List.{list_any, list_all}
 use Rattle.std.proofs.lemmas.List.{length-map}
 use Rattle.dalvik_defs.specs.Names.{Text, text_eq, is_class_type}
 use Rattle.dalvik_defs.specs.Under.{class_named, defines, own_above, walks, is_own_under}
-use Rattle.dalvik_defs.specs.declared.program.NamedClass.{NamedClass}
 use Rattle.dalvik_defs.specs.declared.program.NamedProgram.{NamedProgram}
 use Rattle.removal_law.specs.Reach.{ends, IsRegular, IsAcyclic}
-use Rattle.removal_law.proofs.Lists.{clash, In, here, there, times, alike_or_more}
+use Rattle.removal_law.proofs.Lists.{In, here, there, times, alike_or_more}
 use Rattle.removal_law.proofs.Walks.{choice, choice_false, text_same, enough}
 use Rattle.removal_law.proofs.Levels.{names, undefined_above, undefined_ends, defined_in}
 use Rattle.removal_law.proofs.Outward.{any_here, any_where}

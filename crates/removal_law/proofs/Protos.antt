@@ -1,18 +1,16 @@
 -- Protos whose parameters are descriptors are told apart by their texts: a descriptor says where it ends.
 use Rattle.std.proofs.Common.{◌≡◌, ℕ, zero, suc, Bool, true, false, List, [], ◌∷◌, ◌++◌, refl, sym, ap, ◌∙◌, subst, append_assoc, arith}
-use Rattle.std.specs.Prelude.{◌<◌, ◌&&◌, not, nat_eq, length, replicate, Result, Ok, Err, is_ok, IsTrue}
+use Rattle.std.specs.Prelude.{◌<◌, ◌&&◌, not, nat_eq, length, replicate, Result, Ok, Err, is_ok}
 use Rattle.std.specs.List.{concat}
 use Rattle.dex_base.specs.declared.fault.BaseFault.{BaseFault}
 use Rattle.dex_base.specs.declared.fault.BaseFault.TheVariants.{BadDescriptor}
 use Rattle.dex_base.specs.declared.descriptor.Descriptor.{Descriptor}
 use Rattle.dex_base.specs.Descriptor.{is_primitive, descriptor_of}
-use Rattle.dex_base.specs.Grammar.{IsElement, OfLetter, OfClass, IsDescriptor, OfVoid, OfElement, OfArray, BadDescriptorIn, Early}
+use Rattle.dex_base.specs.Grammar.{IsElement, OfLetter, OfClass, IsDescriptor, OfVoid, OfElement, OfArray, Early}
 use Rattle.dex_base.proofs.DescriptorReading.{is_descriptor}
 use Rattle.dalvik_defs.proofs.Calm.{text_sound}
 use Rattle.dalvik_defs.specs.Names.{Text, proto_text}
 use Rattle.dalvik_defs.specs.declared.names.Signature.{Signature}
-use Rattle.dalvik_defs.specs.declared.program.NamedMethod.{NamedMethod}
-use Rattle.dalvik_defs.specs.declared.program.NamedClass.{NamedClass}
 use Rattle.dalvik_defs.specs.declared.program.NamedProgram.{NamedProgram}
 use Rattle.removal_law.specs.Left.{In, here, there}
 use Rattle.removal_law.specs.Reach.{TellsApart, IsDescribed, DefinesOnce}

@@ -1,13 +1,13 @@
 -- A table of shut methods, where these are none, or those of the definition, holds what it says.
-use Rattle.std.proofs.Common.{◌≡◌, ℕ, zero, suc, Bool, true, false, List, [], ◌∷◌, length, refl, sym, ap, ◌∙◌, subst}
-use Rattle.std.specs.Prelude.{◌&&◌, ◌||◌, not, Option, Some, None, is_some}
+use Rattle.std.proofs.Common.{◌≡◌, ℕ, zero, suc, Bool, true, false, length, refl, sym, ap, ◌∙◌}
+use Rattle.std.specs.Prelude.{◌&&◌, ◌||◌, not, is_some}
 use Rattle.std.specs.List.{list_all}
-use Rattle.dalvik_defs.specs.Names.{Text, is_common, same_name, text_eq}
+use Rattle.dalvik_defs.specs.Names.{is_common, same_name, text_eq}
 use Rattle.dalvik_defs.specs.Flags.{is_interface}
 use Rattle.dalvik_defs.specs.Under.{class_named, is_own_under}
 use Rattle.dalvik_defs.specs.Find.{is_virtual_method, is_037}
 use Rattle.dalvik_defs.specs.Outer.{Outer}
-use Rattle.dalvik_defs.specs.Shut.{Library, types_clear, key_of, finds_it, called_outside, is_other, is_shut, shut}
+use Rattle.dalvik_defs.specs.Shut.{Library, types_clear, key_of, finds_it, called_outside, is_other, is_shut}
 use Rattle.dalvik_defs.specs.declared.names.MethodKey.{MethodKey}
 use Rattle.dalvik_defs.specs.declared.program.NamedMethod.{NamedMethod}
 use Rattle.dalvik_defs.specs.declared.program.NamedClass.{NamedClass}

@@ -30,7 +30,7 @@ use Rattle.pass_defs.specs.Walks.{onward, listed, handlers_of, handlers_at}
 use Rattle.removal_law.specs.Left.{In, here}
 use Rattle.removal_law.specs.Agree.{Each, sieve, CalmDone, Agree}
 use Rattle.dalvik_defs.proofs.Calm.{text_sound}
-use Rattle.removal_law.proofs.Lists.{clash, and_behind, in_front, in_back, in_map, FoundIn, found_in}
+use Rattle.removal_law.proofs.Lists.{clash, and_behind, in_front, in_back, in_map, found_in}
 use Rattle.removal_law.proofs.Worlds.{show_heap, option_heap, item_method, item_position}
 use Rattle.removal_law.proofs.Acts.{Sound, sound_heap, sound_with, kind_ok, goes_next}
 

@@ -41,7 +41,7 @@ use Rattle.removal_law.proofs.Lists.{clash, and_left, and_behind}
 use Rattle.removal_law.proofs.Worlds.{Kinds, show_heap}
 use Rattle.removal_law.proofs.Acts.{Sound, sound_heap, sound_with, sound_put, sound_at, Acts, acts}
 use Rattle.removal_law.proofs.Outcomes.{OutcomeOk, Comes, comes, need_same, fresh_calm}
-use Rattle.removal_law.proofs.Stacks.{OwesOk, HeadOk, FrameOk, WaitsAt, WaitOk, top_ok, throws_at, onward_ok, Fits, StateOk, sifted, sift, left_sieved, left_head, Good, GoodState, good_one, good_quiet, entering, giving, unwinding, throwing, left_ok, going_on, starting, ending}
+use Rattle.removal_law.proofs.Stacks.{OwesOk, HeadOk, FrameOk, WaitOk, top_ok, throws_at, onward_ok, Fits, StateOk, sifted, sift, left_sieved, left_head, Good, GoodState, good_one, good_quiet, entering, giving, unwinding, throwing, left_ok, going_on, starting, ending}
 use Rattle.removal_law.proofs.Given.{AllFit, GivenFits, OptionFits, gets_kinds, got_kinds, fits_same, given_fine, enter_same, enter_fine, enter_barred, make_same, answer_same, answer_fine, throw_same, throw_fine, on_place_same, on_place_fine}
 
 module _ (ok made : Text → Type 0) (live : MethodKey → Type 0) (says : MethodKey → Form → Type 0) (stands : MethodKey → ℕ → Type 0) (calm : Text → Bool) (p : NamedProgram) (o : Outer) (F G : Face) (find other : Bodies)

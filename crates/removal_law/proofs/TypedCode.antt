@@ -1,6 +1,6 @@
 -- In a typed program, new arrays are of array types wherever a walk comes.
-use Rattle.std.proofs.Common.{◌≡◌, ℕ, zero, suc, ◌+◌, ◌<◌, ◌≤◌, Bool, true, false, List, [], ◌∷◌, ◌++◌, length, refl, sym, ap, ◌∙◌, subst, arith, inl, inr}
-use Rattle.std.specs.Prelude.{◌&&◌, ◌||◌, ◌⊎◌, not, Option, Some, None, map, Contains, slice_get, slice_index_or, if◌then◌else◌, codes}
+use Rattle.std.proofs.Common.{◌≡◌, ℕ, zero, suc, ◌<◌, Bool, true, false, List, [], ◌∷◌, ◌++◌, length, refl, sym, ap, ◌∙◌, subst, arith, inl, inr}
+use Rattle.std.specs.Prelude.{◌||◌, ◌⊎◌, not, Option, Some, None, map, slice_get, slice_index_or, if◌then◌else◌, codes}
 use Rattle.std.specs.List.{list_all}
 use Rattle.dalvik_defs.specs.Names.{Text, text_eq, is_array, is_reference, item_of}
 use Rattle.dalvik_defs.specs.Face.{bodies_of}
@@ -21,8 +21,8 @@ use Rattle.pass_defs.specs.Typed.{Table, state_at, each, at_state, arrives, afte
 use Rattle.removal_law.specs.Left.{In, here, there}
 use Rattle.removal_law.specs.Reach.{TellsApart, IsSoundCode}
 use Rattle.removal_law.proofs.Lists.{clash, and_left, and_behind, all_in, in_front, in_back, in_either, in_map, contained}
-use Rattle.removal_law.proofs.Trees.{some_same, none_some}
-use Rattle.removal_law.proofs.CallsLeft.{BodyIn, body_in}
+use Rattle.removal_law.proofs.Trees.{none_some}
+use Rattle.removal_law.proofs.CallsLeft.{body_in}
 
 -- what stands at a place of a list stands in it
 from_contained : {A : Type 0} (xs : List A) (x : A) (k : ℕ) → k < length xs → slice_index_or xs k x ≡ x → In x xs

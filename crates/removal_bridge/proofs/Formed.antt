@@ -130,15 +130,15 @@ module _ (p : Program) (fits : is_well_formed p ≡ true) where
 
   -- ---- methods
 
-  method_of : (c : Class) (i j : ℕ) (m : Method) → slice_get p.classes i ≡ Some c → slice_get c.methods j ≡ Some m → MethodFits p c.name m
+  pub method_of : (c : Class) (i j : ℕ) (m : Method) → slice_get p.classes i ≡ Some c → slice_get c.methods j ≡ Some m → MethodFits p c.name m
   method_of c i j m e f = (class_parts p s i c e).methods j m f
 
-  key_of : (c : Class) (i j : ℕ) (m : Method) → slice_get p.classes i ≡ Some c → slice_get c.methods j ≡ Some m → method_at p m.name ≡ record { class = type_at p c.name; name = (named_method p m).name; signature = (named_method p m).signature }
+  pub key_of : (c : Class) (i j : ℕ) (m : Method) → slice_get p.classes i ≡ Some c → slice_get c.methods j ≡ Some m → method_at p m.name ≡ record { class = type_at p c.name; name = (named_method p m).name; signature = (named_method p m).signature }
   key_of c i j m e f = let g = method_of c i j m e f in
       ap (λ x. record { class = x; name = (method_at p m.name).name; signature = (method_at p m.name).signature })
       (ap (λ k. k.class) (method_is p s m.name g.entry g.is) ∙ ap (type_at p) g.owner)
 
-  entry_below : (n : ℕ) (e : MethodName) → slice_get p.methods n ≡ Some e → n < length p.methods
+  pub entry_below : (n : ℕ) (e : MethodName) → slice_get p.methods n ≡ Some e → n < length p.methods
   entry_below n e h = below_length p.methods n e h
     where
       below_length : {A : Type 0} (xs : List A) (n : ℕ) (x : A) → slice_get xs n ≡ Some x → n < length xs

@@ -47,7 +47,7 @@ signature_same g = ap (λ b. b && texts_eq g.parameters g.parameters) (text_same
 pub name_same : (n : Text) (g : Signature) → same_name n g n g ≡ true
 name_same n g = ap (λ b. b && signature_eq g g) (text_same n) ∙ signature_same g
 
-method_same : (k : MethodKey) → method_eq k k ≡ true
+pub method_same : (k : MethodKey) → method_eq k k ≡ true
 method_same k = ap (λ b. b && text_eq k.name k.name && signature_eq k.signature k.signature) (text_same k.class) ∙ ap (λ b. b && signature_eq k.signature k.signature) (text_same k.name) ∙ signature_same k.signature
 
 pub method_sound : (a b : MethodKey) → method_eq a b ≡ true → a ≡ b

@@ -1,33 +1,36 @@
 -- What marks leave of a program is what is left of it by the names of the marked numbers.
 use Rattle.std.proofs.Common.{◌≡◌, ℕ, zero, suc, ◌<◌, Bool, true, false, List, [], ◌∷◌, length, refl, sym, ap, ◌∙◌, subst, arith}
-use Rattle.std.specs.Prelude.{◌&&◌, ◌||◌, cond, Option, Some, None, map, filter, slice_get, nat_eq}
+use Rattle.std.specs.Prelude.{◌&&◌, ◌||◌, cond, Some, map, filter, slice_get, nat_eq}
 use Rattle.program_model.specs.declared.program.Field.{Field}
 use Rattle.program_model.specs.declared.program.Method.{Method}
 use Rattle.program_model.specs.declared.program.Class.{Class}
 use Rattle.program_model.specs.declared.program.Program.{Program}
-use Rattle.program_model.specs.declared.pools.FieldName.{FieldName}
 use Rattle.program_model.specs.ProgramRules.{is_well_formed}
-use Rattle.class_defs.proofs.WellFormed.{Sound, sound, FieldFits, ClassFits, class_parts}
+use Rattle.class_defs.proofs.WellFormed.{Sound, sound, class_parts}
 use Rattle.class_defs.proofs.Positions.{same_test, number_test, number_of}
 use Rattle.call_graph.specs.declared.live_set.LiveSet.{LiveSet}
 use Rattle.reach.specs.Kept.{is_marked, kept_in, live_classes, kept_of}
-use Rattle.dalvik_defs.specs.Names.{Text, text_eq, method_eq, field_eq}
+use Rattle.dalvik_defs.specs.Names.{text_eq, method_eq, field_eq}
 use Rattle.dalvik_defs.specs.Naming.{type_at, field_at, method_at, named_field, named_method, named_class, named}
 use Rattle.dalvik_defs.specs.Silence.{key_in}
 use Rattle.dalvik_defs.specs.declared.names.FieldKey.{FieldKey}
-use Rattle.dalvik_defs.specs.declared.program.NamedClass.{NamedClass}
 use Rattle.dalvik_defs.proofs.Calm.{text_sound}
 use Rattle.name_bridge.proofs.Tables.{method_once, field_once, field_is}
 use Rattle.name_bridge.proofs.Classes.{type_test}
-use Rattle.pass_defs.specs.Live.{Family}
+use Rattle.class_defs.specs.ClassGraph.{IsTwice, IsAncestor}
+use Rattle.dalvik_defs.specs.Outer.{Outer}
+use Rattle.dalvik_defs.specs.Shown.{SameShown}
+use Rattle.pass_defs.specs.Typed.{IsTyped}
+use Rattle.removal_law.specs.Reach.{ShutsHold}
+use Rattle.pass_defs.specs.Live.{Family, Conditions, IsClosedFamily}
 use Rattle.removal_law.specs.Left.{field_key, left_in, left_of}
 use Rattle.removal_law.proofs.Lists.{clash, and_left, and_behind}
 use Rattle.removal_law.proofs.Walks.{text_same}
 use Rattle.removal_law.proofs.Trees.{none_some}
 use Rattle.removal_law.proofs.Declared.{method_sound, method_same}
-use Rattle.removal_bridge.proofs.Formed.{method_of, key_of, entry_below}
+use Rattle.removal_bridge.proofs.Formed.{method_of, key_of, entry_below, removed_program}
 use Rattle.reach_bridge.specs.Names.{any_below, family_of}
-use Rattle.reach_bridge.proofs.Tables.{field_same, method_same as named_method_same, class_same}
+use Rattle.reach_bridge.proofs.Tables.{class_same}
 
 -- ---- lists
 
@@ -136,8 +139,8 @@ module _ (p : Program) (s : LiveSet) (fits : is_well_formed p ≡ true) where
         let l : m.name < length p.methods = entry_below p fits m.name g.entry g.is in
         ap F.methods (sym (key_of p fits c i j m e f))
         ∙ any_is (length p.methods) (is_marked s.methods.items) (λ n. method_eq (method_at p n) (method_at p m.name)) m.name l
-            (λ n lt. same_test _ _ (λ h. number_test n m.name (method_once p S n m.name lt l (method_sound (method_at p n) (method_at p m.name) h)))
-                (λ h. ap (λ k. method_eq (method_at p k) (method_at p m.name)) (number_of n m.name h) ∙ method_same (method_at p m.name)))
+        (λ n lt. same_test _ _ (λ h. number_test n m.name (method_once p S n m.name lt l (method_sound (method_at p n) (method_at p m.name) h)))
+        (λ h. ap (λ k. method_eq (method_at p k) (method_at p m.name)) (number_of n m.name h) ∙ method_same (method_at p m.name)))
 
     field_name : (j : ℕ) (x : Field) → slice_get c.fields j ≡ Some x → field_at p x.name ≡ field_key (type_at p c.name) (named_field p x)
     field_name j x f = let g = (class_parts p S i c e).fields j x f in
@@ -149,17 +152,17 @@ module _ (p : Program) (s : LiveSet) (fits : is_well_formed p ≡ true) where
         let l : x.name < length p.fields = place_below p.fields x.name g.entry g.is in
         ap F.fields (sym (field_name j x f))
         ∙ any_is (length p.fields) (is_marked s.fields.items) (λ n. field_eq (field_at p n) (field_at p x.name)) x.name l
-            (λ n lt. same_test _ _ (λ h. number_test n x.name (field_once p S n x.name lt l (field_sound (field_at p n) (field_at p x.name) h)))
-                (λ h. ap (λ k. field_eq (field_at p k) (field_at p x.name)) (number_of n x.name h) ∙ field_itself (field_at p x.name)))
+        (λ n lt. same_test _ _ (λ h. number_test n x.name (field_once p S n x.name lt l (field_sound (field_at p n) (field_at p x.name) h)))
+        (λ h. ap (λ k. field_eq (field_at p k) (field_at p x.name)) (number_of n x.name h) ∙ field_itself (field_at p x.name)))
 
     class_kept : named_class q (kept_in s c) ≡ left_in F (named_class p c)
     class_kept = class_same p (map (kept_in s) (live_classes s p.classes)) (kept_in s c)
         ∙ ap (λ fs. record (named_class p (kept_in s c)) { fields = fs })
-            (map_filter (named_field p) (λ x. x) (named_field p) (λ f. is_marked s.fields.items f.name) (λ f. F.fields (field_key (type_at p c.name) f)) c.fields (λ j x f. (refl, field_mark j x f))
-            ∙ map_itself (filter (λ f. F.fields (field_key (type_at p c.name) f)) (map (named_field p) c.fields)))
+        (map_filter (named_field p) (λ x. x) (named_field p) (λ f. is_marked s.fields.items f.name) (λ f. F.fields (field_key (type_at p c.name) f)) c.fields (λ j x f. (refl, field_mark j x f))
+        ∙ map_itself (filter (λ f. F.fields (field_key (type_at p c.name) f)) (map (named_field p) c.fields)))
         ∙ ap (λ ms. record (named_class p (kept_in s c)) { fields = filter (λ f. F.fields (field_key (type_at p c.name) f)) (map (named_field p) c.fields); methods = ms })
-            (map_filter (named_method p) (λ x. x) (named_method p) (λ m. is_marked s.methods.items m.name) (λ m. F.methods (key_in (named_class p c) m)) c.methods (λ j m f. (refl, method_mark j m f))
-            ∙ map_itself (filter (λ m. F.methods (key_in (named_class p c) m)) (map (named_method p) c.methods)))
+        (map_filter (named_method p) (λ x. x) (named_method p) (λ m. is_marked s.methods.items m.name) (λ m. F.methods (key_in (named_class p c) m)) c.methods (λ j m f. (refl, method_mark j m f))
+        ∙ map_itself (filter (λ m. F.methods (key_in (named_class p c) m)) (map (named_method p) c.methods)))
 
   kept_classes : map (named_class q) q.classes ≡ map (left_in F) (filter (λ c. F.classes c.name) (map (named_class p) p.classes))
   kept_classes = map_map (named_class q) (kept_in s) (live_classes s p.classes)
@@ -167,3 +170,8 @@ module _ (p : Program) (s : LiveSet) (fits : is_well_formed p ≡ true) where
 
 pub kept_named : (p : Program) (s : LiveSet) → is_well_formed p ≡ true → named (kept_of s p) ≡ left_of (family_of p s) (named p)
 kept_named p s fits = ap (λ cs. record { version = p.version; classes = cs }) (kept_classes p s fits)
+
+pub removed_by_number : (p : Program) (s : LiveSet) → is_well_formed p ≡ true → ((class : ℕ) → IsTwice p class → ⊥) → ((class : ℕ) → IsAncestor p class class → ⊥) → IsTyped (named p)
+    → (o : Outer) (k : Conditions) → IsClosedFamily (named p) o k (family_of p s) → ShutsHold (named p) o → SameShown (named p) (named (kept_of s p)) o
+removed_by_number p s fits twice ancestor typed o k closed shuts =
+    subst (λ q. SameShown (named p) q o) (sym (kept_named p s fits)) (removed_program p fits twice ancestor typed o k (family_of p s) closed shuts)

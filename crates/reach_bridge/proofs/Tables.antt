@@ -1,5 +1,5 @@
 -- What a number names depends on the tables alone, and not on the classes.
-use Rattle.std.proofs.Common.{◌≡◌, ℕ, List, [], ◌∷◌, refl, ap, ◌∙◌}
+use Rattle.std.proofs.Common.{◌≡◌, List, refl, ap, ◌∙◌}
 use std.Path.{fun_ext}
 use Rattle.std.specs.Prelude.{map}
 use Rattle.std.specs.Option.{option_map}
@@ -15,11 +15,9 @@ use Rattle.program_model.specs.declared.value.EncValue.TheOpen as layer
 use Rattle.program_model.specs.declared.value.Note.{Note, fold-Note}
 use Rattle.program_model.specs.declared.value.Mark.{Mark}
 use Rattle.dalvik_defs.specs.Naming.{form_of, value_layer, element_layer, note_layer, value_of, note_of, mark_of, body_of, region_of, named_field, named_method, named_class}
-use Rattle.dalvik_defs.specs.declared.forms.Form.{Form}
 use Rattle.dalvik_defs.specs.declared.encoded.NamedValue.{NamedValue}
 use Rattle.dalvik_defs.specs.declared.encoded.NamedNote.{NamedNote}
 use Rattle.dalvik_defs.specs.declared.encoded.NamedElement.{NamedElement}
-use Rattle.dalvik_defs.specs.declared.encoded.NamedMark.{NamedMark}
 
 module _ (p : Program) (cs : List Class) where
   abbrev q : Program

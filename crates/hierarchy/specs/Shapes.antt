@@ -1,12 +1,18 @@
 -- What the tables of a hierarchy say of a program.
-use Rattle.std.specs.Prelude.{◌≡◌, ◌<◌, ◌^◌, ℕ, List, length, map, replicate, vec_len, slice_index_or}
+use Rattle.std.specs.Prelude.{◌≡◌, ◌<◌, ◌^◌, ℕ, List, length, map, replicate, vec_len, slice_index_or, Some}
 use Rattle.std.proofs.Common.{Result, Ok, Err}
 use Rattle.program_model.specs.declared.program.Program.{Program}
 use Rattle.program_model.specs.Lookups.{class_place}
 use Rattle.class_defs.specs.Places.{super_place, interface_places}
-use Rattle.class_defs.specs.ClassGraph.{IsTwice}
+use Rattle.class_defs.specs.ClassGraph.{IsTwice, IsAncestor}
 use Rattle.hierarchy.specs.Tables.{read_at, row_of}
+use Rattle.hierarchy.specs.Naming.{IsNamed}
+use Rattle.hierarchy.specs.Ranks.{Descends, IsRanked}
 use Rattle.hierarchy.specs.Placing.{place_from, known_places}
+use Rattle.class_defs.specs.Finding.{field_by}
+use Rattle.hierarchy.specs.Starting.{HasStarts}
+use Rattle.hierarchy.specs.Walking.{method_by}
+use Rattle.hierarchy.specs.declared.build.Targets.{Targets}
 use Rattle.hierarchy.specs.declared.build.Shape.{Shape}
 use Rattle.hierarchy.specs.declared.build.Hierarchy.{Hierarchy}
 use Rattle.hierarchy.specs.declared.fault.HierarchyFault.{HierarchyFault}
@@ -21,6 +27,7 @@ pub record IsMade (p : Program) (s : Shape) : Type 0 where
   pub places : length p.classes < 2 ^ 32 → placing p ≡ Ok s.places.items
   pub supers : s.supers.items ≡ map (λ c. slice_index_or s.places.items c.superclass 4294967295) p.classes
   pub lists : s.lists.rows ≡ map (λ c. known_places s.places.items c.interfaces) p.classes
+  pub order : length s.supers.items < 2 ^ 32 → Descends s.supers.items s.lists.rows (length s.supers.items)
 
 -- each class has a place of its own
 pub record IsPlaced (p : Program) : Type 0 where
@@ -41,6 +48,8 @@ pub record IsOf (p : Program) (h : Hierarchy) : Type 0 where
   pub supers : (class : ℕ) → read_at h.shape.supers.items class ≡ super_place p class
   pub lists : (class : ℕ) → row_of h.shape.lists.rows class ≡ interface_places p class
   pub count : vec_len h.shape.supers ≡ length p.classes
+  pub ranked : IsRanked p
+  pub named : IsNamed p h.named
 
 -- the first class that has the type of an earlier one
 pub record IsFirstTwice (p : Program) (class : ℕ) : Type 0 where
@@ -53,3 +62,18 @@ IsCause p NoMemory = Unit {0}
 IsCause p (Cycle class) = (other : ℕ) → IsTwice p other → ⊥
 IsCause p (Twice class) = IsFirstTwice p class
 IsCause p (SplitOverride class method) = (other : ℕ) → IsTwice p other → ⊥
+
+-- no class is its own ancestor
+abbrev pub IsAcyclic : Program → Type 0
+IsAcyclic p = (class : ℕ) → IsAncestor p class class → ⊥
+
+-- what the numbers of fields and of methods resolve to
+pub record AreTargets (p : Program) (t : Targets) : Type 0 where
+  pub fields : t.fields.items ≡ map (λ f. field_by p (Some f)) p.fields
+  pub methods : t.methods.items ≡ map (method_by p) p.methods
+
+-- the tables are those of the program's classes, and the names and the initialisers are found as the program's are
+pub record IsResolved (p : Program) (h : Hierarchy) : Type 0 where
+  pub of : IsOf p h
+  pub targets : AreTargets p h.targets
+  pub starts : HasStarts p h.starts.initialisers.items

@@ -4,7 +4,13 @@ ghost use Rattle.std.specs.Prelude.{◌≡◌, ◌+◌, ◌<◌, ◌^◌, length
 ghost use Rattle.std.proofs.Common.{Ok, Err};
 ghost use Rattle.hierarchy.specs.Placing.{place_from, known_places};
 ghost use Rattle.hierarchy.specs.Faults.{IsTwiceOr, IsSplitOr};
-ghost use Rattle.hierarchy.specs.Shapes.{placing, IsMade, StopsAt, IsOf, IsCause};
+ghost use Rattle.hierarchy.specs.Shapes.{placing, IsMade, StopsAt, IsOf, AreTargets, IsResolved, IsCause, IsAcyclic};
+ghost use Rattle.hierarchy.specs.Naming.{IsNamed};
+ghost use Rattle.hierarchy.specs.Ranks.{Descends};
+ghost use Rattle.std.specs.Prelude.{ℕ, Some, map, slice_get};
+ghost use Rattle.program_model.specs.declared.program.Class.{Class};
+ghost use Rattle.class_defs.specs.Starts.{initialiser_of};
+ghost use Rattle.hierarchy.specs.Starting.{place_or_none, HasStarts};
 ghost use Rattle.program_model.specs.ProgramRules.{is_well_formed};
 ghost use Rattle.std.specs.Prelude.{true};
 
@@ -12,9 +18,9 @@ use crate::cycle::first_on_cycle;
 use crate::fault::HierarchyFault;
 use crate::keys::{Keys, field_keys, method_keys};
 use crate::links::{Links, interfaces, subclasses, superclasses};
-use crate::members::{Members, fields, methods};
+use crate::members::{Members, definers, members_of, rows_of_fields, rows_of_methods};
 use crate::names::{initialiser, of_object, packages, special};
-use crate::order::{count_above, in_order};
+use crate::order::{count_above, descends, in_order, ranks_of};
 use crate::resolve::resolve_all;
 use crate::split::{Given, first_split};
 use crate::table::{NONE, is_on, put, read, turn, word};
@@ -44,7 +50,7 @@ pub struct Tour {
 }
 
 /// The keys of the fields and of the methods by number, the members of each class by key, and the classes that define a
-/// method with each key. `special` says by method number which names begin with `<`, and `of_object` by key which are of
+/// field or a method with each key. `special` says by method number which names begin with `<`, and `of_object` by key which are of
 /// the five methods that the framework may call on every object.
 #[derive(Drop)]
 pub struct Named {
@@ -52,6 +58,7 @@ pub struct Named {
     pub method_keys: Keys,
     pub fields: Members,
     pub methods: Members,
+    pub field_definers: Links,
     pub definers: Links,
     pub special: Vec<bool>,
     pub of_object: Vec<bool>,
@@ -111,29 +118,49 @@ fn places(alloc: Global, types: usize, classes: &[Class]) -> Result<Vec<u32>, Hi
     }
 }
 
+/// The first class that is its own ancestor. There is one where the classes have no order.
+fn stuck(alloc: Global, above: &[u32], below: &Links) -> Result<u32, AllocError> {
+    match first_on_cycle(alloc, above, below)? {
+        Some(class) => Ok(class),
+        None => Ok(0),
+    }
+}
+
 /// The order of the classes, or the first class that is its own ancestor.
 fn order(
     alloc: Global,
     supers: &[u32],
     lists: &Links,
     below: &Links,
-) -> Result<Result<Vec<u32>, u32>, AllocError> {
+) -> Result<Result<Vec<u32>, u32>, AllocError>
+    ensures { length supers.now < 2 ^ 32 → IfOk result (λ order. IfOk order (λ _. Descends supers.now lists.now.rows (length supers.now))) }
+{
     let mut above = count_above(alloc, supers, lists)?;
     let order = in_order(alloc, above.as_mut_slice(), below)?;
-    match first_on_cycle(alloc, above.as_slice(), below)? {
-        Some(class) => Ok(Err(class)),
-        None => Ok(Ok(order)),
+    let ranks = ranks_of(alloc, supers.len(), order.as_slice())?;
+    if descends(supers, lists, ranks.as_slice()) {
+        return Ok(Ok(order));
+    }
+    Ok(Err(stuck(alloc, above.as_slice(), below)?))
+}
+
+/// A place, or the number that stands for none.
+fn place_or_none(place: Option<u32>) -> u32
+    ensures { result ≡ place_or_none place }
+{
+    match place {
+        Some(place) => place,
+        None => NONE,
     }
 }
 
-/// The place of each class's `<clinit>`.
-fn initialisers(alloc: Global, program: &Program) -> Result<Vec<u32>, AllocError> {
+/// The place of the initialiser of each class.
+fn initialisers(alloc: Global, program: &Program) -> Result<Vec<u32>, AllocError>
+    ensures { ((i : ℕ) (c : Class) → slice_get program.now.classes i ≡ Some c → length c.methods < 2 ^ 32) → IfOk result (λ places. places.items ≡ map (λ c. place_or_none (initialiser_of program.now (Some c))) program.now.classes) }
+{
     let mut places = Vec::new(alloc);
     for class in program.classes.as_slice() {
-        places.push(match initialiser(program, class) {
-            Some(place) => place,
-            None => NONE,
-        })?;
+        places.push(place_or_none(initialiser(program, class)))?;
     }
     Ok(places)
 }
@@ -222,13 +249,18 @@ fn make_tour(alloc: Global, shape: &Shape) -> Result<Tour, AllocError> {
 }
 
 /// The members by key.
-fn name_members(alloc: Global, program: &Program) -> Result<Named, AllocError> {
+fn name_members(alloc: Global, program: &Program) -> Result<Named, AllocError>
+    ensures { is_well_formed program.now ≡ true → IfOk result (λ named. IsNamed program.now named) }
+{
     let classes = program.classes.as_slice();
     let field_keys = field_keys(alloc, program.fields.as_slice())?;
     let method_keys = method_keys(alloc, program.methods.as_slice())?;
-    let fields = fields(alloc, classes, field_keys.keys.as_slice())?;
-    let methods = methods(alloc, classes, method_keys.keys.as_slice())?;
-    let definers = methods.definers(alloc, method_keys.count)?;
+    let field_rows = rows_of_fields(alloc, classes, field_keys.keys.as_slice())?;
+    let fields = members_of(alloc, &field_rows)?;
+    let field_definers = definers(alloc, &field_rows, field_keys.count)?;
+    let method_rows = rows_of_methods(alloc, classes, method_keys.keys.as_slice())?;
+    let methods = members_of(alloc, &method_rows)?;
+    let definers = definers(alloc, &method_rows, method_keys.count)?;
     let special = special(alloc, program)?;
     let of_object = of_object(
         alloc,
@@ -241,6 +273,7 @@ fn name_members(alloc: Global, program: &Program) -> Result<Named, AllocError> {
         method_keys,
         fields,
         methods,
+        field_definers,
         definers,
         special,
         of_object,
@@ -248,7 +281,9 @@ fn name_members(alloc: Global, program: &Program) -> Result<Named, AllocError> {
 }
 
 /// What runs when the classes are initialised.
-fn find_starts(alloc: Global, program: &Program, shape: &Shape) -> Result<Starts, AllocError> {
+fn find_starts(alloc: Global, program: &Program, shape: &Shape) -> Result<Starts, AllocError>
+    ensures { is_well_formed program.now ≡ true → IfOk result (λ starts. HasStarts program.now starts.initialisers.items) }
+{
     let initialisers = initialisers(alloc, program)?;
     let trivial = trivial(alloc, initialisers.as_slice(), shape)?;
     Ok(Starts {
@@ -288,7 +323,10 @@ fn fill(
     shape: Shape,
     named: Named,
 ) -> Result<Hierarchy, AllocError>
-    ensures { IfOk result (λ hierarchy. hierarchy.shape ≡ shape) }
+    ensures links { IfOk result (λ hierarchy. hierarchy.shape ≡ shape) }
+    ensures names { IfOk result (λ hierarchy. hierarchy.named ≡ named) }
+    ensures targets { IfOk result (λ hierarchy. IsOf program.now hierarchy → AreTargets program.now hierarchy.targets) }
+    ensures starts { is_well_formed program.now ≡ true → IfOk result (λ hierarchy. HasStarts program.now hierarchy.starts.initialisers.items) }
 {
     let tour = make_tour(alloc, &shape)?;
     let starts = find_starts(alloc, program, &shape)?;
@@ -309,6 +347,9 @@ fn fill(
 /// The hierarchy over these links, unless there is a split override.
 fn complete(alloc: Global, program: &Program, shape: Shape) -> Result<Hierarchy, HierarchyFault>
     ensures links { IfOk result (λ hierarchy. hierarchy.shape ≡ shape) }
+    ensures names { is_well_formed program.now ≡ true → IfOk result (λ hierarchy. IsNamed program.now hierarchy.named) }
+    ensures targets { IfOk result (λ hierarchy. IsOf program.now hierarchy → AreTargets program.now hierarchy.targets) }
+    ensures starts { is_well_formed program.now ≡ true → IfOk result (λ hierarchy. HasStarts program.now hierarchy.starts.initialisers.items) }
     ensures refuses { IfErr result (λ fault. IsSplitOr fault) }
 {
     let named = name_members(alloc, program)?;
@@ -324,6 +365,8 @@ impl Hierarchy {
     pub fn build(alloc: Global, program: &Program) -> Result<Hierarchy, HierarchyFault>
         ensures size { IfOk result (λ hierarchy. vec_len hierarchy.shape.places ≡ length program.now.types) }
         ensures is { is_well_formed program.now ≡ true → IfOk result (λ hierarchy. IsOf program.now hierarchy) }
+        ensures resolved { is_well_formed program.now ≡ true → IfOk result (λ hierarchy. IsResolved program.now hierarchy) }
+        ensures acyclic { is_well_formed program.now ≡ true → IfOk result (λ _. IsAcyclic program.now) }
         ensures refuses { is_well_formed program.now ≡ true → IfErr result (λ fault. IsCause program.now fault) }
     {
         match make_shape(alloc, program) {

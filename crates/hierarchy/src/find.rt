@@ -4,17 +4,27 @@ ghost use Rattle.std.specs.Prelude.{◌≡◌, false, slice_index_or};
 ghost use Rattle.std.specs.Option.{option_copied};
 ghost use Rattle.program_model.specs.Lookups.{method_at};
 ghost use Rattle.hierarchy.specs.Tables.{read_at};
-ghost use Rattle.hierarchy.specs.Shapes.{IsOf};
+ghost use Rattle.hierarchy.specs.Shapes.{IsOf, IsResolved};
+ghost use Rattle.program_model.specs.Lookups.{method_or};
+ghost use Rattle.class_defs.specs.Starts.{initialiser_place};
+ghost use Rattle.std.specs.Prelude.{None};
 ghost use Rattle.program_model.specs.Lookups.{class_place};
 ghost use Rattle.program_model.specs.declared.program.Program.{Program};
 ghost use Rattle.class_defs.specs.Places.{super_place, interface_places, chain_of};
-ghost use Rattle.std.specs.Prelude.{Some, IfOk};
+ghost use Rattle.std.specs.Prelude.{ℕ, Some, IfOk, slice_get, vec_len, not};
+ghost use Rattle.hierarchy.specs.Walking.{IsClear, IsFair};
+ghost use Rattle.program_model.specs.MemberRules.{is_direct};
+ghost use Rattle.program_model.specs.declared.pools.MethodName.{MethodName};
+ghost use Rattle.class_defs.specs.Members.{own_method, own_virtual, virtual_only, is_interface, has_code};
+ghost use Rattle.class_defs.specs.Finding.{finds_from, finds_static, finds_virtual};
+ghost use Rattle.hierarchy.specs.Membership.{key_at};
+ghost use Rattle.hierarchy.specs.Naming.{IsKey};
 
 use crate::build::Hierarchy;
 use crate::members::{is_virtual, key_of};
 use crate::table::{is_on, read};
 use crate::walk::Walk;
-use program_model::{Method, MethodAt, Program, Version};
+use program_model::{Flags, Method, MethodAt, Program, Version};
 use std::alloc::{AllocError, Global};
 
 /// What the candidates of interfaces give: no method with code, just one that stands in no interface above another
@@ -78,7 +88,10 @@ impl Hierarchy {
     }
 
     /// A number for the name and proto of a method number, the same for all of the same name and proto.
-    pub fn key_of_method(&self, method: u32) -> u32 {
+    pub fn key_of_method(&self, method: u32) -> u32
+        ensures table { result ≡ key_at self.now.named.method_keys.keys.items method }
+        ensures is { (p : Program) (q : MethodName) → slice_get p.methods method ≡ Some q → IsKey p self.now result q.name q.proto }
+    {
         key_of(self.named.method_keys.keys.as_slice(), method)
     }
 
@@ -91,12 +104,17 @@ impl Hierarchy {
     }
 
     /// Whether a defined method is virtual: neither static, private, nor named with a leading `<`.
-    pub fn is_virtual(&self, method: &Method) -> bool {
+    pub fn is_virtual(&self, method: &Method) -> bool
+        ensures { (p : Program) → IsOf p self.now → result ≡ not (is_direct p method.now) }
+    {
         is_virtual(method, self.named.special.as_slice())
     }
 
-    /// Where the class defines its `<clinit>`.
-    pub fn initialiser_of(&self, class: u32) -> Option<MethodAt> {
+    /// Where the class defines its initialiser: the first of its methods that is named `<clinit>`, takes nothing and gives
+    /// nothing, where it is static and has code.
+    pub fn initialiser_of(&self, class: u32) -> Option<MethodAt>
+        ensures { (p : Program) → IsResolved p self.now → result ≡ method_or class (initialiser_place p class) None }
+    {
         match read(self.starts.initialisers.as_slice(), class) {
             Some(place) => Some(MethodAt { class, place }),
             None => None,
@@ -104,7 +122,9 @@ impl Hierarchy {
     }
 
     /// The method with the key that the class itself defines.
-    pub fn own_method(&self, class: u32, key: u32) -> Option<MethodAt> {
+    pub fn own_method(&self, class: u32, key: u32) -> Option<MethodAt>
+        ensures { (p : Program) (name proto : ℕ) → IsOf p self.now → IsKey p self.now key name proto → result ≡ own_method p name proto class }
+    {
         match self.named.methods.find(class, key) {
             Some(place) => Some(MethodAt { class, place }),
             None => None,
@@ -112,13 +132,28 @@ impl Hierarchy {
     }
 
     /// The virtual method with the key that the class itself defines.
-    pub fn own_virtual(&self, program: &Program, class: u32, key: u32) -> Option<MethodAt> {
-        let found = self.own_method(class, key)?;
-        let method = method_at(program, found)?;
-        if self.is_virtual(method) {
-            Some(found)
-        } else {
-            None
+    pub fn own_virtual(&self, program: &Program, class: u32, key: u32) -> Option<MethodAt>
+        ensures { (name proto : ℕ) → IsOf program.now self.now → IsKey program.now self.now key name proto → result ≡ own_virtual program.now name proto class }
+    {
+        match self.own_method(class, key) {
+            Some(found) => self.virtual_only(program, found),
+            None => None,
+        }
+    }
+
+    /// The method at a place where it is virtual.
+    fn virtual_only(&self, program: &Program, found: MethodAt) -> Option<MethodAt>
+        ensures { IsOf program.now self.now → result ≡ virtual_only program.now (Some found) }
+    {
+        match method_at(program, found) {
+            Some(method) => {
+                if self.is_virtual(method) {
+                    Some(found)
+                } else {
+                    None
+                }
+            }
+            None => None,
         }
     }
 
@@ -128,37 +163,52 @@ impl Hierarchy {
     }
 
     /// The first method with the key along a class and its program superclasses.
-    pub fn find_from(&self, class: u32, key: u32) -> Option<MethodAt> {
+    pub fn find_from(&self, class: u32, key: u32) -> Option<MethodAt>
+        ensures { (p : Program) (name proto : ℕ) → IsOf p self.now → IsKey p self.now key name proto → result ≡ finds_from p name proto (Some class) }
+    {
         let mut at = Some(class);
-        for _ in 0..self.shape.supers.len() {
-            let one = at?;
-            if let Some(found) = self.own_method(one, key) {
-                return Some(found);
+        for done in 0..self.shape.supers.len() {
+            let one = match at {
+                Some(one) => one,
+                None => break,
+            };
+            match self.own_method(one, key) {
+                Some(found) => return Some(found),
+                None => at = self.super_of(one),
             }
-            at = self.super_of(one);
         }
         None
     }
 
     /// What a static or direct call of a method number finds: the first method of its name and proto along the named
     /// class and its program superclasses.
-    pub fn find_static(&self, program: &Program, method: u32) -> Option<MethodAt> {
+    pub fn find_static(&self, program: &Program, method: u32) -> Option<MethodAt>
+        ensures { IsOf program.now self.now → result ≡ finds_static program.now method }
+    {
         match program.methods.as_slice().get(method as usize) {
-            Some(name) => self.find_from(self.place_of(name.class)?, self.key_of_method(method)),
+            Some(name) => match self.place_of(name.class) {
+                Some(class) => self.find_from(class, self.key_of_method(method)),
+                None => None,
+            },
             None => None,
         }
     }
 
     /// The first virtual method with the key along a class and its program superclasses. Where there is none, what the
     /// candidates give decides.
-    pub fn find_virtual(&self, program: &Program, class: u32, key: u32) -> Option<MethodAt> {
+    pub fn find_virtual(&self, program: &Program, class: u32, key: u32) -> Option<MethodAt>
+        ensures { (name proto : ℕ) → IsOf program.now self.now → IsKey program.now self.now key name proto → result ≡ finds_virtual program.now name proto class }
+    {
         let mut at = Some(class);
-        for _ in 0..self.shape.supers.len() {
-            let one = at?;
-            if let Some(found) = self.own_virtual(program, one, key) {
-                return Some(found);
+        for done in 0..self.shape.supers.len() {
+            let one = match at {
+                Some(one) => one,
+                None => break,
+            };
+            match self.own_virtual(program, one, key) {
+                Some(found) => return Some(found),
+                None => at = self.super_of(one),
             }
-            at = self.super_of(one);
         }
         None
     }
@@ -174,7 +224,10 @@ impl Hierarchy {
     }
 
     /// A walk over the classes of this hierarchy.
-    pub fn walk(&self, alloc: Global) -> Result<Walk, AllocError> {
+    pub fn walk(&self, alloc: Global) -> Result<Walk, AllocError>
+        ensures clear { IfOk result (λ w. IsClear (vec_len self.now.shape.supers) w) }
+        ensures fair { IfOk result (λ w. IsFair w) }
+    {
         Walk::new(alloc, self.shape.supers.len())
     }
 
@@ -203,6 +256,9 @@ impl Hierarchy {
             if !walk.see(one)? {
                 continue;
             }
+            if !is_interface(program, one) {
+                continue;
+            }
             if let Some(found) = self.own_virtual(program, one, key) {
                 out.push(found)?;
             }
@@ -212,7 +268,7 @@ impl Hierarchy {
     }
 
     /// Adds the candidates for the key of the interfaces that a class and its program superclasses list: the virtual
-    /// methods of that name and proto in these and in all interfaces above them. In version 035, and for the five
+    /// methods of that name and proto in these and in all interfaces above them, where a class without the flag of interfaces counts for none. In version 035, and for the five
     /// methods that the framework may call on every object, there are none.
     pub fn candidates(
         &self,
@@ -255,11 +311,19 @@ impl Hierarchy {
         self.collect(program, key, walk, out)
     }
 
-    /// Sees all interfaces that stand above one of the candidates' interfaces.
+    /// Lets the classes directly above one wait.
+    fn push_above(&self, class: u32, walk: &mut Walk) -> Result<(), AllocError> {
+        if let Some(superclass) = self.super_of(class) {
+            walk.push(superclass)?;
+        }
+        walk.push_all(self.shape.lists.row(class))
+    }
+
+    /// Sees all classes that stand above one of the candidates' interfaces, by superclasses and interfaces.
     fn see_above(&self, candidates: &[MethodAt], walk: &mut Walk) -> Result<(), AllocError> {
         walk.clear();
         for candidate in candidates {
-            walk.push_all(self.shape.lists.row(candidate.class))?;
+            self.push_above(candidate.class, walk)?;
         }
         for _ in 0..self.steps() {
             let one = match walk.pop() {
@@ -267,7 +331,7 @@ impl Hierarchy {
                 None => break,
             };
             if walk.see(one)? {
-                walk.push_all(self.shape.lists.row(one))?;
+                self.push_above(one, walk)?;
             }
         }
         Ok(())
@@ -294,8 +358,20 @@ impl Hierarchy {
     }
 }
 
+/// Whether the class at a place is an interface.
+fn is_interface(program: &Program, class: u32) -> bool
+    ensures { result ≡ is_interface (slice_get program.now.classes class) }
+{
+    match program.classes.as_slice().get(class as usize) {
+        Some(class) => class.flags.has(Flags::INTERFACE),
+        None => false,
+    }
+}
+
 /// Whether the method has code.
-fn has_code(program: &Program, at: MethodAt) -> bool {
+fn has_code(program: &Program, at: MethodAt) -> bool
+    ensures { result ≡ has_code (method_at program.now at) }
+{
     match method_at(program, at) {
         Some(method) => method.body.is_some(),
         None => false,

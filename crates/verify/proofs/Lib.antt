@@ -1,2 +1,11 @@
+pub mod Arrived
+pub mod Arrives
+pub mod Cells
 pub mod Climbs
 pub mod Passed
+pub mod Queue
+pub mod Raises
+pub mod Reaches
+pub mod Throws
+pub mod Visits
+pub mod Wide

@@ -3,6 +3,7 @@ pub mod Chains
 pub mod Demands
 pub mod Faults
 pub mod Fits
+pub mod Flow
 pub mod Frames
 pub mod Joins
 pub mod Kinds
@@ -10,4 +11,6 @@ pub mod Names
 pub mod Reads
 pub mod Shapes
 pub mod Types
+pub mod Typings
+pub mod Waiting
 pub mod Wrong

@@ -6,6 +6,7 @@ pub mod Passed
 pub mod Queue
 pub mod Raises
 pub mod Reaches
+pub mod Solves
 pub mod Throws
 pub mod Visits
 pub mod Wide

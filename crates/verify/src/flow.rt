@@ -70,7 +70,7 @@ pub fn covering(alloc: Global, body: &Body) -> Result<Vec<Option<u32>>, AllocErr
 impl Code<'_> {
     /// The kind of the caught object at a handler: that of the handler's type, any object for a catch-all. Where a read
     /// was refused nothing is known of it.
-    #[tactic(auto, using(crate::proofs::Visits::follows_form))]
+    #[tactic(auto, using(crate::proofs::Solves::keeps_visited))]
     fn caught_at(&self, thrown: Kind, kind: Kind) -> Kind
         ensures { result ≡ caught_at thrown kind }
     {

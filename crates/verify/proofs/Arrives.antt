@@ -14,8 +14,9 @@ use Rattle.verify.specs.declared.tables.Tables.{Tables}
 use Rattle.verify.specs.Flow.{met, rises_in, raised_kinds, rises_kinds, Arrived, arrived_at, arrived, arrived_all, caught_at, caught_as, handled, handled_rest, caught_in, place_at}
 use Rattle.verify.specs.Frames.{Kinds}
 use Rattle.verify.specs.Types.{kind_of}
-use Rattle.verify.specs.Waiting.{Waits}
+use Rattle.verify.specs.Waiting.{Waits, count_of}
 use Rattle.verify.specs.Typings.{IsLattice, IsBelow, AtMost, Table, IsUnder, Arrives, IsWide, catches_in, catch_rest}
+use Rattle.verify.proofs.Weights.{weight, weight_falls}
 use Rattle.verify.proofs.Raises.{raised_all_long, kinds_stay, kinds_itself, kinds_on, kinds_old, kinds_new, kinds_least}
 
 -- positions whose frames rose wait, and nothing else changed; each frame has so many registers
@@ -25,6 +26,7 @@ pub record Grows (t : Tables) (m : ℕ) (w w' : Arrived) : Type 0 where
   pub wide : IsWide m w'.places
   pub kept : (n : ℕ) → Waits w.waits n → Waits w'.waits n
   pub woken : (n : ℕ) → (place_at w'.places n ≡ place_at w.places n) ⊎ Waits w'.waits n
+  pub falls : weight t m w'.places + count_of w'.waits ≤ weight t m w.places + count_of w.waits
 
 -- each position of a list has so many registers, and each has a mark
 pub record Stands (m : ℕ) (w : Arrived) : Type 0 where
@@ -35,7 +37,7 @@ pub stands_on : (t : Tables) (m : ℕ) (w w' : Arrived) → Stands m w → Grows
 stands_on t m w w' s g = record { wide = g.wide; flags = g.flags ∙ s.flags ∙ sym g.long }
 
 pub grows_same : (t : Tables) (m : ℕ) (w : Arrived) → Stands m w → Grows t m w w
-grows_same t m w s = record { long = refl; flags = refl; wide = s.wide; kept = λ n h. h; woken = λ n. inl refl }
+grows_same t m w s = record { long = refl; flags = refl; wide = s.wide; kept = λ n h. h; woken = λ n. inl refl; falls = omega arith }
 
 pub grows_on : (t : Tables) (m : ℕ) (w w' w'' : Arrived) → Grows t m w w' → Grows t m w' w'' → Grows t m w w''
 grows_on t m w w' w'' a b = record {
@@ -44,6 +46,7 @@ grows_on t m w w' w'' a b = record {
   wide = b.wide;
   kept = λ n h. b.kept n (a.kept n h);
   woken = λ n. elim (b.woken n) [ inr c ↦ inr c | inl e ↦ elim (a.woken n) [ inr c ↦ inr (b.kept n c) | inl f ↦ inl (e ∙ f) ] ];
+  falls = omega (arith, a.falls, b.falls);
 }
 
 pub at_most_itself : (t : Tables) (a : Option Kinds) → AtMost t a a
@@ -116,6 +119,7 @@ module _ (t : Tables) (m q : ℕ) (a : Kinds) (w : Arrived) (old : Option Kinds)
       | inl k ↦ subst (λ i. (place_at w'.places i ≡ place_at w.places i) ⊎ Waits w'.waits i) (sym k) (marks_woken (rises_in t a old) refl)
       | inr k ↦ inl (get_or-set_other w.places q n (Some (met t a old)) None k)
     ];
+    falls = weight_falls t m q a w.places w.waits old inside here_old width;
   }
 
   module _ (l : IsLattice t) where

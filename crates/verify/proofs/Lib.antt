@@ -9,4 +9,5 @@ pub mod Reaches
 pub mod Solves
 pub mod Throws
 pub mod Visits
+pub mod Weights
 pub mod Wide

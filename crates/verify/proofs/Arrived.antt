@@ -1,9 +1,9 @@
 -- What the arrival of a frame does, in the words of the code.
-use Rattle.std.proofs.Common.{◌≡◌, ℕ, suc, ◌+◌, ◌<◌, ◌≤◌, Bool, true, false, List, [], ◌∷◌, map, set, drop, add-one, drop-cons, length, get_or, Option, Some, None, refl, sym, ap, ◌∙◌, subst, arith}
+use Rattle.std.proofs.Common.{◌≡◌, ℕ, suc, ◌+◌, ◌<◌, ◌≤◌, Bool, true, false, List, [], ◌∷◌, ◌++◌, map, replicate, set, drop, add-one, drop-cons, length, get_or, Option, Some, None, refl, sym, ap, ◌∙◌, subst, arith}
 use Rattle.std.specs.Prelude.{slice_get, slice_set, if◌then◌else◌}
 use Rattle.std.specs.Option.{option_map}
 use Rattle.std.proofs.lemmas.Option.{slice_get-map, slice_get_read, slice_get_past}
-use Rattle.std.proofs.lemmas.List.{map-set, length-map, drop_all}
+use Rattle.std.proofs.lemmas.List.{map-set, length-map, map-append, replicate_more, drop_all}
 use Rattle.verify.specs.declared.frames.Frame.{Frame}
 use Rattle.verify.specs.declared.tables.Tables.{Tables}
 use Rattle.verify.specs.Flow.{met, rises_in, kinds_in, places_of, Arrived, arrived_at, arrived, arrived_all, caught_as, handled, Flowing, thrown_in, thrown_on, thrown_to}
@@ -80,3 +80,7 @@ unfolding flowing
 thrown_past t r n a rs w m long le =
     let here : slice_get (places_of rs) n ≡ None = slice_get_past (places_of rs) n (subst (λ k. k ≤ n) (long ∙ sym (length-map rs kinds_in)) le) in
     sym (ap (thrown_on t r n a (flowing w (places_of rs))) here)
+
+-- one more place without a frame
+pub none_on : (fs fs' : List (Option Frame)) (n : ℕ) → places_of fs ≡ replicate n None → fs' ≡ fs ++ None ∷ [] → places_of fs' ≡ replicate (n + 1) None
+none_on fs fs' n e p = ap places_of p ∙ map-append kinds_in fs (None ∷ []) ∙ ap (λ x. x ++ None ∷ []) e ∙ replicate_more n None

@@ -1,6 +1,8 @@
 -- The table while it rises, and at the end.
-use Rattle.std.proofs.Common.{◌≡◌, ℕ, zero, suc, ◌+◌, ◌<◌, ◌≤◌, Bool, true, false, min, List, [], ◌∷◌, ◌++◌, map, length, Option, Some, None, ◌⊎◌, inl, inr, refl, sym, ap, ◌∙◌, subst, arith, get_or-set_other, get_or-set_same}
-use Rattle.std.specs.Prelude.{All, slice_get, slice_index_or, slice_set, if◌then◌else◌}
+use Rattle.std.proofs.Common.{◌≡◌, ℕ, zero, suc, ◌+◌, ◌<◌, ◌≤◌, Bool, true, false, min, List, [], ◌∷◌, ◌++◌, map, replicate, length, Option, Some, None, ◌⊎◌, inl, inr, refl, sym, ap, ◌∙◌, subst, arith, get_or-set_other, get_or-set_same}
+use Rattle.std.specs.Prelude.{Contains, All, slice_get, slice_index_or, slice_set, if◌then◌else◌}
+use Rattle.std.specs.List.Sorted.{IsPermutation}
+use Rattle.std.proofs.lemmas.List.Sorted.{length_permutation}
 use Rattle.std.proofs.Math.ListN.{length-set}
 use Rattle.std.proofs.lemmas.Bool.{cases_eq, cases_lt}
 use Rattle.std.proofs.lemmas.Option.{slice_get_within}
@@ -13,13 +15,15 @@ use Rattle.verify.specs.declared.kinds.Kind.TheVariants as kind
 use Rattle.verify.specs.declared.setting.Setting.{Setting}
 use Rattle.verify.specs.declared.tables.Tables.{Tables}
 use Rattle.verify.specs.Faults.{fault_of}
-use Rattle.verify.specs.Flow.{greatest, next_of, place_at, Arrived, arrived, Flowing, region_of, form_after, followed, visited_in, visited}
+use Rattle.verify.specs.Flow.{greatest, next_of, place_at, Arrived, arrived, Flowing, region_of, form_after, followed, visited_in, visited, unreached, started}
 use Rattle.verify.specs.Frames.{Kinds, kind_at, all_undefined}
-use Rattle.verify.specs.Typings.{Below, IsLattice, IsBelow, AtMost, Table, IsUnder, Arrives, IsWide, AtEach, onward, onward_by, place_covering, catches, catches_by, unless_fault, carried, carried_to, IsFlow, IsMonotone, IsCovering}
-use Rattle.verify.specs.Waiting.{Waits}
+use Rattle.verify.specs.Typings.{Below, IsLattice, IsBelow, AtMost, Table, IsUnder, Arrives, IsWide, AtEach, onward, onward_by, place_covering, catches, catches_by, unless_fault, carried, carried_to, IsFlow, IsLeastFlow, IsMonotone, IsCovering}
+use Rattle.verify.specs.Waiting.{Waits, Queues, count_of}
+use Rattle.verify.proofs.Queue.{taken as taken_out}
+use Rattle.verify.proofs.Weights.{weight}
 use Rattle.verify.proofs.Raises.{kinds_itself, below_itself}
 use Rattle.verify.proofs.Arrives.{Stands, stands_on, Grows, arrived_grows, arrived_up, arrived_arrives, arrived_under, arrives_on, arrives_below, at_most_itself, some_same}
-use Rattle.verify.proofs.Reaches.{all_from}
+use Rattle.verify.proofs.Reaches.{Reaches, all_from, arrived_reaches}
 use Rattle.verify.proofs.Throws.{AreThrown, Settles, settles_on, catches_on, Follows, below_undefined}
 use Rattle.verify.proofs.Visits.{Sent, follows_form}
 use Rattle.verify.proofs.Wide.{form_after_long}
@@ -63,7 +67,7 @@ undefined_over s l m a e = record {
   receiver = below_undefined s.tables.now l a.receiver;
 }
   where
-    nothing_at : (m r : ℕ) → kind_at (Rattle.std.proofs.Common.replicate m kind.Undefined) r ≡ kind.Undefined
+    nothing_at : (m r : ℕ) → kind_at (replicate m kind.Undefined) r ≡ kind.Undefined
     nothing_at zero r = refl
     nothing_at (suc m) zero = refl
     nothing_at (suc m) (suc r) = nothing_at m r
@@ -176,5 +180,139 @@ module _ (s : Setting) (b : Body) (cs : List (Option ℕ)) (entry : Kinds) (n : 
     visit_cases None (Some a) is at = nothing_sent (λ j c p q. let f : None ≡ Some j = sym is ∙ p in absurd (cc))
     visit_cases None None is at = nothing_sent (λ j c p q. let f : None ≡ Some j = sym is ∙ p in absurd (cc))
 
+    falls_cases : (i : Option Insn) (a : Option Kinds) → slice_get b.insns n ≡ i → place_at places n ≡ a
+        → weight s.tables.now b.registers (visited_in s b cs n taken i a).arrivals.places + count_of (visited_in s b cs n taken i a).arrivals.waits ≤ weight s.tables.now b.registers places + count_of (slice_set waits n false)
+    falls_cases (Some i) (Some a) is at = (follows i a is at).grows.falls
+    falls_cases (Some i) None is at = omega arith
+    falls_cases None (Some a) is at = omega arith
+    falls_cases None None is at = omega arith
+
+    pub visited_falls : weight s.tables.now b.registers (visited s b cs n taken).arrivals.places + count_of (visited s b cs n taken).arrivals.waits ≤ weight s.tables.now b.registers places + count_of (slice_set waits n false)
+    visited_falls = falls_cases (slice_get b.insns n) (place_at places n) refl refl
+
     pub keeps_visited : Keeps s b cs entry (visited s b cs n taken)
     keeps_visited = visit_cases (slice_get b.insns n) (place_at places n) refl refl
+
+-- ---- the beginning
+
+nothing_at : {X : Type 0} (n k : ℕ) (a : X) → slice_index_or (replicate n None) k None ≡ Some a → ⊥
+nothing_at zero k a e = absurd (cc)
+nothing_at (suc n) zero a e = absurd (cc)
+nothing_at (suc n) (suc k) a e = nothing_at n k a e
+
+none_at : {X : Type 0} (n k : ℕ) → slice_index_or (replicate {A = Option X} n None) k None ≡ None
+none_at zero k = refl
+none_at (suc n) zero = refl
+none_at (suc n) (suc k) = none_at n k
+
+module _ (s : Setting) (b : Body) (cs : List (Option ℕ)) (entry : Kinds) (width : length entry.registers ≡ b.registers) where
+  stands_first : Stands b.registers (unreached (length b.insns))
+  stands_first = record {
+    wide = λ n a e. absurd (nothing_at (length b.insns) n a e);
+    flags = length-replicate (length b.insns) false ∙ sym (length-replicate (length b.insns) None);
+  }
+
+  first : Reaches s.tables.now b.registers (λ y. Arrives s.tables.now y 0 entry) (unreached (length b.insns)) (arrived s.tables.now 0 entry (unreached (length b.insns)))
+  first = arrived_reaches s.tables.now b.registers 0 entry (unreached (length b.insns)) stands_first width
+
+  under_all : (y : Table) → IsUnder s.tables.now (unreached (length b.insns)).places y
+  under_all y n = subst (λ x. AtMost s.tables.now x (place_at y n)) (sym (none_at (length b.insns) n)) tt
+
+  pub keeps_started : Keeps s b cs entry (started s.tables.now b entry)
+  keeps_started = record {
+    stands = stands_on s.tables.now b.registers (unreached (length b.insns)) (arrived s.tables.now 0 entry (unreached (length b.insns))) stands_first first.grows;
+    long = first.grows.long ∙ length-replicate (length b.insns) None;
+    thrown = record { wide = λ n a e. absurd (nothing_at (length b.regions) n a e); thrown = λ n a e. absurd (nothing_at (length b.regions) n a e) };
+    regions = length-replicate (length b.regions) None;
+    solved = λ l. record {
+      begins = first.holds l;
+      settles = record { each = λ r g a e p. absurd (nothing_at (length b.regions) r a p) };
+      done = λ n i a is at. elim (first.grows.woken n) [ inr w ↦ inl w | inl same ↦ absurd (nothing_at (length b.insns) n a (sym same ∙ at)) ];
+    };
+    least = λ l mono y h. (first.under l y (h.long ∙ sym (length-replicate (length b.insns) None)) h.begins (under_all y), record { each = λ r g a e p. absurd (nothing_at (length b.regions) r a p) });
+  }
+
+-- ---- the end
+
+pub holds_at_end : (s : Setting) (b : Body) (cs : List (Option ℕ)) (entry : Kinds) (f : Flowing) → Keeps s b cs entry f → ((n : ℕ) → Waits f.arrivals.waits n → ⊥) → IsLattice s.tables.now → Holds s b cs entry f.arrivals.places
+holds_at_end s b cs entry f k none l = record {
+  long = k.long;
+  wide = k.stands.wide;
+  begins = (k.solved l).begins;
+  sent = λ n i a is at. elim ((k.solved l).done n i a is at) [ inr d ↦ d | inl w ↦ absurd (none n w) ];
+}
+
+module _ (s : Setting) (b : Body) (cs : List (Option ℕ)) (entry : Kinds) (fits : length b.insns ≤ greatest) (cover : IsCovering b cs) where
+  next_is : (n : ℕ) (i : Insn) → slice_get b.insns n ≡ Some i → next_of n ≡ n + 1
+  next_is n i is = let lt = slice_get_within b.insns n i is in omega (arith, lt, fits)
+
+  pub flow_from : (y : Table) → Holds s b cs entry y → IsFlow s b entry y
+  flow_from y h = record {
+    long = h.long;
+    wide = h.wide;
+    begins = h.begins;
+    onward = λ n i a is at. subst (λ q. All (λ q. Arrives s.tables.now y q (carried s b n i a)) (onward_by i q)) (next_is n i is) (h.sent n i a is at).onward;
+    caught = λ n i a is at. subst (λ r. All (λ h. Arrives s.tables.now y h.0 (carried_to s b n i a h.1)) (catches_by s.tables.now b i r)) (cover n (slice_get_within b.insns n i is)) (h.sent n i a is at).caught;
+  }
+
+  pub holds_from : (y : Table) → IsFlow s b entry y → Holds s b cs entry y
+  holds_from y h = record {
+    long = h.long;
+    wide = h.wide;
+    begins = h.begins;
+    sent = λ n i a is at. record {
+      onward = subst (λ q. All (λ q. Arrives s.tables.now y q (carried s b n i a)) (onward_by i q)) (sym (next_is n i is)) (h.onward n i a is at);
+      caught = subst (λ r. All (λ h. Arrives s.tables.now y h.0 (carried_to s b n i a h.1)) (catches_by s.tables.now b i r)) (sym (cover n (slice_get_within b.insns n i is))) (h.caught n i a is at);
+    };
+  }
+
+  pub flow_at_end : (f : Flowing) → Keeps s b cs entry f → ((n : ℕ) → Waits f.arrivals.waits n → ⊥) → IsLattice s.tables.now → IsFlow s b entry f.arrivals.places
+  flow_at_end f k none l = flow_from f.arrivals.places (holds_at_end s b cs entry f k none l)
+
+  pub least_at_end : (f : Flowing) → Keeps s b cs entry f → ((n : ℕ) → Waits f.arrivals.waits n → ⊥) → IsLattice s.tables.now → IsMonotone s → IsLeastFlow s b entry f.arrivals.places
+  least_at_end f k none l mono = record {
+    flow = flow_at_end f k none l;
+    least = λ y h. (k.least l mono y (holds_from y h)).0;
+  }
+
+-- ---- the loop
+
+less_sum : (x y c d p r v : ℕ) → x + c ≤ y + d → suc r ≡ p → v + d ≡ r + c → x + v < y + p
+less_sum x y c d p r v g e h = omega arith
+
+pub record Solves (s : Setting) (b : Body) (cs : List (Option ℕ)) (entry : Kinds) (f : Flowing) (queue : List ℕ) : Type 0 where
+  pub keeps : Keeps s b cs entry f
+  pub queued : (n : ℕ) → Waits f.arrivals.waits n → Contains queue n
+
+pub solves_started : (s : Setting) (b : Body) (cs : List (Option ℕ)) (entry : Kinds) (f : Flowing) (queue : List ℕ) → length entry.registers ≡ b.registers → f ≡ started s.tables.now b entry → Queues (unreached (length b.insns)).waits f.arrivals.waits [] queue → Solves s b cs entry f queue
+solves_started s b cs entry f queue width e q = record {
+  keeps = subst (Keeps s b cs entry) (sym e) (keeps_started s b cs entry width);
+  queued = λ n w. elim (q.queued n w) [ inr c ↦ c | inl x ↦ absurd (unmarked_at (length b.insns) n x) ];
+}
+  where
+    unmarked_at : (n k : ℕ) → Waits (replicate n false) k → ⊥
+    unmarked_at zero k e = absurd (cc)
+    unmarked_at (suc n) zero e = absurd (cc)
+    unmarked_at (suc n) (suc k) e = unmarked_at n k e
+
+module _ (s : Setting) (b : Body) (cs : List (Option ℕ)) (entry : Kinds) (n : ℕ) (places : Table) (waits waits' : List Bool) (rs : Table) (f : Flowing) (q q' q'' : List ℕ)
+    (k : Solves s b cs entry (record { arrivals = record { places = places; waits = waits }; regions = rs }) q)
+    (popped : IsPermutation q (n ∷ q')) (is_waits : waits' ≡ slice_set waits n false)
+    (is_visited : f ≡ visited s b cs n (record { arrivals = record { places = places; waits = waits' }; regions = rs }))
+    (queues : Queues waits' f.arrivals.waits q' q'') where
+  is_taken : f ≡ visited s b cs n (record { arrivals = record { places = places; waits = slice_set waits n false }; regions = rs })
+  is_taken = is_visited ∙ ap (λ w. visited s b cs n (record { arrivals = record { places = places; waits = w }; regions = rs })) is_waits
+
+  pub solves_on : Solves s b cs entry f q''
+  solves_on = record {
+    keeps = subst (Keeps s b cs entry) (sym is_taken) (keeps_visited s b cs entry n places waits rs k.keeps);
+    queued = λ m w. elim (queues.queued m w) [ inr c ↦ c | inl x ↦ queues.kept m (taken_out waits q q' n popped k.queued m (subst (λ w. Waits w m) is_waits x)) ];
+  }
+
+  pub solves_less : weight s.tables.now b.registers f.arrivals.places + length q'' < weight s.tables.now b.registers places + length q
+  solves_less =
+      let g : weight s.tables.now b.registers f.arrivals.places + count_of f.arrivals.waits ≤ weight s.tables.now b.registers places + count_of waits' = subst (λ x. weight s.tables.now b.registers x.arrivals.places + count_of x.arrivals.waits ≤ weight s.tables.now b.registers places + count_of waits') (sym is_taken)
+          (subst (λ w. weight s.tables.now b.registers (visited s b cs n (record { arrivals = record { places = places; waits = slice_set waits n false }; regions = rs })).arrivals.places + count_of (visited s b cs n (record { arrivals = record { places = places; waits = slice_set waits n false }; regions = rs })).arrivals.waits ≤ weight s.tables.now b.registers places + count_of w) (sym is_waits) (visited_falls s b cs entry n places waits rs k.keeps)) in
+      let p : length (n ∷ q') ≡ length q = length_permutation q (n ∷ q') popped in
+      let c = queues.counts in
+      less_sum (weight s.tables.now b.registers f.arrivals.places) (weight s.tables.now b.registers places) (count_of f.arrivals.waits) (count_of waits') (length q) (length q') (length q'') g p c

@@ -1,6 +1,6 @@
 -- How frames arrive at positions, and the walk that looks for the least flow of a body, by numbers (this project's
 -- profile).
-use Rattle.std.specs.Prelude.{ℕ, ◌+◌, Bool, true, false, ◌&&◌, ◌||◌, nat_eq, nat_lt, min, List, [], ◌∷◌, map, Option, Some, None, slice_get, slice_index_or, slice_set, if◌then◌else◌}
+use Rattle.std.specs.Prelude.{ℕ, ◌+◌, Bool, true, false, ◌&&◌, ◌||◌, nat_eq, nat_lt, min, List, [], ◌∷◌, map, replicate, length, Option, Some, None, slice_get, slice_index_or, slice_set, if◌then◌else◌}
 use Rattle.std.specs.Option.{option_map}
 use Rattle.insn_set.specs.declared.form.Insn.{Insn}
 use Rattle.insn_set.specs.Flow.{throws, goes_on, targets_of}
@@ -192,3 +192,11 @@ place_at ps n = slice_index_or ps n None
 
 abbrev pub visited : Setting → Body → List (Option ℕ) → ℕ → Flowing → Flowing
 visited s b cs n f = visited_in s b cs n f (slice_get b.insns n) (place_at f.arrivals.places n)
+
+-- ---- the beginning
+
+abbrev pub unreached : ℕ → Arrived
+unreached n = record { places = replicate n None; waits = replicate n false }
+
+abbrev pub started : Tables → Body → Kinds → Flowing
+started t b entry = record { arrivals = arrived t 0 entry (unreached (length b.insns)); regions = replicate (length b.regions) None }

@@ -1,11 +1,11 @@
 //! The frames of the positions, and which positions wait to be visited.
 
-ghost use Rattle.std.specs.Prelude.{◌≡◌, ◌<◌, ◌≤◌, ◌∷◌, [], Some, slice_index_or, slice_set, true, false, IfOk, IfSome, IfNone, OnOk, OnSome};
+ghost use Rattle.std.specs.Prelude.{◌≡◌, ◌<◌, ◌≤◌, ◌∷◌, [], Some, None, replicate, slice_index_or, slice_set, true, false, IfOk, IfSome, IfNone, OnOk, OnSome};
 ghost use Rattle.std.specs.Option.{option_map};
 ghost use Rattle.std.specs.List.Sorted.{IsPermutation};
 ghost use Rattle.verify.specs.Waiting.{Queued, queue_of};
 ghost use Rattle.verify.specs.Frames.{kinds_of};
-ghost use Rattle.verify.specs.Flow.{met, rises_in, kinds_in, places_of, arrived_of, arrived, arrived_all, place_at};
+ghost use Rattle.verify.specs.Flow.{met, rises_in, kinds_in, places_of, arrived_of, arrived, arrived_all, place_at, unreached};
 
 use crate::frames::Frame;
 use crate::tables::Tables;
@@ -22,7 +22,9 @@ pub struct Arrivals {
 }
 
 /// So many places without a frame.
-pub fn no_frames(alloc: Global, count: usize) -> Result<Vec<Option<Frame>>, AllocError> {
+pub fn no_frames(alloc: Global, count: usize) -> Result<Vec<Option<Frame>>, AllocError>
+    ensures { IfOk result (λ fs. places_of fs.items ≡ replicate count None) }
+{
     let mut frames = Vec::with_capacity(alloc, count)?;
     for _ in 0..count {
         frames.push(None)?;
@@ -65,7 +67,10 @@ fn merge_moved(tables: &Tables, place: &mut Option<Frame>, frame: Frame) -> bool
 
 impl Arrivals {
     /// So many positions without a frame.
-    pub fn new(alloc: Global, count: usize) -> Result<Arrivals, AllocError> {
+    pub fn new(alloc: Global, count: usize) -> Result<Arrivals, AllocError>
+        ensures arrived { IfOk result (λ a. arrived_of a ≡ unreached count) }
+        ensures queue { IfOk result (λ a. queue_of a ≡ []) }
+    {
         Ok(Arrivals {
             positions: no_frames(alloc, count)?,
             waiting: vec![in alloc; false; count]?,
@@ -148,8 +153,7 @@ impl Arrivals {
         ensures positions { self.new.positions.items ≡ self.old.positions.items }
         ensures waiting { IfSome result (λ n. self.new.waiting.items ≡ slice_set self.old.waiting.items n false) }
         ensures queue { IfSome result (λ n. IsPermutation (queue_of self.old) (n ∷ queue_of self.new)) }
-        ensures none { IfNone result (queue_of self.new ≡ []) }
-        ensures unchanged { IfNone result (self.new.waiting.items ≡ self.old.waiting.items) }
+        ensures none { IfNone result (queue_of self.old ≡ []) }
     {
         match self.work.pop() {
             Some(Reverse(position)) => {

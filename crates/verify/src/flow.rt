@@ -5,12 +5,13 @@
 //! Each region has a frame of its own, in which all its positions that may throw are joined, so that they reach its
 //! handlers together.
 
-ghost use Rattle.std.specs.Prelude.{◌≡◌, slice_get, Some, None, OnOk};
+ghost use Rattle.std.specs.Prelude.{◌≡◌, ◌≤◌, [], slice_get, length, Some, None, OnOk, IfOk};
 ghost use Rattle.insn_set.specs.Flow.{targets_of};
 ghost use Rattle.verify.specs.declared.kinds.Kind.TheVariants.{Null, Undefined, Reference};
 ghost use Rattle.verify.specs.Frames.{kinds_of, all_undefined};
-ghost use Rattle.verify.specs.Waiting.{Queued};
-ghost use Rattle.verify.specs.Flow.{met, kinds_in, thrown_in, caught_at, caught_as, arrived_of, arrived, flowing_of, handled, caught_in, thrown_to, thrown_from, arrived_all, gone_on, followed_by, followed, visited, region_of};
+ghost use Rattle.verify.specs.Waiting.{Queued, Queues, queue_of};
+ghost use Rattle.verify.specs.Typings.{IsLattice, IsMonotone, IsCovering, IsFlow, IsLeastFlow};
+ghost use Rattle.verify.specs.Flow.{met, kinds_in, thrown_in, caught_at, caught_as, arrived_of, arrived, flowing_of, handled, caught_in, thrown_to, thrown_from, arrived_all, gone_on, followed_by, followed, visited, region_of, unreached, started, greatest, places_of};
 
 use crate::arrivals::{Arrivals, merge, no_frames};
 use crate::frames::Frame;
@@ -70,7 +71,6 @@ pub fn covering(alloc: Global, body: &Body) -> Result<Vec<Option<u32>>, AllocErr
 impl Code<'_> {
     /// The kind of the caught object at a handler: that of the handler's type, any object for a catch-all. Where a read
     /// was refused nothing is known of it.
-    #[tactic(auto, using(crate::proofs::Solves::keeps_visited))]
     fn caught_at(&self, thrown: Kind, kind: Kind) -> Kind
         ensures { result ≡ caught_at thrown kind }
     {
@@ -357,18 +357,26 @@ impl Code<'_> {
         }
     }
 
+    /// The entry's frame has arrived, and nothing else has.
+    fn start(&self, alloc: Global, entry: Frame) -> Result<States, AllocError>
+        ensures states { IfOk result (λ f. flowing_of f ≡ started self.now.setting.now.tables.now self.now.body.now (kinds_of entry)) }
+        ensures queues { IfOk result (λ f. Queues (unreached (length self.now.body.now.insns)).waits f.arrivals.waiting.items [] (queue_of f.arrivals)) }
+    {
+        let regions = no_frames(alloc, self.body.regions.len())?;
+        let mut arrivals = Arrivals::new(alloc, self.body.insns.len())?;
+        arrivals.arrive_moved(self.setting.tables, 0, entry)?;
+        Ok(States { arrivals, regions })
+    }
+
     /// The frames of the least flow that begins with a frame. The only error is want of memory.
-    pub fn solve(&self, alloc: Global, entry: Frame) -> Result<Vec<Option<Frame>>, AllocError> {
-        let mut states = States {
-            arrivals: Arrivals::new(alloc, self.body.insns.len())?,
-            regions: no_frames(alloc, self.body.regions.len())?,
-        };
-        states.arrivals.arrive_moved(self.setting.tables, 0, entry)?;
-        for _ in 0..u64::MAX {
-            match states.arrivals.next() {
-                Some(position) => self.visit(alloc, &mut states, position)?,
-                None => break,
-            }
+    pub fn solve(&self, alloc: Global, entry: Frame) -> Result<Vec<Option<Frame>>, AllocError>
+        requires wide { length (kinds_of entry).registers ≡ self.now.body.now.registers }
+        ensures flow { IfOk result (λ fs. IsLattice self.now.setting.now.tables.now → length self.now.body.now.insns ≤ greatest → IsCovering self.now.body.now self.now.covering.now → IsFlow self.now.setting.now self.now.body.now (kinds_of entry) (places_of fs.items)) }
+        ensures least { IfOk result (λ fs. IsLattice self.now.setting.now.tables.now → IsMonotone self.now.setting.now → length self.now.body.now.insns ≤ greatest → IsCovering self.now.body.now self.now.covering.now → IsLeastFlow self.now.setting.now self.now.body.now (kinds_of entry) (places_of fs.items)) }
+    {
+        let mut states = self.start(alloc, entry)?;
+        while let Some(position) = states.arrivals.next() {
+            self.visit(alloc, &mut states, position)?;
         }
         Ok(states.arrivals.positions)
     }

@@ -2,6 +2,8 @@ pub mod Arrived
 pub mod Arrives
 pub mod Cells
 pub mod Climbs
+pub mod Covering
+pub mod Entries
 pub mod Passed
 pub mod Queue
 pub mod Raises

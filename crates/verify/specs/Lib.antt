@@ -1,6 +1,7 @@
 pub mod After
 pub mod Chains
 pub mod Demands
+pub mod Entry
 pub mod Faults
 pub mod Fits
 pub mod Flow

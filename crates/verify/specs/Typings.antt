@@ -1,5 +1,5 @@
 -- Typings of a body by numbers, and the least flow that looks for one (this project's profile).
-use Rattle.std.specs.Prelude.{◌≡◌, ℕ, ◌+◌, ◌<◌, ◌≤◌, Bool, true, false, ◌&&◌, nat_le, nat_lt, List, [], ◌∷◌, ◌++◌, map, length, position, ◌⊎◌, All, Option, Some, None, slice_get, slice_index_or, if◌then◌else◌}
+use Rattle.std.specs.Prelude.{◌≡◌, ℕ, ◌+◌, ◌<◌, ◌≤◌, Bool, true, false, ◌&&◌, nat_le, nat_lt, List, [], ◌∷◌, ◌++◌, map, length, ◌⊎◌, All, Option, Some, None, slice_get, slice_index_or, if◌then◌else◌}
 use Rattle.std.specs.Option.{option_and_then}
 use Rattle.insn_set.specs.declared.form.Insn.{Insn}
 use Rattle.insn_set.specs.Flow.{throws, goes_on, targets_of}
@@ -64,9 +64,14 @@ onward i n = onward_by i (n + 1)
 abbrev pub covers : ℕ → Region → Bool
 covers n r = nat_le r.first n && nat_lt n r.end
 
+-- the place of the first of some regions that covers a position, where they stand from this place on
+abbrev pub first_covering : ℕ → ℕ → List Region → Option ℕ
+first_covering n k [] = None
+first_covering n k (r ∷ rs) = if covers n r then Some k else first_covering n (k + 1) rs
+
 -- the place of the first region that covers a position
 abbrev pub place_covering : Body → ℕ → Option ℕ
-place_covering b n = position (covers n) b.regions
+place_covering b n = first_covering n 0 b.regions
 
 abbrev pub catch_rest : Option ℕ → List (ℕ × Kind)
 catch_rest None = []
@@ -146,3 +151,13 @@ pub record IsMonotone (s : Setting) : Type 0 where
 -- a list gives each position the region that covers it
 abbrev pub IsCovering : Body → List (Option ℕ) → Type 0
 IsCovering b cs = (n : ℕ) → n < length b.insns → region_of cs n ≡ place_covering b n
+
+-- a region with this place covers a position unless an earlier one does
+abbrev pub covered : ℕ → Option ℕ → Bool → Option ℕ
+covered k (Some r) c = Some r
+covered k None c = if c then Some k else None
+
+-- the region is noted for the positions that it covers
+pub record Covers (old new : List (Option ℕ)) (r : Region) (k : ℕ) : Type 0 where
+  pub long : length new ≡ length old
+  pub each : (n : ℕ) → n < length old → region_of new n ≡ covered k (region_of old n) (covers n r)

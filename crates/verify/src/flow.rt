@@ -5,12 +5,12 @@
 //! Each region has a frame of its own, in which all its positions that may throw are joined, so that they reach its
 //! handlers together.
 
-ghost use Rattle.std.specs.Prelude.{◌≡◌, ◌≤◌, [], slice_get, length, Some, None, OnOk, IfOk};
+ghost use Rattle.std.specs.Prelude.{◌≡◌, ◌≤◌, [], slice_get, length, replicate, Some, None, OnOk, IfOk};
 ghost use Rattle.insn_set.specs.Flow.{targets_of};
 ghost use Rattle.verify.specs.declared.kinds.Kind.TheVariants.{Null, Undefined, Reference};
 ghost use Rattle.verify.specs.Frames.{kinds_of, all_undefined};
 ghost use Rattle.verify.specs.Waiting.{Queued, Queues, queue_of};
-ghost use Rattle.verify.specs.Typings.{IsLattice, IsMonotone, IsCovering, IsFlow, IsLeastFlow};
+ghost use Rattle.verify.specs.Typings.{IsLattice, IsMonotone, IsCovering, IsFlow, IsLeastFlow, Covers};
 ghost use Rattle.verify.specs.Flow.{met, kinds_in, thrown_in, caught_at, caught_as, arrived_of, arrived, flowing_of, handled, caught_in, thrown_to, thrown_from, arrived_all, gone_on, followed_by, followed, visited, region_of, unreached, started, greatest, places_of};
 
 use crate::arrivals::{Arrivals, merge, no_frames};
@@ -37,29 +37,40 @@ pub struct Code<'a> {
 }
 
 /// Notes the region for the positions that it covers, unless an earlier one does.
-fn cover(covering: &mut [Option<u32>], region: &Region, place: u32) {
+fn cover(covering: &mut [Option<u32>], region: &Region, place: u32)
+    ensures { Covers covering.old covering.new region.now place }
+{
     for position in region.first..region.end {
-        match covering.get_mut(position as usize) {
-            Some(cell) => {
-                if cell.is_none() {
-                    *cell = Some(place);
-                }
-            }
-            None => return,
+        let at = position as usize;
+        if at >= covering.len() {
+            return;
+        }
+        if covering[at].is_none() {
+            covering[at] = Some(place);
         }
     }
 }
 
+/// No region for each of so many positions.
+fn uncovered(alloc: Global, count: usize) -> Result<Vec<Option<u32>>, AllocError>
+    ensures { IfOk result (λ cs. cs.items ≡ replicate count None) }
+{
+    let mut covering = Vec::with_capacity(alloc, count)?;
+    for _ in 0..count {
+        covering.push(None)?;
+    }
+    Ok(covering)
+}
+
 /// The region that covers each position of a body, the first one if there are several; the empty list where the body
 /// has no regions.
-pub fn covering(alloc: Global, body: &Body) -> Result<Vec<Option<u32>>, AllocError> {
+pub fn covering(alloc: Global, body: &Body) -> Result<Vec<Option<u32>>, AllocError>
+    ensures { IfOk result (λ cs. length body.now.regions ≤ greatest → IsCovering body.now cs.items) }
+{
     if body.regions.is_empty() {
         return Ok(Vec::new(alloc));
     }
-    let mut covering = Vec::with_capacity(alloc, body.insns.len())?;
-    for _ in 0..body.insns.len() {
-        covering.push(None)?;
-    }
+    let mut covering = uncovered(alloc, body.insns.len())?;
     let mut place: u32 = 0;
     for region in body.regions.as_slice() {
         cover(covering.as_mut_slice(), region, place);

@@ -167,7 +167,9 @@ impl Frame {
     }
 
     /// Sets the kind of a register, unless it is past the last one.
-    pub fn put(&mut self, register: u32, kind: Kind) {
+    pub fn put(&mut self, register: u32, kind: Kind)
+        ensures { kinds_of self.new ≡ record (kinds_of self.old) { registers = slice_set (kinds_of self.old).registers register kind } }
+    {
         put(self.registers.as_mut_slice(), register, kind);
     }
 

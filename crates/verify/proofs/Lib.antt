@@ -4,6 +4,7 @@ pub mod Cells
 pub mod Climbs
 pub mod Covering
 pub mod Entries
+pub mod Judged
 pub mod Passed
 pub mod Queue
 pub mod Raises

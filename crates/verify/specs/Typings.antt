@@ -6,12 +6,14 @@ use Rattle.insn_set.specs.Flow.{throws, goes_on, targets_of}
 use Rattle.program_model.specs.declared.body.Body.{Body}
 use Rattle.program_model.specs.declared.body.Handler.{Handler}
 use Rattle.program_model.specs.declared.body.Region.{Region}
+use Rattle.verify.specs.declared.fault.TypeFault.{TypeFault}
+use Rattle.verify.specs.declared.fault.TypeFault.TheVariants as fault
 use Rattle.verify.specs.declared.kinds.Kind.{Kind}
 use Rattle.verify.specs.declared.kinds.Kind.TheVariants as kind
 use Rattle.verify.specs.declared.setting.Setting.{Setting}
 use Rattle.verify.specs.declared.tables.Tables.{Tables}
 use Rattle.verify.specs.Faults.{fault_of}
-use Rattle.verify.specs.Flow.{rank, form_after, place_at, region_of}
+use Rattle.verify.specs.Flow.{greatest, rank, form_after, place_at, region_of}
 use Rattle.verify.specs.Frames.{Kinds, kind_at, all_undefined}
 use Rattle.verify.specs.Joins.{joined}
 use Rattle.verify.specs.Kinds.{same_kind}
@@ -161,3 +163,34 @@ covered k None c = if c then Some k else None
 pub record Covers (old new : List (Option ℕ)) (r : Region) (k : ℕ) : Type 0 where
   pub long : length new ≡ length old
   pub each : (n : ℕ) → n < length old → region_of new n ≡ covered k (region_of old n) (covers n r)
+
+-- ---- where a table breaks
+
+abbrev pub break_in : Setting → ℕ → Option Insn → Option Kinds → Option ℕ
+break_in s n (Some i) (Some a) = fault_of s n a i
+break_in s n i a = None
+
+-- the lowest register at which a position of a table breaks
+abbrev pub break_at : Setting → Body → Table → ℕ → Option ℕ
+break_at s b x n = break_in s n (slice_get b.insns n) (place_at x n)
+
+-- There is no typing, and this is the first position at which the least flow breaks, with its lowest register.
+pub record IsIllTyped (s : Setting) (b : Body) (entry : Kinds) (n r : ℕ) : Type 0 where
+  pub table : Table
+  pub least : IsLeastFlow s b entry table
+  pub breaks : break_at s b table n ≡ Some r
+  pub first : (k : ℕ) → k < n → break_at s b table k ≡ None
+  pub none : (y : Table) → IsTyping s b entry y → ⊥
+
+-- what makes the solver exact: joins are least upper bounds, what is lower is allowed where the higher is, and places are
+-- numbers of 32 bits
+pub record IsExact (s : Setting) (b : Body) : Type 0 where
+  pub lattice : IsLattice s.tables.now
+  pub monotone : IsMonotone s
+  pub insns : length b.insns ≤ greatest
+  pub regions : length b.regions ≤ greatest
+
+-- what a refusal says
+abbrev pub Refuses : Setting → Body → Kinds → ℕ → TypeFault → Type 0
+Refuses s b entry m fault.NoMemory = Unit
+Refuses s b entry m (fault.IllTyped k n r) = (k ≡ m) × (IsExact s b → IsIllTyped s b entry n r)

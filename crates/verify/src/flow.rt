@@ -30,10 +30,10 @@ pub struct States {
 
 /// A body and the region that covers each of its positions; none is listed where the body has no region.
 #[derive(Drop)]
-pub struct Code<'a> {
-    pub setting: &'a Setting<'a>,
-    pub body: &'a Body,
-    pub covering: &'a [Option<u32>],
+pub struct Code<'a, 'b, 'c, 'd> {
+    pub setting: &'a Setting<'b>,
+    pub body: &'c Body,
+    pub covering: &'d [Option<u32>],
 }
 
 /// Notes the region for the positions that it covers, unless an earlier one does.
@@ -79,7 +79,7 @@ pub fn covering(alloc: Global, body: &Body) -> Result<Vec<Option<u32>>, AllocErr
     Ok(covering)
 }
 
-impl Code<'_> {
+impl Code<'_, '_, '_, '_> {
     /// The kind of the caught object at a handler: that of the handler's type, any object for a catch-all. Where a read
     /// was refused nothing is known of it.
     fn caught_at(&self, thrown: Kind, kind: Kind) -> Kind

@@ -1,6 +1,9 @@
 //! Typings of methods.
 
-ghost use Rattle.std.specs.Prelude.{◌≡◌, IfNone, IfSome};
+ghost use Rattle.std.specs.Prelude.{◌≡◌, IfNone, IfSome, IfOk, IfErr};
+ghost use Rattle.verify.specs.Entry.{begun};
+ghost use Rattle.verify.specs.Flow.{places_of};
+ghost use Rattle.verify.specs.Typings.{IsExact, IsLeastTyping, Refuses};
 ghost use Rattle.verify.specs.Frames.{kinds_of};
 ghost use Rattle.verify.specs.Faults.{fault_of, fault_at, NoneBreaks};
 
@@ -88,6 +91,41 @@ impl Setting<'_> {
     }
 }
 
+impl Setting<'_> {
+    /// The least typing of a body that is entered with these kinds. `IllTyped` stands where there is none.
+    fn judge(
+        &self,
+        alloc: Global,
+        method: u32,
+        body: &Body,
+        passed: &Passed<'_>,
+    ) -> Result<Typings, TypeFault>
+        ensures typed { IfOk result (λ x. IsExact self.now body.now → IsLeastTyping self.now body.now (begun self.now body.now passed.now.receiver passed.now.kinds.now) (places_of x.states.items)) }
+        ensures refused { IfErr result (λ e. Refuses self.now body.now (begun self.now body.now passed.now.receiver passed.now.kinds.now) method e) }
+    {
+        let covering = covering(alloc, body)?;
+        let code = Code {
+            setting: self,
+            body,
+            covering: covering.as_slice(),
+        };
+        let entry = self.begin(alloc, body, passed)?;
+        let states = code.solve(alloc, entry)?;
+        match self.first_fault(
+            body.insns.as_slice(),
+            states.as_slice(),
+            word(body.insns.len()),
+        ) {
+            Some((position, register)) => Err(TypeFault::IllTyped {
+                method,
+                position,
+                register,
+            }),
+            None => Ok(Typings { states }),
+        }
+    }
+}
+
 /// The receiver with which a method is entered.
 fn receiver_of(class: &Class, at: u32, method: &Method, constructs: bool) -> Option<Kind> {
     if method.flags.has(Flags::STATIC) {
@@ -155,26 +193,7 @@ impl<'a> Verifier<'a> {
             receiver: receiver_of(class.0, class.1, method, constructs),
             kinds,
         };
-        let covering = covering(alloc, body)?;
-        let code = Code {
-            setting: &setting,
-            body,
-            covering: covering.as_slice(),
-        };
-        let entry = setting.begin(alloc, body, &passed)?;
-        let states = code.solve(alloc, entry)?;
-        match setting.first_fault(
-            body.insns.as_slice(),
-            states.as_slice(),
-            word(body.insns.len()),
-        ) {
-            Some((position, register)) => Err(TypeFault::IllTyped {
-                method: method.name,
-                position,
-                register,
-            }),
-            None => Ok(Typings { states }),
-        }
+        setting.judge(alloc, method.name, body, &passed)
     }
 
     /// The typings of a method: the least that there are. `IllTyped` stands where there are none. A method without code

@@ -1,5 +1,6 @@
 pub mod Arrived
 pub mod Arrives
+pub mod Bodies
 pub mod Cells
 pub mod Climbs
 pub mod Covering

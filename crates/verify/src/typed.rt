@@ -1,9 +1,11 @@
 //! Typings of methods.
 
-ghost use Rattle.std.specs.Prelude.{◌≡◌, IfNone, IfSome, IfOk, IfErr};
+ghost use Rattle.std.specs.Prelude.{◌≡◌, Some, IfNone, IfSome, IfOk, IfErr};
 ghost use Rattle.verify.specs.Entry.{begun};
 ghost use Rattle.verify.specs.Flow.{places_of};
-ghost use Rattle.verify.specs.Typings.{IsExact, IsLeastTyping, Refuses};
+ghost use Rattle.verify.specs.Typings.{IsExact, IsLeastTyping, Refuses as RefusesBody};
+ghost use Rattle.verify.specs.Names.{parameters_of, result_of};
+ghost use Rattle.verify.specs.Methods.{receiver_of, constructs, HasTyping, Refuses, Types};
 ghost use Rattle.verify.specs.Frames.{kinds_of};
 ghost use Rattle.verify.specs.Faults.{fault_of, fault_at, NoneBreaks};
 
@@ -101,7 +103,7 @@ impl Setting<'_> {
         passed: &Passed<'_>,
     ) -> Result<Typings, TypeFault>
         ensures typed { IfOk result (λ x. IsExact self.now body.now → IsLeastTyping self.now body.now (begun self.now body.now passed.now.receiver passed.now.kinds.now) (places_of x.states.items)) }
-        ensures refused { IfErr result (λ e. Refuses self.now body.now (begun self.now body.now passed.now.receiver passed.now.kinds.now) method e) }
+        ensures refused { IfErr result (λ e. RefusesBody self.now body.now (begun self.now body.now passed.now.receiver passed.now.kinds.now) method e) }
     {
         let covering = covering(alloc, body)?;
         let code = Code {
@@ -127,7 +129,9 @@ impl Setting<'_> {
 }
 
 /// The receiver with which a method is entered.
-fn receiver_of(class: &Class, at: u32, method: &Method, constructs: bool) -> Option<Kind> {
+fn receiver_of(class: &Class, at: u32, method: &Method, constructs: bool) -> Option<Kind>
+    ensures { result ≡ receiver_of class.now at method.now constructs }
+{
     if method.flags.has(Flags::STATIC) {
         None
     } else if constructs {
@@ -140,7 +144,10 @@ fn receiver_of(class: &Class, at: u32, method: &Method, constructs: bool) -> Opt
 }
 
 /// The parameters and the result of a method's proto.
-fn proto_of<'b>(program: &'b Program, method: &Method) -> (&'b [u32], u32) {
+fn proto_of<'b>(program: &'b Program, method: &Method) -> (&'b [u32], u32)
+    ensures parameters { result.0.now ≡ parameters_of program.now method.now.name }
+    ensures result { result.1 ≡ result_of program.now method.now.name }
+{
     let name = match program.methods.as_slice().get(method.name as usize) {
         Some(name) => name,
         None => return (&[], u32::MAX),
@@ -165,6 +172,13 @@ impl<'a> Verifier<'a> {
         })
     }
 
+    /// Whether a method is a constructor.
+    fn constructs(&self, method: &Method) -> bool
+        ensures { result ≡ constructs self.now.tables method.now }
+    {
+        self.tables.is_constructor(method.name) && !method.flags.has(Flags::STATIC)
+    }
+
     /// The typings of the code of a method of a class.
     fn of_body(
         &self,
@@ -173,11 +187,13 @@ impl<'a> Verifier<'a> {
         class: (&Class, u32),
         method: &Method,
         body: &Body,
-    ) -> Result<Typings, TypeFault> {
+    ) -> Result<Typings, TypeFault>
+        ensures typed { IfOk result (λ x. HasTyping self.now class.entry.0.now class.entry.1 method.now body.now (places_of x.states.items)) }
+        ensures refused { method.now.body ≡ Some body.now → IfErr result (Refuses self.now class.entry.0.now class.entry.1 method.now) }
+    {
         let found = calls.search_all(alloc, class.1, body.insns.as_slice())?;
         let (kinds, result) = proto_of(self.program, method);
-        let constructs = self.tables.is_constructor(method.name)
-            && !method.flags.has(Flags::STATIC);
+        let constructs = self.constructs(method);
         let setting = Setting {
             program: self.program,
             hierarchy: self.hierarchy,
@@ -200,20 +216,17 @@ impl<'a> Verifier<'a> {
     /// has no positions.
     pub fn typings(&self, alloc: Global, method: MethodAt) -> Result<Typings, TypeFault> {
         let mut calls = Calls::new(alloc, self.program, self.hierarchy, &self.tables);
-        let class = match self.program.classes.as_slice().get(method.class as usize) {
-            Some(class) => class,
-            None => {
-                return Ok(Typings {
+        match self.program.classes.as_slice().get(method.class as usize) {
+            Some(class) => match method_at(self.program, method) {
+                Some(found) => self.of_method(alloc, &mut calls, (class, method.class), found),
+                None => Ok(Typings {
                     states: Vec::new(alloc),
-                });
-            }
-        };
-        self.of_method(
-            alloc,
-            &mut calls,
-            (class, method.class),
-            method_at(self.program, method),
-        )
+                }),
+            },
+            None => Ok(Typings {
+                states: Vec::new(alloc),
+            }),
+        }
     }
 
     /// The typings of a method, if it has code.
@@ -222,16 +235,17 @@ impl<'a> Verifier<'a> {
         alloc: Global,
         calls: &mut Calls<'_>,
         class: (&Class, u32),
-        method: Option<&Method>,
-    ) -> Result<Typings, TypeFault> {
-        if let Some(method) = method {
-            if let Some(body) = &method.body {
-                return self.of_body(alloc, calls, class, method, body);
-            }
+        method: &Method,
+    ) -> Result<Typings, TypeFault>
+        ensures typed { IfOk result (λ x. Types self.now class.entry.0.now class.entry.1 method.now (places_of x.states.items)) }
+        ensures refused { IfErr result (Refuses self.now class.entry.0.now class.entry.1 method.now) }
+    {
+        match &method.body {
+            Some(body) => self.of_body(alloc, calls, class, method, body),
+            None => Ok(Typings {
+                states: Vec::new(alloc),
+            }),
         }
-        Ok(Typings {
-            states: Vec::new(alloc),
-        })
     }
 
     /// Refuses the first method of a class that is ill typed.
@@ -242,7 +256,7 @@ impl<'a> Verifier<'a> {
         class: (&Class, u32),
     ) -> Result<(), TypeFault> {
         for method in class.0.methods.as_slice() {
-            self.of_method(alloc, calls, class, Some(method))?;
+            self.of_method(alloc, calls, class, method)?;
         }
         Ok(())
     }

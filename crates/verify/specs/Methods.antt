@@ -1,0 +1,65 @@
+-- Typings of the methods of a program, by numbers (this project's profile).
+use Rattle.std.specs.Prelude.{◌≡◌, ℕ, Bool, true, false, ◌&&◌, not, List, [], Option, Some, None, slice_get, if◌then◌else◌}
+use Rattle.program_model.specs.declared.body.Body.{Body}
+use Rattle.program_model.specs.declared.program.Class.{Class}
+use Rattle.program_model.specs.declared.program.Method.{Method}
+use Rattle.program_model.specs.declared.program.MethodAt.{MethodAt}
+use Rattle.program_model.specs.declared.program.Program.{Program}
+use Rattle.program_model.specs.Lookups.{method_at}
+use Rattle.program_model.specs.MemberRules.{has_flag}
+use Rattle.verify.specs.declared.fault.TypeFault.{TypeFault}
+use Rattle.verify.specs.declared.fault.TypeFault.TheVariants as fault
+use Rattle.verify.specs.declared.kinds.Kind.{Kind}
+use Rattle.verify.specs.declared.kinds.Kind.TheVariants as kind
+use Rattle.verify.specs.declared.setting.Setting.{Setting}
+use Rattle.verify.specs.declared.tables.Tables.{Tables}
+use Rattle.verify.specs.declared.typed.Verifier.{Verifier}
+use Rattle.verify.specs.Entry.{begun}
+use Rattle.verify.specs.Names.{parameters_of, result_of}
+use Rattle.verify.specs.Types.{is_constructor}
+use Rattle.verify.specs.Typings.{Table, IsExact, IsLeastTyping, IsIllTyped}
+
+abbrev pub constructs : Tables → Method → Bool
+constructs t m = is_constructor t m.name && not (has_flag m.flags 8)
+
+-- the receiver with which a method of the class at a place is entered
+abbrev pub receiver_of : Class → ℕ → Method → Bool → Option Kind
+receiver_of c at m begins =
+    if has_flag m.flags 8 then None
+    else if begins then Some kind.FreshThis
+    else if has_flag c.flags 512 then Some kind.Reference
+    else Some (kind.Program at)
+
+-- what the code of a method is judged by
+pub record IsSettingOf (v : Verifier) (c : Class) (at : ℕ) (m : Method) (s : Setting) : Type 0 where
+  pub program : s.program.now ≡ v.program.now
+  pub hierarchy : s.hierarchy.now ≡ v.hierarchy.now
+  pub tables : s.tables.now ≡ v.tables
+  pub class : s.class ≡ at
+  pub kind : s.kind ≡ c.name
+  pub superclass : s.superclass ≡ c.superclass
+  pub result : s.result ≡ result_of v.program.now m.name
+  pub begins : s.constructs ≡ constructs v.tables m
+
+-- the least typing of the code of a method of the class at a place
+pub record HasTyping (v : Verifier) (c : Class) (at : ℕ) (m : Method) (b : Body) (x : Table) : Type 0 where
+  pub setting : Setting
+  pub is : IsSettingOf v c at m setting
+  pub least : IsExact setting b → IsLeastTyping setting b (begun setting b (receiver_of c at m (constructs v.tables m)) (parameters_of v.program.now m.name)) x
+
+-- the code of a method has none, and its least flow breaks first at this position and register
+pub record HasNone (v : Verifier) (c : Class) (at : ℕ) (m : Method) (n r : ℕ) : Type 0 where
+  pub setting : Setting
+  pub is : IsSettingOf v c at m setting
+  pub body : Body
+  pub has : m.body ≡ Some body
+  pub ill : IsExact setting body → IsIllTyped setting body (begun setting body (receiver_of c at m (constructs v.tables m)) (parameters_of v.program.now m.name)) n r
+
+-- what a refusal says of a method
+abbrev pub Refuses : Verifier → Class → ℕ → Method → TypeFault → Type 0
+Refuses v c at m fault.NoMemory = Unit
+Refuses v c at m (fault.IllTyped k n r) = (k ≡ m.name) × HasNone v c at m n r
+
+-- what an answer says of a method
+abbrev pub Types : Verifier → Class → ℕ → Method → Table → Type 0
+Types v c at m x = (b : Body) → m.body ≡ Some b → HasTyping v c at m b x

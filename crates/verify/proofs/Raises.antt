@@ -127,10 +127,10 @@ kinds_stay t a o e =
     let e1 = left_false (rises_any t a.registers o.registers || rises t a.result o.result || rises t a.caught o.caught) (rises t a.receiver o.receiver) e in
     let e2 = left_false (rises_any t a.registers o.registers || rises t a.result o.result) (rises t a.caught o.caught) e1 in
     same_made _ o.registers _ o.result _ o.caught _ o.receiver
-        (raised_all_stays t a.registers o.registers (left_false _ (rises t a.result o.result) e2))
-        (raised_stays t a.result o.result (right_false (rises_any t a.registers o.registers) _ e2))
-        (raised_stays t a.caught o.caught (right_false (rises_any t a.registers o.registers || rises t a.result o.result) _ e1))
-        (raised_stays t a.receiver o.receiver (right_false (rises_any t a.registers o.registers || rises t a.result o.result || rises t a.caught o.caught) _ e))
+    (raised_all_stays t a.registers o.registers (left_false _ (rises t a.result o.result) e2))
+    (raised_stays t a.result o.result (right_false (rises_any t a.registers o.registers) _ e2))
+    (raised_stays t a.caught o.caught (right_false (rises_any t a.registers o.registers || rises t a.result o.result) _ e1))
+    (raised_stays t a.receiver o.receiver (right_false (rises_any t a.registers o.registers || rises t a.result o.result || rises t a.caught o.caught) _ e))
 
 pub kinds_itself : (t : Tables) (a : Kinds) → IsBelow t a a
 kinds_itself t a = record {

@@ -98,8 +98,8 @@ arrived_all_reaches t m [] a w s width = reaches_same t m (λ y. All (λ q. Arri
 arrived_all_reaches t m (q ∷ qs) a w s width =
     let first = arrived_reaches t m q a w s width in
     reaches_on t m (λ y. Arrives t y q a) (λ y. All (λ q. Arrives t y q a) qs) (λ y. All (λ q. Arrives t y q a) (q ∷ qs)) w (arrived t q a w) (arrived_all t qs a (arrived t q a w))
-        (λ y p r. All-cons (λ q. Arrives t y q a) q qs p r) (λ y r. all_head (λ q. Arrives t y q a) q qs r) (λ y r. all_tail (λ q. Arrives t y q a) q qs r)
-        first (arrived_all_reaches t m qs a (arrived t q a w) (stands_on t m w (arrived t q a w) s first.grows) width)
+    (λ y p r. All-cons (λ q. Arrives t y q a) q qs p r) (λ y r. all_head (λ q. Arrives t y q a) q qs r) (λ y r. all_tail (λ q. Arrives t y q a) q qs r)
+    first (arrived_all_reaches t m qs a (arrived t q a w) (stands_on t m w (arrived t q a w) s first.grows) width)
 
 -- ---- handlers
 
@@ -112,8 +112,8 @@ handled_reaches t m (h ∷ hs) a w s width =
     let w' = arrived t h.position (caught_as a (kind_of t h.kind)) w in
     let first = arrived_reaches t m h.position (caught_as a (kind_of t h.kind)) w s width in
     reaches_on t m (λ y. HandledIn t a y h) (λ y. All (HandledIn t a y) hs) (λ y. All (HandledIn t a y) (h ∷ hs)) w w' (handled t hs a w')
-        (λ y p r. All-cons (HandledIn t a y) h hs p r) (λ y r. all_head (HandledIn t a y) h hs r) (λ y r. all_tail (HandledIn t a y) h hs r)
-        first (handled_reaches t m hs a w' (stands_on t m w w' s first.grows) width)
+    (λ y p r. All-cons (HandledIn t a y) h hs p r) (λ y r. all_head (HandledIn t a y) h hs r) (λ y r. all_tail (HandledIn t a y) h hs r)
+    first (handled_reaches t m hs a w' (stands_on t m w w' s first.grows) width)
 
 -- kinds that a region throws arrive at its handlers
 abbrev pub CaughtAt : Tables → Kinds → Table → (ℕ × Kind) → Type 0
@@ -136,10 +136,10 @@ caught_reaches t m r a w s width =
     let w' = handled t r.handlers a w in
     let first = handled_reaches t m r.handlers a w s width in
     reaches_on t m (λ y. All (HandledIn t a y) r.handlers) (λ y. All (CaughtAt t a y) (catch_rest r.rest)) (Catches t r a) w w' (handled_rest t r.rest a w')
-        (λ y p q. All-append (CaughtAt t a y) (map (named t) r.handlers) (catch_rest r.rest) (All-map (CaughtAt t a y) (named t) r.handlers p) q)
-        (λ y c. all_unmap (CaughtAt t a y) (named t) r.handlers (all_left (CaughtAt t a y) (map (named t) r.handlers) (catch_rest r.rest) c))
-        (λ y c. all_right (CaughtAt t a y) (map (named t) r.handlers) (catch_rest r.rest) c)
-        first (rest_reaches t m r.rest a w' (stands_on t m w w' s first.grows) width)
+    (λ y p q. All-append (CaughtAt t a y) (map (named t) r.handlers) (catch_rest r.rest) (All-map (CaughtAt t a y) (named t) r.handlers p) q)
+    (λ y c. all_unmap (CaughtAt t a y) (named t) r.handlers (all_left (CaughtAt t a y) (map (named t) r.handlers) (catch_rest r.rest) c))
+    (λ y c. all_right (CaughtAt t a y) (map (named t) r.handlers) (catch_rest r.rest) c)
+    first (rest_reaches t m r.rest a w' (stands_on t m w w' s first.grows) width)
 
 -- ---- the next position and the targets
 

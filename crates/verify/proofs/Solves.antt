@@ -312,7 +312,7 @@ module _ (s : Setting) (b : Body) (cs : List (Option ℕ)) (entry : Kinds) (n : 
   pub solves_less : weight s.tables.now b.registers f.arrivals.places + length q'' < weight s.tables.now b.registers places + length q
   solves_less =
       let g : weight s.tables.now b.registers f.arrivals.places + count_of f.arrivals.waits ≤ weight s.tables.now b.registers places + count_of waits' = subst (λ x. weight s.tables.now b.registers x.arrivals.places + count_of x.arrivals.waits ≤ weight s.tables.now b.registers places + count_of waits') (sym is_taken)
-          (subst (λ w. weight s.tables.now b.registers (visited s b cs n (record { arrivals = record { places = places; waits = slice_set waits n false }; regions = rs })).arrivals.places + count_of (visited s b cs n (record { arrivals = record { places = places; waits = slice_set waits n false }; regions = rs })).arrivals.waits ≤ weight s.tables.now b.registers places + count_of w) (sym is_waits) (visited_falls s b cs entry n places waits rs k.keeps)) in
+      (subst (λ w. weight s.tables.now b.registers (visited s b cs n (record { arrivals = record { places = places; waits = slice_set waits n false }; regions = rs })).arrivals.places + count_of (visited s b cs n (record { arrivals = record { places = places; waits = slice_set waits n false }; regions = rs })).arrivals.waits ≤ weight s.tables.now b.registers places + count_of w) (sym is_waits) (visited_falls s b cs entry n places waits rs k.keeps)) in
       let p : length (n ∷ q') ≡ length q = length_permutation q (n ∷ q') popped in
       let c = queues.counts in
       less_sum (weight s.tables.now b.registers f.arrivals.places) (weight s.tables.now b.registers places) (count_of f.arrivals.waits) (count_of waits') (length q) (length q') (length q'') g p c

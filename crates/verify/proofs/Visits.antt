@@ -32,7 +32,7 @@ module _ (s : Setting) (b : Body) (cs : List (Option ℕ)) (n : ℕ) (i : Insn) 
       let first = follows_throw s.tables.now b.registers b cs n i k x f st z long wx is in
       let second = follows_arrivals s.tables.now b.registers b (Onward s.tables.now i (next_of n) y) g (gone_on s.tables.now n i y g.arrivals) first.thrown (gone_reaches s.tables.now b.registers n i y g.arrivals (stands_on s.tables.now b.registers f.arrivals g.arrivals st first.grows) wy) in
       follows_on s.tables.now b.registers b (Caught s.tables.now b i (region_of cs n) (record x { caught = k })) (Onward s.tables.now i (next_of n) y) (λ v. Onward s.tables.now i (next_of n) y v × Caught s.tables.now b i (region_of cs n) (record x { caught = k }) v) f g (gone s.tables.now n i y g)
-          (λ v p q. (q, p)) (λ v p. p.1) (λ v p. p.0) first second
+      (λ v p q. (q, p)) (λ v p. p.1) (λ v p. p.0) first second
 
   abbrev SentBy : Option ℕ → Table → Type 0
   SentBy o v = Onward s.tables.now i (next_of n) (unless_fault o b (form_after s n i a)) v × All (λ h. Arrives s.tables.now v h.0 (unless_fault o b (record a { caught = h.1 }))) (catches_by s.tables.now b i (region_of cs n))

@@ -7,7 +7,7 @@ use Rattle.verify.proofs.arrivals.Arrivals.arrive_moved.Goals as goal
 pub returns-in_ok-wake-clause-arrived : goal.returns-in_ok-wake-clause-arrived
 returns-in_ok-wake-clause-arrived c =
     let one = arrived_one c.args.tables.now c.args.position (kinds_of c.args.frame) c.args.self.now.positions.items c.args.self.now.waiting.items c.wake.new.self.waiting.items c.index_mut.result.now c.merge_moved.new.place c.len.result (search rules) c.if-at-len.true c.index_mut.ensures.value c.merge_moved.ensures.place
-        (marked c.merge_moved.result _ _ _ _ c.merge_moved.ensures.rose c.if-merge_moved.true c.in_ok-wake.ensures.waiting) in
+    (marked c.merge_moved.result _ _ _ _ c.merge_moved.ensures.rose c.if-merge_moved.true c.in_ok-wake.ensures.waiting) in
     let e : places_of c.wake.new.self.positions.items ≡ places_of (Rattle.std.proofs.Common.set c.args.self.now.positions.items c.args.position c.merge_moved.new.place) = ap places_of c.in_ok-wake.ensures.positions in
     rw e one
 

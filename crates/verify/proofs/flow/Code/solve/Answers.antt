@@ -19,7 +19,7 @@ loop-position-smaller c =
     let waits = c.next.new.self.waiting.items in
     let is = c.in_ok-visit.ensures.states ∙ ap (λ ps. visited s b cs c.in-Some.position (record { arrivals = record { places = places_of ps; waits = waits }; regions = places_of old.regions.items })) c.in-Some.ensures.positions in
     solves_less s b cs (kinds_of c.args.entry) c.in-Some.position (places_of old.arrivals.positions.items) old.arrivals.waiting.items waits (places_of old.regions.items) (flowing_of c.visit.new.states) (queue_of old.arrivals) (queue_of c.next.new.self) (queue_of c.visit.new.states.arrivals)
-        c.loop-position.invariant c.in-Some.ensures.queue c.in-Some.ensures.waiting is c.in_ok-visit.ensures.queues
+    c.loop-position.invariant c.in-Some.ensures.queue c.in-Some.ensures.waiting is c.in_ok-visit.ensures.queues
 
 pub loop-position-preserved : goal.loop-position-preserved
 loop-position-preserved c =
@@ -30,7 +30,7 @@ loop-position-preserved c =
     let waits = c.next.new.self.waiting.items in
     let is = c.in_ok-visit.ensures.states ∙ ap (λ ps. visited s b cs c.in-Some.position (record { arrivals = record { places = places_of ps; waits = waits }; regions = places_of old.regions.items })) c.in-Some.ensures.positions in
     solves_on s b cs (kinds_of c.args.entry) c.in-Some.position (places_of old.arrivals.positions.items) old.arrivals.waiting.items waits (places_of old.regions.items) (flowing_of c.visit.new.states) (queue_of old.arrivals) (queue_of c.next.new.self) (queue_of c.visit.new.states.arrivals)
-        c.loop-position.invariant c.in-Some.ensures.queue c.in-Some.ensures.waiting is c.in_ok-visit.ensures.queues
+    c.loop-position.invariant c.in-Some.ensures.queue c.in-Some.ensures.waiting is c.in_ok-visit.ensures.queues
 
 pub returns-clause-flow : goal.returns-clause-flow
 returns-clause-flow c = λ l fits cover.

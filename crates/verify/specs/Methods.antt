@@ -1,5 +1,6 @@
 -- Typings of the methods of a program, by numbers (this project's profile).
-use Rattle.std.specs.Prelude.{◌≡◌, ℕ, Bool, true, false, ◌&&◌, not, List, [], Option, Some, None, slice_get, if◌then◌else◌}
+use Rattle.std.specs.Prelude.{◌≡◌, ℕ, ◌<◌, Bool, true, false, ◌&&◌, not, List, [], take, length, All, Option, Some, None, slice_get, if◌then◌else◌}
+use Rattle.hierarchy.specs.declared.Hierarchy.{Hierarchy}
 use Rattle.program_model.specs.declared.body.Body.{Body}
 use Rattle.program_model.specs.declared.program.Class.{Class}
 use Rattle.program_model.specs.declared.program.Method.{Method}
@@ -63,3 +64,47 @@ Refuses v c at m (fault.IllTyped k n r) = (k ≡ m.name) × HasNone v c at m n r
 -- what an answer says of a method
 abbrev pub Types : Verifier → Class → ℕ → Method → Table → Type 0
 Types v c at m x = (b : Body) → m.body ≡ Some b → HasTyping v c at m b x
+
+-- ---- all methods
+
+-- some table is what an answer says
+pub record HasTypings (v : Verifier) (c : Class) (at : ℕ) (m : Method) : Type 0 where
+  pub table : Table
+  pub types : Types v c at m table
+
+-- the method at a place is refused
+pub record RefusesAt (v : Verifier) (at : MethodAt) (e : TypeFault) : Type 0 where
+  pub class : Class
+  pub method : Method
+  pub is_class : slice_get v.program.now.classes at.class ≡ Some class
+  pub is_method : method_at v.program.now at ≡ Some method
+  pub refuses : Refuses v class at.class method e
+
+-- the answer for the method at a place
+abbrev pub TypesAt : Verifier → MethodAt → Table → Type 0
+TypesAt v at x = (c : Class) (m : Method) → slice_get v.program.now.classes at.class ≡ Some c → method_at v.program.now at ≡ Some m → Types v c at.class m x
+
+-- the first method of a class that is refused
+pub record RefusesIn (v : Verifier) (c : Class) (at : ℕ) (e : TypeFault) : Type 0 where
+  pub place : ℕ
+  pub method : Method
+  pub is : slice_get c.methods place ≡ Some method
+  pub before : All (HasTypings v c at) (take place c.methods)
+  pub refuses : Refuses v c at method e
+
+-- all methods of the classes below a place have typings
+abbrev pub AllBelow : Verifier → ℕ → Type 0
+AllBelow v n = (k : ℕ) (c : Class) → k < n → slice_get v.program.now.classes k ≡ Some c → All (HasTypings v c k) c.methods
+
+-- the first method, in class and method order, that is refused
+pub record RefusesFirst (v : Verifier) (e : TypeFault) : Type 0 where
+  pub at : ℕ
+  pub class : Class
+  pub is : slice_get v.program.now.classes at ≡ Some class
+  pub before : AllBelow v at
+  pub refuses : RefusesIn v class at e
+
+-- the verifier of a program
+pub record IsFor (p : Program) (h : Hierarchy) (v : Verifier) : Type 0 where
+  pub program : v.program.now ≡ p
+  pub hierarchy : v.hierarchy.now ≡ h

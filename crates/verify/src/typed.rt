@@ -1,11 +1,11 @@
 //! Typings of methods.
 
-ghost use Rattle.std.specs.Prelude.{◌≡◌, Some, IfNone, IfSome, IfOk, IfErr};
+ghost use Rattle.std.specs.Prelude.{◌≡◌, ◌≤◌, length, All, Some, IfNone, IfSome, IfOk, IfErr, OnOk};
 ghost use Rattle.verify.specs.Entry.{begun};
-ghost use Rattle.verify.specs.Flow.{places_of};
+ghost use Rattle.verify.specs.Flow.{greatest, places_of};
 ghost use Rattle.verify.specs.Typings.{IsExact, IsLeastTyping, Refuses as RefusesBody};
 ghost use Rattle.verify.specs.Names.{parameters_of, result_of};
-ghost use Rattle.verify.specs.Methods.{receiver_of, constructs, HasTyping, Refuses, Types};
+ghost use Rattle.verify.specs.Methods.{receiver_of, constructs, HasTyping, Refuses, Types, HasTypings, TypesAt, RefusesAt, RefusesIn, AllBelow, RefusesFirst, IsFor};
 ghost use Rattle.verify.specs.Frames.{kinds_of};
 ghost use Rattle.verify.specs.Faults.{fault_of, fault_at, NoneBreaks};
 
@@ -164,7 +164,9 @@ impl<'a> Verifier<'a> {
         alloc: Global,
         program: &'a Program,
         hierarchy: &'a Hierarchy,
-    ) -> Result<Verifier<'a>, AllocError> {
+    ) -> Result<Verifier<'a>, AllocError>
+        ensures { IfOk result (IsFor program.now hierarchy.now) }
+    {
         Ok(Verifier {
             program,
             hierarchy,
@@ -214,7 +216,10 @@ impl<'a> Verifier<'a> {
 
     /// The typings of a method: the least that there are. `IllTyped` stands where there are none. A method without code
     /// has no positions.
-    pub fn typings(&self, alloc: Global, method: MethodAt) -> Result<Typings, TypeFault> {
+    pub fn typings(&self, alloc: Global, method: MethodAt) -> Result<Typings, TypeFault>
+        ensures typed { IfOk result (λ x. TypesAt self.now method (places_of x.states.items)) }
+        ensures refused { IfErr result (RefusesAt self.now method) }
+    {
         let mut calls = Calls::new(alloc, self.program, self.hierarchy, &self.tables);
         match self.program.classes.as_slice().get(method.class as usize) {
             Some(class) => match method_at(self.program, method) {
@@ -253,20 +258,33 @@ impl<'a> Verifier<'a> {
         &self,
         alloc: Global,
         calls: &mut Calls<'_>,
-        class: (&Class, u32),
-    ) -> Result<(), TypeFault> {
-        for method in class.0.methods.as_slice() {
-            self.of_method(alloc, calls, class, method)?;
+        class: &Class,
+        at: u32,
+    ) -> Result<(), TypeFault>
+        ensures typed { OnOk result (All (HasTypings self.now class.now at) class.now.methods) }
+        ensures refused { IfErr result (RefusesIn self.now class.now at) }
+    {
+        for method in class.methods.as_slice() {
+            match self.of_method(alloc, calls, (class, at), method) {
+                Ok(_typings) => {}
+                Err(fault) => return Err(fault),
+            }
         }
         Ok(())
     }
 
     /// Refuses the first method, in class and method order, that is ill typed.
-    pub fn verify_all(&self, alloc: Global) -> Result<(), TypeFault> {
+    pub fn verify_all(&self, alloc: Global) -> Result<(), TypeFault>
+        ensures typed { OnOk result (length self.now.program.now.classes ≤ greatest → AllBelow self.now (length self.now.program.now.classes)) }
+        ensures refused { IfErr result (λ e. length self.now.program.now.classes ≤ greatest → RefusesFirst self.now e) }
+    {
         let mut calls = Calls::new(alloc, self.program, self.hierarchy, &self.tables);
         let mut at: u32 = 0;
         for class in self.program.classes.as_slice() {
-            self.verify_class(alloc, &mut calls, (class, at))?;
+            match self.verify_class(alloc, &mut calls, class, at) {
+                Ok(()) => {}
+                Err(fault) => return Err(fault),
+            }
             at = at.saturating_add(1);
         }
         Ok(())

@@ -1,6 +1,7 @@
 //! Typings of methods.
 
-ghost use Rattle.std.specs.Prelude.{◌≡◌, ◌≤◌, length, All, Some, IfNone, IfSome, IfOk, IfErr, OnOk};
+ghost use Rattle.std.specs.Prelude.{◌≡◌, ◌≤◌, length, slice_get, All, Some, IfNone, IfSome, IfOk, IfErr, OnOk};
+ghost use Rattle.std.specs.Option.{option_copied};
 ghost use Rattle.verify.specs.Entry.{begun};
 ghost use Rattle.verify.specs.Flow.{greatest, places_of};
 ghost use Rattle.verify.specs.Typings.{IsExact, IsLeastTyping, Refuses as RefusesBody};
@@ -214,6 +215,13 @@ impl<'a> Verifier<'a> {
         setting.judge(alloc, method.name, body, &passed)
     }
 
+    /// The class at a place.
+    fn class_at(&self, place: u32) -> Option<&Class>
+        ensures { option_copied result ≡ slice_get self.now.program.now.classes place }
+    {
+        self.program.classes.as_slice().get(place as usize)
+    }
+
     /// The typings of a method: the least that there are. `IllTyped` stands where there are none. A method without code
     /// has no positions.
     pub fn typings(&self, alloc: Global, method: MethodAt) -> Result<Typings, TypeFault>
@@ -221,17 +229,23 @@ impl<'a> Verifier<'a> {
         ensures refused { IfErr result (RefusesAt self.now method) }
     {
         let mut calls = Calls::new(alloc, self.program, self.hierarchy, &self.tables);
-        match self.program.classes.as_slice().get(method.class as usize) {
-            Some(class) => match method_at(self.program, method) {
-                Some(found) => self.of_method(alloc, &mut calls, (class, method.class), found),
-                None => Ok(Typings {
+        let class = match self.class_at(method.class) {
+            Some(class) => class,
+            None => {
+                return Ok(Typings {
                     states: Vec::new(alloc),
-                }),
-            },
-            None => Ok(Typings {
-                states: Vec::new(alloc),
-            }),
-        }
+                });
+            }
+        };
+        let found = match method_at(self.program, method) {
+            Some(found) => found,
+            None => {
+                return Ok(Typings {
+                    states: Vec::new(alloc),
+                });
+            }
+        };
+        self.of_method(alloc, &mut calls, (class, method.class), found)
     }
 
     /// The typings of a method, if it has code.

@@ -21,7 +21,9 @@ use Rattle.verify.specs.Entry.{begun}
 use Rattle.verify.specs.Flow.{places_of}
 use Rattle.program_model.specs.declared.program.MethodAt.{MethodAt}
 use Rattle.program_model.specs.Lookups.{method_at}
-use Rattle.verify.specs.Methods.{constructs, receiver_of, IsSettingOf, HasTyping, HasNone, Refuses, Types, HasTypings, TypesAt, RefusesAt, AllBelow}
+use Rattle.verify.specs.Methods.{constructs, receiver_of, IsSettingOf, HasTyping, HasNone, Refuses, Types, HasTypings, TypesAt, RefusesAt, AllBelow, RefusesFirst, IsFor, TypesAll, RefusesOne}
+use Rattle.hierarchy.specs.declared.Hierarchy.{Hierarchy}
+use Rattle.program_model.specs.declared.program.Program.{Program}
 use Rattle.verify.specs.Names.{parameters_of}
 use Rattle.verify.specs.Typings.{IsExact, IsLeastTyping, IsIllTyped}
 use Rattle.verify.specs.Typings.{Refuses as RefusesBody}
@@ -84,3 +86,9 @@ nothing_at v at x e c m f g = let h : None ≡ Some c = sym e ∙ f in absurd (c
 
 pub nothing_in : (v : Verifier) (at : MethodAt) (x : Table) → method_at v.program.now at ≡ None → TypesAt v at x
 nothing_in v at x e c m f g = let h : None ≡ Some m = sym e ∙ g in absurd (cc)
+
+pub all_for : (p : Program) (h : Hierarchy) (v : Verifier) → IsFor p h v → (length v.program.now.classes ≤ greatest → AllBelow v (length v.program.now.classes)) → TypesAll p h
+all_for p h v is t = record { verifier = v; is = is; types = subst (λ q. length q.classes ≤ greatest → AllBelow v (length q.classes)) is.program t }
+
+pub one_for : (p : Program) (h : Hierarchy) (v : Verifier) (e : TypeFault) → IsFor p h v → (length v.program.now.classes ≤ greatest → RefusesFirst v e) → RefusesOne p h e
+one_for p h v e is t = record { verifier = v; is = is; refuses = subst (λ q. length q.classes ≤ greatest → RefusesFirst v e) is.program t }

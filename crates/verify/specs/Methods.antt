@@ -1,5 +1,5 @@
 -- Typings of the methods of a program, by numbers (this project's profile).
-use Rattle.std.specs.Prelude.{◌≡◌, ℕ, ◌<◌, Bool, true, false, ◌&&◌, not, List, [], take, length, All, Option, Some, None, slice_get, if◌then◌else◌}
+use Rattle.std.specs.Prelude.{◌≡◌, ℕ, ◌<◌, ◌≤◌, Bool, true, false, ◌&&◌, not, List, [], take, length, All, Option, Some, None, slice_get, if◌then◌else◌}
 use Rattle.hierarchy.specs.declared.Hierarchy.{Hierarchy}
 use Rattle.program_model.specs.declared.body.Body.{Body}
 use Rattle.program_model.specs.declared.program.Class.{Class}
@@ -16,6 +16,7 @@ use Rattle.verify.specs.declared.setting.Setting.{Setting}
 use Rattle.verify.specs.declared.tables.Tables.{Tables}
 use Rattle.verify.specs.declared.typed.Verifier.{Verifier}
 use Rattle.verify.specs.Entry.{begun}
+use Rattle.verify.specs.Flow.{greatest}
 use Rattle.verify.specs.Names.{parameters_of, result_of}
 use Rattle.verify.specs.Types.{is_constructor}
 use Rattle.verify.specs.Typings.{Table, IsExact, IsLeastTyping, IsIllTyped}
@@ -108,3 +109,25 @@ pub record RefusesFirst (v : Verifier) (e : TypeFault) : Type 0 where
 pub record IsFor (p : Program) (h : Hierarchy) (v : Verifier) : Type 0 where
   pub program : v.program.now ≡ p
   pub hierarchy : v.hierarchy.now ≡ h
+
+-- ---- by a verifier of the program
+
+pub record TypesFor (p : Program) (h : Hierarchy) (at : MethodAt) (x : Table) : Type 0 where
+  pub verifier : Verifier
+  pub is : IsFor p h verifier
+  pub types : TypesAt verifier at x
+
+pub record RefusesFor (p : Program) (h : Hierarchy) (at : MethodAt) (e : TypeFault) : Type 0 where
+  pub verifier : Verifier
+  pub is : IsFor p h verifier
+  pub refuses : RefusesAt verifier at e
+
+pub record TypesAll (p : Program) (h : Hierarchy) : Type 0 where
+  pub verifier : Verifier
+  pub is : IsFor p h verifier
+  pub types : length p.classes ≤ greatest → AllBelow verifier (length p.classes)
+
+pub record RefusesOne (p : Program) (h : Hierarchy) (e : TypeFault) : Type 0 where
+  pub verifier : Verifier
+  pub is : IsFor p h verifier
+  pub refuses : length p.classes ≤ greatest → RefusesFirst verifier e

@@ -1,21 +1,14 @@
 -- What the arrival of frames does to the positions.
-use Rattle.std.proofs.Common.{◌≡◌, ℕ, zero, suc, ◌+◌, ◌<◌, ◌≤◌, ◌≢◌, Bool, true, false, List, [], ◌∷◌, ◌++◌, map, length, Option, Some, None, ◌⊎◌, inl, inr, refl, sym, ap, ◌∙◌, subst, arith, get_or-set_other, get_or-set_same}
-use Rattle.std.specs.Prelude.{All, Contains, slice_get, slice_index_or, slice_set, if◌then◌else◌}
+use Rattle.std.proofs.Common.{◌≡◌, ℕ, ◌+◌, ◌<◌, ◌≤◌, Bool, true, false, length, Option, Some, None, ◌⊎◌, inl, inr, refl, sym, ap, ◌∙◌, subst, arith, get_or-set_other, get_or-set_same}
+use Rattle.std.specs.Prelude.{slice_get, slice_set, if◌then◌else◌}
 use Rattle.std.proofs.Math.ListN.{length-set}
-use Rattle.std.proofs.lemmas.Bool.{cases_eq, cases_lt}
+use Rattle.std.proofs.lemmas.Bool.{cases_eq}
 use Rattle.std.proofs.lemmas.Option.{slice_get_within, get_or_from_slice_get, slice_get-get_or}
-use Rattle.std.proofs.lemmas.List.{get_or_past}
-use Rattle.std.proofs.lemmas.List.Elements.{All-nil, All-cons, All-append, All-weaker, All-contains, All-contains_itself}
-use Rattle.program_model.specs.declared.body.Handler.{Handler}
-use Rattle.program_model.specs.declared.body.Region.{Region}
-use Rattle.verify.specs.declared.kinds.Kind.{Kind}
-use Rattle.verify.specs.declared.kinds.Kind.TheVariants as kind
 use Rattle.verify.specs.declared.tables.Tables.{Tables}
-use Rattle.verify.specs.Flow.{met, rises_in, raised_kinds, rises_kinds, Arrived, arrived_at, arrived, arrived_all, caught_at, caught_as, handled, handled_rest, caught_in, place_at}
+use Rattle.verify.specs.Flow.{met, rises_in, Arrived, arrived_at, arrived, place_at}
 use Rattle.verify.specs.Frames.{Kinds}
-use Rattle.verify.specs.Types.{kind_of}
 use Rattle.verify.specs.Waiting.{Waits, count_of}
-use Rattle.verify.specs.Typings.{IsLattice, IsBelow, AtMost, Table, IsUnder, Arrives, IsWide, catches_in, catch_rest}
+use Rattle.verify.specs.Typings.{IsLattice, IsBelow, AtMost, Table, IsUnder, Arrives, IsWide}
 use Rattle.verify.proofs.Weights.{weight, weight_falls}
 use Rattle.verify.proofs.Raises.{raised_all_long, kinds_stay, kinds_itself, kinds_on, kinds_old, kinds_new, kinds_least}
 

@@ -1,5 +1,5 @@
 -- From the setting of a method to the method.
-use Rattle.std.proofs.Common.{◌≡◌, ℕ, ◌+◌, ◌<◌, ◌≤◌, Bool, List, [], ◌∷◌, ◌++◌, take, get_or, min, length, Option, Some, None, ◌⊎◌, inl, inr, refl, sym, ap, ◌∙◌, subst, arith}
+use Rattle.std.proofs.Common.{◌≡◌, ℕ, ◌+◌, ◌<◌, ◌≤◌, Bool, List, [], ◌∷◌, ◌++◌, take, get_or, length, Option, Some, None, inl, inr, refl, sym, ap, ◌∙◌, subst, arith}
 use Rattle.std.proofs.lemmas.Bool.{cases_lt}
 use Rattle.std.proofs.lemmas.List.{take_more, take_all}
 use Rattle.std.proofs.lemmas.List.Elements.{All-push}
@@ -21,7 +21,7 @@ use Rattle.verify.specs.Entry.{begun}
 use Rattle.verify.specs.Flow.{places_of}
 use Rattle.program_model.specs.declared.program.MethodAt.{MethodAt}
 use Rattle.program_model.specs.Lookups.{method_at}
-use Rattle.verify.specs.Methods.{constructs, receiver_of, IsSettingOf, HasTyping, HasNone, Refuses, Types, HasTypings, TypesAt, RefusesAt, AllBelow, RefusesFirst, IsFor, TypesAll, RefusesOne}
+use Rattle.verify.specs.Methods.{constructs, receiver_of, IsSettingOf, HasTyping, Refuses, Types, HasTypings, TypesAt, RefusesAt, AllBelow, RefusesFirst, IsFor, TypesAll, RefusesOne}
 use Rattle.hierarchy.specs.declared.Hierarchy.{Hierarchy}
 use Rattle.program_model.specs.declared.program.Program.{Program}
 use Rattle.verify.specs.Names.{parameters_of}

@@ -1,5 +1,5 @@
 -- The kinds with which the code of a method begins.
-use Rattle.std.proofs.Common.{◌≡◌, ℕ, suc, ◌+◌, ◌-◌, ◌<◌, List, [], ◌∷◌, set, drop, drop-cons, replicate, length, Option, Some, None, refl, sym, ap, ◌∙◌, subst, arith}
+use Rattle.std.proofs.Common.{◌≡◌, ℕ, ◌-◌, List, [], ◌∷◌, set, replicate, length, Option, Some, None, refl, ◌∙◌}
 use Rattle.std.proofs.Math.ListN.{length-set}
 use Rattle.std.proofs.lemmas.List.{length-replicate}
 use Rattle.program_model.specs.declared.body.Body.{Body}
@@ -9,7 +9,6 @@ use Rattle.verify.specs.declared.setting.Setting.{Setting}
 use Rattle.verify.specs.declared.tables.Tables.{Tables}
 use Rattle.verify.specs.Entry.{put_parameter, behind_parameter, begun_from, begun_with, begun}
 use Rattle.verify.specs.Flow.{next_of}
-use Rattle.verify.specs.Frames.{Kinds}
 use Rattle.verify.specs.Types.{kind_of}
 
 put_long : (k : Kind) (at : ℕ) (ks : List Kind) → length (put_parameter k at ks) ≡ length ks

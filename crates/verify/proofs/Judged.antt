@@ -1,17 +1,15 @@
 -- From the least flow to the least typing, or to none.
-use Rattle.std.proofs.Common.{◌≡◌, ℕ, zero, suc, ◌+◌, ◌<◌, ◌≤◌, min, List, [], ◌∷◌, map, length, Option, Some, None, ◌⊎◌, inl, inr, refl, sym, ap, ◌∙◌, subst, arith}
-use Rattle.std.specs.Prelude.{All, slice_get, slice_index_or}
+use Rattle.std.proofs.Common.{◌≡◌, ℕ, zero, suc, ◌<◌, ◌≤◌, min, List, [], ◌∷◌, length, Option, Some, None, refl, sym, ap, ◌∙◌, subst, arith}
+use Rattle.std.specs.Prelude.{All, slice_get}
 use Rattle.std.proofs.lemmas.Option.{slice_get_within}
 use Rattle.insn_set.specs.declared.form.Insn.{Insn}
 use Rattle.program_model.specs.declared.body.Body.{Body}
 use Rattle.verify.specs.declared.frames.Frame.{Frame}
-use Rattle.verify.specs.declared.kinds.Kind.{Kind}
 use Rattle.verify.specs.declared.setting.Setting.{Setting}
 use Rattle.verify.specs.Faults.{fault_of, fault_in, state_at, fault_at, NoneBreaks}
 use Rattle.verify.specs.Flow.{greatest, form_after, place_at, kinds_in, places_of}
-use Rattle.verify.specs.Frames.{Kinds, kinds_of}
-use Rattle.verify.specs.Typings.{IsBelow, AtMost, Table, IsUnder, Arrives, onward, catches, unless_fault, carried, carried_to, IsTyping, IsLeastTyping, IsFlow, IsLeastFlow, IsLattice, IsCovering, IsMonotone, break_in, break_at, IsIllTyped, IsExact}
-use Rattle.verify.proofs.Arrives.{some_same}
+use Rattle.verify.specs.Frames.{Kinds}
+use Rattle.verify.specs.Typings.{AtMost, Table, IsUnder, Arrives, onward, catches, unless_fault, IsTyping, IsLeastTyping, IsFlow, IsLeastFlow, IsLattice, IsCovering, IsMonotone, break_in, break_at, IsIllTyped, IsExact}
 
 -- a typing is a flow
 pub flow_of : (s : Setting) (b : Body) (entry : Kinds) (y : Table) → IsTyping s b entry y → IsFlow s b entry y

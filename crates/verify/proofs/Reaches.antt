@@ -1,23 +1,18 @@
 -- Tables that rise no further than some arrivals demand.
-use Rattle.std.proofs.Common.{◌≡◌, ℕ, zero, suc, ◌+◌, ◌<◌, ◌≤◌, ◌≢◌, Bool, true, false, min, List, [], ◌∷◌, ◌++◌, map, length, replicate, Option, Some, None, ◌⊎◌, inl, inr, refl, sym, ap, ◌∙◌, subst, arith, get_or-set_other, get_or-set_same}
-use Rattle.std.specs.Prelude.{All, Contains, slice_get, slice_index_or, slice_set, if◌then◌else◌}
-use Rattle.std.proofs.Math.ListN.{length-set}
-use Rattle.std.proofs.lemmas.Bool.{cases_eq, cases_lt}
-use Rattle.std.proofs.lemmas.Option.{slice_get_within, get_or_from_slice_get, slice_get-get_or}
-use Rattle.std.proofs.lemmas.List.Elements.{All-nil, All-cons, All-append, All-map, All-weaker, All-contains, All-contains_itself}
+use Rattle.std.proofs.Common.{◌≡◌, ℕ, suc, Bool, true, false, List, [], ◌∷◌, ◌++◌, map, length, Option, Some, None, sym, ◌∙◌, arith}
+use Rattle.std.specs.Prelude.{All, slice_index_or, if◌then◌else◌}
+use Rattle.std.proofs.lemmas.List.Elements.{All-nil, All-cons, All-append, All-map, All-weaker}
 use Rattle.insn_set.specs.declared.form.Insn.{Insn}
-use Rattle.insn_set.specs.Flow.{throws, goes_on, targets_of}
+use Rattle.insn_set.specs.Flow.{goes_on, targets_of}
 use Rattle.program_model.specs.declared.body.Handler.{Handler}
 use Rattle.program_model.specs.declared.body.Region.{Region}
 use Rattle.verify.specs.declared.kinds.Kind.{Kind}
 use Rattle.verify.specs.declared.kinds.Kind.TheVariants as kind
 use Rattle.verify.specs.declared.tables.Tables.{Tables}
-use Rattle.verify.specs.Flow.{met, rises_in, raised, raised_kinds, Arrived, arrived, arrived_all, caught_at, caught_as, handled, handled_rest, caught_in, place_at, next_of, gone_on}
-use Rattle.verify.specs.Frames.{Kinds, kind_at, all_undefined}
-use Rattle.verify.specs.Joins.{joined}
-use Rattle.verify.specs.Kinds.{same_kind}
+use Rattle.verify.specs.Flow.{Arrived, arrived, arrived_all, caught_as, handled, handled_rest, caught_in, place_at, next_of, gone_on}
+use Rattle.verify.specs.Frames.{Kinds}
 use Rattle.verify.specs.Types.{kind_of}
-use Rattle.verify.specs.Typings.{Below, IsLattice, IsBelow, AtMost, Table, IsUnder, Arrives, IsWide, catches_in, catch_rest, next_if, onward_by}
+use Rattle.verify.specs.Typings.{IsLattice, Table, IsUnder, Arrives, catches_in, catch_rest, next_if, onward_by}
 use Rattle.verify.proofs.Arrives.{Grows, Stands, stands_on, grows_same, grows_on, at_most_itself, arrived_grows, arrived_up, arrived_arrives, arrived_under, arrives_on, under_on}
 
 -- The second positions are the least above the first ones at which the demand holds, which holds of what is higher too.

@@ -1,30 +1,28 @@
 -- The table while it rises, and at the end.
-use Rattle.std.proofs.Common.{◌≡◌, ℕ, zero, suc, ◌+◌, ◌<◌, ◌≤◌, Bool, true, false, min, List, [], ◌∷◌, ◌++◌, map, replicate, length, Option, Some, None, ◌⊎◌, inl, inr, refl, sym, ap, ◌∙◌, subst, arith, get_or-set_other, get_or-set_same}
-use Rattle.std.specs.Prelude.{Contains, All, slice_get, slice_index_or, slice_set, if◌then◌else◌}
+use Rattle.std.proofs.Common.{◌≡◌, ℕ, zero, suc, ◌+◌, ◌<◌, ◌≤◌, Bool, false, List, [], ◌∷◌, replicate, length, Option, Some, None, ◌⊎◌, inl, inr, refl, sym, ap, ◌∙◌, subst, arith, get_or-set_other}
+use Rattle.std.specs.Prelude.{Contains, All, slice_get, slice_index_or, slice_set}
 use Rattle.std.specs.List.Sorted.{IsPermutation}
 use Rattle.std.proofs.lemmas.List.Sorted.{length_permutation}
 use Rattle.std.proofs.Math.ListN.{length-set}
-use Rattle.std.proofs.lemmas.Bool.{cases_eq, cases_lt}
+use Rattle.std.proofs.lemmas.Bool.{cases_eq}
 use Rattle.std.proofs.lemmas.Option.{slice_get_within}
-use Rattle.std.proofs.lemmas.List.{get_or_past, length-replicate}
+use Rattle.std.proofs.lemmas.List.{length-replicate}
 use Rattle.insn_set.specs.declared.form.Insn.{Insn}
 use Rattle.program_model.specs.declared.body.Body.{Body}
-use Rattle.program_model.specs.declared.body.Region.{Region}
 use Rattle.verify.specs.declared.kinds.Kind.{Kind}
 use Rattle.verify.specs.declared.kinds.Kind.TheVariants as kind
 use Rattle.verify.specs.declared.setting.Setting.{Setting}
-use Rattle.verify.specs.declared.tables.Tables.{Tables}
 use Rattle.verify.specs.Faults.{fault_of}
-use Rattle.verify.specs.Flow.{greatest, next_of, place_at, Arrived, arrived, Flowing, region_of, form_after, followed, visited_in, visited, unreached, started}
+use Rattle.verify.specs.Flow.{greatest, next_of, place_at, arrived, Flowing, region_of, form_after, followed, visited_in, visited, unreached, started}
 use Rattle.verify.specs.Frames.{Kinds, kind_at, all_undefined}
-use Rattle.verify.specs.Typings.{Below, IsLattice, IsBelow, AtMost, Table, IsUnder, Arrives, IsWide, AtEach, onward, onward_by, place_covering, catches, catches_by, unless_fault, carried, carried_to, IsFlow, IsLeastFlow, IsMonotone, IsCovering}
+use Rattle.verify.specs.Typings.{Below, IsLattice, IsBelow, AtMost, Table, IsUnder, Arrives, IsWide, AtEach, onward_by, catches_by, unless_fault, carried, carried_to, IsFlow, IsLeastFlow, IsMonotone, IsCovering}
 use Rattle.verify.specs.Waiting.{Waits, Queues, count_of}
 use Rattle.verify.proofs.Queue.{taken as taken_out}
 use Rattle.verify.proofs.Weights.{weight}
-use Rattle.verify.proofs.Raises.{kinds_itself, below_itself}
-use Rattle.verify.proofs.Arrives.{Stands, stands_on, Grows, arrived_grows, arrived_up, arrived_arrives, arrived_under, arrives_on, arrives_below, at_most_itself, some_same}
+use Rattle.verify.proofs.Raises.{below_itself}
+use Rattle.verify.proofs.Arrives.{Stands, stands_on, arrives_on, arrives_below, some_same}
 use Rattle.verify.proofs.Reaches.{Reaches, all_from, arrived_reaches}
-use Rattle.verify.proofs.Throws.{AreThrown, Settles, settles_on, catches_on, Follows, below_undefined}
+use Rattle.verify.proofs.Throws.{AreThrown, Settles, Follows, below_undefined}
 use Rattle.verify.proofs.Visits.{Sent, follows_form}
 use Rattle.verify.proofs.Wide.{form_after_long}
 

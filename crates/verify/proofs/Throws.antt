@@ -1,7 +1,6 @@
 -- What the frames of regions do to the flow.
-use Rattle.std.proofs.Common.{◌≡◌, ℕ, zero, suc, ◌+◌, ◌<◌, ◌≤◌, ◌≢◌, Bool, true, false, List, [], ◌∷◌, ◌++◌, map, length, Option, Some, None, ◌⊎◌, inl, inr, refl, sym, ap, ◌∙◌, subst, arith, get_or-set_other, get_or-set_same}
-use Rattle.std.specs.Prelude.{All, slice_get, slice_index_or, slice_set, if◌then◌else◌}
-use Rattle.std.specs.Option.{option_and_then}
+use Rattle.std.proofs.Common.{◌≡◌, ℕ, ◌<◌, Bool, true, false, List, [], length, Option, Some, None, inl, inr, refl, sym, ap, ◌∙◌, subst, get_or-set_other, get_or-set_same}
+use Rattle.std.specs.Prelude.{All, slice_get, slice_set, if◌then◌else◌}
 use Rattle.std.proofs.Math.ListN.{length-set}
 use Rattle.std.proofs.lemmas.Bool.{cases_eq}
 use Rattle.std.proofs.lemmas.Option.{slice_get_within, get_or_from_slice_get, slice_get-get_or}
@@ -15,11 +14,10 @@ use Rattle.verify.specs.declared.kinds.Kind.TheVariants as kind
 use Rattle.verify.specs.declared.tables.Tables.{Tables}
 use Rattle.verify.specs.Flow.{met, rises_in, raised, raised_kinds, Arrived, caught_at, caught_as, caught_in, place_at, Flowing, thrown_on, thrown_to, thrown_by, region_of, thrown_from}
 use Rattle.verify.specs.Frames.{Kinds, kind_at}
-use Rattle.verify.specs.Joins.{joined}
 use Rattle.verify.specs.Kinds.{same_kind}
 use Rattle.verify.specs.Typings.{Below, IsLattice, IsBelow, AtMost, Table, IsUnder, Arrives, IsWide, catches_in, region_at, catches_by}
-use Rattle.verify.proofs.Raises.{below_itself, raised_old, raised_new, raised_least, raised_one_at, raised_all_long, kinds_stay, kinds_itself}
-use Rattle.verify.proofs.Arrives.{Grows, Stands, stands_on, grows_same, grows_on, at_most_itself, at_most_on, arrives_below, under_on, some_same}
+use Rattle.verify.proofs.Raises.{below_itself, raised_new, raised_least, raised_one_at, raised_all_long, kinds_stay}
+use Rattle.verify.proofs.Arrives.{Grows, Stands, grows_same, grows_on, at_most_itself, at_most_on, arrives_below, under_on, some_same}
 use Rattle.verify.proofs.Reaches.{Reaches, all_from, all_both, CaughtAt, Catches, caught_reaches}
 
 -- ---- what is thrown: null, or nothing that is known

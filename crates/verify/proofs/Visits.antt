@@ -1,19 +1,18 @@
 -- What a visit of a position does to the flow.
-use Rattle.std.proofs.Common.{◌≡◌, ℕ, zero, suc, ◌+◌, ◌<◌, ◌≤◌, Bool, true, false, List, [], ◌∷◌, ◌++◌, map, length, replicate, Option, Some, None, ◌⊎◌, inl, inr, refl, sym, ap, ◌∙◌, subst, arith}
-use Rattle.std.specs.Prelude.{All, slice_get, slice_index_or, slice_set, if◌then◌else◌}
+use Rattle.std.proofs.Common.{◌≡◌, ℕ, List, length, Option, Some, None, ◌∙◌}
+use Rattle.std.specs.Prelude.{All}
 use Rattle.std.proofs.lemmas.List.{length-replicate}
 use Rattle.insn_set.specs.declared.form.Insn.{Insn}
 use Rattle.program_model.specs.declared.body.Body.{Body}
 use Rattle.verify.specs.declared.kinds.Kind.{Kind}
 use Rattle.verify.specs.declared.kinds.Kind.TheVariants as kind
 use Rattle.verify.specs.declared.setting.Setting.{Setting}
-use Rattle.verify.specs.declared.tables.Tables.{Tables}
 use Rattle.verify.specs.Faults.{fault_of}
-use Rattle.verify.specs.Flow.{place_at, next_of, Flowing, region_of, thrown_from, gone_on, gone, form_after, followed_by, followed, visited_in, visited}
+use Rattle.verify.specs.Flow.{next_of, Flowing, region_of, thrown_from, gone_on, gone, form_after, followed_by, followed}
 use Rattle.verify.specs.Frames.{Kinds, all_undefined}
-use Rattle.verify.specs.Typings.{Below, IsLattice, IsBelow, Table, Arrives, onward_by, catches_by, unless_fault, carried, carried_to}
+use Rattle.verify.specs.Typings.{Table, Arrives, onward_by, catches_by, unless_fault, carried, carried_to}
 use Rattle.verify.proofs.Arrives.{Stands, stands_on}
-use Rattle.verify.proofs.Reaches.{CaughtAt, Onward, gone_reaches}
+use Rattle.verify.proofs.Reaches.{Onward, gone_reaches}
 use Rattle.verify.proofs.Throws.{IsThrown, of_null, of_nothing, AreThrown, Follows, follows_on, follows_as, follows_arrivals, Caught, follows_throw}
 use Rattle.verify.proofs.Wide.{form_after_long}
 

@@ -1,6 +1,6 @@
 -- How far a table can rise.
-use Rattle.std.proofs.Common.{◌≡◌, ℕ, zero, suc, ◌+◌, ◌<◌, ◌≤◌, Bool, true, false, ◌&&◌, ◌||◌, nat_eq, nat_lt, min, List, [], ◌∷◌, length, set, get_or, Option, Some, None, ◌⊎◌, inl, inr, refl, sym, ap, ◌∙◌, subst, arith}
-use Rattle.std.specs.Prelude.{slice_index_or, slice_set, if◌then◌else◌}
+use Rattle.std.proofs.Common.{◌≡◌, ℕ, zero, suc, ◌+◌, ◌<◌, ◌≤◌, Bool, true, false, ◌&&◌, ◌||◌, nat_eq, nat_lt, min, List, [], ◌∷◌, length, set, get_or, Option, Some, None, inl, inr, refl, ap, subst, arith}
+use Rattle.std.specs.Prelude.{slice_set, if◌then◌else◌}
 use Rattle.std.specs.List.{sum_by}
 use Rattle.std.proofs.lemmas.Bool.{ltb-true, cases_lt, or_cases}
 use Rattle.std.proofs.lemmas.List.{set_past}
@@ -9,7 +9,7 @@ use Rattle.verify.specs.declared.kinds.Kind.{Kind}
 use Rattle.verify.specs.declared.kinds.Kind.TheVariants as kind
 use Rattle.verify.specs.declared.tables.Tables.{Tables}
 use Rattle.verify.specs.Chains.{depth}
-use Rattle.verify.specs.Flow.{greatest, rank, rank_of_array, rank_of_place, rises, raised, raised_all, rises_any, raised_kinds, rises_kinds, met, rises_in, place_at}
+use Rattle.verify.specs.Flow.{greatest, rank, rank_of_place, rises, raised, raised_all, rises_any, raised_kinds, rises_kinds, met, rises_in, place_at}
 use Rattle.verify.specs.Frames.{Kinds}
 use Rattle.verify.specs.Joins.{joined}
 use Rattle.verify.specs.Kinds.{same_kind, same_number}

@@ -1,5 +1,5 @@
 -- Forms leave the number of registers.
-use Rattle.std.proofs.Common.{◌≡◌, ℕ, ◌+◌, ◌-◌, Bool, true, false, List, [], ◌∷◌, map, set, length, refl, sym, ap, ◌∙◌}
+use Rattle.std.proofs.Common.{◌≡◌, ℕ, ◌+◌, ◌-◌, Bool, true, false, List, map, length, refl, ◌∙◌}
 use Rattle.std.specs.Prelude.{slice_set, if◌then◌else◌}
 use Rattle.std.proofs.Math.ListN.{length-set}
 use Rattle.std.proofs.lemmas.List.{length-map}
@@ -14,8 +14,8 @@ use Rattle.verify.specs.declared.setting.Setting.{Setting}
 use Rattle.verify.specs.declared.tables.Tables.{Tables}
 use Rattle.verify.specs.After.{constructed, begun_call, called_by, after_typed, after, receiver_register}
 use Rattle.verify.specs.Flow.{form_after}
-use Rattle.verify.specs.Frames.{Kinds, kind_at, split_at, split, written_one, written_pair, written_kinds, written, replace, forget}
-use Rattle.verify.specs.Kinds.{replaced, forgotten}
+use Rattle.verify.specs.Frames.{Kinds, kind_at, split_at, split, written_one, written_pair, written_kinds}
+use Rattle.verify.specs.Kinds.{forgotten}
 use Rattle.verify.specs.Types.{is_constructor}
 
 split_long : (k : Kind) (r : ℕ) (ks : List Kind) → length (split_at k r ks) ≡ length ks

@@ -1,5 +1,5 @@
 -- The kinds with which the code of a method begins, by numbers (this project's profile).
-use Rattle.std.specs.Prelude.{ℕ, ◌-◌, Bool, List, [], ◌∷◌, replicate, Option, Some, None, slice_set, if◌then◌else◌}
+use Rattle.std.specs.Prelude.{ℕ, ◌-◌, List, [], ◌∷◌, replicate, Option, Some, None, slice_set, if◌then◌else◌}
 use Rattle.program_model.specs.declared.body.Body.{Body}
 use Rattle.verify.specs.declared.kinds.Kind.{Kind}
 use Rattle.verify.specs.declared.kinds.Kind.TheVariants as kind

@@ -1,5 +1,5 @@
 -- Typings of the methods of a program, by numbers (this project's profile).
-use Rattle.std.specs.Prelude.{◌≡◌, ℕ, ◌<◌, ◌≤◌, Bool, true, false, ◌&&◌, not, List, [], take, length, All, Option, Some, None, slice_get, if◌then◌else◌}
+use Rattle.std.specs.Prelude.{◌≡◌, ℕ, ◌<◌, ◌≤◌, Bool, ◌&&◌, not, take, length, All, Option, Some, None, slice_get, if◌then◌else◌}
 use Rattle.hierarchy.specs.declared.Hierarchy.{Hierarchy}
 use Rattle.program_model.specs.declared.body.Body.{Body}
 use Rattle.program_model.specs.declared.program.Class.{Class}

@@ -1,10 +1,9 @@
 -- Typings of a body by numbers, and the least flow that looks for one (this project's profile).
-use Rattle.std.specs.Prelude.{◌≡◌, ℕ, ◌+◌, ◌<◌, ◌≤◌, Bool, true, false, ◌&&◌, nat_le, nat_lt, List, [], ◌∷◌, ◌++◌, map, length, ◌⊎◌, All, Option, Some, None, slice_get, slice_index_or, if◌then◌else◌}
+use Rattle.std.specs.Prelude.{◌≡◌, ℕ, ◌+◌, ◌<◌, ◌≤◌, Bool, ◌&&◌, nat_le, nat_lt, List, [], ◌∷◌, ◌++◌, map, length, ◌⊎◌, All, Option, Some, None, slice_get, if◌then◌else◌}
 use Rattle.std.specs.Option.{option_and_then}
 use Rattle.insn_set.specs.declared.form.Insn.{Insn}
 use Rattle.insn_set.specs.Flow.{throws, goes_on, targets_of}
 use Rattle.program_model.specs.declared.body.Body.{Body}
-use Rattle.program_model.specs.declared.body.Handler.{Handler}
 use Rattle.program_model.specs.declared.body.Region.{Region}
 use Rattle.verify.specs.declared.fault.TypeFault.{TypeFault}
 use Rattle.verify.specs.declared.fault.TypeFault.TheVariants as fault
@@ -16,7 +15,6 @@ use Rattle.verify.specs.Faults.{fault_of}
 use Rattle.verify.specs.Flow.{greatest, rank, form_after, place_at, region_of}
 use Rattle.verify.specs.Frames.{Kinds, kind_at, all_undefined}
 use Rattle.verify.specs.Joins.{joined}
-use Rattle.verify.specs.Kinds.{same_kind}
 use Rattle.verify.specs.Types.{kind_of}
 
 -- ---- the order

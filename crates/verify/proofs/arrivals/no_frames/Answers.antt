@@ -1,4 +1,3 @@
-use Rattle.std.proofs.Common.{◌≡◌, rules}
 use Rattle.verify.proofs.Arrived.{none_on}
 use Rattle.verify.proofs.arrivals.no_frames.Goals as goal
 

@@ -1,5 +1,4 @@
-use Rattle.std.proofs.Common.{◌≡◌, ◌+◌, ◌<◌, min, length, get_or, subst, rules, arith}
-use Rattle.verify.specs.Flow.{greatest}
+use Rattle.std.proofs.Common.{◌≡◌, ◌<◌, length, get_or, subst, rules, arith}
 use Rattle.verify.proofs.Covering.{covered_behind}
 use Rattle.verify.proofs.flow.covering.Goals as goal
 

@@ -1,5 +1,5 @@
 use Rattle.std.proofs.Common.{◌≡◌, ap, ◌∙◌, sym, rules}
-use Rattle.verify.specs.Flow.{rises_in, kinds_in, places_of, Arrived}
+use Rattle.verify.specs.Flow.{places_of}
 use Rattle.verify.specs.Frames.{kinds_of}
 use Rattle.verify.proofs.Arrived.{arrived_one, arrived_past, marked, unmarked}
 use Rattle.verify.proofs.arrivals.Arrivals.arrive_moved.Goals as goal

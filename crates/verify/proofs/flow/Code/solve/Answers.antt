@@ -1,4 +1,4 @@
-use Rattle.std.proofs.Common.{◌≡◌, ap, sym, ◌∙◌, subst}
+use Rattle.std.proofs.Common.{ap, sym, ◌∙◌, subst}
 use Rattle.verify.specs.Flow.{flowing_of, places_of, visited}
 use Rattle.verify.specs.Frames.{kinds_of}
 use Rattle.verify.specs.Typings.{IsFlow, IsLeastFlow}

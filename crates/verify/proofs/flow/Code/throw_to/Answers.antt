@@ -1,4 +1,4 @@
-use Rattle.std.proofs.Common.{◌≡◌, rules}
+use Rattle.std.proofs.Common.{rules}
 use Rattle.verify.specs.Flow.{arrived_of}
 use Rattle.verify.specs.Frames.{kinds_of}
 use Rattle.verify.proofs.Arrived.{thrown_one, thrown_past}

@@ -1,4 +1,4 @@
-use Rattle.std.proofs.Common.{◌≡◌, refl, rules}
+use Rattle.std.proofs.Common.{refl, rules}
 use Rattle.verify.specs.Entry.{begun}
 use Rattle.verify.specs.Frames.{kinds_of}
 use Rattle.verify.proofs.Judged.{judged, refused}

@@ -1,5 +1,4 @@
-use Rattle.std.proofs.Common.{◌≡◌, refl}
-use Rattle.verify.specs.Methods.{IsSettingOf}
+use Rattle.std.proofs.Common.{refl}
 use Rattle.verify.proofs.Bodies.{typed_from, refused_from}
 use Rattle.verify.proofs.typed.Verifier.of_body.Goals as goal
 

@@ -1,8 +1,5 @@
-use Rattle.std.proofs.Common.{◌≡◌, Some, None, sym, ap, ◌∙◌, rules}
-use Rattle.std.specs.Prelude.{slice_get}
+use Rattle.std.proofs.Common.{sym, ap, ◌∙◌}
 use Rattle.std.specs.Option.{option_copied}
-use Rattle.program_model.specs.Lookups.{method_at}
-use Rattle.verify.specs.Flow.{places_of}
 use Rattle.verify.proofs.Bodies.{typed_at, refused_at, nothing_at, nothing_in}
 use Rattle.verify.proofs.typed.Verifier.typings.Goals as goal
 

@@ -1,5 +1,4 @@
 use Rattle.std.proofs.Common.{◌≡◌, ◌<◌, length, arith}
-use Rattle.verify.specs.Flow.{greatest}
 use Rattle.verify.proofs.Bodies.{class_on}
 use Rattle.verify.proofs.typed.Verifier.verify_all.Goals as goal
 

@@ -1,4 +1,4 @@
-use Rattle.std.proofs.Common.{◌≡◌, ◌<◌, ◌≤◌, length, get_or, subst, rules}
+use Rattle.std.proofs.Common.{◌≡◌, ◌<◌, ◌≤◌, length, get_or, subst}
 use Rattle.verify.specs.Flow.{places_of}
 use Rattle.verify.proofs.Bodies.{method_on, methods_end}
 use Rattle.verify.proofs.typed.Verifier.verify_class.Goals as goal

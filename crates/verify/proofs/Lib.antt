@@ -1,2 +1,17 @@
+pub mod Arrived
+pub mod Arrives
+pub mod Bodies
+pub mod Cells
 pub mod Climbs
+pub mod Covering
+pub mod Entries
+pub mod Judged
 pub mod Passed
+pub mod Queue
+pub mod Raises
+pub mod Reaches
+pub mod Solves
+pub mod Throws
+pub mod Visits
+pub mod Weights
+pub mod Wide

@@ -1,5 +1,5 @@
 -- Steps up the chain of a class's program superclasses.
-use Rattle.std.specs.Prelude.{ℕ, zero, suc, ◌-◌, Bool, ◌&&◌, not, nat_eq, nat_lt, nat_le, min, List, length, Option, Some, None, slice_index, slice_index_or, if◌then◌else◌}
+use Rattle.std.specs.Prelude.{ℕ, zero, suc, Bool, ◌&&◌, not, nat_eq, nat_lt, nat_le, min, length, Option, Some, None, slice_index, slice_index_or, if◌then◌else◌}
 use Rattle.verify.specs.declared.chains.Chains.{Chains}
 
 -- the program superclass of a class

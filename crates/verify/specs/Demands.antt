@@ -1,19 +1,15 @@
 -- Which reads of a form aren't allowed, by numbers (Dalvik bytecode, "Summary of bytecode set").
-use Rattle.std.specs.Prelude.{ℕ, ◌+◌, Bool, true, false, ◌&&◌, ◌||◌, nat_eq, min, List, [], ◌∷◌, Option, Some, None, slice_index_or, if◌then◌else◌}
-use Rattle.insn_set.specs.declared.form.Insn.{Insn}
-use Rattle.insn_set.specs.declared.form.Insn.TheVariants as insn
+use Rattle.std.specs.Prelude.{ℕ, Bool, true, false, ◌&&◌, ◌||◌, min, List, Option, Some, None, if◌then◌else◌}
 use Rattle.insn_set.specs.declared.ops.Slot.{Slot}
 use Rattle.insn_set.specs.declared.ops.Slot.TheVariants as slot
 use Rattle.insn_set.specs.declared.ops.Item.{Item}
 use Rattle.insn_set.specs.declared.ops.Item.TheVariants as item
 use Rattle.insn_set.specs.declared.ops.Test.{Test}
 use Rattle.insn_set.specs.declared.ops.Test.TheVariants as test
-use Rattle.insn_set.specs.declared.ops.InvokeKind.{InvokeKind}
-use Rattle.insn_set.specs.declared.ops.InvokeKind.TheVariants as call
 use Rattle.verify.specs.declared.kinds.Kind.{Kind}
 use Rattle.verify.specs.declared.kinds.Kind.TheVariants as kind
 use Rattle.verify.specs.Kinds.{same_kind, is_number, is_initialised, is_moved}
-use Rattle.verify.specs.Frames.{Kinds, kind_at, is_pair}
+use Rattle.verify.specs.Frames.{kind_at, is_pair}
 
 -- the register, unless its read is allowed
 abbrev pub unless : Bool → ℕ → Option ℕ

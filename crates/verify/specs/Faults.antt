@@ -1,5 +1,5 @@
 -- Where a table breaks (this project's profile).
-use Rattle.std.specs.Prelude.{◌≡◌, ℕ, ◌<◌, Bool, true, false, List, Option, Some, None, slice_get, slice_index_or, if◌then◌else◌}
+use Rattle.std.specs.Prelude.{◌≡◌, ℕ, ◌<◌, List, Option, Some, None, slice_get, slice_index_or, if◌then◌else◌}
 use Rattle.insn_set.specs.declared.form.Insn.{Insn}
 use Rattle.verify.specs.declared.frames.Frame.{Frame}
 use Rattle.verify.specs.declared.setting.Setting.{Setting}

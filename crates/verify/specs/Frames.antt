@@ -1,5 +1,5 @@
 -- The kinds of all registers at a position, and how a write changes them (this project's profile).
-use Rattle.std.specs.Prelude.{ℕ, ◌+◌, ◌-◌, Bool, true, false, ◌&&◌, List, map, replicate, slice_index_or, slice_set, if◌then◌else◌}
+use Rattle.std.specs.Prelude.{ℕ, ◌+◌, ◌-◌, Bool, ◌&&◌, List, map, replicate, slice_index_or, slice_set}
 use Rattle.verify.specs.declared.frames.Frame.{Frame}
 use Rattle.verify.specs.declared.kinds.Kind.{Kind}
 use Rattle.verify.specs.declared.kinds.Kind.TheVariants.{Undefined, WideLow, WideHigh}

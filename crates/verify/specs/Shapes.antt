@@ -1,5 +1,5 @@
 -- What a type is (Dalvik executable format, "TypeDescriptor").
-use Rattle.std.specs.Prelude.{ℕ, Bool, true, false, Option, Some, None}
+use Rattle.std.specs.Prelude.{ℕ, Bool, true, false, Option, None}
 use Rattle.insn_set.specs.declared.ops.Item.{Item}
 use Rattle.insn_set.specs.declared.ops.Item.TheVariants as item
 use Rattle.verify.specs.declared.shapes.Shape.{Shape}

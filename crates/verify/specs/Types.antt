@@ -1,5 +1,5 @@
 -- What the tables of a program say of its types, protos and methods.
-use Rattle.std.specs.Prelude.{ℕ, ◌-◌, Bool, true, false, nat_lt, List, Option, Some, None, slice_get, slice_index, slice_index_or, option_and_then, if◌then◌else◌}
+use Rattle.std.specs.Prelude.{ℕ, ◌-◌, Bool, false, nat_lt, List, Option, Some, None, slice_get, slice_index, slice_index_or, option_and_then, if◌then◌else◌}
 use Rattle.verify.specs.declared.kinds.Kind.{Kind}
 use Rattle.verify.specs.declared.kinds.Kind.TheVariants as kind
 use Rattle.verify.specs.declared.shapes.Shape.{Shape}

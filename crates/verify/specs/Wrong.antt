@@ -1,5 +1,5 @@
 -- Positions that are wrong whatever the registers hold, by numbers (this project's profile).
-use Rattle.std.specs.Prelude.{ℕ, ◌+◌, Bool, true, false, ◌&&◌, ◌||◌, not, nat_eq, List, length, Option, Some, None, slice_get, option_and_then, if◌then◌else◌}
+use Rattle.std.specs.Prelude.{ℕ, ◌+◌, Bool, true, false, ◌&&◌, ◌||◌, not, nat_eq, length, Option, Some, None, slice_get, option_and_then, if◌then◌else◌}
 use Rattle.insn_set.specs.declared.form.Insn.{Insn}
 use Rattle.insn_set.specs.declared.form.Insn.TheVariants as insn
 use Rattle.insn_set.specs.declared.ops.Slot.{Slot}
@@ -10,7 +10,6 @@ use Rattle.insn_set.specs.declared.ops.InvokeKind.{InvokeKind}
 use Rattle.insn_set.specs.declared.ops.InvokeKind.TheVariants as call
 use Rattle.hierarchy.specs.Tables.{answer}
 use Rattle.program_model.specs.declared.program.Class.{Class}
-use Rattle.program_model.specs.declared.program.MethodAt.{MethodAt}
 use Rattle.verify.specs.declared.calls.Search.{Search}
 use Rattle.verify.specs.declared.calls.Search.TheVariants as search
 use Rattle.verify.specs.declared.setting.Setting.{Setting}

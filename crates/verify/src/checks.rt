@@ -1,5 +1,10 @@
 //! The calls of this crate.
 
+ghost use Rattle.std.specs.Prelude.{◌≡◌, ◌⊎◌, IfOk, IfErr, OnOk};
+ghost use Rattle.verify.specs.declared.fault.TypeFault.TheVariants.{NoMemory};
+ghost use Rattle.verify.specs.Flow.{places_of};
+ghost use Rattle.verify.specs.Methods.{TypesFor, RefusesFor, TypesAll, RefusesOne};
+
 use crate::fault::TypeFault;
 use crate::typed::{Typings, Verifier};
 use hierarchy::Hierarchy;
@@ -19,17 +24,25 @@ pub fn typings(
     program: &Program,
     hierarchy: &Hierarchy,
     method: MethodAt,
-) -> Result<Typings, TypeFault> {
+) -> Result<Typings, TypeFault>
+    ensures typed { IfOk result (λ x. TypesFor program.now hierarchy.now method (places_of x.states.items)) }
+    ensures refused { IfErr result (λ e. (e ≡ NoMemory) ⊎ RefusesFor program.now hierarchy.now method e) }
+{
     let verifier = Verifier::make(alloc, program, hierarchy)?;
-    verifier.typings(alloc, method)
+    match verifier.typings(alloc, method) {
+        Ok(typings) => Ok(typings),
+        Err(fault) => Err(fault),
+    }
 }
 
 /// Whether all methods with code are well typed: else the fault of the first one that isn't, in class and method order.
-pub fn verify_all(
-    alloc: Global,
-    program: &Program,
-    hierarchy: &Hierarchy,
-) -> Result<(), TypeFault> {
+pub fn verify_all(alloc: Global, program: &Program, hierarchy: &Hierarchy) -> Result<(), TypeFault>
+    ensures typed { OnOk result (TypesAll program.now hierarchy.now) }
+    ensures refused { IfErr result (λ e. (e ≡ NoMemory) ⊎ RefusesOne program.now hierarchy.now e) }
+{
     let verifier = Verifier::make(alloc, program, hierarchy)?;
-    verifier.verify_all(alloc)
+    match verifier.verify_all(alloc) {
+        Ok(()) => Ok(()),
+        Err(fault) => Err(fault),
+    }
 }

@@ -5,171 +5,72 @@
 //! Each region has a frame of its own, in which all its positions that may throw are joined, so that they reach its
 //! handlers together.
 
+ghost use Rattle.std.specs.Prelude.{◌≡◌, ◌≤◌, [], slice_get, length, replicate, Some, None, OnOk, IfOk};
+ghost use Rattle.insn_set.specs.Flow.{targets_of};
+ghost use Rattle.verify.specs.declared.kinds.Kind.TheVariants.{Null, Undefined, Reference};
+ghost use Rattle.verify.specs.Frames.{kinds_of, all_undefined};
+ghost use Rattle.verify.specs.Waiting.{Queued, Queues, queue_of};
+ghost use Rattle.verify.specs.Typings.{IsLattice, IsMonotone, IsCovering, IsFlow, IsLeastFlow, Covers};
+ghost use Rattle.verify.specs.Flow.{met, kinds_in, thrown_in, caught_at, caught_as, arrived_of, arrived, flowing_of, handled, caught_in, thrown_to, thrown_from, arrived_all, gone_on, followed_by, followed, visited, region_of, unreached, started, greatest, places_of};
+
+use crate::arrivals::{Arrivals, merge, no_frames};
 use crate::frames::Frame;
 use crate::kinds::Kind;
 use crate::setting::Setting;
-use crate::tables::Tables;
 use insn_set::Insn;
 use program_model::{Body, Handler, Region};
 use std::alloc::{AllocError, Global};
-use std::cmp::Reverse;
-use std::collections::BinaryHeap;
 
-/// The frames of the positions and of the regions, and which positions wait.
+/// The frames of the positions and of the regions.
 #[derive(Drop)]
 pub struct States {
-    pub positions: Vec<Option<Frame>>,
+    pub arrivals: Arrivals,
     regions: Vec<Option<Frame>>,
-    waiting: Vec<bool>,
-    work: BinaryHeap<Reverse<u32>>,
 }
 
 /// A body and the region that covers each of its positions; none is listed where the body has no region.
 #[derive(Drop)]
-pub struct Code<'a> {
-    pub setting: &'a Setting<'a>,
-    pub body: &'a Body,
-    pub covering: &'a [Option<u32>],
-}
-
-/// So many places without a frame.
-fn no_frames(alloc: Global, count: usize) -> Result<Vec<Option<Frame>>, AllocError> {
-    let mut frames = Vec::with_capacity(alloc, count)?;
-    for _ in 0..count {
-        frames.push(None)?;
-    }
-    Ok(frames)
-}
-
-/// Joins a frame into what stands at a place, and answers whether that rose.
-fn merge(
-    alloc: Global,
-    tables: &Tables,
-    place: &mut Option<Frame>,
-    frame: &Frame,
-) -> Result<bool, AllocError> {
-    match place {
-        Some(old) => Ok(old.raise(tables, frame)),
-        None => {
-            *place = Some(frame.copy(alloc)?);
-            Ok(true)
-        }
-    }
-}
-
-/// Moves a frame to a place where none stands, or joins it into the one there; answers whether that rose.
-fn merge_moved(tables: &Tables, place: &mut Option<Frame>, frame: Frame) -> bool {
-    match place {
-        Some(old) => old.raise(tables, &frame),
-        None => {
-            *place = Some(frame);
-            true
-        }
-    }
-}
-
-impl States {
-    /// No position has a frame.
-    fn new(alloc: Global, body: &Body) -> Result<States, AllocError> {
-        Ok(States {
-            positions: no_frames(alloc, body.insns.len())?,
-            regions: no_frames(alloc, body.regions.len())?,
-            waiting: vec![in alloc; false; body.insns.len()]?,
-            work: BinaryHeap::new(alloc),
-        })
-    }
-
-    /// Lets a position wait.
-    fn wake(&mut self, position: u32) -> Result<(), AllocError> {
-        let at = position as usize;
-        if at < self.waiting.len() && !self.waiting[at] {
-            self.work.push(Reverse(position))?;
-            self.waiting[at] = true;
-        }
-        Ok(())
-    }
-
-    /// A frame arrives at a position.
-    fn arrive(
-        &mut self,
-        alloc: Global,
-        tables: &Tables,
-        position: u32,
-        frame: &Frame,
-    ) -> Result<(), AllocError> {
-        let rose = match self.positions.get_mut(position as usize) {
-            Some(place) => merge(alloc, tables, place, frame)?,
-            None => false,
-        };
-        if rose {
-            self.wake(position)?;
-        }
-        Ok(())
-    }
-
-    /// A frame that is needed nowhere else arrives at a position.
-    fn arrive_moved(
-        &mut self,
-        tables: &Tables,
-        position: u32,
-        frame: Frame,
-    ) -> Result<(), AllocError> {
-        let rose = match self.positions.get_mut(position as usize) {
-            Some(place) => merge_moved(tables, place, frame),
-            None => false,
-        };
-        if rose {
-            self.wake(position)?;
-        }
-        Ok(())
-    }
-
-    /// The first position that waits, which waits no longer.
-    fn next(&mut self) -> Option<u32> {
-        match self.work.pop() {
-            Some(Reverse(position)) => {
-                if let Some(mark) = self.waiting.get_mut(position as usize) {
-                    *mark = false;
-                }
-                Some(position)
-            }
-            None => None,
-        }
-    }
-
-    /// A copy of the frame at a position.
-    fn copy_at(&self, alloc: Global, position: u32) -> Result<Option<Frame>, AllocError> {
-        match self.positions.get(position as usize) {
-            Some(Some(frame)) => Ok(Some(frame.copy(alloc)?)),
-            _ => Ok(None),
-        }
-    }
+pub struct Code<'a, 'b, 'c, 'd> {
+    pub setting: &'a Setting<'b>,
+    pub body: &'c Body,
+    pub covering: &'d [Option<u32>],
 }
 
 /// Notes the region for the positions that it covers, unless an earlier one does.
-fn cover(covering: &mut [Option<u32>], region: &Region, place: u32) {
+fn cover(covering: &mut [Option<u32>], region: &Region, place: u32)
+    ensures { Covers covering.old covering.new region.now place }
+{
     for position in region.first..region.end {
-        match covering.get_mut(position as usize) {
-            Some(cell) => {
-                if cell.is_none() {
-                    *cell = Some(place);
-                }
-            }
-            None => return,
+        let at = position as usize;
+        if at >= covering.len() {
+            return;
+        }
+        if covering[at].is_none() {
+            covering[at] = Some(place);
         }
     }
+}
+
+/// No region for each of so many positions.
+fn uncovered(alloc: Global, count: usize) -> Result<Vec<Option<u32>>, AllocError>
+    ensures { IfOk result (λ cs. cs.items ≡ replicate count None) }
+{
+    let mut covering = Vec::with_capacity(alloc, count)?;
+    for _ in 0..count {
+        covering.push(None)?;
+    }
+    Ok(covering)
 }
 
 /// The region that covers each position of a body, the first one if there are several; the empty list where the body
 /// has no regions.
-pub fn covering(alloc: Global, body: &Body) -> Result<Vec<Option<u32>>, AllocError> {
+pub fn covering(alloc: Global, body: &Body) -> Result<Vec<Option<u32>>, AllocError>
+    ensures { IfOk result (λ cs. length body.now.regions ≤ greatest → IsCovering body.now cs.items) }
+{
     if body.regions.is_empty() {
         return Ok(Vec::new(alloc));
     }
-    let mut covering = Vec::with_capacity(alloc, body.insns.len())?;
-    for _ in 0..body.insns.len() {
-        covering.push(None)?;
-    }
+    let mut covering = uncovered(alloc, body.insns.len())?;
     let mut place: u32 = 0;
     for region in body.regions.as_slice() {
         cover(covering.as_mut_slice(), region, place);
@@ -178,31 +79,54 @@ pub fn covering(alloc: Global, body: &Body) -> Result<Vec<Option<u32>>, AllocErr
     Ok(covering)
 }
 
-impl Code<'_> {
+impl Code<'_, '_, '_, '_> {
     /// The kind of the caught object at a handler: that of the handler's type, any object for a catch-all. Where a read
     /// was refused nothing is known of it.
-    fn caught_at(&self, thrown: Kind, kind: Kind) -> Kind {
-        if thrown == Kind::Undefined {
-            thrown
-        } else {
-            kind
+    fn caught_at(&self, thrown: Kind, kind: Kind) -> Kind
+        ensures { result ≡ caught_at thrown kind }
+    {
+        match thrown {
+            Kind::Undefined => thrown,
+            _ => kind,
         }
+    }
+
+    /// What was thrown in a region arrives at a handler, with a caught object of a kind.
+    fn catch_at(
+        &self,
+        alloc: Global,
+        arrivals: &mut Arrivals,
+        position: u32,
+        kind: Kind,
+        frame: &mut Frame,
+    ) -> Result<(), AllocError>
+        ensures arrivals { OnOk result (arrived_of arrivals.new ≡ arrived self.now.setting.now.tables.now position (caught_as (kinds_of frame.old) kind) (arrived_of arrivals.old)) }
+        ensures frame { OnOk result (kinds_of frame.new ≡ kinds_of frame.old) }
+        ensures queues { OnOk result (Queued arrivals.old arrivals.new) }
+    {
+        let thrown = frame.caught;
+        frame.caught = self.caught_at(thrown, kind);
+        arrivals.arrive(alloc, self.setting.tables, position, frame)?;
+        frame.caught = thrown;
+        Ok(())
     }
 
     /// What was thrown in a region arrives at its handlers.
     fn catch_all(
         &self,
         alloc: Global,
-        states: &mut States,
+        arrivals: &mut Arrivals,
         handlers: &[Handler],
         frame: &mut Frame,
-    ) -> Result<(), AllocError> {
-        let thrown = frame.caught;
+    ) -> Result<(), AllocError>
+        ensures arrivals { OnOk result (arrived_of arrivals.new ≡ handled self.now.setting.now.tables.now handlers.now (kinds_of frame.old) (arrived_of arrivals.old)) }
+        ensures frame { OnOk result (kinds_of frame.new ≡ kinds_of frame.old) }
+        ensures queues { OnOk result (Queued arrivals.old arrivals.new) }
+    {
         for handler in handlers {
-            frame.caught = self.caught_at(thrown, self.setting.tables.kind_of(handler.kind));
-            states.arrive(alloc, self.setting.tables, handler.position, frame)?;
+            let kind = self.setting.tables.kind_of(handler.kind);
+            self.catch_at(alloc, arrivals, handler.position, kind, frame)?;
         }
-        frame.caught = thrown;
         Ok(())
     }
 
@@ -210,53 +134,88 @@ impl Code<'_> {
     fn catch(
         &self,
         alloc: Global,
-        states: &mut States,
+        arrivals: &mut Arrivals,
         region: &Region,
         frame: &mut Frame,
-    ) -> Result<(), AllocError> {
-        self.catch_all(alloc, states, region.handlers.as_slice(), frame)?;
-        let thrown = frame.caught;
+    ) -> Result<(), AllocError>
+        ensures arrivals { OnOk result (arrived_of arrivals.new ≡ caught_in self.now.setting.now.tables.now region.now (kinds_of frame.old) (arrived_of arrivals.old)) }
+        ensures frame { OnOk result (kinds_of frame.new ≡ kinds_of frame.old) }
+        ensures queues { OnOk result (Queued arrivals.old arrivals.new) }
+    {
+        self.catch_all(alloc, arrivals, region.handlers.as_slice(), frame)?;
         if let Some(position) = region.rest {
-            frame.caught = self.caught_at(thrown, Kind::Reference);
-            states.arrive(alloc, self.setting.tables, position, frame)?;
+            self.catch_at(alloc, arrivals, position, Kind::Reference, frame)?;
         }
-        frame.caught = thrown;
         Ok(())
     }
 
-    /// What a position throws arrives at its region, and where that rises at the region's handlers.
+    /// What a position throws arrives at a region, and where that rises at the region's handlers.
+    fn throw_at(
+        &self,
+        alloc: Global,
+        arrivals: &mut Arrivals,
+        region: &Region,
+        state: &mut Option<Frame>,
+        frame: &Frame,
+    ) -> Result<(), AllocError>
+        ensures state { OnOk result (kinds_in state.new ≡ Some (met self.now.setting.now.tables.now (kinds_of frame.now) (kinds_in state.old))) }
+        ensures arrivals { OnOk result (arrived_of arrivals.new ≡ thrown_in self.now.setting.now.tables.now region.now (kinds_of frame.now) (arrived_of arrivals.old) (kinds_in state.old)) }
+        ensures queues { OnOk result (Queued arrivals.old arrivals.new) }
+    {
+        if merge(alloc, self.setting.tables, state, frame)? {
+            if let Some(joined) = state {
+                self.catch(alloc, arrivals, region, joined)?;
+            }
+        }
+        Ok(())
+    }
+
+    /// What a position throws arrives at a region with this place.
+    fn throw_to(
+        &self,
+        alloc: Global,
+        states: &mut States,
+        region: &Region,
+        place: u32,
+        frame: &Frame,
+    ) -> Result<(), AllocError>
+        ensures states { OnOk result (flowing_of states.new ≡ thrown_to self.now.setting.now.tables.now (Some region.now) place (kinds_of frame.now) (flowing_of states.old)) }
+        ensures queues { OnOk result (Queued states.old.arrivals states.new.arrivals) }
+    {
+        let at = place as usize;
+        if at < states.regions.len() {
+            self.throw_at(
+                alloc,
+                &mut states.arrivals,
+                region,
+                &mut states.regions[at],
+                frame,
+            )?;
+        }
+        Ok(())
+    }
+
+    /// What a position throws arrives at the region at a place.
     fn throw(
         &self,
         alloc: Global,
         states: &mut States,
         place: u32,
         frame: &Frame,
-    ) -> Result<(), AllocError> {
-        let region = match self.body.regions.as_slice().get(place as usize) {
-            Some(region) => region,
-            None => return Ok(()),
-        };
-        let mut joined = match states.regions.get_mut(place as usize) {
-            Some(state) => {
-                if !merge(alloc, self.setting.tables, state, frame)? {
-                    return Ok(());
-                }
-                match state.take() {
-                    Some(joined) => joined,
-                    None => return Ok(()),
-                }
-            }
-            None => return Ok(()),
-        };
-        self.catch(alloc, states, region, &mut joined)?;
-        if let Some(state) = states.regions.get_mut(place as usize) {
-            *state = Some(joined);
+    ) -> Result<(), AllocError>
+        ensures states { OnOk result (flowing_of states.new ≡ thrown_to self.now.setting.now.tables.now (slice_get self.now.body.now.regions place) place (kinds_of frame.now) (flowing_of states.old)) }
+        ensures queues { OnOk result (Queued states.old.arrivals states.new.arrivals) }
+    {
+        match self.body.regions.as_slice().get(place as usize) {
+            Some(region) => self.throw_to(alloc, states, region, place, frame),
+            None => Ok(()),
         }
-        Ok(())
     }
 
     /// The region that covers a position.
-    fn region_of(&self, position: u32) -> Option<u32> {
+    fn region_of(&self, position: u32) -> Option<u32>
+        ensures { result ≡ region_of self.now.covering.now position }
+    {
         match self.covering.get(position as usize) {
             Some(place) => *place,
             None => None,
@@ -273,7 +232,11 @@ impl Code<'_> {
         insn: &Insn,
         thrown: Kind,
         frame: &mut Frame,
-    ) -> Result<(), AllocError> {
+    ) -> Result<(), AllocError>
+        ensures states { OnOk result (flowing_of states.new ≡ thrown_from self.now.setting.now.tables.now self.now.body.now self.now.covering.now position insn.now thrown (kinds_of frame.old) (flowing_of states.old)) }
+        ensures frame { OnOk result (kinds_of frame.new ≡ kinds_of frame.old) }
+        ensures queues { OnOk result (Queued states.old.arrivals states.new.arrivals) }
+    {
         if !insn.may_throw() {
             return Ok(());
         }
@@ -286,43 +249,89 @@ impl Code<'_> {
         Ok(())
     }
 
-    /// A frame arrives at each of some positions.
-    fn arrive_all(
+    /// The kinds after a form arrive at its targets.
+    fn branch(
         &self,
         alloc: Global,
-        states: &mut States,
-        targets: &[u32],
+        arrivals: &mut Arrivals,
+        insn: &Insn,
         frame: &Frame,
-    ) -> Result<(), AllocError> {
-        for target in targets {
-            states.arrive(alloc, self.setting.tables, *target, frame)?;
+    ) -> Result<(), AllocError>
+        ensures arrivals { OnOk result (arrived_of arrivals.new ≡ arrived_all self.now.setting.now.tables.now (targets_of insn.now) (kinds_of frame.now) (arrived_of arrivals.old)) }
+        ensures queues { OnOk result (Queued arrivals.old arrivals.new) }
+    {
+        let tables = self.setting.tables;
+        match insn {
+            Insn::Goto { target } | Insn::If { target, .. } | Insn::IfZero { target, .. } => {
+                arrivals.arrive(alloc, tables, *target, frame)
+            }
+            Insn::PackedSwitch { targets, .. } | Insn::SparseSwitch { targets, .. } => {
+                arrivals.arrive_all(alloc, tables, targets.as_slice(), frame)
+            }
+            _ => Ok(()),
+        }
+    }
+
+    /// The kinds after a form arrive at its targets and at the next position.
+    #[tactic(auto, using(crate::proofs::Queue::queues_on))]
+    fn go_on(
+        &self,
+        alloc: Global,
+        arrivals: &mut Arrivals,
+        position: u32,
+        insn: &Insn,
+        frame: Frame,
+    ) -> Result<(), AllocError>
+        ensures arrivals { OnOk result (arrived_of arrivals.new ≡ gone_on self.now.setting.now.tables.now position insn.now (kinds_of frame) (arrived_of arrivals.old)) }
+        ensures queues { OnOk result (Queued arrivals.old arrivals.new) }
+    {
+        let tables = self.setting.tables;
+        if let Insn::Goto { target } = insn {
+            arrivals.arrive_moved(tables, *target, frame)?;
+            return Ok(());
+        }
+        self.branch(alloc, arrivals, insn, &frame)?;
+        if insn.continues() {
+            arrivals.arrive_moved(tables, position.saturating_add(1), frame)?;
         }
         Ok(())
     }
 
-    /// The kinds after a form arrive at its targets and at the next position.
-    fn go_on(
+    /// Follows all edges from a position where a read isn't allowed: they carry nothing.
+    #[tactic(auto, using(crate::proofs::Queue::queues_on))]
+    fn follow_nothing(
         &self,
         alloc: Global,
         states: &mut States,
         position: u32,
         insn: &Insn,
-        frame: Frame,
-    ) -> Result<(), AllocError> {
-        let tables = self.setting.tables;
-        match insn {
-            Insn::Goto { target } => return states.arrive_moved(tables, *target, frame),
-            Insn::If { target, .. } | Insn::IfZero { target, .. } => {
-                states.arrive(alloc, tables, *target, &frame)?;
-            }
-            Insn::PackedSwitch { targets, .. } | Insn::SparseSwitch { targets, .. } => {
-                self.arrive_all(alloc, states, targets.as_slice(), &frame)?;
-            }
-            _ => {}
-        }
-        if insn.continues() {
-            return states.arrive_moved(tables, position.saturating_add(1), frame);
-        }
+    ) -> Result<(), AllocError>
+        ensures states { OnOk result (flowing_of states.new ≡ followed_by self.now.setting.now self.now.body.now self.now.covering.now position insn.now (all_undefined 0) (flowing_of states.old) (Some 0)) }
+        ensures queues { OnOk result (Queued states.old.arrivals states.new.arrivals) }
+    {
+        let mut nothing = Frame::undefined(alloc, self.body.registers)?;
+        self.throw_from(alloc, states, position, insn, Kind::Undefined, &mut nothing)?;
+        self.go_on(alloc, &mut states.arrivals, position, insn, nothing)?;
+        Ok(())
+    }
+
+    /// Follows all edges from a position with these kinds.
+    #[tactic(auto, using(crate::proofs::Queue::queues_on))]
+    fn follow_kinds(
+        &self,
+        alloc: Global,
+        states: &mut States,
+        position: u32,
+        insn: &Insn,
+        before: Frame,
+    ) -> Result<(), AllocError>
+        ensures states { OnOk result (flowing_of states.new ≡ followed_by self.now.setting.now self.now.body.now self.now.covering.now position insn.now (kinds_of before) (flowing_of states.old) None) }
+        ensures queues { OnOk result (Queued states.old.arrivals states.new.arrivals) }
+    {
+        let mut frame = before;
+        self.throw_from(alloc, states, position, insn, Kind::Null, &mut frame)?;
+        self.setting.apply(position, insn, &mut frame);
+        self.go_on(alloc, &mut states.arrivals, position, insn, frame)?;
         Ok(())
     }
 
@@ -334,40 +343,52 @@ impl Code<'_> {
         position: u32,
         insn: &Insn,
         before: Frame,
-    ) -> Result<(), AllocError> {
-        let mut frame = before;
-        if self.setting.fault(position, &frame, insn).is_some() {
-            let mut nothing = Frame::undefined(alloc, self.body.registers)?;
-            self.throw_from(alloc, states, position, insn, Kind::Undefined, &mut nothing)?;
-            return self.go_on(alloc, states, position, insn, nothing);
+    ) -> Result<(), AllocError>
+        ensures states { OnOk result (flowing_of states.new ≡ followed self.now.setting.now self.now.body.now self.now.covering.now position insn.now (kinds_of before) (flowing_of states.old)) }
+        ensures queues { OnOk result (Queued states.old.arrivals states.new.arrivals) }
+    {
+        match self.setting.fault(position, &before, insn) {
+            Some(_register) => self.follow_nothing(alloc, states, position, insn),
+            None => self.follow_kinds(alloc, states, position, insn, before),
         }
-        self.throw_from(alloc, states, position, insn, Kind::Null, &mut frame)?;
-        self.setting.apply(position, insn, &mut frame);
-        self.go_on(alloc, states, position, insn, frame)
     }
 
     /// Visits a position.
-    fn visit(&self, alloc: Global, states: &mut States, position: u32) -> Result<(), AllocError> {
+    fn visit(&self, alloc: Global, states: &mut States, position: u32) -> Result<(), AllocError>
+        ensures states { OnOk result (flowing_of states.new ≡ visited self.now.setting.now self.now.body.now self.now.covering.now position (flowing_of states.old)) }
+        ensures queues { OnOk result (Queued states.old.arrivals states.new.arrivals) }
+    {
         let insn = match self.body.insns.as_slice().get(position as usize) {
             Some(insn) => insn,
             None => return Ok(()),
         };
-        match states.copy_at(alloc, position)? {
+        match states.arrivals.copy_at(alloc, position)? {
             Some(frame) => self.follow(alloc, states, position, insn, frame),
             None => Ok(()),
         }
     }
 
+    /// The entry's frame has arrived, and nothing else has.
+    fn start(&self, alloc: Global, entry: Frame) -> Result<States, AllocError>
+        ensures states { IfOk result (λ f. flowing_of f ≡ started self.now.setting.now.tables.now self.now.body.now (kinds_of entry)) }
+        ensures queues { IfOk result (λ f. Queues (unreached (length self.now.body.now.insns)).waits f.arrivals.waiting.items [] (queue_of f.arrivals)) }
+    {
+        let regions = no_frames(alloc, self.body.regions.len())?;
+        let mut arrivals = Arrivals::new(alloc, self.body.insns.len())?;
+        arrivals.arrive_moved(self.setting.tables, 0, entry)?;
+        Ok(States { arrivals, regions })
+    }
+
     /// The frames of the least flow that begins with a frame. The only error is want of memory.
-    pub fn solve(&self, alloc: Global, entry: Frame) -> Result<Vec<Option<Frame>>, AllocError> {
-        let mut states = States::new(alloc, self.body)?;
-        states.arrive_moved(self.setting.tables, 0, entry)?;
-        for _ in 0..u64::MAX {
-            match states.next() {
-                Some(position) => self.visit(alloc, &mut states, position)?,
-                None => break,
-            }
+    pub fn solve(&self, alloc: Global, entry: Frame) -> Result<Vec<Option<Frame>>, AllocError>
+        requires wide { length (kinds_of entry).registers ≡ self.now.body.now.registers }
+        ensures flow { IfOk result (λ fs. IsLattice self.now.setting.now.tables.now → length self.now.body.now.insns ≤ greatest → IsCovering self.now.body.now self.now.covering.now → IsFlow self.now.setting.now self.now.body.now (kinds_of entry) (places_of fs.items)) }
+        ensures least { IfOk result (λ fs. IsLattice self.now.setting.now.tables.now → IsMonotone self.now.setting.now → length self.now.body.now.insns ≤ greatest → IsCovering self.now.body.now self.now.covering.now → IsLeastFlow self.now.setting.now self.now.body.now (kinds_of entry) (places_of fs.items)) }
+    {
+        let mut states = self.start(alloc, entry)?;
+        while let Some(position) = states.arrivals.next() {
+            self.visit(alloc, &mut states, position)?;
         }
-        Ok(states.positions)
+        Ok(states.arrivals.positions)
     }
 }

@@ -2,10 +2,9 @@
 
 ghost use Rattle.std.specs.Prelude.{◌≡◌, ◌≤◌, map, slice_set, IfOk};
 ghost use Rattle.verify.specs.Kinds.{replaced, forgotten};
-ghost use Rattle.verify.specs.Frames.{kinds_of, kind_at, is_pair, split, written_one, written_pair, written_kinds, written, replace, forget};
+ghost use Rattle.verify.specs.Frames.{kinds_of, kind_at, is_pair, split, written_one, written_pair, written_kinds, written, replace, forget, all_undefined};
 
 use crate::kinds::Kind;
-use crate::tables::Tables;
 use std::alloc::{AllocError, Global};
 
 /// A kind for each register, for the place of the last result, for that of the caught object, and in a constructor for
@@ -122,7 +121,9 @@ fn forget_all(kinds: &mut [Kind], position: u32)
 
 impl Frame {
     /// A frame of so many registers that says nothing.
-    pub fn undefined(alloc: Global, registers: u16) -> Result<Frame, AllocError> {
+    pub fn undefined(alloc: Global, registers: u16) -> Result<Frame, AllocError>
+        ensures { IfOk result (λ f. kinds_of f ≡ all_undefined registers) }
+    {
         Ok(Frame {
             registers: vec![in alloc; Kind::Undefined; registers as usize]?,
             result: Kind::Undefined,
@@ -166,7 +167,9 @@ impl Frame {
     }
 
     /// Sets the kind of a register, unless it is past the last one.
-    pub fn put(&mut self, register: u32, kind: Kind) {
+    pub fn put(&mut self, register: u32, kind: Kind)
+        ensures { kinds_of self.new ≡ record (kinds_of self.old) { registers = slice_set (kinds_of self.old).registers register kind } }
+    {
         put(self.registers.as_mut_slice(), register, kind);
     }
 
@@ -197,46 +200,5 @@ impl Frame {
         ensures { kinds_of self.new ≡ record (kinds_of self.old) { result = kind } }
     {
         self.result = kind;
-    }
-}
-
-/// Joins a kind into another one, and answers whether that rose.
-fn raise(tables: &Tables, cell: &mut Kind, kind: Kind) -> bool {
-    let old = *cell;
-    if old.is_same(kind) {
-        return false;
-    }
-    let joined = tables.join(old, kind);
-    if tables.rank(joined) < tables.rank(old) {
-        *cell = joined;
-        return true;
-    }
-    false
-}
-
-/// Joins the kinds of registers into those of others, and answers whether one rose.
-fn raise_all(tables: &Tables, cells: &mut [Kind], kinds: &[Kind]) -> bool {
-    let mut rose = false;
-    for at in 0..cells.len() {
-        if at < kinds.len() {
-            let kind = kinds[at];
-            rose |= raise(tables, &mut cells[at], kind);
-        }
-    }
-    rose
-}
-
-impl Frame {
-    /// Joins a frame into this one, and answers whether this one rose.
-    pub fn raise(&mut self, tables: &Tables, other: &Frame) -> bool {
-        let registers = raise_all(
-            tables,
-            self.registers.as_mut_slice(),
-            other.registers.as_slice(),
-        );
-        let result = raise(tables, &mut self.result, other.result);
-        let caught = raise(tables, &mut self.caught, other.caught);
-        let receiver = raise(tables, &mut self.receiver, other.receiver);
-        registers || result || caught || receiver
     }
 }

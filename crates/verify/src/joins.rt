@@ -1,6 +1,7 @@
 //! The least kind at or above two kinds, and how far a kind can still rise.
 
-ghost use Rattle.std.specs.Prelude.{◌≡◌};
+ghost use Rattle.std.specs.Prelude.{◌≡◌, Some};
+ghost use Rattle.verify.specs.Flow.{rank_of_place, rank_of_array, rank};
 ghost use Rattle.verify.specs.Joins.{joined, joined_references, joined_class, joined_array, joined_arrays, nearest_item, is_flat, joined_deep, joined_null};
 
 use crate::kinds::{Kind, is_same_number};
@@ -124,20 +125,38 @@ impl Tables {
         }
     }
 
+    /// The rank of an array whose items have this program class. The item that stands for the class has the lower one
+    /// of the two ranks of its depth.
+    fn rank_of_class(&self, item: Option<u32>, class: u32) -> u32
+        ensures { result ≡ rank_of_place self.now item (Some class) }
+    {
+        let depth = self.chains.depth(class);
+        let lower = if is_same_number(item, self.item_of_class(class)) {
+            4
+        } else {
+            5
+        };
+        depth.saturating_add(depth).saturating_add(lower)
+    }
+
     /// The rank of an array: that of arrays of objects is the least.
-    fn rank_of_array(&self, depth: u32, item: Option<u32>) -> u32 {
+    fn rank_of_array(&self, depth: u32, item: Option<u32>) -> u32
+        ensures { result ≡ rank_of_array self.now depth item }
+    {
         if depth == 1 && is_same_number(item, self.object) {
             return 2;
         }
         match self.item_shape(item).place() {
-            Some(class) => self.chains.depth(class).saturating_add(4),
+            Some(class) => self.rank_of_class(item, class),
             None => 3,
         }
     }
 
     /// A number that falls where a kind rises: what a kind rises to by a join has a lower one. Null and the constant 0
     /// have the greatest two, which no class reaches, since a program has fewer classes.
-    pub fn rank(&self, kind: Kind) -> u32 {
+    pub fn rank(&self, kind: Kind) -> u32
+        ensures { result ≡ rank self.now kind }
+    {
         match kind {
             Kind::Undefined => 0,
             Kind::Word

@@ -10,6 +10,7 @@
 #![tactic(auto)]
 
 mod after;
+mod arrivals;
 mod calls;
 mod chains;
 mod checks;
@@ -22,6 +23,7 @@ mod joins;
 mod kinds;
 mod methods;
 mod operands;
+mod raising;
 mod setting;
 mod shapes;
 mod tables;

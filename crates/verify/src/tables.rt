@@ -1,6 +1,7 @@
 //! What the verifier looks up by type, proto and method number, made once for a program.
 
-ghost use Rattle.std.specs.Prelude.{◌≡◌, slice_index};
+ghost use Rattle.std.specs.Prelude.{◌≡◌, min, slice_index};
+ghost use Rattle.verify.specs.Flow.{greatest};
 ghost use Rattle.verify.specs.Types.{shape_in, shape_of, item_shape, item_of_class, kind_of_class, kind_of_shape, kind_of, reference_kind, cast_kind, kind_of_item, proto_words, is_constructor};
 
 use crate::chains::Chains;
@@ -39,7 +40,9 @@ pub struct Tables {
 }
 
 /// A length or a place as a number of 32 bits.
-pub fn word(n: usize) -> u32 {
+pub fn word(n: usize) -> u32
+    ensures { result ≡ min n greatest }
+{
     if n < u32::MAX as usize {
         n as u32
     } else {

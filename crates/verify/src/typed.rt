@@ -1,6 +1,12 @@
 //! Typings of methods.
 
-ghost use Rattle.std.specs.Prelude.{◌≡◌, IfNone, IfSome};
+ghost use Rattle.std.specs.Prelude.{◌≡◌, ◌≤◌, length, slice_get, All, Some, IfNone, IfSome, IfOk, IfErr, OnOk};
+ghost use Rattle.std.specs.Option.{option_copied};
+ghost use Rattle.verify.specs.Entry.{begun};
+ghost use Rattle.verify.specs.Flow.{greatest, places_of};
+ghost use Rattle.verify.specs.Typings.{IsExact, IsLeastTyping, Refuses as RefusesBody};
+ghost use Rattle.verify.specs.Names.{parameters_of, result_of};
+ghost use Rattle.verify.specs.Methods.{receiver_of, constructs, HasTyping, Refuses, Types, HasTypings, TypesAt, RefusesAt, RefusesIn, AllBelow, RefusesFirst, IsFor};
 ghost use Rattle.verify.specs.Frames.{kinds_of};
 ghost use Rattle.verify.specs.Faults.{fault_of, fault_at, NoneBreaks};
 
@@ -88,8 +94,45 @@ impl Setting<'_> {
     }
 }
 
+impl Setting<'_> {
+    /// The least typing of a body that is entered with these kinds. `IllTyped` stands where there is none.
+    fn judge(
+        &self,
+        alloc: Global,
+        method: u32,
+        body: &Body,
+        passed: &Passed<'_>,
+    ) -> Result<Typings, TypeFault>
+        ensures typed { IfOk result (λ x. IsExact self.now body.now → IsLeastTyping self.now body.now (begun self.now body.now passed.now.receiver passed.now.kinds.now) (places_of x.states.items)) }
+        ensures refused { IfErr result (λ e. RefusesBody self.now body.now (begun self.now body.now passed.now.receiver passed.now.kinds.now) method e) }
+    {
+        let covering = covering(alloc, body)?;
+        let code = Code {
+            setting: self,
+            body,
+            covering: covering.as_slice(),
+        };
+        let entry = self.begin(alloc, body, passed)?;
+        let states = code.solve(alloc, entry)?;
+        match self.first_fault(
+            body.insns.as_slice(),
+            states.as_slice(),
+            word(body.insns.len()),
+        ) {
+            Some((position, register)) => Err(TypeFault::IllTyped {
+                method,
+                position,
+                register,
+            }),
+            None => Ok(Typings { states }),
+        }
+    }
+}
+
 /// The receiver with which a method is entered.
-fn receiver_of(class: &Class, at: u32, method: &Method, constructs: bool) -> Option<Kind> {
+fn receiver_of(class: &Class, at: u32, method: &Method, constructs: bool) -> Option<Kind>
+    ensures { result ≡ receiver_of class.now at method.now constructs }
+{
     if method.flags.has(Flags::STATIC) {
         None
     } else if constructs {
@@ -102,7 +145,10 @@ fn receiver_of(class: &Class, at: u32, method: &Method, constructs: bool) -> Opt
 }
 
 /// The parameters and the result of a method's proto.
-fn proto_of<'b>(program: &'b Program, method: &Method) -> (&'b [u32], u32) {
+fn proto_of<'b>(program: &'b Program, method: &Method) -> (&'b [u32], u32)
+    ensures parameters { result.0.now ≡ parameters_of program.now method.now.name }
+    ensures result { result.1 ≡ result_of program.now method.now.name }
+{
     let name = match program.methods.as_slice().get(method.name as usize) {
         Some(name) => name,
         None => return (&[], u32::MAX),
@@ -119,12 +165,21 @@ impl<'a> Verifier<'a> {
         alloc: Global,
         program: &'a Program,
         hierarchy: &'a Hierarchy,
-    ) -> Result<Verifier<'a>, AllocError> {
+    ) -> Result<Verifier<'a>, AllocError>
+        ensures { IfOk result (IsFor program.now hierarchy.now) }
+    {
         Ok(Verifier {
             program,
             hierarchy,
             tables: Tables::make(alloc, program, hierarchy)?,
         })
+    }
+
+    /// Whether a method is a constructor.
+    fn constructs(&self, method: &Method) -> bool
+        ensures { result ≡ constructs self.now.tables method.now }
+    {
+        self.tables.is_constructor(method.name) && !method.flags.has(Flags::STATIC)
     }
 
     /// The typings of the code of a method of a class.
@@ -135,11 +190,13 @@ impl<'a> Verifier<'a> {
         class: (&Class, u32),
         method: &Method,
         body: &Body,
-    ) -> Result<Typings, TypeFault> {
+    ) -> Result<Typings, TypeFault>
+        ensures typed { IfOk result (λ x. HasTyping self.now class.entry.0.now class.entry.1 method.now body.now (places_of x.states.items)) }
+        ensures refused { method.now.body ≡ Some body.now → IfErr result (Refuses self.now class.entry.0.now class.entry.1 method.now) }
+    {
         let found = calls.search_all(alloc, class.1, body.insns.as_slice())?;
         let (kinds, result) = proto_of(self.program, method);
-        let constructs = self.tables.is_constructor(method.name)
-            && !method.flags.has(Flags::STATIC);
+        let constructs = self.constructs(method);
         let setting = Setting {
             program: self.program,
             hierarchy: self.hierarchy,
@@ -155,33 +212,24 @@ impl<'a> Verifier<'a> {
             receiver: receiver_of(class.0, class.1, method, constructs),
             kinds,
         };
-        let covering = covering(alloc, body)?;
-        let code = Code {
-            setting: &setting,
-            body,
-            covering: covering.as_slice(),
-        };
-        let entry = setting.begin(alloc, body, &passed)?;
-        let states = code.solve(alloc, entry)?;
-        match setting.first_fault(
-            body.insns.as_slice(),
-            states.as_slice(),
-            word(body.insns.len()),
-        ) {
-            Some((position, register)) => Err(TypeFault::IllTyped {
-                method: method.name,
-                position,
-                register,
-            }),
-            None => Ok(Typings { states }),
-        }
+        setting.judge(alloc, method.name, body, &passed)
+    }
+
+    /// The class at a place.
+    fn class_at(&self, place: u32) -> Option<&Class>
+        ensures { option_copied result ≡ slice_get self.now.program.now.classes place }
+    {
+        self.program.classes.as_slice().get(place as usize)
     }
 
     /// The typings of a method: the least that there are. `IllTyped` stands where there are none. A method without code
     /// has no positions.
-    pub fn typings(&self, alloc: Global, method: MethodAt) -> Result<Typings, TypeFault> {
+    pub fn typings(&self, alloc: Global, method: MethodAt) -> Result<Typings, TypeFault>
+        ensures typed { IfOk result (λ x. TypesAt self.now method (places_of x.states.items)) }
+        ensures refused { IfErr result (RefusesAt self.now method) }
+    {
         let mut calls = Calls::new(alloc, self.program, self.hierarchy, &self.tables);
-        let class = match self.program.classes.as_slice().get(method.class as usize) {
+        let class = match self.class_at(method.class) {
             Some(class) => class,
             None => {
                 return Ok(Typings {
@@ -189,12 +237,15 @@ impl<'a> Verifier<'a> {
                 });
             }
         };
-        self.of_method(
-            alloc,
-            &mut calls,
-            (class, method.class),
-            method_at(self.program, method),
-        )
+        let found = match method_at(self.program, method) {
+            Some(found) => found,
+            None => {
+                return Ok(Typings {
+                    states: Vec::new(alloc),
+                });
+            }
+        };
+        self.of_method(alloc, &mut calls, (class, method.class), found)
     }
 
     /// The typings of a method, if it has code.
@@ -203,16 +254,17 @@ impl<'a> Verifier<'a> {
         alloc: Global,
         calls: &mut Calls<'_>,
         class: (&Class, u32),
-        method: Option<&Method>,
-    ) -> Result<Typings, TypeFault> {
-        if let Some(method) = method {
-            if let Some(body) = &method.body {
-                return self.of_body(alloc, calls, class, method, body);
-            }
+        method: &Method,
+    ) -> Result<Typings, TypeFault>
+        ensures typed { IfOk result (λ x. Types self.now class.entry.0.now class.entry.1 method.now (places_of x.states.items)) }
+        ensures refused { IfErr result (Refuses self.now class.entry.0.now class.entry.1 method.now) }
+    {
+        match &method.body {
+            Some(body) => self.of_body(alloc, calls, class, method, body),
+            None => Ok(Typings {
+                states: Vec::new(alloc),
+            }),
         }
-        Ok(Typings {
-            states: Vec::new(alloc),
-        })
     }
 
     /// Refuses the first method of a class that is ill typed.
@@ -220,20 +272,33 @@ impl<'a> Verifier<'a> {
         &self,
         alloc: Global,
         calls: &mut Calls<'_>,
-        class: (&Class, u32),
-    ) -> Result<(), TypeFault> {
-        for method in class.0.methods.as_slice() {
-            self.of_method(alloc, calls, class, Some(method))?;
+        class: &Class,
+        at: u32,
+    ) -> Result<(), TypeFault>
+        ensures typed { OnOk result (All (HasTypings self.now class.now at) class.now.methods) }
+        ensures refused { IfErr result (RefusesIn self.now class.now at) }
+    {
+        for method in class.methods.as_slice() {
+            match self.of_method(alloc, calls, (class, at), method) {
+                Ok(_typings) => {}
+                Err(fault) => return Err(fault),
+            }
         }
         Ok(())
     }
 
     /// Refuses the first method, in class and method order, that is ill typed.
-    pub fn verify_all(&self, alloc: Global) -> Result<(), TypeFault> {
+    pub fn verify_all(&self, alloc: Global) -> Result<(), TypeFault>
+        ensures typed { OnOk result (length self.now.program.now.classes ≤ greatest → AllBelow self.now (length self.now.program.now.classes)) }
+        ensures refused { IfErr result (λ e. length self.now.program.now.classes ≤ greatest → RefusesFirst self.now e) }
+    {
         let mut calls = Calls::new(alloc, self.program, self.hierarchy, &self.tables);
         let mut at: u32 = 0;
         for class in self.program.classes.as_slice() {
-            self.verify_class(alloc, &mut calls, (class, at))?;
+            match self.verify_class(alloc, &mut calls, class, at) {
+                Ok(()) => {}
+                Err(fault) => return Err(fault),
+            }
             at = at.saturating_add(1);
         }
         Ok(())

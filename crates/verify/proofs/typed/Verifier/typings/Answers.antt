@@ -1,0 +1,16 @@
+use Rattle.std.proofs.Common.{sym, ap, ◌∙◌}
+use Rattle.std.specs.Option.{option_copied}
+use Rattle.verify.proofs.Bodies.{typed_at, refused_at, nothing_at, nothing_in}
+use Rattle.verify.proofs.typed.Verifier.typings.Goals as goal
+
+pub returns-in-None-clause-typed : goal.returns-in-None-clause-typed
+returns-in-None-clause-typed c = nothing_at c.args.self.now c.args.method _ (sym c.class_at.ensures ∙ ap option_copied c.in-None.is)
+
+pub returns-in-None-method_at-clause-typed : goal.returns-in-None-method_at-clause-typed
+returns-in-None-method_at-clause-typed c = nothing_in c.args.self.now c.args.method _ (sym c.method_at.ensures ∙ ap option_copied c.in-None-method_at.is)
+
+pub returns-clause-typed : goal.returns-clause-typed
+returns-clause-typed c = typed_at c.args.self.now c.args.method _ _ (sym c.class_at.ensures ∙ ap option_copied c.in-Some.is) (sym c.method_at.ensures ∙ ap option_copied c.in-Some-method_at.is) c.of_method.result c.of_method.ensures.typed
+
+pub returns-clause-refused : goal.returns-clause-refused
+returns-clause-refused c = refused_at c.args.self.now c.args.method _ _ (sym c.class_at.ensures ∙ ap option_copied c.in-Some.is) (sym c.method_at.ensures ∙ ap option_copied c.in-Some-method_at.is) c.of_method.result c.of_method.ensures.refused

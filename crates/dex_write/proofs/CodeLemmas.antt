@@ -1,6 +1,6 @@
 -- Code of several methods, one behind another.
-use Rattle.std.proofs.Common.{◌<◌, map, drop, get_or, ◌≡◌, ℕ, ◌+◌, List, [], ◌∷◌, ◌++◌, length, refl, sym, ap, ◌∙◌, append_assoc, arith}
-use Rattle.std.specs.List.{flat_map, AllByRecursion}
+use Rattle.std.proofs.Common.{◌<◌, map, drop, get_or, ◌≡◌, ℕ, ◌+◌, List, [], ◌∷◌, ◌++◌, length, refl, sym, ap, ◌∙◌, append_assoc}
+use Rattle.std.specs.List.{AllByRecursion}
 use Rattle.dex_write.specs.declared.ordered.MethodPart.{MethodPart}
 use Rattle.dex_write.specs.declared.ordered.Ordered.{Ordered}
 use Rattle.dex_write.specs.Plans.{plan_in}

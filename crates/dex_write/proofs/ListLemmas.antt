@@ -1,9 +1,9 @@
 -- What a set of lists is after one more.
 use Rattle.std.specs.Prelude.{Vec}
 use Rattle.std.specs.declared.alloc.Global.{Global}
-use Rattle.std.proofs.Common.{◌≡◌, ℕ, suc, List, [], ◌∷◌, ◌++◌, length, map, Bool, true, false, ◌||◌, not, nat_eq, if◌then◌else◌, cond, Some, ◌+◌, ◌<◌, not-suc-le-zero, zero, drop, ◌==◌, true≢false, length-append, append_assoc, arith, refl, sym, ap, ◌∙◌}
+use Rattle.std.proofs.Common.{◌≡◌, ℕ, suc, List, [], ◌∷◌, ◌++◌, length, Bool, true, false, ◌||◌, not, nat_eq, if◌then◌else◌, cond, Some, ◌+◌, ◌<◌, not-suc-le-zero, zero, drop, ◌==◌, true≢false, length-append, append_assoc, arith, refl, sym, ap, ◌∙◌}
 use Rattle.std.proofs.lemmas.List.{map-append}
-use Rattle.std.specs.List.{list_any, position_or_len, prefix_len}
+use Rattle.std.specs.List.{list_any, position_or_len}
 use Rattle.std.specs.Cmp.Lexicographic.{pointwise}
 use Rattle.indexmap.specs.IndexSet.{insert_key}
 use Rattle.dex_write.specs.Numbers.{up}

@@ -1,15 +1,14 @@
 -- The search for the order of the classes.
 use Rattle.std.specs.declared.alloc.AllocError.{AllocError}
-use Rattle.std.proofs.Common.{Result, Ok, Err, OnOk, ◌≡◌, ℕ, zero, suc, ◌+◌, ◌-◌, ◌<◌, ◌≤◌, List, [], ◌∷◌, ◌++◌, length, map, reverse, drop, replicate, Bool, true, false, nat_eq, nat_lt, Option, Some, None, slice_get, slice_set, slice_index_or, if◌then◌else◌, refl, sym, ap, subst, ◌∙◌, ⊎_elim, ◌⊎◌, inl, inr, true≢false, append_assoc, append-nil, is_some, unwrap_or, get_or-set_same, get_or-set_other, length-set, arith, not-suc-le-zero, le_of_suc-le-suc}
+use Rattle.std.proofs.Common.{Result, Ok, Err, OnOk, ◌≡◌, ℕ, zero, suc, ◌+◌, ◌-◌, ◌<◌, ◌≤◌, List, [], ◌∷◌, ◌++◌, length, reverse, drop, replicate, Bool, true, false, nat_eq, nat_lt, Option, Some, None, slice_get, slice_set, slice_index_or, if◌then◌else◌, refl, sym, ap, subst, ◌∙◌, ⊎_elim, ◌⊎◌, inl, inr, true≢false, append_assoc, append-nil, is_some, unwrap_or, arith, not-suc-le-zero, le_of_suc-le-suc}
 use Rattle.std.proofs.lemmas.Bool.{cases_Bool}
-use Rattle.std.proofs.lemmas.Bool.Decides.{nat_tests, eqb_tells, leb_tells}
+use Rattle.std.proofs.lemmas.Bool.Decides.{nat_tests, leb_tells}
 use Rattle.std.proofs.lemmas.List.{reverse-append}
-use Rattle.program_model.specs.declared.program.Class.{Class}
 use Rattle.program_model.specs.declared.program.Program.{Program}
 use Rattle.dex_write.proofs.TakeLemmas.{drop_past}
 use Rattle.dex_write.specs.declared.class_order.Visit.{Visit}
 use Rattle.dex_write.specs.declared.class_order.Search.{Search}
-use Rattle.dex_write.specs.Order.{first_from, place_of, place_in, with_place, ArePlaces, above, is_fresh, Follows, Done, Skip, Enter, counting, IsOrder, visit, begin_where, begin_at, pushed, step_to, step_from, Then, Ends, Drained, Asked}
+use Rattle.dex_write.specs.Order.{first_from, place_of, ArePlaces, above, is_fresh, Follows, Done, Skip, Enter, counting, IsOrder, IsOnlyOrder, visit, begin_where, begin_at, pushed, step_to, step_from, Then, Ends, Drained, Asked}
 
 -- ---- the places of the types
 
@@ -20,87 +19,16 @@ pub record PlacesSoFar (p : Program) (place : ℕ) (places : List ℕ) : Type 0 
   pub long : length places ≡ length p.types
   pub each : (kind : ℕ) → kind < length p.types → or_else (length p.classes) (slice_index_or places kind (length p.classes)) (first_from (length p.classes) kind place (drop place p.classes)) ≡ first_from (length p.classes) kind 0 p.classes
 
-none_yet : (none b : ℕ) → or_else none none b ≡ b
-none_yet none b = grind (arith, nat_tests)
-
 same_either : (none a : ℕ) → or_else none a none ≡ a
 same_either none a = grind (arith, nat_tests)
-
-get_replicate : (n none kind : ℕ) → slice_index_or (replicate n none) kind none ≡ none
-get_replicate zero none kind = refl
-get_replicate (suc n) none zero = refl
-get_replicate (suc n) none (suc kind) = get_replicate n none kind
 
 get_past : (xs : List ℕ) (k d : ℕ) → length xs ≤ k → slice_index_or xs k d ≡ d
 get_past [] k d le = refl
 get_past (x ∷ xs) zero d le = absurd (not-suc-le-zero le)
 get_past (x ∷ xs) (suc k) d le = get_past xs k d (le_of_suc-le-suc le)
 
-length-replicate : (n x : ℕ) → length (replicate n x) ≡ n
-length-replicate zero x = refl
-length-replicate (suc n) x = ap (λ k. suc k) (length-replicate n x)
-
 below_tells : (a b : ℕ) → ((nat_lt a b ≡ true) × (a < b)) ⊎ ((nat_lt a b ≡ false) × (b ≤ a))
 below_tells a b = ⊎_elim (λ y. inl (y.0, y.1)) (λ n. inr (n.0, le_of_suc-le-suc n.1)) (leb_tells (suc a) b)
-
-or_none : (none a b : ℕ) → nat_eq a none ≡ true → or_else none a b ≡ b
-or_none none a b h = rw h refl
-
-or_some : (none a b : ℕ) → nat_eq a none ≡ false → or_else none a b ≡ a
-or_some none a b h = rw h refl
-
-with_yes : (none : ℕ) (places : List ℕ) (kind place : ℕ) → nat_eq (slice_index_or places kind none) none ≡ true → with_place none places kind place ≡ slice_set places kind place
-with_yes none places kind place h = rw h refl
-
-with_no : (none : ℕ) (places : List ℕ) (kind place : ℕ) → nat_eq (slice_index_or places kind none) none ≡ false → with_place none places kind place ≡ places
-with_no none places kind place h = rw h refl
-
-put_here : (none : ℕ) (places : List ℕ) (kind place rest : ℕ) → place < none → kind < length places
-    → or_else none (slice_index_or (with_place none places kind place) kind none) rest ≡ or_else none (slice_index_or places kind none) place
-put_here none places kind place rest lt within =
-    let was : ℕ = slice_index_or places kind none in
-    let ne : nat_eq place none ≡ false = grind (arith, nat_tests, lt) in
-    let got : slice_index_or (slice_set places kind place) kind none ≡ place = get_or-set_same places kind place none within in
-    ⊎_elim
-    (λ y. ap (λ (l : List ℕ). or_else none (slice_index_or l kind none) rest) (with_yes none places kind place y) ∙ ap (λ n. or_else none n rest) got ∙ or_some none place rest ne ∙ sym (or_none none was place y))
-    (λ n. ap (λ (l : List ℕ). or_else none (slice_index_or l kind none) rest) (with_no none places kind place n) ∙ or_some none was rest n ∙ sym (or_some none was place n))
-    (cases_Bool (nat_eq was none))
-
-put_elsewhere : (none : ℕ) (places : List ℕ) (kind name place : ℕ) → (kind ≡ name → ⊥) → slice_index_or (with_place none places name place) kind none ≡ slice_index_or places kind none
-put_elsewhere none places kind name place other = ⊎_elim
-    (λ y. ap (λ (l : List ℕ). slice_index_or l kind none) (with_yes none places name place y) ∙ get_or-set_other places name kind place none other)
-    (λ n. ap (λ (l : List ℕ). slice_index_or l kind none) (with_no none places name place n))
-    (cases_Bool (nat_eq (slice_index_or places name none) none))
-
-put_step : (none : ℕ) (places : List ℕ) (kind place name rest : ℕ) → place < none → kind < length places
-    → or_else none (slice_index_or (with_place none places name place) kind none) rest ≡ or_else none (slice_index_or places kind none) (if nat_eq name kind then place else rest)
-put_step none places kind place name rest lt within = ⊎_elim
-    (λ same. rw same.0 (subst (λ n. or_else none (slice_index_or (with_place none places n place) kind none) rest ≡ or_else none (slice_index_or places kind none) place) (sym same.1) (put_here none places kind place rest lt within)))
-    (λ other. rw other.0 (ap (λ n. or_else none n rest) (put_elsewhere none places kind name place (λ e. other.1 (sym e)))))
-    (eqb_tells name kind)
-
-length_with_place : (none : ℕ) (places : List ℕ) (kind place : ℕ) → length (with_place none places kind place) ≡ length places
-length_with_place none places kind place = ⊎_elim
-    (λ y. ap length (with_yes none places kind place y) ∙ length-set places kind place)
-    (λ n. ap length (with_no none places kind place n))
-    (cases_Bool (nat_eq (slice_index_or places kind none) none))
-
-pub places_none : (p : Program) (places : List ℕ) → places ≡ replicate (length p.types) (length p.classes) → PlacesSoFar p 0 places
-places_none p places e = record {
-  long = ap length e ∙ length-replicate (length p.types) (length p.classes);
-  each = λ kind lt. rw (e, get_replicate (length p.types) (length p.classes) kind) (none_yet (length p.classes) (first_from (length p.classes) kind 0 p.classes));
-}
-
-pub places_more : (p : Program) (place : ℕ) (old new : List ℕ) (c : Class) (rest : List Class) → PlacesSoFar p place old → drop place p.classes ≡ c ∷ rest → drop (suc place) p.classes ≡ rest → place < length p.classes
-    → new ≡ with_place (length p.classes) old c.name place → PlacesSoFar p (suc place) new
-places_more p place old new c rest h here next lt e = record {
-  long = ap length e ∙ length_with_place (length p.classes) old c.name place ∙ h.long;
-  each = λ kind within.
-      let none : ℕ = length p.classes in
-      let before : or_else none (slice_index_or old kind none) (first_from none kind place (c ∷ rest)) ≡ first_from none kind 0 p.classes = subst (λ l. or_else none (slice_index_or old kind none) (first_from none kind place l) ≡ first_from none kind 0 p.classes) here (h.each kind within) in
-      let one = put_step none old kind place c.name (first_from none kind (suc place) rest) lt (subst (λ n. kind < n) (sym h.long) within) in
-      rw (e, next) (one ∙ before);
-}
 
 pub places_all : (p : Program) (place : ℕ) (places : List ℕ) → PlacesSoFar p place places → drop place p.classes ≡ [] → ArePlaces p places
 unfolding place_of
@@ -297,3 +225,18 @@ order_end p class s h le =
 
 pub places_end : (p : Program) (place : ℕ) (places : List ℕ) → PlacesSoFar p place places → length p.classes ≤ place → ArePlaces p places
 places_end p place places h le = places_all p place places h (drop_past p.classes place le)
+
+-- ---- there is one order
+
+follows_once : (p : Program) (begun : List Bool) (asked : List ℕ) (e f : List Bool) (o q : List ℕ) → Follows p begun asked e o → Follows p begun asked f q → (e ≡ f) × (o ≡ q)
+follows_once p _ _ _ _ _ _ (Done b) (Done _) = (refl, refl)
+follows_once p _ _ _ _ _ _ (Skip b c r e o n h) (Skip _ _ _ f q m k) = follows_once p b r e f o q h k
+follows_once p _ _ _ _ _ _ (Skip b c r e o n h) (Enter _ _ _ mid f inner q t k l) = absurd (true≢false (sym t ∙ n))
+follows_once p _ _ _ _ _ _ (Enter b c r mid e inner o t h k) (Skip _ _ _ f q n l) = absurd (true≢false (sym t ∙ n))
+follows_once p _ _ _ _ _ _ (Enter b c r mid e inner o t h k) (Enter _ _ _ mid2 f inner2 q t2 h2 k2) =
+    let a : (mid ≡ mid2) × (inner ≡ inner2) = follows_once p (slice_set b c true) (above p c) mid mid2 inner inner2 h h2 in
+    let d : (e ≡ f) × (o ≡ q) = follows_once p mid r e f o q k (subst (λ x. Follows p x r f q) (sym a.0) k2) in
+    (d.0, λ i. a.1 i ++ c ∷ d.1 i)
+
+pub only_order : (p : Program) (order : List ℕ) → IsOrder p order → IsOnlyOrder p order
+only_order p order h = record { one = λ other k. (follows_once p (replicate (length p.classes) false) (counting 0 (length p.classes)) k.begun h.begun other order k.follows h.follows).1 }

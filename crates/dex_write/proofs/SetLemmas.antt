@@ -1,6 +1,6 @@
 -- How many annotations the sets of a class have, and words one behind another.
 use Rattle.std.specs.declared.alloc.AllocError.{AllocError}
-use Rattle.std.proofs.Common.{true, false, Result, Ok, Err, OnOk, ◌+◌, ◌<◌, take, get_or, append-nil, ◌≡◌, ℕ, List, [], ◌∷◌, ◌++◌, length, map, refl, sym, ap, ◌∙◌, append_assoc, arith}
+use Rattle.std.proofs.Common.{true, false, Result, Ok, Err, OnOk, ◌+◌, ◌<◌, take, get_or, append-nil, ◌≡◌, ℕ, List, [], ◌∷◌, ◌++◌, length, map, refl, sym, ap, ◌∙◌, append_assoc}
 use Rattle.std.specs.List.{flat_map}
 use Rattle.std.specs.Int.{w32, to_le_bytes}
 use Rattle.std.proofs.lemmas.List.{map-append}

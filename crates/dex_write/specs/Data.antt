@@ -1,5 +1,5 @@
 -- Class data, first values and strings (Dalvik executable format, "class_data_item", "encoded_array_item", "string_data_item").
-use Rattle.std.specs.Prelude.{ℕ, suc, ◌+◌, ◌-◌, pos, List, [], ◌∷◌, ◌++◌, length, map, take, drop, Bool, true, false, nat_eq, ◌==◌, Option, Some, None, is_some, slice_get, if◌then◌else◌}
+use Rattle.std.specs.Prelude.{ℕ, suc, ◌+◌, ◌-◌, pos, List, [], ◌∷◌, ◌++◌, length, map, take, drop, Bool, false, nat_eq, ◌==◌, Option, Some, None, is_some, slice_get, if◌then◌else◌}
 use Rattle.std.specs.List.{flat_map}
 use Rattle.dex_base.specs.Leb.{uleb_text}
 use Rattle.dex_base.specs.Mutf8.{text_bytes}

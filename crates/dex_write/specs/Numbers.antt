@@ -1,5 +1,5 @@
 -- Numbers of 32 bits, and places in a file.
-use Rattle.std.specs.Prelude.{◌≡◌, ℕ, ◌+◌, ◌-◌, ◌%◌, List, [], ◌∷◌, ◌++◌, length, replicate, nat_eq, nat_lt, if◌then◌else◌, slice_index_or}
+use Rattle.std.specs.Prelude.{◌≡◌, ℕ, ◌+◌, ◌-◌, ◌%◌, List, [], ◌∷◌, length, nat_eq, nat_lt, if◌then◌else◌, slice_index_or}
 use Rattle.std.specs.List.{flat_map, count_by, concat}
 use Rattle.std.specs.Int.{w32, to_le_bytes}
 use Rattle.dex_write.specs.declared.numbers.Items.{Items}

@@ -69,6 +69,10 @@ pub record IsOrder (p : Program) (order : List ℕ) : Type 0 where
   pub begun : List Bool
   pub follows : Follows p (replicate (length p.classes) false) (counting 0 (length p.classes)) begun order
 
+-- and there is no other order
+pub record IsOnlyOrder (p : Program) (order : List ℕ) : Type 0 where
+  pub one : (other : List ℕ) → IsOrder p other → other ≡ order
+
 -- the classes at these places
 abbrev pub classes_at : Program → ℕ → List Class
 classes_at p place = option_to_list (slice_get p.classes place)

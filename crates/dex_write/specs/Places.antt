@@ -1,5 +1,5 @@
 -- Which runs of items stand where (Dalvik executable format, "map_list").
-use Rattle.std.specs.Prelude.{◌≡◌, ℕ, List, [], ◌∷◌, length, map, nat_eq, if◌then◌else◌}
+use Rattle.std.specs.Prelude.{ℕ, List, [], ◌∷◌, length, map, nat_eq, if◌then◌else◌}
 use Rattle.std.specs.List.{flat_map, concat}
 use Rattle.dex_pools.specs.declared.interner.Interner.{Interner}
 use Rattle.dex_pools.specs.Written.{mark_text}
@@ -9,7 +9,6 @@ use Rattle.dex_write.specs.declared.numbers.Items.{Items}
 use Rattle.dex_write.specs.declared.run.Kind.{Kind}
 use Rattle.dex_write.specs.declared.run.Kind.TheVariants.{AnnotationSetRefList, AnnotationSet, CodeItem, AnnotationsDirectory, ClassData, StringData, DebugInfo, Annotation, EncodedArray}
 use Rattle.dex_write.specs.declared.run.Run.{Run}
-use Rattle.dex_write.specs.declared.lists.Lists.{Lists}
 use Rattle.dex_write.specs.declared.file.Counts.{Counts}
 use Rattle.dex_write.specs.declared.writer.Placed.{Placed}
 use Rattle.dex_write.specs.declared.writer.Words.{Words}

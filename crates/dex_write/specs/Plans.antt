@@ -1,11 +1,8 @@
 -- A class as it is written: its members in order, and the code of its methods (Dalvik executable format, "class_data_item").
-use Rattle.std.specs.Prelude.{◌≡◌, ℕ, suc, List, [], ◌∷◌, ◌++◌, length, map, Bool, true, false, not, ◌&&◌, ◌||◌, nat_eq, nat_lt, nat_le, Option, Some, None, slice_get, if◌then◌else◌}
-use Rattle.std.specs.List.{AllByRecursion}
+use Rattle.std.specs.Prelude.{ℕ, suc, List, [], ◌∷◌, ◌++◌, Bool, true, false, not, ◌&&◌, ◌||◌, nat_eq, nat_lt, nat_le, Option, Some, None, slice_get, if◌then◌else◌}
 use Rattle.dex_pools.specs.Written.{renumbered}
 use Rattle.program_model.specs.MemberRules.{is_static, is_direct}
 use Rattle.program_model.specs.declared.pass.Renumber.{Renumber}
-use Rattle.program_model.specs.declared.flags.Flags.{Flags}
-use Rattle.program_model.specs.declared.value.EncValue.{EncValue}
 use Rattle.program_model.specs.declared.value.Mark.{Mark}
 use Rattle.program_model.specs.declared.program.Field.{Field}
 use Rattle.program_model.specs.declared.program.Method.{Method}

@@ -1,7 +1,7 @@
 //! The order of the classes: each directly behind those of its superclass and interfaces that were not written yet.
 
 ghost use Rattle.std.specs.Prelude.{◌≡◌, ◌++◌, [], suc, reverse, slice_get, slice_set, option_to_list, true, if◌then◌else◌, IfNone, IfOk, OnOk};
-ghost use Rattle.dex_write.specs.Order.{with_place, place_of, ArePlaces, kinds_above, above, is_fresh, visit, pushed, written, begin_at, step_from, Drained, Asked, IsOrder};
+ghost use Rattle.dex_write.specs.Order.{with_place, place_of, ArePlaces, kinds_above, above, is_fresh, visit, pushed, written, begin_at, step_from, Drained, Asked, IsOrder, IsOnlyOrder};
 
 use crate::numbers::word_of;
 use program_model::{Class, Program};
@@ -189,7 +189,8 @@ fn ask(
 
 /// The places of the classes in the order in which they are written.
 pub fn written_order(alloc: Global, program: &Program) -> Result<Vec<u32>, AllocError>
-    ensures { IfOk result (λ v. IsOrder program.now v.items) }
+    ensures is { IfOk result (λ v. IsOrder program.now v.items) }
+    ensures only { IfOk result (λ v. IsOnlyOrder program.now v.items) }
 {
     let count = program.classes.len();
     let places = places_of(alloc, program)?;

@@ -1,4 +1,3 @@
-use Rattle.std.proofs.Common.{reverse}
 use Rattle.dex_write.proofs.OrderLemmas.{Progress}
 use Rattle.dex_write.proofs.class_order.drain.Given as goal
 

@@ -1,4 +1,3 @@
-use Rattle.std.proofs.Common.{◌≡◌, length}
 use Rattle.dex_write.proofs.OrderLemmas.{PlacesSoFar}
 use Rattle.dex_write.proofs.class_order.places_of.Given as goal
 

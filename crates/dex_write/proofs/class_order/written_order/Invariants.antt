@@ -1,4 +1,3 @@
-use Rattle.std.proofs.Common.{◌≡◌, [], length}
 use Rattle.dex_write.proofs.OrderLemmas.{OrderSoFar}
 use Rattle.dex_write.proofs.class_order.written_order.Given as goal
 

@@ -1,4 +1,4 @@
-use Rattle.std.proofs.Common.{sym, ◌∙◌, OnOk}
+use Rattle.std.proofs.Common.{sym, ◌∙◌}
 use Rattle.dex_write.proofs.SetLemmas.{bare_words, other_words}
 use Rattle.dex_write.proofs.sets.push_words_of_directory.Goals as goal
 

@@ -570,7 +570,8 @@ fn file_for(
 /// them (Dalvik executable format, versions 035 and 037). The only error is want of memory; a file that 32 bits do not
 /// count is answered so too.
 ///
-/// The program is a well-formed one whose bodies lay out; of another one nothing is said but that this ends.
+/// The bytes are those that `specs/Written.antt` says of any program; they are a valid file where the program is a
+/// well-formed one whose bodies lay out.
 pub fn write_dex(alloc: Global, program: &Program) -> Result<Vec<u8>, AllocError>
     ensures is { IfOk result (λ v. IsWritten program.now v.items) }
     ensures sealed { IfOk result (λ v. IsSealed program.now.version v.items) }

@@ -2,7 +2,7 @@
 use Rattle.std.proofs.Common.{◌≡◌, ◌≢◌, ℕ, zero, suc, ◌+◌, ◌-◌, ◌<◌, ◌≤◌, ◌⊎◌, inl, inr, List, [], ◌∷◌, ◌++◌, length, slice_index, get_or, set, max, refl, take, drop, All, ◌∙◌, subst, arith, length-set, get_or-set_other, get_or-set_same}
 use Rattle.std.proofs.lemmas.List.{length_push, take_at}
 use Rattle.std.proofs.lemmas.List.Elements.{All-more, All-weaker}
-use Rattle.flow_cfg.specs.Parts.{AreEnds, NestFrom, Nest, NoSmaller, IsHeld}
+use Rattle.flow_cfg.specs.Parts.{AreEnds, NestFrom, Nest, NoSmaller, IsHeld, IsCausedBy, Causes, HaveCauses, IsGrownFor, StayAlone}
 
 -- ---- ends behind each place
 
@@ -40,6 +40,7 @@ pub record IsWhole (ends : List ℕ) (head end place : ℕ) : Type 0 where
   pub within : end ≤ length ends
   pub grown : slice_index ends head ≤ end
   pub inner : (i : ℕ) → head < i → i < place → slice_index ends i ≤ place
+  pub alone : slice_index ends head ≡ head + 1 → end ≡ head + 1
 
 pub whole_begins : (ends : List ℕ) (head : ℕ) → AreEnds ends → head < length ends → IsWhole ends head (slice_index ends head) (head + 1)
 whole_begins ends head e lt = record {
@@ -48,6 +49,7 @@ whole_begins ends head e lt = record {
   within = e.within head lt;
   grown = omega arith;
   inner = λ i above below. absurd (omega (arith, above, below));
+  alone = λ one. one;
 }
 
 inner_more : (ends : List ℕ) (head end place : ℕ) → NestFrom ends (head + 1) → AreEnds ends → IsWhole ends head end place → place < end → (i : ℕ) → head < i → i < slice_index ends place → ((i < place) ⊎ (i ≡ place)) ⊎ (place < i) → slice_index ends i ≤ slice_index ends place
@@ -72,6 +74,7 @@ whole_more ends head end place farther e nest is w lt =
       within = omega (arith, is, w.within, e.within place short);
       grown = omega (arith, is, w.grown);
       inner = λ i above below. inner_more ends head end place nest e w lt i above below (three i place);
+      alone = λ one. absurd (omega (arith, w.alone one, w.behind, lt));
     }
 
 pub whole_all : (ends : List ℕ) (head end place : ℕ) → IsWhole ends head end place → end ≤ place → (i : ℕ) → head < i → i < end → slice_index ends i ≤ end
@@ -104,6 +107,7 @@ pub record IsNested (first ends : List ℕ) (head : ℕ) : Type 0 where
   pub are_ends : AreEnds ends
   pub grown : NoSmaller first ends
   pub nest : NestFrom ends head
+  pub alone : StayAlone first ends
 
 suc_from : (head i : ℕ) → head ≤ i → i ≢ head → head + 1 ≤ i
 suc_from head i from other = elim (three i head) [ inl less ↦ elim less [ inl lt ↦ absurd (omega (arith, lt, from)) | inr same ↦ absurd (other same) ] | inr more ↦ omega (arith, more) ]
@@ -130,12 +134,17 @@ nest_more ends head end lt nest held i j from less short =
           ]
     ]
 
-pub nested_more : (first ends : List ℕ) (head end : ℕ) → IsNested first ends (head + 1) → head < length ends → slice_index ends head ≤ end → end ≤ length ends → ((i : ℕ) → head < i → i < end → slice_index ends i ≤ end) → IsNested first (set ends head end) head
-nested_more first ends head end n lt more within held = record {
+alone_more : (ends : List ℕ) (head end i : ℕ) → head < length ends → (slice_index ends head ≡ head + 1 → end ≡ head + 1) → slice_index ends i ≡ i + 1 → (i ≡ head) ⊎ (i ≢ head) → slice_index (set ends head end) i ≡ i + 1
+alone_more ends head end i lt alone one (inl same) = let one' : slice_index ends head ≡ head + 1 = subst (λ (h : ℕ). slice_index ends h ≡ h + 1) same one in omega (arith, set_here ends head end i lt same, alone one', same)
+alone_more ends head end i lt alone one (inr other) = omega (arith, set_there ends head end i other, one)
+
+pub nested_more : (first ends : List ℕ) (head end : ℕ) → IsNested first ends (head + 1) → head < length ends → slice_index ends head ≤ end → end ≤ length ends → ((i : ℕ) → head < i → i < end → slice_index ends i ≤ end) → (slice_index ends head ≡ head + 1 → end ≡ head + 1) → IsNested first (set ends head end) head
+nested_more first ends head end n lt more within held alone = record {
   long = length-set ends head end ∙ n.long;
   are_ends = set_ends ends head end n.are_ends lt more within;
   grown = λ i. omega (arith, n.grown i, set_grown ends head end lt more i);
   nest = λ i j from less short. nest_more ends head end lt n.nest held i j from less (omega (arith, short, length-set ends head end));
+  alone = λ i one. alone_more ends head end i lt alone (n.alone i one) (at_or_not i head);
 }
 
 pub nested_none : (ends : List ℕ) → AreEnds ends → IsNested ends ends (length ends)
@@ -144,12 +153,13 @@ nested_none ends e = record {
   are_ends = e;
   grown = λ i. omega arith;
   nest = λ i j from less short. absurd (omega (arith, from, less, short));
+  alone = λ i one. one;
 }
 
-pub nested_before : (first ends : List ℕ) (head end : ℕ) → 0 < head → head ≤ length ends → IsNested first ends head → slice_index ends (head - 1) ≤ end → end ≤ length ends → ((i : ℕ) → head - 1 < i → i < end → slice_index ends i ≤ end) → IsNested first (set ends (head - 1) end) (head - 1)
-nested_before first ends head end some le n more within held =
+pub nested_before : (first ends : List ℕ) (head end : ℕ) → 0 < head → head ≤ length ends → IsNested first ends head → slice_index ends (head - 1) ≤ end → end ≤ length ends → ((i : ℕ) → head - 1 < i → i < end → slice_index ends i ≤ end) → (slice_index ends (head - 1) ≡ head - 1 + 1 → end ≡ head - 1 + 1) → IsNested first (set ends (head - 1) end) (head - 1)
+nested_before first ends head end some le n more within held alone =
     let here : head ≡ head - 1 + 1 = omega arith in
-    nested_more first ends (head - 1) end (subst (λ (h : ℕ). IsNested first ends h) here n) (omega arith) more within held
+    nested_more first ends (head - 1) end (subst (λ (h : ℕ). IsNested first ends h) here n) (omega arith) more within held alone
 
 pub nested_all : (first ends : List ℕ) (head : ℕ) → head ≤ 0 → IsNested first ends head → Nest ends
 nested_all first ends head none n = λ i j less short. n.nest i j (omega (arith, none)) less short
@@ -165,16 +175,52 @@ all_held_grown places ends others edges grown held = All-weaker (IsHeld places e
 pub held_more : (places ends others : List ℕ) (edges : List (ℕ × ℕ)) (i : ℕ) → i < length edges → NoSmaller ends others → All (IsHeld places ends) (take i edges) → IsHeld places others (get_or edges i (0, 0)) → All (IsHeld places others) (take (i + 1) edges)
 held_more places ends others edges i lt grown held here = All-more (IsHeld places others) edges i (0, 0) lt (all_held_grown places ends others (take i edges) grown held) here
 
+-- ---- ends that have a cause
+
+by_grown : (places ends others : List ℕ) (edge : ℕ × ℕ) (head : ℕ) → slice_index ends head ≤ slice_index others head → IsCausedBy places ends edge head → IsCausedBy places others edge head
+by_grown places ends others edge head le c = record { from = c.from; to = c.to; is_head = c.is_head; behind = c.behind; within = omega (arith, c.within, le) }
+
+causes_grown : (places ends others : List ℕ) (edges : List (ℕ × ℕ)) (upto more head : ℕ) → upto ≤ more → slice_index ends head ≤ slice_index others head → Causes places ends edges upto head → Causes places others edges more head
+causes_grown places ends others edges upto more head longer le c = record { at = c.at; is_below = omega (arith, c.is_below, longer); by_edge = by_grown places ends others (get_or edges c.at (0, 0)) head le c.by_edge }
+
+causes_more : (places ends grown : List ℕ) (edges : List (ℕ × ℕ)) (upto : ℕ) → NoSmaller ends grown → HaveCauses places ends edges upto → IsGrownFor places (get_or edges upto (0, 0)) ends grown → HaveCauses places grown edges (upto + 1)
+causes_more places ends grown edges upto no_smaller known for_edge head past = elim (for_edge head) [
+  | inl same ↦ causes_grown places ends grown edges upto (upto + 1) head (omega arith) (no_smaller head) (known head (omega (arith, same, past)))
+  | inr by ↦ record { at = upto; is_below = omega arith; by_edge = by }
+]
+
+alone_or_past : (ends : List ℕ) (i : ℕ) → i < slice_index ends i → (slice_index ends i ≡ i + 1) ⊎ (i + 1 < slice_index ends i)
+alone_or_past ends i past = elim (three (i + 1) (slice_index ends i)) [ inl less ↦ elim less [ inl lt ↦ inr lt | inr same ↦ inl (omega (arith, same)) ] | inr more ↦ absurd (omega (arith, more, past)) ]
+
+short_or_past : (ends : List ℕ) (i : ℕ) → (i < length ends) ⊎ (slice_index ends i ≡ 0)
+short_or_past [] i = inr refl
+short_or_past (x ∷ xs) zero = inl (omega arith)
+short_or_past (x ∷ xs) (suc i) = elim (short_or_past xs i) [ inl lt ↦ inl (omega (arith, lt)) | inr none ↦ inr none ]
+
+pub causes_nested : (places ends others : List ℕ) (edges : List (ℕ × ℕ)) (upto : ℕ) → AreEnds ends → length others ≡ length ends → NoSmaller ends others → StayAlone ends others → HaveCauses places ends edges upto → HaveCauses places others edges upto
+causes_nested places ends others edges upto e long no_smaller alone known head past = elim (short_or_past others head) [
+  | inr none ↦ absurd (omega (arith, none, past))
+  | inl short ↦ elim (alone_or_past ends head (e.past head (omega (arith, short, long)))) [
+    | inl one ↦ absurd (omega (arith, alone head one, past))
+    | inr more ↦ causes_grown places ends others edges upto upto head (omega arith) (no_smaller head) (known head more)
+  ]
+]
+
+pub causes_none : (places ends : List ℕ) (edges : List (ℕ × ℕ)) → ((i : ℕ) → i < length ends → slice_index ends i ≡ i + 1) → HaveCauses places ends edges 0
+causes_none places ends edges single head past = elim (short_or_past ends head) [ inr none ↦ absurd (omega (arith, none, past)) | inl short ↦ absurd (omega (arith, single head short, past)) ]
+
 pub record HoldsSoFar (places ends : List ℕ) (edges : List (ℕ × ℕ)) (upto : ℕ) : Type 0 where
   pub long : length ends ≡ length places
   pub are_ends : AreEnds ends
   pub held : All (IsHeld places ends) (take upto edges)
+  pub caused : HaveCauses places ends edges upto
 
 pub hold_more : (places ends slice grown : List ℕ) (edges : List (ℕ × ℕ)) (upto len : ℕ) → length grown ≡ len → slice ≡ ends → upto < length edges → HoldsSoFar places ends edges upto → AreEnds grown → NoSmaller slice grown → length grown ≡ length places → IsHeld places grown (get_or edges upto (0, 0))
-    → HoldsSoFar places (take len (grown ++ drop (length grown) ends)) edges (upto + 1)
-hold_more places ends slice grown edges upto len whole same lt so_far are_ends no_smaller long here =
+    → IsGrownFor places (get_or edges upto (0, 0)) slice grown → HoldsSoFar places (take len (grown ++ drop (length grown) ends)) edges (upto + 1)
+hold_more places ends slice grown edges upto len whole same lt so_far are_ends no_smaller long here for_edge =
     rw (take_at grown (drop (length grown) ends) len whole) (let all : HoldsSoFar places grown edges (upto + 1) = record {
       long = long;
       are_ends = are_ends;
       held = held_more places ends grown edges upto lt (λ i. subst (λ (l : List ℕ). slice_index l i ≤ slice_index grown i) same (no_smaller i)) so_far.held here;
+      caused = causes_more places ends grown edges upto (λ i. subst (λ (l : List ℕ). slice_index l i ≤ slice_index grown i) same (no_smaller i)) so_far.caused (λ i. subst (λ (l : List ℕ). (slice_index grown i ≡ slice_index l i) ⊎ IsCausedBy places grown (get_or edges upto (0, 0)) i) same (for_edge i));
     } in all)

@@ -1,9 +1,11 @@
 -- Edges in an order.
-use Rattle.std.proofs.Common.{◌≡◌, ℕ, ◌<◌, ◌≤◌, inl, inr, List, length, slice_index, subst, sym, ap, ◌∙◌, arith, All, Result, Ok, Err}
+use Rattle.std.proofs.Common.{◌≡◌, ℕ, ◌+◌, ◌<◌, ◌≤◌, inl, inr, List, length, slice_index, subst, sym, ap, ◌∙◌, arith, All, Result, Ok, Err}
+use Rattle.std.proofs.lemmas.List.{get_or_default}
 use Rattle.std.proofs.lemmas.List.Elements.{All-weaker, All-get_or}
+use Rattle.std.specs.Prelude.{slice_index_or, Contains, get_or}
 use Rattle.std.specs.Result.{IfOk}
 use Rattle.flow_cfg.specs.Listing.{ArePlaces, ListsOnce}
-use Rattle.flow_cfg.specs.Parts.{Holds, Follows, IsHeld}
+use Rattle.flow_cfg.specs.Parts.{Holds, Follows, IsHeld, HasCause, AreCaused, IsCausedBy, Causes, HaveCauses}
 use Rattle.flow_cfg.proofs.Nested.{three}
 
 held_at : (places ends : List ℕ) (edge : ℕ × ℕ) (i j : ℕ) → edge.0 < length places → edge.1 < length places → slice_index places edge.0 ≡ i → slice_index places edge.1 ≡ j → IsHeld places ends edge → j ≤ i → Holds ends j i
@@ -31,6 +33,41 @@ follows_one order places ends within p edge held i j lt lt' from to =
 
 all_follow : (order places ends : List ℕ) (edges : List (ℕ × ℕ)) → All (λ n. n < length places) order → ArePlaces order places → All (IsHeld places ends) edges → All (Follows order ends) edges
 all_follow order places ends edges within p held = All-weaker (IsHeld places ends) (Follows order ends) (follows_one order places ends within p) edges held
+
+-- ---- why there are parts
+
+-- a node stands where its place says
+node_at : (order places : List ℕ) (node : ℕ) → ListsOnce (length places) order → ArePlaces order places → node < length places → (slice_index places node < length order) × (slice_index order (slice_index places node) ≡ node)
+node_at order places node once p lt =
+    let there : Contains order node = once.all node lt in
+    let stands : slice_index order there.0 ≡ node = get_or_default order there.0 0 node there.1 ∙ there.2 in
+    let at : slice_index places node ≡ there.0 = subst (λ (n : ℕ). slice_index places n ≡ there.0) stands (p there.0 there.1) in
+    (omega (arith, at, there.1), subst (λ (k : ℕ). slice_index order k ≡ node) (sym at) stands)
+
+-- an edge that the table has
+edge_at : (edges : List (ℕ × ℕ)) (at u v : ℕ) → at < length edges → u ≡ (slice_index_or edges at (0, 0)).0 → v ≡ (slice_index_or edges at (0, 0)).1 → Contains edges (u, v)
+edge_at edges at u v lt is is' =
+    let same : (u, v) ≡ slice_index_or edges at (0, 0) = ap (λ (w : ℕ). (w, v)) is ∙ ap (λ (w : ℕ). ((slice_index_or edges at (0, 0)).0, w)) is' in
+    (at, lt, get_or_default edges at (u, v) (0, 0) lt ∙ sym same)
+
+cause_of : (order places ends : List ℕ) (edges : List (ℕ × ℕ)) (head : ℕ) → ListsOnce (length places) order → ArePlaces order places → Causes places ends edges (length edges) head → HasCause order ends edges head
+cause_of order places ends edges head once p c =
+    let by = c.by_edge in
+    let edge = slice_index_or edges c.at (0, 0) in
+    let from = node_at order places edge.0 once p by.from in
+    let to = node_at order places edge.1 once p by.to in
+    record {
+      place = slice_index places edge.0;
+      behind = by.behind;
+      within = by.within;
+      short = from.0;
+      edge = edge_at edges c.at (slice_index order (slice_index places edge.0)) (slice_index order head) c.is_below from.1 (subst (λ (k : ℕ). slice_index order k ≡ edge.1) by.is_head to.1);
+    }
+
+pub all_caused : (nodes : ℕ) (given order given' places ends : List ℕ) (edges : List (ℕ × ℕ)) → ListsOnce nodes order → length places ≡ length given → given ≡ order → given' ≡ places → ArePlaces given places → HaveCauses given' ends edges (length edges) → AreCaused order ends edges
+all_caused nodes given order given' places ends edges once long same same' p known head short past =
+    let nodes_long : nodes ≡ length places = omega (arith, once.long, long, ap length same) in
+    cause_of order places ends edges head (subst (λ (m : ℕ). ListsOnce m order) nodes_long once) (subst (λ (o : List ℕ). ArePlaces o places) same p) (subst (λ (q : List ℕ). HaveCauses q ends edges (length edges)) same' known head past)
 
 -- ---- what the lists of an answer are
 

@@ -1,5 +1,5 @@
 -- Orders of a graph's nodes in parts. The part at a place has the places from there up to its end.
-use Rattle.std.specs.Prelude.{◌≡◌, ℕ, ◌<◌, ◌≤◌, ◌⊎◌, List, length, map, slice_index}
+use Rattle.std.specs.Prelude.{◌≡◌, ℕ, ◌+◌, ◌<◌, ◌≤◌, ◌⊎◌, List, length, map, slice_index, slice_index_or, Contains}
 use Rattle.flow_cfg.specs.declared.weak.Part.{Part}
 
 abbrev pub part_nodes : List Part → List ℕ
@@ -37,3 +37,45 @@ IsHeld places ends edge = edge.0 < length places → edge.1 < length places → 
 -- no end is smaller than the other's
 abbrev pub NoSmaller : List ℕ → List ℕ → Type 0
 NoSmaller ends others = (i : ℕ) → slice_index ends i ≤ slice_index others i
+
+-- a node behind the head of a part and in it has an edge to the head
+pub record HasCause (order ends : List ℕ) (edges : List (ℕ × ℕ)) (head : ℕ) : Type 0 where
+  pub place : ℕ
+  pub behind : head < place
+  pub within : place < slice_index ends head
+  pub short : place < length order
+  pub edge : Contains edges (slice_index order place, slice_index order head)
+
+-- each part of more than one node is there for an edge to its head from a node in it
+abbrev pub AreCaused : List ℕ → List ℕ → List (ℕ × ℕ) → Type 0
+AreCaused order ends edges = (head : ℕ) → head < length ends → head + 1 < slice_index ends head → HasCause order ends edges head
+
+-- the edge between nodes goes to this place from a place behind it and before the place's end
+pub record IsCausedBy (places ends : List ℕ) (edge : ℕ × ℕ) (head : ℕ) : Type 0 where
+  pub from : edge.0 < length places
+  pub to : edge.1 < length places
+  pub is_head : slice_index places edge.1 ≡ head
+  pub behind : head < slice_index places edge.0
+  pub within : slice_index places edge.0 < slice_index ends head
+
+-- one of so many edges does
+pub record Causes (places ends : List ℕ) (edges : List (ℕ × ℕ)) (upto head : ℕ) : Type 0 where
+  pub at : ℕ
+  pub is_below : at < upto
+  pub by_edge : IsCausedBy places ends (slice_index_or edges at (0, 0)) head
+
+-- each end that is past the next place has its cause among so many edges
+abbrev pub HaveCauses : List ℕ → List ℕ → List (ℕ × ℕ) → ℕ → Type 0
+HaveCauses places ends edges upto = (head : ℕ) → head + 1 < slice_index ends head → Causes places ends edges upto head
+
+-- an end is what it was, or the edge is its cause
+abbrev pub IsGrownFor : List ℕ → ℕ × ℕ → List ℕ → List ℕ → Type 0
+IsGrownFor places edge old ends = (head : ℕ) → (slice_index ends head ≡ slice_index old head) ⊎ IsCausedBy places ends edge head
+
+-- an end is what it was, or it is that of the first place and behind the second
+abbrev pub IsSetFor : ℕ → ℕ → List ℕ → List ℕ → Type 0
+IsSetFor head place old ends = (i : ℕ) → (slice_index ends i ≡ slice_index old i) ⊎ ((i ≡ head) × ((head < place) × (place < slice_index ends head)))
+
+-- a place that heads no more than itself still does so
+abbrev pub StayAlone : List ℕ → List ℕ → Type 0
+StayAlone old ends = (i : ℕ) → slice_index old i ≡ i + 1 → slice_index ends i ≡ i + 1

@@ -1,7 +1,7 @@
 //! Where the parts of an order end.
 
 ghost use Rattle.std.specs.Prelude.{◌≡◌, ℕ, ◌+◌, ◌<◌, ◌≤◌, ◌^◌, length, IfOk, slice_index, All};
-ghost use Rattle.flow_cfg.specs.Parts.{AreEnds, NestFrom, Nest, IsHeld, NoSmaller};
+ghost use Rattle.flow_cfg.specs.Parts.{AreEnds, NestFrom, Nest, IsHeld, NoSmaller, HaveCauses, IsGrownFor, IsSetFor, StayAlone};
 
 use std::alloc::{AllocError, Global};
 
@@ -10,6 +10,7 @@ fn single_ends(alloc: Global, places: &[u32]) -> Result<Vec<u32>, AllocError>
     requires { length places.now < 2 ^ 32 }
     ensures long { IfOk result (λ v. length v.items ≡ length places.now) }
     ensures ends { IfOk result (λ v. AreEnds v.items) }
+    ensures single { IfOk result (λ v. (i : ℕ) → i < length v.items → slice_index v.items i ≡ i + 1) }
 {
     let mut ends = Vec::with_capacity(alloc, places.len())?;
     let mut end = 0;
@@ -29,6 +30,7 @@ fn hold(ends: &mut [u32], head: u32, place: u32)
     ensures ends { AreEnds ends.new }
     ensures grown { NoSmaller ends.old ends.new }
     ensures held { head ≤ place → place < slice_index ends.new head }
+    ensures caused { IsSetFor head place ends.old ends.new }
 {
     if head <= place && ends[head as usize] <= place {
         ends[head as usize] = place + 1;
@@ -44,6 +46,7 @@ fn hold_edge(ends: &mut [u32], places: &[u32], from: u32, to: u32)
     ensures ends { AreEnds ends.new }
     ensures grown { NoSmaller ends.old ends.new }
     ensures held { IsHeld places.now ends.new (from, to) }
+    ensures caused { IsGrownFor places.now (from, to) ends.old ends.new }
 {
     let from = from as usize;
     let to = to as usize;
@@ -59,6 +62,7 @@ fn holding_ends(alloc: Global, places: &[u32], edges: &[(u32, u32)]) -> Result<V
     ensures long { IfOk result (λ v. length v.items ≡ length places.now) }
     ensures ends { IfOk result (λ v. AreEnds v.items) }
     ensures held { IfOk result (λ v. All (IsHeld places.now v.items) edges.now) }
+    ensures caused { IfOk result (λ v. HaveCauses places.now v.items edges.now (length edges.now)) }
 {
     let mut ends = single_ends(alloc, places)?;
     for (from, to) in edges {
@@ -75,6 +79,7 @@ fn whole_end(ends: &[u32], head: usize) -> u32
     ensures grown { slice_index ends.now head ≤ result }
     ensures within { result ≤ length ends.now }
     ensures holds { (i : ℕ) → head < i → i < result → slice_index ends.now i ≤ result }
+    ensures alone { slice_index ends.now head ≡ head + 1 → result ≡ head + 1 }
 {
     let mut end = ends[head];
     let mut place = head + 1;
@@ -92,6 +97,7 @@ fn nest(ends: &mut [u32])
     ensures ends { AreEnds ends.new }
     ensures grown { NoSmaller ends.old ends.new }
     ensures nest { Nest ends.new }
+    ensures alone { StayAlone ends.old ends.new }
 {
     for head in (0..ends.len()).rev() {
         ends[head] = whole_end(ends, head);
@@ -111,6 +117,7 @@ pub(crate) fn ends_of(
     ensures ends { IfOk result (λ v. AreEnds v.items) }
     ensures nest { IfOk result (λ v. Nest v.items) }
     ensures held { IfOk result (λ v. All (IsHeld places.now v.items) edges.now) }
+    ensures caused { IfOk result (λ v. HaveCauses places.now v.items edges.now (length edges.now)) }
 {
     let mut ends = holding_ends(alloc, places, edges)?;
     nest(ends.as_mut_slice());

@@ -2,7 +2,7 @@
 use Rattle.std.proofs.Common.{◌≡◌, ◌≢◌, ℕ, zero, suc, ◌+◌, ◌-◌, ◌<◌, ◌≤◌, ◌⊎◌, inl, inr, List, [], ◌∷◌, ◌++◌, length, slice_index, get_or, set, max, refl, take, drop, All, ◌∙◌, subst, arith, length-set, get_or-set_other, get_or-set_same}
 use Rattle.std.proofs.lemmas.List.{length_push, take_at}
 use Rattle.std.proofs.lemmas.List.Elements.{All-more, All-weaker}
-use Rattle.flow_cfg.specs.Parts.{AreEnds, NestFrom, Nest, NoSmaller, IsHeld, IsCausedBy, Causes, HaveCauses, IsGrownFor, StayAlone}
+use Rattle.flow_cfg.specs.Parts.{AreEnds, NestFrom, Nest, NoSmaller, IsHeld, IsCausedBy, Causes, HaveCauses, IsGrownFor, StayAlone, HasSource, HaveSources, IsBack, IsCausedSo, AreCausedSo}
 
 -- ---- ends behind each place
 
@@ -33,6 +33,12 @@ single_ends ends end made s = record {
 
 -- ---- one end
 
+pub three : (i place : ℕ) → ((i < place) ⊎ (i ≡ place)) ⊎ (place < i)
+three zero zero = inl (inr refl)
+three zero (suc place) = inl (inl (omega arith))
+three (suc i) zero = inr (omega arith)
+three (suc i) (suc place) = elim (three i place) [ inl less ↦ elim less [ inl lt ↦ inl (inl (omega (arith, lt))) | inr same ↦ inl (inr (omega (arith, same))) ] | inr more ↦ inr (omega (arith, more)) ]
+
 -- the end of the part at a place as far as another place
 pub record IsWhole (ends : List ℕ) (head end place : ℕ) : Type 0 where
   pub behind : head < place
@@ -41,6 +47,7 @@ pub record IsWhole (ends : List ℕ) (head end place : ℕ) : Type 0 where
   pub grown : slice_index ends head ≤ end
   pub inner : (i : ℕ) → head < i → i < place → slice_index ends i ≤ place
   pub alone : slice_index ends head ≡ head + 1 → end ≡ head + 1
+  pub source : HasSource ends head end
 
 pub whole_begins : (ends : List ℕ) (head : ℕ) → AreEnds ends → head < length ends → IsWhole ends head (slice_index ends head) (head + 1)
 whole_begins ends head e lt = record {
@@ -50,7 +57,17 @@ whole_begins ends head e lt = record {
   grown = omega arith;
   inner = λ i above below. absurd (omega (arith, above, below));
   alone = λ one. one;
+  source = record { source = head; from = omega arith; short = lt; same = refl; more = inl refl };
 }
+
+source_more : (ends : List ℕ) (head end place farther : ℕ) → head < place → place < end → place < length ends → farther ≡ max end (slice_index ends place) → HasSource ends head end → HasSource ends head farther
+source_more ends head end place farther behind lt short is s = elim (three end (slice_index ends place)) [
+  | inl less ↦ elim less [
+    | inl lesser ↦ record { source = place; from = omega (arith, behind); short = short; same = omega (arith, is, lesser); more = inr (omega (arith, is, lesser, lt)) }
+    | inr same ↦ subst (HasSource ends head) (let e : end ≡ farther = omega (arith, is, same) in e) s
+  ]
+  | inr more ↦ subst (HasSource ends head) (let e : end ≡ farther = omega (arith, is, more) in e) s
+]
 
 inner_more : (ends : List ℕ) (head end place : ℕ) → NestFrom ends (head + 1) → AreEnds ends → IsWhole ends head end place → place < end → (i : ℕ) → head < i → i < slice_index ends place → ((i < place) ⊎ (i ≡ place)) ⊎ (place < i) → slice_index ends i ≤ slice_index ends place
 inner_more ends head end place nest e w lt i above below (inl (inl less)) = omega (arith, w.inner i above less, e.past place (omega (arith, lt, w.within)))
@@ -58,12 +75,6 @@ inner_more ends head end place nest e w lt i above below (inl (inr same)) = rw s
 inner_more ends head end place nest e w lt i above below (inr more) =
     let short : slice_index ends place ≤ length ends = e.within place (omega (arith, lt, w.within)) in
     elim (nest place i (omega (arith, w.behind)) more (omega (arith, below, short))) [ inl apart ↦ absurd (omega (arith, apart, below)) | inr held ↦ held ]
-
-pub three : (i place : ℕ) → ((i < place) ⊎ (i ≡ place)) ⊎ (place < i)
-three zero zero = inl (inr refl)
-three zero (suc place) = inl (inl (omega arith))
-three (suc i) zero = inr (omega arith)
-three (suc i) (suc place) = elim (three i place) [ inl less ↦ elim less [ inl lt ↦ inl (inl (omega (arith, lt))) | inr same ↦ inl (inr (omega (arith, same))) ] | inr more ↦ inr (omega (arith, more)) ]
 
 pub whole_more : (ends : List ℕ) (head end place farther : ℕ) → AreEnds ends → NestFrom ends (head + 1) → farther ≡ max end (slice_index ends place) → IsWhole ends head end place → place < end → IsWhole ends head farther (slice_index ends place)
 whole_more ends head end place farther e nest is w lt =
@@ -75,6 +86,7 @@ whole_more ends head end place farther e nest is w lt =
       grown = omega (arith, is, w.grown);
       inner = λ i above below. inner_more ends head end place nest e w lt i above below (three i place);
       alone = λ one. absurd (omega (arith, w.alone one, w.behind, lt));
+      source = source_more ends head end place farther w.behind lt short is w.source;
     }
 
 pub whole_all : (ends : List ℕ) (head end place : ℕ) → IsWhole ends head end place → end ≤ place → (i : ℕ) → head < i → i < end → slice_index ends i ≤ end
@@ -108,6 +120,7 @@ pub record IsNested (first ends : List ℕ) (head : ℕ) : Type 0 where
   pub grown : NoSmaller first ends
   pub nest : NestFrom ends head
   pub alone : StayAlone first ends
+  pub sources : HaveSources first ends
 
 suc_from : (head i : ℕ) → head ≤ i → i ≢ head → head + 1 ≤ i
 suc_from head i from other = elim (three i head) [ inl less ↦ elim less [ inl lt ↦ absurd (omega (arith, lt, from)) | inr same ↦ absurd (other same) ] | inr more ↦ omega (arith, more) ]
@@ -138,13 +151,32 @@ alone_more : (ends : List ℕ) (head end i : ℕ) → head < length ends → (sl
 alone_more ends head end i lt alone one (inl same) = let one' : slice_index ends head ≡ head + 1 = subst (λ (h : ℕ). slice_index ends h ≡ h + 1) same one in omega (arith, set_here ends head end i lt same, alone one', same)
 alone_more ends head end i lt alone one (inr other) = omega (arith, set_there ends head end i other, one)
 
-pub nested_more : (first ends : List ℕ) (head end : ℕ) → IsNested first ends (head + 1) → head < length ends → slice_index ends head ≤ end → end ≤ length ends → ((i : ℕ) → head < i → i < end → slice_index ends i ≤ end) → (slice_index ends head ≡ head + 1 → end ≡ head + 1) → IsNested first (set ends head end) head
-nested_more first ends head end n lt more within held alone = record {
+source_of : (first ends : List ℕ) (head end : ℕ) → HaveSources first ends → HasSource ends head end → HasSource first head end
+source_of first ends head end all s =
+    let t : HasSource first s.source (slice_index ends s.source) = all s.source s.short in
+    record {
+      source = t.source;
+      from = omega (arith, t.from, s.from);
+      short = t.short;
+      same = omega (arith, t.same, s.same);
+      more = elim t.more [
+        | inr past ↦ inr (omega (arith, past, s.same))
+        | inl here ↦ elim s.more [ inl same ↦ inl (omega (arith, here, same)) | inr past ↦ inr (omega (arith, here, past)) ]
+      ];
+    }
+
+source_set : (first ends : List ℕ) (head end i : ℕ) → head < length ends → HaveSources first ends → HasSource ends head end → i < length ends → (i ≡ head) ⊎ (i ≢ head) → HasSource first i (slice_index (set ends head end) i)
+source_set first ends head end i lt all s short (inl same) = rw (set_here ends head end i lt same) (rw same (source_of first ends head end all s))
+source_set first ends head end i lt all s short (inr other) = rw (set_there ends head end i other) (all i short)
+
+pub nested_more : (first ends : List ℕ) (head end : ℕ) → IsNested first ends (head + 1) → head < length ends → slice_index ends head ≤ end → end ≤ length ends → ((i : ℕ) → head < i → i < end → slice_index ends i ≤ end) → (slice_index ends head ≡ head + 1 → end ≡ head + 1) → HasSource ends head end → IsNested first (set ends head end) head
+nested_more first ends head end n lt more within held alone source = record {
   long = length-set ends head end ∙ n.long;
   are_ends = set_ends ends head end n.are_ends lt more within;
   grown = λ i. omega (arith, n.grown i, set_grown ends head end lt more i);
   nest = λ i j from less short. nest_more ends head end lt n.nest held i j from less (omega (arith, short, length-set ends head end));
   alone = λ i one. alone_more ends head end i lt alone (n.alone i one) (at_or_not i head);
+  sources = λ i short. source_set first ends head end i lt n.sources source (omega (arith, short, length-set ends head end)) (at_or_not i head);
 }
 
 pub nested_none : (ends : List ℕ) → AreEnds ends → IsNested ends ends (length ends)
@@ -154,12 +186,13 @@ nested_none ends e = record {
   grown = λ i. omega arith;
   nest = λ i j from less short. absurd (omega (arith, from, less, short));
   alone = λ i one. one;
+  sources = λ i short. record { source = i; from = omega arith; short = short; same = refl; more = inl refl };
 }
 
-pub nested_before : (first ends : List ℕ) (head end : ℕ) → 0 < head → head ≤ length ends → IsNested first ends head → slice_index ends (head - 1) ≤ end → end ≤ length ends → ((i : ℕ) → head - 1 < i → i < end → slice_index ends i ≤ end) → (slice_index ends (head - 1) ≡ head - 1 + 1 → end ≡ head - 1 + 1) → IsNested first (set ends (head - 1) end) (head - 1)
-nested_before first ends head end some le n more within held alone =
+pub nested_before : (first ends : List ℕ) (head end : ℕ) → 0 < head → head ≤ length ends → IsNested first ends head → slice_index ends (head - 1) ≤ end → end ≤ length ends → ((i : ℕ) → head - 1 < i → i < end → slice_index ends i ≤ end) → (slice_index ends (head - 1) ≡ head - 1 + 1 → end ≡ head - 1 + 1) → HasSource ends (head - 1) end → IsNested first (set ends (head - 1) end) (head - 1)
+nested_before first ends head end some le n more within held alone source =
     let here : head ≡ head - 1 + 1 = omega arith in
-    nested_more first ends (head - 1) end (subst (λ (h : ℕ). IsNested first ends h) here n) (omega arith) more within held alone
+    nested_more first ends (head - 1) end (subst (λ (h : ℕ). IsNested first ends h) here n) (omega arith) more within held alone source
 
 pub nested_all : (first ends : List ℕ) (head : ℕ) → head ≤ 0 → IsNested first ends head → Nest ends
 nested_all first ends head none n = λ i j less short. n.nest i j (omega (arith, none)) less short
@@ -177,15 +210,15 @@ held_more places ends others edges i lt grown held here = All-more (IsHeld place
 
 -- ---- ends that have a cause
 
-by_grown : (places ends others : List ℕ) (edge : ℕ × ℕ) (head : ℕ) → slice_index ends head ≤ slice_index others head → IsCausedBy places ends edge head → IsCausedBy places others edge head
-by_grown places ends others edge head le c = record { from = c.from; to = c.to; is_head = c.is_head; behind = c.behind; within = omega (arith, c.within, le) }
+by_same : (places ends others : List ℕ) (edge : ℕ × ℕ) (head : ℕ) → slice_index others head ≡ slice_index ends head → IsCausedBy places ends edge head → IsCausedBy places others edge head
+by_same places ends others edge head same c = record { from = c.from; to = c.to; is_head = c.is_head; behind = c.behind; is_last = omega (arith, c.is_last, same) }
 
-causes_grown : (places ends others : List ℕ) (edges : List (ℕ × ℕ)) (upto more head : ℕ) → upto ≤ more → slice_index ends head ≤ slice_index others head → Causes places ends edges upto head → Causes places others edges more head
-causes_grown places ends others edges upto more head longer le c = record { at = c.at; is_below = omega (arith, c.is_below, longer); by_edge = by_grown places ends others (get_or edges c.at (0, 0)) head le c.by_edge }
+causes_same : (places ends others : List ℕ) (edges : List (ℕ × ℕ)) (upto head : ℕ) → slice_index others head ≡ slice_index ends head → Causes places ends edges upto head → Causes places others edges (upto + 1) head
+causes_same places ends others edges upto head same c = record { at = c.at; is_below = omega (arith, c.is_below); by_edge = by_same places ends others (get_or edges c.at (0, 0)) head same c.by_edge }
 
-causes_more : (places ends grown : List ℕ) (edges : List (ℕ × ℕ)) (upto : ℕ) → NoSmaller ends grown → HaveCauses places ends edges upto → IsGrownFor places (get_or edges upto (0, 0)) ends grown → HaveCauses places grown edges (upto + 1)
-causes_more places ends grown edges upto no_smaller known for_edge head past = elim (for_edge head) [
-  | inl same ↦ causes_grown places ends grown edges upto (upto + 1) head (omega arith) (no_smaller head) (known head (omega (arith, same, past)))
+causes_more : (places ends grown : List ℕ) (edges : List (ℕ × ℕ)) (upto : ℕ) → HaveCauses places ends edges upto → IsGrownFor places (get_or edges upto (0, 0)) ends grown → HaveCauses places grown edges (upto + 1)
+causes_more places ends grown edges upto known for_edge head past = elim (for_edge head) [
+  | inl same ↦ causes_same places ends grown edges upto head same (known head (omega (arith, same, past)))
   | inr by ↦ record { at = upto; is_below = omega arith; by_edge = by }
 ]
 
@@ -197,14 +230,52 @@ short_or_past [] i = inr refl
 short_or_past (x ∷ xs) zero = inl (omega arith)
 short_or_past (x ∷ xs) (suc i) = elim (short_or_past xs i) [ inl lt ↦ inl (omega (arith, lt)) | inr none ↦ inr none ]
 
-pub causes_nested : (places ends others : List ℕ) (edges : List (ℕ × ℕ)) (upto : ℕ) → AreEnds ends → length others ≡ length ends → NoSmaller ends others → StayAlone ends others → HaveCauses places ends edges upto → HaveCauses places others edges upto
-causes_nested places ends others edges upto e long no_smaller alone known head past = elim (short_or_past others head) [
+back_of : (places ends : List ℕ) (edges : List (ℕ × ℕ)) (head last : ℕ) (c : Causes places ends edges (length edges) head) → last + 1 ≡ slice_index ends head → IsBack places edges last head
+back_of places ends edges head last c is = record {
+  at = c.at;
+  short = c.is_below;
+  is_from = c.by_edge.from;
+  is_to = c.by_edge.to;
+  starts = omega (arith, c.by_edge.is_last, is);
+  ends = c.by_edge.is_head;
+}
+
+past_source : (first : List ℕ) (head end : ℕ) → head + 1 < end → (s : HasSource first head end) → s.source + 1 < slice_index first s.source
+past_source first head end past s = elim s.more [ inl same ↦ omega (arith, same, s.same, past) | inr more ↦ omega (arith, more, s.same) ]
+
+caused_nested : (places first others : List ℕ) (edges : List (ℕ × ℕ)) (head : ℕ) → slice_index first head ≤ slice_index others head → head + 1 < slice_index first head → head + 1 < slice_index others head → HaveCauses places first edges (length edges) → HasSource first head (slice_index others head) → IsCausedSo places others edges head
+caused_nested places first others edges head no_smaller past past' known s =
+    let c : Causes places first edges (length edges) head = known head past in
+    let d : Causes places first edges (length edges) s.source = known s.source (past_source first head (slice_index others head) past' s) in
+    record {
+      place = slice_index places (get_or edges c.at (0, 0)).0;
+      behind = c.by_edge.behind;
+      within = omega (arith, c.by_edge.is_last, no_smaller);
+      cause = back_of places first edges head (slice_index places (get_or edges c.at (0, 0)).0) c c.by_edge.is_last;
+      last = slice_index places (get_or edges d.at (0, 0)).0;
+      is_last = omega (arith, d.by_edge.is_last, s.same);
+      target = s.source;
+      from = s.from;
+      before = d.by_edge.behind;
+      back = back_of places first edges s.source (slice_index places (get_or edges d.at (0, 0)).0) d d.by_edge.is_last;
+    }
+
+pub causes_nested : (places first others : List ℕ) (edges : List (ℕ × ℕ)) → AreEnds first → length others ≡ length first → NoSmaller first others → StayAlone first others → HaveSources first others → HaveCauses places first edges (length edges) → AreCausedSo places others edges
+causes_nested places first others edges e long no_smaller alone sources known head past = elim (short_or_past others head) [
   | inr none ↦ absurd (omega (arith, none, past))
-  | inl short ↦ elim (alone_or_past ends head (e.past head (omega (arith, short, long)))) [
+  | inl short ↦ elim (alone_or_past first head (e.past head (omega (arith, short, long)))) [
     | inl one ↦ absurd (omega (arith, alone head one, past))
-    | inr more ↦ causes_grown places ends others edges upto upto head (omega arith) (no_smaller head) (known head more)
+    | inr more ↦ caused_nested places first others edges head (no_smaller head) more past known (sources head short)
   ]
 ]
+
+pub causes_whole : (places first slice others : List ℕ) (edges : List (ℕ × ℕ)) (len : ℕ) → length others ≡ len → len ≡ length first → slice ≡ first → AreEnds first → NoSmaller slice others → StayAlone slice others → HaveSources slice others → HaveCauses places first edges (length edges)
+    → AreCausedSo places (take len (others ++ drop (length others) first)) edges
+causes_whole places first slice others edges len whole long same e no_smaller alone sources known =
+    rw (take_at others (drop (length others) first) len whole) (
+    let all : AreCausedSo places others edges = causes_nested places first others edges e (omega (arith, whole, long)) (subst (λ (l : List ℕ). NoSmaller l others) same no_smaller) (subst (λ (l : List ℕ). StayAlone l others) same alone) (subst (λ (l : List ℕ). HaveSources l others) same sources) known in
+    all
+    )
 
 pub causes_none : (places ends : List ℕ) (edges : List (ℕ × ℕ)) → ((i : ℕ) → i < length ends → slice_index ends i ≡ i + 1) → HaveCauses places ends edges 0
 causes_none places ends edges single head past = elim (short_or_past ends head) [ inr none ↦ absurd (omega (arith, none, past)) | inl short ↦ absurd (omega (arith, single head short, past)) ]
@@ -222,5 +293,5 @@ hold_more places ends slice grown edges upto len whole same lt so_far are_ends n
       long = long;
       are_ends = are_ends;
       held = held_more places ends grown edges upto lt (λ i. subst (λ (l : List ℕ). slice_index l i ≤ slice_index grown i) same (no_smaller i)) so_far.held here;
-      caused = causes_more places ends grown edges upto (λ i. subst (λ (l : List ℕ). slice_index l i ≤ slice_index grown i) same (no_smaller i)) so_far.caused (λ i. subst (λ (l : List ℕ). (slice_index grown i ≡ slice_index l i) ⊎ IsCausedBy places grown (get_or edges upto (0, 0)) i) same (for_edge i));
+      caused = causes_more places ends grown edges upto so_far.caused (λ i. subst (λ (l : List ℕ). (slice_index grown i ≡ slice_index l i) ⊎ IsCausedBy places grown (get_or edges upto (0, 0)) i) same (for_edge i));
     } in all)

@@ -5,7 +5,7 @@ use Rattle.std.proofs.lemmas.List.Elements.{All-weaker, All-get_or}
 use Rattle.std.specs.Prelude.{slice_index_or, Contains, get_or}
 use Rattle.std.specs.Result.{IfOk}
 use Rattle.flow_cfg.specs.Listing.{ArePlaces, ListsOnce}
-use Rattle.flow_cfg.specs.Parts.{Holds, Follows, IsHeld, HasCause, AreCaused, IsCausedBy, Causes, HaveCauses}
+use Rattle.flow_cfg.specs.Parts.{Holds, Follows, IsHeld, HasCause, AreCaused, HasLast, AreTight, IsBack, IsCausedSo, AreCausedSo}
 use Rattle.flow_cfg.proofs.Nested.{three}
 
 held_at : (places ends : List ℕ) (edge : ℕ × ℕ) (i j : ℕ) → edge.0 < length places → edge.1 < length places → slice_index places edge.0 ≡ i → slice_index places edge.1 ≡ j → IsHeld places ends edge → j ≤ i → Holds ends j i
@@ -50,24 +50,32 @@ edge_at edges at u v lt is is' =
     let same : (u, v) ≡ slice_index_or edges at (0, 0) = ap (λ (w : ℕ). (w, v)) is ∙ ap (λ (w : ℕ). ((slice_index_or edges at (0, 0)).0, w)) is' in
     (at, lt, get_or_default edges at (u, v) (0, 0) lt ∙ sym same)
 
-cause_of : (order places ends : List ℕ) (edges : List (ℕ × ℕ)) (head : ℕ) → ListsOnce (length places) order → ArePlaces order places → Causes places ends edges (length edges) head → HasCause order ends edges head
-cause_of order places ends edges head once p c =
-    let by = c.by_edge in
-    let edge = slice_index_or edges c.at (0, 0) in
-    let from = node_at order places edge.0 once p by.from in
-    let to = node_at order places edge.1 once p by.to in
-    record {
-      place = slice_index places edge.0;
-      behind = by.behind;
-      within = by.within;
-      short = from.0;
-      edge = edge_at edges c.at (slice_index order (slice_index places edge.0)) (slice_index order head) c.is_below from.1 (subst (λ (k : ℕ). slice_index order k ≡ edge.1) by.is_head to.1);
-    }
+edge_of : (order places : List ℕ) (edges : List (ℕ × ℕ)) (from to : ℕ) → ListsOnce (length places) order → ArePlaces order places → IsBack places edges from to → (from < length order) × Contains edges (slice_index order from, slice_index order to)
+edge_of order places edges from to once p b =
+    let edge = slice_index_or edges b.at (0, 0) in
+    let source = node_at order places edge.0 once p b.is_from in
+    let target = node_at order places edge.1 once p b.is_to in (
+      subst (λ (k : ℕ). k < length order) b.starts source.0,
+      edge_at edges b.at (slice_index order from) (slice_index order to) b.short (subst (λ (k : ℕ). slice_index order k ≡ edge.0) b.starts source.1) (subst (λ (k : ℕ). slice_index order k ≡ edge.1) b.ends target.1),
+    )
 
-pub all_caused : (nodes : ℕ) (given order given' places ends : List ℕ) (edges : List (ℕ × ℕ)) → ListsOnce nodes order → length places ≡ length given → given ≡ order → given' ≡ places → ArePlaces given places → HaveCauses given' ends edges (length edges) → AreCaused order ends edges
-all_caused nodes given order given' places ends edges once long same same' p known head short past =
+cause_of : (order places ends : List ℕ) (edges : List (ℕ × ℕ)) (head : ℕ) → ListsOnce (length places) order → ArePlaces order places → IsCausedSo places ends edges head → HasCause order ends edges head
+cause_of order places ends edges head once p c =
+    let e = edge_of order places edges c.place head once p c.cause in
+    record { place = c.place; behind = c.behind; within = c.within; short = e.0; edge = e.1 }
+
+last_of : (order places ends : List ℕ) (edges : List (ℕ × ℕ)) (head : ℕ) → ListsOnce (length places) order → ArePlaces order places → IsCausedSo places ends edges head → HasLast order ends edges head
+last_of order places ends edges head once p c =
+    let e = edge_of order places edges c.last c.target once p c.back in
+    record { last = c.last; is_last = c.is_last; short = e.0; target = c.target; from = c.from; before = c.before; edge = e.1 }
+
+pub all_caused : (nodes : ℕ) (given order given' places ends : List ℕ) (edges : List (ℕ × ℕ)) → ListsOnce nodes order → length places ≡ length given → given ≡ order → given' ≡ places → ArePlaces given places → AreCausedSo given' ends edges → AreCaused order ends edges × AreTight order ends edges
+all_caused nodes given order given' places ends edges once long same same' p known =
     let nodes_long : nodes ≡ length places = omega (arith, once.long, long, ap length same) in
-    cause_of order places ends edges head (subst (λ (m : ℕ). ListsOnce m order) nodes_long once) (subst (λ (o : List ℕ). ArePlaces o places) same p) (subst (λ (q : List ℕ). HaveCauses q ends edges (length edges)) same' known head past)
+    let once' : ListsOnce (length places) order = subst (λ (m : ℕ). ListsOnce m order) nodes_long once in
+    let p' : ArePlaces order places = subst (λ (o : List ℕ). ArePlaces o places) same p in
+    let known' : AreCausedSo places ends edges = subst (λ (q : List ℕ). AreCausedSo q ends edges) same' known in
+    (λ head short past. cause_of order places ends edges head once' p' (known' head past), λ head short past. last_of order places ends edges head once' p' (known' head past))
 
 -- ---- what the lists of an answer are
 

@@ -50,13 +50,38 @@ pub record HasCause (order ends : List ℕ) (edges : List (ℕ × ℕ)) (head : 
 abbrev pub AreCaused : List ℕ → List ℕ → List (ℕ × ℕ) → Type 0
 AreCaused order ends edges = (head : ℕ) → head < length ends → head + 1 < slice_index ends head → HasCause order ends edges head
 
--- the edge between nodes goes to this place from a place behind it and before the place's end
+-- the last node of a part has an edge to a node in front of it in the part
+pub record HasLast (order ends : List ℕ) (edges : List (ℕ × ℕ)) (head : ℕ) : Type 0 where
+  pub last : ℕ
+  pub is_last : last + 1 ≡ slice_index ends head
+  pub short : last < length order
+  pub target : ℕ
+  pub from : head ≤ target
+  pub before : target < last
+  pub edge : Contains edges (slice_index order last, slice_index order target)
+
+-- each part of more than one node ends with a node that has an edge back into it
+abbrev pub AreTight : List ℕ → List ℕ → List (ℕ × ℕ) → Type 0
+AreTight order ends edges = (head : ℕ) → head < length ends → head + 1 < slice_index ends head → HasLast order ends edges head
+
+-- the end of a place is that of a place from there on, which is the place itself or has more than itself
+pub record HasSource (old : List ℕ) (head end : ℕ) : Type 0 where
+  pub source : ℕ
+  pub from : head ≤ source
+  pub short : source < length old
+  pub same : slice_index old source ≡ end
+  pub more : (source ≡ head) ⊎ (source + 1 < end)
+
+abbrev pub HaveSources : List ℕ → List ℕ → Type 0
+HaveSources old ends = (head : ℕ) → head < length ends → HasSource old head (slice_index ends head)
+
+-- the edge between nodes goes to this place from a place behind it, which is the last before the place's end
 pub record IsCausedBy (places ends : List ℕ) (edge : ℕ × ℕ) (head : ℕ) : Type 0 where
   pub from : edge.0 < length places
   pub to : edge.1 < length places
   pub is_head : slice_index places edge.1 ≡ head
   pub behind : head < slice_index places edge.0
-  pub within : slice_index places edge.0 < slice_index ends head
+  pub is_last : slice_index places edge.0 + 1 ≡ slice_index ends head
 
 -- one of so many edges does
 pub record Causes (places ends : List ℕ) (edges : List (ℕ × ℕ)) (upto head : ℕ) : Type 0 where
@@ -72,10 +97,35 @@ HaveCauses places ends edges upto = (head : ℕ) → head + 1 < slice_index ends
 abbrev pub IsGrownFor : List ℕ → ℕ × ℕ → List ℕ → List ℕ → Type 0
 IsGrownFor places edge old ends = (head : ℕ) → (slice_index ends head ≡ slice_index old head) ⊎ IsCausedBy places ends edge head
 
--- an end is what it was, or it is that of the first place and behind the second
+-- an end is what it was, or it is that of the first place and follows the second
 abbrev pub IsSetFor : ℕ → ℕ → List ℕ → List ℕ → Type 0
-IsSetFor head place old ends = (i : ℕ) → (slice_index ends i ≡ slice_index old i) ⊎ ((i ≡ head) × ((head < place) × (place < slice_index ends head)))
+IsSetFor head place old ends = (i : ℕ) → (slice_index ends i ≡ slice_index old i) ⊎ ((i ≡ head) × ((head < place) × (place + 1 ≡ slice_index ends head)))
 
 -- a place that heads no more than itself still does so
 abbrev pub StayAlone : List ℕ → List ℕ → Type 0
 StayAlone old ends = (i : ℕ) → slice_index old i ≡ i + 1 → slice_index ends i ≡ i + 1
+
+-- an edge among nodes by their places, from a place behind another one to it
+pub record IsBack (places : List ℕ) (edges : List (ℕ × ℕ)) (from to : ℕ) : Type 0 where
+  pub at : ℕ
+  pub short : at < length edges
+  pub is_from : (slice_index_or edges at (0, 0)).0 < length places
+  pub is_to : (slice_index_or edges at (0, 0)).1 < length places
+  pub starts : slice_index places (slice_index_or edges at (0, 0)).0 ≡ from
+  pub ends : slice_index places (slice_index_or edges at (0, 0)).1 ≡ to
+
+-- an end past the next place is so for an edge from within to the place, and for one from the last place back into the part
+pub record IsCausedSo (places ends : List ℕ) (edges : List (ℕ × ℕ)) (head : ℕ) : Type 0 where
+  pub place : ℕ
+  pub behind : head < place
+  pub within : place < slice_index ends head
+  pub cause : IsBack places edges place head
+  pub last : ℕ
+  pub is_last : last + 1 ≡ slice_index ends head
+  pub target : ℕ
+  pub from : head ≤ target
+  pub before : target < last
+  pub back : IsBack places edges last target
+
+abbrev pub AreCausedSo : List ℕ → List ℕ → List (ℕ × ℕ) → Type 0
+AreCausedSo places ends edges = (head : ℕ) → head + 1 < slice_index ends head → IsCausedSo places ends edges head

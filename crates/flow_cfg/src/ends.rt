@@ -1,7 +1,7 @@
 //! Where the parts of an order end.
 
 ghost use Rattle.std.specs.Prelude.{◌≡◌, ℕ, ◌+◌, ◌<◌, ◌≤◌, ◌^◌, length, IfOk, slice_index, All};
-ghost use Rattle.flow_cfg.specs.Parts.{AreEnds, NestFrom, Nest, IsHeld, NoSmaller, HaveCauses, IsGrownFor, IsSetFor, StayAlone};
+ghost use Rattle.flow_cfg.specs.Parts.{AreEnds, NestFrom, Nest, IsHeld, NoSmaller, HaveCauses, AreCausedSo, IsGrownFor, IsSetFor, StayAlone, HasSource, HaveSources};
 
 use std::alloc::{AllocError, Global};
 
@@ -80,6 +80,7 @@ fn whole_end(ends: &[u32], head: usize) -> u32
     ensures within { result ≤ length ends.now }
     ensures holds { (i : ℕ) → head < i → i < result → slice_index ends.now i ≤ result }
     ensures alone { slice_index ends.now head ≡ head + 1 → result ≡ head + 1 }
+    ensures source { HasSource ends.now head result }
 {
     let mut end = ends[head];
     let mut place = head + 1;
@@ -98,6 +99,7 @@ fn nest(ends: &mut [u32])
     ensures grown { NoSmaller ends.old ends.new }
     ensures nest { Nest ends.new }
     ensures alone { StayAlone ends.old ends.new }
+    ensures sources { HaveSources ends.old ends.new }
 {
     for head in (0..ends.len()).rev() {
         ends[head] = whole_end(ends, head);
@@ -117,7 +119,7 @@ pub(crate) fn ends_of(
     ensures ends { IfOk result (λ v. AreEnds v.items) }
     ensures nest { IfOk result (λ v. Nest v.items) }
     ensures held { IfOk result (λ v. All (IsHeld places.now v.items) edges.now) }
-    ensures caused { IfOk result (λ v. HaveCauses places.now v.items edges.now (length edges.now)) }
+    ensures caused { IfOk result (λ v. AreCausedSo places.now v.items edges.now) }
 {
     let mut ends = holding_ends(alloc, places, edges)?;
     nest(ends.as_mut_slice());

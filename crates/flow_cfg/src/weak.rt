@@ -2,7 +2,7 @@
 
 ghost use Rattle.std.specs.Prelude.{◌≡◌, ◌<◌, length, IfOk, All};
 ghost use Rattle.flow_cfg.specs.Listing.{ListsOnce};
-ghost use Rattle.flow_cfg.specs.Parts.{part_nodes, part_ends, AreEnds, Nest, Follows, AreCaused};
+ghost use Rattle.flow_cfg.specs.Parts.{part_nodes, part_ends, AreEnds, Nest, Follows, AreCaused, AreTight};
 
 use crate::ends::ends_of;
 use crate::listing::{each_once, places_of};
@@ -35,7 +35,7 @@ fn parts_of(alloc: Global, order: &[u32], ends: &[u32]) -> Result<Vec<Part>, All
 
 /// A weak topological order of all nodes of a graph. Each edge between nodes goes forwards to a node that heads no part with its
 /// source, or to the head of a part that holds its source, and parts nest. A part of more than one node is there for an edge to
-/// its head from a node in it. The order is that of a search that begins at
+/// its head from a node in it, and its last node has an edge back into it. The order is that of a search that begins at
 /// the entry, so what the entry reaches stands behind the nodes that it doesn't reach. Every place is in the part that it
 /// heads, so an edge from a node to itself asks for nothing. Below 32 components one within the other, nodes stand in the
 /// order in which the search came to them. The only error is want of memory.
@@ -50,6 +50,7 @@ pub fn weak_order(
     ensures nest { IfOk result (λ parts. Nest (part_ends parts.items)) }
     ensures edges { IfOk result (λ parts. All (Follows (part_nodes parts.items) (part_ends parts.items)) edges.now) }
     ensures caused { IfOk result (λ parts. AreCaused (part_nodes parts.items) (part_ends parts.items) edges.now) }
+    ensures tight { IfOk result (λ parts. AreTight (part_nodes parts.items) (part_ends parts.items) edges.now) }
 {
     let visited = visited(alloc, nodes, edges, entry)?;
     let order = each_once(alloc, nodes, &visited)?;

@@ -1,6 +1,6 @@
 use Rattle.std.proofs.Common.{Vec, Global, All}
 use Rattle.flow_cfg.specs.declared.weak.Part.{Part}
-use Rattle.flow_cfg.specs.Parts.{part_nodes, part_ends, AreEnds, Nest, Follows, AreCaused}
+use Rattle.flow_cfg.specs.Parts.{part_nodes, part_ends, AreEnds, Nest, Follows, AreCaused, AreTight}
 use Rattle.flow_cfg.specs.Listing.{ListsOnce}
 use Rattle.flow_cfg.proofs.Ordered.{carried, both_carried, once_itself, ordered, all_caused}
 use Rattle.flow_cfg.proofs.weak.weak_order.Goals as goal
@@ -29,4 +29,11 @@ returns-clause-caused c =
     both_carried c.parts_of.result (λ (v : Vec Part Global). part_nodes v.items) (λ (v : Vec Part Global). part_ends v.items) (λ o e. AreCaused o e c.args.edges.now)
     c.deref-4.result.now c.in_ok-order.order.items c.deref-5.result.now c.in_ok-ends.ends.items
     c.parts_of.ensures.nodes c.deref-4.ensures.value c.parts_of.ensures.ends c.deref-5.ensures.value
-    (all_caused c.args.nodes c.deref-2.result.now c.in_ok-order.order.items c.deref-3.result.now c.in_ok-places.places.items c.in_ok-ends.ends.items c.args.edges.now c.in_ok-order.ensures c.in_ok-places.ensures.long c.deref-2.ensures.value c.deref-3.ensures.value c.in_ok-places.ensures.places c.in_ok-ends.ensures.caused)
+    ((all_caused c.args.nodes c.deref-2.result.now c.in_ok-order.order.items c.deref-3.result.now c.in_ok-places.places.items c.in_ok-ends.ends.items c.args.edges.now c.in_ok-order.ensures c.in_ok-places.ensures.long c.deref-2.ensures.value c.deref-3.ensures.value c.in_ok-places.ensures.places c.in_ok-ends.ensures.caused).0)
+
+pub returns-clause-tight : goal.returns-clause-tight
+returns-clause-tight c =
+    both_carried c.parts_of.result (λ (v : Vec Part Global). part_nodes v.items) (λ (v : Vec Part Global). part_ends v.items) (λ o e. AreTight o e c.args.edges.now)
+    c.deref-4.result.now c.in_ok-order.order.items c.deref-5.result.now c.in_ok-ends.ends.items
+    c.parts_of.ensures.nodes c.deref-4.ensures.value c.parts_of.ensures.ends c.deref-5.ensures.value
+    ((all_caused c.args.nodes c.deref-2.result.now c.in_ok-order.order.items c.deref-3.result.now c.in_ok-places.places.items c.in_ok-ends.ends.items c.args.edges.now c.in_ok-order.ensures c.in_ok-places.ensures.long c.deref-2.ensures.value c.deref-3.ensures.value c.in_ok-places.ensures.places c.in_ok-ends.ensures.caused).1)

@@ -12,7 +12,7 @@ use crate::cycle::first_on_cycle;
 use crate::fault::HierarchyFault;
 use crate::keys::{Keys, field_keys, method_keys};
 use crate::links::{Links, interfaces, subclasses, superclasses};
-use crate::members::{Members, fields, methods};
+use crate::members::{Members, definers, members_of, rows_of_fields, rows_of_methods};
 use crate::names::{initialiser, of_object, packages, special};
 use crate::order::{count_above, in_order};
 use crate::resolve::resolve_all;
@@ -44,7 +44,7 @@ pub struct Tour {
 }
 
 /// The keys of the fields and of the methods by number, the members of each class by key, and the classes that define a
-/// method with each key. `special` says by method number which names begin with `<`, and `of_object` by key which are of
+/// field or a method with each key. `special` says by method number which names begin with `<`, and `of_object` by key which are of
 /// the five methods that the framework may call on every object.
 #[derive(Drop)]
 pub struct Named {
@@ -52,6 +52,7 @@ pub struct Named {
     pub method_keys: Keys,
     pub fields: Members,
     pub methods: Members,
+    pub field_definers: Links,
     pub definers: Links,
     pub special: Vec<bool>,
     pub of_object: Vec<bool>,
@@ -226,9 +227,12 @@ fn name_members(alloc: Global, program: &Program) -> Result<Named, AllocError> {
     let classes = program.classes.as_slice();
     let field_keys = field_keys(alloc, program.fields.as_slice())?;
     let method_keys = method_keys(alloc, program.methods.as_slice())?;
-    let fields = fields(alloc, classes, field_keys.keys.as_slice())?;
-    let methods = methods(alloc, classes, method_keys.keys.as_slice())?;
-    let definers = methods.definers(alloc, method_keys.count)?;
+    let field_rows = rows_of_fields(alloc, classes, field_keys.keys.as_slice())?;
+    let fields = members_of(alloc, &field_rows)?;
+    let field_definers = definers(alloc, &field_rows, field_keys.count)?;
+    let method_rows = rows_of_methods(alloc, classes, method_keys.keys.as_slice())?;
+    let methods = members_of(alloc, &method_rows)?;
+    let definers = definers(alloc, &method_rows, method_keys.count)?;
     let special = special(alloc, program)?;
     let of_object = of_object(
         alloc,
@@ -241,6 +245,7 @@ fn name_members(alloc: Global, program: &Program) -> Result<Named, AllocError> {
         method_keys,
         fields,
         methods,
+        field_definers,
         definers,
         special,
         of_object,

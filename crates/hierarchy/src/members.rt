@@ -1,140 +1,136 @@
 //! The members that each class defines, by key.
 
-ghost use Rattle.std.specs.Prelude.{◌≡◌, ◌+◌, length, IfOk, vec_len};
+ghost use Rattle.std.specs.Prelude.{◌≡◌, ℕ, ◌<◌, ◌^◌, List, map, length, IfOk, OnOk, Some, None, nat_eq, slice_get, slice_index_or, cond, ◌&&◌};
+ghost use Rattle.std.specs.Option.{option_or};
+ghost use Rattle.hierarchy.specs.Membership.{found_in, key_at, IsIndex, AreShort, index_of_row, one_at, method_rows, field_rows};
 
 use crate::links::{Links, empty_rows};
-use crate::table::{NONE, count_at, is_on, word};
+use crate::table::{NONE, is_on, word};
+use indexmap::IndexMap;
 use program_model::{Class, Field, Flags, Method};
+use seq::Seq;
 use std::alloc::{AllocError, Global};
 
-/// A member of a class: its key and its place among the fields or the methods of the class.
-type Keyed = (u32, u32);
-
-/// For each class the keys of its members, in order, and beside each key the place of the member.
+/// The place of the first member with each key of each class among the fields or the methods of the class.
 #[derive(Drop)]
 pub struct Members {
-    starts: Vec<u32>,
-    keys: Vec<u32>,
-    places: Vec<u32>,
+    places: IndexMap<(u32, u32), u32>,
 }
 
 impl Members {
-    fn new(alloc: Global) -> Members {
+    fn new(alloc: Global) -> Members
+        ensures { (class key : ℕ) → found_in result class key ≡ None }
+    {
         Members {
-            starts: Vec::new(alloc),
-            keys: Vec::new(alloc),
-            places: Vec::new(alloc),
+            places: IndexMap::new(alloc),
         }
     }
 
-    /// Adds the members of the next class, in the order of their keys.
-    fn add_class(&mut self, members: &[Keyed]) -> Result<(), AllocError> {
-        self.starts.push(word(self.keys.len()))?;
-        for (key, place) in members {
-            self.keys.push(*key)?;
-            self.places.push(*place)?;
-        }
-        Ok(())
+    /// The place of the first member of a class that has the key.
+    pub fn find(&self, class: u32, key: u32) -> Option<u32>
+        ensures { result ≡ found_in self.now class key }
+    {
+        self.places.get(&(class, key)).copied()
     }
 
-    /// Ends the list of the last class.
-    fn finish(&mut self) -> Result<(), AllocError> {
-        self.starts.push(word(self.keys.len()))?;
-        Ok(())
-    }
-
-    /// The keys of the members of a class, and where they begin.
-    fn keys_of(&self, class: u32) -> (usize, &[u32]) {
-        let first = count_at(self.starts.as_slice(), class) as usize;
-        let end = count_at(self.starts.as_slice(), class.saturating_add(1)) as usize;
-        match self.keys.as_slice().get(first..end) {
-            Some(keys) => (first, keys),
-            None => (first, &[]),
+    /// Adds a member, unless the class has one with the key.
+    fn add(&mut self, class: u32, key: u32, place: u32) -> Result<(), AllocError>
+        ensures { OnOk result ((c k : ℕ) → found_in self.new c k ≡ option_or (found_in self.old c k) (one_at class key place c k)) }
+    {
+        match self.find(class, key) {
+            Some(_) => Ok(()),
+            None => {
+                self.places.insert((class, key), place)?;
+                Ok(())
+            }
         }
     }
 
-    /// The place of the member of a class that has the key.
-    pub fn find(&self, class: u32, key: u32) -> Option<u32> {
-        let (first, keys) = self.keys_of(class);
-        match keys.binary_search(&key) {
-            Ok(at) => self
-                .places
-                .as_slice()
-                .get(first.saturating_add(at))
-                .copied(),
-            Err(_) => None,
-        }
-    }
-
-    /// Adds a class to the list of each key of its members.
-    fn note_class(&self, class: u32, definers: &mut Links) -> Result<(), AllocError> {
-        let (_first, keys) = self.keys_of(class);
-        for key in keys {
-            definers.add(*key, class)?;
+    /// Adds the members of a class, which have these keys.
+    fn add_class(&mut self, class: u32, keys: &[u32]) -> Result<(), AllocError>
+        ensures { length keys.now < 2 ^ 32 → OnOk result ((c k : ℕ) → found_in self.new c k ≡ option_or (found_in self.old c k) (index_of_row class keys.now c k)) }
+    {
+        for (place, key) in keys.iter().enumerate() {
+            self.add(class, *key, word(place))?;
         }
         Ok(())
-    }
-
-    /// For each of so many keys the classes that define a member with it, in file order.
-    pub fn definers(&self, alloc: Global, keys: usize) -> Result<Links, AllocError> {
-        let mut definers = empty_rows(alloc, keys)?;
-        for class in 0..word(self.starts.len()) {
-            self.note_class(class, &mut definers)?;
-        }
-        Ok(definers)
     }
 }
 
-/// The keys and places of the fields of a class.
-fn list_fields(fields: &[Field], keys: &[u32], out: &mut Vec<Keyed>) -> Result<(), AllocError> {
-    out.clear();
-    for (place, field) in fields.iter().enumerate() {
-        out.push((key_of(keys, field.name), word(place)))?;
+/// The members by these keys of the members of each class.
+pub fn members_of(alloc: Global, rows: &Links) -> Result<Members, AllocError>
+    ensures { AreShort rows.now.rows → IfOk result (λ members. IsIndex rows.now.rows members) }
+{
+    let mut members = Members::new(alloc);
+    for (place, row) in rows.rows.as_slice().iter().enumerate() {
+        members.add_class(word(place), row.as_slice())?;
     }
-    Ok(())
+    Ok(members)
 }
 
-/// The keys and places of the methods of a class.
-fn list_methods(methods: &[Method], keys: &[u32], out: &mut Vec<Keyed>) -> Result<(), AllocError> {
-    out.clear();
-    for (place, method) in methods.iter().enumerate() {
-        out.push((key_of(keys, method.name), word(place)))?;
+/// For each of so many keys the classes that define a member with it, in file order.
+pub fn definers(alloc: Global, rows: &Links, count: usize) -> Result<Links, AllocError> {
+    let mut definers = empty_rows(alloc, count)?;
+    for (place, row) in rows.rows.as_slice().iter().enumerate() {
+        for key in row.as_slice() {
+            definers.add(*key, word(place))?;
+        }
     }
-    Ok(())
+    Ok(definers)
 }
 
 /// The key of a number, none past the table.
-pub fn key_of(keys: &[u32], number: u32) -> u32 {
+pub fn key_of(keys: &[u32], number: u32) -> u32
+    ensures { result ≡ key_at keys.now number }
+{
     match keys.get(number as usize) {
         Some(key) => *key,
         None => NONE,
     }
 }
 
-/// The fields of the classes, by these keys of the field numbers.
-pub fn fields(alloc: Global, classes: &[Class], keys: &[u32]) -> Result<Members, AllocError> {
-    let mut members = Members::new(alloc);
-    let mut scratch = Vec::new(alloc);
-    for class in classes {
-        list_fields(class.fields.as_slice(), keys, &mut scratch)?;
-        scratch.sort_unstable();
-        members.add_class(scratch.as_slice())?;
+/// The keys of some fields.
+fn keys_of_fields(alloc: Global, fields: &[Field], keys: &[u32]) -> Result<Seq<u32>, AllocError>
+    ensures { IfOk result (λ row. row ≡ map (λ f. key_at keys.now f.name) fields.now) }
+{
+    let mut row = Seq::new(alloc);
+    for field in fields {
+        row.push(key_of(keys, field.name))?;
     }
-    members.finish()?;
-    Ok(members)
+    Ok(row)
 }
 
-/// The methods of the classes, by these keys of the method numbers.
-pub fn methods(alloc: Global, classes: &[Class], keys: &[u32]) -> Result<Members, AllocError> {
-    let mut members = Members::new(alloc);
-    let mut scratch = Vec::new(alloc);
-    for class in classes {
-        list_methods(class.methods.as_slice(), keys, &mut scratch)?;
-        scratch.sort_unstable();
-        members.add_class(scratch.as_slice())?;
+/// The keys of some methods.
+fn keys_of_methods(alloc: Global, methods: &[Method], keys: &[u32]) -> Result<Seq<u32>, AllocError>
+    ensures { IfOk result (λ row. row ≡ map (λ m. key_at keys.now m.name) methods.now) }
+{
+    let mut row = Seq::new(alloc);
+    for method in methods {
+        row.push(key_of(keys, method.name))?;
     }
-    members.finish()?;
-    Ok(members)
+    Ok(row)
+}
+
+/// The keys of the fields of each class, by these keys of the field numbers.
+pub fn rows_of_fields(alloc: Global, classes: &[Class], keys: &[u32]) -> Result<Links, AllocError>
+    ensures { IfOk result (λ rows. rows.rows ≡ field_rows keys.now classes.now) }
+{
+    let mut rows = Seq::new(alloc);
+    for class in classes {
+        rows.push(keys_of_fields(alloc, class.fields.as_slice(), keys)?)?;
+    }
+    Ok(Links { rows })
+}
+
+/// The keys of the methods of each class, by these keys of the method numbers.
+pub fn rows_of_methods(alloc: Global, classes: &[Class], keys: &[u32]) -> Result<Links, AllocError>
+    ensures { IfOk result (λ rows. rows.rows ≡ method_rows keys.now classes.now) }
+{
+    let mut rows = Seq::new(alloc);
+    for class in classes {
+        rows.push(keys_of_methods(alloc, class.methods.as_slice(), keys)?)?;
+    }
+    Ok(Links { rows })
 }
 
 /// Whether calls find the method by the class of their receiver: it is neither static, private nor special, as

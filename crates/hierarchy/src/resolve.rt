@@ -3,7 +3,6 @@
 ghost use Rattle.std.specs.Prelude.{◌≡◌, ◌+◌, length, IfOk, OnOk, vec_len};
 
 use crate::build::{Hierarchy, Targets};
-use crate::links::Links;
 use crate::members::key_of;
 use crate::table::word;
 use crate::walk::Walk;
@@ -87,12 +86,11 @@ fn method_from(
     Ok(None)
 }
 
-/// What each field number resolves to. `definers` are the classes that define a field with each key.
+/// What each field number resolves to.
 fn field_targets(
     alloc: Global,
     fields: &[FieldName],
     tables: &Hierarchy,
-    definers: &Links,
     walk: &mut Walk,
 ) -> Result<Vec<Option<(u32, u32)>>, AllocError>
     ensures { IfOk result (λ targets. vec_len targets ≡ length fields.now) }
@@ -101,7 +99,7 @@ fn field_targets(
     for (number, field) in fields.iter().enumerate() {
         let key = key_of(tables.named.field_keys.keys.as_slice(), word(number));
         let target = match tables.place_of(field.class) {
-            Some(class) if !definers.row(key).is_empty() => field_from(tables, walk, class, key)?,
+            Some(class) if !tables.named.field_definers.row(key).is_empty() => field_from(tables, walk, class, key)?,
             _ => None,
         };
         targets.push(target)?;
@@ -139,17 +137,7 @@ pub fn resolve_all(
     tables: &Hierarchy,
 ) -> Result<Targets, AllocError> {
     let mut walk = tables.walk(alloc)?;
-    let definers = tables
-        .named
-        .fields
-        .definers(alloc, tables.named.field_keys.count)?;
-    let fields = field_targets(
-        alloc,
-        program.fields.as_slice(),
-        tables,
-        &definers,
-        &mut walk,
-    )?;
+    let fields = field_targets(alloc, program.fields.as_slice(), tables, &mut walk)?;
     let methods = method_targets(alloc, program.methods.as_slice(), tables, &mut walk)?;
     Ok(Targets { fields, methods })
 }

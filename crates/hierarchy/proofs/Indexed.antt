@@ -87,7 +87,7 @@ got_item [] place item lt = absurd (omega arith)
 got_item (x ∷ xs) zero item lt = refl
 got_item (x ∷ xs) (suc place) item lt = got_item xs place item (omega arith)
 
-at_items : {X : Type 0} (items : List X) (place : ℕ) (item : X) → item ≡ get_or items place item → place < length items → AtPlace items place item
+pub at_items : {X : Type 0} (items : List X) (place : ℕ) (item : X) → item ≡ get_or items place item → place < length items → AtPlace items place item
 at_items items place item is lt = record {
   more = take_more items place item lt ∙ ap (λ x. take place items ++ x ∷ []) (sym is);
   before = sym (length-take-le place items (omega (arith, lt)));

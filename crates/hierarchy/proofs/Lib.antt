@@ -1,3 +1,7 @@
 pub mod Placed
 pub mod Chains
 mod Indexed
+mod Keyed
+mod Short
+mod NamesMade
+mod Looked

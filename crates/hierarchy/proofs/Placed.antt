@@ -12,6 +12,7 @@ use Rattle.class_defs.specs.ClassGraph.{IsTwice}
 use Rattle.class_defs.proofs.Positions.{number_test, number_of, place_entry, place_first, position_snoc}
 use Rattle.class_defs.proofs.WellFormed.{sound, class_parts, few_classes}
 use Rattle.hierarchy.specs.Tables.{known, read_at, row_or_empty, row_of}
+use Rattle.hierarchy.specs.Naming.{IsNamed}
 use Rattle.hierarchy.specs.Placing.{place_from, known_places}
 use Rattle.hierarchy.specs.Faults.{IsTwiceOr, IsSplitOr}
 use Rattle.hierarchy.specs.Shapes.{placing, IsMade, StopsAt, IsOf, IsFirstTwice, IsCause}
@@ -250,9 +251,9 @@ made_fits p s h m =
 
 -- ---- what is made, and what is refused
 
-pub filled : (p : Program) (s : Shape) (r : Result Hierarchy HierarchyFault) → is_well_formed p ≡ true → IsMade p s → IfOk r (λ h. h.shape ≡ s) → IfOk r (λ h. IsOf p h)
-filled p s (Err e) h m k = k
-filled p s (Ok x) h m k = let f = made_fits p x.shape h (subst (IsMade p) (sym k) m) in record { once = f.once; places = f.places; supers = f.supers; lists = f.lists; count = (let ok = x.shape.supers.ok in let n = f.count in omega arith) }
+pub filled : (p : Program) (s : Shape) (r : Result Hierarchy HierarchyFault) → is_well_formed p ≡ true → IsMade p s → IfOk r (λ h. h.shape ≡ s) → IfOk r (λ h. IsNamed p h.named) → IfOk r (λ h. IsOf p h)
+filled p s (Err e) h m k n = k
+filled p s (Ok x) h m k n = let f = made_fits p x.shape h (subst (IsMade p) (sym k) m) in record { once = f.once; places = f.places; supers = f.supers; lists = f.lists; count = (let ok = x.shape.supers.ok in let l = f.count in omega arith); named = n }
 
 pub refused : (p : Program) (s : Shape) (r : Result Hierarchy HierarchyFault) → is_well_formed p ≡ true → IsMade p s → IfErr r (λ f. IsSplitOr f) → IfErr r (λ f. IsCause p f)
 refused p s (Ok x) h m k = k

@@ -1,9 +1,11 @@
 -- Keys of members, and where the members of a key stand in each class.
-use Rattle.std.specs.Prelude.{◌≡◌, ◌<◌, ◌≤◌, ◌-◌, ◌^◌, ◌&&◌, ℕ, Bool, List, map, length, Option, None, Some, nat_eq, slice_get, slice_index_or, position, option_and_then, cond}
+use Rattle.std.specs.Prelude.{◌≡◌, ◌<◌, ◌≤◌, ◌-◌, ◌^◌, ◌&&◌, ℕ, Bool, List, map, length, Option, None, Some, nat_eq, slice_get, slice_index_or, position, option_and_then, cond, not, false}
 use Rattle.indexmap.specs.IndexMap.{get}
 use Rattle.program_model.specs.declared.pools.FieldName.{FieldName}
 use Rattle.program_model.specs.declared.pools.MethodName.{MethodName}
 use Rattle.program_model.specs.declared.program.Class.{Class}
+use Rattle.program_model.specs.declared.program.Method.{Method}
+use Rattle.program_model.specs.MemberRules.{is_static, is_private}
 use Rattle.hierarchy.specs.declared.members.Members.{Members}
 
 -- ---- keys
@@ -60,3 +62,7 @@ field_rows keys cs = map (λ c. map (λ f. key_at keys f.name) c.fields) cs
 
 abbrev pub method_rows : List ℕ → List Class → List (List ℕ)
 method_rows keys cs = map (λ c. map (λ m. key_at keys m.name) c.methods) cs
+
+-- neither static, private, nor of a name that is marked
+abbrev pub is_virtual_by : List Bool → Method → Bool
+is_virtual_by special m = not (is_static m.flags) && not (is_private m.flags) && not (slice_index_or special m.name false)

@@ -6,6 +6,7 @@ use Rattle.program_model.specs.Lookups.{class_place}
 use Rattle.class_defs.specs.Places.{super_place, interface_places}
 use Rattle.class_defs.specs.ClassGraph.{IsTwice}
 use Rattle.hierarchy.specs.Tables.{read_at, row_of}
+use Rattle.hierarchy.specs.Naming.{IsNamed}
 use Rattle.hierarchy.specs.Placing.{place_from, known_places}
 use Rattle.hierarchy.specs.declared.build.Shape.{Shape}
 use Rattle.hierarchy.specs.declared.build.Hierarchy.{Hierarchy}
@@ -41,6 +42,7 @@ pub record IsOf (p : Program) (h : Hierarchy) : Type 0 where
   pub supers : (class : ℕ) → read_at h.shape.supers.items class ≡ super_place p class
   pub lists : (class : ℕ) → row_of h.shape.lists.rows class ≡ interface_places p class
   pub count : vec_len h.shape.supers ≡ length p.classes
+  pub named : IsNamed p h.named
 
 -- the first class that has the type of an earlier one
 pub record IsFirstTwice (p : Program) (class : ℕ) : Type 0 where

@@ -5,6 +5,7 @@ ghost use Rattle.std.proofs.Common.{Ok, Err};
 ghost use Rattle.hierarchy.specs.Placing.{place_from, known_places};
 ghost use Rattle.hierarchy.specs.Faults.{IsTwiceOr, IsSplitOr};
 ghost use Rattle.hierarchy.specs.Shapes.{placing, IsMade, StopsAt, IsOf, IsCause};
+ghost use Rattle.hierarchy.specs.Naming.{IsNamed};
 ghost use Rattle.program_model.specs.ProgramRules.{is_well_formed};
 ghost use Rattle.std.specs.Prelude.{true};
 
@@ -223,7 +224,9 @@ fn make_tour(alloc: Global, shape: &Shape) -> Result<Tour, AllocError> {
 }
 
 /// The members by key.
-fn name_members(alloc: Global, program: &Program) -> Result<Named, AllocError> {
+fn name_members(alloc: Global, program: &Program) -> Result<Named, AllocError>
+    ensures { is_well_formed program.now ≡ true → IfOk result (λ named. IsNamed program.now named) }
+{
     let classes = program.classes.as_slice();
     let field_keys = field_keys(alloc, program.fields.as_slice())?;
     let method_keys = method_keys(alloc, program.methods.as_slice())?;
@@ -293,7 +296,8 @@ fn fill(
     shape: Shape,
     named: Named,
 ) -> Result<Hierarchy, AllocError>
-    ensures { IfOk result (λ hierarchy. hierarchy.shape ≡ shape) }
+    ensures links { IfOk result (λ hierarchy. hierarchy.shape ≡ shape) }
+    ensures names { IfOk result (λ hierarchy. hierarchy.named ≡ named) }
 {
     let tour = make_tour(alloc, &shape)?;
     let starts = find_starts(alloc, program, &shape)?;
@@ -314,6 +318,7 @@ fn fill(
 /// The hierarchy over these links, unless there is a split override.
 fn complete(alloc: Global, program: &Program, shape: Shape) -> Result<Hierarchy, HierarchyFault>
     ensures links { IfOk result (λ hierarchy. hierarchy.shape ≡ shape) }
+    ensures names { is_well_formed program.now ≡ true → IfOk result (λ hierarchy. IsNamed program.now hierarchy.named) }
     ensures refuses { IfErr result (λ fault. IsSplitOr fault) }
 {
     let named = name_members(alloc, program)?;

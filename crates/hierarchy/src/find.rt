@@ -8,7 +8,13 @@ ghost use Rattle.hierarchy.specs.Shapes.{IsOf};
 ghost use Rattle.program_model.specs.Lookups.{class_place};
 ghost use Rattle.program_model.specs.declared.program.Program.{Program};
 ghost use Rattle.class_defs.specs.Places.{super_place, interface_places, chain_of};
-ghost use Rattle.std.specs.Prelude.{Some, IfOk};
+ghost use Rattle.std.specs.Prelude.{ℕ, Some, IfOk, slice_get, not};
+ghost use Rattle.program_model.specs.MemberRules.{is_direct};
+ghost use Rattle.program_model.specs.declared.pools.MethodName.{MethodName};
+ghost use Rattle.class_defs.specs.Members.{own_method, own_virtual, virtual_only};
+ghost use Rattle.class_defs.specs.Finding.{finds_from, finds_static, finds_virtual};
+ghost use Rattle.hierarchy.specs.Membership.{key_at};
+ghost use Rattle.hierarchy.specs.Naming.{IsKey};
 
 use crate::build::Hierarchy;
 use crate::members::{is_virtual, key_of};
@@ -78,7 +84,10 @@ impl Hierarchy {
     }
 
     /// A number for the name and proto of a method number, the same for all of the same name and proto.
-    pub fn key_of_method(&self, method: u32) -> u32 {
+    pub fn key_of_method(&self, method: u32) -> u32
+        ensures table { result ≡ key_at self.now.named.method_keys.keys.items method }
+        ensures is { (p : Program) (q : MethodName) → slice_get p.methods method ≡ Some q → IsKey p self.now result q.name q.proto }
+    {
         key_of(self.named.method_keys.keys.as_slice(), method)
     }
 
@@ -91,7 +100,9 @@ impl Hierarchy {
     }
 
     /// Whether a defined method is virtual: neither static, private, nor named with a leading `<`.
-    pub fn is_virtual(&self, method: &Method) -> bool {
+    pub fn is_virtual(&self, method: &Method) -> bool
+        ensures { (p : Program) → IsOf p self.now → result ≡ not (is_direct p method.now) }
+    {
         is_virtual(method, self.named.special.as_slice())
     }
 
@@ -104,7 +115,9 @@ impl Hierarchy {
     }
 
     /// The method with the key that the class itself defines.
-    pub fn own_method(&self, class: u32, key: u32) -> Option<MethodAt> {
+    pub fn own_method(&self, class: u32, key: u32) -> Option<MethodAt>
+        ensures { (p : Program) (name proto : ℕ) → IsOf p self.now → IsKey p self.now key name proto → result ≡ own_method p name proto class }
+    {
         match self.named.methods.find(class, key) {
             Some(place) => Some(MethodAt { class, place }),
             None => None,
@@ -112,13 +125,22 @@ impl Hierarchy {
     }
 
     /// The virtual method with the key that the class itself defines.
-    pub fn own_virtual(&self, program: &Program, class: u32, key: u32) -> Option<MethodAt> {
-        let found = self.own_method(class, key)?;
-        let method = method_at(program, found)?;
-        if self.is_virtual(method) {
-            Some(found)
-        } else {
-            None
+    pub fn own_virtual(&self, program: &Program, class: u32, key: u32) -> Option<MethodAt>
+        ensures { (name proto : ℕ) → IsOf program.now self.now → IsKey program.now self.now key name proto → result ≡ own_virtual program.now name proto class }
+    {
+        match self.own_method(class, key) {
+            Some(found) => self.virtual_only(program, found),
+            None => None,
+        }
+    }
+
+    /// The method at a place where it is virtual.
+    fn virtual_only(&self, program: &Program, found: MethodAt) -> Option<MethodAt>
+        ensures { IsOf program.now self.now → result ≡ virtual_only program.now (Some found) }
+    {
+        match method_at(program, found) {
+            Some(method) => { if self.is_virtual(method) { Some(found) } else { None } }
+            None => None,
         }
     }
 
@@ -128,37 +150,52 @@ impl Hierarchy {
     }
 
     /// The first method with the key along a class and its program superclasses.
-    pub fn find_from(&self, class: u32, key: u32) -> Option<MethodAt> {
+    pub fn find_from(&self, class: u32, key: u32) -> Option<MethodAt>
+        ensures { (p : Program) (name proto : ℕ) → IsOf p self.now → IsKey p self.now key name proto → result ≡ finds_from p name proto (Some class) }
+    {
         let mut at = Some(class);
-        for _ in 0..self.shape.supers.len() {
-            let one = at?;
-            if let Some(found) = self.own_method(one, key) {
-                return Some(found);
+        for done in 0..self.shape.supers.len() {
+            let one = match at {
+                Some(one) => one,
+                None => break,
+            };
+            match self.own_method(one, key) {
+                Some(found) => return Some(found),
+                None => at = self.super_of(one),
             }
-            at = self.super_of(one);
         }
         None
     }
 
     /// What a static or direct call of a method number finds: the first method of its name and proto along the named
     /// class and its program superclasses.
-    pub fn find_static(&self, program: &Program, method: u32) -> Option<MethodAt> {
+    pub fn find_static(&self, program: &Program, method: u32) -> Option<MethodAt>
+        ensures { IsOf program.now self.now → result ≡ finds_static program.now method }
+    {
         match program.methods.as_slice().get(method as usize) {
-            Some(name) => self.find_from(self.place_of(name.class)?, self.key_of_method(method)),
+            Some(name) => match self.place_of(name.class) {
+                Some(class) => self.find_from(class, self.key_of_method(method)),
+                None => None,
+            },
             None => None,
         }
     }
 
     /// The first virtual method with the key along a class and its program superclasses. Where there is none, what the
     /// candidates give decides.
-    pub fn find_virtual(&self, program: &Program, class: u32, key: u32) -> Option<MethodAt> {
+    pub fn find_virtual(&self, program: &Program, class: u32, key: u32) -> Option<MethodAt>
+        ensures { (name proto : ℕ) → IsOf program.now self.now → IsKey program.now self.now key name proto → result ≡ finds_virtual program.now name proto class }
+    {
         let mut at = Some(class);
-        for _ in 0..self.shape.supers.len() {
-            let one = at?;
-            if let Some(found) = self.own_virtual(program, one, key) {
-                return Some(found);
+        for done in 0..self.shape.supers.len() {
+            let one = match at {
+                Some(one) => one,
+                None => break,
+            };
+            match self.own_virtual(program, one, key) {
+                Some(found) => return Some(found),
+                None => at = self.super_of(one),
             }
-            at = self.super_of(one);
         }
         None
     }

@@ -1,6 +1,7 @@
 //! Numbers for the names and types of fields and for the names and protos of methods.
 
-ghost use Rattle.std.specs.Prelude.{◌≡◌, ◌+◌, length, IfOk, vec_len};
+ghost use Rattle.std.specs.Prelude.{◌≡◌, ◌+◌, ◌<◌, ◌-◌, ◌^◌, length, IfOk, vec_len};
+ghost use Rattle.hierarchy.specs.Membership.{AreKeys, field_pair, method_pair};
 
 use crate::table::word;
 use indexmap::IndexSet;
@@ -17,7 +18,8 @@ pub struct Keys {
 
 /// The keys of the fields.
 pub fn field_keys(alloc: Global, fields: &[FieldName]) -> Result<Keys, AllocError>
-    ensures { IfOk result (λ keys. vec_len keys.keys ≡ length fields.now) }
+    ensures long { IfOk result (λ keys. vec_len keys.keys ≡ length fields.now) }
+    ensures keys { length fields.now < 2 ^ 32 - 1 → IfOk result (λ keys. AreKeys field_pair fields.now keys.keys.items keys.count) }
 {
     let mut known: IndexSet<(u32, u32)> = IndexSet::new(alloc);
     let mut keys = Vec::new(alloc);
@@ -31,7 +33,8 @@ pub fn field_keys(alloc: Global, fields: &[FieldName]) -> Result<Keys, AllocErro
 
 /// The keys of the methods.
 pub fn method_keys(alloc: Global, methods: &[MethodName]) -> Result<Keys, AllocError>
-    ensures { IfOk result (λ keys. vec_len keys.keys ≡ length methods.now) }
+    ensures long { IfOk result (λ keys. vec_len keys.keys ≡ length methods.now) }
+    ensures keys { length methods.now < 2 ^ 32 - 1 → IfOk result (λ keys. AreKeys method_pair methods.now keys.keys.items keys.count) }
 {
     let mut known: IndexSet<(u32, u32)> = IndexSet::new(alloc);
     let mut keys = Vec::new(alloc);

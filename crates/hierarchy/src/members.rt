@@ -2,12 +2,12 @@
 
 ghost use Rattle.std.specs.Prelude.{◌≡◌, ℕ, ◌<◌, ◌^◌, List, map, length, IfOk, OnOk, Some, None, nat_eq, slice_get, slice_index_or, cond, ◌&&◌};
 ghost use Rattle.std.specs.Option.{option_or};
-ghost use Rattle.hierarchy.specs.Membership.{found_in, key_at, IsIndex, AreShort, index_of_row, one_at, method_rows, field_rows};
+ghost use Rattle.hierarchy.specs.Membership.{found_in, key_at, IsIndex, AreShort, index_of_row, one_at, method_rows, field_rows, is_virtual_by};
 
 use crate::links::{Links, empty_rows};
 use crate::table::{NONE, is_on, word};
 use indexmap::IndexMap;
-use program_model::{Class, Field, Flags, Method};
+use program_model::{Class, Flags, Method};
 use seq::Seq;
 use std::alloc::{AllocError, Global};
 
@@ -89,23 +89,23 @@ pub fn key_of(keys: &[u32], number: u32) -> u32
     }
 }
 
-/// The keys of some fields.
-fn keys_of_fields(alloc: Global, fields: &[Field], keys: &[u32]) -> Result<Seq<u32>, AllocError>
-    ensures { IfOk result (λ row. row ≡ map (λ f. key_at keys.now f.name) fields.now) }
+/// The keys of the fields of a class.
+fn keys_of_fields(alloc: Global, class: &Class, keys: &[u32]) -> Result<Seq<u32>, AllocError>
+    ensures { IfOk result (λ row. row ≡ map (λ f. key_at keys.now f.name) class.now.fields) }
 {
     let mut row = Seq::new(alloc);
-    for field in fields {
+    for field in class.fields.as_slice() {
         row.push(key_of(keys, field.name))?;
     }
     Ok(row)
 }
 
-/// The keys of some methods.
-fn keys_of_methods(alloc: Global, methods: &[Method], keys: &[u32]) -> Result<Seq<u32>, AllocError>
-    ensures { IfOk result (λ row. row ≡ map (λ m. key_at keys.now m.name) methods.now) }
+/// The keys of the methods of a class.
+fn keys_of_methods(alloc: Global, class: &Class, keys: &[u32]) -> Result<Seq<u32>, AllocError>
+    ensures { IfOk result (λ row. row ≡ map (λ m. key_at keys.now m.name) class.now.methods) }
 {
     let mut row = Seq::new(alloc);
-    for method in methods {
+    for method in class.methods.as_slice() {
         row.push(key_of(keys, method.name))?;
     }
     Ok(row)
@@ -117,7 +117,7 @@ pub fn rows_of_fields(alloc: Global, classes: &[Class], keys: &[u32]) -> Result<
 {
     let mut rows = Seq::new(alloc);
     for class in classes {
-        rows.push(keys_of_fields(alloc, class.fields.as_slice(), keys)?)?;
+        rows.push(keys_of_fields(alloc, class, keys)?)?;
     }
     Ok(Links { rows })
 }
@@ -128,14 +128,16 @@ pub fn rows_of_methods(alloc: Global, classes: &[Class], keys: &[u32]) -> Result
 {
     let mut rows = Seq::new(alloc);
     for class in classes {
-        rows.push(keys_of_methods(alloc, class.methods.as_slice(), keys)?)?;
+        rows.push(keys_of_methods(alloc, class, keys)?)?;
     }
     Ok(Links { rows })
 }
 
 /// Whether calls find the method by the class of their receiver: it is neither static, private nor special, as
 /// `special` says by method number of the names that begin with `<`.
-pub fn is_virtual(method: &Method, special: &[bool]) -> bool {
+pub fn is_virtual(method: &Method, special: &[bool]) -> bool
+    ensures { result ≡ is_virtual_by special.now method.now }
+{
     !method.flags.has(Flags::STATIC)
         && !method.flags.has(Flags::PRIVATE)
         && !is_on(special, method.name)

@@ -1,7 +1,9 @@
 //! Names that mean something by themselves: those that begin with `<`, and the five methods of `Ljava/lang/Object;`
 //! that the framework may call on every object.
 
-ghost use Rattle.std.specs.Prelude.{◌≡◌, ◌+◌, length, IfOk, vec_len};
+ghost use Rattle.std.specs.Prelude.{◌≡◌, ◌+◌, length, map, IfOk};
+ghost use Rattle.program_model.specs.Texts.{first_unit, string_text};
+ghost use Rattle.hierarchy.specs.Naming.{is_special};
 
 use crate::members::key_of;
 use crate::table::{turn, word};
@@ -50,17 +52,36 @@ pub fn kind_is(program: &Program, kind: u32, ascii: &str) -> bool {
     }
 }
 
-/// Whether the method's name begins with `<`.
-fn is_special(program: &Program, method: &MethodName) -> bool {
-    match string_of(program, method.name) {
-        Some(text) => text.units().first() == Some(&60),
-        None => false,
+/// The units of the text of a string number, none past the table.
+fn units_of(program: &Program, string: u32) -> &[u16]
+    ensures { result.now ≡ string_text program.now string }
+{
+    match program.strings.as_slice().get(string as usize) {
+        Some(text) => text.units(),
+        None => &[],
     }
+}
+
+/// The first unit, 0 where there is none.
+fn first_unit(units: &[u16]) -> u16
+    ensures { result ≡ first_unit units.now }
+{
+    match units.first() {
+        Some(unit) => *unit,
+        None => 0,
+    }
+}
+
+/// Whether the method's name begins with `<`.
+fn is_special(program: &Program, method: &MethodName) -> bool
+    ensures { result ≡ is_special program.now method.now }
+{
+    first_unit(units_of(program, method.name)) == 60
 }
 
 /// For each method number whether its name begins with `<`.
 pub fn special(alloc: Global, program: &Program) -> Result<Vec<bool>, AllocError>
-    ensures { IfOk result (λ marks. vec_len marks ≡ length program.now.methods) }
+    ensures { IfOk result (λ marks. marks.items ≡ map (is_special program.now) program.now.methods) }
 {
     let mut marks = Vec::new(alloc);
     for method in program.methods.as_slice() {

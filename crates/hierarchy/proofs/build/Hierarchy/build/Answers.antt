@@ -2,7 +2,7 @@ use Rattle.hierarchy.proofs.Placed.{filled, refused, stopped}
 use Rattle.hierarchy.proofs.build.Hierarchy.build.Goals as goal
 
 pub returns-in-Ok-clause-is : goal.returns-in-Ok-clause-is
-returns-in-Ok-clause-is c = λ h. filled c.args.program.now c.in-Ok.shape c.complete.result h c.in-Ok.ensures.made c.complete.ensures.links
+returns-in-Ok-clause-is c = λ h. filled c.args.program.now c.in-Ok.shape c.complete.result h c.in-Ok.ensures.made c.complete.ensures.links (c.complete.ensures.names h)
 
 pub returns-in-Ok-clause-refuses : goal.returns-in-Ok-clause-refuses
 returns-in-Ok-clause-refuses c = λ h. refused c.args.program.now c.in-Ok.shape c.complete.result h c.in-Ok.ensures.made c.complete.ensures.refuses

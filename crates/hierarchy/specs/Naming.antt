@@ -1,0 +1,35 @@
+-- What the tables of names say of a program.
+use Rattle.std.specs.Prelude.{◌≡◌, ◌==◌, ℕ, Bool, true, false, List, map, length, Option, None, Some, slice_get, slice_index_or}
+use Rattle.program_model.specs.declared.pools.MethodName.{MethodName}
+use Rattle.program_model.specs.declared.pools.FieldName.{FieldName}
+use Rattle.program_model.specs.declared.program.Program.{Program}
+use Rattle.program_model.specs.Texts.{first_unit, string_text}
+use Rattle.hierarchy.specs.Membership.{key_at, field_pair, method_pair, AreKeys, found_in, place_in_rows, field_rows, method_rows, AreShort}
+use Rattle.hierarchy.specs.declared.build.Named.{Named}
+use Rattle.hierarchy.specs.declared.build.Hierarchy.{Hierarchy}
+
+-- the name begins with <
+abbrev pub is_special : Program → MethodName → Bool
+is_special p m = first_unit (string_text p m.name) == 60
+
+-- keys for names, the places of the members by key, and which names begin with <
+pub record IsNamed (p : Program) (n : Named) : Type 0 where
+  pub field_keys : AreKeys field_pair p.fields n.field_keys.keys.items n.field_keys.count
+  pub method_keys : AreKeys method_pair p.methods n.method_keys.keys.items n.method_keys.count
+  pub fields : (class key : ℕ) → found_in n.fields class key ≡ place_in_rows (field_rows n.field_keys.keys.items p.classes) class key
+  pub methods : (class key : ℕ) → found_in n.methods class key ≡ place_in_rows (method_rows n.method_keys.keys.items p.classes) class key
+  pub special : n.special.items ≡ map (is_special p) p.methods
+
+-- the rows of members are short
+pub record HasShortRows (p : Program) : Type 0 where
+  pub fields : (keys : List ℕ) → AreShort (field_rows keys p.classes)
+  pub methods : (keys : List ℕ) → AreShort (method_rows keys p.classes)
+
+-- the key is that of the methods of this name and this proto
+pub record IsKey (p : Program) (h : Hierarchy) (key name proto : ℕ) : Type 0 where
+  pub number : ℕ
+  pub entry : MethodName
+  pub is : slice_get p.methods number ≡ Some entry
+  pub name_is : entry.name ≡ name
+  pub proto_is : entry.proto ≡ proto
+  pub keyed : key ≡ key_at h.named.method_keys.keys.items number

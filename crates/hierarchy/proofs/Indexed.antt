@@ -1,6 +1,6 @@
 -- Members by class and key.
 use Rattle.std.proofs.Common.{◌≡◌, ℕ, zero, suc, ◌+◌, ◌<◌, ◌≤◌, ◌⊎◌, inl, inr, Bool, true, false, true≢false, nat_eq, List, [], ◌∷◌, ◌++◌, map, take, get_or, length, Option, Some, None, refl, sym, ap, subst, ◌∙◌, arith}
-use Rattle.std.proofs.lemmas.List.{take_more, length-take-le}
+use Rattle.std.proofs.lemmas.List.{take_more, length-take-le, map_more}
 use Rattle.std.specs.Prelude.{◌&&◌, cond, slice_get, slice_index_or, position, option_and_then}
 use Rattle.std.specs.Option.{option_or}
 use Rattle.class_defs.proofs.Positions.{number_test, number_of, same_test, position_snoc}
@@ -111,3 +111,11 @@ pub rows_more : (rows more : List (List ℕ)) (row : List ℕ) (class : ℕ) (ol
 rows_more rows more row class old new is at h g c k =
     g c k ∙ ap (λ o. option_or o (index_of_row class row c k)) (h c k) ∙ ap (λ n. option_or (place_in_rows rows c k) (index_of_row n row c k)) at ∙ rows_snoc rows row c k
     ∙ ap (λ l. place_in_rows l c k) (sym is)
+
+-- one item more in a list of answers
+pub mapped_more : {X Y : Type 0} (f : X → Y) (items slice : List X) (place : ℕ) (item : X) (made more : List Y) (answer : Y) → slice ≡ items → item ≡ get_or slice place item → place < length slice → more ≡ made ++ answer ∷ [] → answer ≡ f item → made ≡ map f (take place items)
+    → more ≡ map f (take (place + 1) items)
+mapped_more f items slice place item made more answer same is lt pushed answered h =
+    let lt' : place < length items = subst (λ l. place < length l) same lt in
+    let is' : item ≡ get_or items place item = subst (λ l. item ≡ get_or l place item) same is in
+    pushed ∙ ap (λ l. l ++ answer ∷ []) h ∙ ap (λ a. map f (take place items) ++ a ∷ []) (answered ∙ ap f is') ∙ sym (map_more f items place item lt')

@@ -58,14 +58,14 @@ module _ (p : Program) (h : Hierarchy) (is : IsNamed p h.named) (key name proto 
           absurd (omega (arith, s, past, b, few, small, same))
   test_is m (Some q) e = same_test (nat_eq (key_at h.named.method_keys.keys.items m.name) key) (nat_eq q.name name && nat_eq q.proto proto)
       (λ f.
-          let s : key_at h.named.method_keys.keys.items m.name ≡ key_at h.named.method_keys.keys.items k.number = number_of (key_at h.named.method_keys.keys.items m.name) key f ∙ k.keyed in
-          let pairs : (q.name, q.proto) ≡ (k.entry.name, k.entry.proto) = is.method_keys.one m.name k.number q k.entry e k.is s in
-          both (nat_eq q.name name) (nat_eq q.proto proto) (number_test q.name name (ap (λ (r : ℕ × ℕ). r.0) pairs ∙ k.name_is)) (number_test q.proto proto (ap (λ (r : ℕ × ℕ). r.1) pairs ∙ k.proto_is)))
+      let s : key_at h.named.method_keys.keys.items m.name ≡ key_at h.named.method_keys.keys.items k.number = number_of (key_at h.named.method_keys.keys.items m.name) key f ∙ k.keyed in
+      let pairs : (q.name, q.proto) ≡ (k.entry.name, k.entry.proto) = is.method_keys.one m.name k.number q k.entry e k.is s in
+      both (nat_eq q.name name) (nat_eq q.proto proto) (number_test q.name name (ap (λ (r : ℕ × ℕ). r.0) pairs ∙ k.name_is)) (number_test q.proto proto (ap (λ (r : ℕ × ℕ). r.1) pairs ∙ k.proto_is)))
       (λ f.
-          let n : q.name ≡ k.entry.name = number_of q.name name (and_left (nat_eq q.name name) (nat_eq q.proto proto) f) ∙ sym k.name_is in
-          let r : q.proto ≡ k.entry.proto = number_of q.proto proto (and_right (nat_eq q.name name) (nat_eq q.proto proto) f) ∙ sym k.proto_is in
-          let pairs : method_pair q ≡ method_pair k.entry = ap (λ (x : ℕ). (x, q.proto)) n ∙ ap (λ (x : ℕ). (k.entry.name, x)) r in
-          number_test (key_at h.named.method_keys.keys.items m.name) key (is.method_keys.same m.name k.number q k.entry e k.is pairs ∙ sym k.keyed))
+      let n : q.name ≡ k.entry.name = number_of q.name name (and_left (nat_eq q.name name) (nat_eq q.proto proto) f) ∙ sym k.name_is in
+      let r : q.proto ≡ k.entry.proto = number_of q.proto proto (and_right (nat_eq q.name name) (nat_eq q.proto proto) f) ∙ sym k.proto_is in
+      let pairs : method_pair q ≡ method_pair k.entry = ap (λ (x : ℕ). (x, q.proto)) n ∙ ap (λ (x : ℕ). (k.entry.name, x)) r in
+      number_test (key_at h.named.method_keys.keys.items m.name) key (is.method_keys.same m.name k.number q k.entry e k.is pairs ∙ sym k.keyed))
 
   pub found_is : (class : ℕ) → option_map (λ i. record { class = class; place = i }) (found_in h.named.methods class key) ≡ own_method p name proto class
   found_is class = ap (option_map (λ i. record { class = class; place = i })) (is.methods class key ∙ ap (option_and_then (position (λ x. nat_eq x key))) (slice_get-map (λ c. map (λ m. key_at h.named.method_keys.keys.items m.name) c.methods) p.classes class))
@@ -126,3 +126,9 @@ none_chain up (suc n) = refl
 
 pub among_none : (f : ℕ → Option MethodAt) (up : ℕ → Option ℕ) (n : ℕ) (at : Option ℕ) (whole : Option MethodAt) → at ≡ None → first_among f (chain_from up n at) ≡ whole → None ≡ whole
 among_none f up n at whole is h = ap (first_among f) (sym (none_chain up n)) ∙ ap (λ o. first_among f (chain_from up n o)) (sym is) ∙ h
+
+pub static_none : (p : Program) (method : ℕ) (q : MethodName) → slice_get p.methods method ≡ Some q → class_place p q.class ≡ None → None ≡ finds_static p method
+static_none p method q e none =
+    ap (first_among (own_method p q.name q.proto)) (sym (none_chain (super_place p) (length p.classes)))
+    ∙ sym (ap (λ o. finds_from p q.name q.proto o) none)
+    ∙ sym (ap (by_entry (λ r. finds_from p r.name r.proto (class_place p r.class))) e)

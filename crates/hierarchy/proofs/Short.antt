@@ -89,7 +89,7 @@ short_tables : (p : Program) → tables_are_short p ≡ true → (length p.field
 unfolding tables_are_short
 short_tables p h =
     let r = and_right (nat_le (length p.types) 65535 && nat_le (length p.protos) 65535) (nat_le (length p.fields) 65536 && nat_le (length p.methods) 65536)
-        (and_right (nat_lt (length p.strings) (2 ^ 32) && nat_lt (length p.classes) (2 ^ 32)) ((nat_le (length p.types) 65535 && nat_le (length p.protos) 65535) && (nat_le (length p.fields) 65536 && nat_le (length p.methods) 65536)) h) in
+    (and_right (nat_lt (length p.strings) (2 ^ 32) && nat_lt (length p.classes) (2 ^ 32)) ((nat_le (length p.types) 65535 && nat_le (length p.protos) 65535) && (nat_le (length p.fields) 65536 && nat_le (length p.methods) 65536)) h) in
     let f : length p.fields ≤ 65536 = leb-true (length p.fields) 65536 (and_left (nat_le (length p.fields) 65536) (nat_le (length p.methods) 65536) r) in
     let m : length p.methods ≤ 65536 = leb-true (length p.methods) 65536 (and_right (nat_le (length p.fields) 65536) (nat_le (length p.methods) 65536) r) in
     (omega (arith, f), omega (arith, m))

@@ -139,7 +139,13 @@ impl Hierarchy {
         ensures { IsOf program.now self.now → result ≡ virtual_only program.now (Some found) }
     {
         match method_at(program, found) {
-            Some(method) => { if self.is_virtual(method) { Some(found) } else { None } }
+            Some(method) => {
+                if self.is_virtual(method) {
+                    Some(found)
+                } else {
+                    None
+                }
+            }
             None => None,
         }
     }

@@ -99,7 +99,9 @@ fn field_targets(
     for (number, field) in fields.iter().enumerate() {
         let key = key_of(tables.named.field_keys.keys.as_slice(), word(number));
         let target = match tables.place_of(field.class) {
-            Some(class) if !tables.named.field_definers.row(key).is_empty() => field_from(tables, walk, class, key)?,
+            Some(class) if !tables.named.field_definers.row(key).is_empty() => field_from(
+                tables, walk, class, key,
+            )?,
             _ => None,
         };
         targets.push(target)?;

@@ -5,3 +5,4 @@ mod Keyed
 mod Short
 mod NamesMade
 mod Looked
+mod Acyclic

@@ -13,6 +13,7 @@ use Rattle.class_defs.proofs.Positions.{number_test, number_of, place_entry, pla
 use Rattle.class_defs.proofs.WellFormed.{sound, class_parts, few_classes}
 use Rattle.hierarchy.specs.Tables.{known, read_at, row_or_empty, row_of}
 use Rattle.hierarchy.specs.Naming.{IsNamed}
+use Rattle.hierarchy.specs.Ranks.{Descends, IsRanked, is_behind}
 use Rattle.hierarchy.specs.Placing.{place_from, known_places}
 use Rattle.hierarchy.specs.Faults.{IsTwiceOr, IsSplitOr}
 use Rattle.hierarchy.specs.Shapes.{placing, IsMade, StopsAt, IsOf, IsFirstTwice, IsCause}
@@ -237,6 +238,17 @@ pub record Fits (p : Program) (s : Shape) : Type 0 where
   pub supers : (class : ℕ) → read_at s.supers.items class ≡ super_place p class
   pub lists : (class : ℕ) → row_of s.lists.rows class ≡ interface_places p class
   pub count : length s.supers.items ≡ length p.classes
+  pub ranked : IsRanked p
+
+ranked_of : (p : Program) (supers : List ℕ) (rows : List (List ℕ)) → length supers ≡ length p.classes → ((c : ℕ) → read_at supers c ≡ super_place p c) → ((c : ℕ) → row_of rows c ≡ interface_places p c) → Descends supers rows (length supers) → IsRanked p
+ranked_of p supers rows long ups lists d = record {
+  rank = d.rank;
+  each = λ class lt.
+      ap (λ n. is_behind d.rank n class (super_place p class) (interface_places p class)) (sym long)
+      ∙ ap (λ o. is_behind d.rank (length supers) class o (interface_places p class)) (sym (ups class))
+      ∙ ap (λ l. is_behind d.rank (length supers) class (read_at supers class) l) (sym (lists class))
+      ∙ d.each class (omega (arith, lt, long));
+}
 
 pub made_fits : (p : Program) (s : Shape) → is_well_formed p ≡ true → IsMade p s → Fits p s
 made_fits p s h m =
@@ -247,13 +259,16 @@ made_fits p s h m =
       supers = λ c. ap (λ t. read_at t c) m.supers ∙ supers_are p s.places.items r.table.is c;
       lists = λ c. ap (λ t. row_of t c) m.lists ∙ lists_are p s.places.items r.table.is c;
       count = ap length m.supers ∙ mapped_length (λ c. slice_index_or s.places.items c.superclass 4294967295) p.classes;
+      ranked = ranked_of p s.supers.items s.lists.rows (ap length m.supers ∙ mapped_length (λ c. slice_index_or s.places.items c.superclass 4294967295) p.classes)
+          (λ c. ap (λ t. read_at t c) m.supers ∙ supers_are p s.places.items r.table.is c) (λ c. ap (λ t. row_of t c) m.lists ∙ lists_are p s.places.items r.table.is c)
+          (m.order (let few = few_classes p h in let l = ap length m.supers ∙ mapped_length (λ c. slice_index_or s.places.items c.superclass 4294967295) p.classes in omega (arith, few, l)));
     }
 
 -- ---- what is made, and what is refused
 
 pub filled : (p : Program) (s : Shape) (r : Result Hierarchy HierarchyFault) → is_well_formed p ≡ true → IsMade p s → IfOk r (λ h. h.shape ≡ s) → IfOk r (λ h. IsNamed p h.named) → IfOk r (λ h. IsOf p h)
 filled p s (Err e) h m k n = k
-filled p s (Ok x) h m k n = let f = made_fits p x.shape h (subst (IsMade p) (sym k) m) in record { once = f.once; places = f.places; supers = f.supers; lists = f.lists; count = (let ok = x.shape.supers.ok in let l = f.count in omega arith); named = n }
+filled p s (Ok x) h m k n = let f = made_fits p x.shape h (subst (IsMade p) (sym k) m) in record { once = f.once; places = f.places; supers = f.supers; lists = f.lists; ranked = f.ranked; count = (let ok = x.shape.supers.ok in let l = f.count in omega arith); named = n }
 
 pub refused : (p : Program) (s : Shape) (r : Result Hierarchy HierarchyFault) → is_well_formed p ≡ true → IsMade p s → IfErr r (λ f. IsSplitOr f) → IfErr r (λ f. IsCause p f)
 refused p s (Ok x) h m k = k

@@ -4,9 +4,10 @@ use Rattle.std.proofs.Common.{Result, Ok, Err}
 use Rattle.program_model.specs.declared.program.Program.{Program}
 use Rattle.program_model.specs.Lookups.{class_place}
 use Rattle.class_defs.specs.Places.{super_place, interface_places}
-use Rattle.class_defs.specs.ClassGraph.{IsTwice}
+use Rattle.class_defs.specs.ClassGraph.{IsTwice, IsAncestor}
 use Rattle.hierarchy.specs.Tables.{read_at, row_of}
 use Rattle.hierarchy.specs.Naming.{IsNamed}
+use Rattle.hierarchy.specs.Ranks.{Descends, IsRanked}
 use Rattle.hierarchy.specs.Placing.{place_from, known_places}
 use Rattle.hierarchy.specs.declared.build.Shape.{Shape}
 use Rattle.hierarchy.specs.declared.build.Hierarchy.{Hierarchy}
@@ -22,6 +23,7 @@ pub record IsMade (p : Program) (s : Shape) : Type 0 where
   pub places : length p.classes < 2 ^ 32 → placing p ≡ Ok s.places.items
   pub supers : s.supers.items ≡ map (λ c. slice_index_or s.places.items c.superclass 4294967295) p.classes
   pub lists : s.lists.rows ≡ map (λ c. known_places s.places.items c.interfaces) p.classes
+  pub order : length s.supers.items < 2 ^ 32 → Descends s.supers.items s.lists.rows (length s.supers.items)
 
 -- each class has a place of its own
 pub record IsPlaced (p : Program) : Type 0 where
@@ -42,6 +44,7 @@ pub record IsOf (p : Program) (h : Hierarchy) : Type 0 where
   pub supers : (class : ℕ) → read_at h.shape.supers.items class ≡ super_place p class
   pub lists : (class : ℕ) → row_of h.shape.lists.rows class ≡ interface_places p class
   pub count : vec_len h.shape.supers ≡ length p.classes
+  pub ranked : IsRanked p
   pub named : IsNamed p h.named
 
 -- the first class that has the type of an earlier one
@@ -55,3 +58,7 @@ IsCause p NoMemory = Unit {0}
 IsCause p (Cycle class) = (other : ℕ) → IsTwice p other → ⊥
 IsCause p (Twice class) = IsFirstTwice p class
 IsCause p (SplitOverride class method) = (other : ℕ) → IsTwice p other → ⊥
+
+-- no class is its own ancestor
+abbrev pub IsAcyclic : Program → Type 0
+IsAcyclic p = (class : ℕ) → IsAncestor p class class → ⊥

@@ -4,8 +4,9 @@ ghost use Rattle.std.specs.Prelude.{◌≡◌, ◌+◌, ◌<◌, ◌^◌, length
 ghost use Rattle.std.proofs.Common.{Ok, Err};
 ghost use Rattle.hierarchy.specs.Placing.{place_from, known_places};
 ghost use Rattle.hierarchy.specs.Faults.{IsTwiceOr, IsSplitOr};
-ghost use Rattle.hierarchy.specs.Shapes.{placing, IsMade, StopsAt, IsOf, IsCause};
+ghost use Rattle.hierarchy.specs.Shapes.{placing, IsMade, StopsAt, IsOf, IsCause, IsAcyclic};
 ghost use Rattle.hierarchy.specs.Naming.{IsNamed};
+ghost use Rattle.hierarchy.specs.Ranks.{Descends};
 ghost use Rattle.program_model.specs.ProgramRules.{is_well_formed};
 ghost use Rattle.std.specs.Prelude.{true};
 
@@ -15,7 +16,7 @@ use crate::keys::{Keys, field_keys, method_keys};
 use crate::links::{Links, interfaces, subclasses, superclasses};
 use crate::members::{Members, definers, members_of, rows_of_fields, rows_of_methods};
 use crate::names::{initialiser, of_object, packages, special};
-use crate::order::{count_above, in_order};
+use crate::order::{count_above, descends, in_order, ranks_of};
 use crate::resolve::resolve_all;
 use crate::split::{Given, first_split};
 use crate::table::{NONE, is_on, put, read, turn, word};
@@ -113,19 +114,30 @@ fn places(alloc: Global, types: usize, classes: &[Class]) -> Result<Vec<u32>, Hi
     }
 }
 
+/// The first class that is its own ancestor. There is one where the classes have no order.
+fn stuck(alloc: Global, above: &[u32], below: &Links) -> Result<u32, AllocError> {
+    match first_on_cycle(alloc, above, below)? {
+        Some(class) => Ok(class),
+        None => Ok(0),
+    }
+}
+
 /// The order of the classes, or the first class that is its own ancestor.
 fn order(
     alloc: Global,
     supers: &[u32],
     lists: &Links,
     below: &Links,
-) -> Result<Result<Vec<u32>, u32>, AllocError> {
+) -> Result<Result<Vec<u32>, u32>, AllocError>
+    ensures { length supers.now < 2 ^ 32 → IfOk result (λ order. IfOk order (λ _. Descends supers.now lists.now.rows (length supers.now))) }
+{
     let mut above = count_above(alloc, supers, lists)?;
     let order = in_order(alloc, above.as_mut_slice(), below)?;
-    match first_on_cycle(alloc, above.as_slice(), below)? {
-        Some(class) => Ok(Err(class)),
-        None => Ok(Ok(order)),
+    let ranks = ranks_of(alloc, supers.len(), order.as_slice())?;
+    if descends(supers, lists, ranks.as_slice()) {
+        return Ok(Ok(order));
     }
+    Ok(Err(stuck(alloc, above.as_slice(), below)?))
 }
 
 /// The place of each class's `<clinit>`.
@@ -334,6 +346,7 @@ impl Hierarchy {
     pub fn build(alloc: Global, program: &Program) -> Result<Hierarchy, HierarchyFault>
         ensures size { IfOk result (λ hierarchy. vec_len hierarchy.shape.places ≡ length program.now.types) }
         ensures is { is_well_formed program.now ≡ true → IfOk result (λ hierarchy. IsOf program.now hierarchy) }
+        ensures acyclic { is_well_formed program.now ≡ true → IfOk result (λ _. IsAcyclic program.now) }
         ensures refuses { is_well_formed program.now ≡ true → IfErr result (λ fault. IsCause program.now fault) }
     {
         match make_shape(alloc, program) {

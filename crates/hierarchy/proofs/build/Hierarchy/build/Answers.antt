@@ -1,3 +1,4 @@
+use Rattle.hierarchy.proofs.Acyclic.{built_acyclic}
 use Rattle.hierarchy.proofs.Placed.{filled, refused, stopped}
 use Rattle.hierarchy.proofs.build.Hierarchy.build.Goals as goal
 
@@ -9,3 +10,6 @@ returns-in-Ok-clause-refuses c = λ h. refused c.args.program.now c.in-Ok.shape 
 
 pub returns-in-Err-clause-refuses : goal.returns-in-Err-clause-refuses
 returns-in-Err-clause-refuses c = λ h. stopped c.args.program.now c.in-Err.fault h c.in-Err.ensures.stops
+
+pub returns-in-Ok-clause-acyclic : goal.returns-in-Ok-clause-acyclic
+returns-in-Ok-clause-acyclic c = λ h. built_acyclic c.args.program.now c.complete.result (filled c.args.program.now c.in-Ok.shape c.complete.result h c.in-Ok.ensures.made c.complete.ensures.links (c.complete.ensures.names h))

@@ -6,3 +6,5 @@ mod Short
 mod NamesMade
 mod Looked
 mod Acyclic
+mod Marks
+mod Deep

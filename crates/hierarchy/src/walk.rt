@@ -1,5 +1,9 @@
 //! Walks over classes that take each class once.
 
+ghost use Rattle.std.specs.Prelude.{◌≡◌, ◌<◌, ◌&&◌, ◌∷◌, ◌++◌, [], true, not, length, nat_lt, slice_set, slice_index_or, Contains, ℕ, false, cond, Some, None, MatchOption, IfOk, OnOk};
+ghost use Rattle.class_defs.specs.Finding.{beside};
+ghost use Rattle.hierarchy.specs.Walking.{is_seen, waits, IsFair, IsClear, Visits};
+
 use crate::table::{is_on, turn};
 use std::alloc::{AllocError, Global};
 
@@ -11,9 +15,22 @@ pub struct Walk {
     waiting: Vec<u32>,
 }
 
+/// Clears the marks of these classes.
+fn forget(seen: &mut [bool], list: &[u32])
+    ensures size { length seen.new ≡ length seen.old }
+    ensures cleared { ((c : ℕ) → slice_index_or seen.old c false ≡ true → Contains list.now c) → (c : ℕ) → slice_index_or seen.new c false ≡ true → ⊥ }
+{
+    for class in list {
+        turn(seen, *class, false);
+    }
+}
+
 impl Walk {
     /// A walk over so many classes.
-    pub fn new(alloc: Global, classes: usize) -> Result<Walk, AllocError> {
+    pub fn new(alloc: Global, classes: usize) -> Result<Walk, AllocError>
+        ensures clear { IfOk result (λ w. IsClear classes w) }
+        ensures fair { IfOk result (λ w. IsFair w) }
+    {
         Ok(Walk {
             seen: vec![in alloc; false; classes]?,
             list: Vec::new(alloc),
@@ -22,30 +39,44 @@ impl Walk {
     }
 
     /// Begins anew: nothing is seen, and nothing waits. It costs as much as the last walk has seen.
-    pub fn clear(&mut self) {
-        for place in self.list.as_slice() {
-            turn(self.seen.as_mut_slice(), *place, false);
-        }
+    pub fn clear(&mut self)
+        ensures clear { IsFair self.old → IsClear (length self.old.seen.items) self.new }
+        ensures fair { IsFair self.old → IsFair self.new }
+        ensures size { length self.new.seen.items ≡ length self.old.seen.items }
+    {
+        forget(self.seen.as_mut_slice(), self.list.as_slice());
         self.list.clear();
         self.waiting.clear();
     }
 
     /// Lets a class wait, before all that wait.
-    pub fn push(&mut self, class: u32) -> Result<(), AllocError> {
+    pub fn push(&mut self, class: u32) -> Result<(), AllocError>
+        ensures waits { OnOk result (waits self.new ≡ class ∷ waits self.old) }
+        ensures seen { self.new.seen ≡ self.old.seen }
+        ensures list { self.new.list ≡ self.old.list }
+    {
         self.waiting.push(class)?;
         Ok(())
     }
 
     /// Lets the classes wait, before all that wait, the first of them first.
-    pub fn push_all(&mut self, classes: &[u32]) -> Result<(), AllocError> {
-        for class in classes.iter().rev() {
-            self.push(*class)?;
+    pub fn push_all(&mut self, classes: &[u32]) -> Result<(), AllocError>
+        ensures waits { OnOk result (waits self.new ≡ classes.now ++ waits self.old) }
+        ensures seen { self.new.seen ≡ self.old.seen }
+        ensures list { self.new.list ≡ self.old.list }
+    {
+        for at in (0..classes.len()).rev() {
+            self.push(classes[at])?;
         }
         Ok(())
     }
 
     /// The class that waits first, which waits no longer.
-    pub fn pop(&mut self) -> Option<u32> {
+    pub fn pop(&mut self) -> Option<u32>
+        ensures waits { MatchOption result (waits self.old ≡ []) (λ class. waits self.old ≡ class ∷ waits self.new) }
+        ensures seen { self.new.seen ≡ self.old.seen }
+        ensures list { self.new.list ≡ self.old.list }
+    {
         self.waiting.pop()
     }
 
@@ -62,5 +93,57 @@ impl Walk {
     /// Whether the walk has seen the class.
     pub fn has_seen(&self, class: u32) -> bool {
         is_on(self.seen.as_slice(), class)
+    }
+
+    /// Sees a class of those that there are, and answers whether it wasn't seen before.
+    fn meet(&mut self, class: u32) -> Result<bool, AllocError>
+        ensures met { IfOk result (λ b. b ≡ (nat_lt class (length self.old.seen.items) && not (is_seen self.old class))) }
+        ensures seen { IfOk result (λ b. self.new.seen.items ≡ cond b (slice_set self.old.seen.items class true) self.old.seen.items) }
+        ensures waits { OnOk result (waits self.new ≡ waits self.old) }
+        ensures fair { OnOk result (IsFair self.old → IsFair self.new) }
+    {
+        if class as usize >= self.seen.len() || is_on(self.seen.as_slice(), class) {
+            return Ok(false);
+        }
+        self.list.push(class)?;
+        turn(self.seen.as_mut_slice(), class, true);
+        Ok(true)
+    }
+
+    /// Lets the classes directly above one wait: those of its list, and behind them its superclass.
+    fn push_above(&mut self, list: &[u32], above: Option<u32>) -> Result<(), AllocError>
+        ensures waits { OnOk result (waits self.new ≡ (list.now ++ beside above) ++ waits self.old) }
+        ensures seen { self.new.seen ≡ self.old.seen }
+        ensures list { self.new.list ≡ self.old.list }
+    {
+        if let Some(superclass) = above {
+            self.push(superclass)?;
+        }
+        self.push_all(list)
+    }
+
+    /// Goes to a class where `found` is the place of what is looked for: answers it, or lets the classes directly above
+    /// it wait. A class that was seen before is passed over.
+    pub(crate) fn visit(
+        &mut self,
+        class: u32,
+        found: Option<u32>,
+        list: &[u32],
+        above: Option<u32>,
+    ) -> Result<Option<u32>, AllocError>
+        ensures visits { IfOk result (λ r. Visits self.old.seen.items (waits self.old) class found (list.now ++ beside above) self.new.seen.items (waits self.new) r) }
+        ensures fair { OnOk result (IsFair self.old → IsFair self.new) }
+        ensures size { OnOk result (length self.new.seen.items ≡ length self.old.seen.items) }
+    {
+        if !self.meet(class)? {
+            return Ok(None);
+        }
+        match found {
+            Some(place) => Ok(Some(place)),
+            None => {
+                self.push_above(list, above)?;
+                Ok(None)
+            }
+        }
     }
 }

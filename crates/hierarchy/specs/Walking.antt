@@ -1,0 +1,54 @@
+-- What a walk has seen, and what waits in it.
+use Rattle.std.specs.Prelude.{◌≡◌, ◌<◌, ◌≤◌, ◌⊎◌, ℕ, zero, suc, Bool, true, false, List, [], ◌++◌, length, reverse, Option, Some, None, slice_index_or, slice_set, Contains}
+use Rattle.std.specs.Option.{option_or}
+use Rattle.class_defs.specs.Finding.{first_among}
+use Rattle.hierarchy.specs.declared.walk.Walk.{Walk}
+
+abbrev pub is_seen : Walk → ℕ → Bool
+is_seen w c = slice_index_or w.seen.items c false
+
+-- what waits, the first that is taken first
+abbrev pub waits : Walk → List ℕ
+waits w = reverse w.waiting.items
+
+-- what is seen is listed
+pub record IsFair (w : Walk) : Type 0 where
+  pub listed : (c : ℕ) → is_seen w c ≡ true → Contains w.list.items c
+
+-- nothing is seen of so many classes, and nothing waits
+pub record IsClear (n : ℕ) (w : Walk) : Type 0 where
+  pub long : length w.seen.items ≡ n
+  pub unseen : (c : ℕ) → is_seen w c ≡ true → ⊥
+  pub none : waits w ≡ []
+
+-- ---- a visit of a class by what is seen and what waits before and after it
+
+-- the class is seen already, or there is none
+pub record Skips (seen : List Bool) (stack : List ℕ) (class : ℕ) (seen' : List Bool) (stack' : List ℕ) (r : Option ℕ) : Type 0 where
+  pub nothing : r ≡ None
+  pub same : seen' ≡ seen
+  pub rest : stack' ≡ stack
+  pub why : (slice_index_or seen class false ≡ true) ⊎ (length seen ≤ class)
+
+-- what is looked for is there
+pub record Hits (found r : Option ℕ) : Type 0 where
+  pub place : ℕ
+  pub there : found ≡ Some place
+  pub is : r ≡ Some place
+
+-- it isn't, and those above the class wait
+pub record Opens (seen : List Bool) (stack : List ℕ) (class : ℕ) (found : Option ℕ) (above : List ℕ) (seen' : List Bool) (stack' : List ℕ) (r : Option ℕ) : Type 0 where
+  pub absent : found ≡ None
+  pub nothing : r ≡ None
+  pub short : class < length seen
+  pub new : slice_index_or seen class false ≡ false
+  pub marked : seen' ≡ slice_set seen class true
+  pub longer : stack' ≡ above ++ stack
+
+abbrev pub Visits : List Bool → List ℕ → ℕ → Option ℕ → List ℕ → List Bool → List ℕ → Option ℕ → Type 0
+Visits seen stack class found above seen' stack' r = (Skips seen stack class seen' stack' r) ⊎ (Hits found r ⊎ Opens seen stack class found above seen' stack' r)
+
+-- the first answer in a class and then in those above it, each in turn, so many steps up
+abbrev pub deep : {X : Type 0} → (ℕ → Option X) → (ℕ → List ℕ) → ℕ → ℕ → Option X
+deep own above zero c = None
+deep own above (suc n) c = option_or (own c) (first_among (deep own above n) (above c))

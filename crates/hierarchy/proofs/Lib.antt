@@ -8,3 +8,5 @@ mod Looked
 mod Acyclic
 mod Marks
 mod Deep
+mod LookedFields
+mod Resolving

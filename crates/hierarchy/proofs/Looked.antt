@@ -31,12 +31,12 @@ same_place t u f h (x ∷ xs) =
     position_step t (f x) (map f xs) ∙ ap (λ b. cond b (Some 0) (option_map suc (position t (map f xs)))) (h x) ∙ ap (λ o. cond (u x) (Some 0) (option_map suc o)) (same_place t u f h xs)
     ∙ sym (position_step u x xs)
 
-past_key : (keys : List ℕ) (i : ℕ) → length keys ≤ i → key_at keys i ≡ 4294967295
+pub past_key : (keys : List ℕ) (i : ℕ) → length keys ≤ i → key_at keys i ≡ 4294967295
 past_key [] i h = refl
 past_key (k ∷ ks) zero h = absurd (omega (arith, h))
 past_key (k ∷ ks) (suc i) h = past_key ks i (omega (arith, h))
 
-past_entry : {X : Type 0} (xs : List X) (i : ℕ) → slice_get xs i ≡ None → length xs ≤ i
+pub past_entry : {X : Type 0} (xs : List X) (i : ℕ) → slice_get xs i ≡ None → length xs ≤ i
 past_entry [] i e = omega arith
 past_entry (x ∷ xs) zero e = cc
 past_entry (x ∷ xs) (suc i) e = let h = past_entry xs i e in omega (arith, h)

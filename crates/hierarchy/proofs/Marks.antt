@@ -4,6 +4,7 @@ use Rattle.std.specs.Prelude.{slice_index_or, slice_set, Contains}
 use Rattle.std.proofs.lemmas.List.{get_or_default}
 use Rattle.std.proofs.lemmas.List.Elements.{Contains-push, Contains-append_left}
 use Rattle.hierarchy.specs.declared.walk.Walk.{Walk}
+use Rattle.hierarchy.specs.Walking.{IsFair}
 
 pub cleared_at : (l : List Bool) (x c : ℕ) → slice_index_or (slice_set l x false) c false ≡ true → (c ≡ x → ⊥) × (slice_index_or l c false ≡ true)
 cleared_at [] x c e = absurd (true≢false (sym e))
@@ -58,3 +59,6 @@ fair_more list more seen now class pushed marked fair c e = subst (λ l. Contain
   | inl s ↦ subst (Contains (list ++ class ∷ [])) (sym s) (Contains-push list class)
   | inr f ↦ Contains-append_left list (class ∷ []) c (fair c f)
 ])
+
+pub fair_same : (old new : Walk) → new.seen ≡ old.seen → new.list ≡ old.list → IsFair old → IsFair new
+fair_same old new s l f = record { listed = λ c e. subst (λ v. Contains v.items c) (sym l) (f.listed c (sym (ap (λ v. slice_index_or v.items c false) s) ∙ e)) }

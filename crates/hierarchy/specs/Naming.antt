@@ -33,3 +33,12 @@ pub record IsKey (p : Program) (h : Hierarchy) (key name proto : ℕ) : Type 0 w
   pub name_is : entry.name ≡ name
   pub proto_is : entry.proto ≡ proto
   pub keyed : key ≡ key_at h.named.method_keys.keys.items number
+
+-- the key is that of the fields of this name and this type
+pub record IsFieldKey (p : Program) (h : Hierarchy) (key name kind : ℕ) : Type 0 where
+  pub number : ℕ
+  pub entry : FieldName
+  pub is : slice_get p.fields number ≡ Some entry
+  pub name_is : entry.name ≡ name
+  pub kind_is : entry.kind ≡ kind
+  pub keyed : key ≡ key_at h.named.field_keys.keys.items number

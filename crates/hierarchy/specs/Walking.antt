@@ -1,6 +1,10 @@
 -- What a walk has seen, and what waits in it.
 use Rattle.std.specs.Prelude.{◌≡◌, ◌<◌, ◌≤◌, ◌⊎◌, ℕ, zero, suc, Bool, true, false, List, [], ◌++◌, length, reverse, Option, Some, None, slice_index_or, slice_set, Contains}
 use Rattle.std.specs.Option.{option_or}
+use Rattle.program_model.specs.declared.program.MethodAt.{MethodAt}
+use Rattle.program_model.specs.declared.program.Program.{Program}
+use Rattle.class_defs.specs.Places.{interface_places}
+use Rattle.class_defs.specs.Members.{own_method}
 use Rattle.class_defs.specs.Finding.{first_among}
 use Rattle.hierarchy.specs.declared.walk.Walk.{Walk}
 
@@ -52,3 +56,12 @@ Visits seen stack class found above seen' stack' r = (Skips seen stack class see
 abbrev pub deep : {X : Type 0} → (ℕ → Option X) → (ℕ → List ℕ) → ℕ → ℕ → Option X
 deep own above zero c = None
 deep own above (suc n) c = option_or (own c) (first_among (deep own above n) (above c))
+
+-- what is seen has no answer
+pub record IsSpent {X : Type 0} (answers : ℕ → Option X) (n : ℕ) (seen : List Bool) : Type 0 where
+  pub none : (c : ℕ) → slice_index_or seen c false ≡ true → answers c ≡ None
+  pub size : length seen ≡ n
+
+-- the first method of a name and a proto in an interface and in those above it, each in turn
+abbrev pub in_interfaces : Program → ℕ → ℕ → ℕ → Option MethodAt
+in_interfaces p name proto c = deep (own_method p name proto) (interface_places p) (length p.classes) c

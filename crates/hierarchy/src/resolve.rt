@@ -1,6 +1,11 @@
 //! What the names of fields and methods resolve to.
 
-ghost use Rattle.std.specs.Prelude.{◌≡◌, ◌+◌, length, IfOk, OnOk, vec_len};
+ghost use Rattle.std.specs.Prelude.{◌≡◌, ◌+◌, [], None, ℕ, length, IfOk, OnOk, vec_len};
+ghost use Rattle.program_model.specs.declared.program.Program.{Program};
+ghost use Rattle.class_defs.specs.Finding.{first_among, field_from};
+ghost use Rattle.hierarchy.specs.Naming.{IsKey, IsFieldKey};
+ghost use Rattle.hierarchy.specs.Shapes.{IsOf};
+ghost use Rattle.hierarchy.specs.Walking.{waits, IsFair, IsSpent, in_interfaces};
 
 use crate::build::{Hierarchy, Targets};
 use crate::members::key_of;
@@ -16,24 +21,20 @@ fn field_from(
     walk: &mut Walk,
     class: u32,
     key: u32,
-) -> Result<Option<(u32, u32)>, AllocError> {
+) -> Result<Option<(u32, u32)>, AllocError>
+    ensures fair { OnOk result (IsFair walk.old → IsFair walk.new) }
+    ensures size { OnOk result (length walk.new.seen.items ≡ length walk.old.seen.items) }
+    ensures is { (p : Program) (name kind : ℕ) → IsOf p tables.now → IsFieldKey p tables.now key name kind → IsFair walk.old → length walk.old.seen.items ≡ length p.classes → IfOk result (λ r. r ≡ field_from (length p.classes) p name kind class) }
+{
     walk.clear();
     walk.push(class)?;
-    for _ in 0..tables.steps() {
-        let one = match walk.pop() {
-            Some(one) => one,
-            None => break,
-        };
-        if !walk.see(one)? {
-            continue;
+    while let Some(one) = walk.pop() {
+        let found = tables.named.fields.find(one, key);
+        let list = tables.shape.lists.row(one);
+        match walk.visit(one, found, list, tables.super_of(one))? {
+            Some(place) => return Ok(Some((one, place))),
+            None => {}
         }
-        if let Some(place) = tables.named.fields.find(one, key) {
-            return Ok(Some((one, place)));
-        }
-        if let Some(above) = tables.super_of(one) {
-            walk.push(above)?;
-        }
-        walk.push_all(tables.shape.lists.row(one))?;
     }
     Ok(None)
 }
@@ -43,19 +44,18 @@ fn method_in_interfaces(
     tables: &Hierarchy,
     walk: &mut Walk,
     key: u32,
-) -> Result<Option<MethodAt>, AllocError> {
-    for _ in 0..tables.steps() {
-        let one = match walk.pop() {
-            Some(one) => one,
-            None => break,
-        };
-        if !walk.see(one)? {
-            continue;
+) -> Result<Option<MethodAt>, AllocError>
+    ensures fair { OnOk result (IsFair walk.old → IsFair walk.new) }
+    ensures size { OnOk result (length walk.new.seen.items ≡ length walk.old.seen.items) }
+    ensures is { (p : Program) (name proto : ℕ) → IsOf p tables.now → IsKey p tables.now key name proto → IsSpent (in_interfaces p name proto) (length p.classes) walk.old.seen.items → IfOk result (λ r. r ≡ first_among (in_interfaces p name proto) (waits walk.old)) }
+    ensures spent { (p : Program) (name proto : ℕ) → IsOf p tables.now → IsKey p tables.now key name proto → IsSpent (in_interfaces p name proto) (length p.classes) walk.old.seen.items → IfOk result (λ r. r ≡ None → (waits walk.new ≡ []) × IsSpent (in_interfaces p name proto) (length p.classes) walk.new.seen.items) }
+{
+    while let Some(one) = walk.pop() {
+        let found = tables.named.methods.find(one, key);
+        match walk.visit(one, found, tables.shape.lists.row(one), None)? {
+            Some(place) => return Ok(Some(MethodAt { class: one, place })),
+            None => {}
         }
-        if let Some(place) = tables.named.methods.find(one, key) {
-            return Ok(Some(MethodAt { class: one, place }));
-        }
-        walk.push_all(tables.shape.lists.row(one))?;
     }
     Ok(None)
 }

@@ -1,6 +1,6 @@
 -- What names resolve to, along the classes above a class.
-use Rattle.std.proofs.Common.{◌≡◌, ℕ, zero, suc, ◌+◌, ◌<◌, ◌≤◌, ◌⊎◌, inl, inr, Bool, true, false, true≢false, nat_eq, List, [], ◌∷◌, ◌++◌, length, Option, Some, None, refl, sym, ap, subst, ◌∙◌, arith, ltb-true, append-nil}
-use Rattle.std.specs.Prelude.{◌&&◌, slice_get, slice_index_or, nat_lt, option_and_then}
+use Rattle.std.proofs.Common.{◌≡◌, ℕ, zero, suc, ◌+◌, ◌<◌, ◌≤◌, ◌⊎◌, inl, inr, Bool, true, false, true≢false, nat_eq, List, [], ◌∷◌, ◌++◌, length, Option, Some, None, Result, Ok, Err, refl, sym, ap, subst, ◌∙◌, arith, ltb-true, append-nil}
+use Rattle.std.specs.Prelude.{◌&&◌, slice_get, slice_index_or, nat_lt, option_and_then, flat_map, IfOk}
 use Rattle.std.specs.List.{list_all}
 use Rattle.std.specs.Option.{option_or, option_map}
 use Rattle.std.proofs.lemmas.Option.{slice_get_past}
@@ -8,9 +8,9 @@ use Rattle.std.proofs.lemmas.Bool.{cases_lt}
 use Rattle.program_model.specs.declared.program.MethodAt.{MethodAt}
 use Rattle.program_model.specs.declared.program.Program.{Program}
 use Rattle.program_model.specs.Lookups.{class_place}
-use Rattle.class_defs.specs.Places.{super_place, listed, interface_places}
+use Rattle.class_defs.specs.Places.{super_place, listed, interface_places, chain_of}
 use Rattle.class_defs.specs.Members.{own_field, field_of_class, own_method, method_of_class}
-use Rattle.class_defs.specs.Finding.{first_among, beside, field_from, interfaces_from}
+use Rattle.class_defs.specs.Finding.{first_among, finds_from, beside, field_from, interfaces_from, resolution_of}
 use Rattle.class_defs.proofs.WellFormed.{and_left, and_right}
 use Rattle.hierarchy.specs.declared.build.Hierarchy.{Hierarchy}
 use Rattle.hierarchy.specs.Membership.{found_in}
@@ -18,7 +18,7 @@ use Rattle.hierarchy.specs.Naming.{IsFieldKey, IsKey}
 use Rattle.hierarchy.specs.Ranks.{is_lower, is_lower_all, IsRanked}
 use Rattle.hierarchy.specs.Shapes.{IsOf}
 use Rattle.hierarchy.specs.Tables.{read_at, row_of}
-use Rattle.hierarchy.specs.Walking.{Skips, Hits, Opens, Visits, deep, IsSpent, in_interfaces}
+use Rattle.hierarchy.specs.Walking.{Skips, Hits, Opens, Visits, deep, IsSpent, in_interfaces, in_lists}
 use Rattle.hierarchy.proofs.Deep.{Going, begins, ends, hits, skips, opens, all_join, among_same, among_join}
 use Rattle.hierarchy.proofs.LookedFields.{field_some, field_none}
 use Rattle.hierarchy.proofs.Looked.{found_some, found_none}
@@ -149,3 +149,26 @@ module _ (p : Program) (h : Hierarchy) (is : IsOf p h) (key name proto : ℕ) (k
       hits (own_method p name proto) (interface_places p) is.ranked.rank (length p.classes) (list_lower p is.ranked) (short p is.ranked) (methods_past p is.ranked name proto) seen stack rest x (record { class = x; place = place }) whole e
       (sym (found_some p h key name proto x place is k (sym f ∙ same))) g
   method_hits seen seen' stack rest stack' ups x place found r whole e f some (inr (inr s)) g = let z : None ≡ Some place = sym s.nothing ∙ some in cc
+
+-- ---- a class, its superclasses, and the interfaces of these
+
+flat_among : (f : ℕ → Option MethodAt) (lists : ℕ → List ℕ) (cs : List ℕ) → first_among f (flat_map lists cs) ≡ first_among (λ c. first_among f (lists c)) cs
+flat_among f lists [] = refl
+flat_among f lists (c ∷ cs) = among_join f (lists c) (flat_map lists cs) ∙ ap (option_or (first_among f (lists c))) (flat_among f lists cs)
+
+resolution : (p : Program) (name proto class : ℕ) → first_among (own_method p name proto) (resolution_of p (Some class)) ≡ option_or (finds_from p name proto (Some class)) (first_among (in_lists p name proto) (chain_of p (Some class)))
+resolution p name proto class =
+    among_join (own_method p name proto) (chain_of p (Some class)) (interfaces_from (length p.classes) p (flat_map (interface_places p) (chain_of p (Some class))))
+    ∙ ap (option_or (finds_from p name proto (Some class))) (methods_deep p name proto (length p.classes) (flat_map (interface_places p) (chain_of p (Some class))) ∙ flat_among (in_interfaces p name proto) (interface_places p) (chain_of p (Some class)))
+
+pub resolves_some : (p : Program) (name proto class : ℕ) (at : MethodAt) → Some at ≡ finds_from p name proto (Some class) → Some at ≡ first_among (own_method p name proto) (resolution_of p (Some class))
+resolves_some p name proto class at e = ap (λ o. option_or o (first_among (in_lists p name proto) (chain_of p (Some class)))) e ∙ sym (resolution p name proto class)
+
+pub resolves_other : {E : Type 0} (p : Program) (name proto class : ℕ) (r : Result (Option MethodAt) E) → None ≡ finds_from p name proto (Some class) → IfOk r (λ o. o ≡ first_among (in_lists p name proto) (chain_of p (Some class)))
+    → IfOk r (λ o. o ≡ first_among (own_method p name proto) (resolution_of p (Some class)))
+resolves_other p name proto class (Err e) none h = h
+resolves_other p name proto class (Ok o) none h = h ∙ ap (λ w. option_or w (first_among (in_lists p name proto) (chain_of p (Some class)))) none ∙ sym (resolution p name proto class)
+
+-- what one class on the way answers by the interfaces that it lists
+pub lists_answer : (p : Program) (name proto one : ℕ) (pushed row before : List ℕ) (answer : Option MethodAt) → pushed ≡ row ++ before → before ≡ [] → row ≡ interface_places p one → answer ≡ first_among (in_interfaces p name proto) pushed → in_lists p name proto one ≡ answer
+lists_answer p name proto one pushed row before answer e none is a = sym (a ∙ ap (first_among (in_interfaces p name proto)) (e ∙ ap (λ l. row ++ l) none ∙ append-nil row ∙ is))

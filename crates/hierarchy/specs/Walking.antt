@@ -1,11 +1,13 @@
 -- What a walk has seen, and what waits in it.
 use Rattle.std.specs.Prelude.{◌≡◌, ◌<◌, ◌≤◌, ◌⊎◌, ℕ, zero, suc, Bool, true, false, List, [], ◌++◌, length, reverse, Option, Some, None, slice_index_or, slice_set, Contains}
 use Rattle.std.specs.Option.{option_or}
+use Rattle.program_model.specs.Lookups.{class_place}
+use Rattle.program_model.specs.declared.pools.MethodName.{MethodName}
 use Rattle.program_model.specs.declared.program.MethodAt.{MethodAt}
 use Rattle.program_model.specs.declared.program.Program.{Program}
 use Rattle.class_defs.specs.Places.{interface_places}
 use Rattle.class_defs.specs.Members.{own_method}
-use Rattle.class_defs.specs.Finding.{first_among}
+use Rattle.class_defs.specs.Finding.{first_among, resolution_of}
 use Rattle.hierarchy.specs.declared.walk.Walk.{Walk}
 
 abbrev pub is_seen : Walk → ℕ → Bool
@@ -65,3 +67,11 @@ pub record IsSpent {X : Type 0} (answers : ℕ → Option X) (n : ℕ) (seen : L
 -- the first method of a name and a proto in an interface and in those above it, each in turn
 abbrev pub in_interfaces : Program → ℕ → ℕ → ℕ → Option MethodAt
 in_interfaces p name proto c = deep (own_method p name proto) (interface_places p) (length p.classes) c
+
+-- the first in the interfaces that a class lists
+abbrev pub in_lists : Program → ℕ → ℕ → ℕ → Option MethodAt
+in_lists p name proto c = first_among (in_interfaces p name proto) (interface_places p c)
+
+-- what an entry of the table of methods resolves to
+abbrev pub method_by : Program → MethodName → Option MethodAt
+method_by p q = first_among (own_method p q.name q.proto) (resolution_of p (class_place p q.class))

@@ -1,6 +1,6 @@
 //! Walks over classes that take each class once.
 
-ghost use Rattle.std.specs.Prelude.{◌≡◌, ◌<◌, ◌&&◌, ◌∷◌, ◌++◌, [], true, not, length, nat_lt, slice_set, slice_index_or, Contains, ℕ, false, cond, Some, None, MatchOption, IfOk, OnOk};
+ghost use Rattle.std.specs.Prelude.{◌≡◌, ◌<◌, ◌&&◌, ◌∷◌, ◌++◌, [], true, not, length, nat_lt, slice_set, slice_index_or, Contains, ℕ, false, cond, Some, None, MatchOption, IfNone, IfOk, OnOk};
 ghost use Rattle.class_defs.specs.Finding.{beside};
 ghost use Rattle.hierarchy.specs.Walking.{is_seen, waits, IsFair, IsClear, Visits};
 
@@ -74,6 +74,7 @@ impl Walk {
     /// The class that waits first, which waits no longer.
     pub fn pop(&mut self) -> Option<u32>
         ensures waits { MatchOption result (waits self.old ≡ []) (λ class. waits self.old ≡ class ∷ waits self.new) }
+        ensures none { IfNone result (waits self.new ≡ []) }
         ensures seen { self.new.seen ≡ self.old.seen }
         ensures list { self.new.list ≡ self.old.list }
     {

@@ -22,9 +22,9 @@ own_place p once b u e =
     elim f.first [
       | inr same ↦ f.is ∙ ap (λ n. Some n) same
       | inl before ↦ (
-        let x = place_entry (λ k. nat_eq k.name u.name) p.classes f.place f.is in
-        absurd (once b (record { earlier = f.place; before = before; one = x.entry; other = u; is_one = x.is; is_other = e; same = number_of x.entry.name u.name x.passes }))
-      )
+          let x = place_entry (λ k. nat_eq k.name u.name) p.classes f.place f.is in
+          absurd (once b (record { earlier = f.place; before = before; one = x.entry; other = u; is_one = x.is; is_other = e; same = number_of x.entry.name u.name x.passes }))
+          )
     ]
 
 module _ (p : Program) (once : (class : ℕ) → IsTwice p class → ⊥) (r : IsRanked p) where

@@ -32,7 +32,6 @@ all_join t (x ∷ xs) ys h k = step (t x) (and_left (t x) (list_all t xs) h) (al
 
 module _ {X : Type 0} (own : ℕ → Option X) (above : ℕ → List ℕ) (rank : ℕ → ℕ) (n : ℕ)
     (lower : (c : ℕ) → list_all (λ u. nat_lt (rank u) (rank c)) (above c) ≡ true) where
-
   same_on : (m m' r : ℕ) → ((u : ℕ) → rank u < r → deep own above m u ≡ deep own above m' u) → (us : List ℕ) → list_all (λ u. nat_lt (rank u) r) us ≡ true → first_among (deep own above m) us ≡ first_among (deep own above m') us
   same_on m m' r h [] all = refl
   same_on m m' r h (u ∷ us) all =

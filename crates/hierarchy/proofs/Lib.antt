@@ -10,3 +10,4 @@ mod Marks
 mod Deep
 mod LookedFields
 mod Resolving
+mod Answered

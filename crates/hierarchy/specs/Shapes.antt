@@ -1,5 +1,5 @@
 -- What the tables of a hierarchy say of a program.
-use Rattle.std.specs.Prelude.{◌≡◌, ◌<◌, ◌^◌, ℕ, List, length, map, replicate, vec_len, slice_index_or}
+use Rattle.std.specs.Prelude.{◌≡◌, ◌<◌, ◌^◌, ℕ, List, length, map, replicate, vec_len, slice_index_or, Some}
 use Rattle.std.proofs.Common.{Result, Ok, Err}
 use Rattle.program_model.specs.declared.program.Program.{Program}
 use Rattle.program_model.specs.Lookups.{class_place}
@@ -9,6 +9,9 @@ use Rattle.hierarchy.specs.Tables.{read_at, row_of}
 use Rattle.hierarchy.specs.Naming.{IsNamed}
 use Rattle.hierarchy.specs.Ranks.{Descends, IsRanked}
 use Rattle.hierarchy.specs.Placing.{place_from, known_places}
+use Rattle.class_defs.specs.Finding.{field_by}
+use Rattle.hierarchy.specs.Walking.{method_by}
+use Rattle.hierarchy.specs.declared.build.Targets.{Targets}
 use Rattle.hierarchy.specs.declared.build.Shape.{Shape}
 use Rattle.hierarchy.specs.declared.build.Hierarchy.{Hierarchy}
 use Rattle.hierarchy.specs.declared.fault.HierarchyFault.{HierarchyFault}
@@ -62,3 +65,13 @@ IsCause p (SplitOverride class method) = (other : ℕ) → IsTwice p other → �
 -- no class is its own ancestor
 abbrev pub IsAcyclic : Program → Type 0
 IsAcyclic p = (class : ℕ) → IsAncestor p class class → ⊥
+
+-- what the numbers of fields and of methods resolve to
+pub record AreTargets (p : Program) (t : Targets) : Type 0 where
+  pub fields : t.fields.items ≡ map (λ f. field_by p (Some f)) p.fields
+  pub methods : t.methods.items ≡ map (method_by p) p.methods
+
+-- the tables are those of the program's classes, and the names resolve as the program's do
+pub record IsResolved (p : Program) (h : Hierarchy) : Type 0 where
+  pub of : IsOf p h
+  pub targets : AreTargets p h.targets

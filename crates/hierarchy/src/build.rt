@@ -4,7 +4,7 @@ ghost use Rattle.std.specs.Prelude.{◌≡◌, ◌+◌, ◌<◌, ◌^◌, length
 ghost use Rattle.std.proofs.Common.{Ok, Err};
 ghost use Rattle.hierarchy.specs.Placing.{place_from, known_places};
 ghost use Rattle.hierarchy.specs.Faults.{IsTwiceOr, IsSplitOr};
-ghost use Rattle.hierarchy.specs.Shapes.{placing, IsMade, StopsAt, IsOf, IsCause, IsAcyclic};
+ghost use Rattle.hierarchy.specs.Shapes.{placing, IsMade, StopsAt, IsOf, AreTargets, IsResolved, IsCause, IsAcyclic};
 ghost use Rattle.hierarchy.specs.Naming.{IsNamed};
 ghost use Rattle.hierarchy.specs.Ranks.{Descends};
 ghost use Rattle.program_model.specs.ProgramRules.{is_well_formed};
@@ -310,6 +310,7 @@ fn fill(
 ) -> Result<Hierarchy, AllocError>
     ensures links { IfOk result (λ hierarchy. hierarchy.shape ≡ shape) }
     ensures names { IfOk result (λ hierarchy. hierarchy.named ≡ named) }
+    ensures targets { IfOk result (λ hierarchy. IsOf program.now hierarchy → AreTargets program.now hierarchy.targets) }
 {
     let tour = make_tour(alloc, &shape)?;
     let starts = find_starts(alloc, program, &shape)?;
@@ -331,6 +332,7 @@ fn fill(
 fn complete(alloc: Global, program: &Program, shape: Shape) -> Result<Hierarchy, HierarchyFault>
     ensures links { IfOk result (λ hierarchy. hierarchy.shape ≡ shape) }
     ensures names { is_well_formed program.now ≡ true → IfOk result (λ hierarchy. IsNamed program.now hierarchy.named) }
+    ensures targets { IfOk result (λ hierarchy. IsOf program.now hierarchy → AreTargets program.now hierarchy.targets) }
     ensures refuses { IfErr result (λ fault. IsSplitOr fault) }
 {
     let named = name_members(alloc, program)?;
@@ -346,6 +348,7 @@ impl Hierarchy {
     pub fn build(alloc: Global, program: &Program) -> Result<Hierarchy, HierarchyFault>
         ensures size { IfOk result (λ hierarchy. vec_len hierarchy.shape.places ≡ length program.now.types) }
         ensures is { is_well_formed program.now ≡ true → IfOk result (λ hierarchy. IsOf program.now hierarchy) }
+        ensures resolved { is_well_formed program.now ≡ true → IfOk result (λ hierarchy. IsResolved program.now hierarchy) }
         ensures acyclic { is_well_formed program.now ≡ true → IfOk result (λ _. IsAcyclic program.now) }
         ensures refuses { is_well_formed program.now ≡ true → IfErr result (λ fault. IsCause program.now fault) }
     {

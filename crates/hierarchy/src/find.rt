@@ -8,7 +8,8 @@ ghost use Rattle.hierarchy.specs.Shapes.{IsOf};
 ghost use Rattle.program_model.specs.Lookups.{class_place};
 ghost use Rattle.program_model.specs.declared.program.Program.{Program};
 ghost use Rattle.class_defs.specs.Places.{super_place, interface_places, chain_of};
-ghost use Rattle.std.specs.Prelude.{ℕ, Some, IfOk, slice_get, not};
+ghost use Rattle.std.specs.Prelude.{ℕ, Some, IfOk, slice_get, vec_len, not};
+ghost use Rattle.hierarchy.specs.Walking.{IsClear, IsFair};
 ghost use Rattle.program_model.specs.MemberRules.{is_direct};
 ghost use Rattle.program_model.specs.declared.pools.MethodName.{MethodName};
 ghost use Rattle.class_defs.specs.Members.{own_method, own_virtual, virtual_only};
@@ -217,7 +218,10 @@ impl Hierarchy {
     }
 
     /// A walk over the classes of this hierarchy.
-    pub fn walk(&self, alloc: Global) -> Result<Walk, AllocError> {
+    pub fn walk(&self, alloc: Global) -> Result<Walk, AllocError>
+        ensures clear { IfOk result (λ w. IsClear (vec_len self.now.shape.supers) w) }
+        ensures fair { IfOk result (λ w. IsFair w) }
+    {
         Walk::new(alloc, self.shape.supers.len())
     }
 

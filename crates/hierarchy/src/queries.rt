@@ -1,6 +1,9 @@
 //! What is asked of a hierarchy.
 
 ghost use Rattle.std.specs.Prelude.{◌≡◌, false, slice_get, slice_index_or};
+ghost use Rattle.program_model.specs.declared.program.Program.{Program};
+ghost use Rattle.class_defs.specs.Finding.{resolves_field, resolves_method};
+ghost use Rattle.hierarchy.specs.Shapes.{IsResolved};
 ghost use Rattle.hierarchy.specs.Tables.{answer};
 
 use crate::build::Hierarchy;
@@ -22,7 +25,8 @@ impl Hierarchy {
     /// What the name of a field resolves to: the class and the place in its `fields` of the first field of that name
     /// and type in the named class, then its interfaces, then its superclass, each in turn.
     pub fn resolve_field(&self, _program: &Program, field: u32) -> Option<(u32, u32)>
-        ensures { result ≡ answer (slice_get self.now.targets.fields.items field) }
+        ensures table { result ≡ answer (slice_get self.now.targets.fields.items field) }
+        ensures is { (p : Program) → IsResolved p self.now → result ≡ resolves_field p field }
     {
         match self.targets.fields.as_slice().get(field as usize) {
             Some(target) => *target,
@@ -33,7 +37,8 @@ impl Hierarchy {
     /// What the name of a method resolves to: the first method of that name and proto along the named class and its
     /// superclasses, then in their interfaces in the order of their lists, each followed by the interfaces above it.
     pub fn resolve_method(&self, _program: &Program, method: u32) -> Option<MethodAt>
-        ensures { result ≡ answer (slice_get self.now.targets.methods.items method) }
+        ensures table { result ≡ answer (slice_get self.now.targets.methods.items method) }
+        ensures is { (p : Program) → IsResolved p self.now → result ≡ resolves_method p method }
     {
         match self.targets.methods.as_slice().get(method as usize) {
             Some(target) => *target,

@@ -6,7 +6,7 @@ ghost use Rattle.class_defs.specs.Finding.{first_among, field_from, field_by, re
 ghost use Rattle.class_defs.specs.Members.{own_method};
 ghost use Rattle.class_defs.specs.Places.{chain_of};
 ghost use Rattle.hierarchy.specs.Naming.{IsKey, IsFieldKey};
-ghost use Rattle.hierarchy.specs.Shapes.{IsOf};
+ghost use Rattle.hierarchy.specs.Shapes.{IsOf, AreTargets};
 ghost use Rattle.hierarchy.specs.Walking.{waits, IsFair, IsSpent, IsClear, in_interfaces, in_lists, method_by};
 
 use crate::build::{Hierarchy, Targets};
@@ -184,7 +184,9 @@ pub fn resolve_all(
     alloc: Global,
     program: &Program,
     tables: &Hierarchy,
-) -> Result<Targets, AllocError> {
+) -> Result<Targets, AllocError>
+    ensures { IsOf program.now tables.now → IfOk result (λ targets. AreTargets program.now targets) }
+{
     let mut walk = tables.walk(alloc)?;
     let fields = field_targets(alloc, program.fields.as_slice(), tables, &mut walk)?;
     let methods = method_targets(alloc, program.methods.as_slice(), tables, &mut walk)?;

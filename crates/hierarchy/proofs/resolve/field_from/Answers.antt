@@ -32,18 +32,18 @@ loop-one-preserved c = record {
 
 pub returns-in-Some-2-clause-is : goal.returns-in-Some-2-clause-is
 returns-in-Some-2-clause-is c = λ p name kind is k fair size.
-      let whole = field_from (length p.classes) p name kind c.args.class in
-      let g : FieldGoing p is.ranked name kind c.pop.new.self.seen.items (waits c.loop-one.walk) whole = subst (λ v. FieldGoing p is.ranked name kind v.items (waits c.loop-one.walk) whole) (sym c.in-Some.ensures.seen) (c.loop-one.invariant.going p name kind is k fair size) in
-      field_hits p c.args.tables.now is c.args.key name kind k c.pop.new.self.seen.items c.visit.new.self.seen.items (waits c.loop-one.walk) (waits c.pop.new.self) (waits c.visit.new.self) (c.row-list.result.now ++ beside c.super_of.result) c.in-Some.one c.in-Some-2.place c.find-found.result c.in_ok-place.field-0 whole
-      c.in-Some.ensures.waits c.find-found.ensures c.in-Some-2.is c.in_ok-place.ensures.visits g
+    let whole = field_from (length p.classes) p name kind c.args.class in
+    let g : FieldGoing p is.ranked name kind c.pop.new.self.seen.items (waits c.loop-one.walk) whole = subst (λ v. FieldGoing p is.ranked name kind v.items (waits c.loop-one.walk) whole) (sym c.in-Some.ensures.seen) (c.loop-one.invariant.going p name kind is k fair size) in
+    field_hits p c.args.tables.now is c.args.key name kind k c.pop.new.self.seen.items c.visit.new.self.seen.items (waits c.loop-one.walk) (waits c.pop.new.self) (waits c.visit.new.self) (c.row-list.result.now ++ beside c.super_of.result) c.in-Some.one c.in-Some-2.place c.find-found.result c.in_ok-place.field-0 whole
+    c.in-Some.ensures.waits c.find-found.ensures c.in-Some-2.is c.in_ok-place.ensures.visits g
 
 pub returns-clause-is : goal.returns-clause-is
 returns-clause-is c = λ p name kind is k fair size.
-      field_ends p c.args.tables.now is c.args.key name kind k c.loop-one.walk.seen.items (waits c.loop-one.walk) (field_from (length p.classes) p name kind c.args.class) c.in_default.ensures.waits (c.loop-one.invariant.going p name kind is k fair size)
+    field_ends p c.args.tables.now is c.args.key name kind k c.loop-one.walk.seen.items (waits c.loop-one.walk) (field_from (length p.classes) p name kind c.args.class) c.in_default.ensures.waits (c.loop-one.invariant.going p name kind is k fair size)
 
 pub loop-one-smaller : goal.loop-one-smaller
 loop-one-smaller c =
-      let ups : c.row-list.result.now ++ beside c.super_of.result ≡ row_of c.args.tables.now.shape.lists.rows c.in-Some.one ++ beside (read_at c.args.tables.now.shape.supers.items c.in-Some.one) = ap (λ l. l ++ beside c.super_of.result) c.row-list.ensures ∙ ap (λ o. row_of c.args.tables.now.shape.lists.rows c.in-Some.one ++ beside o) c.super_of.ensures.table in
-      let deg : ℕ → ℕ = λ x. length (row_of c.args.tables.now.shape.lists.rows x ++ beside (read_at c.args.tables.now.shape.supers.items x)) in
-      fewer deg c.loop-one.walk.seen.items c.visit.new.self.seen.items (waits c.loop-one.walk) (waits c.pop.new.self) (waits c.visit.new.self) (c.row-list.result.now ++ beside c.super_of.result) c.in-Some.one c.find-found.result c.in_ok-place.field-0
-      c.in-Some.ensures.waits (ap length ups) c.in-None.is (subst (λ v. Visits v.items (waits c.pop.new.self) c.in-Some.one c.find-found.result (c.row-list.result.now ++ beside c.super_of.result) c.visit.new.self.seen.items (waits c.visit.new.self) c.in_ok-place.field-0) c.in-Some.ensures.seen c.in_ok-place.ensures.visits)
+    let ups : c.row-list.result.now ++ beside c.super_of.result ≡ row_of c.args.tables.now.shape.lists.rows c.in-Some.one ++ beside (read_at c.args.tables.now.shape.supers.items c.in-Some.one) = ap (λ l. l ++ beside c.super_of.result) c.row-list.ensures ∙ ap (λ o. row_of c.args.tables.now.shape.lists.rows c.in-Some.one ++ beside o) c.super_of.ensures.table in
+    let deg : ℕ → ℕ = λ x. length (row_of c.args.tables.now.shape.lists.rows x ++ beside (read_at c.args.tables.now.shape.supers.items x)) in
+    fewer deg c.loop-one.walk.seen.items c.visit.new.self.seen.items (waits c.loop-one.walk) (waits c.pop.new.self) (waits c.visit.new.self) (c.row-list.result.now ++ beside c.super_of.result) c.in-Some.one c.find-found.result c.in_ok-place.field-0
+    c.in-Some.ensures.waits (ap length ups) c.in-None.is (subst (λ v. Visits v.items (waits c.pop.new.self) c.in-Some.one c.find-found.result (c.row-list.result.now ++ beside c.super_of.result) c.visit.new.self.seen.items (waits c.visit.new.self) c.in_ok-place.field-0) c.in-Some.ensures.seen c.in_ok-place.ensures.visits)

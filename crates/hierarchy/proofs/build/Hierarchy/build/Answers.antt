@@ -1,4 +1,5 @@
 use Rattle.hierarchy.proofs.Acyclic.{built_acyclic}
+use Rattle.hierarchy.proofs.Answered.{resolved}
 use Rattle.hierarchy.proofs.Placed.{filled, refused, stopped}
 use Rattle.hierarchy.proofs.build.Hierarchy.build.Goals as goal
 
@@ -13,3 +14,6 @@ returns-in-Err-clause-refuses c = λ h. stopped c.args.program.now c.in-Err.faul
 
 pub returns-in-Ok-clause-acyclic : goal.returns-in-Ok-clause-acyclic
 returns-in-Ok-clause-acyclic c = λ h. built_acyclic c.args.program.now c.complete.result (filled c.args.program.now c.in-Ok.shape c.complete.result h c.in-Ok.ensures.made c.complete.ensures.links (c.complete.ensures.names h))
+
+pub returns-in-Ok-clause-resolved : goal.returns-in-Ok-clause-resolved
+returns-in-Ok-clause-resolved c = λ h. resolved c.args.program.now c.complete.result (filled c.args.program.now c.in-Ok.shape c.complete.result h c.in-Ok.ensures.made c.complete.ensures.links (c.complete.ensures.names h)) c.complete.ensures.targets

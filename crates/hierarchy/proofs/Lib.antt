@@ -11,3 +11,4 @@ mod Deep
 mod LookedFields
 mod Resolving
 mod Answered
+mod Started

@@ -41,7 +41,7 @@ set_length [] i v = refl
 set_length (x ∷ xs) zero v = refl
 set_length (x ∷ xs) (suc i) v = ap suc (set_length xs i v)
 
-known_small : (v : ℕ) → v < 2 ^ 32 - 1 → known (Some v) ≡ Some v
+pub known_small : (v : ℕ) → v < 2 ^ 32 - 1 → known (Some v) ≡ Some v
 known_small v h = by_test (nat_eq v (2 ^ 32 - 1)) refl
   where
     by_test : (b : Bool) → nat_eq v (2 ^ 32 - 1) ≡ b → cond b None (Some v) ≡ Some v

@@ -127,6 +127,15 @@ short_rows cs members key l h = record {
     by_class i row None f e = cc
     by_class i row (Some c) f e = let s : map key (members c) ≡ row = cc in let k = h i c f in subst (λ r. length r < 2 ^ 32) s (omega (arith, k, mapped_length key (members c)))
 
+pub few_members : (p : Program) → is_well_formed p ≡ true → (i : ℕ) (c : Class) → slice_get p.classes i ≡ Some c → length c.methods < 2 ^ 32 - 1
+few_members p h i c e =
+    let s : Sound p = sound p h in
+    let fits : ClassFits p c = class_parts p s i c e in
+    let d = members_differ p c (all_at (class_fits p) p.classes i c s.classes_fit e) in
+    let l = few own_method_key (λ (m : Method). m.name) (λ x y t. one_apart x.name y.name t) c.methods (length p.methods) d.1 (λ j f g. let m = fits.methods j f g in got_short p.methods f.name m.entry m.is) in
+    let n = (few_names p h).1 in
+    omega (arith, l, n)
+
 pub has_short_rows : (p : Program) → is_well_formed p ≡ true → HasShortRows p
 has_short_rows p h = record {
   fields = λ keys. short_rows p.classes (λ c. c.fields) (λ f. key_at keys f.name) (few_classes p h) (λ i c e. few_fields i c e);

@@ -10,6 +10,7 @@ use Rattle.hierarchy.specs.Naming.{IsNamed}
 use Rattle.hierarchy.specs.Ranks.{Descends, IsRanked}
 use Rattle.hierarchy.specs.Placing.{place_from, known_places}
 use Rattle.class_defs.specs.Finding.{field_by}
+use Rattle.hierarchy.specs.Starting.{HasStarts}
 use Rattle.hierarchy.specs.Walking.{method_by}
 use Rattle.hierarchy.specs.declared.build.Targets.{Targets}
 use Rattle.hierarchy.specs.declared.build.Shape.{Shape}
@@ -71,7 +72,8 @@ pub record AreTargets (p : Program) (t : Targets) : Type 0 where
   pub fields : t.fields.items ≡ map (λ f. field_by p (Some f)) p.fields
   pub methods : t.methods.items ≡ map (method_by p) p.methods
 
--- the tables are those of the program's classes, and the names resolve as the program's do
+-- the tables are those of the program's classes, and the names and the initialisers are found as the program's are
 pub record IsResolved (p : Program) (h : Hierarchy) : Type 0 where
   pub of : IsOf p h
   pub targets : AreTargets p h.targets
+  pub starts : HasStarts p h.starts.initialisers.items

@@ -7,6 +7,10 @@ ghost use Rattle.hierarchy.specs.Faults.{IsTwiceOr, IsSplitOr};
 ghost use Rattle.hierarchy.specs.Shapes.{placing, IsMade, StopsAt, IsOf, AreTargets, IsResolved, IsCause, IsAcyclic};
 ghost use Rattle.hierarchy.specs.Naming.{IsNamed};
 ghost use Rattle.hierarchy.specs.Ranks.{Descends};
+ghost use Rattle.std.specs.Prelude.{ℕ, Some, map, slice_get};
+ghost use Rattle.program_model.specs.declared.program.Class.{Class};
+ghost use Rattle.class_defs.specs.Starts.{initialiser_of};
+ghost use Rattle.hierarchy.specs.Starting.{place_or_none, HasStarts};
 ghost use Rattle.program_model.specs.ProgramRules.{is_well_formed};
 ghost use Rattle.std.specs.Prelude.{true};
 
@@ -140,14 +144,23 @@ fn order(
     Ok(Err(stuck(alloc, above.as_slice(), below)?))
 }
 
-/// The place of each class's `<clinit>`.
-fn initialisers(alloc: Global, program: &Program) -> Result<Vec<u32>, AllocError> {
+/// A place, or the number that stands for none.
+fn place_or_none(place: Option<u32>) -> u32
+    ensures { result ≡ place_or_none place }
+{
+    match place {
+        Some(place) => place,
+        None => NONE,
+    }
+}
+
+/// The place of the initialiser of each class.
+fn initialisers(alloc: Global, program: &Program) -> Result<Vec<u32>, AllocError>
+    ensures { ((i : ℕ) (c : Class) → slice_get program.now.classes i ≡ Some c → length c.methods < 2 ^ 32) → IfOk result (λ places. places.items ≡ map (λ c. place_or_none (initialiser_of program.now (Some c))) program.now.classes) }
+{
     let mut places = Vec::new(alloc);
     for class in program.classes.as_slice() {
-        places.push(match initialiser(program, class) {
-            Some(place) => place,
-            None => NONE,
-        })?;
+        places.push(place_or_none(initialiser(program, class)))?;
     }
     Ok(places)
 }
@@ -268,7 +281,9 @@ fn name_members(alloc: Global, program: &Program) -> Result<Named, AllocError>
 }
 
 /// What runs when the classes are initialised.
-fn find_starts(alloc: Global, program: &Program, shape: &Shape) -> Result<Starts, AllocError> {
+fn find_starts(alloc: Global, program: &Program, shape: &Shape) -> Result<Starts, AllocError>
+    ensures { is_well_formed program.now ≡ true → IfOk result (λ starts. HasStarts program.now starts.initialisers.items) }
+{
     let initialisers = initialisers(alloc, program)?;
     let trivial = trivial(alloc, initialisers.as_slice(), shape)?;
     Ok(Starts {
@@ -311,6 +326,7 @@ fn fill(
     ensures links { IfOk result (λ hierarchy. hierarchy.shape ≡ shape) }
     ensures names { IfOk result (λ hierarchy. hierarchy.named ≡ named) }
     ensures targets { IfOk result (λ hierarchy. IsOf program.now hierarchy → AreTargets program.now hierarchy.targets) }
+    ensures starts { is_well_formed program.now ≡ true → IfOk result (λ hierarchy. HasStarts program.now hierarchy.starts.initialisers.items) }
 {
     let tour = make_tour(alloc, &shape)?;
     let starts = find_starts(alloc, program, &shape)?;
@@ -333,6 +349,7 @@ fn complete(alloc: Global, program: &Program, shape: Shape) -> Result<Hierarchy,
     ensures links { IfOk result (λ hierarchy. hierarchy.shape ≡ shape) }
     ensures names { is_well_formed program.now ≡ true → IfOk result (λ hierarchy. IsNamed program.now hierarchy.named) }
     ensures targets { IfOk result (λ hierarchy. IsOf program.now hierarchy → AreTargets program.now hierarchy.targets) }
+    ensures starts { is_well_formed program.now ≡ true → IfOk result (λ hierarchy. HasStarts program.now hierarchy.starts.initialisers.items) }
     ensures refuses { IfErr result (λ fault. IsSplitOr fault) }
 {
     let named = name_members(alloc, program)?;

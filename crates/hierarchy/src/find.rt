@@ -4,7 +4,10 @@ ghost use Rattle.std.specs.Prelude.{◌≡◌, false, slice_index_or};
 ghost use Rattle.std.specs.Option.{option_copied};
 ghost use Rattle.program_model.specs.Lookups.{method_at};
 ghost use Rattle.hierarchy.specs.Tables.{read_at};
-ghost use Rattle.hierarchy.specs.Shapes.{IsOf};
+ghost use Rattle.hierarchy.specs.Shapes.{IsOf, IsResolved};
+ghost use Rattle.program_model.specs.Lookups.{method_or};
+ghost use Rattle.class_defs.specs.Starts.{initialiser_place};
+ghost use Rattle.std.specs.Prelude.{None};
 ghost use Rattle.program_model.specs.Lookups.{class_place};
 ghost use Rattle.program_model.specs.declared.program.Program.{Program};
 ghost use Rattle.class_defs.specs.Places.{super_place, interface_places, chain_of};
@@ -12,7 +15,7 @@ ghost use Rattle.std.specs.Prelude.{ℕ, Some, IfOk, slice_get, vec_len, not};
 ghost use Rattle.hierarchy.specs.Walking.{IsClear, IsFair};
 ghost use Rattle.program_model.specs.MemberRules.{is_direct};
 ghost use Rattle.program_model.specs.declared.pools.MethodName.{MethodName};
-ghost use Rattle.class_defs.specs.Members.{own_method, own_virtual, virtual_only};
+ghost use Rattle.class_defs.specs.Members.{own_method, own_virtual, virtual_only, is_interface, has_code};
 ghost use Rattle.class_defs.specs.Finding.{finds_from, finds_static, finds_virtual};
 ghost use Rattle.hierarchy.specs.Membership.{key_at};
 ghost use Rattle.hierarchy.specs.Naming.{IsKey};
@@ -21,7 +24,7 @@ use crate::build::Hierarchy;
 use crate::members::{is_virtual, key_of};
 use crate::table::{is_on, read};
 use crate::walk::Walk;
-use program_model::{Method, MethodAt, Program, Version};
+use program_model::{Flags, Method, MethodAt, Program, Version};
 use std::alloc::{AllocError, Global};
 
 /// What the candidates of interfaces give: no method with code, just one that stands in no interface above another
@@ -107,8 +110,11 @@ impl Hierarchy {
         is_virtual(method, self.named.special.as_slice())
     }
 
-    /// Where the class defines its `<clinit>`.
-    pub fn initialiser_of(&self, class: u32) -> Option<MethodAt> {
+    /// Where the class defines its initialiser: the first of its methods that is named `<clinit>`, takes nothing and gives
+    /// nothing, where it is static and has code.
+    pub fn initialiser_of(&self, class: u32) -> Option<MethodAt>
+        ensures { (p : Program) → IsResolved p self.now → result ≡ method_or class (initialiser_place p class) None }
+    {
         match read(self.starts.initialisers.as_slice(), class) {
             Some(place) => Some(MethodAt { class, place }),
             None => None,
@@ -250,6 +256,9 @@ impl Hierarchy {
             if !walk.see(one)? {
                 continue;
             }
+            if !is_interface(program, one) {
+                continue;
+            }
             if let Some(found) = self.own_virtual(program, one, key) {
                 out.push(found)?;
             }
@@ -259,7 +268,7 @@ impl Hierarchy {
     }
 
     /// Adds the candidates for the key of the interfaces that a class and its program superclasses list: the virtual
-    /// methods of that name and proto in these and in all interfaces above them. In version 035, and for the five
+    /// methods of that name and proto in these and in all interfaces above them, where a class without the flag of interfaces counts for none. In version 035, and for the five
     /// methods that the framework may call on every object, there are none.
     pub fn candidates(
         &self,
@@ -302,11 +311,19 @@ impl Hierarchy {
         self.collect(program, key, walk, out)
     }
 
-    /// Sees all interfaces that stand above one of the candidates' interfaces.
+    /// Lets the classes directly above one wait.
+    fn push_above(&self, class: u32, walk: &mut Walk) -> Result<(), AllocError> {
+        if let Some(superclass) = self.super_of(class) {
+            walk.push(superclass)?;
+        }
+        walk.push_all(self.shape.lists.row(class))
+    }
+
+    /// Sees all classes that stand above one of the candidates' interfaces, by superclasses and interfaces.
     fn see_above(&self, candidates: &[MethodAt], walk: &mut Walk) -> Result<(), AllocError> {
         walk.clear();
         for candidate in candidates {
-            walk.push_all(self.shape.lists.row(candidate.class))?;
+            self.push_above(candidate.class, walk)?;
         }
         for _ in 0..self.steps() {
             let one = match walk.pop() {
@@ -314,7 +331,7 @@ impl Hierarchy {
                 None => break,
             };
             if walk.see(one)? {
-                walk.push_all(self.shape.lists.row(one))?;
+                self.push_above(one, walk)?;
             }
         }
         Ok(())
@@ -341,8 +358,20 @@ impl Hierarchy {
     }
 }
 
+/// Whether the class at a place is an interface.
+fn is_interface(program: &Program, class: u32) -> bool
+    ensures { result ≡ is_interface (slice_get program.now.classes class) }
+{
+    match program.classes.as_slice().get(class as usize) {
+        Some(class) => class.flags.has(Flags::INTERFACE),
+        None => false,
+    }
+}
+
 /// Whether the method has code.
-fn has_code(program: &Program, at: MethodAt) -> bool {
+fn has_code(program: &Program, at: MethodAt) -> bool
+    ensures { result ≡ has_code (method_at program.now at) }
+{
     match method_at(program, at) {
         Some(method) => method.body.is_some(),
         None => false,

@@ -2,14 +2,18 @@
 //! that the framework may call on every object.
 
 ghost use Rattle.std.specs.Prelude.{◌≡◌, ◌+◌, length, map, IfOk};
-ghost use Rattle.program_model.specs.Texts.{first_unit, string_text};
+ghost use Rattle.std.specs.Prelude.{◌<◌, ◌^◌, [], Some, None, nat_eq, codes, cond, slice_get};
+ghost use Rattle.std.specs.Cmp.Lexicographic.{pointwise};
+ghost use Rattle.program_model.specs.Texts.{first_unit, string_text, type_text};
+ghost use Rattle.class_defs.specs.Members.{types_are, proto_is};
+ghost use Rattle.class_defs.specs.Starts.{is_initialiser, runs, initialiser_of};
 ghost use Rattle.hierarchy.specs.Naming.{is_special};
 
 use crate::members::key_of;
 use crate::table::{turn, word};
 use dex_base::Text;
 use indexmap::IndexSet;
-use program_model::{Class, MethodName, Program, Proto};
+use program_model::{Class, Flags, Method, MethodName, Program, Proto};
 use std::alloc::{AllocError, Global};
 
 /// Whether a text is made of these ASCII characters.
@@ -90,10 +94,67 @@ pub fn special(alloc: Global, program: &Program) -> Result<Vec<bool>, AllocError
     Ok(marks)
 }
 
-/// Whether the method's name is `<clinit>`.
-pub fn is_initialiser(program: &Program, method: u32) -> bool {
-    match program.methods.as_slice().get(method as usize) {
-        Some(name) => string_is(program, name.name, "<clinit>"),
+/// The units of the descriptor of a type number, none past the table.
+#[tactic(auto, unfolding(program_model::specs::Texts::type_text))]
+fn type_units(program: &Program, kind: u32) -> &[u16]
+    ensures { result.now ≡ type_text program.now kind }
+{
+    match program.types.as_slice().get(kind as usize) {
+        Some(string) => units_of(program, *string),
+        None => &[],
+    }
+}
+
+/// Whether the units are `<clinit>`.
+fn is_clinit(units: &[u16]) -> bool
+    ensures { result ≡ pointwise nat_eq units.now (codes "<clinit>") }
+{
+    let name: [u16; 8] = [60, 99, 108, 105, 110, 105, 116, 62];
+    units == name.as_slice()
+}
+
+/// Whether the units are `V`.
+fn is_void(units: &[u16]) -> bool
+    ensures { result ≡ pointwise nat_eq units.now (codes "V") }
+{
+    let name: [u16; 1] = [86];
+    units == name.as_slice()
+}
+
+/// Whether there are no parameters.
+fn takes_nothing(program: &Program, parameters: &[u32]) -> bool
+    ensures { result ≡ types_are program.now parameters.now [] }
+{
+    match parameters {
+        [] => true,
+        [..] => false,
+    }
+}
+
+/// Whether the proto takes nothing and gives nothing.
+fn is_bare_proto(program: &Program, proto: &Proto) -> bool
+    ensures { result ≡ proto_is program.now [] (codes "V") (Some proto.now) }
+{
+    is_void(type_units(program, proto.result))
+        && takes_nothing(program, proto.parameters.as_slice())
+}
+
+/// Whether the proto of a number takes nothing and gives nothing.
+fn is_bare(program: &Program, proto: u32) -> bool
+    ensures { result ≡ proto_is program.now [] (codes "V") (slice_get program.now.protos proto) }
+{
+    match program.protos.as_slice().get(proto as usize) {
+        Some(found) => is_bare_proto(program, found),
+        None => false,
+    }
+}
+
+/// Whether the method is named `<clinit>`, takes nothing and gives nothing.
+fn is_initialiser(program: &Program, method: &Method) -> bool
+    ensures { result ≡ is_initialiser program.now method.now }
+{
+    match program.methods.as_slice().get(method.name as usize) {
+        Some(name) => { is_clinit(units_of(program, name.name)) && is_bare(program, name.proto) }
         None => false,
     }
 }
@@ -174,11 +235,32 @@ pub fn packages(alloc: Global, program: &Program) -> Result<Vec<u32>, AllocError
     Ok(numbers)
 }
 
-/// The place of the `<clinit>` among the methods of a class.
-pub fn initialiser(program: &Program, class: &Class) -> Option<u32> {
+/// Whether the method is static and has code.
+fn runs(method: &Method) -> bool
+    ensures { result ≡ runs (Some method.now) }
+{
+    method.flags.has(Flags::STATIC) && method.body.is_some()
+}
+
+/// The place of the first method that is named `<clinit>`, takes nothing and gives nothing, where it runs.
+fn running(method: &Method, place: usize) -> Option<u32>
+    ensures { place < 2 ^ 32 → result ≡ cond (runs (Some method.now)) (Some place) None }
+{
+    if runs(method) {
+        Some(word(place))
+    } else {
+        None
+    }
+}
+
+/// The place of the initialiser among the methods of a class: its static method with code that is named `<clinit>`, takes
+/// nothing and gives nothing.
+pub fn initialiser(program: &Program, class: &Class) -> Option<u32>
+    ensures { length class.now.methods < 2 ^ 32 → result ≡ initialiser_of program.now (Some class.now) }
+{
     for (place, method) in class.methods.as_slice().iter().enumerate() {
-        if is_initialiser(program, method.name) {
-            return Some(word(place));
+        if is_initialiser(program, method) {
+            return running(method, place);
         }
     }
     None

@@ -16,4 +16,4 @@ pub returns-in-Ok-clause-acyclic : goal.returns-in-Ok-clause-acyclic
 returns-in-Ok-clause-acyclic c = λ h. built_acyclic c.args.program.now c.complete.result (filled c.args.program.now c.in-Ok.shape c.complete.result h c.in-Ok.ensures.made c.complete.ensures.links (c.complete.ensures.names h))
 
 pub returns-in-Ok-clause-resolved : goal.returns-in-Ok-clause-resolved
-returns-in-Ok-clause-resolved c = λ h. resolved c.args.program.now c.complete.result (filled c.args.program.now c.in-Ok.shape c.complete.result h c.in-Ok.ensures.made c.complete.ensures.links (c.complete.ensures.names h)) c.complete.ensures.targets
+returns-in-Ok-clause-resolved c = λ h. resolved c.args.program.now c.complete.result (filled c.args.program.now c.in-Ok.shape c.complete.result h c.in-Ok.ensures.made c.complete.ensures.links (c.complete.ensures.names h)) c.complete.ensures.targets (c.complete.ensures.starts h)

@@ -1,6 +1,6 @@
 use super::*;
 use dex_base::Text;
-use program_model::{Class, Flags, Method, MethodAt, MethodName, Program, Proto, Version};
+use program_model::{Body, Class, Flags, Method, MethodAt, MethodName, Program, Proto, Version};
 use seq::Seq;
 use std::alloc::{AllocError, Global};
 use std::test::*;
@@ -22,6 +22,19 @@ fn text(alloc: Global, ascii: &str) -> Result<Text, AllocError> {
     Ok(Text::from_vec(units))
 }
 
+/// A static method has code.
+fn body_of(alloc: Global, flags: u32) -> Option<Body> {
+    if !Flags(flags).has(Flags::STATIC) {
+        return None;
+    }
+    Some(Body {
+        registers: 0,
+        ins: 0,
+        insns: Seq::new(alloc),
+        regions: Seq::new(alloc),
+    })
+}
+
 fn make_class(alloc: Global, made: &Made<'_>) -> Result<Class, AllocError> {
     let mut methods = Seq::new(alloc);
     for (name, flags) in made.methods {
@@ -30,7 +43,7 @@ fn make_class(alloc: Global, made: &Made<'_>) -> Result<Class, AllocError> {
             flags: Flags(*flags),
             marks: Seq::new(alloc),
             parameter_marks: Seq::new(alloc),
-            body: None,
+            body: body_of(alloc, *flags),
             lines: Seq::new(alloc),
         })?;
     }

@@ -1,17 +1,17 @@
 -- Where classes have ranks, none is its own ancestor.
-use Rattle.std.proofs.Common.{◌≡◌, ℕ, zero, suc, ◌<◌, ◌≤◌, ◌⊎◌, inl, inr, Bool, true, false, true≢false, nat_eq, List, [], ◌∷◌, length, Option, Some, None, Result, Ok, Err, refl, sym, ap, subst, ◌∙◌, arith, ltb-true}
-use Rattle.std.specs.Prelude.{◌&&◌, ◌||◌, cond, slice_get, nat_lt, position, option_and_then, IfOk}
+use Rattle.std.proofs.Common.{◌≡◌, ℕ, ◌<◌, inl, inr, Bool, true, false, true≢false, nat_eq, List, [], ◌∷◌, length, Option, Some, None, Result, Ok, Err, refl, sym, ap, ◌∙◌, arith, ltb-true}
+use Rattle.std.specs.Prelude.{◌&&◌, ◌||◌, slice_get, nat_lt, option_and_then, IfOk}
 use Rattle.std.specs.List.{list_any, list_all}
 use Rattle.program_model.specs.declared.program.Class.{Class}
 use Rattle.program_model.specs.declared.program.Program.{Program}
 use Rattle.program_model.specs.Lookups.{class_place}
 use Rattle.class_defs.specs.Places.{super_place, placed, places_of, listed, interface_places}
-use Rattle.class_defs.specs.ClassGraph.{IsTwice, IsAbove, StepsTo, IsAncestor}
+use Rattle.class_defs.specs.ClassGraph.{IsTwice, IsAbove, StepsTo}
 use Rattle.class_defs.proofs.Positions.{number_test, number_of, place_entry, place_first}
 use Rattle.class_defs.proofs.WellFormed.{and_left, and_right}
 use Rattle.hierarchy.specs.declared.build.Hierarchy.{Hierarchy}
 use Rattle.hierarchy.specs.declared.fault.HierarchyFault.{HierarchyFault}
-use Rattle.hierarchy.specs.Ranks.{is_lower, is_lower_all, is_behind, IsRanked}
+use Rattle.hierarchy.specs.Ranks.{is_lower, is_lower_all, IsRanked}
 use Rattle.hierarchy.specs.Shapes.{IsOf, IsAcyclic}
 use Rattle.hierarchy.proofs.Keyed.{got_short}
 

@@ -1,12 +1,11 @@
 -- What is asked of the targets.
-use Rattle.std.proofs.Common.{◌≡◌, ℕ, List, length, Option, Some, None, Result, Ok, Err, refl, sym, ap, ◌∙◌, true}
-use Rattle.std.specs.Prelude.{slice_get, map, IfOk, slice_index_or}
+use Rattle.std.proofs.Common.{◌≡◌, ℕ, Option, Some, None, Result, Ok, Err, refl, ap, ◌∙◌}
+use Rattle.std.specs.Prelude.{slice_get, IfOk}
 use Rattle.std.specs.Option.{option_map}
 use Rattle.std.proofs.lemmas.Option.{slice_get-map}
 use Rattle.program_model.specs.declared.pools.FieldName.{FieldName}
 use Rattle.program_model.specs.declared.pools.MethodName.{MethodName}
 use Rattle.program_model.specs.declared.program.Program.{Program}
-use Rattle.program_model.specs.ProgramRules.{is_well_formed}
 use Rattle.class_defs.specs.Finding.{by_entry, field_by, resolves_field, resolves_method}
 use Rattle.hierarchy.specs.declared.build.Hierarchy.{Hierarchy}
 use Rattle.hierarchy.specs.declared.build.Targets.{Targets}

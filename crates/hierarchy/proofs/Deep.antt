@@ -2,12 +2,12 @@
 use Rattle.std.proofs.Common.{◌≡◌, ℕ, zero, suc, ◌+◌, ◌<◌, ◌≤◌, ◌⊎◌, inl, inr, Bool, true, false, true≢false, List, [], ◌∷◌, ◌++◌, length, Option, Some, None, refl, sym, ap, subst, ◌∙◌, arith, append_assoc, length-append, ltb-true, lt-ltb}
 use Rattle.std.specs.Prelude.{◌&&◌, slice_index_or, slice_set, nat_lt}
 use Rattle.std.specs.List.{list_all}
-use Rattle.std.specs.Option.{option_or, option_map}
+use Rattle.std.specs.Option.{option_or}
 use Rattle.std.proofs.lemmas.Bool.{cases_lt}
 use Rattle.class_defs.specs.Finding.{first_among}
 use Rattle.class_defs.proofs.Positions.{both}
 use Rattle.class_defs.proofs.WellFormed.{and_left, and_right}
-use Rattle.hierarchy.specs.Walking.{Skips, Hits, Opens, Visits, deep, IsSpent}
+use Rattle.hierarchy.specs.Walking.{Skips, Opens, Visits, deep, IsSpent}
 use Rattle.hierarchy.proofs.Marks.{marked_at, set_size}
 
 or_more : {X : Type 0} (a b c : Option X) → option_or (option_or a b) c ≡ option_or a (option_or b c)

@@ -1,7 +1,7 @@
 -- Members by class and key.
-use Rattle.std.proofs.Common.{◌≡◌, ℕ, zero, suc, ◌+◌, ◌<◌, ◌≤◌, ◌⊎◌, inl, inr, Bool, true, false, true≢false, nat_eq, List, [], ◌∷◌, ◌++◌, map, take, get_or, length, Option, Some, None, refl, sym, ap, subst, ◌∙◌, arith}
+use Rattle.std.proofs.Common.{◌≡◌, ℕ, zero, suc, ◌+◌, ◌<◌, Bool, true, false, nat_eq, List, [], ◌∷◌, ◌++◌, map, take, get_or, length, Option, Some, None, refl, sym, ap, subst, ◌∙◌, arith}
 use Rattle.std.proofs.lemmas.List.{take_more, length-take-le, map_more}
-use Rattle.std.specs.Prelude.{◌&&◌, cond, slice_get, slice_index_or, position, option_and_then}
+use Rattle.std.specs.Prelude.{◌&&◌, cond, slice_get, position}
 use Rattle.std.specs.Option.{option_or}
 use Rattle.class_defs.proofs.Positions.{number_test, number_of, same_test, position_snoc}
 use Rattle.class_defs.proofs.WellFormed.{and_left, and_right}

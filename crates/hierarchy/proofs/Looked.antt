@@ -1,27 +1,25 @@
 -- Looking up the methods of a class by key.
-use Rattle.std.proofs.Common.{◌≡◌, ℕ, zero, suc, ◌+◌, ◌-◌, ◌^◌, ◌<◌, ◌≤◌, ◌⊎◌, inl, inr, Bool, true, false, true≢false, nat_eq, List, [], ◌∷◌, map, length, Option, Some, None, refl, sym, ap, subst, ◌∙◌, arith}
+use Rattle.std.proofs.Common.{◌≡◌, ℕ, zero, suc, ◌+◌, ◌-◌, ◌<◌, ◌≤◌, Bool, true, false, nat_eq, List, [], ◌∷◌, map, length, Option, Some, None, refl, sym, ap, ◌∙◌, arith}
 use Rattle.std.specs.Prelude.{◌&&◌, ◌||◌, ◌==◌, not, cond, slice_get, slice_index_or, position, option_and_then}
 use Rattle.std.specs.Option.{option_map, option_or}
-use Rattle.std.proofs.lemmas.Option.{slice_get-map, slice_get_past}
-use Rattle.std.proofs.lemmas.Bool.{cases_lt}
+use Rattle.std.proofs.lemmas.Option.{slice_get-map}
 use Rattle.program_model.specs.declared.pools.MethodName.{MethodName}
 use Rattle.program_model.specs.declared.program.Method.{Method}
 use Rattle.program_model.specs.declared.program.MethodAt.{MethodAt}
 use Rattle.program_model.specs.declared.program.Class.{Class}
 use Rattle.program_model.specs.declared.program.Program.{Program}
-use Rattle.program_model.specs.Texts.{first_unit, string_text}
-use Rattle.program_model.specs.Lookups.{class_place, method_at}
+use Rattle.program_model.specs.Texts.{first_unit}
+use Rattle.program_model.specs.Lookups.{class_place}
 use Rattle.program_model.specs.MemberRules.{is_static, is_private, is_direct, name_of_method}
-use Rattle.class_defs.specs.Places.{super_place, chain_from, chain_of}
-use Rattle.class_defs.specs.Members.{names_method, is_method, method_of_class, own_method, own_virtual, virtual_only, is_virtual}
+use Rattle.class_defs.specs.Places.{super_place, chain_from}
+use Rattle.class_defs.specs.Members.{names_method, is_method, method_of_class, own_method}
 use Rattle.class_defs.specs.Finding.{first_among, finds_from, finds_static, by_entry}
 use Rattle.class_defs.proofs.Positions.{both, number_test, number_of, same_test, position_step}
 use Rattle.class_defs.proofs.WellFormed.{and_left, and_right}
 use Rattle.hierarchy.specs.declared.build.Hierarchy.{Hierarchy}
-use Rattle.hierarchy.specs.Membership.{key_at, method_pair, AreKeys, found_in, place_in_rows, method_rows, is_virtual_by}
+use Rattle.hierarchy.specs.Membership.{key_at, method_pair, found_in, is_virtual_by}
 use Rattle.hierarchy.specs.Naming.{IsNamed, IsKey, is_special}
 use Rattle.hierarchy.specs.Shapes.{IsOf}
-use Rattle.hierarchy.proofs.Keyed.{got_short}
 
 -- ---- the first place by another test
 

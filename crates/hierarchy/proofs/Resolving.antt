@@ -1,8 +1,8 @@
 -- What names resolve to, along the classes above a class.
-use Rattle.std.proofs.Common.{◌≡◌, ℕ, zero, suc, ◌+◌, ◌<◌, ◌≤◌, ◌⊎◌, inl, inr, Bool, true, false, true≢false, nat_eq, List, [], ◌∷◌, ◌++◌, length, Option, Some, None, Result, Ok, Err, refl, sym, ap, subst, ◌∙◌, arith, ltb-true, append-nil}
-use Rattle.std.specs.Prelude.{◌&&◌, slice_get, slice_index_or, nat_lt, option_and_then, flat_map, IfOk}
+use Rattle.std.proofs.Common.{◌≡◌, ℕ, zero, suc, ◌<◌, ◌≤◌, inl, inr, Bool, true, false, List, [], ◌∷◌, ◌++◌, length, Option, Some, None, Result, Ok, Err, refl, sym, ap, subst, ◌∙◌, ltb-true, append-nil}
+use Rattle.std.specs.Prelude.{◌&&◌, slice_index_or, nat_lt, option_and_then, flat_map, IfOk}
 use Rattle.std.specs.List.{list_all}
-use Rattle.std.specs.Option.{option_or, option_map}
+use Rattle.std.specs.Option.{option_or}
 use Rattle.std.proofs.lemmas.Option.{slice_get_past}
 use Rattle.std.proofs.lemmas.Bool.{cases_lt}
 use Rattle.program_model.specs.declared.program.MethodAt.{MethodAt}
@@ -18,7 +18,7 @@ use Rattle.hierarchy.specs.Naming.{IsFieldKey, IsKey}
 use Rattle.hierarchy.specs.Ranks.{is_lower, is_lower_all, IsRanked}
 use Rattle.hierarchy.specs.Shapes.{IsOf}
 use Rattle.hierarchy.specs.Tables.{read_at, row_of}
-use Rattle.hierarchy.specs.Walking.{Skips, Hits, Opens, Visits, deep, IsSpent, in_interfaces, in_lists}
+use Rattle.hierarchy.specs.Walking.{Visits, deep, IsSpent, in_interfaces, in_lists}
 use Rattle.hierarchy.proofs.Deep.{Going, begins, ends, hits, skips, opens, all_join, among_same, among_join}
 use Rattle.hierarchy.proofs.LookedFields.{field_some, field_none}
 use Rattle.hierarchy.proofs.Looked.{found_some, found_none}

@@ -1,5 +1,5 @@
 -- A class of a well-formed program has few members.
-use Rattle.std.proofs.Common.{◌≡◌, ℕ, zero, suc, ◌+◌, ◌-◌, ◌*◌, ◌^◌, ◌<◌, ◌≤◌, Bool, true, false, true≢false, nat_eq, eqb, List, [], ◌∷◌, ◌++◌, map, length, Option, Some, None, refl, sym, ap, subst, ◌∙◌, arith, leb-true}
+use Rattle.std.proofs.Common.{◌≡◌, ℕ, suc, ◌-◌, ◌^◌, ◌<◌, ◌≤◌, Bool, true, false, true≢false, nat_eq, eqb, List, [], ◌∷◌, ◌++◌, map, length, Option, Some, None, refl, sym, ap, subst, ◌∙◌, arith, leb-true}
 use Rattle.std.specs.Prelude.{◌&&◌, ◌||◌, slice_get, nat_le, nat_lt, if◌then◌else◌}
 use Rattle.std.specs.List.{list_any, IsDistinct, AllByRecursion}
 use Rattle.std.specs.Option.{option_map}
@@ -21,7 +21,7 @@ use Rattle.program_model.specs.ProgramRules.{is_well_formed}
 use Rattle.std.specs.List.{list_all}
 use Rattle.class_defs.proofs.Positions.{number_of}
 use Rattle.class_defs.proofs.WellFormed.{and_left, and_right, all_at, sound, class_parts, few_classes, Sound, ClassFits}
-use Rattle.hierarchy.specs.Membership.{key_at, field_rows, method_rows, AreShort}
+use Rattle.hierarchy.specs.Membership.{key_at, AreShort}
 use Rattle.hierarchy.specs.Naming.{HasShortRows}
 use Rattle.hierarchy.proofs.Keyed.{got_short}
 

@@ -1,6 +1,6 @@
 -- Where the initialisers of the classes are.
-use Rattle.std.proofs.Common.{◌≡◌, ℕ, zero, suc, ◌+◌, ◌-◌, ◌^◌, ◌<◌, ◌≤◌, Bool, true, false, true≢false, nat_eq, List, [], ◌∷◌, map, take, get_or, length, Option, Some, None, Result, Ok, Err, refl, sym, ap, subst, ◌∙◌, arith}
-use Rattle.std.specs.Prelude.{cond, slice_get, slice_index_or, position, option_and_then, IfOk}
+use Rattle.std.proofs.Common.{◌≡◌, ℕ, zero, suc, ◌-◌, ◌^◌, ◌<◌, ◌≤◌, Bool, true, false, List, [], ◌∷◌, map, take, length, Option, Some, None, refl, sym, ap, ◌∙◌, arith}
+use Rattle.std.specs.Prelude.{cond, slice_get, position}
 use Rattle.std.specs.Option.{option_map}
 use Rattle.std.proofs.lemmas.Option.{slice_get-map}
 use Rattle.program_model.specs.declared.program.Method.{Method}
@@ -9,10 +9,9 @@ use Rattle.program_model.specs.declared.program.Program.{Program}
 use Rattle.program_model.specs.ProgramRules.{is_well_formed}
 use Rattle.class_defs.specs.Members.{types_are}
 use Rattle.class_defs.specs.Starts.{is_initialiser, runs, running, initialiser_of, initialiser_place}
-use Rattle.class_defs.proofs.Positions.{position_step, place_entry}
+use Rattle.class_defs.proofs.Positions.{position_step}
 use Rattle.hierarchy.specs.Tables.{known, read_at}
 use Rattle.hierarchy.specs.Starting.{place_or_none}
-use Rattle.hierarchy.proofs.Indexed.{AtPlace}
 use Rattle.hierarchy.proofs.Keyed.{got_short}
 use Rattle.hierarchy.proofs.Placed.{known_small}
 use Rattle.hierarchy.proofs.Short.{few_members}

@@ -1,4 +1,3 @@
-use Rattle.std.proofs.Common.{arith, length}
 use Rattle.hierarchy.proofs.Started.{starts_are, few_of}
 use Rattle.hierarchy.proofs.build.find_starts.Goals as goal
 

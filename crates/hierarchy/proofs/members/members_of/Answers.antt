@@ -1,4 +1,4 @@
-use Rattle.std.proofs.Common.{◌≡◌, ◌+◌, ◌<◌, ◌^◌, arith, length, take, sym, subst, ◌∙◌}
+use Rattle.std.proofs.Common.{◌≡◌, ◌+◌, arith, take, sym, subst, ◌∙◌}
 use Rattle.hierarchy.specs.Membership.{found_in}
 use Rattle.hierarchy.proofs.Indexed.{AtPlace, at_place, rows_more}
 use Rattle.hierarchy.proofs.members.members_of.Goals as goal

@@ -1,5 +1,4 @@
-use Rattle.std.proofs.Common.{◌∙◌, ◌≡◌, ◌<◌, sym, length, true, arith}
-use Rattle.program_model.specs.declared.program.Method.{Method}
+use Rattle.std.proofs.Common.{◌∙◌, sym, arith}
 use Rattle.hierarchy.proofs.Indexed.{AtPlace, at_place}
 use Rattle.hierarchy.proofs.Started.{runs_at}
 use Rattle.hierarchy.proofs.names.initialiser.Goals as goal

@@ -1,4 +1,4 @@
-use Rattle.std.proofs.Common.{◌≡◌, ◌<◌, ◌≤◌, length, arith}
+use Rattle.std.proofs.Common.{◌≡◌, ◌≤◌, length, arith}
 use Rattle.hierarchy.specs.Ranks.{rank_at}
 use Rattle.hierarchy.proofs.order.descends.Goals as goal
 

@@ -1,9 +1,8 @@
-use Rattle.std.proofs.Common.{◌≡◌, ◌∙◌, ◌<◌, ◌^◌, Some, get_or, length, refl, ap, sym, arith}
+use Rattle.std.proofs.Common.{◌≡◌, ◌∙◌, Some, get_or, length, refl, ap, sym, arith}
 use Rattle.std.specs.Prelude.{slice_get}
 use Rattle.std.proofs.lemmas.List.{get_or_default}
 use Rattle.program_model.specs.declared.pools.FieldName.{FieldName}
 use Rattle.class_defs.specs.Finding.{field_by}
-use Rattle.hierarchy.specs.Walking.{method_by}
 use Rattle.hierarchy.proofs.Indexed.{AtPlace, at_items, mapped_more}
 use Rattle.hierarchy.proofs.resolve.field_targets.Goals as goal
 

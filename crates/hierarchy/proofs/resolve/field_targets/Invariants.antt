@@ -2,7 +2,7 @@ use Rattle.std.proofs.Common.{◌≡◌, map, take, Some, length}
 use Rattle.program_model.specs.declared.program.Program.{Program}
 use Rattle.class_defs.specs.Finding.{field_by}
 use Rattle.hierarchy.specs.Shapes.{IsOf}
-use Rattle.hierarchy.specs.Walking.{IsFair, method_by}
+use Rattle.hierarchy.specs.Walking.{IsFair}
 use Rattle.hierarchy.proofs.resolve.field_targets.Given as goal
 
 abbrev pub invariant-loop-number : goal.invariant-loop-number

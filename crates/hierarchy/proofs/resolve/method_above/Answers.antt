@@ -1,4 +1,4 @@
-use Rattle.std.proofs.Common.{◌≡◌, ◌≤◌, ◌<◌, ◌-◌, ◌∙◌, length, Some, ap, sym, subst, arith}
+use Rattle.std.proofs.Common.{◌≡◌, ◌<◌, ◌-◌, ◌∙◌, length, Some, ap, sym, subst, arith}
 use Rattle.class_defs.specs.Places.{super_place, chain_of}
 use Rattle.class_defs.specs.Finding.{first_among}
 use Rattle.hierarchy.specs.Walking.{waits, IsSpent, in_interfaces, in_lists}

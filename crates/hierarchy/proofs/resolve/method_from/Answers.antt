@@ -1,4 +1,4 @@
-use Rattle.std.proofs.Common.{length, subst}
+use Rattle.std.proofs.Common.{subst}
 use Rattle.hierarchy.specs.Walking.{IsClear}
 use Rattle.hierarchy.proofs.Resolving.{resolves_some, resolves_other}
 use Rattle.hierarchy.proofs.resolve.method_from.Goals as goal

@@ -1,5 +1,5 @@
-use Rattle.std.proofs.Common.{◌≡◌, ◌∙◌, ◌∷◌, ◌++◌, [], ℕ, refl, ap, sym, subst, length, None, Some}
-use Rattle.class_defs.specs.Finding.{first_among, beside}
+use Rattle.std.proofs.Common.{◌≡◌, ◌∙◌, ◌++◌, [], ℕ, refl, ap, sym, subst, length}
+use Rattle.class_defs.specs.Finding.{first_among}
 use Rattle.hierarchy.specs.Tables.{row_of}
 use Rattle.hierarchy.specs.Walking.{waits, Visits, in_interfaces}
 use Rattle.hierarchy.proofs.Deep.{fewer}

@@ -1,6 +1,5 @@
-use Rattle.std.proofs.Common.{◌≡◌, map, take, Some, length}
+use Rattle.std.proofs.Common.{◌≡◌, map, take, length}
 use Rattle.program_model.specs.declared.program.Program.{Program}
-use Rattle.class_defs.specs.Finding.{field_by}
 use Rattle.hierarchy.specs.Shapes.{IsOf}
 use Rattle.hierarchy.specs.Walking.{IsFair, method_by}
 use Rattle.hierarchy.proofs.resolve.method_targets.Given as goal

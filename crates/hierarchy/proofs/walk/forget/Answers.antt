@@ -1,4 +1,4 @@
-use Rattle.std.proofs.Common.{refl, slice_index, arith, ◌<◌}
+use Rattle.std.proofs.Common.{refl, slice_index, arith}
 use Rattle.hierarchy.proofs.Marks.{cleared_more, all_cleared}
 use Rattle.hierarchy.proofs.walk.forget.Goals as goal
 

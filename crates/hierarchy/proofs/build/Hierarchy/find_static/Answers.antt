@@ -1,5 +1,4 @@
 use Rattle.std.proofs.Common.{sym}
-use Rattle.program_model.specs.declared.pools.MethodName.{MethodName}
 use Rattle.hierarchy.proofs.Indexed.{AtPlace, at_place}
 use Rattle.hierarchy.proofs.Looked.{static_none}
 use Rattle.hierarchy.proofs.build.Hierarchy.find_static.Goals as goal

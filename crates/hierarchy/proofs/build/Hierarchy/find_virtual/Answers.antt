@@ -1,4 +1,4 @@
-use Rattle.std.proofs.Common.{◌≡◌, ◌≤◌, ◌<◌, ◌-◌, ◌∙◌, length, Some, sym, arith}
+use Rattle.std.proofs.Common.{◌≤◌, ◌<◌, ◌-◌, ◌∙◌, length, sym, arith}
 use Rattle.class_defs.specs.Places.{super_place}
 use Rattle.class_defs.specs.Members.{own_virtual}
 use Rattle.class_defs.specs.Finding.{finds_virtual}

@@ -1,4 +1,4 @@
-use Rattle.std.proofs.Common.{◌∙◌, ap, sym}
+use Rattle.std.proofs.Common.{◌∙◌, ap}
 use Rattle.hierarchy.specs.Membership.{is_virtual_by}
 use Rattle.hierarchy.proofs.Looked.{virtual_is}
 use Rattle.hierarchy.proofs.build.Hierarchy.is_virtual.Goals as goal

@@ -1,5 +1,5 @@
 -- The program without its silent calls, by number (ProGuard manual, "-assumenosideeffects").
-use Rattle.std.specs.Prelude.{◌≡◌, ℕ, zero, suc, if◌then◌else◌, Bool, true, false, ◌&&◌, not, List, [], ◌∷◌, map, Option, Some, None, slice_get, slice_index_or, length, nat_eq, nat_lt}
+use Rattle.std.specs.Prelude.{◌≡◌, ◌⊎◌, slice_set, ℕ, zero, suc, if◌then◌else◌, Bool, true, false, ◌&&◌, not, List, [], ◌∷◌, map, Option, Some, None, slice_get, slice_index_or, length, nat_eq, nat_lt}
 use Rattle.std.specs.List.{list_any}
 use Rattle.std.specs.Option.{option_map}
 use Rattle.insn_set.specs.declared.ops.InvokeKind.TheVariants as call
@@ -10,6 +10,9 @@ use Rattle.program_model.specs.declared.program.Method.{Method}
 use Rattle.program_model.specs.declared.program.Class.{Class}
 use Rattle.program_model.specs.declared.program.Program.{Program}
 use Rattle.class_defs.specs.Finding.{finds_static}
+use Rattle.hierarchy.specs.Shapes.{IsCause}
+use Rattle.hierarchy.specs.declared.fault.HierarchyFault.{HierarchyFault}
+use Rattle.hierarchy.specs.declared.fault.HierarchyFault.TheVariants as fault
 
 abbrev pub is_nowhere : {A : Type 0} → Option A → Bool
 is_nowhere None = true
@@ -82,6 +85,28 @@ silenced_to s (suc i) (x ∷ xs) = silenced_insn s x xs ∷ silenced_to s i xs
 -- what is marked is one of these
 pub record ArePartOf (silent : List ℕ) (marks : List Bool) : Type 0 where
   pub are : (n : ℕ) → marked marks n ≡ true → list_any (λ s. nat_eq s n) silent ≡ true
+
+-- exactly the silent methods that a static call finds nowhere in the program are marked
+abbrev pub AreQuiet : Program → List ℕ → List Bool → Type 0
+AreQuiet p silent marks = (n : ℕ) → marked marks n ≡ is_quiet p silent n
+
+-- the mark of a method, where it is one
+abbrev pub noted : Program → ℕ → List Bool → List Bool
+noted p m marks = if is_nowhere (finds_static p m) then slice_set marks m true else marks
+
+-- a program whose class graph has a fault
+abbrev pub IsFault : HierarchyFault → Type 0
+IsFault fault.NoMemory = ⊥
+IsFault _ = Unit {0}
+
+pub record HasGraphFault (p : Program) : Type 0 where
+  pub fault : HierarchyFault
+  pub is : IsFault fault
+  pub cause : IsCause p fault
+
+-- each silent call in an admitted method is a nop, and all else stays; a program without a class graph stays whole
+abbrev pub IsSilent : List ℕ → List Bool → Program → Program → Type 0
+IsSilent silent admitted p q = (q ≡ silenced (is_quiet p silent) admitted p) ⊎ HasGraphFault p
 
 -- some of the silent methods' calls are nops
 pub record IsSilenced (silent : List ℕ) (admitted : List Bool) (p q : Program) : Type 0 where

@@ -1,8 +1,10 @@
 //! Silent calls become nops (ProGuard manual, "-assumenosideeffects").
 
-ghost use Rattle.std.specs.Prelude.{◌≡◌, ◌+◌, true, map, slice_get, slice_set, IfOk};
+ghost use Rattle.std.specs.Prelude.{◌⊎◌, ◌≡◌, ◌+◌, true, map, slice_get, slice_set, IfOk};
 ghost use Rattle.insn_set.specs.declared.form.Insn.TheVariants as form;
-ghost use Rattle.pipeline.specs.Silence.{calls, takes_result, holds_at, marked, is_silent_at, silenced_at, silenced_insns, silenced_body, silenced_method, silenced_class, silenced, ArePartOf, IsSilenced};
+ghost use Rattle.pipeline.specs.Silence.{calls, takes_result, holds_at, marked, is_silent_at, silenced_at, silenced_insns, silenced_body, silenced_method, silenced_class, silenced, ArePartOf, AreQuiet, IsSilenced, IsSilent, noted};
+ghost use Rattle.hierarchy.specs.Shapes.{IsOf};
+ghost use Rattle.program_model.specs.ProgramRules.{is_well_formed};
 
 use crate::graph::hierarchy_of;
 use hierarchy::Hierarchy;
@@ -151,22 +153,31 @@ fn mark(marks: &mut [bool], number: u32)
     }
 }
 
+/// Marks a method where a static call of it finds no method of the program.
+fn note(marks: &mut Vec<bool>, program: &Program, hierarchy: &Hierarchy, method: u32)
+    ensures some { (marks.new.items ≡ marks.old.items) ⊎ (marks.new.items ≡ slice_set marks.old.items method true) }
+    ensures exact { IsOf program.now hierarchy.now → marks.new.items ≡ noted program.now method marks.old.items }
+{
+    if hierarchy.find_static(program, method).is_none() {
+        mark(marks.as_mut_slice(), method);
+    }
+}
+
 /// Which of the methods a silent call may name, for each method number: those of `silent` whose static call finds no
 /// method of the program.
-#[tactic(auto, using(crate::proofs::Silencing::part_none, crate::proofs::Silencing::part_more))]
+#[tactic(auto, using(crate::proofs::Silencing::noting_none, crate::proofs::Silencing::noting_more, crate::proofs::Silencing::noting_ends))]
 fn quiet_methods(
     alloc: Global,
     program: &Program,
     hierarchy: &Hierarchy,
     silent: &[u32],
 ) -> Result<Vec<bool>, AllocError>
-    ensures { IfOk result (λ marks. ArePartOf silent.now marks.items) }
+    ensures part { IfOk result (λ marks. ArePartOf silent.now marks.items) }
+    ensures exact { IsOf program.now hierarchy.now → IfOk result (λ marks. AreQuiet program.now silent.now marks.items) }
 {
     let mut marks = vec![in alloc; false; program.methods.len()]?;
     for method in silent {
-        if hierarchy.find_static(program, *method).is_none() {
-            mark(&mut marks, *method);
-        }
+        note(&mut marks, program, hierarchy, *method);
     }
     Ok(marks)
 }
@@ -174,14 +185,15 @@ fn quiet_methods(
 /// The program with each silent call of the admitted methods a nop at its position. A call is silent where it is static,
 /// names one of the outside's silent methods, finds no method of the program, and no instruction takes its result. All
 /// else stays. The only error is want of memory.
-#[tactic(auto, using(crate::proofs::Silencing::stays_whole))]
+#[tactic(auto, using(crate::proofs::Silencing::stays_whole, crate::proofs::Silencing::none_is_silent, crate::proofs::Silencing::marked_is_silent))]
 pub fn silence(
     alloc: Global,
     program: Program,
     outside: &Outside,
     admitted: &Admitted,
 ) -> Result<Program, AllocError>
-    ensures { IfOk result (λ p. IsSilenced outside.now.silent admitted.now.methods.items program p) }
+    ensures part { IfOk result (λ p. IsSilenced outside.now.silent admitted.now.methods.items program p) }
+    ensures exact { is_well_formed program ≡ true → IfOk result (λ p. IsSilent outside.now.silent admitted.now.methods.items program p) }
 {
     if outside.silent.is_empty() {
         return Ok(program);

@@ -6,10 +6,13 @@ pub mod Climbs
 pub mod Covering
 pub mod Entries
 pub mod Judged
+pub mod Lattice
 pub mod Passed
 pub mod Queue
 pub mod Raises
+pub mod Ranks
 pub mod Reaches
+pub mod Semilattice
 pub mod Solves
 pub mod Throws
 pub mod Visits

@@ -1,5 +1,5 @@
 -- Steps up the chain of a class's program superclasses.
-use Rattle.std.specs.Prelude.{ℕ, zero, suc, Bool, ◌&&◌, not, nat_eq, nat_lt, nat_le, min, length, Option, Some, None, slice_index, slice_index_or, if◌then◌else◌}
+use Rattle.std.specs.Prelude.{ℕ, zero, suc, ◌+◌, Bool, ◌&&◌, not, nat_eq, nat_lt, nat_le, min, length, Option, Some, None, slice_index, slice_index_or, if◌then◌else◌}
 use Rattle.verify.specs.declared.chains.Chains.{Chains}
 
 -- the program superclass of a class
@@ -28,7 +28,7 @@ lifted zero c k d = k
 lifted (suc n) c k d = if nat_le (depth c k) d then k else lifted n c (step c k d) d
 
 abbrev pub lift : Chains → ℕ → ℕ → ℕ
-lift c k d = lifted (length c.supers.items) c k d
+lift c k d = lifted (length c.supers.items + 1) c k d
 
 abbrev pub is_in_chain : Chains → ℕ → ℕ → Bool
 is_in_chain c lower upper = nat_eq (lift c lower (depth c upper)) upper
@@ -51,4 +51,4 @@ meets (suc n) c a b = if nat_eq a b then Some a else elim (stepped_both c a b) [
 
 -- where the chains of two classes meet
 abbrev pub nearest : Chains → ℕ → ℕ → Option ℕ
-nearest c a b = meets (length c.supers.items) c (lift c a (min (depth c a) (depth c b))) (lift c b (min (depth c a) (depth c b)))
+nearest c a b = meets (length c.supers.items + 1) c (lift c a (min (depth c a) (depth c b))) (lift c b (min (depth c a) (depth c b)))

@@ -1,6 +1,6 @@
 //! The program superclasses of each class.
 
-ghost use Rattle.std.specs.Prelude.{◌≡◌, length};
+ghost use Rattle.std.specs.Prelude.{◌≡◌, ◌+◌, length};
 ghost use Rattle.verify.specs.Chains.{above, depth, jump, step, lift, is_in_chain, stepped_both, meets, nearest};
 
 use hierarchy::Hierarchy;
@@ -147,7 +147,7 @@ impl Chains {
         ensures { result ≡ lift self.now class depth }
     {
         let mut at = class;
-        for _ in 0..self.supers.len() {
+        for _ in 0..self.supers.len() + 1 {
             if self.depth(at) <= depth {
                 return at;
             }
@@ -192,11 +192,11 @@ impl Chains {
 
     /// Where the chains of two classes of one depth meet.
     fn meet(&self, first: u32, second: u32) -> Option<u32>
-        ensures { result ≡ meets (length self.now.supers.items) self.now first second }
+        ensures { result ≡ meets (length self.now.supers.items + 1) self.now first second }
     {
         let mut one = first;
         let mut other = second;
-        for _ in 0..self.supers.len() {
+        for _ in 0..self.supers.len() + 1 {
             if one == other {
                 return Some(one);
             }

@@ -2,6 +2,7 @@ pub mod Arrived
 pub mod Arrives
 pub mod Bodies
 pub mod Cells
+pub mod Chained
 pub mod Climbs
 pub mod Covering
 pub mod Entries
@@ -14,6 +15,7 @@ pub mod Ranks
 pub mod Reaches
 pub mod Semilattice
 pub mod Solves
+pub mod Standing
 pub mod Throws
 pub mod Visits
 pub mod Weights

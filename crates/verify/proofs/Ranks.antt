@@ -5,11 +5,11 @@ use Rattle.std.proofs.lemmas.Bool.{eqb-true, eq-eqb}
 use Rattle.verify.specs.declared.kinds.Kind.{Kind}
 use Rattle.verify.specs.declared.kinds.Kind.TheVariants.{Undefined, Word, Zero, WideLow, WideHigh, Fresh, FreshThis, Null, Program, Array, Reference}
 use Rattle.verify.specs.declared.tables.Tables.{Tables}
-use Rattle.verify.specs.Chains.{depth, nearest}
+use Rattle.verify.specs.Chains.{depth, nearest, longest}
 use Rattle.verify.specs.Flow.{greatest, rank_of_place, rank_of_array, rank}
 use Rattle.verify.specs.Joins.{joined, joined_references, joined_arrays, joined_items, joined_deep, class_or_reference, nearest_place, nearest_item, is_flat}
 use Rattle.verify.specs.Kinds.{same_kind, same_number, is_number, is_initialised}
-use Rattle.verify.specs.Meeting.{IsMeeting, longest}
+use Rattle.verify.specs.Meeting.{IsMeeting}
 use Rattle.verify.specs.Shapes.{place_of}
 use Rattle.verify.specs.Types.{item_shape, item_of_class}
 use Rattle.verify.specs.Typings.{IsLattice}

@@ -1,14 +1,11 @@
 -- What the tables of a program keep, so that joins are least upper bounds (this project's profile).
-use Rattle.std.specs.Prelude.{◌≡◌, ℕ, ◌<◌, Bool, true, false, ◌⊎◌, Option, Some, None}
+use Rattle.std.specs.Prelude.{◌≡◌, ℕ, ◌<◌, Bool, true, ◌&&◌, ◌⊎◌, Option, Some, None}
 use Rattle.verify.specs.declared.tables.Tables.{Tables}
-use Rattle.verify.specs.Chains.{depth, is_in_chain, nearest}
+use Rattle.verify.specs.Chains.{above, depth, nearest, longest}
 use Rattle.verify.specs.Joins.{nearest_place, nearest_item}
-use Rattle.verify.specs.Shapes.{is_reference, is_array, is_plain, place_of}
-use Rattle.verify.specs.Types.{item_shape, item_of_class}
-
--- no chain is longer
-abbrev pub longest : ℕ
-longest = 2147483000
+use Rattle.verify.specs.Kinds.{same_number}
+use Rattle.verify.specs.Shapes.{is_reference, place_of}
+use Rattle.verify.specs.Types.{shape_in, item_shape, item_of_class}
 
 -- Two classes that stand in one chain meet at the upper one. The items of arrays say of a class what the item that
 -- stands for the class says, and a class under one that is no interface is none.
@@ -21,3 +18,25 @@ pub record IsMeeting (t : Tables) : Type 0 where
   pub stands : (i j : Option ℕ) (c : ℕ) → nearest_item t i j ≡ Some c → place_of (item_shape t (item_of_class t c)) ≡ Some c
   pub object : place_of (item_shape t t.object) ≡ None
   pub objects : is_reference (item_shape t t.object) ≡ true
+
+-- ---- where that is so
+
+-- the item that stands for a class says so
+abbrev pub stands : Tables → ℕ → Bool
+stands t c = same_number (place_of (item_shape t (item_of_class t c))) (Some c)
+
+abbrev pub stands_too : Tables → Option ℕ → Bool
+stands_too t None = true
+stands_too t (Some c) = stands t c
+
+-- items stand for the classes of the types without their brackets
+abbrev pub BasesBelow : Tables → ℕ → Type 0
+BasesBelow t n = (k : ℕ) → k < n → stands_too t (place_of (shape_in t.bases.items k)) ≡ true
+
+-- items stand for the classes above others
+abbrev pub ClassesBelow : Tables → ℕ → Type 0
+ClassesBelow t n = (k : ℕ) → k < n → stands_too t (above t.chains k) ≡ true
+
+-- the item of arrays of objects is no program class
+abbrev pub has_objects : Tables → Bool
+has_objects t = same_number (place_of (item_shape t t.object)) None && is_reference (item_shape t t.object)

@@ -27,6 +27,7 @@ mod operands;
 mod raising;
 mod setting;
 mod shapes;
+mod sound;
 mod tables;
 mod typed;
 mod wrong;

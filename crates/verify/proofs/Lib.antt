@@ -20,3 +20,4 @@ pub mod Throws
 pub mod Visits
 pub mod Weights
 pub mod Wide
+pub mod Writes

@@ -35,5 +35,5 @@ mod wrong;
 pub use checks::{typings, verify_all};
 pub use fault::TypeFault;
 pub use kinds::Kind;
-pub use laws::joins_law;
+pub use laws::{joins_law, writes_law};
 pub use typed::{Typings, Verifier};

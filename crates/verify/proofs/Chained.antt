@@ -36,10 +36,12 @@ sound_past c k p q r =
 
 -- chains are sound where those of all classes are
 pub chains_of : (c : Chains) (n : ℕ) → length c.supers.items ≡ n → length c.depths.items ≡ n → length c.jumps.items ≡ n → SoundBelow c n → IsChains c
-chains_of c n p q r s = record { sound = λ k. elim (cases_lt k n) [
-    inl h ↦ s k h
+chains_of c n p q r s = record {
+  sound = λ k. elim (cases_lt k n) [
+    | inl h ↦ s k h
     | inr h ↦ sound_past c k (omega (arith, p, h)) (omega (arith, q, h)) (omega (arith, r, h))
-    ] }
+  ];
+}
 
 walk_plus : (c : Chains) (m n q k : ℕ) → q ≡ m + n → walk q c k ≡ walk n c (walk m c k)
 walk_plus c zero n q k e = let h : q ≡ n = omega (arith, e) in ap (λ x. walk x c k) h
@@ -59,6 +61,7 @@ module _ (c : Chains) (s : IsChains c) where
     where
       all : is_linked c k (above c k) ≡ true
       all = left_true (is_linked c k (above c k)) (nat_le (depth c k) (length c.supers.items)) (left_true (is_linked c k (above c k) && nat_le (depth c k) (length c.supers.items)) (nat_lt (depth c k) longest) (s.sound k))
+
       go : (o : Option ℕ) → above c k ≡ o → Linked k
       go None e =
           let h : (nat_eq (depth c k) 0 && nat_eq (jump c k) k) ≡ true = subst (λ x. is_linked c k x ≡ true) e all in
@@ -79,13 +82,13 @@ module _ (c : Chains) (s : IsChains c) where
   walk_depth : (n k : ℕ) → n ≤ depth c k → depth c (walk n c k) + n ≡ depth c k
   walk_depth zero k h = omega arith
   walk_depth (suc n) k h = elim (linked k) [
-    root e d j ↦ absurd (omega (arith, h, d))
+    | root e d j ↦ absurd (omega (arith, h, d))
     | under p e d j ↦ (
-      let i = walk_depth n p (omega (arith, h, d)) in
-      let w : walk (suc n) c k ≡ walk n c p = rw e refl in
-      let v = ap (depth c) w in
-      omega (arith, i, d, v))
-    ]
+        let i = walk_depth n p (omega (arith, h, d)) in
+        let w : walk (suc n) c k ≡ walk n c p = rw e refl in
+        let v = ap (depth c) w in
+        omega (arith, i, d, v))
+  ]
 
   -- ---- what stands above
 
@@ -131,10 +134,10 @@ module _ (c : Chains) (s : IsChains c) where
     steps = u.steps - v.steps;
     fits = (let a = up_depth k x u in let b = up_depth k y v in omega (arith, a, b, d));
     is = (
-      let a = up_depth k x u in
-      let b = up_depth k y v in
-      let w = walk_plus c v.steps (u.steps - v.steps) u.steps k (omega (arith, a, b, d)) in
-      ap (walk (u.steps - v.steps) c) (sym v.is) ∙ sym w ∙ u.is);
+        let a = up_depth k x u in
+        let b = up_depth k y v in
+        let w = walk_plus c v.steps (u.steps - v.steps) u.steps k (omega (arith, a, b, d)) in
+        ap (walk (u.steps - v.steps) c) (sym v.is) ∙ sym w ∙ u.is);
   }
 
   -- ---- jumps
@@ -148,17 +151,17 @@ module _ (c : Chains) (s : IsChains c) where
 
   jump_up_in : (n k : ℕ) → depth c k ≤ n → Up k (jump c k)
   jump_up_in zero k h = elim (linked k) [
-    root e d j ↦ up_same k (jump c k) (sym j)
+    | root e d j ↦ up_same k (jump c k) (sym j)
     | under p e d j ↦ absurd (omega (arith, h, d))
-    ]
+  ]
   jump_up_in (suc n) k h = elim (linked k) [
-    root e d j ↦ up_same k (jump c k) (sym j)
+    | root e d j ↦ up_same k (jump c k) (sym j)
     | under p e d j ↦ (
-      let v = jump_up_in n p (omega (arith, h, d)) in
-      let l = up_least p (jump c p) v in
-      let w = jump_up_in n (jump c p) (omega (arith, h, d, l)) in
-      subst (Up k) (sym j) (over_up p k (up_one k p e d) v w))
-    ]
+        let v = jump_up_in n p (omega (arith, h, d)) in
+        let l = up_least p (jump c p) v in
+        let w = jump_up_in n (jump c p) (omega (arith, h, d, l)) in
+        subst (Up k) (sym j) (over_up p k (up_one k p e d) v w))
+  ]
 
   pub jump_up : (k : ℕ) → Up k (jump c k)
   jump_up k = jump_up_in (depth c k) k (omega arith)
@@ -175,21 +178,21 @@ module _ (c : Chains) (s : IsChains c) where
 
   jump_same_in : (n a b : ℕ) → depth c a ≤ n → depth c a ≡ depth c b → depth c (jump c a) ≡ depth c (jump c b)
   jump_same_in zero a b h d = elim (linked a) [
-    root e f j ↦ (let q = up_least b (jump c b) (jump_up b) in let i = ap (depth c) j in omega (arith, i, f, q, d))
+    | root e f j ↦ (let q = up_least b (jump c b) (jump_up b) in let i = ap (depth c) j in omega (arith, i, f, q, d))
     | under p e f j ↦ absurd (omega (arith, h, f))
-    ]
+  ]
   jump_same_in (suc n) a b h d = elim (linked a) [
-    root e f j ↦ (let q = up_least b (jump c b) (jump_up b) in let i = ap (depth c) j in omega (arith, i, f, q, d))
+    | root e f j ↦ (let q = up_least b (jump c b) (jump_up b) in let i = ap (depth c) j in omega (arith, i, f, q, d))
     | under p e f j ↦ elim (linked b) [
-      root g l i ↦ absurd (omega (arith, f, l, d))
+      | root g l i ↦ absurd (omega (arith, f, l, d))
       | under q g l i ↦ (
-        let z : depth c p ≡ depth c q = omega (arith, f, l, d) in
-        let y = jump_same_in n p q (omega (arith, h, f)) z in
-        let r = up_least p (jump c p) (jump_up p) in
-        let x = jump_same_in n (jump c p) (jump c q) (omega (arith, h, f, r)) y in
-        ap (depth c) j ∙ over_depth p ∙ same_ends (depth c p) (depth c (jump c p)) (depth c q) (depth c (jump c q)) (depth c (jump c (jump c p))) (depth c (jump c (jump c q))) z y x ∙ sym (over_depth q) ∙ sym (ap (depth c) i))
-      ]
+          let z : depth c p ≡ depth c q = omega (arith, f, l, d) in
+          let y = jump_same_in n p q (omega (arith, h, f)) z in
+          let r = up_least p (jump c p) (jump_up p) in
+          let x = jump_same_in n (jump c p) (jump c q) (omega (arith, h, f, r)) y in
+          ap (depth c) j ∙ over_depth p ∙ same_ends (depth c p) (depth c (jump c p)) (depth c q) (depth c (jump c q)) (depth c (jump c (jump c p))) (depth c (jump c (jump c q))) z y x ∙ sym (over_depth q) ∙ sym (ap (depth c) i))
     ]
+  ]
 
   jump_same : (a b : ℕ) → depth c a ≡ depth c b → depth c (jump c a) ≡ depth c (jump c b)
   jump_same a b d = jump_same_in (depth c a) a b (omega arith) d
@@ -210,9 +213,10 @@ module _ (c : Chains) (s : IsChains c) where
     where
       one : Steps k d (above_or (above c k) k)
       one = elim (linked k) [
-        root e f j ↦ absurd (omega (arith, h, f))
+        | root e f j ↦ absurd (omega (arith, h, f))
         | under p e f j ↦ subst (λ o. Steps k d (above_or o k)) (sym e) (record { up = up_one k p e f; above = omega (arith, h, f); falls = omega (arith, f) })
-        ]
+      ]
+
       go : (b : Bool) → (nat_le d (depth c (jump c k)) && nat_lt (depth c (jump c k)) (depth c k)) ≡ b → Steps k d (if b then jump c k else above_or (above c k) k)
       go true e = record {
         up = jump_up k;
@@ -231,6 +235,7 @@ module _ (c : Chains) (s : IsChains c) where
           let i = ih x (omega (arith, h, f)) in
           let e = i.to in
           record { up = up_on k x (lifted n c x d) w.up i.up; to = omega (arith, e, f, a) }
+
       go : (b : Bool) → nat_le (depth c k) d ≡ b → Lifts k d (if b then k else lifted n c (step c k d) d)
       go true e = let l = leb-true (depth c k) d e in record { up = up_itself k; to = omega (arith, l) }
       go false e = on (step c k d) (steps_up k d (leb-false (depth c k) d e))
@@ -278,6 +283,7 @@ module _ (c : Chains) (s : IsChains c) where
     where
       same : a ≡ b → Meets a b (Some a)
       same e = record { left = up_itself a; right = up_same b a (sym e); least = λ y p q. p }
+
       top : depth c a ≡ 0 → (a ≡ b → ⊥) → (y : ℕ) → Up a y → Up b y → ⊥
       top z ne y p q =
           let l = up_least a y p in
@@ -285,49 +291,54 @@ module _ (c : Chains) (s : IsChains c) where
           let k = up_least b y q in
           let j = up_level b y q (omega (arith, z, l, k, d)) in
           ne (i ∙ sym j)
+
       far : (jump c a ≡ jump c b → ⊥) → (0 < depth c a) → depth c (jump c a) < depth c a → Meets a b (meets n c (jump c a) (jump c b))
       far ne z f = further a b (jump c a) (jump c b) (jump_up a) (jump_up b) both (meets n c (jump c a) (jump c b)) (ih (jump c a) (jump c b) (omega (arith, h, f)) (jump_same a b d))
         where
           both : (y : ℕ) → Up a y → Up b y → Up (jump c a) y × Up (jump c b) y
           both y p q = elim (cases_lt (depth c (jump c a)) (depth c y)) [
-            inl l ↦ absurd (
-              let i = up_between a (jump c a) y (jump_up a) p (omega (arith, l)) in
-              let s' = jump_same a b d in
-              let j = up_between b (jump c b) y (jump_up b) q (omega (arith, l, s')) in
-              let k = up_between y (jump c a) (jump c b) i j (omega (arith, s')) in
-              ne (sym (up_level (jump c b) (jump c a) k (sym s'))))
+            | inl l ↦ absurd (
+                let i = up_between a (jump c a) y (jump_up a) p (omega (arith, l)) in
+                let s' = jump_same a b d in
+                let j = up_between b (jump c b) y (jump_up b) q (omega (arith, l, s')) in
+                let k = up_between y (jump c a) (jump c b) i j (omega (arith, s')) in
+                ne (sym (up_level (jump c b) (jump c a) k (sym s'))))
             | inr l ↦ (let s' = jump_same a b d in (up_between a y (jump c a) p (jump_up a) (omega (arith, l)), up_between b y (jump c b) q (jump_up b) (omega (arith, l, s'))))
-            ]
+          ]
+
       jump_falls : 0 < depth c a → depth c (jump c a) < depth c a
       jump_falls z = elim (linked a) [
-        root e f j ↦ absurd (omega (arith, z, f))
+        | root e f j ↦ absurd (omega (arith, z, f))
         | under p e f j ↦ (
-          let l = up_least p (jump_over c p) (over_up p p (up_itself p) (jump_up p) (jump_up (jump c p))) in
-          let i = ap (depth c) j in
-          omega (arith, f, l, i))
-        ]
+            let l = up_least p (jump_over c p) (over_up p p (up_itself p) (jump_up p) (jump_up (jump c p))) in
+            let i = ap (depth c) j in
+            omega (arith, f, l, i))
+      ]
+
       near : (a ≡ b → ⊥) → 0 < depth c a → Meets a b (met_at n c (both_above (above c a) (above c b)))
       near ne z = elim (linked a) [
-        root e f j ↦ absurd (omega (arith, z, f))
+        | root e f j ↦ absurd (omega (arith, z, f))
         | under p e f j ↦ elim (linked b) [
-          root g l i ↦ absurd (omega (arith, z, l, d))
+          | root g l i ↦ absurd (omega (arith, z, l, d))
           | under q g l i ↦ (
-            let m = further a b p q (up_one a p e f) (up_one b q g l) (both p q e f g l) (meets n c p q) (ih p q (omega (arith, h, f)) (omega (arith, f, l, d))) in
-            subst (λ o. Meets a b (met_at n c (both_above o (above c b)))) (sym e) (subst (λ o. Meets a b (met_at n c (both_above (Some p) o))) (sym g) m))
-          ]
+              let m = further a b p q (up_one a p e f) (up_one b q g l) (both p q e f g l) (meets n c p q) (ih p q (omega (arith, h, f)) (omega (arith, f, l, d))) in
+              subst (λ o. Meets a b (met_at n c (both_above o (above c b)))) (sym e) (subst (λ o. Meets a b (met_at n c (both_above (Some p) o))) (sym g) m))
         ]
+      ]
         where
           both : (p q : ℕ) → above c a ≡ Some p → depth c a ≡ suc (depth c p) → above c b ≡ Some q → depth c b ≡ suc (depth c q) → (y : ℕ) → Up a y → Up b y → Up p y × Up q y
           both p q e f g l y u v = elim (cases_lt (depth c y) (depth c a)) [
-            inl k ↦ (up_between a y p u (up_one a p e f) (omega (arith, k, f)), up_between b y q v (up_one b q g l) (omega (arith, k, f, l, d)))
+            | inl k ↦ (up_between a y p u (up_one a p e f) (omega (arith, k, f)), up_between b y q v (up_one b q g l) (omega (arith, k, f, l, d)))
             | inr k ↦ absurd (
-              let x = up_least a y u in
-              let w = up_least b y v in
-              ne (up_level a y u (omega (arith, k, x)) ∙ sym (up_level b y v (omega (arith, k, x, w, d)))))
-            ]
+                let x = up_least a y u in
+                let w = up_least b y v in
+                ne (up_level a y u (omega (arith, k, x)) ∙ sym (up_level b y v (omega (arith, k, x, w, d)))))
+          ]
+
       jumps : (j : Bool) → nat_eq (jump c a) (jump c b) ≡ j → (a ≡ b → ⊥) → 0 < depth c a → Meets a b (met_at n c (if not j then Some (jump c a, jump c b) else both_above (above c a) (above c b)))
       jumps true e ne z = near ne z
       jumps false e ne z = far (eqb-false (jump c a) (jump c b) e) z (jump_falls z)
+
       stepped : (z : Bool) → nat_eq (depth c a) 0 ≡ z → (a ≡ b → ⊥) → Meets a b (met_at n c (if z then None else if not (nat_eq (jump c a) (jump c b)) then Some (jump c a, jump c b) else both_above (above c a) (above c b)))
       stepped true e ne = top (eqb-true (depth c a) 0 e) ne
       stepped false e ne = jumps (nat_eq (jump c a) (jump c b)) refl ne (let w = eqb-false (depth c a) 0 e in pos (depth c a) w)
@@ -335,6 +346,7 @@ module _ (c : Chains) (s : IsChains c) where
           pos : (x : ℕ) → (x ≡ 0 → ⊥) → 0 < x
           pos zero w = absurd (w refl)
           pos (suc x) w = omega arith
+
       go : (e : Bool) → nat_eq a b ≡ e → Meets a b (if e then Some a else elim (stepped_both c a b) [ Some q ↦ meets n c q.0 q.1 | None ↦ None ])
       go true e = same (eqb-true a b e)
       go false e = stepped (nat_eq (depth c a) 0) refl (eqb-false a b e)
@@ -348,6 +360,7 @@ module _ (c : Chains) (s : IsChains c) where
     where
       same_to : Lifts a (min (depth c a) (depth c b)) (lift c a (min (depth c a) (depth c b))) → Lifts b (min (depth c a) (depth c b)) (lift c b (min (depth c a) (depth c b))) → depth c (lift c a (min (depth c a) (depth c b))) ≡ depth c (lift c b (min (depth c a) (depth c b)))
       same_to la lb = let t = la.to in let u = lb.to in omega (arith, t, u)
+
       both : (y : ℕ) → Up a y → Up b y → Up (lift c a (min (depth c a) (depth c b))) y × Up (lift c b (min (depth c a) (depth c b))) y
       both y p q =
           let la = lifts a (min (depth c a) (depth c b)) in
@@ -388,6 +401,7 @@ module _ (c : Chains) (s : IsChains c) where
       end : (u : Up a x) (n : ℕ) → u.steps ≡ n → (x ≡ a) ⊎ depth c x < depth c a
       end u zero f = inl (sym (no_steps a x u.steps f u.is))
       end u (suc n) f = inr (let d = up_depth a x u in omega (arith, d, f))
+
       go : Least a b x → (x ≡ a) ⊎ depth c x < depth c a
       go m = end m.left m.left.steps refl
 

@@ -165,11 +165,11 @@ not_both a b e p q = go (is_number a) (is_number b) refl refl
 
 pub number_joined : (t : Tables) (a b : Kind) → is_number (joined t a b) ≡ (is_number a && is_number b)
 number_joined t a b = elim (joins t a b) [
-  alike e j ↦ ap is_number j ∙ subst (λ x. is_number a ≡ (is_number a && is_number x)) e (and_itself (is_number a))
+  | alike e j ↦ ap is_number j ∙ subst (λ x. is_number a ≡ (is_number a && is_number x)) e (and_itself (is_number a))
   | numbers e p q j ↦ ap is_number j ∙ rw (p, q) refl
   | objects e p q j o ↦ o.other ∙ sym (not_both a b e p q)
   | apart e f g j ↦ ap is_number j ∙ sym f
-  ]
+]
 
 not_made : (a b : Kind) → same_kind a b ≡ false → is_number a ≡ true → is_number b ≡ true → (is_initialised a && is_initialised b) ≡ false
 not_made Zero Zero e p q = absurd (cc)
@@ -179,11 +179,11 @@ not_made a b e p q = absurd (cc)
 
 pub made_joined : (t : Tables) (a b : Kind) → is_initialised (joined t a b) ≡ (is_initialised a && is_initialised b)
 made_joined t a b = elim (joins t a b) [
-  alike e j ↦ ap is_initialised j ∙ subst (λ x. is_initialised a ≡ (is_initialised a && is_initialised x)) e (and_itself (is_initialised a))
+  | alike e j ↦ ap is_initialised j ∙ subst (λ x. is_initialised a ≡ (is_initialised a && is_initialised x)) e (and_itself (is_initialised a))
   | numbers e p q j ↦ ap is_initialised j ∙ sym (not_made a b e p q)
   | objects e p q j o ↦ o.made ∙ rw (p, q) refl
   | apart e f g j ↦ ap is_initialised j ∙ sym g
-  ]
+]
 
 -- ---- joins with a simple kind
 
@@ -242,11 +242,11 @@ kept_made k p = let h : (is_number k || is_initialised k) ≡ true = or_true (is
 kept_joined : (t : Tables) (b c : Kind) → (is_number b || is_initialised b) ≡ true → kept (joined t b c) ≡ joined t b c
 unfolding kept
 kept_joined t b c p = elim (joins t b c) [
-  alike e j ↦ subst (λ x. kept x ≡ x) (sym j) (let h : kept b ≡ b = rw p refl in h)
+  | alike e j ↦ subst (λ x. kept x ≡ x) (sym j) (let h : kept b ≡ b = rw p refl in h)
   | numbers e f g j ↦ subst (λ x. kept x ≡ x) (sym j) refl
   | objects e f g j o ↦ kept_made (joined t b c) o.made
   | apart e f g j ↦ subst (λ x. kept x ≡ x) (sym j) refl
-  ]
+]
 
 pub groups_zero : (t : Tables) (b c : Kind) → Groups t Zero b c
 unfolding kept
@@ -331,11 +331,11 @@ groups_bare t a b c p q = go (same_kind a b) refl
   where
     rest : same_kind a b ≡ false → joined t a (joined t b c) ≡ Undefined
     rest e = elim (joins t b c) [
-      alike f j ↦ subst (λ x. joined t a x ≡ Undefined) (sym j) (with_bare t a b p q ∙ rw e refl)
+      | alike f j ↦ subst (λ x. joined t a x ≡ Undefined) (sym j) (with_bare t a b p q ∙ rw e refl)
       | numbers f g h j ↦ subst (λ x. joined t a x ≡ Undefined) (sym j) (bare_apart t a Word p q refl)
       | objects f g h j o ↦ bare_apart t a (joined t b c) p q (or_true (is_number (joined t b c)) (is_initialised (joined t b c)) o.made)
       | apart f g h j ↦ subst (λ x. joined t a x ≡ Undefined) (sym j) (last a p q)
-      ]
+    ]
       where
         last : (k : Kind) → is_number k ≡ false → is_initialised k ≡ false → joined t k Undefined ≡ Undefined
         last k p q = with_bare t k Undefined p q ∙ end k
@@ -343,6 +343,7 @@ groups_bare t a b c p q = go (same_kind a b) refl
             end : (k : Kind) → (if same_kind k Undefined then k else Undefined) ≡ Undefined
             end Undefined = refl
             end k = refl
+
     go : (x : Bool) → same_kind a b ≡ x → Groups t a b c
     go true e = let s = same_is a b e in subst (λ x. Groups t a x c) s (ap (λ x. joined t x c) (same_joined t a a (kind_itself a)) ∙ sym (bare_itself t a c p q))
     go false e =

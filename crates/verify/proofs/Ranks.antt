@@ -30,6 +30,7 @@ module _ (t : Tables) (m : IsMeeting t) where
     where
       d : ℕ
       d = depth t.chains c
+
       go : (b : Bool) → 2 < min (min (depth t.chains c + depth t.chains c) greatest + (if b then 4 else 5)) greatest
       go true = omega arith
       go false = omega arith
@@ -85,9 +86,11 @@ module _ (t : Tables) (m : IsMeeting t) where
     where
       other : same_number i t.object ≡ true → ⊥
       other f = let h : place_of (item_shape t i) ≡ None = subst (λ x. place_of (item_shape t x) ≡ None) (sym (number_is i t.object f)) m.object in cc
+
       right : (a b : Bool) → (a && b) ≡ true → b ≡ true
       right true b e = e
       right false b e = absurd (cc)
+
       go : (b : Bool) → (nat_eq n 1 && same_number i t.object) ≡ b → (if b then 2 else rank_of_place t i (place_of (item_shape t i))) ≡ rank_of_place t i (Some c)
       go true f = absurd (other (right (nat_eq n 1) (same_number i t.object) f))
       go false f = ap (rank_of_place t i) e
@@ -108,29 +111,31 @@ module _ (t : Tables) (m : IsMeeting t) where
 
   items_fall : (n : ℕ) (i j : Option ℕ) (c d : ℕ) → place_of (item_shape t i) ≡ Some d → nearest_item t i j ≡ Some c → Falls (Array n i) (Array n (item_of_class t c))
   items_fall n i j c d e f = elim (first_place (place_of (item_shape t i)) (place_of (item_shape t j)) c f d e) [
-    inl g ↦ same (same_number i (item_of_class t c)) refl g
+    | inl g ↦ same (same_number i (item_of_class t c)) refl g
     | inr g ↦ inr (
-      let a : rank_of_place t i (Some d) ≡ rank_of_array t n i = sym (placed_rank n i d e) in
-      let b : rank_of_array t n (item_of_class t c) ≡ rank_of_place t (item_of_class t c) (Some c) = placed_rank n (item_of_class t c) c (m.stands i j c f) in
-      let o = own_rank c in
-      let l = low (same_number i (item_of_class t d)) in
-      omega (arith, a, b, o, l, g))
-    ]
+        let a : rank_of_place t i (Some d) ≡ rank_of_array t n i = sym (placed_rank n i d e) in
+        let b : rank_of_array t n (item_of_class t c) ≡ rank_of_place t (item_of_class t c) (Some c) = placed_rank n (item_of_class t c) c (m.stands i j c f) in
+        let o = own_rank c in
+        let l = low (same_number i (item_of_class t d)) in
+        omega (arith, a, b, o, l, g))
+  ]
     where
       low : (b : Bool) → depth t.chains d + depth t.chains d + 4 ≤ min (min (depth t.chains d + depth t.chains d) greatest + (if b then 4 else 5)) greatest
       low true = omega (arith, m.short d)
       low false = omega (arith, m.short d)
+
       high : same_number i (item_of_class t d) ≡ false → rank_of_place t i (Some d) ≡ depth t.chains d + depth t.chains d + 5
       high h = rw h (omega (arith, m.short d))
+
       same : (b : Bool) → same_number i (item_of_class t c) ≡ b → c ≡ d → Falls (Array n i) (Array n (item_of_class t c))
       same true h g = inl (ap (Array n) (sym (number_is i (item_of_class t c) h)))
       same false h g = inr (
-        let a : rank_of_array t n i ≡ rank_of_place t i (Some d) = placed_rank n i d e in
-        let b : rank_of_array t n (item_of_class t c) ≡ rank_of_place t (item_of_class t c) (Some c) = placed_rank n (item_of_class t c) c (m.stands i j c f) in
-        let o = own_rank c in
-        let k : depth t.chains c ≡ depth t.chains d = ap (depth t.chains) g in
-        let u = high (subst (λ x. same_number i (item_of_class t x) ≡ false) g h) in
-        omega (arith, a, b, o, k, u))
+          let a : rank_of_array t n i ≡ rank_of_place t i (Some d) = placed_rank n i d e in
+          let b : rank_of_array t n (item_of_class t c) ≡ rank_of_place t (item_of_class t c) (Some c) = placed_rank n (item_of_class t c) c (m.stands i j c f) in
+          let o = own_rank c in
+          let k : depth t.chains c ≡ depth t.chains d = ap (depth t.chains) g in
+          let u = high (subst (λ x. same_number i (item_of_class t x) ≡ false) g h) in
+          omega (arith, a, b, o, k, u))
 
   deep_fall : (x : ℕ) (i : Option ℕ) (y : ℕ) (j : Option ℕ) → Falls (Array x i) (joined_deep t x i y j)
   deep_fall x i y j = go (is_flat t x i || is_flat t y j)
@@ -142,9 +147,11 @@ module _ (t : Tables) (m : IsMeeting t) where
           left : (a b : Bool) → (a && b) ≡ true → a ≡ true
           left true b e = refl
           left false b e = e
+
           right : (a b : Bool) → (a && b) ≡ true → b ≡ true
           right true b e = e
           right false b e = absurd (cc)
+
           object : (b : Bool) → (nat_eq x 1 && same_number i t.object) ≡ b → Falls (Array x i) (Array 1 t.object)
           object true e = inl (ap (λ n. Array n t.object) (sym (eqb-true x 1 (left (nat_eq x 1) (same_number i t.object) e))) ∙ ap (Array x) (sym (number_is i t.object (right (nat_eq x 1) (same_number i t.object) e))))
           object false e = inr (let l = place_least i (place_of (item_shape t i)) in let r : rank_of_array t x i ≡ rank_of_place t i (place_of (item_shape t i)) = rw e refl in omega (arith, l, r, object_rank))
@@ -156,6 +163,7 @@ module _ (t : Tables) (m : IsMeeting t) where
       some None p f g = deep_fall x i y j
       some (Some c) (Some d) f g = items_fall x i j c d g f
       some (Some c) None f g = absurd (has_place (place_of (item_shape t i)) (place_of (item_shape t j)) c f g)
+
       go : (b : Bool) → Falls (Array x i) (if b then joined_items t x i y j (nearest_item t i j) else joined_deep t x i y j)
       go true = some (nearest_item t i j) (place_of (item_shape t i)) refl refl
       go false = deep_fall x i y j
@@ -163,9 +171,9 @@ module _ (t : Tables) (m : IsMeeting t) where
   classes_fall : (c d : ℕ) (o : Option ℕ) → nearest t.chains c d ≡ o → Falls (Program c) (class_or_reference o)
   classes_fall c d None e = inr (class_least c)
   classes_fall c d (Some x) e = elim (m.falls c d x e) [
-    inl f ↦ inl (ap Program f)
+    | inl f ↦ inl (ap Program f)
     | inr f ↦ inr (let l = m.short c in omega (arith, f, l))
-    ]
+  ]
 
   not_zero : (k : Kind) → is_number k ≡ false → k ≡ Zero → ⊥
   not_zero k e f = let h : is_number Zero ≡ false = subst (λ x. is_number x ≡ false) f e in absurd (cc)
@@ -202,11 +210,11 @@ module _ (t : Tables) (m : IsMeeting t) where
 
   falls : (a b : Kind) → Falls a (joined t a b)
   falls a b = elim (joins t a b) [
-    alike e j ↦ inl j
+    | alike e j ↦ inl j
     | numbers e p q j ↦ subst (Falls a) (sym j) (numbers_fall a p)
     | objects e p q j o ↦ subst (Falls a) (sym j) (references_fall a b p q e)
     | apart e f g j ↦ subst (Falls a) (sym j) (least a)
-    ]
+  ]
 
 pub lattice_of : (t : Tables) → IsMeeting t → IsLattice t
 lattice_of t m = record { swaps = swaps t m; groups = groups t m; falls = falls t m }

@@ -152,20 +152,20 @@ module _ (t : Tables) (m : IsMeeting t) where
 
   pub swaps : (a b : Kind) → joined t a b ≡ joined t b a
   swaps a b = elim (joins t a b) [
-    alike e j ↦ subst (λ x. joined t a x ≡ joined t x a) e refl
+    | alike e j ↦ subst (λ x. joined t a x ≡ joined t x a) e refl
     | numbers e p q j ↦ (let s = sym (same_sides a b) ∙ e in let h : joined t b a ≡ Word = rw s (rw p (rw q refl)) in j ∙ sym h)
     | objects e p q j o ↦ (
-      let s = sym (same_sides a b) ∙ e in
-      let n : (is_number b && is_number a) ≡ false = and_swaps (is_number b) (is_number a) ∙ nn e p q in
-      let h : joined t b a ≡ joined_references t b a = rw s (rw n (rw p (rw q refl))) in
-      j ∙ references_swap a b p q e ∙ sym h)
+        let s = sym (same_sides a b) ∙ e in
+        let n : (is_number b && is_number a) ≡ false = and_swaps (is_number b) (is_number a) ∙ nn e p q in
+        let h : joined t b a ≡ joined_references t b a = rw s (rw n (rw p (rw q refl))) in
+        j ∙ references_swap a b p q e ∙ sym h)
     | apart e f g j ↦ (
-      let s = sym (same_sides a b) ∙ e in
-      let n : (is_number b && is_number a) ≡ false = and_swaps (is_number b) (is_number a) ∙ f in
-      let o : (is_initialised b && is_initialised a) ≡ false = and_swaps (is_initialised b) (is_initialised a) ∙ g in
-      let h : joined t b a ≡ Undefined = rw s (rw n (rw o refl)) in
-      j ∙ sym h)
-    ]
+        let s = sym (same_sides a b) ∙ e in
+        let n : (is_number b && is_number a) ≡ false = and_swaps (is_number b) (is_number a) ∙ f in
+        let o : (is_initialised b && is_initialised a) ≡ false = and_swaps (is_initialised b) (is_initialised a) ∙ g in
+        let h : joined t b a ≡ Undefined = rw s (rw n (rw o refl)) in
+        j ∙ sym h)
+  ]
     where
       nn : same_kind a b ≡ false → is_initialised a ≡ true → is_initialised b ≡ true → (is_number a && is_number b) ≡ false
       nn e p q = not_both a b e p q
@@ -247,12 +247,15 @@ module _ (t : Tables) (m : IsMeeting t) where
     where
       own : aim t c x x (item_of_class t c) ≡ Array x (item_of_class t c)
       own = let r : nat_eq x x ≡ true = eq-eqb x x refl in rw r (rw f (rw (m.itself c) refl))
+
       apart_items : (o : Option ℕ) → joined_items t x (item_of_class t c) z k o ≡ triple_of t x (is_flat t z k) o
       apart_items (Some d) = refl
       apart_items None = let h = not_flat t x (item_of_class t c) (placed (item_shape t (item_of_class t c)) c f) in rw h refl
+
       apart_arrays : (b : Bool) → (if b then joined_items t x (item_of_class t c) z k (nearest_item t (item_of_class t c) k) else joined_deep t x (item_of_class t c) z k) ≡ (if b then triple_of t x (is_flat t z k) (nearest_place t (Some c) (place_of (item_shape t k))) else third t (is_flat t z k))
       apart_arrays true = apart_items (nearest_item t (item_of_class t c) k) ∙ ap (λ o. triple_of t x (is_flat t z k) (nearest_place t o (place_of (item_shape t k)))) f
       apart_arrays false = apart_items None
+
       go : (b : Bool) → same_kind (Array x (item_of_class t c)) (Array z k) ≡ b → joined t (Array x (item_of_class t c)) (Array z k) ≡ aim t c x z k
       go true e = same_joined t (Array x (item_of_class t c)) (Array z k) e ∙ sym own ∙ ap (kind_aim t c x) (same_is (Array x (item_of_class t c)) (Array z k) e)
       go false e = unlike_arrays x (item_of_class t c) z k p q e ∙ apart_arrays (nat_eq x z)
@@ -267,9 +270,11 @@ module _ (t : Tables) (m : IsMeeting t) where
     where
       deep : joined_deep t 1 t.object z k ≡ third t (is_flat t z k)
       deep = let h = object_flat 1 in rw h refl
+
       arrays : (b : Bool) → (if b then joined_items t 1 t.object z k (nearest_item t t.object k) else joined_deep t 1 t.object z k) ≡ third t (is_flat t z k)
       arrays true = ap (joined_items t 1 t.object z k) (ap (λ o. nearest_place t o (place_of (item_shape t k))) m.object ∙ none_with t (place_of (item_shape t k))) ∙ deep
       arrays false = deep
+
       go : (b : Bool) → same_kind (Array 1 t.object) (Array z k) ≡ b → joined t (Array 1 t.object) (Array z k) ≡ third t (is_flat t z k)
       go true e = same_joined t (Array 1 t.object) (Array z k) e ∙ sym (ap (third t) (sym (ap (flat_in t) (same_is (Array 1 t.object) (Array z k) e)) ∙ object_flat 1))
       go false e = unlike_arrays 1 t.object z k refl q e ∙ arrays (nat_eq 1 z)
@@ -294,19 +299,20 @@ module _ (t : Tables) (m : IsMeeting t) where
 
   three : (x : ℕ) (i : Option ℕ) (y : ℕ) (j : Option ℕ) (z : ℕ) (k : Option ℕ) → nat_lt 0 x ≡ true → nat_lt 0 y ≡ true → nat_lt 0 z ≡ true → same_kind (Array x i) (Array y j) ≡ false → joined t (joined t (Array x i) (Array y j)) (Array z k) ≡ triple t x i y j z k
   three x i y j z k p q r d = ap (λ a. joined t a (Array z k)) (unlike_arrays x i y j p q d) ∙ elim (two x i y j) [
-    nearer c e f h ↦ (
-      let s = m.stands i j c f in
-      let g = flags x i y j c f in
-      let w : nat_eq x z ≡ nat_eq y z = ap (λ n. nat_eq n z) (eqb-true x y e) in
-      ap (λ a. joined t a (Array z k)) h ∙ canonical c x z k p r s ∙ rw w (rw e (rw f (rw g refl))))
+    | nearer c e f h ↦ (
+        let s = m.stands i j c f in
+        let g = flags x i y j c f in
+        let w : nat_eq x z ≡ nat_eq y z = ap (λ n. nat_eq n z) (eqb-true x y e) in
+        ap (λ a. joined t a (Array z k)) h ∙ canonical c x z k p r s ∙ rw w (rw e (rw f (rw g refl))))
     | deeper o h ↦ ap (λ a. joined t a (Array z k)) h ∙ third_on (is_flat t x i || is_flat t y j) z k r ∙ sym (apart_triple o)
-    ]
+  ]
     where
       choose : (b : Bool) (o : Option ℕ) → (b ≡ false) ⊎ (o ≡ None) → (if b then triple_of t x ((is_flat t x i || is_flat t y j) || is_flat t z k) o else third t ((is_flat t x i || is_flat t y j) || is_flat t z k)) ≡ third t ((is_flat t x i || is_flat t y j) || is_flat t z k)
       choose false o h = refl
       choose true None h = refl
       choose true (Some c) (inl e) = absurd (cc)
       choose true (Some c) (inr e) = absurd (cc)
+
       apart_triple : (nat_eq x y ≡ false) ⊎ (nearest_item t i j ≡ None) → triple t x i y j z k ≡ third t ((is_flat t x i || is_flat t y j) || is_flat t z k)
       apart_triple (inl e) = choose (nat_eq x y && nat_eq y z) (nearest_place t (nearest_item t i j) (place_of (item_shape t k))) (inl (rw e refl))
       apart_triple (inr e) = choose (nat_eq x y && nat_eq y z) (nearest_place t (nearest_item t i j) (place_of (item_shape t k))) (inr (ap (λ o. nearest_place t o (place_of (item_shape t k))) e ∙ none_with t (place_of (item_shape t k))))
@@ -316,11 +322,13 @@ module _ (t : Tables) (m : IsMeeting t) where
     where
       flag : ((is_flat t x i || is_flat t y j) || is_flat t z k) ≡ ((is_flat t z k || is_flat t y j) || is_flat t x i)
       flag = or_turns (is_flat t x i) (is_flat t y j) (is_flat t z k)
+
       places : nearest_place t (nearest_item t i j) (place_of (item_shape t k)) ≡ nearest_place t (nearest_item t k j) (place_of (item_shape t i))
       places =
           m.groups (place_of (item_shape t i)) (place_of (item_shape t j)) (place_of (item_shape t k))
           ∙ place_swaps (place_of (item_shape t i)) (nearest_place t (place_of (item_shape t j)) (place_of (item_shape t k)))
           ∙ ap (λ o. nearest_place t o (place_of (item_shape t i))) (place_swaps (place_of (item_shape t j)) (place_of (item_shape t k)))
+
       go : (a b : Bool) → nat_eq x y ≡ a → nat_eq y z ≡ b → triple t x i y j z k ≡ triple t z k y j x i
       go true true e f =
           let e' = sym (nat_swaps x y) ∙ e in
@@ -350,17 +358,17 @@ module _ (t : Tables) (m : IsMeeting t) where
       go : (b : Bool) → same_kind (Array x i) (Array y j) ≡ b → joined t (Array x i) (joined t (Array x i) (Array y j)) ≡ joined t (Array x i) (Array y j)
       go true e = subst (λ a. joined t (Array x i) a ≡ a) (sym (same_joined t (Array x i) (Array y j) e)) (same_joined t (Array x i) (Array x i) (kind_itself (Array x i)))
       go false e = subst (λ a. joined t (Array x i) a ≡ a) (sym (unlike_arrays x i y j p q e)) (elim (two x i y j) [
-        nearer c f g h ↦ subst (λ a. joined t (Array x i) a ≡ a) (sym h) (
-          let s = m.stands i j c g in
-          let n : nearest_place t (Some c) (place_of (item_shape t i)) ≡ Some c =
-              place_swaps (Some c) (place_of (item_shape t i)) ∙ ap (nearest_place t (place_of (item_shape t i))) (sym g)
-              ∙ sym (m.groups (place_of (item_shape t i)) (place_of (item_shape t i)) (place_of (item_shape t j)))
-              ∙ ap (λ o. nearest_place t o (place_of (item_shape t j))) (place_itself (place_of (item_shape t i))) ∙ g in
-          let r : nat_eq x x ≡ true = eq-eqb x x refl in
-          swaps (Array x i) (Array x (item_of_class t c)) ∙ canonical c x x i p p s ∙ rw r (rw n refl))
+        | nearer c f g h ↦ subst (λ a. joined t (Array x i) a ≡ a) (sym h) (
+            let s = m.stands i j c g in
+            let n : nearest_place t (Some c) (place_of (item_shape t i)) ≡ Some c =
+            place_swaps (Some c) (place_of (item_shape t i)) ∙ ap (nearest_place t (place_of (item_shape t i))) (sym g)
+            ∙ sym (m.groups (place_of (item_shape t i)) (place_of (item_shape t i)) (place_of (item_shape t j)))
+            ∙ ap (λ o. nearest_place t o (place_of (item_shape t j))) (place_itself (place_of (item_shape t i))) ∙ g in
+            let r : nat_eq x x ≡ true = eq-eqb x x refl in
+            swaps (Array x i) (Array x (item_of_class t c)) ∙ canonical c x x i p p s ∙ rw r (rw n refl))
         | deeper o h ↦ subst (λ a. joined t (Array x i) a ≡ a) (sym h) (
-          swaps (Array x i) (third t (is_flat t x i || is_flat t y j)) ∙ third_on (is_flat t x i || is_flat t y j) x i p ∙ ap (third t) (or_again (is_flat t x i) (is_flat t y j)))
-        ])
+            swaps (Array x i) (third t (is_flat t x i || is_flat t y j)) ∙ third_on (is_flat t x i || is_flat t y j) x i p ∙ ap (third t) (or_again (is_flat t x i) (is_flat t y j)))
+      ])
 
   groups_arrays : (x : ℕ) (i : Option ℕ) (y : ℕ) (j : Option ℕ) (z : ℕ) (k : Option ℕ) → nat_lt 0 x ≡ true → nat_lt 0 y ≡ true → nat_lt 0 z ≡ true → Groups t (Array x i) (Array y j) (Array z k)
   groups_arrays x i y j z k p q r = go (same_kind (Array x i) (Array y j)) (same_kind (Array y j) (Array z k)) refl refl
@@ -368,8 +376,8 @@ module _ (t : Tables) (m : IsMeeting t) where
       go : (a b : Bool) → same_kind (Array x i) (Array y j) ≡ a → same_kind (Array y j) (Array z k) ≡ b → Groups t (Array x i) (Array y j) (Array z k)
       go true b e f = subst (λ a. Groups t (Array x i) a (Array z k)) (same_is (Array x i) (Array y j) e) (ap (λ a. joined t a (Array z k)) (same_joined t (Array x i) (Array x i) (kind_itself (Array x i))) ∙ sym (absorbs x i z k p r))
       go false true e f = subst (λ a. Groups t (Array x i) (Array y j) a) (same_is (Array y j) (Array z k) f) (
-        swaps (joined t (Array x i) (Array y j)) (Array y j) ∙ ap (joined t (Array y j)) (swaps (Array x i) (Array y j)) ∙ absorbs y j x i q p ∙ swaps (Array y j) (Array x i)
-        ∙ ap (joined t (Array x i)) (sym (same_joined t (Array y j) (Array y j) (kind_itself (Array y j)))))
+          swaps (joined t (Array x i) (Array y j)) (Array y j) ∙ ap (joined t (Array y j)) (swaps (Array x i) (Array y j)) ∙ absorbs y j x i q p ∙ swaps (Array y j) (Array x i)
+          ∙ ap (joined t (Array x i)) (sym (same_joined t (Array y j) (Array y j) (kind_itself (Array y j)))))
       go false false e f =
           three x i y j z k p q r e ∙ triple_turns x i y j z k ∙ sym (three z k y j x i r q p (sym (same_sides (Array y j) (Array z k)) ∙ f))
           ∙ swaps (joined t (Array z k) (Array y j)) (Array x i) ∙ ap (joined t (Array x i)) (swaps (Array z k) (Array y j))

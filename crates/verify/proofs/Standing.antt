@@ -80,14 +80,15 @@ meets_where t m n e f c o b d = meets t (record { chains = c; bases = bases; cla
   where
     bases : (k : ℕ) → stands_too t (place_of (shape_in t.bases.items k)) ≡ true
     bases k = elim (cases_lt k m) [
-      inl h ↦ b k h
+      | inl h ↦ b k h
       | inr h ↦ (let g : shape_in t.bases.items k ≡ shape.Void = chained.past t.bases.items k shape.Void (omega (arith, e, h)) in ap (λ x. stands_too t (place_of x)) g)
-      ]
+    ]
+
     classes : (k : ℕ) → stands_too t (above t.chains k) ≡ true
     classes k = elim (cases_lt k n) [
-      inl h ↦ d k h
+      | inl h ↦ d k h
       | inr h ↦ (let g : above t.chains k ≡ None = chained.past t.chains.supers.items k None (omega (arith, f, h)) in ap (stands_too t) g)
-      ]
+    ]
 
 -- tables without bases
 pub meets_bare : (t : Tables) → t.bases.items ≡ [] → length t.chains.supers.items ≡ 0 → t.object ≡ None → IsChains t.chains → IsMeeting t

@@ -46,12 +46,12 @@ module _ (t : Tables) where
     where
       each : (q : ℕ) → Below t (kind_at (slice_set a r k) q) (kind_at (slice_set b r l) q)
       each q = elim (cases_lt r (length a)) [
-        inr p ↦ (
-          let u = set_past a r k p in
-          let w = set_past b r l (let g = f.long in omega (arith, g, p)) in
-          subst (λ x. Below t (kind_at x q) (kind_at (slice_set b r l) q)) (sym u) (subst (λ x. Below t (kind_at a q) (kind_at x q)) (sym w) (f.each q)))
+        | inr p ↦ (
+            let u = set_past a r k p in
+            let w = set_past b r l (let g = f.long in omega (arith, g, p)) in
+            subst (λ x. Below t (kind_at x q) (kind_at (slice_set b r l) q)) (sym u) (subst (λ x. Below t (kind_at a q) (kind_at x q)) (sym w) (f.each q)))
         | inl p ↦ at (nat_eq q r) refl p
-        ]
+      ]
         where
           at : (e : Bool) → nat_eq q r ≡ e → r < length a → Below t (kind_at (slice_set a r k) q) (kind_at (slice_set b r l) q)
           at true e p =
@@ -74,19 +74,19 @@ module _ (t : Tables) where
 
     below_half : (k : Kind) → Below t k half → k ≡ half
     below_half k h = elim (joins t k half) [
-      alike e j ↦ e
+      | alike e j ↦ e
       | numbers e f g j ↦ absurd (not_number g)
       | objects e f g j o ↦ absurd (not_made g)
       | apart e f g j ↦ absurd (n (sym h ∙ j))
-      ]
+    ]
 
     above_half : (k : Kind) → Below t half k → same_kind k half ≡ false → k ≡ Undefined
     above_half k h d = elim (joins t half k) [
-      alike e j ↦ absurd (let u : same_kind half half ≡ false = subst (λ x. same_kind x half ≡ false) (sym e) d in let w = kind_itself half in cc)
+      | alike e j ↦ absurd (let u : same_kind half half ≡ false = subst (λ x. same_kind x half ≡ false) (sym e) d in let w = kind_itself half in cc)
       | numbers e f g j ↦ absurd (not_number f)
       | objects e f g j o ↦ absurd (not_made f)
       | apart e f g j ↦ sym h ∙ j
-      ]
+    ]
 
     cleared_below : (r : ℕ) (a b : List Kind) → AreBelow t a b → AreBelow t (cleared r half a) (cleared r half b)
     cleared_below r a b f = go (same_kind (kind_at a r) half) (same_kind (kind_at b r) half) refl refl

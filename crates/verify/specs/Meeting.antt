@@ -7,8 +7,8 @@ use Rattle.verify.specs.Kinds.{same_number}
 use Rattle.verify.specs.Shapes.{is_reference, place_of}
 use Rattle.verify.specs.Types.{shape_in, item_shape, item_of_class}
 
--- Two classes that stand in one chain meet at the upper one. The items of arrays say of a class what the item that
--- stands for the class says, and a class under one that is no interface is none.
+-- Two classes meet at the nearest class of both chains, if there is one. An item stands for each class at which the items of
+-- two arrays meet, and the item of arrays of objects is no program class.
 pub record IsMeeting (t : Tables) : Type 0 where
   pub itself : (c : ℕ) → nearest t.chains c c ≡ Some c
   pub swaps : (c d : ℕ) → nearest t.chains c d ≡ nearest t.chains d c

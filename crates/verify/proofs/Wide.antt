@@ -14,32 +14,29 @@ use Rattle.verify.specs.declared.setting.Setting.{Setting}
 use Rattle.verify.specs.declared.tables.Tables.{Tables}
 use Rattle.verify.specs.After.{constructed, begun_call, called_by, after_typed, after, receiver_register}
 use Rattle.verify.specs.Flow.{form_after}
-use Rattle.verify.specs.Frames.{Kinds, kind_at, split_at, split, written_one, written_pair, written_kinds}
-use Rattle.verify.specs.Kinds.{forgotten}
+use Rattle.verify.specs.Frames.{Kinds, kind_at, cleared, split, written_one, written_pair, written_kinds}
+use Rattle.verify.specs.Kinds.{forgotten, same_kind}
 use Rattle.verify.specs.Types.{is_constructor}
 
-split_long : (k : Kind) (r : ℕ) (ks : List Kind) → length (split_at k r ks) ≡ length ks
-split_long kind.WideLow r ks = length-set ks (r + 1) kind.Undefined
-split_long kind.WideHigh r ks = length-set ks (r - 1) kind.Undefined
-split_long kind.Undefined r ks = refl
-split_long kind.Word r ks = refl
-split_long kind.Zero r ks = refl
-split_long (kind.Fresh c p) r ks = refl
-split_long kind.FreshThis r ks = refl
-split_long kind.Null r ks = refl
-split_long (kind.Program c) r ks = refl
-split_long (kind.Array n i) r ks = refl
-split_long kind.Reference r ks = refl
+cleared_long : (r : ℕ) (half : Kind) (ks : List Kind) → length (cleared r half ks) ≡ length ks
+cleared_long r half ks = go (same_kind (kind_at ks r) half)
+  where
+    go : (b : Bool) → length (if b then slice_set ks r kind.Undefined else ks) ≡ length ks
+    go true = length-set ks r kind.Undefined
+    go false = refl
+
+split_long : (r : ℕ) (ks : List Kind) → length (split r ks) ≡ length ks
+split_long r ks = cleared_long (r - 1) kind.WideLow (cleared (r + 1) kind.WideHigh ks) ∙ cleared_long (r + 1) kind.WideHigh ks
 
 one_long : (r : ℕ) (k : Kind) (ks : List Kind) → length (written_one r k ks) ≡ length ks
-one_long r k ks = length-set (split r ks) r k ∙ split_long (kind_at ks r) r ks
+one_long r k ks = length-set (split r ks) r k ∙ split_long r ks
 
 pair_long : (r : ℕ) (ks : List Kind) → length (written_pair r ks) ≡ length ks
 pair_long r ks =
     length-set (slice_set (split (r + 1) (split r ks)) r kind.WideLow) (r + 1) kind.WideHigh
     ∙ length-set (split (r + 1) (split r ks)) r kind.WideLow
-    ∙ split_long (kind_at (split r ks) (r + 1)) (r + 1) (split r ks)
-    ∙ split_long (kind_at ks r) r ks
+    ∙ split_long (r + 1) (split r ks)
+    ∙ split_long r ks
 
 kinds_long : (r : ℕ) (k : Kind) (ks : List Kind) → length (written_kinds r k ks) ≡ length ks
 kinds_long r kind.WideLow ks = pair_long r ks

@@ -1,5 +1,5 @@
 -- The kinds of all registers at a position, and how a write changes them (this project's profile).
-use Rattle.std.specs.Prelude.{ℕ, ◌+◌, ◌-◌, Bool, ◌&&◌, List, map, replicate, slice_index_or, slice_set}
+use Rattle.std.specs.Prelude.{ℕ, ◌+◌, ◌-◌, Bool, ◌&&◌, List, map, replicate, slice_index_or, slice_set, if◌then◌else◌}
 use Rattle.verify.specs.declared.frames.Frame.{Frame}
 use Rattle.verify.specs.declared.kinds.Kind.{Kind}
 use Rattle.verify.specs.declared.kinds.Kind.TheVariants.{Undefined, WideLow, WideHigh}
@@ -22,14 +22,13 @@ kind_at ks r = slice_index_or ks r Undefined
 abbrev pub is_pair : List Kind → ℕ → Bool
 is_pair ks r = same_kind (kind_at ks r) WideLow && same_kind (kind_at ks (r + 1)) WideHigh
 
--- a write to one half of a wide makes the other half undefined
-abbrev pub split_at : Kind → ℕ → List Kind → List Kind
-split_at WideLow r ks = slice_set ks (r + 1) Undefined
-split_at WideHigh r ks = slice_set ks (r - 1) Undefined
-split_at k r ks = ks
+-- a register that holds this half of a wide is undefined
+abbrev pub cleared : ℕ → Kind → List Kind → List Kind
+cleared r half ks = if same_kind (kind_at ks r) half then slice_set ks r Undefined else ks
 
+-- a write to one half of a wide makes the other half undefined: a high half stands behind its low half alone
 abbrev pub split : ℕ → List Kind → List Kind
-split r ks = split_at (kind_at ks r) r ks
+split r ks = cleared (r - 1) WideLow (cleared (r + 1) WideHigh ks)
 
 abbrev pub written_one : ℕ → Kind → List Kind → List Kind
 written_one r k ks = slice_set (split r ks) r k

@@ -1,5 +1,5 @@
 -- The kinds by numbers (this project's profile).
-use Rattle.std.specs.Prelude.{ℕ, Bool, true, false, ◌&&◌, nat_eq, Option, Some, None, if◌then◌else◌}
+use Rattle.std.specs.Prelude.{ℕ, Bool, true, false, ◌&&◌, nat_eq, nat_lt, Option, Some, None, if◌then◌else◌}
 use Rattle.verify.specs.declared.kinds.Kind.{Kind}
 use Rattle.verify.specs.declared.kinds.Kind.TheVariants.{Undefined, Word, Zero, WideLow, WideHigh, Fresh, FreshThis, Null, Program, Array, Reference}
 
@@ -27,12 +27,12 @@ is_number Zero = true
 is_number Word = true
 is_number k = false
 
--- null, or an object that a constructor was called on
+-- null, or an object that a constructor was called on; an array has at least one dimension
 abbrev pub is_initialised : Kind → Bool
 is_initialised Zero = true
 is_initialised Null = true
 is_initialised (Program c) = true
-is_initialised (Array n i) = true
+is_initialised (Array n i) = nat_lt 0 n
 is_initialised Reference = true
 is_initialised k = false
 

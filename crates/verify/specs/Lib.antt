@@ -8,6 +8,7 @@ pub mod Flow
 pub mod Frames
 pub mod Joins
 pub mod Kinds
+pub mod Meeting
 pub mod Methods
 pub mod Names
 pub mod Reads

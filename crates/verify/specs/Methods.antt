@@ -17,6 +17,7 @@ use Rattle.verify.specs.declared.tables.Tables.{Tables}
 use Rattle.verify.specs.declared.typed.Verifier.{Verifier}
 use Rattle.verify.specs.Entry.{begun}
 use Rattle.verify.specs.Flow.{greatest}
+use Rattle.verify.specs.Meeting.{IsMeeting}
 use Rattle.verify.specs.Names.{parameters_of, result_of}
 use Rattle.verify.specs.Types.{is_constructor}
 use Rattle.verify.specs.Typings.{Table, IsExact, IsLeastTyping, IsIllTyped}
@@ -109,6 +110,7 @@ pub record RefusesFirst (v : Verifier) (e : TypeFault) : Type 0 where
 pub record IsFor (p : Program) (h : Hierarchy) (v : Verifier) : Type 0 where
   pub program : v.program.now ≡ p
   pub hierarchy : v.hierarchy.now ≡ h
+  pub meets : IsMeeting v.tables
 
 -- ---- by a verifier of the program
 

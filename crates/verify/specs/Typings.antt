@@ -180,10 +180,8 @@ pub record IsIllTyped (s : Setting) (b : Body) (entry : Kinds) (n r : ℕ) : Typ
   pub first : (k : ℕ) → k < n → break_at s b table k ≡ None
   pub none : (y : Table) → IsTyping s b entry y → ⊥
 
--- what makes the solver exact: joins are least upper bounds, what is lower is allowed where the higher is, and places are
--- numbers of 32 bits
+-- what makes the solver exact: what is lower is allowed where the higher is, and places are numbers of 32 bits
 pub record IsExact (s : Setting) (b : Body) : Type 0 where
-  pub lattice : IsLattice s.tables.now
   pub monotone : IsMonotone s
   pub insns : length b.insns ≤ greatest
   pub regions : length b.regions ≤ greatest

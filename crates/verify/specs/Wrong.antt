@@ -15,9 +15,9 @@ use Rattle.verify.specs.declared.calls.Search.TheVariants as search
 use Rattle.verify.specs.declared.setting.Setting.{Setting}
 use Rattle.verify.specs.declared.shapes.Shape.{Shape}
 use Rattle.verify.specs.declared.shapes.Shape.TheVariants as shape
-use Rattle.verify.specs.Kinds.{same_kind}
+use Rattle.verify.specs.Kinds.{is_initialised}
 use Rattle.verify.specs.Shapes.{is_void, is_word, is_wide, is_reference, is_array}
-use Rattle.verify.specs.Types.{shape_of, kind_of, proto_words, is_constructor}
+use Rattle.verify.specs.Types.{shape_of, proto_words, is_constructor}
 use Rattle.verify.specs.Fits.{is_fillable}
 use Rattle.program_model.specs.MemberRules.{has_flag}
 use Rattle.program_model.specs.Lookups.{method_at}
@@ -99,7 +99,7 @@ wrong_result slot.Object h = not (is_reference h)
 
 -- a constructor's return before another constructor was called on its receiver
 abbrev pub ends_early : Setting → Kinds → Bool
-ends_early s a = s.constructs && not (same_kind a.receiver (kind_of s.tables.now s.kind))
+ends_early s a = s.constructs && not (is_initialised a.receiver)
 
 abbrev pub is_wrong : Setting → ℕ → Kinds → Insn → Bool
 is_wrong s n a insn.ReturnVoid = not (is_void (shape_of s.tables.now s.result)) || ends_early s a

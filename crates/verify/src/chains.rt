@@ -1,7 +1,7 @@
 //! The program superclasses of each class.
 
-ghost use Rattle.std.specs.Prelude.{◌≡◌, length};
-ghost use Rattle.verify.specs.Chains.{above, depth, jump, step, lift, is_in_chain, stepped_both, meets, nearest};
+ghost use Rattle.std.specs.Prelude.{◌≡◌, ◌+◌, length, true, IfOk, IfNone};
+ghost use Rattle.verify.specs.Chains.{IsChains, SoundBelow, is_sound_at, is_linked, jump_over, above, depth, jump, step, lift, is_in_chain, stepped_both, meets, nearest};
 
 use hierarchy::Hierarchy;
 use std::alloc::{AllocError, Global};
@@ -18,8 +18,90 @@ pub struct Chains {
 }
 
 impl Chains {
-    /// The chains of so many classes.
-    pub fn make(alloc: Global, hierarchy: &Hierarchy, classes: u32) -> Result<Chains, AllocError> {
+    /// The chains of so many classes. Those of a hierarchy are sound, since it has no class that is its own ancestor.
+    pub fn make(alloc: Global, hierarchy: &Hierarchy, classes: u32) -> Result<Chains, AllocError>
+        ensures { IfOk result IsChains }
+    {
+        let chains = Chains::build(alloc, hierarchy, classes)?;
+        Ok(chains.checked(alloc, classes))
+    }
+
+    /// Chains in which each class stands alone.
+    pub fn alone(alloc: Global) -> Chains
+        ensures sound { IsChains result }
+        ensures none { length result.supers.items ≡ 0 }
+    {
+        Chains {
+            supers: Vec::new(alloc),
+            depths: Vec::new(alloc),
+            jumps: Vec::new(alloc),
+            done: Vec::new(alloc),
+        }
+    }
+
+    /// The chains as they are, if they are sound.
+    fn checked(self, alloc: Global, classes: u32) -> Chains
+        ensures { IsChains result }
+    {
+        if self.is_sound(classes) {
+            self
+        } else {
+            Chains::alone(alloc)
+        }
+    }
+
+    /// Whether the chains of so many classes are sound.
+    fn is_sound(&self, classes: u32) -> bool
+        ensures { result ≡ true → IsChains self.now }
+    {
+        let count = classes as usize;
+        if self.supers.len() != count || self.depths.len() != count || self.jumps.len() != count {
+            return false;
+        }
+        match self.first_unsound(classes) {
+            Some(_) => false,
+            None => true,
+        }
+    }
+
+    /// The first of so many classes that isn't sound.
+    fn first_unsound(&self, classes: u32) -> Option<u32>
+        ensures none { IfNone result (SoundBelow self.now classes) }
+    {
+        for class in 0..classes {
+            if !self.is_sound_at(class) {
+                return Some(class);
+            }
+        }
+        None
+    }
+
+    /// Whether a class stands right below what is above it, and no deeper than there are classes.
+    fn is_sound_at(&self, class: u32) -> bool
+        ensures { result ≡ is_sound_at self.now class }
+    {
+        self.is_linked(class)
+            && self.depth(class) as usize <= self.supers.len()
+            && self.depth(class) < 2_147_483_000
+    }
+
+    /// Whether a class stands right below what is above it.
+    fn is_linked(&self, class: u32) -> bool
+        ensures { result ≡ is_linked self.now class (above self.now class) }
+    {
+        let depth = self.depth(class);
+        match self.above(class) {
+            Some(above) => {
+                depth > 0
+                    && depth.saturating_sub(1) == self.depth(above)
+                    && self.jump(class) == self.jump_over(above)
+            }
+            None => depth == 0 && self.jump(class) == class,
+        }
+    }
+
+    /// The chains of so many classes, as the hierarchy says.
+    fn build(alloc: Global, hierarchy: &Hierarchy, classes: u32) -> Result<Chains, AllocError> {
         let mut supers = Vec::with_capacity(alloc, classes as usize)?;
         for class in 0..classes {
             supers.push(hierarchy.super_of(class))?;
@@ -70,7 +152,9 @@ impl Chains {
     }
 
     /// The jump of a class directly below this one: where the two jumps from here are equally long, their end.
-    fn jump_over(&self, above: u32) -> u32 {
+    fn jump_over(&self, above: u32) -> u32
+        ensures { result ≡ jump_over self.now above }
+    {
         let first = self.jump(above);
         let second = self.jump(first);
         let near = self.depth(above).saturating_sub(self.depth(first));
@@ -100,13 +184,20 @@ impl Chains {
     }
 
     /// The program superclass of a class.
-    fn above(&self, class: u32) -> Option<u32>
+    pub fn above(&self, class: u32) -> Option<u32>
         ensures { result ≡ above self.now class }
     {
         match self.supers.get(class as usize) {
             Some(above) => *above,
             None => None,
         }
+    }
+
+    /// How many classes there are.
+    pub fn count(&self) -> usize
+        ensures { result ≡ length self.now.supers.items }
+    {
+        self.supers.len()
     }
 
     /// How many program classes stand above a class.
@@ -147,7 +238,7 @@ impl Chains {
         ensures { result ≡ lift self.now class depth }
     {
         let mut at = class;
-        for _ in 0..self.supers.len() {
+        for _ in 0..self.supers.len() + 1 {
             if self.depth(at) <= depth {
                 return at;
             }
@@ -192,11 +283,11 @@ impl Chains {
 
     /// Where the chains of two classes of one depth meet.
     fn meet(&self, first: u32, second: u32) -> Option<u32>
-        ensures { result ≡ meets (length self.now.supers.items) self.now first second }
+        ensures { result ≡ meets (length self.now.supers.items + 1) self.now first second }
     {
         let mut one = first;
         let mut other = second;
-        for _ in 0..self.supers.len() {
+        for _ in 0..self.supers.len() + 1 {
             if one == other {
                 return Some(one);
             }

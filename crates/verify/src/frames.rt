@@ -2,7 +2,7 @@
 
 ghost use Rattle.std.specs.Prelude.{◌≡◌, ◌≤◌, map, slice_set, IfOk};
 ghost use Rattle.verify.specs.Kinds.{replaced, forgotten};
-ghost use Rattle.verify.specs.Frames.{kinds_of, kind_at, is_pair, split, written_one, written_pair, written_kinds, written, replace, forget, all_undefined};
+ghost use Rattle.verify.specs.Frames.{kinds_of, kind_at, is_pair, cleared, split, written_one, written_pair, written_kinds, written, replace, forget, all_undefined};
 
 use crate::kinds::Kind;
 use std::alloc::{AllocError, Global};
@@ -60,16 +60,23 @@ fn put(kinds: &mut [Kind], register: u32, kind: Kind)
     }
 }
 
-/// Makes the other half of a wide value undefined, where the register holds one half.
+/// Makes a register undefined that holds this half of a wide value.
+fn clear(kinds: &mut [Kind], register: u32, half: Kind)
+    ensures { kinds.new ≡ cleared register half kinds.old }
+{
+    if kind_at(kinds, register).is_same(half) {
+        put(kinds, register, Kind::Undefined);
+    }
+}
+
+/// Makes the other half of a wide value undefined, where the register holds one half: a high half stands behind its low
+/// half alone.
 fn split(kinds: &mut [Kind], register: u32)
     requires { register ≤ 65536 }
     ensures { kinds.new ≡ split register kinds.old }
 {
-    match kind_at(kinds, register) {
-        Kind::WideLow => put(kinds, register + 1, Kind::Undefined),
-        Kind::WideHigh => put(kinds, register.saturating_sub(1), Kind::Undefined),
-        _ => {}
-    }
+    clear(kinds, register + 1, Kind::WideHigh);
+    clear(kinds, register.saturating_sub(1), Kind::WideLow);
 }
 
 /// Writes one register.

@@ -85,14 +85,16 @@ impl Kind {
         matches!(self, Kind::Zero | Kind::Word)
     }
 
-    /// Whether it is null, or an object on which a constructor was called. It takes no memory.
+    /// Whether it is null, or an object on which a constructor was called. An array has at least one dimension. It takes
+    /// no memory.
     pub fn is_initialised(self) -> bool
         ensures { result ≡ is_initialised self }
     {
-        matches!(
-            self,
-            Kind::Zero | Kind::Null | Kind::Program { .. } | Kind::Array { .. } | Kind::Reference
-        )
+        match self {
+            Kind::Zero | Kind::Null | Kind::Program { .. } | Kind::Reference => true,
+            Kind::Array { depth, .. } => depth > 0,
+            _ => false,
+        }
     }
 
     /// Whether a move of one register may read it: neither undefined nor half of a wide.

@@ -1,7 +1,8 @@
 //! What the verifier looks up by type, proto and method number, made once for a program.
 
-ghost use Rattle.std.specs.Prelude.{◌≡◌, min, slice_index};
+ghost use Rattle.std.specs.Prelude.{◌≡◌, min, slice_index, IfOk};
 ghost use Rattle.verify.specs.Flow.{greatest};
+ghost use Rattle.verify.specs.Meeting.{IsMeeting};
 ghost use Rattle.verify.specs.Types.{shape_in, shape_of, item_shape, item_of_class, kind_of_class, kind_of_shape, kind_of, reference_kind, cast_kind, kind_of_item, proto_words, is_constructor};
 
 use crate::chains::Chains;
@@ -87,7 +88,7 @@ fn number_at(numbers: &[u32], place: u32) -> u32
 }
 
 /// The shape at a place.
-fn shape_at(shapes: &[Shape], place: u32) -> Shape
+pub fn shape_at(shapes: &[Shape], place: u32) -> Shape
     ensures { result ≡ shape_in shapes.now place }
 {
     match shapes.get(place as usize) {
@@ -273,14 +274,17 @@ impl Tables {
         alloc: Global,
         program: &Program,
         hierarchy: &Hierarchy,
-    ) -> Result<Tables, AllocError> {
+    ) -> Result<Tables, AllocError>
+        ensures { IfOk result IsMeeting }
+    {
         let found = make_bases(alloc, program)?;
         let bases = base_shapes(alloc, &found)?;
         let items = base_items(alloc, &found)?;
         let shapes = type_shapes(alloc, &found, bases.as_slice(), items.as_slice())?;
         let words = proto_words(alloc, program.protos.as_slice(), shapes.as_slice())?;
-        Ok(Tables {
-            chains: Chains::make(alloc, hierarchy, word(program.classes.len()))?,
+        let chains = Chains::make(alloc, hierarchy, word(program.classes.len()))?;
+        let tables = Tables {
+            chains,
             classes: class_names(alloc, program.classes.as_slice())?,
             shapes,
             bases,
@@ -289,7 +293,8 @@ impl Tables {
             words,
             constructors: constructors(alloc, program)?,
             listed: listed(alloc, program)?,
-        })
+        };
+        Ok(tables.checked(alloc))
     }
 
     /// What a type is.

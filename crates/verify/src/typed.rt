@@ -5,6 +5,7 @@ ghost use Rattle.std.specs.Option.{option_copied};
 ghost use Rattle.verify.specs.Entry.{begun};
 ghost use Rattle.verify.specs.Flow.{greatest, places_of};
 ghost use Rattle.verify.specs.Typings.{IsExact, IsLeastTyping, Refuses as RefusesBody};
+ghost use Rattle.verify.specs.Meeting.{IsMeeting};
 ghost use Rattle.verify.specs.Names.{parameters_of, result_of};
 ghost use Rattle.verify.specs.Methods.{receiver_of, constructs, HasTyping, Refuses, Types, HasTypings, TypesAt, RefusesAt, RefusesIn, AllBelow, RefusesFirst, IsFor};
 ghost use Rattle.verify.specs.Frames.{kinds_of};
@@ -103,6 +104,7 @@ impl Setting<'_> {
         body: &Body,
         passed: &Passed<'_>,
     ) -> Result<Typings, TypeFault>
+        requires { IsMeeting self.now.tables.now }
         ensures typed { IfOk result (λ x. IsExact self.now body.now → IsLeastTyping self.now body.now (begun self.now body.now passed.now.receiver passed.now.kinds.now) (places_of x.states.items)) }
         ensures refused { IfErr result (λ e. RefusesBody self.now body.now (begun self.now body.now passed.now.receiver passed.now.kinds.now) method e) }
     {
@@ -191,6 +193,7 @@ impl<'a> Verifier<'a> {
         method: &Method,
         body: &Body,
     ) -> Result<Typings, TypeFault>
+        requires { IsMeeting self.now.tables }
         ensures typed { IfOk result (λ x. HasTyping self.now class.entry.0.now class.entry.1 method.now body.now (places_of x.states.items)) }
         ensures refused { method.now.body ≡ Some body.now → IfErr result (Refuses self.now class.entry.0.now class.entry.1 method.now) }
     {
@@ -225,6 +228,7 @@ impl<'a> Verifier<'a> {
     /// The typings of a method: the least that there are. `IllTyped` stands where there are none. A method without code
     /// has no positions.
     pub fn typings(&self, alloc: Global, method: MethodAt) -> Result<Typings, TypeFault>
+        requires { IsMeeting self.now.tables }
         ensures typed { IfOk result (λ x. TypesAt self.now method (places_of x.states.items)) }
         ensures refused { IfErr result (RefusesAt self.now method) }
     {
@@ -256,6 +260,7 @@ impl<'a> Verifier<'a> {
         class: (&Class, u32),
         method: &Method,
     ) -> Result<Typings, TypeFault>
+        requires { IsMeeting self.now.tables }
         ensures typed { IfOk result (λ x. Types self.now class.entry.0.now class.entry.1 method.now (places_of x.states.items)) }
         ensures refused { IfErr result (Refuses self.now class.entry.0.now class.entry.1 method.now) }
     {
@@ -275,6 +280,7 @@ impl<'a> Verifier<'a> {
         class: &Class,
         at: u32,
     ) -> Result<(), TypeFault>
+        requires { IsMeeting self.now.tables }
         ensures typed { OnOk result (All (HasTypings self.now class.now at) class.now.methods) }
         ensures refused { IfErr result (RefusesIn self.now class.now at) }
     {
@@ -289,6 +295,7 @@ impl<'a> Verifier<'a> {
 
     /// Refuses the first method, in class and method order, that is ill typed.
     pub fn verify_all(&self, alloc: Global) -> Result<(), TypeFault>
+        requires { IsMeeting self.now.tables }
         ensures typed { OnOk result (length self.now.program.now.classes ≤ greatest → AllBelow self.now (length self.now.program.now.classes)) }
         ensures refused { IfErr result (λ e. length self.now.program.now.classes ≤ greatest → RefusesFirst self.now e) }
     {

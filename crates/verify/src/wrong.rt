@@ -128,7 +128,7 @@ impl Setting<'_> {
     fn ends_early(&self, frame: &Frame) -> bool
         ensures { result ≡ ends_early self.now (kinds_of frame.now) }
     {
-        self.constructs && !frame.receiver.is_same(self.own_kind())
+        self.constructs && !frame.receiver.is_initialised()
     }
 
     /// Whether the position is wrong whatever the registers hold.

@@ -1,0 +1,42 @@
+-- What the tables of a program keep, so that joins are least upper bounds (this project's profile).
+use Rattle.std.specs.Prelude.{◌≡◌, ℕ, ◌<◌, Bool, true, ◌&&◌, ◌⊎◌, Option, Some, None}
+use Rattle.verify.specs.declared.tables.Tables.{Tables}
+use Rattle.verify.specs.Chains.{above, depth, nearest, longest}
+use Rattle.verify.specs.Joins.{nearest_place, nearest_item}
+use Rattle.verify.specs.Kinds.{same_number}
+use Rattle.verify.specs.Shapes.{is_reference, place_of}
+use Rattle.verify.specs.Types.{shape_in, item_shape, item_of_class}
+
+-- Two classes meet at the nearest class of both chains, if there is one. An item stands for each class at which the items of
+-- two arrays meet, and the item of arrays of objects is no program class.
+pub record IsMeeting (t : Tables) : Type 0 where
+  pub itself : (c : ℕ) → nearest t.chains c c ≡ Some c
+  pub swaps : (c d : ℕ) → nearest t.chains c d ≡ nearest t.chains d c
+  pub groups : (p q r : Option ℕ) → nearest_place t (nearest_place t p q) r ≡ nearest_place t p (nearest_place t q r)
+  pub falls : (c d x : ℕ) → nearest t.chains c d ≡ Some x → (x ≡ c) ⊎ depth t.chains x < depth t.chains c
+  pub short : (c : ℕ) → depth t.chains c < longest
+  pub stands : (i j : Option ℕ) (c : ℕ) → nearest_item t i j ≡ Some c → place_of (item_shape t (item_of_class t c)) ≡ Some c
+  pub object : place_of (item_shape t t.object) ≡ None
+  pub objects : is_reference (item_shape t t.object) ≡ true
+
+-- ---- where that is so
+
+-- the item that stands for a class says so
+abbrev pub stands : Tables → ℕ → Bool
+stands t c = same_number (place_of (item_shape t (item_of_class t c))) (Some c)
+
+abbrev pub stands_too : Tables → Option ℕ → Bool
+stands_too t None = true
+stands_too t (Some c) = stands t c
+
+-- items stand for the classes of the types without their brackets
+abbrev pub BasesBelow : Tables → ℕ → Type 0
+BasesBelow t n = (k : ℕ) → k < n → stands_too t (place_of (shape_in t.bases.items k)) ≡ true
+
+-- items stand for the classes above others
+abbrev pub ClassesBelow : Tables → ℕ → Type 0
+ClassesBelow t n = (k : ℕ) → k < n → stands_too t (above t.chains k) ≡ true
+
+-- the item of arrays of objects is no program class
+abbrev pub has_objects : Tables → Bool
+has_objects t = same_number (place_of (item_shape t t.object)) None && is_reference (item_shape t t.object)

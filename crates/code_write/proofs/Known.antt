@@ -13,15 +13,15 @@ use Rattle.code_write.specs.Lists.{lists_in, is_same, with_list, index_of, one_l
 abbrev pub same_items : Vec ℕ Global → Vec ℕ Global → Bool
 same_items x y = pointwise nat_eq x.items y.items
 
-any_in : (p : List ℕ → Bool) (keys : List (Vec ℕ Global)) → list_any (λ v. p v.items) keys ≡ list_any p (lists_in keys)
+pub any_in : (p : List ℕ → Bool) (keys : List (Vec ℕ Global)) → list_any (λ v. p v.items) keys ≡ list_any p (lists_in keys)
 any_in p [] = refl
 any_in p (k ∷ keys) = ap (λ b. p k.items || b) (any_in p keys)
 
-place_in : (p : List ℕ → Bool) (keys : List (Vec ℕ Global)) → position_or_len (λ v. p v.items) keys ≡ position_or_len p (lists_in keys)
+pub place_in : (p : List ℕ → Bool) (keys : List (Vec ℕ Global)) → position_or_len (λ v. p v.items) keys ≡ position_or_len p (lists_in keys)
 place_in p [] = refl
 place_in p (k ∷ keys) = ap (λ n. cond (not (p k.items)) (1 + n) 0) (place_in p keys)
 
-lists_if : (b : Bool) (keys : List (Vec ℕ Global)) (list : Vec ℕ Global) → lists_in (if b then keys else keys ++ list ∷ []) ≡ (if b then lists_in keys else lists_in keys ++ list.items ∷ [])
+pub lists_if : (b : Bool) (keys : List (Vec ℕ Global)) (list : Vec ℕ Global) → lists_in (if b then keys else keys ++ list ∷ []) ≡ (if b then lists_in keys else lists_in keys ++ list.items ∷ [])
 lists_if true keys list = refl
 lists_if false keys list = map-append (λ (v : Vec ℕ Global). v.items) keys (list ∷ [])
 
@@ -46,10 +46,10 @@ pub sizes_step : (lists : List (List ℕ)) (i : ℕ) (old new : List (ℕ × ℕ
 sizes_step lists i old new e h =
     let next : i + 1 ≡ suc i = omega arith in
     rw next (
-        ap (λ l. l ++ sized (suc i) (drop (suc i) lists)) e
-        ∙ append_assoc old (sized i (list_at lists i)) (sized (suc i) (drop (suc i) lists))
-        ∙ ap (λ l. old ++ l) (sym (at_drop lists i i))
-        ∙ h
+    ap (λ l. l ++ sized (suc i) (drop (suc i) lists)) e
+    ∙ append_assoc old (sized i (list_at lists i)) (sized (suc i) (drop (suc i) lists))
+    ∙ ap (λ l. old ++ l) (sym (at_drop lists i i))
+    ∙ h
     )
 
 pub size_none : (keys : List (Vec ℕ Global)) (i : ℕ) (old : List (ℕ × ℕ)) → slice_get keys i ≡ None → old ≡ old ++ sized i (list_at (lists_in keys) i)

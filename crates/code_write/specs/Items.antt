@@ -47,8 +47,8 @@ abbrev pub tail_text : Renumber → Spots → ℕ → List Region → List ℕ
 tail_text numbers layout end regions = if nat_eq (length regions) 0 then [] else ranged_text layout.starts end regions (map (handlers_text numbers layout.starts end) regions)
 
 -- the header, the instructions, the payloads, and what stands behind them where there are regions
-unfoldable pub item_text : Renumber → Body → Spots → ℕ → List ℕ
-item_text numbers body layout debug = gap_behind (length body.regions) (with_payloads layout (front_text numbers body layout debug) 0 body.insns) ++ tail_text numbers layout (code_end (length (front_text numbers body layout debug))) body.regions
+unfoldable pub code_item : Renumber → Body → Spots → ℕ → List ℕ
+code_item numbers body layout debug = gap_behind (length body.regions) (with_payloads layout (front_text numbers body layout debug) 0 body.insns) ++ tail_text numbers layout (code_end (length (front_text numbers body layout debug))) body.regions
 
 -- ranges of the regions, and lists of handlers, in which each region's own stands at its offset
 pub record IsTail (numbers : Renumber) (layout : Spots) (end : ℕ) (regions : List Region) (tail : List ℕ) : Type 0 where

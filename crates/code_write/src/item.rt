@@ -3,7 +3,7 @@
 ghost use Rattle.std.specs.Prelude.{◌≡◌, ◌++◌, ◌∷◌, [], max, length, IfOk, OnOk};
 ghost use Rattle.code_write.specs.Code.{spots_of};
 ghost use Rattle.code_write.specs.Units.{unit_bytes};
-ghost use Rattle.code_write.specs.Items.{words_passed, outs_of, header_units, code_end, gap_behind, tail_text, item_text, IsTail, IsItem};
+ghost use Rattle.code_write.specs.Items.{words_passed, outs_of, header_units, code_end, gap_behind, tail_text, code_item, IsTail, IsItem};
 
 use crate::bytes::{push_pad, push_units};
 use crate::insn::push_code;
@@ -109,7 +109,7 @@ fn push_gap(out: &mut Vec<u8>, regions: usize) -> Result<(), AllocError>
 /// spelling with room, the payloads, each at an even unit, and where there are regions a zero unit up to an even one, a
 /// range for each region and each different list of handlers once, those of fewer bytes first and equally long ones by
 /// first use. The only error is want of memory.
-#[tactic(auto, unfolding(crate::specs::Items::item_text))]
+#[tactic(auto, unfolding(crate::specs::Items::code_item))]
 pub fn write_body_with(
     alloc: Global,
     body: &Body,
@@ -117,7 +117,7 @@ pub fn write_body_with(
     numbers: &Renumber,
     debug: u32,
 ) -> Result<CodeBytes, AllocError>
-    ensures is { IfOk result (λ code. code.bytes.items ≡ item_text numbers.now body.now (spots_of layout.now) debug) }
+    ensures is { IfOk result (λ code. code.bytes.items ≡ code_item numbers.now body.now (spots_of layout.now) debug) }
     ensures stand { IfOk result (IsItem numbers.now body.now (spots_of layout.now) debug) }
 {
     let insns = body.insns.as_slice();
@@ -141,7 +141,7 @@ pub fn write_body(
     layout: &Layout,
     numbers: &Renumber,
 ) -> Result<CodeBytes, AllocError>
-    ensures is { IfOk result (λ code. code.bytes.items ≡ item_text numbers.now body.now (spots_of layout.now) 0) }
+    ensures is { IfOk result (λ code. code.bytes.items ≡ code_item numbers.now body.now (spots_of layout.now) 0) }
     ensures stand { IfOk result (IsItem numbers.now body.now (spots_of layout.now) 0) }
 {
     write_body_with(alloc, body, layout, numbers, 0)

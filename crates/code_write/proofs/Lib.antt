@@ -1,3 +1,4 @@
 pub mod Formats
+pub mod SortLemmas
+pub mod Known
 pub mod Standing
-pub mod Uses

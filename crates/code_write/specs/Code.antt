@@ -12,6 +12,15 @@ use Rattle.code_write.specs.Opcodes.{opcode_of}
 use Rattle.code_write.specs.Fields.{fields_of}
 use Rattle.code_write.specs.Units.{unit_bytes, units_in}
 
+-- where things stand, in units: each position, each payload, and the end of all
+pub record Spots : Type 0 where
+  pub starts : List ℕ
+  pub payloads : List ℕ
+  pub size : ℕ
+
+abbrev pub spots_of : Layout → Spots
+spots_of layout = record { starts = layout.starts.items; payloads = layout.payloads.items; size = layout.size }
+
 -- where a position begins
 abbrev pub place_at : List ℕ → ℕ → ℕ → ℕ
 place_at starts end position = slice_index_or starts position end
@@ -33,16 +42,16 @@ abbrev pub payload_count : Insn → ℕ
 payload_count insn = if nat_eq (units_behind insn) 0 then 0 else 1
 
 -- where an instruction goes: to its target, or to its payload
-abbrev pub goes_to : Layout → ℕ → ℕ → Insn → ℕ
-goes_to layout payload from (Goto target) = place_at layout.starts.items layout.size target
-goes_to layout payload from (If test a b target) = place_at layout.starts.items layout.size target
-goes_to layout payload from (IfZero test a target) = place_at layout.starts.items layout.size target
-goes_to layout payload from (FillArray on width items) = place_at layout.payloads.items layout.size payload
-goes_to layout payload from (PackedSwitch on first targets) = place_at layout.payloads.items layout.size payload
-goes_to layout payload from (SparseSwitch on keys targets) = place_at layout.payloads.items layout.size payload
+abbrev pub goes_to : Spots → ℕ → ℕ → Insn → ℕ
+goes_to layout payload from (Goto target) = place_at layout.starts layout.size target
+goes_to layout payload from (If test a b target) = place_at layout.starts layout.size target
+goes_to layout payload from (IfZero test a target) = place_at layout.starts layout.size target
+goes_to layout payload from (FillArray on width items) = place_at layout.payloads layout.size payload
+goes_to layout payload from (PackedSwitch on first targets) = place_at layout.payloads layout.size payload
+goes_to layout payload from (SparseSwitch on keys targets) = place_at layout.payloads layout.size payload
 goes_to layout payload from insn = from
 
 -- the bytes of the instructions from `at` on, `payload` of the ones before them having payloads
-abbrev pub code_text : Renumber → Layout → ℕ → ℕ → List Insn → List ℕ
+abbrev pub code_text : Renumber → Spots → ℕ → ℕ → List Insn → List ℕ
 code_text numbers layout at payload [] = []
-code_text numbers layout at payload (insn ∷ insns) = let from = place_at layout.starts.items layout.size at in unit_bytes (insn_units numbers from (goes_to layout payload from insn) insn) ++ code_text numbers layout (suc at) (payload + payload_count insn) insns
+code_text numbers layout at payload (insn ∷ insns) = let from = place_at layout.starts layout.size at in unit_bytes (insn_units numbers from (goes_to layout payload from insn) insn) ++ code_text numbers layout (suc at) (payload + payload_count insn) insns

@@ -7,4 +7,5 @@ pub mod Payloads
 pub mod Handlers
 pub mod Tries
 pub mod Items
+pub mod Pairs
 pub mod Lists

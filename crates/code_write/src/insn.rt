@@ -2,7 +2,7 @@
 
 ghost use Rattle.std.specs.Prelude.{◌≡◌, ◌++◌, pos, ◌-ℤ◌, OnOk};
 ghost use Rattle.code_write.specs.Units.{unit_bytes};
-ghost use Rattle.code_write.specs.Code.{place_at, far_of, format_of, insn_units, goes_to, payload_count, code_text};
+ghost use Rattle.code_write.specs.Code.{spots_of, place_at, far_of, format_of, insn_units, goes_to, payload_count, code_text};
 
 use crate::fields::fields_of;
 use crate::opcode::opcode_of;
@@ -78,7 +78,7 @@ fn payload_count(insn: &Insn) -> usize
 
 /// Where the instruction at `from` goes: to its target, or to its payload, the one in this place of all.
 fn goes_to(layout: &Layout, payload: usize, from: u32, insn: &Insn) -> u32
-    ensures { result ≡ goes_to layout.now payload from insn.now }
+    ensures { result ≡ goes_to (spots_of layout.now) payload from insn.now }
 {
     match insn {
         Insn::Goto { target } | Insn::If { target, .. } | Insn::IfZero { target, .. } => {
@@ -98,7 +98,7 @@ pub(crate) fn push_code(
     layout: &Layout,
     numbers: &Renumber,
 ) -> Result<(), AllocError>
-    ensures { OnOk result (out.new.items ≡ out.old.items ++ code_text numbers.now layout.now 0 0 insns.now) }
+    ensures { OnOk result (out.new.items ≡ out.old.items ++ code_text numbers.now (spots_of layout.now) 0 0 insns.now) }
 {
     let mut payload: usize = 0;
     for at in 0..insns.len() {

@@ -1,8 +1,9 @@
 //! The whole code item (Dalvik executable format, "code_item").
 
 ghost use Rattle.std.specs.Prelude.{◌≡◌, ◌++◌, ◌∷◌, [], max, length, IfOk, OnOk};
+ghost use Rattle.code_write.specs.Code.{spots_of};
 ghost use Rattle.code_write.specs.Units.{unit_bytes};
-ghost use Rattle.code_write.specs.Items.{words_passed, outs_of, header_units, code_end, gap_behind, IsTail, IsItem};
+ghost use Rattle.code_write.specs.Items.{words_passed, outs_of, header_units, code_end, gap_behind, tail_text, code_item, IsTail, IsItem};
 
 use crate::bytes::{push_pad, push_units};
 use crate::insn::push_code;
@@ -83,7 +84,8 @@ fn tail_of(
     end: u32,
     numbers: &Renumber,
 ) -> Result<Vec<u8>, AllocError>
-    ensures { IfOk result (λ v. IsTail numbers.now layout.now end regions.now v.items) }
+    ensures is { IfOk result (λ v. v.items ≡ tail_text numbers.now (spots_of layout.now) end regions.now) }
+    ensures stand { IfOk result (λ v. IsTail numbers.now (spots_of layout.now) end regions.now v.items) }
 {
     let mut tail = Vec::new(alloc);
     if regions.is_empty() {
@@ -107,6 +109,7 @@ fn push_gap(out: &mut Vec<u8>, regions: usize) -> Result<(), AllocError>
 /// spelling with room, the payloads, each at an even unit, and where there are regions a zero unit up to an even one, a
 /// range for each region and each different list of handlers once, those of fewer bytes first and equally long ones by
 /// first use. The only error is want of memory.
+#[tactic(auto, unfolding(crate::specs::Items::code_item))]
 pub fn write_body_with(
     alloc: Global,
     body: &Body,
@@ -114,7 +117,8 @@ pub fn write_body_with(
     numbers: &Renumber,
     debug: u32,
 ) -> Result<CodeBytes, AllocError>
-    ensures { IfOk result (IsItem numbers.now body.now layout.now debug) }
+    ensures is { IfOk result (λ code. code.bytes.items ≡ code_item numbers.now body.now (spots_of layout.now) debug) }
+    ensures stand { IfOk result (IsItem numbers.now body.now (spots_of layout.now) debug) }
 {
     let insns = body.insns.as_slice();
     let regions = body.regions.as_slice();
@@ -137,7 +141,8 @@ pub fn write_body(
     layout: &Layout,
     numbers: &Renumber,
 ) -> Result<CodeBytes, AllocError>
-    ensures { IfOk result (IsItem numbers.now body.now layout.now 0) }
+    ensures is { IfOk result (λ code. code.bytes.items ≡ code_item numbers.now body.now (spots_of layout.now) 0) }
+    ensures stand { IfOk result (IsItem numbers.now body.now (spots_of layout.now) 0) }
 {
     write_body_with(alloc, body, layout, numbers, 0)
 }

@@ -1,5 +1,8 @@
 //! The code of a method as a code item spells it: each instruction in the first spelling with room, the payloads at
 //! even units behind the code, the ranges under handlers and each different list of handlers once.
+//!
+//! [`write_body`] answers the bytes that `code_item` of `specs/Items.antt` gives for the body, the new numbers and where
+//! things stand.
 #![tactic(auto)]
 
 mod bytes;

@@ -3,6 +3,7 @@
 ghost use Rattle.std.specs.Prelude.{◌≡◌, ◌++◌, ◌%◌, ◌∷◌, [], length, min, take, OnOk};
 ghost use Rattle.std.specs.List.{flat_map};
 ghost use Rattle.std.specs.Int.{w32, w64, cast_unsigned, to_le_bytes};
+ghost use Rattle.code_write.specs.Code.{spots_of};
 ghost use Rattle.code_write.specs.Units.{unit_bytes};
 ghost use Rattle.code_write.specs.Payloads.{number_bytes, length_low, length_high, target_bytes, item_bytes, odd_byte, payload_text, payload_behind, with_payloads};
 
@@ -27,7 +28,7 @@ fn push_targets(
     from: u32,
     targets: &[u32],
 ) -> Result<(), AllocError>
-    ensures { OnOk result (out.new.items ≡ out.old.items ++ flat_map (target_bytes layout.now from) targets.now) }
+    ensures { OnOk result (out.new.items ≡ out.old.items ++ flat_map (target_bytes (spots_of layout.now) from) targets.now) }
 {
     for target in targets {
         let to = place_at(&layout.starts, layout.size, *target as usize);
@@ -95,7 +96,7 @@ fn push_payload(
     from: u32,
     insn: &Insn,
 ) -> Result<(), AllocError>
-    ensures { OnOk result (out.new.items ≡ out.old.items ++ payload_text layout.now from insn.now) }
+    ensures { OnOk result (out.new.items ≡ out.old.items ++ payload_text (spots_of layout.now) from insn.now) }
 {
     match insn {
         Insn::PackedSwitch { first, targets, .. } => {
@@ -128,7 +129,7 @@ fn push_payload(
 
 /// Adds the payload of the instruction in this position at the next even unit.
 fn push_behind(out: &mut Vec<u8>, layout: &Layout, at: usize, insn: &Insn) -> Result<(), AllocError>
-    ensures { OnOk result (out.new.items ≡ payload_behind layout.now out.old.items at insn.now) }
+    ensures { OnOk result (out.new.items ≡ payload_behind (spots_of layout.now) out.old.items at insn.now) }
 {
     if payload_units(insn) > 0 {
         push_pad(out)?;
@@ -143,7 +144,7 @@ pub(crate) fn push_payloads(
     insns: &[Insn],
     layout: &Layout,
 ) -> Result<(), AllocError>
-    ensures { OnOk result (out.new.items ≡ with_payloads layout.now out.old.items 0 insns.now) }
+    ensures { OnOk result (out.new.items ≡ with_payloads (spots_of layout.now) out.old.items 0 insns.now) }
 {
     for at in 0..insns.len() {
         push_behind(out, layout, at, &insns[at])?;

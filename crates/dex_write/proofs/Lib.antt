@@ -1,6 +1,6 @@
 pub mod Sealed
 pub mod Files
-pub mod SortLemmas
+pub mod OnlyLemmas
 pub mod MarkLemmas
 pub mod SetLemmas
 pub mod CodeLemmas

@@ -6,23 +6,10 @@ use Rattle.std.proofs.lemmas.List.{map-append}
 use Rattle.std.specs.List.{list_any, position_or_len}
 use Rattle.std.specs.Cmp.Lexicographic.{pointwise}
 use Rattle.indexmap.specs.IndexSet.{insert_key}
+use Rattle.code_write.specs.Lists.{one_list}
+use Rattle.code_write.proofs.Known.{same_items, lists_if, any_in, place_in}
 use Rattle.dex_write.specs.Numbers.{up}
 use Rattle.dex_write.specs.Lists.{lists_in, is_same, with_list, index_of, lists_text, list_starts, padded_text, list_at}
-
-abbrev pub same_items : Vec ℕ Global → Vec ℕ Global → Bool
-same_items x y = pointwise nat_eq x.items y.items
-
-any_in : (p : List ℕ → Bool) (keys : List (Vec ℕ Global)) → list_any (λ v. p v.items) keys ≡ list_any p (lists_in keys)
-any_in p [] = refl
-any_in p (k ∷ keys) = ap (λ b. p k.items || b) (any_in p keys)
-
-place_in : (p : List ℕ → Bool) (keys : List (Vec ℕ Global)) → position_or_len (λ v. p v.items) keys ≡ position_or_len p (lists_in keys)
-place_in p [] = refl
-place_in p (k ∷ keys) = ap (λ n. cond (not (p k.items)) (1 + n) 0) (place_in p keys)
-
-lists_if : (b : Bool) (keys : List (Vec ℕ Global)) (list : Vec ℕ Global) → lists_in (if b then keys else keys ++ list ∷ []) ≡ (if b then lists_in keys else lists_in keys ++ list.items ∷ [])
-lists_if true keys list = refl
-lists_if false keys list = map-append (λ (v : Vec ℕ Global). v.items) keys (list ∷ [])
 
 with_some : (lists : List (List ℕ)) (list : List ℕ) → 0 < length list → (if list_any (is_same list) lists then lists else lists ++ list ∷ []) ≡ with_list lists list
 with_some lists [] lt = absurd (not-suc-le-zero lt)

@@ -11,8 +11,8 @@ use Rattle.program_model.specs.MemberRules.{proto_of}
 use Rattle.line_tables.specs.Text.{item_text}
 use Rattle.relax.specs.declared.layout.Layout.{Layout}
 use Rattle.relax.specs.Layouts.{IsLaidOut, IsFarAt}
-use Rattle.code_write.specs.declared.item.CodeBytes.{CodeBytes}
-use Rattle.code_write.specs.Items.{IsItem}
+use Rattle.code_write.specs.Code.{spots_of}
+use Rattle.code_write.specs.Items.{code_item}
 use Rattle.dex_write.specs.declared.ordered.MethodPart.{MethodPart}
 use Rattle.dex_write.specs.Numbers.{words, gap, up}
 use Rattle.dex_write.specs.Plans.{Plan, spot_of, ordered_fields, ordered_methods}
@@ -40,7 +40,7 @@ lines_text parameters lines starts = if not (nat_eq (length lines) 0) && (nat_eq
 pub data IsCoded (p : Program) (r : Renumber) (m : Method) (code lines : List ℕ) : Type 0 where
   Bodiless : m.body ≡ None → code ≡ [] → lines ≡ [] → IsCoded p r m code lines
   Far : (body : Body) (position : ℕ) → m.body ≡ Some body → IsFarAt r body position → code ≡ [] → lines ≡ [] → IsCoded p r m code lines
-  Laid : (body : Body) (layout : Layout) (item : CodeBytes) → m.body ≡ Some body → IsLaidOut r body layout → IsItem r body layout 0 item → code ≡ item.bytes.items → lines ≡ lines_text (parameters_in (proto_of p m.name)) m.lines layout.starts.items → IsCoded p r m code lines
+  Laid : (body : Body) (layout : Layout) → m.body ≡ Some body → IsLaidOut r body layout → code ≡ code_item r body (spots_of layout) 0 → lines ≡ lines_text (parameters_in (proto_of p m.name)) m.lines layout.starts.items → IsCoded p r m code lines
 
 abbrev pub IsCodedIn : Program → Renumber → Option Method → List ℕ → List ℕ → Type 0
 IsCodedIn p r None code lines = (code ≡ []) × (lines ≡ [])

@@ -1,25 +1,17 @@
 -- Type lists, each different one once, in the order of first use (Dalvik executable format, "type_list").
-use Rattle.std.specs.Prelude.{Vec, ℕ, ◌+◌, ◌%◌, List, [], ◌∷◌, ◌++◌, length, map, Bool, Option, Some, None, nat_eq, if◌then◌else◌, slice_get, slice_index_or, replicate}
+use Rattle.std.specs.Prelude.{ℕ, ◌+◌, ◌%◌, List, [], ◌∷◌, ◌++◌, length, map, Bool, Option, Some, None, nat_eq, if◌then◌else◌, slice_get, slice_index_or, replicate}
 use Rattle.std.specs.List.{flat_map, list_any, position_or_len}
 use Rattle.std.specs.Int.{w16, to_le_bytes}
-use Rattle.std.specs.Cmp.Lexicographic.{pointwise}
-use Rattle.std.specs.declared.alloc.Global.{Global}
 use Rattle.dex_pools.specs.declared.interner.Interner.{Interner}
 use Rattle.program_model.specs.declared.pools.Proto.{Proto}
 use Rattle.program_model.specs.declared.program.Program.{Program}
+pub use Rattle.code_write.specs.Lists.{is_same, lists_in, list_at}
 use Rattle.dex_pools.specs.Written.{renumbered}
 use Rattle.dex_write.specs.declared.run.Kind.TheVariants.{TypeList}
 use Rattle.dex_write.specs.declared.run.Run.{Run}
 use Rattle.dex_write.specs.declared.lists.Lists.{Lists}
 use Rattle.dex_write.specs.Numbers.{words, gap, up}
 use Rattle.dex_write.specs.Plans.{Plan}
-
-abbrev pub is_same : List ℕ → List ℕ → Bool
-is_same a b = pointwise nat_eq a b
-
--- the lists that vectors hold
-abbrev pub lists_in : List (Vec ℕ Global) → List (List ℕ)
-lists_in keys = map (λ v. v.items) keys
 
 -- the lists so far, with one more where it is not empty and not among them; and which one it is
 abbrev pub with_list : List (List ℕ) → List ℕ → List (List ℕ)
@@ -66,14 +58,6 @@ lists_text at (list ∷ lists) = padded_text at list ++ lists_text (at + length 
 abbrev pub list_starts : ℕ → List (List ℕ) → List ℕ
 list_starts at [] = []
 list_starts at (list ∷ lists) = up at ∷ list_starts (at + length (padded_text at list)) lists
-
--- the list of a number, alone
-abbrev pub one_list : Option (List ℕ) → List (List ℕ)
-one_list None = []
-one_list (Some list) = list ∷ []
-
-abbrev pub list_at : List (List ℕ) → ℕ → List (List ℕ)
-list_at lists index = one_list (slice_get lists index)
 
 -- the offset of a list that is used, 0 for the empty one
 abbrev pub used_offset : List ℕ → Option ℕ → ℕ

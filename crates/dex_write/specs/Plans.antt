@@ -1,5 +1,6 @@
 -- A class as it is written: its members in order, and the code of its methods (Dalvik executable format, "class_data_item").
-use Rattle.std.specs.Prelude.{ℕ, suc, List, [], ◌∷◌, ◌++◌, Bool, true, false, not, ◌&&◌, ◌||◌, nat_eq, nat_lt, nat_le, Option, Some, None, slice_get, if◌then◌else◌}
+use Rattle.std.specs.Prelude.{ℕ, suc, List, [], ◌∷◌, ◌++◌, Bool, true, false, not, Option, Some, None, slice_get}
+pub use Rattle.code_write.specs.Pairs.{Numbered, is_before, insert, in_order}
 use Rattle.dex_pools.specs.Written.{renumbered}
 use Rattle.program_model.specs.MemberRules.{is_static, is_direct}
 use Rattle.program_model.specs.declared.pass.Renumber.{Renumber}
@@ -12,21 +13,6 @@ use Rattle.dex_write.specs.declared.ordered.MethodPart.{MethodPart}
 use Rattle.dex_write.specs.declared.ordered.Ordered.{Ordered}
 
 -- ---- new numbers with places, in order
-
-abbrev pub Numbered : Type 0
-Numbered = ℕ × ℕ
-
-abbrev pub is_before : Numbered → Numbered → Bool
-is_before a b = nat_lt a.0 b.0 || (nat_eq a.0 b.0 && nat_le a.1 b.1)
-
-abbrev pub insert : Numbered → List Numbered → List Numbered
-insert a [] = a ∷ []
-insert a (b ∷ bs) = if is_before a b then a ∷ (b ∷ bs) else b ∷ insert a bs
-
--- by number, and then by place
-unfoldable pub in_order : List Numbered → List Numbered
-in_order [] = []
-in_order (a ∷ rest) = insert a (in_order rest)
 
 abbrev pub is_same : Bool → Bool → Bool
 is_same true b = b

@@ -18,6 +18,10 @@ ArePlans p r (c ∷ classes) (plan ∷ plans) = IsPlan p r c plan × ArePlans p 
 ArePlans p r [] (plan ∷ plans) = ⊥
 ArePlans p r (c ∷ classes) [] = ⊥
 
+-- and there are no other plans of these classes
+pub record AreOnlyPlans (p : Program) (r : Renumber) (classes : List Class) (plans : List Plan) : Type 0 where
+  pub one : (others : List Plan) → ArePlans p r classes others → others ≡ plans
+
 -- the plans of these classes were added
 pub record MorePlans (p : Program) (r : Renumber) (classes : List Class) (old new : List Plan) : Type 0 where
   pub plans : List Plan

@@ -7,7 +7,7 @@ ghost use Rattle.dex_write.specs.Codes.{IsPlan};
 ghost use Rattle.dex_write.specs.File.{IsSealed};
 ghost use Rattle.dex_write.specs.Places.{placed_items, words_end, words_behind, words_run, codes_end, places_behind, refs_behind, sets_behind, directories_behind, data_behind, strings_behind, front_of, codes_run, lines_run, refs_run, marks_behind, firsts_behind, back_of, counts_of, file_with, parts_in, runs_in, file_for};
 ghost use Rattle.dex_write.specs.Order.{classes_at};
-ghost use Rattle.dex_write.specs.Written.{ArePlans, MorePlans, IsWritten};
+ghost use Rattle.dex_write.specs.Written.{ArePlans, AreOnlyPlans, MorePlans, IsWritten};
 
 use crate::class_order::written_order;
 use crate::classes::{all_data, all_firsts};
@@ -84,7 +84,8 @@ fn order_classes<'a>(
     numbers: &Renumber,
     places: &[u32],
 ) -> Result<Vec<Ordered<'a>>, AllocError>
-    ensures { IfOk result (λ v. ArePlans program.now numbers.now (flat_map (classes_at program.now) places.now) (map plan_in v.items)) }
+    ensures are { IfOk result (λ v. ArePlans program.now numbers.now (flat_map (classes_at program.now) places.now) (map plan_in v.items)) }
+    ensures only { IfOk result (λ v. AreOnlyPlans program.now numbers.now (flat_map (classes_at program.now) places.now) (map plan_in v.items)) }
 {
     let mut order = Vec::with_capacity(alloc, places.len())?;
     for place in places {

@@ -1,0 +1,12 @@
+pub mod Founding
+pub mod Fronts
+pub mod Sweeping
+pub mod Insns
+pub mod Payloads
+pub mod Fills
+pub mod Decoding
+pub mod Bodies
+pub mod Catches
+pub mod Shifts
+pub mod Trying
+pub mod Items

@@ -1,15 +1,13 @@
 -- Joins are least upper bounds where classes meet as chains do.
-use Rattle.std.proofs.Common.{◌≡◌, ℕ, zero, suc, ◌<◌, ◌≤◌, Bool, true, false, ◌&&◌, ◌||◌, nat_eq, nat_lt, Option, Some, None, ◌⊎◌, inl, inr, refl, sym, ap, ◌∙◌, subst, arith}
+use Rattle.std.proofs.Common.{◌≡◌, ℕ, Bool, true, false, ◌&&◌, ◌||◌, nat_eq, nat_lt, Option, Some, None, refl, sym, ap, ◌∙◌, subst}
 use Rattle.std.specs.Prelude.{if◌then◌else◌}
-use Rattle.std.proofs.lemmas.Bool.{eqb-true, eq-eqb, ne_eqb}
+use Rattle.std.proofs.lemmas.Bool.{eqb-true}
 use Rattle.verify.specs.declared.kinds.Kind.{Kind}
 use Rattle.verify.specs.declared.kinds.Kind.TheVariants.{Undefined, Word, Zero, WideLow, WideHigh, Fresh, FreshThis, Null, Program, Array, Reference}
 use Rattle.verify.specs.declared.tables.Tables.{Tables}
-use Rattle.verify.specs.Joins.{joined, joined_references, joined_null, joined_class, joined_array, joined_arrays, joined_items, joined_deep, class_or_reference, nearest_item, is_flat}
+use Rattle.verify.specs.Joins.{joined, joined_references, joined_null, joined_arrays, joined_items, joined_deep, class_or_reference, nearest_item, is_flat}
 use Rattle.verify.specs.Chains.{nearest}
 use Rattle.verify.specs.Kinds.{same_kind, same_number, is_number, is_initialised}
-use Rattle.verify.specs.Meeting.{IsMeeting}
-use Rattle.verify.specs.Typings.{IsLattice}
 use Rattle.verify.proofs.Raises.{kind_itself, same_joined}
 
 pub left_true : (a b : Bool) → (a && b) ≡ true → a ≡ true

@@ -1,11 +1,11 @@
 -- What a kind rises to by a join has a lower rank.
-use Rattle.std.proofs.Common.{◌≡◌, ℕ, zero, suc, ◌+◌, ◌<◌, ◌≤◌, Bool, true, false, ◌&&◌, ◌||◌, nat_eq, nat_lt, min, Option, Some, None, ◌⊎◌, inl, inr, refl, sym, ap, ◌∙◌, subst, arith}
+use Rattle.std.proofs.Common.{◌≡◌, ℕ, ◌+◌, ◌<◌, ◌≤◌, Bool, true, false, ◌&&◌, ◌||◌, nat_eq, min, Option, Some, None, ◌⊎◌, inl, inr, refl, sym, ap, ◌∙◌, subst, arith}
 use Rattle.std.specs.Prelude.{if◌then◌else◌}
 use Rattle.std.proofs.lemmas.Bool.{eqb-true, eq-eqb}
 use Rattle.verify.specs.declared.kinds.Kind.{Kind}
-use Rattle.verify.specs.declared.kinds.Kind.TheVariants.{Undefined, Word, Zero, WideLow, WideHigh, Fresh, FreshThis, Null, Program, Array, Reference}
+use Rattle.verify.specs.declared.kinds.Kind.TheVariants.{Undefined, Word, Zero, Null, Program, Array, Reference}
 use Rattle.verify.specs.declared.tables.Tables.{Tables}
-use Rattle.verify.specs.Chains.{depth, nearest, longest}
+use Rattle.verify.specs.Chains.{depth, nearest}
 use Rattle.verify.specs.Flow.{greatest, rank_of_place, rank_of_array, rank}
 use Rattle.verify.specs.Joins.{joined, joined_references, joined_arrays, joined_items, joined_deep, class_or_reference, nearest_place, nearest_item, is_flat}
 use Rattle.verify.specs.Kinds.{same_kind, same_number, is_number, is_initialised}
@@ -13,7 +13,7 @@ use Rattle.verify.specs.Meeting.{IsMeeting}
 use Rattle.verify.specs.Shapes.{place_of}
 use Rattle.verify.specs.Types.{item_shape, item_of_class}
 use Rattle.verify.specs.Typings.{IsLattice}
-use Rattle.verify.proofs.Lattice.{number_is, Joins, alike, numbers, objects, apart, joins}
+use Rattle.verify.proofs.Lattice.{number_is, alike, numbers, objects, apart, joins}
 use Rattle.verify.proofs.Semilattice.{swaps, groups}
 
 number_itself : (i : Option ℕ) → same_number i i ≡ true

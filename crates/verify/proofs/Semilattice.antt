@@ -1,5 +1,5 @@
 -- Joins are least upper bounds where classes meet as chains do: classes and arrays.
-use Rattle.std.proofs.Common.{◌≡◌, ℕ, zero, suc, ◌<◌, ◌≤◌, Bool, true, false, ◌&&◌, ◌||◌, not, nat_eq, nat_lt, Option, Some, None, ◌⊎◌, inl, inr, refl, sym, ap, ◌∙◌, subst, arith}
+use Rattle.std.proofs.Common.{◌≡◌, ℕ, Bool, true, false, ◌&&◌, ◌||◌, nat_eq, nat_lt, Option, Some, None, ◌⊎◌, inl, inr, refl, sym, ap, ◌∙◌, subst}
 use Rattle.std.specs.Prelude.{if◌then◌else◌}
 use Rattle.std.proofs.lemmas.Bool.{eqb-true, eq-eqb, ne_eqb}
 use Rattle.verify.specs.declared.kinds.Kind.{Kind}
@@ -8,14 +8,13 @@ use Rattle.verify.specs.declared.shapes.Shape.{Shape}
 use Rattle.verify.specs.declared.shapes.Shape.TheVariants as shape
 use Rattle.verify.specs.declared.tables.Tables.{Tables}
 use Rattle.verify.specs.Chains.{nearest}
-use Rattle.verify.specs.Joins.{joined, joined_references, joined_null, joined_class, joined_array, joined_arrays, joined_items, joined_deep, class_or_reference, nearest_place, nearest_item, is_flat}
-use Rattle.verify.specs.Kinds.{same_kind, same_number, is_number, is_initialised}
+use Rattle.verify.specs.Joins.{joined, joined_references, joined_arrays, joined_items, joined_deep, class_or_reference, nearest_place, nearest_item, is_flat}
+use Rattle.verify.specs.Kinds.{same_kind, is_number, is_initialised}
 use Rattle.verify.specs.Meeting.{IsMeeting}
 use Rattle.verify.specs.Shapes.{is_reference, place_of}
 use Rattle.verify.specs.Types.{item_shape, item_of_class}
-use Rattle.verify.specs.Typings.{IsLattice}
 use Rattle.verify.proofs.Raises.{kind_itself, same_joined}
-use Rattle.verify.proofs.Lattice.{same_is, same_sides, and_swaps, Joins, alike, numbers, objects, apart, joins, not_both, Groups, groups_word, groups_reference, groups_zero, groups_null, groups_bare, with_reference}
+use Rattle.verify.proofs.Lattice.{same_is, same_sides, and_swaps, alike, numbers, objects, apart, joins, not_both, Groups, groups_word, groups_reference, groups_zero, groups_null, groups_bare}
 
 or_swaps : (a b : Bool) → (a || b) ≡ (b || a)
 or_swaps true true = refl

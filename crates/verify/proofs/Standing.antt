@@ -1,10 +1,10 @@
 -- Tables whose chains and items are sound.
-use Rattle.std.proofs.Common.{◌≡◌, ℕ, zero, suc, ◌<◌, ◌≤◌, Bool, true, false, ◌&&◌, List, [], length, Option, Some, None, inl, inr, refl, sym, ap, ◌∙◌, subst, arith}
+use Rattle.std.proofs.Common.{◌≡◌, ℕ, zero, suc, true, ◌&&◌, [], length, Option, Some, None, inl, inr, refl, sym, ap, ◌∙◌, subst, arith}
 use Rattle.std.proofs.lemmas.Bool.{cases_lt}
 use Rattle.verify.specs.declared.shapes.Shape.TheVariants as shape
 use Rattle.verify.specs.declared.tables.Tables.{Tables}
 use Rattle.verify.specs.Chains.{above, above_or, nearest, IsChains}
-use Rattle.verify.specs.Joins.{nearest_place, nearest_item}
+use Rattle.verify.specs.Joins.{nearest_place}
 use Rattle.verify.specs.Kinds.{same_number}
 use Rattle.verify.specs.Meeting.{IsMeeting, stands, stands_too, BasesBelow, ClassesBelow, has_objects}
 use Rattle.verify.specs.Shapes.{is_reference, place_of}

@@ -1,17 +1,16 @@
 -- A write of one kind into two frames, one below the other, leaves the one below the other.
-use Rattle.std.proofs.Common.{◌≡◌, ℕ, zero, suc, ◌+◌, ◌-◌, ◌<◌, ◌≤◌, Bool, true, false, ◌&&◌, nat_eq, List, [], ◌∷◌, length, Option, Some, None, ◌⊎◌, inl, inr, refl, sym, ap, ◌∙◌, subst, arith}
-use Rattle.std.specs.Prelude.{slice_set, slice_index_or, if◌then◌else◌}
+use Rattle.std.proofs.Common.{◌≡◌, ℕ, zero, suc, ◌+◌, ◌-◌, ◌<◌, ◌≤◌, Bool, true, false, nat_eq, List, [], ◌∷◌, length, inl, inr, refl, sym, ap, ◌∙◌, subst, arith}
+use Rattle.std.specs.Prelude.{slice_set, if◌then◌else◌}
 use Rattle.std.proofs.lemmas.Bool.{cases_lt, eqb-true, eqb-false}
 use Rattle.std.proofs.Math.ListN.{length-set}
 use Rattle.verify.specs.declared.kinds.Kind.{Kind}
-use Rattle.verify.specs.declared.kinds.Kind.TheVariants.{Undefined, Word, Zero, WideLow, WideHigh, Fresh, FreshThis, Null, Program, Array, Reference}
+use Rattle.verify.specs.declared.kinds.Kind.TheVariants.{Undefined, Word, WideLow, WideHigh, Fresh, Program, Array}
 use Rattle.verify.specs.declared.tables.Tables.{Tables}
 use Rattle.verify.specs.Frames.{Kinds, kind_at, cleared, split, written_one, written_pair, written_kinds, written}
-use Rattle.verify.specs.Joins.{joined}
 use Rattle.verify.specs.Kinds.{same_kind, is_number, is_initialised}
 use Rattle.verify.specs.Typings.{Below, IsBelow}
 use Rattle.verify.proofs.Raises.{below_itself, kind_itself}
-use Rattle.verify.proofs.Lattice.{same_is, joins, Joins, alike, numbers, objects, apart}
+use Rattle.verify.proofs.Lattice.{same_is, joins, alike, numbers, objects, apart}
 
 -- frames of one length, each register below the other
 record AreBelow (t : Tables) (a b : List Kind) : Type 0 where

@@ -1,12 +1,9 @@
 -- What a set of lists is after one more.
 use Rattle.std.specs.Prelude.{Vec}
 use Rattle.std.specs.declared.alloc.Global.{Global}
-use Rattle.std.proofs.Common.{◌≡◌, ℕ, suc, List, [], ◌∷◌, ◌++◌, length, Bool, true, false, ◌||◌, not, nat_eq, if◌then◌else◌, cond, Some, ◌+◌, ◌<◌, not-suc-le-zero, zero, drop, ◌==◌, true≢false, length-append, append_assoc, arith, refl, sym, ap, ◌∙◌}
-use Rattle.std.proofs.lemmas.List.{map-append}
+use Rattle.std.proofs.Common.{◌≡◌, ℕ, suc, List, [], ◌∷◌, ◌++◌, length, true, false, if◌then◌else◌, Some, ◌+◌, ◌<◌, not-suc-le-zero, zero, drop, ◌==◌, true≢false, length-append, append_assoc, arith, refl, sym, ap, ◌∙◌}
 use Rattle.std.specs.List.{list_any, position_or_len}
-use Rattle.std.specs.Cmp.Lexicographic.{pointwise}
 use Rattle.indexmap.specs.IndexSet.{insert_key}
-use Rattle.code_write.specs.Lists.{one_list}
 use Rattle.code_write.proofs.Known.{same_items, lists_if, any_in, place_in}
 use Rattle.dex_write.specs.Numbers.{up}
 use Rattle.dex_write.specs.Lists.{lists_in, is_same, with_list, index_of, lists_text, list_starts, padded_text, list_at}

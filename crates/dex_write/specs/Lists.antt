@@ -1,5 +1,5 @@
 -- Type lists, each different one once, in the order of first use (Dalvik executable format, "type_list").
-use Rattle.std.specs.Prelude.{ℕ, ◌+◌, ◌%◌, List, [], ◌∷◌, ◌++◌, length, map, Bool, Option, Some, None, nat_eq, if◌then◌else◌, slice_get, slice_index_or, replicate}
+use Rattle.std.specs.Prelude.{ℕ, ◌+◌, ◌%◌, List, [], ◌∷◌, ◌++◌, length, map, Option, Some, None, if◌then◌else◌, slice_get, slice_index_or, replicate}
 use Rattle.std.specs.List.{flat_map, list_any, position_or_len}
 use Rattle.std.specs.Int.{w16, to_le_bytes}
 use Rattle.dex_pools.specs.declared.interner.Interner.{Interner}

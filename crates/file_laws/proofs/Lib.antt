@@ -1,0 +1,5 @@
+pub mod Words
+pub mod Headers
+pub mod Tables
+pub mod Founding
+pub mod ClassData

@@ -1,0 +1,4 @@
+pub mod Header
+pub mod Tables
+pub mod Founds
+pub mod ClassData

@@ -1,5 +1,4 @@
 pub mod Words
 pub mod Headers
 pub mod Tables
-pub mod Founding
 pub mod ClassData

@@ -1,4 +1,3 @@
 pub mod Header
 pub mod Tables
-pub mod Founds
 pub mod ClassData

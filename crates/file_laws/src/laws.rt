@@ -14,7 +14,7 @@ ghost use Rattle.dex_read.specs.File.{tables_at, head_at};
 ghost use Rattle.program_model.specs.declared.program.Program.{Program};
 ghost use Rattle.dex_read.specs.ClassData.{members_at};
 ghost use Rattle.dex_read.specs.declared.members.Owner.{Owner};
-ghost use Rattle.file_laws.specs.Founds.{Founds};
+ghost use Rattle.code_laws.specs.Founds.{Founds};
 ghost use Rattle.file_laws.specs.ClassData.{AreMembers};
 ghost use Rattle.file_laws.specs.Header.{IsReadHeader};
 ghost use Rattle.file_laws.specs.Tables.{IsTables, IsHead};

@@ -4,7 +4,7 @@ use Rattle.dex_base.specs.Reading.{◌>>=◌, raise}
 use Rattle.dex_base.proofs.Decides.{ok_is, not_both}
 use Rattle.dex_pools.specs.Finds.{Finds, RunOf}
 use Rattle.dex_pools.specs.Run.{run}
-use Rattle.file_laws.specs.Founds.{Founds}
+use Rattle.code_laws.specs.Founds.{Founds}
 
 pub known : {Y F : Type 0} {Is : Y → Type 0} {read : Result Y F} → Finds Is read → Founds Is read
 known d = record { found = d.found }

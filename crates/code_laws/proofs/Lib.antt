@@ -1,0 +1,3 @@
+pub mod Founding
+pub mod Sweeping
+pub mod Fronts

@@ -1,0 +1,11 @@
+//! Laws that tie what the reader of code gives to what stands in the units.
+
+ghost use Rattle.std.specs.Prelude.{List, ℕ, length};
+ghost use Rattle.code_read.specs.Sweep.{pieces_of};
+ghost use Rattle.dex_defs.specs.Sweep.{IsSwept};
+ghost use Rattle.code_laws.specs.Founds.{Founds};
+
+/// The pieces into which units are swept stand there one behind another, and are all of the units.
+pub fn sweep_law()
+    ensures { (units : List ℕ) → Founds (IsSwept units) (pieces_of units) }
+{}

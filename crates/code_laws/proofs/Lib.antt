@@ -1,3 +1,5 @@
 pub mod Founding
-pub mod Sweeping
 pub mod Fronts
+pub mod Sweeping
+pub mod Insns
+pub mod Payloads

@@ -38,10 +38,10 @@ pub founds_kind : (places : Places) (start op : ℕ) (f : Fields) → Founds (Is
 founds_kind places start op f = either
     (λ is. weaker (call_at start op f) (when _ (done (c.call_form op f))) (λ y p. ACall is (leb-true _ _ p.0) p.1))
     (λ no_call. either
-      (λ is. weaker (Ok (branch_at places.starts start op f)) (done (branch_at places.starts start op f)) (λ y p. ABranch is p))
-      (λ no_branch. either
-        (λ is. weaker (Ok (table_form op f.a (target_from places.starts start) (payload_of places start f))) (done _) (λ y p. ATable is p))
-        (λ no_table. weaker (Ok (plain op f)) (done (plain op f)) (λ y p. APlain no_call no_branch no_table p))))
+    (λ is. weaker (Ok (branch_at places.starts start op f)) (done (branch_at places.starts start op f)) (λ y p. ABranch is p))
+    (λ no_branch. either
+    (λ is. weaker (Ok (table_form op f.a (target_from places.starts start) (payload_of places start f))) (done _) (λ y p. ATable is p))
+    (λ no_table. weaker (Ok (plain op f)) (done (plain op f)) (λ y p. APlain no_call no_branch no_table p))))
 
 -- ---- calls
 

@@ -83,8 +83,7 @@ tested_entries : {X : Type 0} (P : ℕ → X → Type 0) (test : X → Bool) (f 
 tested_entries P test f width zero from us g h = tt
 tested_entries P test f width (suc n) from us g h =
     let x = f (drop (width * from) us) in
-    let rest : list_all test (entries f width n (drop width (drop (width * from) us))) ≡ true = and_right (test x) (list_all test (entries f width n (drop width (drop (width * from) us)))) h in
-    (
+    let rest : list_all test (entries f width n (drop width (drop (width * from) us))) ≡ true = and_right (test x) (list_all test (entries f width n (drop width (drop (width * from) us)))) h in (
       g from (and_left (test x) (list_all test (entries f width n (drop width (drop (width * from) us)))) h),
       subst (λ xs. Each P (suc from) (entries f width n xs)) (sym (further us width from)) (tested_entries P test f width n (suc from) us g (subst (λ xs. list_all test (entries f width n xs) ≡ true) (further us width from) rest)),
     )

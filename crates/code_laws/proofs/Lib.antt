@@ -6,3 +6,6 @@ pub mod Payloads
 pub mod Fills
 pub mod Decoding
 pub mod Bodies
+pub mod Catches
+pub mod Shifts
+pub mod Trying

@@ -1,10 +1,12 @@
 //! Laws that tie what the reader of code gives to what stands in the units.
 
-ghost use Rattle.std.specs.Prelude.{◌<◌, ◌^◌, List, ℕ, length};
+ghost use Rattle.std.specs.Prelude.{◌<◌, ◌^◌, List, ℕ, length, drop};
 ghost use Rattle.code_read.specs.Code.{code_of};
 ghost use Rattle.code_read.specs.Sweep.{pieces_of};
 ghost use Rattle.code_read.specs.declared.sizes.Sizes.{Sizes};
-ghost use Rattle.dex_defs.specs.Sweep.{IsSwept};
+ghost use Rattle.code_read.specs.Regions.{regions_of};
+ghost use Rattle.dex_defs.specs.Sweep.{IsSwept, Places};
+ghost use Rattle.code_laws.specs.Regions.{AreRegionsAt};
 ghost use Rattle.code_laws.specs.Code.{IsBody};
 ghost use Rattle.code_laws.specs.Founds.{Founds};
 
@@ -16,4 +18,9 @@ pub fn sweep_law()
 /// The instructions of a body that is read are those of the pieces of its units, one by one, and begin where they begin.
 pub fn code_law()
     ensures { (units tries : List ℕ) (sizes : Sizes) → length units < 2 ^ 32 → Founds (IsBody units tries sizes) (code_of units tries sizes) }
+{}
+
+/// The regions that are read are those of the try items that cover positions, with the handlers of their lists.
+pub fn regions_law()
+    ensures { (bytes : List ℕ) (at : ℕ) (sizes : Sizes) (places : Places) → Founds (AreRegionsAt bytes at sizes places) (regions_of (drop at bytes) sizes places) }
 {}

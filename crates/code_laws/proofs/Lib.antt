@@ -9,3 +9,4 @@ pub mod Bodies
 pub mod Catches
 pub mod Shifts
 pub mod Trying
+pub mod Items

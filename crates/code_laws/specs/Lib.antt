@@ -1,3 +1,4 @@
 pub mod Founds
 pub mod Code
 pub mod Regions
+pub mod Items

@@ -6,6 +6,8 @@ ghost use Rattle.code_read.specs.Sweep.{pieces_of};
 ghost use Rattle.code_read.specs.declared.sizes.Sizes.{Sizes};
 ghost use Rattle.code_read.specs.Regions.{regions_of};
 ghost use Rattle.dex_defs.specs.Sweep.{IsSwept, Places};
+ghost use Rattle.dex_defs.specs.CodeItems.{Frame, tries_at};
+ghost use Rattle.code_laws.specs.Items.{HasItem, IsItemBody};
 ghost use Rattle.code_laws.specs.Regions.{AreRegionsAt};
 ghost use Rattle.code_laws.specs.Code.{IsBody};
 ghost use Rattle.code_laws.specs.Founds.{Founds};
@@ -23,4 +25,11 @@ pub fn code_law()
 /// The regions that are read are those of the try items that cover positions, with the handlers of their lists.
 pub fn regions_law()
     ensures { (bytes : List ℕ) (at : ℕ) (sizes : Sizes) (places : Places) → Founds (AreRegionsAt bytes at sizes places) (regions_of (drop at bytes) sizes places) }
+{}
+
+/// The body that is read of a code item with these units is the one that it spells: its instructions, its regions and
+/// what its frame says.
+pub fn item_law()
+    ensures { (bytes : List ℕ) (at : ℕ) (f : Frame) (units : List ℕ) (sizes : Sizes) → HasItem bytes at f units sizes → f.size < 2 ^ 32
+        → Founds (IsItemBody bytes sizes.types at f) (code_of units (drop (tries_at at f) bytes) sizes) }
 {}

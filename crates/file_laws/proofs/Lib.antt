@@ -2,3 +2,4 @@ pub mod Words
 pub mod Headers
 pub mod Tables
 pub mod ClassData
+pub mod Classes

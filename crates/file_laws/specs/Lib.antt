@@ -1,3 +1,4 @@
 pub mod Header
 pub mod Tables
 pub mod ClassData
+pub mod Class

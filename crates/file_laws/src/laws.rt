@@ -1,6 +1,6 @@
 //! Laws that tie what the readers give to what stands in the bytes.
 
-ghost use Rattle.std.specs.Prelude.{◌≡◌, ◌-◌, ◌≤◌, List, ℕ, length};
+ghost use Rattle.std.specs.Prelude.{◌≡◌, ◌<◌, ◌^◌, ◌-◌, ◌≤◌, List, ℕ, length};
 ghost use Rattle.dex_pools.specs.declared.header.Extent.{Extent};
 ghost use Rattle.dex_pools.specs.declared.header.Extents.{Extents};
 ghost use Rattle.dex_pools.specs.Finds.{Finds};
@@ -15,6 +15,13 @@ ghost use Rattle.program_model.specs.declared.program.Program.{Program};
 ghost use Rattle.dex_read.specs.ClassData.{members_at};
 ghost use Rattle.dex_read.specs.declared.members.Owner.{Owner};
 ghost use Rattle.code_laws.specs.Founds.{Founds};
+ghost use Rattle.dex_read.specs.declared.code.CodeItem.{CodeItem};
+ghost use Rattle.dex_read.specs.Classes.{def_at, interfaces_at};
+ghost use Rattle.dex_read.specs.Code.{item_at, body_at};
+ghost use Rattle.dex_read.specs.Tables.{sizes_in};
+ghost use Rattle.dex_pools.specs.Spelled.{AreParameters};
+ghost use Rattle.code_laws.specs.Items.{IsItemBody};
+ghost use Rattle.file_laws.specs.Class.{IsReadDef, IsReadItem};
 ghost use Rattle.file_laws.specs.ClassData.{AreMembers};
 ghost use Rattle.file_laws.specs.Header.{IsReadHeader};
 ghost use Rattle.file_laws.specs.Tables.{IsTables, IsHead};
@@ -47,4 +54,18 @@ pub fn tables_law()
 /// ascend in each list.
 pub fn class_data_law()
     ensures { (bytes : List ℕ) (p : Program) (owner : Owner) (at : ℕ) → Founds (AreMembers bytes p owner at) (members_at bytes p owner at) }
+{}
+
+/// The numbers that are read of a class_def stand there, and its type and source are entries of the tables; so do the
+/// interfaces that it names.
+pub fn class_def_law()
+    ensures defs { (bytes : List ℕ) (p : Program) (at : ℕ) → Founds (IsReadDef bytes p at) (def_at bytes p at) }
+    ensures interfaces { (bytes : List ℕ) (p : Program) (offset left : ℕ) → Founds (λ r. AreParameters bytes (length p.types) offset r.0) (interfaces_at bytes p offset left) }
+{}
+
+/// The numbers that are read of a code item stand there, and its body is the one that it spells.
+pub fn code_item_law()
+    ensures items { (bytes : List ℕ) (at : ℕ) → Founds (IsReadItem bytes at) (item_at bytes at) }
+    ensures bodies { (bytes : List ℕ) (at : ℕ) (p : Program) (method left : ℕ) (item : CodeItem) → (is : IsReadItem bytes at item) → item.size < 2 ^ 32
+        → Founds (IsItemBody bytes (sizes_in p).types at is.frame) (body_at bytes p method item left) }
 {}

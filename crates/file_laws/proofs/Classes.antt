@@ -107,7 +107,7 @@ unfolding interfaces_at
 founds_interfaces bytes p offset left = either
     (λ e. weaker (Ok ([], left)) (done ([], left)) (λ y q. subst (λ (r : List ℕ × ℕ). AreParameters bytes (length p.types) offset r.0) (sym q) (subst (λ n. AreParameters bytes (length p.types) n []) (sym (eqb-true offset 0 e)) refl)))
     (λ e. weaker (raise of_pool (type_list_at bytes offset (sizes_in p).types left)) (lifted of_pool (known (finds_type_list bytes offset (sizes_in p).types left)))
-      (λ y q. by_offset bytes (length p.types) offset y.0 (λ is. true≢false (sym (eq-eqb offset 0 is) ∙ e)) (wider_list bytes offset (sizes_in p).types (length p.types) y.0 (min-le_left (length p.types) 4294967295) q.0)))
+    (λ y q. by_offset bytes (length p.types) offset y.0 (λ is. true≢false (sym (eq-eqb offset 0 is) ∙ e)) (wider_list bytes offset (sizes_in p).types (length p.types) y.0 (min-le_left (length p.types) 4294967295) q.0)))
 
 -- ---- code items
 
@@ -153,6 +153,6 @@ pub founds_body : (bytes : List ℕ) (at : ℕ) (p : Program) (method left : ℕ
 unfolding body_at
 founds_body bytes at p method left item is few = weaker (body_at bytes p method item left)
     (next (founds_units bytes item.units_at item.size) (λ units h. lifted (of_code method)
-      (subst (λ n. Founds (IsItemBody bytes (sizes_in p).types at is.frame) (code_of units (drop n bytes) (sizes_for p item left))) (sym is.tries_begin)
-        (founds_item bytes at is.frame units (sizes_for p item left) (has_item bytes at p item left is units h) (omega (arith, few, is.size))))))
+    (subst (λ n. Founds (IsItemBody bytes (sizes_in p).types at is.frame) (code_of units (drop n bytes) (sizes_for p item left))) (sym is.tries_begin)
+    (founds_item bytes at is.frame units (sizes_for p item left) (has_item bytes at p item left is units h) (omega (arith, few, is.size))))))
     (λ y q. q.2)

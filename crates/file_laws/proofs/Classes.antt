@@ -1,10 +1,10 @@
 -- Class_defs, lists of interfaces and code items that are read stand there.
-use Rattle.std.proofs.Common.{◌≡◌, ◌≤◌, ◌<◌, ◌⊎◌, inl, inr, ℕ, zero, suc, ◌+◌, ◌*◌, ◌^◌, Bool, true, false, true≢false, cond, ltb, eqb, List, [], ◌∷◌, length, take, drop, min, Option, Some, None, Result, Ok, Err, refl, sym, ap, subst, ◌∙◌, arith}
+use Rattle.std.proofs.Common.{◌≡◌, ◌≤◌, ◌<◌, ◌⊎◌, inl, inr, ℕ, zero, suc, ◌+◌, ◌*◌, ◌^◌, Bool, true, false, true≢false, cond, ltb, eqb, List, [], ◌∷◌, length, take, drop, min, Some, None, Ok, refl, sym, subst, ◌∙◌, arith}
 use Rattle.std.specs.Prelude.{◌&&◌, ◌||◌}
 use Rattle.std.specs.Int.{w16, from_le_bytes}
 use Rattle.std.proofs.Math.Nat.{min-le_left}
-use Rattle.std.proofs.lemmas.Bool.{ltb-true, eqb-true, eq-eqb, ne_eqb}
-use Rattle.dex_base.specs.Decides.{Each, Entries}
+use Rattle.std.proofs.lemmas.Bool.{ltb-true, eqb-true, eq-eqb}
+use Rattle.dex_base.specs.Decides.{Each}
 use Rattle.dex_base.specs.Reading.{raise}
 use Rattle.dex_base.specs.Word.{Is16, Is32}
 use Rattle.dex_pools.proofs.Finding.{finds_each}
@@ -13,10 +13,8 @@ use Rattle.dex_pools.specs.Spelled.{IsTypeList, IsHalfIndex, AreParameters}
 use Rattle.dex_pools.specs.Items.{type_list_at}
 use Rattle.dex_pools.proofs.TableReading.{finds_type_list}
 use Rattle.dex_defs.specs.ClassDefs.{IsSource, none}
-use Rattle.dex_defs.specs.CodeItems.{tries_at, AreUnits}
-use Rattle.dex_read.specs.declared.class_defs.ClassDef.{ClassDef}
 use Rattle.dex_read.specs.declared.code.CodeItem.{CodeItem}
-use Rattle.dex_read.specs.Classes.{index_at, def_at, interfaces_at, source_of}
+use Rattle.dex_read.specs.Classes.{index_at, def_at, interfaces_at}
 use Rattle.dex_read.specs.Code.{item_at, units_at, body_at, sizes_for, of_code}
 use Rattle.dex_read.specs.Faults.{of_pool}
 use Rattle.dex_read.specs.Tables.{sizes_in}

@@ -1,8 +1,8 @@
 -- The lines that are read of a debug item are those that it says.
-use Rattle.std.proofs.Common.{◌≡◌, ◌≤◌, ◌<◌, ℕ, zero, suc, ◌+◌, ◌-◌, Bool, true, false, true≢false, cond, ltb, leb, eqb, List, [], ◌∷◌, ◌++◌, length, Option, Some, None, Result, Ok, Err, refl, sym, ap, subst, ◌∙◌, arith, inl, inr}
+use Rattle.std.proofs.Common.{◌≡◌, ◌≤◌, ◌<◌, ℕ, zero, suc, ◌+◌, ◌-◌, Bool, true, false, true≢false, cond, ltb, leb, eqb, List, [], ◌∷◌, length, Option, Some, None, Result, Ok, Err, refl, sym, ap, subst, ◌∙◌, arith, inl, inr}
 use Rattle.std.specs.Prelude.{◌&&◌, ◌||◌, ◌/◌, ◌%◌, pos, ◌-ℤ◌, not, nat_eq}
 use Rattle.std.specs.List.{list_all, list_any}
-use Rattle.std.proofs.lemmas.Bool.{cases_lt, ltb-true, leb-true, eqb-true, le-ltb}
+use Rattle.std.proofs.lemmas.Bool.{cases_lt, leb-true, eqb-true, le-ltb}
 use Rattle.dex_base.specs.declared.fault.BaseFault.{BaseFault}
 use Rattle.dex_base.specs.Leb.{uleb_at, sleb_at}
 use Rattle.dex_base.specs.Reading.{◌>>=◌}
@@ -17,10 +17,10 @@ use Rattle.line_tables.specs.Item.{skip_at, effect, effect_to, effect_at, opcode
 use Rattle.line_tables.specs.Entries.{Found, found_before, entry, find_turn, entries_from, lines_by, begun_by, item_lines}
 use Rattle.line_tables.specs.Text.{AscendsFrom}
 use Rattle.line_tables.proofs.ByEntries.{lines_are}
-use Rattle.dex_defs.specs.DebugItems.{cleared, lines_or_none, lines_of}
+use Rattle.dex_defs.specs.DebugItems.{lines_or_none, lines_of}
 use Rattle.dex_read.specs.Code.{kept_lines, counted_lines, lined_at}
 use Rattle.code_laws.specs.Founds.{Founds}
-use Rattle.code_laws.proofs.Founding.{weaker, done, failed, when, either, next}
+use Rattle.code_laws.proofs.Founding.{weaker, done, when, either, next}
 
 -- ---- each opcode ends behind its first byte
 

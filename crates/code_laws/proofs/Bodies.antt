@@ -1,7 +1,6 @@
 -- A body that is read has the instructions that stand in the units.
-use Rattle.std.proofs.Common.{◌≡◌, ◌≤◌, ◌<◌, ℕ, ◌^◌, Bool, true, false, List, length, Option, Some, None, Result, Ok, Err, refl, sym, ap, subst, ◌∙◌, arith}
+use Rattle.std.proofs.Common.{◌≡◌, ◌≤◌, ◌<◌, ℕ, ◌^◌, true, List, length, Option, Some, None, Result, Ok, Err, refl, sym, ap, subst, arith}
 use Rattle.std.specs.List.{list_all}
-use Rattle.std.proofs.lemmas.List.{length-map}
 use Rattle.insn_set.specs.declared.form.Insn.{Insn}
 use Rattle.program_model.specs.declared.body.Body.{Body}
 use Rattle.program_model.specs.declared.body.Region.{Region}
@@ -13,8 +12,8 @@ use Rattle.code_read.specs.Fault.{refuse}
 use Rattle.code_read.specs.Positions.{nowhere}
 use Rattle.code_read.specs.Regions.{regions_of}
 use Rattle.code_read.proofs.First.{none_fails}
-use Rattle.code_read.specs.Sweep.{pieces_of, sweep_of}
-use Rattle.dex_defs.specs.Sweep.{Piece, Places, instructions, starts_of, places_of}
+use Rattle.code_read.specs.Sweep.{sweep_of}
+use Rattle.dex_defs.specs.Sweep.{Piece, Places, instructions, places_of}
 use Rattle.dex_defs.specs.Instructions.{AreInsns}
 use Rattle.code_laws.specs.Founds.{Founds}
 use Rattle.code_laws.specs.Code.{IsBody}

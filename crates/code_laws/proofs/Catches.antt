@@ -1,6 +1,6 @@
 -- What is read of handler lists stands there.
-use Rattle.std.proofs.Common.{◌≡◌, ◌≤◌, ◌<◌, ℕ, zero, suc, ◌+◌, ◌*◌, Bool, true, false, cond, ltb, eqb, List, [], ◌∷◌, length, Option, Some, None, Result, Ok, Err, refl, sym, ap, subst, ◌∙◌, arith}
-use Rattle.std.specs.Prelude.{◌||◌, ℤ, pos, negsuc, unsigned_abs, slice_get, position}
+use Rattle.std.proofs.Common.{◌≡◌, ◌<◌, ℕ, zero, suc, ◌+◌, ◌*◌, Bool, true, false, cond, ltb, eqb, List, [], ◌∷◌, length, Option, Some, None, Result, Ok, Err, refl, sym, ap, subst, ◌∙◌, arith}
+use Rattle.std.specs.Prelude.{◌||◌, ℤ, pos, negsuc, unsigned_abs, slice_get}
 use Rattle.std.specs.List.{list_any}
 use Rattle.std.specs.Result.{result_ok}
 use Rattle.std.proofs.lemmas.Bool.{ltb-true, eqb-true}
@@ -10,10 +10,10 @@ use Rattle.dex_base.specs.Leb.{IsUlebAt, IsSlebAt, uleb_at, sleb_at}
 use Rattle.dex_base.specs.Decides.{Decides, ChainOf}
 use Rattle.dex_base.proofs.LebReading.{is_uleb, is_sleb}
 use Rattle.program_model.specs.declared.body.Handler.{Handler}
-use Rattle.code_read.specs.Handlers.{◌>?=◌, number_at, size_at, has_rest, skip_numbers, numbers_behind, list_end, lists_behind, lists_from, counted_lists, lists_in, has_list, address_at, handler_at, handlers_at, rest_at, caught_at}
+use Rattle.code_read.specs.Handlers.{◌>?=◌, number_at, size_at, has_rest, skip_numbers, list_end, lists_behind, lists_from, counted_lists, lists_in, has_list, address_at, handler_at, handlers_at, rest_at, caught_at}
 use Rattle.code_read.specs.Positions.{position_of}
 use Rattle.dex_defs.specs.Sweep.{Places}
-use Rattle.dex_defs.specs.Handlers.{Catches, IsPair, magnitude, IsRestAt, AreCatches, AreCatchesAt, IsHandler, AreHandlers, IsRest}
+use Rattle.dex_defs.specs.Handlers.{Catches, IsPair, magnitude, IsRestAt, AreCatches, IsHandler, AreHandlers, IsRest}
 
 -- what is looked up stands there
 pub record Sees {Y : Type 0} (Is : Y → Type 0) (o : Option Y) : Type 0 where

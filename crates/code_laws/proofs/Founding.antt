@@ -1,5 +1,5 @@
 -- How readings are put together whose results stand there.
-use Rattle.std.proofs.Common.{◌≡◌, ℕ, zero, suc, Bool, true, false, cond, List, [], ◌∷◌, length, Result, Ok, Err, refl, sym, ap, subst, arith}
+use Rattle.std.proofs.Common.{◌≡◌, ℕ, zero, suc, Bool, true, false, cond, List, [], ◌∷◌, length, Result, Ok, Err, refl, sym, ap, subst}
 use Rattle.dex_base.specs.Reading.{◌>>=◌, raise}
 use Rattle.dex_base.proofs.Decides.{ok_is, not_both}
 use Rattle.dex_pools.specs.Finds.{Finds, RunOf}

@@ -1,9 +1,9 @@
 -- The fields of an instruction are those of its own units.
-use Rattle.std.proofs.Common.{◌≡◌, ◌≤◌, ◌<◌, ◌⊎◌, inl, inr, ℕ, zero, suc, ◌+◌, List, [], ◌∷◌, length, take, drop, Option, Some, None, refl, sym, ap, subst, ◌∙◌, arith}
+use Rattle.std.proofs.Common.{◌≡◌, ◌≤◌, ◌⊎◌, inl, inr, ℕ, List, [], ◌∷◌, length, take, Some, refl, sym, subst, arith}
 use Rattle.insn_set.specs.declared.format.Format.{Format}
 use Rattle.insn_set.specs.Formats.{format_units}
 use Rattle.code_read.specs.declared.fields.Fields.{Fields}
-use Rattle.code_read.specs.Fields.{of_units, fields_in}
+use Rattle.code_read.specs.Fields.{of_units}
 
 -- the same fields at the front of more units
 pub record FrontFields (n : ℕ) (format : Format) (units : List ℕ) : Type 0 where

@@ -1,25 +1,24 @@
 -- What is read of an instruction stands there: instructions with neither a branch nor a payload, branches and calls.
-use Rattle.std.proofs.Common.{◌≡◌, ◌≤◌, ◌<◌, ℕ, zero, suc, ◌+◌, ◌-◌, Bool, true, false, cond, ltb, leb, eqb, List, [], ◌∷◌, length, take, drop, get_or, Option, Some, None, Result, Ok, Err, refl, sym, ap, subst, ◌∙◌, arith}
-use Rattle.std.specs.Prelude.{◌&&◌, ◌||◌, not, ℤ, pos, negsuc, ◌+ℤ◌, slice_index, slice_get, unwrap_or, position}
+use Rattle.std.proofs.Common.{◌≡◌, ◌≤◌, ◌<◌, ℕ, zero, suc, ◌-◌, Bool, true, false, cond, ltb, eqb, List, [], ◌∷◌, Option, Some, None, Ok, refl, sym, ap, subst, ◌∙◌, arith}
+use Rattle.std.specs.Prelude.{◌&&◌, not, ℤ, pos, negsuc, ◌+ℤ◌, slice_get, unwrap_or}
 use Rattle.std.specs.Ordering.{int_eq}
 use Rattle.std.specs.List.{list_all}
 use Rattle.std.specs.Cmp.{signed_Decides}
 use Rattle.std.proofs.lemmas.Bool.{ltb-true, leb-true, eqb-true}
 use Rattle.std.proofs.lemmas.List.Quantifiers.{position-Some}
 use Rattle.std.proofs.lemmas.Option.{slice_get-get_or}
-use Rattle.class_defs.proofs.WellFormed.{and_left, and_right}
+use Rattle.class_defs.proofs.WellFormed.{and_left}
 use Rattle.insn_set.specs.Flow.{targets_of}
 use Rattle.insn_set.specs.declared.form.Insn.{Insn}
 use Rattle.insn_set.specs.declared.form.Insn.TheVariants.{Goto, If, IfZero, FilledNewArray, Invoke}
 use Rattle.insn_set.specs.declared.ops.Test.{Test}
-use Rattle.code_read.specs.declared.fault.CodeFault.{CodeFault}
 use Rattle.code_read.specs.declared.fields.Fields.{Fields}
 use Rattle.code_read.specs.Opcodes.{from_to, kind_at, test_at}
 use Rattle.code_read.specs.Branches as c
 use Rattle.code_read.specs.Checks.{targets_inside}
 use Rattle.code_read.specs.Forms.{plain}
 use Rattle.code_read.specs.Payloads.{has_payload, table_form}
-use Rattle.code_read.specs.Positions.{unit_from, no_less, position_of, position_at, target_from, nowhere}
+use Rattle.code_read.specs.Positions.{no_less, position_of, position_at, target_from, nowhere}
 use Rattle.code_read.specs.Decoded.{payload_of, branch_at, call_at, insn_of}
 use Rattle.dex_defs.specs.Sweep.{Piece, Places}
 use Rattle.dex_defs.specs.Instructions as d

@@ -1,5 +1,5 @@
 -- The body that is read of a code item is the one that it spells.
-use Rattle.std.proofs.Common.{◌≡◌, ◌<◌, ◌+◌, ◌*◌, ◌^◌, ℕ, List, length, drop, refl, sym, subst, ◌∙◌, arith}
+use Rattle.std.proofs.Common.{◌<◌, ◌+◌, ◌*◌, ◌^◌, ℕ, List, drop, refl, sym, subst, ◌∙◌, arith}
 use Rattle.dex_base.specs.Decides.{Entries}
 use Rattle.code_read.specs.declared.sizes.Sizes.{Sizes}
 use Rattle.code_read.specs.Code.{code_of}

@@ -1,5 +1,5 @@
 -- What is read of a switch and its payload stands there.
-use Rattle.std.proofs.Common.{◌≡◌, ◌≤◌, ◌<◌, ℕ, zero, suc, ◌+◌, ◌*◌, Bool, true, false, cond, ltb, eqb, List, [], ◌∷◌, length, take, drop, get_or, Option, Some, None, refl, sym, ap, subst, ◌∙◌, arith}
+use Rattle.std.proofs.Common.{◌≡◌, ◌≤◌, ◌<◌, ℕ, zero, suc, ◌+◌, ◌*◌, Bool, true, false, cond, ltb, eqb, List, [], ◌∷◌, length, drop, Some, None, refl, sym, ap, subst, ◌∙◌, arith}
 use Rattle.std.specs.Prelude.{◌&&◌, ◌%◌, ℤ, pos, negsuc, ◌+ℤ◌, slice_index}
 use Rattle.std.specs.List.{list_all, list_any}
 use Rattle.std.specs.Int.{w32, cast_signed}
@@ -9,7 +9,7 @@ use Rattle.class_defs.proofs.WellFormed.{and_left, and_right}
 use Rattle.dex_base.specs.Decides.{Each}
 use Rattle.insn_set.specs.Spelling.{keys_ascend}
 use Rattle.insn_set.specs.declared.form.Insn.{Insn}
-use Rattle.insn_set.specs.declared.form.Insn.TheVariants.{PackedSwitch, SparseSwitch}
+use Rattle.insn_set.specs.declared.form.Insn.TheVariants.{PackedSwitch}
 use Rattle.code_read.specs.declared.fields.Fields.{Fields}
 use Rattle.code_read.specs.Checks.{targets_inside}
 use Rattle.code_read.specs.Forms.{word}
@@ -18,7 +18,7 @@ use Rattle.code_read.specs.Positions.{no_less, payload_at, target_from, nowhere}
 use Rattle.code_read.specs.Decoded.{units_from, payload_of}
 use Rattle.dex_defs.specs.Sweep.{Piece, Places}
 use Rattle.dex_defs.specs.Instructions.{GoesTo, IsPayloadOf, AreTargets, IsPacked, IsSparse, signed_at}
-use Rattle.code_laws.proofs.Insns.{Leads, leads}
+use Rattle.code_laws.proofs.Insns.{leads}
 
 -- ---- the payload
 

@@ -1,10 +1,10 @@
 -- What stands in the bytes from a place on stands in all bytes.
-use Rattle.std.proofs.Common.{◌≡◌, ◌≤◌, ◌<◌, ℕ, zero, suc, ◌+◌, ◌-◌, List, [], ◌∷◌, length, take, drop, Option, Some, None, refl, sym, ap, subst, ◌∙◌, arith}
+use Rattle.std.proofs.Common.{◌<◌, ℕ, zero, suc, ◌+◌, List, [], ◌∷◌, length, take, drop, Option, sym, ap, ◌∙◌, arith}
 use Rattle.std.specs.Prelude.{ℤ, pos, negsuc}
 use Rattle.std.specs.Int.{w16, w32, from_le_bytes}
 use Rattle.std.proofs.lemmas.List.{length-drop, drop-drop}
 use Rattle.dex_base.specs.Decides.{ChainOf}
-use Rattle.dex_base.specs.Leb.{EndsLeb, IsLeb, IsLebAt, IsUlebAt, IsSlebAt}
+use Rattle.dex_base.specs.Leb.{EndsLeb, IsLebAt, IsUlebAt, IsSlebAt}
 use Rattle.dex_base.specs.Word.{Is16, Is32}
 use Rattle.dex_defs.specs.Handlers.{Catches, IsPair, IsRestAt, AreCatches}
 

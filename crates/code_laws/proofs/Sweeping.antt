@@ -1,12 +1,11 @@
 -- The pieces of a sweep stand in the units one behind another.
-use Rattle.std.proofs.Common.{◌≡◌, ◌≤◌, ◌<◌, ℕ, zero, suc, ◌+◌, ◌-◌, Bool, true, false, cond, leb, ltb, eqb, List, [], ◌∷◌, length, take, drop, get_or, Option, Some, None, Result, Ok, Err, refl, sym, ap, subst, ◌∙◌, arith}
+use Rattle.std.proofs.Common.{◌≡◌, ◌≤◌, ◌<◌, ℕ, zero, suc, ◌+◌, ◌-◌, Bool, true, false, cond, leb, ltb, eqb, List, [], ◌∷◌, length, take, drop, Option, Some, None, refl, sym, ap, subst, ◌∙◌, arith}
 use Rattle.std.specs.Prelude.{◌&&◌, ◌||◌, ◌%◌, not, slice_index, unwrap_or}
 use Rattle.std.specs.Option.{option_map, option_and_then}
 use Rattle.std.specs.List.{AllByRecursion}
 use Rattle.std.proofs.lemmas.Bool.{ltb-true, leb-true}
 use Rattle.std.proofs.lemmas.List.{length-take-le, length-drop, drop-drop, get_or-drop}
 use Rattle.class_defs.proofs.WellFormed.{and_left, and_right}
-use Rattle.code_read.specs.declared.fault.CodeFault.{CodeFault}
 use Rattle.insn_set.specs.declared.format.Format.{Format}
 use Rattle.insn_set.specs.Formats.{format_units}
 use Rattle.code_read.specs.declared.fields.Fields.{Fields}
@@ -18,8 +17,8 @@ use Rattle.code_read.specs.Sweep.{Piece, piece_size, whole, size_in, piece, piec
 use Rattle.dex_defs.specs.Sweep.{IsPiece, PiecesTo, IsSwept}
 use Rattle.dex_defs.specs.Instructions.{opcode, HasFields}
 use Rattle.code_laws.specs.Founds.{Founds}
-use Rattle.code_laws.proofs.Fronts.{FrontFields, front_fields}
-use Rattle.code_laws.proofs.Founding.{known, weaker, done, failed, when, next}
+use Rattle.code_laws.proofs.Fronts.{front_fields}
+use Rattle.code_laws.proofs.Founding.{weaker, done, failed, when, next}
 
 record IsSize (size : Option ℕ) (here n : ℕ) : Type 0 where
   is : size ≡ Some n

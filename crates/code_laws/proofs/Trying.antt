@@ -1,5 +1,5 @@
 -- What is read of regions stands there.
-use Rattle.std.proofs.Common.{◌≡◌, ◌≤◌, ◌<◌, ℕ, zero, suc, ◌+◌, ◌-◌, ◌*◌, Bool, true, false, cond, ltb, leb, eqb, List, [], ◌∷◌, length, drop, Option, Some, None, Result, Ok, Err, refl, sym, ap, subst, ◌∙◌, arith}
+use Rattle.std.proofs.Common.{◌≡◌, ℕ, zero, suc, ◌+◌, ◌*◌, Bool, true, false, cond, ltb, leb, List, [], ◌∷◌, length, drop, Option, Some, None, Result, Ok, Err, refl, sym, ap, subst, ◌∙◌, arith}
 use Rattle.std.specs.Prelude.{◌&&◌, slice_get}
 use Rattle.std.specs.Result.{result_ok}
 use Rattle.std.proofs.lemmas.Bool.{eqb-true, leb-true}
@@ -18,11 +18,11 @@ use Rattle.code_read.specs.Handlers.{◌>?=◌, has_list, caught_at}
 use Rattle.code_read.specs.Positions.{count_below, begins_with}
 use Rattle.code_read.specs.Regions.{try_at, try_item, first_of, end_of, lies_right, region, with_handlers, region_of, region_at, keep, regions_from, regions_of}
 use Rattle.dex_defs.specs.Sweep.{Places}
-use Rattle.dex_defs.specs.Handlers.{Try, IsTry, AreCatches, AreCatchesAt, covers, covering, first_position, end_position, IsRegion, AreRegions}
+use Rattle.dex_defs.specs.Handlers.{Try, IsTry, AreCatches, AreCatchesAt, covers, covering, first_position, IsRegion, AreRegions}
 use Rattle.code_laws.specs.Founds.{Founds}
 use Rattle.code_laws.specs.Regions.{AreRegionsAt}
 use Rattle.code_laws.proofs.Founding.{weaker, done, failed, when, either, next}
-use Rattle.code_laws.proofs.Catches.{Sees, sees, has, then, read_ok, HasLists, has_lists, AreCaught, sees_caught}
+use Rattle.code_laws.proofs.Catches.{Sees, sees, has, read_ok, HasLists, has_lists, AreCaught, sees_caught}
 use Rattle.code_laws.proofs.Shifts.{shift_16, shift_32, shift_uleb, shift_chain, shift_catches}
 
 -- ---- try items

@@ -1,5 +1,5 @@
 -- What regions that were read have of the bytes of a file.
-use Rattle.std.specs.Prelude.{◌≡◌, ◌+◌, ◌*◌, ℕ, List}
+use Rattle.std.specs.Prelude.{◌+◌, ◌*◌, ℕ, List}
 use Rattle.dex_base.specs.Decides.{Entries}
 use Rattle.program_model.specs.declared.body.Region.{Region}
 use Rattle.code_read.specs.declared.sizes.Sizes.{Sizes}

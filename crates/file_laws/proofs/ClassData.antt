@@ -1,19 +1,17 @@
 -- What is read of class data stands there.
-use Rattle.std.proofs.Common.{◌≡◌, ◌<◌, ◌⊎◌, inl, inr, ℕ, zero, suc, ◌+◌, Bool, true, false, cond, ltb, eqb, List, [], ◌∷◌, length, map, Result, Ok, Err, refl, sym, ap, subst, ◌∙◌, arith, nat_lt, nat_eq}
+use Rattle.std.proofs.Common.{◌≡◌, ◌<◌, ◌⊎◌, inl, inr, ℕ, suc, ◌+◌, Bool, true, false, ltb, eqb, List, [], ◌∷◌, length, map, refl, sym, ap, subst, ◌∙◌}
 use Rattle.std.specs.Prelude.{◌||◌}
 use Rattle.std.specs.List.{AllByRecursion}
 use Rattle.std.proofs.lemmas.Bool.{ltb-true, eqb-true}
 use Rattle.std.proofs.lemmas.List.{length-map}
 use Rattle.dex_base.specs.Leb.{IsUlebAt}
 use Rattle.dex_pools.specs.Finds.{RunOf}
-use Rattle.dex_pools.specs.Run.{run}
 use Rattle.program_model.specs.declared.program.Program.{Program}
-use Rattle.dex_defs.specs.ClassData.{Entry, IsFieldEntry, IsMethodEntry, EntriesTo, IsClassData}
+use Rattle.dex_defs.specs.ClassData.{Entry, IsFieldEntry, IsMethodEntry, EntriesTo}
 use Rattle.dex_read.specs.declared.class_data.Listed.{Listed}
-use Rattle.dex_read.specs.declared.class_data.Members.{Members}
 use Rattle.dex_read.specs.declared.members.Owner.{Owner}
-use Rattle.dex_read.specs.Ascending.{Rises, Ascends}
-use Rattle.dex_read.specs.ClassData.{stepped_at, ascends_at, field_entry_at, method_entry_at, suits, field_suits, method_suits, field_at, method_at, fields_at, methods_at, members_at}
+use Rattle.dex_read.specs.Ascending.{Rises}
+use Rattle.dex_read.specs.ClassData.{stepped_at, ascends_at, field_entry_at, method_entry_at, field_suits, method_suits, field_at, method_at, fields_at, methods_at, members_at}
 use Rattle.dex_read.specs.Tables.{sizes_in}
 use Rattle.code_laws.specs.Founds.{Founds}
 use Rattle.file_laws.specs.ClassData.{entry_of, FieldSuits, MethodSuits, AreMembers}

@@ -1,10 +1,10 @@
 -- Class_defs, lists of interfaces and code items that are read stand there.
-use Rattle.std.proofs.Common.{◌≡◌, ◌≤◌, ◌<◌, ◌⊎◌, inl, inr, ℕ, zero, suc, ◌+◌, ◌*◌, ◌^◌, Bool, true, false, true≢false, cond, ltb, eqb, List, [], ◌∷◌, length, take, drop, min, Option, Some, None, Result, Ok, Err, refl, sym, ap, subst, ◌∙◌, arith}
+use Rattle.std.proofs.Common.{◌≡◌, ◌≤◌, ◌<◌, ◌⊎◌, inl, inr, ℕ, zero, suc, ◌+◌, ◌*◌, ◌^◌, Bool, true, false, true≢false, cond, ltb, eqb, List, [], ◌∷◌, length, take, drop, min, Some, None, Ok, refl, sym, subst, ◌∙◌, arith}
 use Rattle.std.specs.Prelude.{◌&&◌, ◌||◌}
 use Rattle.std.specs.Int.{w16, from_le_bytes}
 use Rattle.std.proofs.Math.Nat.{min-le_left}
-use Rattle.std.proofs.lemmas.Bool.{ltb-true, eqb-true, eq-eqb, ne_eqb}
-use Rattle.dex_base.specs.Decides.{Each, Entries}
+use Rattle.std.proofs.lemmas.Bool.{ltb-true, eqb-true, eq-eqb}
+use Rattle.dex_base.specs.Decides.{Each}
 use Rattle.dex_base.specs.Reading.{raise}
 use Rattle.dex_base.specs.Word.{Is16, Is32}
 use Rattle.dex_pools.proofs.Finding.{finds_each}
@@ -13,10 +13,8 @@ use Rattle.dex_pools.specs.Spelled.{IsTypeList, IsHalfIndex, AreParameters}
 use Rattle.dex_pools.specs.Items.{type_list_at}
 use Rattle.dex_pools.proofs.TableReading.{finds_type_list}
 use Rattle.dex_defs.specs.ClassDefs.{IsSource, none}
-use Rattle.dex_defs.specs.CodeItems.{tries_at, AreUnits}
-use Rattle.dex_read.specs.declared.class_defs.ClassDef.{ClassDef}
 use Rattle.dex_read.specs.declared.code.CodeItem.{CodeItem}
-use Rattle.dex_read.specs.Classes.{index_at, def_at, interfaces_at, source_of}
+use Rattle.dex_read.specs.Classes.{index_at, def_at, interfaces_at}
 use Rattle.dex_read.specs.Code.{item_at, units_at, body_at, sizes_for, of_code}
 use Rattle.dex_read.specs.Faults.{of_pool}
 use Rattle.dex_read.specs.Tables.{sizes_in}
@@ -107,7 +105,7 @@ unfolding interfaces_at
 founds_interfaces bytes p offset left = either
     (λ e. weaker (Ok ([], left)) (done ([], left)) (λ y q. subst (λ (r : List ℕ × ℕ). AreParameters bytes (length p.types) offset r.0) (sym q) (subst (λ n. AreParameters bytes (length p.types) n []) (sym (eqb-true offset 0 e)) refl)))
     (λ e. weaker (raise of_pool (type_list_at bytes offset (sizes_in p).types left)) (lifted of_pool (known (finds_type_list bytes offset (sizes_in p).types left)))
-      (λ y q. by_offset bytes (length p.types) offset y.0 (λ is. true≢false (sym (eq-eqb offset 0 is) ∙ e)) (wider_list bytes offset (sizes_in p).types (length p.types) y.0 (min-le_left (length p.types) 4294967295) q.0)))
+    (λ y q. by_offset bytes (length p.types) offset y.0 (λ is. true≢false (sym (eq-eqb offset 0 is) ∙ e)) (wider_list bytes offset (sizes_in p).types (length p.types) y.0 (min-le_left (length p.types) 4294967295) q.0)))
 
 -- ---- code items
 
@@ -153,6 +151,6 @@ pub founds_body : (bytes : List ℕ) (at : ℕ) (p : Program) (method left : ℕ
 unfolding body_at
 founds_body bytes at p method left item is few = weaker (body_at bytes p method item left)
     (next (founds_units bytes item.units_at item.size) (λ units h. lifted (of_code method)
-      (subst (λ n. Founds (IsItemBody bytes (sizes_in p).types at is.frame) (code_of units (drop n bytes) (sizes_for p item left))) (sym is.tries_begin)
-        (founds_item bytes at is.frame units (sizes_for p item left) (has_item bytes at p item left is units h) (omega (arith, few, is.size))))))
+    (subst (λ n. Founds (IsItemBody bytes (sizes_in p).types at is.frame) (code_of units (drop n bytes) (sizes_for p item left))) (sym is.tries_begin)
+    (founds_item bytes at is.frame units (sizes_for p item left) (has_item bytes at p item left is units h) (omega (arith, few, is.size))))))
     (λ y q. q.2)

@@ -1,5 +1,5 @@
 -- The header is read exactly where it stands.
-use Rattle.std.proofs.Common.{◌≡◌, ℕ, ◌+◌, ◌≤◌, Bool, true, false, cond, eqb, leb, List, [], ◌∷◌, length, take, drop, Result, Ok, Err, refl, sym, ap, subst, ◌∙◌, nat_eq, true≢false}
+use Rattle.std.proofs.Common.{◌≡◌, ℕ, Bool, true, false, cond, eqb, leb, List, length, take, drop, Ok, Err, refl, sym, ap, subst, ◌∙◌, nat_eq, true≢false}
 use Rattle.std.proofs.lemmas.Bool.{leb-true, le-leb, eqb-true, eq-eqb}
 use Rattle.std.specs.Prelude.{slice_index}
 use Rattle.std.specs.Cmp.Lexicographic.{pointwise, bytes_decides}
@@ -7,14 +7,13 @@ use Rattle.dex_base.specs.Adler.{adler_of}
 use Rattle.dex_base.specs.Word.{Is32}
 use Rattle.dex_base.proofs.Decides.{not_both}
 use Rattle.dex_pools.specs.Finds.{Finds}
-use Rattle.dex_pools.proofs.Finding.{same, pure, guard}
+use Rattle.dex_pools.proofs.Finding.{same, pure}
 use Rattle.program_model.specs.declared.limits.Counted.{Counted}
 use Rattle.program_model.specs.declared.limits.Counted.TheVariants.{Types, Protos, Fields, Methods}
 use Rattle.program_model.specs.declared.program.Version.{Version}
 use Rattle.program_model.specs.declared.program.Version.TheVariants.{V035, V037}
 use Rattle.program_model.specs.Limits.{limit_of}
-use Rattle.dex_defs.specs.Header.{magic_of, IsHeader}
-use Rattle.dex_read.specs.declared.fault.DexFault.{DexFault}
+use Rattle.dex_defs.specs.Header.{magic_of}
 use Rattle.dex_read.specs.declared.fault.DexFault.TheVariants as fault
 use Rattle.dex_read.specs.Header.{version_at, fixed_at, sum_at, size_at, header_at, past, magic_035, magic_037}
 use Rattle.file_laws.specs.Header.{KeepsSize, IsReadHeader}

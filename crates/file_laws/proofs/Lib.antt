@@ -3,3 +3,4 @@ pub mod Headers
 pub mod Tables
 pub mod ClassData
 pub mod Classes
+pub mod Lines

@@ -1,9 +1,7 @@
 -- The five tables are read exactly where they stand.
-use Rattle.std.proofs.Common.{◌≡◌, ℕ, ◌-◌, List, Result, Ok, refl, ap}
-use Rattle.dex_base.specs.Reading.{raise}
+use Rattle.std.proofs.Common.{◌≡◌, ℕ, List, refl, ap}
 use Rattle.dex_pools.specs.declared.pools.Pools.{Pools}
 use Rattle.dex_pools.specs.PoolTables.{pools_at}
-use Rattle.dex_pools.specs.Spelled.{SpellsPools, parameter_count}
 use Rattle.dex_pools.specs.Finds.{Finds}
 use Rattle.dex_pools.proofs.Finding.{same, pure, raised}
 use Rattle.dex_pools.proofs.PoolReading.{finds_pools}

@@ -1,14 +1,13 @@
 -- Readings of numbers with the faults of the whole file, and how readings are put together.
-use Rattle.std.proofs.Common.{◌≡◌, ℕ, ◌+◌, ◌≤◌, Bool, true, false, cond, leb, List, length, Result, Ok, Err, refl, subst}
+use Rattle.std.proofs.Common.{◌≡◌, ℕ, ◌+◌, ◌≤◌, Bool, true, cond, leb, List, length, Result, Ok, Err, refl}
 use Rattle.std.proofs.lemmas.Bool.{leb-true, le-leb}
-use Rattle.dex_base.specs.Reading.{◌>>=◌, raise}
+use Rattle.dex_base.specs.Reading.{◌>>=◌}
 use Rattle.dex_base.specs.Word.{Is16, Is32, u16_at, u32_at}
 use Rattle.dex_base.specs.Leb.{IsUlebAt, uleb_at}
 use Rattle.dex_base.proofs.Words.{is_16, is_32}
 use Rattle.dex_base.proofs.LebReading.{is_uleb}
 use Rattle.dex_pools.specs.Finds.{Finds}
 use Rattle.dex_pools.proofs.Finding.{finds, same, guard, then, raised}
-use Rattle.dex_read.specs.declared.fault.DexFault.{DexFault}
 use Rattle.dex_read.specs.declared.fault.DexFault.TheVariants as fault
 use Rattle.dex_read.specs.Faults.{of_base}
 use Rattle.dex_read.specs.Header.{need_at}

@@ -17,7 +17,9 @@ ghost use Rattle.dex_read.specs.declared.members.Owner.{Owner};
 ghost use Rattle.code_laws.specs.Founds.{Founds};
 ghost use Rattle.dex_read.specs.declared.code.CodeItem.{CodeItem};
 ghost use Rattle.dex_read.specs.Classes.{def_at, interfaces_at};
-ghost use Rattle.dex_read.specs.Code.{item_at, body_at};
+ghost use Rattle.dex_read.specs.Code.{item_at, body_at, lined_at};
+ghost use Rattle.line_tables.specs.Text.{AscendsFrom};
+ghost use Rattle.dex_defs.specs.DebugItems.{lines_of};
 ghost use Rattle.dex_read.specs.Tables.{sizes_in};
 ghost use Rattle.dex_pools.specs.Spelled.{AreParameters};
 ghost use Rattle.code_laws.specs.Items.{IsItemBody};
@@ -68,4 +70,10 @@ pub fn code_item_law()
     ensures items { (bytes : List ℕ) (at : ℕ) → Founds (IsReadItem bytes at) (item_at bytes at) }
     ensures bodies { (bytes : List ℕ) (at : ℕ) (p : Program) (method left : ℕ) (item : CodeItem) → (is : IsReadItem bytes at item) → item.size < 2 ^ 32
         → Founds (IsItemBody bytes (sizes_in p).types at is.frame) (body_at bytes p method item left) }
+{}
+
+/// The lines that are read of a debug item for positions whose units ascend are those that the item says, whatever of the
+/// items was left.
+pub fn lines_law()
+    ensures { (bytes : List ℕ) (debug : ℕ) (starts : List ℕ) (left : ℕ) → AscendsFrom 0 starts → Founds (λ r. r.0 ≡ lines_of bytes debug starts) (lined_at bytes debug starts left) }
 {}

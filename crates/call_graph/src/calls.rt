@@ -1,7 +1,7 @@
 //! What the calls of a method may find.
 
-use crate::live_set::LiveSet;
 use crate::at::At;
+use crate::live_set::LiveSet;
 use crate::rules::{SuperCall, find_whole, super_call};
 use crate::tables::{count_steps, is_object};
 use hierarchy::{Given, Hierarchy, Walk};

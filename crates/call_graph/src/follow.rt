@@ -143,12 +143,7 @@ fn add_proto_types(bases: &[u32], proto: &Proto, out: &mut Vec<Fact>) -> Result<
 }
 
 /// Adds the classes of the types of a proto number.
-fn add_proto(
-    at: &At<'_>,
-    bases: &[u32],
-    proto: u32,
-    out: &mut Vec<Fact>,
-) -> Result<(), AllocError>
+fn add_proto(at: &At<'_>, bases: &[u32], proto: u32, out: &mut Vec<Fact>) -> Result<(), AllocError>
     ensures { OnOk result (out.new.items ≡ out.old.items ++ proto_facts at.now.program.now bases.now proto) }
 {
     match at.proto(proto) {
@@ -340,12 +335,7 @@ fn add_defaults(at: &At<'_>, class: &Class, out: &mut Vec<Fact>) -> Result<(), A
 }
 
 /// Adds what runs when a class is initialised; in version 037 with the virtual methods with code of an interface.
-fn add_start(
-    at: &At<'_>,
-    place: u32,
-    class: &Class,
-    out: &mut Vec<Fact>,
-) -> Result<(), AllocError>
+fn add_start(at: &At<'_>, place: u32, class: &Class, out: &mut Vec<Fact>) -> Result<(), AllocError>
     ensures { IsResolved at.now.program.now at.now.hierarchy.now → OnOk result (out.new.items ≡ out.old.items ++ start_facts at.now.program.now class.now place) }
 {
     match at.hierarchy.initialiser_of(place) {

@@ -5,8 +5,8 @@ ghost use Rattle.call_graph.specs.Facts.{Fits, Sized};
 ghost use Rattle.call_graph.specs.Closed.{IsClosed, IsClosedSet};
 ghost use Rattle.hierarchy.specs.Shapes.{IsResolved};
 
-use crate::facts::{Facts, no_facts};
 use crate::at::At;
+use crate::facts::{Facts, no_facts};
 use crate::rules::{begin, follow};
 use crate::tables::{Notes, Tables};
 use hierarchy::Hierarchy;

@@ -4,7 +4,9 @@ ghost use Rattle.std.specs.Prelude.{◌≡◌, ◌++◌, OnOk};
 ghost use Rattle.std.specs.List.{flat_map};
 ghost use Rattle.call_graph.specs.Names.{value_names, element_names, note_names, marks_names, first_names, insn_name, insn_names, handler_names, region_names, body_names, code_names, method_names};
 
-use program_model::{Body, Element, EncValue, Handler, Insn, InvokeKind, Mark, Method, Note, Region};
+use program_model::{
+    Body, Element, EncValue, Handler, Insn, InvokeKind, Mark, Method, Note, Region,
+};
 use seq::Seq;
 use std::alloc::AllocError;
 

@@ -1,7 +1,8 @@
 //! What the calls of a method may find.
 
+use crate::at::At;
 use crate::live_set::LiveSet;
-use crate::rules::{At, SuperCall, find_whole, super_call};
+use crate::rules::{SuperCall, find_whole, super_call};
 use crate::tables::{count_steps, is_object};
 use hierarchy::{Given, Hierarchy, Walk};
 use program_model::{Insn, InvokeKind, MethodAt, Program};
@@ -16,7 +17,7 @@ pub struct Edge {
 
 /// Whether the type is a superclass or an interface that the class or a program class above it lists.
 fn lists_above(
-    at: At<'_>,
+    at: &At<'_>,
     class: u32,
     kind: u32,
     walk: &mut Walk,
@@ -47,7 +48,7 @@ fn lists_above(
 
 /// Whether a class is under a type by the program's own lists; every class is under `Ljava/lang/Object;`.
 fn is_under_kind(
-    at: At<'_>,
+    at: &At<'_>,
     class: u32,
     kind: u32,
     walk: &mut Walk,
@@ -61,7 +62,7 @@ fn is_under_kind(
 }
 
 /// Whether a class is made.
-fn is_made(at: At<'_>, live: &LiveSet, class: u32) -> bool {
+fn is_made(at: &At<'_>, live: &LiveSet, class: u32) -> bool {
     match at.class_at(class) {
         Some(class) => live.made.as_slice().get(class.name as usize) == Some(&true),
         None => false,
@@ -93,14 +94,14 @@ impl<'a> Search<'a> {
         class: u32,
         target: MethodAt,
     ) -> Result<bool, AllocError> {
-        if !is_made(self.at, self.live, class) {
+        if !is_made(&self.at, self.live, class) {
             return Ok(false);
         }
-        let found = find_whole(alloc, self.at, class, call.key, &mut self.walk)?;
+        let found = find_whole(alloc, &self.at, class, call.key, &mut self.walk)?;
         if found != Some(target) {
             return Ok(false);
         }
-        is_under_kind(self.at, class, call.kind, &mut self.walk, self.steps)
+        is_under_kind(&self.at, class, call.kind, &mut self.walk, self.steps)
     }
 
     /// Whether one of the classes is a made one under the named one that finds just this method.
@@ -162,7 +163,7 @@ impl<'a> Search<'a> {
         caller: u32,
         call: Call,
     ) -> Result<Option<MethodAt>, AllocError> {
-        match super_call(self.at, caller, call.kind, &mut self.walk, self.steps)? {
+        match super_call(&self.at, caller, call.kind, &mut self.walk, self.steps)? {
             SuperCall::Interface(place) => {
                 let mut candidates = Vec::new(alloc);
                 self.at.hierarchy.candidates_of(
@@ -184,7 +185,7 @@ impl<'a> Search<'a> {
             SuperCall::Framework | SuperCall::Above(None) => Ok(None),
             SuperCall::Above(Some(above)) => find_whole(
                 alloc,
-                self.at,
+                &self.at,
                 above,
                 call.key,
                 &mut self.walk,

@@ -1,7 +1,9 @@
 //! What is known to be live, and what is known to be called.
 
 ghost use Rattle.std.specs.Prelude.{◌≡◌, ◌+◌, ◌≤◌, IfOk, OnOk, IfNone, OnSome, length, vec_len};
+ghost use Rattle.std.specs.Prelude.{true, MatchOption};
 ghost use Rattle.call_graph.specs.Facts.{Grows, Sized, weight};
+ghost use Rattle.call_graph.specs.Closed.{reached, Goes, Reaches, IsBlank, Takes, Ends};
 
 use crate::marks::Marks;
 use program_model::Program;
@@ -30,7 +32,8 @@ pub enum Fact {
 
 /// No facts of a program.
 pub fn no_facts(alloc: Global, program: &Program) -> Result<Facts, AllocError>
-    ensures { IfOk result (Sized program.now) }
+    ensures sized { IfOk result (Sized program.now) }
+    ensures blank { IfOk result (λ f. IsBlank f) }
 {
     Ok(Facts {
         classes: Marks::new(alloc, program.types.len())?,
@@ -43,22 +46,26 @@ pub fn no_facts(alloc: Global, program: &Program) -> Result<Facts, AllocError>
 
 impl Facts {
     /// Adds a fact, which then waits unless it was known.
+    #[tactic(auto, using(crate::proofs::Growth::keeps_same))]
     pub fn add(&mut self, fact: Fact) -> Result<(), AllocError>
-        ensures { OnOk result (Grows self.old self.new) }
+        ensures grows { OnOk result (Grows self.old self.new) }
+        ensures goes { OnOk result (Goes self.old self.new) }
+        ensures known { OnOk result (reached self.new fact ≡ true) }
     {
         match fact {
-            Fact::Class(number) => self.classes.mark(number)?,
-            Fact::Made(number) => self.made.mark(number)?,
-            Fact::Field(number) => self.fields.mark(number)?,
-            Fact::Method(number) => self.methods.mark(number)?,
-            Fact::Called(number) => self.called.mark(number)?,
+            Fact::Class(number) => self.classes.mark(number),
+            Fact::Made(number) => self.made.mark(number),
+            Fact::Field(number) => self.fields.mark(number),
+            Fact::Method(number) => self.methods.mark(number),
+            Fact::Called(number) => self.called.mark(number),
         }
-        Ok(())
     }
 
     /// Adds facts.
     pub fn add_all(&mut self, facts: &[Fact]) -> Result<(), AllocError>
-        ensures { OnOk result (Grows self.old self.new) }
+        ensures grows { OnOk result (Grows self.old self.new) }
+        ensures goes { OnOk result (Goes self.old self.new) }
+        ensures known { OnOk result (Reaches self.new facts.now) }
     {
         for fact in facts {
             self.add(*fact)?;
@@ -70,6 +77,7 @@ impl Facts {
     pub fn next(&mut self) -> Option<Fact>
         ensures grows { Grows self.old self.new }
         ensures some { OnSome result (weight self.new + 1 ≤ weight self.old) }
+        ensures takes { MatchOption result (Ends self.old self.new) (λ x. Takes self.old self.new x) }
     {
         if let Some(number) = self.classes.pop() {
             return Some(Fact::Class(number));

@@ -5,8 +5,10 @@
 //! program, hierarchy and outside.
 #![tactic(auto)]
 
+mod at;
 mod calls;
 mod facts;
+mod follow;
 mod lists;
 mod live_set;
 mod marks;

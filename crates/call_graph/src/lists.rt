@@ -1,5 +1,8 @@
 //! A list of numbers for each number of a table.
 
+ghost use Rattle.std.specs.Prelude.{◌≡◌};
+ghost use Rattle.call_graph.specs.Closed.{row_of};
+
 use std::alloc::{AllocError, Global};
 
 /// A list for each number of a table, empty at first.
@@ -27,7 +30,9 @@ impl Lists {
     }
 
     /// The list of a number, empty past the table.
-    pub fn row(&self, number: u32) -> &[u32] {
+    pub fn row(&self, number: u32) -> &[u32]
+        ensures { result.now ≡ row_of self.now number }
+    {
         match self.rows.as_slice().get(number as usize) {
             Some(row) => row.as_slice(),
             None => &[],

@@ -2,10 +2,13 @@
 
 ghost use Rattle.std.specs.Prelude.{◌≡◌, length, IfOk, vec_len};
 ghost use Rattle.call_graph.specs.Facts.{Fits, Sized};
+ghost use Rattle.call_graph.specs.Closed.{IsClosed, IsClosedSet};
+ghost use Rattle.hierarchy.specs.Shapes.{IsResolved};
 
+use crate::at::At;
 use crate::facts::{Facts, no_facts};
-use crate::rules::{At, begin, follow};
-use crate::tables::Tables;
+use crate::rules::{begin, follow};
+use crate::tables::{Notes, Tables};
 use hierarchy::Hierarchy;
 use program_model::{Outside, Program};
 use std::alloc::{AllocError, Global};
@@ -21,7 +24,8 @@ pub struct LiveSet {
 
 /// The marks of facts.
 fn marks_of(facts: Facts) -> LiveSet
-    ensures { (p : Program) → Sized p facts → Fits p result }
+    ensures fits { (p : Program) → Sized p facts → Fits p result }
+    ensures closed { (p : Program) (o : Outside) (t : Tables) → IsClosed p o t facts → IsClosedSet p o result }
 {
     let Facts {
         classes,
@@ -39,23 +43,26 @@ fn marks_of(facts: Facts) -> LiveSet
 }
 
 /// All facts that follow from what the outside keeps.
+#[tactic(auto, using(crate::proofs::Growth::closed_then))]
 fn search(
     alloc: Global,
     program: &Program,
     hierarchy: &Hierarchy,
     outside: &Outside,
+    tables: &Tables,
 ) -> Result<Facts, AllocError>
-    ensures { IfOk result (Sized program.now) }
+    ensures sized { IfOk result (Sized program.now) }
+    ensures closed { IsResolved program.now hierarchy.now → IfOk result (λ f. IsClosed program.now outside.now tables.now f) }
 {
     let mut facts = no_facts(alloc, program)?;
-    let mut tables = Tables::new(alloc, program, hierarchy, outside)?;
+    let mut notes = Notes::new(alloc, program, hierarchy)?;
     let mut more = Vec::new(alloc);
     let at = At { program, hierarchy };
-    begin(at, outside, &mut more)?;
+    begin(&at, outside, &mut more)?;
     facts.add_all(more.as_slice())?;
     while let Some(fact) = facts.next() {
         more.clear();
-        follow(alloc, at, &mut tables, fact, &mut more)?;
+        follow(alloc, &at, tables, &mut notes, fact, &mut more)?;
         facts.add_all(more.as_slice())?;
     }
     Ok(facts)
@@ -81,8 +88,10 @@ pub fn live_members(
     hierarchy: &Hierarchy,
     outside: &Outside,
 ) -> Result<LiveSet, AllocError>
-    ensures { IfOk result (Fits program.now) }
+    ensures fits { IfOk result (Fits program.now) }
+    ensures closed { IsResolved program.now hierarchy.now → IfOk result (λ s. IsClosedSet program.now outside.now s) }
 {
-    let facts = search(alloc, program, hierarchy, outside)?;
+    let tables = Tables::new(alloc, program, hierarchy, outside)?;
+    let facts = search(alloc, program, hierarchy, outside, &tables)?;
     Ok(marks_of(facts))
 }

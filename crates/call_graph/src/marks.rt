@@ -1,7 +1,7 @@
 //! Marked numbers, some of which still wait for what follows from them.
 
-ghost use Rattle.std.specs.Prelude.{◌≡◌, ◌+◌, ◌≤◌, IfOk, OnOk, OnSome, vec_len};
-ghost use Rattle.call_graph.specs.Marks.{left, Swells};
+ghost use Rattle.std.specs.Prelude.{◌≡◌, ◌+◌, ◌≤◌, ℕ, true, false, IfOk, OnOk, OnSome, slice_index_or, vec_len};
+ghost use Rattle.call_graph.specs.Marks.{left, Swells, Keeps, Pops};
 
 use std::alloc::{AllocError, Global};
 
@@ -15,7 +15,8 @@ pub struct Marks {
 impl Marks {
     /// No marks on a table of this size.
     pub fn new(alloc: Global, size: usize) -> Result<Marks, AllocError>
-        ensures { IfOk result (λ m. vec_len m.marks ≡ size) }
+        ensures size { IfOk result (λ m. vec_len m.marks ≡ size) }
+        ensures none { IfOk result (λ m. (n : ℕ) → slice_index_or m.marks.items n false ≡ true → ⊥) }
     {
         Ok(Marks {
             marks: vec![in alloc; false; size]?,
@@ -33,7 +34,9 @@ impl Marks {
 
     /// Marks a number of the table, which then waits unless it was marked.
     pub fn mark(&mut self, number: u32) -> Result<(), AllocError>
-        ensures { OnOk result (Swells self.old self.new) }
+        ensures swells { OnOk result (Swells self.old self.new) }
+        ensures keeps { OnOk result (Keeps self.old self.new) }
+        ensures marked { OnOk result (slice_index_or self.new.marks.items number true ≡ true) }
     {
         let at = number as usize;
         if at < self.marks.len() && !self.marks[at] {
@@ -56,6 +59,7 @@ impl Marks {
         ensures size { vec_len self.new.marks ≡ vec_len self.old.marks }
         ensures none { left self.new ≤ left self.old }
         ensures some { OnSome result (left self.new + 1 ≤ left self.old) }
+        ensures pops { Pops self.old self.new result }
     {
         self.waiting.pop()
     }

@@ -1,6 +1,7 @@
 //! What the search for live members looks up.
 
 ghost use Rattle.std.specs.Prelude.{◌≡◌, length, IfOk, vec_len};
+ghost use Rattle.call_graph.specs.Follows.{can_be_made};
 
 use crate::lists::Lists;
 use hierarchy::{Hierarchy, Walk};
@@ -8,12 +9,10 @@ use indexmap::IndexMap;
 use program_model::{Class, Flags, Outside, Program};
 use std::alloc::{AllocError, Global};
 
-/// What the search looks up and notes. `bases` has for each type the type of the program class that it is, or that it
+/// What the search looks up. `bases` has for each type the type of the program class that it is, or that it
 /// is an array of. `object` is the type of `Ljava/lang/Object;`, and `of_object` are the keys of the five methods that
 /// the framework may call on every object. `shut` says by method number whether a method is shut. The conditional
-/// members stand by the type of their class, the conditional classes by that of their owner. `called_on` has for each
-/// type the methods that live calls name on it, `made_under` the places of the made classes under it. `steps` bounds a
-/// walk over all types.
+/// members stand by the type of their class, the conditional classes by that of their owner.
 #[derive(Drop)]
 pub struct Tables {
     pub bases: Vec<u32>,
@@ -23,11 +22,6 @@ pub struct Tables {
     pub fields_if: Lists,
     pub methods_if: Lists,
     pub classes_if: Lists,
-    pub called_on: Lists,
-    pub made_under: Lists,
-    pub classes: Walk,
-    pub kinds: Walk,
-    pub steps: usize,
 }
 
 impl Tables {
@@ -38,7 +32,6 @@ impl Tables {
         hierarchy: &Hierarchy,
         outside: &Outside,
     ) -> Result<Tables, AllocError> {
-        let types = program.types.len();
         Ok(Tables {
             bases: bases(alloc, program)?,
             object: object_kind(program),
@@ -47,6 +40,30 @@ impl Tables {
             fields_if: fields_by_class(alloc, program, outside)?,
             methods_if: methods_by_class(alloc, program, outside)?,
             classes_if: classes_by_owner(alloc, program, outside)?,
+        })
+    }
+}
+
+/// What the search notes. `called_on` has for each type the methods that live calls name on it, `made_under` the places
+/// of the made classes under it. `steps` bounds a walk over all types.
+#[derive(Drop)]
+pub struct Notes {
+    pub called_on: Lists,
+    pub made_under: Lists,
+    pub classes: Walk,
+    pub kinds: Walk,
+    pub steps: usize,
+}
+
+impl Notes {
+    /// Nothing is noted of a program.
+    pub fn new(
+        alloc: Global,
+        program: &Program,
+        hierarchy: &Hierarchy,
+    ) -> Result<Notes, AllocError> {
+        let types = program.types.len();
+        Ok(Notes {
             called_on: Lists::new(alloc, types)?,
             made_under: Lists::new(alloc, types)?,
             classes: hierarchy.walk(alloc)?,
@@ -228,6 +245,8 @@ pub fn is_object(program: &Program, kind: u32) -> bool {
 }
 
 /// Whether objects of the class can be made: it is neither abstract nor an interface.
-pub fn can_be_made(class: &Class) -> bool {
+pub fn can_be_made(class: &Class) -> bool
+    ensures { result ≡ can_be_made class.now }
+{
     !class.flags.has(Flags::ABSTRACT) && !class.flags.has(Flags::INTERFACE)
 }

@@ -1,0 +1,4 @@
+mod Adds
+mod Names
+mod Growth
+mod Staying

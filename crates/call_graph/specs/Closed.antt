@@ -1,0 +1,131 @@
+-- Facts of which each that waits no longer has brought along what follows from it.
+use Rattle.std.specs.Prelude.{◌≡◌, ◌⊎◌, ℕ, Bool, true, false, List, [], ◌++◌, flat_map, Option, Some, None, slice_get, slice_index_or, Contains, Vec}
+use Rattle.program_model.specs.declared.program.Program.{Program}
+use Rattle.std.specs.declared.alloc.Global.{Global}
+use Rattle.program_model.specs.declared.pass.Outside.{Outside}
+use Rattle.call_graph.specs.declared.facts.Fact.{Fact}
+use Rattle.call_graph.specs.declared.facts.Fact.TheVariants as fact
+use Rattle.call_graph.specs.declared.facts.Facts.{Facts}
+use Rattle.call_graph.specs.declared.lists.Lists.{Lists}
+use Rattle.call_graph.specs.declared.live_set.LiveSet.{LiveSet}
+use Rattle.call_graph.specs.declared.tables.Tables.{Tables}
+use Rattle.call_graph.specs.declared.marks.Marks.{Marks}
+use Rattle.call_graph.specs.Marks.{Keeps}
+use Rattle.call_graph.specs.Follows.{kept_class, kept_field, kept_method, class_facts, field_facts, body_facts}
+
+abbrev pub marks_on : Bool → Facts → Fact → Bool
+marks_on past f (fact.Class n) = slice_index_or f.classes.marks.items n past
+marks_on past f (fact.Made n) = slice_index_or f.made.marks.items n past
+marks_on past f (fact.Field n) = slice_index_or f.fields.marks.items n past
+marks_on past f (fact.Method n) = slice_index_or f.methods.marks.items n past
+marks_on past f (fact.Called n) = slice_index_or f.called.marks.items n past
+
+-- whether a fact is known, and whether it is known or past its table
+abbrev pub has : Facts → Fact → Bool
+has f x = marks_on false f x
+
+abbrev pub reached : Facts → Fact → Bool
+reached f x = marks_on true f x
+
+abbrev pub Waits : Facts → Fact → Type 0
+Waits f (fact.Class n) = Contains f.classes.waiting.items n
+Waits f (fact.Made n) = Contains f.made.waiting.items n
+Waits f (fact.Field n) = Contains f.fields.waiting.items n
+Waits f (fact.Method n) = Contains f.methods.waiting.items n
+Waits f (fact.Called n) = Contains f.called.waiting.items n
+
+-- what was known is known, and what is new waits
+pub record Goes (f g : Facts) : Type 0 where
+  pub classes : Keeps f.classes g.classes
+  pub made : Keeps f.made g.made
+  pub fields : Keeps f.fields g.fields
+  pub methods : Keeps f.methods g.methods
+  pub called : Keeps f.called g.called
+
+-- the same is known, and at most this fact waits no longer
+pub record Takes (f g : Facts) (x : Fact) : Type 0 where
+  pub known : (y : Fact) → has g y ≡ has f y
+  pub met : (y : Fact) → reached g y ≡ reached f y
+  pub waits : (y : Fact) → Waits f y → (y ≡ x) ⊎ Waits g y
+
+-- nothing waits
+abbrev pub IsDone : Facts → Type 0
+IsDone f = (x : Fact) → Waits f x → ⊥
+
+-- ---- what follows
+
+abbrev pub row_in : Option (Vec ℕ Global) → List ℕ
+row_in None = []
+row_in (Some row) = row.items
+
+-- the list of a number
+abbrev pub row_of : Lists → ℕ → List ℕ
+row_of l n = row_in (slice_get l.rows.items n)
+
+-- what is kept because a class is live
+abbrev pub conditional : Program → Tables → ℕ → List Fact
+conditional p t kind = flat_map (kept_field p) (row_of t.fields_if kind) ++ (flat_map (kept_method p) (row_of t.methods_if kind) ++ flat_map (kept_class p) (row_of t.classes_if kind))
+
+-- what one fact alone forces, but for super calls and the framework
+abbrev pub forced : Program → Tables → Fact → List Fact
+forced p t (fact.Class n) = class_facts p t.bases.items n ++ conditional p t n
+forced p t (fact.Made n) = []
+forced p t (fact.Field n) = field_facts p t.bases.items n
+forced p t (fact.Method n) = body_facts p t.bases.items n
+forced p t (fact.Called n) = []
+
+-- what the outside keeps
+abbrev pub kept_facts : Program → Outside → List Fact
+kept_facts p o = flat_map (kept_class p) o.classes ++ (flat_map (kept_field p) o.fields ++ flat_map (kept_method p) o.methods)
+
+-- the facts of a list are known, or past their tables
+abbrev pub Reaches : Facts → List Fact → Type 0
+Reaches f xs = (x : Fact) → Contains xs x → reached f x ≡ true
+
+-- what the outside keeps is known, and what follows from each known fact that waits no longer
+pub record Follows (p : Program) (o : Outside) (t : Tables) (f : Facts) : Type 0 where
+  pub begins : Reaches f (kept_facts p o)
+  pub goes : (x : Fact) → has f x ≡ true → Waits f x ⊎ Reaches f (forced p t x)
+
+-- what the outside keeps is known, and what follows from each known fact
+pub record IsClosed (p : Program) (o : Outside) (t : Tables) (f : Facts) : Type 0 where
+  pub begins : Reaches f (kept_facts p o)
+  pub goes : (x : Fact) → has f x ≡ true → Reaches f (forced p t x)
+
+-- no fact is known
+pub record IsBlank (f : Facts) : Type 0 where
+  pub classes : (n : ℕ) → slice_index_or f.classes.marks.items n false ≡ true → ⊥
+  pub made : (n : ℕ) → slice_index_or f.made.marks.items n false ≡ true → ⊥
+  pub fields : (n : ℕ) → slice_index_or f.fields.marks.items n false ≡ true → ⊥
+  pub methods : (n : ℕ) → slice_index_or f.methods.marks.items n false ≡ true → ⊥
+  pub called : (n : ℕ) → slice_index_or f.called.marks.items n false ≡ true → ⊥
+
+-- the same is known, and nothing waits
+pub record Ends (f g : Facts) : Type 0 where
+  pub known : (y : Fact) → has g y ≡ has f y
+  pub met : (y : Fact) → reached g y ≡ reached f y
+  pub done : IsDone f
+
+-- ---- the sets
+
+-- whether a fact is of a set; the calls are none of it
+abbrev pub is_live : LiveSet → Fact → Bool
+is_live s (fact.Class n) = slice_index_or s.classes.items n false
+is_live s (fact.Made n) = slice_index_or s.made.items n false
+is_live s (fact.Field n) = slice_index_or s.fields.items n false
+is_live s (fact.Method n) = slice_index_or s.methods.items n false
+is_live s (fact.Called n) = false
+
+-- whether it is of a set or past the table, or a call
+abbrev pub is_met : LiveSet → Fact → Bool
+is_met s (fact.Class n) = slice_index_or s.classes.items n true
+is_met s (fact.Made n) = slice_index_or s.made.items n true
+is_met s (fact.Field n) = slice_index_or s.fields.items n true
+is_met s (fact.Method n) = slice_index_or s.methods.items n true
+is_met s (fact.Called n) = true
+
+-- What the outside keeps is live, and what each live thing alone forces, but for super calls and what is called on objects.
+pub record IsClosedSet (p : Program) (o : Outside) (s : LiveSet) : Type 0 where
+  pub tables : Tables
+  pub begins : (x : Fact) → Contains (kept_facts p o) x → is_met s x ≡ true
+  pub goes : (x y : Fact) → is_live s x ≡ true → Contains (forced p tables x) y → is_met s y ≡ true

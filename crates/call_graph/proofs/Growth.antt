@@ -1,9 +1,9 @@
 -- How facts become known, and what waits for what follows from it.
-use Rattle.std.proofs.Common.{◌≡◌, ℕ, zero, suc, ◌+◌, ◌<◌, ◌≤◌, ◌⊎◌, inl, inr, Bool, true, false, true≢false, List, [], ◌∷◌, ◌++◌, length, take, get_or, refl, sym, ap, subst, ◌∙◌, arith, Some, None, Option}
-use Rattle.std.specs.Prelude.{slice_index_or, slice_set, Contains, MatchOption}
+use Rattle.std.proofs.Common.{◌≡◌, ℕ, zero, suc, ◌+◌, ◌<◌, ◌≤◌, ◌⊎◌, inl, inr, Bool, true, false, true≢false, List, [], ◌∷◌, ◌++◌, length, take, get_or, refl, sym, ap, subst, ◌∙◌, arith, Some, None}
+use Rattle.std.specs.Prelude.{slice_index_or, slice_set, Contains}
 use Rattle.std.proofs.lemmas.List.{take_more, take_all}
-use Rattle.call_graph.specs.Facts.{Grows}
-use Rattle.std.proofs.lemmas.List.Elements.{Contains-push, Contains-push_cases, Contains-append_left, Contains-append_right}
+use Rattle.call_graph.specs.Facts.{Grows, Sized}
+use Rattle.std.proofs.lemmas.List.Elements.{Contains-push, Contains-push_cases, Contains-append_left}
 use Rattle.program_model.specs.declared.program.Program.{Program}
 use Rattle.program_model.specs.declared.pass.Outside.{Outside}
 use Rattle.call_graph.specs.declared.facts.Fact.{Fact}
@@ -12,8 +12,11 @@ use Rattle.call_graph.specs.declared.facts.Facts.{Facts}
 use Rattle.call_graph.specs.declared.tables.Tables.{Tables}
 use Rattle.call_graph.specs.declared.marks.Marks.{Marks}
 use Rattle.call_graph.specs.Marks.{Keeps, Pops}
-use Rattle.call_graph.specs.Closed.{has, reached, Waits, Goes, Takes, IsDone, forced, kept_facts, Reaches, Follows, IsClosed, IsBlank, Ends, is_live, is_met, IsClosedSet}
+use Rattle.call_graph.specs.Closed.{has, reached, Waits, Goes, Takes, kept_facts, Reaches, Forces, Followed, Follows, IsClosed, IsBlank, Ends, is_live, is_met, IsClosedSet}
 use Rattle.call_graph.specs.declared.live_set.LiveSet.{LiveSet}
+use Rattle.call_graph.specs.declared.notes.Notes.{Notes}
+use Rattle.call_graph.specs.Tables.{AreTables}
+use Rattle.call_graph.specs.Objects.{Noted, NotesGrow, NothingNoted}
 
 -- ---- marks
 
@@ -62,7 +65,7 @@ keeps_set m m' x e w = record {
 pub keeps_same : (m : Marks) → Keeps m m
 keeps_same m = record { marked = λ n h. h; reached = λ n h. h; new = λ n h. inl h; waits = λ n h. h }
 
-keeps_then : (a b c : Marks) → Keeps a b → Keeps b c → Keeps a c
+pub keeps_then : (a b c : Marks) → Keeps a b → Keeps b c → Keeps a c
 keeps_then a b c f g = record {
   marked = λ n h. g.marked n (f.marked n h);
   reached = λ n h. g.reached n (f.reached n h);
@@ -118,7 +121,7 @@ pub reaches_all : (f : Facts) (xs : List Fact) (i : ℕ) → length xs ≤ i →
 reaches_all f xs i le r x c = r x (subst (λ l. Contains l x) (sym (take_all i xs le)) c)
 
 pub grows_then : (a b c : Facts) → Grows a b → Grows b c → Grows a c
-grows_then a b c f g = (let x = f.0 in let y = g.0 in omega (arith, x, y), g.1 ∙ f.1, g.2 ∙ f.2, g.3 ∙ f.3, g.4 ∙ f.4)
+grows_then a b c f g = (let x = f.0 in let y = g.0 in omega (arith, x, y), g.1 ∙ f.1, g.2 ∙ f.2, g.3 ∙ f.3, g.4 ∙ f.4, g.5 ∙ f.5)
 
 none_in : {X : Type 0} (x : X) → Contains [] x → ⊥
 none_in x c = let l = c.1 in omega (arith, l)
@@ -128,30 +131,43 @@ reaches_none f xs x c = absurd (none_in x c)
 
 -- ---- the search
 
+noted_keeps : (p : Program) (object : ℕ) (m n : Notes) (out : List Fact) (x : Fact) → NotesGrow p m n out → Noted p object m x → Noted p object n x
+noted_keeps p object m n out (fact.Class k) g h = tt
+noted_keeps p object m n out (fact.Made k) g h = λ c u e over lt. g.made u c (h c u e over lt)
+noted_keeps p object m n out (fact.Field k) g h = tt
+noted_keeps p object m n out (fact.Method k) g h = tt
+noted_keeps p object m n out (fact.Called k) g h = λ q e lt. g.called q.class k (h q e lt)
+
 -- a fact is taken, and what follows from it becomes known
-pub follows_on : (p : Program) (o : Outside) (t : Tables) (f g h : Facts) (x : Fact) (more : List Fact) → Follows p o t f → Takes f g x → Goes g h → ((y : Fact) → Contains (forced p t x) y → Contains more y) → Reaches h more → Follows p o t h
-follows_on p o t f g h x more s k go all r = record {
+pub follows_on : (p : Program) (o : Outside) (t : Tables) (m n : Notes) (f g h : Facts) (x : Fact) (more : List Fact) → Follows p o t m f → Takes f g x → Goes g h → Followed p t m n x more → Reaches h more → Follows p o t n h
+follows_on p o t m n f g h x more s k go all r = record {
   begins = λ y c. still y (s.begins y c);
   goes = λ y e. elim (new_waits g h go y e) [
     | inl d ↦ elim (s.goes y (sym (k.known y) ∙ d)) [
       | inl w ↦ elim (k.waits y w) [
-        | inl same ↦ inr (λ z c. r z (all z (subst (λ q. Contains (forced p t q) z) same c)))
+        | inl same ↦ inr (record { forces = λ z c. r z (all.forces z (subst (λ q. Forces p t q z) same c)); noted = subst (Noted p t.object n) (sym same) all.noted })
         | inr w ↦ inl (still_waits g h go y w)
       ]
-      | inr done ↦ inr (λ z c. still z (done z c))
+      | inr done ↦ inr (record { forces = λ z c. still z (done.forces z c); noted = noted_keeps p t.object m n more y all.grow done.noted })
     ]
     | inr w ↦ inl w
   ];
+  meets = λ v number class q z c. elim (all.grow.pairs v number class q) [ inl old ↦ still z (s.meets v number class old z c) | inr added ↦ r z (added z c) ];
 }
   where
     still : (y : Fact) → reached f y ≡ true → reached h y ≡ true
     still y e = stays_reached g h go y (k.met y ∙ e)
 
 -- at the end
-pub closed_then : (p : Program) (o : Outside) (t : Tables) (f g : Facts) → Follows p o t f → Ends f g → IsClosed p o t g
-closed_then p o t f g s e = record {
+pub closed_then : (p : Program) (o : Outside) (t : Tables) (n : Notes) (f g : Facts) → Follows p o t n f → Ends f g → IsClosed p o t g
+closed_then p o t n f g s e = record {
+  notes = n;
   begins = λ y c. e.met y ∙ s.begins y c;
-  goes = λ y h. elim (s.goes y (sym (e.known y) ∙ h)) [ inl w ↦ absurd (e.done y w) | inr r ↦ (λ z c. e.met z ∙ r z c) ];
+  goes = λ y h. elim (s.goes y (sym (e.known y) ∙ h)) [
+    | inl w ↦ absurd (e.done y w)
+    | inr b ↦ record { forces = λ z c. e.met z ∙ b.forces z c; noted = b.noted }
+  ];
+  meets = λ v number class q z c. e.met z ∙ s.meets v number class q z c;
 }
 
 -- at the start
@@ -162,10 +178,11 @@ blank f b (fact.Field n) h = b.fields n h
 blank f b (fact.Method n) h = b.methods n h
 blank f b (fact.Called n) h = b.called n h
 
-pub follows_first : (p : Program) (o : Outside) (t : Tables) (f g : Facts) (more : List Fact) → IsBlank f → Goes f g → more ≡ kept_facts p o → Reaches g more → Follows p o t g
-follows_first p o t f g more empty go is r = record {
+pub follows_first : (p : Program) (o : Outside) (t : Tables) (n : Notes) (f g : Facts) (more : List Fact) → IsBlank f → NothingNoted n → Goes f g → more ≡ kept_facts p o → Reaches g more → Follows p o t n g
+follows_first p o t n f g more empty nothing go is r = record {
   begins = λ y c. r y (subst (λ l. Contains l y) (sym is) c);
   goes = λ y e. elim (new_waits f g go y e) [ inl d ↦ absurd (blank f empty y d) | inr w ↦ inl w ];
+  meets = λ v number class q z c. absurd (none_in number (subst (λ l. Contains l number) (nothing.called q.kind) q.called));
 }
 
 -- ---- a fact that is taken
@@ -289,9 +306,29 @@ set_has f s a b c d (fact.Field n) h = sym (ap (λ v. slice_index_or v.items n f
 set_has f s a b c d (fact.Method n) h = sym (ap (λ v. slice_index_or v.items n false) d) ∙ h
 set_has f s a b c d (fact.Called n) h = absurd (true≢false (sym h))
 
-pub closed_set : (p : Program) (o : Outside) (t : Tables) (f : Facts) (s : LiveSet) → s.classes ≡ f.classes.marks → s.made ≡ f.made.marks → s.fields ≡ f.fields.marks → s.methods ≡ f.methods.marks → IsClosed p o t f → IsClosedSet p o s
-closed_set p o t f s a b c d k = record {
+marked_so : (l : List Bool) (n : ℕ) → n < length l → slice_index_or l n true ≡ true → slice_index_or l n false ≡ true
+marked_so [] n lt h = absurd (omega (arith, lt))
+marked_so (b ∷ bs) zero lt h = h
+marked_so (b ∷ bs) (suc n) lt h = marked_so bs n (omega (arith, lt)) h
+
+pub closed_set : (p : Program) (o : Outside) (t : Tables) (f : Facts) (s : LiveSet) → s.classes ≡ f.classes.marks → s.made ≡ f.made.marks → s.fields ≡ f.fields.marks → s.methods ≡ f.methods.marks
+    → AreTables p o t → Sized p f → IsClosed p o t f → IsClosedSet p o s
+closed_set p o t f s a b c d are sized k = record {
   tables = t;
-  begins = λ x h. set_met f s a b c d x (k.begins x h);
-  goes = λ x y h c'. set_met f s a b c d y (k.goes x (set_has f s a b c d x h) y c');
+  are = are;
+  begins = λ x h. met x (k.begins x h);
+  goes = λ x y h force. met y ((k.goes x (known x h)).forces y force);
+  called = λ old number kind class q y called lt e l made place over i.
+      let call : has f (fact.Called number) ≡ true = marked_so f.called.marks.items number (let z = sized.4 in omega (arith, lt, z)) ((k.goes called.from (known called.from called.live)).forces (fact.Called number) (inl called.calls)) in
+      met y (k.meets old number class (record {
+        kind = q.class;
+        called = (k.goes (fact.Called number) call).noted q e l;
+        made = (k.goes (fact.Made kind) (known (fact.Made kind) made)).noted class q.class place over l;
+      }) y i);
 }
+  where
+    met : (x : Fact) → reached f x ≡ true → is_met s x ≡ true
+    met = set_met f s a b c d
+
+    known : (x : Fact) → is_live s x ≡ true → has f x ≡ true
+    known = set_has f s a b c d

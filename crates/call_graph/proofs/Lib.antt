@@ -2,3 +2,11 @@ mod Adds
 mod Names
 mod Growth
 mod Staying
+mod Climbing
+mod Following
+mod SuperCalls
+mod Descriptors
+mod Contained
+mod Noting
+mod Owners
+mod Calling

@@ -1,17 +1,23 @@
 -- Facts of which each that waits no longer has brought along what follows from it.
-use Rattle.std.specs.Prelude.{◌≡◌, ◌⊎◌, ℕ, Bool, true, false, List, [], ◌++◌, flat_map, Option, Some, None, slice_get, slice_index_or, Contains, Vec}
+use Rattle.std.specs.Prelude.{◌≡◌, ◌⊎◌, ◌<◌, ℕ, length, Bool, true, false, List, [], ◌++◌, flat_map, Some, slice_get, slice_index_or, Contains}
 use Rattle.program_model.specs.declared.program.Program.{Program}
-use Rattle.std.specs.declared.alloc.Global.{Global}
 use Rattle.program_model.specs.declared.pass.Outside.{Outside}
 use Rattle.call_graph.specs.declared.facts.Fact.{Fact}
 use Rattle.call_graph.specs.declared.facts.Fact.TheVariants as fact
 use Rattle.call_graph.specs.declared.facts.Facts.{Facts}
-use Rattle.call_graph.specs.declared.lists.Lists.{Lists}
 use Rattle.call_graph.specs.declared.live_set.LiveSet.{LiveSet}
 use Rattle.call_graph.specs.declared.tables.Tables.{Tables}
-use Rattle.call_graph.specs.declared.marks.Marks.{Marks}
+use Rattle.call_graph.specs.Lists.{row_of}
 use Rattle.call_graph.specs.Marks.{Keeps}
-use Rattle.call_graph.specs.Follows.{kept_class, kept_field, kept_method, class_facts, field_facts, body_facts}
+use Rattle.call_graph.specs.Follows.{kept_class, kept_field, kept_method, class_facts, field_facts, body_facts, own_method, names_of_method}
+use Rattle.program_model.specs.declared.pools.MethodName.{MethodName}
+use Rattle.program_model.specs.Lookups.{class_place}
+use Rattle.insn_set.specs.declared.ops.InvokeKind.TheVariants as call
+use Rattle.call_graph.specs.declared.named.Named.TheVariants as named
+use Rattle.call_graph.specs.declared.notes.Notes.{Notes}
+use Rattle.call_graph.specs.Tables.{AreTables}
+use Rattle.call_graph.specs.Objects.{IsOld, CalledBack, Noted, Meets, IsOver, NotesGrow, AreNotes, answer_facts}
+use Rattle.call_graph.specs.Supers.{SuperFacts, NamesNone}
 
 abbrev pub marks_on : Bool → Facts → Fact → Bool
 marks_on past f (fact.Class n) = slice_index_or f.classes.marks.items n past
@@ -54,14 +60,6 @@ IsDone f = (x : Fact) → Waits f x → ⊥
 
 -- ---- what follows
 
-abbrev pub row_in : Option (Vec ℕ Global) → List ℕ
-row_in None = []
-row_in (Some row) = row.items
-
--- the list of a number
-abbrev pub row_of : Lists → ℕ → List ℕ
-row_of l n = row_in (slice_get l.rows.items n)
-
 -- what is kept because a class is live
 abbrev pub conditional : Program → Tables → ℕ → List Fact
 conditional p t kind = flat_map (kept_field p) (row_of t.fields_if kind) ++ (flat_map (kept_method p) (row_of t.methods_if kind) ++ flat_map (kept_class p) (row_of t.classes_if kind))
@@ -82,15 +80,62 @@ kept_facts p o = flat_map (kept_class p) o.classes ++ (flat_map (kept_field p) o
 abbrev pub Reaches : Facts → List Fact → Type 0
 Reaches f xs = (x : Fact) → Contains xs x → reached f x ≡ true
 
+-- ---- what a fact brings along
+
+-- what a super call in the code of a method finds
+pub record SuperForces (p : Program) (number : ℕ) (y : Fact) : Type 0 where
+  pub name : MethodName
+  pub caller : ℕ
+  pub callee : ℕ
+  pub called : MethodName
+  pub facts : List Fact
+  pub is_name : slice_get p.methods number ≡ Some name
+  pub is_caller : class_place p name.class ≡ Some caller
+  pub calls : Contains (names_of_method (own_method p number)) (named.Call call.Super callee)
+  pub is_called : slice_get p.methods callee ≡ Some called
+  pub finds : SuperFacts p name.class caller called facts
+  pub plain : NamesNone p called
+  pub has : Contains facts y
+
+abbrev pub Beside : Program → Tables → Fact → Fact → Type 0
+Beside p t (fact.Class n) y = ⊥
+Beside p t (fact.Made n) y = CalledBack p t.object t.shut.items n y
+Beside p t (fact.Field n) y = ⊥
+Beside p t (fact.Method n) y = SuperForces p n y
+Beside p t (fact.Called n) y = ⊥
+
+-- a fact forces another by itself: as the lists say, as a super call of its code finds it, or as the framework calls it
+abbrev pub Forces : Program → Tables → Fact → Fact → Type 0
+Forces p t x y = Contains (forced p t x) y ⊎ Beside p t x y
+
+-- what follows from a fact is added, and noted
+pub record Followed (p : Program) (t : Tables) (old new : Notes) (x : Fact) (out : List Fact) : Type 0 where
+  pub forces : (y : Fact) → Forces p t x y → Contains out y
+  pub noted : Noted p t.object new x
+  pub grow : NotesGrow p old new out
+  pub are : AreNotes p new
+
+-- what a fact forces is known, and it is noted
+pub record Brings (p : Program) (t : Tables) (n : Notes) (f : Facts) (x : Fact) : Type 0 where
+  pub forces : (y : Fact) → Forces p t x y → reached f y ≡ true
+  pub noted : Noted p t.object n x
+
+-- what is called on objects of noted classes is known
+abbrev pub MeetsAll : Program → Notes → Facts → Type 0
+MeetsAll p n f = IsOld p → (number class : ℕ) → Meets n number class → Reaches f (answer_facts p number class)
+
 -- what the outside keeps is known, and what follows from each known fact that waits no longer
-pub record Follows (p : Program) (o : Outside) (t : Tables) (f : Facts) : Type 0 where
+pub record Follows (p : Program) (o : Outside) (t : Tables) (n : Notes) (f : Facts) : Type 0 where
   pub begins : Reaches f (kept_facts p o)
-  pub goes : (x : Fact) → has f x ≡ true → Waits f x ⊎ Reaches f (forced p t x)
+  pub goes : (x : Fact) → has f x ≡ true → Waits f x ⊎ Brings p t n f x
+  pub meets : MeetsAll p n f
 
 -- what the outside keeps is known, and what follows from each known fact
 pub record IsClosed (p : Program) (o : Outside) (t : Tables) (f : Facts) : Type 0 where
+  pub notes : Notes
   pub begins : Reaches f (kept_facts p o)
-  pub goes : (x : Fact) → has f x ≡ true → Reaches f (forced p t x)
+  pub goes : (x : Fact) → has f x ≡ true → Brings p t notes f x
+  pub meets : MeetsAll p notes f
 
 -- no fact is known
 pub record IsBlank (f : Facts) : Type 0 where
@@ -124,8 +169,18 @@ is_met s (fact.Field n) = slice_index_or s.fields.items n true
 is_met s (fact.Method n) = slice_index_or s.methods.items n true
 is_met s (fact.Called n) = true
 
--- What the outside keeps is live, and what each live thing alone forces, but for super calls and what is called on objects.
+-- a live thing has code that calls a method number on objects
+pub record IsCalled (p : Program) (t : Tables) (s : LiveSet) (number : ℕ) : Type 0 where
+  pub from : Fact
+  pub live : is_live s from ≡ true
+  pub calls : Contains (forced p t from) (fact.Called number)
+
+-- What the outside keeps is live, and what each live thing forces by itself. In version 035 what objects of made classes find for
+-- what is called on types above them is live too.
 pub record IsClosedSet (p : Program) (o : Outside) (s : LiveSet) : Type 0 where
   pub tables : Tables
+  pub are : AreTables p o tables
   pub begins : (x : Fact) → Contains (kept_facts p o) x → is_met s x ≡ true
-  pub goes : (x y : Fact) → is_live s x ≡ true → Contains (forced p tables x) y → is_met s y ≡ true
+  pub goes : (x y : Fact) → is_live s x ≡ true → Forces p tables x y → is_met s y ≡ true
+  pub called : IsOld p → (number kind class : ℕ) (q : MethodName) (y : Fact) → IsCalled p tables s number → number < length p.methods → slice_get p.methods number ≡ Some q → q.class < length p.types → is_live s (fact.Made kind) ≡ true
+      → class_place p kind ≡ Some class → IsOver p tables.object kind q.class → Contains (answer_facts p number class) y → is_met s y ≡ true

@@ -1,6 +1,6 @@
 -- What follows from what is live, by number, as far as one thing alone forces it (this project's profile: ProGuard manual,
 -- "Keep Options").
-use Rattle.std.specs.Prelude.{◌≡◌, ℕ, Bool, true, false, not, ◌&&◌, ◌||◌, List, [], ◌∷◌, ◌++◌, flat_map, filter, map, Option, Some, None, is_some, nat_eq, cond, slice_get, slice_index_or, option_and_then, Contains}
+use Rattle.std.specs.Prelude.{ℕ, Bool, not, ◌&&◌, List, [], ◌∷◌, ◌++◌, flat_map, Option, Some, None, is_some, nat_eq, cond, slice_get, option_and_then}
 use Rattle.insn_set.specs.declared.ops.InvokeKind.{InvokeKind}
 use Rattle.insn_set.specs.declared.ops.InvokeKind.TheVariants as call
 use Rattle.program_model.specs.declared.pools.Proto.{Proto}
@@ -11,7 +11,7 @@ use Rattle.program_model.specs.declared.program.Field.{Field}
 use Rattle.program_model.specs.declared.program.Method.{Method}
 use Rattle.program_model.specs.declared.program.Class.{Class}
 use Rattle.program_model.specs.declared.program.Program.{Program}
-use Rattle.program_model.specs.Lookups.{class_place, method_at, method_or}
+use Rattle.program_model.specs.Lookups.{class_place, method_at}
 use Rattle.program_model.specs.MemberRules.{has_flag, is_direct}
 use Rattle.class_defs.specs.Finding.{finds_static, resolves_method, resolves_field, is_037}
 use Rattle.class_defs.specs.Starts.{initialiser_place}

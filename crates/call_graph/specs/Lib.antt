@@ -1,6 +1,13 @@
 pub mod Marks
+pub mod Lists
+pub mod Tables
 pub mod Facts
 pub mod Names
+pub mod Bases
+pub mod Common
 pub mod Follows
+pub mod Above
+pub mod Objects
+pub mod Supers
 pub mod Closed
 pub mod Stays

@@ -1,11 +1,13 @@
 //! What the calls of a method may find.
 
+use crate::above::climb;
 use crate::at::At;
+use crate::bases::is_object;
 use crate::live_set::LiveSet;
-use crate::rules::{SuperCall, find_whole, super_call};
-use crate::tables::{count_steps, is_object};
+use crate::marks::Marks;
+use crate::supers::{is_interface, lists_above};
 use hierarchy::{Given, Hierarchy, Walk};
-use program_model::{Insn, InvokeKind, MethodAt, Program};
+use program_model::{Insn, InvokeKind, MethodAt, Program, Version};
 use std::alloc::{AllocError, Global};
 
 /// A call at a position, and a method that it may find.
@@ -15,49 +17,54 @@ pub struct Edge {
     pub target: MethodAt,
 }
 
-/// Whether the type is a superclass or an interface that the class or a program class above it lists.
-fn lists_above(
-    at: &At<'_>,
-    class: u32,
-    kind: u32,
-    walk: &mut Walk,
-    steps: usize,
-) -> Result<bool, AllocError> {
-    walk.clear();
-    walk.push(class)?;
-    for _ in 0..steps {
-        let one = match walk.pop() {
-            Some(one) => one,
-            None => break,
-        };
-        if !walk.see(one)? {
-            continue;
-        }
-        if let Some(class) = at.class_at(one) {
-            if class.superclass == kind || class.interfaces.as_slice().contains(&kind) {
-                return Ok(true);
-            }
-        }
-        walk.push_all(at.hierarchy.interfaces_of(one))?;
-        if let Some(above) = at.hierarchy.super_of(one) {
-            walk.push(above)?;
-        }
-    }
-    Ok(false)
-}
-
 /// Whether a class is under a type by the program's own lists; every class is under `Ljava/lang/Object;`.
 fn is_under_kind(
+    alloc: Global,
     at: &At<'_>,
     class: u32,
     kind: u32,
-    walk: &mut Walk,
-    steps: usize,
+    marks: &mut Marks,
 ) -> Result<bool, AllocError> {
     match at.hierarchy.place_of(kind) {
         Some(upper) => Ok(at.hierarchy.is_under(class, upper)),
         None if is_object(at.program, kind) => Ok(true),
-        None => lists_above(at, class, kind, walk, steps),
+        None => match at.class_at(class) {
+            Some(defined) => {
+                let above = climb(alloc, at, marks, defined.name, defined.name)?;
+                Ok(above.as_slice().contains(&kind))
+            }
+            None => Ok(false),
+        },
+    }
+}
+
+/// What a class finds for a virtual or interface call: its first virtual method with the key, else what its candidates
+/// give.
+fn find_whole(
+    alloc: Global,
+    at: &At<'_>,
+    class: u32,
+    key: u32,
+    walk: &mut Walk,
+) -> Result<Option<MethodAt>, AllocError> {
+    if let Some(found) = at.hierarchy.find_virtual(at.program, class, key) {
+        return Ok(Some(found));
+    }
+    let mut candidates = Vec::new(alloc);
+    at.hierarchy
+        .candidates(at.program, class, key, walk, &mut candidates)?;
+    given(at, candidates.as_slice(), walk)
+}
+
+/// The method that candidates give, if they give one.
+fn given(
+    at: &At<'_>,
+    candidates: &[MethodAt],
+    walk: &mut Walk,
+) -> Result<Option<MethodAt>, AllocError> {
+    match at.hierarchy.given(at.program, candidates, walk)? {
+        Given::One(found) => Ok(Some(found)),
+        _ => Ok(None),
     }
 }
 
@@ -82,7 +89,7 @@ struct Search<'a> {
     at: At<'a>,
     live: &'a LiveSet,
     walk: Walk,
-    steps: usize,
+    marks: Marks,
 }
 
 impl<'a> Search<'a> {
@@ -101,7 +108,7 @@ impl<'a> Search<'a> {
         if found != Some(target) {
             return Ok(false);
         }
-        is_under_kind(&self.at, class, call.kind, &mut self.walk, self.steps)
+        is_under_kind(alloc, &self.at, class, call.kind, &mut self.marks)
     }
 
     /// Whether one of the classes is a made one under the named one that finds just this method.
@@ -156,6 +163,58 @@ impl<'a> Search<'a> {
         Ok(())
     }
 
+    /// The first method along the superclasses of a class.
+    fn find_above(&self, caller: u32, key: u32) -> Option<MethodAt> {
+        match self.at.hierarchy.super_of(caller) {
+            Some(above) => self.at.hierarchy.find_from(above, key),
+            None => None,
+        }
+    }
+
+    /// What the candidates of one interface give.
+    fn find_in_interface(
+        &mut self,
+        alloc: Global,
+        interface: u32,
+        key: u32,
+    ) -> Result<Option<MethodAt>, AllocError> {
+        let mut candidates = Vec::new(alloc);
+        self.at.hierarchy.candidates_of(
+            self.at.program,
+            interface,
+            key,
+            &mut self.walk,
+            &mut candidates,
+        )?;
+        given(&self.at, candidates.as_slice(), &mut self.walk)
+    }
+
+    /// What a super call of version 037 finds in a class.
+    fn find_super_037(
+        &mut self,
+        alloc: Global,
+        caller: u32,
+        call: Call,
+    ) -> Result<Option<MethodAt>, AllocError> {
+        match self.at.hierarchy.place_of(call.kind) {
+            Some(place) if is_interface(&self.at, place) => {
+                self.find_in_interface(alloc, place, call.key)
+            }
+            Some(_) => Ok(self.find_above(caller, call.key)),
+            None => {
+                let kind = match self.at.class_at(caller) {
+                    Some(class) => class.name,
+                    None => return Ok(None),
+                };
+                if lists_above(alloc, &self.at, &mut self.marks, kind, call.kind)? {
+                    Ok(None)
+                } else {
+                    Ok(self.find_above(caller, call.key))
+                }
+            }
+        }
+    }
+
     /// What a super call in a class finds.
     fn find_super(
         &mut self,
@@ -163,33 +222,9 @@ impl<'a> Search<'a> {
         caller: u32,
         call: Call,
     ) -> Result<Option<MethodAt>, AllocError> {
-        match super_call(&self.at, caller, call.kind, &mut self.walk, self.steps)? {
-            SuperCall::Interface(place) => {
-                let mut candidates = Vec::new(alloc);
-                self.at.hierarchy.candidates_of(
-                    self.at.program,
-                    place,
-                    call.key,
-                    &mut self.walk,
-                    &mut candidates,
-                )?;
-                match self
-                    .at
-                    .hierarchy
-                    .given(self.at.program, candidates.as_slice(), &mut self.walk)?
-                {
-                    Given::One(found) => Ok(Some(found)),
-                    _ => Ok(None),
-                }
-            }
-            SuperCall::Framework | SuperCall::Above(None) => Ok(None),
-            SuperCall::Above(Some(above)) => find_whole(
-                alloc,
-                &self.at,
-                above,
-                call.key,
-                &mut self.walk,
-            ),
+        match self.at.program.version {
+            Version::V035 => Ok(self.find_above(caller, call.key)),
+            Version::V037 => self.find_super_037(alloc, caller, call),
         }
     }
 
@@ -250,7 +285,7 @@ pub fn callees(
         at,
         live,
         walk: hierarchy.walk(alloc)?,
-        steps: count_steps(program),
+        marks: Marks::new(alloc, program.types.len())?,
     };
     let mut position: u32 = 0;
     for insn in body.insns.as_slice() {

@@ -7,9 +7,10 @@ ghost use Rattle.call_graph.specs.Follows.{made_of, made_facts, kept_class, kept
 ghost use Rattle.call_graph.specs.Follows as follow;
 
 use crate::at::At;
+use crate::bases::NONE;
 use crate::facts::Fact;
 use crate::named::{Named, add_first, add_marks, add_method};
-use crate::tables::{NONE, can_be_made};
+use crate::tables::can_be_made;
 use program_model::{Class, Flags, InvokeKind, Method, MethodAt, Proto, Version};
 use std::alloc::{AllocError, Global};
 

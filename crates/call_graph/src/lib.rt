@@ -5,15 +5,21 @@
 //! program, hierarchy and outside.
 #![tactic(auto)]
 
+mod above;
 mod at;
+mod bases;
 mod calls;
+mod common;
 mod facts;
 mod follow;
 mod lists;
 mod live_set;
 mod marks;
 mod named;
+mod notes;
+mod objects;
 mod rules;
+mod supers;
 mod tables;
 
 pub use calls::{Edge, callees};

@@ -1,14 +1,18 @@
 //! The live members of a program.
 
-ghost use Rattle.std.specs.Prelude.{◌≡◌, length, IfOk, vec_len};
+ghost use Rattle.std.specs.Prelude.{◌≡◌, true, length, IfOk, vec_len};
 ghost use Rattle.call_graph.specs.Facts.{Fits, Sized};
+ghost use Rattle.program_model.specs.ProgramRules.{is_well_formed};
+ghost use Rattle.call_graph.specs.Objects.{HasCommon};
+ghost use Rattle.call_graph.specs.Tables.{AreTables};
 ghost use Rattle.call_graph.specs.Closed.{IsClosed, IsClosedSet};
 ghost use Rattle.hierarchy.specs.Shapes.{IsResolved};
 
 use crate::at::At;
 use crate::facts::{Facts, no_facts};
+use crate::notes::Notes;
 use crate::rules::{begin, follow};
-use crate::tables::{Notes, Tables};
+use crate::tables::Tables;
 use hierarchy::Hierarchy;
 use program_model::{Outside, Program};
 use std::alloc::{AllocError, Global};
@@ -25,7 +29,7 @@ pub struct LiveSet {
 /// The marks of facts.
 fn marks_of(facts: Facts) -> LiveSet
     ensures fits { (p : Program) → Sized p facts → Fits p result }
-    ensures closed { (p : Program) (o : Outside) (t : Tables) → IsClosed p o t facts → IsClosedSet p o result }
+    ensures closed { (p : Program) (o : Outside) (t : Tables) → AreTables p o t → Sized p facts → IsClosed p o t facts → IsClosedSet p o result }
 {
     let Facts {
         classes,
@@ -43,7 +47,6 @@ fn marks_of(facts: Facts) -> LiveSet
 }
 
 /// All facts that follow from what the outside keeps.
-#[tactic(auto, using(crate::proofs::Growth::closed_then))]
 fn search(
     alloc: Global,
     program: &Program,
@@ -52,7 +55,7 @@ fn search(
     tables: &Tables,
 ) -> Result<Facts, AllocError>
     ensures sized { IfOk result (Sized program.now) }
-    ensures closed { IsResolved program.now hierarchy.now → IfOk result (λ f. IsClosed program.now outside.now tables.now f) }
+    ensures closed { IsResolved program.now hierarchy.now → is_well_formed program.now ≡ true → HasCommon program.now hierarchy.now tables.now.of_object.items → IfOk result (λ f. IsClosed program.now outside.now tables.now f) }
 {
     let mut facts = no_facts(alloc, program)?;
     let mut notes = Notes::new(alloc, program, hierarchy)?;
@@ -89,7 +92,7 @@ pub fn live_members(
     outside: &Outside,
 ) -> Result<LiveSet, AllocError>
     ensures fits { IfOk result (Fits program.now) }
-    ensures closed { IsResolved program.now hierarchy.now → IfOk result (λ s. IsClosedSet program.now outside.now s) }
+    ensures closed { is_well_formed program.now ≡ true → IsResolved program.now hierarchy.now → IfOk result (λ s. IsClosedSet program.now outside.now s) }
 {
     let tables = Tables::new(alloc, program, hierarchy, outside)?;
     let facts = search(alloc, program, hierarchy, outside, &tables)?;

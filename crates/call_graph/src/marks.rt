@@ -1,7 +1,7 @@
 //! Marked numbers, some of which still wait for what follows from them.
 
-ghost use Rattle.std.specs.Prelude.{◌≡◌, ◌+◌, ◌≤◌, ℕ, true, false, IfOk, OnOk, OnSome, slice_index_or, vec_len};
-ghost use Rattle.call_graph.specs.Marks.{left, Swells, Keeps, Pops};
+ghost use Rattle.std.specs.Prelude.{◌≡◌, ◌+◌, ◌≤◌, [], ◌∷◌, ℕ, true, false, IfOk, OnOk, OnSome, slice_index_or, vec_len, Contains};
+ghost use Rattle.call_graph.specs.Marks.{left, Swells, Keeps, Pops, IsUnmarked, WaitsFrom};
 
 use std::alloc::{AllocError, Global};
 
@@ -17,6 +17,7 @@ impl Marks {
     pub fn new(alloc: Global, size: usize) -> Result<Marks, AllocError>
         ensures size { IfOk result (λ m. vec_len m.marks ≡ size) }
         ensures none { IfOk result (λ m. (n : ℕ) → slice_index_or m.marks.items n false ≡ true → ⊥) }
+        ensures idle { IfOk result (λ m. m.waiting.items ≡ []) }
     {
         Ok(Marks {
             marks: vec![in alloc; false; size]?,
@@ -37,6 +38,7 @@ impl Marks {
         ensures swells { OnOk result (Swells self.old self.new) }
         ensures keeps { OnOk result (Keeps self.old self.new) }
         ensures marked { OnOk result (slice_index_or self.new.marks.items number true ≡ true) }
+        ensures from { OnOk result (WaitsFrom self.old self.new (number ∷ [])) }
     {
         let at = number as usize;
         if at < self.marks.len() && !self.marks[at] {
@@ -44,6 +46,40 @@ impl Marks {
             self.waiting.push(number)?;
         }
         Ok(())
+    }
+
+    /// Marks numbers.
+    #[tactic(auto, using(crate::proofs::Growth::keeps_same))]
+    pub fn mark_all(&mut self, numbers: &[u32]) -> Result<(), AllocError>
+        ensures swells { OnOk result (Swells self.old self.new) }
+        ensures keeps { OnOk result (Keeps self.old self.new) }
+        ensures marked { OnOk result ((n : ℕ) → Contains numbers.now n → slice_index_or self.new.marks.items n true ≡ true) }
+        ensures from { OnOk result (WaitsFrom self.old self.new numbers.now) }
+    {
+        for number in numbers {
+            self.mark(*number)?;
+        }
+        Ok(())
+    }
+
+    /// Takes the mark of a number away.
+    fn unmark(&mut self, number: u32)
+        ensures { IsUnmarked self.old self.new number }
+    {
+        if let Some(mark) = self.marks.get_mut(number as usize) {
+            *mark = false;
+        }
+    }
+
+    /// Takes the marks of numbers away.
+    pub fn clear(&mut self, numbers: &[u32])
+        ensures size { vec_len self.new.marks ≡ vec_len self.old.marks }
+        ensures idle { self.new.waiting ≡ self.old.waiting }
+        ensures unmarked { (n : ℕ) → slice_index_or self.new.marks.items n false ≡ true → (slice_index_or self.old.marks.items n false ≡ true) × (Contains numbers.now n → ⊥) }
+    {
+        for number in numbers {
+            self.unmark(*number);
+        }
     }
 
     /// The marks of all numbers.

@@ -1,12 +1,20 @@
 //! What the search for live members looks up.
 
-ghost use Rattle.std.specs.Prelude.{◌≡◌, length, IfOk, vec_len};
+ghost use Rattle.std.specs.Prelude.{◌≡◌, ◌<◌, ◌++◌, ℕ, length, IfOk, OnOk, vec_len, Contains, true};
 ghost use Rattle.call_graph.specs.Follows.{can_be_made};
+ghost use Rattle.call_graph.specs.Lists.{row_of, size_of};
+ghost use Rattle.program_model.specs.ProgramRules.{is_well_formed};
+ghost use Rattle.hierarchy.specs.Shapes.{IsResolved};
+ghost use Rattle.class_defs.specs.Members.{is_common};
+ghost use Rattle.hierarchy.specs.Membership.{key_at};
+ghost use Rattle.call_graph.specs.Objects.{HasCommon};
+ghost use Rattle.call_graph.specs.Tables.{field_if, method_if, fields_if, methods_if, classes_if, AreRows, AreMarked, AreTables};
 
+use crate::bases::{bases, object_kind, word};
+use crate::common::is_common;
 use crate::lists::Lists;
-use hierarchy::{Hierarchy, Walk};
-use indexmap::IndexMap;
-use program_model::{Class, Flags, Outside, Program};
+use hierarchy::Hierarchy;
+use program_model::{Class, Flags, MethodName, Outside, Program};
 use std::alloc::{AllocError, Global};
 
 /// What the search looks up. `bases` has for each type the type of the program class that it is, or that it
@@ -31,7 +39,10 @@ impl Tables {
         program: &Program,
         hierarchy: &Hierarchy,
         outside: &Outside,
-    ) -> Result<Tables, AllocError> {
+    ) -> Result<Tables, AllocError>
+        ensures are { IfOk result (λ tables. AreTables program.now outside.now tables) }
+        ensures common { is_well_formed program.now ≡ true → IsResolved program.now hierarchy.now → IfOk result (λ tables. HasCommon program.now hierarchy.now tables.of_object.items) }
+    {
         Ok(Tables {
             bases: bases(alloc, program)?,
             object: object_kind(program),
@@ -44,55 +55,56 @@ impl Tables {
     }
 }
 
-/// What the search notes. `called_on` has for each type the methods that live calls name on it, `made_under` the places
-/// of the made classes under it. `steps` bounds a walk over all types.
-#[derive(Drop)]
-pub struct Notes {
-    pub called_on: Lists,
-    pub made_under: Lists,
-    pub classes: Walk,
-    pub kinds: Walk,
-    pub steps: usize,
-}
-
-impl Notes {
-    /// Nothing is noted of a program.
-    pub fn new(
-        alloc: Global,
-        program: &Program,
-        hierarchy: &Hierarchy,
-    ) -> Result<Notes, AllocError> {
-        let types = program.types.len();
-        Ok(Notes {
-            called_on: Lists::new(alloc, types)?,
-            made_under: Lists::new(alloc, types)?,
-            classes: hierarchy.walk(alloc)?,
-            kinds: Walk::new(alloc, types)?,
-            steps: count_steps(program),
-        })
-    }
-}
-
 /// The keys of the five methods that the framework may call on every object, as far as the program names them.
 fn keys_of_object(
     alloc: Global,
     program: &Program,
     hierarchy: &Hierarchy,
-) -> Result<Vec<u32>, AllocError> {
+) -> Result<Vec<u32>, AllocError>
+    ensures { is_well_formed program.now ≡ true → IsResolved program.now hierarchy.now → IfOk result (λ keys. HasCommon program.now hierarchy.now keys.items) }
+{
     let mut keys = Vec::new(alloc);
-    let mut number: u32 = 0;
-    for _method in program.methods.as_slice() {
-        let key = hierarchy.key_of_method(number);
-        if hierarchy.is_key_of_object(key) && !keys.as_slice().contains(&key) {
-            keys.push(key)?;
-        }
-        number = number.saturating_add(1);
+    for (number, name) in program.methods.as_slice().iter().enumerate() {
+        add_key(program, hierarchy, word(number), name, &mut keys)?;
     }
     Ok(keys)
 }
 
+/// Adds the key of a method, where every object answers to it.
+fn add_key(
+    program: &Program,
+    hierarchy: &Hierarchy,
+    number: u32,
+    name: &MethodName,
+    keys: &mut Vec<u32>,
+) -> Result<(), AllocError>
+    ensures keeps { OnOk result ((n : ℕ) → Contains keys.old.items n → Contains keys.new.items n) }
+    ensures has { is_common program.now name.now.name name.now.proto ≡ true → OnOk result (Contains keys.new.items (key_at hierarchy.now.named.method_keys.keys.items number)) }
+{
+    if is_common(program, name) {
+        add_once(keys, hierarchy.key_of_method(number))?;
+        Ok(())
+    } else {
+        Ok(())
+    }
+}
+
+/// Adds a number to a list that doesn't have it.
+fn add_once(numbers: &mut Vec<u32>, number: u32) -> Result<(), AllocError>
+    ensures keeps { OnOk result ((n : ℕ) → Contains numbers.old.items n → Contains numbers.new.items n) }
+    ensures has { OnOk result (Contains numbers.new.items number) }
+{
+    if !numbers.as_slice().contains(&number) {
+        numbers.push(number)?;
+    }
+    Ok(())
+}
+
 /// A table of this size on which these numbers are marked.
-fn marked(alloc: Global, size: usize, numbers: &[u32]) -> Result<Vec<bool>, AllocError> {
+fn marked(alloc: Global, size: usize, numbers: &[u32]) -> Result<Vec<bool>, AllocError>
+    ensures size { IfOk result (λ marks. vec_len marks ≡ size) }
+    ensures marked { IfOk result (λ marks. AreMarked numbers.now marks.items) }
+{
     let mut marks = vec![in alloc; false; size]?;
     for number in numbers {
         if let Some(mark) = marks.get_mut(*number as usize) {
@@ -102,19 +114,37 @@ fn marked(alloc: Global, size: usize, numbers: &[u32]) -> Result<Vec<bool>, Allo
     Ok(marks)
 }
 
+/// Adds a field to the list of its class.
+fn add_field(lists: &mut Lists, program: &Program, number: u32) -> Result<(), AllocError>
+    ensures size { OnOk result (size_of lists.new ≡ size_of lists.old) }
+    ensures rows { OnOk result ((n : ℕ) → n < size_of lists.old → row_of lists.new n ≡ row_of lists.old n ++ field_if program.now n number) }
+{
+    match program.fields.as_slice().get(number as usize) {
+        Some(field) => lists.add(field.class, number),
+        None => Ok(()),
+    }
+}
+
 /// The conditional fields by the type of their class.
-fn fields_by_class(
-    alloc: Global,
-    program: &Program,
-    outside: &Outside,
-) -> Result<Lists, AllocError> {
+fn fields_by_class(alloc: Global, program: &Program, outside: &Outside) -> Result<Lists, AllocError>
+    ensures { IfOk result (λ lists. AreRows program.now (row_of lists) (fields_if program.now outside.now)) }
+{
     let mut lists = Lists::new(alloc, program.types.len())?;
     for number in outside.fields_if.as_slice() {
-        if let Some(field) = program.fields.as_slice().get(*number as usize) {
-            lists.add(field.class, *number)?;
-        }
+        add_field(&mut lists, program, *number)?;
     }
     Ok(lists)
+}
+
+/// Adds a method to the list of its class.
+fn add_method(lists: &mut Lists, program: &Program, number: u32) -> Result<(), AllocError>
+    ensures size { OnOk result (size_of lists.new ≡ size_of lists.old) }
+    ensures rows { OnOk result ((n : ℕ) → n < size_of lists.old → row_of lists.new n ≡ row_of lists.old n ++ method_if program.now n number) }
+{
+    match program.methods.as_slice().get(number as usize) {
+        Some(method) => lists.add(method.class, number),
+        None => Ok(()),
+    }
 }
 
 /// The conditional methods by the type of their class.
@@ -122,12 +152,12 @@ fn methods_by_class(
     alloc: Global,
     program: &Program,
     outside: &Outside,
-) -> Result<Lists, AllocError> {
+) -> Result<Lists, AllocError>
+    ensures { IfOk result (λ lists. AreRows program.now (row_of lists) (methods_if program.now outside.now)) }
+{
     let mut lists = Lists::new(alloc, program.types.len())?;
     for number in outside.methods_if.as_slice() {
-        if let Some(method) = program.methods.as_slice().get(*number as usize) {
-            lists.add(method.class, *number)?;
-        }
+        add_method(&mut lists, program, *number)?;
     }
     Ok(lists)
 }
@@ -137,111 +167,14 @@ fn classes_by_owner(
     alloc: Global,
     program: &Program,
     outside: &Outside,
-) -> Result<Lists, AllocError> {
+) -> Result<Lists, AllocError>
+    ensures { IfOk result (λ lists. AreRows program.now (row_of lists) (classes_if outside.now)) }
+{
     let mut lists = Lists::new(alloc, program.types.len())?;
     for one in outside.classes_if.as_slice() {
         lists.add(one.owner, one.class)?;
     }
     Ok(lists)
-}
-
-/// The most steps of a walk from a type and from `Ljava/lang/Object;` to all types above it: each class names its
-/// superclass and its interfaces once.
-pub fn count_steps(program: &Program) -> usize {
-    let mut steps: usize = 2;
-    for class in program.classes.as_slice() {
-        steps = steps
-            .saturating_add(class.interfaces.len())
-            .saturating_add(1);
-    }
-    steps
-}
-
-/// Stands for no type.
-pub const NONE: u32 = u32::MAX;
-
-/// The descriptor of a type number.
-fn descriptor_of(program: &Program, kind: u32) -> &[u16] {
-    match program.types.as_slice().get(kind as usize) {
-        Some(string) => match program.strings.as_slice().get(*string as usize) {
-            Some(text) => text.units(),
-            None => &[],
-        },
-        None => &[],
-    }
-}
-
-/// A descriptor without its leading brackets.
-fn without_brackets(units: &[u16]) -> &[u16] {
-    match units.iter().position(|unit| *unit != 91) {
-        Some(at) => match units.get(at..) {
-            Some(rest) => rest,
-            None => &[],
-        },
-        None => &[],
-    }
-}
-
-/// The types that the program defines, by their descriptors.
-fn defined<'a>(
-    alloc: Global,
-    program: &'a Program,
-) -> Result<IndexMap<&'a [u16], u32>, AllocError> {
-    let mut kinds: IndexMap<&'a [u16], u32> = IndexMap::new(alloc);
-    for class in program.classes.as_slice() {
-        kinds.insert(descriptor_of(program, class.name), class.name)?;
-    }
-    Ok(kinds)
-}
-
-/// For each type the type of the program class that it is, or that it is an array of.
-pub fn bases(alloc: Global, program: &Program) -> Result<Vec<u32>, AllocError>
-    ensures { IfOk result (λ bases. vec_len bases ≡ length program.now.types) }
-{
-    let kinds = defined(alloc, program)?;
-    let mut bases = Vec::new(alloc);
-    for string in program.types.as_slice() {
-        let units = match program.strings.as_slice().get(*string as usize) {
-            Some(text) => text.units(),
-            None => &[],
-        };
-        bases.push(match kinds.get(&without_brackets(units)) {
-            Some(kind) => *kind,
-            None => NONE,
-        })?;
-    }
-    Ok(bases)
-}
-
-/// Whether the units are those of the ASCII characters.
-fn is_ascii(units: &[u16], ascii: &str) -> bool {
-    let bytes = ascii.as_bytes();
-    units.len() == bytes.len()
-        && units
-            .iter()
-            .zip(bytes)
-            .all(|(unit, byte)| *unit == u16::from(*byte))
-}
-
-/// The type number of `Ljava/lang/Object;`, if the program names it.
-pub fn object_kind(program: &Program) -> u32 {
-    let mut number: u32 = 0;
-    for string in program.types.as_slice() {
-        let units = match program.strings.as_slice().get(*string as usize) {
-            Some(text) => text.units(),
-            None => &[],
-        };
-        if is_ascii(units, "Ljava/lang/Object;") {
-            return number;
-        }
-        number = number.saturating_add(1);
-    }
-    NONE
-}
-
-/// Whether the type is `Ljava/lang/Object;`.
-pub fn is_object(program: &Program, kind: u32) -> bool {
-    is_ascii(descriptor_of(program, kind), "Ljava/lang/Object;")
 }
 
 /// Whether objects of the class can be made: it is neither abstract nor an interface.

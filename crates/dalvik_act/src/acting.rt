@@ -1,12 +1,15 @@
 //! What an instruction does in its frame. Reads come before writes, and a form that throws writes no register.
 
-ghost use Rattle.std.specs.Prelude.{IfOk, OnErr};
+ghost use Rattle.std.specs.Prelude.{IfOk, IsTrue, OnErr};
+ghost use Rattle.dalvik_act.specs.Acting.{ActsIn, ActsNow, ActsWith, IsShort, is_exact, is_field, is_length, is_outward};
 ghost use Rattle.dalvik_state.specs.Frames.{IsSame, Leaves};
+ghost use Rattle.dalvik_state.specs.Worlds.{spots_of};
 
 use crate::arrays::{act_arrays, act_items};
 use crate::numbers::act_numbers;
 use crate::plain::{
-    act_branches, act_constants, act_ends, act_monitors, act_moves, act_types, unless_null,
+    act_constants, act_ends, act_monitors, act_moves, act_switches, act_tests, act_types,
+    unless_null,
 };
 use dalvik_lookups::Memo;
 use dalvik_state::{Effect, Frame, Tables, World, stored};
@@ -14,7 +17,9 @@ use program_model::Insn;
 use std::alloc::{AllocError, Global};
 
 /// Fields, calls and new objects, which the program and the framework are asked about.
-fn act_outward<'a>(frame: &Frame<'a>, insn: &'a Insn) -> Effect<'a> {
+fn act_outward<'a>(frame: &Frame<'a>, insn: &'a Insn) -> Effect<'a>
+    ensures { IsTrue (is_outward insn.now) → ActsNow insn.now frame.now result }
+{
     match insn {
         Insn::NewInstance { to, kind } => Effect::Makes {
             to: *to,
@@ -30,7 +35,9 @@ fn act_outward<'a>(frame: &Frame<'a>, insn: &'a Insn) -> Effect<'a> {
 }
 
 /// Reads and writes of fields.
-fn act_fields<'a>(frame: &Frame<'a>, insn: &'a Insn) -> Effect<'a> {
+fn act_fields<'a>(frame: &Frame<'a>, insn: &'a Insn) -> Effect<'a>
+    ensures { IsTrue (is_field insn.now) → ActsNow insn.now frame.now result }
+{
     match insn {
         Insn::InstanceGet {
             item,
@@ -89,6 +96,8 @@ pub fn act<'a>(
 ) -> Result<Effect<'a>, AllocError>
     ensures ok { IfOk result (λ effect. Leaves effect frame.old frame.new) }
     ensures err { OnErr result (IsSame frame.old frame.new) }
+    ensures measures { IsTrue (is_length insn.now) → IsShort (spots_of world.old) → IfOk result (ActsWith insn.now world.old world.new frame.old frame.new) }
+    ensures acts { IsTrue (is_exact insn.now) → IfOk result (ActsIn tables.now.floats insn.now frame.old frame.new) }
 {
     match insn {
         Insn::Nop
@@ -103,10 +112,8 @@ pub fn act<'a>(
         Insn::Cmp { .. } | Insn::Unary { .. } | Insn::Binary { .. } | Insn::Literal { .. } => Ok(
             act_numbers(&tables.floats, frame, insn),
         ),
-        Insn::If { .. }
-        | Insn::IfZero { .. }
-        | Insn::PackedSwitch { .. }
-        | Insn::SparseSwitch { .. } => Ok(act_branches(frame, insn)),
+        Insn::If { .. } | Insn::IfZero { .. } => Ok(act_tests(frame, insn)),
+        Insn::PackedSwitch { .. } | Insn::SparseSwitch { .. } => Ok(act_switches(frame, insn)),
         Insn::ReturnVoid | Insn::Return { .. } | Insn::Throw { .. } => Ok(act_ends(frame, insn)),
         Insn::MonitorEnter { .. } | Insn::MonitorExit { .. } => {
             Ok(act_monitors(world, frame, insn))
@@ -121,6 +128,11 @@ pub fn act<'a>(
         Insn::ArrayGet { .. } | Insn::ArrayPut { .. } => {
             act_items(tables, memo, world, frame, insn)
         }
-        _ => Ok(act_outward(frame, insn)),
+        Insn::NewInstance { .. }
+        | Insn::Invoke { .. }
+        | Insn::InstanceGet { .. }
+        | Insn::InstancePut { .. }
+        | Insn::StaticGet { .. }
+        | Insn::StaticPut { .. } => Ok(act_outward(frame, insn)),
     }
 }

@@ -1,9 +1,16 @@
 //! What an instruction does to an array (Dalvik bytecode, "array-length", "new-array", "filled-new-array",
 //! "fill-array-data", "aget", "aput").
 
-ghost use Rattle.std.specs.Prelude.{IfOk, OnErr};
+ghost use Rattle.std.specs.Prelude.{◌≡◌, IfOk, IsTrue, OnErr};
+ghost use Rattle.dalvik_defs.specs.ActArray.{measures};
+ghost use Rattle.dalvik_defs.specs.Effect.{unless_null};
+ghost use Rattle.dalvik_defs.specs.State.{thing_at};
 ghost use Rattle.dalvik_state.specs.Frames.{IsSame, Leaves};
+ghost use Rattle.dalvik_state.specs.Views.{value_of};
+ghost use Rattle.dalvik_state.specs.Worlds.{shape_at, spots_of};
+ghost use Rattle.dalvik_act.specs.Acting.{ActsWith, DoesIn, IsShort, is_length, outline_of};
 
+use crate::going::sets;
 use crate::plain::unless_null;
 use dalvik_lookups::{Kind, Memo, known};
 use dalvik_state::{
@@ -13,18 +20,13 @@ use program_model::{Insn, Item};
 use std::alloc::{AllocError, Global};
 
 /// The length of an array.
-#[tactic(auto, using(dalvik_state::proofs::Kept::leaves_same, dalvik_state::proofs::Kept::same))]
 fn measures<'a>(world: &World, frame: &mut Frame<'a>, array: Datum, to: u16) -> Effect<'a>
-    ensures { Leaves result frame.old frame.new }
+    ensures left { Leaves result frame.old frame.new }
+    ensures does { IsShort (spots_of world.now) → DoesIn (λ n w f. unless_null (value_of n array) (measures (thing_at w (value_of n array)) w f to)) world.now frame.old frame.new result }
 {
-    match world.thing(array) {
-        Some(Thing::Items { items, .. }) => {
-            let length = length_word(items.len());
-            frame.set(to, Datum::Word(length));
-            frame.next();
-            Effect::Goes
-        }
-        _ => unless_null(array, Effect::Stuck),
+    match shape_of(world, array) {
+        Some((_, length)) => sets(frame, to, Datum::Word(length_word(length))),
+        None => unless_null(array, Effect::Stuck),
     }
 }
 
@@ -85,7 +87,9 @@ fn fill(items: &mut [Datum], item: Item, data: &[u64]) {
 }
 
 /// The item type of an array, and how many items it has.
-fn shape_of(world: &World, array: Datum) -> Option<(Kind, usize)> {
+fn shape_of(world: &World, array: Datum) -> Option<(Kind, usize)>
+    ensures { result ≡ outline_of (shape_at (spots_of world.now) array) }
+{
     match world.thing(array) {
         Some(Thing::Items { kind, items }) => Some((*kind, items.len())),
         _ => None,
@@ -127,6 +131,7 @@ pub fn act_arrays<'a>(
 ) -> Result<Effect<'a>, AllocError>
     ensures ok { IfOk result (λ effect. Leaves effect frame.old frame.new) }
     ensures err { OnErr result (IsSame frame.old frame.new) }
+    ensures acts { IsTrue (is_length insn.now) → IsShort (spots_of world.old) → IfOk result (ActsWith insn.now world.old world.new frame.old frame.new) }
 {
     match insn {
         Insn::ArrayLength { to, from } => {

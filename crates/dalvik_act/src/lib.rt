@@ -5,6 +5,7 @@
 
 mod acting;
 mod arrays;
+mod going;
 mod numbers;
 mod plain;
 

@@ -1,36 +1,21 @@
 //! What an instruction on numbers does (Dalvik bytecode, "unop", "binop", "cmpkind").
 
+ghost use Rattle.std.specs.Prelude.{◌≡◌, IsTrue};
+ghost use Rattle.std.specs.Option.{option_map};
+ghost use Rattle.dalvik_defs.specs.Operators.{OneWord};
+ghost use Rattle.dalvik_numbers.specs.Kinds.{number_is};
 ghost use Rattle.dalvik_state.specs.Frames.{Leaves};
+ghost use Rattle.dalvik_act.specs.Acting.{ActsOn, is_number};
 
-use dalvik_lookups::known;
+use crate::going::gives_number;
 use dalvik_numbers::{FloatTable, Number, binary, compare, literal, unary};
-use dalvik_state::{Datum, Effect, Frame};
+use dalvik_state::{Effect, Frame};
 use program_model::Insn;
 
-/// Writes a number.
-fn set_number(frame: &mut Frame<'_>, to: u16, number: Number) {
-    match number {
-        Number::OneWord(word) => frame.set(to, Datum::Word(word)),
-        Number::OneWide(wide) => frame.set_wide(to, wide),
-    }
-}
-
-/// Writes a number and goes on; without one a division by 0 throws.
-fn gives_number<'a>(frame: &mut Frame<'a>, to: u16, number: Option<Number>) -> Effect<'a>
-    ensures { Leaves result frame.old frame.new }
-{
-    match number {
-        Some(number) => {
-            set_number(frame, to, number);
-            frame.next();
-            Effect::Goes
-        }
-        None => Effect::Faults(known::ARITHMETIC_EXCEPTION),
-    }
-}
-
 /// A word as a number.
-fn one_word(word: Option<u32>) -> Option<Number> {
+fn one_word(word: Option<u32>) -> Option<Number>
+    ensures { option_map number_is result ≡ option_map OneWord word }
+{
     match word {
         Some(word) => Some(Number::OneWord(word)),
         None => None,
@@ -39,7 +24,8 @@ fn one_word(word: Option<u32>) -> Option<Number> {
 
 /// Comparisons and arithmetic.
 pub fn act_numbers<'a>(floats: &FloatTable, frame: &mut Frame<'a>, insn: &'a Insn) -> Effect<'a>
-    ensures { Leaves result frame.old frame.new }
+    ensures left { Leaves result frame.old frame.new }
+    ensures acts { IsTrue (is_number insn.now) → ActsOn floats.now insn.now frame.old frame.new result }
 {
     match insn {
         Insn::Cmp { op, to, a, b } => {

@@ -1,45 +1,38 @@
 //! What an instruction does: moves, constants, ends, monitors, types, branches (Dalvik bytecode, "Summary of bytecode
 //! set").
 
-ghost use Rattle.std.specs.Prelude.{IfOk, OnErr};
-ghost use Rattle.dalvik_state.specs.Frames.{IsSame, Leaves};
+ghost use Rattle.std.specs.Prelude.{◌≡◌, false, slice_get, IfOk, IsTrue, OnErr};
+ghost use Rattle.dalvik_state.specs.Frames.{IsSame, Leaves, number_in};
+ghost use Rattle.dalvik_defs.specs.ActPlain.{packed_target, switch_target};
+ghost use Rattle.dalvik_defs.specs.Arith.{signed};
+ghost use Rattle.dalvik_act.specs.Acting.{Acts, ActsFine, ActsNow, Guards, are_keys, is_end, is_move, is_switch, is_test, passes_in};
 
+use crate::going::{branches, goes_on, goes_to, moves, sets, sets_slot};
 use dalvik_lookups::{Kind, Memo, known};
 use dalvik_numbers::{is_before, is_not_behind};
 use dalvik_state::{Datum, Effect, Frame, Tables, World};
-use program_model::{Insn, Slot, Test};
+use program_model::{Insn, Test};
 use std::alloc::AllocError;
-
-/// Copies one or two registers, which are read before they are written.
-fn move_slot(frame: &mut Frame<'_>, slot: Slot, to: u16, from: u16) {
-    let datum = frame.get(from);
-    match slot {
-        Slot::Wide => {
-            let high = dalvik_state::read_register(frame.registers.as_slice(), from as usize + 1);
-            frame.set(to, datum);
-            dalvik_state::write_register(frame.registers.as_mut_slice(), to as usize + 1, high);
-        }
-        Slot::Word | Slot::Object => frame.set(to, datum),
-    }
-}
 
 /// Nop, the moves, goto.
 pub fn act_moves<'a>(frame: &mut Frame<'a>, insn: &'a Insn) -> Effect<'a>
-    ensures { Leaves result frame.old frame.new }
+    ensures left { Leaves result frame.old frame.new }
+    ensures acts { IsTrue (is_move insn.now) → Acts insn.now frame.old frame.new result }
 {
     match insn {
-        Insn::Nop => {}
-        Insn::Move { slot, to, from } => move_slot(frame, *slot, *to, *from),
-        Insn::MoveResult { slot, to } => frame.set_slot(*slot, *to, frame.result),
-        Insn::MoveException { to } => frame.set(*to, frame.caught),
-        Insn::Goto { target } => {
-            frame.go(*target);
-            return Effect::Goes;
+        Insn::Nop => goes_on(frame),
+        Insn::Move { slot, to, from } => moves(frame, *slot, *to, *from),
+        Insn::MoveResult { slot, to } => {
+            let datum = frame.result;
+            sets_slot(frame, *slot, *to, datum)
         }
-        _ => return Effect::Stuck,
+        Insn::MoveException { to } => {
+            let datum = frame.caught;
+            sets(frame, *to, datum)
+        }
+        Insn::Goto { target } => goes_to(frame, Some(*target)),
+        _ => Effect::Stuck,
     }
-    frame.next();
-    Effect::Goes
 }
 
 /// The constants.
@@ -60,7 +53,9 @@ pub fn act_constants<'a>(tables: &Tables<'a>, frame: &mut Frame<'a>, insn: &'a I
 }
 
 /// What ends a frame: returns and throws.
-pub fn act_ends<'a>(frame: &Frame<'a>, insn: &'a Insn) -> Effect<'a> {
+pub fn act_ends<'a>(frame: &Frame<'a>, insn: &'a Insn) -> Effect<'a>
+    ensures { IsTrue (is_end insn.now) → ActsNow insn.now frame.now result }
+{
     match insn {
         Insn::ReturnVoid => Effect::Gives(None),
         Insn::Return { slot: _, from } => Effect::Gives(Some(frame.get(*from))),
@@ -73,7 +68,9 @@ pub fn act_ends<'a>(frame: &Frame<'a>, insn: &'a Insn) -> Effect<'a> {
 }
 
 /// The effect, unless the value is null.
-pub fn unless_null<'a>(datum: Datum, effect: Effect<'a>) -> Effect<'a> {
+pub fn unless_null<'a>(datum: Datum, effect: Effect<'a>) -> Effect<'a>
+    ensures { Guards datum effect.entry result }
+{
     if datum.is_null() {
         Effect::Faults(known::NULL_POINTER)
     } else {
@@ -145,10 +142,12 @@ pub fn act_types<'a>(
 }
 
 /// Whether two values pass a test.
-fn passes(test: Test, a: Datum, b: Datum) -> bool {
+fn passes(test: Test, a: Datum, b: Datum) -> bool
+    ensures { result ≡ passes_in test a b }
+{
     match test {
-        Test::Eq => a == b,
-        Test::Ne => a != b,
+        Test::Eq => a.is(b),
+        Test::Ne => !a.is(b),
         Test::Lt => is_before(a.word(), b.word()),
         Test::Ge => is_not_behind(b.word(), a.word()),
         Test::Gt => is_before(b.word(), a.word()),
@@ -156,53 +155,72 @@ fn passes(test: Test, a: Datum, b: Datum) -> bool {
     }
 }
 
-/// Goes to the target, or to the next position where there is none.
-fn goes_to(frame: &mut Frame<'_>, target: Option<u32>) {
-    match target {
-        Some(target) => frame.go(target),
-        None => frame.next(),
-    }
-}
-
 /// The target of the operand's distance from the first key, in 32 bits that wrap.
-fn packed_target(word: u32, first: i32, targets: &[u32]) -> Option<u32> {
+fn packed_target(word: u32, first: i32, targets: &[u32]) -> Option<u32>
+    ensures { result ≡ packed_target word first targets.now }
+{
     targets
         .get(word.wrapping_sub(first.cast_unsigned()) as usize)
         .copied()
 }
 
+/// The target at a place.
+fn target_at(targets: &[u32], place: usize) -> Option<u32>
+    ensures { result ≡ slice_get targets.now place }
+{
+    targets.get(place).copied()
+}
+
+/// The operand of a switch.
+fn key_of(datum: Datum) -> i32
+    ensures { result ≡ signed false (number_in datum) }
+{
+    datum.word().cast_signed()
+}
+
 /// The target of the key that is the operand; the keys ascend.
-fn sparse_target(word: u32, keys: &[i32], targets: &[u32]) -> Option<u32> {
-    match keys.binary_search(&word.cast_signed()) {
-        Ok(place) => targets.get(place).copied(),
+fn sparse_target(key: i32, keys: &[i32], targets: &[u32]) -> Option<u32>
+    ensures { IsTrue (are_keys keys.now targets.now) → result ≡ switch_target key keys.now targets.now }
+{
+    match keys.binary_search(&key) {
+        Ok(place) => target_at(targets, place),
         Err(_) => None,
     }
 }
 
-/// A target, where a test holds.
-fn target_if(holds: bool, target: u32) -> Option<u32> {
-    if holds { Some(target) } else { None }
-}
-
-/// Branches and switches.
-pub fn act_branches<'a>(frame: &mut Frame<'a>, insn: &'a Insn) -> Effect<'a>
-    ensures { Leaves result frame.old frame.new }
+/// Branches on a test.
+pub fn act_tests<'a>(frame: &mut Frame<'a>, insn: &'a Insn) -> Effect<'a>
+    ensures left { Leaves result frame.old frame.new }
+    ensures acts { IsTrue (is_test insn.now) → ActsFine insn.now frame.old frame.new result }
 {
-    let target = match insn {
+    match insn {
         Insn::If { test, a, b, target } => {
-            target_if(passes(*test, frame.get(*a), frame.get(*b)), *target)
+            let holds = passes(*test, frame.get(*a), frame.get(*b));
+            branches(frame, holds, *target)
         }
         Insn::IfZero { test, a, target } => {
-            target_if(passes(*test, frame.get(*a), Datum::NULL), *target)
+            let holds = passes(*test, frame.get(*a), Datum::NULL);
+            branches(frame, holds, *target)
         }
+        _ => Effect::Stuck,
+    }
+}
+
+/// Switches.
+pub fn act_switches<'a>(frame: &mut Frame<'a>, insn: &'a Insn) -> Effect<'a>
+    ensures left { Leaves result frame.old frame.new }
+    ensures acts { IsTrue (is_switch insn.now) → Acts insn.now frame.old frame.new result }
+{
+    match insn {
         Insn::PackedSwitch { on, first, targets } => {
-            packed_target(frame.get(*on).word(), *first, targets.as_slice())
+            let target = packed_target(frame.get(*on).word(), *first, targets.as_slice());
+            goes_to(frame, target)
         }
         Insn::SparseSwitch { on, keys, targets } => {
-            sparse_target(frame.get(*on).word(), keys.as_slice(), targets.as_slice())
+            let key = key_of(frame.get(*on));
+            let target = sparse_target(key, keys.as_slice(), targets.as_slice());
+            goes_to(frame, target)
         }
-        _ => return Effect::Stuck,
-    };
-    goes_to(frame, target);
-    Effect::Goes
+        _ => Effect::Stuck,
+    }
 }

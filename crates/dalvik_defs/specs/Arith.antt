@@ -31,8 +31,9 @@ abbrev pub bits_of : Bool → ℕ
 bits_of false = 32
 bits_of true = 64
 
+-- the signed number that the low bits spell
 abbrev pub signed : Bool → ℕ → ℤ
-signed wide n = cast_signed (width_of wide) n
+signed wide n = cast_signed (width_of wide) (n % 2 ^ bits_of wide)
 
 abbrev pub unsigned : Bool → ℤ → ℕ
 unsigned wide z = cast_unsigned (width_of wide) z

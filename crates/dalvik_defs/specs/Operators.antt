@@ -1,6 +1,6 @@
 -- What the operators are: of which kind, on words or wides, or floats, which the float table answers (Dalvik bytecode,
 -- "Summary of bytecode set").
-use Rattle.std.specs.Prelude.{ℕ, ◌-◌, ◌%◌, ◌^◌, Bool, true, ◌&&◌, [], Some, None, nat_eq, find}
+use Rattle.std.specs.Prelude.{ℕ, ◌-◌, ◌%◌, ◌^◌, Bool, true, false, ◌&&◌, [], Some, None, nat_eq, find}
 use Rattle.std.specs.Int.{w8, w16, w32, w64, cast_signed, cast_unsigned}
 use Rattle.insn_set.specs.declared.ops.BinaryOp.{BinaryOp}
 use Rattle.insn_set.specs.declared.ops.BinaryOp.TheVariants as binary
@@ -110,13 +110,13 @@ pub data Number : Type 0 where
   OneWide : (n : ℕ) → Number
 
 abbrev pub unary_answer : Floats → UnaryOp → ℕ → Number
-unary_answer floats unary.NegInt a = OneWord ((2 ^ 32 - a) % 2 ^ 32)
-unary_answer floats unary.NotInt a = OneWord (2 ^ 32 - 1 - a)
+unary_answer floats unary.NegInt a = OneWord ((2 ^ 32 - a % 2 ^ 32) % 2 ^ 32)
+unary_answer floats unary.NotInt a = OneWord (2 ^ 32 - 1 - a % 2 ^ 32)
 unary_answer floats unary.NegLong a = OneWide ((2 ^ 64 - a) % 2 ^ 64)
 unary_answer floats unary.NotLong a = OneWide (2 ^ 64 - 1 - a)
 unary_answer floats unary.NegFloat a = OneWord (float_word floats NegFloat a 0)
 unary_answer floats unary.NegDouble a = OneWide (float_wide floats NegDouble a 0)
-unary_answer floats unary.IntToLong a = OneWide (cast_unsigned w64 (cast_signed w32 a))
+unary_answer floats unary.IntToLong a = OneWide (cast_unsigned w64 (signed false a))
 unary_answer floats unary.IntToFloat a = OneWord (float_word floats IntToFloat a 0)
 unary_answer floats unary.IntToDouble a = OneWide (float_wide floats IntToDouble a 0)
 unary_answer floats unary.LongToInt a = OneWord (a % 2 ^ 32)

@@ -1,10 +1,14 @@
 //! What a call finds.
 
+ghost use Rattle.std.specs.Prelude.{◌≡◌};
+ghost use Rattle.class_defs.specs.Finding.{finds_static};
+ghost use Rattle.dalvik_lookups.specs.Tables.{search_of, IsRight};
+
 use crate::lookups::Lookups;
 use crate::memo::Memo;
 use crate::types::Kind;
-use hierarchy::{Given, Hierarchy};
-use program_model::{Flags, MethodAt, Program, Version};
+use hierarchy::Given;
+use program_model::{Flags, MethodAt, Version};
 use std::alloc::{AllocError, Global};
 
 /// What a look-up answers: none, several methods that clash, or one.
@@ -16,7 +20,9 @@ pub enum Search {
 }
 
 /// A method that was looked for along superclasses.
-fn search_of(found: Option<MethodAt>) -> Search {
+fn search_of(found: Option<MethodAt>) -> Search
+    ensures { result ≡ search_of found }
+{
     match found {
         Some(at) => Search::Finds(at),
         None => Search::Nothing,
@@ -32,28 +38,12 @@ fn search_given(given: Given) -> Search {
     }
 }
 
-/// What a static or direct call of each method number finds.
-pub fn find_all_static(
-    alloc: Global,
-    program: &Program,
-    hierarchy: &Hierarchy,
-) -> Result<Vec<Search>, AllocError> {
-    let mut found = Vec::new(alloc);
-    let mut number: u32 = 0;
-    for _ in program.methods.as_slice() {
-        found.push(search_of(hierarchy.find_static(program, number)))?;
-        number = number.saturating_add(1);
-    }
-    Ok(found)
-}
-
 impl<'a> Lookups<'a> {
     /// What a static or direct call of a method number finds.
-    pub fn statically(&self, method: u32) -> Search {
-        match self.statically.as_slice().get(method as usize) {
-            Some(found) => *found,
-            None => Search::Nothing,
-        }
+    pub fn statically(&self, method: u32) -> Search
+        ensures { IsRight self.now → result ≡ search_of (finds_static self.now.program.now method) }
+    {
+        search_of(self.hierarchy.find_static(self.program, method))
     }
 
     /// What the candidates give that `memo` has collected.

@@ -1,8 +1,12 @@
 //! Which types stand directly above each one, and walks up from a type.
 
+ghost use Rattle.std.specs.Prelude.{OnOk};
+ghost use Rattle.dalvik_lookups.specs.Views.{AreTypes};
+ghost use Rattle.dalvik_lookups.specs.Tables.{GrowsTypes};
+
 use crate::known::{OBJECT, ROWS};
 use crate::types::Types;
-use dalvik_defs::Framework;
+use dalvik_defs::{Framework, FrameworkType};
 use program_model::{Class, Program};
 use std::alloc::{AllocError, Global};
 
@@ -106,26 +110,37 @@ pub struct Rows {
     above: Vec<Vec<usize>>,
 }
 
+/// The numbers of the types that a row names above its own.
+fn numbers_above<'a>(
+    alloc: Global,
+    types: &mut Types<'a>,
+    row: &'a FrameworkType,
+) -> Result<Vec<usize>, AllocError>
+    ensures grows { AreTypes types.old → OnOk result (GrowsTypes types.old types.new) }
+{
+    let mut above = Vec::new(alloc);
+    above.push(types.add_whole(row.superclass.units())?)?;
+    for interface in row.interfaces.as_slice() {
+        above.push(types.add_whole(interface.units())?)?;
+    }
+    Ok(above)
+}
+
 /// The rows of a framework by numbers.
 pub fn rows_of<'a>(
     alloc: Global,
     types: &mut Types<'a>,
     framework: &'a Framework,
-) -> Result<Rows, AllocError> {
-    let mut rows = Rows {
-        own: Vec::new(alloc),
-        above: Vec::new(alloc),
-    };
+) -> Result<Rows, AllocError>
+    ensures grows { AreTypes types.old → OnOk result (GrowsTypes types.old types.new) }
+{
+    let mut own = Vec::new(alloc);
+    let mut above = Vec::new(alloc);
     for row in framework.rows.as_slice() {
-        rows.own.push(types.add_whole(row.name.units())?)?;
-        let mut above = Vec::new(alloc);
-        above.push(types.add_whole(row.superclass.units())?)?;
-        for interface in row.interfaces.as_slice() {
-            above.push(types.add_whole(interface.units())?)?;
-        }
-        rows.above.push(above)?;
+        own.push(types.add_whole(row.name.units())?)?;
+        above.push(numbers_above(alloc, types, row)?)?;
     }
-    Ok(rows)
+    Ok(Rows { own, above })
 }
 
 /// Adds what stands directly above one type.
@@ -151,6 +166,18 @@ fn push_above(
     }
 }
 
+/// Whether nothing stands above the type: that is `Ljava/lang/Object;`, whatever a row of the framework says of it, unless
+/// the program defines a class of that name.
+fn is_top(sources: &[Source], number: usize) -> bool {
+    if number != OBJECT {
+        return false;
+    }
+    match sources.get(number) {
+        Some(Source::Class(_)) => false,
+        _ => true,
+    }
+}
+
 /// The types directly above each of so many. `numbers` has the number of each type of the program, `classes` that of
 /// each of its classes.
 pub fn above_all(
@@ -168,8 +195,7 @@ pub fn above_all(
     };
     for number in 0..types {
         above.starts.push(above.items.len())?;
-        let is_top = number == OBJECT && sources.as_slice().get(OBJECT) == Some(&Source::Nothing);
-        if !is_top {
+        if !is_top(sources.as_slice(), number) {
             push_above(
                 &mut above.items,
                 number,

@@ -1,5 +1,9 @@
 //! The moves of a script, all names being numbers.
 
+ghost use Rattle.std.specs.Prelude.{◌≡◌, IfOk, OnOk};
+ghost use Rattle.dalvik_lookups.specs.Views.{IsType, IsText};
+ghost use Rattle.dalvik_lookups.specs.Tables.{AreReady, Grows};
+
 use crate::declared::Declared;
 use crate::lookups::Names;
 use crate::types::Kind;
@@ -67,28 +71,48 @@ pub enum Play {
     },
 }
 
+/// A type that a script names.
+fn add_type<'a>(names: &mut Names<'a>, units: &'a [u16]) -> Result<Kind, AllocError>
+    ensures grows { AreReady names.old → OnOk result (Grows names.old names.new) }
+    ensures is { AreReady names.old → IfOk result (λ k. IsType names.new.types k units.now) }
+{
+    names.types.add(units)
+}
+
+/// A text that a script names.
+fn add_text<'a>(names: &mut Names<'a>, units: &'a [u16]) -> Result<usize, AllocError>
+    ensures grows { AreReady names.old → OnOk result (Grows names.old names.new) }
+    ensures is { AreReady names.old → IfOk result (λ n. IsText names.new.texts n units.now) }
+{
+    names.texts.add(units)
+}
+
 /// A given value by numbers.
-fn gift_of<'a>(names: &mut Names<'a>, given: &'a Given) -> Result<Gift, AllocError> {
-    Ok(match given {
-        Given::Null => Gift::Null,
-        Given::Word(word) => Gift::Word(*word),
-        Given::Wide(wide) => Gift::Wide(*wide),
-        Given::Exposed(place) => Gift::Exposed(*place),
-        Given::New(kind) => Gift::New(names.types.add(kind.units())?),
-        Given::Array { item, size } => Gift::Array {
-            item: names.types.add(item.units())?,
+fn gift_of<'a>(names: &mut Names<'a>, given: &'a Given) -> Result<Gift, AllocError>
+    ensures grows { AreReady names.old → OnOk result (Grows names.old names.new) }
+{
+    match given {
+        Given::Null => Ok(Gift::Null),
+        Given::Word(word) => Ok(Gift::Word(*word)),
+        Given::Wide(wide) => Ok(Gift::Wide(*wide)),
+        Given::Exposed(place) => Ok(Gift::Exposed(*place)),
+        Given::New(kind) => Ok(Gift::New(add_type(names, kind.units())?)),
+        Given::Array { item, size } => Ok(Gift::Array {
+            item: add_type(names, item.units())?,
             size: *size,
-        },
-        Given::Literal(text) => Gift::Literal(names.texts.add(text.units())?),
-        Given::Class(kind) => Gift::Class(names.texts.add(kind.units())?),
-    })
+        }),
+        Given::Literal(text) => Ok(Gift::Literal(add_text(names, text.units())?)),
+        Given::Class(kind) => Ok(Gift::Class(add_text(names, kind.units())?)),
+    }
 }
 
 /// A given value that may be none.
 fn option_of<'a>(
     names: &mut Names<'a>,
     given: &'a Option<Given>,
-) -> Result<Option<Gift>, AllocError> {
+) -> Result<Option<Gift>, AllocError>
+    ensures grows { AreReady names.old → OnOk result (Grows names.old names.new) }
+{
     match given {
         Some(value) => Ok(Some(gift_of(names, value)?)),
         None => Ok(None),
@@ -100,7 +124,9 @@ fn gifts_of<'a>(
     alloc: Global,
     names: &mut Names<'a>,
     values: &'a [Given],
-) -> Result<Vec<Gift>, AllocError> {
+) -> Result<Vec<Gift>, AllocError>
+    ensures grows { AreReady names.old → OnOk result (Grows names.old names.new) }
+{
     let mut gifts = Vec::new(alloc);
     for value in values {
         gifts.push(gift_of(names, value)?)?;
@@ -115,10 +141,12 @@ fn field_of<'a>(
     class: &'a [u16],
     name: &'a [u16],
     kind: &'a [u16],
-) -> Result<Option<FieldAt>, AllocError> {
-    let owner = names.types.add(class)?;
-    let text = names.texts.add(name)?;
-    let kind = names.types.add(kind)?;
+) -> Result<Option<FieldAt>, AllocError>
+    ensures grows { AreReady names.old → OnOk result (Grows names.old names.new) }
+{
+    let owner = add_type(names, class)?;
+    let text = add_text(names, name)?;
+    let kind = add_type(names, kind)?;
     Ok(match declared.field(names, owner, text, kind) {
         Some((class, place)) => Some(FieldAt { class, place, kind }),
         None => None,
@@ -132,10 +160,12 @@ fn enter_of<'a>(
     declared: &Declared,
     named: (&'a [u16], &'a [u16], &'a [u16]),
     values: &'a [Given],
-) -> Result<Play, AllocError> {
+) -> Result<Play, AllocError>
+    ensures grows { AreReady names.old → OnOk result (Grows names.old names.new) }
+{
     let (class, name, proto) = named;
-    let owner = names.types.add(class)?;
-    let text = names.texts.add(name)?;
+    let owner = add_type(names, class)?;
+    let text = add_text(names, name)?;
     let values = gifts_of(alloc, names, values)?;
     Ok(Play::Enter {
         found: declared.method(names, owner, text, proto),
@@ -144,11 +174,59 @@ fn enter_of<'a>(
 }
 
 /// A class that a move makes an object of.
-fn make_of<'a>(names: &mut Names<'a>, class: &'a [u16]) -> Result<Play, AllocError> {
-    let kind = names.types.add(class)?;
+fn make_of<'a>(names: &mut Names<'a>, class: &'a [u16]) -> Result<Play, AllocError>
+    ensures grows { AreReady names.old → OnOk result (Grows names.old names.new) }
+{
+    let kind = add_type(names, class)?;
     Ok(Play::Make {
         class: crate::lookups::class_in(names.class_of.as_slice(), kind),
     })
+}
+
+/// A read of a field.
+fn get_of<'a>(
+    names: &mut Names<'a>,
+    declared: &Declared,
+    named: (&'a [u16], &'a [u16], &'a [u16]),
+    on: &'a Option<Given>,
+) -> Result<Play, AllocError>
+    ensures grows { AreReady names.old → OnOk result (Grows names.old names.new) }
+{
+    let (class, name, kind) = named;
+    let field = field_of(names, declared, class, name, kind)?;
+    let on = option_of(names, on)?;
+    Ok(Play::Get { field, on })
+}
+
+/// A write of a field.
+fn put_of<'a>(
+    names: &mut Names<'a>,
+    declared: &Declared,
+    named: (&'a [u16], &'a [u16], &'a [u16]),
+    on: &'a Option<Given>,
+    value: &'a Given,
+) -> Result<Play, AllocError>
+    ensures grows { AreReady names.old → OnOk result (Grows names.old names.new) }
+{
+    let (class, name, kind) = named;
+    let field = field_of(names, declared, class, name, kind)?;
+    let on = option_of(names, on)?;
+    let value = gift_of(names, value)?;
+    Ok(Play::Put { field, on, value })
+}
+
+/// A write of an array's item.
+fn array_put_of<'a>(
+    names: &mut Names<'a>,
+    on: &'a Given,
+    place: u32,
+    value: &'a Given,
+) -> Result<Play, AllocError>
+    ensures grows { AreReady names.old → OnOk result (Grows names.old names.new) }
+{
+    let on = gift_of(names, on)?;
+    let value = gift_of(names, value)?;
+    Ok(Play::ArrayPut { on, place, value })
 }
 
 /// A move by numbers.
@@ -157,8 +235,10 @@ fn play_of<'a>(
     names: &mut Names<'a>,
     declared: &Declared,
     one: &'a Move,
-) -> Result<Play, AllocError> {
-    Ok(match one {
+) -> Result<Play, AllocError>
+    ensures grows { AreReady names.old → OnOk result (Grows names.old names.new) }
+{
+    match one {
         Move::Enter {
             class,
             name,
@@ -166,48 +246,43 @@ fn play_of<'a>(
             values,
         } => {
             let named = (class.units(), name.units(), proto.units());
-            enter_of(alloc, names, declared, named, values.as_slice())?
+            enter_of(alloc, names, declared, named, values.as_slice())
         }
-        Move::Make { class } => make_of(names, class.units())?,
-        Move::Return { value } => Play::Return {
+        Move::Make { class } => make_of(names, class.units()),
+        Move::Return { value } => Ok(Play::Return {
             value: option_of(names, value)?,
-        },
-        Move::Throw { value } => Play::Throw {
+        }),
+        Move::Throw { value } => Ok(Play::Throw {
             value: gift_of(names, value)?,
-        },
+        }),
         Move::Get {
             class,
             name,
             kind,
             on,
-        } => Play::Get {
-            field: field_of(names, declared, class.units(), name.units(), kind.units())?,
-            on: option_of(names, on)?,
-        },
+        } => {
+            let named = (class.units(), name.units(), kind.units());
+            get_of(names, declared, named, on)
+        }
         Move::Put {
             class,
             name,
             kind,
             on,
             value,
-        } => Play::Put {
-            field: field_of(names, declared, class.units(), name.units(), kind.units())?,
-            on: option_of(names, on)?,
-            value: gift_of(names, value)?,
-        },
-        Move::ArrayGet { on, place } => Play::ArrayGet {
+        } => {
+            let named = (class.units(), name.units(), kind.units());
+            put_of(names, declared, named, on, value)
+        }
+        Move::ArrayGet { on, place } => Ok(Play::ArrayGet {
             on: gift_of(names, on)?,
             place: *place,
-        },
-        Move::ArrayPut { on, place, value } => Play::ArrayPut {
+        }),
+        Move::ArrayPut { on, place, value } => array_put_of(names, on, *place, value),
+        Move::ArrayLength { on } => Ok(Play::ArrayLength {
             on: gift_of(names, on)?,
-            place: *place,
-            value: gift_of(names, value)?,
-        },
-        Move::ArrayLength { on } => Play::ArrayLength {
-            on: gift_of(names, on)?,
-        },
-    })
+        }),
+    }
 }
 
 /// The moves of a script by numbers.
@@ -216,7 +291,9 @@ pub(crate) fn plays_of<'a>(
     names: &mut Names<'a>,
     declared: &Declared,
     script: &'a [Move],
-) -> Result<Vec<Play>, AllocError> {
+) -> Result<Vec<Play>, AllocError>
+    ensures grows { AreReady names.old → OnOk result (Grows names.old names.new) }
+{
     let mut plays = Vec::new(alloc);
     for one in script {
         plays.push(play_of(alloc, names, declared, one)?)?;

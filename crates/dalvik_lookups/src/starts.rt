@@ -1,63 +1,10 @@
 //! What is initialised when.
 
-use crate::lookups::{Lookups, units_at};
+use crate::lookups::Lookups;
 use crate::memo::Memo;
-use crate::naming::{is_name, takes_and_gives_nothing};
 use hierarchy::Hierarchy;
-use program_model::{Class, Flags, Method, MethodAt, Program, Version};
+use program_model::{Class, Flags, Program, Version};
 use std::alloc::{AllocError, Global};
-
-/// `<clinit>` as UTF-16 units.
-static INITIALISER: [u16; 8] = [60, 99, 108, 105, 110, 105, 116, 62];
-
-/// Whether a method has the name and the proto of an initialiser.
-pub(crate) fn is_named_initialiser(program: &Program, method: &Method) -> bool {
-    match program.methods.as_slice().get(method.name as usize) {
-        Some(name) => {
-            is_name(
-                units_at(program.strings.as_slice(), name.name),
-                &INITIALISER,
-            ) && takes_and_gives_nothing(program, name.proto)
-        }
-        None => false,
-    }
-}
-
-/// The place of a class's initialiser: its static method with code of that name and proto.
-fn initialiser_in(program: &Program, class: &Class) -> Option<u32> {
-    let mut place: u32 = 0;
-    for method in class.methods.as_slice() {
-        if is_named_initialiser(program, method) {
-            return if method.flags.has(Flags::STATIC) && method.body.is_some() {
-                Some(place)
-            } else {
-                None
-            };
-        }
-        place = place.saturating_add(1);
-    }
-    None
-}
-
-/// The initialiser of each class.
-pub(crate) fn initialisers(
-    alloc: Global,
-    program: &Program,
-) -> Result<Vec<Option<MethodAt>>, AllocError> {
-    let mut found = Vec::new(alloc);
-    let mut place: u32 = 0;
-    for class in program.classes.as_slice() {
-        found.push(match initialiser_in(program, class) {
-            Some(own) => Some(MethodAt {
-                class: place,
-                place: own,
-            }),
-            None => None,
-        })?;
-        place = place.saturating_add(1);
-    }
-    Ok(found)
-}
 
 /// Whether a class has a virtual method with code.
 fn has_default(hierarchy: &Hierarchy, class: &Class) -> bool {

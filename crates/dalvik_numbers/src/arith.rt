@@ -1,9 +1,8 @@
 //! Arithmetic on int and long.
 
 ghost use Rattle.std.specs.Prelude.{◌≡◌, ◌<◌, ◌%◌, true, false};
-ghost use Rattle.std.specs.Int.{w32, w64, cast_signed, cast_unsigned};
 ghost use Rattle.std.specs.Int.RustNames.{int_div, int_rem};
-ghost use Rattle.dalvik_defs.specs.Arith.{answer, half_down};
+ghost use Rattle.dalvik_defs.specs.Arith.{answer, half_down, signed, unsigned};
 ghost use Rattle.dalvik_numbers.specs.Kinds.{kind_of};
 
 /// The operations on two numbers of one width.
@@ -25,7 +24,7 @@ pub enum Arith {
 /// A signed quotient, rounded to zero; the least number divided by -1 is itself.
 fn quotient_word(a: u32, b: u32) -> u32
     requires { 0 < b }
-    ensures { result ≡ cast_unsigned w32 (int_div (cast_signed w32 a) (cast_signed w32 b)) }
+    ensures { result ≡ unsigned false (int_div (signed false a) (signed false b)) }
 {
     a.cast_signed()
         .wrapping_div(b.cast_signed())
@@ -35,7 +34,7 @@ fn quotient_word(a: u32, b: u32) -> u32
 /// The remainder, which has the sign of the first number.
 fn remainder_word(a: u32, b: u32) -> u32
     requires { 0 < b }
-    ensures { result ≡ cast_unsigned w32 (int_rem (cast_signed w32 a) (cast_signed w32 b)) }
+    ensures { result ≡ unsigned false (int_rem (signed false a) (signed false b)) }
 {
     a.cast_signed()
         .wrapping_rem(b.cast_signed())
@@ -44,7 +43,7 @@ fn remainder_word(a: u32, b: u32) -> u32
 
 /// A signed number shifted right, by the low five bits.
 fn half_word(a: u32, b: u32) -> u32
-    ensures { result ≡ cast_unsigned w32 (half_down (cast_signed w32 a) (b % 32)) }
+    ensures { result ≡ unsigned false (half_down (signed false a) (b % 32)) }
 {
     a.cast_signed().wrapping_shr(b).cast_unsigned()
 }
@@ -83,7 +82,7 @@ pub fn on_words(kind: Arith, a: u32, b: u32) -> Option<u32>
 /// A signed quotient, rounded to zero; the least number divided by -1 is itself.
 fn quotient_wide(a: u64, b: u64) -> u64
     requires { 0 < b }
-    ensures { result ≡ cast_unsigned w64 (int_div (cast_signed w64 a) (cast_signed w64 b)) }
+    ensures { result ≡ unsigned true (int_div (signed true a) (signed true b)) }
 {
     a.cast_signed()
         .wrapping_div(b.cast_signed())
@@ -93,7 +92,7 @@ fn quotient_wide(a: u64, b: u64) -> u64
 /// The remainder, which has the sign of the first number.
 fn remainder_wide(a: u64, b: u64) -> u64
     requires { 0 < b }
-    ensures { result ≡ cast_unsigned w64 (int_rem (cast_signed w64 a) (cast_signed w64 b)) }
+    ensures { result ≡ unsigned true (int_rem (signed true a) (signed true b)) }
 {
     a.cast_signed()
         .wrapping_rem(b.cast_signed())
@@ -102,7 +101,7 @@ fn remainder_wide(a: u64, b: u64) -> u64
 
 /// A signed number shifted right, by the low six bits.
 fn half_wide(a: u64, b: u32) -> u64
-    ensures { result ≡ cast_unsigned w64 (half_down (cast_signed w64 a) (b % 64)) }
+    ensures { result ≡ unsigned true (half_down (signed true a) (b % 64)) }
 {
     a.cast_signed().wrapping_shr(b).cast_unsigned()
 }

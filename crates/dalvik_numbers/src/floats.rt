@@ -1,10 +1,11 @@
 //! What float arithmetic answers.
 
-ghost use Rattle.std.specs.Prelude.{◌≡◌, ◌%◌, ◌^◌, ◌<◌, IfOk, OnOk, Some, cond};
+ghost use Rattle.std.specs.Prelude.{◌≡◌, IfOk, OnOk, Some, cond};
 ghost use Rattle.std.specs.HashMap.{get};
 ghost use Rattle.std.specs.Option.{unwrap_or};
-ghost use Rattle.dalvik_defs.specs.Operators.{number_of};
-ghost use Rattle.dalvik_numbers.specs.Rows.{Key, answer_in, key_eq, key_of};
+ghost use Rattle.dalvik_defs.specs.declared.tables.Floats.{Floats};
+ghost use Rattle.dalvik_defs.specs.Operators.{float_answer, float_wide, float_word, number_of};
+ghost use Rattle.dalvik_numbers.specs.Rows.{IsTable, Key, answer_in, key_eq, key_of};
 
 use dalvik_defs::{FloatOp, FloatRow, Floats};
 use std::alloc::{AllocError, Global};
@@ -47,14 +48,14 @@ fn answers_of(alloc: Global, rows: &[FloatRow]) -> Result<HashMap<(u8, u64, u64)
 impl FloatTable {
     /// The table of these rows, of which the first one that fits counts. The only error is want of memory.
     pub fn new(alloc: Global, floats: &Floats) -> Result<FloatTable, AllocError>
-        ensures { IfOk result (λ table. (k : Key) → get key_eq table.answers k ≡ answer_in floats.now.rows k) }
+        ensures { IfOk result (λ table. IsTable table floats.now) }
     {
         let answers = answers_of(alloc, floats.rows.as_slice())?;
         Ok(FloatTable { answers })
     }
 
-    /// What the operation answers on the bits of its operands, 0 where the table has no row.
-    pub fn answer(&self, op: FloatOp, a: u64, b: u64) -> u64
+    /// What is stored for the operation on the bits of its operands, 0 where there is nothing.
+    fn stored(&self, op: FloatOp, a: u64, b: u64) -> u64
         ensures { result ≡ unwrap_or (get key_eq self.now.answers (number_of op, a, b)) 0 }
     {
         match self.answers.get(&(number_of(op), a, b)) {
@@ -63,9 +64,24 @@ impl FloatTable {
         }
     }
 
+    /// What the operation answers on the bits of its operands, 0 where the table has no row.
+    #[tactic(auto, using(crate::proofs::Answers::stored_answer))]
+    pub fn answer(&self, op: FloatOp, a: u64, b: u64) -> u64
+        ensures { (floats : Floats) → IsTable self.now floats → result ≡ float_answer floats op a b }
+    {
+        self.stored(op, a, b)
+    }
+
+    /// The answer as a wide.
+    pub fn wide(&self, op: FloatOp, a: u64, b: u64) -> u64
+        ensures { (floats : Floats) → IsTable self.now floats → result ≡ float_wide floats op a b }
+    {
+        self.answer(op, a, b)
+    }
+
     /// The answer, cut to a word.
     pub fn word(&self, op: FloatOp, a: u64, b: u64) -> u32
-        ensures { result ≡ unwrap_or (get key_eq self.now.answers (number_of op, a, b)) 0 % 2 ^ 32 }
+        ensures { (floats : Floats) → IsTable self.now floats → result ≡ float_word floats op a b }
     {
         (self.answer(op, a, b) % 4294967296) as u32
     }

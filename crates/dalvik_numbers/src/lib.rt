@@ -1,7 +1,7 @@
 //! What operations on numbers answer (Dalvik bytecode, "Summary of bytecode set"): arithmetic on int and long, which
 //! wraps, comparisons and tests, conversions, what a small item keeps of a word, and the table that answers operations
 //! on floats. Contracts say that each call answers what the definitions of `dalvik_defs` give.
-#![tactic(auto)]
+#![tactic(auto, using(crate::proofs::Signs::signed_word, crate::proofs::Signs::signed_wide))]
 
 mod arith;
 mod floats;

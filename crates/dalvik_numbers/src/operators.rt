@@ -1,11 +1,13 @@
 //! What the operators are, and what they answer.
 
-ghost use Rattle.std.specs.Prelude.{◌≡◌, ◌%◌, ◌^◌};
+ghost use Rattle.std.specs.Prelude.{◌≡◌, ◌%◌, ◌^◌, cond, true};
 ghost use Rattle.std.specs.Int.{w32, cast_unsigned};
+ghost use Rattle.std.specs.Option.{option_map};
+ghost use Rattle.dalvik_defs.specs.declared.tables.Floats.{Floats};
 ghost use Rattle.dalvik_defs.specs.Arith.{compared, literal_answer, signed};
-ghost use Rattle.dalvik_defs.specs.Operators.{sort_of};
-ghost use Rattle.std.specs.Prelude.{true};
-ghost use Rattle.dalvik_numbers.specs.Kinds.{sort_is};
+ghost use Rattle.dalvik_defs.specs.Operators.{OneWide, OneWord, comparison, float_wide, float_word, sort_of, unary_answer};
+ghost use Rattle.dalvik_numbers.specs.Kinds.{answered, number_is, sort_is};
+ghost use Rattle.dalvik_numbers.specs.Rows.{IsTable};
 
 use crate::arith::{Arith, on_wides, on_words};
 use crate::floats::FloatTable;
@@ -78,7 +80,9 @@ fn low(number: u64) -> u32
 }
 
 /// A word as an answer.
-fn one_word(answer: Option<u32>) -> Option<Number> {
+fn one_word(answer: Option<u32>) -> Option<Number>
+    ensures { option_map number_is result ≡ option_map OneWord answer }
+{
     match answer {
         Some(word) => Some(Number::OneWord(word)),
         None => None,
@@ -86,22 +90,34 @@ fn one_word(answer: Option<u32>) -> Option<Number> {
 }
 
 /// A wide as an answer.
-fn one_wide(answer: Option<u64>) -> Option<Number> {
+fn one_wide(answer: Option<u64>) -> Option<Number>
+    ensures { option_map number_is result ≡ option_map OneWide answer }
+{
     match answer {
         Some(wide) => Some(Number::OneWide(wide)),
         None => None,
     }
 }
 
-/// What the operator answers on the numbers of its operands, none where it divides by 0.
-pub fn binary(floats: &FloatTable, op: BinaryOp, a: u64, b: u64) -> Option<Number> {
-    match sort_of(op) {
+/// What an operator of a sort answers on the numbers of its operands, none where it divides by 0.
+fn sorted(floats: &FloatTable, sort: Sort, a: u64, b: u64) -> Option<Number>
+    ensures { (rows : Floats) → IsTable floats.now rows → option_map number_is result ≡ answered rows (sort_is sort) a b }
+{
+    match sort {
         Sort::OnWord(kind) => one_word(on_words(kind, low(a), low(b))),
         Sort::OnWide(kind) => one_wide(on_wides(kind, a, b)),
         Sort::Shifts(kind) => one_wide(on_wides(kind, a, b)),
         Sort::OnFloat(op) => Some(Number::OneWord(floats.word(op, a, b))),
-        Sort::OnDouble(op) => Some(Number::OneWide(floats.answer(op, a, b))),
+        Sort::OnDouble(op) => Some(Number::OneWide(floats.wide(op, a, b))),
     }
+}
+
+/// What the operator answers on the numbers of its operands, none where it divides by 0. Operations on ints take the low
+/// 32 bits.
+pub fn binary(floats: &FloatTable, op: BinaryOp, a: u64, b: u64) -> Option<Number>
+    ensures { (rows : Floats) → IsTable floats.now rows → option_map number_is result ≡ answered rows (sort_of op) a b }
+{
+    sorted(floats, sort_of(op), a, b)
 }
 
 /// What the operator answers on a word and a literal, none where it divides by 0.
@@ -125,16 +141,20 @@ pub fn literal(op: LiteralOp, a: u32, value: i16) -> Option<u32>
 }
 
 /// The word or wide that a float operator with one operand answers.
-fn float_unary(floats: &FloatTable, op: FloatOp, a: u64, wide: bool) -> Number {
+fn float_unary(floats: &FloatTable, op: FloatOp, a: u64, wide: bool) -> Number
+    ensures { (rows : Floats) → IsTable floats.now rows → number_is result ≡ cond wide (OneWide (float_wide rows op a 0)) (OneWord (float_word rows op a 0)) }
+{
     if wide {
-        Number::OneWide(floats.answer(op, a, 0))
+        Number::OneWide(floats.wide(op, a, 0))
     } else {
         Number::OneWord(floats.word(op, a, 0))
     }
 }
 
 /// What the operator answers on the number of its operand.
-pub fn unary(floats: &FloatTable, op: UnaryOp, a: u64) -> Number {
+pub fn unary(floats: &FloatTable, op: UnaryOp, a: u64) -> Number
+    ensures { (rows : Floats) → IsTable floats.now rows → number_is result ≡ unary_answer rows op a }
+{
     match op {
         UnaryOp::NegInt => Number::OneWord(low(a).wrapping_neg()),
         UnaryOp::NotInt => Number::OneWord(!low(a)),
@@ -175,7 +195,9 @@ fn compare_wides(a: u64, b: u64) -> u32
 }
 
 /// What the comparison answers on the numbers of its operands.
-pub fn compare(floats: &FloatTable, op: CmpOp, a: u64, b: u64) -> u32 {
+pub fn compare(floats: &FloatTable, op: CmpOp, a: u64, b: u64) -> u32
+    ensures { (rows : Floats) → IsTable floats.now rows → result ≡ comparison rows op a b }
+{
     match op {
         CmpOp::CmplFloat => floats.word(FloatOp::CmplFloat, a, b),
         CmpOp::CmpgFloat => floats.word(FloatOp::CmpgFloat, a, b),

@@ -1,10 +1,40 @@
 -- What a write does to a frame.
-use Rattle.std.specs.Prelude.{◌≡◌, ℕ, List, slice_set, slice_index_or, ◌+◌}
+use Rattle.std.specs.Prelude.{◌≡◌, ℕ, Bool, true, false, List, nat_eq, slice_set, slice_index_or, ◌+◌}
+use Rattle.insn_set.specs.declared.ops.Item.{Item}
+use Rattle.insn_set.specs.declared.ops.Item.TheVariants as item
+use Rattle.insn_set.specs.declared.ops.Slot.{Slot}
+use Rattle.insn_set.specs.declared.ops.Slot.TheVariants as slot
 use Rattle.dalvik_state.specs.declared.datum.Datum.{Datum}
-use Rattle.dalvik_state.specs.declared.datum.Datum.TheVariants.{Word, Low, High}
+use Rattle.dalvik_state.specs.declared.datum.Datum.TheVariants.{Word, Low, High, Object, Literal, Class}
 use Rattle.dalvik_state.specs.declared.frame.Frame.{Frame}
 use Rattle.dalvik_state.specs.declared.effect.Effect.{Effect}
 use Rattle.dalvik_state.specs.declared.effect.Effect.TheVariants as effect
+
+-- the number, 0 of a reference
+abbrev pub number_in : Datum → ℕ
+number_in (Word n) = n
+number_in (Low n) = n
+number_in (High n) = n
+number_in d = 0
+
+abbrev pub is_null_in : Datum → Bool
+is_null_in (Word n) = nat_eq n 0
+is_null_in d = false
+
+-- what an item is before it is written, wide or not
+abbrev pub zero_in : Bool → Datum
+zero_in true = Low 0
+zero_in false = Word 0
+
+-- whether two values are the same word, half of a wide or reference
+abbrev pub same_in : Datum → Datum → Bool
+same_in (Word a) (Word b) = nat_eq a b
+same_in (Low a) (Low b) = nat_eq a b
+same_in (High a) (High b) = nat_eq a b
+same_in (Object a) (Object b) = nat_eq a b
+same_in (Literal a) (Literal b) = nat_eq a b
+same_in (Class a) (Class b) = nat_eq a b
+same_in a b = false
 
 -- what a register holds
 abbrev pub cell : List Datum → ℕ → Datum
@@ -13,6 +43,15 @@ cell cells r = slice_index_or cells r (Word 0)
 -- a wide in two halves
 abbrev pub with_wide : List Datum → ℕ → ℕ → List Datum
 with_wide cells r n = slice_set (slice_set cells r (Low n)) (r + 1) (High n)
+
+-- what one place held, in a register
+abbrev pub with_slot : Slot → List Datum → ℕ → Datum → List Datum
+with_slot slot.Wide cells r d = with_wide cells r (number_in d)
+with_slot s cells r d = slice_set cells r d
+
+abbrev pub with_item : Item → List Datum → ℕ → Datum → List Datum
+with_item item.Wide cells r d = with_wide cells r (number_in d)
+with_item i cells r d = slice_set cells r d
 
 -- the registers are these, and all else stays
 pub record IsWritten (old new : Frame) (cells : List Datum) : Type 0 where

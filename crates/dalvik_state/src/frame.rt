@@ -1,7 +1,7 @@
 //! A method that runs.
 
 ghost use Rattle.std.specs.Prelude.{◌≡◌, ◌+◌, ◌<◌, ◌^◌, slice_set};
-ghost use Rattle.dalvik_state.specs.Frames.{cell, with_wide, IsWritten, IsMoved};
+ghost use Rattle.dalvik_state.specs.Frames.{cell, with_item, with_slot, with_wide, IsWritten, IsMoved};
 
 use crate::datum::Datum;
 use program_model::{Body, Insn, Item, MethodAt, Slot};
@@ -51,6 +51,13 @@ impl<'a> Frame<'a> {
         read_register(self.registers.as_slice(), register as usize)
     }
 
+    /// What the register behind one holds.
+    pub fn get_second(&self, register: u16) -> Datum
+        ensures { result ≡ cell self.now.registers.items (register + 1) }
+    {
+        read_register(self.registers.as_slice(), register as usize + 1)
+    }
+
     /// Writes a register.
     pub fn set(&mut self, register: u16, datum: Datum)
         ensures { IsWritten self.old self.new (slice_set self.old.registers.items register datum) }
@@ -62,13 +69,22 @@ impl<'a> Frame<'a> {
     pub fn set_wide(&mut self, register: u16, wide: u64)
         ensures { IsWritten self.old self.new (with_wide self.old.registers.items register wide) }
     {
+        self.set_pair(register, Datum::Low(wide), Datum::High(wide));
+    }
+
+    /// Writes a register and the one behind it.
+    pub fn set_pair(&mut self, register: u16, low: Datum, high: Datum)
+        ensures { IsWritten self.old self.new (slice_set (slice_set self.old.registers.items register low) (register + 1) high) }
+    {
         let first = register as usize;
-        write_register(self.registers.as_mut_slice(), first, Datum::Low(wide));
-        write_register(self.registers.as_mut_slice(), first + 1, Datum::High(wide));
+        write_register(self.registers.as_mut_slice(), first, low);
+        write_register(self.registers.as_mut_slice(), first + 1, high);
     }
 
     /// Writes what one place held.
-    pub fn set_slot(&mut self, slot: Slot, register: u16, datum: Datum) {
+    pub fn set_slot(&mut self, slot: Slot, register: u16, datum: Datum)
+        ensures { IsWritten self.old self.new (with_slot slot self.old.registers.items register datum) }
+    {
         match slot {
             Slot::Wide => self.set_wide(register, datum.number()),
             Slot::Word | Slot::Object => self.set(register, datum),
@@ -76,7 +92,9 @@ impl<'a> Frame<'a> {
     }
 
     /// Writes what an item of an array or a field held.
-    pub fn set_item(&mut self, item: Item, register: u16, datum: Datum) {
+    pub fn set_item(&mut self, item: Item, register: u16, datum: Datum)
+        ensures { IsWritten self.old self.new (with_item item self.old.registers.items register datum) }
+    {
         match item {
             Item::Wide => self.set_wide(register, datum.number()),
             _ => self.set(register, datum),

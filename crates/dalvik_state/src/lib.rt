@@ -5,7 +5,7 @@
 //! heap. Beside the state stand what an instruction does in its frame (`Effect`), the values that the framework gives in
 //! one move (`Gifts`), how values are shown (`Draft`: what needs memory is made before anything changes), and which moves
 //! of the framework are legal.
-#![tactic(auto)]
+#![tactic(auto, using(crate::proofs::Heaps::spot_at, crate::proofs::Heaps::spots_more, crate::proofs::Heaps::spots_long))]
 
 mod datum;
 mod effect;

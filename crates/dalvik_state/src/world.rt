@@ -1,6 +1,11 @@
 //! The heap, the fields, the monitors, and what was exposed.
 
+ghost use Rattle.std.specs.Prelude.{◌≡◌, ◌++◌, ◌∷◌, [], length, map, IfOk, OnErr, OnOk};
+ghost use Rattle.std.specs.Option.{option_map};
+ghost use Rattle.dalvik_state.specs.Worlds.{IsHeap, IsSameWorld, new_spot, put_shape, reshape, reshape_at, shape_at, shape_of, spot_of, spots_of};
+
 use crate::datum::Datum;
+use crate::frame::write_register;
 use dalvik_lookups::{Kind, known};
 use std::alloc::{AllocError, Global};
 use std::collections::HashMap;
@@ -22,11 +27,30 @@ impl Thing {
     }
 }
 
+/// Writes an item of a thing, unless it is no array or has no such place.
+fn put_in(thing: &mut Thing, place: usize, datum: Datum)
+    ensures { shape_of thing.new ≡ put_shape place datum (shape_of thing.old) }
+{
+    match thing {
+        Thing::Items { kind: _, items } => write_register(items.as_mut_slice(), place, datum),
+        Thing::Instance(_) => {}
+    }
+}
+
 /// A thing, and its place among the exposed ones.
 #[derive(Drop)]
 pub struct Cell {
     pub thing: Thing,
     pub place: Option<usize>,
+}
+
+/// Writes an item of the thing with a number.
+fn put_at(heap: &mut Vec<Cell>, number: usize, place: usize, datum: Datum)
+    ensures { map spot_of heap.new.items ≡ reshape (put_shape place datum) (map spot_of heap.old.items) number }
+{
+    if number < heap.len() {
+        put_in(&mut heap[number].thing, place, datum);
+    }
 }
 
 /// An object that was exposed, and whether it has been printed.
@@ -60,19 +84,27 @@ impl World {
     }
 
     /// The number of the next object.
-    pub fn next_number(&self) -> u64 {
+    pub fn next_number(&self) -> u64
+        ensures { result ≡ length (spots_of self.now) }
+    {
         self.heap.len() as u64
     }
 
     /// Adds a thing, and answers the reference to it.
-    pub fn add(&mut self, thing: Thing) -> Result<Datum, AllocError> {
+    pub fn add(&mut self, thing: Thing) -> Result<Datum, AllocError>
+        ensures datum { IfOk result (λ d. d ≡ Datum.Object (length (spots_of self.old))) }
+        ensures heap { OnOk result (IsHeap self.old self.new (spots_of self.old ++ new_spot thing ∷ [])) }
+        ensures err { OnErr result (IsSameWorld self.old self.new) }
+    {
         let number = self.next_number();
         self.heap.push(Cell { thing, place: None })?;
         Ok(Datum::Object(number))
     }
 
     /// The thing that a value refers to.
-    pub fn thing(&self, datum: Datum) -> Option<&Thing> {
+    pub fn thing(&self, datum: Datum) -> Option<&Thing>
+        ensures { option_map (λ t. shape_of t.now) result ≡ shape_at (spots_of self.now) datum }
+    {
         match datum {
             Datum::Object(number) => match self.heap.as_slice().get(number as usize) {
                 Some(cell) => Some(&cell.thing),
@@ -93,6 +125,15 @@ impl World {
                 None => None,
             },
             _ => None,
+        }
+    }
+
+    /// Writes an item of the array that a value refers to, unless it has no such place.
+    pub fn put_item(&mut self, array: Datum, place: usize, datum: Datum)
+        ensures { IsHeap self.old self.new (reshape_at (put_shape place datum) (spots_of self.old) array) }
+    {
+        if let Datum::Object(number) = array {
+            put_at(&mut self.heap, number as usize, place, datum);
         }
     }
 

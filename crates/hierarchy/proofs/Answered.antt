@@ -1,5 +1,5 @@
 -- What is asked of the targets.
-use Rattle.std.proofs.Common.{◌≡◌, ℕ, Option, Some, None, Result, Ok, Err, refl, ap, ◌∙◌}
+use Rattle.std.proofs.Common.{◌≡◌, ℕ, length, Option, Some, None, Result, Ok, Err, refl, ap, ◌∙◌}
 use Rattle.std.specs.Prelude.{slice_get, IfOk}
 use Rattle.std.specs.Option.{option_map}
 use Rattle.std.proofs.lemmas.Option.{slice_get-map}
@@ -11,6 +11,8 @@ use Rattle.hierarchy.specs.declared.build.Hierarchy.{Hierarchy}
 use Rattle.hierarchy.specs.declared.build.Targets.{Targets}
 use Rattle.hierarchy.specs.declared.fault.HierarchyFault.{HierarchyFault}
 use Rattle.hierarchy.specs.Shapes.{IsOf, AreTargets, IsResolved}
+use Rattle.class_defs.specs.Starts.{is_trivial}
+use Rattle.hierarchy.specs.Quieting.{Marks}
 use Rattle.hierarchy.specs.Starting.{HasStarts}
 use Rattle.hierarchy.specs.Tables.{answer}
 use Rattle.hierarchy.specs.Walking.{method_by}
@@ -29,9 +31,10 @@ method_answer p h n r = ap (λ l. answer (slice_get l n)) r.targets.methods ∙ 
     by_entry_of None = refl
     by_entry_of (Some m) = refl
 
-pub resolved : (p : Program) (r : Result Hierarchy HierarchyFault) → IfOk r (λ h. IsOf p h) → IfOk r (λ h. IsOf p h → AreTargets p h.targets) → IfOk r (λ h. HasStarts p h.starts.initialisers.items) → IfOk r (λ h. IsResolved p h)
-resolved p (Err e) h t s = h
-resolved p (Ok x) h t s = record { of = h; targets = t h; starts = s }
+pub resolved : (p : Program) (r : Result Hierarchy HierarchyFault) → IfOk r (λ h. IsOf p h) → IfOk r (λ h. IsOf p h → AreTargets p h.targets) → IfOk r (λ h. HasStarts p h.starts.initialisers.items)
+    → IfOk r (λ h. Marks (length p.classes) (is_trivial p) h.starts.trivial.items) → IfOk r (λ h. IsResolved p h)
+resolved p (Err e) h t s k = h
+resolved p (Ok x) h t s k = record { of = h; targets = t h; starts = s; trivial = k }
 
 -- the tables say the same whatever the targets
 pub retarget : (p : Program) (h : Hierarchy) (t : Targets) → IsOf p (record { shape = h.shape; tour = h.tour; named = h.named; starts = h.starts; targets = t }) → IsOf p h

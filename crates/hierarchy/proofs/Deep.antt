@@ -165,7 +165,7 @@ weight deg at [] = 0
 weight deg at (true ∷ bs) = weight deg (suc at) bs
 weight deg at (false ∷ bs) = deg at + weight deg (suc at) bs
 
-weight_set : (deg : ℕ → ℕ) (at x : ℕ) (l : List Bool) → x < length l → slice_index_or l x false ≡ false → weight deg at (slice_set l x true) + deg (at + x) ≡ weight deg at l
+pub weight_set : (deg : ℕ → ℕ) (at x : ℕ) (l : List Bool) → x < length l → slice_index_or l x false ≡ false → weight deg at (slice_set l x true) + deg (at + x) ≡ weight deg at l
 weight_set deg at x [] lt e = absurd (omega (arith, lt))
 weight_set deg at zero (true ∷ bs) lt e = absurd (true≢false e)
 weight_set deg at zero (false ∷ bs) lt e = let z : deg (at + 0) ≡ deg at = ap deg (omega arith) in omega (arith, z)

@@ -92,10 +92,13 @@ not_or true b c = refl
 not_or false true c = refl
 not_or false false c = refl
 
-pub virtual_is : (p : Program) (h : Hierarchy) (m : Method) → IsOf p h → is_virtual_by h.named.special.items m ≡ not (is_direct p m)
+pub virtual_by : (p : Program) (special : List Bool) (m : Method) → special ≡ map (is_special p) p.methods → is_virtual_by special m ≡ not (is_direct p m)
 unfolding is_direct
-virtual_is p h m is = not_or (is_static m.flags) (is_private m.flags) (slice_index_or h.named.special.items m.name false)
-    ∙ ap (λ b. not ((is_static m.flags || is_private m.flags) || b)) (ap (λ l. slice_index_or l m.name false) is.named.special ∙ marked_is p p.methods m.name)
+virtual_by p special m is = not_or (is_static m.flags) (is_private m.flags) (slice_index_or special m.name false)
+    ∙ ap (λ b. not ((is_static m.flags || is_private m.flags) || b)) (ap (λ l. slice_index_or l m.name false) is ∙ marked_is p p.methods m.name)
+
+pub virtual_is : (p : Program) (h : Hierarchy) (m : Method) → IsOf p h → is_virtual_by h.named.special.items m ≡ not (is_direct p m)
+virtual_is p h m is = virtual_by p h.named.special.items m is.named.special
 
 -- ---- along a chain
 

@@ -30,7 +30,7 @@ set_size [] x v = refl
 set_size (b ∷ bs) zero v = refl
 set_size (b ∷ bs) (suc x) v = ap suc (set_size bs x v)
 
-before_or_at : (i n : ℕ) → i < n + 1 → (i < n) ⊎ (i ≡ n)
+pub before_or_at : (i n : ℕ) → i < n + 1 → (i < n) ⊎ (i ≡ n)
 before_or_at zero zero lt = inr refl
 before_or_at zero (suc n) lt = inl (omega arith)
 before_or_at (suc i) zero lt = absurd (omega (arith, lt))

@@ -13,10 +13,12 @@ use Rattle.class_defs.proofs.Positions.{number_test, number_of, place_entry, pla
 use Rattle.class_defs.proofs.WellFormed.{sound, class_parts, few_classes}
 use Rattle.hierarchy.specs.Tables.{known, read_at, row_or_empty, row_of}
 use Rattle.hierarchy.specs.Naming.{IsNamed}
-use Rattle.hierarchy.specs.Ranks.{Descends, IsRanked, is_behind}
+use Rattle.hierarchy.specs.Ranks.{IsRanked}
+use Rattle.hierarchy.proofs.Above.{ranked_by, first_cycle}
+use Rattle.hierarchy.proofs.Acyclic.{acyclic}
 use Rattle.hierarchy.specs.Placing.{place_from, known_places}
 use Rattle.hierarchy.specs.Faults.{IsTwiceOr, IsSplitOr}
-use Rattle.hierarchy.specs.Shapes.{placing, IsMade, StopsAt, IsOf, IsFirstTwice, IsCause}
+use Rattle.hierarchy.specs.Shapes.{placing, supers_by, lists_by, IsMade, StopsAt, IsOf, IsFirstTwice, IsCause}
 use Rattle.hierarchy.specs.declared.build.Hierarchy.{Hierarchy}
 use Rattle.hierarchy.specs.declared.fault.HierarchyFault.{HierarchyFault}
 use Rattle.hierarchy.specs.declared.fault.HierarchyFault.TheVariants.{NoMemory, Cycle, Twice, SplitOverride}
@@ -65,7 +67,7 @@ replicate_length (suc n) = ap suc (replicate_length n)
 
 -- ---- entries of joined lists
 
-got_left : {X : Type 0} (xs ys : List X) (i : ℕ) (x : X) → slice_get xs i ≡ Some x → slice_get (xs ++ ys) i ≡ Some x
+pub got_left : {X : Type 0} (xs ys : List X) (i : ℕ) (x : X) → slice_get xs i ≡ Some x → slice_get (xs ++ ys) i ≡ Some x
 got_left [] ys i x e = cc
 got_left (z ∷ zs) ys zero x e = e
 got_left (z ∷ zs) ys (suc i) x e = got_left zs ys i x e
@@ -75,17 +77,17 @@ got_left_below [] ys i h = absurd (omega arith)
 got_left_below (z ∷ zs) ys zero h = refl
 got_left_below (z ∷ zs) ys (suc i) h = got_left_below zs ys i (omega arith)
 
-got_middle : {X : Type 0} (xs : List X) (y : X) (ys : List X) → slice_get (xs ++ y ∷ ys) (length xs) ≡ Some y
+pub got_middle : {X : Type 0} (xs : List X) (y : X) (ys : List X) → slice_get (xs ++ y ∷ ys) (length xs) ≡ Some y
 got_middle [] y ys = refl
 got_middle (z ∷ zs) y ys = got_middle zs y ys
 
-got_last : {X : Type 0} (xs : List X) (y x : X) (j : ℕ) → slice_get (xs ++ y ∷ []) j ≡ Some x → (slice_get xs j ≡ Some x) ⊎ ((j ≡ length xs) × (x ≡ y))
+pub got_last : {X : Type 0} (xs : List X) (y x : X) (j : ℕ) → slice_get (xs ++ y ∷ []) j ≡ Some x → (slice_get xs j ≡ Some x) ⊎ ((j ≡ length xs) × (x ≡ y))
 got_last [] y x zero e = inr (refl, (let s : y ≡ x = cc in sym s))
 got_last [] y x (suc j) e = cc
 got_last (z ∷ zs) y x zero e = inl e
 got_last (z ∷ zs) y x (suc j) e = elim (got_last zs y x j e) [ inl f ↦ inl f | inr f ↦ inr (ap suc f.0, f.1) ]
 
-below_length : {X : Type 0} (xs : List X) (i : ℕ) (x : X) → slice_get xs i ≡ Some x → i < length xs
+pub below_length : {X : Type 0} (xs : List X) (i : ℕ) (x : X) → slice_get xs i ≡ Some x → i < length xs
 below_length [] i x e = cc
 below_length (z ∷ zs) zero x e = omega arith
 below_length (z ∷ zs) (suc i) x e = let h = below_length zs i x e in omega arith
@@ -227,7 +229,7 @@ module _ (p : Program) (t : List ℕ) (h : (k : ℕ) → read_at t k ≡ class_p
       by_class None = refl
       by_class (Some d) = known_are d.interfaces
 
-mapped_length : {A B : Type 0} (f : A → B) (xs : List A) → length (map f xs) ≡ length xs
+pub mapped_length : {A B : Type 0} (f : A → B) (xs : List A) → length (map f xs) ≡ length xs
 mapped_length f [] = refl
 mapped_length f (x ∷ xs) = ap suc (mapped_length f xs)
 
@@ -240,28 +242,22 @@ pub record Fits (p : Program) (s : Shape) : Type 0 where
   pub count : length s.supers.items ≡ length p.classes
   pub ranked : IsRanked p
 
-ranked_of : (p : Program) (supers : List ℕ) (rows : List (List ℕ)) → length supers ≡ length p.classes → ((c : ℕ) → read_at supers c ≡ super_place p c) → ((c : ℕ) → row_of rows c ≡ interface_places p c) → Descends supers rows (length supers) → IsRanked p
-ranked_of p supers rows long ups lists d = record {
-  rank = d.rank;
-  each = λ class lt.
-      ap (λ n. is_behind d.rank n class (super_place p class) (interface_places p class)) (sym long)
-      ∙ ap (λ o. is_behind d.rank (length supers) class o (interface_places p class)) (sym (ups class))
-      ∙ ap (λ l. is_behind d.rank (length supers) class (read_at supers class) l) (sym (lists class))
-      ∙ d.each class (omega (arith, lt, long));
-}
+pub long_by : (p : Program) (table : List ℕ) → length (supers_by table p) ≡ length p.classes
+long_by p table = mapped_length (λ c. slice_index_or table c.superclass 4294967295) p.classes
 
 pub made_fits : (p : Program) (s : Shape) → is_well_formed p ≡ true → IsMade p s → Fits p s
 made_fits p s h m =
     let r : Placed p.classes s.places.items = subst (Outcome p.classes) (m.places (few_classes p h)) (placing_outcome p h) in
+    let long : length s.supers.items ≡ length p.classes = ap length m.supers ∙ long_by p s.places.items in
+    let ups_are : (c : ℕ) → read_at s.supers.items c ≡ super_place p c = λ c. ap (λ t. read_at t c) m.supers ∙ supers_are p s.places.items r.table.is c in
+    let rows_are : (c : ℕ) → row_of s.lists.rows c ≡ interface_places p c = λ c. ap (λ t. row_of t c) m.lists ∙ lists_are p s.places.items r.table.is c in
     record {
       once = none_twice p r.apart;
       places = r.table.is;
-      supers = λ c. ap (λ t. read_at t c) m.supers ∙ supers_are p s.places.items r.table.is c;
-      lists = λ c. ap (λ t. row_of t c) m.lists ∙ lists_are p s.places.items r.table.is c;
-      count = ap length m.supers ∙ mapped_length (λ c. slice_index_or s.places.items c.superclass 4294967295) p.classes;
-      ranked = ranked_of p s.supers.items s.lists.rows (ap length m.supers ∙ mapped_length (λ c. slice_index_or s.places.items c.superclass 4294967295) p.classes)
-          (λ c. ap (λ t. read_at t c) m.supers ∙ supers_are p s.places.items r.table.is c) (λ c. ap (λ t. row_of t c) m.lists ∙ lists_are p s.places.items r.table.is c)
-          (m.order (let few = few_classes p h in let l = ap length m.supers ∙ mapped_length (λ c. slice_index_or s.places.items c.superclass 4294967295) p.classes in omega (arith, few, l)));
+      supers = ups_are;
+      lists = rows_are;
+      count = long;
+      ranked = ranked_by p s.supers.items s.lists.rows ups_are rows_are long s.order.items (m.order (let few = few_classes p h in omega (arith, few, long)));
     }
 
 -- ---- what is made, and what is refused
@@ -270,16 +266,21 @@ pub filled : (p : Program) (s : Shape) (r : Result Hierarchy HierarchyFault) →
 filled p s (Err e) h m k n = k
 filled p s (Ok x) h m k n = let f = made_fits p x.shape h (subst (IsMade p) (sym k) m) in record { once = f.once; places = f.places; supers = f.supers; lists = f.lists; ranked = f.ranked; count = (let ok = x.shape.supers.ok in let l = f.count in omega arith); named = n }
 
-pub refused : (p : Program) (s : Shape) (r : Result Hierarchy HierarchyFault) → is_well_formed p ≡ true → IsMade p s → IfErr r (λ f. IsSplitOr f) → IfErr r (λ f. IsCause p f)
+pub refused : (p : Program) (s : Shape) (r : Result Hierarchy HierarchyFault) → is_well_formed p ≡ true → IsMade p s → IfErr r (λ f. IsSplitOr p f) → IfErr r (λ f. IsCause p f)
 refused p s (Ok x) h m k = k
 refused p s (Err NoMemory) h m k = tt
 refused p s (Err (Cycle class)) h m k = absurd k
 refused p s (Err (Twice class)) h m k = absurd k
-refused p s (Err (SplitOverride class method)) h m k = (made_fits p s h m).once
+refused p s (Err (SplitOverride class method)) h m k = let f = made_fits p s h m in record { once = f.once; acyclic = acyclic p f.once f.ranked; is = k }
 
 pub stopped : (p : Program) (f : HierarchyFault) → is_well_formed p ≡ true → StopsAt p f → IsCause p f
 stopped p NoMemory h k = tt
-stopped p (Cycle class) h k = none_twice p (let r : Placed p.classes k.table = subst (Outcome p.classes) (k.is (few_classes p h)) (placing_outcome p h) in r.apart)
+stopped p (Cycle class) h k =
+    let r : Placed p.classes k.table = subst (Outcome p.classes) (k.is (few_classes p h)) (placing_outcome p h) in
+    record {
+      once = none_twice p r.apart;
+      is = first_cycle p (supers_by k.table p) (lists_by k.table p) (supers_are p k.table r.table.is) (lists_are p k.table r.table.is) (long_by p k.table) (none_twice p r.apart) class (k.first (few_classes p h));
+    }
 stopped p (Twice class) h k = first_twice p class (let r : Repeats p.classes class = subst (Outcome p.classes) (k (few_classes p h)) (placing_outcome p h) in r)
 stopped p (SplitOverride class method) h k = absurd (k (few_classes p h))
 
@@ -291,5 +292,5 @@ stopping p f types classes e d h = by_fault f (subst (λ n. length p.classes < 2
     by_fault : (f : HierarchyFault) → (length p.classes < 2 ^ 32 → IsTwiceOr (placing p) f) → StopsAt p f
     by_fault NoMemory h = tt
     by_fault (Twice class) h = h
-    by_fault (Cycle class) h = record { table = []; is = λ l. absurd (h l) }
+    by_fault (Cycle class) h = record { table = []; is = λ l. absurd (h l); first = λ l. absurd (h l) }
     by_fault (SplitOverride class method) h = h

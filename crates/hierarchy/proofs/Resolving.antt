@@ -33,7 +33,7 @@ module _ (p : Program) (r : IsRanked p) where
     | inr le ↦ ap (λ o. list_all (λ u. nat_lt (r.rank u) (r.rank c)) (listed p o)) (slice_get_past p.classes c le)
   ]
 
-  super_lower : (c : ℕ) → list_all (λ u. nat_lt (r.rank u) (r.rank c)) (beside (super_place p c)) ≡ true
+  pub super_lower : (c : ℕ) → list_all (λ u. nat_lt (r.rank u) (r.rank c)) (beside (super_place p c)) ≡ true
   super_lower c = elim (cases_lt c (length p.classes)) [
     | inl lt ↦ one (super_place p c) (and_right (nat_lt (r.rank c) (length p.classes)) (is_lower r.rank (r.rank c) (super_place p c))
         (and_left (nat_lt (r.rank c) (length p.classes) && is_lower r.rank (r.rank c) (super_place p c)) (is_lower_all r.rank (r.rank c) (interface_places p c)) (r.each c lt)))

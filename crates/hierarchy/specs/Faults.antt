@@ -1,6 +1,8 @@
 -- The causes of the faults of a hierarchy.
 use Rattle.std.specs.Prelude.{◌≡◌, ℕ, List}
 use Rattle.std.proofs.Common.{Result, Err}
+use Rattle.program_model.specs.declared.program.Program.{Program}
+use Rattle.hierarchy.specs.Splitting.{IsFirstSplit}
 use Rattle.hierarchy.specs.declared.fault.HierarchyFault.{HierarchyFault}
 use Rattle.hierarchy.specs.declared.fault.HierarchyFault.TheVariants.{NoMemory, Cycle, Twice, SplitOverride}
 
@@ -11,9 +13,9 @@ IsTwiceOr placing (Twice class) = placing ≡ Err class
 IsTwiceOr placing (Cycle class) = ⊥
 IsTwiceOr placing (SplitOverride class method) = ⊥
 
--- want of memory or a split override
-abbrev pub IsSplitOr : HierarchyFault → Type 0
-IsSplitOr NoMemory = Unit {0}
-IsSplitOr (Twice class) = ⊥
-IsSplitOr (Cycle class) = ⊥
-IsSplitOr (SplitOverride class method) = Unit {0}
+-- want of memory, or the first class with a split override
+abbrev pub IsSplitOr : Program → HierarchyFault → Type 0
+IsSplitOr p NoMemory = Unit {0}
+IsSplitOr p (Twice class) = ⊥
+IsSplitOr p (Cycle class) = ⊥
+IsSplitOr p (SplitOverride class method) = IsFirstSplit p class method

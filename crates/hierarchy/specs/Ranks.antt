@@ -1,12 +1,8 @@
 -- Ranks of the classes with which those above a class stand lower.
-use Rattle.std.specs.Prelude.{◌≡◌, ◌<◌, ◌&&◌, ℕ, Bool, true, List, length, Option, Some, None, nat_lt, slice_index_or}
+use Rattle.std.specs.Prelude.{◌≡◌, ◌<◌, ◌&&◌, ℕ, Bool, true, List, length, Option, Some, None, nat_lt}
 use Rattle.std.specs.List.{list_all}
 use Rattle.program_model.specs.declared.program.Program.{Program}
 use Rattle.class_defs.specs.Places.{super_place, interface_places}
-use Rattle.hierarchy.specs.Tables.{read_at, row_of}
-
-abbrev pub rank_at : List ℕ → ℕ → ℕ
-rank_at ranks class = slice_index_or ranks class 4294967295
 
 abbrev pub is_lower : (ℕ → ℕ) → ℕ → Option ℕ → Bool
 is_lower rank r None = true
@@ -19,12 +15,7 @@ is_lower_all rank r us = list_all (λ u. nat_lt (rank u) r) us
 abbrev pub is_behind : (ℕ → ℕ) → ℕ → ℕ → Option ℕ → List ℕ → Bool
 is_behind rank bound class above list = nat_lt (rank class) bound && is_lower rank (rank class) above && is_lower_all rank (rank class) list
 
--- there are ranks with which each class stands behind those directly above it
-pub record Descends (supers : List ℕ) (rows : List (List ℕ)) (bound : ℕ) : Type 0 where
-  pub rank : ℕ → ℕ
-  pub each : (class : ℕ) → class < length supers → is_behind rank bound class (read_at supers class) (row_of rows class) ≡ true
-
--- the same of a program
+-- there are ranks with which each class of a program stands behind those directly above it
 pub record IsRanked (p : Program) : Type 0 where
   pub rank : ℕ → ℕ
   pub each : (class : ℕ) → class < length p.classes → is_behind rank (length p.classes) class (super_place p class) (interface_places p class) ≡ true

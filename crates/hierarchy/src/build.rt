@@ -6,24 +6,28 @@ ghost use Rattle.hierarchy.specs.Placing.{place_from, known_places};
 ghost use Rattle.hierarchy.specs.Faults.{IsTwiceOr, IsSplitOr};
 ghost use Rattle.hierarchy.specs.Shapes.{placing, IsMade, StopsAt, IsOf, AreTargets, IsResolved, IsCause, IsAcyclic};
 ghost use Rattle.hierarchy.specs.Naming.{IsNamed};
-ghost use Rattle.hierarchy.specs.Ranks.{Descends};
+ghost use Rattle.hierarchy.specs.Climbing.{HasCircle, IsOrder};
+ghost use Rattle.hierarchy.specs.Circling.{IsFirst};
 ghost use Rattle.std.specs.Prelude.{ℕ, Some, map, slice_get};
 ghost use Rattle.program_model.specs.declared.program.Class.{Class};
-ghost use Rattle.class_defs.specs.Starts.{initialiser_of};
+ghost use Rattle.class_defs.specs.Starts.{initialiser_of, is_trivial};
+ghost use Rattle.hierarchy.specs.Quieting.{Marks};
+ghost use Rattle.hierarchy.specs.Splitting.{NoSplit, SplitsFirst};
 ghost use Rattle.hierarchy.specs.Starting.{place_or_none, HasStarts};
 ghost use Rattle.program_model.specs.ProgramRules.{is_well_formed};
 ghost use Rattle.std.specs.Prelude.{true};
 
-use crate::cycle::first_on_cycle;
+use crate::cycle::first_on_circle;
 use crate::fault::HierarchyFault;
 use crate::keys::{Keys, field_keys, method_keys};
 use crate::links::{Links, interfaces, subclasses, superclasses};
 use crate::members::{Members, definers, members_of, rows_of_fields, rows_of_methods};
-use crate::names::{initialiser, of_object, packages, special};
-use crate::order::{count_above, descends, in_order, ranks_of};
+use crate::names::{initialiser, of_object, special};
+use crate::order::in_order;
+use crate::quiet::trivial;
 use crate::resolve::resolve_all;
-use crate::split::{Given, first_split};
-use crate::table::{NONE, is_on, put, read, turn, word};
+use crate::split::first_split;
+use crate::table::{NONE, put, read, word};
 use crate::tour::{Ranges, by_number, parents, ranges_under, tour};
 use program_model::{Class, MethodAt, Program};
 use std::alloc::{AllocError, Global};
@@ -50,7 +54,7 @@ pub struct Tour {
 }
 
 /// The keys of the fields and of the methods by number, the members of each class by key, and the classes that define a
-/// field or a method with each key. `special` says by method number which names begin with `<`, and `of_object` by key which are of
+/// method with each key. `special` says by method number which names begin with `<`, and `of_object` by key which are of
 /// the five methods that the framework may call on every object.
 #[derive(Drop)]
 pub struct Named {
@@ -58,7 +62,6 @@ pub struct Named {
     pub method_keys: Keys,
     pub fields: Members,
     pub methods: Members,
-    pub field_definers: Links,
     pub definers: Links,
     pub special: Vec<bool>,
     pub of_object: Vec<bool>,
@@ -118,9 +121,16 @@ fn places(alloc: Global, types: usize, classes: &[Class]) -> Result<Vec<u32>, Hi
     }
 }
 
-/// The first class that is its own ancestor. There is one where the classes have no order.
-fn stuck(alloc: Global, above: &[u32], below: &Links) -> Result<u32, AllocError> {
-    match first_on_cycle(alloc, above, below)? {
+/// The first class that is its own ancestor, where there is one.
+fn first_circle(
+    alloc: Global,
+    supers: &[u32],
+    lists: &Links,
+    below: &Links,
+) -> Result<u32, AllocError>
+    ensures { length supers.now < 2 ^ 32 → HasCircle supers.now lists.now.rows → IfOk result (λ class. IsFirst supers.now lists.now.rows class) }
+{
+    match first_on_circle(alloc, supers, lists, below)? {
         Some(class) => Ok(class),
         None => Ok(0),
     }
@@ -133,15 +143,13 @@ fn order(
     lists: &Links,
     below: &Links,
 ) -> Result<Result<Vec<u32>, u32>, AllocError>
-    ensures { length supers.now < 2 ^ 32 → IfOk result (λ order. IfOk order (λ _. Descends supers.now lists.now.rows (length supers.now))) }
+    ensures order { length supers.now < 2 ^ 32 → IfOk result (λ order. IfOk order (λ order. IsOrder supers.now lists.now.rows order.items)) }
+    ensures circle { length supers.now < 2 ^ 32 → IfOk result (λ order. IfErr order (λ class. IsFirst supers.now lists.now.rows class)) }
 {
-    let mut above = count_above(alloc, supers, lists)?;
-    let order = in_order(alloc, above.as_mut_slice(), below)?;
-    let ranks = ranks_of(alloc, supers.len(), order.as_slice())?;
-    if descends(supers, lists, ranks.as_slice()) {
-        return Ok(Ok(order));
+    match in_order(alloc, supers, lists)? {
+        Some(order) => Ok(Ok(order)),
+        None => Ok(Err(first_circle(alloc, supers, lists, below)?)),
     }
-    Ok(Err(stuck(alloc, above.as_slice(), below)?))
 }
 
 /// A place, or the number that stands for none.
@@ -163,37 +171,6 @@ fn initialisers(alloc: Global, program: &Program) -> Result<Vec<u32>, AllocError
         places.push(place_or_none(initialiser(program, class)))?;
     }
     Ok(places)
-}
-
-/// Whether no class above this one has a `<clinit>`, by what is known of those directly above.
-fn is_trivial_above(trivial: &[bool], above: Option<u32>, list: &[u32]) -> bool {
-    for class in list {
-        if !is_on(trivial, *class) {
-            return false;
-        }
-    }
-    match above {
-        Some(class) => is_on(trivial, class),
-        None => true,
-    }
-}
-
-/// For each class whether neither it nor a program class above it has a `<clinit>`.
-fn trivial(alloc: Global, initialisers: &[u32], shape: &Shape) -> Result<Vec<bool>, AllocError> {
-    let mut trivial = vec![in alloc; false; initialisers.len()]?;
-    for class in shape.order.as_slice() {
-        let above = read(shape.supers.as_slice(), *class);
-        let all = read(initialisers, *class).is_none()
-            && is_trivial_above(trivial.as_slice(), above, shape.lists.row(*class));
-        turn(trivial.as_mut_slice(), *class, all);
-    }
-    Ok(trivial)
-}
-
-/// The classes in the order of a tour of the forest of the superclasses.
-fn by_superclass(alloc: Global, supers: &[u32], order: &[u32]) -> Result<Vec<u32>, AllocError> {
-    let numbers = tour(alloc, supers, order)?;
-    by_number(alloc, numbers.as_slice())
 }
 
 /// What stands above and below the classes at these places, unless a class is its own ancestor.
@@ -257,7 +234,6 @@ fn name_members(alloc: Global, program: &Program) -> Result<Named, AllocError>
     let method_keys = method_keys(alloc, program.methods.as_slice())?;
     let field_rows = rows_of_fields(alloc, classes, field_keys.keys.as_slice())?;
     let fields = members_of(alloc, &field_rows)?;
-    let field_definers = definers(alloc, &field_rows, field_keys.count)?;
     let method_rows = rows_of_methods(alloc, classes, method_keys.keys.as_slice())?;
     let methods = members_of(alloc, &method_rows)?;
     let definers = definers(alloc, &method_rows, method_keys.count)?;
@@ -273,7 +249,6 @@ fn name_members(alloc: Global, program: &Program) -> Result<Named, AllocError>
         method_keys,
         fields,
         methods,
-        field_definers,
         definers,
         special,
         of_object,
@@ -282,10 +257,17 @@ fn name_members(alloc: Global, program: &Program) -> Result<Named, AllocError>
 
 /// What runs when the classes are initialised.
 fn find_starts(alloc: Global, program: &Program, shape: &Shape) -> Result<Starts, AllocError>
-    ensures { is_well_formed program.now ≡ true → IfOk result (λ starts. HasStarts program.now starts.initialisers.items) }
+    ensures trivial { is_well_formed program.now ≡ true → IsMade program.now shape.now → IfOk result (λ starts. Marks (length program.now.classes) (is_trivial program.now) starts.trivial.items) }
+    ensures starts { is_well_formed program.now ≡ true → IfOk result (λ starts. HasStarts program.now starts.initialisers.items) }
 {
     let initialisers = initialisers(alloc, program)?;
-    let trivial = trivial(alloc, initialisers.as_slice(), shape)?;
+    let trivial = trivial(
+        alloc,
+        initialisers.as_slice(),
+        shape.supers.as_slice(),
+        &shape.lists,
+        shape.order.as_slice(),
+    )?;
     Ok(Starts {
         initialisers,
         trivial,
@@ -298,21 +280,16 @@ fn find_split(
     program: &Program,
     shape: &Shape,
     named: &Named,
-) -> Result<Option<(u32, u32)>, AllocError> {
-    let packages = packages(alloc, program)?;
-    let order = by_superclass(alloc, shape.supers.as_slice(), shape.order.as_slice())?;
-    let given = Given {
-        keys: named.method_keys.keys.as_slice(),
-        count: named.method_keys.count,
-        special: named.special.as_slice(),
-        packages: packages.as_slice(),
-    };
+) -> Result<Option<(u32, u32)>, AllocError>
+    ensures { is_well_formed program.now ≡ true → IsMade program.now shape.now → IsNamed program.now named.now → IfOk result (λ r. SplitsFirst program.now r) }
+{
     first_split(
         alloc,
         program,
+        named.method_keys.keys.as_slice(),
+        named.special.as_slice(),
         shape.supers.as_slice(),
-        order.as_slice(),
-        given,
+        shape.order.as_slice(),
     )
 }
 
@@ -327,6 +304,7 @@ fn fill(
     ensures names { IfOk result (λ hierarchy. hierarchy.named ≡ named) }
     ensures targets { IfOk result (λ hierarchy. IsOf program.now hierarchy → AreTargets program.now hierarchy.targets) }
     ensures starts { is_well_formed program.now ≡ true → IfOk result (λ hierarchy. HasStarts program.now hierarchy.starts.initialisers.items) }
+    ensures trivial { is_well_formed program.now ≡ true → IsMade program.now shape → IfOk result (λ hierarchy. Marks (length program.now.classes) (is_trivial program.now) hierarchy.starts.trivial.items) }
 {
     let tour = make_tour(alloc, &shape)?;
     let starts = find_starts(alloc, program, &shape)?;
@@ -350,7 +328,9 @@ fn complete(alloc: Global, program: &Program, shape: Shape) -> Result<Hierarchy,
     ensures names { is_well_formed program.now ≡ true → IfOk result (λ hierarchy. IsNamed program.now hierarchy.named) }
     ensures targets { IfOk result (λ hierarchy. IsOf program.now hierarchy → AreTargets program.now hierarchy.targets) }
     ensures starts { is_well_formed program.now ≡ true → IfOk result (λ hierarchy. HasStarts program.now hierarchy.starts.initialisers.items) }
-    ensures refuses { IfErr result (λ fault. IsSplitOr fault) }
+    ensures trivial { is_well_formed program.now ≡ true → IsMade program.now shape → IfOk result (λ hierarchy. Marks (length program.now.classes) (is_trivial program.now) hierarchy.starts.trivial.items) }
+    ensures unsplit { is_well_formed program.now ≡ true → IsMade program.now shape → IfOk result (λ _. NoSplit program.now) }
+    ensures refuses { is_well_formed program.now ≡ true → IsMade program.now shape → IfErr result (λ fault. IsSplitOr program.now fault) }
 {
     let named = name_members(alloc, program)?;
     match find_split(alloc, program, &shape, &named)? {
@@ -367,6 +347,7 @@ impl Hierarchy {
         ensures is { is_well_formed program.now ≡ true → IfOk result (λ hierarchy. IsOf program.now hierarchy) }
         ensures resolved { is_well_formed program.now ≡ true → IfOk result (λ hierarchy. IsResolved program.now hierarchy) }
         ensures acyclic { is_well_formed program.now ≡ true → IfOk result (λ _. IsAcyclic program.now) }
+        ensures unsplit { is_well_formed program.now ≡ true → IfOk result (λ _. NoSplit program.now) }
         ensures refuses { is_well_formed program.now ≡ true → IfErr result (λ fault. IsCause program.now fault) }
     {
         match make_shape(alloc, program) {

@@ -1,157 +1,177 @@
-//! Which class is its own ancestor (the strong components of the classes, by Tarjan's algorithm).
+//! Which class is the first that is its own ancestor.
 
+ghost use Rattle.std.specs.Prelude.{◌≡◌, ◌<◌, ◌≤◌, ◌^◌, ◌++◌, ℕ, true, length, slice_index, nat_le, nat_lt, IfOk, OnOk};
+ghost use Rattle.std.specs.List.{list_all};
+ghost use Rattle.class_defs.specs.Finding.{beside};
+ghost use Rattle.hierarchy.specs.Climbing.{In};
+ghost use Rattle.hierarchy.specs.Circling.{IsRising, Decides, IsFirstCircle};
+ghost use Rattle.hierarchy.specs.Walking.{IsFair};
+
+use crate::components::levels_of_components;
 use crate::links::Links;
-use crate::table::{NONE, count_at, is_on, put, turn, word};
+use crate::table::{count_at, read, word};
+use crate::walk::Walk;
 use std::alloc::{AllocError, Global};
 
-/// The search for classes that are their own ancestors. `reached` is the number under which a class was reached, and
-/// `low` the least number that it is known to lead to. `path` are the reached classes whose component isn't complete,
-/// of which `open` is a table; `trail` are the classes whose rows are being gone over, and `next` is where in its row
-/// each one is.
-#[derive(Drop)]
-struct Search {
-    reached: Vec<u32>,
-    low: Vec<u32>,
-    next: Vec<u32>,
-    open: Vec<bool>,
-    on_cycle: Vec<bool>,
-    path: Vec<u32>,
-    trail: Vec<u32>,
-    count: u32,
+/// Whether all of these classes have this level or a higher one.
+fn all_from(levels: &[u32], least: u32, list: &[u32]) -> bool
+    ensures { result ≡ list_all (λ u. nat_le least (slice_index levels.now u)) list.now }
+{
+    for class in list {
+        if count_at(levels, *class) < least {
+            return false;
+        }
+    }
+    true
 }
 
-impl Search {
-    fn new(alloc: Global, classes: usize) -> Result<Search, AllocError> {
-        Ok(Search {
-            reached: vec![in alloc; NONE; classes]?,
-            low: vec![in alloc; NONE; classes]?,
-            next: vec![in alloc; 0u32; classes]?,
-            open: vec![in alloc; false; classes]?,
-            on_cycle: vec![in alloc; false; classes]?,
-            path: Vec::new(alloc),
-            trail: Vec::new(alloc),
-            count: 0,
-        })
-    }
-
-    /// Reaches a class.
-    fn reach(&mut self, class: u32) -> Result<(), AllocError> {
-        put(self.reached.as_mut_slice(), class, self.count);
-        put(self.low.as_mut_slice(), class, self.count);
-        self.count = self.count.saturating_add(1);
-        turn(self.open.as_mut_slice(), class, true);
-        self.path.push(class)?;
-        self.trail.push(class)?;
-        Ok(())
-    }
-
-    /// Notes that a class leads to one with this number.
-    fn lower(&mut self, class: u32, number: u32) {
-        if number < count_at(self.low.as_slice(), class) {
-            put(self.low.as_mut_slice(), class, number);
+/// Whether all of these classes have levels above this one.
+fn all_past(levels: &[u32], level: u32, list: &[u32]) -> bool
+    ensures { result ≡ list_all (λ u. nat_lt level (slice_index levels.now u)) list.now }
+{
+    for class in list {
+        if count_at(levels, *class) <= level {
+            return false;
         }
     }
+    true
+}
 
-    /// Goes from a class to another one directly below it. A class that is directly below itself is on a cycle.
-    fn follow(&mut self, class: u32, other: u32) -> Result<(), AllocError> {
-        if class == other {
-            turn(self.on_cycle.as_mut_slice(), class, true);
-        }
-        let number = count_at(self.reached.as_slice(), other);
-        if number == NONE {
-            return self.reach(other);
-        }
-        if is_on(self.open.as_slice(), other) {
-            self.lower(class, number);
-        }
-        Ok(())
-    }
-
-    /// Takes the component that begins at a class off the path. More than one class makes a cycle.
-    fn close(&mut self, class: u32) {
-        let many = self.path.last() != Some(&class);
-        for _ in 0..self.path.len() {
-            match self.path.pop() {
-                Some(one) => {
-                    turn(self.open.as_mut_slice(), one, false);
-                    if many {
-                        turn(self.on_cycle.as_mut_slice(), one, true);
-                    }
-                    if one == class {
-                        break;
-                    }
-                }
-                None => break,
-            }
-        }
-    }
-
-    /// Leaves a class whose row is done.
-    fn leave(&mut self, class: u32) {
-        self.trail.pop();
-        let low = count_at(self.low.as_slice(), class);
-        if low == count_at(self.reached.as_slice(), class) {
-            self.close(class);
-        }
-        if let Some(parent) = self.trail.last() {
-            let parent = *parent;
-            self.lower(parent, low);
-        }
-    }
-
-    /// One step: on along the row of the last class of the trail, or back from it. Answers whether there was one.
-    fn step(&mut self, below: &Links) -> Result<bool, AllocError> {
-        let class = match self.trail.last() {
-            Some(class) => *class,
-            None => return Ok(false),
-        };
-        let at = count_at(self.next.as_slice(), class);
-        match below.row(class).get(at as usize) {
-            Some(other) => {
-                put(self.next.as_mut_slice(), class, at.saturating_add(1));
-                self.follow(class, *other)?;
-            }
-            None => self.leave(class),
-        }
-        Ok(true)
-    }
-
-    /// Goes over all classes that a class leads to.
-    fn run(&mut self, root: u32, below: &Links) -> Result<(), AllocError> {
-        if count_at(self.reached.as_slice(), root) != NONE {
-            return Ok(());
-        }
-        self.reach(root)?;
-        let most = below
-            .size()
-            .saturating_add(self.reached.len())
-            .saturating_add(1);
-        for _ in 0..most {
-            if !self.step(below)? {
-                break;
-            }
-        }
-        Ok(())
+/// Whether the class has this level or a higher one, where there is a class.
+fn is_from(levels: &[u32], least: u32, above: Option<u32>) -> bool
+    ensures { result ≡ list_all (λ u. nat_le least (slice_index levels.now u)) (beside above) }
+{
+    match above {
+        Some(class) => count_at(levels, class) >= least,
+        None => true,
     }
 }
 
-/// The first class that is its own ancestor, among those that `above` gives a number other than 0: on these alone are
-/// there cycles.
-pub fn first_on_cycle(
+/// Whether the class has a level above this one, where there is a class.
+fn is_past(levels: &[u32], level: u32, above: Option<u32>) -> bool
+    ensures { result ≡ list_all (λ u. nat_lt level (slice_index levels.now u)) (beside above) }
+{
+    match above {
+        Some(class) => count_at(levels, class) > level,
+        None => true,
+    }
+}
+
+/// Whether none of those directly above a class has a lower level.
+fn rises(levels: &[u32], class: u32, list: &[u32], above: Option<u32>) -> bool
+    ensures { result ≡ true → (u : ℕ) → In u (list.now ++ beside above) → slice_index levels.now class ≤ slice_index levels.now u }
+{
+    let level = count_at(levels, class);
+    all_from(levels, level, list) && is_from(levels, level, above)
+}
+
+/// Whether all directly above a class have higher levels.
+fn stands_lower(levels: &[u32], class: u32, list: &[u32], above: Option<u32>) -> bool
+    ensures { result ≡ true → (u : ℕ) → In u (list.now ++ beside above) → slice_index levels.now class < slice_index levels.now u }
+{
+    let level = count_at(levels, class);
+    all_past(levels, level, list) && is_past(levels, level, above)
+}
+
+/// Whether no class has a higher level than one directly above it.
+fn all_rise(supers: &[u32], lists: &Links, levels: &[u32]) -> bool
+    ensures { length supers.now < 2 ^ 32 → result ≡ true → IsRising supers.now lists.now.rows levels.now }
+{
+    for class in 0..word(supers.len()) {
+        if !rises(levels, class, lists.row(class), read(supers, class)) {
+            return false;
+        }
+    }
+    true
+}
+
+/// Levels of the classes of which none is higher than that of a class directly above: those of the strong components.
+fn rising_levels(
     alloc: Global,
-    above: &[u32],
+    supers: &[u32],
+    lists: &Links,
     below: &Links,
-) -> Result<Option<u32>, AllocError> {
-    let mut search = Search::new(alloc, above.len())?;
-    for (place, left) in above.iter().enumerate() {
-        if *left != 0 {
-            search.run(word(place), below)?;
-        }
+) -> Result<Vec<u32>, AllocError>
+    ensures { length supers.now < 2 ^ 32 → IfOk result (λ levels. IsRising supers.now lists.now.rows levels.items) }
+{
+    let levels = levels_of_components(alloc, below)?;
+    if all_rise(supers, lists, levels.as_slice()) {
+        return Ok(levels);
     }
-    for (place, _left) in above.iter().enumerate() {
-        if is_on(search.on_cycle.as_slice(), word(place)) {
-            return Ok(Some(word(place)));
+    let same = vec![in alloc; 0u32; supers.len()]?;
+    Ok(same)
+}
+
+/// Whether a walk from the classes directly above one comes back to it.
+fn leads_back(
+    supers: &[u32],
+    lists: &Links,
+    walk: &mut Walk,
+    class: u32,
+) -> Result<bool, AllocError>
+    ensures fair { OnOk result (IsFair walk.old → IsFair walk.new) }
+    ensures size { OnOk result (length walk.new.seen.items ≡ length walk.old.seen.items) }
+    ensures is { class < length supers.now → IsFair walk.old → length walk.old.seen.items ≡ length supers.now → IfOk result (λ b. Decides supers.now lists.now.rows class b) }
+{
+    walk.clear();
+    walk.push_above(lists.row(class), read(supers, class))?;
+    while let Some(one) = walk.pop() {
+        if one == class {
+            return Ok(true);
+        }
+        walk.visit(one, None, lists.row(one), read(supers, one))?;
+    }
+    Ok(false)
+}
+
+/// Whether the class is its own ancestor. One with a lower level than all directly above it is none.
+fn is_on_circle(
+    supers: &[u32],
+    lists: &Links,
+    levels: &[u32],
+    walk: &mut Walk,
+    class: u32,
+) -> Result<bool, AllocError>
+    ensures fair { OnOk result (IsFair walk.old → IsFair walk.new) }
+    ensures size { OnOk result (length walk.new.seen.items ≡ length walk.old.seen.items) }
+    ensures is { class < length supers.now → IsRising supers.now lists.now.rows levels.now → IsFair walk.old → length walk.old.seen.items ≡ length supers.now → IfOk result (λ b. Decides supers.now lists.now.rows class b) }
+{
+    if stands_lower(levels, class, lists.row(class), read(supers, class)) {
+        return Ok(false);
+    }
+    leads_back(supers, lists, walk, class)
+}
+
+/// The first class that is its own ancestor, by levels that don't fall towards the classes above.
+fn first_by_levels(
+    alloc: Global,
+    supers: &[u32],
+    lists: &Links,
+    levels: &[u32],
+) -> Result<Option<u32>, AllocError>
+    ensures { length supers.now < 2 ^ 32 → IsRising supers.now lists.now.rows levels.now → IfOk result (λ r. IsFirstCircle supers.now lists.now.rows r) }
+{
+    let mut walk = Walk::new(alloc, supers.len())?;
+    for class in 0..word(supers.len()) {
+        if is_on_circle(supers, lists, levels, &mut walk, class)? {
+            return Ok(Some(class));
         }
     }
     Ok(None)
+}
+
+/// The first class that is its own ancestor, if there is one.
+///
+/// Levels of the classes by strong component spare the search from each class that isn't on a circle, so that one search
+/// finds the class: the levels are tested first, and what is answered is right for all that pass.
+pub fn first_on_circle(
+    alloc: Global,
+    supers: &[u32],
+    lists: &Links,
+    below: &Links,
+) -> Result<Option<u32>, AllocError>
+    ensures { length supers.now < 2 ^ 32 → IfOk result (λ r. IsFirstCircle supers.now lists.now.rows r) }
+{
+    let levels = rising_levels(alloc, supers, lists, below)?;
+    first_by_levels(alloc, supers, lists, levels.as_slice())
 }

@@ -9,6 +9,7 @@
 #![tactic(auto)]
 
 mod build;
+mod components;
 mod cycle;
 mod fault;
 mod find;
@@ -18,6 +19,7 @@ mod members;
 mod names;
 mod order;
 mod queries;
+mod quiet;
 mod resolve;
 mod split;
 mod table;

@@ -142,10 +142,3 @@ pub fn is_virtual(method: &Method, special: &[bool]) -> bool
         && !method.flags.has(Flags::PRIVATE)
         && !is_on(special, method.name)
 }
-
-/// Whether only classes of its package may override the method.
-pub fn is_package_private(method: &Method, special: &[bool]) -> bool {
-    is_virtual(method, special)
-        && !method.flags.has(Flags::PUBLIC)
-        && !method.flags.has(Flags::PROTECTED)
-}

@@ -12,7 +12,6 @@ ghost use Rattle.hierarchy.specs.Naming.{is_special};
 use crate::members::key_of;
 use crate::table::{turn, word};
 use dex_base::Text;
-use indexmap::IndexSet;
 use program_model::{Class, Flags, Method, MethodName, Program, Proto};
 use std::alloc::{AllocError, Global};
 
@@ -96,7 +95,7 @@ pub fn special(alloc: Global, program: &Program) -> Result<Vec<bool>, AllocError
 
 /// The units of the descriptor of a type number, none past the table.
 #[tactic(auto, unfolding(program_model::specs::Texts::type_text))]
-fn type_units(program: &Program, kind: u32) -> &[u16]
+pub fn type_units(program: &Program, kind: u32) -> &[u16]
     ensures { result.now ≡ type_text program.now kind }
 {
     match program.types.as_slice().get(kind as usize) {
@@ -206,33 +205,6 @@ pub fn of_object(
         }
     }
     Ok(marks)
-}
-
-/// The package of a descriptor: its units up to the last `/`.
-fn package(text: &Text) -> &[u16] {
-    let units = text.units();
-    match units.iter().rposition(|unit| *unit == 47) {
-        Some(at) => match units.get(..at) {
-            Some(front) => front,
-            None => &[],
-        },
-        None => &[],
-    }
-}
-
-/// For each class a number that it shares with the classes of its package.
-pub fn packages(alloc: Global, program: &Program) -> Result<Vec<u32>, AllocError> {
-    let mut known: IndexSet<&[u16]> = IndexSet::new(alloc);
-    let mut numbers = Vec::new(alloc);
-    for class in program.classes.as_slice() {
-        let units: &[u16] = match descriptor_of(program, class.name) {
-            Some(text) => package(text),
-            None => &[],
-        };
-        let (number, _added) = known.insert_full(units)?;
-        numbers.push(word(number))?;
-    }
-    Ok(numbers)
 }
 
 /// Whether the method is static and has code.

@@ -1,127 +1,161 @@
-//! An order of the classes in which each stands behind those above it.
+//! An order of the classes in which each stands behind those above it, by a walk in depth.
 
-ghost use Rattle.std.specs.Prelude.{◌≡◌, ◌<◌, ◌^◌, length, true, IfOk, vec_len};
-ghost use Rattle.hierarchy.specs.Tables.{read_at};
-ghost use Rattle.hierarchy.specs.Ranks.{rank_at, is_lower, is_lower_all, is_behind, Descends};
+ghost use Rattle.std.specs.Prelude.{◌≡◌, ◌<◌, ◌^◌, ◌∷◌, ◌++◌, [], Some, None, true, length, map, slice_index_or, IfOk, OnOk, IfNone, MatchOption, ℕ};
+ghost use Rattle.hierarchy.specs.Climbing.{todo, IsNew, Comes, Leaves, Follows, IsOrder, HasCircle, ups};
+ghost use Rattle.hierarchy.specs.Tables.{row_of, read_at};
+ghost use Rattle.class_defs.specs.Finding.{beside};
+ghost use Rattle.hierarchy.specs.declared.order.Task.TheVariants.{Come, Leave};
 
 use crate::links::Links;
-use crate::table::{NONE, put, read, word};
+use crate::table::{is_on, read, turn, word};
 use std::alloc::{AllocError, Global};
 
-/// How many classes stand directly above each one, one that is listed twice counting twice.
-pub fn count_above(alloc: Global, supers: &[u32], lists: &Links) -> Result<Vec<u32>, AllocError> {
-    let mut above = Vec::new(alloc);
-    for (place, superclass) in supers.iter().enumerate() {
-        let own: u32 = if *superclass == NONE { 0 } else { 1 };
-        above.push(own.saturating_add(word(lists.row(word(place)).len())))?;
-    }
-    Ok(above)
+/// What a walk has to do yet: to come to a class, or to leave one when all that stand above it are done.
+#[derive(Clone, Copy, PartialEq, Eq, Debug, Drop)]
+pub enum Task {
+    Come(u32),
+    Leave(u32),
 }
 
-/// Takes one off the number of a class, and answers whether none is left.
-fn take_one(above: &mut [u32], class: u32) -> bool
-    ensures { length above.new ≡ length above.old }
-{
-    match above.get_mut(class as usize) {
-        Some(left) => {
-            *left = left.saturating_sub(1);
-            *left == 0
-        }
-        None => false,
-    }
+/// A walk in depth from classes to those above them: which classes it has come to, which it has left, these in order, and
+/// what it has to do yet.
+#[derive(Drop)]
+pub struct Climb {
+    seen: Vec<bool>,
+    left: Vec<bool>,
+    order: Vec<u32>,
+    tasks: Vec<Task>,
 }
 
-/// Goes on behind a class: each class directly below it has one less above it that isn't in the order.
-fn release(order: &mut Vec<u32>, above: &mut [u32], below: &[u32]) -> Result<(), AllocError> {
-    for class in below {
-        if take_one(above, *class) {
-            order.push(*class)?;
-        }
+impl Climb {
+    /// A walk over so many classes that has nothing to do.
+    fn new(alloc: Global, classes: usize) -> Result<Climb, AllocError>
+        ensures { IfOk result (λ c. IsNew classes c) }
+    {
+        Ok(Climb {
+            seen: vec![in alloc; false; classes]?,
+            left: vec![in alloc; false; classes]?,
+            order: Vec::new(alloc),
+            tasks: Vec::new(alloc),
+        })
     }
-    Ok(())
-}
 
-/// The classes in an order in which each stands behind those above it, without the classes that are their own ancestors
-/// and those below these. `above` says at first how many stand directly above each, and then how many of these aren't
-/// in the order.
-pub fn in_order(alloc: Global, above: &mut [u32], below: &Links) -> Result<Vec<u32>, AllocError> {
-    let mut order = Vec::new(alloc);
-    for (place, count) in above.iter().enumerate() {
-        if *count == 0 {
-            order.push(word(place))?;
+    /// Has this done before all else.
+    fn push(&mut self, task: Task) -> Result<(), AllocError>
+        ensures todo { OnOk result (todo self.new ≡ task ∷ todo self.old) }
+        ensures seen { self.new.seen ≡ self.old.seen }
+        ensures left { self.new.left ≡ self.old.left }
+        ensures order { self.new.order ≡ self.old.order }
+    {
+        self.tasks.push(task)?;
+        Ok(())
+    }
+
+    /// Has the walk come to these classes before all else, to the first of them first.
+    fn push_all(&mut self, classes: &[u32]) -> Result<(), AllocError>
+        ensures todo { OnOk result (todo self.new ≡ map (λ c. Come c) classes.now ++ todo self.old) }
+        ensures seen { self.new.seen ≡ self.old.seen }
+        ensures left { self.new.left ≡ self.old.left }
+        ensures order { self.new.order ≡ self.old.order }
+    {
+        for at in (0..classes.len()).rev() {
+            self.push(Task::Come(classes[at]))?;
+        }
+        Ok(())
+    }
+
+    /// What is to be done first, which is no longer to be done.
+    fn pop(&mut self) -> Option<Task>
+        ensures todo { MatchOption result (todo self.old ≡ []) (λ task. todo self.old ≡ task ∷ todo self.new) }
+        ensures none { IfNone result (todo self.new ≡ []) }
+        ensures seen { self.new.seen ≡ self.old.seen }
+        ensures left { self.new.left ≡ self.old.left }
+        ensures order { self.new.order ≡ self.old.order }
+    {
+        self.tasks.pop()
+    }
+
+    /// Whether the walk has left the class, or there is none.
+    fn has_left(&self, class: u32) -> bool
+        ensures { result ≡ slice_index_or self.now.left.items class true }
+    {
+        match self.left.as_slice().get(class as usize) {
+            Some(left) => *left,
+            None => true,
         }
     }
-    for at in 0..above.len() {
-        match order.as_slice().get(at) {
-            Some(class) => {
-                let class = *class;
-                release(&mut order, above, below.row(class))?;
+
+    /// Has the walk go to the classes directly above one, those of its list and its superclass.
+    fn push_above(&mut self, list: &[u32], above: Option<u32>) -> Result<(), AllocError>
+        ensures todo { OnOk result (todo self.new ≡ map (λ c. Come c) (list.now ++ beside above) ++ todo self.old) }
+        ensures seen { self.new.seen ≡ self.old.seen }
+        ensures left { self.new.left ≡ self.old.left }
+        ensures order { self.new.order ≡ self.old.order }
+    {
+        if let Some(superclass) = above {
+            self.push(Task::Come(superclass))?;
+        }
+        self.push_all(list)
+    }
+
+    /// Comes to a class, which is left behind those above it. Answers whether the walk hasn't come round to it.
+    fn come(&mut self, class: u32, list: &[u32], above: Option<u32>) -> Result<bool, AllocError>
+        ensures { IfOk result (λ on. Comes self.old class (list.now ++ beside above) self.new on) }
+    {
+        if self.has_left(class) {
+            return Ok(true);
+        }
+        if is_on(self.seen.as_slice(), class) {
+            return Ok(false);
+        }
+        turn(self.seen.as_mut_slice(), class, true);
+        self.push(Task::Leave(class))?;
+        self.push_above(list, above)?;
+        Ok(true)
+    }
+
+    /// Leaves a class.
+    fn leave(&mut self, class: u32) -> Result<(), AllocError>
+        ensures { OnOk result (Leaves self.old class self.new) }
+    {
+        if self.has_left(class) {
+            return Ok(());
+        }
+        self.order.push(class)?;
+        turn(self.left.as_mut_slice(), class, true);
+        Ok(())
+    }
+
+    /// Does a task. Answers whether the walk hasn't come round to a class.
+    fn follow(&mut self, task: Task, supers: &[u32], lists: &Links) -> Result<bool, AllocError>
+        ensures { IfOk result (λ on. Follows (ups supers.now lists.now.rows) self.old task self.new on) }
+    {
+        match task {
+            Task::Come(class) => self.come(class, lists.row(class), read(supers, class)),
+            Task::Leave(class) => {
+                self.leave(class)?;
+                Ok(true)
             }
-            None => break,
         }
     }
-    Ok(order)
 }
 
-/// The place of each class in an order, none where it isn't in it.
-pub fn ranks_of(alloc: Global, classes: usize, order: &[u32]) -> Result<Vec<u32>, AllocError>
-    ensures { IfOk result (λ ranks. length ranks.items ≡ classes) }
+/// The classes in an order in which each stands behind those above it, if there is one.
+pub fn in_order(
+    alloc: Global,
+    supers: &[u32],
+    lists: &Links,
+) -> Result<Option<Vec<u32>>, AllocError>
+    ensures { length supers.now < 2 ^ 32 → IfOk result (λ r. MatchOption r (HasCircle supers.now lists.now.rows) (λ order. IsOrder supers.now lists.now.rows order.items)) }
 {
-    let mut ranks = vec![in alloc; NONE; classes]?;
-    for (rank, class) in order.iter().enumerate() {
-        put(ranks.as_mut_slice(), *class, word(rank));
-    }
-    Ok(ranks)
-}
-
-/// The rank of a class, none past the table.
-fn rank_at(ranks: &[u32], class: u32) -> u32
-    ensures { result ≡ rank_at ranks.now class }
-{
-    match ranks.get(class as usize) {
-        Some(rank) => *rank,
-        None => NONE,
-    }
-}
-
-/// Whether all of these classes have ranks below this one.
-fn is_lower_all(ranks: &[u32], rank: u32, list: &[u32]) -> bool
-    ensures { result ≡ is_lower_all (rank_at ranks.now) rank list.now }
-{
-    for class in list {
-        if rank_at(ranks, *class) >= rank {
-            return false;
-        }
-    }
-    true
-}
-
-/// Whether the class has a rank below this one, where there is a class.
-fn is_lower(ranks: &[u32], rank: u32, above: Option<u32>) -> bool
-    ensures { result ≡ is_lower (rank_at ranks.now) rank above }
-{
-    match above {
-        Some(class) => rank_at(ranks, class) < rank,
-        None => true,
-    }
-}
-
-/// Whether the class has a rank, and those directly above it have lower ones.
-fn is_behind(ranks: &[u32], class: u32, above: Option<u32>, list: &[u32]) -> bool
-    ensures { result ≡ is_behind (rank_at ranks.now) (length ranks.now) class above list.now }
-{
-    let rank = rank_at(ranks, class);
-    (rank as usize) < ranks.len() && is_lower(ranks, rank, above) && is_lower_all(ranks, rank, list)
-}
-
-/// Whether each class has a rank, and those directly above it have lower ones: then no class is its own ancestor.
-pub fn descends(supers: &[u32], lists: &Links, ranks: &[u32]) -> bool
-    ensures { length supers.now < 2 ^ 32 → result ≡ true → Descends supers.now lists.now.rows (length ranks.now) }
-{
+    let mut climb = Climb::new(alloc, supers.len())?;
     for class in 0..word(supers.len()) {
-        if !is_behind(ranks, class, read(supers, class), lists.row(class)) {
-            return false;
+        climb.push(Task::Come(class))?;
+    }
+    while let Some(task) = climb.pop() {
+        if !climb.follow(task, supers, lists)? {
+            return Ok(None);
         }
     }
-    true
+    Ok(Some(climb.order))
 }

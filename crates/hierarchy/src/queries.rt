@@ -1,8 +1,9 @@
 //! What is asked of a hierarchy.
 
-ghost use Rattle.std.specs.Prelude.{◌≡◌, false, slice_get, slice_index_or};
+ghost use Rattle.std.specs.Prelude.{◌≡◌, ◌<◌, length, false, slice_get, slice_index_or};
 ghost use Rattle.program_model.specs.declared.program.Program.{Program};
 ghost use Rattle.class_defs.specs.Finding.{resolves_field, resolves_method};
+ghost use Rattle.class_defs.specs.Starts.{is_trivial};
 ghost use Rattle.hierarchy.specs.Shapes.{IsResolved};
 ghost use Rattle.hierarchy.specs.Tables.{answer};
 
@@ -46,10 +47,11 @@ impl Hierarchy {
         }
     }
 
-    /// Whether initialising the class runs no code: neither it nor a program superclass or program interface above it
-    /// has a `<clinit>`.
+    /// Whether initialising the class runs no code: it, its program superclasses and all program interfaces above any of
+    /// these by interface lists have no `<clinit>`.
     pub fn trivially_initialised(&self, _program: &Program, class: u32) -> bool
-        ensures { result ≡ slice_index_or self.now.starts.trivial.items class false }
+        ensures table { result ≡ slice_index_or self.now.starts.trivial.items class false }
+        ensures is { (p : Program) → IsResolved p self.now → class < length p.classes → result ≡ is_trivial p class }
     {
         is_on(self.starts.trivial.as_slice(), class)
     }

@@ -1,162 +1,271 @@
 //! Methods that repeat a package-private method of a superclass in another package.
+//!
+//! Each class has a map, which shares what it can with that of its superclass: by the key of a name and a proto, what is
+//! known of the classes along its superclasses that have a package-private method with it.
 
-ghost use Rattle.std.specs.Prelude.{◌≡◌, length};
+ghost use Rattle.std.specs.Prelude.{◌≡◌, ◌≤◌, ◌<◌, ◌^◌, ◌&&◌, ℕ, List, Some, None, not, length, take, slice_get, slice_set, replicate, Option, IfOk, OnOk};
+ghost use Rattle.std.specs.FinMap as finite;
+ghost use Rattle.std.specs.Option.{option_copied};
+ghost use Rattle.program_model.specs.declared.program.Program.{Program};
+ghost use Rattle.class_defs.specs.ClassGraph.{package_of};
+ghost use Rattle.class_defs.specs.Places.{super_place};
+ghost use Rattle.hierarchy.specs.Climbing.{IsOrder};
+ghost use Rattle.hierarchy.specs.Tables.{read_at};
+ghost use Rattle.hierarchy.specs.Splitting.{package_at, same_package, is_hidden_by, methods_at, with_class, with_method, is_apart, TellsAll, HasMaps, map_of, SplitOf, FirstBy, AnswersSplit};
 
-use crate::members::{is_package_private, is_virtual, key_of};
-use crate::table::{NONE, put, read};
-use program_model::{Class, Method, Program};
+use crate::members::{is_virtual, key_of};
+use crate::names::type_units;
+use crate::table::{read, word};
+use lattice_core::Flat;
+use pat_map::PatMap;
+use program_model::{Flags, Method, Program};
 use std::alloc::{AllocError, Global};
 
-/// A walk over the forest of the superclasses. For each key `first` has the highest class of the path that defines a
-/// package-private method with it, and `other` the highest such one that is of another package than the first.
-#[derive(Drop)]
-struct Path<'a> {
-    keys: &'a [u32],
-    special: &'a [bool],
-    packages: &'a [u32],
-    first: Vec<u32>,
-    other: Vec<u32>,
-    open: Vec<u32>,
+/// How many units of a descriptor are its package: those up to the last `/`.
+fn package_size(units: &[u16]) -> usize
+    ensures front { take result units.now ≡ package_of units.now }
+    ensures short { result ≤ length units.now }
+{
+    let mut size = 0;
+    for (at, unit) in units.iter().enumerate() {
+        if *unit == 47 {
+            size = at + 1;
+        }
+    }
+    size
 }
 
-impl<'a> Path<'a> {
-    /// Whether two classes are of one package.
-    fn same_package(&self, a: u32, b: u32) -> bool {
-        read(self.packages, a) == read(self.packages, b)
+/// The package of a descriptor: its units up to the last `/`.
+fn package(units: &[u16]) -> &[u16]
+    ensures { result.now ≡ package_of units.now }
+{
+    match units.get(..package_size(units)) {
+        Some(front) => front,
+        None => &[],
     }
+}
 
-    /// Whether a superclass on the path has a package-private method with this key in another package.
-    fn is_split(&self, class: u32, key: u32) -> bool {
-        match read(self.first.as_slice(), key) {
-            Some(above) => {
-                !self.same_package(above, class) || read(self.other.as_slice(), key).is_some()
-            }
-            None => false,
-        }
+/// The package of the class at a place, no units past the end.
+fn package_at(program: &Program, class: u32) -> &[u16]
+    ensures { result.now ≡ package_at program.now class }
+{
+    match program.classes.as_slice().get(class as usize) {
+        Some(class) => package(type_units(program, class.name)),
+        None => &[],
     }
+}
 
-    /// The first method of a class that repeats a package-private one of another package.
-    fn first_split(&self, class: u32, methods: &[Method]) -> Option<u32> {
-        for method in methods {
-            if is_virtual(method, self.special)
-                && self.is_split(class, key_of(self.keys, method.name))
-            {
-                return Some(method.name);
-            }
-        }
-        None
-    }
+/// Whether two classes are of one package.
+fn same_package(program: &Program, a: u32, b: u32) -> bool
+    ensures { result ≡ same_package program.now a b }
+{
+    package_at(program, a) == package_at(program, b)
+}
 
-    /// Notes a package-private method of a class.
-    fn note(&mut self, class: u32, key: u32) {
-        match read(self.first.as_slice(), key) {
-            None => put(self.first.as_mut_slice(), key, class),
-            Some(above) => {
-                if !self.same_package(above, class) && read(self.other.as_slice(), key).is_none() {
-                    put(self.other.as_mut_slice(), key, class);
-                }
-            }
-        }
-    }
+/// Whether only classes of its package may override the method.
+fn is_hidden(method: &Method, special: &[bool]) -> bool
+    ensures { result ≡ is_hidden_by special.now method.now }
+{
+    is_virtual(method, special)
+        && !method.flags.has(Flags::PUBLIC)
+        && !method.flags.has(Flags::PROTECTED)
+}
 
-    /// Takes back what was noted of a method of a class.
-    fn forget(&mut self, class: u32, key: u32) {
-        if read(self.first.as_slice(), key) == Some(class) {
-            put(self.first.as_mut_slice(), key, NONE);
-        }
-        if read(self.other.as_slice(), key) == Some(class) {
-            put(self.other.as_mut_slice(), key, NONE);
-        }
-    }
-
-    /// Goes to a class, whose superclass the path ends with.
-    fn enter(&mut self, class: u32, methods: &[Method]) -> Result<(), AllocError> {
-        for method in methods {
-            if is_package_private(method, self.special) {
-                self.note(class, key_of(self.keys, method.name));
+/// What is known with one class more.
+fn with_class(program: &Program, known: Option<&Flat<u32>>, class: u32) -> Flat<u32>
+    ensures { result ≡ with_class program.now (option_copied known.entry) class }
+{
+    match known {
+        Some(Flat::Known(first)) => {
+            if same_package(program, *first, class) {
+                Flat::Known(*first)
+            } else {
+                Flat::Any
             }
         }
-        self.open.push(class)?;
-        Ok(())
+        Some(Flat::Bottom) | Some(Flat::Any) => Flat::Any,
+        None => Flat::Known(class),
     }
+}
 
-    /// Leaves a class.
-    fn leave(&mut self, class: u32, methods: &[Method]) {
-        for method in methods {
-            if is_package_private(method, self.special) {
-                self.forget(class, key_of(self.keys, method.name));
-            }
-        }
+/// Whether the class is of another package than one of those that are known.
+fn is_apart(program: &Program, known: Option<&Flat<u32>>, class: u32) -> bool
+    ensures { result ≡ is_apart program.now (option_copied known.entry) class }
+{
+    match known {
+        Some(Flat::Known(first)) => !same_package(program, *first, class),
+        Some(Flat::Bottom) | Some(Flat::Any) => true,
+        None => false,
     }
+}
 
-    /// Goes back until the path ends with a class, or to its beginning.
-    fn back_to(&mut self, classes: &[Class], parent: Option<u32>) {
-        for _ in 0..self.open.len() {
-            let last = self.open.last().copied();
-            if last == parent {
-                break;
-            }
-            match self.open.pop() {
-                Some(class) => self.leave(class, methods_of(classes, class)),
-                None => break,
-            }
-        }
-    }
+/// The map with one class more at a key.
+fn note(
+    alloc: Global,
+    program: &Program,
+    map: &PatMap<Flat<u32>>,
+    class: u32,
+    key: u32,
+) -> Result<PatMap<Flat<u32>>, AllocError>
+    ensures { IfOk result (λ m. m ≡ finite.insert map.now key (with_class program.now (finite.get map.now key) class)) }
+{
+    let known = with_class(program, map.get(key), class);
+    map.set(alloc, key, known)
 }
 
 /// The methods of the class at a place, none past the end.
-fn methods_of(classes: &[Class], class: u32) -> &[Method] {
-    match classes.get(class as usize) {
+fn methods_at(program: &Program, class: u32) -> &[Method]
+    ensures { result.now ≡ methods_at program.now class }
+{
+    match program.classes.as_slice().get(class as usize) {
         Some(class) => class.methods.as_slice(),
         None => &[],
     }
 }
 
-/// The lesser of two classes with a method each, by the class.
-fn earlier(found: Option<(u32, u32)>, class: u32, method: u32) -> Option<(u32, u32)> {
-    match found {
-        Some((before, _)) if before <= class => found,
-        _ => Some((class, method)),
+/// The map with a method of a class, where only classes of its package may override it.
+fn note_method(
+    alloc: Global,
+    program: &Program,
+    keys: &[u32],
+    special: &[bool],
+    class: u32,
+    method: &Method,
+    map: PatMap<Flat<u32>>,
+) -> Result<PatMap<Flat<u32>>, AllocError>
+    ensures { IfOk result (λ m. m ≡ with_method program.now keys.now special.now class method.now map) }
+{
+    if is_hidden(method, special) {
+        return note(alloc, program, &map, class, key_of(keys, method.name));
+    }
+    Ok(map)
+}
+
+/// The map of a class from that of its superclass: with each of its methods that only classes of its package may override.
+fn note_all(
+    alloc: Global,
+    program: &Program,
+    keys: &[u32],
+    special: &[bool],
+    class: u32,
+    above: PatMap<Flat<u32>>,
+) -> Result<PatMap<Flat<u32>>, AllocError>
+    ensures { (o : Option ℕ) → super_place program.now class ≡ o → TellsAll program.now keys.now special.now o above → IfOk result (λ m. TellsAll program.now keys.now special.now (Some class) m) }
+{
+    let mut map = above;
+    for method in methods_at(program, class) {
+        map = note_method(alloc, program, keys, special, class, method, map)?;
+    }
+    Ok(map)
+}
+
+/// What is known of no class, for each of so many.
+fn empty_maps(alloc: Global, classes: usize) -> Result<Vec<PatMap<Flat<u32>>>, AllocError>
+    ensures { IfOk result (λ maps. maps.items ≡ replicate classes finite.empty) }
+{
+    let mut maps = Vec::new(alloc);
+    for _ in 0..classes {
+        maps.push(PatMap::empty())?;
+    }
+    Ok(maps)
+}
+
+/// The map of a class, the empty one past the end and where there is none.
+fn map_of(maps: &[PatMap<Flat<u32>>], class: Option<u32>) -> Result<PatMap<Flat<u32>>, AllocError>
+    ensures { IfOk result (λ m. m ≡ map_of maps.now class) }
+{
+    match class {
+        Some(class) => match maps.get(class as usize) {
+            Some(map) => map.share(),
+            None => Ok(PatMap::empty()),
+        },
+        None => Ok(PatMap::empty()),
     }
 }
 
-/// What the walk needs of the program: the keys of the methods and how many there are, which method names begin with
-/// `<`, and the package of each class.
-#[derive(Drop)]
-pub struct Given<'a> {
-    pub keys: &'a [u32],
-    pub count: usize,
-    pub special: &'a [bool],
-    pub packages: &'a [u32],
+/// Gives a class this map, unless it is past the end.
+fn set_map(maps: &mut Vec<PatMap<Flat<u32>>>, class: u32, map: PatMap<Flat<u32>>)
+    ensures { maps.new.items ≡ slice_set maps.old.items class map }
+{
+    let at = class as usize;
+    if at < maps.len() {
+        maps[at] = map;
+    }
+}
+
+/// The map of each class. `order` has each class behind its superclass.
+fn hidden_maps(
+    alloc: Global,
+    program: &Program,
+    keys: &[u32],
+    special: &[bool],
+    supers: &[u32],
+    order: &[u32],
+) -> Result<Vec<PatMap<Flat<u32>>>, AllocError>
+    ensures { (rows : List (List ℕ)) → ((c : ℕ) → read_at supers.now c ≡ super_place program.now c) → length supers.now ≡ length program.now.classes → IsOrder supers.now rows order.now → IfOk result (λ maps. HasMaps program.now keys.now special.now maps.items) }
+{
+    let mut maps = empty_maps(alloc, supers.len())?;
+    for class in order {
+        let above = map_of(maps.as_slice(), read(supers, *class))?;
+        let map = note_all(alloc, program, keys, special, *class, above)?;
+        set_map(&mut maps, *class, map);
+    }
+    Ok(maps)
+}
+
+/// The number of the first method of a class that repeats a package-private one of another package, by the map of its
+/// superclass.
+fn split_of(
+    program: &Program,
+    keys: &[u32],
+    special: &[bool],
+    class: u32,
+    above: &PatMap<Flat<u32>>,
+) -> Option<u32>
+    ensures { SplitOf program.now keys.now special.now class above.now result }
+{
+    for method in methods_at(program, class) {
+        if is_virtual(method, special)
+            && is_apart(program, above.get(key_of(keys, method.name)), class)
+        {
+            return Some(method.name);
+        }
+    }
+    None
+}
+
+/// The first class in file order with a split override, and the number of its first such method, by the maps.
+fn first_by_maps(
+    program: &Program,
+    keys: &[u32],
+    special: &[bool],
+    supers: &[u32],
+    maps: &[PatMap<Flat<u32>>],
+) -> Result<Option<(u32, u32)>, AllocError>
+    ensures { length supers.now < 2 ^ 32 → IfOk result (λ r. FirstBy program.now keys.now special.now supers.now maps.now r) }
+{
+    for class in 0..word(supers.len()) {
+        let above = map_of(maps, read(supers, class))?;
+        if let Some(method) = split_of(program, keys, special, class, &above) {
+            return Ok(Some((class, method)));
+        }
+    }
+    Ok(None)
 }
 
 /// The first class in file order that has a virtual method which repeats the name and proto of a package-private
-/// virtual method of a superclass in another package, and the number of the first such method. `order` has the classes
-/// in the order of a tour of the forest of the superclasses.
+/// virtual method of a superclass in another package, and the number of the first such method. `keys` and `special` are
+/// of the method numbers, and `order` has each class behind its superclass.
 pub fn first_split(
     alloc: Global,
     program: &Program,
+    keys: &[u32],
+    special: &[bool],
     supers: &[u32],
     order: &[u32],
-    given: Given<'_>,
-) -> Result<Option<(u32, u32)>, AllocError> {
-    let classes = program.classes.as_slice();
-    let mut path = Path {
-        keys: given.keys,
-        special: given.special,
-        packages: given.packages,
-        first: vec![in alloc; NONE; given.count]?,
-        other: vec![in alloc; NONE; given.count]?,
-        open: Vec::new(alloc),
-    };
-    let mut found = None;
-    for class in order {
-        path.back_to(classes, read(supers, *class));
-        let methods = methods_of(classes, *class);
-        if let Some(method) = path.first_split(*class, methods) {
-            found = earlier(found, *class, method);
-        }
-        path.enter(*class, methods)?;
-    }
-    Ok(found)
+) -> Result<Option<(u32, u32)>, AllocError>
+    ensures { (rows : List (List ℕ)) → length supers.now < 2 ^ 32 → ((c : ℕ) → read_at supers.now c ≡ super_place program.now c) → length supers.now ≡ length program.now.classes → IsOrder supers.now rows order.now → IfOk result (λ r. AnswersSplit program.now keys.now special.now supers.now r) }
+{
+    let maps = hidden_maps(alloc, program, keys, special, supers, order)?;
+    first_by_maps(program, keys, special, supers, maps.as_slice())
 }

@@ -324,3 +324,68 @@ fn an_initialiser_counts_for_those_below(rt: HostRuntime) -> Result<(), Fail> {
     assert!(rt; tables.trivially_initialised(&program, 1));
     Ok(())
 }
+
+#[test]
+fn a_superclass_of_an_interface_counts_for_no_class_below(rt: HostRuntime) -> Result<(), Fail> {
+    let strings = ["V", "Ljava/lang/Object;", "LB;", "LI;", "LC;", "<clinit>"];
+    let classes = [
+        Made {
+            kind: 4,
+            superclass: 1,
+            interfaces: &[3],
+            methods: &[],
+        },
+        Made {
+            kind: 3,
+            superclass: 2,
+            interfaces: &[],
+            methods: &[],
+        },
+        Made {
+            kind: 2,
+            superclass: 1,
+            interfaces: &[],
+            methods: &[(0, 0x10008)],
+        },
+    ];
+    let program = make_program(rt.alloc(), &strings, &[(2, 5)], &classes)?;
+    let tables = Hierarchy::build(rt.alloc(), &program)?;
+    assert!(rt; tables.trivially_initialised(&program, 0));
+    assert!(rt; !tables.trivially_initialised(&program, 1));
+    assert!(rt; !tables.trivially_initialised(&program, 2));
+    Ok(())
+}
+
+/// A has a package-private `f`, C of another package under it has one too, and B under C, of A's package, has a public one.
+/// B stands first.
+#[test]
+fn the_first_class_of_those_with_a_split_is_named(rt: HostRuntime) -> Result<(), Fail> {
+    let strings = ["V", "Ljava/lang/Object;", "La/A;", "La/B;", "Lb/C;", "f"];
+    let classes = [
+        Made {
+            kind: 3,
+            superclass: 4,
+            interfaces: &[],
+            methods: &[(1, 1)],
+        },
+        Made {
+            kind: 4,
+            superclass: 2,
+            interfaces: &[],
+            methods: &[(2, 0)],
+        },
+        Made {
+            kind: 2,
+            superclass: 1,
+            interfaces: &[],
+            methods: &[(0, 0)],
+        },
+    ];
+    let program = make_program(rt.alloc(), &strings, &[(2, 5), (3, 5), (4, 5)], &classes)?;
+    let split = HierarchyFault::SplitOverride {
+        class: 0,
+        method: 1,
+    };
+    assert_eq!(rt; Hierarchy::build(rt.alloc(), &program).err(), Some(split));
+    Ok(())
+}

@@ -112,7 +112,7 @@ impl Walk {
     }
 
     /// Lets the classes directly above one wait: those of its list, and behind them its superclass.
-    fn push_above(&mut self, list: &[u32], above: Option<u32>) -> Result<(), AllocError>
+    pub(crate) fn push_above(&mut self, list: &[u32], above: Option<u32>) -> Result<(), AllocError>
         ensures waits { OnOk result (waits self.new ≡ (list.now ++ beside above) ++ waits self.old) }
         ensures seen { self.new.seen ≡ self.old.seen }
         ensures list { self.new.list ≡ self.old.list }

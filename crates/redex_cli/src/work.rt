@@ -32,8 +32,8 @@ use script_text::{Play, ScriptFault, read_script, write_events};
 use std::alloc::{AllocError, Global};
 use verify::{TypeFault, verify_all};
 
-/// The rules of the workload.
-const WORKLOAD_RULES: &[u8] = b"-keep class W0 { public static int run(int); }\n";
+/// The rules of the workload, which keep what its first class, that of number zero, has as `run`.
+const WORKLOAD_RULES: &[u8] = b"-keep class ?0 { public static int run(int); }\n";
 
 /// A fault of the rules as a status.
 fn rules_status(fault: RuleFault) -> Status

@@ -25,7 +25,7 @@ use Rattle.verify.specs.Methods.{constructs, receiver_of, IsSettingOf, HasTyping
 use Rattle.hierarchy.specs.declared.Hierarchy.{Hierarchy}
 use Rattle.program_model.specs.declared.program.Program.{Program}
 use Rattle.verify.specs.Names.{parameters_of}
-use Rattle.verify.specs.Typings.{IsExact, IsLeastTyping, IsIllTyped}
+use Rattle.verify.specs.Typings.{IsLeastTyping, IsIllTyped}
 use Rattle.verify.specs.Typings.{Refuses as RefusesBody}
 
 module _ (v : Verifier) (c : Class) (at : ℕ) (m : Method) (b : Body) (s : Setting) (is : IsSettingOf v c at m s) (begins : Bool) (receiver : Option Kind) (kinds : List ℕ)
@@ -33,13 +33,13 @@ module _ (v : Verifier) (c : Class) (at : ℕ) (m : Method) (b : Body) (s : Sett
   same : begun s b receiver kinds ≡ begun s b (receiver_of c at m (constructs v.tables m)) (parameters_of v.program.now m.name)
   same = ap (λ r. begun s b r kinds) (f ∙ ap (receiver_of c at m) e) ∙ ap (begun s b (receiver_of c at m (constructs v.tables m))) g
 
-  pub typed_from : (r : Result Typings TypeFault) → IfOk r (λ x. IsExact s b → IsLeastTyping s b (begun s b receiver kinds) (places_of x.states.items)) → IfOk r (λ x. HasTyping v c at m b (places_of x.states.items))
-  typed_from (Ok x) h = record { setting = s; is = is; least = λ k. subst (λ a. IsLeastTyping s b a (places_of x.states.items)) same (h k) }
+  pub typed_from : (r : Result Typings TypeFault) → IfOk r (λ x. IsLeastTyping s b (begun s b receiver kinds) (places_of x.states.items)) → IfOk r (λ x. HasTyping v c at m b (places_of x.states.items))
+  typed_from (Ok x) h = record { setting = s; is = is; least = subst (λ a. IsLeastTyping s b a (places_of x.states.items)) same h }
   typed_from (Err y) h = tt
 
   fault_from : m.body ≡ Some b → (y : TypeFault) → RefusesBody s b (begun s b receiver kinds) m.name y → Refuses v c at m y
   fault_from has fault.NoMemory h = tt
-  fault_from has (fault.IllTyped k n r) h = (h.0, record { setting = s; is = is; body = b; has = has; ill = λ x. subst (λ a. IsIllTyped s b a n r) same (h.1 x) })
+  fault_from has (fault.IllTyped k n r) h = (h.0, record { setting = s; is = is; body = b; has = has; ill = subst (λ a. IsIllTyped s b a n r) same h.1 })
 
   pub refused_from : m.body ≡ Some b → (r : Result Typings TypeFault) → IfErr r (λ y. RefusesBody s b (begun s b receiver kinds) m.name y) → IfErr r (Refuses v c at m)
   refused_from has (Ok x) h = tt
@@ -87,8 +87,8 @@ nothing_at v at x e c m f g = let h : None ≡ Some c = sym e ∙ f in absurd (c
 pub nothing_in : (v : Verifier) (at : MethodAt) (x : Table) → method_at v.program.now at ≡ None → TypesAt v at x
 nothing_in v at x e c m f g = let h : None ≡ Some m = sym e ∙ g in absurd (cc)
 
-pub all_for : (p : Program) (h : Hierarchy) (v : Verifier) → IsFor p h v → (length v.program.now.classes ≤ greatest → AllBelow v (length v.program.now.classes)) → TypesAll p h
-all_for p h v is t = record { verifier = v; is = is; types = subst (λ q. length q.classes ≤ greatest → AllBelow v (length q.classes)) is.program t }
+pub all_for : (p : Program) (h : Hierarchy) (v : Verifier) → IsFor p h v → length p.classes ≤ greatest → (length v.program.now.classes ≤ greatest → AllBelow v (length v.program.now.classes)) → TypesAll p h
+all_for p h v is few t = record { verifier = v; is = is; types = subst (λ q. length q.classes ≤ greatest → AllBelow v (length q.classes)) is.program t few }
 
-pub one_for : (p : Program) (h : Hierarchy) (v : Verifier) (e : TypeFault) → IsFor p h v → (length v.program.now.classes ≤ greatest → RefusesFirst v e) → RefusesOne p h e
-one_for p h v e is t = record { verifier = v; is = is; refuses = subst (λ q. length q.classes ≤ greatest → RefusesFirst v e) is.program t }
+pub one_for : (p : Program) (h : Hierarchy) (v : Verifier) (e : TypeFault) → IsFor p h v → length p.classes ≤ greatest → (length v.program.now.classes ≤ greatest → RefusesFirst v e) → RefusesOne p h e
+one_for p h v e is few t = record { verifier = v; is = is; refuses = subst (λ q. length q.classes ≤ greatest → RefusesFirst v e) is.program t few }

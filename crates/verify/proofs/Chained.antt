@@ -51,6 +51,14 @@ walk_plus c (suc m) n (suc q) k e = walk_plus c m n q (above_or (above c k) k) (
 abbrev met_at : ℕ → Chains → Option (ℕ × ℕ) → Option ℕ
 met_at n c o = elim o [ Some q ↦ meets n c q.0 q.1 | None ↦ None ]
 
+upper_of : Option ℕ → ℕ
+upper_of None = 0
+upper_of (Some n) = n
+
+upper_is : (a b : ℕ) → Some a ≡ Some b → a ≡ b
+unfolding upper_of
+upper_is a b e = ap upper_of e
+
 module _ (c : Chains) (s : IsChains c) where
   data Linked (k : ℕ) : Type 0 where
     root : above c k ≡ None → depth c k ≡ 0 → jump c k ≡ k → Linked k
@@ -72,6 +80,18 @@ module _ (c : Chains) (s : IsChains c) where
           let a = ltb-true 0 (depth c k) (left_true (nat_lt 0 (depth c k)) (nat_eq (depth c k - 1) (depth c p)) l) in
           let b = eqb-true (depth c k - 1) (depth c p) (right_true (nat_lt 0 (depth c k)) (nat_eq (depth c k - 1) (depth c p)) l) in
           under p e (omega (arith, a, b)) (eqb-true (jump c k) (jump_over c p) (right_true (nat_lt 0 (depth c k) && nat_eq (depth c k - 1) (depth c p)) (nat_eq (jump c k) (jump_over c p)) h))
+
+  pub top_depth : (k : ℕ) → above c k ≡ None → depth c k ≡ 0
+  top_depth k n = elim (linked k) [
+    | root e d j ↦ d
+    | under p e d j ↦ absurd (let u : None ≡ Some p = sym n ∙ e in cc)
+  ]
+
+  pub above_depth : (k p : ℕ) → above c k ≡ Some p → depth c k ≡ suc (depth c p)
+  above_depth k p n = elim (linked k) [
+    | root e d j ↦ absurd (let u : None ≡ Some p = sym e ∙ n in cc)
+    | under q e d j ↦ (let u : q ≡ p = upper_is q p (sym e ∙ n) in subst (λ x. depth c k ≡ suc (depth c x)) u d)
+  ]
 
   shallow : (k : ℕ) → depth c k ≤ length c.supers.items
   shallow k = leb-true (depth c k) (length c.supers.items) (right_true (is_linked c k (above c k)) (nat_le (depth c k) (length c.supers.items)) (left_true (is_linked c k (above c k) && nat_le (depth c k) (length c.supers.items)) (nat_lt (depth c k) longest) (s.sound k)))
@@ -116,6 +136,9 @@ module _ (c : Chains) (s : IsChains c) where
   up_one : (k p : ℕ) → above c k ≡ Some p → depth c k ≡ suc (depth c p) → Up k p
   up_one k p e d = record { steps = 1; fits = omega (arith, d); is = rw e refl }
 
+  pub above_up : (k p : ℕ) → above c k ≡ Some p → Up k p
+  above_up k p e = up_one k p e (above_depth k p e)
+
   no_steps : (k x n : ℕ) → n ≡ 0 → walk n c k ≡ x → k ≡ x
   no_steps k x n e w = subst (λ m. walk m c k ≡ x) e w
 
@@ -125,7 +148,7 @@ module _ (c : Chains) (s : IsChains c) where
   up_least : (k x : ℕ) → Up k x → depth c x ≤ depth c k
   up_least k x u = let e = up_depth k x u in omega (arith, e)
 
-  up_both : (k x : ℕ) → Up k x → Up x k → k ≡ x
+  pub up_both : (k x : ℕ) → Up k x → Up x k → k ≡ x
   up_both k x u v = let a = up_least k x u in let b = up_least x k v in up_level k x u (omega (arith, a, b))
 
   -- of two above one class the higher is above the lower
@@ -139,6 +162,18 @@ module _ (c : Chains) (s : IsChains c) where
         let w = walk_plus c v.steps (u.steps - v.steps) u.steps k (omega (arith, a, b, d)) in
         ap (walk (u.steps - v.steps) c) (sym v.is) ∙ sym w ∙ u.is);
   }
+
+  -- one step towards what is above
+  pub up_next : (k x p : ℕ) → Up k x → (k ≡ x → ⊥) → above c k ≡ Some p → Up p x
+  up_next k x p u n e = up_between k x p u (above_up k p e) (let d = up_depth k x u in let f = above_depth k p e in go u.steps refl d f)
+    where
+      go : (m : ℕ) → u.steps ≡ m → depth c x + u.steps ≡ depth c k → depth c k ≡ suc (depth c p) → depth c x ≤ depth c p
+      go zero q d f = absurd (n (no_steps k x u.steps q u.is))
+      go (suc m) q d f = omega (arith, q, d, f)
+
+  -- nothing is above the highest
+  pub up_top : (k x : ℕ) → above c k ≡ None → Up k x → k ≡ x
+  up_top k x e u = up_level k x u (let d = top_depth k e in let f = up_depth k x u in omega (arith, d, f))
 
   -- ---- jumps
 

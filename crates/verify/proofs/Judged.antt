@@ -9,7 +9,10 @@ use Rattle.verify.specs.declared.setting.Setting.{Setting}
 use Rattle.verify.specs.Faults.{fault_of, fault_in, state_at, fault_at, NoneBreaks}
 use Rattle.verify.specs.Flow.{greatest, form_after, place_at, kinds_in, places_of}
 use Rattle.verify.specs.Frames.{Kinds}
-use Rattle.verify.specs.Typings.{AtMost, Table, IsUnder, Arrives, onward, catches, unless_fault, IsTyping, IsLeastTyping, IsFlow, IsLeastFlow, IsLattice, IsCovering, IsMonotone, break_in, break_at, IsIllTyped, IsExact}
+use Rattle.verify.specs.Meeting.{IsMeeting}
+use Rattle.verify.specs.Typings.{AtMost, Table, IsUnder, Arrives, onward, catches, unless_fault, IsTyping, IsLeastTyping, IsFlow, IsLeastFlow, IsLattice, IsCovering, IsMonotone, break_in, break_at, IsIllTyped, IsShort}
+use Rattle.verify.proofs.Leaving.{monotone}
+use Rattle.verify.proofs.Ranks.{lattice_of}
 
 -- a typing is a flow
 pub flow_of : (s : Setting) (b : Body) (entry : Kinds) (y : Table) → IsTyping s b entry y → IsFlow s b entry y
@@ -81,17 +84,17 @@ ill_typed s mono b entry fs is n r same h e none =
 
 -- as the code finds it
 pub judged : (s : Setting) (b : Body) (cs cs' : List (Option ℕ)) (entry begun : Kinds) (fs fs' : List (Option Frame)) (is is' : List Insn) (len count : ℕ) → cs' ≡ cs → entry ≡ begun → fs' ≡ fs → is' ≡ is → is ≡ b.insns → len ≡ length is → count ≡ min len greatest
-    → (length b.regions ≤ greatest → IsCovering b cs) → (IsLattice s.tables.now → IsMonotone s → length b.insns ≤ greatest → IsCovering b cs' → IsLeastFlow s b entry (places_of fs)) → NoneBreaks s is' fs' count → IsLattice s.tables.now → IsExact s b → IsLeastTyping s b begun (places_of fs)
-judged s b cs cs' entry begun fs fs' is is' len count ec ee ef ei ej el en cover least none lat x =
+    → (length b.regions ≤ greatest → IsCovering b cs) → (IsLattice s.tables.now → IsMonotone s → length b.insns ≤ greatest → IsCovering b cs' → IsLeastFlow s b entry (places_of fs)) → NoneBreaks s is' fs' count → IsMeeting s.tables.now → IsShort b → IsLeastTyping s b begun (places_of fs)
+judged s b cs cs' entry begun fs fs' is is' len count ec ee ef ei ej el en cover least none m x =
     let c : IsCovering b cs' = subst (IsCovering b) (sym ec) (cover x.regions) in
-    let h : IsLeastFlow s b begun (places_of fs) = subst (λ k. IsLeastFlow s b k (places_of fs)) ee (least lat x.monotone x.insns c) in
+    let h : IsLeastFlow s b begun (places_of fs) = subst (λ k. IsLeastFlow s b k (places_of fs)) ee (least (lattice_of s.tables.now m) (monotone s m) x.insns c) in
     let l : len ≡ length b.insns = el ∙ ap length ej in
     let le : length b.insns ≤ count = omega (arith, l, en, x.insns) in
     least_typing s b begun fs is' count (ei ∙ ej) le h (subst (λ v. NoneBreaks s is' v count) ef none)
 
 pub refused : (s : Setting) (b : Body) (cs cs' : List (Option ℕ)) (entry begun : Kinds) (fs fs' : List (Option Frame)) (is is' : List Insn) (n r : ℕ) → cs' ≡ cs → entry ≡ begun → fs' ≡ fs → is' ≡ is → is ≡ b.insns
-    → (length b.regions ≤ greatest → IsCovering b cs) → (IsLattice s.tables.now → IsMonotone s → length b.insns ≤ greatest → IsCovering b cs' → IsLeastFlow s b entry (places_of fs)) → fault_at s is' fs' n ≡ Some r → NoneBreaks s is' fs' n → IsLattice s.tables.now → IsExact s b → IsIllTyped s b begun n r
-refused s b cs cs' entry begun fs fs' is is' n r ec ee ef ei ej cover least e none lat x =
+    → (length b.regions ≤ greatest → IsCovering b cs) → (IsLattice s.tables.now → IsMonotone s → length b.insns ≤ greatest → IsCovering b cs' → IsLeastFlow s b entry (places_of fs)) → fault_at s is' fs' n ≡ Some r → NoneBreaks s is' fs' n → IsMeeting s.tables.now → IsShort b → IsIllTyped s b begun n r
+refused s b cs cs' entry begun fs fs' is is' n r ec ee ef ei ej cover least e none m x =
     let c : IsCovering b cs' = subst (IsCovering b) (sym ec) (cover x.regions) in
-    let h : IsLeastFlow s b begun (places_of fs) = subst (λ k. IsLeastFlow s b k (places_of fs)) ee (least lat x.monotone x.insns c) in
-    ill_typed s x.monotone b begun fs is' n r (ei ∙ ej) h (subst (λ v. fault_at s is' v n ≡ Some r) ef e) (subst (λ v. NoneBreaks s is' v n) ef none)
+    let h : IsLeastFlow s b begun (places_of fs) = subst (λ k. IsLeastFlow s b k (places_of fs)) ee (least (lattice_of s.tables.now m) (monotone s m) x.insns c) in
+    ill_typed s (monotone s m) b begun fs is' n r (ei ∙ ej) h (subst (λ v. fault_at s is' v n ≡ Some r) ef e) (subst (λ v. NoneBreaks s is' v n) ef none)

@@ -1,12 +1,13 @@
 -- Tables whose chains and items are sound.
-use Rattle.std.proofs.Common.{◌≡◌, ℕ, zero, suc, true, ◌&&◌, [], length, Option, Some, None, inl, inr, refl, sym, ap, ◌∙◌, subst, arith}
+use Rattle.std.proofs.Common.{◌≡◌, ℕ, zero, suc, ◌+◌, true, length, Option, Some, None, inl, inr, refl, sym, ap, ◌∙◌, subst, arith}
 use Rattle.std.proofs.lemmas.Bool.{cases_lt}
+use Rattle.verify.specs.declared.shapes.Shape.{Shape}
 use Rattle.verify.specs.declared.shapes.Shape.TheVariants as shape
 use Rattle.verify.specs.declared.tables.Tables.{Tables}
 use Rattle.verify.specs.Chains.{above, above_or, nearest, IsChains}
 use Rattle.verify.specs.Joins.{nearest_place}
 use Rattle.verify.specs.Kinds.{same_number}
-use Rattle.verify.specs.Meeting.{IsMeeting, stands, stands_too, BasesBelow, ClassesBelow, has_objects}
+use Rattle.verify.specs.Meeting.{IsMeeting, stands, stands_too, is_settled, is_base, BasesBelow, ClassesBelow, has_objects}
 use Rattle.verify.specs.Shapes.{is_reference, place_of}
 use Rattle.verify.specs.Types.{shape_in, item_shape, item_of_class}
 use Rattle.verify.proofs.Chained as chained
@@ -15,14 +16,14 @@ use Rattle.verify.proofs.Lattice.{left_true, right_true, number_is}
 -- what holds of each base and of what is above each class
 record Standing (t : Tables) : Type 0 where
   chains : IsChains t.chains
-  bases : (k : ℕ) → stands_too t (place_of (shape_in t.bases.items k)) ≡ true
+  bases : (k : ℕ) → is_base t (shape_in t.bases.items k) ≡ true
   classes : (k : ℕ) → stands_too t (above t.chains k) ≡ true
   objects : has_objects t ≡ true
 
 module _ (t : Tables) (s : Standing t) where
   item_stands : (i : Option ℕ) → stands_too t (place_of (item_shape t i)) ≡ true
   item_stands None = refl
-  item_stands (Some k) = s.bases k
+  item_stands (Some k) = left_true (stands_too t (place_of (shape_in t.bases.items k))) (is_settled t (shape_in t.bases.items k)) (s.bases k)
 
   one_up : (a : ℕ) (o : Option ℕ) → stands t a ≡ true → stands_too t o ≡ true → stands t (above_or o a) ≡ true
   one_up a None p q = p
@@ -65,23 +66,32 @@ module _ (t : Tables) (s : Standing t) where
 
   meets : IsMeeting t
   meets = record {
+    chains = s.chains;
     itself = chained.itself t.chains s.chains;
     swaps = chained.swaps t.chains s.chains;
     groups = groups;
     falls = chained.falls t.chains s.chains;
     short = chained.short t.chains s.chains;
     stands = λ i j c e. number_is (place_of (item_shape t (item_of_class t c))) (Some c) (stands_between (place_of (item_shape t i)) (place_of (item_shape t j)) c (item_stands i) e);
+    settled = λ k. right_true (stands_too t (place_of (shape_in t.bases.items k))) (is_settled t (shape_in t.bases.items k)) (s.bases k);
     object = number_is (place_of (item_shape t t.object)) None (left_true (same_number (place_of (item_shape t t.object)) None) (is_reference (item_shape t t.object)) s.objects);
     objects = right_true (same_number (place_of (item_shape t t.object)) None) (is_reference (item_shape t t.object)) s.objects;
   }
 
+-- one more base
+pub bases_on : (t : Tables) (n : ℕ) (s : Shape) → BasesBelow t n → s ≡ shape_in t.bases.items n → is_base t s ≡ true → BasesBelow t (n + 1)
+bases_on t n s h e b k lt = elim (cases_lt k n) [
+  | inl x ↦ h k x
+  | inr x ↦ (let q : k ≡ n = omega (arith, lt, x) in subst (λ z. is_base t (shape_in t.bases.items z) ≡ true) (sym q) (subst (λ z. is_base t z ≡ true) e b))
+]
+
 pub meets_where : (t : Tables) (m n : ℕ) → length t.bases.items ≡ m → length t.chains.supers.items ≡ n → IsChains t.chains → has_objects t ≡ true → BasesBelow t m → ClassesBelow t n → IsMeeting t
 meets_where t m n e f c o b d = meets t (record { chains = c; bases = bases; classes = classes; objects = o })
   where
-    bases : (k : ℕ) → stands_too t (place_of (shape_in t.bases.items k)) ≡ true
+    bases : (k : ℕ) → is_base t (shape_in t.bases.items k) ≡ true
     bases k = elim (cases_lt k m) [
       | inl h ↦ b k h
-      | inr h ↦ (let g : shape_in t.bases.items k ≡ shape.Void = chained.past t.bases.items k shape.Void (omega (arith, e, h)) in ap (λ x. stands_too t (place_of x)) g)
+      | inr h ↦ (let g : shape_in t.bases.items k ≡ shape.Void = chained.past t.bases.items k shape.Void (omega (arith, e, h)) in ap (is_base t) g)
     ]
 
     classes : (k : ℕ) → stands_too t (above t.chains k) ≡ true
@@ -89,10 +99,3 @@ meets_where t m n e f c o b d = meets t (record { chains = c; bases = bases; cla
       | inl h ↦ d k h
       | inr h ↦ (let g : above t.chains k ≡ None = chained.past t.chains.supers.items k None (omega (arith, f, h)) in ap (stands_too t) g)
     ]
-
--- tables without bases
-pub meets_bare : (t : Tables) → t.bases.items ≡ [] → length t.chains.supers.items ≡ 0 → t.object ≡ None → IsChains t.chains → IsMeeting t
-meets_bare t e f o c = meets_where t 0 0 (ap length e) f c objects (λ k h. absurd (omega (arith, h))) (λ k h. absurd (omega (arith, h)))
-  where
-    objects : has_objects t ≡ true
-    objects = ap (λ x. same_number (place_of (item_shape t x)) None && is_reference (item_shape t x)) o

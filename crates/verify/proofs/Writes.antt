@@ -7,15 +7,15 @@ use Rattle.verify.specs.declared.kinds.Kind.{Kind}
 use Rattle.verify.specs.declared.kinds.Kind.TheVariants.{Undefined, Word, WideLow, WideHigh, Fresh, Program, Array}
 use Rattle.verify.specs.declared.tables.Tables.{Tables}
 use Rattle.verify.specs.Frames.{Kinds, kind_at, cleared, split, written_one, written_pair, written_kinds, written}
-use Rattle.verify.specs.Kinds.{same_kind, is_number, is_initialised}
+use Rattle.verify.specs.Kinds.{same_kind, is_number, is_initialised, is_moved}
 use Rattle.verify.specs.Typings.{Below, IsBelow}
 use Rattle.verify.proofs.Raises.{below_itself, kind_itself}
 use Rattle.verify.proofs.Lattice.{same_is, joins, alike, numbers, objects, apart}
 
 -- frames of one length, each register below the other
-record AreBelow (t : Tables) (a b : List Kind) : Type 0 where
-  long : length a ≡ length b
-  each : (r : ℕ) → Below t (kind_at a r) (kind_at b r)
+pub record AreBelow (t : Tables) (a b : List Kind) : Type 0 where
+  pub long : length a ≡ length b
+  pub each : (r : ℕ) → Below t (kind_at a r) (kind_at b r)
 
 set_same : (ks : List Kind) (r : ℕ) (k : Kind) → r < length ks → kind_at (slice_set ks r k) r ≡ k
 set_same [] r k h = absurd (omega (arith, h))
@@ -126,3 +126,15 @@ pub written_below : (t : Tables) (r : ℕ) (k : Kind) (a b : Kinds) → IsBelow 
 written_below t r k a b h =
     let f = kinds_below t r k a.registers b.registers (record { long = h.long; each = h.registers }) in
     record { long = f.long; registers = f.each; result = h.result; caught = h.caught; receiver = h.receiver }
+
+-- a kind that a move reads is written into one register
+one_is : (r : ℕ) (k : Kind) (ks : List Kind) → is_moved k ≡ true → written_kinds r k ks ≡ written_one r k ks
+one_is r WideLow ks e = absurd (cc)
+one_is r k ks e = refl
+
+-- a write of two such kinds, one below the other
+pub moved_on : (t : Tables) (r : ℕ) (k l : Kind) (a b : Kinds) → is_moved k ≡ true → is_moved l ≡ true → Below t k l → IsBelow t a b → IsBelow t (written r k a) (written r l b)
+moved_on t r k l a b p q e h =
+    let f : AreBelow t (written_one r k a.registers) (written_one r l b.registers) = one_below t r k l a.registers b.registers e (record { long = h.long; each = h.registers }) in
+    let g : AreBelow t (written_kinds r k a.registers) (written_kinds r l b.registers) = subst (λ u. AreBelow t u (written_kinds r l b.registers)) (sym (one_is r k a.registers p)) (subst (AreBelow t (written_one r k a.registers)) (sym (one_is r l b.registers q)) f) in
+    record { long = g.long; registers = g.each; result = h.result; caught = h.caught; receiver = h.receiver }

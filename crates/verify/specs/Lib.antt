@@ -1,4 +1,5 @@
 pub mod After
+pub mod Building
 pub mod Chains
 pub mod Demands
 pub mod Entry
@@ -13,6 +14,7 @@ pub mod Methods
 pub mod Names
 pub mod Reads
 pub mod Shapes
+pub mod Supers
 pub mod Types
 pub mod Typings
 pub mod Waiting

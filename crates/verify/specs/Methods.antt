@@ -1,5 +1,6 @@
 -- Typings of the methods of a program, by numbers (this project's profile).
-use Rattle.std.specs.Prelude.{◌≡◌, ℕ, ◌<◌, ◌≤◌, Bool, ◌&&◌, not, take, length, All, Option, Some, None, slice_get, if◌then◌else◌}
+use Rattle.std.specs.Prelude.{◌≡◌, ℕ, ◌<◌, Bool, true, ◌&&◌, not, take, length, All, Option, Some, None, slice_get, if◌then◌else◌}
+use Rattle.hierarchy.specs.Shapes.{IsOf}
 use Rattle.hierarchy.specs.declared.Hierarchy.{Hierarchy}
 use Rattle.program_model.specs.declared.body.Body.{Body}
 use Rattle.program_model.specs.declared.program.Class.{Class}
@@ -8,6 +9,7 @@ use Rattle.program_model.specs.declared.program.MethodAt.{MethodAt}
 use Rattle.program_model.specs.declared.program.Program.{Program}
 use Rattle.program_model.specs.Lookups.{method_at}
 use Rattle.program_model.specs.MemberRules.{has_flag}
+use Rattle.program_model.specs.ProgramRules.{is_well_formed}
 use Rattle.verify.specs.declared.fault.TypeFault.{TypeFault}
 use Rattle.verify.specs.declared.fault.TypeFault.TheVariants as fault
 use Rattle.verify.specs.declared.kinds.Kind.{Kind}
@@ -15,12 +17,12 @@ use Rattle.verify.specs.declared.kinds.Kind.TheVariants as kind
 use Rattle.verify.specs.declared.setting.Setting.{Setting}
 use Rattle.verify.specs.declared.tables.Tables.{Tables}
 use Rattle.verify.specs.declared.typed.Verifier.{Verifier}
+use Rattle.verify.specs.Building.{AreChainsOf}
 use Rattle.verify.specs.Entry.{begun}
-use Rattle.verify.specs.Flow.{greatest}
 use Rattle.verify.specs.Meeting.{IsMeeting}
 use Rattle.verify.specs.Names.{parameters_of, result_of}
 use Rattle.verify.specs.Types.{is_constructor}
-use Rattle.verify.specs.Typings.{Table, IsExact, IsLeastTyping, IsIllTyped}
+use Rattle.verify.specs.Typings.{Table, IsLeastTyping, IsIllTyped}
 
 abbrev pub constructs : Tables → Method → Bool
 constructs t m = is_constructor t m.name && not (has_flag m.flags 8)
@@ -48,7 +50,7 @@ pub record IsSettingOf (v : Verifier) (c : Class) (at : ℕ) (m : Method) (s : S
 pub record HasTyping (v : Verifier) (c : Class) (at : ℕ) (m : Method) (b : Body) (x : Table) : Type 0 where
   pub setting : Setting
   pub is : IsSettingOf v c at m setting
-  pub least : IsExact setting b → IsLeastTyping setting b (begun setting b (receiver_of c at m (constructs v.tables m)) (parameters_of v.program.now m.name)) x
+  pub least : IsLeastTyping setting b (begun setting b (receiver_of c at m (constructs v.tables m)) (parameters_of v.program.now m.name)) x
 
 -- the code of a method has none, and its least flow breaks first at this position and register
 pub record HasNone (v : Verifier) (c : Class) (at : ℕ) (m : Method) (n r : ℕ) : Type 0 where
@@ -56,7 +58,7 @@ pub record HasNone (v : Verifier) (c : Class) (at : ℕ) (m : Method) (n r : ℕ
   pub is : IsSettingOf v c at m setting
   pub body : Body
   pub has : m.body ≡ Some body
-  pub ill : IsExact setting body → IsIllTyped setting body (begun setting body (receiver_of c at m (constructs v.tables m)) (parameters_of v.program.now m.name)) n r
+  pub ill : IsIllTyped setting body (begun setting body (receiver_of c at m (constructs v.tables m)) (parameters_of v.program.now m.name)) n r
 
 -- what a refusal says of a method
 abbrev pub Refuses : Verifier → Class → ℕ → Method → TypeFault → Type 0
@@ -106,11 +108,12 @@ pub record RefusesFirst (v : Verifier) (e : TypeFault) : Type 0 where
   pub before : AllBelow v at
   pub refuses : RefusesIn v class at e
 
--- the verifier of a program
+-- the verifier of a program; its chains are those of the program's classes
 pub record IsFor (p : Program) (h : Hierarchy) (v : Verifier) : Type 0 where
   pub program : v.program.now ≡ p
   pub hierarchy : v.hierarchy.now ≡ h
   pub meets : IsMeeting v.tables
+  pub chains : is_well_formed p ≡ true → IsOf p h → AreChainsOf p v.tables.chains
 
 -- ---- by a verifier of the program
 
@@ -127,9 +130,9 @@ pub record RefusesFor (p : Program) (h : Hierarchy) (at : MethodAt) (e : TypeFau
 pub record TypesAll (p : Program) (h : Hierarchy) : Type 0 where
   pub verifier : Verifier
   pub is : IsFor p h verifier
-  pub types : length p.classes ≤ greatest → AllBelow verifier (length p.classes)
+  pub types : AllBelow verifier (length p.classes)
 
 pub record RefusesOne (p : Program) (h : Hierarchy) (e : TypeFault) : Type 0 where
   pub verifier : Verifier
   pub is : IsFor p h verifier
-  pub refuses : length p.classes ≤ greatest → RefusesFirst verifier e
+  pub refuses : RefusesFirst verifier e

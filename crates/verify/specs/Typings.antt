@@ -180,13 +180,12 @@ pub record IsIllTyped (s : Setting) (b : Body) (entry : Kinds) (n r : ℕ) : Typ
   pub first : (k : ℕ) → k < n → break_at s b table k ≡ None
   pub none : (y : Table) → IsTyping s b entry y → ⊥
 
--- what makes the solver exact: what is lower is allowed where the higher is, and places are numbers of 32 bits
-pub record IsExact (s : Setting) (b : Body) : Type 0 where
-  pub monotone : IsMonotone s
+-- places are numbers of 32 bits
+pub record IsShort (b : Body) : Type 0 where
   pub insns : length b.insns ≤ greatest
   pub regions : length b.regions ≤ greatest
 
 -- what a refusal says
 abbrev pub Refuses : Setting → Body → Kinds → ℕ → TypeFault → Type 0
 Refuses s b entry m fault.NoMemory = Unit
-Refuses s b entry m (fault.IllTyped k n r) = (k ≡ m) × (IsExact s b → IsIllTyped s b entry n r)
+Refuses s b entry m (fault.IllTyped k n r) = (k ≡ m) × IsIllTyped s b entry n r

@@ -1,6 +1,12 @@
 //! What the super calls of a body find.
 
-ghost use Rattle.std.specs.Prelude.{◌≡◌};
+ghost use Rattle.std.specs.Prelude.{◌≡◌, Some, IfOk, slice_get};
+ghost use Rattle.class_defs.specs.Finding.{finds_from};
+ghost use Rattle.class_defs.specs.Places.{super_place};
+ghost use Rattle.hierarchy.specs.Shapes.{IsOf};
+ghost use Rattle.program_model.specs.declared.pools.MethodName.{MethodName};
+ghost use Rattle.program_model.specs.declared.program.Version.TheVariants.{V035};
+ghost use Rattle.verify.specs.Supers.{found_at_place, above_of, called_by_kind, super_search};
 ghost use Rattle.std.specs.Option.{option_copied};
 ghost use Rattle.program_model.specs.Lookups.{method_at};
 
@@ -39,20 +45,22 @@ pub fn method_at(program: &Program, at: MethodAt) -> Option<&Method>
 }
 
 /// What a look-up answers that found the method at a place.
-fn search_of(program: &Program, tables: &Tables, found: Option<MethodAt>) -> Search {
+fn search_of(program: &Program, found: Option<MethodAt>) -> Search
+    ensures { result ≡ found_at_place program.now found }
+{
     let at = match found {
         Some(at) => at,
         None => return Search::Nothing,
     };
-    match (
-        method_at(program, at),
-        tables.classes.as_slice().get(at.class as usize),
-    ) {
-        (Some(method), Some(class)) => Search::Finds {
-            class: *class,
-            is_static: method.flags.has(Flags::STATIC),
+    match method_at(program, at) {
+        Some(method) => match program.classes.as_slice().get(at.class as usize) {
+            Some(class) => Search::Finds {
+                class: class.name,
+                is_static: method.flags.has(Flags::STATIC),
+            },
+            None => Search::Nothing,
         },
-        _ => Search::Nothing,
+        None => Search::Nothing,
     }
 }
 
@@ -78,10 +86,15 @@ impl<'a> Calls<'a> {
     }
 
     /// The first method of the name and proto along the superclasses of the calling class.
-    fn find_above(&self, class: u32, method: u32) -> Option<MethodAt> {
-        let above = self.hierarchy.super_of(class)?;
-        self.hierarchy
-            .find_from(above, self.hierarchy.key_of_method(method))
+    fn find_above(&self, class: u32, method: u32) -> Option<MethodAt>
+        ensures { (q : MethodName) → IsOf self.now.program.now self.now.hierarchy.now → slice_get self.now.program.now.methods method ≡ Some q → result ≡ finds_from self.now.program.now q.name q.proto (super_place self.now.program.now class) }
+    {
+        match self.hierarchy.super_of(class) {
+            Some(above) => self
+                .hierarchy
+                .find_from(above, self.hierarchy.key_of_method(method)),
+            None => None,
+        }
     }
 
     /// What the candidates of a program interface give.
@@ -172,7 +185,9 @@ impl Calls<'_> {
         alloc: Global,
         class: u32,
         method: u32,
-    ) -> Result<Option<MethodAt>, AllocError> {
+    ) -> Result<Option<MethodAt>, AllocError>
+        ensures early { IsOf self.old.program.now self.old.hierarchy.now → self.old.program.now.version ≡ V035 → IfOk result (λ found. found ≡ above_of self.old.program.now class method) }
+    {
         let named = match self.program.methods.as_slice().get(method as usize) {
             Some(name) => name.class,
             None => return Ok(None),
@@ -183,17 +198,33 @@ impl Calls<'_> {
         }
     }
 
-    /// What an instruction finds, if it is a super call.
-    fn search(&mut self, alloc: Global, class: u32, insn: &Insn) -> Result<Search, AllocError> {
-        match insn {
-            Insn::Invoke {
-                kind: InvokeKind::Super,
-                method,
-                ..
-            } => {
-                let found = self.find_super(alloc, class, *method)?;
-                Ok(search_of(self.program, self.tables, found))
+    /// What a call finds, if it is a super call.
+    #[tactic(auto, using(crate::proofs::Calling::early_found))]
+    fn search_call(
+        &mut self,
+        alloc: Global,
+        class: u32,
+        kind: InvokeKind,
+        method: u32,
+    ) -> Result<Search, AllocError>
+        ensures early { IsOf self.old.program.now self.old.hierarchy.now → self.old.program.now.version ≡ V035 → IfOk result (λ found. found ≡ called_by_kind self.old.program.now class kind method) }
+    {
+        match kind {
+            InvokeKind::Super => {
+                let program = self.program;
+                let found = self.find_super(alloc, class, method)?;
+                Ok(search_of(program, found))
             }
+            _ => Ok(Search::Nothing),
+        }
+    }
+
+    /// What an instruction finds, if it is a super call.
+    fn search(&mut self, alloc: Global, class: u32, insn: &Insn) -> Result<Search, AllocError>
+        ensures early { IsOf self.old.program.now self.old.hierarchy.now → self.old.program.now.version ≡ V035 → IfOk result (λ found. found ≡ super_search self.old.program.now class insn.now) }
+    {
+        match insn {
+            Insn::Invoke { kind, method, .. } => self.search_call(alloc, class, *kind, *method),
             _ => Ok(Search::Nothing),
         }
     }

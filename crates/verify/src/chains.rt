@@ -1,31 +1,23 @@
 //! The program superclasses of each class.
 
-ghost use Rattle.std.specs.Prelude.{◌≡◌, ◌+◌, length, true, IfOk, IfNone};
+ghost use Rattle.std.specs.Prelude.{◌≡◌, ◌<◌, ◌+◌, length, true, false, IfNone, IfSome};
+ghost use Rattle.verify.specs.Building.{IsSoundFor};
 ghost use Rattle.verify.specs.Chains.{IsChains, SoundBelow, is_sound_at, is_linked, jump_over, above, depth, jump, step, lift, is_in_chain, stepped_both, meets, nearest};
 
-use hierarchy::Hierarchy;
-use std::alloc::{AllocError, Global};
+use std::alloc::Global;
 
 /// For each class by its place the class above it, how many stand above it, and a class further up from which on the
 /// chain is looked at again: with these jumps a class high up is reached in a number of steps that grows with the
 /// logarithm of its distance.
 #[derive(Drop)]
 pub struct Chains {
-    supers: Vec<Option<u32>>,
-    depths: Vec<u32>,
-    jumps: Vec<u32>,
-    done: Vec<bool>,
+    pub(crate) supers: Vec<Option<u32>>,
+    pub(crate) depths: Vec<u32>,
+    pub(crate) jumps: Vec<u32>,
+    pub(crate) done: Vec<bool>,
 }
 
 impl Chains {
-    /// The chains of so many classes. Those of a hierarchy are sound, since it has no class that is its own ancestor.
-    pub fn make(alloc: Global, hierarchy: &Hierarchy, classes: u32) -> Result<Chains, AllocError>
-        ensures { IfOk result IsChains }
-    {
-        let chains = Chains::build(alloc, hierarchy, classes)?;
-        Ok(chains.checked(alloc, classes))
-    }
-
     /// Chains in which each class stands alone.
     pub fn alone(alloc: Global) -> Chains
         ensures sound { IsChains result }
@@ -40,8 +32,9 @@ impl Chains {
     }
 
     /// The chains as they are, if they are sound.
-    fn checked(self, alloc: Global, classes: u32) -> Chains
-        ensures { IsChains result }
+    pub(crate) fn checked(self, alloc: Global, classes: u32) -> Chains
+        ensures sound { IsChains result }
+        ensures kept { IsSoundFor classes self → result ≡ self }
     {
         if self.is_sound(classes) {
             self
@@ -52,7 +45,8 @@ impl Chains {
 
     /// Whether the chains of so many classes are sound.
     fn is_sound(&self, classes: u32) -> bool
-        ensures { result ≡ true → IsChains self.now }
+        ensures sound { result ≡ true → IsChains self.now }
+        ensures kept { IsSoundFor classes self.now → result ≡ true }
     {
         let count = classes as usize;
         if self.supers.len() != count || self.depths.len() != count || self.jumps.len() != count {
@@ -67,6 +61,8 @@ impl Chains {
     /// The first of so many classes that isn't sound.
     fn first_unsound(&self, classes: u32) -> Option<u32>
         ensures none { IfNone result (SoundBelow self.now classes) }
+        ensures within { IfSome result (λ class. class < classes) }
+        ensures some { IfSome result (λ class. is_sound_at self.now class ≡ false) }
     {
         for class in 0..classes {
             if !self.is_sound_at(class) {
@@ -100,59 +96,8 @@ impl Chains {
         }
     }
 
-    /// The chains of so many classes, as the hierarchy says.
-    fn build(alloc: Global, hierarchy: &Hierarchy, classes: u32) -> Result<Chains, AllocError> {
-        let mut supers = Vec::with_capacity(alloc, classes as usize)?;
-        for class in 0..classes {
-            supers.push(hierarchy.super_of(class))?;
-        }
-        let count = supers.len();
-        let mut chains = Chains {
-            supers,
-            depths: vec![in alloc; 0u32; count]?,
-            jumps: vec![in alloc; 0u32; count]?,
-            done: vec![in alloc; false; count]?,
-        };
-        let mut path = Vec::new(alloc);
-        for class in 0..classes {
-            chains.climb(class, &mut path)?;
-            chains.settle(&mut path);
-        }
-        Ok(chains)
-    }
-
-    /// Lists a class and those above it that are not done, the lowest first.
-    fn climb(&self, class: u32, path: &mut Vec<u32>) -> Result<(), AllocError> {
-        let mut at = Some(class);
-        for _ in 0..self.supers.len() {
-            match at {
-                Some(one) if !self.is_done(one) => {
-                    path.push(one)?;
-                    at = self.above(one);
-                }
-                _ => return Ok(()),
-            }
-        }
-        Ok(())
-    }
-
-    /// Does all classes of a list, the highest first.
-    fn settle(&mut self, path: &mut Vec<u32>) {
-        for _ in 0..path.len() {
-            let class = match path.pop() {
-                Some(class) => class,
-                None => return,
-            };
-            let (depth, jump) = match self.above(class) {
-                Some(above) => (self.depth(above).saturating_add(1), self.jump_over(above)),
-                None => (0, class),
-            };
-            self.note(class, depth, jump);
-        }
-    }
-
     /// The jump of a class directly below this one: where the two jumps from here are equally long, their end.
-    fn jump_over(&self, above: u32) -> u32
+    pub(crate) fn jump_over(&self, above: u32) -> u32
         ensures { result ≡ jump_over self.now above }
     {
         let first = self.jump(above);
@@ -160,27 +105,6 @@ impl Chains {
         let near = self.depth(above).saturating_sub(self.depth(first));
         let far = self.depth(first).saturating_sub(self.depth(second));
         if near == far { second } else { above }
-    }
-
-    /// Notes what is known of a class.
-    fn note(&mut self, class: u32, depth: u32, jump: u32) {
-        let at = class as usize;
-        if let Some(cell) = self.depths.get_mut(at) {
-            *cell = depth;
-        }
-        if let Some(cell) = self.jumps.get_mut(at) {
-            *cell = jump;
-        }
-        if let Some(cell) = self.done.get_mut(at) {
-            *cell = true;
-        }
-    }
-
-    fn is_done(&self, class: u32) -> bool {
-        match self.done.get(class as usize) {
-            Some(done) => *done,
-            None => true,
-        }
     }
 
     /// The program superclass of a class.

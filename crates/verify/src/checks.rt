@@ -1,8 +1,8 @@
 //! The calls of this crate.
 
-ghost use Rattle.std.specs.Prelude.{◌≡◌, ◌⊎◌, IfOk, IfErr, OnOk};
+ghost use Rattle.std.specs.Prelude.{◌≡◌, ◌⊎◌, ◌≤◌, length, true, IfOk, IfErr, OnOk};
 ghost use Rattle.verify.specs.declared.fault.TypeFault.TheVariants.{NoMemory};
-ghost use Rattle.verify.specs.Flow.{places_of};
+ghost use Rattle.verify.specs.Flow.{greatest, places_of};
 ghost use Rattle.verify.specs.Methods.{TypesFor, RefusesFor, TypesAll, RefusesOne};
 
 use crate::fault::TypeFault;
@@ -35,11 +35,22 @@ pub fn typings(
     }
 }
 
+/// Whether the places of a program's classes have numbers of 32 bits.
+fn has_few_classes(program: &Program) -> bool
+    ensures { result ≡ true → length program.now.classes ≤ greatest }
+{
+    program.classes.len() <= u32::MAX as usize
+}
+
 /// Whether all methods with code are well typed: else the fault of the first one that isn't, in class and method order.
+/// A program with more classes than numbers of 32 bits, which no well-formed one has, is more than memory is asked for.
 pub fn verify_all(alloc: Global, program: &Program, hierarchy: &Hierarchy) -> Result<(), TypeFault>
     ensures typed { OnOk result (TypesAll program.now hierarchy.now) }
     ensures refused { IfErr result (λ e. (e ≡ NoMemory) ⊎ RefusesOne program.now hierarchy.now e) }
 {
+    if !has_few_classes(program) {
+        return Err(TypeFault::NoMemory);
+    }
     let verifier = Verifier::make(alloc, program, hierarchy)?;
     match verifier.verify_all(alloc) {
         Ok(()) => Ok(()),

@@ -11,6 +11,7 @@
 
 mod after;
 mod arrivals;
+mod building;
 mod calls;
 mod chains;
 mod checks;
@@ -35,5 +36,5 @@ mod wrong;
 pub use checks::{typings, verify_all};
 pub use fault::TypeFault;
 pub use kinds::Kind;
-pub use laws::{joins_law, writes_law};
+pub use laws::{chains_law, joins_law, monotone_law, short_law, writes_law};
 pub use typed::{Typings, Verifier};

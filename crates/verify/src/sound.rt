@@ -1,36 +1,36 @@
 //! Whether tables keep what the joins of kinds rest on.
 
-ghost use Rattle.std.specs.Prelude.{◌≡◌, true, IfNone};
+ghost use Rattle.std.specs.Prelude.{◌≡◌, true, IfNone, IfOk};
 ghost use Rattle.verify.specs.Chains.{IsChains};
-ghost use Rattle.verify.specs.Meeting.{IsMeeting, stands, stands_too, BasesBelow, ClassesBelow, has_objects};
+ghost use Rattle.verify.specs.Meeting.{IsMeeting, is_settled_class, is_primitive, is_settled, stands, stands_too, is_base, BasesBelow, ClassesBelow, has_objects};
 
-use crate::chains::Chains;
 use crate::kinds::is_same_number;
+use crate::shapes::Shape;
 use crate::tables::{Tables, shape_at, word};
-use std::alloc::Global;
+use insn_set::Item;
+use std::alloc::AllocError;
+
+/// Whether items are stored as a primitive type is.
+fn is_primitive(item: Item) -> bool
+    ensures { result ≡ is_primitive item }
+{
+    !matches!(item, Item::Object)
+}
 
 impl Tables {
-    /// The tables as they are, if the joins of kinds are least upper bounds by them. Those of a well-formed program are:
-    /// each of its classes is defined once, and none is its own ancestor or `Ljava/lang/Object;`.
-    pub fn checked(self, alloc: Global) -> Tables
+    /// The tables as they are, where the joins of kinds are least upper bounds by them. Those of a well-formed program are:
+    /// each of its classes is defined once, and none is its own ancestor or `Ljava/lang/Object;`. No others are given:
+    /// for them it is as if there were no memory.
+    pub fn checked(self) -> Result<Tables, AllocError>
         requires { IsChains self.chains }
-        ensures { IsMeeting result }
+        ensures meets { IfOk result IsMeeting }
+        ensures same { IfOk result (λ t. t ≡ self) }
     {
         if self.is_sound() {
-            self
+            Ok(self)
         } else {
-            self.without_places(alloc)
+            Err(AllocError)
         }
-    }
-
-    /// The tables without what they say of program classes.
-    fn without_places(mut self, alloc: Global) -> Tables
-        ensures { IsMeeting result }
-    {
-        self.chains = Chains::alone(alloc);
-        self.bases = Vec::new(alloc);
-        self.object = None;
-        self
     }
 
     /// Whether the joins of kinds are least upper bounds by these tables.
@@ -58,12 +58,12 @@ impl Tables {
         }
     }
 
-    /// The first of so many types without brackets that no item stands for.
+    /// The first of so many types without brackets that is a class for which no item stands, or no such class.
     fn first_base(&self, count: u32) -> Option<u32>
         ensures none { IfNone result (BasesBelow self.now count) }
     {
         for kind in 0..count {
-            if !self.stands_too(shape_at(self.bases.as_slice(), kind).place()) {
+            if !self.is_base(shape_at(self.bases.as_slice(), kind)) {
                 return Some(kind);
             }
         }
@@ -100,6 +100,40 @@ impl Tables {
             Some(class) => self.stands(class),
             None => true,
         }
+    }
+
+    /// Whether the item that stands for a class is an interface where the class is, which then has no class above it.
+    fn is_settled_class(&self, class: u32, plain: bool) -> bool
+        ensures { result ≡ is_settled_class self.now class plain }
+    {
+        let stands = self.item_shape(self.item_of_class(class)).is_plain();
+        if plain {
+            stands
+        } else {
+            !stands && is_same_number(self.chains.above(class), None)
+        }
+    }
+
+    /// The same of a type without brackets, which is no array.
+    fn is_settled(&self, base: Shape) -> bool
+        ensures { result ≡ is_settled self.now base }
+    {
+        match base {
+            Shape::Class { place, plain } => match place {
+                Some(class) => self.is_settled_class(class, plain),
+                None => !plain,
+            },
+            Shape::Array { .. } => false,
+            Shape::Word(item) => is_primitive(item),
+            _ => true,
+        }
+    }
+
+    /// Whether an item stands for the class that a type without brackets is, and says of it what that says.
+    fn is_base(&self, base: Shape) -> bool
+        ensures { result ≡ is_base self.now base }
+    {
+        self.stands_too(base.place()) && self.is_settled(base)
     }
 
     /// Whether the item of arrays of objects is no program class.

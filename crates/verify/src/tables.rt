@@ -1,6 +1,9 @@
 //! What the verifier looks up by type, proto and method number, made once for a program.
 
-ghost use Rattle.std.specs.Prelude.{◌≡◌, min, slice_index, IfOk};
+ghost use Rattle.std.specs.Prelude.{◌≡◌, true, min, slice_index, IfOk};
+ghost use Rattle.hierarchy.specs.Shapes.{IsOf};
+ghost use Rattle.program_model.specs.ProgramRules.{is_well_formed};
+ghost use Rattle.verify.specs.Building.{AreChainsOf};
 ghost use Rattle.verify.specs.Flow.{greatest};
 ghost use Rattle.verify.specs.Meeting.{IsMeeting};
 ghost use Rattle.verify.specs.Types.{shape_in, shape_of, item_shape, item_of_class, kind_of_class, kind_of_shape, kind_of, reference_kind, cast_kind, kind_of_item, proto_words, is_constructor};
@@ -275,14 +278,15 @@ impl Tables {
         program: &Program,
         hierarchy: &Hierarchy,
     ) -> Result<Tables, AllocError>
-        ensures { IfOk result IsMeeting }
+        ensures meets { IfOk result IsMeeting }
+        ensures chains { is_well_formed program.now ≡ true → IsOf program.now hierarchy.now → IfOk result (λ t. AreChainsOf program.now t.chains) }
     {
         let found = make_bases(alloc, program)?;
         let bases = base_shapes(alloc, &found)?;
         let items = base_items(alloc, &found)?;
         let shapes = type_shapes(alloc, &found, bases.as_slice(), items.as_slice())?;
         let words = proto_words(alloc, program.protos.as_slice(), shapes.as_slice())?;
-        let chains = Chains::make(alloc, hierarchy, word(program.classes.len()))?;
+        let chains = Chains::make(alloc, program, hierarchy)?;
         let tables = Tables {
             chains,
             classes: class_names(alloc, program.classes.as_slice())?,
@@ -294,7 +298,7 @@ impl Tables {
             constructors: constructors(alloc, program)?,
             listed: listed(alloc, program)?,
         };
-        Ok(tables.checked(alloc))
+        tables.checked()
     }
 
     /// What a type is.

@@ -1,10 +1,10 @@
 //! Typings of methods.
 
-ghost use Rattle.std.specs.Prelude.{◌≡◌, ◌≤◌, length, slice_get, All, Some, IfNone, IfSome, IfOk, IfErr, OnOk};
+ghost use Rattle.std.specs.Prelude.{◌≡◌, ◌≤◌, true, length, slice_get, All, Some, IfNone, IfSome, IfOk, IfErr, OnOk};
 ghost use Rattle.std.specs.Option.{option_copied};
 ghost use Rattle.verify.specs.Entry.{begun};
 ghost use Rattle.verify.specs.Flow.{greatest, places_of};
-ghost use Rattle.verify.specs.Typings.{IsExact, IsLeastTyping, Refuses as RefusesBody};
+ghost use Rattle.verify.specs.Typings.{IsShort, IsLeastTyping, Refuses as RefusesBody};
 ghost use Rattle.verify.specs.Meeting.{IsMeeting};
 ghost use Rattle.verify.specs.Names.{parameters_of, result_of};
 ghost use Rattle.verify.specs.Methods.{receiver_of, constructs, HasTyping, Refuses, Types, HasTypings, TypesAt, RefusesAt, RefusesIn, AllBelow, RefusesFirst, IsFor};
@@ -95,8 +95,16 @@ impl Setting<'_> {
     }
 }
 
+/// Whether the positions and regions of a body have numbers of 32 bits.
+fn is_short(body: &Body) -> bool
+    ensures { result ≡ true → IsShort body.now }
+{
+    body.insns.len() <= u32::MAX as usize && body.regions.len() <= u32::MAX as usize
+}
+
 impl Setting<'_> {
-    /// The least typing of a body that is entered with these kinds. `IllTyped` stands where there is none.
+    /// The least typing of a body that is entered with these kinds. `IllTyped` stands where there is none. A body whose
+    /// positions have no numbers of 32 bits, which no well-formed program has, is more than memory is asked for.
     fn judge(
         &self,
         alloc: Global,
@@ -105,9 +113,12 @@ impl Setting<'_> {
         passed: &Passed<'_>,
     ) -> Result<Typings, TypeFault>
         requires { IsMeeting self.now.tables.now }
-        ensures typed { IfOk result (λ x. IsExact self.now body.now → IsLeastTyping self.now body.now (begun self.now body.now passed.now.receiver passed.now.kinds.now) (places_of x.states.items)) }
+        ensures typed { IfOk result (λ x. IsLeastTyping self.now body.now (begun self.now body.now passed.now.receiver passed.now.kinds.now) (places_of x.states.items)) }
         ensures refused { IfErr result (λ e. RefusesBody self.now body.now (begun self.now body.now passed.now.receiver passed.now.kinds.now) method e) }
     {
+        if !is_short(body) {
+            return Err(TypeFault::NoMemory);
+        }
         let covering = covering(alloc, body)?;
         let code = Code {
             setting: self,

@@ -1,0 +1,15 @@
+use Rattle.std.proofs.Common.{◌≡◌, ◌+◌, ◌<◌, ◌^◌, arith, ap, ◌∙◌}
+use Rattle.dalvik_defs.specs.Effect.{Goes, next, register, write}
+use Rattle.dalvik_state.specs.Views.{frame_of, value_of}
+use Rattle.dalvik_act.proofs.Goes.{on_pair}
+use Rattle.dalvik_act.proofs.Outward.{held}
+use Rattle.dalvik_act.proofs.going.moves_pair.Goals as goal
+
+pub returns-clause-does : goal.returns-clause-does
+returns-clause-does c = λ n k h w.
+    let f = c.args.frame.now in
+    let below : c.set_pair.new.self.position < 2 ^ 63 = omega (arith, c.set_pair.ensures.position) in
+    let low : value_of n c.get-low.result ≡ register (frame_of n f) c.args.from = ap (value_of n) c.get-low.ensures ∙ held n f c.args.from in
+    let high : value_of n c.get_second-high.result ≡ register (frame_of n f) (c.args.from + 1) = ap (value_of n) c.get_second-high.ensures ∙ held n f (c.args.from + 1) in
+    on_pair n f c.set_pair.new.self c.next.new.self w (c.next.ensures below) c.args.to c.get-low.result c.get_second-high.result c.set_pair.ensures
+    ∙ (λ i. Goes w (next (write (write (frame_of n f) c.args.to (low i)) (c.args.to + 1) (high i))))

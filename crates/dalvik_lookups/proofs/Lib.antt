@@ -1,0 +1,4 @@
+pub mod Interned
+pub mod Making
+pub mod Placed
+pub mod Descriptors

@@ -1,0 +1,8 @@
+use Rattle.std.proofs.Common.{refl}
+use Rattle.dalvik_lookups.proofs.lookups.tables_of.Goals as goal
+
+pub returns : goal.returns
+returns c = record {
+  over = record { program = refl; types = refl; texts = refl; kinds = refl; strings = refl; class_of = refl; class_kinds = refl };
+  classes = refl;
+}

@@ -1,0 +1,5 @@
+use Rattle.dalvik_lookups.specs.Tables.{AreReady, Grows}
+use Rattle.dalvik_lookups.proofs.plays.gifts_of.Given as goal
+
+abbrev pub invariant-loop-value : goal.invariant-loop-value
+invariant-loop-value l = record { grows : AreReady l.initial.names → Grows l.initial.names l.names }

@@ -1,0 +1,5 @@
+use Rattle.verify.proofs.Follows.{follows}
+use Rattle.verify.proofs.laws.chains_law.Goals as goal
+
+pub returns : goal.returns
+returns c = follows

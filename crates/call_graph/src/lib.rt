@@ -24,6 +24,3 @@ mod tables;
 
 pub use calls::{Edge, callees};
 pub use live_set::{LiveSet, live_members};
-
-#[cfg(test)]
-mod tests;

@@ -32,6 +32,3 @@ pub use laws::marks_law;
 pub use opcodes::format_of;
 pub use read::{read_body, read_code};
 pub use sizes::Sizes;
-
-#[cfg(test)]
-mod tests;

@@ -18,6 +18,3 @@ mod tries;
 mod units;
 
 pub use item::{CodeBytes, write_body, write_body_with};
-
-#[cfg(test)]
-mod tests;

@@ -18,8 +18,6 @@ mod word;
 pub use command::{CommandWords, OptimiseWords, Tell, read_words};
 pub use word::Word;
 
-#[cfg(test)]
-mod tests;
 
 /// The usage text: five lines, each with a newline.
 pub const USAGE: &str =

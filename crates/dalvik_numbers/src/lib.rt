@@ -14,6 +14,3 @@ pub use floats::FloatTable;
 pub use operators::{Number, Sort, binary, compare, literal, sort_of, unary};
 pub use tests_of::{is_before, is_not_behind};
 pub use words::{cut_byte, cut_char, cut_short};
-
-#[cfg(test)]
-mod tests;

@@ -23,6 +23,3 @@ pub use leb::{read_sleb, read_uleb, write_sleb, write_uleb};
 pub use mutf8::{read_text, write_text};
 pub use text::{Text, compare_units};
 pub use word::{read_u16, read_u32, write_u16, write_u32};
-
-#[cfg(test)]
-mod tests;

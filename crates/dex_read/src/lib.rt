@@ -16,6 +16,3 @@ mod reader;
 
 pub use fault::DexFault;
 pub use reader::read_dex;
-
-#[cfg(test)]
-mod tests;

@@ -22,6 +22,3 @@ mod texts;
 mod writer;
 
 pub use writer::write_dex;
-
-#[cfg(test)]
-mod tests;

@@ -19,6 +19,3 @@ pub use nulls::Nullness;
 pub use numbers::Word;
 pub use ranges::Interval;
 pub use values::Value;
-
-#[cfg(test)]
-mod tests;

@@ -17,6 +17,3 @@ pub use firsts::Blocks;
 pub use starts::blocks;
 pub use walks::successors;
 pub use weak::{Part, weak_order};
-
-#[cfg(test)]
-mod tests;

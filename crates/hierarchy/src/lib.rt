@@ -30,6 +30,3 @@ pub use build::Hierarchy;
 pub use fault::HierarchyFault;
 pub use find::Given;
 pub use walk::Walk;
-
-#[cfg(test)]
-mod tests;

@@ -14,6 +14,3 @@ mod widths;
 pub use form::Insn;
 pub use format::Format;
 pub use ops::{BinaryOp, CmpOp, InvokeKind, Item, LiteralOp, Slot, Test, UnaryOp};
-
-#[cfg(test)]
-mod tests;

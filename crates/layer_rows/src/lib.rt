@@ -8,6 +8,10 @@ mod size;
 pub use size::is_small;
 
 #[cfg(test)]
+mod ancestry;
+#[cfg(test)]
+mod floats;
+#[cfg(test)]
 mod grammar;
 #[cfg(test)]
 mod matching;
@@ -16,6 +20,16 @@ mod model;
 #[cfg(test)]
 mod pools;
 #[cfg(test)]
+mod reached;
+#[cfg(test)]
+mod removed;
+#[cfg(test)]
+mod rounds;
+#[cfg(test)]
 mod sample;
 #[cfg(test)]
+mod scripts;
+#[cfg(test)]
 mod well_formed;
+#[cfg(test)]
+mod workload;

@@ -11,6 +11,3 @@ mod write;
 
 pub use read::{LinesRead, read_lines};
 pub use write::write_lines;
-
-#[cfg(test)]
-mod tests;

@@ -12,6 +12,3 @@ pub use asks::proto_text;
 pub use counts::{count_instructions, count_members};
 pub use rounds::{Outcome, optimise};
 pub use silent::silence;
-
-#[cfg(test)]
-mod tests;

@@ -10,6 +10,3 @@ mod remove;
 
 pub use closing::close;
 pub use remove::apply;
-
-#[cfg(test)]
-mod tests;

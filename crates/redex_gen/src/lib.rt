@@ -6,6 +6,3 @@ mod bodies;
 mod names;
 
 pub use bodies::generate;
-
-#[cfg(test)]
-mod tests;

@@ -13,6 +13,3 @@ pub use fault::LayFault;
 pub use layout::{Layout, lay_out};
 pub use payload::payload_units;
 pub use step::new_number;
-
-#[cfg(test)]
-mod tests;

@@ -19,6 +19,3 @@ mod words;
 pub use events::write_events;
 pub use script::read_script;
 pub use text_defs::{Play, ScriptFault};
-
-#[cfg(test)]
-mod tests;

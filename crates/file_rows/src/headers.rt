@@ -1,4 +1,4 @@
-use super::*;
+use dex_read::{DexFault, read_dex};
 use std::test::*;
 
 #[test]

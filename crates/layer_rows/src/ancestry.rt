@@ -1,5 +1,5 @@
-use super::*;
 use dex_base::Text;
+use hierarchy::{Hierarchy, HierarchyFault};
 use program_model::{Body, Class, Flags, Method, MethodAt, MethodName, Program, Proto, Version};
 use seq::Seq;
 use std::alloc::{AllocError, Global};

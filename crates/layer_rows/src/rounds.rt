@@ -1,4 +1,4 @@
-use super::*;
+use pipeline::optimise;
 use program_model::{Outside, Program, Version};
 use redex_outside::Panel;
 use seq::Seq;

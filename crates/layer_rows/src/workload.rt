@@ -1,5 +1,5 @@
-use super::*;
 use program_model::{Insn, count_cells};
+use redex_gen::generate;
 use std::test::*;
 
 #[test]

@@ -1,6 +1,6 @@
 ghost use Rattle.std.specs.Prelude.{◌<◌, ◌^◌, length};
 
-use super::*;
+use code_read::{CodeFault, Sizes, read_body, read_code};
 use program_model::{Body, Handler, Insn, InvokeKind, Region, Slot};
 use seq::{Seq, Words};
 use std::alloc::Global;

@@ -1,5 +1,5 @@
-use super::*;
 use program_model::{Body, Insn, Renumber, Test};
+use relax::{LayFault, lay_out};
 use seq::Seq;
 use std::alloc::{AllocError, Global};
 use std::test::*;

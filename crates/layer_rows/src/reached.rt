@@ -1,4 +1,4 @@
-use super::*;
+use call_graph::{Edge, callees, live_members};
 use dex_base::Text;
 use hierarchy::Hierarchy;
 use program_model::{

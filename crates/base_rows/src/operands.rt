@@ -1,4 +1,4 @@
-use super::*;
+use insn_set::{BinaryOp, Insn, InvokeKind};
 use seq::{Seq, Words};
 use std::test::*;
 

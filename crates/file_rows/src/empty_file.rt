@@ -1,4 +1,4 @@
-use super::*;
+use dex_write::write_dex;
 use program_model::{Program, Version};
 use seq::Seq;
 use std::test::*;

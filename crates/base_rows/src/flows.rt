@@ -1,4 +1,4 @@
-use crate::{blocks, successors, weak_order};
+use flow_cfg::{blocks, successors, weak_order};
 use program_model::{Body, Handler, Insn, Region, Test};
 use seq::Seq;
 use std::alloc::{AllocError, Global};

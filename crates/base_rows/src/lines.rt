@@ -1,4 +1,4 @@
-use super::*;
+use line_tables::{read_lines, write_lines};
 use std::alloc::{AllocError, Global};
 use std::test::*;
 

@@ -1,4 +1,7 @@
-use super::*;
+use dex_base::{
+    BaseFault, Descriptor, Text, adler, compare_units, read_sleb, read_text, read_uleb,
+    split_descriptor, write_sleb, write_text, write_uleb,
+};
 use std::cmp::Ordering;
 use std::test::*;
 

@@ -1,6 +1,6 @@
-use super::*;
 use dalvik_defs::{Event, Given, Move, Shown};
 use dex_base::Text;
+use script_text::{ScriptFault, read_script, write_events};
 use std::alloc::Global;
 use std::test::Fail;
 

@@ -1,6 +1,6 @@
 //! The domains through their bound, and what no clause says: that the calls succeed.
 
-use crate::{ClassSet, Interval, Nullness, Value, Word};
+use domains::{ClassSet, Interval, Nullness, Value, Word};
 use lattice_core::{Domain, Lattice};
 use std::alloc::{AllocError, Global};
 use std::test::Fail;

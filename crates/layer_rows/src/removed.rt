@@ -1,7 +1,7 @@
-use super::*;
 use dex_base::Text;
 use hierarchy::Hierarchy;
 use program_model::{Class, ClassIf, Flags, Method, MethodName, Outside, Program, Proto, Version};
+use reach::{apply, close};
 use seq::Seq;
 use std::alloc::{AllocError, Global};
 use std::test::*;

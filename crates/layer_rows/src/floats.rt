@@ -1,5 +1,5 @@
-use super::*;
 use dalvik_defs::{FloatOp, FloatRow, Floats};
+use dalvik_numbers::{FloatTable, Number, binary, literal};
 use program_model::{BinaryOp, LiteralOp};
 use seq::Seq;
 use std::test::*;

@@ -1,4 +1,4 @@
-use super::*;
+use code_write::write_body;
 use program_model::{Body, Handler, Insn, InvokeKind, Region, Renumber, Slot};
 use relax::lay_out;
 use seq::{Seq, Words};

@@ -18,7 +18,6 @@ mod word;
 pub use command::{CommandWords, OptimiseWords, Tell, read_words};
 pub use word::Word;
 
-
 /// The usage text: five lines, each with a newline.
 pub const USAGE: &str =
     "usage: redex optimise RULES IN OUT [--spare PREFIX].. [--at-most N] [--inline] [--library FILE]

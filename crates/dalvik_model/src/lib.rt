@@ -7,12 +7,8 @@
 //! no memory for a step, nothing has happened: a step takes its memory before it changes anything.
 #![tactic(auto)]
 
-mod answering;
-mod entering;
 mod happens;
 mod machine;
-mod moves;
-mod touching;
 
 pub use dalvik_defs::{
     Event, FloatOp, FloatRow, Floats, Framework, FrameworkType, Given, Move, Shown,

@@ -3,9 +3,9 @@
 ghost use Rattle.std.specs.Prelude.{◌≡◌, ◌+◌, ◌<◌, ◌≤◌, IfOk, OnOk, OnErr, vec_len};
 
 use crate::happens::happens;
-use crate::moves::moves;
 use dalvik_defs::{Event, Floats, Framework, Move};
 use dalvik_lookups::{Kind, Lookups, Memo};
+use dalvik_moves::moves;
 use dalvik_numbers::FloatTable;
 use dalvik_state::{State, Tables, Waiting};
 use dalvik_steps::{ends, initialises};

@@ -1,6 +1,6 @@
 use dex_base::{
-    BaseFault, Descriptor, Text, adler, compare_units, read_sleb, read_text, read_uleb,
-    split_descriptor, write_sleb, write_text, write_uleb,
+    BaseFault, Descriptor, Text, adler, compare_units, read_sleb, read_text, read_u16, read_u32,
+    read_uleb, split_descriptor, write_sleb, write_text, write_u16, write_u32, write_uleb,
 };
 use std::cmp::Ordering;
 use std::test::*;

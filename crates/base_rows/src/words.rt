@@ -1,4 +1,4 @@
-use command_line::{CommandWords, OptimiseWords, read_words};
+use command_line::{CommandWords, OptimiseWords, USAGE, read_words};
 use std::alloc::Global;
 use std::test::Fail;
 

@@ -6,7 +6,7 @@
 
 mod answering;
 mod entering;
-mod moves;
+mod framework;
 mod touching;
 
-pub use moves::moves;
+pub use framework::moves;

@@ -51,33 +51,36 @@ fn top_of(state: &State<'_>) -> Top {
     }
 }
 
-impl<'a> Parts<'a> {
-    /// The opening of a run, none where the program's classes have a fault.
-    fn new(
-        alloc: Global,
-        program: &'a Program,
-        outside: &Outside,
-        framework: &'a Framework,
-        floats: &Floats,
-        script: &'a [Move],
-    ) -> Result<Option<Parts<'a>>, AllocError> {
-        let (lookups, plays) = match Lookups::new(alloc, program, outside, framework, script)? {
-            Some(tables) => tables,
-            None => return Ok(None),
-        };
-        let memo = lookups.memo(alloc)?;
-        let floats = FloatTable::new(alloc, floats)?;
-        let tables = Tables {
+/// The tables of a run, none where the program's classes have a fault.
+fn tables_of<'a>(
+    alloc: Global,
+    program: &'a Program,
+    outside: &Outside,
+    framework: &'a Framework,
+    floats: &Floats,
+    script: &'a [Move],
+) -> Result<Option<Tables<'a>>, AllocError> {
+    let floats = FloatTable::new(alloc, floats)?;
+    match Lookups::new(alloc, program, outside, framework, script)? {
+        Some((lookups, plays)) => Ok(Some(Tables {
             lookups,
             floats,
             plays,
-        };
+        })),
+        None => Ok(None),
+    }
+}
+
+impl<'a> Parts<'a> {
+    /// The opening of a run over its tables.
+    fn new(alloc: Global, tables: Tables<'a>) -> Result<Parts<'a>, AllocError> {
+        let memo = tables.lookups.memo(alloc)?;
         let state = State::new(alloc, &tables)?;
-        Ok(Some(Parts {
+        Ok(Parts {
             tables,
             memo,
             state,
-        }))
+        })
     }
 
     /// One step, and what it shows.
@@ -115,7 +118,10 @@ impl<'a> Machine<'a> {
     ) -> Result<Machine<'a>, AllocError>
         ensures { IfOk result (λ machine. machine.steps ≡ 0) }
     {
-        let run = Parts::new(alloc, program, outside, framework, floats, script)?;
+        let run = match tables_of(alloc, program, outside, framework, floats, script)? {
+            Some(tables) => Some(Parts::new(alloc, tables)?),
+            None => None,
+        };
         Ok(Machine { steps: 0, run })
     }
 

@@ -158,9 +158,9 @@ adds_array item args w f = Goes (with_thing w (Items item (map (register f) args
 
 -- an array that is there is filled, unless it lacks places
 abbrev pub Fills : Datum → Item → Bool → List ℕ → OwnWorld → OwnWorld → OwnFrame → OwnFrame → OwnEffect → Type 0
-Fills array item lacks data world world' old new effect = (n : Names) → Knows n → old.position < 2 ^ 63 → (kind : Kind) (items : List Datum) → shape_at (spots_of world) array ≡ Some (Array kind items)
-    → lacks ≡ nat_lt (length items) (length data) → item ≡ item_of_type (n.kind kind)
-    → effect_of n effect (world_of n world') (frame_of n new) ≡ fills (Some (Items (n.kind kind) (map (value_of n) items))) (world_of n world) (frame_of n old) (value_of n array) data
+Fills array item lacks bits world world' old new effect = (n : Names) → Knows n → old.position < 2 ^ 63 → (kind : Kind) (items : List Datum) → shape_at (spots_of world) array ≡ Some (Array kind items)
+    → lacks ≡ nat_lt (length items) (length bits) → item ≡ item_of_type (n.kind kind)
+    → effect_of n effect (world_of n world') (frame_of n new) ≡ fills (Some (Items (n.kind kind) (map (value_of n) items))) (world_of n world) (frame_of n old) (value_of n array) bits
 
 -- an item that is there is written, where the value fits
 abbrev pub Stores : Datum → ℕ → Datum → Bool → OwnWorld → OwnWorld → OwnFrame → OwnFrame → OwnEffect → Type 0

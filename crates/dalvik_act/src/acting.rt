@@ -85,7 +85,6 @@ fn act_fields<'a>(frame: &Frame<'a>, insn: &'a Insn) -> Effect<'a>
 
 /// What an instruction does in its frame and to the heap. What doesn't go on in the frame leaves it as it was, and so does
 /// want of memory, the only error.
-#[tactic(auto, using(dalvik_state::proofs::Kept::leaves_same, dalvik_state::proofs::Kept::same))]
 pub fn act<'a>(
     alloc: Global,
     tables: &Tables<'a>,

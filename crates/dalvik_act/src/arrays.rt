@@ -122,16 +122,16 @@ fn fills_items<'a>(
     array: Datum,
     item: Item,
     lacks: bool,
-    data: &[u64],
+    numbers: &[u64],
 ) -> Effect<'a>
     ensures left { Leaves result frame.old frame.new }
     ensures kept { LeavesWorld result world.old world.new }
-    ensures does { Fills array item lacks data.now world.old world.new frame.old frame.new result }
+    ensures does { Fills array item lacks numbers.now world.old world.new frame.old frame.new result }
 {
     if lacks {
         Effect::Faults(known::OUT_OF_BOUNDS)
     } else {
-        world.fill(array, item, data);
+        world.fill(array, item, numbers);
         goes_on(frame)
     }
 }
@@ -142,16 +142,16 @@ fn fills<'a>(
     world: &mut World,
     frame: &mut Frame<'a>,
     array: Datum,
-    data: &[u64],
+    numbers: &[u64],
 ) -> Effect<'a>
     ensures left { Leaves result frame.old frame.new }
     ensures kept { LeavesWorld result world.old world.new }
-    ensures does { DoesNamed tables.now (λ n w f. unless_null (value_of n array) (fills (thing_at w (value_of n array)) w f (value_of n array) data.now)) world.old world.new frame.old frame.new result }
+    ensures does { DoesNamed tables.now (λ n w f. unless_null (value_of n array) (fills (thing_at w (value_of n array)) w f (value_of n array) numbers.now)) world.old world.new frame.old frame.new result }
 {
     match shape_of(world, array) {
         Some((kind, length)) => {
             let item = tables.lookups.types.item(kind);
-            fills_items(world, frame, array, item, length < data.len(), data)
+            fills_items(world, frame, array, item, length < numbers.len(), numbers)
         }
         None => unless_null(array, Effect::Stuck),
     }
@@ -169,6 +169,7 @@ pub fn act_arrays<'a>(
     ensures err { OnErr result (IsSame frame.old frame.new) }
     ensures lost { OnErr result (IsSameWorld world.old world.new) }
     ensures kept { IfOk result (λ effect. LeavesWorld effect world.old world.new) }
+    ensures still { IsTrue (is_length insn.now) → IsSameWorld world.old world.new }
     ensures acts { IsTrue (is_length insn.now) → IsShort (spots_of world.old) → IfOk result (ActsWith insn.now world.old world.new frame.old frame.new) }
     ensures named { IsTrue (is_array_form insn.now) → IfOk result (ActsNamed tables.now insn.now world.old world.new frame.old frame.new) }
 {
@@ -378,6 +379,7 @@ pub fn act_items<'a>(
     ensures err { OnErr result (IsSame frame.old frame.new) }
     ensures lost { OnErr result (IsSameWorld world.old world.new) }
     ensures kept { IfOk result (λ effect. LeavesWorld effect world.old world.new) }
+    ensures still { IsTrue (is_get insn.now) → IsSameWorld world.old world.new }
     ensures gets { IsTrue (is_get insn.now) → IfOk result (ActsWith insn.now world.old world.new frame.old frame.new) }
     ensures puts { IsTrue (is_put insn.now) → IfOk result (ActsTested insn.now world.old world.new frame.old frame.new) }
 {

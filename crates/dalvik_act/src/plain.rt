@@ -128,12 +128,19 @@ pub fn is_instance(
     }
 }
 
-/// Goes on where a value is null or an instance.
-fn casts<'a>(frame: &mut Frame<'a>, datum: Datum, holds: bool) -> Effect<'a>
-    ensures left { Leaves result frame.old frame.new }
-    ensures does { Does (λ n w f. casts_by (is_null_in datum || holds) w f) frame.old frame.new result }
+/// Whether a value may be cast: it is null or an instance.
+fn may_cast(datum: Datum, holds: bool) -> bool
+    ensures { result ≡ (is_null_in datum || holds) }
 {
-    if datum.is_null() || holds {
+    datum.is_null() || holds
+}
+
+/// Goes on where a value may be cast.
+fn casts<'a>(frame: &mut Frame<'a>, passes: bool) -> Effect<'a>
+    ensures left { Leaves result frame.old frame.new }
+    ensures does { Does (λ n w f. casts_by passes w f) frame.old frame.new result }
+{
+    if passes {
         goes_on(frame)
     } else {
         Effect::Faults(known::BAD_CAST)
@@ -157,7 +164,7 @@ pub fn act_types<'a>(
             let datum = frame.get(*on);
             let kind = tables.lookups.kind(*kind);
             let holds = is_instance(tables, memo, world, datum, kind)?;
-            Ok(casts(frame, datum, holds))
+            Ok(casts(frame, may_cast(datum, holds)))
         }
         Insn::InstanceOf { to, from, kind } => {
             let datum = frame.get(*from);

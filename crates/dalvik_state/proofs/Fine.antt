@@ -80,8 +80,8 @@ module _ (n : Names) where
 
   read_at : (size : ℕ) (cells : List Datum) (args : List ℕ) → ((r : ℕ) → IsFine n size (cell cells r)) → (r : ℕ) → IsFine n size (cell (map (cell cells) args) r)
   read_at size cells [] h r = tt
-  read_at size cells (a ∷ as) h zero = h a
-  read_at size cells (a ∷ as) h (suc r) = read_at size cells as h r
+  read_at size cells (a ∷ rest) h zero = h a
+  read_at size cells (a ∷ rest) h (suc r) = read_at size cells rest h r
 
   pub fine_read : (size : ℕ) (cells : List Datum) (args : List ℕ) → AreFine n size cells → AreFine n size (map (cell cells) args)
   fine_read size cells args h = record { at = read_at size cells args h.at }

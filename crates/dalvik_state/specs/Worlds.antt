@@ -48,8 +48,8 @@ put_shape place d (Plain kind) = Plain kind
 
 -- the first items of an array are filled with some bits
 abbrev pub fill_shape : Item → List ℕ → Shape → Shape
-fill_shape item data (Array kind items) = Array kind (fill_in item data items)
-fill_shape item data (Plain kind) = Plain kind
+fill_shape item bits (Array kind items) = Array kind (fill_in item bits items)
+fill_shape item bits (Plain kind) = Plain kind
 
 -- the thing with a number is changed
 abbrev pub reshape : (Shape → Shape) → List Spot → ℕ → List Spot

@@ -42,10 +42,10 @@ fn filled(item: Item, bits: u64) -> Datum
 }
 
 /// Fills the first items of an array.
-pub(crate) fn fill(items: &mut [Datum], item: Item, data: &[u64])
-    ensures { items.new ≡ fill_in item data.now items.old }
+pub(crate) fn fill(items: &mut [Datum], item: Item, numbers: &[u64])
+    ensures { items.new ≡ fill_in item numbers.now items.old }
 {
-    for (place, bits) in data.iter().enumerate() {
+    for (place, bits) in numbers.iter().enumerate() {
         write_register(items, place, filled(item, *bits));
     }
 }

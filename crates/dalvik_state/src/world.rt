@@ -58,21 +58,21 @@ fn put_at(heap: &mut Vec<Cell>, number: usize, place: usize, datum: Datum)
 }
 
 /// Fills the first items of a thing, unless it is no array.
-fn fill_thing(thing: &mut Thing, item: Item, data: &[u64])
-    ensures { shape_of thing.new ≡ fill_shape item data.now (shape_of thing.old) }
+fn fill_thing(thing: &mut Thing, item: Item, numbers: &[u64])
+    ensures { shape_of thing.new ≡ fill_shape item numbers.now (shape_of thing.old) }
 {
     match thing {
-        Thing::Items { kind: _, items } => fill(items.as_mut_slice(), item, data),
+        Thing::Items { kind: _, items } => fill(items.as_mut_slice(), item, numbers),
         Thing::Instance(_) => {}
     }
 }
 
 /// Fills the first items of the thing with a number.
-fn fill_at(heap: &mut Vec<Cell>, number: usize, item: Item, data: &[u64])
-    ensures { map spot_of heap.new.items ≡ reshape (fill_shape item data.now) (map spot_of heap.old.items) number }
+fn fill_at(heap: &mut Vec<Cell>, number: usize, item: Item, numbers: &[u64])
+    ensures { map spot_of heap.new.items ≡ reshape (fill_shape item numbers.now) (map spot_of heap.old.items) number }
 {
     if number < heap.len() {
-        fill_thing(&mut heap[number].thing, item, data);
+        fill_thing(&mut heap[number].thing, item, numbers);
     }
 }
 
@@ -161,11 +161,11 @@ impl World {
     }
 
     /// Fills the first items of the array that a value refers to.
-    pub fn fill(&mut self, array: Datum, item: Item, data: &[u64])
-        ensures { IsHeap self.old self.new (reshape_at (fill_shape item data.now) (spots_of self.old) array) }
+    pub fn fill(&mut self, array: Datum, item: Item, numbers: &[u64])
+        ensures { IsHeap self.old self.new (reshape_at (fill_shape item numbers.now) (spots_of self.old) array) }
     {
         if let Datum::Object(number) = array {
-            fill_at(&mut self.heap, number as usize, item, data);
+            fill_at(&mut self.heap, number as usize, item, numbers);
         }
     }
 

@@ -12,9 +12,9 @@ returns-then-number-len c =
     let cell = c.index_mut.result.now in
     let inside : c.args.number < length cells = omega arith in
     let there : slice_get cells c.args.number ≡ Some cell = slice_get-get_or cells c.args.number cell inside ∙ ap (λ (x : Cell). Some x) (sym c.index_mut.ensures.value) in
-    reshaped (fill_shape c.args.item c.args.data.now) cells c.args.number cell (record cell { thing = c.fill_thing.new.thing }) there c.fill_thing.ensures refl
+    reshaped (fill_shape c.args.item c.args.numbers.now) cells c.args.number cell (record cell { thing = c.fill_thing.new.thing }) there c.fill_thing.ensures refl
 
 pub returns-else-number-len : goal.returns-else-number-len
 returns-else-number-len c =
     let past : length c.args.heap.now.items ≤ c.args.number = omega arith in
-    sym (reshaped_past (fill_shape c.args.item c.args.data.now) c.args.heap.now.items c.args.number past)
+    sym (reshaped_past (fill_shape c.args.item c.args.numbers.now) c.args.heap.now.items c.args.number past)

@@ -1,5 +1,5 @@
 pub mod Answered
-pub mod Arrays
+pub mod Elements
 pub mod Goes
 pub mod Lengths
 pub mod Outward

@@ -34,7 +34,7 @@ use Rattle.dalvik_lookups.specs.Views.{AreTypes, IsNamed}
 use Rattle.dalvik_state.specs.Views.{Names, AreFineLocks, HasType, IsFine, IsFineFrame, TellsApart, frame_of, names_in, value_of, world_of}
 use Rattle.dalvik_state.specs.declared.state.Tables.{Tables}
 use Rattle.dalvik_lookups.specs.declared.types.Kind.{Kind}
-use Rattle.dalvik_state.specs.Worlds.{Shape, Plain, Array, Spot, shape_at}
+use Rattle.dalvik_state.specs.Worlds.{Shape, Plain, Array, Spot, shape_at, spots_of}
 use Rattle.dalvik_state.specs.declared.world.World.{World as OwnWorld}
 use Rattle.dalvik_state.specs.Effects.{effect_of, plain}
 use Rattle.dalvik_state.specs.declared.effect.Effect.{Effect as OwnEffect}

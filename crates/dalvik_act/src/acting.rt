@@ -126,7 +126,8 @@ pub fn act<'a>(
             Ok(act_monitors(world, frame, insn))
         }
         Insn::CheckCast { .. } | Insn::InstanceOf { .. } => {
-            act_types(tables, memo, world, frame, insn)
+            let effect = act_types(tables, memo, world, frame, insn)?;
+            Ok(effect)
         }
         Insn::ArrayLength { .. }
         | Insn::NewArray { .. }

@@ -8,10 +8,10 @@ ghost use Rattle.dalvik_defs.specs.ActArray.{array_get, fills, measures, reads_i
 ghost use Rattle.dalvik_defs.specs.Effect.{unless_null};
 ghost use Rattle.dalvik_defs.specs.Items.{item_of_type};
 ghost use Rattle.dalvik_defs.specs.State.{thing_at};
-ghost use Rattle.dalvik_state.specs.Frames.{IsSame, Leaves};
+ghost use Rattle.dalvik_state.specs.Frames.{IsSame, Leaves, stored_in};
 ghost use Rattle.dalvik_state.specs.Views.{Names, frame_of, value_of, world_of};
 ghost use Rattle.dalvik_state.specs.Worlds.{LeavesWorld, IsSameWorld, shape_at, spots_of};
-ghost use Rattle.dalvik_act.specs.Acting.{ActsNamed, ActsTested, ActsWith, Does, DoesIn, DoesNamed, DoesTo, Fills, IsShort, Stores, adds_array, adds_zeros, contents_of, fits_by, fits_in, is_array_form, is_get, is_length, is_put, item_in, new_array_of, outline_of, place_below, place_in, puts_by};
+ghost use Rattle.dalvik_act.specs.Acting.{ActsNamed, ActsTested, ActsWith, Does, DoesIn, DoesNamed, DoesTo, Fills, IsShort, Puts, Stores, adds_array, adds_zeros, contents_of, fits_by, fits_in, is_array_form, is_get, is_length, is_put, item_in, new_array_of, outline_of, place_below, place_in, puts_by};
 
 use crate::going::{goes_on, sets, sets_item};
 use crate::plain::{is_instance, unless_null};

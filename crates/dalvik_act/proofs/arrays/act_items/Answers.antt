@@ -1,5 +1,5 @@
 use Rattle.std.proofs.Common.{◌≡◌, ℕ, ◌%◌, ◌^◌, ap, sym, ◌∙◌, subst}
-use Rattle.std.specs.Prelude.{ℤ, Bool}
+use Rattle.std.specs.Prelude.{ℤ, Bool, false}
 use Rattle.std.specs.Int.{w32, cast_signed}
 use Rattle.std.proofs.lemmas.Result.{IfOk-weaker}
 use Rattle.insn_set.specs.declared.form.Insn.{Insn}
@@ -16,7 +16,7 @@ use Rattle.dalvik_state.specs.Frames.{number_in}
 use Rattle.dalvik_state.specs.Views.{frame_of, value_of, world_of}
 use Rattle.dalvik_act.specs.Acting.{Answers, fits_by, puts_by}
 use Rattle.dalvik_act.proofs.Answered.{number_at}
-use Rattle.dalvik_act.proofs.Arrays.{puts_tested}
+use Rattle.dalvik_act.proofs.Elements.{puts_tested}
 use Rattle.dalvik_act.proofs.Outward.{held}
 use Rattle.dalvik_act.proofs.arrays.act_items.Goals as goal
 
@@ -25,8 +25,8 @@ returns-in-ArrayGet-clause-gets c = λ is under floats n k h.
     let w = world_of n c.args.world.now in
     let f = frame_of n c.args.frame.now in
     let asked = c.in-ArrayGet in
-    let array : value_of n c.get.result ≡ register f asked.array = ap (value_of n) c.get.ensures ∙ held n c.args.frame.now asked.array in
-    let index : cast_signed w32 c.word.result ≡ signed false (number f asked.index) = ap (cast_signed w32) (c.word.ensures ∙ ap (λ (d : Datum). number_in d % 2 ^ 32) c.get-in-ArrayGet.ensures ∙ ap (λ (x : ℕ). x % 2 ^ 32) (number_at n c.args.frame.now asked.index)) in
+    let array : value_of n c.get-array.result ≡ register f asked.array = ap (value_of n) c.get-array.ensures ∙ held n c.args.frame.now asked.array in
+    let index : cast_signed w32 c.word-index.result ≡ signed false (number f asked.index) = ap (cast_signed w32) (c.word-index.ensures ∙ ap (λ (d : Datum). number_in d % 2 ^ 32) c.get.ensures ∙ ap (λ (x : ℕ). x % 2 ^ 32) (number_at n c.args.frame.now asked.index)) in
     c.array_get.ensures.does n k h
     ∙ (λ i. unless_null (array i) (array_get asked.item (thing_at w (array i)) w f asked.to (index i)))
     ∙ ap (λ (x : Insn). act under floats (form_of n.program x) w f) (sym asked.is)
@@ -38,7 +38,7 @@ returns-in-ArrayPut-clause-puts c = λ is. IfOk-weaker c.array_put.result _ _ (�
     let asked = c.in-ArrayPut in
     let from : value_of n c.get-in-ArrayPut.result ≡ register f asked.from = ap (value_of n) c.get-in-ArrayPut.ensures ∙ held n c.args.frame.now asked.from in
     let array : value_of n c.get-in-ArrayPut-2.result ≡ register f asked.array = ap (value_of n) c.get-in-ArrayPut-2.ensures ∙ held n c.args.frame.now asked.array in
-    let index : cast_signed w32 c.word-in-ArrayPut.result ≡ signed false (number f asked.index) = ap (cast_signed w32) (c.word-in-ArrayPut.ensures ∙ ap (λ (d : Datum). number_in d % 2 ^ 32) c.get-in-ArrayPut-3.ensures ∙ ap (λ (x : ℕ). x % 2 ^ 32) (number_at n c.args.frame.now asked.index)) in
+    let index : cast_signed w32 c.word.result ≡ signed false (number f asked.index) = ap (cast_signed w32) (c.word.ensures ∙ ap (λ (d : Datum). number_in d % 2 ^ 32) c.get-in-ArrayPut-3.ensures ∙ ap (λ (x : ℕ). x % 2 ^ 32) (number_at n c.args.frame.now asked.index)) in
     let answer = subst (λ (x : Insn). Answers under p.0 (form_of n.program x) w f) asked.is a in
     p.1 n k h
     ∙ (λ i. unless_null (array i) (puts_by (fits_by p.0 asked.item (from i)) asked.item (thing_at w (array i)) w f (from i) (array i) (index i)))

@@ -6,7 +6,7 @@ use Rattle.dalvik_defs.specs.State.{Thing}
 use Rattle.dalvik_state.specs.Views.{frame_of, value_of, world_of}
 use Rattle.dalvik_state.specs.Worlds.{shape_at, spots_of}
 use Rattle.dalvik_act.specs.Acting.{fits_by, outline_of, puts_by}
-use Rattle.dalvik_act.proofs.Arrays.{no_outline, outlined, to_array, to_other}
+use Rattle.dalvik_act.proofs.Elements.{no_outline, outlined, to_array, to_other}
 use Rattle.dalvik_act.proofs.arrays.array_put.Goals as goal
 
 pub returns-in-Some-clause-does : goal.returns-in-Some-clause-does

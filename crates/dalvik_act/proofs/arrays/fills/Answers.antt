@@ -5,7 +5,7 @@ use Rattle.dalvik_defs.specs.State.{Thing}
 use Rattle.dalvik_state.specs.Views.{frame_of, names_in, value_of, world_of}
 use Rattle.dalvik_state.specs.Worlds.{shape_at, spots_of}
 use Rattle.dalvik_act.specs.Acting.{outline_of}
-use Rattle.dalvik_act.proofs.Arrays.{no_outline, outlined, to_array, to_other}
+use Rattle.dalvik_act.proofs.Elements.{no_outline, outlined, to_array, to_other}
 use Rattle.dalvik_act.proofs.Tabled.{knows_named}
 use Rattle.dalvik_act.proofs.arrays.fills.Goals as goal
 

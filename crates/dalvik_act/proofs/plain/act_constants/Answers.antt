@@ -1,10 +1,11 @@
-use Rattle.std.proofs.Common.{◌≡◌, ℕ, ap, sym, subst, ◌∙◌}
+use Rattle.std.proofs.Common.{◌≡◌, ℕ, rules, ap, sym, subst, ◌∙◌}
+use Rattle.std.specs.Int.{w32, w64, cast_unsigned}
 use Rattle.insn_set.specs.declared.form.Insn.{Insn}
 use Rattle.dalvik_defs.specs.Naming.{form_of, text_at, type_at}
 use Rattle.dalvik_defs.specs.Effect.{sets, sets_wide}
 use Rattle.dalvik_defs.specs.Act.{act}
 use Rattle.dalvik_defs.specs.declared.state.Value.{Value}
-use Rattle.dalvik_defs.specs.declared.state.Value.TheVariants.{Literal, Class}
+use Rattle.dalvik_defs.specs.declared.state.Value.TheVariants.{Word, Literal, Class}
 use Rattle.dalvik_state.specs.declared.datum.Datum.{Datum}
 use Rattle.dalvik_state.specs.declared.datum.Datum.TheVariants as datum
 use Rattle.dalvik_state.specs.Views.{frame_of, names_in, value_of}
@@ -16,14 +17,18 @@ pub returns-in-Const-clause-acts : goal.returns-in-Const-clause-acts
 returns-in-Const-clause-acts c = λ is under floats named placed h w.
     let l = c.args.tables.now.lookups in
     let f = frame_of (names_in l) c.args.frame.now in
+    let bits : c.cast_unsigned.result ≡ cast_unsigned w32 c.in-Const.value = search rules in
     c.sets.ensures.does (names_in l) (knows_named l named.types) h w
+    ∙ ap (λ (x : ℕ). sets w f c.in-Const.to (Word x)) bits
     ∙ ap (λ (x : Insn). act under floats (form_of l.program.now x) w f) (sym c.in-Const.is)
 
 pub returns-in-ConstWide-clause-acts : goal.returns-in-ConstWide-clause-acts
 returns-in-ConstWide-clause-acts c = λ is under floats named placed h w.
     let l = c.args.tables.now.lookups in
     let f = frame_of (names_in l) c.args.frame.now in
+    let bits : c.cast_unsigned-in-ConstWide.result ≡ cast_unsigned w64 c.in-ConstWide.value = search rules in
     c.sets_wide.ensures.does (names_in l) (knows_named l named.types) h w
+    ∙ ap (λ (x : ℕ). sets_wide w f c.in-ConstWide.to x) bits
     ∙ ap (λ (x : Insn). act under floats (form_of l.program.now x) w f) (sym c.in-ConstWide.is)
 
 pub returns-in-ConstString-clause-acts : goal.returns-in-ConstString-clause-acts

@@ -8,6 +8,7 @@ use Rattle.std.proofs.lemmas.Option.{slice_get-map}
 use Rattle.std.proofs.lemmas.Int.{ints}
 use Rattle.std.proofs.lemmas.Bool.{cases_lt}
 use lib.ListN.{length-map}
+use mir.Val.{sel}
 use Rattle.insn_set.specs.declared.ops.Item.{Item}
 use Rattle.insn_set.specs.declared.ops.Item.TheVariants as item
 use Rattle.dalvik_defs.specs.Names.{Text, is_wide, item_of}
@@ -29,7 +30,10 @@ use Rattle.dalvik_state.specs.declared.datum.Datum.TheVariants as datum
 use Rattle.dalvik_state.specs.declared.frame.Frame.{Frame}
 use Rattle.dalvik_state.specs.declared.world.World.{World as OwnWorld}
 use Rattle.dalvik_state.specs.Frames.{cell, fill_in, is_null_in, zero_in, IsMoved}
-use Rattle.dalvik_state.specs.Worlds.{Shape, Plain, Array, Spot, fill_shape, new_spot, put_shape, reshape_at, shape_at, shape_of, spots_of, IsHeap}
+use Rattle.dalvik_state.specs.Worlds.{Shape, Plain, Array, Spot, fill_shape, new_spot, put_shape, reshape_at, shape_at, shape_of, spots_of, IsHeap, LeavesWorld}
+use Rattle.dalvik_state.specs.declared.effect.Effect.{Effect as OwnEffect}
+use Rattle.dalvik_state.specs.declared.effect.Effect.TheVariants as own
+use Rattle.dalvik_state.proofs.Kept.{goes_world}
 use Rattle.dalvik_state.specs.Views.{Names, field_in, names_in, value_of, values_of, thing_of, world_of, frame_of}
 use Rattle.dalvik_state.proofs.Named.{cell_named, moved_named, null_named}
 use Rattle.dalvik_state.proofs.Storing.{fill_named, zeros_named}
@@ -91,7 +95,9 @@ pub place_low : (x : ℕ) → x < 2147483648 → Some x ≡ place_in (cast_signe
 place_low x h = ap place_in (let e : pos x ≡ cast_signed w32 x = omega (arith, ints) in e)
 
 pub place_high : (x : ℕ) → 2147483648 ≤ x → x < 2 ^ 32 → None ≡ place_in (cast_signed w32 x)
-place_high x h k = ap place_in (let e : negsuc (2 ^ 32 - suc x) ≡ cast_signed w32 x = omega (arith, ints) in e)
+place_high x h k =
+    let past : nat_lt x 2147483648 ≡ false = grind (arith) in
+    sym (ap (λ (b : Bool). place_in (sel b (pos x) (negsuc (4294967296 - suc x)))) past)
 
 -- a number that is placed is itself
 pub placed : (x i : ℕ) → place_in (cast_signed w32 x) ≡ Some i → cast_signed w32 x ≡ pos i
@@ -288,3 +294,8 @@ made_there x h i e item w f to = ap (λ (z : ℤ). new_array_of z item w f to) (
 pub made_nowhere : (z : ℤ) (item : Text) (w : World) (f : NamedFrame) (to : ℕ) → None ≡ place_in z → Faults negative_size ≡ new_array_of z item w f to
 made_nowhere (pos k) item w f to e = absurd (cc)
 made_nowhere (negsuc k) item w f to e = refl
+
+-- ---- what goes on may have changed the world
+
+pub went : (e : OwnEffect) (old new : OwnWorld) → e ≡ own.Goes → LeavesWorld e old new
+went e old new h = subst (λ (x : OwnEffect). LeavesWorld x old new) (sym h) (goes_world old new)

@@ -212,12 +212,7 @@ fn item_at(items: &[Datum], index: u32) -> Option<Datum>
 }
 
 /// Goes on with an item that was read; none is there where the index is out of range.
-fn gets_item<'a>(
-    frame: &mut Frame<'a>,
-    item: Item,
-    to: u16,
-    found: Option<Datum>,
-) -> Effect<'a>
+fn gets_item<'a>(frame: &mut Frame<'a>, item: Item, to: u16, found: Option<Datum>) -> Effect<'a>
     ensures left { Leaves result frame.old frame.new }
     ensures does { Does (λ n w f. reads_item item (option_map (value_of n) found) w f to) frame.old frame.new result }
 {
@@ -292,13 +287,7 @@ fn place_within(index: u32, length: usize) -> Option<usize>
     ensures { result ≡ place_below length (cast_signed w32 index) }
 {
     match place_of(index) {
-        Some(place) => {
-            if place < length {
-                Some(place)
-            } else {
-                None
-            }
-        }
+        Some(place) => { if place < length { Some(place) } else { None } }
         None => None,
     }
 }

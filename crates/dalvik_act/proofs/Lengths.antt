@@ -17,7 +17,7 @@ use Rattle.dalvik_state.specs.Worlds.{Shape, Plain, Array, Spot, shape_at, spots
 use Rattle.dalvik_state.specs.Views.{Names, value_of, thing_of, world_of}
 use Rattle.dalvik_state.proofs.Things.{thing_named}
 
-abbrev number_of : Datum → ℕ
+abbrev pub number_of : Datum → ℕ
 number_of (datum.Object i) = i
 number_of d = 0
 

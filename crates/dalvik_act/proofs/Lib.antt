@@ -1,6 +1,9 @@
 pub mod Answered
+pub mod Elements
 pub mod Goes
 pub mod Lengths
 pub mod Outward
 pub mod Sparse
+pub mod Tabled
 pub mod Tests
+pub mod Typed

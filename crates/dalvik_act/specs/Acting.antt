@@ -1,28 +1,40 @@
 -- What an instruction by numbers has to do in its frame: what it does by names.
-use Rattle.std.specs.Prelude.{ℕ, ℤ, ◌≡◌, ◌<◌, ◌%◌, ◌^◌, ◌&&◌, List, length, nat_eq, Bool, true, false, not, ◌||◌, int_lt, int_le, Option, Some, None}
+use Rattle.std.specs.Prelude.{ℕ, ℤ, pos, negsuc, ◌≡◌, ◌<◌, ◌%◌, ◌^◌, ◌&&◌, List, length, map, nat_eq, nat_lt, slice_get, slice_set, Bool, true, false, not, ◌||◌, int_lt, int_le, Option, Some, None}
+use Rattle.std.specs.Int.{w32, cast_signed}
+use Rattle.insn_set.specs.declared.ops.Item.{Item}
+use Rattle.insn_set.specs.declared.ops.Item.TheVariants as item
+use Rattle.program_model.specs.declared.program.Program.{Program}
 use Rattle.insn_set.specs.declared.ops.Test.{Test}
 use Rattle.insn_set.specs.declared.ops.Test.TheVariants.{Eq, Ne, Lt, Ge, Gt, Le}
 use Rattle.dalvik_defs.specs.Arith.{signed}
 use Rattle.dalvik_state.specs.declared.datum.Datum.{Datum}
-use Rattle.dalvik_state.specs.Frames.{same_in, number_in}
+use Rattle.dalvik_state.specs.Frames.{same_in, number_in, is_null_in}
 use Rattle.insn_set.specs.declared.form.Insn.{Insn}
 use Rattle.insn_set.specs.declared.form.Insn.TheVariants as insn
 use Rattle.insn_set.specs.Spelling.{keys_ascend}
-use Rattle.dalvik_defs.specs.Names.{Text}
-use Rattle.dalvik_defs.specs.Naming.{form_of}
+use Rattle.dalvik_defs.specs.Names.{Text, is_array}
+use Rattle.dalvik_defs.specs.Naming.{form_of, type_at}
+use Rattle.dalvik_defs.specs.Items.{item_of_type}
+use Rattle.dalvik_defs.specs.declared.forms.Form.{Form}
+use Rattle.dalvik_defs.specs.declared.forms.Form.TheVariants as form
+use Rattle.dalvik_defs.specs.declared.state.Value.{Value}
+use Rattle.dalvik_defs.specs.ActArray.{fills, item_at, put_item, writes_item, zeros}
+use Rattle.dalvik_defs.specs.ActPlain.{exits}
 use Rattle.dalvik_defs.specs.Known.{arithmetic_exception, null_pointer, bad_cast, negative_size, bad_store, out_of_bounds, bad_monitor}
 use Rattle.dalvik_defs.specs.Operators.{Number}
-use Rattle.dalvik_defs.specs.State.{World}
+use Rattle.dalvik_defs.specs.State.{World, Thing, Instance, Items, is_null, kind_of, next_object, thing_at, with_thing}
 use Rattle.dalvik_defs.specs.declared.state.Frame.{Frame}
-use Rattle.dalvik_defs.specs.Effect.{Effect, Faults, unless_null}
+use Rattle.dalvik_defs.specs.Effect.{Effect, Goes, Faults, Stuck, next, register, sets, unless_null}
 use Rattle.dalvik_defs.specs.ActNumber.{sets_number}
 use Rattle.dalvik_defs.specs.Act.{act}
 use Rattle.dalvik_defs.specs.declared.tables.Floats.{Floats}
 use Rattle.dalvik_numbers.specs.Rows.{IsTable}
 use Rattle.dalvik_numbers.specs.declared.floats.FloatTable.{FloatTable}
-use Rattle.dalvik_state.specs.Views.{Names, IsFineFrame, TellsApart, frame_of, value_of, world_of}
+use Rattle.dalvik_lookups.specs.Views.{AreTypes, IsNamed}
+use Rattle.dalvik_state.specs.Views.{Names, AreFineLocks, HasType, IsFine, IsFineFrame, TellsApart, frame_of, names_in, value_of, world_of}
+use Rattle.dalvik_state.specs.declared.state.Tables.{Tables}
 use Rattle.dalvik_lookups.specs.declared.types.Kind.{Kind}
-use Rattle.dalvik_state.specs.Worlds.{Shape, Plain, Array, Spot, shape_at}
+use Rattle.dalvik_state.specs.Worlds.{Shape, Plain, Array, Spot, shape_at, spots_of}
 use Rattle.dalvik_state.specs.declared.world.World.{World as OwnWorld}
 use Rattle.dalvik_state.specs.Effects.{effect_of, plain}
 use Rattle.dalvik_state.specs.declared.effect.Effect.{Effect as OwnEffect}
@@ -101,6 +113,138 @@ abbrev pub ActsWith : Insn → OwnWorld → OwnWorld → OwnFrame → OwnFrame �
 ActsWith x world world' old new effect = (under : Text → Text → Bool) (floats : Floats) (n : Names) → Knows n → old.position < 2 ^ 63
     → effect_of n effect (world_of n world') (frame_of n new) ≡ act under floats (form_of n.program x) (world_of n world) (frame_of n old)
 
+-- ---- arrays
+
+-- the place of an index that isn't negative, and where it is among so many
+abbrev pub place_in : ℤ → Option ℕ
+place_in (pos n) = Some n
+place_in (negsuc n) = None
+
+abbrev pub place_below : ℕ → ℤ → Option ℕ
+place_below size (pos n) = elim (nat_lt n size) [ true ↦ Some n | false ↦ None ]
+place_below size (negsuc n) = None
+
+-- the item at an index
+abbrev pub item_in : List Datum → ℤ → Option Datum
+item_in ds (pos n) = slice_get ds n
+item_in ds (negsuc n) = None
+
+-- the items of an array
+abbrev pub contents_of : Option Shape → Option (List Datum)
+contents_of (Some (Array kind items)) = Some items
+contents_of (Some (Plain kind)) = None
+contents_of None = None
+
+-- what is done to the world and the frame
+abbrev pub DoesTo : (Names → World → Frame → Effect) → OwnWorld → OwnWorld → OwnFrame → OwnFrame → OwnEffect → Type 0
+DoesTo does world world' old new effect = (n : Names) → Knows n → old.position < 2 ^ 63 → effect_of n effect (world_of n world') (frame_of n new) ≡ does n (world_of n world) (frame_of n old)
+
+-- the same by the names of the tables
+abbrev pub DoesNamed : Tables → (Names → World → Frame → Effect) → OwnWorld → OwnWorld → OwnFrame → OwnFrame → OwnEffect → Type 0
+DoesNamed t does world world' old new effect = AreTypes t.lookups.types → old.position < 2 ^ 63
+    → effect_of (names_in t.lookups) effect (world_of (names_in t.lookups) world') (frame_of (names_in t.lookups) new) ≡ does (names_in t.lookups) (world_of (names_in t.lookups) world) (frame_of (names_in t.lookups) old)
+
+-- an array with items of a type, all zero, and where the size may be negative
+abbrev pub adds_zeros : Text → ℕ → World → Frame → ℕ → Effect
+adds_zeros item size w f to = sets (with_thing w (zeros item size)) f to (next_object w)
+
+abbrev pub new_array_of : ℤ → Text → World → Frame → ℕ → Effect
+new_array_of (negsuc n) item w f to = Faults negative_size
+new_array_of (pos n) item w f to = adds_zeros item n w f to
+
+-- an array with items of a type, those in registers
+abbrev pub adds_array : Text → List ℕ → World → Frame → Effect
+adds_array item args w f = Goes (with_thing w (Items item (map (register f) args))) (next (record f { result = next_object w }))
+
+-- an array that is there is filled, unless it lacks places
+abbrev pub Fills : Datum → Item → Bool → List ℕ → OwnWorld → OwnWorld → OwnFrame → OwnFrame → OwnEffect → Type 0
+Fills array item lacks bits world world' old new effect = (n : Names) → Knows n → old.position < 2 ^ 63 → (kind : Kind) (items : List Datum) → shape_at (spots_of world) array ≡ Some (Array kind items)
+    → lacks ≡ nat_lt (length items) (length bits) → item ≡ item_of_type (n.kind kind)
+    → effect_of n effect (world_of n world') (frame_of n new) ≡ fills (Some (Items (n.kind kind) (map (value_of n) items))) (world_of n world) (frame_of n old) (value_of n array) bits
+
+-- an item that is there is written, where the value fits
+abbrev pub Stores : Datum → ℕ → Datum → Bool → OwnWorld → OwnWorld → OwnFrame → OwnFrame → OwnEffect → Type 0
+Stores array place d fits world world' old new effect = (n : Names) → Knows n → old.position < 2 ^ 63 → (kind : Kind) (items : List Datum) → shape_at (spots_of world) array ≡ Some (Array kind items)
+    → effect_of n effect (world_of n world') (frame_of n new) ≡ writes_item fits (world_of n world) (frame_of n old) (value_of n array) (Items (n.kind kind) (slice_set (map (value_of n) items) place (value_of n d)))
+
+-- whether a value may be stored, by the answer of the test of types
+abbrev pub fits_by : Bool → Item → Value → Bool
+fits_by holds item.Object v = is_null v || holds
+fits_by holds i v = true
+
+abbrev pub fits_in : Bool → Item → Datum → Bool
+fits_in holds item.Object d = is_null_in d || holds
+fits_in holds i d = true
+
+-- a write of an item, by whether the value may be stored
+abbrev pub puts_by : Bool → Item → Option Thing → World → Frame → Value → Value → ℤ → Effect
+puts_by fits i (Some (Items k vs)) w f v on at = elim (item_at vs at) [
+  | Some old ↦ writes_item fits w f on (put_item i k vs at v)
+  | None ↦ Faults out_of_bounds
+]
+puts_by fits i (Some (Instance c fs)) w f v on at = Stuck
+puts_by fits i None w f v on at = Stuck
+
+-- a write of an item of an array that is there
+abbrev pub Puts : Item → Datum → Datum → ℕ → Kind × ℕ → Bool → OwnWorld → OwnWorld → OwnFrame → OwnFrame → OwnEffect → Type 0
+Puts i array d index outline holds world world' old new effect = (n : Names) → Knows n → old.position < 2 ^ 63 → (kind : Kind) (items : List Datum) → shape_at (spots_of world) array ≡ Some (Array kind items) → outline.1 ≡ length items
+    → effect_of n effect (world_of n world') (frame_of n new)
+    ≡ puts_by (fits_by holds i (value_of n d)) i (Some (Items (n.kind kind) (map (value_of n) items))) (world_of n world) (frame_of n old) (value_of n d) (value_of n array) (cast_signed w32 index)
+
+-- ---- constants, tests of types and monitors
+
+-- what an instruction names is there, and the type of an array is one
+abbrev pub IsPlaced : Program → Insn → Type 0
+IsPlaced p (insn.ConstString to string) = string < length p.strings
+IsPlaced p (insn.ConstClass to kind) = HasType p kind
+IsPlaced p (insn.NewArray to size kind) = (kind < length p.types) × (is_array (type_at p kind) ≡ true)
+IsPlaced p (insn.FilledNewArray kind args) = (kind < length p.types) × (is_array (type_at p kind) ≡ true)
+IsPlaced p x = Unit {0}
+
+-- an instruction by the names of the tables, which are those of their program
+abbrev pub ActsNamed : Tables → Insn → OwnWorld → OwnWorld → OwnFrame → OwnFrame → OwnEffect → Type 0
+ActsNamed t x world world' old new effect = (under : Text → Text → Bool) (floats : Floats) → IsNamed t.lookups → IsPlaced t.lookups.program.now x → old.position < 2 ^ 63
+    → effect_of (names_in t.lookups) effect (world_of (names_in t.lookups) world') (frame_of (names_in t.lookups) new)
+    ≡ act under floats (form_of t.lookups.program.now x) (world_of (names_in t.lookups) world) (frame_of (names_in t.lookups) old)
+
+-- the same in each world
+abbrev pub ActsTabled : Tables → Insn → OwnFrame → OwnFrame → OwnEffect → Type 0
+ActsTabled t x old new effect = (under : Text → Text → Bool) (floats : Floats) → IsNamed t.lookups → IsPlaced t.lookups.program.now x → old.position < 2 ^ 63 → (w : World)
+    → effect_of (names_in t.lookups) effect w (frame_of (names_in t.lookups) new) ≡ act under floats (form_of t.lookups.program.now x) w (frame_of (names_in t.lookups) old)
+
+-- goes on where a cast may
+abbrev pub casts_by : Bool → World → Frame → Effect
+casts_by true w f = Goes w (next f)
+casts_by false w f = Faults bad_cast
+
+-- the answer of the test of types that a store asks
+abbrev pub AnswersStore : (Text → Text → Bool) → Bool → World → Value → Option Thing → Type 0
+AnswersStore under holds w v (Some (Items k vs)) = under (kind_of w v) k ≡ holds
+AnswersStore under holds w v t = Unit {0}
+
+-- the answer of the test of types that a form asks
+abbrev pub Answers : (Text → Text → Bool) → Bool → Form → World → Frame → Type 0
+Answers under holds (form.CheckCast on kind) w f = under (kind_of w (register f on)) kind ≡ holds
+Answers under holds (form.InstanceOf to from kind) w f = under (kind_of w (register f from)) kind ≡ holds
+Answers under holds (form.ArrayPut item.Object from array index) w f = AnswersStore under holds w (register f from) (thing_at w (register f array))
+Answers under holds x w f = Unit {0}
+
+-- an instruction that asks at most one test of types, which has some answer
+abbrev pub ActsTested : Insn → OwnWorld → OwnWorld → OwnFrame → OwnFrame → OwnEffect → Type 0
+ActsTested x world world' old new effect = (holds : Bool) × ((under : Text → Text → Bool) (floats : Floats) (n : Names) → Knows n → old.position < 2 ^ 63
+    → Answers under holds (form_of n.program x) (world_of n world) (frame_of n old)
+    → effect_of n effect (world_of n world') (frame_of n new) ≡ act under floats (form_of n.program x) (world_of n world) (frame_of n old))
+
+-- a monitor that is freed, in a world whose locks are of fine values
+abbrev pub ExitsIn : OwnWorld → Datum → OwnEffect → Type 0
+ExitsIn world d effect = (n : Names) → Knows n → TellsApart n → AreFineLocks n (length (spots_of world)) world.locks.entries → IsFine n (length (spots_of world)) d → (f : Frame)
+    → effect_of n effect (world_of n world) f ≡ exits (world_of n world) (value_of n d)
+
+-- an instruction on a monitor, likewise
+abbrev pub ActsLocked : Insn → OwnWorld → OwnFrame → OwnEffect → Type 0
+ActsLocked x world f effect = (under : Text → Text → Bool) (floats : Floats) (n : Names) → Knows n → TellsApart n → AreFineLocks n (length (spots_of world)) world.locks.entries → IsFineFrame n (length (spots_of world)) f
+    → effect_of n effect (world_of n world) (frame_of n f) ≡ act under floats (form_of n.program x) (world_of n world) (frame_of n f)
+
 -- ---- which instructions a function is for
 
 abbrev pub is_move : Insn → Bool
@@ -114,6 +258,37 @@ is_move x = false
 abbrev pub is_length : Insn → Bool
 is_length (insn.ArrayLength to from) = true
 is_length x = false
+
+abbrev pub is_constant : Insn → Bool
+is_constant (insn.Const to value) = true
+is_constant (insn.ConstWide to value) = true
+is_constant (insn.ConstString to string) = true
+is_constant (insn.ConstClass to kind) = true
+is_constant x = false
+
+abbrev pub is_array_form : Insn → Bool
+is_array_form (insn.NewArray to size kind) = true
+is_array_form (insn.FilledNewArray kind args) = true
+is_array_form (insn.FillArray on width items) = true
+is_array_form x = false
+
+abbrev pub is_get : Insn → Bool
+is_get (insn.ArrayGet item to array index) = true
+is_get x = false
+
+abbrev pub is_put : Insn → Bool
+is_put (insn.ArrayPut item from array index) = true
+is_put x = false
+
+abbrev pub is_type_test : Insn → Bool
+is_type_test (insn.CheckCast on kind) = true
+is_type_test (insn.InstanceOf to from kind) = true
+is_type_test x = false
+
+abbrev pub is_monitor : Insn → Bool
+is_monitor (insn.MonitorEnter on) = true
+is_monitor (insn.MonitorExit on) = true
+is_monitor x = false
 
 abbrev pub is_number : Insn → Bool
 is_number (insn.Cmp op to a b) = true
@@ -153,6 +328,14 @@ abbrev pub is_outward : Insn → Bool
 is_outward (insn.NewInstance to kind) = true
 is_outward (insn.Invoke kind method args) = true
 is_outward x = is_field x
+
+-- the instructions that ask a test of types
+abbrev pub is_tested : Insn → Bool
+is_tested x = is_put x || is_type_test x
+
+-- the instructions that leave the world as it is
+abbrev pub is_still : Insn → Bool
+is_still x = not (is_array_form x || is_put x)
 
 -- the instructions whose effect is shown to be that of the definition
 abbrev pub is_exact : Insn → Bool

@@ -1,9 +1,9 @@
 //! What an instruction does in its frame. Reads come before writes, and a form that throws writes no register.
 
 ghost use Rattle.std.specs.Prelude.{IfOk, IsTrue, OnErr};
-ghost use Rattle.dalvik_act.specs.Acting.{ActsIn, ActsNow, ActsWith, IsShort, is_exact, is_field, is_length, is_outward};
+ghost use Rattle.dalvik_act.specs.Acting.{ActsIn, ActsLocked, ActsNamed, ActsNow, ActsTabled, ActsTested, ActsWith, IsShort, is_array_form, is_constant, is_exact, is_field, is_get, is_length, is_monitor, is_outward, is_still, is_tested};
 ghost use Rattle.dalvik_state.specs.Frames.{IsSame, Leaves};
-ghost use Rattle.dalvik_state.specs.Worlds.{spots_of};
+ghost use Rattle.dalvik_state.specs.Worlds.{LeavesWorld, IsSameWorld, spots_of};
 
 use crate::arrays::{act_arrays, act_items};
 use crate::numbers::act_numbers;
@@ -85,7 +85,6 @@ fn act_fields<'a>(frame: &Frame<'a>, insn: &'a Insn) -> Effect<'a>
 
 /// What an instruction does in its frame and to the heap. What doesn't go on in the frame leaves it as it was, and so does
 /// want of memory, the only error.
-#[tactic(auto, using(dalvik_state::proofs::Kept::leaves_same, dalvik_state::proofs::Kept::same))]
 pub fn act<'a>(
     alloc: Global,
     tables: &Tables<'a>,
@@ -98,6 +97,14 @@ pub fn act<'a>(
     ensures err { OnErr result (IsSame frame.old frame.new) }
     ensures measures { IsTrue (is_length insn.now) → IsShort (spots_of world.old) → IfOk result (ActsWith insn.now world.old world.new frame.old frame.new) }
     ensures acts { IsTrue (is_exact insn.now) → IfOk result (ActsIn tables.now.floats insn.now frame.old frame.new) }
+    ensures lost { OnErr result (IsSameWorld world.old world.new) }
+    ensures kept { IfOk result (λ effect. LeavesWorld effect world.old world.new) }
+    ensures still { IsTrue (is_still insn.now) → IsSameWorld world.old world.new }
+    ensures constants { IsTrue (is_constant insn.now) → IfOk result (ActsTabled tables.now insn.now frame.old frame.new) }
+    ensures arrays { IsTrue (is_array_form insn.now) → IfOk result (ActsNamed tables.now insn.now world.old world.new frame.old frame.new) }
+    ensures gets { IsTrue (is_get insn.now) → IfOk result (ActsWith insn.now world.old world.new frame.old frame.new) }
+    ensures tests { IsTrue (is_tested insn.now) → IfOk result (ActsTested insn.now world.old world.new frame.old frame.new) }
+    ensures locks { IsTrue (is_monitor insn.now) → IfOk result (ActsLocked insn.now world.old frame.old) }
 {
     match insn {
         Insn::Nop
@@ -119,7 +126,8 @@ pub fn act<'a>(
             Ok(act_monitors(world, frame, insn))
         }
         Insn::CheckCast { .. } | Insn::InstanceOf { .. } => {
-            act_types(tables, memo, world, frame, insn)
+            let effect = act_types(tables, memo, world, frame, insn)?;
+            Ok(effect)
         }
         Insn::ArrayLength { .. }
         | Insn::NewArray { .. }

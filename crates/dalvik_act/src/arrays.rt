@@ -1,17 +1,20 @@
 //! What an instruction does to an array (Dalvik bytecode, "array-length", "new-array", "filled-new-array",
 //! "fill-array-data", "aget", "aput").
 
-ghost use Rattle.std.specs.Prelude.{◌≡◌, IfOk, IsTrue, OnErr};
-ghost use Rattle.dalvik_defs.specs.ActArray.{measures};
+ghost use Rattle.std.specs.Prelude.{◌≡◌, Bool, IfOk, IsTrue, OnErr};
+ghost use Rattle.std.specs.Option.{option_map};
+ghost use Rattle.std.specs.Int.{w32, cast_signed};
+ghost use Rattle.dalvik_defs.specs.ActArray.{array_get, fills, measures, reads_item, writes_item};
 ghost use Rattle.dalvik_defs.specs.Effect.{unless_null};
+ghost use Rattle.dalvik_defs.specs.Items.{item_of_type};
 ghost use Rattle.dalvik_defs.specs.State.{thing_at};
-ghost use Rattle.dalvik_state.specs.Frames.{IsSame, Leaves};
-ghost use Rattle.dalvik_state.specs.Views.{value_of};
-ghost use Rattle.dalvik_state.specs.Worlds.{shape_at, spots_of};
-ghost use Rattle.dalvik_act.specs.Acting.{ActsWith, DoesIn, IsShort, is_length, outline_of};
+ghost use Rattle.dalvik_state.specs.Frames.{IsSame, Leaves, stored_in};
+ghost use Rattle.dalvik_state.specs.Views.{Names, frame_of, value_of, world_of};
+ghost use Rattle.dalvik_state.specs.Worlds.{LeavesWorld, IsSameWorld, shape_at, spots_of};
+ghost use Rattle.dalvik_act.specs.Acting.{ActsNamed, ActsTested, ActsWith, Does, DoesIn, DoesNamed, DoesTo, Fills, IsShort, Puts, Stores, adds_array, adds_zeros, contents_of, fits_by, fits_in, is_array_form, is_get, is_length, is_put, item_in, new_array_of, outline_of, place_below, place_in, puts_by};
 
-use crate::going::sets;
-use crate::plain::unless_null;
+use crate::going::{goes_on, sets, sets_item};
+use crate::plain::{is_instance, unless_null};
 use dalvik_lookups::{Kind, Memo, known};
 use dalvik_state::{
     Datum, Effect, Frame, Tables, Thing, World, length_word, stored, values_of, zeros,
@@ -30,7 +33,38 @@ fn measures<'a>(world: &World, frame: &mut Frame<'a>, array: Datum, to: u16) -> 
     }
 }
 
-/// A new array, unless its size is negative.
+/// The place of an index, where it isn't negative.
+fn place_of(index: u32) -> Option<usize>
+    ensures { result ≡ place_in (cast_signed w32 index) }
+{
+    if index < 2147483648 {
+        Some(index as usize)
+    } else {
+        None
+    }
+}
+
+/// Goes on with a new array of so many items, all zero.
+fn zeroed_array<'a>(
+    alloc: Global,
+    tables: &Tables<'a>,
+    world: &mut World,
+    frame: &mut Frame<'a>,
+    to: u16,
+    array: (u32, Kind),
+) -> Result<Effect<'a>, AllocError>
+    ensures ok { IfOk result (λ effect. Leaves effect frame.old frame.new) }
+    ensures err { OnErr result (IsSame frame.old frame.new) }
+    ensures lost { OnErr result (IsSameWorld world.old world.new) }
+    ensures kept { IfOk result (λ effect. LeavesWorld effect world.old world.new) }
+    ensures does { IfOk result (DoesNamed tables.now (λ n w f. adds_zeros (n.kind array.1) array.0 w f to) world.old world.new frame.old frame.new) }
+{
+    let thing = zeros(alloc, tables, array.1, array.0)?;
+    let reference = world.add(thing)?;
+    Ok(sets(frame, to, reference))
+}
+
+/// A new array with items of a type, unless its size is negative.
 fn new_array<'a>(
     alloc: Global,
     tables: &Tables<'a>,
@@ -41,19 +75,17 @@ fn new_array<'a>(
 ) -> Result<Effect<'a>, AllocError>
     ensures ok { IfOk result (λ effect. Leaves effect frame.old frame.new) }
     ensures err { OnErr result (IsSame frame.old frame.new) }
+    ensures lost { OnErr result (IsSameWorld world.old world.new) }
+    ensures kept { IfOk result (λ effect. LeavesWorld effect world.old world.new) }
+    ensures does { IfOk result (DoesNamed tables.now (λ n w f. new_array_of (cast_signed w32 array.0) (n.kind array.1) w f to) world.old world.new frame.old frame.new) }
 {
-    let (size, kind) = array;
-    if size.cast_signed() < 0 {
-        return Ok(Effect::Faults(known::NEGATIVE_SIZE));
+    match place_of(array.0) {
+        Some(_) => zeroed_array(alloc, tables, world, frame, to, array),
+        None => Ok(Effect::Faults(known::NEGATIVE_SIZE)),
     }
-    let thing = zeros(alloc, tables, kind.item_of(), size)?;
-    let reference = world.add(thing)?;
-    frame.set(to, reference);
-    frame.next();
-    Ok(Effect::Goes)
 }
 
-/// An array of what stands in registers, which a move-result reads.
+/// An array with items of a type, those that stand in registers, which a move-result reads.
 fn filled_array<'a>(
     alloc: Global,
     world: &mut World,
@@ -63,27 +95,14 @@ fn filled_array<'a>(
 ) -> Result<Effect<'a>, AllocError>
     ensures ok { IfOk result (λ effect. Leaves effect frame.old frame.new) }
     ensures err { OnErr result (IsSame frame.old frame.new) }
+    ensures lost { OnErr result (IsSameWorld world.old world.new) }
+    ensures kept { IfOk result (λ effect. LeavesWorld effect world.old world.new) }
+    ensures does { IfOk result (DoesTo (λ n w f. adds_array (n.kind kind) args.now w f) world.old world.new frame.old frame.new) }
 {
     let items = values_of(alloc, frame, args)?;
-    let kind = kind.item_of();
     frame.result = world.add(Thing::Items { kind, items })?;
     frame.next();
     Ok(Effect::Goes)
-}
-
-/// The bits of an item of a type, as an array is filled with them.
-fn filled(item: Item, bits: u64) -> Datum {
-    match item {
-        Item::Wide => Datum::Low(bits),
-        _ => stored(item, Datum::Word((bits % 4294967296) as u32)),
-    }
-}
-
-/// Fills the first items of an array.
-fn fill(items: &mut [Datum], item: Item, data: &[u64]) {
-    for (cell, bits) in items.iter_mut().zip(data) {
-        *cell = filled(item, *bits);
-    }
 }
 
 /// The item type of an array, and how many items it has.
@@ -96,29 +115,46 @@ fn shape_of(world: &World, array: Datum) -> Option<(Kind, usize)>
     }
 }
 
+/// Fills an array, unless it lacks places.
+fn fills_items<'a>(
+    world: &mut World,
+    frame: &mut Frame<'a>,
+    array: Datum,
+    item: Item,
+    lacks: bool,
+    numbers: &[u64],
+) -> Effect<'a>
+    ensures left { Leaves result frame.old frame.new }
+    ensures kept { LeavesWorld result world.old world.new }
+    ensures does { Fills array item lacks numbers.now world.old world.new frame.old frame.new result }
+{
+    if lacks {
+        Effect::Faults(known::OUT_OF_BOUNDS)
+    } else {
+        world.fill(array, item, numbers);
+        goes_on(frame)
+    }
+}
+
 /// Fills an array, unless it has fewer places than there are items.
-#[tactic(auto, using(dalvik_state::proofs::Kept::leaves_same, dalvik_state::proofs::Kept::same))]
 fn fills<'a>(
     tables: &Tables<'a>,
     world: &mut World,
     frame: &mut Frame<'a>,
     array: Datum,
-    data: &[u64],
+    numbers: &[u64],
 ) -> Effect<'a>
-    ensures { Leaves result frame.old frame.new }
+    ensures left { Leaves result frame.old frame.new }
+    ensures kept { LeavesWorld result world.old world.new }
+    ensures does { DoesNamed tables.now (λ n w f. unless_null (value_of n array) (fills (thing_at w (value_of n array)) w f (value_of n array) numbers.now)) world.old world.new frame.old frame.new result }
 {
-    let (kind, length) = match shape_of(world, array) {
-        Some(shape) => shape,
-        None => return unless_null(array, Effect::Stuck),
-    };
-    if length < data.len() {
-        return Effect::Faults(known::OUT_OF_BOUNDS);
+    match shape_of(world, array) {
+        Some((kind, length)) => {
+            let item = tables.lookups.types.item(kind);
+            fills_items(world, frame, array, item, length < numbers.len(), numbers)
+        }
+        None => unless_null(array, Effect::Stuck),
     }
-    if let Some(items) = world.items_mut(array) {
-        fill(items.as_mut_slice(), tables.lookups.types.item(kind), data);
-    }
-    frame.next();
-    Effect::Goes
 }
 
 /// The length of an array, and new and filled arrays.
@@ -131,7 +167,11 @@ pub fn act_arrays<'a>(
 ) -> Result<Effect<'a>, AllocError>
     ensures ok { IfOk result (λ effect. Leaves effect frame.old frame.new) }
     ensures err { OnErr result (IsSame frame.old frame.new) }
+    ensures lost { OnErr result (IsSameWorld world.old world.new) }
+    ensures kept { IfOk result (λ effect. LeavesWorld effect world.old world.new) }
+    ensures still { IsTrue (is_length insn.now) → IsSameWorld world.old world.new }
     ensures acts { IsTrue (is_length insn.now) → IsShort (spots_of world.old) → IfOk result (ActsWith insn.now world.old world.new frame.old frame.new) }
+    ensures named { IsTrue (is_array_form insn.now) → IfOk result (ActsNamed tables.now insn.now world.old world.new frame.old frame.new) }
 {
     match insn {
         Insn::ArrayLength { to, from } => {
@@ -139,12 +179,15 @@ pub fn act_arrays<'a>(
             Ok(measures(world, frame, array, *to))
         }
         Insn::NewArray { to, size, kind } => {
-            let array = (frame.get(*size).word(), tables.lookups.kind(*kind));
+            let array = (
+                frame.get(*size).word(),
+                tables.lookups.kind(*kind).item_of(),
+            );
             new_array(alloc, tables, world, frame, *to, array)
         }
         Insn::FilledNewArray { kind, args } => {
-            let kind = tables.lookups.kind(*kind);
-            filled_array(alloc, world, frame, kind, args.as_slice())
+            let item = tables.lookups.kind(*kind).item_of();
+            filled_array(alloc, world, frame, item, args.as_slice())
         }
         Insn::FillArray {
             on,
@@ -158,22 +201,38 @@ pub fn act_arrays<'a>(
     }
 }
 
-/// The place of an index, where it isn't negative.
-fn place_of(index: u32) -> Option<usize> {
-    if index.cast_signed() < 0 {
-        None
-    } else {
-        Some(index as usize)
+/// The item at an index, where there is one.
+fn item_at(items: &[Datum], index: u32) -> Option<Datum>
+    ensures { result ≡ item_in items.now (cast_signed w32 index) }
+{
+    match place_of(index) {
+        Some(place) => items.get(place).copied(),
+        None => None,
     }
 }
 
-/// The item at an index, where there is one.
-fn item_at(items: &[Datum], index: u32) -> Option<Datum> {
-    items.get(place_of(index)?).copied()
+/// Goes on with an item that was read; none is there where the index is out of range.
+fn gets_item<'a>(frame: &mut Frame<'a>, item: Item, to: u16, found: Option<Datum>) -> Effect<'a>
+    ensures left { Leaves result frame.old frame.new }
+    ensures does { Does (λ n w f. reads_item item (option_map (value_of n) found) w f to) frame.old frame.new result }
+{
+    match found {
+        Some(datum) => sets_item(frame, item, to, datum),
+        None => Effect::Faults(known::OUT_OF_BOUNDS),
+    }
+}
+
+/// The items of an array.
+fn items_of(world: &World, array: Datum) -> Option<&[Datum]>
+    ensures { option_map (λ items. items.now) result ≡ contents_of (shape_at (spots_of world.now) array) }
+{
+    match world.thing(array) {
+        Some(Thing::Items { kind: _, items }) => Some(items.as_slice()),
+        _ => None,
+    }
 }
 
 /// Reads an item.
-#[tactic(auto, using(dalvik_state::proofs::Kept::leaves_same, dalvik_state::proofs::Kept::same))]
 fn array_get<'a>(
     world: &World,
     frame: &mut Frame<'a>,
@@ -182,19 +241,12 @@ fn array_get<'a>(
     array: Datum,
     index: u32,
 ) -> Effect<'a>
-    ensures { Leaves result frame.old frame.new }
+    ensures left { Leaves result frame.old frame.new }
+    ensures does { DoesIn (λ n w f. unless_null (value_of n array) (array_get item (thing_at w (value_of n array)) w f to (cast_signed w32 index))) world.now frame.old frame.new result }
 {
-    let found = match world.thing(array) {
-        Some(Thing::Items { items, .. }) => item_at(items.as_slice(), index),
-        _ => return unless_null(array, Effect::Stuck),
-    };
-    match found {
-        Some(datum) => {
-            frame.set_item(item, to, datum);
-            frame.next();
-            Effect::Goes
-        }
-        None => Effect::Faults(known::OUT_OF_BOUNDS),
+    match items_of(world, array) {
+        Some(items) => gets_item(frame, item, to, item_at(items, index)),
+        None => unless_null(array, Effect::Stuck),
     }
 }
 
@@ -206,23 +258,18 @@ fn may_store(
     item: Item,
     datum: Datum,
     kind: Kind,
-) -> Result<bool, AllocError> {
+) -> Result<bool, AllocError>
+    ensures { IfOk result (λ fits. fits ≡ fits_in fits item datum) }
+{
     match item {
         Item::Object => {
             if datum.is_null() {
                 Ok(true)
             } else {
-                crate::plain::is_instance(tables, memo, world, datum, kind)
+                is_instance(tables, memo, world, datum, kind)
             }
         }
         _ => Ok(true),
-    }
-}
-
-/// Writes an item that is there.
-fn put_item(world: &mut World, array: Datum, index: u32, datum: Datum) {
-    if let Some(items) = world.items_mut(array) {
-        dalvik_state::write_register(items.as_mut_slice(), index as usize, datum);
     }
 }
 
@@ -235,8 +282,61 @@ struct Putting {
     index: u32,
 }
 
+/// The place of an index among so many items, where there is one.
+fn place_within(index: u32, length: usize) -> Option<usize>
+    ensures { result ≡ place_below length (cast_signed w32 index) }
+{
+    match place_of(index) {
+        Some(place) => { if place < length { Some(place) } else { None } }
+        None => None,
+    }
+}
+
+/// Writes an item that is there, where the value fits.
+fn stores<'a>(
+    world: &mut World,
+    frame: &mut Frame<'a>,
+    put: Putting,
+    place: usize,
+    fits: bool,
+) -> Effect<'a>
+    ensures left { Leaves result frame.old frame.new }
+    ensures kept { LeavesWorld result world.old world.new }
+    ensures does { Stores put.array place (stored_in put.item put.datum) fits world.old world.new frame.old frame.new result }
+{
+    if fits {
+        world.put_item(put.array, place, stored(put.item, put.datum));
+        goes_on(frame)
+    } else {
+        Effect::Faults(known::BAD_STORE)
+    }
+}
+
+/// Writes an item of an array with items of a type: the index is in range, and an object fits.
+fn puts_item<'a>(
+    tables: &Tables<'a>,
+    memo: &mut Memo,
+    world: &mut World,
+    frame: &mut Frame<'a>,
+    put: Putting,
+    outline: (Kind, usize),
+) -> Result<Effect<'a>, AllocError>
+    ensures ok { IfOk result (λ effect. Leaves effect frame.old frame.new) }
+    ensures err { OnErr result (IsSame frame.old frame.new) }
+    ensures lost { OnErr result (IsSameWorld world.old world.new) }
+    ensures kept { IfOk result (λ effect. LeavesWorld effect world.old world.new) }
+    ensures does { IfOk result (λ effect. (holds : Bool) × Puts put.item put.array put.datum put.index outline holds world.old world.new frame.old frame.new effect) }
+{
+    match place_within(put.index, outline.1) {
+        Some(place) => {
+            let fits = may_store(tables, memo, world, put.item, put.datum, outline.0)?;
+            Ok(stores(world, frame, put, place, fits))
+        }
+        None => Ok(Effect::Faults(known::OUT_OF_BOUNDS)),
+    }
+}
+
 /// Writes an item: the array isn't null, the index is in range, and an object fits.
-#[tactic(auto, using(dalvik_state::proofs::Kept::leaves_same, dalvik_state::proofs::Kept::same))]
 fn array_put<'a>(
     tables: &Tables<'a>,
     memo: &mut Memo,
@@ -246,21 +346,14 @@ fn array_put<'a>(
 ) -> Result<Effect<'a>, AllocError>
     ensures ok { IfOk result (λ effect. Leaves effect frame.old frame.new) }
     ensures err { OnErr result (IsSame frame.old frame.new) }
+    ensures lost { OnErr result (IsSameWorld world.old world.new) }
+    ensures kept { IfOk result (λ effect. LeavesWorld effect world.old world.new) }
+    ensures does { IfOk result (λ effect. (holds : Bool) × DoesTo (λ n w f. unless_null (value_of n put.array) (puts_by (fits_by holds put.item (value_of n put.datum)) put.item (thing_at w (value_of n put.array)) w f (value_of n put.datum) (value_of n put.array) (cast_signed w32 put.index))) world.old world.new frame.old frame.new effect) }
 {
-    let (kind, length) = match shape_of(world, put.array) {
-        Some(shape) => shape,
-        None => return Ok(unless_null(put.array, Effect::Stuck)),
-    };
-    match place_of(put.index) {
-        Some(place) if place < length => {}
-        _ => return Ok(Effect::Faults(known::OUT_OF_BOUNDS)),
+    match shape_of(world, put.array) {
+        Some(outline) => puts_item(tables, memo, world, frame, put, outline),
+        None => Ok(unless_null(put.array, Effect::Stuck)),
     }
-    if !may_store(tables, memo, world, put.item, put.datum, kind)? {
-        return Ok(Effect::Faults(known::BAD_STORE));
-    }
-    put_item(world, put.array, put.index, stored(put.item, put.datum));
-    frame.next();
-    Ok(Effect::Goes)
 }
 
 /// Reads and writes of items.
@@ -273,6 +366,11 @@ pub fn act_items<'a>(
 ) -> Result<Effect<'a>, AllocError>
     ensures ok { IfOk result (λ effect. Leaves effect frame.old frame.new) }
     ensures err { OnErr result (IsSame frame.old frame.new) }
+    ensures lost { OnErr result (IsSameWorld world.old world.new) }
+    ensures kept { IfOk result (λ effect. LeavesWorld effect world.old world.new) }
+    ensures still { IsTrue (is_get insn.now) → IsSameWorld world.old world.new }
+    ensures gets { IsTrue (is_get insn.now) → IfOk result (ActsWith insn.now world.old world.new frame.old frame.new) }
+    ensures puts { IsTrue (is_put insn.now) → IfOk result (ActsTested insn.now world.old world.new frame.old frame.new) }
 {
     match insn {
         Insn::ArrayGet {

@@ -18,6 +18,7 @@ use program_model::{Item, Slot};
 /// Goes on with nothing written.
 pub(crate) fn goes_on<'a>(frame: &mut Frame<'a>) -> Effect<'a>
     ensures left { Leaves result frame.old frame.new }
+    ensures goes { result ≡ Effect.Goes }
     ensures does { Does (λ n w f. Goes w (next f)) frame.old frame.new result }
 {
     frame.next();
@@ -27,6 +28,7 @@ pub(crate) fn goes_on<'a>(frame: &mut Frame<'a>) -> Effect<'a>
 /// Goes on with a register written.
 pub(crate) fn sets<'a>(frame: &mut Frame<'a>, to: u16, datum: Datum) -> Effect<'a>
     ensures left { Leaves result frame.old frame.new }
+    ensures goes { result ≡ Effect.Goes }
     ensures does { Does (λ n w f. sets w f to (value_of n datum)) frame.old frame.new result }
 {
     frame.set(to, datum);

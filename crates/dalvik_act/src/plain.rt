@@ -1,13 +1,13 @@
 //! What an instruction does: moves, constants, ends, monitors, types, branches (Dalvik bytecode, "Summary of bytecode
 //! set").
 
-ghost use Rattle.std.specs.Prelude.{◌≡◌, false, slice_get, IfOk, IsTrue, OnErr};
-ghost use Rattle.dalvik_state.specs.Frames.{IsSame, Leaves, number_in};
+ghost use Rattle.std.specs.Prelude.{◌≡◌, ◌||◌, false, slice_get, IfOk, IsTrue, OnErr};
+ghost use Rattle.dalvik_state.specs.Frames.{IsSame, Leaves, is_null_in, number_in};
 ghost use Rattle.dalvik_defs.specs.ActPlain.{packed_target, switch_target};
 ghost use Rattle.dalvik_defs.specs.Arith.{signed};
-ghost use Rattle.dalvik_act.specs.Acting.{Acts, ActsFine, ActsNow, Guards, are_keys, is_end, is_move, is_switch, is_test, passes_in};
+ghost use Rattle.dalvik_act.specs.Acting.{Acts, ActsFine, ActsLocked, ActsNow, ActsTabled, ActsTested, Does, ExitsIn, Guards, are_keys, casts_by, is_constant, is_end, is_monitor, is_move, is_switch, is_test, is_type_test, passes_in};
 
-use crate::going::{branches, goes_on, goes_to, moves, sets, sets_slot};
+use crate::going::{branches, goes_on, goes_to, moves, sets, sets_slot, sets_wide};
 use dalvik_lookups::{Kind, Memo, known};
 use dalvik_numbers::{is_before, is_not_behind};
 use dalvik_state::{Datum, Effect, Frame, Tables, World};
@@ -37,19 +37,22 @@ pub fn act_moves<'a>(frame: &mut Frame<'a>, insn: &'a Insn) -> Effect<'a>
 
 /// The constants.
 pub fn act_constants<'a>(tables: &Tables<'a>, frame: &mut Frame<'a>, insn: &'a Insn) -> Effect<'a>
-    ensures { Leaves result frame.old frame.new }
+    ensures left { Leaves result frame.old frame.new }
+    ensures acts { IsTrue (is_constant insn.now) → ActsTabled tables.now insn.now frame.old frame.new result }
 {
     match insn {
-        Insn::Const { to, value } => frame.set(*to, Datum::Word(value.cast_unsigned())),
-        Insn::ConstWide { to, value } => frame.set_wide(*to, value.cast_unsigned()),
+        Insn::Const { to, value } => sets(frame, *to, Datum::Word(value.cast_unsigned())),
+        Insn::ConstWide { to, value } => sets_wide(frame, *to, value.cast_unsigned()),
         Insn::ConstString { to, string } => {
-            frame.set(*to, Datum::Literal(tables.lookups.string(*string)))
+            let number = tables.lookups.string(*string);
+            sets(frame, *to, Datum::Literal(number))
         }
-        Insn::ConstClass { to, kind } => frame.set(*to, tables.class_constant(*kind)),
-        _ => return Effect::Stuck,
+        Insn::ConstClass { to, kind } => {
+            let class = tables.class_constant(*kind);
+            sets(frame, *to, class)
+        }
+        _ => Effect::Stuck,
     }
-    frame.next();
-    Effect::Goes
 }
 
 /// What ends a frame: returns and throws.
@@ -78,8 +81,21 @@ pub fn unless_null<'a>(datum: Datum, effect: Effect<'a>) -> Effect<'a>
     }
 }
 
+/// Frees a monitor that is held.
+fn exits<'a>(world: &World, datum: Datum) -> Effect<'a>
+    ensures { ExitsIn world.now datum result }
+{
+    if world.locked(datum) == 0 {
+        Effect::Faults(known::BAD_MONITOR)
+    } else {
+        Effect::Unlocks(datum)
+    }
+}
+
 /// The monitors.
-pub fn act_monitors<'a>(world: &World, frame: &Frame<'a>, insn: &'a Insn) -> Effect<'a> {
+pub fn act_monitors<'a>(world: &World, frame: &Frame<'a>, insn: &'a Insn) -> Effect<'a>
+    ensures { IsTrue (is_monitor insn.now) → ActsLocked insn.now world.now frame.now result }
+{
     match insn {
         Insn::MonitorEnter { on } => {
             let datum = frame.get(*on);
@@ -87,11 +103,7 @@ pub fn act_monitors<'a>(world: &World, frame: &Frame<'a>, insn: &'a Insn) -> Eff
         }
         Insn::MonitorExit { on } => {
             let datum = frame.get(*on);
-            if !datum.is_null() && world.locked(datum) == 0 {
-                Effect::Faults(known::BAD_MONITOR)
-            } else {
-                unless_null(datum, Effect::Unlocks(datum))
-            }
+            unless_null(datum, exits(world, datum))
         }
         _ => Effect::Stuck,
     }
@@ -104,10 +116,34 @@ pub fn is_instance(
     world: &World,
     datum: Datum,
     kind: Kind,
-) -> Result<bool, AllocError> {
+) -> Result<bool, AllocError>
+    ensures { IsTrue (is_null_in datum) → IfOk result (λ holds. holds ≡ false) }
+{
+    if datum.is_null() {
+        return Ok(false);
+    }
     match world.kind_of(datum) {
         Some(own) => tables.lookups.is_under(memo, own, kind),
         None => Ok(false),
+    }
+}
+
+/// Whether a value may be cast: it is null or an instance.
+fn may_cast(datum: Datum, holds: bool) -> bool
+    ensures { result ≡ (is_null_in datum || holds) }
+{
+    datum.is_null() || holds
+}
+
+/// Goes on where a value may be cast.
+fn casts<'a>(frame: &mut Frame<'a>, passes: bool) -> Effect<'a>
+    ensures left { Leaves result frame.old frame.new }
+    ensures does { Does (λ n w f. casts_by passes w f) frame.old frame.new result }
+{
+    if passes {
+        goes_on(frame)
+    } else {
+        Effect::Faults(known::BAD_CAST)
     }
 }
 
@@ -121,24 +157,23 @@ pub fn act_types<'a>(
 ) -> Result<Effect<'a>, AllocError>
     ensures ok { IfOk result (λ effect. Leaves effect frame.old frame.new) }
     ensures err { OnErr result (IsSame frame.old frame.new) }
+    ensures acts { IsTrue (is_type_test insn.now) → IfOk result (ActsTested insn.now world.now world.now frame.old frame.new) }
 {
     match insn {
         Insn::CheckCast { on, kind } => {
             let datum = frame.get(*on);
             let kind = tables.lookups.kind(*kind);
-            if !datum.is_null() && !is_instance(tables, memo, world, datum, kind)? {
-                return Ok(Effect::Faults(known::BAD_CAST));
-            }
+            let holds = is_instance(tables, memo, world, datum, kind)?;
+            Ok(casts(frame, may_cast(datum, holds)))
         }
         Insn::InstanceOf { to, from, kind } => {
+            let datum = frame.get(*from);
             let kind = tables.lookups.kind(*kind);
-            let holds = is_instance(tables, memo, world, frame.get(*from), kind)?;
-            frame.set(*to, Datum::truth(holds));
+            let holds = is_instance(tables, memo, world, datum, kind)?;
+            Ok(sets(frame, *to, Datum::truth(holds)))
         }
-        _ => return Ok(Effect::Stuck),
+        _ => Ok(Effect::Stuck),
     }
-    frame.next();
-    Ok(Effect::Goes)
 }
 
 /// Whether two values pass a test.

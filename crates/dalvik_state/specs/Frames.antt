@@ -1,5 +1,7 @@
 -- What a write does to a frame.
-use Rattle.std.specs.Prelude.{◌≡◌, ℕ, Bool, true, false, List, nat_eq, slice_set, slice_index_or, ◌+◌}
+use Rattle.std.specs.Prelude.{◌≡◌, ℕ, ◌+◌, ◌%◌, ◌^◌, Bool, true, false, List, [], ◌∷◌, nat_eq, slice_set, slice_index_or}
+use Rattle.std.specs.Int.{w8, w16}
+use Rattle.dalvik_defs.specs.Arith.{low_signed}
 use Rattle.insn_set.specs.declared.ops.Item.{Item}
 use Rattle.insn_set.specs.declared.ops.Item.TheVariants as item
 use Rattle.insn_set.specs.declared.ops.Slot.{Slot}
@@ -52,6 +54,27 @@ with_slot s cells r d = slice_set cells r d
 abbrev pub with_item : Item → List Datum → ℕ → Datum → List Datum
 with_item item.Wide cells r d = with_wide cells r (number_in d)
 with_item i cells r d = slice_set cells r d
+
+-- what is stored of a value in an item of an array or in a field
+abbrev pub stored_in : Item → Datum → Datum
+stored_in item.Plain d = d
+stored_in item.Wide d = d
+stored_in item.Object d = d
+stored_in item.Boolean d = Word (number_in d % 2 ^ 32 % 2 ^ 8)
+stored_in item.Byte d = Word (low_signed w8 8 (number_in d % 2 ^ 32))
+stored_in item.Char d = Word (number_in d % 2 ^ 32 % 2 ^ 16)
+stored_in item.Short d = Word (low_signed w16 16 (number_in d % 2 ^ 32))
+
+-- the bits of an item, as an array is filled with them
+abbrev pub filled_in : Item → ℕ → Datum
+filled_in item.Wide n = Low n
+filled_in i n = stored_in i (Word (n % 2 ^ 32))
+
+-- the first items are filled, and the others stay
+abbrev pub fill_in : Item → List ℕ → List Datum → List Datum
+fill_in i [] ds = ds
+fill_in i (n ∷ ns) [] = []
+fill_in i (n ∷ ns) (d ∷ ds) = filled_in i n ∷ fill_in i ns ds
 
 -- the registers are these, and all else stays
 pub record IsWritten (old new : Frame) (cells : List Datum) : Type 0 where

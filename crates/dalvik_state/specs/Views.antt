@@ -7,6 +7,7 @@ use Rattle.program_model.specs.declared.program.Program.{Program}
 use Rattle.program_model.specs.declared.program.Class.{Class as OwnClass}
 use Rattle.program_model.specs.declared.program.Field.{Field}
 use Rattle.dalvik_lookups.specs.Views.{text_of, texts_of, type_text}
+use Rattle.dalvik_lookups.specs.Tables.{string_in}
 use Rattle.dalvik_lookups.specs.declared.lookups.Lookups.{Lookups}
 use Rattle.dalvik_lookups.specs.declared.types.Kind.{Kind}
 use Rattle.dalvik_defs.specs.Names.{Text, text_eq, field_eq}
@@ -52,6 +53,39 @@ pub record IsFineFrame (n : Names) (size : ℕ) (f : OwnFrame) : Type 0 where
   pub registers : (r : ℕ) → IsFine n size (cell f.registers.items r)
   pub result : IsFine n size f.result
   pub caught : IsFine n size f.caught
+
+-- the class of a type number
+abbrev pub class_in : Lookups → ℕ → Datum
+class_in l n = elim (slice_get l.program.now.types n) [ Some t ↦ datum.Class (string_in l.strings.items t) | None ↦ datum.Word 0 ]
+
+-- a type number whose descriptor is there
+pub record HasType (p : Program) (n : ℕ) : Type 0 where
+  pub text : ℕ
+  pub is : slice_get p.types n ≡ Some text
+  pub there : text < length p.strings
+
+-- values that are fine
+pub record AreFine (n : Names) (size : ℕ) (ds : List Datum) : Type 0 where
+  pub at : (r : ℕ) → IsFine n size (cell ds r)
+
+-- arrays whose items are fine
+abbrev pub IsFineShape : Names → ℕ → Shape → Type 0
+IsFineShape n size (Plain kind) = Unit {0}
+IsFineShape n size (Array kind items) = AreFine n size items
+
+pub record AreFineSpots (n : Names) (size : ℕ) (spots : List Spot) : Type 0 where
+  pub at : (i : ℕ) (s : Spot) → slice_get spots i ≡ Some s → IsFineShape n size s.shape
+
+-- the values that are locked are fine
+pub record AreFineLocks (n : Names) (size : ℕ) (locks : List (Datum × ℕ)) : Type 0 where
+  pub at : (i : ℕ) (e : Datum × ℕ) → slice_get locks i ≡ Some e → IsFine n size e.0
+
+-- a world whose values are fine
+pub record IsFineWorld (n : Names) (w : OwnWorld) : Type 0 where
+  pub arrays : AreFineSpots n (length (spots_of w)) (spots_of w)
+  pub fields : (i : ℕ) (e : (ℕ × ℕ) × Datum) → slice_get w.fields.entries i ≡ Some e → IsFine n (length (spots_of w)) e.1
+  pub statics : (i : ℕ) (d : Datum) → slice_get w.statics.items i ≡ Some (Some d) → IsFine n (length (spots_of w)) d
+  pub locks : AreFineLocks n (length (spots_of w)) w.locks.entries
 
 -- ---- values and frames
 

@@ -1,13 +1,17 @@
 -- The heap of a run by numbers, as lists.
 use Rattle.std.specs.Prelude.{ℕ, zero, suc, ◌≡◌, List, [], ◌∷◌, ◌++◌, map, Option, Some, None, slice_get, slice_set}
 use Rattle.std.specs.Option.{option_map}
+use Rattle.insn_set.specs.declared.ops.Item.{Item}
 use Rattle.dalvik_lookups.specs.declared.types.Kind.{Kind}
 use Rattle.dalvik_state.specs.declared.datum.Datum.{Datum}
 use Rattle.dalvik_state.specs.declared.datum.Datum.TheVariants as datum
+use Rattle.dalvik_state.specs.Frames.{fill_in}
 use Rattle.dalvik_state.specs.declared.world.Thing.{Thing}
 use Rattle.dalvik_state.specs.declared.world.Thing.TheVariants as thing
 use Rattle.dalvik_state.specs.declared.world.Cell.{Cell}
 use Rattle.dalvik_state.specs.declared.world.World.{World}
+use Rattle.dalvik_state.specs.declared.effect.Effect.{Effect}
+use Rattle.dalvik_state.specs.declared.effect.Effect.TheVariants as effect
 
 pub data Shape : Type 0 where
   Plain : (kind : Kind) → Shape
@@ -42,6 +46,11 @@ abbrev pub put_shape : ℕ → Datum → Shape → Shape
 put_shape place d (Array kind items) = Array kind (slice_set items place d)
 put_shape place d (Plain kind) = Plain kind
 
+-- the first items of an array are filled with some bits
+abbrev pub fill_shape : Item → List ℕ → Shape → Shape
+fill_shape item bits (Array kind items) = Array kind (fill_in item bits items)
+fill_shape item bits (Plain kind) = Plain kind
+
 -- the thing with a number is changed
 abbrev pub reshape : (Shape → Shape) → List Spot → ℕ → List Spot
 reshape f [] i = []
@@ -64,3 +73,11 @@ pub record IsHeap (old new : World) (spots : List Spot) : Type 0 where
 -- nothing has changed
 abbrev pub IsSameWorld : World → World → Type 0
 IsSameWorld old new = IsHeap old new (spots_of old)
+
+abbrev pub keeps_world : Effect → World → World → Type 0
+keeps_world effect.Goes old new = Unit {0}
+keeps_world e old new = IsSameWorld old new
+
+-- an instruction that doesn't go on in its frame leaves the world as it was
+pub record LeavesWorld (e : Effect) (old new : World) : Type 0 where
+  pub kept : keeps_world e old new

@@ -4,12 +4,12 @@ ghost use Rattle.std.specs.Prelude.{◌≡◌, IfOk, map, min, replicate};
 ghost use Rattle.dalvik_defs.specs.Items.{stored};
 ghost use Rattle.dalvik_defs.specs.Names.{is_wide};
 ghost use Rattle.dalvik_lookups.specs.Views.{AreTypes, type_text};
-ghost use Rattle.dalvik_state.specs.Frames.{cell, zero_in};
+ghost use Rattle.dalvik_state.specs.Frames.{cell, fill_in, filled_in, stored_in, zero_in};
 ghost use Rattle.dalvik_state.specs.Worlds.{Array, shape_of};
 ghost use Rattle.dalvik_state.specs.Views.{Names, value_of};
 
 use crate::datum::Datum;
-use crate::frame::Frame;
+use crate::frame::{Frame, write_register};
 use crate::state::Tables;
 use crate::world::Thing;
 use dalvik_lookups::Kind;
@@ -19,7 +19,8 @@ use std::alloc::{AllocError, Global};
 
 /// What is stored of a value in an item of an array or in a field.
 pub fn stored(item: Item, datum: Datum) -> Datum
-    ensures { (n : Names) → value_of n result ≡ stored item (value_of n datum) }
+    ensures named { (n : Names) → value_of n result ≡ stored item (value_of n datum) }
+    ensures is { result ≡ stored_in item datum }
 {
     match item {
         Item::Plain | Item::Wide | Item::Object => datum,
@@ -27,6 +28,25 @@ pub fn stored(item: Item, datum: Datum) -> Datum
         Item::Byte => Datum::Word(cut_byte(datum.word())),
         Item::Char => Datum::Word(cut_char(datum.word())),
         Item::Short => Datum::Word(cut_short(datum.word())),
+    }
+}
+
+/// The bits of an item, as an array is filled with them.
+fn filled(item: Item, bits: u64) -> Datum
+    ensures { result ≡ filled_in item bits }
+{
+    match item {
+        Item::Wide => Datum::Low(bits),
+        _ => stored(item, Datum::Word((bits % 4294967296) as u32)),
+    }
+}
+
+/// Fills the first items of an array.
+pub(crate) fn fill(items: &mut [Datum], item: Item, numbers: &[u64])
+    ensures { items.new ≡ fill_in item numbers.now items.old }
+{
+    for (place, bits) in numbers.iter().enumerate() {
+        write_register(items, place, filled(item, *bits));
     }
 }
 

@@ -1,6 +1,7 @@
 //! The state of a run, and the tables that it reads.
 
 ghost use Rattle.std.specs.Prelude.{◌≡◌, slice_index_or};
+ghost use Rattle.dalvik_state.specs.Views.{class_in};
 
 use crate::datum::Datum;
 use crate::frame::Frame;
@@ -19,7 +20,9 @@ pub struct Tables<'a> {
 
 impl<'a> Tables<'a> {
     /// The class of a type number as a value.
-    pub fn class_constant(&self, kind: u32) -> Datum {
+    pub fn class_constant(&self, kind: u32) -> Datum
+        ensures { result ≡ class_in self.now.lookups kind }
+    {
         match self.lookups.program.types.as_slice().get(kind as usize) {
             Some(string) => Datum::Class(self.lookups.string(*string)),
             None => Datum::NULL,

@@ -1,12 +1,16 @@
 //! The heap, the fields, the monitors, and what was exposed.
 
 ghost use Rattle.std.specs.Prelude.{◌≡◌, ◌++◌, ◌∷◌, [], length, map, IfOk, OnErr, OnOk};
-ghost use Rattle.std.specs.Option.{option_map};
-ghost use Rattle.dalvik_state.specs.Worlds.{IsHeap, IsSameWorld, new_spot, put_shape, reshape, reshape_at, shape_at, shape_of, spot_of, spots_of};
+ghost use Rattle.std.specs.Map.{lookup};
+ghost use Rattle.std.specs.Option.{option_map, unwrap_or};
+ghost use Rattle.dalvik_state.specs.Frames.{same_in};
+ghost use Rattle.dalvik_state.specs.Worlds.{IsHeap, IsSameWorld, fill_shape, new_spot, put_shape, reshape, reshape_at, shape_at, shape_of, spot_of, spots_of};
 
 use crate::datum::Datum;
 use crate::frame::write_register;
+use crate::items::fill;
 use dalvik_lookups::{Kind, known};
+use program_model::Item;
 use std::alloc::{AllocError, Global};
 use std::collections::HashMap;
 
@@ -50,6 +54,25 @@ fn put_at(heap: &mut Vec<Cell>, number: usize, place: usize, datum: Datum)
 {
     if number < heap.len() {
         put_in(&mut heap[number].thing, place, datum);
+    }
+}
+
+/// Fills the first items of a thing, unless it is no array.
+fn fill_thing(thing: &mut Thing, item: Item, numbers: &[u64])
+    ensures { shape_of thing.new ≡ fill_shape item numbers.now (shape_of thing.old) }
+{
+    match thing {
+        Thing::Items { kind: _, items } => fill(items.as_mut_slice(), item, numbers),
+        Thing::Instance(_) => {}
+    }
+}
+
+/// Fills the first items of the thing with a number.
+fn fill_at(heap: &mut Vec<Cell>, number: usize, item: Item, numbers: &[u64])
+    ensures { map spot_of heap.new.items ≡ reshape (fill_shape item numbers.now) (map spot_of heap.old.items) number }
+{
+    if number < heap.len() {
+        fill_thing(&mut heap[number].thing, item, numbers);
     }
 }
 
@@ -137,6 +160,15 @@ impl World {
         }
     }
 
+    /// Fills the first items of the array that a value refers to.
+    pub fn fill(&mut self, array: Datum, item: Item, numbers: &[u64])
+        ensures { IsHeap self.old self.new (reshape_at (fill_shape item numbers.now) (spots_of self.old) array) }
+    {
+        if let Datum::Object(number) = array {
+            fill_at(&mut self.heap, number as usize, item, numbers);
+        }
+    }
+
     /// The type of what a value refers to, none of a number.
     pub fn kind_of(&self, datum: Datum) -> Option<Kind> {
         match datum {
@@ -151,7 +183,9 @@ impl World {
     }
 
     /// How often a monitor is held.
-    pub fn locked(&self, datum: Datum) -> u64 {
+    pub fn locked(&self, datum: Datum) -> u64
+        ensures { result ≡ unwrap_or (lookup (λ k. same_in k datum) self.now.locks.entries) 0 }
+    {
         match self.locks.get(&datum) {
             Some(count) => *count,
             None => 0,

@@ -1,13 +1,26 @@
-use Rattle.std.proofs.Common.{◌≡◌, ap, sym, ◌∙◌}
+use Rattle.std.proofs.Common.{◌≡◌, ℕ, ◌%◌, ◌^◌, ap, sym, subst, ◌∙◌}
+use Rattle.std.specs.Prelude.{ℤ, List, false}
+use Rattle.std.specs.Int.{w32, cast_signed}
+use Rattle.std.proofs.lemmas.Result.{IfOk-weaker}
 use Rattle.insn_set.specs.declared.form.Insn.{Insn}
-use Rattle.dalvik_defs.specs.Naming.{form_of}
+use Rattle.dalvik_defs.specs.Names.{Text, item_of}
+use Rattle.dalvik_defs.specs.Naming.{form_of, type_at}
+use Rattle.dalvik_defs.specs.Arith.{signed}
+use Rattle.dalvik_defs.specs.ActNumber.{number}
 use Rattle.dalvik_defs.specs.State.{thing_at}
 use Rattle.dalvik_defs.specs.declared.state.Value.{Value}
 use Rattle.dalvik_defs.specs.Effect.{register, unless_null}
-use Rattle.dalvik_defs.specs.ActArray.{measures}
+use Rattle.dalvik_defs.specs.ActArray.{fills, measures}
 use Rattle.dalvik_defs.specs.Act.{act}
-use Rattle.dalvik_state.specs.Views.{frame_of, value_of, world_of}
+use Rattle.dalvik_lookups.specs.Views.{type_text}
+use Rattle.dalvik_state.specs.declared.datum.Datum.{Datum}
+use Rattle.dalvik_state.specs.Frames.{number_in}
+use Rattle.dalvik_state.specs.Views.{frame_of, names_in, value_of, world_of}
+use Rattle.dalvik_act.specs.Acting.{IsPlaced, adds_array, new_array_of}
+use Rattle.dalvik_act.proofs.Answered.{number_at}
+use Rattle.dalvik_act.proofs.Elements.{made_by}
 use Rattle.dalvik_act.proofs.Outward.{held}
+use Rattle.dalvik_act.proofs.Tabled.{item_named, knows_named}
 use Rattle.dalvik_act.proofs.arrays.act_arrays.Goals as goal
 
 pub returns-in-ArrayLength-clause-acts : goal.returns-in-ArrayLength-clause-acts
@@ -19,3 +32,42 @@ returns-in-ArrayLength-clause-acts c = λ is short under floats n k h.
     c.measures.ensures.does short n k h
     ∙ ap (λ (v : Value). unless_null v (measures (thing_at w v) w f asked.to)) read
     ∙ ap (λ (x : Insn). act under floats (form_of n.program x) w f) (sym asked.is)
+
+pub returns-in-NewArray-clause-named : goal.returns-in-NewArray-clause-named
+returns-in-NewArray-clause-named c = λ is. IfOk-weaker c.new_array.result _ _ (λ effect does. λ under floats named placed h.
+    let l = c.args.tables.now.lookups in
+    let w = world_of (names_in l) c.args.world.now in
+    let f = frame_of (names_in l) c.args.frame.now in
+    let asked = c.in-NewArray in
+    let there = subst (IsPlaced l.program.now) asked.is placed in
+    let item : type_text l.types c.item_of.result ≡ item_of (type_at l.program.now asked.kind) = item_named l named asked.kind c.kind.result c.item_of.result there.0 there.1 c.kind.ensures.table (λ d. c.item_of.ensures.text d l.types) in
+    let size : cast_signed w32 c.word.result ≡ signed false (number f asked.size) = ap (cast_signed w32) (c.word.ensures ∙ ap (λ (d : Datum). number_in d % 2 ^ 32) c.get.ensures ∙ ap (λ (x : ℕ). x % 2 ^ 32) (number_at (names_in l) c.args.frame.now asked.size)) in
+    does named.types h
+    ∙ (λ i. new_array_of (size i) (item i) w f asked.to)
+    ∙ made_by (signed false (number f asked.size)) (type_at l.program.now asked.kind) w f asked.to
+    ∙ ap (λ (x : Insn). act under floats (form_of l.program.now x) w f) (sym asked.is)) c.new_array.ensures.does
+
+pub returns-in-FilledNewArray-clause-named : goal.returns-in-FilledNewArray-clause-named
+returns-in-FilledNewArray-clause-named c = λ is. IfOk-weaker c.filled_array.result _ _ (λ effect does. λ under floats named placed h.
+    let l = c.args.tables.now.lookups in
+    let w = world_of (names_in l) c.args.world.now in
+    let f = frame_of (names_in l) c.args.frame.now in
+    let asked = c.in-FilledNewArray in
+    let there = subst (IsPlaced l.program.now) asked.is placed in
+    let item : type_text l.types c.item_of-item.result ≡ item_of (type_at l.program.now asked.kind) = item_named l named asked.kind c.kind-in-FilledNewArray.result c.item_of-item.result there.0 there.1 c.kind-in-FilledNewArray.ensures.table (λ d. c.item_of-item.ensures.text d l.types) in
+    let args : c.as_slice.result.now ≡ asked.args = c.as_slice.ensures in
+    does (names_in l) (knows_named l named.types) h
+    ∙ (λ i. adds_array (item i) (args i) w f)
+    ∙ ap (λ (x : Insn). act under floats (form_of l.program.now x) w f) (sym asked.is)) c.filled_array.ensures.does
+
+pub returns-in-FillArray-clause-named : goal.returns-in-FillArray-clause-named
+returns-in-FillArray-clause-named c = λ is under floats named placed h.
+    let l = c.args.tables.now.lookups in
+    let w = world_of (names_in l) c.args.world.now in
+    let f = frame_of (names_in l) c.args.frame.now in
+    let asked = c.in-FillArray in
+    let read : value_of (names_in l) c.get-array-in-FillArray.result ≡ register f asked.on = ap (value_of (names_in l)) c.get-array-in-FillArray.ensures ∙ held (names_in l) c.args.frame.now asked.on in
+    let numbers : c.as_slice-in-FillArray.result.now ≡ asked.items = c.as_slice-in-FillArray.ensures in
+    c.fills.ensures.does named.types h
+    ∙ (λ i. unless_null (read i) (fills (thing_at w (read i)) w f (read i) (numbers i)))
+    ∙ ap (λ (x : Insn). act under floats (form_of l.program.now x) w f) (sym asked.is)

@@ -1,2 +1,10 @@
 pub mod Tables
 pub mod Kept
+pub mod Held
+pub mod Based
+pub mod Mentioned
+pub mod Owned
+pub mod Coded
+pub mod Upward
+pub mod Numbers
+pub mod Calls

@@ -2,4 +2,5 @@
 //! empty body, and their contracts are the laws.
 #![tactic(auto)]
 
+pub mod closed;
 pub mod laws;

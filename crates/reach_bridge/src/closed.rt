@@ -1,0 +1,29 @@
+//! Laws of marks that are closed under what follows: the names of the marked numbers keep what a closed family keeps.
+
+ghost use Rattle.program_model.specs.declared.program.Program.{Program};
+ghost use Rattle.program_model.specs.declared.pass.Outside.{Outside};
+ghost use Rattle.call_graph.specs.declared.live_set.LiveSet.{LiveSet};
+ghost use Rattle.dalvik_defs.specs.Naming.{named};
+ghost use Rattle.pass_defs.specs.Live.{KeepsTypes, KeepsResolved, KeepsAbove, KeepsBound};
+ghost use Rattle.reach_bridge.specs.Names.{family_of};
+ghost use Rattle.reach_bridge.specs.Reached.{IsMarked};
+
+/// The types in the descriptors of live members, and in live code, its handlers and the members that it names, are live.
+pub fn types_law()
+    ensures { (p : Program) (o : Outside) (s : LiveSet) → IsMarked p o s → KeepsTypes (named p) (family_of p s) }
+{}
+
+/// The members to which names in live code resolve are live.
+pub fn resolved_law()
+    ensures { (p : Program) (o : Outside) (s : LiveSet) → IsMarked p o s → KeepsResolved (named p) (family_of p s) }
+{}
+
+/// What stands above a live class is live, and so is its initialiser.
+pub fn above_law()
+    ensures { (p : Program) (o : Outside) (s : LiveSet) → IsMarked p o s → KeepsAbove (named p) (family_of p s) }
+{}
+
+/// What a static, direct or super call in live code finds is live.
+pub fn bound_law()
+    ensures { (p : Program) (o : Outside) (s : LiveSet) → IsMarked p o s → KeepsBound (named p) (family_of p s) }
+{}

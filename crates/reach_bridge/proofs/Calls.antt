@@ -73,13 +73,13 @@ module _ (p : Program) (o : Outside) (s : LiveSet) (g : IsMarked p o s) where
   old_named = version_test p.version ∙ g.old
 
   no_candidates : (ts : List Text) (n : Text) (q : Signature) → find.candidates (named p) ts n q ≡ []
-  no_candidates ts n q = ap (λ b. elim b && not (is_common n q) as (λ b. List Found) [
+  no_candidates ts n q = ap (λ b. elim (b && not (is_common n q)) as (λ b. List Found) [
     | true ↦ find.without_repeats (find.candidates_from (length (named p).classes) (named p) n q ts)
     | false ↦ []
   ]) old_named
 
   no_super_candidates : (k : MethodKey) → super_candidates (named p) k ≡ []
-  no_super_candidates k = ap (λ b. elim b && is_some (find.interface_named (named p) k.class) as (λ b. List Found) [ true ↦ find.candidates (named p) (k.class ∷ []) k.name k.signature | false ↦ [] ]) old_named
+  no_super_candidates k = ap (λ b. elim (b && is_some (find.interface_named (named p) k.class)) as (λ b. List Found) [ true ↦ find.candidates (named p) (k.class ∷ []) k.name k.signature | false ↦ [] ]) old_named
 
   -- what an object answers to it finds along its superclasses
   pub answer_from : (t n : Text) (q : Signature) (f : Found) → In f (answers_to (named p) t n q) → inherits (named p) t n q ≡ Some f

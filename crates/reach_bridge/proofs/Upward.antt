@@ -96,7 +96,7 @@ module _ (p : Program) (o : Outside) (s : LiveSet) (g : IsMarked p o s) where
   class_held t held d = let e = base_defined t d in ap (family_of p s).classes (sym e) ∙ held (ap (defines (named p)) e ∙ d)
 
   module _ (t : Text) (c : NamedClass) (is : class_named (named p) t ≡ Some c) (live : (family_of p s).classes t ≡ true) where
-    number : ByNumber s.classes.items (length p.types) (type_at p) t
+    pub number : ByNumber s.classes.items (length p.types) (type_at p) t
     number = class_number p s t live
 
     pub own : OwnClass p number.number c

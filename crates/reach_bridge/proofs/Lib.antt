@@ -8,3 +8,5 @@ pub mod Coded
 pub mod Upward
 pub mod Numbers
 pub mod Calls
+pub mod Climbing
+pub mod Answered

@@ -4,7 +4,8 @@ ghost use Rattle.program_model.specs.declared.program.Program.{Program};
 ghost use Rattle.program_model.specs.declared.pass.Outside.{Outside};
 ghost use Rattle.call_graph.specs.declared.live_set.LiveSet.{LiveSet};
 ghost use Rattle.dalvik_defs.specs.Naming.{named};
-ghost use Rattle.pass_defs.specs.Live.{KeepsTypes, KeepsResolved, KeepsAbove, KeepsBound};
+ghost use Rattle.dalvik_defs.specs.Outer.{outer_of};
+ghost use Rattle.pass_defs.specs.Live.{KeepsTypes, KeepsResolved, KeepsAbove, KeepsBound, KeepsVirtual, KeepsCalledBack};
 ghost use Rattle.reach_bridge.specs.Names.{family_of};
 ghost use Rattle.reach_bridge.specs.Reached.{IsMarked};
 
@@ -26,4 +27,14 @@ pub fn above_law()
 /// What a static, direct or super call in live code finds is live.
 pub fn bound_law()
     ensures { (p : Program) (o : Outside) (s : LiveSet) → IsMarked p o s → KeepsBound (named p) (family_of p s) }
+{}
+
+/// What each made class under the class that a virtual or interface call of live code names finds for the call is live.
+pub fn virtual_law()
+    ensures { (p : Program) (o : Outside) (s : LiveSet) → IsMarked p o s → KeepsVirtual (named p) (family_of p s) }
+{}
+
+/// What the framework may call on objects of made classes is live, unless it is shut.
+pub fn called_back_law()
+    ensures { (p : Program) (o : Outside) (s : LiveSet) → IsMarked p o s → KeepsCalledBack (named p) (outer_of p o) (family_of p s) }
 {}

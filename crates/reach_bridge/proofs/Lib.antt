@@ -10,3 +10,4 @@ pub mod Numbers
 pub mod Calls
 pub mod Climbing
 pub mod Answered
+pub mod Keeping

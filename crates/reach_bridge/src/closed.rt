@@ -5,9 +5,9 @@ ghost use Rattle.program_model.specs.declared.pass.Outside.{Outside};
 ghost use Rattle.call_graph.specs.declared.live_set.LiveSet.{LiveSet};
 ghost use Rattle.dalvik_defs.specs.Naming.{named};
 ghost use Rattle.dalvik_defs.specs.Outer.{outer_of};
-ghost use Rattle.pass_defs.specs.Live.{KeepsTypes, KeepsResolved, KeepsAbove, KeepsBound, KeepsVirtual, KeepsCalledBack};
+ghost use Rattle.pass_defs.specs.Live.{conditions_of, KeepsKept, KeepsTypes, KeepsResolved, KeepsAbove, KeepsBound, KeepsVirtual, KeepsCalledBack};
 ghost use Rattle.reach_bridge.specs.Names.{family_of};
-ghost use Rattle.reach_bridge.specs.Reached.{IsMarked};
+ghost use Rattle.reach_bridge.specs.Reached.{IsMarked, AreDefined, KeepsOwners};
 
 /// The types in the descriptors of live members, and in live code, its handlers and the members that it names, are live.
 pub fn types_law()
@@ -37,4 +37,15 @@ pub fn virtual_law()
 /// What the framework may call on objects of made classes is live, unless it is shut.
 pub fn called_back_law()
     ensures { (p : Program) (o : Outside) (s : LiveSet) → IsMarked p o s → KeepsCalledBack (named p) (outer_of p o) (family_of p s) }
+{}
+
+/// The class of a live member is live, where the program defines it.
+pub fn owners_law()
+    ensures { (p : Program) (o : Outside) (s : LiveSet) → IsMarked p o s → KeepsOwners (named p) (family_of p s) }
+{}
+
+/// Kept classes and members are live, and conditional ones where their class or owner is. A premise is that the marked
+/// members are of classes of the program: then their classes are live.
+pub fn kept_law()
+    ensures { (p : Program) (o : Outside) (s : LiveSet) → IsMarked p o s → AreDefined p s → KeepsKept (named p) (outer_of p o) (conditions_of p o) (family_of p s) }
 {}

@@ -11,3 +11,4 @@ pub mod Calls
 pub mod Climbing
 pub mod Answered
 pub mod Keeping
+pub mod Making

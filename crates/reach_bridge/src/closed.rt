@@ -5,9 +5,9 @@ ghost use Rattle.program_model.specs.declared.pass.Outside.{Outside};
 ghost use Rattle.call_graph.specs.declared.live_set.LiveSet.{LiveSet};
 ghost use Rattle.dalvik_defs.specs.Naming.{named};
 ghost use Rattle.dalvik_defs.specs.Outer.{outer_of};
-ghost use Rattle.pass_defs.specs.Live.{conditions_of, KeepsKept, KeepsTypes, KeepsResolved, KeepsAbove, KeepsBound, KeepsVirtual, KeepsCalledBack};
+ghost use Rattle.pass_defs.specs.Live.{conditions_of, KeepsKept, KeepsMade, KeepsTypes, KeepsResolved, KeepsAbove, KeepsBound, KeepsVirtual, KeepsCalledBack};
 ghost use Rattle.reach_bridge.specs.Names.{family_of};
-ghost use Rattle.reach_bridge.specs.Reached.{IsMarked, AreDefined, KeepsOwners};
+ghost use Rattle.reach_bridge.specs.Reached.{IsMarked, AreDefined, MakesConcrete, KeepsOwners};
 
 /// The types in the descriptors of live members, and in live code, its handlers and the members that it names, are live.
 pub fn types_law()
@@ -48,4 +48,10 @@ pub fn owners_law()
 /// members are of classes of the program: then their classes are live.
 pub fn kept_law()
     ensures { (p : Program) (o : Outside) (s : LiveSet) → IsMarked p o s → AreDefined p s → KeepsKept (named p) (outer_of p o) (conditions_of p o) (family_of p s) }
+{}
+
+/// Kept classes that can have objects are made, and those of which live code makes objects. A premise is that live code
+/// makes none of classes that are abstract or interfaces, which marks don't make.
+pub fn made_law()
+    ensures { (p : Program) (o : Outside) (s : LiveSet) → IsMarked p o s → MakesConcrete p s → KeepsMade (named p) (outer_of p o) (conditions_of p o) (family_of p s) }
 {}

@@ -1,21 +1,16 @@
 -- What made objects answer to: calls of marked code, and calls of the framework.
-use Rattle.std.proofs.Common.{◌≡◌, ℕ, ◌<◌, ◌⊎◌, inl, inr, Bool, true, false, nat_eq, List, [], ◌∷◌, ◌++◌, length, Option, Some, None, refl, sym, ap, ◌∙◌, subst, arith}
-use Rattle.std.specs.Prelude.{◌&&◌, ◌||◌, cond, Contains, slice_get, slice_index_or, option_and_then}
+use Rattle.std.proofs.Common.{◌≡◌, ℕ, ◌<◌, inl, inr, Bool, true, false, nat_eq, List, [], ◌∷◌, ◌++◌, length, Some, refl, sym, ap, ◌∙◌, subst, arith}
+use Rattle.std.specs.Prelude.{◌||◌, cond, slice_get, slice_index_or}
 use Rattle.std.specs.List.{list_any}
 use Rattle.insn_set.specs.declared.form.Insn.{Insn}
 use Rattle.insn_set.specs.declared.ops.InvokeKind.{InvokeKind}
 use Rattle.insn_set.specs.declared.ops.InvokeKind.TheVariants as call
 use Rattle.program_model.specs.declared.pools.MethodName.{MethodName}
-use Rattle.program_model.specs.declared.program.Method.{Method}
 use Rattle.program_model.specs.declared.program.MethodAt.{MethodAt}
-use Rattle.program_model.specs.declared.program.Class.{Class}
 use Rattle.program_model.specs.declared.program.Program.{Program}
 use Rattle.program_model.specs.declared.pass.Outside.{Outside}
-use Rattle.program_model.specs.Lookups as look
 use Rattle.class_defs.specs.Finding.{finds_virtual}
-use Rattle.class_defs.specs.Members.{is_common}
 use Rattle.class_defs.proofs.Positions.{entry_at, number_of}
-use Rattle.call_graph.specs.declared.facts.Fact.{Fact}
 use Rattle.call_graph.specs.declared.facts.Fact.TheVariants as fact
 use Rattle.call_graph.specs.declared.named.Named.TheVariants as item
 use Rattle.call_graph.specs.declared.live_set.LiveSet.{LiveSet}
@@ -23,21 +18,19 @@ use Rattle.call_graph.specs.Follows as follow
 use Rattle.call_graph.specs.Follows.{method_types, names_of_method, named_facts, all_named, method_facts, call_facts, found_facts}
 use Rattle.call_graph.specs.Objects as object
 use Rattle.call_graph.specs.Objects.{class_candidates, answers_or, answers_by, answer_facts, open_of, open_facts, IsOver, MayCall}
-use Rattle.call_graph.specs.Closed.{is_met, forced, IsCalled}
+use Rattle.call_graph.specs.Closed.{forced, IsCalled}
 use Rattle.dalvik_defs.specs.Names as spelled
 use Rattle.dalvik_defs.specs.Names.{Text, text_eq, method_eq, same_name, object_type}
 use Rattle.dalvik_defs.specs.Naming.{text_at, type_at, signature_at, method_at, named_method, named_class, named}
 use Rattle.dalvik_defs.specs.Under.{is_own_under, is_outward}
 use Rattle.dalvik_defs.specs.Find.{Found, is_virtual_method, chain_of}
-use Rattle.dalvik_defs.specs.Outer.{Outer, methods_in, outer_of}
+use Rattle.dalvik_defs.specs.Outer.{methods_in, outer_of}
 use Rattle.dalvik_defs.specs.declared.names.Signature.{Signature}
 use Rattle.dalvik_defs.specs.declared.names.MethodKey.{MethodKey}
 use Rattle.dalvik_defs.specs.declared.program.NamedBody.{NamedBody}
-use Rattle.dalvik_defs.specs.declared.program.NamedProgram.{NamedProgram}
 use Rattle.dalvik_defs.proofs.Calm.{text_sound}
 use Rattle.pass_defs.specs.Calls.{is_within, inherits}
 use Rattle.pass_defs.specs.Live.{is_bound, answers_to, KeepsVirtual, KeepsCalledBack}
-use Rattle.name_bridge.specs.Named.{found_at}
 use Rattle.name_bridge.proofs.Tables.{method_is, method_class, method_name, method_proto}
 use Rattle.name_bridge.proofs.Found.{looked_up, found_parts}
 use Rattle.name_bridge.proofs.Candidates.{common_test}
@@ -51,13 +44,12 @@ use Rattle.removal_law.proofs.Declared.{method_same}
 use Rattle.removal_bridge.proofs.Formed.{method_of, key_of, entry_below}
 use Rattle.reach_bridge.specs.Names.{family_of}
 use Rattle.reach_bridge.specs.Reached.{IsMarked}
-use Rattle.reach_bridge.proofs.Kept.{place_below}
-use Rattle.reach_bridge.proofs.Held.{stands, of_image, placed_at, ByNumber, made_number, method_met}
-use Rattle.reach_bridge.proofs.Based.{Met, S, regular}
+use Rattle.reach_bridge.proofs.Held.{stands, of_image, placed_at, made_number, method_met}
+use Rattle.reach_bridge.proofs.Based.{S}
 use Rattle.reach_bridge.proofs.Mentioned.{place_held}
 use Rattle.reach_bridge.proofs.Coded.{LiveCode, IsCall, live_code, call_from}
 use Rattle.reach_bridge.proofs.Upward.{keeps_above}
-use Rattle.reach_bridge.proofs.Calls.{Inherits, answer_from, inherits_at, short, names}
+use Rattle.reach_bridge.proofs.Calls.{answer_from, inherits_at, short, names}
 use Rattle.reach_bridge.proofs.Climbing.{climbs, object_found, object_is, outward}
 
 -- the methods of an answer

@@ -1,5 +1,5 @@
 -- The program class that a type is or is an array of, by number and by name.
-use Rattle.std.proofs.Common.{◌≡◌, ℕ, zero, suc, ◌<◌, ◌≤◌, ◌⊎◌, inl, inr, Bool, true, false, nat_eq, List, [], ◌∷◌, ◌++◌, length, map, Option, Some, None, refl, sym, ap, ◌∙◌, subst, arith, leb-true}
+use Rattle.std.proofs.Common.{◌≡◌, ℕ, ◌<◌, ◌≤◌, ◌⊎◌, inl, inr, Bool, true, false, nat_eq, List, [], ◌∷◌, length, Option, Some, None, refl, sym, ap, ◌∙◌, subst, arith, leb-true}
 use Rattle.std.specs.Prelude.{◌&&◌, ◌^◌, cond, slice_get, nat_lt, nat_le}
 use Rattle.std.specs.List.{list_all}
 use Rattle.std.specs.Option.{option_map}
@@ -20,7 +20,7 @@ use Rattle.call_graph.specs.declared.facts.Fact.TheVariants as fact
 use Rattle.call_graph.specs.declared.live_set.LiveSet.{LiveSet}
 use Rattle.call_graph.specs.Closed.{is_met}
 use Rattle.call_graph.specs.Follows.{base_facts, kind_facts}
-use Rattle.dalvik_defs.specs.Names.{Text, base_of, is_class_type}
+use Rattle.dalvik_defs.specs.Names.{Text, base_of}
 use Rattle.dalvik_defs.specs.Naming.{text_at, type_at, named_class, named}
 use Rattle.dalvik_defs.specs.Under.{defines}
 use Rattle.dalvik_defs.proofs.Calm.{text_sound}

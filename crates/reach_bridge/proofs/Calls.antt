@@ -1,56 +1,48 @@
 -- What the calls of marked code find by name is live: what a call finds by its name alone, and what made objects find.
-use Rattle.std.proofs.Common.{◌≡◌, ℕ, zero, suc, ◌+◌, ◌<◌, ◌≤◌, ◌⊎◌, inl, inr, Bool, true, false, List, [], ◌∷◌, ◌++◌, length, Option, Some, None, refl, sym, ap, ◌∙◌, subst, arith}
-use Rattle.std.specs.Prelude.{◌&&◌, ◌||◌, not, cond, flat_map, is_some, Contains, slice_get, option_and_then}
+use Rattle.std.proofs.Common.{◌≡◌, ℕ, zero, suc, ◌<◌, ◌⊎◌, inl, inr, true, false, List, [], ◌∷◌, length, Option, Some, None, refl, sym, ap, ◌∙◌, subst}
+use Rattle.std.specs.Prelude.{◌&&◌, not, cond, flat_map, is_some, slice_get, option_and_then}
 use Rattle.insn_set.specs.declared.form.Insn.{Insn}
-use Rattle.insn_set.specs.declared.form.Insn.TheVariants as insn
 use Rattle.insn_set.specs.declared.ops.InvokeKind.{InvokeKind}
 use Rattle.insn_set.specs.declared.ops.InvokeKind.TheVariants as call
 use Rattle.program_model.specs.declared.pools.MethodName.{MethodName}
 use Rattle.program_model.specs.declared.program.MethodAt.{MethodAt}
-use Rattle.program_model.specs.declared.program.Class.{Class}
 use Rattle.program_model.specs.declared.program.Program.{Program}
 use Rattle.program_model.specs.declared.pass.Outside.{Outside}
 use Rattle.program_model.specs.Lookups.{class_place}
 use Rattle.class_defs.specs.Places.{super_place, chain_from, chain_of}
 use Rattle.class_defs.specs.Members.{own_virtual, is_interface}
-use Rattle.class_defs.specs.Finding.{Search, search_of, first_among, finds_from, finds_static, finds_virtual, finds_super, finds_super_of, finds_super_037, finds_above, one_or_none, is_037}
+use Rattle.class_defs.specs.Finding.{search_of, first_among, finds_from, finds_static, finds_virtual, finds_super, finds_super_of, finds_super_037, finds_above, one_or_none, is_037}
 use Rattle.class_defs.proofs.Positions.{entry_at}
 use Rattle.call_graph.specs.Bases.{bases_of}
-use Rattle.call_graph.specs.declared.facts.Fact.{Fact}
 use Rattle.call_graph.specs.declared.facts.Fact.TheVariants as fact
-use Rattle.call_graph.specs.declared.named.Named.{Named}
 use Rattle.call_graph.specs.declared.named.Named.TheVariants as item
 use Rattle.call_graph.specs.declared.live_set.LiveSet.{LiveSet}
 use Rattle.call_graph.specs.Follows as follow
 use Rattle.call_graph.specs.Follows.{method_types, names_of_method, named_facts, all_named, method_facts, call_facts, found_facts}
-use Rattle.call_graph.specs.Objects as object
-use Rattle.call_graph.specs.Objects.{all_found, class_candidates, answers_or, answers_by, answer_facts, IsOver}
-use Rattle.call_graph.specs.Supers.{above_call, super_037, super_found, SuperFacts}
-use Rattle.call_graph.specs.Closed.{is_met, forced, SuperForces, IsCalled}
+use Rattle.call_graph.specs.Objects.{all_found}
+use Rattle.call_graph.specs.Supers.{above_call, super_037, super_found}
 use Rattle.dalvik_defs.specs.Names.{Text, is_common}
-use Rattle.dalvik_defs.specs.Naming.{text_at, type_at, signature_at, method_at, named}
+use Rattle.dalvik_defs.specs.Naming.{text_at, type_at, signature_at, named}
 use Rattle.dalvik_defs.specs.Find as find
 use Rattle.dalvik_defs.specs.Find.{Found, is_virtual_method, first_method, finds_statically}
 use Rattle.dalvik_defs.specs.declared.names.Signature.{Signature}
 use Rattle.dalvik_defs.specs.declared.names.MethodKey.{MethodKey}
-use Rattle.dalvik_defs.specs.declared.forms.Form.TheVariants as form
 use Rattle.dalvik_defs.specs.declared.program.NamedBody.{NamedBody}
 use Rattle.pass_defs.specs.Calls.{found_by, inherits, candidates_of, super_candidates, may_find}
-use Rattle.pass_defs.specs.Live.{HasBody, is_bound, answers_to, KeepsBound}
-use Rattle.name_bridge.specs.Named.{classes_at, found_at, finds, search_at}
-use Rattle.name_bridge.proofs.Tables.{method_is, method_class, method_name, method_proto}
+use Rattle.pass_defs.specs.Live.{is_bound, answers_to, KeepsBound}
+use Rattle.name_bridge.specs.Named.{found_at, finds, search_at}
+use Rattle.name_bridge.proofs.Tables.{method_is, method_class}
 use Rattle.name_bridge.proofs.Above.{chain_by_number}
 use Rattle.name_bridge.proofs.Found.{first_by_number, virtual_answers}
 use Rattle.name_bridge.proofs.Resolved.{static_by_number, super_by_number}
 use Rattle.name_bridge.proofs.Candidates.{version_test}
-use Rattle.removal_law.proofs.Lists.{In, here, there, clash, contained, in_front, in_back, in_either}
-use Rattle.removal_law.proofs.Finds.{in_flat}
-use Rattle.removal_law.proofs.Trees.{none_some, some_same}
+use Rattle.removal_law.proofs.Lists.{In, clash, contained, in_front, in_either}
+use Rattle.removal_law.proofs.Trees.{none_some}
 use Rattle.reach_bridge.specs.Names.{family_of}
 use Rattle.reach_bridge.specs.Reached.{IsMarked}
 use Rattle.reach_bridge.proofs.Held.{stands}
 use Rattle.reach_bridge.proofs.Based.{Met, S}
-use Rattle.reach_bridge.proofs.Mentioned.{nothing_in, only, met_front, met_back, met_one, place_held}
+use Rattle.reach_bridge.proofs.Mentioned.{nothing_in, only, met_back, met_one, place_held}
 use Rattle.reach_bridge.proofs.Numbers.{call_short}
 use Rattle.reach_bridge.proofs.Coded.{LiveCode, IsCall, live_code, named_met, body_named, insn_named, call_from}
 

@@ -1,6 +1,6 @@
 -- Walks up from a type, by number and by name, and what stands outside above a type.
-use Rattle.std.proofs.Common.{◌≡◌, ℕ, zero, suc, ◌<◌, ◌≤◌, ◌⊎◌, inl, inr, Bool, true, false, true≢false, nat_eq, List, [], ◌∷◌, length, map, Option, Some, None, refl, sym, ap, ◌∙◌, subst, arith}
-use Rattle.std.specs.Prelude.{◌&&◌, ◌||◌, ◌^◌, not, is_some, Contains, slice_get, position, option_and_then, codes}
+use Rattle.std.proofs.Common.{◌≡◌, ℕ, zero, suc, ◌<◌, Bool, true, false, true≢false, nat_eq, List, [], ◌∷◌, length, Option, Some, None, refl, sym, ap, ◌∙◌, subst, arith}
+use Rattle.std.specs.Prelude.{◌&&◌, ◌||◌, not, is_some, Contains, slice_get, position, option_and_then}
 use Rattle.std.specs.List.{list_any}
 use Rattle.std.specs.Option.{option_map}
 use Rattle.program_model.specs.declared.program.Class.{Class}
@@ -9,7 +9,7 @@ use Rattle.program_model.specs.declared.pass.Outside.{Outside}
 use Rattle.program_model.specs.Lookups.{class_place}
 use Rattle.program_model.specs.Texts.{string_text}
 use Rattle.class_defs.proofs.Positions.{entry_at, number_of, place_entry, place_first}
-use Rattle.class_defs.proofs.WellFormed.{class_parts, all_at, below}
+use Rattle.class_defs.proofs.WellFormed.{class_parts, below}
 use Rattle.program_model.specs.Texts.{has_type}
 use Rattle.call_graph.specs.Bases.{same_text, object_text, or_none, object_number}
 use Rattle.call_graph.specs.Follows.{class_of}
@@ -30,12 +30,12 @@ use Rattle.removal_law.proofs.Walks as walk
 use Rattle.removal_law.proofs.Walks.{choice}
 use Rattle.removal_law.proofs.Outward.{any_where}
 use Rattle.removal_law.proofs.Declared.{not_false}
-use Rattle.removal_law.proofs.Trees.{none_some, defined}
+use Rattle.removal_law.proofs.Trees.{defined}
 use Rattle.reach_bridge.specs.Reached.{IsMarked}
 use Rattle.reach_bridge.proofs.Kept.{other_number, place_below}
 use Rattle.reach_bridge.proofs.Held.{of_image}
 use Rattle.reach_bridge.proofs.Based.{S, few_types}
-use Rattle.reach_bridge.proofs.Upward.{OwnClass, own_class}
+use Rattle.reach_bridge.proofs.Upward.{own_class}
 
 -- a climb goes on
 climb_on : (p : Program) (a b c : ℕ) → a < length p.types → Contains (above_kinds p a) b → Climbs p b c → Climbs p a c

@@ -1,5 +1,5 @@
 -- The code of marked methods, by number and by name.
-use Rattle.std.proofs.Common.{◌≡◌, ℕ, ◌<◌, ◌⊎◌, inl, inr, Bool, true, false, List, [], ◌∷◌, ◌++◌, length, map, Option, Some, None, refl, sym, ap, ◌∙◌, subst}
+use Rattle.std.proofs.Common.{◌≡◌, ℕ, ◌⊎◌, inl, inr, true, List, [], ◌∷◌, ◌++◌, length, map, Option, Some, None, refl, sym, ap, ◌∙◌, subst}
 use Rattle.std.specs.Prelude.{flat_map, Contains, option_and_then}
 use Rattle.std.specs.Option.{option_map}
 use Rattle.insn_set.specs.declared.form.Insn.{Insn}
@@ -16,13 +16,12 @@ use Rattle.call_graph.specs.declared.facts.Fact.TheVariants as fact
 use Rattle.call_graph.specs.declared.named.Named.{Named}
 use Rattle.call_graph.specs.declared.named.Named.TheVariants as item
 use Rattle.call_graph.specs.declared.live_set.LiveSet.{LiveSet}
-use Rattle.call_graph.specs.Names.{marks_names, insn_names, handler_names, region_names, body_names, code_names, method_names}
+use Rattle.call_graph.specs.Names.{marks_names, insn_names, handler_names, region_names, body_names, code_names}
 use Rattle.call_graph.specs.Follows as follow
 use Rattle.call_graph.specs.Follows.{method_types, field_types, class_facts, field_facts, field_names, body_facts, names_of_method, all_named, named_facts, found_facts}
 use Rattle.call_graph.specs.Closed.{is_live, forced, conditional}
 use Rattle.dalvik_defs.specs.Names.{Text}
-use Rattle.dalvik_defs.specs.Naming.{type_at, field_at, method_at, form_of, handler_of, region_of, body_of, named_method, named}
-use Rattle.dalvik_defs.specs.Face.{bodies_of}
+use Rattle.dalvik_defs.specs.Naming.{type_at, field_at, method_at, form_of, handler_of, region_of, body_of, named}
 use Rattle.dalvik_defs.specs.Find.{defined_method}
 use Rattle.dalvik_defs.specs.declared.names.MethodKey.{MethodKey}
 use Rattle.dalvik_defs.specs.declared.names.FieldKey.{FieldKey}

@@ -1,8 +1,7 @@
 -- A mark on a number is one on its name, and a mark on a name is one on a number of this name.
-use Rattle.std.proofs.Common.{◌≡◌, ℕ, zero, suc, ◌<◌, ◌⊎◌, inl, inr, Bool, true, false, List, [], ◌∷◌, ◌++◌, length, map, Some, refl, sym, ap, ◌∙◌, subst, arith}
+use Rattle.std.proofs.Common.{◌≡◌, ℕ, zero, suc, ◌<◌, ◌⊎◌, inl, inr, Bool, true, false, List, [], ◌∷◌, length, map, Some, refl, sym, ap, ◌∙◌, subst, arith}
 use Rattle.std.specs.Prelude.{◌&&◌, ◌||◌, Contains, slice_get, slice_index_or}
 use Rattle.program_model.specs.declared.program.Program.{Program}
-use Rattle.call_graph.specs.declared.facts.Fact.{Fact}
 use Rattle.call_graph.specs.declared.facts.Fact.TheVariants as fact
 use Rattle.call_graph.specs.declared.live_set.LiveSet.{LiveSet}
 use Rattle.call_graph.specs.Facts.{Fits}
@@ -13,7 +12,6 @@ use Rattle.dalvik_defs.specs.Naming.{type_at, field_at, method_at}
 use Rattle.dalvik_defs.specs.declared.names.MethodKey.{MethodKey}
 use Rattle.dalvik_defs.specs.declared.names.FieldKey.{FieldKey}
 use Rattle.dalvik_defs.proofs.Calm.{text_sound}
-use Rattle.pass_defs.specs.Live.{Family}
 use Rattle.removal_law.proofs.Lists.{In, here, there, clash, and_left, and_behind}
 use Rattle.removal_law.proofs.Walks.{text_same}
 use Rattle.removal_law.proofs.Declared.{method_sound, method_same}

@@ -1,6 +1,6 @@
 -- What a marked thing names by number: its types, and the fields and methods to which its names resolve, are live by name.
-use Rattle.std.proofs.Common.{◌≡◌, ℕ, zero, suc, ◌+◌, ◌<◌, ◌≤◌, ◌⊎◌, inl, inr, Bool, true, false, List, [], ◌∷◌, ◌++◌, length, map, Option, Some, None, refl, sym, ap, ◌∙◌, subst, arith, lt-ltb}
-use Rattle.std.specs.Prelude.{◌&&◌, slice_get, nat_lt, flat_map, option_and_then}
+use Rattle.std.proofs.Common.{◌≡◌, ℕ, zero, suc, ◌<◌, ◌≤◌, ◌⊎◌, inl, inr, true, List, [], ◌∷◌, ◌++◌, length, map, Option, Some, None, refl, sym, ap, ◌∙◌, subst}
+use Rattle.std.specs.Prelude.{◌&&◌, slice_get, flat_map, option_and_then}
 use Rattle.std.specs.Option.{option_map, option_or}
 use Rattle.std.proofs.lemmas.Bool.{cases_lt}
 use Rattle.std.proofs.lemmas.Option.{slice_get_past}
@@ -8,12 +8,10 @@ use Rattle.program_model.specs.declared.pools.Proto.{Proto}
 use Rattle.program_model.specs.declared.pools.FieldName.{FieldName}
 use Rattle.program_model.specs.declared.pools.MethodName.{MethodName}
 use Rattle.program_model.specs.declared.program.Field.{Field}
-use Rattle.program_model.specs.declared.program.Method.{Method}
 use Rattle.program_model.specs.declared.program.MethodAt.{MethodAt}
 use Rattle.program_model.specs.declared.program.Class.{Class}
 use Rattle.program_model.specs.declared.program.Program.{Program}
 use Rattle.program_model.specs.declared.pass.Outside.{Outside}
-use Rattle.program_model.specs.Lookups as look
 use Rattle.class_defs.specs.Finding.{resolves_field, resolves_method}
 use Rattle.class_defs.proofs.WellFormed.{class_parts}
 use Rattle.call_graph.specs.Bases.{bases_of}
@@ -25,7 +23,7 @@ use Rattle.call_graph.specs.declared.live_set.LiveSet.{LiveSet}
 use Rattle.call_graph.specs.Follows as follow
 use Rattle.call_graph.specs.Follows.{resolved_field, made_facts, kind_facts, proto_of, proto_facts, method_types_of, method_types, field_types_of, field_types, field_fact, method_fact, found_facts, call_facts, method_facts, named_facts, all_named}
 use Rattle.dalvik_defs.specs.Names.{Text, text_eq}
-use Rattle.dalvik_defs.specs.Naming.{text_at, type_at, signature_at, field_at, method_at, named_field, named_method, named_class, named}
+use Rattle.dalvik_defs.specs.Naming.{text_at, type_at, signature_at, field_at, method_at, named_field, named}
 use Rattle.dalvik_defs.specs.Under.{class_named}
 use Rattle.dalvik_defs.specs.Find.{Found, field_in, first_field, field_from, finds_field, first_method, chain_from, chain_of, interfaces_from, resolves_method as resolves_named}
 use Rattle.dalvik_defs.specs.declared.names.Signature.{Signature}
@@ -35,14 +33,14 @@ use Rattle.dalvik_defs.specs.declared.program.NamedField.{NamedField}
 use Rattle.dalvik_defs.specs.declared.program.NamedClass.{NamedClass}
 use Rattle.dalvik_defs.specs.declared.program.NamedProgram.{NamedProgram}
 use Rattle.dalvik_defs.proofs.Calm.{text_sound}
-use Rattle.pass_defs.specs.Mentions.{Mentions, none, all_of, a_type, a_field, a_method, types_of, types_of_field, types_of_method}
+use Rattle.pass_defs.specs.Mentions.{Mentions, a_type, a_field, a_method, types_of, types_of_field, types_of_method}
 use Rattle.name_bridge.specs.Named.{found_at, field_there, field_of, field_at_place}
 use Rattle.name_bridge.proofs.Fields.{field_resolves_by_number}
 use Rattle.name_bridge.proofs.Resolved.{resolves_by_number}
-use Rattle.name_bridge.proofs.Found.{IsThere, looked_up, FoundParts, found_parts}
+use Rattle.name_bridge.proofs.Found.{looked_up, found_parts}
 use Rattle.removal_law.proofs.Lists as list
 use Rattle.removal_law.proofs.Lists.{In, here, there, clash, and_left, and_behind, in_front, in_back, in_either}
-use Rattle.removal_law.proofs.Finds.{in_flat, out_of_flat}
+use Rattle.removal_law.proofs.Finds.{in_flat}
 use Rattle.removal_law.proofs.Trees.{none_some, some_same, defined}
 use Rattle.removal_bridge.proofs.Formed.{method_of, key_of, entry_below}
 use Rattle.reach_bridge.specs.Names.{family_of}
@@ -83,8 +81,7 @@ module _ (p : NamedProgram) (k : FieldKey) where
       own c None i ih j = in_list (field_from n p k) (c.interfaces ++ c.superclass ∷ []) x ih j
       own c (Some f) i ih j =
           let r = (list.found_in (λ f. text_eq f.name k.name && text_eq f.kind k.kind) c.fields f i).passes in
-          let same : with_class c.name f ≡ x = some_same (c.name, f) x j in
-          (
+          let same : with_class c.name f ≡ x = some_same (c.name, f) x j in (
             ap (λ y. y.1.name) (sym same) ∙ text_sound f.name k.name (and_left (text_eq f.name k.name) (text_eq f.kind k.kind) r),
             ap (λ y. y.1.kind) (sym same) ∙ text_sound f.kind k.kind (and_behind (text_eq f.name k.name) (text_eq f.kind k.kind) r),
           )

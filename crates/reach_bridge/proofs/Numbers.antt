@@ -1,5 +1,5 @@
 -- The numbers in the code of a well-formed program are those of its tables.
-use Rattle.std.proofs.Common.{◌≡◌, ℕ, ◌+◌, ◌<◌, Bool, true, List, [], ◌∷◌, length, Some, refl, sym, ap, ◌∙◌, subst}
+use Rattle.std.proofs.Common.{◌≡◌, ℕ, ◌+◌, ◌<◌, true, List, [], ◌∷◌, length, Some, subst}
 use Rattle.std.specs.Prelude.{◌&&◌, ◌-◌, not, slice_get}
 use Rattle.std.specs.List.{list_all, enumerate_from}
 use Rattle.insn_set.specs.Spelling.{is_encodable}

@@ -1,12 +1,11 @@
 -- The members that classes themselves define, by number and by name.
-use Rattle.std.proofs.Common.{◌≡◌, ℕ, zero, suc, ◌<◌, Bool, true, false, nat_eq, List, [], ◌∷◌, ◌++◌, length, Option, Some, None, refl, sym, ap, ◌∙◌, subst, arith}
-use Rattle.std.specs.Prelude.{◌&&◌, cond, slice_get, find, position, option_and_then, flat_map}
+use Rattle.std.proofs.Common.{◌≡◌, ℕ, zero, suc, ◌<◌, true, nat_eq, List, ◌∷◌, ◌++◌, length, Option, Some, None, refl, sym, ap, ◌∙◌, arith}
+use Rattle.std.specs.Prelude.{cond, slice_get, position, option_and_then, flat_map}
 use Rattle.std.specs.Option.{option_map, option_or}
 use Rattle.program_model.specs.declared.pools.FieldName.{FieldName}
 use Rattle.program_model.specs.declared.pools.MethodName.{MethodName}
 use Rattle.program_model.specs.declared.program.Field.{Field}
 use Rattle.program_model.specs.declared.program.Method.{Method}
-use Rattle.program_model.specs.declared.program.MethodAt.{MethodAt}
 use Rattle.program_model.specs.declared.program.Class.{Class}
 use Rattle.program_model.specs.declared.program.Program.{Program}
 use Rattle.program_model.specs.declared.pass.Outside.{Outside}
@@ -18,13 +17,11 @@ use Rattle.class_defs.specs.Members as member
 use Rattle.class_defs.specs.Finding.{first_among, by_entry, resolution_of, resolves_method, beside, field_by, resolves_field}
 use Rattle.class_defs.specs.Finding as number
 use Rattle.class_defs.proofs.Positions.{entry_at, number_test, number_of, find_place, place_entry}
-use Rattle.class_defs.proofs.WellFormed.{Sound, class_parts}
+use Rattle.class_defs.proofs.WellFormed.{class_parts}
 use Rattle.call_graph.specs.declared.live_set.LiveSet.{LiveSet}
 use Rattle.call_graph.specs.Follows as follow
 use Rattle.dalvik_defs.specs.Naming.{text_at, type_at, signature_at, field_at, method_at, named_field, named_method, named_class, named}
-use Rattle.dalvik_defs.specs.Under.{class_named}
 use Rattle.dalvik_defs.specs.Find.{method_in, defined_method, defined_field}
-use Rattle.dalvik_defs.specs.declared.names.MethodKey.{MethodKey}
 use Rattle.dalvik_defs.specs.declared.program.NamedField.{NamedField}
 use Rattle.dalvik_defs.specs.declared.program.NamedMethod.{NamedMethod}
 use Rattle.dalvik_defs.specs.declared.program.NamedClass.{NamedClass}
@@ -33,7 +30,7 @@ use Rattle.name_bridge.proofs.Above as above
 use Rattle.name_bridge.proofs.Tables.{method_is, method_class, method_name, method_proto, method_once, field_is, field_once}
 use Rattle.name_bridge.proofs.Classes.{class_by_number, method_by_number}
 use Rattle.name_bridge.proofs.Defined.{fields_of, field_defined_known}
-use Rattle.removal_law.proofs.Lists.{In, clash, and_left, and_behind}
+use Rattle.removal_law.proofs.Lists.{In, and_left, and_behind}
 use Rattle.removal_law.proofs.Trees.{none_some, some_same}
 use Rattle.reach_bridge.specs.Reached.{IsMarked}
 use Rattle.reach_bridge.proofs.Kept.{place_below}
@@ -98,7 +95,7 @@ module _ (p : Program) (o : Outside) (s : LiveSet) (g : IsMarked p o s) where
         let names = names_are e.name e.proto w.entry (sym (ap (names_method e.name e.proto) w.is) ∙ t) in
         let class : w.entry.class ≡ e.class = w.owner ∙ ap (λ x. x.name) (some_same k d.class (sym f ∙ d.is)) ∙ d.named in
         let numbered : m.name ≡ n = method_once p (S p o s g) m.name n (place_below p.methods m.name w.entry w.is) (place_below p.methods n e is)
-        (method_is p (S p o s g) m.name w.entry w.is 
+        (method_is p (S p o s g) m.name w.entry w.is
         ∙ ap (λ z. record { class = type_at p z; name = text_at p w.entry.name; signature = signature_at p w.entry.proto }) class
         ∙ ap (λ z. record { class = type_at p e.class; name = text_at p z; signature = signature_at p w.entry.proto }) names.0
         ∙ ap (λ z. record { class = type_at p e.class; name = text_at p e.name; signature = signature_at p z }) names.1
@@ -159,7 +156,7 @@ module _ (p : Program) (o : Outside) (s : LiveSet) (g : IsMarked p o s) where
         let names = field_names_are e.name e.kind w.entry (sym (ap (names_field e.name e.kind) w.is) ∙ t) in
         let class : w.entry.class ≡ e.class = w.owner ∙ ap (λ x. x.name) (some_same k d.class (sym f ∙ d.is)) ∙ d.named in
         let numbered : m.name ≡ n = field_once p (S p o s g) m.name n (place_below p.fields m.name w.entry w.is) (place_below p.fields n e is)
-        (field_is p (S p o s g) m.name w.entry w.is 
+        (field_is p (S p o s g) m.name w.entry w.is
         ∙ ap (λ z. record { class = type_at p z; name = text_at p w.entry.name; kind = type_at p w.entry.kind }) class
         ∙ ap (λ z. record { class = type_at p e.class; name = text_at p z; kind = type_at p w.entry.kind }) names.0
         ∙ ap (λ z. record { class = type_at p e.class; name = text_at p e.name; kind = type_at p z }) names.1

@@ -1,10 +1,9 @@
 -- What stands above a marked class, what runs when it is initialised, and what its annotations name.
-use Rattle.std.proofs.Common.{◌≡◌, ℕ, ◌<◌, Bool, true, false, nat_eq, List, [], ◌∷◌, ◌++◌, length, map, Option, Some, None, refl, sym, ap, ◌∙◌, subst}
-use Rattle.std.specs.Prelude.{◌&&◌, cond, Contains, slice_get, position, option_and_then, codes, flat_map}
+use Rattle.std.proofs.Common.{◌≡◌, ℕ, ◌<◌, Bool, true, false, [], ◌∷◌, ◌++◌, length, Option, Some, None, refl, sym, ap, ◌∙◌, subst}
+use Rattle.std.specs.Prelude.{cond, slice_get, position, option_and_then, codes, flat_map}
 use Rattle.std.specs.Option.{option_map}
 use Rattle.program_model.specs.declared.pools.MethodName.{MethodName}
 use Rattle.program_model.specs.declared.program.Method.{Method}
-use Rattle.program_model.specs.declared.program.MethodAt.{MethodAt}
 use Rattle.program_model.specs.declared.program.Class.{Class}
 use Rattle.program_model.specs.declared.program.Program.{Program}
 use Rattle.program_model.specs.declared.pass.Outside.{Outside}
@@ -12,20 +11,16 @@ use Rattle.program_model.specs.Lookups.{class_place}
 use Rattle.class_defs.specs.Starts.{names_initialiser, is_initialiser, runs, running, initialiser_of, initialiser_place}
 use Rattle.class_defs.proofs.Positions.{PlaceFits, place_entry}
 use Rattle.call_graph.specs.Bases.{bases_of}
-use Rattle.call_graph.specs.declared.facts.Fact.{Fact}
-use Rattle.call_graph.specs.declared.facts.Fact.TheVariants as fact
 use Rattle.call_graph.specs.declared.live_set.LiveSet.{LiveSet}
 use Rattle.call_graph.specs.Names.{marks_names}
-use Rattle.call_graph.specs.Follows.{kind_facts, found_facts, defaults_of, starts_of, start_facts, above_facts, class_facts_of, class_facts_at, class_facts, all_named}
-use Rattle.dalvik_defs.specs.Names.{Text, text_eq, same_name, base_of, is_class_type, void, initialiser_name}
+use Rattle.call_graph.specs.Follows.{kind_facts, found_facts, defaults_of, starts_of, start_facts, above_facts, class_facts_of, class_facts_at, all_named}
+use Rattle.dalvik_defs.specs.Names.{Text, same_name, base_of, is_class_type, void, initialiser_name}
 use Rattle.dalvik_defs.specs.Naming.{text_at, type_at, signature_at, named_class, named_method, named}
 use Rattle.dalvik_defs.specs.Under.{class_named, defines}
 use Rattle.dalvik_defs.specs.Find as find
-use Rattle.dalvik_defs.specs.Initialised as name
 use Rattle.dalvik_defs.specs.Initialised.{initialiser_key, initialiser_in}
 use Rattle.dalvik_defs.specs.declared.names.MethodKey.{MethodKey}
 use Rattle.dalvik_defs.specs.declared.program.NamedClass.{NamedClass}
-use Rattle.dalvik_defs.specs.declared.program.NamedProgram.{NamedProgram}
 use Rattle.pass_defs.specs.Live.{KeepsAbove}
 use Rattle.name_bridge.specs.Named.{class_at}
 use Rattle.name_bridge.proofs.Classes.{class_by_number}
@@ -35,10 +30,10 @@ use Rattle.name_bridge.proofs.Started.{initialiser_by_number}
 use Rattle.removal_law.proofs.Lists.{In, here, there, clash}
 use Rattle.removal_law.proofs.Outward.{no_bracket}
 use Rattle.removal_law.proofs.Members.{key_sound}
-use Rattle.removal_law.proofs.Trees.{none_some, some_same, defined}
+use Rattle.removal_law.proofs.Trees.{none_some, some_same}
 use Rattle.reach_bridge.specs.Names.{family_of}
 use Rattle.reach_bridge.specs.Reached.{IsMarked}
-use Rattle.reach_bridge.proofs.Held.{stands, of_image, at_stands, ByNumber, class_number}
+use Rattle.reach_bridge.proofs.Held.{stands, of_image, ByNumber, class_number}
 use Rattle.reach_bridge.proofs.Based.{Met, Held, S, regular, kind_held}
 use Rattle.reach_bridge.proofs.Mentioned.{met_front, met_back, met_one, place_held}
 use Rattle.reach_bridge.proofs.Coded.{class_facts_met}

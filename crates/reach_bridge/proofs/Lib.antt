@@ -12,3 +12,5 @@ pub mod Climbing
 pub mod Answered
 pub mod Keeping
 pub mod Making
+pub mod Noted
+pub mod Annotated

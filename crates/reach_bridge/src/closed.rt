@@ -5,7 +5,7 @@ ghost use Rattle.program_model.specs.declared.pass.Outside.{Outside};
 ghost use Rattle.call_graph.specs.declared.live_set.LiveSet.{LiveSet};
 ghost use Rattle.dalvik_defs.specs.Naming.{named};
 ghost use Rattle.dalvik_defs.specs.Outer.{outer_of};
-ghost use Rattle.pass_defs.specs.Live.{conditions_of, KeepsKept, KeepsMade, KeepsTypes, KeepsResolved, KeepsAbove, KeepsBound, KeepsVirtual, KeepsCalledBack};
+ghost use Rattle.pass_defs.specs.Live.{conditions_of, KeepsKept, KeepsMade, KeepsTypes, KeepsMentions, KeepsResolved, KeepsAbove, KeepsBound, KeepsVirtual, KeepsCalledBack};
 ghost use Rattle.reach_bridge.specs.Names.{family_of};
 ghost use Rattle.reach_bridge.specs.Reached.{IsMarked, AreDefined, MakesConcrete, KeepsOwners};
 
@@ -54,4 +54,9 @@ pub fn kept_law()
 /// makes none of classes that are abstract or interfaces, which marks don't make.
 pub fn made_law()
     ensures { (p : Program) (o : Outside) (s : LiveSet) → IsMarked p o s → MakesConcrete p s → KeepsMade (named p) (outer_of p o) (conditions_of p o) (family_of p s) }
+{}
+
+/// What the annotations and first values of live classes and members name is live.
+pub fn mentions_law()
+    ensures { (p : Program) (o : Outside) (s : LiveSet) → IsMarked p o s → KeepsMentions (named p) (family_of p s) }
 {}

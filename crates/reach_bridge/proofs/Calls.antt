@@ -70,7 +70,7 @@ module _ (p : Program) (o : Outside) (s : LiveSet) (g : IsMarked p o s) where
     | false ↦ []
   ]) old_named
 
-  no_super_candidates : (k : MethodKey) → super_candidates (named p) k ≡ []
+  pub no_super_candidates : (k : MethodKey) → super_candidates (named p) k ≡ []
   no_super_candidates k = ap (λ b. elim (b && is_some (find.interface_named (named p) k.class)) as (λ b. List Found) [ true ↦ find.candidates (named p) (k.class ∷ []) k.name k.signature | false ↦ [] ]) old_named
 
   -- what an object answers to it finds along its superclasses

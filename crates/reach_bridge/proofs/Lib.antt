@@ -14,3 +14,4 @@ pub mod Keeping
 pub mod Making
 pub mod Noted
 pub mod Annotated
+pub mod Within

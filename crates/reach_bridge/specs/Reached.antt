@@ -16,11 +16,14 @@ use Rattle.call_graph.specs.Follows.{class_of, own_method, can_be_made}
 use Rattle.call_graph.specs.Objects.{IsOld}
 use Rattle.call_graph.specs.Closed.{IsClosedSet}
 use Rattle.reach.specs.Kept.{is_marked}
+use Rattle.dalvik_defs.specs.Names.{Text}
 use Rattle.dalvik_defs.specs.Under.{defines}
 use Rattle.dalvik_defs.specs.declared.names.MethodKey.{MethodKey}
 use Rattle.dalvik_defs.specs.declared.names.FieldKey.{FieldKey}
+use Rattle.dalvik_defs.specs.declared.forms.Form.TheVariants as form
+use Rattle.dalvik_defs.specs.declared.program.NamedBody.{NamedBody}
 use Rattle.dalvik_defs.specs.declared.program.NamedProgram.{NamedProgram}
-use Rattle.pass_defs.specs.Live.{Family}
+use Rattle.pass_defs.specs.Live.{Family, HasBody, is_concrete}
 
 -- A well-formed program of version 035, of which no class is defined twice or is its own ancestor, and marks on its numbers that
 -- are closed under what follows.
@@ -49,3 +52,7 @@ MakesConcrete p s = (n kind : ℕ) (m : Method) (c : Class) → is_marked s.meth
 pub record KeepsOwners (p : NamedProgram) (s : Family) : Type 0 where
   pub fields : (f : FieldKey) → s.fields f ≡ true → defines p f.class ≡ true → s.classes f.class ≡ true
   pub methods : (m : MethodKey) → s.methods m ≡ true → defines p m.class ≡ true → s.classes m.class ≡ true
+
+-- a class of which live code makes an object is made, if it can have objects
+abbrev pub MakesNew : NamedProgram → Family → Type 0
+MakesNew p s = (m : MethodKey) (b : NamedBody) (to : ℕ) (t : Text) → HasBody p s m b → Contains b.forms (form.NewInstance to t) → is_concrete p t ≡ true → s.made t ≡ true

@@ -5,8 +5,12 @@ ghost use Rattle.program_model.specs.declared.pass.Outside.{Outside};
 ghost use Rattle.call_graph.specs.declared.live_set.LiveSet.{LiveSet};
 ghost use Rattle.dalvik_defs.specs.Naming.{named};
 ghost use Rattle.dalvik_defs.specs.Outer.{outer_of};
-ghost use Rattle.pass_defs.specs.Live.{conditions_of, KeepsKept, KeepsMade, KeepsTypes, KeepsMentions, KeepsResolved, KeepsAbove, KeepsBound, KeepsVirtual, KeepsCalledBack};
-ghost use Rattle.reach_bridge.specs.Names.{family_of};
+ghost use Rattle.pass_defs.specs.Live.{conditions_of, IsClosedFamily, KeepsKept, KeepsMade, KeepsTypes, KeepsMentions, KeepsResolved, KeepsAbove, KeepsBound, KeepsVirtual, KeepsCalledBack};
+ghost use Rattle.dalvik_defs.specs.Shown.{SameShown};
+ghost use Rattle.pass_defs.specs.Typed.{IsTyped};
+ghost use Rattle.reach.specs.Kept.{kept_of};
+ghost use Rattle.removal_law.specs.Reach.{ShutsHold};
+ghost use Rattle.reach_bridge.specs.Names.{family_of, within};
 ghost use Rattle.reach_bridge.specs.Reached.{IsMarked, AreDefined, MakesConcrete, KeepsOwners};
 
 /// The types in the descriptors of live members, and in live code, its handlers and the members that it names, are live.
@@ -59,4 +63,16 @@ pub fn made_law()
 /// What the annotations and first values of live classes and members name is live.
 pub fn mentions_law()
     ensures { (p : Program) (o : Outside) (s : LiveSet) → IsMarked p o s → KeepsMentions (named p) (family_of p s) }
+{}
+
+/// The names of the marked numbers are a closed family, the members of classes that the program doesn't define left out.
+/// A premise is that live code makes no objects of classes that are abstract or interfaces, which marks don't make.
+pub fn closed_law()
+    ensures { (p : Program) (o : Outside) (s : LiveSet) → IsMarked p o s → MakesConcrete p s → IsClosedFamily (named p) (outer_of p o) (conditions_of p o) (within (named p) (family_of p s)) }
+{}
+
+/// What marks leave of a well-formed and typed program shows the same, where the table of shut methods holds what it
+/// says. The premise on what live code makes is that of the closed family.
+pub fn reach_law()
+    ensures { (p : Program) (o : Outside) (s : LiveSet) → IsMarked p o s → MakesConcrete p s → IsTyped (named p) → ShutsHold (named p) (outer_of p o) → SameShown (named p) (named (kept_of s p)) (outer_of p o) }
 {}

@@ -67,6 +67,17 @@ or_cases : (a b : Bool) → (a || b) ≡ true → (a ≡ true) ⊎ (b ≡ true)
 or_cases true b e = inl refl
 or_cases false b e = inr e
 
+swap : (a b : Bool) → (a && b) ≡ true → (b && a) ≡ true
+swap true true e = refl
+swap true false e = e
+swap false b e = clash false e refl
+
+-- a class that is neither abstract nor an interface by name can be made
+pub concrete_can : (p : Program) (d : Class) (c : NamedClass) → named_class p d ≡ c → (not (is_interface c.flags) && not (is_abstract c.flags)) ≡ true → can_be_made d ≡ true
+concrete_can p d c is e = swap (not (has_flag d.flags 512)) (not (has_flag d.flags 1024))
+    (ap (λ b. not b && not (has_flag d.flags 1024)) (interface_flag d.flags) ∙ ap (λ b. not (is_interface d.flags.0) && not b) (abstract_flag d.flags)
+    ∙ ap (λ z. not (is_interface z.flags) && not (is_abstract z.flags)) is ∙ e)
+
 module _ (p : Program) (o : Outside) (s : LiveSet) (g : IsMarked p o s) where
   begins_met : Met s (kept_facts p o)
   begins_met y i = g.closed.begins y (contained y (kept_facts p o) i)
@@ -156,14 +167,7 @@ module _ (p : Program) (o : Outside) (s : LiveSet) (g : IsMarked p o s) where
     kept_live = ap (family_of p s).classes (sym k.is) ∙ class_met p s g.sized k.number number_short (kept_met (fact.Class k.number) (here (made_of k.number (Some own.class))))
 
     concrete_made : (not (is_interface c.flags) && not (is_abstract c.flags)) ≡ true → can_be_made own.class ≡ true
-    concrete_made e = swap (not (has_flag own.class.flags 512)) (not (has_flag own.class.flags 1024))
-        (ap (λ b. not b && not (has_flag own.class.flags 1024)) (interface_flag own.class.flags) ∙ ap (λ b. not (is_interface own.class.flags.0) && not b) (abstract_flag own.class.flags)
-        ∙ ap (λ z. not (is_interface z.flags) && not (is_abstract z.flags)) own.is ∙ e)
-      where
-        swap : (a b : Bool) → (a && b) ≡ true → (b && a) ≡ true
-        swap true true e = refl
-        swap true false e = e
-        swap false b e = clash false e refl
+    concrete_made e = concrete_can p own.class c own.is e
 
     kept_made : (not (is_interface c.flags) && not (is_abstract c.flags)) ≡ true → (family_of p s).made t ≡ true
     kept_made e = ap (family_of p s).made (sym k.is) ∙ made_met p s g.sized k.number number_short

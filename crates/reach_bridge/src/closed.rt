@@ -11,7 +11,7 @@ ghost use Rattle.pass_defs.specs.Typed.{IsTyped};
 ghost use Rattle.reach.specs.Kept.{kept_of};
 ghost use Rattle.removal_law.specs.Reach.{ShutsHold};
 ghost use Rattle.reach_bridge.specs.Names.{family_of, within};
-ghost use Rattle.reach_bridge.specs.Reached.{IsMarked, AreDefined, MakesConcrete, KeepsOwners};
+ghost use Rattle.reach_bridge.specs.Reached.{IsMarked, AreDefined, MakesConcrete, KeepsOwners, MakesNew};
 
 /// The types in the descriptors of live members, and in live code, its handlers and the members that it names, are live.
 pub fn types_law()
@@ -52,6 +52,11 @@ pub fn owners_law()
 /// members are of classes of the program: then their classes are live.
 pub fn kept_law()
     ensures { (p : Program) (o : Outside) (s : LiveSet) → IsMarked p o s → AreDefined p s → KeepsKept (named p) (outer_of p o) (conditions_of p o) (family_of p s) }
+{}
+
+/// Classes of which live code makes objects are made, if they can have objects.
+pub fn new_law()
+    ensures { (p : Program) (o : Outside) (s : LiveSet) → IsMarked p o s → MakesNew (named p) (family_of p s) }
 {}
 
 /// Kept classes that can have objects are made, and those of which live code makes objects. A premise is that live code

@@ -1,17 +1,15 @@
 -- What the annotations and first values of live classes and members name is live.
-use Rattle.std.proofs.Common.{◌≡◌, ℕ, ◌<◌, Bool, true, false, List, [], ◌∷◌, ◌++◌, map, Option, Some, None, refl, sym, ap, ◌∙◌, subst}
-use Rattle.std.specs.Prelude.{flat_map, Contains}
+use Rattle.std.proofs.Common.{List, [], ◌∷◌, ◌++◌, map, ap, ◌∙◌, subst}
+use Rattle.std.specs.Prelude.{flat_map}
 use Rattle.program_model.specs.declared.value.Mark.{Mark}
 use Rattle.program_model.specs.declared.program.Program.{Program}
 use Rattle.program_model.specs.declared.pass.Outside.{Outside}
 use Rattle.call_graph.specs.Bases.{bases_of}
 use Rattle.call_graph.specs.declared.live_set.LiveSet.{LiveSet}
-use Rattle.call_graph.specs.declared.named.Named.{Named}
 use Rattle.call_graph.specs.Names.{marks_names, first_names, code_names}
 use Rattle.call_graph.specs.Follows as follow
 use Rattle.call_graph.specs.Follows.{method_types, field_types, field_names, names_of_method, all_named}
-use Rattle.dalvik_defs.specs.Naming.{field_at, method_at, mark_of, named_field, named_method, named_class, named}
-use Rattle.dalvik_defs.specs.Under.{class_named}
+use Rattle.dalvik_defs.specs.Naming.{mark_of, named_field, named_method, named}
 use Rattle.dalvik_defs.specs.Find.{defined_field, defined_method}
 use Rattle.pass_defs.specs.Live.{HasMentions, KeepsMentions}
 use Rattle.pass_defs.specs.Mentions.{Mentions, all_of, in_marks, in_first, in_field, in_method, in_class}

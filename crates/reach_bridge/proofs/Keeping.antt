@@ -1,5 +1,5 @@
 -- What the outside keeps, and what is kept because a class is live, is live by name.
-use Rattle.std.proofs.Common.{◌≡◌, ℕ, ◌<◌, ◌≤◌, ◌⊎◌, inl, inr, Bool, true, false, nat_eq, List, [], ◌∷◌, ◌++◌, length, map, Option, Some, None, refl, sym, ap, ◌∙◌, subst}
+use Rattle.std.proofs.Common.{◌≡◌, ℕ, ◌<◌, ◌≤◌, ◌⊎◌, inl, inr, Bool, true, false, List, [], ◌∷◌, ◌++◌, length, Option, Some, None, refl, sym, ap, ◌∙◌, subst}
 use Rattle.std.specs.Prelude.{◌&&◌, ◌||◌, not, cond, flat_map, is_some, slice_get, option_and_then}
 use Rattle.std.specs.List.{list_any}
 use Rattle.std.specs.Option.{option_map}
@@ -18,49 +18,44 @@ use Rattle.call_graph.specs.Bases.{bases_of}
 use Rattle.call_graph.specs.declared.facts.Fact.{Fact}
 use Rattle.call_graph.specs.declared.facts.Fact.TheVariants as fact
 use Rattle.call_graph.specs.declared.live_set.LiveSet.{LiveSet}
-use Rattle.call_graph.specs.declared.named.Named.{Named}
-use Rattle.call_graph.specs.declared.named.Named.TheVariants as item
 use Rattle.call_graph.specs.Lists.{row_of}
-use Rattle.call_graph.specs.Names.{code_names, body_names}
-use Rattle.call_graph.specs.Tables.{field_in, method_in, field_if, method_if, class_if, fields_if, methods_if, classes_if}
+use Rattle.call_graph.specs.Tables.{field_in, method_in, field_if, method_if, class_if}
 use Rattle.call_graph.specs.Follows as follow
 use Rattle.call_graph.specs.Follows.{class_of, can_be_made, made_of, made_facts, kind_facts, kept_class, kept_field, kept_method, field_types, method_types, field_names, names_of_method, named_facts, all_named}
-use Rattle.call_graph.specs.Closed.{kept_facts, conditional}
+use Rattle.call_graph.specs.Closed.{kept_facts}
 use Rattle.dalvik_defs.specs.Names.{Text, text_eq, method_eq, field_eq}
 use Rattle.dalvik_defs.specs.Naming.{text_at, type_at, signature_at, field_at, method_at, named_class, named}
 use Rattle.dalvik_defs.specs.Flags.{is_interface, is_abstract}
 use Rattle.dalvik_defs.specs.Under.{class_named, defines}
 use Rattle.dalvik_defs.specs.Find as find
 use Rattle.dalvik_defs.specs.Find.{defined_method, defined_field}
-use Rattle.dalvik_defs.specs.Outer.{Outer, methods_in, outer_of}
+use Rattle.dalvik_defs.specs.Outer.{methods_in, outer_of}
 use Rattle.dalvik_defs.specs.declared.names.MethodKey.{MethodKey}
 use Rattle.dalvik_defs.specs.declared.names.FieldKey.{FieldKey}
-use Rattle.dalvik_defs.specs.declared.forms.Form.TheVariants as form
 use Rattle.dalvik_defs.specs.declared.program.NamedField.{NamedField}
 use Rattle.dalvik_defs.specs.declared.program.NamedMethod.{NamedMethod}
 use Rattle.dalvik_defs.specs.declared.program.NamedClass.{NamedClass}
 use Rattle.dalvik_defs.proofs.Calm.{text_sound}
-use Rattle.pass_defs.specs.Live.{conditions_of, is_kept, is_concrete, KeepsKept, KeepsMade}
+use Rattle.pass_defs.specs.Live.{conditions_of, is_kept, is_concrete, KeepsKept}
 use Rattle.pass_defs.specs.Mentions.{types_of}
 use Rattle.name_bridge.specs.Named.{class_at}
 use Rattle.name_bridge.proofs.Flags.{interface_flag, abstract_flag}
 use Rattle.name_bridge.proofs.Tables.{type_once, field_is, field_class, method_is, method_class}
 use Rattle.name_bridge.proofs.Classes.{class_by_number}
-use Rattle.removal_law.proofs.Lists.{In, here, there, clash, contained, in_front, in_back, and_left, and_behind}
+use Rattle.removal_law.proofs.Lists.{In, here, there, clash, contained, and_left, and_behind}
 use Rattle.removal_law.proofs.Finds.{in_flat}
 use Rattle.removal_law.proofs.Walks as walk
 use Rattle.removal_law.proofs.Outward.{any_where}
 use Rattle.removal_law.proofs.Declared.{none_there, method_sound}
-use Rattle.removal_law.proofs.Trees.{none_some, some_same, defined, defines_class}
+use Rattle.removal_law.proofs.Trees.{none_some, defined, defines_class}
 use Rattle.reach_bridge.specs.Names.{family_of}
-use Rattle.reach_bridge.specs.Reached.{IsMarked, AreDefined, MakesConcrete, KeepsOwners}
+use Rattle.reach_bridge.specs.Reached.{IsMarked, AreDefined, KeepsOwners}
 use Rattle.reach_bridge.proofs.Kept.{field_sound}
-use Rattle.reach_bridge.proofs.Held.{stands, ByNumber, class_number, field_number, method_number, class_met, made_met, field_met, method_met}
+use Rattle.reach_bridge.proofs.Held.{ByNumber, class_number, field_number, method_number, class_met, made_met, field_met, method_met}
 use Rattle.reach_bridge.proofs.Based.{Met, S, empty_undefined}
 use Rattle.reach_bridge.proofs.Mentioned.{empty_class, met_front, met_back, met_one, field_types_held, method_types_held}
 use Rattle.reach_bridge.proofs.Owned.{own_method, own_field}
-use Rattle.reach_bridge.proofs.Coded.{LiveCode, live_code, field_facts_met, body_facts_met, conditional_met, named_met, body_named, insn_named, form_from, insn_new}
-use Rattle.reach_bridge.proofs.Numbers.{new_short}
+use Rattle.reach_bridge.proofs.Coded.{field_facts_met, body_facts_met, conditional_met}
 use Rattle.reach_bridge.proofs.Upward.{OwnClass, own_class, class_held}
 
 or_cases : (a b : Bool) → (a || b) ≡ true → (a ≡ true) ⊎ (b ≡ true)

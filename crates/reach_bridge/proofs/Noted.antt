@@ -1,5 +1,5 @@
 -- What annotations and first values name, by number and by name.
-use Rattle.std.proofs.Common.{◌≡◌, ℕ, ◌⊎◌, inl, inr, List, [], ◌∷◌, ◌++◌, map, Option, Some, None, refl, sym, ap, ◌∙◌, subst}
+use Rattle.std.proofs.Common.{◌≡◌, ℕ, inl, inr, List, [], ◌∷◌, ◌++◌, map, Option, Some, None, sym, ap, ◌∙◌, subst}
 use Rattle.std.specs.Prelude.{flat_map}
 use Rattle.std.specs.Option.{option_map}
 use Rattle.program_model.specs.declared.value.EncValue.{EncValue, EncValue-F, roll-EncValue, fold-roll-EncValue}
@@ -21,11 +21,9 @@ use Rattle.dalvik_defs.specs.declared.encoded.NamedValue.TheVariants as variant
 use Rattle.dalvik_defs.specs.declared.encoded.NamedValue.TheOpen as named_layer
 use Rattle.dalvik_defs.specs.declared.encoded.NamedNote.{NamedNote, fold-roll-NamedNote}
 use Rattle.dalvik_defs.specs.declared.encoded.NamedElement.{NamedElement, fold-NamedElement, fold_out-NamedElement}
-use Rattle.dalvik_defs.specs.declared.encoded.NamedMark.{NamedMark}
 use Rattle.pass_defs.specs.Mentions.{Mentions, none, all_of, a_type, a_field, a_method, value_layer, note_layer, in_value, in_note, in_marks, in_first}
-use Rattle.removal_law.proofs.Lists.{In, here, there, in_front, in_back, in_either}
-use Rattle.removal_law.proofs.Finds.{in_flat}
-use Rattle.reach_bridge.proofs.Mentioned.{Holds, mention_of, nothing_in}
+use Rattle.removal_law.proofs.Lists.{here, in_front, in_back, in_either}
+use Rattle.reach_bridge.proofs.Mentioned.{Holds, nothing_in}
 use Rattle.reach_bridge.proofs.Coded.{NamesHeld}
 
 -- ---- what holds of parts holds of all

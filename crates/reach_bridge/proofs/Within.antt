@@ -1,6 +1,6 @@
 -- The marks' family without the members of classes that the program doesn't define is closed, and leaves the same.
-use Rattle.std.proofs.Common.{◌≡◌, ℕ, zero, suc, ◌<◌, ◌⊎◌, inl, inr, Bool, true, false, List, [], ◌∷◌, ◌++◌, length, map, Option, Some, None, refl, sym, ap, ◌∙◌, subst}
-use Rattle.std.specs.Prelude.{◌&&◌, filter, flat_map, is_some, Contains}
+use Rattle.std.proofs.Common.{◌≡◌, ℕ, zero, suc, ◌⊎◌, inl, inr, Bool, true, false, List, [], ◌∷◌, ◌++◌, length, map, Option, Some, None, refl, sym, ap, ◌∙◌, subst}
+use Rattle.std.specs.Prelude.{◌&&◌, filter, flat_map, is_some}
 use Rattle.insn_set.specs.declared.ops.InvokeKind.{InvokeKind}
 use Rattle.insn_set.specs.declared.ops.InvokeKind.TheVariants as call
 use Rattle.program_model.specs.declared.program.Program.{Program}
@@ -9,7 +9,7 @@ use Rattle.call_graph.specs.declared.live_set.LiveSet.{LiveSet}
 use Rattle.reach.specs.Kept.{kept_of}
 use Rattle.dalvik_defs.specs.Names.{Text, text_eq, initialiser_name, void}
 use Rattle.dalvik_defs.specs.Naming.{named}
-use Rattle.dalvik_defs.specs.Outer.{Outer, outer_of}
+use Rattle.dalvik_defs.specs.Outer.{outer_of}
 use Rattle.dalvik_defs.specs.Shown.{SameShown}
 use Rattle.dalvik_defs.specs.Under.{class_named, defines}
 use Rattle.dalvik_defs.specs.Find as find
@@ -24,15 +24,15 @@ use Rattle.dalvik_defs.specs.declared.program.NamedMethod.{NamedMethod}
 use Rattle.dalvik_defs.specs.declared.program.NamedClass.{NamedClass}
 use Rattle.dalvik_defs.specs.declared.program.NamedProgram.{NamedProgram}
 use Rattle.pass_defs.specs.Calls.{found_by, super_candidates, may_find}
-use Rattle.pass_defs.specs.Live.{Family, Conditions, everything, conditions_of, is_bound, answers_to, HasMentions, KeepsAbove, KeepsMade, IsClosedFamily}
+use Rattle.pass_defs.specs.Live.{Family, everything, conditions_of, is_bound, answers_to, HasMentions, KeepsAbove, IsClosedFamily}
 use Rattle.pass_defs.specs.Mentions.{Mentions}
 use Rattle.pass_defs.specs.Typed.{IsTyped}
 use Rattle.removal_law.specs.Left.{field_key, left_in, left_of}
 use Rattle.removal_law.specs.Reach.{IsRegular, ShutsHold}
-use Rattle.removal_law.proofs.Lists.{In, here, there, clash, and_left, and_behind, in_either, found_in}
+use Rattle.removal_law.proofs.Lists.{In, here, there, clash, and_left, and_behind, in_either}
 use Rattle.removal_law.proofs.Walks.{text_same}
 use Rattle.removal_law.proofs.Declared.{none_there}
-use Rattle.removal_law.proofs.Finds.{filter_same, out_of_flat, Where, first_where, where_key, in_unfiltered}
+use Rattle.removal_law.proofs.Finds.{filter_same, out_of_flat, first_where, where_key, in_unfiltered}
 use Rattle.removal_law.proofs.Fields as member
 use Rattle.removal_law.proofs.Virtuals.{answer}
 use Rattle.removal_law.proofs.Trees.{none_some, some_same, class_name, defined, chain_named}

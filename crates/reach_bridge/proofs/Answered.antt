@@ -7,6 +7,8 @@ use Rattle.insn_set.specs.declared.ops.InvokeKind.{InvokeKind}
 use Rattle.insn_set.specs.declared.ops.InvokeKind.TheVariants as call
 use Rattle.program_model.specs.declared.pools.MethodName.{MethodName}
 use Rattle.program_model.specs.declared.program.MethodAt.{MethodAt}
+use Rattle.program_model.specs.declared.program.Method.{Method}
+use Rattle.program_model.specs.declared.program.Class.{Class}
 use Rattle.program_model.specs.declared.program.Program.{Program}
 use Rattle.program_model.specs.declared.pass.Outside.{Outside}
 use Rattle.class_defs.specs.Finding.{finds_virtual}
@@ -23,11 +25,14 @@ use Rattle.dalvik_defs.specs.Names as spelled
 use Rattle.dalvik_defs.specs.Names.{Text, text_eq, method_eq, same_name, object_type}
 use Rattle.dalvik_defs.specs.Naming.{text_at, type_at, signature_at, method_at, named_method, named_class, named}
 use Rattle.dalvik_defs.specs.Under.{is_own_under, is_outward}
-use Rattle.dalvik_defs.specs.Find.{Found, is_virtual_method, chain_of}
+use Rattle.dalvik_defs.specs.Find.{Found, is_virtual_method, method_in, chain_of}
 use Rattle.dalvik_defs.specs.Outer.{methods_in, outer_of}
+use Rattle.dalvik_defs.specs.Silence.{key_in}
 use Rattle.dalvik_defs.specs.declared.names.Signature.{Signature}
 use Rattle.dalvik_defs.specs.declared.names.MethodKey.{MethodKey}
 use Rattle.dalvik_defs.specs.declared.program.NamedBody.{NamedBody}
+use Rattle.dalvik_defs.specs.declared.program.NamedMethod.{NamedMethod}
+use Rattle.dalvik_defs.specs.declared.program.NamedClass.{NamedClass}
 use Rattle.dalvik_defs.proofs.Calm.{text_sound}
 use Rattle.pass_defs.specs.Calls.{is_within, inherits}
 use Rattle.pass_defs.specs.Live.{is_bound, answers_to, KeepsVirtual, KeepsCalledBack}
@@ -37,7 +42,7 @@ use Rattle.name_bridge.proofs.Candidates.{common_test}
 use Rattle.removal_law.proofs.Lists as list
 use Rattle.removal_law.proofs.Lists.{In, here, there, clash, contained, in_front, in_back}
 use Rattle.removal_law.proofs.Finds.{in_flat, first_where}
-use Rattle.removal_law.proofs.Members.{key_sound}
+use Rattle.removal_law.proofs.Members.{key, key_sound}
 use Rattle.removal_law.proofs.Trees.{chain_named, class_in}
 use Rattle.removal_law.proofs.Outward.{any_here, any_where}
 use Rattle.removal_law.proofs.Declared.{method_same}
@@ -119,23 +124,33 @@ module _ (p : Program) (o : Outside) (s : LiveSet) (g : IsMarked p o s) where
     name : text_at p entry.name ≡ n
     proto : signature_at p entry.proto ≡ q
 
+  entry_numbered : (m : Method) (e : MethodName) (nm : NamedMethod) (c : NamedClass) (n : Text) (q : Signature) → slice_get p.methods m.name ≡ Some e → named_method p m ≡ nm → key_in c nm ≡ key c.name n q → IsNumbered n q
+  entry_numbered m e nm c n q is same k = record {
+    number = m.name;
+    entry = e;
+    is_entry = is;
+    name = ap (λ z. z.name) (sym (method_is p (S p o s g) m.name e is)) ∙ ap (λ z. z.name) same ∙ ap (λ z. z.name) k;
+    proto = ap (λ z. z.signature) (sym (method_is p (S p o s g) m.name e is)) ∙ ap (λ z. z.signature) same ∙ ap (λ z. z.signature) k;
+  }
+
+  class_numbered : (k : Class) (m : Method) (nm : NamedMethod) (c : NamedClass) (n : Text) (q : Signature) → In k p.classes → In m k.methods → named_method p m ≡ nm → key_in c nm ≡ key c.name n q → IsNumbered n q
+  class_numbered k m nm c n q at own same h =
+      let i = placed_at p.classes k at in
+      let j = placed_at k.methods m own in
+      let fit = method_of p g.formed k i.0 j.0 m i.1 j.1 in
+      entry_numbered m fit.entry nm c n q fit.is same h
+
+  method_numbered : (k : Class) (c : NamedClass) (nm : NamedMethod) (n : Text) (q : Signature) → In k p.classes → named_class p k ≡ c → method_in c n q ≡ Some nm → IsNumbered n q
+  method_numbered k c nm n q at is e =
+      let found = list.found_in (λ m. same_name m.name m.signature n q) c.methods nm e in
+      let m = of_image (named_method p) nm k.methods (subst (λ z. In nm z.methods) (sym is) found.is_in) in
+      class_numbered k m.0 nm c n q at m.1.0 m.1.1 (key_sound c nm n q found.passes)
+
   numbered : (t n : Text) (q : Signature) (f : Found) → inherits (named p) t n q ≡ Some f → IsNumbered n q
   numbered t n q f e =
       let w = first_where is_virtual_method n q (chain_of (named p) t) f e in
       let c = of_image (named_class p) w.class p.classes (class_in (named p) w.class.name w.class (chain_named (named p) (family_of p s) (keeps_above p o s g) (length (named p).classes) t w.class w.stands)) in
-      let m = of_image (named_method p) w.method c.0.methods (subst (λ z. In w.method z.methods) (sym c.1.1) (list.found_in (λ m. same_name m.name m.signature n q) w.class.methods w.method w.found).is_in) in
-      let i = placed_at p.classes c.0 c.1.0 in
-      let j = placed_at c.0.methods m.0 m.1.0 in
-      let fit = method_of p g.formed c.0 i.0 j.0 m.0 i.1 j.1 in
-      let same = key_sound w.class w.method n q (list.found_in (λ m. same_name m.name m.signature n q) w.class.methods w.method w.found).passes in
-      let key = sym (method_is p (S p o s g) m.0.name fit.entry fit.is) in
-      record {
-        number = m.0.name;
-        entry = fit.entry;
-        is_entry = fit.is;
-        name = ap (λ z. z.name) key ∙ ap (λ z. z.name) m.1.1 ∙ ap (λ z. z.name) same;
-        proto = ap (λ z. z.signature) key ∙ ap (λ z. z.signature) m.1.1 ∙ ap (λ z. z.signature) same;
-      }
+      method_numbered c.0 w.class w.method n q c.1.0 c.1.1 w.found
 
   -- a method that isn't shut by name isn't by number
   not_shut : (n : ℕ) → n < length p.methods → methods_in p o.shut (method_at p n) ≡ false → slice_index_or g.closed.tables.shut.items n false ≡ false

@@ -61,7 +61,7 @@ any_none : (n : ℕ) (t : ℕ → Bool) → ((k : ℕ) → k < n → t k ≡ fal
 any_none zero t h = refl
 any_none (suc n) t h = ap (λ b. b || any_below n t) (h n (omega arith)) ∙ any_none n t (λ k lt. h k (omega (arith, lt)))
 
-other_number : (k j : ℕ) → k < j → nat_eq k j ≡ false
+pub other_number : (k j : ℕ) → k < j → nat_eq k j ≡ false
 other_number k j lt = by (nat_eq k j) refl
   where
     by : (b : Bool) → nat_eq k j ≡ b → nat_eq k j ≡ false
@@ -103,17 +103,17 @@ any_is (suc n) m e j lt h = by (nat_eq n j) refl (λ l. any_is n m e j l (λ k i
 
 -- ---- fields by their names
 
-field_sound : (a b : FieldKey) → field_eq a b ≡ true → a ≡ b
+pub field_sound : (a b : FieldKey) → field_eq a b ≡ true → a ≡ b
 field_sound a b e =
     let x : (text_eq a.class b.class && text_eq a.name b.name) ≡ true = and_left (text_eq a.class b.class && text_eq a.name b.name) (text_eq a.kind b.kind) e in
     ap (λ t. record { class = t; name = a.name; kind = a.kind }) (text_sound a.class b.class (and_left (text_eq a.class b.class) (text_eq a.name b.name) x))
     ∙ ap (λ t. record { class = b.class; name = t; kind = a.kind }) (text_sound a.name b.name (and_behind (text_eq a.class b.class) (text_eq a.name b.name) x))
     ∙ ap (λ t. record { class = b.class; name = b.name; kind = t }) (text_sound a.kind b.kind (and_behind (text_eq a.class b.class && text_eq a.name b.name) (text_eq a.kind b.kind) e))
 
-field_itself : (k : FieldKey) → field_eq k k ≡ true
+pub field_itself : (k : FieldKey) → field_eq k k ≡ true
 field_itself k = ap (λ b. b && text_eq k.name k.name && text_eq k.kind k.kind) (text_same k.class) ∙ ap (λ b. b && text_eq k.kind k.kind) (text_same k.name) ∙ text_same k.kind
 
-place_below : {A : Type 0} (xs : List A) (n : ℕ) (x : A) → slice_get xs n ≡ Some x → n < length xs
+pub place_below : {A : Type 0} (xs : List A) (n : ℕ) (x : A) → slice_get xs n ≡ Some x → n < length xs
 place_below [] n x e = none_some x e
 place_below (y ∷ xs) zero x e = omega arith
 place_below (y ∷ xs) (suc n) x e = let h = place_below xs n x e in omega (arith, h)
@@ -142,7 +142,7 @@ module _ (p : Program) (s : LiveSet) (fits : is_well_formed p ≡ true) where
         (λ n lt. same_test _ _ (λ h. number_test n m.name (method_once p S n m.name lt l (method_sound (method_at p n) (method_at p m.name) h)))
         (λ h. ap (λ k. method_eq (method_at p k) (method_at p m.name)) (number_of n m.name h) ∙ method_same (method_at p m.name)))
 
-    field_name : (j : ℕ) (x : Field) → slice_get c.fields j ≡ Some x → field_at p x.name ≡ field_key (type_at p c.name) (named_field p x)
+    pub field_name : (j : ℕ) (x : Field) → slice_get c.fields j ≡ Some x → field_at p x.name ≡ field_key (type_at p c.name) (named_field p x)
     field_name j x f = let g = (class_parts p S i c e).fields j x f in
         ap (λ t. record { class = t; name = (field_at p x.name).name; kind = (field_at p x.name).kind }) (ap (λ k. k.class) (field_is p S x.name g.entry g.is) ∙ ap (type_at p) g.owner)
 

@@ -1,2 +1,17 @@
 pub mod Tables
 pub mod Kept
+pub mod Held
+pub mod Based
+pub mod Mentioned
+pub mod Owned
+pub mod Coded
+pub mod Upward
+pub mod Numbers
+pub mod Calls
+pub mod Climbing
+pub mod Answered
+pub mod Keeping
+pub mod Making
+pub mod Noted
+pub mod Annotated
+pub mod Within

@@ -5,6 +5,8 @@ use Rattle.call_graph.specs.declared.live_set.LiveSet.{LiveSet}
 use Rattle.reach.specs.Kept.{is_marked}
 use Rattle.dalvik_defs.specs.Names.{text_eq, method_eq, field_eq}
 use Rattle.dalvik_defs.specs.Naming.{type_at, field_at, method_at}
+use Rattle.dalvik_defs.specs.Under.{defines}
+use Rattle.dalvik_defs.specs.declared.program.NamedProgram.{NamedProgram}
 use Rattle.pass_defs.specs.Live.{Family}
 
 -- whether some number below a bound passes
@@ -20,3 +22,7 @@ family_of p s = record {
   fields = λ k. any_below (length p.fields) (λ n. is_marked s.fields.items n && field_eq (field_at p n) k);
   methods = λ k. any_below (length p.methods) (λ n. is_marked s.methods.items n && method_eq (method_at p n) k);
 }
+
+-- a family without the members of classes that a program doesn't define
+abbrev pub within : NamedProgram → Family → Family
+within p s = record s { fields = λ k. s.fields k && defines p k.class; methods = λ k. s.methods k && defines p k.class }

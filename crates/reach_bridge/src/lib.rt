@@ -1,5 +1,23 @@
 //! What the code of reach leaves of a program is what the law of removal speaks of. The functions of this crate have an
 //! empty body, and their contracts are the laws.
+//!
+//! `laws` says that what marks on numbers leave of a program is what is left of it by the names of the marked numbers.
+//! `closed` says, record by record, that the names of the marked numbers keep what a closed family keeps, where the marks
+//! have what the contract of `live_members` promises: they fit the tables, and they are closed under what follows. With
+//! all records `closed_law` has the closed family, and `reach_law` that what the marks leave shows the same.
+//!
+//! What is not proved, and stands as a premise:
+//!
+//! - The program is of version 035. Of version 037 the marks say less: no candidates of interfaces.
+//! - Live code makes no objects of classes that are abstract or interfaces (`MakesConcrete`, in `specs/Reached.antt`). Marks
+//!   make no such class, and a closed family makes each class of which live code makes an object. A typed program makes
+//!   none where a walk comes; code where none comes may. `new_law` has the record for classes that can have objects,
+//!   without this premise.
+//! - `kept_law` asks that marked members are of classes of the program (`AreDefined`), so that their classes are live;
+//!   `owners_law` has this without the premise for the classes that the program defines. `closed_law` and `reach_law`
+//!   don't ask it, since they leave out the other members (`within`, in `specs/Names.antt`), of which nothing is left.
+//! - The table of shut methods holds what it says (`ShutsHold`), and the program is typed.
 #![tactic(auto)]
 
+pub mod closed;
 pub mod laws;

@@ -1,0 +1,202 @@
+-- What made objects answer to: calls of marked code, and calls of the framework.
+use Rattle.std.proofs.Common.{◌≡◌, ℕ, ◌<◌, inl, inr, Bool, true, false, nat_eq, List, [], ◌∷◌, ◌++◌, length, Some, refl, sym, ap, ◌∙◌, subst, arith}
+use Rattle.std.specs.Prelude.{◌||◌, cond, slice_get, slice_index_or}
+use Rattle.std.specs.List.{list_any}
+use Rattle.insn_set.specs.declared.form.Insn.{Insn}
+use Rattle.insn_set.specs.declared.ops.InvokeKind.{InvokeKind}
+use Rattle.insn_set.specs.declared.ops.InvokeKind.TheVariants as call
+use Rattle.program_model.specs.declared.pools.MethodName.{MethodName}
+use Rattle.program_model.specs.declared.program.MethodAt.{MethodAt}
+use Rattle.program_model.specs.declared.program.Method.{Method}
+use Rattle.program_model.specs.declared.program.Class.{Class}
+use Rattle.program_model.specs.declared.program.Program.{Program}
+use Rattle.program_model.specs.declared.pass.Outside.{Outside}
+use Rattle.class_defs.specs.Finding.{finds_virtual}
+use Rattle.class_defs.proofs.Positions.{entry_at, number_of}
+use Rattle.call_graph.specs.declared.facts.Fact.TheVariants as fact
+use Rattle.call_graph.specs.declared.named.Named.TheVariants as item
+use Rattle.call_graph.specs.declared.live_set.LiveSet.{LiveSet}
+use Rattle.call_graph.specs.Follows as follow
+use Rattle.call_graph.specs.Follows.{method_types, names_of_method, named_facts, all_named, method_facts, call_facts, found_facts}
+use Rattle.call_graph.specs.Objects as object
+use Rattle.call_graph.specs.Objects.{class_candidates, answers_or, answers_by, answer_facts, open_of, open_facts, IsOver, MayCall}
+use Rattle.call_graph.specs.Closed.{forced, IsCalled}
+use Rattle.dalvik_defs.specs.Names as spelled
+use Rattle.dalvik_defs.specs.Names.{Text, text_eq, method_eq, same_name, object_type}
+use Rattle.dalvik_defs.specs.Naming.{text_at, type_at, signature_at, method_at, named_method, named_class, named}
+use Rattle.dalvik_defs.specs.Under.{is_own_under, is_outward}
+use Rattle.dalvik_defs.specs.Find.{Found, is_virtual_method, method_in, chain_of}
+use Rattle.dalvik_defs.specs.Outer.{methods_in, outer_of}
+use Rattle.dalvik_defs.specs.Silence.{key_in}
+use Rattle.dalvik_defs.specs.declared.names.Signature.{Signature}
+use Rattle.dalvik_defs.specs.declared.names.MethodKey.{MethodKey}
+use Rattle.dalvik_defs.specs.declared.program.NamedBody.{NamedBody}
+use Rattle.dalvik_defs.specs.declared.program.NamedMethod.{NamedMethod}
+use Rattle.dalvik_defs.specs.declared.program.NamedClass.{NamedClass}
+use Rattle.dalvik_defs.proofs.Calm.{text_sound}
+use Rattle.pass_defs.specs.Calls.{is_within, inherits}
+use Rattle.pass_defs.specs.Live.{is_bound, answers_to, KeepsVirtual, KeepsCalledBack}
+use Rattle.name_bridge.proofs.Tables.{method_is, method_class, method_name, method_proto}
+use Rattle.name_bridge.proofs.Found.{looked_up, found_parts}
+use Rattle.name_bridge.proofs.Candidates.{common_test}
+use Rattle.removal_law.proofs.Lists as list
+use Rattle.removal_law.proofs.Lists.{In, here, there, clash, contained, in_front, in_back}
+use Rattle.removal_law.proofs.Finds.{in_flat, first_where}
+use Rattle.removal_law.proofs.Members.{key, key_sound}
+use Rattle.removal_law.proofs.Trees.{chain_named, class_in}
+use Rattle.removal_law.proofs.Outward.{any_here, any_where}
+use Rattle.removal_law.proofs.Declared.{method_same}
+use Rattle.removal_bridge.proofs.Formed.{method_of, key_of, entry_below}
+use Rattle.reach_bridge.specs.Names.{family_of}
+use Rattle.reach_bridge.specs.Reached.{IsMarked}
+use Rattle.reach_bridge.proofs.Held.{stands, of_image, placed_at, made_number, method_met}
+use Rattle.reach_bridge.proofs.Based.{S}
+use Rattle.reach_bridge.proofs.Mentioned.{place_held}
+use Rattle.reach_bridge.proofs.Coded.{LiveCode, IsCall, live_code, call_from}
+use Rattle.reach_bridge.proofs.Upward.{keeps_above}
+use Rattle.reach_bridge.proofs.Calls.{answer_from, inherits_at, short, names}
+use Rattle.reach_bridge.proofs.Climbing.{climbs, object_found, object_is, outward}
+
+-- the methods of an answer
+answers_are : (p : Program) (number : ℕ) (q : MethodName) (c : ℕ) (at : MethodAt) → slice_get p.methods number ≡ Some q → finds_virtual p q.name q.proto c ≡ Some at → answer_facts p number c ≡ found_facts p (Some at) ++ []
+answers_are p number q c at is e = ap (answers_by p c) is ∙ ap (λ x. object.all_found p (answers_or x (class_candidates p c q.name q.proto))) e
+
+module _ (p : Program) (o : Outside) (s : LiveSet) (g : IsMarked p o s) where
+  -- ---- calls of marked code
+
+  module _ (m : MethodKey) (b : NamedBody) (l : LiveCode p s m b) (i : Insn) (at : In i l.body.insns) (kind : InvokeKind) (k : MethodKey) (r : IsCall p i kind k) where
+    abbrev bases : List ℕ
+    bases = g.closed.tables.bases.items
+
+    is_called : is_bound kind ≡ false → IsCalled p g.closed.tables s r.number
+    is_called e = record {
+      from = fact.Method l.number.number;
+      live = l.number.marked;
+      calls = contained (fact.Called r.number) (forced p g.closed.tables (fact.Method l.number.number))
+          (in_back (fact.Called r.number) (method_types p bases l.number.number) (all_named p bases (names_of_method (follow.own_method p l.number.number)))
+          (in_flat (named_facts p bases) (item.Call kind r.number) (fact.Called r.number) (names_of_method (follow.own_method p l.number.number)) (names p o s g m b l i at kind k r)
+          (in_back (fact.Called r.number) (method_facts p bases r.number) (call_facts p kind r.number) (by kind e))));
+    }
+      where
+        by : (z : InvokeKind) → is_bound z ≡ false → In (fact.Called r.number) (call_facts p z r.number)
+        by call.Virtual e = here []
+        by call.Interface e = here []
+        by call.Static e = clash true refl e
+        by call.Direct e = clash true refl e
+        by call.Super e = clash true refl e
+
+    over : (n : ℕ) (q : MethodName) → n < length p.types → slice_get p.methods r.number ≡ Some q → is_within (named p) (type_at p n) k.class ≡ true → IsOver p g.closed.tables.object n q.class
+    over n q lt is e = by (text_eq k.class object_type) refl e
+      where
+        class_is : k.class ≡ type_at p q.class
+        class_is = ap (λ z. z.class) (sym r.is ∙ method_is p (S p o s g) r.number q is)
+
+        by : (b : Bool) → text_eq k.class object_type ≡ b → (b || is_own_under (named p) (type_at p n) k.class) ≡ true → IsOver p g.closed.tables.object n q.class
+        by true h e = inr (sym (object_is p o s g ∙ object_found p o s g q.class (method_class p (S p o s g) r.number q is) (sym class_is ∙ text_sound k.class object_type h)))
+        by false h e = inl (climbs p o s g (length (named p).classes) n q.class lt (method_class p (S p o s g) r.number q is) (subst (λ z. is_own_under (named p) (type_at p n) z ≡ true) class_is e))
+
+    virtual_held : is_bound kind ≡ false → (t : Text) → (family_of p s).made t ≡ true → is_within (named p) t k.class ≡ true → (f : Found) → In f (answers_to (named p) t k.name k.signature) → (family_of p s).methods f.key ≡ true
+    virtual_held bound t made within f j =
+        let n = made_number p s t made in
+        let q = entry_at p.methods r.number (short p o s g m b l i at kind k r) in
+        let key = sym r.is ∙ method_is p (S p o s g) r.number q.0 q.1 in
+        let from : inherits (named p) (type_at p n.number) (text_at p q.0.name) (signature_at p q.0.proto) ≡ Some f =
+        ap (λ z. inherits (named p) z (text_at p q.0.name) (signature_at p q.0.proto)) n.is ∙ ap (λ z. inherits (named p) t z.name z.signature) (sym key) ∙ answer_from p o s g t k.name k.signature f j in
+        let w = inherits_at p o s g n.number q.0.name q.0.proto f n.short (method_name p (S p o s g) r.number q.0 q.1) (method_proto p (S p o s g) r.number q.0 q.1) from in
+        let facts = answers_are p r.number q.0 w.class w.at q.1 w.finds in
+        place_held p o s g w.at f w.found (λ y i'. g.closed.called g.old r.number n.number w.class q.0 y (is_called bound) (short p o s g m b l i at kind k r) q.1 (method_class p (S p o s g) r.number q.0 q.1) n.marked w.is_class
+        (over n.number q.0 n.short q.1 (subst (λ z. is_within (named p) z k.class ≡ true) (sym n.is) within))
+        (contained y (answer_facts p r.number w.class) (subst (In y) (sym facts) (in_front y (found_facts p (Some w.at)) [] i'))))
+
+  pub keeps_virtual : KeepsVirtual (named p) (family_of p s)
+  keeps_virtual m b kind k args h c bound t made within f i =
+      let l = live_code p o s g m b h in
+      let r = call_from p o s g m b l kind k args c in
+      virtual_held m b l r.0 r.1.0 kind k r.1.1 bound t made within f (stands (answers_to (named p) t k.name k.signature) f i)
+
+  -- ---- calls of the framework
+
+  -- the name and the proto of a method number
+  record IsNumbered (n : Text) (q : Signature) : Type 0 where
+    number : ℕ
+    entry : MethodName
+    is_entry : slice_get p.methods number ≡ Some entry
+    name : text_at p entry.name ≡ n
+    proto : signature_at p entry.proto ≡ q
+
+  entry_numbered : (m : Method) (e : MethodName) (nm : NamedMethod) (c : NamedClass) (n : Text) (q : Signature) → slice_get p.methods m.name ≡ Some e → named_method p m ≡ nm → key_in c nm ≡ key c.name n q → IsNumbered n q
+  entry_numbered m e nm c n q is same k = record {
+    number = m.name;
+    entry = e;
+    is_entry = is;
+    name = ap (λ z. z.name) (sym (method_is p (S p o s g) m.name e is)) ∙ ap (λ z. z.name) same ∙ ap (λ z. z.name) k;
+    proto = ap (λ z. z.signature) (sym (method_is p (S p o s g) m.name e is)) ∙ ap (λ z. z.signature) same ∙ ap (λ z. z.signature) k;
+  }
+
+  class_numbered : (k : Class) (m : Method) (nm : NamedMethod) (c : NamedClass) (n : Text) (q : Signature) → In k p.classes → In m k.methods → named_method p m ≡ nm → key_in c nm ≡ key c.name n q → IsNumbered n q
+  class_numbered k m nm c n q at own same h =
+      let i = placed_at p.classes k at in
+      let j = placed_at k.methods m own in
+      let fit = method_of p g.formed k i.0 j.0 m i.1 j.1 in
+      entry_numbered m fit.entry nm c n q fit.is same h
+
+  method_numbered : (k : Class) (c : NamedClass) (nm : NamedMethod) (n : Text) (q : Signature) → In k p.classes → named_class p k ≡ c → method_in c n q ≡ Some nm → IsNumbered n q
+  method_numbered k c nm n q at is e =
+      let found = list.found_in (λ m. same_name m.name m.signature n q) c.methods nm e in
+      let m = of_image (named_method p) nm k.methods (subst (λ z. In nm z.methods) (sym is) found.is_in) in
+      class_numbered k m.0 nm c n q at m.1.0 m.1.1 (key_sound c nm n q found.passes)
+
+  numbered : (t n : Text) (q : Signature) (f : Found) → inherits (named p) t n q ≡ Some f → IsNumbered n q
+  numbered t n q f e =
+      let w = first_where is_virtual_method n q (chain_of (named p) t) f e in
+      let c = of_image (named_class p) w.class p.classes (class_in (named p) w.class.name w.class (chain_named (named p) (family_of p s) (keeps_above p o s g) (length (named p).classes) t w.class w.stands)) in
+      method_numbered c.0 w.class w.method n q c.1.0 c.1.1 w.found
+
+  -- a method that isn't shut by name isn't by number
+  not_shut : (n : ℕ) → n < length p.methods → methods_in p o.shut (method_at p n) ≡ false → slice_index_or g.closed.tables.shut.items n false ≡ false
+  not_shut n lt away = let long = g.closed.are.shut_long in g.closed.are.shut n (omega (arith, lt, long)) ∙ by (list_any (nat_eq n) o.shut) refl
+    where
+      by : (b : Bool) → list_any (nat_eq n) o.shut ≡ b → list_any (nat_eq n) o.shut ≡ false
+      by false e = e
+      by true e =
+          let r = any_where (nat_eq n) o.shut e in
+          let same : method_eq (method_at p r.0) (method_at p n) ≡ true = ap (λ z. method_eq (method_at p z) (method_at p n)) (sym (number_of n r.0 r.1.1)) ∙ method_same (method_at p n) in
+          clash (methods_in p o.shut (method_at p n)) (any_here (λ z. method_eq (method_at p z) (method_at p n)) r.0 o.shut r.1.0 same) away
+
+  may_call : (k : ℕ) (n : Text) (q : Signature) (w : IsNumbered n q) → k < length p.types → (is_outward (named p) (type_at p k) || spelled.is_common n q) ≡ true → MayCall p g.closed.tables.object k w.entry
+  may_call k n q w lt e = by (is_outward (named p) (type_at p k)) refl e
+    where
+      by : (b : Bool) → is_outward (named p) (type_at p k) ≡ b → (b || spelled.is_common n q) ≡ true → MayCall p g.closed.tables.object k w.entry
+      by true h e = inl (outward p o s g (length (named p).classes) k lt h)
+      by false h e = inr (sym (common_test p w.entry.name w.entry.proto) ∙ ap (λ z. spelled.is_common z (signature_at p w.entry.proto)) w.name ∙ ap (spelled.is_common n) w.proto ∙ e)
+
+  called_held : (t n : Text) (q : Signature) → (family_of p s).made t ≡ true → (is_outward (named p) t || spelled.is_common n q) ≡ true
+      → (f : Found) → inherits (named p) t n q ≡ Some f → methods_in p o.shut f.key ≡ false → (family_of p s).methods f.key ≡ true
+  called_held t n q made may f e away =
+      let k = made_number p s t made in
+      let w = numbered t n q f e in
+      let from : inherits (named p) (type_at p k.number) (text_at p w.entry.name) (signature_at p w.entry.proto) ≡ Some f =
+      ap (λ z. inherits (named p) z (text_at p w.entry.name) (signature_at p w.entry.proto)) k.is ∙ ap (λ z. inherits (named p) t z (signature_at p w.entry.proto)) w.name ∙ ap (inherits (named p) t n) w.proto ∙ e in
+      let h = inherits_at p o s g k.number w.entry.name w.entry.proto f k.short (method_name p (S p o s g) w.number w.entry w.is_entry) (method_proto p (S p o s g) w.number w.entry w.is_entry) from in
+      let parts = found_parts p h.at f h.found in
+      let there = parts.there in
+      let fit = method_of p g.formed there.class h.at.class h.at.place there.method there.is_class there.is_method in
+      let key : method_at p there.method.name ≡ f.key = key_of p g.formed there.class h.at.class h.at.place there.method there.is_class there.is_method ∙ sym (ap (λ x. x.key) parts.found) in
+      let short = entry_below p g.formed there.method.name fit.entry fit.is in
+      let facts : open_facts p g.closed.tables.shut.items (Some h.at) ≡ fact.Method there.method.name ∷ [] =
+      ap (open_of g.closed.tables.shut.items) (looked_up p h.at there) ∙ ap (λ b. cond b [] (fact.Method there.method.name ∷ [])) (not_shut there.method.name short (ap (methods_in p o.shut) key ∙ away)) in
+      ap (family_of p s).methods (sym key) ∙ method_met p s g.sized there.method.name short (g.closed.goes (fact.Made k.number) (fact.Method there.method.name) k.marked (inr (record {
+        number = w.number;
+        name = w.entry;
+        class = h.class;
+        at = h.at;
+        is_name = w.is_entry;
+        is_class = h.is_class;
+        old = g.old;
+        may = may_call k.number n q w k.short (ap (λ z. is_outward (named p) z || spelled.is_common n q) k.is ∙ may);
+        answers = contained h.at (object.answers_to p h.class w.entry.name w.entry.proto) (subst (In h.at) (sym (ap (λ x. answers_or x (class_candidates p h.class w.entry.name w.entry.proto)) h.finds)) (here []));
+        fact_is = contained (fact.Method there.method.name) (open_facts p g.closed.tables.shut.items (Some h.at)) (subst (In (fact.Method there.method.name)) (sym facts) (here []));
+      })))
+
+  pub keeps_called_back : KeepsCalledBack (named p) (outer_of p o) (family_of p s)
+  keeps_called_back t n q made may f i away = called_held t n q made may f (answer_from p o s g t n q f (stands (answers_to (named p) t n q) f i)) away

@@ -1,0 +1,83 @@
+//! Laws of marks that are closed under what follows: the names of the marked numbers keep what a closed family keeps.
+
+ghost use Rattle.program_model.specs.declared.program.Program.{Program};
+ghost use Rattle.program_model.specs.declared.pass.Outside.{Outside};
+ghost use Rattle.call_graph.specs.declared.live_set.LiveSet.{LiveSet};
+ghost use Rattle.dalvik_defs.specs.Naming.{named};
+ghost use Rattle.dalvik_defs.specs.Outer.{outer_of};
+ghost use Rattle.pass_defs.specs.Live.{conditions_of, IsClosedFamily, KeepsKept, KeepsMade, KeepsTypes, KeepsMentions, KeepsResolved, KeepsAbove, KeepsBound, KeepsVirtual, KeepsCalledBack};
+ghost use Rattle.dalvik_defs.specs.Shown.{SameShown};
+ghost use Rattle.pass_defs.specs.Typed.{IsTyped};
+ghost use Rattle.reach.specs.Kept.{kept_of};
+ghost use Rattle.removal_law.specs.Reach.{ShutsHold};
+ghost use Rattle.reach_bridge.specs.Names.{family_of, within};
+ghost use Rattle.reach_bridge.specs.Reached.{IsMarked, AreDefined, MakesConcrete, KeepsOwners, MakesNew};
+
+/// The types in the descriptors of live members, and in live code, its handlers and the members that it names, are live.
+pub fn types_law()
+    ensures { (p : Program) (o : Outside) (s : LiveSet) → IsMarked p o s → KeepsTypes (named p) (family_of p s) }
+{}
+
+/// The members to which names in live code resolve are live.
+pub fn resolved_law()
+    ensures { (p : Program) (o : Outside) (s : LiveSet) → IsMarked p o s → KeepsResolved (named p) (family_of p s) }
+{}
+
+/// What stands above a live class is live, and so is its initialiser.
+pub fn above_law()
+    ensures { (p : Program) (o : Outside) (s : LiveSet) → IsMarked p o s → KeepsAbove (named p) (family_of p s) }
+{}
+
+/// What a static, direct or super call in live code finds is live.
+pub fn bound_law()
+    ensures { (p : Program) (o : Outside) (s : LiveSet) → IsMarked p o s → KeepsBound (named p) (family_of p s) }
+{}
+
+/// What each made class under the class that a virtual or interface call of live code names finds for the call is live.
+pub fn virtual_law()
+    ensures { (p : Program) (o : Outside) (s : LiveSet) → IsMarked p o s → KeepsVirtual (named p) (family_of p s) }
+{}
+
+/// What the framework may call on objects of made classes is live, unless it is shut.
+pub fn called_back_law()
+    ensures { (p : Program) (o : Outside) (s : LiveSet) → IsMarked p o s → KeepsCalledBack (named p) (outer_of p o) (family_of p s) }
+{}
+
+/// The class of a live member is live, where the program defines it.
+pub fn owners_law()
+    ensures { (p : Program) (o : Outside) (s : LiveSet) → IsMarked p o s → KeepsOwners (named p) (family_of p s) }
+{}
+
+/// Kept classes and members are live, and conditional ones where their class or owner is. A premise is that the marked
+/// members are of classes of the program: then their classes are live.
+pub fn kept_law()
+    ensures { (p : Program) (o : Outside) (s : LiveSet) → IsMarked p o s → AreDefined p s → KeepsKept (named p) (outer_of p o) (conditions_of p o) (family_of p s) }
+{}
+
+/// Classes of which live code makes objects are made, if they can have objects.
+pub fn new_law()
+    ensures { (p : Program) (o : Outside) (s : LiveSet) → IsMarked p o s → MakesNew (named p) (family_of p s) }
+{}
+
+/// Kept classes that can have objects are made, and those of which live code makes objects. A premise is that live code
+/// makes none of classes that are abstract or interfaces, which marks don't make.
+pub fn made_law()
+    ensures { (p : Program) (o : Outside) (s : LiveSet) → IsMarked p o s → MakesConcrete p s → KeepsMade (named p) (outer_of p o) (conditions_of p o) (family_of p s) }
+{}
+
+/// What the annotations and first values of live classes and members name is live.
+pub fn mentions_law()
+    ensures { (p : Program) (o : Outside) (s : LiveSet) → IsMarked p o s → KeepsMentions (named p) (family_of p s) }
+{}
+
+/// The names of the marked numbers are a closed family, the members of classes that the program doesn't define left out.
+/// A premise is that live code makes no objects of classes that are abstract or interfaces, which marks don't make.
+pub fn closed_law()
+    ensures { (p : Program) (o : Outside) (s : LiveSet) → IsMarked p o s → MakesConcrete p s → IsClosedFamily (named p) (outer_of p o) (conditions_of p o) (within (named p) (family_of p s)) }
+{}
+
+/// What marks leave of a well-formed and typed program shows the same, where the table of shut methods holds what it
+/// says. The premise on what live code makes is that of the closed family.
+pub fn reach_law()
+    ensures { (p : Program) (o : Outside) (s : LiveSet) → IsMarked p o s → MakesConcrete p s → IsTyped (named p) → ShutsHold (named p) (outer_of p o) → SameShown (named p) (named (kept_of s p)) (outer_of p o) }
+{}

@@ -18,6 +18,7 @@ use Rattle.verify.specs.declared.setting.Setting.{Setting}
 use Rattle.verify.specs.declared.tables.Tables.{Tables}
 use Rattle.verify.specs.declared.typed.Verifier.{Verifier}
 use Rattle.verify.specs.Building.{AreChainsOf}
+use Rattle.verify.specs.Descriptors.{AreTypesOf}
 use Rattle.verify.specs.Entry.{begun}
 use Rattle.verify.specs.Meeting.{IsMeeting}
 use Rattle.verify.specs.Names.{parameters_of, result_of}
@@ -108,12 +109,13 @@ pub record RefusesFirst (v : Verifier) (e : TypeFault) : Type 0 where
   pub before : AllBelow v at
   pub refuses : RefusesIn v class at e
 
--- the verifier of a program; its chains are those of the program's classes
+-- the verifier of a program; its chains are those of the program's classes, and its tables say of types what their texts say
 pub record IsFor (p : Program) (h : Hierarchy) (v : Verifier) : Type 0 where
   pub program : v.program.now ≡ p
   pub hierarchy : v.hierarchy.now ≡ h
   pub meets : IsMeeting v.tables
   pub chains : is_well_formed p ≡ true → IsOf p h → AreChainsOf p v.tables.chains
+  pub types : is_well_formed p ≡ true → IsOf p h → AreTypesOf p v.tables
 
 -- ---- by a verifier of the program
 

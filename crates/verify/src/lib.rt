@@ -24,6 +24,7 @@ mod joins;
 mod kinds;
 mod laws;
 mod methods;
+mod named;
 mod operands;
 mod raising;
 mod setting;

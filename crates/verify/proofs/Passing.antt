@@ -1,11 +1,11 @@
 -- The tables of a well-formed program pass when they are looked over.
-use Rattle.std.proofs.Common.{◌≡◌, ℕ, zero, suc, ◌<◌, ◌≤◌, ◌^◌, Bool, true, false, true≢false, nat_eq, List, [], ◌∷◌, map, length, Option, Some, None, ◌⊎◌, inl, inr, refl, sym, ap, subst, ◌∙◌, arith, leb-true}
+use Rattle.std.proofs.Common.{◌≡◌, ℕ, zero, suc, ◌<◌, ◌≤◌, ◌^◌, Bool, true, false, true≢false, nat_eq, List, [], ◌∷◌, map, length, Option, Some, None, ◌⊎◌, inl, inr, refl, sym, ap, ◌∙◌, arith, leb-true}
 use Rattle.std.specs.Prelude.{◌&&◌, not, cond, slice_get, slice_index_or, position, option_and_then, nat_lt, nat_le, is_ok}
 use Rattle.std.specs.List.{list_all}
 use Rattle.std.specs.Option.{option_map}
 use Rattle.std.proofs.Math.Nat.{min-eq_left}
 use Rattle.class_defs.proofs.Positions.{number_test, number_of, entry_at, place_entry, PlaceFits, place_first, FirstPlace}
-use Rattle.class_defs.proofs.WellFormed.{and_left, and_right, all_at, Sound, sound, below, ClassFits, class_parts, few_classes}
+use Rattle.class_defs.proofs.WellFormed.{and_left, and_right, all_at, sound, below, class_parts, few_classes}
 use Rattle.class_defs.specs.ClassGraph.{IsTwice}
 use Rattle.class_defs.specs.Members.{is_interface}
 use Rattle.class_defs.specs.Places.{super_place}
@@ -27,7 +27,7 @@ use Rattle.verify.specs.Chains.{above}
 use Rattle.verify.specs.Descriptors.{same_text, without_brackets, shape_of_text, short, first_number, is_class_of, class_named, is_item_of, item_named, item_number, number_or, is_plain_class, plain_at, base_shape, object_text, AreTypesOf}
 use Rattle.verify.specs.Flow.{greatest}
 use Rattle.verify.specs.Kinds.{same_number}
-use Rattle.verify.specs.Meeting.{stands, stands_too, is_settled, is_settled_class, is_base, has_objects, AreSound}
+use Rattle.verify.specs.Meeting.{stands, stands_too, is_settled_class, is_base, has_objects, AreSound}
 use Rattle.verify.specs.Shapes.{is_plain, is_reference, place_of}
 use Rattle.verify.specs.Types.{shape_in, item_shape, item_of_class}
 use Rattle.verify.specs.declared.shapes.Shape.{Shape}

@@ -1,4 +1,4 @@
-use Rattle.std.proofs.Common.{◌≡◌, ◌∙◌, List, ℕ, Some, None, true, ap, sym}
+use Rattle.std.proofs.Common.{◌∙◌, ap, sym}
 use Rattle.verify.specs.Descriptors.{same_text, number_of}
 use Rattle.verify.proofs.Descriptions.{text_is, given_new}
 use Rattle.verify.proofs.named.give.Goals as goal

@@ -1,9 +1,9 @@
-use Rattle.std.proofs.Common.{◌≡◌, ◌∙◌, List, ℕ, Some, None, refl, ap, arith, get_or}
+use Rattle.std.proofs.Common.{◌∙◌, List, ℕ, Some, None, refl, ap, arith, get_or}
 use Rattle.std.proofs.lemmas.List.{get_or_default}
 use Rattle.std.specs.Prelude.{cond}
 use Rattle.std.specs.Option.{option_or}
 use Rattle.verify.specs.Descriptors.{same_text, number_of, is_item_of, without_brackets}
-use Rattle.verify.proofs.Along.{AtPlace, at_place, number_more, number_all}
+use Rattle.verify.proofs.Along.{AtPlace, at_place, number_more}
 use Rattle.verify.proofs.named.items.Goals as goal
 
 pub loop-string-preserved : goal.loop-string-preserved

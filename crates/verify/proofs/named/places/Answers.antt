@@ -1,8 +1,8 @@
-use Rattle.std.proofs.Common.{◌≡◌, ◌∙◌, List, ℕ, Some, None, ap, arith}
+use Rattle.std.proofs.Common.{◌∙◌, Some, None, ap, arith}
 use Rattle.std.specs.Prelude.{cond}
 use Rattle.std.specs.Option.{option_or}
 use Rattle.verify.specs.Descriptors.{same_text, number_of, is_class_of}
-use Rattle.verify.proofs.Along.{AtPlace, at_place, number_more, number_all}
+use Rattle.verify.proofs.Along.{AtPlace, at_place, number_more}
 use Rattle.verify.proofs.named.places.Goals as goal
 
 pub loop-class-preserved : goal.loop-class-preserved

@@ -1,4 +1,4 @@
-use Rattle.std.proofs.Common.{◌∙◌, ap, refl}
+use Rattle.std.proofs.Common.{◌∙◌, ap}
 use Rattle.program_model.specs.Texts.{string_text}
 use Rattle.verify.specs.Descriptors.{item_number, without_brackets}
 use Rattle.verify.proofs.Along.{mapped_more}

@@ -1,4 +1,4 @@
-use Rattle.std.proofs.Common.{refl, ap, sym, ◌∙◌, map}
+use Rattle.std.proofs.Common.{ap, ◌∙◌, map}
 use Rattle.verify.specs.Descriptors.{AreTypesOf}
 use Rattle.verify.specs.declared.tables.Tables.{Tables}
 use Rattle.verify.proofs.Kept.{chains_kept, types_kept}

@@ -1,13 +1,13 @@
 -- The tables of a well-formed program pass when they are looked over.
 use Rattle.std.proofs.Common.{◌≡◌, ℕ, zero, suc, ◌<◌, ◌≤◌, ◌^◌, Bool, true, false, true≢false, nat_eq, List, [], ◌∷◌, map, length, Option, Some, None, ◌⊎◌, inl, inr, refl, sym, ap, ◌∙◌, arith, leb-true}
-use Rattle.std.specs.Prelude.{◌&&◌, not, cond, slice_get, slice_index_or, position, option_and_then, nat_lt, nat_le, is_ok}
+use Rattle.std.specs.Prelude.{◌&&◌, not, cond, slice_get, slice_index_or, position, option_and_then, slice_index, sum_by, codes, nat_lt, nat_le, is_ok}
 use Rattle.std.specs.List.{list_all}
 use Rattle.std.specs.Option.{option_map}
 use Rattle.std.proofs.Math.Nat.{min-eq_left}
 use Rattle.class_defs.proofs.Positions.{number_test, number_of, entry_at, place_entry, PlaceFits, place_first, FirstPlace}
 use Rattle.class_defs.proofs.WellFormed.{and_left, and_right, all_at, sound, below, class_parts, few_classes}
 use Rattle.class_defs.specs.ClassGraph.{IsTwice}
-use Rattle.class_defs.specs.Members.{is_interface}
+use Rattle.class_defs.specs.Members.{is_interface, string_is}
 use Rattle.class_defs.specs.Places.{super_place}
 use Rattle.dex_base.specs.Descriptor.{descriptor_of}
 use Rattle.insn_set.specs.declared.ops.Item.TheVariants as item
@@ -15,16 +15,18 @@ use Rattle.program_model.specs.Cells.{cells_of}
 use Rattle.program_model.specs.Distinct.{text_key, type_key}
 use Rattle.program_model.specs.Items.{items_of}
 use Rattle.program_model.specs.Lookups.{class_place}
-use Rattle.program_model.specs.MemberRules.{class_fits, types_of_class_fit, is_class_type, is_object, source_fits, fields_fit, methods_fit, has_flag}
+use Rattle.program_model.specs.MemberRules.{class_fits, types_of_class_fit, is_class_type, is_object, source_fits, fields_fit, methods_fit, has_flag, words_of}
 use Rattle.program_model.specs.ProgramRules.{is_well_formed}
 use Rattle.program_model.specs.TableRules.{tables_fit, tables_are_short, texts_are_short, entries_fit, entries_differ, type_fits}
 use Rattle.program_model.specs.Texts.{has_string, has_type, is_class, letter_of, first_unit, string_text, type_text, text_or_none}
 use Rattle.program_model.specs.ValueRules.{marks_fit}
+use Rattle.program_model.specs.declared.pools.MethodName.{MethodName}
+use Rattle.program_model.specs.declared.pools.Proto.{Proto}
 use Rattle.program_model.specs.declared.program.Class.{Class}
 use Rattle.program_model.specs.declared.program.Program.{Program}
 use Rattle.verify.specs.Building.{AreChainsOf, class_above}
 use Rattle.verify.specs.Chains.{above}
-use Rattle.verify.specs.Descriptors.{same_text, without_brackets, shape_of_text, short, first_number, is_class_of, class_named, is_item_of, item_named, item_number, number_or, is_plain_class, plain_at, base_shape, object_text, AreTypesOf}
+use Rattle.verify.specs.Descriptors.{same_text, without_brackets, shape_of_text, short, first_number, is_class_of, class_named, is_item_of, item_named, item_number, number_or, is_plain_class, plain_at, base_shape, shape_named, object_text, AreTypesOf, SaysTexts}
 use Rattle.verify.specs.Flow.{greatest}
 use Rattle.verify.specs.Kinds.{same_number}
 use Rattle.verify.specs.Meeting.{stands, stands_too, is_settled_class, is_base, has_objects, AreSound}
@@ -171,6 +173,10 @@ letter_text p k e = lettered (type_text p k) e
 text_of_type : (p : Program) (k s : ℕ) → slice_get p.types k ≡ Some s → type_text p k ≡ string_text p s
 unfolding type_text
 text_of_type p k s e = ap (text_or_none p) e
+
+type_is : (p : Program) (k : ℕ) → type_text p k ≡ text_or_none p (slice_get p.types k)
+unfolding type_text
+type_is p k = refl
 
 module _ (p : Program) (w : is_well_formed p ≡ true) where
   has_text : (k s : ℕ) → slice_get p.types k ≡ Some s → s < length p.strings
@@ -319,4 +325,48 @@ module _ (p : Program) (w : is_well_formed p ≡ true) where
         bases = bases_ok;
         classes = classes_ok;
         objects = objects_ok;
+      }
+
+      -- ---- what is looked up by number
+
+      shapes_at : (ss : List ℕ) (k : ℕ) → slice_index_or (map (λ s. shape_named p (string_text p s)) ss) k shape.Void ≡ shape_named p (text_or_none p (slice_get ss k))
+      shapes_at [] k = refl
+      shapes_at (s ∷ ss) zero = refl
+      shapes_at (s ∷ ss) (suc k) = shapes_at ss k
+
+      item_at : (k s : ℕ) → slice_get p.types k ≡ Some s → (T : List ℕ) → T ≡ without_brackets (string_text p s) → item_shape t (Some (item_number p T)) ≡ base_shape p T
+      item_at k s e T q =
+          let f : First (is_item_of p T) p.types k = first_of (is_item_of p T) p.types k s (few_types p w) e (ap (λ u. same_text u T) (sym q) ∙ text_same T) in
+          ap (λ o. item_shape t (Some (number_or o))) f.is
+          ∙ ap (λ l. shape_in l f.number) a.bases
+          ∙ index_map (λ s. base_shape p (without_brackets (string_text p s))) p.types f.number f.entry shape.Void f.got
+          ∙ ap (base_shape p) (text_is (without_brackets (string_text p f.entry)) T f.passes)
+
+      item_says : (k : ℕ) → k < length p.types → item_shape t (Some (item_number p (without_brackets (type_text p k)))) ≡ base_shape p (without_brackets (type_text p k))
+      item_says k lt = let s = entry_at p.types k lt in item_at k s.0 s.1 (without_brackets (type_text p k)) (ap without_brackets (text_of_type p k s.0 s.1))
+
+      place_says : (k : ℕ) → k < length p.types → class_named p (type_text p k) ≡ class_place p k
+      place_says k lt = by_place (class_place p k) refl (class_named p (type_text p k)) refl
+        where
+          by_place : (o : Option ℕ) → class_place p k ≡ o → (n : Option ℕ) → class_named p (type_text p k) ≡ n → class_named p (type_text p k) ≡ class_place p k
+          by_place (Some c) e n g =
+              let r = place_entry (λ (x : Class). nat_eq x.name k) p.classes c e in
+              let q : r.entry.name ≡ k = number_of r.entry.name k r.passes in
+              ap (λ m. class_named p (type_text p m)) (sym q) ∙ named_there c r.entry r.is ∙ sym e
+          by_place None e None g = g ∙ sym e
+          by_place None e (Some c) g =
+              let m : Numbered (is_class_of p (type_text p k)) p.classes c = numbered (is_class_of p (type_text p k)) p.classes c few g in
+              let q : m.entry.name ≡ k = one_type m.entry.name k (name_below c m.entry m.is) lt (text_is (type_text p m.entry.name) (type_text p k) m.passes) in
+              let f : FirstPlace (λ (x : Class). nat_eq x.name k) p.classes c = place_first (λ (x : Class). nat_eq x.name k) p.classes c m.entry m.is (number_test m.entry.name k q) in
+              let z : None ≡ Some f.place = sym e ∙ f.is in
+              cc
+
+      pub says : SaysTexts p t
+      says = record {
+        shape = λ k. ap (λ l. shape_in l k) a.shapes ∙ shapes_at p.types k ∙ ap (shape_named p) (sym (type_is p k));
+        item = item_says;
+        place = place_says;
+        class = item_is;
+        words = λ n q e. ap (λ l. slice_index l n) a.words ∙ index_map (λ (q : Proto). short (sum_by (words_of p) q.parameters)) p.protos n q 0 e;
+        begins = λ n m e. ap (λ l. slice_index_or l n false) a.constructors ∙ index_map (λ (m : MethodName). string_is p m.name (codes "<init>")) p.methods n m false e;
       }

@@ -1,5 +1,5 @@
 -- What the types of a program are by their texts (Dalvik executable format, "TypeDescriptor").
-use Rattle.std.specs.Prelude.{◌≡◌, ℕ, suc, Bool, false, not, List, [], ◌∷◌, map, sum_by, min, Option, Some, None, nat_eq, cond, codes, position, slice_get, if◌then◌else◌}
+use Rattle.std.specs.Prelude.{◌≡◌, ℕ, suc, ◌<◌, length, Bool, false, not, List, [], ◌∷◌, map, sum_by, min, Option, Some, None, nat_eq, cond, codes, position, slice_get, if◌then◌else◌}
 use Rattle.std.specs.Option.{option_map}
 use Rattle.std.specs.Cmp.Lexicographic.{pointwise}
 use Rattle.std.specs.HashMap.{HashMap}
@@ -9,11 +9,14 @@ use Rattle.insn_set.specs.declared.ops.Item.TheVariants as item
 use Rattle.class_defs.specs.Members.{string_is}
 use Rattle.program_model.specs.MemberRules.{has_flag, words_of}
 use Rattle.program_model.specs.Texts.{string_text, type_text}
+use Rattle.program_model.specs.Lookups.{class_place}
+use Rattle.program_model.specs.declared.pools.MethodName.{MethodName}
+use Rattle.program_model.specs.declared.pools.Proto.{Proto}
 use Rattle.program_model.specs.declared.program.Class.{Class}
 use Rattle.program_model.specs.declared.program.Program.{Program}
 use Rattle.verify.specs.Flow.{greatest}
 use Rattle.verify.specs.Shapes.{is_wide}
-use Rattle.verify.specs.Types.{shape_in}
+use Rattle.verify.specs.Types.{shape_in, shape_of, item_shape, item_of_class, proto_words, is_constructor}
 use Rattle.verify.specs.declared.named.Named.{Named}
 use Rattle.verify.specs.declared.shapes.Shape.{Shape}
 use Rattle.verify.specs.declared.shapes.Shape.TheVariants.{Void, Int, Word, Wide, Class as ClassType, Array}
@@ -122,3 +125,13 @@ pub record AreTypesOf (p : Program) (t : Tables) : Type 0 where
   pub object : t.object ≡ item_named p object_text
   pub words : t.words.items ≡ map (λ q. short (sum_by (words_of p) q.parameters)) p.protos
   pub constructors : t.constructors.items ≡ map (λ m. string_is p m.name (codes "<init>")) p.methods
+
+-- what is looked up by number is what the texts say: what a type is, what an array's items are, the class of a type, the item of
+-- arrays of a class, the registers of a proto's parameters, and the name of a method
+pub record SaysTexts (p : Program) (t : Tables) : Type 0 where
+  pub shape : (k : ℕ) → shape_of t k ≡ shape_named p (type_text p k)
+  pub item : (k : ℕ) → k < length p.types → item_shape t (Some (item_number p (without_brackets (type_text p k)))) ≡ base_shape p (without_brackets (type_text p k))
+  pub place : (k : ℕ) → k < length p.types → class_named p (type_text p k) ≡ class_place p k
+  pub class : (c : ℕ) (k : Class) → slice_get p.classes c ≡ Some k → item_shape t (item_of_class t c) ≡ ClassType (Some c) (plain_at p (Some c))
+  pub words : (n : ℕ) (q : Proto) → slice_get p.protos n ≡ Some q → proto_words t n ≡ short (sum_by (words_of p) q.parameters)
+  pub begins : (n : ℕ) (m : MethodName) → slice_get p.methods n ≡ Some m → is_constructor t n ≡ string_is p m.name (codes "<init>")

@@ -37,5 +37,5 @@ mod wrong;
 pub use checks::{typings, verify_all};
 pub use fault::TypeFault;
 pub use kinds::Kind;
-pub use laws::{chains_law, joins_law, monotone_law, short_law, writes_law};
+pub use laws::{chains_law, joins_law, monotone_law, short_law, types_law, writes_law};
 pub use typed::{Typings, Verifier};

@@ -22,24 +22,33 @@ use Rattle.verify.specs.Flow.{places_of}
 use Rattle.program_model.specs.declared.program.MethodAt.{MethodAt}
 use Rattle.program_model.specs.Lookups.{method_at}
 use Rattle.verify.specs.Methods.{constructs, receiver_of, IsSettingOf, HasTyping, Refuses, Types, HasTypings, TypesAt, RefusesAt, AllBelow, RefusesFirst, IsFor, TypesAll, RefusesOne}
+use Rattle.hierarchy.specs.Shapes.{IsOf}
 use Rattle.hierarchy.specs.declared.Hierarchy.{Hierarchy}
+use Rattle.insn_set.specs.declared.form.Insn.{Insn}
+use Rattle.verify.specs.declared.calls.Search.{Search}
+use Rattle.verify.specs.Supers.{Finds}
 use Rattle.program_model.specs.declared.program.Program.{Program}
 use Rattle.verify.specs.Names.{parameters_of}
 use Rattle.verify.specs.Typings.{IsLeastTyping, IsIllTyped}
 use Rattle.verify.specs.Typings.{Refuses as RefusesBody}
 
+-- what the super calls of a body find, where it is looked at by other names
+pub finds_from : (p q : Program) (h k : Hierarchy) (at : ℕ) (is slice : List Insn) (found fs : List Search) → q ≡ p → k ≡ h → slice ≡ is → fs ≡ found → (IsOf q k → Finds q at slice found) → IsOf p h → Finds p at is fs
+finds_from p q h k at is slice found fs e f g j made of =
+    subst (λ x. Finds p at is x) (sym j) (subst (λ x. Finds p at x found) g (subst (λ x. Finds x at slice found) e (made (subst (λ x. IsOf q x) (sym f) (subst (λ x. IsOf x h) (sym e) of)))))
+
 module _ (v : Verifier) (c : Class) (at : ℕ) (m : Method) (b : Body) (s : Setting) (is : IsSettingOf v c at m s) (begins : Bool) (receiver : Option Kind) (kinds : List ℕ)
-    (e : begins ≡ constructs v.tables m) (f : receiver ≡ receiver_of c at m begins) (g : kinds ≡ parameters_of v.program.now m.name) where
+    (e : begins ≡ constructs v.tables m) (f : receiver ≡ receiver_of c at m begins) (g : kinds ≡ parameters_of v.program.now m.name) (finds : IsOf v.program.now v.hierarchy.now → Finds v.program.now at b.insns s.found.now) where
   same : begun s b receiver kinds ≡ begun s b (receiver_of c at m (constructs v.tables m)) (parameters_of v.program.now m.name)
   same = ap (λ r. begun s b r kinds) (f ∙ ap (receiver_of c at m) e) ∙ ap (begun s b (receiver_of c at m (constructs v.tables m))) g
 
   pub typed_from : (r : Result Typings TypeFault) → IfOk r (λ x. IsLeastTyping s b (begun s b receiver kinds) (places_of x.states.items)) → IfOk r (λ x. HasTyping v c at m b (places_of x.states.items))
-  typed_from (Ok x) h = record { setting = s; is = is; least = subst (λ a. IsLeastTyping s b a (places_of x.states.items)) same h }
+  typed_from (Ok x) h = record { setting = s; is = is; finds = finds; least = subst (λ a. IsLeastTyping s b a (places_of x.states.items)) same h }
   typed_from (Err y) h = tt
 
   fault_from : m.body ≡ Some b → (y : TypeFault) → RefusesBody s b (begun s b receiver kinds) m.name y → Refuses v c at m y
   fault_from has fault.NoMemory h = tt
-  fault_from has (fault.IllTyped k n r) h = (h.0, record { setting = s; is = is; body = b; has = has; ill = subst (λ a. IsIllTyped s b a n r) same h.1 })
+  fault_from has (fault.IllTyped k n r) h = (h.0, record { setting = s; is = is; body = b; has = has; finds = finds; ill = subst (λ a. IsIllTyped s b a n r) same h.1 })
 
   pub refused_from : m.body ≡ Some b → (r : Result Typings TypeFault) → IfErr r (λ y. RefusesBody s b (begun s b receiver kinds) m.name y) → IfErr r (Refuses v c at m)
   refused_from has (Ok x) h = tt

@@ -1,16 +1,23 @@
--- What super calls find in a program of version 035.
-use Rattle.std.proofs.Common.{◌≡◌, ℕ, zero, suc, [], length, Option, Some, None, refl, sym, ap, ◌∙◌}
-use Rattle.std.specs.Prelude.{slice_get, cond}
-use Rattle.class_defs.specs.Finding.{first_among, finds_from, finds_super, finds_super_of, finds_super_037, finds_above, by_entry, is_037}
+-- What super calls find that begin at the superclass.
+use Rattle.std.proofs.Common.{◌≡◌, ℕ, zero, suc, ◌+◌, ◌<◌, ◌≤◌, Bool, true, false, true≢false, List, [], ◌∷◌, ◌++◌, length, get_or, Option, Some, None, inl, inr, refl, sym, ap, subst, ◌∙◌, arith}
+use Rattle.std.specs.Prelude.{◌&&◌, ◌||◌, not, slice_get, slice_index_or, cond}
+use Rattle.std.specs.List.{list_any}
+use Rattle.std.proofs.lemmas.Bool.{cases_lt}
+use Rattle.class_defs.specs.Finding.{first_among, finds_from, finds_super, finds_super_of, finds_super_037, finds_above, finds_among, reaches, by_entry, is_037}
 use Rattle.class_defs.specs.Finding as finding
-use Rattle.class_defs.specs.Members.{own_method}
+use Rattle.class_defs.specs.Members.{own_method, is_interface}
 use Rattle.class_defs.specs.Places.{super_place, chain_from}
 use Rattle.program_model.specs.Lookups.{class_place}
 use Rattle.program_model.specs.declared.pools.MethodName.{MethodName}
 use Rattle.program_model.specs.declared.program.MethodAt.{MethodAt}
 use Rattle.program_model.specs.declared.program.Program.{Program}
-use Rattle.program_model.specs.declared.program.Version.TheVariants.{V035}
-use Rattle.verify.specs.Supers.{found_at_place, above_of, said}
+use Rattle.insn_set.specs.declared.form.Insn.{Insn}
+use Rattle.insn_set.specs.declared.form.Insn.TheVariants as insn
+use Rattle.insn_set.specs.declared.ops.InvokeKind.{InvokeKind}
+use Rattle.insn_set.specs.declared.ops.InvokeKind.TheVariants as call
+use Rattle.verify.specs.declared.calls.Search.{Search}
+use Rattle.verify.specs.declared.calls.Search.TheVariants as search
+use Rattle.verify.specs.Supers.{found_at_place, above_of, said, lists, is_listed, begins_at, begins_by, begins_above, is_super_kind, is_super, is_above_call, called_by_kind, super_search, Finds, FindsBelow}
 
 no_chain : (f : ℕ → Option ℕ) (n : ℕ) → chain_from f n None ≡ []
 no_chain f zero = refl
@@ -30,12 +37,107 @@ said_search : (p : Program) (r : Option MethodAt) → found_at_place p r ≡ sai
 said_search p None = refl
 said_search p (Some at) = refl
 
-pub early_said : (p : Program) (class method : ℕ) → p.version ≡ V035 → found_at_place p (above_of p class method) ≡ said p (finds_super p class method)
-early_said p class method v = go (slice_get p.methods method)
+-- what no class lists, none above a class lists
+none_both : {X : Type 0} (a b : X → Bool) (xs : List X) → list_any b xs ≡ false → list_any (λ x. a x && b x) xs ≡ false
+none_both a b [] e = refl
+none_both a b (x ∷ xs) e = by (a x) (b x) e (none_both a b xs)
   where
-    go : (o : Option MethodName) → found_at_place p (by_entry (λ x. finds_from p x.name x.proto (super_place p class)) o) ≡ said p (finds_super_of p class o)
-    go None = refl
-    go (Some q) = said_search p (finds_from p q.name q.proto (super_place p class)) ∙ ap (λ x. said p (cond (is_037 x) (finds_super_037 p class q (class_place p q.class)) (finds_above p class q))) (sym v)
+    by : (s t : Bool) → (t || list_any b xs) ≡ false → (list_any b xs ≡ false → list_any (λ x. a x && b x) xs ≡ false) → ((s && t) || list_any (λ x. a x && b x) xs) ≡ false
+    by s true f more = absurd (true≢false f)
+    by true false f more = more f
+    by false false f more = more f
 
-pub early_found : (p : Program) (class method : ℕ) (r : Option MethodAt) → p.version ≡ V035 → r ≡ above_of p class method → found_at_place p r ≡ said p (finds_super p class method)
-early_found p class method r v e = ap (found_at_place p) e ∙ early_said p class method v
+untrue : (b : Bool) → not b ≡ true → b ≡ false
+untrue true e = absurd (true≢false (sym e))
+untrue false e = refl
+
+-- a call that begins at the superclass finds what stands above
+module _ (p : Program) (class : ℕ) where
+  abbrev super_by : Bool → Option MethodName → finding.Search
+  super_by v None = finding.Nothing
+  super_by v (Some q) = cond v (finds_super_037 p class q (class_place p q.class)) (finds_above p class q)
+
+  by_version : (o : Option MethodName) → super_by (is_037 p.version) o ≡ finds_super_of p class o
+  by_version None = refl
+  by_version (Some q) = refl
+
+  begins : (q : MethodName) (o : Option ℕ) → begins_at p q.class o ≡ true → finds_super_037 p class q o ≡ finds_above p class q
+  begins q None h = ap (λ b. cond b finding.Nothing (finds_above p class q)) (none_both (λ k. reaches p class (class_place p k.name)) (lists q.class) p.classes (untrue (is_listed p q.class) h))
+  begins q (Some c) h = ap (λ b. cond b (finds_among p (c ∷ []) q.name q.proto) (finds_above p class q)) (untrue (is_interface (slice_get p.classes c)) h)
+
+  go : (v : Bool) (o : Option MethodName) → (not v || begins_by p o) ≡ true → found_at_place p (by_entry (λ x. finds_from p x.name x.proto (super_place p class)) o) ≡ said p (super_by v o)
+  go v None h = refl
+  go false (Some q) h = said_search p (finds_from p q.name q.proto (super_place p class))
+  go true (Some q) h = said_search p (finds_from p q.name q.proto (super_place p class)) ∙ ap (said p) (sym (begins q (class_place p q.class) h))
+
+  pub above_said : (method : ℕ) → begins_above p method ≡ true → found_at_place p (above_of p class method) ≡ said p (finds_super p class method)
+  above_said method h = go (is_037 p.version) (slice_get p.methods method) h ∙ ap (said p) (by_version (slice_get p.methods method))
+
+pub above_found : (p : Program) (class method : ℕ) (r : Option MethodAt) → begins_above p method ≡ true → r ≡ above_of p class method → found_at_place p r ≡ said p (finds_super p class method)
+above_found p class method r b e = ap (found_at_place p) e ∙ above_said p class method b
+
+-- ---- super calls in a body
+
+pub none_at : {X : Type 0} (t : X → Bool) (xs : List X) (n : ℕ) (x : X) → list_any t xs ≡ false → slice_get xs n ≡ Some x → t x ≡ false
+none_at t [] n x h e = cc
+none_at t (y ∷ ys) zero x h e = let s : y ≡ x = cc in ap t (sym s) ∙ first (t y) (list_any t ys) h
+  where
+    first : (a b : Bool) → (a || b) ≡ false → a ≡ false
+    first true b f = f
+    first false b f = refl
+none_at t (y ∷ ys) (suc n) x h e = none_at t ys n x (rest (t y) (list_any t ys) h) e
+  where
+    rest : (a b : Bool) → (a || b) ≡ false → b ≡ false
+    rest true b f = absurd (true≢false f)
+    rest false b f = f
+
+no_kind : (p : Program) (class : ℕ) (k : InvokeKind) (method : ℕ) → is_super_kind k ≡ false → called_by_kind p class k method ≡ search.Nothing
+no_kind p class call.Super method e = absurd (true≢false e)
+no_kind p class call.Virtual method e = refl
+no_kind p class call.Direct method e = refl
+no_kind p class call.Static method e = refl
+no_kind p class call.Interface method e = refl
+
+no_super : (p : Program) (class : ℕ) (i : Insn) → is_super i ≡ false → super_search p class i ≡ search.Nothing
+no_super p class (insn.Invoke k method args) e = no_kind p class k method e
+no_super p class i e = refl
+
+-- where there is no super call, nothing is found
+pub finds_none : (p : Program) (class : ℕ) (is : List Insn) → list_any is_super is ≡ false → Finds p class is []
+finds_none p class is h n i e b = sym (no_super p class i (none_at is_super is n i h e))
+
+pub got : {X : Type 0} (xs : List X) (n : ℕ) (x : X) → x ≡ get_or xs n x → n < length xs → slice_get xs n ≡ Some x
+got [] n x f l = absurd (omega (arith, l))
+got (z ∷ zs) zero x f l = ap (λ w. Some w) (sym f)
+got (z ∷ zs) (suc n) x f l = got zs n x f (omega (arith, l))
+
+got_short : {X : Type 0} (xs : List X) (i : ℕ) (x : X) → slice_get xs i ≡ Some x → i < length xs
+got_short [] i x e = cc
+got_short (y ∷ ys) zero x e = omega arith
+got_short (y ∷ ys) (suc i) x e = let h = got_short ys i x e in omega (arith, h)
+
+-- one more position
+pub finds_more : (p : Program) (class : ℕ) (is slice : List Insn) (n : ℕ) (x : Insn) (old new : List Search) (y : Search) → slice ≡ is → x ≡ get_or slice n x → n < length slice → length old ≡ n → new ≡ old ++ y ∷ []
+    → (is_above_call p x ≡ true → y ≡ super_search p class x) → FindsBelow p class is old n → FindsBelow p class is new (n + 1)
+finds_more p class is slice n x old new y same item lt long pushed here so_far k i below e b = elim (cases_lt k n) [
+  | inl l ↦ ap (λ z. slice_index_or z k search.Nothing) pushed ∙ before old k y (omega (arith, l, long)) ∙ so_far k i l e b
+  | inr g ↦
+      let q : k ≡ n = omega (arith, below, g) in
+      let at : slice_get is n ≡ Some x = subst (λ l. slice_get l n ≡ Some x) same (got slice n x item lt) in
+      let s : Some x ≡ Some i = sym at ∙ ap (slice_get is) (sym q) ∙ e in
+      let t : x ≡ i = cc in
+      ap (λ z. slice_index_or z k search.Nothing) pushed ∙ ap (λ m. slice_index_or (old ++ y ∷ []) m search.Nothing) (q ∙ sym long) ∙ last old y
+      ∙ here (ap (is_above_call p) t ∙ b) ∙ ap (super_search p class) t
+]
+  where
+    before : (xs : List Search) (k : ℕ) (y : Search) → k < length xs → slice_index_or (xs ++ y ∷ []) k search.Nothing ≡ slice_index_or xs k search.Nothing
+    before [] k y l = absurd (omega (arith, l))
+    before (z ∷ zs) zero y l = refl
+    before (z ∷ zs) (suc k) y l = before zs k y (omega (arith, l))
+
+    last : (xs : List Search) (y : Search) → slice_index_or (xs ++ y ∷ []) (length xs) search.Nothing ≡ y
+    last [] y = refl
+    last (z ∷ zs) y = last zs y
+
+pub finds_all : (p : Program) (class : ℕ) (is : List Insn) (found : List Search) (n : ℕ) → length is ≤ n → FindsBelow p class is found n → Finds p class is found
+finds_all p class is found n le h k i e b = h k i (let l = got_short is k i e in omega (arith, l, le)) e b

@@ -1,16 +1,28 @@
--- The tables of a program keep the chains of its classes.
-use Rattle.std.proofs.Common.{◌≡◌, ◌<◌, true, length, sym, ap, ◌∙◌, subst, arith}
-use Rattle.std.specs.Prelude.{Result, Ok, Err, IfOk}
+-- The tables of a well-formed program are kept, and with them what they say of its classes and types.
+use Rattle.std.proofs.Common.{◌≡◌, ◌<◌, ◌≤◌, true, length, sym, subst, arith}
 use Rattle.hierarchy.specs.declared.build.Hierarchy.{Hierarchy}
 use Rattle.hierarchy.specs.Shapes.{IsOf}
 use Rattle.program_model.specs.ProgramRules.{is_well_formed}
 use Rattle.program_model.specs.declared.program.Program.{Program}
-use Rattle.verify.specs.declared.chains.Chains.{Chains}
 use Rattle.verify.specs.declared.tables.Tables.{Tables}
 use Rattle.verify.specs.Building.{AreChainsOf}
 use Rattle.verify.specs.Chains.{longest}
+use Rattle.verify.specs.Descriptors.{AreTypesOf}
+use Rattle.verify.specs.Flow.{greatest}
+use Rattle.verify.specs.Meeting.{AreSound}
 use Rattle.verify.proofs.Bounds.{few}
+use Rattle.verify.proofs.Passing.{passes}
 
-pub chains_kept : (p : Program) (h : Hierarchy) (c : Chains) (t : Tables) {E : Type 0} (r : Result Tables E) → is_well_formed p ≡ true → IsOf p h → t.chains ≡ c → (IsOf p h → length p.classes < longest → AreChainsOf p c) → IfOk r (λ u. u ≡ t) → IfOk r (λ u. AreChainsOf p u.chains)
-chains_kept p h c t (Ok u) w of e made same = subst (λ x. AreChainsOf p x) (sym (ap (λ x. x.chains) same ∙ e)) (made of (let f = few p w of.once in omega (arith, f)))
-chains_kept p h c t (Err y) w of e made same = tt
+module _ (p : Program) (h : Hierarchy) (t : Tables) (w : is_well_formed p ≡ true) (of : IsOf p h) (made : IsOf p h → length p.classes < longest → AreChainsOf p t.chains) (few_above : length t.chains.supers.items ≤ greatest) (types : AreTypesOf p t) where
+  pub chains_made : AreChainsOf p t.chains
+  chains_made = made of (let f = few p w of.once in omega (arith, f))
+
+  module _ (r : Tables) (kept : AreSound t → r ≡ t) where
+    same : r ≡ t
+    same = kept (passes p w of.once t types chains_made few_above)
+
+    pub chains_kept : AreChainsOf p r.chains
+    chains_kept = subst (λ (x : Tables). AreChainsOf p x.chains) (sym same) chains_made
+
+    pub types_kept : AreTypesOf p r
+    types_kept = subst (λ (x : Tables). AreTypesOf p x) (sym same) types

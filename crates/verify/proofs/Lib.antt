@@ -1,3 +1,4 @@
+pub mod Along
 pub mod Arrived
 pub mod Arrives
 pub mod Begun
@@ -8,6 +9,8 @@ pub mod Cells
 pub mod Chained
 pub mod Climbs
 pub mod Covering
+pub mod Descriptions
+pub mod Distinct
 pub mod Entries
 pub mod Fitting
 pub mod Follows
@@ -20,6 +23,7 @@ pub mod Leaving
 pub mod Links
 pub mod Orders
 pub mod Passed
+pub mod Passing
 pub mod Paths
 pub mod Queue
 pub mod Raises
@@ -34,4 +38,5 @@ pub mod Throws
 pub mod Visits
 pub mod Weights
 pub mod Wide
+pub mod Widths
 pub mod Writes

@@ -2,6 +2,7 @@ pub mod After
 pub mod Building
 pub mod Chains
 pub mod Demands
+pub mod Descriptors
 pub mod Entry
 pub mod Faults
 pub mod Fits

@@ -1,11 +1,12 @@
 -- What the tables of a program keep, so that joins are least upper bounds (this project's profile).
-use Rattle.std.specs.Prelude.{◌≡◌, ℕ, ◌<◌, Bool, true, false, ◌&&◌, not, ◌⊎◌, Option, Some, None, if◌then◌else◌}
+use Rattle.std.specs.Prelude.{◌≡◌, ℕ, ◌<◌, ◌≤◌, length, Bool, true, false, ◌&&◌, not, ◌⊎◌, Option, Some, None, if◌then◌else◌}
 use Rattle.insn_set.specs.declared.ops.Item.{Item}
 use Rattle.insn_set.specs.declared.ops.Item.TheVariants as item
 use Rattle.verify.specs.declared.shapes.Shape.{Shape}
 use Rattle.verify.specs.declared.shapes.Shape.TheVariants as shape
 use Rattle.verify.specs.declared.tables.Tables.{Tables}
 use Rattle.verify.specs.Chains.{above, depth, nearest, longest, IsChains}
+use Rattle.verify.specs.Flow.{greatest}
 use Rattle.verify.specs.Joins.{nearest_place, nearest_item}
 use Rattle.verify.specs.Kinds.{same_number}
 use Rattle.verify.specs.Shapes.{is_reference, is_plain, place_of}
@@ -67,3 +68,11 @@ ClassesBelow t n = (k : ℕ) → k < n → stands_too t (above t.chains k) ≡ t
 -- the item of arrays of objects is no program class
 abbrev pub has_objects : Tables → Bool
 has_objects t = same_number (place_of (item_shape t t.object)) None && is_reference (item_shape t t.object)
+
+-- tables that pass when they are looked over
+pub record AreSound (t : Tables) : Type 0 where
+  pub types : length t.bases.items ≤ greatest
+  pub count : length t.chains.supers.items ≤ greatest
+  pub bases : (k : ℕ) → is_base t (shape_in t.bases.items k) ≡ true
+  pub classes : (k : ℕ) → stands_too t (above t.chains k) ≡ true
+  pub objects : has_objects t ≡ true

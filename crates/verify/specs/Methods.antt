@@ -18,9 +18,11 @@ use Rattle.verify.specs.declared.setting.Setting.{Setting}
 use Rattle.verify.specs.declared.tables.Tables.{Tables}
 use Rattle.verify.specs.declared.typed.Verifier.{Verifier}
 use Rattle.verify.specs.Building.{AreChainsOf}
+use Rattle.verify.specs.Descriptors.{AreTypesOf}
 use Rattle.verify.specs.Entry.{begun}
 use Rattle.verify.specs.Meeting.{IsMeeting}
 use Rattle.verify.specs.Names.{parameters_of, result_of}
+use Rattle.verify.specs.Supers.{Finds}
 use Rattle.verify.specs.Types.{is_constructor}
 use Rattle.verify.specs.Typings.{Table, IsLeastTyping, IsIllTyped}
 
@@ -46,10 +48,11 @@ pub record IsSettingOf (v : Verifier) (c : Class) (at : ℕ) (m : Method) (s : S
   pub result : s.result ≡ result_of v.program.now m.name
   pub begins : s.constructs ≡ constructs v.tables m
 
--- the least typing of the code of a method of the class at a place
+-- the least typing of the code of a method of the class at a place, by what its super calls find
 pub record HasTyping (v : Verifier) (c : Class) (at : ℕ) (m : Method) (b : Body) (x : Table) : Type 0 where
   pub setting : Setting
   pub is : IsSettingOf v c at m setting
+  pub finds : IsOf v.program.now v.hierarchy.now → Finds v.program.now at b.insns setting.found.now
   pub least : IsLeastTyping setting b (begun setting b (receiver_of c at m (constructs v.tables m)) (parameters_of v.program.now m.name)) x
 
 -- the code of a method has none, and its least flow breaks first at this position and register
@@ -58,6 +61,7 @@ pub record HasNone (v : Verifier) (c : Class) (at : ℕ) (m : Method) (n r : ℕ
   pub is : IsSettingOf v c at m setting
   pub body : Body
   pub has : m.body ≡ Some body
+  pub finds : IsOf v.program.now v.hierarchy.now → Finds v.program.now at body.insns setting.found.now
   pub ill : IsIllTyped setting body (begun setting body (receiver_of c at m (constructs v.tables m)) (parameters_of v.program.now m.name)) n r
 
 -- what a refusal says of a method
@@ -108,12 +112,13 @@ pub record RefusesFirst (v : Verifier) (e : TypeFault) : Type 0 where
   pub before : AllBelow v at
   pub refuses : RefusesIn v class at e
 
--- the verifier of a program; its chains are those of the program's classes
+-- the verifier of a program; its chains are those of the program's classes, and its tables say of types what their texts say
 pub record IsFor (p : Program) (h : Hierarchy) (v : Verifier) : Type 0 where
   pub program : v.program.now ≡ p
   pub hierarchy : v.hierarchy.now ≡ h
   pub meets : IsMeeting v.tables
   pub chains : is_well_formed p ≡ true → IsOf p h → AreChainsOf p v.tables.chains
+  pub types : is_well_formed p ≡ true → IsOf p h → AreTypesOf p v.tables
 
 -- ---- by a verifier of the program
 

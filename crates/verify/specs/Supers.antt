@@ -1,14 +1,17 @@
 -- What super calls find, with the numbers of the classes' types (this project's profile).
-use Rattle.std.specs.Prelude.{ℕ, Option, Some, None, slice_get}
-use Rattle.class_defs.specs.Finding.{finds_from, finds_super, by_entry}
+use Rattle.std.specs.Prelude.{◌≡◌, ℕ, ◌<◌, ◌||◌, Bool, true, false, not, List, Option, Some, None, nat_eq, slice_get, slice_index_or}
+use Rattle.std.specs.List.{list_any}
+use Rattle.class_defs.specs.Finding.{finds_from, finds_super, by_entry, is_037}
 use Rattle.class_defs.specs.Finding as finding
+use Rattle.class_defs.specs.Members.{is_interface}
 use Rattle.class_defs.specs.Places.{super_place}
 use Rattle.insn_set.specs.declared.form.Insn.{Insn}
 use Rattle.insn_set.specs.declared.form.Insn.TheVariants as insn
 use Rattle.insn_set.specs.declared.ops.InvokeKind.{InvokeKind}
 use Rattle.insn_set.specs.declared.ops.InvokeKind.TheVariants as call
-use Rattle.program_model.specs.Lookups.{method_at}
+use Rattle.program_model.specs.Lookups.{class_place, method_at}
 use Rattle.program_model.specs.MemberRules.{has_flag}
+use Rattle.program_model.specs.declared.pools.MethodName.{MethodName}
 use Rattle.program_model.specs.declared.program.Class.{Class}
 use Rattle.program_model.specs.declared.program.Method.{Method}
 use Rattle.program_model.specs.declared.program.MethodAt.{MethodAt}
@@ -42,3 +45,45 @@ called_by_kind p class k method = search.Nothing
 abbrev pub super_search : Program → ℕ → Insn → Search
 super_search p class (insn.Invoke k method args) = called_by_kind p class k method
 super_search p class i = search.Nothing
+
+-- ---- super calls that begin at the superclass whatever the interfaces are
+
+-- a type stands in the interface list of a class, or of some class
+abbrev pub lists : ℕ → Class → Bool
+lists kind c = list_any (nat_eq kind) c.interfaces
+
+abbrev pub is_listed : Program → ℕ → Bool
+is_listed p kind = list_any (lists kind) p.classes
+
+-- the named type is a program class and no interface, or a type that no class lists
+abbrev pub begins_at : Program → ℕ → Option ℕ → Bool
+begins_at p kind None = not (is_listed p kind)
+begins_at p kind (Some c) = not (is_interface (slice_get p.classes c))
+
+abbrev pub begins_by : Program → Option MethodName → Bool
+begins_by p None = true
+begins_by p (Some q) = begins_at p q.class (class_place p q.class)
+
+-- a super call of a method number begins at the superclass: each one in version 035
+abbrev pub begins_above : Program → ℕ → Bool
+begins_above p method = not (is_037 p.version) || begins_by p (slice_get p.methods method)
+
+abbrev pub is_super_kind : InvokeKind → Bool
+is_super_kind call.Super = true
+is_super_kind k = false
+
+abbrev pub is_super : Insn → Bool
+is_super (insn.Invoke k method args) = is_super_kind k
+is_super i = false
+
+-- an instruction is no super call, or one that begins at the superclass
+abbrev pub is_above_call : Program → Insn → Bool
+is_above_call p (insn.Invoke k method args) = begins_above p method
+is_above_call p i = true
+
+-- what is found at each position, of so many or of all, whose call, if it is one, begins at the superclass
+abbrev pub FindsBelow : Program → ℕ → List Insn → List Search → ℕ → Type 0
+FindsBelow p class insns found count = (n : ℕ) (i : Insn) → n < count → slice_get insns n ≡ Some i → is_above_call p i ≡ true → slice_index_or found n search.Nothing ≡ super_search p class i
+
+abbrev pub Finds : Program → ℕ → List Insn → List Search → Type 0
+Finds p class insns found = (n : ℕ) (i : Insn) → slice_get insns n ≡ Some i → is_above_call p i ≡ true → slice_index_or found n search.Nothing ≡ super_search p class i

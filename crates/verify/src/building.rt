@@ -88,6 +88,7 @@ impl Chains {
         hierarchy: &Hierarchy,
     ) -> Result<Chains, AllocError>
         ensures sound { IfOk result IsChains }
+        ensures short { IfOk result (λ c. length c.supers.items ≤ greatest) }
         ensures made { IsOf program.now hierarchy.now → length program.now.classes < longest → IfOk result (AreChainsOf program.now) }
     {
         let classes = word(program.classes.len());

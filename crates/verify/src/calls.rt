@@ -1,16 +1,16 @@
 //! What the super calls of a body find.
 
-ghost use Rattle.std.specs.Prelude.{◌≡◌, Some, IfOk, slice_get};
+ghost use Rattle.std.specs.Prelude.{◌≡◌, true, false, Some, IfOk, slice_get};
+ghost use Rattle.std.specs.List.{list_any};
 ghost use Rattle.class_defs.specs.Finding.{finds_from};
+ghost use Rattle.class_defs.specs.Members.{is_interface};
 ghost use Rattle.class_defs.specs.Places.{super_place};
 ghost use Rattle.hierarchy.specs.Shapes.{IsOf};
 ghost use Rattle.program_model.specs.declared.pools.MethodName.{MethodName};
-ghost use Rattle.program_model.specs.declared.program.Version.TheVariants.{V035};
-ghost use Rattle.verify.specs.Supers.{found_at_place, above_of, called_by_kind, super_search};
+ghost use Rattle.verify.specs.Supers.{lists, is_listed, begins_at, begins_above, found_at_place, above_of, called_by_kind, super_search, is_super, is_above_call, Finds};
 ghost use Rattle.std.specs.Option.{option_copied};
-ghost use Rattle.program_model.specs.Lookups.{method_at};
+ghost use Rattle.program_model.specs.Lookups.{class_place, method_at};
 
-use crate::shapes::Shape;
 use crate::tables::Tables;
 use hierarchy::{Given, Hierarchy, Walk};
 use insn_set::{Insn, InvokeKind};
@@ -24,14 +24,28 @@ pub enum Search {
     Finds { class: u32, is_static: bool },
 }
 
-/// A look-up of super calls over one program. The walk is made where the first call needs it.
+/// What look-ups of super calls work with. The walk is made where the first call needs it.
+#[derive(Drop)]
+pub struct Scratch {
+    walk: Option<Walk>,
+    found: Vec<MethodAt>,
+}
+
+impl Scratch {
+    pub fn new(alloc: Global) -> Scratch {
+        Scratch {
+            walk: None,
+            found: Vec::new(alloc),
+        }
+    }
+}
+
+/// A look-up of super calls over one program.
 #[derive(Drop)]
 pub struct Calls<'a> {
     pub program: &'a Program,
     pub hierarchy: &'a Hierarchy,
     pub tables: &'a Tables,
-    walk: Option<Walk>,
-    found: Vec<MethodAt>,
 }
 
 /// The method at a place.
@@ -65,26 +79,28 @@ fn search_of(program: &Program, found: Option<MethodAt>) -> Search
 }
 
 /// Whether a type stands in the interface list of a class.
-fn lists(class: &Class, kind: u32) -> bool {
-    class.interfaces.as_slice().iter().any(|one| *one == kind)
-}
-
-impl<'a> Calls<'a> {
-    pub fn new(
-        alloc: Global,
-        program: &'a Program,
-        hierarchy: &'a Hierarchy,
-        tables: &'a Tables,
-    ) -> Calls<'a> {
-        Calls {
-            program,
-            hierarchy,
-            tables,
-            walk: None,
-            found: Vec::new(alloc),
+fn lists(class: &Class, kind: u32) -> bool
+    ensures { result ≡ lists kind class.now }
+{
+    for one in class.interfaces.as_slice() {
+        if kind == *one {
+            return true;
         }
     }
+    false
+}
 
+/// Whether the class at a place is an interface.
+fn is_interface(program: &Program, class: u32) -> bool
+    ensures { result ≡ is_interface (slice_get program.now.classes class) }
+{
+    match program.classes.as_slice().get(class as usize) {
+        Some(found) => found.flags.has(Flags::INTERFACE),
+        None => false,
+    }
+}
+
+impl Calls<'_> {
     /// The first method of the name and proto along the superclasses of the calling class.
     fn find_above(&self, class: u32, method: u32) -> Option<MethodAt>
         ensures { (q : MethodName) → IsOf self.now.program.now self.now.hierarchy.now → slice_get self.now.program.now.methods method ≡ Some q → result ≡ finds_from self.now.program.now q.name q.proto (super_place self.now.program.now class) }
@@ -99,26 +115,26 @@ impl<'a> Calls<'a> {
 
     /// What the candidates of a program interface give.
     fn find_among(
-        &mut self,
+        &self,
+        found: &mut Vec<MethodAt>,
         walk: &mut Walk,
         interface: u32,
         method: u32,
     ) -> Result<Option<MethodAt>, AllocError> {
         let key = self.hierarchy.key_of_method(method);
-        self.found.clear();
+        found.clear();
         self.hierarchy
-            .candidates_of(self.program, interface, key, walk, &mut self.found)?;
-        match self
-            .hierarchy
-            .given(self.program, self.found.as_slice(), walk)?
-        {
+            .candidates_of(self.program, interface, key, walk, found)?;
+        match self.hierarchy.given(self.program, found.as_slice(), walk)? {
             Given::One(found) => Ok(Some(found)),
             _ => Ok(None),
         }
     }
 
     /// Whether a type stands in the interface list of a class or of a program class above it.
-    fn lists_above(&self, class: u32, kind: u32) -> bool {
+    fn lists_above(&self, class: u32, kind: u32) -> bool
+        ensures { is_listed self.now.program.now kind ≡ false → result ≡ false }
+    {
         if !self.tables.is_listed(kind) {
             return false;
         }
@@ -134,126 +150,191 @@ impl<'a> Calls<'a> {
 
     /// What the candidates of a program interface give, by a walk that is made where there is none yet.
     fn find_given(
-        &mut self,
+        &self,
         alloc: Global,
+        scratch: &mut Scratch,
         interface: u32,
         method: u32,
     ) -> Result<Option<MethodAt>, AllocError> {
-        let mut walk = match self.walk.take() {
+        let mut walk = match scratch.walk.take() {
             Some(walk) => walk,
             None => self.hierarchy.walk(alloc)?,
         };
-        let found = self.find_among(&mut walk, interface, method)?;
-        self.walk = Some(walk);
+        let found = self.find_among(&mut scratch.found, &mut walk, interface, method)?;
+        scratch.walk = Some(walk);
         Ok(found)
+    }
+
+    /// What a super call of version 037 finds that names a program class.
+    fn find_by_class(
+        &self,
+        alloc: Global,
+        scratch: &mut Scratch,
+        class: u32,
+        method: u32,
+        named: u32,
+    ) -> Result<Option<MethodAt>, AllocError>
+        ensures { (q : MethodName) → IsOf self.now.program.now self.now.hierarchy.now → slice_get self.now.program.now.methods method ≡ Some q → is_interface (slice_get self.now.program.now.classes named) ≡ false → IfOk result (λ found. found ≡ finds_from self.now.program.now q.name q.proto (super_place self.now.program.now class)) }
+    {
+        if is_interface(self.program, named) {
+            let found = self.find_given(alloc, scratch, named, method)?;
+            Ok(found)
+        } else {
+            Ok(self.find_above(class, method))
+        }
+    }
+
+    /// What a super call of version 037 finds that names a type of the framework.
+    fn find_by_kind(&self, class: u32, method: u32, kind: u32) -> Option<MethodAt>
+        ensures { (q : MethodName) → IsOf self.now.program.now self.now.hierarchy.now → slice_get self.now.program.now.methods method ≡ Some q → is_listed self.now.program.now kind ≡ false → result ≡ finds_from self.now.program.now q.name q.proto (super_place self.now.program.now class) }
+    {
+        if self.lists_above(class, kind) {
+            None
+        } else {
+            self.find_above(class, method)
+        }
     }
 
     /// What a super call of version 037 finds.
     fn find_in_037(
-        &mut self,
+        &self,
         alloc: Global,
+        scratch: &mut Scratch,
         class: u32,
         method: u32,
-        named: u32,
-    ) -> Result<Option<MethodAt>, AllocError> {
-        match self.tables.shape(named) {
-            Shape::Class {
-                place: Some(place),
-                plain,
-            } => {
-                if plain {
-                    Ok(self.find_above(class, method))
-                } else {
-                    self.find_given(alloc, place, method)
-                }
+        kind: u32,
+    ) -> Result<Option<MethodAt>, AllocError>
+        ensures { (q : MethodName) → IsOf self.now.program.now self.now.hierarchy.now → slice_get self.now.program.now.methods method ≡ Some q → begins_at self.now.program.now kind (class_place self.now.program.now kind) ≡ true → IfOk result (λ found. found ≡ finds_from self.now.program.now q.name q.proto (super_place self.now.program.now class)) }
+    {
+        match self.hierarchy.place_of(kind) {
+            Some(named) => {
+                let found = self.find_by_class(alloc, scratch, class, method, named)?;
+                Ok(found)
             }
-            _ => {
-                if self.lists_above(class, named) {
-                    Ok(None)
-                } else {
-                    Ok(self.find_above(class, method))
-                }
-            }
+            None => Ok(self.find_by_kind(class, method, kind)),
         }
     }
-}
 
-impl Calls<'_> {
     /// What a super call from a class finds.
     fn find_super(
-        &mut self,
+        &self,
         alloc: Global,
+        scratch: &mut Scratch,
         class: u32,
         method: u32,
     ) -> Result<Option<MethodAt>, AllocError>
-        ensures early { IsOf self.old.program.now self.old.hierarchy.now → self.old.program.now.version ≡ V035 → IfOk result (λ found. found ≡ above_of self.old.program.now class method) }
+        ensures above { IsOf self.now.program.now self.now.hierarchy.now → begins_above self.now.program.now method ≡ true → IfOk result (λ found. found ≡ above_of self.now.program.now class method) }
     {
-        let named = match self.program.methods.as_slice().get(method as usize) {
+        let kind = match self.program.methods.as_slice().get(method as usize) {
             Some(name) => name.class,
             None => return Ok(None),
         };
         match self.program.version {
             Version::V035 => Ok(self.find_above(class, method)),
-            Version::V037 => self.find_in_037(alloc, class, method, named),
+            Version::V037 => {
+                let found = self.find_in_037(alloc, scratch, class, method, kind)?;
+                Ok(found)
+            }
         }
     }
 
     /// What a call finds, if it is a super call.
-    #[tactic(auto, using(crate::proofs::Calling::early_found))]
+    #[tactic(auto, using(crate::proofs::Calling::above_found))]
     fn search_call(
-        &mut self,
+        &self,
         alloc: Global,
+        scratch: &mut Scratch,
         class: u32,
         kind: InvokeKind,
         method: u32,
     ) -> Result<Search, AllocError>
-        ensures early { IsOf self.old.program.now self.old.hierarchy.now → self.old.program.now.version ≡ V035 → IfOk result (λ found. found ≡ called_by_kind self.old.program.now class kind method) }
+        ensures { IsOf self.now.program.now self.now.hierarchy.now → begins_above self.now.program.now method ≡ true → IfOk result (λ found. found ≡ called_by_kind self.now.program.now class kind method) }
     {
         match kind {
             InvokeKind::Super => {
-                let program = self.program;
-                let found = self.find_super(alloc, class, method)?;
-                Ok(search_of(program, found))
+                let found = self.find_super(alloc, scratch, class, method)?;
+                Ok(search_of(self.program, found))
             }
             _ => Ok(Search::Nothing),
         }
     }
 
     /// What an instruction finds, if it is a super call.
-    fn search(&mut self, alloc: Global, class: u32, insn: &Insn) -> Result<Search, AllocError>
-        ensures early { IsOf self.old.program.now self.old.hierarchy.now → self.old.program.now.version ≡ V035 → IfOk result (λ found. found ≡ super_search self.old.program.now class insn.now) }
+    fn search(
+        &self,
+        alloc: Global,
+        scratch: &mut Scratch,
+        class: u32,
+        insn: &Insn,
+    ) -> Result<Search, AllocError>
+        ensures { IsOf self.now.program.now self.now.hierarchy.now → is_above_call self.now.program.now insn.now ≡ true → IfOk result (λ found. found ≡ super_search self.now.program.now class insn.now) }
     {
         match insn {
-            Insn::Invoke { kind, method, .. } => self.search_call(alloc, class, *kind, *method),
+            Insn::Invoke { kind, method, .. } => {
+                let found = self.search_call(alloc, scratch, class, *kind, *method)?;
+                Ok(found)
+            }
             _ => Ok(Search::Nothing),
         }
     }
 
-    /// For each position of a body what it finds, where it is a super call; the empty list where there is none.
-    pub fn search_all(
-        &mut self,
+    /// For each position of a body what it finds, where it is a super call.
+    fn search_each(
+        &self,
         alloc: Global,
+        scratch: &mut Scratch,
         class: u32,
         insns: &[Insn],
-    ) -> Result<Vec<Search>, AllocError> {
+    ) -> Result<Vec<Search>, AllocError>
+        ensures { IsOf self.now.program.now self.now.hierarchy.now → IfOk result (λ found. Finds self.now.program.now class insns.now found.items) }
+    {
         let mut found = Vec::new(alloc);
-        if !insns.iter().any(is_super) {
-            return Ok(found);
-        }
         for insn in insns {
-            found.push(self.search(alloc, class, insn)?)?;
+            found.push(self.search(alloc, scratch, class, insn)?)?;
         }
         Ok(found)
+    }
+
+    /// For each position of a body what it finds, where it is a super call; the empty list where there is none.
+    pub fn search_all(
+        &self,
+        alloc: Global,
+        scratch: &mut Scratch,
+        class: u32,
+        insns: &[Insn],
+    ) -> Result<Vec<Search>, AllocError>
+        ensures { IsOf self.now.program.now self.now.hierarchy.now → IfOk result (λ found. Finds self.now.program.now class insns.now found.items) }
+    {
+        if has_super(insns) {
+            let found = self.search_each(alloc, scratch, class, insns)?;
+            Ok(found)
+        } else {
+            Ok(Vec::new(alloc))
+        }
     }
 }
 
 /// Whether it is a super call.
-fn is_super(insn: &Insn) -> bool {
-    matches!(
-        insn,
-        Insn::Invoke {
-            kind: InvokeKind::Super,
-            ..
+fn is_super(insn: &Insn) -> bool
+    ensures { result ≡ is_super insn.now }
+{
+    match insn {
+        Insn::Invoke { kind, .. } => match kind {
+            InvokeKind::Super => true,
+            _ => false,
+        },
+        _ => false,
+    }
+}
+
+/// Whether there is a super call.
+fn has_super(insns: &[Insn]) -> bool
+    ensures { result ≡ list_any is_super insns.now }
+{
+    for insn in insns {
+        if is_super(insn) {
+            return true;
         }
-    )
+    }
+    false
 }

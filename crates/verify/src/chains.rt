@@ -1,8 +1,9 @@
 //! The program superclasses of each class.
 
-ghost use Rattle.std.specs.Prelude.{◌≡◌, ◌<◌, ◌+◌, length, true, false, IfNone, IfSome};
+ghost use Rattle.std.specs.Prelude.{◌≡◌, ◌<◌, ◌≤◌, ◌+◌, length, true, false, IfNone, IfSome};
 ghost use Rattle.verify.specs.Building.{IsSoundFor};
 ghost use Rattle.verify.specs.Chains.{IsChains, SoundBelow, is_sound_at, is_linked, jump_over, above, depth, jump, step, lift, is_in_chain, stepped_both, meets, nearest};
+ghost use Rattle.verify.specs.Flow.{greatest};
 
 use std::alloc::Global;
 
@@ -34,6 +35,7 @@ impl Chains {
     /// The chains as they are, if they are sound.
     pub(crate) fn checked(self, alloc: Global, classes: u32) -> Chains
         ensures sound { IsChains result }
+        ensures short { length self.supers.items ≤ greatest → length result.supers.items ≤ greatest }
         ensures kept { IsSoundFor classes self → result ≡ self }
     {
         if self.is_sound(classes) {

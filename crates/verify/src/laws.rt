@@ -7,8 +7,11 @@ ghost use Rattle.program_model.specs.declared.program.Class.{Class};
 ghost use Rattle.program_model.specs.declared.program.Method.{Method};
 ghost use Rattle.program_model.specs.declared.program.Program.{Program};
 ghost use Rattle.hierarchy.specs.Ranks.{IsRanked};
+ghost use Rattle.hierarchy.specs.Shapes.{IsOf};
+ghost use Rattle.hierarchy.specs.declared.build.Hierarchy.{Hierarchy};
 ghost use Rattle.verify.specs.declared.chains.Chains.{Chains};
 ghost use Rattle.verify.specs.Building.{AreChainsOf, FollowsClasses};
+ghost use Rattle.verify.specs.Descriptors.{AreTypesOf, SaysTexts};
 ghost use Rattle.verify.specs.declared.kinds.Kind as kind;
 ghost use Rattle.verify.specs.declared.tables.Tables.{Tables};
 ghost use Rattle.verify.specs.Frames.{Kinds, written};
@@ -43,4 +46,9 @@ pub fn short_law()
 /// classes meet at the first class above both, where no class is its own ancestor.
 pub fn chains_law()
     ensures { (p : Program) (c : Chains) → IsRanked p → AreChainsOf p c → FollowsClasses p c }
+{}
+
+/// A law, with nothing to run: what is looked up by number in the tables of a well-formed program is what its texts say.
+pub fn types_law()
+    ensures { (p : Program) (h : Hierarchy) (t : Tables) → is_well_formed p ≡ true → IsOf p h → AreTypesOf p t → AreChainsOf p t.chains → SaysTexts p t }
 {}

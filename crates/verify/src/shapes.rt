@@ -1,6 +1,7 @@
 //! What a type descriptor says (Dalvik executable format, "TypeDescriptor").
 
-ghost use Rattle.std.specs.Prelude.{◌≡◌};
+ghost use Rattle.std.specs.Prelude.{◌≡◌, ◌≤◌, length, drop};
+ghost use Rattle.verify.specs.Descriptors.{brackets, without_brackets, shape_of_text};
 ghost use Rattle.verify.specs.Shapes.{is_void, is_word, is_wide, is_reference, is_array, is_plain, place_of, stored, width_of};
 
 use insn_set::Item;
@@ -102,32 +103,45 @@ pub fn width_of(item: Item) -> u8
 }
 
 /// How many brackets a descriptor begins with.
-pub fn depth_of(units: &[u16]) -> usize {
-    match units.iter().position(|unit| *unit != 91) {
-        Some(depth) => depth,
-        None => units.len(),
+pub fn depth_of(units: &[u16]) -> usize
+    ensures within { result ≤ length units.now }
+    ensures count { result ≡ brackets units.now }
+    ensures rest { drop result units.now ≡ without_brackets units.now }
+{
+    let mut depth: usize = 0;
+    for unit in units {
+        if *unit != 91 {
+            return depth;
+        }
+        depth += 1;
     }
+    depth
 }
 
 /// A descriptor without its brackets.
-pub fn base_of(units: &[u16]) -> &[u16] {
-    match units.get(depth_of(units)..) {
-        Some(base) => base,
-        None => &[],
-    }
+pub fn without_brackets(units: &[u16]) -> &[u16]
+    ensures { result.now ≡ without_brackets units.now }
+{
+    let depth = depth_of(units);
+    &units[depth..]
 }
 
 /// The shape of a type without brackets, which a program class may define.
-pub fn base_shape(units: &[u16], place: Option<u32>, plain: bool) -> Shape {
+pub fn base_shape(units: &[u16], place: Option<u32>, plain: bool) -> Shape
+    ensures { result ≡ shape_of_text units.now place plain }
+{
     match units.first() {
-        Some(90) => Shape::Word(Item::Boolean),
-        Some(66) => Shape::Word(Item::Byte),
-        Some(67) => Shape::Word(Item::Char),
-        Some(83) => Shape::Word(Item::Short),
-        Some(73) => Shape::Int,
-        Some(70) => Shape::Word(Item::Plain),
-        Some(74 | 68) => Shape::Wide,
-        Some(76) => Shape::Class { place, plain },
-        _ => Shape::Void,
+        None => Shape::Void,
+        Some(unit) => match *unit {
+            66 => Shape::Word(Item::Byte),
+            67 => Shape::Word(Item::Char),
+            68 | 74 => Shape::Wide,
+            70 => Shape::Word(Item::Plain),
+            73 => Shape::Int,
+            76 => Shape::Class { place, plain },
+            83 => Shape::Word(Item::Short),
+            90 => Shape::Word(Item::Boolean),
+            _ => Shape::Void,
+        },
     }
 }

@@ -1,14 +1,16 @@
 //! Whether tables keep what the joins of kinds rest on.
 
-ghost use Rattle.std.specs.Prelude.{◌≡◌, true, IfNone, IfOk};
-ghost use Rattle.verify.specs.Chains.{IsChains};
-ghost use Rattle.verify.specs.Meeting.{IsMeeting, is_settled_class, is_primitive, is_settled, stands, stands_too, is_base, BasesBelow, ClassesBelow, has_objects};
+ghost use Rattle.std.specs.Prelude.{◌≡◌, length, true, false, IfNone, IfSome};
+ghost use Rattle.verify.specs.Chains.{above, IsChains};
+ghost use Rattle.verify.specs.Meeting.{IsMeeting, is_settled_class, is_primitive, is_settled, stands, stands_too, is_base, BasesBelow, ClassesBelow, has_objects, AreSound};
+ghost use Rattle.verify.specs.Types.{shape_in};
 
+use crate::chains::Chains;
 use crate::kinds::is_same_number;
 use crate::shapes::Shape;
 use crate::tables::{Tables, shape_at, word};
 use insn_set::Item;
-use std::alloc::AllocError;
+use std::alloc::Global;
 
 /// Whether items are stored as a primitive type is.
 fn is_primitive(item: Item) -> bool
@@ -18,31 +20,50 @@ fn is_primitive(item: Item) -> bool
 }
 
 impl Tables {
-    /// The tables as they are, where the joins of kinds are least upper bounds by them. Those of a well-formed program are:
-    /// each of its classes is defined once, and none is its own ancestor or `Ljava/lang/Object;`. No others are given:
-    /// for them it is as if there were no memory.
-    pub fn checked(self) -> Result<Tables, AllocError>
+    /// The tables as they are, where the joins of kinds are least upper bounds by them, as they are by those of a
+    /// well-formed program: each of its classes is defined once, and none is its own ancestor or `Ljava/lang/Object;`.
+    /// Else tables in which no type is known.
+    pub fn checked(self, alloc: Global) -> Tables
         requires { IsChains self.chains }
-        ensures meets { IfOk result IsMeeting }
-        ensures same { IfOk result (λ t. t ≡ self) }
+        ensures meets { IsMeeting result }
+        ensures kept { AreSound self → result ≡ self }
     {
         if self.is_sound() {
-            Ok(self)
+            self
         } else {
-            Err(AllocError)
+            Tables::bare(alloc)
+        }
+    }
+
+    /// Tables in which no type is known.
+    fn bare(alloc: Global) -> Tables
+        ensures { IsMeeting result }
+    {
+        Tables {
+            chains: Chains::alone(alloc),
+            classes: Vec::new(alloc),
+            shapes: Vec::new(alloc),
+            bases: Vec::new(alloc),
+            items: Vec::new(alloc),
+            object: None,
+            words: Vec::new(alloc),
+            constructors: Vec::new(alloc),
+            listed: Vec::new(alloc),
         }
     }
 
     /// Whether the joins of kinds are least upper bounds by these tables.
     fn is_sound(&self) -> bool
-        ensures { result ≡ true → IsChains self.now.chains → IsMeeting self.now }
+        ensures sound { result ≡ true → IsChains self.now.chains → IsMeeting self.now }
+        ensures kept { AreSound self.now → result ≡ true }
     {
         self.are_sound(word(self.bases.len()), word(self.chains.count()))
     }
 
     /// The same, by so many types and classes.
     fn are_sound(&self, bases: u32, classes: u32) -> bool
-        ensures { result ≡ true → IsChains self.now.chains → IsMeeting self.now }
+        ensures sound { result ≡ true → IsChains self.now.chains → IsMeeting self.now }
+        ensures kept { length self.now.bases.items ≡ bases → length self.now.chains.supers.items ≡ classes → AreSound self.now → result ≡ true }
     {
         let known = self.bases.len();
         let count = self.chains.count();
@@ -61,6 +82,7 @@ impl Tables {
     /// The first of so many types without brackets that is a class for which no item stands, or no such class.
     fn first_base(&self, count: u32) -> Option<u32>
         ensures none { IfNone result (BasesBelow self.now count) }
+        ensures some { IfSome result (λ kind. is_base self.now (shape_in self.now.bases.items kind) ≡ false) }
     {
         for kind in 0..count {
             if !self.is_base(shape_at(self.bases.as_slice(), kind)) {
@@ -73,6 +95,7 @@ impl Tables {
     /// The first of so many classes with a class above it that no item stands for.
     fn first_class(&self, count: u32) -> Option<u32>
         ensures none { IfNone result (ClassesBelow self.now count) }
+        ensures some { IfSome result (λ class. stands_too self.now (above self.now.chains class) ≡ false) }
     {
         for class in 0..count {
             if !self.stands_too(self.chains.above(class)) {

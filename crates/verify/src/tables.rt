@@ -1,30 +1,22 @@
 //! What the verifier looks up by type, proto and method number, made once for a program.
 
-ghost use Rattle.std.specs.Prelude.{◌≡◌, true, min, slice_index, IfOk};
+ghost use Rattle.std.specs.Prelude.{◌≡◌, true, min, map, sum_by, codes, slice_index, IfOk};
+ghost use Rattle.class_defs.specs.Members.{string_is};
 ghost use Rattle.hierarchy.specs.Shapes.{IsOf};
 ghost use Rattle.program_model.specs.ProgramRules.{is_well_formed};
 ghost use Rattle.verify.specs.Building.{AreChainsOf};
+ghost use Rattle.verify.specs.Descriptors.{same_text, short, width_in, AreTypesOf};
 ghost use Rattle.verify.specs.Flow.{greatest};
 ghost use Rattle.verify.specs.Meeting.{IsMeeting};
 ghost use Rattle.verify.specs.Types.{shape_in, shape_of, item_shape, item_of_class, kind_of_class, kind_of_shape, kind_of, reference_kind, cast_kind, kind_of_item, proto_words, is_constructor};
 
 use crate::chains::Chains;
 use crate::kinds::Kind;
-use crate::shapes::{Shape, base_of, base_shape, depth_of};
+use crate::named::{Named, units_of};
+use crate::shapes::Shape;
 use hierarchy::Hierarchy;
-use indexmap::IndexSet;
-use program_model::{Class, Flags, Program, Proto};
+use program_model::{Class, Program, Proto};
 use std::alloc::{AllocError, Global};
-
-/// The bases of the types, that is the types without their brackets, numbered as they come. `numbers` has the number of
-/// each type's base and `depths` how many brackets it has; `firsts` has the least type number with each base.
-#[derive(Drop)]
-struct Bases {
-    numbers: Vec<u32>,
-    depths: Vec<u32>,
-    firsts: Vec<u32>,
-    shapes: Vec<Shape>,
-}
 
 /// The tables of a program. `shapes` has what each type is, `bases` what it is without its brackets and `items` the
 /// least type number of the same base. `object` is the one with the base `Ljava/lang/Object;`. `words` has for each
@@ -54,32 +46,6 @@ pub fn word(n: usize) -> u32
     }
 }
 
-/// The units of a string, none past the end.
-fn units_of(program: &Program, string: u32) -> &[u16] {
-    match program.strings.as_slice().get(string as usize) {
-        Some(text) => text.units(),
-        None => &[],
-    }
-}
-
-/// The units of a type's descriptor.
-fn descriptor(program: &Program, kind: u32) -> &[u16] {
-    match program.types.as_slice().get(kind as usize) {
-        Some(string) => units_of(program, *string),
-        None => &[],
-    }
-}
-
-/// Whether units are these ASCII characters.
-fn are_ascii(units: &[u16], ascii: &str) -> bool {
-    let bytes = ascii.as_bytes();
-    units.len() == bytes.len()
-        && units
-            .iter()
-            .zip(bytes)
-            .all(|(unit, byte)| *unit == u16::from(*byte))
-}
-
 /// The number at a place, 0 past the end.
 fn number_at(numbers: &[u32], place: u32) -> u32
     ensures { result ≡ slice_index numbers.now place }
@@ -100,135 +66,54 @@ pub fn shape_at(shapes: &[Shape], place: u32) -> Shape
     }
 }
 
-/// The bases of all types, where no class is known yet.
-fn find_bases(alloc: Global, program: &Program) -> Result<Bases, AllocError> {
-    let mut known: IndexSet<&[u16]> = IndexSet::new(alloc);
-    let mut bases = Bases {
-        numbers: Vec::new(alloc),
-        depths: Vec::new(alloc),
-        firsts: Vec::new(alloc),
-        shapes: Vec::new(alloc),
-    };
-    for (kind, string) in program.types.as_slice().iter().enumerate() {
-        let units = units_of(program, *string);
-        let base = base_of(units);
-        let (number, added) = known.insert_full(base)?;
-        if added {
-            bases.firsts.push(word(kind))?;
-            bases.shapes.push(base_shape(base, None, false))?;
-        }
-        bases.numbers.push(word(number))?;
-        bases.depths.push(word(depth_of(units)))?;
+/// How many registers a value of a type takes.
+fn width_at(shapes: &[Shape], kind: u32) -> u32
+    ensures { result ≡ width_in shapes.now kind }
+{
+    if shape_at(shapes, kind).is_wide() {
+        2
+    } else {
+        1
     }
-    Ok(bases)
-}
-
-/// Whether a class is no interface.
-fn is_plain(class: &Class) -> bool {
-    !class.flags.has(Flags::INTERFACE)
-}
-
-/// Notes the program class that defines a base, unless an earlier one does.
-fn note_class(bases: &mut Bases, class: &Class, at: u32) {
-    if number_at(bases.depths.as_slice(), class.name) != 0 {
-        return;
-    }
-    let base = number_at(bases.numbers.as_slice(), class.name);
-    if let Some(shape) = bases.shapes.get_mut(base as usize) {
-        if let Shape::Class { place: None, .. } = *shape {
-            *shape = Shape::Class {
-                place: Some(at),
-                plain: is_plain(class),
-            };
-        }
-    }
-}
-
-/// The bases of all types, with the program classes that define them.
-fn make_bases(alloc: Global, program: &Program) -> Result<Bases, AllocError> {
-    let mut bases = find_bases(alloc, program)?;
-    for (place, class) in program.classes.as_slice().iter().enumerate() {
-        note_class(&mut bases, class, word(place));
-    }
-    Ok(bases)
-}
-
-/// The base of each type.
-fn base_shapes(alloc: Global, bases: &Bases) -> Result<Vec<Shape>, AllocError> {
-    let mut shapes = Vec::with_capacity(alloc, bases.numbers.len())?;
-    for number in bases.numbers.as_slice() {
-        shapes.push(shape_at(bases.shapes.as_slice(), *number))?;
-    }
-    Ok(shapes)
-}
-
-/// The least type number with the base of each type.
-fn base_items(alloc: Global, bases: &Bases) -> Result<Vec<u32>, AllocError> {
-    let mut items = Vec::with_capacity(alloc, bases.numbers.len())?;
-    for number in bases.numbers.as_slice() {
-        items.push(number_at(bases.firsts.as_slice(), *number))?;
-    }
-    Ok(items)
-}
-
-/// What each type is, by its base.
-fn type_shapes(
-    alloc: Global,
-    bases: &Bases,
-    of_base: &[Shape],
-    items: &[u32],
-) -> Result<Vec<Shape>, AllocError> {
-    let mut shapes = Vec::with_capacity(alloc, bases.depths.len())?;
-    for (kind, depth) in bases.depths.as_slice().iter().enumerate() {
-        shapes.push(if *depth == 0 {
-            shape_at(of_base, word(kind))
-        } else {
-            Shape::Array {
-                depth: *depth,
-                item: number_at(items, word(kind)),
-            }
-        })?;
-    }
-    Ok(shapes)
-}
-
-/// The least type number whose type, without its brackets, is `Ljava/lang/Object;`.
-fn find_object(program: &Program) -> Option<u32> {
-    for (kind, string) in program.types.as_slice().iter().enumerate() {
-        if are_ascii(base_of(units_of(program, *string)), "Ljava/lang/Object;") {
-            return Some(word(kind));
-        }
-    }
-    None
 }
 
 /// How many registers values of these types take.
-fn words_of(shapes: &[Shape], kinds: &[u32]) -> u32 {
+fn words_of(shapes: &[Shape], kinds: &[u32]) -> u32
+    ensures { result ≡ short (sum_by (width_in shapes.now) kinds.now) }
+{
     let mut words: u32 = 0;
     for kind in kinds {
-        words = words.saturating_add(if shape_at(shapes, *kind).is_wide() {
-            2
-        } else {
-            1
-        });
+        words = words.saturating_add(width_at(shapes, *kind));
     }
     words
 }
 
 /// How many registers the parameters of each proto take.
-fn proto_words(alloc: Global, protos: &[Proto], shapes: &[Shape]) -> Result<Vec<u32>, AllocError> {
-    let mut words = Vec::with_capacity(alloc, protos.len())?;
+fn proto_words(alloc: Global, protos: &[Proto], shapes: &[Shape]) -> Result<Vec<u32>, AllocError>
+    ensures { IfOk result (λ words. words.items ≡ map (λ q. short (sum_by (width_in shapes.now) q.parameters)) protos.now) }
+{
+    let mut words = Vec::new(alloc);
     for proto in protos {
         words.push(words_of(shapes, proto.parameters.as_slice()))?;
     }
     Ok(words)
 }
 
+/// Whether the units are `<init>`.
+fn is_init(units: &[u16]) -> bool
+    ensures { result ≡ same_text units.now (codes "<init>") }
+{
+    let name: [u16; 6] = [60, 105, 110, 105, 116, 62];
+    units == name.as_slice()
+}
+
 /// For each method number whether its name is `<init>`.
-fn constructors(alloc: Global, program: &Program) -> Result<Vec<bool>, AllocError> {
-    let mut marks = Vec::with_capacity(alloc, program.methods.len())?;
+fn constructors(alloc: Global, program: &Program) -> Result<Vec<bool>, AllocError>
+    ensures { IfOk result (λ marks. marks.items ≡ map (λ m. string_is program.now m.name (codes "<init>")) program.now.methods) }
+{
+    let mut marks = Vec::new(alloc);
     for method in program.methods.as_slice() {
-        marks.push(are_ascii(units_of(program, method.name), "<init>"))?;
+        marks.push(is_init(units_of(program, method.name)))?;
     }
     Ok(marks)
 }
@@ -247,8 +132,10 @@ fn listed(alloc: Global, program: &Program) -> Result<Vec<bool>, AllocError> {
 }
 
 /// The type number of each class.
-fn class_names(alloc: Global, classes: &[Class]) -> Result<Vec<u32>, AllocError> {
-    let mut names = Vec::with_capacity(alloc, classes.len())?;
+fn class_names(alloc: Global, classes: &[Class]) -> Result<Vec<u32>, AllocError>
+    ensures { IfOk result (λ names. names.items ≡ map (λ c. c.name) classes.now) }
+{
+    let mut names = Vec::new(alloc);
     for class in classes {
         names.push(class.name)?;
     }
@@ -280,25 +167,24 @@ impl Tables {
     ) -> Result<Tables, AllocError>
         ensures meets { IfOk result IsMeeting }
         ensures chains { is_well_formed program.now ≡ true → IsOf program.now hierarchy.now → IfOk result (λ t. AreChainsOf program.now t.chains) }
+        ensures types { is_well_formed program.now ≡ true → IsOf program.now hierarchy.now → IfOk result (AreTypesOf program.now) }
     {
-        let found = make_bases(alloc, program)?;
-        let bases = base_shapes(alloc, &found)?;
-        let items = base_items(alloc, &found)?;
-        let shapes = type_shapes(alloc, &found, bases.as_slice(), items.as_slice())?;
+        let named = Named::make(alloc, program)?;
+        let shapes = named.shapes(alloc, program)?;
         let words = proto_words(alloc, program.protos.as_slice(), shapes.as_slice())?;
         let chains = Chains::make(alloc, program, hierarchy)?;
         let tables = Tables {
             chains,
             classes: class_names(alloc, program.classes.as_slice())?,
             shapes,
-            bases,
-            items,
-            object: find_object(program),
+            bases: named.bases(alloc, program)?,
+            items: named.items(alloc, program)?,
+            object: named.object(program),
             words,
             constructors: constructors(alloc, program)?,
             listed: listed(alloc, program)?,
         };
-        tables.checked()
+        Ok(tables.checked(alloc))
     }
 
     /// What a type is.

@@ -11,7 +11,7 @@ ghost use Rattle.verify.specs.Methods.{receiver_of, constructs, HasTyping, Refus
 ghost use Rattle.verify.specs.Frames.{kinds_of};
 ghost use Rattle.verify.specs.Faults.{fault_of, fault_at, NoneBreaks};
 
-use crate::calls::{Calls, method_at};
+use crate::calls::{Calls, Scratch, method_at};
 use crate::fault::TypeFault;
 use crate::flow::{Code, covering};
 use crate::frames::Frame;
@@ -195,11 +195,23 @@ impl<'a> Verifier<'a> {
         self.tables.is_constructor(method.name) && !method.flags.has(Flags::STATIC)
     }
 
+    /// The look-up of this program's super calls.
+    fn calls(&self) -> Calls<'_>
+        ensures program { result.program.now ≡ self.now.program.now }
+        ensures hierarchy { result.hierarchy.now ≡ self.now.hierarchy.now }
+    {
+        Calls {
+            program: self.program,
+            hierarchy: self.hierarchy,
+            tables: &self.tables,
+        }
+    }
+
     /// The typings of the code of a method of a class.
     fn of_body(
         &self,
         alloc: Global,
-        calls: &mut Calls<'_>,
+        scratch: &mut Scratch,
         class: (&Class, u32),
         method: &Method,
         body: &Body,
@@ -208,7 +220,8 @@ impl<'a> Verifier<'a> {
         ensures typed { IfOk result (λ x. HasTyping self.now class.entry.0.now class.entry.1 method.now body.now (places_of x.states.items)) }
         ensures refused { method.now.body ≡ Some body.now → IfErr result (Refuses self.now class.entry.0.now class.entry.1 method.now) }
     {
-        let found = calls.search_all(alloc, class.1, body.insns.as_slice())?;
+        let calls = self.calls();
+        let found = calls.search_all(alloc, scratch, class.1, body.insns.as_slice())?;
         let (kinds, result) = proto_of(self.program, method);
         let constructs = self.constructs(method);
         let setting = Setting {
@@ -243,7 +256,7 @@ impl<'a> Verifier<'a> {
         ensures typed { IfOk result (λ x. TypesAt self.now method (places_of x.states.items)) }
         ensures refused { IfErr result (RefusesAt self.now method) }
     {
-        let mut calls = Calls::new(alloc, self.program, self.hierarchy, &self.tables);
+        let mut scratch = Scratch::new(alloc);
         let class = match self.class_at(method.class) {
             Some(class) => class,
             None => {
@@ -260,14 +273,14 @@ impl<'a> Verifier<'a> {
                 });
             }
         };
-        self.of_method(alloc, &mut calls, (class, method.class), found)
+        self.of_method(alloc, &mut scratch, (class, method.class), found)
     }
 
     /// The typings of a method, if it has code.
     fn of_method(
         &self,
         alloc: Global,
-        calls: &mut Calls<'_>,
+        scratch: &mut Scratch,
         class: (&Class, u32),
         method: &Method,
     ) -> Result<Typings, TypeFault>
@@ -276,7 +289,7 @@ impl<'a> Verifier<'a> {
         ensures refused { IfErr result (Refuses self.now class.entry.0.now class.entry.1 method.now) }
     {
         match &method.body {
-            Some(body) => self.of_body(alloc, calls, class, method, body),
+            Some(body) => self.of_body(alloc, scratch, class, method, body),
             None => Ok(Typings {
                 states: Vec::new(alloc),
             }),
@@ -287,7 +300,7 @@ impl<'a> Verifier<'a> {
     fn verify_class(
         &self,
         alloc: Global,
-        calls: &mut Calls<'_>,
+        scratch: &mut Scratch,
         class: &Class,
         at: u32,
     ) -> Result<(), TypeFault>
@@ -296,7 +309,7 @@ impl<'a> Verifier<'a> {
         ensures refused { IfErr result (RefusesIn self.now class.now at) }
     {
         for method in class.methods.as_slice() {
-            match self.of_method(alloc, calls, (class, at), method) {
+            match self.of_method(alloc, scratch, (class, at), method) {
                 Ok(_typings) => {}
                 Err(fault) => return Err(fault),
             }
@@ -310,10 +323,10 @@ impl<'a> Verifier<'a> {
         ensures typed { OnOk result (length self.now.program.now.classes ≤ greatest → AllBelow self.now (length self.now.program.now.classes)) }
         ensures refused { IfErr result (λ e. length self.now.program.now.classes ≤ greatest → RefusesFirst self.now e) }
     {
-        let mut calls = Calls::new(alloc, self.program, self.hierarchy, &self.tables);
+        let mut scratch = Scratch::new(alloc);
         let mut at: u32 = 0;
         for class in self.program.classes.as_slice() {
-            match self.verify_class(alloc, &mut calls, class, at) {
+            match self.verify_class(alloc, &mut scratch, class, at) {
                 Ok(()) => {}
                 Err(fault) => return Err(fault),
             }

@@ -114,10 +114,10 @@ pub record KeepsMentions (p : NamedProgram) (s : Family) : Type 0 where
   pub fields : (k : FieldKey) (f : NamedField) → defined_field p k ≡ Some f → s.fields k ≡ true → HasMentions p s (in_field f)
   pub methods : (k : MethodKey) (m : NamedMethod) → defined_method p k ≡ Some m → s.methods k ≡ true → HasMentions p s (in_method m)
 
--- A kept class that can have objects is made, and one of which live code makes an object.
+-- A class that can have objects is made, if it is kept or live code makes an object of it.
 pub record KeepsMade (p : NamedProgram) (o : Outer) (k : Conditions) (s : Family) : Type 0 where
   pub kept : (t : Text) → is_concrete p t ≡ true → is_kept p o k s t ≡ true → s.made t ≡ true
-  pub news : (m : MethodKey) (b : NamedBody) (to : ℕ) (t : Text) → HasBody p s m b → Contains b.forms (form.NewInstance to t) → defines p t ≡ true → s.made t ≡ true
+  pub news : (m : MethodKey) (b : NamedBody) (to : ℕ) (t : Text) → HasBody p s m b → Contains b.forms (form.NewInstance to t) → is_concrete p t ≡ true → s.made t ≡ true
 
 -- The members to which names in live code resolve.
 pub record KeepsResolved (p : NamedProgram) (s : Family) : Type 0 where

@@ -1,5 +1,5 @@
 -- Kept classes of which there can be objects are made by name, and those of which live code makes objects.
-use Rattle.std.proofs.Common.{◌≡◌, Bool, true, false, [], ◌∷◌, Option, Some, None, refl, sym, ap, ◌∙◌, subst}
+use Rattle.std.proofs.Common.{◌≡◌, ℕ, Bool, true, false, [], ◌∷◌, Option, Some, None, refl, sym, ap, ◌∙◌, subst}
 use Rattle.std.specs.Prelude.{◌&&◌, not, cond, Contains, slice_get, option_and_then}
 use Rattle.insn_set.specs.declared.form.Insn.{Insn}
 use Rattle.program_model.specs.declared.program.Program.{Program}
@@ -13,18 +13,18 @@ use Rattle.call_graph.specs.Follows as follow
 use Rattle.call_graph.specs.Follows.{class_of, can_be_made, made_of, made_facts, kind_facts, names_of_method, named_facts}
 use Rattle.dalvik_defs.specs.Names.{Text}
 use Rattle.dalvik_defs.specs.Naming.{type_at, named}
-use Rattle.dalvik_defs.specs.Under.{class_named, defines}
+use Rattle.dalvik_defs.specs.Under.{class_named}
 use Rattle.dalvik_defs.specs.Flags.{is_interface, is_abstract}
 use Rattle.dalvik_defs.specs.Outer.{outer_of}
 use Rattle.dalvik_defs.specs.declared.program.NamedClass.{NamedClass}
 use Rattle.dalvik_defs.specs.declared.names.MethodKey.{MethodKey}
 use Rattle.dalvik_defs.specs.declared.forms.Form.TheVariants as form
 use Rattle.dalvik_defs.specs.declared.program.NamedBody.{NamedBody}
-use Rattle.pass_defs.specs.Live.{conditions_of, KeepsMade}
+use Rattle.pass_defs.specs.Live.{conditions_of, HasBody, is_concrete, KeepsMade}
 use Rattle.removal_law.proofs.Lists.{In, here, clash, contained}
-use Rattle.removal_law.proofs.Trees.{defined, defines_class}
+use Rattle.removal_law.proofs.Trees.{defined}
 use Rattle.reach_bridge.specs.Names.{family_of}
-use Rattle.reach_bridge.specs.Reached.{IsMarked, MakesConcrete, MakesNew}
+use Rattle.reach_bridge.specs.Reached.{IsMarked}
 use Rattle.reach_bridge.proofs.Held.{stands, made_met}
 use Rattle.reach_bridge.proofs.Based.{Met}
 use Rattle.reach_bridge.proofs.Mentioned.{met_back, met_one}
@@ -47,7 +47,7 @@ module _ (p : Program) (o : Outside) (s : LiveSet) (g : IsMarked p o s) where
       (met_one p o s g (named_facts p (bases_of p)) (names_of_method (follow.own_method p l.number.number)) (item.Made r.number) (named_met p o s g m b l) (body_named p o s g m b l (item.Made r.number) in_body)) in
       ap (family_of p s).made (sym r.is) ∙ made_met p s g.sized r.number short (met (fact.Made r.number) (subst (In (fact.Made r.number)) (sym facts) (here [])))
 
-  pub makes_new : MakesNew (named p) (family_of p s)
+  makes_new : (m : MethodKey) (b : NamedBody) (to : ℕ) (t : Text) → HasBody (named p) (family_of p s) m b → Contains b.forms (form.NewInstance to t) → is_concrete (named p) t ≡ true → (family_of p s).made t ≡ true
   makes_new m b to t h c d =
       let l = live_code p o s g m b h in
       let f = form_from p o s g m b l (form.NewInstance to t) (stands b.forms (form.NewInstance to t) c) in
@@ -59,17 +59,5 @@ module _ (p : Program) (o : Outside) (s : LiveSet) (g : IsMarked p o s) where
       by l i at r None is e = clash false e refl
       by l i at r (Some c) is e = new_made m b l i at t r c (ap (class_named (named p)) r.is ∙ is) (λ own class_is there. concrete_can p own.class c own.is e)
 
-  module _ (concrete : MakesConcrete p s) where
-    new_concrete : (m : MethodKey) (b : NamedBody) (l : LiveCode p s m b) (i : Insn) (at : In i l.body.insns) (t : Text) (r : IsNew p i t) → defines (named p) t ≡ true → (family_of p s).made t ≡ true
-    new_concrete m b l i at t r d =
-        let c = defines_class (named p) (type_at p r.number) (ap (defines (named p)) r.is ∙ d) in
-        new_made m b l i at t r c.0 c.1 (λ own class_is at'. concrete l.number.number r.number l.own.method own.class l.number.marked l.own.own at' class_is)
-
-    pub keeps_made : KeepsMade (named p) (outer_of p o) (conditions_of p o) (family_of p s)
-    keeps_made = record {
-      kept = λ t d e. made_kept p o s g t d e;
-      news = λ m b to t h c d.
-          let l = live_code p o s g m b h in
-          let r = form_from p o s g m b l (form.NewInstance to t) (stands b.forms (form.NewInstance to t) c) in
-          new_concrete m b l r.0 r.1.0 t (insn_new p s r.0 to t r.1.1) d;
-    }
+  pub keeps_made : KeepsMade (named p) (outer_of p o) (conditions_of p o) (family_of p s)
+  keeps_made = record { kept = λ t d e. made_kept p o s g t d e; news = makes_new }

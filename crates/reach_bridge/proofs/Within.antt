@@ -38,7 +38,7 @@ use Rattle.removal_law.proofs.Virtuals.{answer}
 use Rattle.removal_law.proofs.Trees.{none_some, some_same, class_name, defined, chain_named}
 use Rattle.removal_bridge.proofs.Formed.{removed_program}
 use Rattle.reach_bridge.specs.Names.{family_of, within}
-use Rattle.reach_bridge.specs.Reached.{IsMarked, MakesConcrete}
+use Rattle.reach_bridge.specs.Reached.{IsMarked}
 use Rattle.reach_bridge.proofs.Kept.{kept_named}
 use Rattle.reach_bridge.proofs.Held.{stands}
 use Rattle.reach_bridge.proofs.Based.{regular}
@@ -185,8 +185,8 @@ module _ (p : Program) (o : Outside) (s : LiveSet) (g : IsMarked p o s) where
     methods = λ k f c e. method_in f.key (h.methods k f c e) (resolved_defined (named p) R k f e);
   }
 
-  pub closed : MakesConcrete p s → IsClosedFamily (named p) (outer_of p o) (conditions_of p o) W
-  closed concrete = record {
+  pub closed : IsClosedFamily (named p) (outer_of p o) (conditions_of p o) W
+  closed = record {
     kept = record {
       classes = class_kept p o s g;
       fields = λ f d e. field_in f (field_kept p o s g f d e) (field_defined f d);
@@ -210,8 +210,8 @@ module _ (p : Program) (o : Outside) (s : LiveSet) (g : IsMarked p o s) where
       methods = λ k m is live. mentions_in _ ((keeps_mentions p o s g).methods k m is (method_out k live));
     };
     made = record {
-      kept = (keeps_made p o s g concrete).kept;
-      news = λ m b to t h c d. (keeps_made p o s g concrete).news m b to t (method_out m h.0, h.1) c d;
+      kept = (keeps_made p o s g).kept;
+      news = λ m b to t h c d. (keeps_made p o s g).news m b to t (method_out m h.0, h.1) c d;
     };
     resolved = record {
       fields = λ m b h k f c e. field_in (record k { class = f.0 }) ((keeps_resolved p o s g).fields m b (method_out m h.0, h.1) k f c e) (member.found_defined (named p) everything (all_above (named p)) R k f e);
@@ -251,6 +251,6 @@ module _ (p : Program) (o : Outside) (s : LiveSet) (g : IsMarked p o s) where
   pub left_same : left_of W (named p) ≡ left_of F (named p)
   left_same = ap (λ cs. record (named p) { classes = cs }) (map_same (filter (λ c. F.classes c.name) (named p).classes) (λ c i. left_same_class c (in_unfiltered (λ c. F.classes c.name) c (named p).classes i)))
 
-  pub shows_the_same : MakesConcrete p s → IsTyped (named p) → ShutsHold (named p) (outer_of p o) → SameShown (named p) (named (kept_of s p)) (outer_of p o)
-  shows_the_same concrete typed shuts = subst (λ q. SameShown (named p) q (outer_of p o)) (left_same ∙ sym (kept_named p s g.formed))
-      (removed_program p g.formed g.once g.grounded typed (outer_of p o) (conditions_of p o) W (closed concrete) shuts)
+  pub shows_the_same : IsTyped (named p) → ShutsHold (named p) (outer_of p o) → SameShown (named p) (named (kept_of s p)) (outer_of p o)
+  shows_the_same typed shuts = subst (λ q. SameShown (named p) q (outer_of p o)) (left_same ∙ sym (kept_named p s g.formed))
+      (removed_program p g.formed g.once g.grounded typed (outer_of p o) (conditions_of p o) W closed shuts)

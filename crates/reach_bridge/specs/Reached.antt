@@ -1,29 +1,22 @@
 -- What the laws of this crate ask of a program, of what the outside keeps, and of marks.
-use Rattle.std.specs.Prelude.{◌≡◌, ℕ, true, Some, is_some, slice_get, Contains}
+use Rattle.std.specs.Prelude.{◌≡◌, ℕ, true, Some, is_some, slice_get}
 use Rattle.program_model.specs.declared.pools.FieldName.{FieldName}
 use Rattle.program_model.specs.declared.pools.MethodName.{MethodName}
-use Rattle.program_model.specs.declared.program.Method.{Method}
-use Rattle.program_model.specs.declared.program.Class.{Class}
 use Rattle.program_model.specs.declared.program.Program.{Program}
 use Rattle.program_model.specs.declared.pass.Outside.{Outside}
 use Rattle.program_model.specs.ProgramRules.{is_well_formed}
 use Rattle.class_defs.specs.ClassGraph.{IsTwice, IsAncestor}
 use Rattle.call_graph.specs.declared.live_set.LiveSet.{LiveSet}
-use Rattle.call_graph.specs.declared.named.Named.TheVariants as item
 use Rattle.call_graph.specs.Facts.{Fits}
-use Rattle.call_graph.specs.Names.{code_names}
-use Rattle.call_graph.specs.Follows.{class_of, own_method, can_be_made}
+use Rattle.call_graph.specs.Follows.{class_of}
 use Rattle.call_graph.specs.Objects.{IsOld}
 use Rattle.call_graph.specs.Closed.{IsClosedSet}
 use Rattle.reach.specs.Kept.{is_marked}
-use Rattle.dalvik_defs.specs.Names.{Text}
 use Rattle.dalvik_defs.specs.Under.{defines}
 use Rattle.dalvik_defs.specs.declared.names.MethodKey.{MethodKey}
 use Rattle.dalvik_defs.specs.declared.names.FieldKey.{FieldKey}
-use Rattle.dalvik_defs.specs.declared.forms.Form.TheVariants as form
-use Rattle.dalvik_defs.specs.declared.program.NamedBody.{NamedBody}
 use Rattle.dalvik_defs.specs.declared.program.NamedProgram.{NamedProgram}
-use Rattle.pass_defs.specs.Live.{Family, HasBody, is_concrete}
+use Rattle.pass_defs.specs.Live.{Family}
 
 -- A well-formed program of version 035, of which no class is defined twice or is its own ancestor, and marks on its numbers that
 -- are closed under what follows.
@@ -42,17 +35,9 @@ pub record AreDefined (p : Program) (s : LiveSet) : Type 0 where
   pub fields : (n : ℕ) (q : FieldName) → is_marked s.fields.items n ≡ true → slice_get p.fields n ≡ Some q → is_some (class_of p q.class) ≡ true
   pub methods : (n : ℕ) (q : MethodName) → is_marked s.methods.items n ≡ true → slice_get p.methods n ≡ Some q → is_some (class_of p q.class) ≡ true
 
--- The code of marked methods makes no objects of classes that are abstract or interfaces. Marks make no such class.
-abbrev pub MakesConcrete : Program → LiveSet → Type 0
-MakesConcrete p s = (n kind : ℕ) (m : Method) (c : Class) → is_marked s.methods.items n ≡ true → own_method p n ≡ Some m → Contains (code_names m.body) (item.Made kind) → class_of p kind ≡ Some c → can_be_made c ≡ true
-
 -- ---- what the laws say beside the records of a closed family
 
 -- the class of a live member is live, where the program defines it
 pub record KeepsOwners (p : NamedProgram) (s : Family) : Type 0 where
   pub fields : (f : FieldKey) → s.fields f ≡ true → defines p f.class ≡ true → s.classes f.class ≡ true
   pub methods : (m : MethodKey) → s.methods m ≡ true → defines p m.class ≡ true → s.classes m.class ≡ true
-
--- a class of which live code makes an object is made, if it can have objects
-abbrev pub MakesNew : NamedProgram → Family → Type 0
-MakesNew p s = (m : MethodKey) (b : NamedBody) (to : ℕ) (t : Text) → HasBody p s m b → Contains b.forms (form.NewInstance to t) → is_concrete p t ≡ true → s.made t ≡ true

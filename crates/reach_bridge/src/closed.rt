@@ -11,7 +11,7 @@ ghost use Rattle.pass_defs.specs.Typed.{IsTyped};
 ghost use Rattle.reach.specs.Kept.{kept_of};
 ghost use Rattle.removal_law.specs.Reach.{ShutsHold};
 ghost use Rattle.reach_bridge.specs.Names.{family_of, within};
-ghost use Rattle.reach_bridge.specs.Reached.{IsMarked, AreDefined, MakesConcrete, KeepsOwners, MakesNew};
+ghost use Rattle.reach_bridge.specs.Reached.{IsMarked, AreDefined, KeepsOwners};
 
 /// The types in the descriptors of live members, and in live code, its handlers and the members that it names, are live.
 pub fn types_law()
@@ -54,15 +54,9 @@ pub fn kept_law()
     ensures { (p : Program) (o : Outside) (s : LiveSet) → IsMarked p o s → AreDefined p s → KeepsKept (named p) (outer_of p o) (conditions_of p o) (family_of p s) }
 {}
 
-/// Classes of which live code makes objects are made, if they can have objects.
-pub fn new_law()
-    ensures { (p : Program) (o : Outside) (s : LiveSet) → IsMarked p o s → MakesNew (named p) (family_of p s) }
-{}
-
-/// Kept classes that can have objects are made, and those of which live code makes objects. A premise is that live code
-/// makes none of classes that are abstract or interfaces, which marks don't make.
+/// Classes that can have objects are made, if they are kept or live code makes objects of them.
 pub fn made_law()
-    ensures { (p : Program) (o : Outside) (s : LiveSet) → IsMarked p o s → MakesConcrete p s → KeepsMade (named p) (outer_of p o) (conditions_of p o) (family_of p s) }
+    ensures { (p : Program) (o : Outside) (s : LiveSet) → IsMarked p o s → KeepsMade (named p) (outer_of p o) (conditions_of p o) (family_of p s) }
 {}
 
 /// What the annotations and first values of live classes and members name is live.
@@ -71,13 +65,12 @@ pub fn mentions_law()
 {}
 
 /// The names of the marked numbers are a closed family, the members of classes that the program doesn't define left out.
-/// A premise is that live code makes no objects of classes that are abstract or interfaces, which marks don't make.
 pub fn closed_law()
-    ensures { (p : Program) (o : Outside) (s : LiveSet) → IsMarked p o s → MakesConcrete p s → IsClosedFamily (named p) (outer_of p o) (conditions_of p o) (within (named p) (family_of p s)) }
+    ensures { (p : Program) (o : Outside) (s : LiveSet) → IsMarked p o s → IsClosedFamily (named p) (outer_of p o) (conditions_of p o) (within (named p) (family_of p s)) }
 {}
 
-/// What marks leave of a well-formed and typed program shows the same, where the table of shut methods holds what it
-/// says. The premise on what live code makes is that of the closed family.
+/// What marks leave of a well-formed and typed program shows the same, where the table of shut methods holds what
+/// it says.
 pub fn reach_law()
-    ensures { (p : Program) (o : Outside) (s : LiveSet) → IsMarked p o s → MakesConcrete p s → IsTyped (named p) → ShutsHold (named p) (outer_of p o) → SameShown (named p) (named (kept_of s p)) (outer_of p o) }
+    ensures { (p : Program) (o : Outside) (s : LiveSet) → IsMarked p o s → IsTyped (named p) → ShutsHold (named p) (outer_of p o) → SameShown (named p) (named (kept_of s p)) (outer_of p o) }
 {}

@@ -9,10 +9,6 @@
 //! What is not proved, and stands as a premise:
 //!
 //! - The program is of version 035. Of version 037 the marks say less: no candidates of interfaces.
-//! - Live code makes no objects of classes that are abstract or interfaces (`MakesConcrete`, in `specs/Reached.antt`). Marks
-//!   make no such class, and a closed family makes each class of which live code makes an object. A typed program makes
-//!   none where a walk comes; code where none comes may. `new_law` has the record for classes that can have objects,
-//!   without this premise.
 //! - `kept_law` asks that marked members are of classes of the program (`AreDefined`), so that their classes are live;
 //!   `owners_law` has this without the premise for the classes that the program defines. `closed_law` and `reach_law`
 //!   don't ask it, since they leave out the other members (`within`, in `specs/Names.antt`), of which nothing is left.

@@ -205,7 +205,7 @@ module _ (p : NamedProgram) (o : Outer) (kept : Conditions) (s : Family) (f : Fr
   caught_in b n m f e i = subst (λ x. In m (elim x as (λ x. List ℕ) [ true ↦ handlers_at b n | false ↦ [] ])) (sym e) i
 
   new_type : (m : MethodKey) (to : ℕ) (t : Text) → Says p s m (form.NewInstance to t) → OkType p s t × MadeType p s t
-  new_type m to t a = (says_of m (form.NewInstance to t) a t (here []), λ d. closed.made.news m a.body to t a.has (contained (form.NewInstance to t) a.body.forms a.stands) d)
+  new_type m to t a = (says_of m (form.NewInstance to t) a t (here []), λ d. closed.made.news m a.body to t a.has (contained (form.NewInstance to t) a.body.forms a.stands) (code.objects m a.body a.place to t a.has.1 a.reached a.at_place d))
 
   item_type : (t : Text) → is_array t ≡ true → OkType p s t → OkType p s (item_of t)
   item_type t e h = subst (λ x. defines p x ≡ true → s.classes x ≡ true) (sym (item_base t e)) h

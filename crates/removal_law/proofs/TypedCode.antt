@@ -1,8 +1,10 @@
 -- In a typed program, new arrays are of array types wherever a walk comes.
 use Rattle.std.proofs.Common.{◌≡◌, ℕ, zero, suc, ◌<◌, Bool, true, false, List, [], ◌∷◌, ◌++◌, length, refl, sym, ap, ◌∙◌, subst, arith, inl, inr}
-use Rattle.std.specs.Prelude.{◌||◌, ◌⊎◌, not, Option, Some, None, map, slice_get, slice_index_or, if◌then◌else◌, codes}
+use Rattle.std.specs.Prelude.{◌&&◌, ◌||◌, ◌⊎◌, not, Option, Some, None, map, slice_get, slice_index_or, if◌then◌else◌, codes}
 use Rattle.std.specs.List.{list_all}
-use Rattle.dalvik_defs.specs.Names.{Text, text_eq, is_array, is_reference, item_of}
+use Rattle.dalvik_defs.specs.Names.{Text, text_eq, is_array, is_class_type, is_reference, item_of}
+use Rattle.dalvik_defs.specs.Flags.{is_interface, is_abstract}
+use Rattle.dalvik_defs.specs.Under.{class_named, defines}
 use Rattle.dalvik_defs.specs.Face.{bodies_of}
 use Rattle.dalvik_defs.specs.declared.names.MethodKey.{MethodKey}
 use Rattle.dalvik_defs.specs.declared.forms.Form.{Form}
@@ -17,7 +19,8 @@ use Rattle.pass_defs.specs.Bare.{may_throw}
 use Rattle.pass_defs.specs.Walks.{form_at, region_at, listed, handlers_of, handlers_at, onward, caught, successors, Walk, Stays, Goes, IsReached}
 use Rattle.pass_defs.specs.Kinds.{Kind, Reference, kind_of}
 use Rattle.pass_defs.specs.Registers.{Kinds, state_below}
-use Rattle.pass_defs.specs.Typed.{Table, state_at, each, at_state, arrives, after, catch_all, catches_in, catches, edges, is_wrong, wrong_filled, begun, IsTyping, IsTyped}
+use Rattle.pass_defs.specs.Live.{is_concrete}
+use Rattle.pass_defs.specs.Typed.{Table, state_at, each, at_state, arrives, after, catch_all, catches_in, catches, edges, is_wrong, wrong_instance, wrong_filled, begun, IsTyping, IsTyped}
 use Rattle.removal_law.specs.Left.{In, here, there}
 use Rattle.removal_law.specs.Reach.{TellsApart, IsSoundCode}
 use Rattle.removal_law.proofs.Lists.{clash, and_left, and_behind, all_in, in_front, in_back, in_either, in_map, contained}
@@ -151,6 +154,7 @@ pub typed_code : (p : NamedProgram) → IsTyped p → TellsApart p → IsSoundCo
 typed_code p typed apart = record {
   arrays = λ k b n to size t e w i. let d = right_at k b n (form.NewArray to size t) e w i in not_not (is_array t) d.1.1.1;
   filled = λ k b n t args e w i. let d = right_at k b n (form.FilledNewArray t args) e w i in filled_array t d.1.1.1;
+  objects = λ k b n to t e w i d. let r = right_at k b n (form.NewInstance to t) e w i in concrete t r.1.1.1 d;
   methods = apart;
 }
   where
@@ -160,6 +164,20 @@ typed_code p typed apart = record {
         let d = body_in p k b e in
         let h = typed.bodies d.class d.method b (contained d.class p.classes d.class_in) (contained d.method d.class.methods d.method_in) d.body in
         (d.class, (d.method, right_there p d.class d.method b h.0 h.1 n f w i))
+
+    can_be : (a b d : Bool) → not (not a || (b || d)) ≡ true → (not d && not b) ≡ true
+    can_be true false false e = refl
+    can_be true true d e = clash false e refl
+    can_be true false true e = clash false e refl
+    can_be false b d e = clash false e refl
+
+    concrete : (t : Text) → not (wrong_instance p t) ≡ true → defines p t ≡ true → is_concrete p t ≡ true
+    concrete t e d = by (class_named p t) e d
+      where
+        by : (x : Option NamedClass) → not (not (is_class_type t) || elim x as (λ x. Bool) [ Some c ↦ is_abstract c.flags || is_interface c.flags | None ↦ false ]) ≡ true
+            → elim x as (λ x. Bool) [ Some c ↦ true | None ↦ false ] ≡ true → elim x as (λ x. Bool) [ Some c ↦ not (is_interface c.flags) && not (is_abstract c.flags) | None ↦ false ] ≡ true
+        by None e d = clash false d refl
+        by (Some c) e d = can_be (is_class_type t) (is_abstract c.flags) (is_interface c.flags) e
 
     filled_array : (t : Text) → not (wrong_filled t) ≡ true → is_array t ≡ true
     filled_array t e = by (is_array t) (text_eq (item_of t) (codes "I") || is_reference (item_of t)) e

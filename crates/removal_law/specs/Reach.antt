@@ -19,7 +19,7 @@ use Rattle.dalvik_defs.specs.declared.program.NamedMethod.{NamedMethod}
 use Rattle.dalvik_defs.specs.declared.program.NamedClass.{NamedClass}
 use Rattle.dalvik_defs.specs.declared.program.NamedProgram.{NamedProgram}
 use Rattle.pass_defs.specs.Walks.{form_at, IsReached}
-use Rattle.pass_defs.specs.Live.{Family, HasBody}
+use Rattle.pass_defs.specs.Live.{Family, HasBody, is_concrete}
 use Rattle.removal_law.specs.Left.{In, left_of}
 use Rattle.removal_law.specs.Agree.{sieved, Agree}
 
@@ -76,10 +76,11 @@ abbrev pub TellsApart : NamedProgram → Type 0
 TellsApart p = (t : Text) (c : NamedClass) (m x : NamedMethod) → class_named p t ≡ Some c → In m c.methods → In x c.methods → m.name ≡ x.name
     → proto_text m.signature ≡ proto_text x.signature → m ≡ x
 
--- Where a walk comes, new arrays are of array types; and methods are told apart.
+-- Where a walk comes, new arrays are of array types and new objects of classes that can have some; and methods are told apart.
 pub record IsSoundCode (p : NamedProgram) : Type 0 where
   pub arrays : (k : MethodKey) (b : NamedBody) (n to size : ℕ) (t : Text) → bodies_of p k ≡ Some b → IsReached b n → form_at b n ≡ Some (form.NewArray to size t) → is_array t ≡ true
   pub filled : (k : MethodKey) (b : NamedBody) (n : ℕ) (t : Text) (args : List ℕ) → bodies_of p k ≡ Some b → IsReached b n → form_at b n ≡ Some (form.FilledNewArray t args) → is_array t ≡ true
+  pub objects : (k : MethodKey) (b : NamedBody) (n to : ℕ) (t : Text) → bodies_of p k ≡ Some b → IsReached b n → form_at b n ≡ Some (form.NewInstance to t) → defines p t ≡ true → is_concrete p t ≡ true
   pub methods : TellsApart p
 
 -- What a table of shut methods owes: no call names one on the framework, every other method of its name with code above a

@@ -8,8 +8,6 @@ mod size;
 pub use size::is_small;
 
 #[cfg(test)]
-mod ancestry;
-#[cfg(test)]
 mod floats;
 #[cfg(test)]
 mod grammar;
@@ -19,12 +17,6 @@ mod matching;
 mod model;
 #[cfg(test)]
 mod pools;
-#[cfg(test)]
-mod reached;
-#[cfg(test)]
-mod removed;
-#[cfg(test)]
-mod rounds;
 #[cfg(test)]
 mod sample;
 #[cfg(test)]

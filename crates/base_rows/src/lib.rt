@@ -4,6 +4,10 @@
 //! each of those is proved once.
 #![tactic(auto)]
 
+mod branches;
+
+pub use branches::goto_units;
+
 #[cfg(test)]
 mod flows;
 #[cfg(test)]

@@ -1,6 +1,8 @@
 //! What the framework does when its frame is on top of the stack. A move that isn't legal, or the want of one, ends the
 //! run.
 
+ghost use Rattle.std.specs.Prelude.{◌≡◌, true, None, Ok, slice_get};
+
 use crate::answering::{answers, answers_by_throwing};
 use crate::entering::{enter, make};
 use crate::touching::{array_get, array_length, array_put, reads, writes};
@@ -51,18 +53,22 @@ fn plays<'a>(
     }
 }
 
-/// The next move of the script.
+/// The next move of the script. Where it has none, the run ends, and nothing is shown. `owes` is the type of what the
+/// framework's frame on top owes. The only error is want of memory.
 pub fn moves<'a>(
     alloc: Global,
     tables: &Tables<'a>,
     memo: &mut Memo,
     state: &mut State<'a>,
     owes: Option<Kind>,
-) -> Result<Option<Event>, AllocError> {
+) -> Result<Option<Event>, AllocError>
+    ensures silent { slice_get tables.now.plays.items state.old.next ≡ None → result ≡ Ok None }
+    ensures ended { slice_get tables.now.plays.items state.old.next ≡ None → state.new.ended ≡ true }
+{
     match tables.plays.as_slice().get(state.next) {
         Some(play) => plays(alloc, tables, memo, state, owes, play),
         None => {
-            state.end();
+            state.ended = true;
             Ok(None)
         }
     }

@@ -1,24 +1,11 @@
 ghost use Rattle.std.specs.Prelude.{◌<◌, ◌^◌, length};
 
-use code_read::{CodeFault, Sizes, read_body, read_code};
+use crate::sizes_of;
+use code_read::{CodeFault, read_body, read_code};
 use program_model::{Body, Handler, Insn, InvokeKind, Region, Slot};
 use seq::{Seq, Words};
 use std::alloc::Global;
 use std::test::*;
-
-/// The sizes of a body with so many registers and try items.
-fn sizes_of(registers: u16, tries: u16) -> Sizes {
-    Sizes {
-        registers,
-        ins: 0,
-        tries,
-        strings: 0,
-        types: 1,
-        fields: 0,
-        methods: 1,
-        items: 9,
-    }
-}
 
 /// The body of the units, with one register and no region.
 fn body_of(alloc: Global, units: &[u16]) -> Result<Body, CodeFault>

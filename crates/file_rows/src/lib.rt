@@ -3,6 +3,10 @@
 //! is proved once.
 #![tactic(auto)]
 
+mod sizes;
+
+pub use sizes::sizes_of;
+
 #[cfg(test)]
 mod bodies_read;
 #[cfg(test)]

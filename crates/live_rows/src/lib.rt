@@ -3,6 +3,10 @@
 //! They stand here, and not in the crates that they are about, so that each of those is proved once.
 #![tactic(auto)]
 
+mod outside;
+
+pub use outside::keeps;
+
 #[cfg(test)]
 mod ancestry;
 #[cfg(test)]

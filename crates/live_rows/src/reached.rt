@@ -1,9 +1,10 @@
+use crate::keeps;
 use call_graph::{Edge, callees, live_members};
 use dex_base::Text;
 use hierarchy::Hierarchy;
 use program_model::{
-    Body, Class, Flags, Insn, InvokeKind, Method, MethodAt, MethodName, Outside, Program, Proto,
-    Slot, Version,
+    Body, Class, Flags, Insn, InvokeKind, Method, MethodAt, MethodName, Program, Proto, Slot,
+    Version,
 };
 use seq::{Seq, Words};
 use std::alloc::{AllocError, Global};
@@ -113,26 +114,6 @@ fn two_classes(alloc: Global, kind: InvokeKind, flags: u32) -> Result<Program, A
     program.classes.push(make_class(alloc, 2, 1, of_a))?;
     program.classes.push(make_class(alloc, 3, 1, of_b))?;
     Ok(program)
-}
-
-fn keeps(
-    alloc: Global,
-    classes: &[u32],
-    methods: &[u32],
-    methods_if: &[u32],
-) -> Result<Outside, AllocError> {
-    Ok(Outside {
-        classes: Seq::of_vec(Vec::from_slice(alloc, classes)?),
-        methods: Seq::of_vec(Vec::from_slice(alloc, methods)?),
-        fields: Seq::new(alloc),
-        methods_if: Seq::of_vec(Vec::from_slice(alloc, methods_if)?),
-        fields_if: Seq::new(alloc),
-        classes_if: Seq::new(alloc),
-        shrink: true,
-        optimise: true,
-        silent: Seq::new(alloc),
-        shut: Seq::new(alloc),
-    })
 }
 
 #[test]

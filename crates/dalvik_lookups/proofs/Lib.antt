@@ -2,3 +2,8 @@ pub mod Interned
 pub mod Making
 pub mod Placed
 pub mod Descriptors
+pub mod Inside
+pub mod Paths
+pub mod Standing
+pub mod Climbing
+pub mod Unders

@@ -26,7 +26,7 @@ use Rattle.dalvik_lookups.proofs.Descriptors.{same_kind}
 
 -- ---- the first place by tests that agree
 
-position_named : {A B : Type 0} (t : B → Bool) (u : A → Bool) (f : A → B) (xs : List A) → ((i : ℕ) (x : A) → slice_get xs i ≡ Some x → t (f x) ≡ u x) → position t (map f xs) ≡ position u xs
+pub position_named : {A B : Type 0} (t : B → Bool) (u : A → Bool) (f : A → B) (xs : List A) → ((i : ℕ) (x : A) → slice_get xs i ≡ Some x → t (f x) ≡ u x) → position t (map f xs) ≡ position u xs
 position_named t u f [] h = refl
 position_named t u f (x ∷ xs) h =
     position_step t (f x) (map f xs)
@@ -34,7 +34,7 @@ position_named t u f (x ∷ xs) h =
     ∙ ap (λ o. cond (u x) (Some 0) (option_map suc o)) (position_named t u f xs (λ i y e. h (suc i) y e))
     ∙ sym (position_step u x xs)
 
-position_nowhere : {A : Type 0} (t : A → Bool) (xs : List A) → ((i : ℕ) (x : A) → slice_get xs i ≡ Some x → t x ≡ false) → position t xs ≡ None
+pub position_nowhere : {A : Type 0} (t : A → Bool) (xs : List A) → ((i : ℕ) (x : A) → slice_get xs i ≡ Some x → t x ≡ false) → position t xs ≡ None
 position_nowhere t [] h = refl
 position_nowhere t (x ∷ xs) h =
     position_step t x xs
@@ -43,7 +43,7 @@ position_nowhere t (x ∷ xs) h =
 
 -- ---- a class's type is no array
 
-type_same : (p : Program) (k : ℕ) → type_at p k ≡ program_type_text p k
+pub type_same : (p : Program) (k : ℕ) → type_at p k ≡ program_type_text p k
 unfolding program_type_text
 type_same p k = by_entry (slice_get p.types k)
   where
@@ -58,11 +58,11 @@ type_same p k = by_entry (slice_get p.types k)
     by_entry None = refl
     by_entry (Some t) = text_is t
 
-letter_is : (p : Program) (k : ℕ) → letter_of p k ≡ first_unit (program_type_text p k)
+pub letter_is : (p : Program) (k : ℕ) → letter_of p k ≡ first_unit (program_type_text p k)
 unfolding letter_of
 letter_is p k = refl
 
-no_array : (t : Text) → first_unit t ≡ 76 → is_array t ≡ false
+pub no_array : (t : Text) → first_unit t ≡ 76 → is_array t ≡ false
 no_array [] e = refl
 no_array (u ∷ us) e = ap (λ n. nat_eq n 91) e
 
@@ -72,7 +72,7 @@ class_letter p c h =
     let one = and_left (is_class_type p c.name && not (is_object (program_type_text p c.name))) (is_class_type p c.superclass && list_all (is_class_type p) c.interfaces) h in
     eqb-true (letter_of p c.name) 76 (and_right (has_type p c.name) (is_class (letter_of p c.name)) (and_left (is_class_type p c.name) (not (is_object (program_type_text p c.name))) one))
 
-types_fit : (p : Program) (c : Class) → class_fits p c ≡ true → types_of_class_fit p c ≡ true
+pub types_fit : (p : Program) (c : Class) → class_fits p c ≡ true → types_of_class_fit p c ≡ true
 unfolding class_fits
 types_fit p c h =
     let one = and_left (types_of_class_fit p c && (source_fits p c.source && marks_fit p c.marks)) (fields_fit p c.name c.fields && methods_fit p c.name c.methods) h in
@@ -86,7 +86,7 @@ class_bare p w i c e = no_array (type_at p c.name) (ap first_unit (type_same p c
 pub own_type : (l : Lookups) → IsRight l → (i : ℕ) (c : Class) → slice_get l.program.now.classes i ≡ Some c → IsType l.types (kind_in l.kinds.items c.name) (type_at l.program.now c.name)
 own_type l r i c e = r.tabled.named.kinds c.name (class_parts l.program.now (sound l.program.now r.well) i c e).name
 
-back : (o : Option ℕ) → ((c : ℕ) → o ≡ Some c → c < 4294967295) → place_of (place_or_none o) ≡ o
+pub back : (o : Option ℕ) → ((c : ℕ) → o ≡ Some c → c < 4294967295) → place_of (place_or_none o) ≡ o
 back None h = refl
 back (Some c) h = by_test (nat_eq c 4294967295) refl
   where
@@ -94,7 +94,18 @@ back (Some c) h = by_test (nat_eq c 4294967295) refl
     by_test true e = let l = h c refl in absurd (omega (arith, l, number_of c 4294967295 e))
     by_test false e = refl
 
-not_zero : (n d : ℕ) → n ≡ suc d → nat_eq n 0 ≡ false
+-- a place of a class is below the number that stands for none
+pub few_place : (p : Program) → is_well_formed p ≡ true → (t : Text) (c : ℕ) → place_named p t ≡ Some c → c < 4294967295
+few_place p w t c e =
+    let q = place_entry (λ c. text_eq (type_at p c.name) t) p.classes c e in
+    let g = got_short p.classes c q.entry q.is in
+    let few = few_classes p w in
+    omega (arith, g, few)
+
+pub class_type_below : (p : Program) → is_well_formed p ≡ true → (i : ℕ) (c : Class) → slice_get p.classes i ≡ Some c → c.name < length p.types
+class_type_below p w i c e = (class_parts p (sound p w) i c e).name
+
+pub not_zero : (n d : ℕ) → n ≡ suc d → nat_eq n 0 ≡ false
 not_zero n d e = by_test (nat_eq n 0) refl
   where
     by_test : (b : Bool) → nat_eq n 0 ≡ b → b ≡ false
@@ -116,18 +127,11 @@ class_placed l r k h = by_depth k.depth refl
         (λ f. let same : own_kind ≡ k = same_kind l.types r.tabled.named.types own_kind k own.kind h (own.text ∙ text_sound (type_at l.program.now c.name) (type_text l.types k) f) in
         ap (is_plain k.base) same ∙ ap (λ b. b && nat_eq k.base k.base) (number_test k.depth 0 d) ∙ number_test k.base k.base refl)
 
-    short : (o : Option ℕ) → position (λ c. text_eq (type_at l.program.now c.name) (type_text l.types k)) l.program.now.classes ≡ o → (c : ℕ) → o ≡ Some c → c < 4294967295
-    short o e c f =
-        let q = place_entry (λ c. text_eq (type_at l.program.now c.name) (type_text l.types k)) l.program.now.classes c (e ∙ f) in
-        let g = got_short l.program.now.classes c q.entry q.is in
-        let few = few_classes l.program.now r.well in
-        omega (arith, g, few)
-
     by_depth : (d : ℕ) → k.depth ≡ d → cond (nat_eq k.depth 0) (place_of (slice_index_or l.class_of.items k.base 4294967295)) None ≡ place_named l.program.now (type_text l.types k)
     by_depth zero e =
         ap (λ n. cond (nat_eq n 0) (place_of (slice_index_or l.class_of.items k.base 4294967295)) None) e
         ∙ ap place_of (r.tabled.places.is k.base ∙ ap (λ ks. place_or_none (position (is_plain k.base) ks)) r.tabled.own ∙ ap place_or_none (position_named (is_plain k.base) (λ c. text_eq (type_at l.program.now c.name) (type_text l.types k)) (λ c. kind_in l.kinds.items c.name) l.program.now.classes (tests e)))
-        ∙ back (place_named l.program.now (type_text l.types k)) (short (place_named l.program.now (type_text l.types k)) refl)
+        ∙ back (place_named l.program.now (type_text l.types k)) (few_place l.program.now r.well (type_text l.types k))
     by_depth (suc d) e =
         ap (λ b. cond b (place_of (slice_index_or l.class_of.items k.base 4294967295)) None) (not_zero k.depth d e)
         ∙ sym (position_nowhere (λ c. text_eq (type_at l.program.now c.name) (type_text l.types k)) l.program.now.classes (λ i c f. differs c (class_bare l.program.now r.well i c f)))

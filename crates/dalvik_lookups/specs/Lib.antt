@@ -1,2 +1,4 @@
 pub mod Tables
 pub mod Views
+pub mod Rows
+pub mod Walks

@@ -1,5 +1,6 @@
 -- What the tables of a program's names say.
-use Rattle.std.specs.Prelude.{◌≡◌, ℕ, ◌<◌, ◌&&◌, Bool, true, List, [], map, length, Option, Some, None, nat_eq, cond, position, slice_get, slice_index_or}
+use Rattle.std.specs.Prelude.{◌≡◌, ℕ, ◌<◌, ◌&&◌, Bool, true, List, [], map, length, Option, Some, None, nat_eq, cond, position, slice_get, slice_index_or, Vec}
+use Rattle.std.specs.declared.alloc.Global.{Global}
 use Rattle.program_model.specs.declared.program.Program.{Program}
 use Rattle.program_model.specs.declared.program.MethodAt.{MethodAt}
 use Rattle.program_model.specs.ProgramRules.{is_well_formed}
@@ -7,10 +8,13 @@ use Rattle.hierarchy.specs.Shapes.{IsResolved}
 use Rattle.dalvik_lookups.specs.declared.finds.Search.{Search}
 use Rattle.dalvik_lookups.specs.declared.finds.Search.TheVariants as find
 use Rattle.dalvik_defs.specs.Names.{Text, text_eq}
-use Rattle.dalvik_defs.specs.Naming.{type_at, text_at}
+use Rattle.dalvik_defs.specs.Naming.{type_at, text_at, named}
+use Rattle.dalvik_defs.specs.Under.{directly_above}
+use Rattle.dalvik_defs.specs.declared.tables.Framework.{Framework}
 use Rattle.dalvik_lookups.specs.declared.types.Kind.{Kind}
 use Rattle.dalvik_lookups.specs.declared.types.Types.{Types}
 use Rattle.dalvik_lookups.specs.declared.texts.Texts.{Texts}
+use Rattle.dalvik_lookups.specs.declared.graph.Above.{Above}
 use Rattle.dalvik_lookups.specs.declared.lookups.Names.{Names}
 use Rattle.dalvik_lookups.specs.declared.lookups.Lookups.{Lookups}
 use Rattle.dalvik_lookups.specs.Views.{names_of, texts_of, AreKept, AreTypes, AreTexts, IsType, IsText, IsNamed, Stays}
@@ -101,6 +105,23 @@ pub record GrowsTypes (old new : Types) : Type 0 where
   pub are : AreTypes new
   pub stays : Stays (names_of old) (names_of new)
 
+-- ---- what stands above a type
+
+-- each number is that of its text
+pub record Stand (ts : List Text) (ns : List ℕ) (xs : List Text) : Type 0 where
+  pub at : map (slice_get ts) ns ≡ map (λ x. Some x) xs
+
+-- a row of a table, none past its end
+abbrev pub row_in : List (Vec ℕ Global) → ℕ → List ℕ
+row_in rows n = elim (slice_get rows n) [ Some row ↦ row.items | None ↦ [] ]
+
+abbrev pub row_at : Above → ℕ → List ℕ
+row_at a n = row_in a.rows.items n
+
+-- the row of each type has the types that stand directly above it, by the program's lists and the framework's rows
+pub record AreAbove (p : Program) (f : Framework) (t : Types) (a : Above) : Type 0 where
+  pub above : (n : ℕ) (x : Text) → slice_get (names_of t) n ≡ Some x → Stand (names_of t) (row_at a n) (directly_above (named p) f x)
+
 -- the tables of a run are over these names
 pub record IsOver (p : Program) (n : Names) (l : Lookups) : Type 0 where
   pub program : l.program.now ≡ p
@@ -116,6 +137,7 @@ pub record IsRight (l : Lookups) : Type 0 where
   pub tabled : IsTabled l
   pub well : is_well_formed l.program.now ≡ true
   pub resolved : IsResolved l.program.now l.hierarchy
+  pub above : AreAbove l.program.now l.framework.now l.types l.above
 
 -- what was found along superclasses
 abbrev pub search_of : Option MethodAt → Search

@@ -12,6 +12,7 @@ mod finds;
 mod graph;
 pub mod known;
 mod lookups;
+mod marks;
 mod memo;
 mod naming;
 mod outer;

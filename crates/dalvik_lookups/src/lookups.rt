@@ -1,6 +1,6 @@
 //! All tables of a program, made once.
 
-ghost use Rattle.std.specs.Prelude.{◌≡◌, ◌<◌, ◌^◌, ◌&&◌, not, ℕ, true, length, map, nat_eq, cond, Some, None, slice_get, slice_set, slice_index_or, IfOk, IfSome, OnOk, vec_len, replicate};
+ghost use Rattle.std.specs.Prelude.{◌≡◌, ◌<◌, ◌^◌, ◌&&◌, ◌||◌, ◌⊎◌, not, ℕ, true, length, map, nat_eq, cond, Some, None, slice_get, slice_set, slice_index_or, IfOk, IfSome, OnOk, vec_len, replicate};
 ghost use Rattle.std.specs.Option.{option_copied};
 ghost use Rattle.program_model.specs.Lookups as look;
 ghost use Rattle.program_model.specs.Lookups.{method_or};
@@ -9,9 +9,12 @@ ghost use Rattle.program_model.specs.ProgramRules.{is_well_formed};
 ghost use Rattle.class_defs.specs.Finding.{resolves_field};
 ghost use Rattle.class_defs.specs.Starts.{initialiser_place};
 ghost use Rattle.hierarchy.specs.Shapes.{IsResolved};
-ghost use Rattle.dalvik_defs.specs.Naming.{text_at, type_at, method_at};
-ghost use Rattle.dalvik_lookups.specs.Views.{type_text, AreKept, AreTexts, IsKind, IsType, IsText, IsNamed};
-ghost use Rattle.dalvik_lookups.specs.Tables.{kind_in, string_in, text_among, place_of, place_named, AreBelow, KindsMade, StringsMade, ArePlaces, HasNames, AreReady, Grows, IsOver, IsRight};
+ghost use Rattle.dalvik_defs.specs.Naming.{text_at, type_at, method_at, named};
+ghost use Rattle.dalvik_defs.specs.Under.{class_under, is_under};
+ghost use Rattle.dalvik_defs.specs.Names.{is_reference};
+ghost use Rattle.dalvik_lookups.specs.Walks.{IsKept};
+ghost use Rattle.dalvik_lookups.specs.Views.{names_of, name_at, type_text, AreKept, AreTypes, AreTexts, IsKind, IsType, IsText, IsNamed};
+ghost use Rattle.dalvik_lookups.specs.Tables.{kind_in, string_in, text_among, place_of, place_named, AreBelow, KindsMade, StringsMade, ArePlaces, HasNames, AreReady, AreAbove, Grows, IsOver, IsRight};
 
 use crate::declared::Declared;
 use crate::graph::{Above, above_all, rows_of};
@@ -38,6 +41,7 @@ const NO_CLASS: u32 = u32::MAX;
 #[derive(Drop)]
 pub struct Lookups<'a> {
     pub program: &'a Program,
+    pub framework: &'a Framework,
     pub types: Types<'a>,
     pub texts: Texts<'a>,
     pub outer: Outer,
@@ -220,15 +224,6 @@ fn names_of<'a>(alloc: Global, program: &'a Program) -> Result<Names<'a>, AllocE
     })
 }
 
-/// The numbers of types, without what is known of brackets.
-fn bases(alloc: Global, kinds: &[Kind]) -> Result<Vec<usize>, AllocError> {
-    let mut numbers = Vec::new(alloc);
-    for kind in kinds {
-        numbers.push(kind.base)?;
-    }
-    Ok(numbers)
-}
-
 /// What stands directly above each type.
 fn above_of<'a>(
     alloc: Global,
@@ -237,45 +232,124 @@ fn above_of<'a>(
     names: &mut Names<'a>,
 ) -> Result<Above, AllocError>
     ensures grows { AreReady names.old → OnOk result (Grows names.old names.new) }
+    ensures above { is_well_formed program.now ≡ true → HasNames program.now names.old → IfOk result (λ above. AreAbove program.now framework.now names.new.types above) }
 {
     let rows = rows_of(alloc, &mut names.types, framework)?;
-    let numbers = bases(alloc, names.kinds.as_slice())?;
-    let classes = bases(alloc, names.class_kinds.as_slice())?;
-    above_all(
-        alloc,
-        names.types.len(),
-        program,
-        numbers.as_slice(),
-        classes.as_slice(),
-        &rows,
-    )
+    let above = above_all(alloc, program, names, &rows)?;
+    Ok(above)
+}
+
+/// The names of a program and a script by numbers, and the moves of the script.
+#[derive(Drop)]
+pub(crate) struct Scripted<'a> {
+    pub names: Names<'a>,
+    pub plays: Vec<Play>,
+}
+
+/// The names of a program, a script and a framework by numbers, the moves of the script, and what stands directly above
+/// each type.
+#[derive(Drop)]
+pub(crate) struct Stood<'a> {
+    pub names: Names<'a>,
+    pub plays: Vec<Play>,
+    pub above: Above,
+}
+
+/// What a run asks of classes and methods one by one.
+#[derive(Drop)]
+pub(crate) struct Marked {
+    pub outer: Outer,
+    pub defaults: Vec<bool>,
+    pub slots: Vec<usize>,
+    pub constructors: Vec<bool>,
+}
+
+/// The moves of a script by numbers. The names that they name are added.
+fn plays_in<'a>(
+    alloc: Global,
+    program: &Program,
+    names: &mut Names<'a>,
+    script: &'a [Move],
+) -> Result<Vec<Play>, AllocError>
+    ensures { AreReady names.old → OnOk result (Grows names.old names.new) }
+{
+    let declared = Declared::new(alloc, program, names)?;
+    let plays = plays_of(alloc, names, &declared, script)?;
+    Ok(plays)
+}
+
+/// The names of a program and a script by numbers, and the moves of the script.
+fn script_names<'a>(
+    alloc: Global,
+    program: &'a Program,
+    script: &'a [Move],
+) -> Result<Scripted<'a>, AllocError>
+    ensures { length program.now.classes < 2 ^ 32 → IfOk result (λ made. HasNames program.now made.names) }
+{
+    let mut names = names_of(alloc, program)?;
+    let plays = plays_in(alloc, program, &mut names, script)?;
+    Ok(Scripted { names, plays })
+}
+
+/// The names of a program, a script and a framework by numbers, with what stands directly above each type.
+fn names_above<'a>(
+    alloc: Global,
+    program: &'a Program,
+    framework: &'a Framework,
+    script: &'a [Move],
+) -> Result<Stood<'a>, AllocError>
+    ensures names { is_well_formed program.now ≡ true → IfOk result (λ made. HasNames program.now made.names) }
+    ensures above { is_well_formed program.now ≡ true → IfOk result (λ made. AreAbove program.now framework.now made.names.types made.above) }
+{
+    let made = script_names(alloc, program, script)?;
+    let mut names = made.names;
+    let above = above_of(alloc, program, framework, &mut names)?;
+    Ok(Stood {
+        names,
+        plays: made.plays,
+        above,
+    })
+}
+
+/// What a run asks of classes and methods one by one.
+fn marks_of(
+    alloc: Global,
+    program: &Program,
+    outside: &Outside,
+    hierarchy: &Hierarchy,
+    names: &Names<'_>,
+) -> Result<Marked, AllocError> {
+    let kinds = names.kinds.as_slice();
+    let defaults = defaults(alloc, program, hierarchy)?;
+    let slots = first_slots(alloc, program)?;
+    let constructors = object_constructors(alloc, program, kinds)?;
+    let outer = outer_of(alloc, program, outside, kinds, names.types.len())?;
+    Ok(Marked {
+        outer,
+        defaults,
+        slots,
+        constructors,
+    })
 }
 
 /// The tables of a program over its hierarchy and its names.
 fn tables_of<'a>(
-    alloc: Global,
     program: &'a Program,
-    outside: &Outside,
+    framework: &'a Framework,
     hierarchy: Hierarchy,
     names: Names<'a>,
     above: Above,
-) -> Result<Lookups<'a>, AllocError>
-    ensures over { IfOk result (λ l. IsOver program.now names.entry l) }
-    ensures classes { IfOk result (λ l. l.hierarchy ≡ hierarchy) }
+    marked: Marked,
+) -> Lookups<'a>
+    ensures over { IsOver program.now names.entry result }
+    ensures classes { result.hierarchy ≡ hierarchy }
+    ensures above { result.above ≡ above }
+    ensures framework { result.framework.now ≡ framework.now }
 {
-    let outer = outer_of(
-        alloc,
+    Lookups {
         program,
-        outside,
-        names.kinds.as_slice(),
-        names.types.len(),
-    )?;
-    let defaults = defaults(alloc, program, &hierarchy)?;
-    let slots = first_slots(alloc, program)?;
-    let constructors = object_constructors(alloc, program, names.kinds.as_slice())?;
-    Ok(Lookups {
-        program,
-        outer,
+        framework,
+        outer: marked.outer,
         hierarchy,
         types: names.types,
         texts: names.texts,
@@ -284,11 +358,30 @@ fn tables_of<'a>(
         class_of: names.class_of,
         class_kinds: names.class_kinds,
         above,
-        defaults,
-        slots,
+        defaults: marked.defaults,
+        slots: marked.slots,
         slot_count: slot_count(program),
-        constructors,
-    })
+        constructors: marked.constructors,
+    }
+}
+
+/// The tables of a program with this hierarchy, and the moves of a script by numbers.
+fn both_of<'a>(
+    alloc: Global,
+    program: &'a Program,
+    outside: &Outside,
+    framework: &'a Framework,
+    script: &'a [Move],
+    hierarchy: Hierarchy,
+) -> Result<(Lookups<'a>, Vec<Play>), AllocError>
+    ensures program { IfOk result (λ both. both.0.program.now ≡ program.now) }
+    ensures framework { IfOk result (λ both. both.0.framework.now ≡ framework.now) }
+    ensures tables { is_well_formed program.now ≡ true → IsResolved program.now hierarchy → IfOk result (λ both. IsRight both.0) }
+{
+    let made = names_above(alloc, program, framework, script)?;
+    let marked = marks_of(alloc, program, outside, &hierarchy, &made.names)?;
+    let tables = tables_of(program, framework, hierarchy, made.names, made.above, marked);
+    Ok((tables, made.plays))
 }
 
 /// The classes of a program, none where they have a fault.
@@ -313,28 +406,28 @@ impl<'a> Lookups<'a> {
         script: &'a [Move],
     ) -> Result<Option<(Lookups<'a>, Vec<Play>)>, AllocError>
         ensures program { IfOk result (λ made. IfSome made (λ both. both.0.program.now ≡ program.now)) }
+        ensures framework { IfOk result (λ made. IfSome made (λ both. both.0.framework.now ≡ framework.now)) }
         ensures tables { is_well_formed program.now ≡ true → IfOk result (λ made. IfSome made (λ both. IsRight both.0)) }
     {
         let hierarchy = match build(alloc, program)? {
             Some(hierarchy) => hierarchy,
             None => return Ok(None),
         };
-        let mut names = names_of(alloc, program)?;
-        let declared = Declared::new(alloc, program, &names)?;
-        let plays = plays_of(alloc, &mut names, &declared, script)?;
-        let above = above_of(alloc, program, framework, &mut names)?;
-        let tables = tables_of(alloc, program, outside, hierarchy, names, above)?;
-        Ok(Some((tables, plays)))
+        let both = both_of(alloc, program, outside, framework, script, hierarchy)?;
+        Ok(Some(both))
     }
 
     /// What look-ups have found, which is nothing yet.
-    pub fn memo(&self, alloc: Global) -> Result<Memo, AllocError> {
-        Memo::new(
+    pub fn memo(&self, alloc: Global) -> Result<Memo, AllocError>
+        ensures { IfOk result (IsKept self.now) }
+    {
+        let memo = Memo::new(
             alloc,
             &self.hierarchy,
             self.program.methods.len(),
             self.types.len(),
-        )
+        )?;
+        Ok(memo)
     }
 
     /// The type of a type number.
@@ -461,63 +554,65 @@ impl<'a> Lookups<'a> {
         }
     }
 
-    /// Whether a walk up from a type meets another.
-    fn reaches(&self, memo: &mut Memo, lower: usize, upper: usize) -> Result<bool, AllocError> {
-        memo.begin();
-        memo.meet(lower)?;
-        for _ in 0..usize::MAX {
-            let number = match memo.go_on() {
-                Some(number) => number,
-                None => break,
-            };
-            if number == upper {
-                return Ok(true);
-            }
-            for above in self.above.row(number) {
-                memo.meet(*above)?;
-            }
-        }
-        Ok(false)
-    }
-
     /// Whether a type that is no array is under another one. The last answer for each upper type is kept.
-    fn base_under(&self, memo: &mut Memo, lower: usize, upper: usize) -> Result<bool, AllocError> {
+    fn base_under(&self, memo: &mut Memo, lower: usize, upper: usize) -> Result<bool, AllocError>
+        ensures kept { IsRight self.now → IsKept self.now memo.old → lower < length (names_of self.now.types) → upper < length (names_of self.now.types) → OnOk result (IsKept self.now memo.new) }
+        ensures answer { IsRight self.now → IsKept self.now memo.old → lower < length (names_of self.now.types) → upper < length (names_of self.now.types) → IfOk result (λ r. r ≡ class_under (named self.now.program.now) self.now.framework.now (name_at self.now.types lower) (name_at self.now.types upper)) }
+    {
         if let Some(answer) = memo.under_at(lower, upper) {
             return Ok(answer);
         }
-        let answer = self.reaches(memo, lower, upper)?;
+        let answer = self.above.climbs(&mut memo.marks, lower, upper)?;
         memo.keep_under(lower, upper, answer);
         Ok(answer)
     }
 
+    /// Whether a type is under another one, where not both are arrays.
+    fn item_under(&self, memo: &mut Memo, lower: Kind, upper: Kind) -> Result<bool, AllocError>
+        ensures kept { IsRight self.now → IsKept self.now memo.old → IsKind self.now.types lower → IsKind self.now.types upper → OnOk result (IsKept self.now memo.new) }
+        ensures answer { IsRight self.now → IsKept self.now memo.old → IsKind self.now.types lower → IsKind self.now.types upper → (lower.depth ≡ 0) ⊎ (upper.depth ≡ 0) → IfOk result (λ r. r ≡ is_under (named self.now.program.now) self.now.framework.now (type_text self.now.types lower) (type_text self.now.types upper)) }
+    {
+        if self.types.is_empty_type(lower) {
+            return Ok(false);
+        }
+        if self.types.is_empty_type(upper) {
+            return Ok(false);
+        }
+        if upper.is_array() {
+            return Ok(false);
+        }
+        if lower.is_array() {
+            return Ok(Types::is_object(upper));
+        }
+        let answer = self.base_under(memo, lower.base, upper.base)?;
+        Ok(answer)
+    }
+
+    /// Whether arrays with so many brackets more than these types may be under one another.
+    fn may_stand(&self, shared: usize, low: Kind, high: Kind) -> bool
+        ensures { AreTypes self.now.types → result ≡ (nat_eq shared 0 || (is_reference (type_text self.now.types low) && is_reference (type_text self.now.types high))) }
+    {
+        shared == 0 || (self.types.is_reference(low) && self.types.is_reference(high))
+    }
+
     /// Whether a type is under another: itself, and what stands above it. An array is under `Ljava/lang/Object;` and
     /// under each array of references whose item type is above its own.
-    pub fn is_under(&self, memo: &mut Memo, lower: Kind, upper: Kind) -> Result<bool, AllocError> {
-        if self.types.is_empty_type(lower) || self.types.is_empty_type(upper) {
-            return Ok(false);
+    pub fn is_under(&self, memo: &mut Memo, lower: Kind, upper: Kind) -> Result<bool, AllocError>
+        ensures kept { IsRight self.now → IsKept self.now memo.old → IsKind self.now.types lower → IsKind self.now.types upper → OnOk result (IsKept self.now memo.new) }
+        ensures answer { IsRight self.now → IsKept self.now memo.old → IsKind self.now.types lower → IsKind self.now.types upper → IfOk result (λ r. r ≡ is_under (named self.now.program.now) self.now.framework.now (type_text self.now.types lower) (type_text self.now.types upper)) }
+    {
+        if lower.is_same(upper) {
+            let full = !self.types.is_empty_type(lower);
+            return Ok(full);
         }
-        if lower == upper {
-            return Ok(true);
+        let shared = lower.shared(upper);
+        let low = lower.inside(shared);
+        let high = upper.inside(shared);
+        if self.may_stand(shared, low, high) {
+            let answer = self.item_under(memo, low, high)?;
+            Ok(answer)
+        } else {
+            Ok(false)
         }
-        let shared = lower.depth.min(upper.depth);
-        let low = Kind {
-            depth: lower.depth - shared,
-            base: lower.base,
-        };
-        let high = Kind {
-            depth: upper.depth - shared,
-            base: upper.base,
-        };
-        let references = self.types.is_reference(low) && self.types.is_reference(high);
-        if shared != 0 && !references {
-            return Ok(false);
-        }
-        if high.is_array() {
-            return Ok(false);
-        }
-        if low.is_array() {
-            return Ok(high.base == OBJECT);
-        }
-        self.base_under(memo, low.base, high.base)
     }
 }

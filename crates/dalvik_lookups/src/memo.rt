@@ -1,6 +1,10 @@
 //! What look-ups have found, and the marks of their walks.
 
+ghost use Rattle.std.specs.Prelude.{◌≡◌, ℕ, Some, length, slice_get, IfOk, IfSome, vec_len};
+ghost use Rattle.dalvik_lookups.specs.Walks.{IsClean, KeepsUnder};
+
 use crate::finds::Search;
+use crate::marks::Marks;
 use hierarchy::{Hierarchy, Walk};
 use program_model::MethodAt;
 use std::alloc::{AllocError, Global};
@@ -12,16 +16,21 @@ struct Recent {
     found: Search,
 }
 
+/// Whether a type is under another one: the lower type that was asked about last, and the answer.
+#[derive(Clone, Copy, PartialEq, Eq, Debug, Drop)]
+pub struct Asked {
+    lower: usize,
+    answer: bool,
+}
+
 /// For each method number what a virtual or interface call and a super call of it found last; for each type which type
 /// was last asked whether it is under this one, and the answer; and what walks up need.
 #[derive(Drop)]
 pub struct Memo {
     virtual_calls: Vec<Recent>,
     super_calls: Vec<Recent>,
-    under: Vec<(usize, bool)>,
-    marks: Vec<u64>,
-    round: u64,
-    waiting: Vec<usize>,
+    under: Vec<Option<Asked>>,
+    pub(crate) marks: Marks,
     pub(crate) walk: Walk,
     pub(crate) found: Vec<MethodAt>,
 }
@@ -50,6 +59,33 @@ fn keep(calls: &mut [Recent], class: u32, method: u32, found: Search) {
     }
 }
 
+/// The answer, if it is about this type.
+fn answer_of(last: Option<Asked>, lower: usize) -> Option<bool>
+    ensures { IfSome result (λ answer. last ≡ Some (record { lower = lower; answer = answer })) }
+{
+    match last {
+        Some(asked) => {
+            if asked.lower == lower {
+                Some(asked.answer)
+            } else {
+                None
+            }
+        }
+        None => None,
+    }
+}
+
+/// Nothing has been asked of so many types.
+fn nothing_asked(alloc: Global, types: usize) -> Result<Vec<Option<Asked>>, AllocError>
+    ensures { IfOk result (λ under. (u : ℕ) (a : Asked) → slice_get under.items u ≡ Some (Some a) → ⊥) }
+{
+    let mut under = Vec::new(alloc);
+    for _ in 0..types {
+        under.push(None)?;
+    }
+    Ok(under)
+}
+
 impl Memo {
     /// Nothing has been asked yet. There are so many method numbers and types.
     pub fn new(
@@ -57,7 +93,11 @@ impl Memo {
         hierarchy: &Hierarchy,
         methods: usize,
         types: usize,
-    ) -> Result<Memo, AllocError> {
+    ) -> Result<Memo, AllocError>
+        ensures size { IfOk result (λ m. vec_len m.marks.marks ≡ types) }
+        ensures clean { IfOk result (λ m. IsClean m.marks) }
+        ensures under { IfOk result (λ m. (u : ℕ) (a : Asked) → slice_get m.under.items u ≡ Some (Some a) → ⊥) }
+    {
         let none = Recent {
             class: None,
             found: Search::Nothing,
@@ -65,10 +105,8 @@ impl Memo {
         Ok(Memo {
             virtual_calls: vec![in alloc; none; methods]?,
             super_calls: vec![in alloc; none; methods]?,
-            under: vec![in alloc; (usize::MAX, false); types]?,
-            marks: vec![in alloc; 0u64; types]?,
-            round: 0,
-            waiting: Vec::new(alloc),
+            under: nothing_asked(alloc, types)?,
+            marks: Marks::new(alloc, types)?,
             walk: hierarchy.walk(alloc)?,
             found: Vec::new(alloc),
         })
@@ -95,39 +133,21 @@ impl Memo {
     }
 
     /// The answer whether a type is under another, if this was asked last of the other.
-    pub(crate) fn under_at(&self, lower: usize, upper: usize) -> Option<bool> {
+    pub(crate) fn under_at(&self, lower: usize, upper: usize) -> Option<bool>
+        ensures { IfSome result (λ answer. slice_get self.now.under.items upper ≡ Some (Some (record { lower = lower; answer = answer }))) }
+    {
         match self.under.as_slice().get(upper) {
-            Some((asked, answer)) => { if *asked == lower { Some(*answer) } else { None } }
+            Some(last) => answer_of(*last, lower),
             None => None,
         }
     }
 
     /// Keeps whether a type is under another.
-    pub(crate) fn keep_under(&mut self, lower: usize, upper: usize, answer: bool) {
-        if let Some(last) = self.under.get_mut(upper) {
-            *last = (lower, answer);
+    pub(crate) fn keep_under(&mut self, lower: usize, upper: usize, answer: bool)
+        ensures { KeepsUnder self.old self.new lower upper answer }
+    {
+        if upper < self.under.len() {
+            self.under[upper] = Some(Asked { lower, answer });
         }
-    }
-
-    /// Begins a walk over types.
-    pub(crate) fn begin(&mut self) {
-        self.round = self.round.saturating_add(1);
-        self.waiting.clear();
-    }
-
-    /// Lets a type wait that this walk hasn't met.
-    pub(crate) fn meet(&mut self, number: usize) -> Result<(), AllocError> {
-        if let Some(mark) = self.marks.get_mut(number) {
-            if *mark != self.round {
-                *mark = self.round;
-                self.waiting.push(number)?;
-            }
-        }
-        Ok(())
-    }
-
-    /// A type that waits, which waits no longer.
-    pub(crate) fn go_on(&mut self) -> Option<usize> {
-        self.waiting.pop()
     }
 }

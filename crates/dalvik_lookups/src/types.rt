@@ -1,6 +1,6 @@
 //! Numbers for types (Dalvik executable format, "TypeDescriptor").
 
-ghost use Rattle.std.specs.Prelude.{◌≡◌, ◌+◌, ◌-◌, ◌*◌, ◌<◌, ◌≤◌, ◌^◌, ◌++◌, ◌∷◌, ℕ, true, false, not, length, drop, replicate, nat_eq, slice_get, slice_index_or, Some, None, map, fold, IfOk, IfSome, OnOk};
+ghost use Rattle.std.specs.Prelude.{◌≡◌, ◌+◌, ◌-◌, ◌*◌, ◌<◌, ◌≤◌, ◌^◌, ◌++◌, ◌∷◌, ◌⊎◌, ℕ, true, false, not, length, drop, replicate, nat_eq, slice_get, slice_index_or, Some, None, map, fold, IfOk, IfSome, OnOk};
 ghost use Rattle.dalvik_defs.specs.Names as name;
 ghost use Rattle.dalvik_defs.specs.Names.{Text, text_eq, object_type};
 ghost use Rattle.dalvik_defs.specs.Items.{item_of_type};
@@ -66,6 +66,39 @@ impl Kind {
             depth: self.depth.saturating_sub(1),
             base: self.base,
         }
+    }
+
+    /// The type without so many of its brackets.
+    pub(crate) fn inside(self, count: usize) -> Kind
+        ensures base { result.base ≡ self.base }
+        ensures depth { result.depth ≡ self.depth - count }
+        ensures kind { (t : Types) → IsKind t self → IsKind t result }
+    {
+        Kind {
+            depth: self.depth.saturating_sub(count),
+            base: self.base,
+        }
+    }
+
+    /// How many brackets it has together with another type.
+    pub(crate) fn shared(self, other: Kind) -> usize
+        ensures within { result ≤ self.depth }
+        ensures other { result ≤ other.depth }
+        ensures all { (self.depth - result ≡ 0) ⊎ (other.depth - result ≡ 0) }
+    {
+        if self.depth < other.depth {
+            self.depth
+        } else {
+            other.depth
+        }
+    }
+
+    /// Whether it is another type.
+    pub(crate) fn is_same(self, other: Kind) -> bool
+        ensures same { result ≡ true → self ≡ other }
+        ensures other { result ≡ false → self ≡ other → ⊥ }
+    {
+        self.depth == other.depth && self.base == other.base
     }
 
     /// Whether it is an array.

@@ -1,11 +1,10 @@
-use Rattle.std.proofs.Common.{Ok, Err, Result}
-use Rattle.std.specs.Prelude.{OnOk}
-use Rattle.dalvik_lookups.proofs.Making.{grows_types}
+use Rattle.dalvik_lookups.proofs.Making.{grows_types, has_names_stay}
 use Rattle.dalvik_lookups.proofs.lookups.above_of.Goals as goal
 
-on_any : {V E : Type 0} (r : Result V E) (Q : Type 0) → Q → OnOk r Q
-on_any (Ok v) Q h = h
-on_any (Err e) Q h = tt
+pub returns-clause-grows : goal.returns-clause-grows
+returns-clause-grows c = λ r. grows_types c.args.names.now c.rows_of.new.types r (c.in_ok-rows.ensures.grows r.types)
 
-pub returns : goal.returns
-returns c = record { grows = λ r. on_any c.above_all.result _ (grows_types c.args.names.now c.rows_of.new.types r (c.in_ok-rows.ensures.grows r.types)) }
+pub returns-clause-above : goal.returns-clause-above
+returns-clause-above c = λ w h.
+    let g = grows_types c.args.names.now c.rows_of.new.types (record { types = h.types; texts = h.texts }) (c.in_ok-rows.ensures.grows h.types) in
+    c.in_ok-above.ensures w (has_names_stay c.args.program.now c.args.names.now _ h g) c.args.framework.now (c.in_ok-rows.ensures.rows h.types)

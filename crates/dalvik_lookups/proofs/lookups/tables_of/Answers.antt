@@ -5,4 +5,6 @@ pub returns : goal.returns
 returns c = record {
   over = record { program = refl; types = refl; texts = refl; kinds = refl; strings = refl; class_of = refl; class_kinds = refl };
   classes = refl;
+  above = refl;
+  framework = refl;
 }

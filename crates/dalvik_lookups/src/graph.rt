@@ -337,14 +337,7 @@ pub(crate) fn above_all(
     let placed = first_places(alloc, count, rows.own.as_slice())?;
     let mut above = Vec::new(alloc);
     for number in 0..count {
-        above.push(above_one(
-            alloc,
-            program,
-            names,
-            rows,
-            placed.as_slice(),
-            number,
-        )?)?;
+        above.push(above_one(alloc, program, names, rows, placed.as_slice(), number)?)?;
     }
     Ok(Above { rows: above })
 }

@@ -380,7 +380,9 @@ fn both_of<'a>(
 {
     let made = names_above(alloc, program, framework, script)?;
     let marked = marks_of(alloc, program, outside, &hierarchy, &made.names)?;
-    let tables = tables_of(program, framework, hierarchy, made.names, made.above, marked);
+    let tables = tables_of(
+        program, framework, hierarchy, made.names, made.above, marked,
+    );
     Ok((tables, made.plays))
 }
 

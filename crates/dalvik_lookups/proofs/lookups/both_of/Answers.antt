@@ -6,19 +6,19 @@ use Rattle.dalvik_lookups.proofs.Unders.{above_over}
 use Rattle.dalvik_lookups.proofs.lookups.both_of.Goals as goal
 
 pub returns-clause-program : goal.returns-clause-program
-returns-clause-program c = c.tables_of.ensures.over.program
+returns-clause-program c = c.tables_of-tables.ensures.over.program
 
 pub returns-clause-framework : goal.returns-clause-framework
-returns-clause-framework c = c.tables_of.ensures.framework
+returns-clause-framework c = c.tables_of-tables.ensures.framework
 
 pub returns-clause-tables : goal.returns-clause-tables
 returns-clause-tables c = λ w r.
     let names = c.in_ok-made.ensures.names w in
     let same = grows_same c.in_ok-made.made.names (record { types = names.types; texts = names.texts }) in
-    let over = c.tables_of.ensures.over in
+    let over = c.tables_of-tables.ensures.over in
     record {
-      tabled = tabled c.args.program.now c.in_ok-made.made.names _ _ c.tables_of.result names same same over;
+      tabled = tabled c.args.program.now c.in_ok-made.made.names _ _ c.tables_of-tables.result names same same over;
       well = subst (λ q. is_well_formed q ≡ true) (sym over.program) w;
-      resolved = subst (λ q. IsResolved q c.tables_of.result.hierarchy) (sym over.program) (subst (IsResolved c.args.program.now) (sym c.tables_of.ensures.classes) r);
-      above = above_over c.args.program.now c.args.framework.now _ c.in_ok-made.made.above c.tables_of.result (c.in_ok-made.ensures.above w) over.program c.tables_of.ensures.framework over.types c.tables_of.ensures.above;
+      resolved = subst (λ q. IsResolved q c.tables_of-tables.result.hierarchy) (sym over.program) (subst (IsResolved c.args.program.now) (sym c.tables_of-tables.ensures.classes) r);
+      above = above_over c.args.program.now c.args.framework.now _ c.in_ok-made.made.above c.tables_of-tables.result (c.in_ok-made.ensures.above w) over.program c.tables_of-tables.ensures.framework over.types c.tables_of-tables.ensures.above;
     }

@@ -1,13 +1,12 @@
 -- A walk through types, however long, is one of few steps where few types have others above them.
-use Rattle.std.proofs.Common.{◌≡◌, ℕ, zero, suc, ◌+◌, ◌<◌, ◌≤◌, ◌⊎◌, inl, inr, Bool, true, false, true≢false, List, [], ◌∷◌, ◌++◌, map, length, refl, sym, ap, subst, ◌∙◌, arith}
+use Rattle.std.proofs.Common.{◌≡◌, ℕ, zero, suc, ◌<◌, ◌≤◌, ◌⊎◌, inl, inr, Bool, true, false, true≢false, List, [], ◌∷◌, length, refl, sym, ap, subst, ◌∙◌, arith}
 use Rattle.std.specs.Prelude.{◌&&◌, ◌||◌, not, cond, Contains}
 use Rattle.std.specs.List.{list_any}
 use Rattle.class_defs.proofs.Positions.{both}
-use Rattle.class_defs.proofs.WellFormed.{and_left, and_right}
 use Rattle.dalvik_defs.specs.Names.{Text, text_eq}
 use Rattle.dalvik_defs.specs.Under.{walks}
 use Rattle.dalvik_lookups.proofs.Interned.{text_same, text_sound}
-use Rattle.dalvik_lookups.proofs.Inside.{none_in, any_of, any_in}
+use Rattle.dalvik_lookups.proofs.Inside.{any_of, any_in}
 
 -- a walk up that goes on from free types alone
 pub data Path (above : Text → List Text) (free : Text → Bool) : Text → Text → Type 0 where

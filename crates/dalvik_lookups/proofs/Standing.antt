@@ -1,6 +1,6 @@
 -- The row of a type by numbers has the types that stand directly above it by names.
 use Rattle.std.proofs.Common.{◌≡◌, ℕ, zero, suc, ◌+◌, ◌<◌, ◌≤◌, ◌⊎◌, inl, inr, Bool, true, false, true≢false, nat_eq, List, [], ◌∷◌, ◌++◌, map, length, replicate, take, get_or, Option, Some, None, refl, sym, ap, subst, ◌∙◌, arith}
-use Rattle.std.specs.Prelude.{◌&&◌, cond, not, is_none, find, position, slice_get, slice_index_or, slice_set, Vec, Contains, option_and_then}
+use Rattle.std.specs.Prelude.{◌&&◌, cond, not, is_none, find, position, slice_get, slice_index_or, slice_set, Vec, option_and_then}
 use Rattle.std.specs.List.{list_all}
 use Rattle.std.specs.Option.{option_map, option_or}
 use Rattle.std.specs.declared.alloc.Global.{Global}
@@ -10,25 +10,22 @@ use Rattle.program_model.specs.declared.program.Program.{Program}
 use Rattle.program_model.specs.ProgramRules.{is_well_formed}
 use Rattle.program_model.specs.Texts.{has_type, is_class, letter_of, type_text as program_type_text, first_unit}
 use Rattle.program_model.specs.MemberRules.{class_fits, types_of_class_fit, is_class_type, is_object}
-use Rattle.class_defs.proofs.Positions.{number_of, number_test, position_step, position_snoc, place_entry, find_place, entry_at, same_test}
+use Rattle.class_defs.proofs.Positions.{number_of, number_test, position_step, position_snoc, place_entry, find_place, same_test}
 use Rattle.class_defs.proofs.WellFormed.{and_left, and_right, all_at, below, sound}
 use Rattle.dalvik_defs.specs.Names.{Text, text_eq, is_array, object_type}
 use Rattle.dalvik_defs.specs.Known.{known_rows}
 use Rattle.dalvik_defs.specs.Naming.{type_at, named_class, named}
 use Rattle.dalvik_defs.specs.Under.{class_named, row_named, outer_type, directly_above, above_in, above_row as row_above}
-use Rattle.dalvik_defs.specs.declared.program.NamedClass.{NamedClass}
 use Rattle.dalvik_defs.specs.declared.tables.FrameworkType.{FrameworkType}
 use Rattle.dalvik_defs.specs.declared.tables.Framework.{Framework}
 use Rattle.dalvik_lookups.specs.declared.types.Kind.{Kind}
 use Rattle.dalvik_lookups.specs.declared.types.Types.{Types}
-use Rattle.dalvik_lookups.specs.declared.graph.Above.{Above}
 use Rattle.dalvik_lookups.specs.declared.graph.Rows.{Rows}
 use Rattle.dalvik_lookups.specs.declared.lookups.Names.{Names}
 use Rattle.dalvik_lookups.specs.Views.{names_of, name_at, type_text, known_names, StandOnce, Stays, AreTypes, IsType}
-use Rattle.dalvik_lookups.specs.Tables.{kind_in, is_plain, place_of, place_or_none, place_named, row_in, ArePlaces, Stand, AreAbove, HasNames}
+use Rattle.dalvik_lookups.specs.Tables.{kind_in, is_plain, place_of, place_or_none, place_named, row_in, Stand, AreAbove, HasNames}
 use Rattle.dalvik_lookups.specs.Rows.{is_empty_at, set_empty, outer_number, above_row, above_outside, numbers_listed, above_class, above_numbers, HaveRows}
 use Rattle.dalvik_lookups.proofs.Interned.{text_same, text_sound, got_short, entry_in, entry_is, same_number}
-use Rattle.dalvik_lookups.proofs.Descriptors.{known_at}
 use Rattle.dalvik_lookups.proofs.Placed.{class_bare, types_fit, type_same, letter_is, no_array, position_named, back, few_place, class_type_below}
 
 -- ---- numbers of texts as a table grows

@@ -1,5 +1,5 @@
 -- A type is under another by numbers just where it is by names.
-use Rattle.std.proofs.Common.{◌≡◌, ℕ, zero, suc, ◌+◌, ◌-◌, ◌<◌, ◌≤◌, ◌⊎◌, inl, inr, Bool, true, false, true≢false, nat_eq, List, [], ◌∷◌, ◌++◌, map, length, replicate, Option, Some, None, refl, sym, ap, subst, ◌∙◌, arith}
+use Rattle.std.proofs.Common.{◌≡◌, ℕ, zero, suc, ◌+◌, ◌-◌, ◌<◌, ◌≤◌, inl, inr, Bool, true, false, true≢false, nat_eq, List, [], ◌∷◌, ◌++◌, map, length, replicate, Some, None, refl, sym, ap, subst, ◌∙◌, arith}
 use Rattle.std.specs.Prelude.{◌&&◌, ◌||◌, not, cond, find, slice_get, Contains, vec_len}
 use Rattle.std.specs.List.{list_all, list_any}
 use Rattle.program_model.specs.declared.program.Class.{Class}
@@ -19,7 +19,7 @@ use Rattle.dalvik_lookups.specs.declared.types.Types.{Types}
 use Rattle.dalvik_lookups.specs.declared.graph.Above.{Above}
 use Rattle.dalvik_lookups.specs.declared.lookups.Lookups.{Lookups}
 use Rattle.dalvik_lookups.specs.Views.{names_of, name_at, type_text, StandOnce, IsKind}
-use Rattle.dalvik_lookups.specs.Tables.{place_named, row_at, Stand, AreAbove, IsRight}
+use Rattle.dalvik_lookups.specs.Tables.{row_at, Stand, AreAbove, IsRight}
 use Rattle.dalvik_lookups.specs.declared.memo.Memo.{Memo}
 use Rattle.dalvik_lookups.specs.Walks.{Climbs, IsInside, IsClean, IsKept, KeepsUnder}
 use Rattle.dalvik_lookups.proofs.Interned.{text_same, text_sound, got_short, entry_in, entry_is}

@@ -1,5 +1,5 @@
 -- What stands directly above a type, by numbers: how the rows of types are made.
-use Rattle.std.specs.Prelude.{◌≡◌, ℕ, ◌&&◌, ◌<◌, Bool, true, false, List, [], ◌∷◌, map, length, Option, Some, None, is_none, nat_eq, nat_lt, cond, slice_get, slice_set, slice_index_or, Vec}
+use Rattle.std.specs.Prelude.{◌≡◌, ℕ, Bool, false, List, [], ◌∷◌, map, Option, Some, None, is_none, nat_eq, cond, slice_get, slice_set, slice_index_or, Vec}
 use Rattle.std.specs.declared.alloc.Global.{Global}
 use Rattle.program_model.specs.declared.program.Class.{Class}
 use Rattle.program_model.specs.declared.program.Program.{Program}

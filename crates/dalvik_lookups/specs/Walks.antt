@@ -1,5 +1,5 @@
 -- Walks up from a type by the rows of types, and what is kept of walks.
-use Rattle.std.specs.Prelude.{◌≡◌, ◌⊎◌, ◌<◌, ◌≤◌, ℕ, ◌+◌, Bool, true, false, not, List, [], ◌++◌, length, take, count_by, Option, Some, None, slice_get, slice_index_or, vec_len, Contains}
+use Rattle.std.specs.Prelude.{◌≡◌, ◌⊎◌, ◌<◌, ◌≤◌, ℕ, ◌+◌, Bool, true, false, not, List, [], ◌++◌, length, take, count_by, Some, slice_get, slice_index_or, vec_len, Contains}
 use Rattle.dalvik_defs.specs.Naming.{named}
 use Rattle.dalvik_defs.specs.Under.{class_under}
 use Rattle.dalvik_lookups.specs.declared.graph.Above.{Above}

@@ -1,4 +1,4 @@
-use Rattle.std.proofs.Common.{ap, sym, subst, ◌∙◌, ◌<◌, ◌≤◌, arith, nat_eq}
+use Rattle.std.proofs.Common.{ap, ◌∙◌, ◌≤◌, arith, nat_eq}
 use Rattle.std.specs.Prelude.{position}
 use Rattle.dalvik_lookups.specs.Rows.{above_numbers}
 use Rattle.dalvik_lookups.proofs.Standing.{rows_long, rows_at, all_above}

@@ -1,4 +1,4 @@
-use Rattle.std.proofs.Common.{◌≡◌, ℕ, ◌<◌, ◌≤◌, length}
+use Rattle.std.proofs.Common.{◌≡◌, ℕ, ◌<◌, length}
 use Rattle.dalvik_lookups.specs.Tables.{row_in}
 use Rattle.dalvik_lookups.specs.Rows.{above_numbers}
 use Rattle.dalvik_lookups.proofs.graph.above_all.Given as goal

@@ -1,5 +1,4 @@
-use Rattle.std.proofs.Common.{ap, sym, subst, ◌∙◌, ◌≡◌, ◌∷◌, ◌++◌, [], Some}
-use Rattle.std.specs.Prelude.{slice_get}
+use Rattle.std.proofs.Common.{ap, sym, subst, ◌∙◌, ◌∷◌, ◌++◌, [], Some}
 use Rattle.dalvik_lookups.specs.Tables.{Stand}
 use Rattle.dalvik_lookups.specs.Views.{names_of}
 use Rattle.dalvik_lookups.proofs.Making.{types_same, types_on, types_whole}

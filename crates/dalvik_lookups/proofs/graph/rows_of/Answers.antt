@@ -1,4 +1,4 @@
-use Rattle.std.proofs.Common.{ap, sym, subst, ◌∙◌, ◌++◌, ◌∷◌, [], take, Some}
+use Rattle.std.proofs.Common.{ap, sym, subst, ◌∙◌, ◌++◌, take, Some}
 use Rattle.dalvik_defs.specs.Known.{known_rows}
 use Rattle.dalvik_lookups.specs.Views.{names_of}
 use Rattle.dalvik_lookups.specs.Rows.{HaveRows}

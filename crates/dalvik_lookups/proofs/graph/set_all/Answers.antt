@@ -1,5 +1,5 @@
-use Rattle.std.proofs.Common.{ap, sym, refl, subst, ◌∙◌, ◌≡◌, None, get_or, arith, nat_eq}
-use Rattle.std.specs.Prelude.{position, slice_index_or}
+use Rattle.std.proofs.Common.{ap, refl, subst, ◌∙◌, ◌≡◌, get_or, arith, nat_eq}
+use Rattle.std.specs.Prelude.{position}
 use Rattle.dalvik_lookups.specs.Rows.{set_empty}
 use Rattle.dalvik_lookups.proofs.Standing.{set_step, set_long, all_of}
 use Rattle.dalvik_lookups.proofs.graph.set_all.Goals as goal

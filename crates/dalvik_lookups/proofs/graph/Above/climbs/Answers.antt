@@ -1,4 +1,4 @@
-use Rattle.std.proofs.Common.{refl, ◌∙◌, sym, subst, arith, true, vec_len}
+use Rattle.std.proofs.Common.{◌∙◌, sym, subst, arith, true, vec_len}
 use Rattle.dalvik_lookups.specs.Walks.{IsClean, IsInside, IsWalked}
 use Rattle.std.specs.Prelude.{◌<◌}
 use Rattle.dalvik_lookups.proofs.Climbing.{begun, begun_from, on_so}

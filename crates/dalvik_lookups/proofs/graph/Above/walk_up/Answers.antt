@@ -1,4 +1,4 @@
-use Rattle.std.proofs.Common.{refl, ◌∙◌, ap, sym, subst, arith, ◌≡◌, length, vec_len}
+use Rattle.std.proofs.Common.{refl, ◌∙◌, sym, subst, arith, vec_len}
 use Rattle.std.specs.Prelude.{count_by, not, Contains}
 use Rattle.dalvik_lookups.specs.Walks.{Grow, left}
 use Rattle.dalvik_lookups.specs.Tables.{row_at}

@@ -1,4 +1,4 @@
-use Rattle.std.proofs.Common.{ap, sym, ◌∙◌, ◌++◌, ◌∷◌, [], map, take, refl}
+use Rattle.std.proofs.Common.{ap, ◌∙◌, ◌∷◌, [], map, refl}
 use Rattle.std.proofs.lemmas.List.{map_push, take_all}
 use Rattle.dalvik_lookups.proofs.Standing.{rows_known, pairs_step, known_pairs}
 use Rattle.dalvik_lookups.proofs.graph.Rows.known.Goals as goal

@@ -1,4 +1,4 @@
-use Rattle.std.proofs.Common.{◌∙◌, ap, sym, not, inl, inr, false}
+use Rattle.std.proofs.Common.{◌∙◌, ap, sym, not, inl, inr}
 use Rattle.std.specs.Prelude.{◌&&◌}
 use Rattle.dalvik_defs.specs.Naming.{named}
 use Rattle.dalvik_defs.specs.Under.{is_under}

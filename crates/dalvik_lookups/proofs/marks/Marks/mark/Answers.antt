@@ -1,4 +1,4 @@
-use Rattle.std.proofs.Common.{refl, arith, rules, ◌∙◌, sym}
+use Rattle.std.proofs.Common.{refl, rules}
 use Rattle.dalvik_lookups.proofs.Climbing.{grow_set, set_less}
 use Rattle.dalvik_lookups.proofs.marks.Marks.mark.Goals as goal
 

@@ -23,3 +23,7 @@ mod Packages
 mod Splits
 mod SplitFaults
 mod SplitFound
+mod Fives
+mod Trees
+mod Collected
+mod Lowest

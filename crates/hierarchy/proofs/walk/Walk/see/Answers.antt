@@ -2,7 +2,7 @@ use Rattle.std.proofs.Common.{◌≡◌, ◌∙◌, ap, length, drop, true, arit
 use Rattle.std.proofs.lemmas.List.{take_at}
 use Rattle.std.specs.Prelude.{slice_set}
 use Rattle.hierarchy.proofs.Marks.{fair_more, set_size}
-use Rattle.hierarchy.proofs.walk.Walk.meet.Goals as goal
+use Rattle.hierarchy.proofs.walk.Walk.see.Goals as goal
 
 pub returns-clause-fair : goal.returns-clause-fair
 returns-clause-fair c = λ f.

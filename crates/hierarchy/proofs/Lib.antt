@@ -23,3 +23,7 @@ mod Packages
 mod Splits
 mod SplitFaults
 mod SplitFound
+mod Linked
+mod Under
+mod Joined
+mod Ranging

@@ -28,7 +28,8 @@ use crate::quiet::trivial;
 use crate::resolve::resolve_all;
 use crate::split::first_split;
 use crate::table::{NONE, put, read, word};
-use crate::tour::{Ranges, by_number, parents, ranges_under, tour};
+use crate::ranges::{Ranges, ranges_under};
+use crate::tour::{number, parents};
 use program_model::{Class, MethodAt, Program};
 use std::alloc::{AllocError, Global};
 
@@ -210,17 +211,16 @@ fn make_shape(alloc: Global, program: &Program) -> Result<Shape, HierarchyFault>
 /// The tour of the classes.
 fn make_tour(alloc: Global, shape: &Shape) -> Result<Tour, AllocError> {
     let forest = parents(alloc, shape.supers.as_slice(), &shape.lists)?;
-    let numbers = tour(alloc, forest.as_slice(), shape.order.as_slice())?;
-    let by_number = by_number(alloc, numbers.as_slice())?;
+    let numbering = number(alloc, forest.as_slice(), shape.order.as_slice())?;
     let ranges = ranges_under(
         alloc,
-        numbers.as_slice(),
+        numbering.numbers.as_slice(),
         shape.order.as_slice(),
         &shape.below,
     )?;
     Ok(Tour {
-        numbers,
-        by_number,
+        numbers: numbering.numbers,
+        by_number: numbering.classes,
         ranges,
     })
 }

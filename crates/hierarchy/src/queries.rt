@@ -1,22 +1,26 @@
 //! What is asked of a hierarchy.
 
-ghost use Rattle.std.specs.Prelude.{◌≡◌, ◌<◌, length, false, slice_get, slice_index_or};
+ghost use Rattle.std.specs.Prelude.{◌≡◌, ◌<◌, ◌++◌, length, false, flat_map, slice_get, slice_index_or, IfOk, OnOk};
 ghost use Rattle.program_model.specs.declared.program.Program.{Program};
 ghost use Rattle.class_defs.specs.Finding.{resolves_field, resolves_method};
 ghost use Rattle.class_defs.specs.Starts.{is_trivial};
 ghost use Rattle.hierarchy.specs.Shapes.{IsResolved};
+ghost use Rattle.class_defs.specs.Places.{is_under};
 ghost use Rattle.hierarchy.specs.Tables.{answer};
+ghost use Rattle.hierarchy.specs.Touring.{ranges_of, others_in, subclasses_of};
 
 use crate::build::Hierarchy;
 use crate::find::method_at;
-use crate::table::is_on;
-use crate::tour::Range;
+use crate::ranges::Range;
+use crate::table::{count_at, is_on};
 use program_model::{MethodAt, Program};
 use std::alloc::{AllocError, Global};
 
 impl Hierarchy {
     /// Whether the class `lower` is the class `upper`, or below it by the program's own lists.
-    pub fn is_under(&self, lower: u32, upper: u32) -> bool {
+    pub fn is_under(&self, lower: u32, upper: u32) -> bool
+        ensures { (p : Program) → IsResolved p self.now → lower < length p.classes → upper < length p.classes → result ≡ is_under p lower upper }
+    {
         match self.tour.numbers.as_slice().get(lower as usize) {
             Some(number) => self.tour.ranges.has(upper, *number),
             None => false,
@@ -56,27 +60,42 @@ impl Hierarchy {
         is_on(self.starts.trivial.as_slice(), class)
     }
 
-    /// Adds the classes with the numbers of a range.
-    fn add_range(&self, range: &Range, out: &mut Vec<u32>) -> Result<(), AllocError> {
-        if let Some(classes) = self
-            .tour
-            .by_number
-            .as_slice()
-            .get(range.first as usize..range.end as usize)
-        {
-            out.extend_from_slice(classes)?;
+    /// Adds the classes with the numbers of a range, but for one.
+    fn add_others(
+        &self,
+        class: u32,
+        range: Range,
+        out: &mut Vec<u32>,
+    ) -> Result<(), AllocError>
+        ensures { OnOk result (out.new.items ≡ out.old.items ++ others_in self.now.tour.by_number.items class range) }
+    {
+        for number in range.first..range.end {
+            let one = count_at(self.tour.by_number.as_slice(), number);
+            if one != class {
+                out.push(one)?;
+            }
         }
         Ok(())
     }
 
-    /// The places of the other program classes under the class, in file order.
-    pub fn own_subclasses(&self, alloc: Global, class: u32) -> Result<Vec<u32>, AllocError> {
-        let mut below = Vec::new(alloc);
+    /// The other classes with the numbers of the ranges of a class, range by range.
+    fn others_under(&self, alloc: Global, class: u32) -> Result<Vec<u32>, AllocError>
+        ensures { IfOk result (λ others. others.items ≡ flat_map (others_in self.now.tour.by_number.items class) (ranges_of self.now.tour.ranges.rows class)) }
+    {
+        let mut others = Vec::new(alloc);
         for range in self.tour.ranges.row(class) {
-            self.add_range(range, &mut below)?;
+            self.add_others(class, *range, &mut others)?;
         }
-        below.retain(|one| *one != class);
-        below.sort_unstable();
+        Ok(others)
+    }
+
+    /// The places of the other program classes under the class, in file order.
+    pub fn own_subclasses(&self, alloc: Global, class: u32) -> Result<Vec<u32>, AllocError>
+        ensures { (p : Program) → IsResolved p self.now → class < length p.classes → IfOk result (λ below. below.items ≡ subclasses_of p class) }
+    {
+        let mut below = self.others_under(alloc, class)?;
+        below.as_mut_slice().sort_unstable();
+        below.dedup();
         Ok(below)
     }
 

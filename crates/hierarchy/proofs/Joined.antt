@@ -1,10 +1,10 @@
 -- Rows of ranges: what they have, and how ranges that meet become one.
-use Rattle.std.proofs.Common.{◌≡◌, ℕ, zero, suc, ◌+◌, ◌-◌, ◌<◌, ◌≤◌, ◌⊎◌, inl, inr, Bool, true, false, true≢false, List, [], ◌∷◌, ◌++◌, length, take, drop, get_or, replicate, Option, Some, None, refl, sym, ap, subst, ◌∙◌, arith, leb-true, ltb-true, le-leb, lt-ltb, leb}
+use Rattle.std.proofs.Common.{◌≡◌, ℕ, zero, suc, ◌+◌, ◌-◌, ◌<◌, ◌≤◌, ◌⊎◌, inl, inr, Bool, true, false, true≢false, List, [], ◌∷◌, ◌++◌, length, take, drop, get_or, replicate, Option, Some, None, Result, Ok, Err, refl, sym, ap, subst, ◌∙◌, arith, leb-true, ltb-true, le-leb, lt-ltb, leb}
 use Rattle.std.proofs.lemmas.List.{take_more, drop_more}
 use Rattle.std.proofs.lemmas.List.Folds.{list_any-append}
 use Rattle.std.proofs.lemmas.List.Sorted.{IsNonDecreasingBy-push, IsNonDecreasingBy-short}
 use Rattle.std.proofs.lemmas.Map.Keys.{any_passes_from_place}
-use Rattle.std.specs.Prelude.{◌&&◌, ◌||◌, nat_le, nat_lt, slice_get, flat_map}
+use Rattle.std.specs.Prelude.{IfOk, ◌&&◌, ◌||◌, nat_le, nat_lt, slice_get, flat_map}
 use Rattle.std.specs.List.{list_any}
 use Rattle.std.specs.List.Sorted.{IsNonDecreasingBy, IsPartitionPoint}
 use Rattle.class_defs.proofs.Positions.{same_test, both}
@@ -22,7 +22,7 @@ range_has k r e = (leb-true r.first k (and_left (nat_le r.first k) (nat_lt k r.e
 pub has_range : (k : ℕ) (r : Range) → r.first ≤ k → k < r.end → in_range k r ≡ true
 has_range k r l h = both (nat_le r.first k) (nat_lt k r.end) (le-leb r.first k l) (lt-ltb k r.end h)
 
-or_cases : (a b : Bool) → (a || b) ≡ true → (a ≡ true) ⊎ (b ≡ true)
+pub or_cases : (a b : Bool) → (a || b) ≡ true → (a ≡ true) ⊎ (b ≡ true)
 or_cases true b e = inl refl
 or_cases false b e = inr e
 
@@ -228,3 +228,7 @@ joined_step first others row row' last range next i l is a s j =
 pub any_flat : (k : ℕ) (f : ℕ → List Range) (ds : List ℕ) → in_ranges k (flat_map f ds) ≡ list_any (λ d. in_ranges k (f d)) ds
 any_flat k f [] = refl
 any_flat k f (d ∷ ds) = list_any-append (in_range k) (f d) (flat_map f ds) ∙ ap (λ b. in_ranges k (f d) || b) (any_flat k f ds)
+
+pub ok_same : {E : Type 0} (r : Result (List Range) E) (list : List Range) (test : ℕ → Bool) → IfOk r (λ row. (k : ℕ) → in_ranges k row ≡ in_ranges k list) → ((k : ℕ) → in_ranges k list ≡ test k) → IfOk r (λ row. (k : ℕ) → in_ranges k row ≡ test k)
+ok_same (Err e) list test h s = h
+ok_same (Ok row) list test h s = λ k. h k ∙ s k

@@ -27,3 +27,4 @@ mod Linked
 mod Under
 mod Joined
 mod Ranging
+mod Toured

@@ -62,7 +62,7 @@ pub record RangesFrom (p : Program) (places order : List ℕ) (table : List (Lis
 rising_none : (row : List Range) → row ≡ [] → IsRising row
 rising_none row e = subst IsRising (sym e) (record { firsts = λ i j d l s. absurd (omega (arith, s)); ends = λ i j d l s. absurd (omega (arith, s)) })
 
-empties : ℕ → List (List Range)
+abbrev empties : ℕ → List (List Range)
 empties n = replicate n []
 
 empties_length : (n : ℕ) → length (empties n) ≡ n

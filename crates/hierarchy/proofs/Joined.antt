@@ -70,8 +70,8 @@ module _ (row : List Range) (k at : ℕ) (rising : IsRising row) (point : IsPart
   found_range x e = same_test (nat_le x.first k) (in_ranges k row)
       (λ f. any_passes_from_place (in_range k) row at x e (has_range k x (leb-true x.first k f) (not_ended x.end (subst (λ w. ends_by k w ≡ false) (at_or row at x x e) (point.1 at x (omega arith) (got_short row at x e))))))
       (λ f. let h = has_at k row f in
-          let l = rises_at (λ r. r.first) row at h.place x h.one rising.firsts e h.is (past h.place (behind_at h.place h.one h.is h.has)) in
-          let s = (range_has k h.one h.has).0 in le-leb x.first k (omega (arith, l, s)))
+      let l = rises_at (λ r. r.first) row at h.place x h.one rising.firsts e h.is (past h.place (behind_at h.place h.one h.is h.has)) in
+      let s = (range_has k h.one h.has).0 in le-leb x.first k (omega (arith, l, s)))
     where
       not_ended : (e : ℕ) → leb e k ≡ false → k < e
       not_ended e f = elim (or_le e k) [ inl l ↦ absurd (true≢false (sym (le-leb e k l) ∙ f)) | inr l ↦ l ]
@@ -219,9 +219,10 @@ pub joined_step : (first : Range) (others row row' : List Range) (last range nex
 joined_step first others row row' last range next i l is a s j =
     let e : drop i others ≡ range ∷ drop (i + 1) others = drop_more others i range l ∙ ap (λ r. r ∷ drop (i + 1) others) (is range) in
     let t : StartFrom last.first (range ∷ drop (i + 1) others) = subst (StartFrom last.first) e s in
-    let m = joined_more first (take i others) row last range j (leb-true last.first range.first t.0) row' next a in
-    (start_weaker next.first range.first (drop (i + 1) others) m.1 t.1,
-    subst (λ w. Joined first w row' next) (sym (take_more others i range l ∙ ap (λ r. take i others ++ r ∷ []) (is range))) m.0)
+    let m = joined_more first (take i others) row last range j (leb-true last.first range.first t.0) row' next a in (
+      start_weaker next.first range.first (drop (i + 1) others) m.1 t.1,
+      subst (λ w. Joined first w row' next) (sym (take_more others i range l ∙ ap (λ r. take i others ++ r ∷ []) (is range))) m.0,
+    )
 
 -- ---- the ranges of several rows
 

@@ -15,13 +15,16 @@ use Rattle.hierarchy.proofs.Ranging.{index_of_get}
 -- ---- numbers in turn
 
 pub range_more : (a n : ℕ) → range_with_len a (n + 1) ≡ range_with_len a n ++ (a + n) ∷ []
-range_more a zero = ap (λ x. x ∷ []) (omega arith)
-range_more a (suc n) = ap (λ l. a ∷ l) (range_more (a + 1) n ∙ ap (λ x. range_with_len (a + 1) n ++ x ∷ []) (omega arith))
+range_more a zero = let f : a ≡ a + zero = omega arith in ap (λ x. x ∷ []) f
+range_more a (suc n) =
+    let e : suc n + 1 ≡ suc (n + 1) = omega arith in
+    let f : a + 1 + n ≡ a + suc n = omega arith in
+    ap (range_with_len a) e ∙ ap (λ l. a ∷ l) (range_more (a + 1) n ∙ ap (λ x. range_with_len (a + 1) n ++ x ∷ []) f)
 
 pub range_get : (a n i : ℕ) → i < n → slice_get (range_with_len a n) i ≡ Some (a + i)
 range_get a zero i l = absurd (omega (arith, l))
-range_get a (suc n) zero l = ap (λ x. Some x) (omega arith)
-range_get a (suc n) (suc i) l = range_get (a + 1) n i (omega (arith, l)) ∙ ap (λ x. Some x) (omega arith)
+range_get a (suc n) zero l = let f : a ≡ a + zero = omega arith in ap (λ x. Some x) f
+range_get a (suc n) (suc i) l = let f : a + 1 + i ≡ a + suc i = omega arith in range_get (a + 1) n i (omega (arith, l)) ∙ ap (λ x. Some x) f
 
 pub range_length : (a n : ℕ) → length (range_with_len a n) ≡ n
 range_length a zero = refl
@@ -36,7 +39,7 @@ in_turn_numbers n numbers places e f = subst (λ l. IsNumbering n l places) (sym
 }))
   where
     twice : (c : ℕ) → c < n → slice_get (range_with_len 0 n) (slice_index (range_with_len 0 n) c) ≡ Some c
-    twice c l = ap (slice_get (range_with_len 0 n)) (index_of_get (range_with_len 0 n) c (0 + c) (range_get 0 n c l)) ∙ range_get 0 n (0 + c) (omega (arith, l)) ∙ ap (λ x. Some x) (omega arith)
+    twice c l = ap (slice_get (range_with_len 0 n)) (index_of_get (range_with_len 0 n) c (0 + c) (range_get 0 n c l)) ∙ (let f : 0 + c ≡ c = omega arith in ap (slice_get (range_with_len 0 n)) f ∙ range_get 0 n c l ∙ ap (λ x. Some x) f)
 
 -- one number more that leads back
 pub back_more : (numbers back : List ℕ) (place : ℕ) → slice_get back (slice_index numbers place) ≡ Some place → ((c : ℕ) → c < place → slice_get back (slice_index numbers c) ≡ Some c) → (c : ℕ) → c < place + 1 → slice_get back (slice_index numbers c) ≡ Some c

@@ -27,10 +27,10 @@ use crate::members::{Members, definers, members_of, rows_of_fields, rows_of_meth
 use crate::names::{initialiser, of_object, special};
 use crate::order::in_order;
 use crate::quiet::trivial;
+use crate::ranges::{Ranges, ranges_under};
 use crate::resolve::resolve_all;
 use crate::split::first_split;
 use crate::table::{NONE, put, read, word};
-use crate::ranges::{Ranges, ranges_under};
 use crate::tour::{number, parents};
 use program_model::{Class, MethodAt, Program};
 use std::alloc::{AllocError, Global};

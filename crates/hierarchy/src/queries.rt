@@ -61,12 +61,7 @@ impl Hierarchy {
     }
 
     /// Adds the classes with the numbers of a range, but for one.
-    fn add_others(
-        &self,
-        class: u32,
-        range: Range,
-        out: &mut Vec<u32>,
-    ) -> Result<(), AllocError>
+    fn add_others(&self, class: u32, range: Range, out: &mut Vec<u32>) -> Result<(), AllocError>
         ensures { OnOk result (out.new.items ≡ out.old.items ++ others_in self.now.tour.by_number.items class range) }
     {
         for number in range.first..range.end {

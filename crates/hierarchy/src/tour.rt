@@ -112,7 +112,10 @@ pub fn number(alloc: Global, parents: &[u32], order: &[u32]) -> Result<Numbering
 fn is_numbering(count: usize, numbers: &[u32], classes: &[u32]) -> bool
     ensures { result ≡ true → IsNumbering count numbers.now classes.now }
 {
-    numbers.len() == count && classes.len() == count && leads_back(numbers, classes) && leads_back(classes, numbers)
+    numbers.len() == count
+        && classes.len() == count
+        && leads_back(numbers, classes)
+        && leads_back(classes, numbers)
 }
 
 /// The parent of each class in the forest of the tour: its superclass, else the first of its interfaces.

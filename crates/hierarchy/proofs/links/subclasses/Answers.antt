@@ -13,7 +13,7 @@ loop-place-preserved c = λ few. below_more c.args.supers.now c.args.lists.now.r
     (c.in_ok-note_all.ensures ∙ ap (λ l. add_to_all c.note_super.new.below.rows l c.loop-place.place) c.row.ensures) (c.loop-place.invariant few)
 
 pub returns : goal.returns
-returns c = λ few. 
+returns c = λ few.
     let whole = c.word-place-end.ensures few in
     let past : c.word-place-end.result ≤ c.loop-place.place = c.loop-place-test.false in
     let within : c.loop-place.place ≤ c.word-place-end.result = c.loop-place.auto.place-end in

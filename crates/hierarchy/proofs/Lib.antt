@@ -28,3 +28,5 @@ mod Under
 mod Joined
 mod Ranging
 mod Toured
+mod Listed
+mod Overriding

@@ -1,13 +1,13 @@
 -- Classes that are initialised trivially, along an order of the classes.
-use Rattle.std.proofs.Common.{◌≡◌, ℕ, zero, suc, ◌+◌, ◌<◌, ◌≤◌, ◌⊎◌, inl, inr, Bool, true, false, List, [], ◌∷◌, length, Option, Some, None, refl, sym, ap, subst, ◌∙◌, arith, ltb-true, take, drop, ◌++◌, slice_index}
+use Rattle.std.proofs.Common.{◌≡◌, ℕ, zero, suc, ◌+◌, ◌<◌, ◌≤◌, inl, inr, Bool, true, false, List, [], ◌∷◌, length, Option, Some, None, refl, sym, ap, subst, ◌∙◌, arith, ltb-true, take, drop, ◌++◌, slice_index}
 use Rattle.std.proofs.lemmas.List.{take_at}
 use Rattle.std.specs.Prelude.{◌&&◌, not, is_some, slice_get, slice_index_or, slice_set, nat_lt}
 use Rattle.std.specs.List.{list_all}
 use Rattle.program_model.specs.declared.program.Program.{Program}
-use Rattle.class_defs.specs.Places.{super_place, interface_places, chain_from, chain_of}
+use Rattle.class_defs.specs.Places.{super_place, interface_places, chain_from}
 use Rattle.class_defs.specs.Finding.{beside}
 use Rattle.class_defs.specs.Starts.{initialiser_place, interfaces_quiet, is_trivial}
-use Rattle.hierarchy.specs.Climbing.{In, IsBefore, IsOrder, ups}
+use Rattle.hierarchy.specs.Climbing.{In, IsOrder, ups}
 use Rattle.hierarchy.specs.Quieting.{is_quiet, Serves, Marks}
 use Rattle.hierarchy.specs.Ranks.{IsRanked}
 use Rattle.hierarchy.specs.Tables.{read_at, row_of}

@@ -1,16 +1,16 @@
 -- Rows of ranges: what they have, and how ranges that meet become one.
-use Rattle.std.proofs.Common.{◌≡◌, ℕ, zero, suc, ◌+◌, ◌-◌, ◌<◌, ◌≤◌, ◌⊎◌, inl, inr, Bool, true, false, true≢false, List, [], ◌∷◌, ◌++◌, length, take, drop, get_or, replicate, Option, Some, None, Result, Ok, Err, refl, sym, ap, subst, ◌∙◌, arith, leb-true, ltb-true, le-leb, lt-ltb, leb}
+use Rattle.std.proofs.Common.{◌≡◌, ℕ, zero, suc, ◌+◌, ◌-◌, ◌<◌, ◌≤◌, ◌⊎◌, inl, inr, Bool, true, false, true≢false, List, [], ◌∷◌, ◌++◌, length, take, drop, get_or, Some, Result, Ok, Err, refl, sym, ap, subst, ◌∙◌, arith, leb-true, ltb-true, le-leb, lt-ltb, leb}
 use Rattle.std.proofs.lemmas.List.{take_more, drop_more}
 use Rattle.std.proofs.lemmas.List.Folds.{list_any-append}
-use Rattle.std.proofs.lemmas.List.Sorted.{IsNonDecreasingBy-push, IsNonDecreasingBy-short}
+use Rattle.std.proofs.lemmas.List.Sorted.{IsNonDecreasingBy-push}
 use Rattle.std.proofs.lemmas.Map.Keys.{any_passes_from_place}
-use Rattle.std.specs.Prelude.{IfOk, ◌&&◌, ◌||◌, nat_le, nat_lt, slice_get, flat_map}
+use Rattle.std.specs.Prelude.{IfOk, ◌||◌, nat_le, nat_lt, slice_get, flat_map}
 use Rattle.std.specs.List.{list_any}
 use Rattle.std.specs.List.Sorted.{IsNonDecreasingBy, IsPartitionPoint}
 use Rattle.class_defs.proofs.Positions.{same_test, both}
 use Rattle.class_defs.proofs.WellFormed.{and_left, and_right}
 use Rattle.hierarchy.specs.declared.ranges.Range.{Range}
-use Rattle.hierarchy.specs.Touring.{in_range, in_ranges, IsRising, StartFrom, Within, Lengthens, Follows, AddsRange}
+use Rattle.hierarchy.specs.Touring.{in_range, in_ranges, IsRising, StartFrom, AddsRange}
 use Rattle.hierarchy.proofs.Keyed.{got_short}
 use Rattle.hierarchy.proofs.Above.{or_right}
 

@@ -1,5 +1,5 @@
 -- The classes with the numbers of ranges, as a list in file order.
-use Rattle.std.proofs.Common.{◌≡◌, ℕ, zero, suc, ◌+◌, ◌-◌, ◌<◌, ◌≤◌, ◌⊎◌, inl, inr, Bool, true, false, true≢false, nat_eq, List, [], ◌∷◌, ◌++◌, map, length, slice_index, Option, Some, None, refl, sym, ap, subst, ◌∙◌, arith}
+use Rattle.std.proofs.Common.{◌≡◌, ℕ, zero, suc, ◌+◌, ◌-◌, ◌<◌, ◌≤◌, ◌⊎◌, inl, inr, Bool, true, false, true≢false, nat_eq, List, [], ◌∷◌, ◌++◌, map, length, slice_index, Some, refl, sym, ap, subst, ◌∙◌, arith}
 use Rattle.std.proofs.lemmas.List.FromFn.{filter_of_map_range_with_len_more}
 use Rattle.std.proofs.lemmas.Map.Keys.{any_passes_from_place}
 use Rattle.std.specs.Prelude.{◌&&◌, not, cond, Contains, slice_get, slice_index_or, flat_map}
@@ -7,13 +7,13 @@ use Rattle.std.specs.List.{filter, range_with_len}
 use Rattle.std.specs.List.Sorted.{IsStrictlyIncreasing}
 use Rattle.program_model.specs.declared.program.Program.{Program}
 use Rattle.class_defs.specs.Places.{is_under}
-use Rattle.class_defs.proofs.Positions.{both, number_test, number_of}
+use Rattle.class_defs.proofs.Positions.{both}
 use Rattle.class_defs.proofs.WellFormed.{and_left, and_right}
 use Rattle.hierarchy.specs.declared.ranges.Range.{Range}
 use Rattle.hierarchy.specs.Climbing.{In}
-use Rattle.hierarchy.specs.Touring.{in_range, in_ranges, ranges_of, IsNumbering, HasRanges, others_in, subclasses_of}
+use Rattle.hierarchy.specs.Touring.{in_range, ranges_of, IsNumbering, HasRanges, others_in, subclasses_of}
 use Rattle.hierarchy.proofs.Above.{in_left, in_right, in_split}
-use Rattle.hierarchy.proofs.Joined.{range_has, has_range, HasAt, has_at}
+use Rattle.hierarchy.proofs.Joined.{range_has, has_range, has_at}
 use Rattle.hierarchy.proofs.Ranging.{number_short, place_short, place_of_number}
 
 -- ---- one number more of a range
@@ -196,7 +196,7 @@ first_stands n a t rest (x ∷ xs) r (inr i) all has = absurd (let m = rises_abo
 first_stands n a t rest (x ∷ xs) r (inl s) all has =
     let up : suc x ≡ a + 1 = omega (arith, s) in
     let same : xs ≡ filter t (range_with_len (a + 1) n) = rest xs (subst (λ b. Rises b xs) up r.1) (λ c i. let q = all c (inr i) in let l = q.0 in (omega (arith, l), q.1))
-        (λ c l m e. elim (has c (omega (arith, l)) (omega (arith, m)) e) [ inl h ↦ absurd (omega (arith, h, s, l)) | inr j ↦ j ]) in
+    (λ c l m e. elim (has c (omega (arith, l)) (omega (arith, m)) e) [ inl h ↦ absurd (omega (arith, h, s, l)) | inr j ↦ j ]) in
     ap (λ y. y ∷ xs) (sym s) ∙ ap (λ l. a ∷ l) same
 
 above_more : (a x : ℕ) → a ≤ x → (x ≡ a → ⊥) → a + 1 ≤ x

@@ -1,23 +1,21 @@
 -- The ranges of the numbers of those under each class, along an order of the classes from its end.
-use Rattle.std.proofs.Common.{◌≡◌, ℕ, zero, suc, ◌+◌, ◌-◌, ◌^◌, ◌<◌, ◌≤◌, ◌⊎◌, inl, inr, Bool, true, false, true≢false, List, [], ◌∷◌, ◌++◌, length, replicate, get_or, slice_index, Option, Some, None, refl, sym, ap, subst, ◌∙◌, arith}
+use Rattle.std.proofs.Common.{◌≡◌, ℕ, zero, suc, ◌+◌, ◌<◌, ◌≤◌, inl, inr, true, List, [], ◌∷◌, length, replicate, slice_index, Some, None, refl, sym, ap, subst, ◌∙◌, arith}
 use Rattle.std.proofs.lemmas.Option.{slice_get_past}
 use Rattle.std.specs.Prelude.{◌||◌, slice_get, slice_set, option_and_then}
 use Rattle.std.specs.List.{list_any}
-use Rattle.program_model.specs.declared.program.Class.{Class}
 use Rattle.program_model.specs.declared.program.Program.{Program}
 use Rattle.program_model.specs.Lookups.{class_place}
-use Rattle.class_defs.specs.Places.{super_place, placed, listed, interface_places, above_places, is_under}
+use Rattle.class_defs.specs.Places.{placed, listed, above_places, is_under}
 use Rattle.class_defs.proofs.Positions.{same_test}
 use Rattle.hierarchy.specs.declared.ranges.Range.{Range}
-use Rattle.hierarchy.specs.Climbing.{In, IsBefore, IsOrder, ups}
-use Rattle.hierarchy.specs.Ranks.{IsRanked}
+use Rattle.hierarchy.specs.Climbing.{In, ups}
 use Rattle.hierarchy.specs.Tables.{row_of}
-use Rattle.hierarchy.specs.Touring.{in_range, in_ranges, ranges_or_empty, ranges_of, IsRising, IsBelow, IsNumbering, IsRanged, HasRanges, Leads}
+use Rattle.hierarchy.specs.Touring.{in_range, in_ranges, ranges_or_empty, ranges_of, IsRising, IsNumbering, IsRanged, HasRanges, Leads}
 use Rattle.hierarchy.proofs.Keyed.{got_short}
 use Rattle.hierarchy.proofs.Above.{or_right}
 use Rattle.hierarchy.proofs.Joined.{range_has, has_range, or_cases, or_first}
-use Rattle.hierarchy.proofs.Linked.{got_set_here, got_set_other, got_set_past, set_length, or_same, or_short}
-use Rattle.hierarchy.proofs.Under.{Passes, passes, passed, Below, under_self, under_more, under_last, ups_above, above_ups}
+use Rattle.hierarchy.proofs.Linked.{got_set_here, got_set_other, set_length, or_same, or_short}
+use Rattle.hierarchy.proofs.Under.{passes, passed, under_self, under_more, under_last, ups_above, above_ups}
 
 pub index_of_get : (xs : List ℕ) (i x : ℕ) → slice_get xs i ≡ Some x → slice_index xs i ≡ x
 index_of_get [] i x e = cc

@@ -1,5 +1,5 @@
 -- Numbers of the classes, and the tables that lead from them to the ranges.
-use Rattle.std.proofs.Common.{◌≡◌, ℕ, zero, suc, ◌+◌, ◌^◌, ◌<◌, ◌≤◌, ◌⊎◌, inl, inr, true, List, [], ◌∷◌, ◌++◌, length, slice_index, Option, Some, None, refl, sym, ap, subst, ◌∙◌, arith}
+use Rattle.std.proofs.Common.{◌≡◌, ℕ, zero, suc, ◌+◌, ◌<◌, inl, inr, true, List, [], ◌∷◌, ◌++◌, length, slice_index, Some, refl, sym, ap, subst, ◌∙◌, arith}
 use Rattle.std.specs.Prelude.{slice_get}
 use Rattle.std.specs.List.{range_with_len}
 use Rattle.program_model.specs.declared.program.Program.{Program}
@@ -9,7 +9,7 @@ use Rattle.hierarchy.specs.declared.build.Shape.{Shape}
 use Rattle.hierarchy.specs.Shapes.{IsMade}
 use Rattle.hierarchy.specs.Touring.{IsNumbering, Leads}
 use Rattle.hierarchy.proofs.Marks.{before_or_at}
-use Rattle.hierarchy.proofs.Placed.{Fits, made_fits}
+use Rattle.hierarchy.proofs.Placed.{made_fits}
 use Rattle.hierarchy.proofs.Ranging.{index_of_get}
 
 -- ---- numbers in turn

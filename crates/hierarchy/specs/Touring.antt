@@ -1,5 +1,5 @@
 -- What stands directly below the classes, their numbers, and the ranges of the numbers of those under each class.
-use Rattle.std.specs.Prelude.{◌≡◌, ◌<◌, ◌≤◌, ◌⊎◌, ◌^◌, ◌&&◌, ◌-◌, ℕ, Bool, true, List, [], ◌∷◌, ◌++◌, map, length, not, nat_eq, nat_le, nat_lt, Option, Some, None, slice_get, slice_set, slice_index, flat_map}
+use Rattle.std.specs.Prelude.{◌≡◌, ◌<◌, ◌≤◌, ◌⊎◌, ◌^◌, ◌&&◌, ◌-◌, ℕ, Bool, true, List, [], ◌∷◌, ◌++◌, map, length, not, nat_eq, nat_le, nat_lt, Option, Some, None, slice_get, slice_set, slice_index}
 use Rattle.std.specs.List.{list_any, filter, range_with_len}
 use Rattle.std.specs.List.Sorted.{IsNonDecreasingBy}
 use Rattle.program_model.specs.declared.program.Program.{Program}

@@ -1,4 +1,4 @@
-use Rattle.std.proofs.Common.{◌≡◌, ◌∙◌, ◌<◌, ap, sym, subst, length, arith}
+use Rattle.std.proofs.Common.{◌≡◌, ◌∙◌, ap, sym, subst, length, arith}
 use Rattle.class_defs.proofs.WellFormed.{few_classes}
 use Rattle.hierarchy.specs.Touring.{IsNumbering, Leads}
 use Rattle.hierarchy.proofs.Placed.{Fits, made_fits}

@@ -1,4 +1,4 @@
-use Rattle.std.proofs.Common.{◌≡◌, ◌∙◌, ◌<◌, ◌≤◌, ◌^◌, length, ap, arith, subst}
+use Rattle.std.proofs.Common.{◌≡◌, ◌∙◌, ◌≤◌, length, ap, arith, subst}
 use Rattle.class_defs.specs.Finding.{beside}
 use Rattle.hierarchy.specs.Touring.{add_to_all, IsBelow}
 use Rattle.hierarchy.proofs.Linked.{below_none, below_more}

@@ -1,4 +1,4 @@
-use Rattle.std.proofs.Common.{◌≡◌, ◌∙◌, ◌++◌, ◌-◌, ◌≤◌, ◌<◌, ap, arith}
+use Rattle.std.proofs.Common.{◌∙◌, ◌++◌, ap, arith}
 use Rattle.hierarchy.proofs.Listed.{others_to, added_other, same_end}
 use Rattle.hierarchy.proofs.queries.add_others.Goals as goal
 

@@ -1,5 +1,4 @@
-use Rattle.std.proofs.Common.{◌≡◌, ◌∙◌, ap, length, arith}
-use Rattle.std.specs.List.{range_with_len}
+use Rattle.std.proofs.Common.{length}
 use Rattle.hierarchy.proofs.Toured.{in_turn_numbers}
 use Rattle.hierarchy.proofs.tour.number.Goals as goal
 

@@ -1,4 +1,3 @@
-use Rattle.std.proofs.Common.{drop}
 use Rattle.std.specs.List.{filter_map}
 use Rattle.class_defs.specs.Members.{own_virtual}
 use Rattle.hierarchy.proofs.Overriding.{found_more}

@@ -71,10 +71,10 @@ module _ (p : Program) (r : IsRanked p) where
   abbrev quiet_in : ℕ → ℕ → Bool
   quiet_in m c = not (is_some (initialiser_place p c)) && interfaces_quiet m p (interface_places p c)
 
-  list_below : (c u : ℕ) → In u (interface_places p c) → r.rank u < r.rank c
+  pub list_below : (c u : ℕ) → In u (interface_places p c) → r.rank u < r.rank c
   list_below c u i = ltb-true (r.rank u) (r.rank c) (all_in (λ v. nat_lt (r.rank v) (r.rank c)) (interface_places p c) u (list_lower p r c) i)
 
-  super_below : (c u : ℕ) → super_place p c ≡ Some u → r.rank u < r.rank c
+  pub super_below : (c u : ℕ) → super_place p c ≡ Some u → r.rank u < r.rank c
   super_below c u e = ltb-true (r.rank u) (r.rank c) (all_in (λ v. nat_lt (r.rank v) (r.rank c)) (beside (super_place p c)) u (super_lower p r c) (beside_in u (super_place p c) e))
 
   quiet_stable : (m m' c : ℕ) → r.rank c < m → r.rank c < m' → quiet_in m c ≡ quiet_in m' c

@@ -27,3 +27,10 @@ mod Fives
 mod Trees
 mod Collected
 mod Lowest
+mod Linked
+mod Under
+mod Joined
+mod Ranging
+mod Toured
+mod Listed
+mod Overriding

@@ -9,7 +9,9 @@ ghost use Rattle.hierarchy.specs.Naming.{IsNamed};
 ghost use Rattle.hierarchy.specs.Climbing.{HasCircle, IsOrder};
 ghost use Rattle.hierarchy.specs.Circling.{IsFirst};
 ghost use Rattle.std.specs.Prelude.{ℕ, Some, map, slice_get};
+ghost use Rattle.hierarchy.specs.Touring.{IsToured};
 ghost use Rattle.program_model.specs.declared.program.Class.{Class};
+ghost use Rattle.program_model.specs.declared.program.Program.{Program};
 ghost use Rattle.class_defs.specs.Starts.{initialiser_of, is_trivial};
 ghost use Rattle.hierarchy.specs.Quieting.{Marks};
 ghost use Rattle.hierarchy.specs.Splitting.{NoSplit, SplitsFirst};
@@ -25,10 +27,11 @@ use crate::members::{Members, definers, members_of, rows_of_fields, rows_of_meth
 use crate::names::{initialiser, of_object, special};
 use crate::order::in_order;
 use crate::quiet::trivial;
+use crate::ranges::{Ranges, ranges_under};
 use crate::resolve::resolve_all;
 use crate::split::first_split;
 use crate::table::{NONE, put, read, word};
-use crate::tour::{Ranges, by_number, parents, ranges_under, tour};
+use crate::tour::{number, parents};
 use program_model::{Class, MethodAt, Program};
 use std::alloc::{AllocError, Global};
 
@@ -208,19 +211,20 @@ fn make_shape(alloc: Global, program: &Program) -> Result<Shape, HierarchyFault>
 }
 
 /// The tour of the classes.
-fn make_tour(alloc: Global, shape: &Shape) -> Result<Tour, AllocError> {
+fn make_tour(alloc: Global, shape: &Shape) -> Result<Tour, AllocError>
+    ensures { (p : Program) → is_well_formed p ≡ true → IsMade p shape.now → IfOk result (λ tour. IsToured p tour) }
+{
     let forest = parents(alloc, shape.supers.as_slice(), &shape.lists)?;
-    let numbers = tour(alloc, forest.as_slice(), shape.order.as_slice())?;
-    let by_number = by_number(alloc, numbers.as_slice())?;
+    let numbering = number(alloc, forest.as_slice(), shape.order.as_slice())?;
     let ranges = ranges_under(
         alloc,
-        numbers.as_slice(),
+        numbering.numbers.as_slice(),
         shape.order.as_slice(),
         &shape.below,
     )?;
     Ok(Tour {
-        numbers,
-        by_number,
+        numbers: numbering.numbers,
+        by_number: numbering.classes,
         ranges,
     })
 }
@@ -305,6 +309,7 @@ fn fill(
     ensures targets { IfOk result (λ hierarchy. IsOf program.now hierarchy → AreTargets program.now hierarchy.targets) }
     ensures starts { is_well_formed program.now ≡ true → IfOk result (λ hierarchy. HasStarts program.now hierarchy.starts.initialisers.items) }
     ensures trivial { is_well_formed program.now ≡ true → IsMade program.now shape → IfOk result (λ hierarchy. Marks (length program.now.classes) (is_trivial program.now) hierarchy.starts.trivial.items) }
+    ensures toured { is_well_formed program.now ≡ true → IsMade program.now shape → IfOk result (λ hierarchy. IsToured program.now hierarchy.tour) }
 {
     let tour = make_tour(alloc, &shape)?;
     let starts = find_starts(alloc, program, &shape)?;
@@ -329,6 +334,7 @@ fn complete(alloc: Global, program: &Program, shape: Shape) -> Result<Hierarchy,
     ensures targets { IfOk result (λ hierarchy. IsOf program.now hierarchy → AreTargets program.now hierarchy.targets) }
     ensures starts { is_well_formed program.now ≡ true → IfOk result (λ hierarchy. HasStarts program.now hierarchy.starts.initialisers.items) }
     ensures trivial { is_well_formed program.now ≡ true → IsMade program.now shape → IfOk result (λ hierarchy. Marks (length program.now.classes) (is_trivial program.now) hierarchy.starts.trivial.items) }
+    ensures toured { is_well_formed program.now ≡ true → IsMade program.now shape → IfOk result (λ hierarchy. IsToured program.now hierarchy.tour) }
     ensures unsplit { is_well_formed program.now ≡ true → IsMade program.now shape → IfOk result (λ _. NoSplit program.now) }
     ensures refuses { is_well_formed program.now ≡ true → IsMade program.now shape → IfErr result (λ fault. IsSplitOr program.now fault) }
 {

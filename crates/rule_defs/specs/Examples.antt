@@ -14,8 +14,8 @@ use Rattle.dalvik_defs.specs.declared.program.NamedField.{NamedField}
 use Rattle.dalvik_defs.specs.declared.program.NamedMethod.{NamedMethod}
 use Rattle.dalvik_defs.specs.declared.program.NamedClass.{NamedClass}
 use Rattle.dalvik_defs.specs.declared.program.NamedProgram.{NamedProgram}
-use Rattle.rule_defs.specs.Tokens.{Word}
-use Rattle.rule_defs.specs.Rules.{Condition, Has, Arguments, Any, These, What, All, Init, Field, Method, MemberRule, ClassRule, KeepRule, AssumeRule, Entry, Keep, Assume}
+use Rattle.rule_text.specs.Tokens.{Word}
+use Rattle.rule_text.specs.Rules.{Condition, Has, Arguments, Any, These, What, All, Init, Field, Method, MemberRule, ClassRule, KeepRule, AssumeRule, Entry, Keep, Assume}
 
 -- ---- rules
 

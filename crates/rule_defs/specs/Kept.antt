@@ -22,9 +22,9 @@ use Rattle.dalvik_defs.specs.declared.program.NamedField.{NamedField}
 use Rattle.dalvik_defs.specs.declared.program.NamedMethod.{NamedMethod}
 use Rattle.dalvik_defs.specs.declared.program.NamedClass.{NamedClass}
 use Rattle.dalvik_defs.specs.declared.program.NamedProgram.{NamedProgram}
-use Rattle.rule_defs.specs.Tokens.{Word}
-use Rattle.rule_defs.specs.Rules.{MemberRule, Above, ClassRule, KeepRule, AssumeRule, Entry, Setting, Keep, Assume}
-use Rattle.rule_defs.specs.Spelling.{word_eq, modifier_word, setting_word}
+use Rattle.rule_text.specs.Tokens.{Word}
+use Rattle.rule_text.specs.Rules.{MemberRule, Above, ClassRule, KeepRule, AssumeRule, Entry, Setting, Keep, Assume}
+use Rattle.rule_text.specs.Spelling.{word_eq, modifier_word, setting_word}
 use Rattle.rule_defs.specs.Patterns.{some_name_fits, class_name_fits}
 use Rattle.rule_defs.specs.Members.{OfClass, conditions_hold, has_mark, names_method, matches_method, matches_field}
 

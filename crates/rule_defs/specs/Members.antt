@@ -11,8 +11,8 @@ use Rattle.dalvik_defs.specs.declared.encoded.NamedMark.{NamedMark}
 use Rattle.dalvik_defs.specs.declared.encoded.NamedNote.{NamedNote, fold-NamedNote}
 use Rattle.dalvik_defs.specs.declared.program.NamedField.{NamedField}
 use Rattle.dalvik_defs.specs.declared.program.NamedMethod.{NamedMethod}
-use Rattle.rule_defs.specs.Tokens.{Word}
-use Rattle.rule_defs.specs.Rules.{Condition, Mark, Has, What, All, Fields, Methods, Init, Field, Method, MemberRule}
+use Rattle.rule_text.specs.Tokens.{Word}
+use Rattle.rule_text.specs.Rules.{Condition, Mark, Has, What, All, Fields, Methods, Init, Field, Method, MemberRule}
 use Rattle.rule_defs.specs.Patterns.{class_name_fits, member_name_fits, type_fits, arguments_fit}
 
 -- ---- access words

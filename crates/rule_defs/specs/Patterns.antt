@@ -9,9 +9,9 @@ use Rattle.rule_text.specs.declared.pattern.Named.{Named}
 use Rattle.rule_text.specs.declared.pattern.Named.TheVariants as named
 use Rattle.rule_text.specs.Glob.{matches_of}
 use Rattle.dalvik_defs.specs.Names.{Text, text_eq, is_array, is_class_type, item_of}
-use Rattle.rule_defs.specs.Tokens.{Word}
-use Rattle.rule_defs.specs.Rules.{Arguments, Any, These}
-use Rattle.rule_defs.specs.Spelling.{word_eq}
+use Rattle.rule_text.specs.Tokens.{Word}
+use Rattle.rule_text.specs.Rules.{Arguments, Any, These}
+use Rattle.rule_text.specs.Spelling.{word_eq}
 
 -- ---- characters
 

@@ -1,3 +1,7 @@
+pub mod Bytes
 pub mod Fault
+pub mod Faults
 pub mod Glob
+pub mod Rules
+pub mod Spelling
 pub mod Tokens

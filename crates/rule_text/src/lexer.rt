@@ -1,7 +1,7 @@
 //! From a text of rules to its tokens.
 
 ghost use Rattle.std.specs.Prelude.{◌≡◌, ◌+◌, ◌<◌, ◌≤◌, ◌^◌, length, not, position, IfSome};
-ghost use Rattle.rule_text.specs.Tokens.{is_mark, is_blank, in_run, in_line, front_len, FrontIsShorter};
+ghost use Rattle.rule_text.specs.Bytes.{is_mark, is_blank, in_run, in_line, front_len, FrontIsShorter};
 
 use crate::token::{Token, Tokens};
 use std::alloc::{AllocError, Global};

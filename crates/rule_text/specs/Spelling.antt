@@ -13,8 +13,8 @@ use Rattle.rule_text.specs.declared.rules.Modifier.{Modifier}
 use Rattle.rule_text.specs.declared.rules.Modifier.TheVariants as modifier
 use Rattle.rule_text.specs.declared.rules.SettingName.{SettingName}
 use Rattle.rule_text.specs.declared.rules.SettingName.TheVariants as setting
-use Rattle.rule_defs.specs.Tokens.{Word}
-use Rattle.rule_defs.specs.Rules.{Condition, Mark, Has, Arguments, Any, These, What, All, Fields, Methods, Init, Field, Method, MemberRule, Above, ClassRule, KeepRule, AssumeRule, Entry, Setting, Keep, Assume}
+use Rattle.rule_text.specs.Tokens.{Word}
+use Rattle.rule_text.specs.Rules.{Condition, Mark, Has, Arguments, Any, These, What, All, Fields, Methods, Init, Field, Method, MemberRule, Above, ClassRule, KeepRule, AssumeRule, Entry, Setting, Keep, Assume}
 
 abbrev pub word_eq : Word → Word → Bool
 word_eq = pointwise nat_eq

@@ -1,6 +1,7 @@
 pub mod Bytes
 pub mod Fault
 pub mod Faults
+pub mod Fronts
 pub mod Glob
 pub mod Rules
 pub mod Spelling

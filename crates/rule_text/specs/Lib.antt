@@ -6,3 +6,4 @@ pub mod Glob
 pub mod Rules
 pub mod Spelling
 pub mod Tokens
+pub mod Words

@@ -1,9 +1,9 @@
 -- Comments and runs at the front of a text.
-use Rattle.std.proofs.Common.{◌≡◌, ℕ, suc, ◌+◌, Bool, true, false, not, cond, List, [], ◌∷◌, ◌++◌, length, filter, take, drop, nat_eq, nat_lt, Option, Some, None, ◌-◌, ◌≤◌, slice_index_or, refl, sym, ap, subst, ◌∙◌, arith, eqb-true, unwrap_or, lt-ltb}
+use Rattle.std.proofs.Common.{◌≡◌, ℕ, suc, ◌+◌, Bool, true, false, not, cond, List, [], ◌∷◌, ◌++◌, length, take, drop, nat_eq, nat_lt, Some, None, ◌-◌, ◌≤◌, slice_index_or, refl, sym, ap, subst, ◌∙◌, arith, eqb-true, unwrap_or, lt-ltb}
 use Rattle.std.specs.List.{prefix_len}
 use Rattle.std.proofs.lemmas.List.{append-nil, append_assoc, take_all, length-drop}
 use Rattle.rule_text.specs.Bytes.{in_run, in_line, is_mark, is_blank, front_len}
-use Rattle.rule_text.specs.Tokens.{Token, Word, tokens_from, of_run, of_mark, next_line}
+use Rattle.rule_text.specs.Tokens.{Word, tokens_from, of_run, of_mark, next_line}
 use Rattle.rule_text.specs.Fronts.{line_ends, IsBehindLine, IsBehindGap, IsBehindWord}
 
 one_later : (b : Bool) (m n : ℕ) → unwrap_or (cond b (Some (1 + m)) None) (suc n) ≡ suc (unwrap_or (cond b (Some m) None) n)

@@ -1,5 +1,5 @@
 -- The run at the end of a text.
-use Rattle.std.proofs.Common.{◌≡◌, ◌<◌, ◌≤◌, ◌-◌, ℕ, zero, suc, Bool, true, false, List, [], ◌∷◌, length, take, drop, slice_index_or, refl, sym, ap, subst, ◌∙◌, arith}
+use Rattle.std.proofs.Common.{◌≡◌, ◌<◌, ◌≤◌, ◌-◌, ℕ, zero, suc, true, false, List, [], ◌∷◌, length, take, drop, slice_index_or, refl, sym, subst, arith}
 use Rattle.std.specs.List.{list_all}
 use Rattle.rule_text.specs.Bytes.{in_run}
 use Rattle.rule_text.specs.Faults.{ends_outside}

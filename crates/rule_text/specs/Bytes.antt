@@ -1,5 +1,5 @@
 -- The bytes of a text of rules, and what is at its front.
-use Rattle.std.specs.Prelude.{◌≡◌, ℕ, ◌+◌, ◌<◌, List, [], ◌∷◌, ◌++◌, length, take, drop, map, Bool, true, not, ◌==◌, ◌&&◌, ◌||◌, position, unwrap_or}
+use Rattle.std.specs.Prelude.{ℕ, ◌<◌, List, length, Bool, not, ◌==◌, ◌&&◌, ◌||◌, position, unwrap_or}
 use Rattle.rule_text.specs.declared.lexer.Front.{Front}
 use Rattle.rule_text.specs.declared.lexer.Front.TheVariants.{End, Line, Gap, Word}
 

@@ -1,5 +1,5 @@
 -- What is read at the front of a text of rules, and what the lexer's tokens are.
-use Rattle.std.specs.Prelude.{◌≡◌, ℕ, suc, ◌+◌, false, true, List, [], ◌∷◌, ◌++◌, map, length, filter, take, drop, nat_eq}
+use Rattle.std.specs.Prelude.{◌≡◌, ℕ, suc, false, true, List, [], ◌∷◌, map, length, filter, take, drop, nat_eq}
 use Rattle.std.specs.List.{list_all}
 use Rattle.rule_text.specs.Bytes.{in_run}
 use Rattle.rule_text.specs.Tokens.{Token, tokens_from, tokens_of}

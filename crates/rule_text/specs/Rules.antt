@@ -1,6 +1,6 @@
 -- Rules and options as they are meant (ProGuard manual, "Keep options", "Class specifications"). Names and types are
 -- words as they are written.
-use Rattle.std.specs.Prelude.{ℕ, Bool, List, Option}
+use Rattle.std.specs.Prelude.{Bool, List, Option}
 use Rattle.rule_text.specs.declared.rules.Access.{Access}
 use Rattle.rule_text.specs.declared.rules.ClassKind.{ClassKind}
 use Rattle.rule_text.specs.declared.rules.KeepKind.{KeepKind}

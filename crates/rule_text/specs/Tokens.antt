@@ -1,7 +1,7 @@
 -- The tokens of a text of keep rules (ProGuard manual, "Usage"; this project's profile). A token is one of { } ( ) , ; !
 -- or a run of other bytes that are neither blank nor part of a comment, as long as it goes. A comment begins with # and
 -- ends with its line. Lines count from 1, and a line ends with its line feed.
-use Rattle.std.specs.Prelude.{ℕ, suc, ◌+◌, Bool, true, false, if◌then◌else◌, nat_eq, List, [], ◌∷◌, ◌++◌, map, length, filter}
+use Rattle.std.specs.Prelude.{ℕ, suc, Bool, true, false, if◌then◌else◌, nat_eq, List, [], ◌∷◌, ◌++◌, map, length, filter}
 use Rattle.rule_text.specs.Bytes.{is_mark, in_run}
 
 abbrev pub Word : Type 0

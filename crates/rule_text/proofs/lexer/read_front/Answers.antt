@@ -1,4 +1,4 @@
-use Rattle.std.proofs.Common.{rules, arith}
+use Rattle.std.proofs.Common.{rules}
 use Rattle.rule_text.proofs.FrontLemmas.{comment_at, run_at}
 use Rattle.rule_text.proofs.lexer.read_front.Goals as goal
 

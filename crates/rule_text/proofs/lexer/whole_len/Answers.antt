@@ -1,5 +1,5 @@
 use Rattle.std.proofs.Common.{rules}
-use Rattle.rule_text.proofs.RunLemmas.{ends_there, run_longer}
+use Rattle.rule_text.proofs.RunLemmas.{ends_there}
 use Rattle.rule_text.proofs.lexer.whole_len.Goals as goal
 
 pub returns-then-not-in_run-clause-whole : goal.returns-then-not-in_run-clause-whole

@@ -1,8 +1,8 @@
 -- What names and types with wildcards match (ProGuard manual, "Class specifications"). In the name of a class `?` is one
 -- character other than a dot, `*` any characters without a dot and `**` any characters; `*` alone matches every class.
 -- In the name of a member `?` and `*` match any characters.
-use Rattle.std.specs.Prelude.{◌≡◌, ℕ, zero, suc, ◌+◌, ◌-◌, ◌*◌, ◌/◌, ◌%◌, Bool, true, false, ◌&&◌, ◌||◌, not, if◌then◌else◌, nat_eq, nat_lt, List, [], ◌∷◌, ◌++◌, map, length, Option, Some, None, codes}
-use Rattle.std.specs.List.{concat, list_any, list_all}
+use Rattle.std.specs.Prelude.{ℕ, zero, suc, ◌+◌, ◌-◌, ◌*◌, ◌/◌, ◌%◌, Bool, true, false, ◌&&◌, ◌||◌, if◌then◌else◌, nat_eq, nat_lt, List, [], ◌∷◌, ◌++◌, map, length, codes}
+use Rattle.std.specs.List.{list_any}
 use Rattle.rule_text.specs.declared.pattern.Piece.{Piece}
 use Rattle.rule_text.specs.declared.pattern.Piece.TheVariants as piece
 use Rattle.rule_text.specs.declared.pattern.Named.{Named}

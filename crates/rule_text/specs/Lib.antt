@@ -5,5 +5,6 @@ pub mod Fronts
 pub mod Glob
 pub mod Rules
 pub mod Spelling
+pub mod Steps
 pub mod Tokens
 pub mod Words

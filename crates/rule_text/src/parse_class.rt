@@ -1,6 +1,8 @@
 //! Reading of which classes a rule names.
 
-ghost use Rattle.std.specs.Prelude.{◌≡◌, ◌+◌, ◌<◌, ◌≤◌, length, IsTrue, OnOk};
+ghost use Rattle.std.specs.Prelude.{◌≡◌, ◌+◌, ◌<◌, ◌≤◌, ◌∷◌, length, IsTrue, IsErr, IfOk, OnOk};
+ghost use Rattle.rule_text.specs.Spelling.{kind_word};
+ghost use Rattle.rule_text.specs.Steps.{words_at, BeginWithNone};
 
 use crate::cursor::{accept, advance, word_at};
 use crate::parse_member::{read_mark, read_members, read_name};
@@ -93,6 +95,8 @@ fn read_kind(tokens: &[Token<'_>], at: &mut usize) -> Result<ClassKind, Stop>
     requires { at.old ≤ length tokens.now }
     ensures moves { at.old ≤ at.new }
     ensures inside { at.new ≤ length tokens.now }
+    ensures step { IfOk result (λ kind. words_at tokens.now at.old ≡ kind_word kind ∷ words_at tokens.now at.new) }
+    ensures stays { IsErr result → (at.new ≡ at.old) × BeginWithNone kind_word (words_at tokens.now at.old) }
 {
     match class_kind(word_at(tokens, *at)) {
         Some(kind) => {

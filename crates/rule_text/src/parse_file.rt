@@ -1,10 +1,12 @@
 //! Reading of a whole text.
 
-ghost use Rattle.std.specs.Prelude.{◌≡◌, ◌+◌, ◌<◌, ◌≤◌, ◌^◌, ◌↔◌, None, length, IsErr, IsTrue, OnOk, IfOk, IfErr, IfSome, MatchOption};
+ghost use Rattle.std.specs.Prelude.{◌≡◌, ◌+◌, ◌<◌, ◌≤◌, ◌^◌, ◌↔◌, ◌∷◌, None, length, IsErr, IsTrue, OnOk, IfOk, IfErr, IfSome, MatchOption};
 ghost use Rattle.std.specs.Str.{IsUtf8, IsValidUpTo};
 ghost use Rattle.rule_text.specs.Fault.{IsFault, IsFaultBy};
 ghost use Rattle.rule_text.specs.Faults.{IsReadable};
 ghost use Rattle.rule_text.specs.Fronts.{AreTokensOf};
+ghost use Rattle.rule_text.specs.Spelling.{modifier_word};
+ghost use Rattle.rule_text.specs.Steps.{words_at, BeginWithNone};
 
 use crate::cursor::{accept, advance, expect_word, word_at};
 use crate::fault::RuleFault;
@@ -25,6 +27,8 @@ fn read_modifier(tokens: &[Token<'_>], at: &mut usize) -> Result<Modifier, Stop>
     requires { at.old ≤ length tokens.now }
     ensures moves { at.old ≤ at.new }
     ensures inside { at.new ≤ length tokens.now }
+    ensures step { IfOk result (λ modifier. words_at tokens.now at.old ≡ modifier_word modifier ∷ words_at tokens.now at.new) }
+    ensures stays { IsErr result → (at.new ≡ at.old) × BeginWithNone modifier_word (words_at tokens.now at.old) }
 {
     match modifier(word_at(tokens, *at)) {
         Some(modifier) => {

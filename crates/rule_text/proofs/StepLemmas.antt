@@ -1,5 +1,5 @@
 -- One word of the tokens, and those behind it.
-use Rattle.std.proofs.Common.{◌≡◌, ◌<◌, ◌≤◌, ◌+◌, ℕ, zero, suc, Bool, true, false, List, [], ◌∷◌, map, length, drop, slice_index_or, refl, sym, ap, subst, ◌∙◌, arith}
+use Rattle.std.proofs.Common.{◌≡◌, ◌<◌, ◌≤◌, ◌+◌, ℕ, zero, suc, true, List, [], ◌∷◌, map, length, slice_index_or, refl, sym, ap, ◌∙◌, arith}
 use Rattle.rule_text.specs.Tokens.{Word}
 use Rattle.rule_text.specs.Steps.{words_at, first_word, BeginOtherwise, IsNameStep}
 use Rattle.rule_text.specs.Spelling.{is_name}

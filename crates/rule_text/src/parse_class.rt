@@ -1,7 +1,8 @@
 //! Reading of which classes a rule names.
 
-ghost use Rattle.std.specs.Prelude.{◌≡◌, ◌+◌, ◌<◌, ◌≤◌, ◌∷◌, length, IsTrue, IsErr, IfOk, OnOk};
-ghost use Rattle.rule_text.specs.Spelling.{kind_word};
+ghost use Rattle.std.specs.Prelude.{◌≡◌, ◌+◌, ◌<◌, ◌≤◌, ◌∷◌, ◌++◌, true, length, IsTrue, IsErr, IfOk, IfSome, IfNone, OnOk};
+ghost use Rattle.rule_text.specs.Spelling.{access_word, kind_word, bang};
+ghost use Rattle.rule_text.specs.Words.{is_of_class};
 ghost use Rattle.rule_text.specs.Steps.{words_at, BeginWithNone};
 
 use crate::cursor::{accept, advance, word_at};
@@ -37,13 +38,16 @@ fn read_access(tokens: &[Token<'_>], at: &mut usize) -> Option<(bool, Access)>
     requires { at.old ≤ length tokens.now }
     ensures moves { at.old ≤ at.new }
     ensures inside { at.new ≤ length tokens.now }
+    ensures step { IfSome result (λ found. words_at tokens.now at.old ≡ bang found.0 ++ (access_word found.1 ∷ words_at tokens.now at.new)) }
+    ensures class { IfSome result (λ found. is_of_class found.1 ≡ true) }
+    ensures stays { IfNone result (at.new ≡ at.old) }
 {
-    let negated = matches!(word_at(tokens, *at), b"!");
-    let place = at.saturating_add(usize::from(negated));
-    let access = class_access(word_at(tokens, place))?;
-    if negated {
-        advance(tokens, at);
-    }
+    let start = *at;
+    let negated = accept(tokens, at, b"!");
+    let Some(access) = class_access(word_at(tokens, *at)) else {
+        *at = start;
+        return None;
+    };
     advance(tokens, at);
     Some((negated, access))
 }

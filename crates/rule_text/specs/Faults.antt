@@ -3,12 +3,12 @@
 use Rattle.std.specs.Prelude.{◌≡◌, ℕ, suc, ◌<◌, ◌≤◌, Bool, true, not, List, [], ◌∷◌, ◌++◌, take, length, Some, slice_get}
 use Rattle.std.specs.List.{list_all}
 use Rattle.std.specs.Str.{IsUtf8, IsValidUpTo}
-use Rattle.rule_text.specs.Tokens.{in_run}
+use Rattle.rule_text.specs.Bytes.{in_run}
 use Rattle.rule_text.specs.declared.fault.RuleFault.{RuleFault}
 use Rattle.rule_text.specs.declared.fault.RuleFault.TheVariants as fault
-use Rattle.rule_defs.specs.Tokens.{Word, Token, tokens_of, words_of, last_line}
-use Rattle.rule_defs.specs.Rules.{Entry}
-use Rattle.rule_defs.specs.Spelling.{AreWordsOf, begins_option, begins_rule, count_rules}
+use Rattle.rule_text.specs.Tokens.{Word, Token, tokens_of, words_of, last_line}
+use Rattle.rule_text.specs.Rules.{Entry}
+use Rattle.rule_text.specs.Spelling.{AreWordsOf, begins_option, begins_rule, count_rules}
 
 -- a text spells rules and options
 pub record SpellsRules (text : List ℕ) (es : List Entry) : Type 0 where

@@ -1,12 +1,12 @@
 -- Rules and options as they are meant (ProGuard manual, "Keep options", "Class specifications"). Names and types are
 -- words as they are written.
-use Rattle.std.specs.Prelude.{ℕ, Bool, List, Option}
+use Rattle.std.specs.Prelude.{Bool, List, Option}
 use Rattle.rule_text.specs.declared.rules.Access.{Access}
 use Rattle.rule_text.specs.declared.rules.ClassKind.{ClassKind}
 use Rattle.rule_text.specs.declared.rules.KeepKind.{KeepKind}
 use Rattle.rule_text.specs.declared.rules.Modifier.{Modifier}
 use Rattle.rule_text.specs.declared.rules.SettingName.{SettingName}
-use Rattle.rule_defs.specs.Tokens.{Word}
+use Rattle.rule_text.specs.Tokens.{Word}
 
 -- an annotation of a type that matches, or an access word that holds or, negated, doesn't
 pub data Condition : Type 0 where

@@ -1,6 +1,6 @@
 -- How rules and options are written (ProGuard manual, "Keep options", "Class specifications"): a text spells rules where
 -- its words are the rules' words, one behind the other.
-use Rattle.std.specs.Prelude.{◌≡◌, ℕ, ◌+◌, ◌≤◌, Bool, true, false, ◌&&◌, ◌||◌, not, if◌then◌else◌, nat_eq, List, [], ◌∷◌, ◌++◌, map, length, Option, Some, None, codes}
+use Rattle.std.specs.Prelude.{◌≡◌, ℕ, ◌+◌, Bool, true, false, ◌&&◌, ◌||◌, not, if◌then◌else◌, nat_eq, List, [], ◌∷◌, ◌++◌, map, length, Option, Some, None, codes}
 use Rattle.std.specs.List.{flat_map, list_any, list_all}
 use Rattle.std.specs.Cmp.Lexicographic.{pointwise}
 use Rattle.rule_text.specs.declared.rules.Access.{Access}
@@ -13,8 +13,8 @@ use Rattle.rule_text.specs.declared.rules.Modifier.{Modifier}
 use Rattle.rule_text.specs.declared.rules.Modifier.TheVariants as modifier
 use Rattle.rule_text.specs.declared.rules.SettingName.{SettingName}
 use Rattle.rule_text.specs.declared.rules.SettingName.TheVariants as setting
-use Rattle.rule_defs.specs.Tokens.{Word}
-use Rattle.rule_defs.specs.Rules.{Condition, Mark, Has, Arguments, Any, These, What, All, Fields, Methods, Init, Field, Method, MemberRule, Above, ClassRule, KeepRule, AssumeRule, Entry, Setting, Keep, Assume}
+use Rattle.rule_text.specs.Tokens.{Word}
+use Rattle.rule_text.specs.Rules.{Condition, Mark, Has, Arguments, Any, These, What, All, Fields, Methods, Init, Field, Method, MemberRule, Above, ClassRule, Entry, Setting, Keep, Assume}
 
 abbrev pub word_eq : Word → Word → Bool
 word_eq = pointwise nat_eq

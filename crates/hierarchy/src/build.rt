@@ -5,6 +5,7 @@ ghost use Rattle.std.proofs.Common.{Ok, Err};
 ghost use Rattle.hierarchy.specs.Placing.{place_from, known_places};
 ghost use Rattle.hierarchy.specs.Faults.{IsTwiceOr, IsSplitOr};
 ghost use Rattle.hierarchy.specs.Shapes.{placing, IsMade, StopsAt, IsOf, AreTargets, IsResolved, IsCause, IsAcyclic};
+ghost use Rattle.hierarchy.specs.Membership.{AreKeys, field_pair, method_pair, found_in, place_in_rows, field_rows, method_rows};
 ghost use Rattle.hierarchy.specs.Naming.{IsNamed};
 ghost use Rattle.hierarchy.specs.Climbing.{HasCircle, IsOrder};
 ghost use Rattle.hierarchy.specs.Circling.{IsFirst};
@@ -229,30 +230,59 @@ fn make_tour(alloc: Global, shape: &Shape) -> Result<Tour, AllocError>
     })
 }
 
+/// The keys of the fields or of the methods, those of each class in its order, and those of each class by key.
+#[derive(Drop)]
+struct Keyed {
+    keys: Keys,
+    rows: Links,
+    members: Members,
+}
+
+/// The fields by key.
+fn key_fields(alloc: Global, program: &Program) -> Result<Keyed, AllocError>
+    ensures keys { is_well_formed program.now ≡ true → IfOk result (λ keyed. AreKeys field_pair program.now.fields keyed.keys.keys.items keyed.keys.count) }
+    ensures found { is_well_formed program.now ≡ true → IfOk result (λ keyed. (class key : ℕ) → found_in keyed.members class key ≡ place_in_rows (field_rows keyed.keys.keys.items program.now.classes) class key) }
+{
+    let keys = field_keys(alloc, program.fields.as_slice())?;
+    let rows = rows_of_fields(alloc, program.classes.as_slice(), keys.keys.as_slice())?;
+    let members = members_of(alloc, &rows)?;
+    Ok(Keyed {
+        keys,
+        rows,
+        members,
+    })
+}
+
+/// The methods by key.
+fn key_methods(alloc: Global, program: &Program) -> Result<Keyed, AllocError>
+    ensures keys { is_well_formed program.now ≡ true → IfOk result (λ keyed. AreKeys method_pair program.now.methods keyed.keys.keys.items keyed.keys.count) }
+    ensures found { is_well_formed program.now ≡ true → IfOk result (λ keyed. (class key : ℕ) → found_in keyed.members class key ≡ place_in_rows (method_rows keyed.keys.keys.items program.now.classes) class key) }
+{
+    let keys = method_keys(alloc, program.methods.as_slice())?;
+    let rows = rows_of_methods(alloc, program.classes.as_slice(), keys.keys.as_slice())?;
+    let members = members_of(alloc, &rows)?;
+    Ok(Keyed {
+        keys,
+        rows,
+        members,
+    })
+}
+
 /// The members by key.
 fn name_members(alloc: Global, program: &Program) -> Result<Named, AllocError>
     ensures { is_well_formed program.now ≡ true → IfOk result (λ named. IsNamed program.now named) }
 {
-    let classes = program.classes.as_slice();
-    let field_keys = field_keys(alloc, program.fields.as_slice())?;
-    let method_keys = method_keys(alloc, program.methods.as_slice())?;
-    let field_rows = rows_of_fields(alloc, classes, field_keys.keys.as_slice())?;
-    let fields = members_of(alloc, &field_rows)?;
-    let method_rows = rows_of_methods(alloc, classes, method_keys.keys.as_slice())?;
-    let methods = members_of(alloc, &method_rows)?;
-    let definers = definers(alloc, &method_rows, method_keys.count)?;
+    let fields = key_fields(alloc, program)?;
+    let methods = key_methods(alloc, program)?;
     let special = special(alloc, program)?;
-    let of_object = of_object(
-        alloc,
-        program,
-        method_keys.keys.as_slice(),
-        method_keys.count,
-    )?;
+    let keys = methods.keys.keys.as_slice();
+    let of_object = of_object(alloc, program, keys, methods.keys.count)?;
+    let definers = definers(alloc, &methods.rows, methods.keys.count)?;
     Ok(Named {
-        field_keys,
-        method_keys,
-        fields,
-        methods,
+        field_keys: fields.keys,
+        method_keys: methods.keys,
+        fields: fields.members,
+        methods: methods.members,
         definers,
         special,
         of_object,

@@ -1,20 +1,9 @@
-use crate::goto_units;
-use program_model::{Body, Insn, Renumber, Test};
+use crate::{goto_units, same_numbers};
+use program_model::{Body, Insn, Test};
 use relax::{LayFault, lay_out};
 use seq::Seq;
 use std::alloc::{AllocError, Global};
 use std::test::*;
-
-/// Numbers that stay as they are.
-fn same_numbers(alloc: Global) -> Renumber {
-    Renumber {
-        strings: Vec::new(alloc),
-        types: Vec::new(alloc),
-        protos: Vec::new(alloc),
-        fields: Vec::new(alloc),
-        methods: Vec::new(alloc),
-    }
-}
 
 /// The instruction, so many nops behind it, and a return.
 fn over_nops(alloc: Global, first: Insn, nops: usize) -> Result<Body, AllocError> {

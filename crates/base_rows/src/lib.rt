@@ -5,8 +5,10 @@
 #![tactic(auto)]
 
 mod branches;
+mod numbers;
 
 pub use branches::goto_units;
+pub use numbers::same_numbers;
 
 #[cfg(test)]
 mod flows;

@@ -1,20 +1,10 @@
+use base_rows::same_numbers;
 use code_write::write_body;
-use program_model::{Body, Handler, Insn, InvokeKind, Region, Renumber, Slot};
+use program_model::{Body, Handler, Insn, InvokeKind, Region, Slot};
 use relax::lay_out;
 use seq::{Seq, Words};
 use std::alloc::{AllocError, Global};
 use std::test::*;
-
-/// Numbers that stay as they are.
-fn same_numbers(alloc: Global) -> Renumber {
-    Renumber {
-        strings: Vec::new(alloc),
-        types: Vec::new(alloc),
-        protos: Vec::new(alloc),
-        fields: Vec::new(alloc),
-        methods: Vec::new(alloc),
-    }
-}
 
 /// A region with one handler at position 3 for type 7, or with a catch-all there.
 fn region(alloc: Global, first: u32, is_rest: bool) -> Result<Region, AllocError> {

@@ -99,7 +99,7 @@ in_any n (k ∷ ks) (inr i) = by_test (nat_eq k n) (in_any n ks i)
     by_test true g = refl
     by_test false g = g
 
-or_right : (a b : Bool) → b ≡ true → (a || b) ≡ true
+pub or_right : (a b : Bool) → b ≡ true → (a || b) ≡ true
 or_right true b e = refl
 or_right false b e = e
 

@@ -1,13 +1,13 @@
 -- Classes that are initialised trivially, along an order of the classes.
-use Rattle.std.proofs.Common.{◌≡◌, ℕ, zero, suc, ◌+◌, ◌<◌, ◌≤◌, ◌⊎◌, inl, inr, Bool, true, false, List, [], ◌∷◌, length, Option, Some, None, refl, sym, ap, subst, ◌∙◌, arith, ltb-true, take, drop, ◌++◌, slice_index}
+use Rattle.std.proofs.Common.{◌≡◌, ℕ, zero, suc, ◌+◌, ◌<◌, ◌≤◌, inl, inr, Bool, true, false, List, [], ◌∷◌, length, Option, Some, None, refl, sym, ap, subst, ◌∙◌, arith, ltb-true, take, drop, ◌++◌, slice_index}
 use Rattle.std.proofs.lemmas.List.{take_at}
 use Rattle.std.specs.Prelude.{◌&&◌, not, is_some, slice_get, slice_index_or, slice_set, nat_lt}
 use Rattle.std.specs.List.{list_all}
 use Rattle.program_model.specs.declared.program.Program.{Program}
-use Rattle.class_defs.specs.Places.{super_place, interface_places, chain_from, chain_of}
+use Rattle.class_defs.specs.Places.{super_place, interface_places, chain_from}
 use Rattle.class_defs.specs.Finding.{beside}
 use Rattle.class_defs.specs.Starts.{initialiser_place, interfaces_quiet, is_trivial}
-use Rattle.hierarchy.specs.Climbing.{In, IsBefore, IsOrder, ups}
+use Rattle.hierarchy.specs.Climbing.{In, IsOrder, ups}
 use Rattle.hierarchy.specs.Quieting.{is_quiet, Serves, Marks}
 use Rattle.hierarchy.specs.Ranks.{IsRanked}
 use Rattle.hierarchy.specs.Tables.{read_at, row_of}
@@ -71,10 +71,10 @@ module _ (p : Program) (r : IsRanked p) where
   abbrev quiet_in : ℕ → ℕ → Bool
   quiet_in m c = not (is_some (initialiser_place p c)) && interfaces_quiet m p (interface_places p c)
 
-  list_below : (c u : ℕ) → In u (interface_places p c) → r.rank u < r.rank c
+  pub list_below : (c u : ℕ) → In u (interface_places p c) → r.rank u < r.rank c
   list_below c u i = ltb-true (r.rank u) (r.rank c) (all_in (λ v. nat_lt (r.rank v) (r.rank c)) (interface_places p c) u (list_lower p r c) i)
 
-  super_below : (c u : ℕ) → super_place p c ≡ Some u → r.rank u < r.rank c
+  pub super_below : (c u : ℕ) → super_place p c ≡ Some u → r.rank u < r.rank c
   super_below c u e = ltb-true (r.rank u) (r.rank c) (all_in (λ v. nat_lt (r.rank v) (r.rank c)) (beside (super_place p c)) u (super_lower p r c) (beside_in u (super_place p c) e))
 
   quiet_stable : (m m' c : ℕ) → r.rank c < m → r.rank c < m' → quiet_in m c ≡ quiet_in m' c

@@ -15,6 +15,7 @@ use Rattle.class_defs.specs.Starts.{is_trivial}
 use Rattle.hierarchy.specs.Quieting.{Marks}
 use Rattle.hierarchy.specs.Starting.{HasStarts}
 use Rattle.hierarchy.specs.Tables.{answer}
+use Rattle.hierarchy.specs.Touring.{IsToured}
 use Rattle.hierarchy.specs.Walking.{method_by}
 
 pub field_answer : (p : Program) (h : Hierarchy) (n : ℕ) → IsResolved p h → answer (slice_get h.targets.fields.items n) ≡ resolves_field p n
@@ -32,9 +33,9 @@ method_answer p h n r = ap (λ l. answer (slice_get l n)) r.targets.methods ∙ 
     by_entry_of (Some m) = refl
 
 pub resolved : (p : Program) (r : Result Hierarchy HierarchyFault) → IfOk r (λ h. IsOf p h) → IfOk r (λ h. IsOf p h → AreTargets p h.targets) → IfOk r (λ h. HasStarts p h.starts.initialisers.items)
-    → IfOk r (λ h. Marks (length p.classes) (is_trivial p) h.starts.trivial.items) → IfOk r (λ h. IsResolved p h)
-resolved p (Err e) h t s k = h
-resolved p (Ok x) h t s k = record { of = h; targets = t h; starts = s; trivial = k }
+    → IfOk r (λ h. Marks (length p.classes) (is_trivial p) h.starts.trivial.items) → IfOk r (λ h. IsToured p h.tour) → IfOk r (λ h. IsResolved p h)
+resolved p (Err e) h t s k u = h
+resolved p (Ok x) h t s k u = record { of = h; targets = t h; starts = s; trivial = k; toured = u }
 
 -- the tables say the same whatever the targets
 pub retarget : (p : Program) (h : Hierarchy) (t : Targets) → IsOf p (record { shape = h.shape; tour = h.tour; named = h.named; starts = h.starts; targets = t }) → IsOf p h

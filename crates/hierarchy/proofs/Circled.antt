@@ -1,5 +1,5 @@
 -- A class that is its own ancestor by the tables of a program.
-use Rattle.std.proofs.Common.{◌≡◌, ℕ, ◌<◌, ◌^◌, List, map, length, Result, Ok, Err, sym, ap, subst, ◌∙◌, arith}
+use Rattle.std.proofs.Common.{◌≡◌, ℕ, ◌<◌, ◌^◌, List, map, length, Result, Err, ap, subst, ◌∙◌, arith}
 use Rattle.std.specs.Prelude.{IfErr, slice_index_or}
 use Rattle.program_model.specs.declared.program.Class.{Class}
 use Rattle.program_model.specs.declared.program.Program.{Program}

@@ -1,12 +1,10 @@
 -- A walk to the classes above one comes back to it just where it is its own ancestor.
-use Rattle.std.proofs.Common.{◌≡◌, ℕ, zero, suc, ◌+◌, ◌<◌, ◌≤◌, ◌⊎◌, inl, inr, Bool, true, false, true≢false, List, [], ◌∷◌, ◌++◌, length, Option, Some, None, Result, Ok, Err, refl, sym, ap, subst, ◌∙◌, arith, append-nil, ltb-true, replicate, slice_index}
-use Rattle.std.specs.Prelude.{slice_index_or, slice_set, nat_lt, nat_le, IfOk}
+use Rattle.std.proofs.Common.{◌≡◌, ℕ, zero, suc, ◌+◌, ◌<◌, ◌≤◌, ◌⊎◌, inl, inr, Bool, true, false, List, [], ◌∷◌, ◌++◌, length, Option, Some, None, refl, sym, ap, subst, ◌∙◌, arith, replicate, slice_index}
+use Rattle.std.specs.Prelude.{slice_index_or, slice_set}
 use Rattle.std.specs.List.{list_all}
-use Rattle.std.proofs.lemmas.Bool.{cases_lt}
 use Rattle.class_defs.specs.ClassGraph.{StepsTo}
-use Rattle.class_defs.specs.Finding.{beside}
-use Rattle.hierarchy.specs.Climbing.{In, IsUp, IsCircle, HasCircle, ups}
-use Rattle.hierarchy.specs.Circling.{IsRising, Decides, IsFirst, IsFirstCircle}
+use Rattle.hierarchy.specs.Climbing.{In, IsUp, IsCircle, ups}
+use Rattle.hierarchy.specs.Circling.{IsRising, Decides}
 use Rattle.hierarchy.specs.Walking.{Visits}
 use Rattle.hierarchy.proofs.Above.{in_split, in_left, in_right, all_in}
 use Rattle.hierarchy.proofs.Climbs.{Leads, steps_more}

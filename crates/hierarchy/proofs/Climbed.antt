@@ -1,11 +1,10 @@
 -- The walk in depth from its first task to its last.
-use Rattle.std.proofs.Common.{◌≡◌, ℕ, ◌+◌, ◌<◌, Bool, true, false, List, [], ◌∷◌, length, Some, refl, sym, ap, subst, ◌∙◌}
-use Rattle.std.specs.Prelude.{slice_get}
+use Rattle.std.proofs.Common.{◌≡◌, ℕ, ◌+◌, Bool, false, List, [], ◌∷◌, length, sym, subst}
 use Rattle.hierarchy.specs.declared.order.Climb.{Climb}
 use Rattle.hierarchy.specs.declared.order.Task.{Task}
 use Rattle.hierarchy.specs.declared.order.Task.TheVariants.{Come}
-use Rattle.hierarchy.specs.Climbing.{In, IsNew, IsBefore, IsOrder, IsCircle, HasCircle, Follows, todo, ups}
-use Rattle.hierarchy.proofs.Climbs.{From, Walks, Going, Leads, begins, pushes, follow_round, all_left, whole}
+use Rattle.hierarchy.specs.Climbing.{IsNew, IsOrder, HasCircle, Follows, todo, ups}
+use Rattle.hierarchy.proofs.Climbs.{From, Walks, Going, begins, pushes, follow_round, all_left, whole}
 
 pub new_free : (up : ℕ → List ℕ) (n : ℕ) (ts : List Task) → ts ≡ [] → (u : ℕ) → From up n ts u
 new_free up n ts e u = subst (λ l. From up n l u) (sym e) tt

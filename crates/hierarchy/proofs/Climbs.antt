@@ -1,14 +1,14 @@
 -- A walk in depth leaves each class behind those above it, or comes round to one.
-use Rattle.std.proofs.Common.{◌≡◌, ℕ, zero, suc, ◌+◌, ◌<◌, ◌≤◌, ◌⊎◌, inl, inr, Bool, true, false, true≢false, List, [], ◌∷◌, ◌++◌, map, length, Option, Some, None, refl, sym, ap, subst, ◌∙◌, arith, length-append}
+use Rattle.std.proofs.Common.{◌≡◌, ℕ, zero, suc, ◌+◌, ◌<◌, ◌⊎◌, inl, inr, Bool, true, false, true≢false, List, [], ◌∷◌, ◌++◌, map, length, Some, refl, sym, ap, subst, ◌∙◌, arith, length-append}
 use Rattle.std.specs.Prelude.{slice_get, slice_index_or, slice_set}
 use Rattle.class_defs.specs.ClassGraph.{StepsTo}
 use Rattle.hierarchy.specs.declared.order.Climb.{Climb}
 use Rattle.hierarchy.specs.declared.order.Task.{Task}
 use Rattle.hierarchy.specs.declared.order.Task.TheVariants.{Come, Leave}
-use Rattle.hierarchy.specs.Climbing.{In, IsUp, IsBefore, IsNew, Passes, Rounds, Opens, Closes, Comes, Leaves, Follows, todo}
+use Rattle.hierarchy.specs.Climbing.{In, IsUp, IsBefore, Opens, Comes, Leaves, Follows, todo}
 use Rattle.hierarchy.proofs.Marks.{marked_at, set_size}
 use Rattle.hierarchy.proofs.Deep.{weight, weight_set}
-use Rattle.hierarchy.proofs.Placed.{got_left, got_last, got_middle, below_length}
+use Rattle.hierarchy.proofs.Placed.{got_left, got_last, got_middle}
 
 -- ---- marks that are set past the end
 

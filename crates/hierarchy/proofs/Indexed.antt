@@ -19,7 +19,7 @@ suc_test : (a b : ℕ) → nat_eq (suc a) (suc b) ≡ nat_eq a b
 suc_test a b = same_test (nat_eq (suc a) (suc b)) (nat_eq a b)
     (λ h. let e : suc a ≡ suc b = number_of (suc a) (suc b) h in number_test a b (omega arith)) (λ h. let e : a ≡ b = number_of a b h in number_test (suc a) (suc b) (omega arith))
 
-apart_test : (a b : ℕ) → (a ≡ b → ⊥) → nat_eq a b ≡ false
+pub apart_test : (a b : ℕ) → (a ≡ b → ⊥) → nat_eq a b ≡ false
 apart_test a b h = by_test (nat_eq a b) refl
   where
     by_test : (t : Bool) → nat_eq a b ≡ t → t ≡ false

@@ -23,3 +23,14 @@ mod Packages
 mod Splits
 mod SplitFaults
 mod SplitFound
+mod Fives
+mod Trees
+mod Collected
+mod Lowest
+mod Linked
+mod Under
+mod Joined
+mod Ranging
+mod Toured
+mod Listed
+mod Overriding

@@ -1,31 +1,27 @@
 -- The tables of names are those of the program.
-use Rattle.std.proofs.Common.{◌≡◌, ℕ, ◌-◌, ◌^◌, ◌<◌, true, List, map, length, ap, subst, ◌∙◌}
+use Rattle.std.proofs.Common.{◌≡◌, ℕ, ◌-◌, ◌^◌, ◌<◌, true, List, length, ap, subst, ◌∙◌}
 use Rattle.program_model.specs.declared.pools.FieldName.{FieldName}
 use Rattle.program_model.specs.declared.pools.MethodName.{MethodName}
 use Rattle.program_model.specs.declared.program.Class.{Class}
 use Rattle.program_model.specs.declared.program.Program.{Program}
 use Rattle.program_model.specs.ProgramRules.{is_well_formed}
-use Rattle.hierarchy.specs.declared.build.Named.{Named}
+use Rattle.hierarchy.specs.declared.keys.Keys.{Keys}
+use Rattle.hierarchy.specs.declared.members.Members.{Members}
 use Rattle.hierarchy.specs.Membership.{AreKeys, field_pair, method_pair, AreShort, IsIndex, field_rows, method_rows}
-use Rattle.hierarchy.specs.Naming.{IsNamed, is_special}
 use Rattle.hierarchy.proofs.Short.{few_names, has_short_rows}
 
-pub names_made : (p : Program) (n : Named) (fs : List FieldName) (ms : List MethodName) (cs : List Class) (field_keys method_keys : List ℕ) (frows mrows : List (List ℕ)) → is_well_formed p ≡ true
-    → fs ≡ p.fields → ms ≡ p.methods → cs ≡ p.classes → field_keys ≡ n.field_keys.keys.items → method_keys ≡ n.method_keys.keys.items
-    → (length fs < 2 ^ 32 - 1 → AreKeys field_pair fs n.field_keys.keys.items n.field_keys.count) → (length ms < 2 ^ 32 - 1 → AreKeys method_pair ms n.method_keys.keys.items n.method_keys.count)
-    → frows ≡ field_rows field_keys cs → mrows ≡ method_rows method_keys cs → (AreShort frows → IsIndex frows n.fields) → (AreShort mrows → IsIndex mrows n.methods)
-    → n.special.items ≡ map (is_special p) p.methods → IsNamed p n
-names_made p n fs ms cs field_keys method_keys frows mrows h f m c fk mk field_made method_made fr mr fi mi s =
-    let few = few_names p h in
-    let short = has_short_rows p h in
-    let frows_are : frows ≡ field_rows n.field_keys.keys.items p.classes = fr ∙ ap (λ k. field_rows k cs) fk ∙ ap (field_rows n.field_keys.keys.items) c in
-    let mrows_are : mrows ≡ method_rows n.method_keys.keys.items p.classes = mr ∙ ap (λ k. method_rows k cs) mk ∙ ap (method_rows n.method_keys.keys.items) c in
-    let fields_at : IsIndex (field_rows n.field_keys.keys.items p.classes) n.fields = subst (λ r. AreShort r → IsIndex r n.fields) frows_are fi (short.fields n.field_keys.keys.items) in
-    let methods_at : IsIndex (method_rows n.method_keys.keys.items p.classes) n.methods = subst (λ r. AreShort r → IsIndex r n.methods) mrows_are mi (short.methods n.method_keys.keys.items) in
-    record {
-      field_keys = subst (λ l. length l < 2 ^ 32 - 1 → AreKeys field_pair l n.field_keys.keys.items n.field_keys.count) f field_made few.0;
-      method_keys = subst (λ l. length l < 2 ^ 32 - 1 → AreKeys method_pair l n.method_keys.keys.items n.method_keys.count) m method_made few.1;
-      fields = fields_at.is;
-      methods = methods_at.is;
-      special = s;
-    }
+pub fields_keyed : (p : Program) (keys : Keys) (fs : List FieldName) → is_well_formed p ≡ true → fs ≡ p.fields → (length fs < 2 ^ 32 - 1 → AreKeys field_pair fs keys.keys.items keys.count)
+    → AreKeys field_pair p.fields keys.keys.items keys.count
+fields_keyed p keys fs h f made = subst (λ l. length l < 2 ^ 32 - 1 → AreKeys field_pair l keys.keys.items keys.count) f made (few_names p h).0
+
+pub methods_keyed : (p : Program) (keys : Keys) (ms : List MethodName) → is_well_formed p ≡ true → ms ≡ p.methods → (length ms < 2 ^ 32 - 1 → AreKeys method_pair ms keys.keys.items keys.count)
+    → AreKeys method_pair p.methods keys.keys.items keys.count
+methods_keyed p keys ms h m made = subst (λ l. length l < 2 ^ 32 - 1 → AreKeys method_pair l keys.keys.items keys.count) m made (few_names p h).1
+
+pub fields_found : (p : Program) (members : Members) (cs : List Class) (own ks : List ℕ) (rows : List (List ℕ)) → is_well_formed p ≡ true → cs ≡ p.classes → ks ≡ own → rows ≡ field_rows ks cs → (AreShort rows → IsIndex rows members)
+    → IsIndex (field_rows own p.classes) members
+fields_found p members cs own ks rows h c k r made = subst (λ r. AreShort r → IsIndex r members) (r ∙ ap (λ q. field_rows q cs) k ∙ ap (field_rows own) c) made ((has_short_rows p h).fields own)
+
+pub methods_found : (p : Program) (members : Members) (cs : List Class) (own ks : List ℕ) (rows : List (List ℕ)) → is_well_formed p ≡ true → cs ≡ p.classes → ks ≡ own → rows ≡ method_rows ks cs → (AreShort rows → IsIndex rows members)
+    → IsIndex (method_rows own p.classes) members
+methods_found p members cs own ks rows h c k r made = subst (λ r. AreShort r → IsIndex r members) (r ∙ ap (λ q. method_rows q cs) k ∙ ap (method_rows own) c) made ((has_short_rows p h).methods own)

@@ -1,17 +1,15 @@
 -- The tables that say which classes are initialised trivially are those of the program.
-use Rattle.std.proofs.Common.{◌≡◌, ℕ, ◌<◌, List, map, length, Option, Some, Result, Ok, Err, sym, ap, subst, ◌∙◌, arith}
-use Rattle.std.specs.Prelude.{IfOk, slice_index_or}
-use Rattle.program_model.specs.declared.program.Class.{Class}
+use Rattle.std.proofs.Common.{◌≡◌, ℕ, List, map, length, Some, sym, ap, subst, ◌∙◌, arith}
 use Rattle.program_model.specs.declared.program.Program.{Program}
 use Rattle.program_model.specs.ProgramRules.{is_well_formed}
 use Rattle.std.proofs.Common.{true}
 use Rattle.class_defs.proofs.WellFormed.{few_classes}
-use Rattle.class_defs.specs.Starts.{initialiser_of, is_trivial}
+use Rattle.class_defs.specs.Starts.{initialiser_of}
 use Rattle.hierarchy.specs.declared.build.Shape.{Shape}
-use Rattle.hierarchy.specs.Quieting.{Serves, Marks}
+use Rattle.hierarchy.specs.Quieting.{Serves}
 use Rattle.hierarchy.specs.Shapes.{IsMade}
 use Rattle.hierarchy.specs.Starting.{HasStarts, place_or_none}
-use Rattle.hierarchy.proofs.Placed.{Fits, made_fits, mapped_length}
+use Rattle.hierarchy.proofs.Placed.{made_fits, mapped_length}
 
 pub serves : (p : Program) (s : Shape) (starts supers order : List ℕ) → is_well_formed p ≡ true → IsMade p s → HasStarts p starts → starts ≡ map (λ c. place_or_none (initialiser_of p (Some c))) p.classes → supers ≡ s.supers.items → order ≡ s.order.items → Serves p starts supers s.lists.rows order
 serves p s starts supers order wf m h is up ord =

@@ -1,5 +1,5 @@
 -- A split override by the tables of keys is one by the program's names.
-use Rattle.std.proofs.Common.{◌≡◌, ℕ, zero, suc, ◌<◌, ◌⊎◌, inl, inr, Bool, true, false, true≢false, nat_eq, List, [], ◌∷◌, map, length, Option, Some, None, refl, sym, ap, subst, ◌∙◌, arith}
+use Rattle.std.proofs.Common.{◌≡◌, ℕ, zero, suc, inl, inr, Bool, true, false, true≢false, nat_eq, List, [], ◌∷◌, map, length, Option, Some, None, refl, sym, ap, subst, ◌∙◌, arith}
 use Rattle.std.specs.Prelude.{◌&&◌, ◌||◌, not, slice_get, slice_index_or, option_and_then}
 use Rattle.std.specs.List.{list_any}
 use Rattle.program_model.specs.declared.pools.MethodName.{MethodName}
@@ -9,20 +9,20 @@ use Rattle.program_model.specs.declared.program.Program.{Program}
 use Rattle.program_model.specs.Lookups.{class_place}
 use Rattle.program_model.specs.MemberRules.{is_static, is_private, is_direct, has_flag}
 use Rattle.program_model.specs.ProgramRules.{is_well_formed}
-use Rattle.class_defs.specs.ClassGraph.{IsTwice, IsSuperclass, IsUnder, StepsTo, HasVirtual, IsSplit, is_package_private}
+use Rattle.class_defs.specs.ClassGraph.{IsTwice, IsSuperclass, IsUnder, IsSplit, is_package_private}
 use Rattle.class_defs.specs.Places.{super_place}
 use Rattle.class_defs.proofs.Positions.{number_test, number_of, place_entry}
 use Rattle.class_defs.proofs.WellFormed.{and_left, and_right, sound, class_parts}
 use Rattle.hierarchy.specs.Membership.{key_at, method_pair, AreKeys, is_virtual_by}
 use Rattle.hierarchy.specs.Naming.{is_special}
-use Rattle.hierarchy.specs.Splitting.{package_in, package_at, is_hidden_by, hides, methods_in, methods_at, IsNext, Climbs, OnChainOf, Tells, Hiding, TellsAll, HasMaps, is_apart, Map, map_of, splits, FirstSplit, SplitOf, FirstBy, AnswersSplit, NoSplit, IsFirstSplit, SplitsFirst}
+use Rattle.hierarchy.specs.Splitting.{package_in, is_hidden_by, hides, methods_in, methods_at, IsNext, OnChainOf, Hiding, TellsAll, HasMaps, is_apart, Map, map_of, splits, FirstSplit, SplitOf, AnswersSplit, SplitsFirst}
 use Rattle.hierarchy.specs.Tables.{read_at}
 use Rattle.std.specs.FinMap as finite
 use Rattle.hierarchy.proofs.Above.{steps_map, super_short}
 use Rattle.hierarchy.proofs.Acyclic.{own_place}
 use Rattle.hierarchy.proofs.Keyed.{got_short}
 use Rattle.hierarchy.proofs.Looked.{virtual_by}
-use Rattle.hierarchy.proofs.Splits.{Apart, some_apart, none_apart, down_chain, empty_tells}
+use Rattle.hierarchy.proofs.Splits.{some_apart, none_apart, down_chain, empty_tells}
 
 -- an entry that passes a test
 record Passing {X : Type 0} (t : X → Bool) (xs : List X) : Type 0 where

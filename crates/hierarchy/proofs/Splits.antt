@@ -1,10 +1,8 @@
 -- What is known of the classes along a chain that hide a method.
-use Rattle.std.proofs.Common.{◌≡◌, ◌≢◌, ℕ, zero, suc, ◌+◌, ◌<◌, ◌≤◌, ◌⊎◌, inl, inr, Bool, true, false, true≢false, nat_eq, nat_cmp, List, [], ◌∷◌, ◌++◌, take, get_or, length, Option, Some, None, refl, sym, ap, subst, ◌∙◌, arith, eqb-true, eq-eqb, replicate}
+use Rattle.std.proofs.Common.{◌≡◌, ℕ, zero, suc, ◌+◌, ◌<◌, ◌≤◌, ◌⊎◌, inl, inr, Bool, true, false, true≢false, nat_eq, nat_cmp, List, [], ◌∷◌, take, get_or, length, Option, Some, None, refl, sym, ap, subst, ◌∙◌, arith, eqb-true, eq-eqb, replicate}
 use Rattle.std.specs.Prelude.{◌&&◌, ◌||◌, ◌==◌, not, cond, slice_get, slice_set}
-use Rattle.std.specs.List.{list_any}
 use Rattle.std.specs.Cmp.{nat_cmp_total, unsigned_tied}
 use Rattle.std.specs.Cmp.Lexicographic.{pointwise, same_text, other_text}
-use Rattle.std.specs.Ordering.{eq_by_cmp}
 use Rattle.std.specs.FinMap as finite
 use Rattle.std.proofs.lemmas.List.Folds.{list_any_more}
 use Rattle.lattice_core.specs.declared.flat_values.Flat.{Flat}
@@ -14,10 +12,9 @@ use Rattle.program_model.specs.declared.program.Program.{Program}
 use Rattle.class_defs.specs.ClassGraph.{StepsTo}
 use Rattle.class_defs.specs.Finding.{beside}
 use Rattle.class_defs.specs.Places.{super_place}
-use Rattle.class_defs.proofs.WellFormed.{and_left, and_right}
-use Rattle.hierarchy.specs.Climbing.{In, IsBefore, IsOrder, ups}
+use Rattle.hierarchy.specs.Climbing.{IsBefore, IsOrder}
 use Rattle.hierarchy.specs.Membership.{key_at}
-use Rattle.hierarchy.specs.Splitting.{package_at, same_package, is_hidden_by, hides, methods_at, IsNext, Climbs, OnChain, OnChainOf, Tells, with_class, with_key, with_method, Map, Hiding, TellsAll, HasMaps, is_apart, map_or_empty, map_of, splits, FirstSplit, SplitOf}
+use Rattle.hierarchy.specs.Splitting.{package_at, same_package, is_hidden_by, hides, methods_at, IsNext, Climbs, OnChain, OnChainOf, Tells, with_class, with_key, with_method, Map, Hiding, TellsAll, HasMaps, is_apart, map_or_empty, map_of}
 use Rattle.hierarchy.specs.Tables.{read_at, row_of}
 use Rattle.hierarchy.proofs.Above.{in_right, beside_in, super_short}
 use Rattle.hierarchy.proofs.Marks.{before_or_at}

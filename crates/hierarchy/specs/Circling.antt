@@ -1,5 +1,5 @@
 -- Which classes are their own ancestors, by the tables of what stands directly above each.
-use Rattle.std.specs.Prelude.{◌≡◌, ◌<◌, ◌≤◌, ℕ, Bool, true, false, List, length, Option, Some, None, slice_index}
+use Rattle.std.specs.Prelude.{◌<◌, ◌≤◌, ℕ, Bool, true, false, List, length, Option, Some, None, slice_index}
 use Rattle.hierarchy.specs.Climbing.{In, IsCircle, ups}
 
 -- no class has a higher level than one directly above it

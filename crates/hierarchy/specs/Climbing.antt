@@ -1,5 +1,5 @@
 -- A walk in depth from classes to those above them, what it has to do, and the order in which it leaves the classes.
-use Rattle.std.specs.Prelude.{◌≡◌, ◌<◌, ◌⊎◌, ℕ, Bool, true, false, List, [], ◌∷◌, ◌++◌, map, length, reverse, Some, None, slice_get, slice_set, slice_index_or}
+use Rattle.std.specs.Prelude.{◌≡◌, ◌<◌, ◌⊎◌, ℕ, Bool, true, false, List, [], ◌∷◌, ◌++◌, map, length, reverse, Some, slice_get, slice_set, slice_index_or}
 use Rattle.class_defs.specs.ClassGraph.{StepsTo}
 use Rattle.class_defs.specs.Finding.{beside}
 use Rattle.hierarchy.specs.Tables.{read_at, row_of}

@@ -1,5 +1,8 @@
 -- What the tables of names say of a program.
-use Rattle.std.specs.Prelude.{◌≡◌, ◌==◌, ℕ, Bool, List, map, Some, slice_get}
+use Rattle.std.specs.Prelude.{◌≡◌, ◌==◌, ◌&&◌, ◌||◌, ℕ, Bool, false, List, [], ◌∷◌, map, Option, Some, nat_eq, codes, slice_get, slice_index_or}
+use Rattle.std.specs.Cmp.Lexicographic.{pointwise}
+use Rattle.program_model.specs.declared.pools.Proto.{Proto}
+use Rattle.class_defs.specs.Members.{proto_is, is_common}
 use Rattle.program_model.specs.declared.pools.MethodName.{MethodName}
 use Rattle.program_model.specs.declared.pools.FieldName.{FieldName}
 use Rattle.program_model.specs.declared.program.Program.{Program}
@@ -12,6 +15,18 @@ use Rattle.hierarchy.specs.declared.build.Hierarchy.{Hierarchy}
 abbrev pub is_special : Program → MethodName → Bool
 is_special p m = first_unit (string_text p m.name) == 60
 
+-- a name of these units with a proto is one of the five that every object answers to
+abbrev pub common_by : Program → List ℕ → Option Proto → Bool
+common_by p units proto = (pointwise nat_eq units (codes "equals") && proto_is p (codes "Ljava/lang/Object;" ∷ []) (codes "Z") proto)
+    || (pointwise nat_eq units (codes "hashCode") && proto_is p [] (codes "I") proto)
+    || (pointwise nat_eq units (codes "toString") && proto_is p [] (codes "Ljava/lang/String;") proto)
+    || (pointwise nat_eq units (codes "clone") && proto_is p [] (codes "Ljava/lang/Object;") proto)
+    || (pointwise nat_eq units (codes "finalize") && proto_is p [] (codes "V") proto)
+
+-- the key of each method is marked where it is one of the five
+pub record AreCommon (p : Program) (methods : List MethodName) (keys : List ℕ) (marks : List Bool) : Type 0 where
+  pub at : (i : ℕ) (x : MethodName) → slice_get methods i ≡ Some x → slice_index_or marks (key_at keys i) false ≡ is_common p x.name x.proto
+
 -- keys for names, the places of the members by key, and which names begin with <
 pub record IsNamed (p : Program) (n : Named) : Type 0 where
   pub field_keys : AreKeys field_pair p.fields n.field_keys.keys.items n.field_keys.count
@@ -19,6 +34,7 @@ pub record IsNamed (p : Program) (n : Named) : Type 0 where
   pub fields : (class key : ℕ) → found_in n.fields class key ≡ place_in_rows (field_rows n.field_keys.keys.items p.classes) class key
   pub methods : (class key : ℕ) → found_in n.methods class key ≡ place_in_rows (method_rows n.method_keys.keys.items p.classes) class key
   pub special : n.special.items ≡ map (is_special p) p.methods
+  pub common : AreCommon p p.methods n.method_keys.keys.items n.of_object.items
 
 -- the rows of members are short
 pub record HasShortRows (p : Program) : Type 0 where

@@ -1,8 +1,8 @@
 -- Which classes are initialised trivially, by tables.
-use Rattle.std.specs.Prelude.{◌≡◌, ◌<◌, ◌&&◌, ℕ, Bool, true, false, List, length, not, is_some, slice_index_or}
+use Rattle.std.specs.Prelude.{◌≡◌, ◌<◌, ◌&&◌, ℕ, Bool, false, List, length, not, is_some, slice_index_or}
 use Rattle.program_model.specs.declared.program.Program.{Program}
 use Rattle.class_defs.specs.Places.{super_place, interface_places}
-use Rattle.class_defs.specs.Starts.{initialiser_place, interfaces_quiet, is_trivial}
+use Rattle.class_defs.specs.Starts.{initialiser_place, interfaces_quiet}
 use Rattle.hierarchy.specs.Climbing.{IsOrder}
 use Rattle.hierarchy.specs.Ranks.{IsRanked}
 use Rattle.hierarchy.specs.Starting.{HasStarts}

@@ -16,6 +16,7 @@ use Rattle.class_defs.specs.Finding.{field_by}
 use Rattle.class_defs.specs.Starts.{is_trivial}
 use Rattle.hierarchy.specs.Quieting.{Marks}
 use Rattle.hierarchy.specs.Starting.{HasStarts}
+use Rattle.hierarchy.specs.Touring.{IsBelow, IsToured}
 use Rattle.hierarchy.specs.Walking.{method_by}
 use Rattle.hierarchy.specs.declared.build.Targets.{Targets}
 use Rattle.hierarchy.specs.declared.build.Shape.{Shape}
@@ -40,6 +41,7 @@ pub record IsMade (p : Program) (s : Shape) : Type 0 where
   pub supers : s.supers.items ≡ supers_by s.places.items p
   pub lists : s.lists.rows ≡ lists_by s.places.items p
   pub order : length s.supers.items < 2 ^ 32 → IsOrder s.supers.items s.lists.rows s.order.items
+  pub lower : length s.supers.items < 2 ^ 32 → IsBelow s.supers.items s.lists.rows s.below.rows (length s.supers.items)
 
 -- each class has a place of its own, and this one is the first that is its own ancestor by these
 pub record IsCircled (p : Program) (class : ℕ) : Type 0 where
@@ -97,10 +99,11 @@ pub record AreTargets (p : Program) (t : Targets) : Type 0 where
   pub fields : t.fields.items ≡ map (λ f. field_by p (Some f)) p.fields
   pub methods : t.methods.items ≡ map (method_by p) p.methods
 
--- the tables are those of the program's classes, and the names, the initialisers and the classes without any are found as the
--- program's are
+-- the tables are those of the program's classes, and the names, the initialisers, the classes without any and the classes under
+-- each are found as the program's are
 pub record IsResolved (p : Program) (h : Hierarchy) : Type 0 where
   pub of : IsOf p h
   pub targets : AreTargets p h.targets
   pub starts : HasStarts p h.starts.initialisers.items
   pub trivial : Marks (length p.classes) (is_trivial p) h.starts.trivial.items
+  pub toured : IsToured p h.tour

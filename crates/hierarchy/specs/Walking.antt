@@ -1,12 +1,12 @@
 -- What a walk has seen, and what waits in it.
-use Rattle.std.specs.Prelude.{◌≡◌, ◌<◌, ◌≤◌, ◌⊎◌, ℕ, zero, suc, Bool, true, false, List, [], ◌++◌, length, reverse, Option, Some, None, slice_index_or, slice_set, Contains}
+use Rattle.std.specs.Prelude.{◌≡◌, ◌<◌, ◌≤◌, ◌⊎◌, ℕ, zero, suc, Bool, true, false, List, [], ◌++◌, length, reverse, Option, Some, None, slice_get, slice_index_or, slice_set, Contains, cond}
 use Rattle.std.specs.Option.{option_or}
 use Rattle.program_model.specs.Lookups.{class_place}
 use Rattle.program_model.specs.declared.pools.MethodName.{MethodName}
 use Rattle.program_model.specs.declared.program.MethodAt.{MethodAt}
 use Rattle.program_model.specs.declared.program.Program.{Program}
 use Rattle.class_defs.specs.Places.{interface_places}
-use Rattle.class_defs.specs.Members.{own_method}
+use Rattle.class_defs.specs.Members.{own_method, own_virtual, is_interface}
 use Rattle.class_defs.specs.Finding.{first_among, resolution_of}
 use Rattle.hierarchy.specs.declared.walk.Walk.{Walk}
 
@@ -26,6 +26,11 @@ pub record IsClear (n : ℕ) (w : Walk) : Type 0 where
   pub long : length w.seen.items ≡ n
   pub unseen : (c : ℕ) → is_seen w c ≡ true → ⊥
   pub none : waits w ≡ []
+
+-- nothing is seen of so many classes
+pub record IsUnseen (n : ℕ) (w : Walk) : Type 0 where
+  pub long : length w.seen.items ≡ n
+  pub unseen : (c : ℕ) → is_seen w c ≡ true → ⊥
 
 -- ---- a visit of a class by what is seen and what waits before and after it
 
@@ -51,6 +56,15 @@ pub record Opens (seen : List Bool) (stack : List ℕ) (class : ℕ) (found : Op
   pub marked : seen' ≡ slice_set seen class true
   pub longer : stack' ≡ above ++ stack
 
+-- whether it is opened
+abbrev pub Enters : List Bool → List ℕ → ℕ → List ℕ → List Bool → List ℕ → Bool → Type 0
+Enters seen stack class above seen' stack' true = Opens seen stack class None above seen' stack' None
+Enters seen stack class above seen' stack' false = Skips seen stack class seen' stack' None
+
+-- a class is passed over, or is opened and gives something
+abbrev pub Takes : {X : Type 0} → List X → List Bool → List ℕ → ℕ → List ℕ → List Bool → List ℕ → List X → List X → Type 0
+Takes gives seen stack class above seen' stack' out out' = ((Skips seen stack class seen' stack' None) × (out' ≡ out)) ⊎ ((Opens seen stack class None above seen' stack' None) × (out' ≡ out ++ gives))
+
 abbrev pub Visits : List Bool → List ℕ → ℕ → Option ℕ → List ℕ → List Bool → List ℕ → Option ℕ → Type 0
 Visits seen stack class found above seen' stack' r = (Skips seen stack class seen' stack' r) ⊎ (Hits found r ⊎ Opens seen stack class found above seen' stack' r)
 
@@ -75,3 +89,13 @@ in_lists p name proto c = first_among (in_interfaces p name proto) (interface_pl
 -- what an entry of the table of methods resolves to
 abbrev pub method_by : Program → MethodName → Option MethodAt
 method_by p q = first_among (own_method p q.name q.proto) (resolution_of p (class_place p q.class))
+
+-- ---- the candidates that a class gives
+
+-- the virtual method of a name and a proto that an interface defines
+abbrev pub own_candidate : Program → ℕ → ℕ → ℕ → Option MethodAt
+own_candidate p name proto c = cond (is_interface (slice_get p.classes c)) (own_virtual p name proto c) None
+
+-- the interfaces that an interface lists
+abbrev pub above_interface : Program → ℕ → List ℕ
+above_interface p c = cond (is_interface (slice_get p.classes c)) (interface_places p c) []

@@ -5,11 +5,14 @@ ghost use Rattle.std.proofs.Common.{Ok, Err};
 ghost use Rattle.hierarchy.specs.Placing.{place_from, known_places};
 ghost use Rattle.hierarchy.specs.Faults.{IsTwiceOr, IsSplitOr};
 ghost use Rattle.hierarchy.specs.Shapes.{placing, IsMade, StopsAt, IsOf, AreTargets, IsResolved, IsCause, IsAcyclic};
+ghost use Rattle.hierarchy.specs.Membership.{AreKeys, field_pair, method_pair, found_in, place_in_rows, field_rows, method_rows};
 ghost use Rattle.hierarchy.specs.Naming.{IsNamed};
 ghost use Rattle.hierarchy.specs.Climbing.{HasCircle, IsOrder};
 ghost use Rattle.hierarchy.specs.Circling.{IsFirst};
 ghost use Rattle.std.specs.Prelude.{ℕ, Some, map, slice_get};
+ghost use Rattle.hierarchy.specs.Touring.{IsToured};
 ghost use Rattle.program_model.specs.declared.program.Class.{Class};
+ghost use Rattle.program_model.specs.declared.program.Program.{Program};
 ghost use Rattle.class_defs.specs.Starts.{initialiser_of, is_trivial};
 ghost use Rattle.hierarchy.specs.Quieting.{Marks};
 ghost use Rattle.hierarchy.specs.Splitting.{NoSplit, SplitsFirst};
@@ -25,10 +28,11 @@ use crate::members::{Members, definers, members_of, rows_of_fields, rows_of_meth
 use crate::names::{initialiser, of_object, special};
 use crate::order::in_order;
 use crate::quiet::trivial;
+use crate::ranges::{Ranges, ranges_under};
 use crate::resolve::resolve_all;
 use crate::split::first_split;
 use crate::table::{NONE, put, read, word};
-use crate::tour::{Ranges, by_number, parents, ranges_under, tour};
+use crate::tour::{number, parents};
 use program_model::{Class, MethodAt, Program};
 use std::alloc::{AllocError, Global};
 
@@ -208,20 +212,59 @@ fn make_shape(alloc: Global, program: &Program) -> Result<Shape, HierarchyFault>
 }
 
 /// The tour of the classes.
-fn make_tour(alloc: Global, shape: &Shape) -> Result<Tour, AllocError> {
+fn make_tour(alloc: Global, shape: &Shape) -> Result<Tour, AllocError>
+    ensures { (p : Program) → is_well_formed p ≡ true → IsMade p shape.now → IfOk result (λ tour. IsToured p tour) }
+{
     let forest = parents(alloc, shape.supers.as_slice(), &shape.lists)?;
-    let numbers = tour(alloc, forest.as_slice(), shape.order.as_slice())?;
-    let by_number = by_number(alloc, numbers.as_slice())?;
+    let numbering = number(alloc, forest.as_slice(), shape.order.as_slice())?;
     let ranges = ranges_under(
         alloc,
-        numbers.as_slice(),
+        numbering.numbers.as_slice(),
         shape.order.as_slice(),
         &shape.below,
     )?;
     Ok(Tour {
-        numbers,
-        by_number,
+        numbers: numbering.numbers,
+        by_number: numbering.classes,
         ranges,
+    })
+}
+
+/// The keys of the fields or of the methods, those of each class in its order, and those of each class by key.
+#[derive(Drop)]
+struct Keyed {
+    keys: Keys,
+    rows: Links,
+    members: Members,
+}
+
+/// The fields by key.
+fn key_fields(alloc: Global, program: &Program) -> Result<Keyed, AllocError>
+    ensures keys { is_well_formed program.now ≡ true → IfOk result (λ keyed. AreKeys field_pair program.now.fields keyed.keys.keys.items keyed.keys.count) }
+    ensures found { is_well_formed program.now ≡ true → IfOk result (λ keyed. (class key : ℕ) → found_in keyed.members class key ≡ place_in_rows (field_rows keyed.keys.keys.items program.now.classes) class key) }
+{
+    let keys = field_keys(alloc, program.fields.as_slice())?;
+    let rows = rows_of_fields(alloc, program.classes.as_slice(), keys.keys.as_slice())?;
+    let members = members_of(alloc, &rows)?;
+    Ok(Keyed {
+        keys,
+        rows,
+        members,
+    })
+}
+
+/// The methods by key.
+fn key_methods(alloc: Global, program: &Program) -> Result<Keyed, AllocError>
+    ensures keys { is_well_formed program.now ≡ true → IfOk result (λ keyed. AreKeys method_pair program.now.methods keyed.keys.keys.items keyed.keys.count) }
+    ensures found { is_well_formed program.now ≡ true → IfOk result (λ keyed. (class key : ℕ) → found_in keyed.members class key ≡ place_in_rows (method_rows keyed.keys.keys.items program.now.classes) class key) }
+{
+    let keys = method_keys(alloc, program.methods.as_slice())?;
+    let rows = rows_of_methods(alloc, program.classes.as_slice(), keys.keys.as_slice())?;
+    let members = members_of(alloc, &rows)?;
+    Ok(Keyed {
+        keys,
+        rows,
+        members,
     })
 }
 
@@ -229,26 +272,17 @@ fn make_tour(alloc: Global, shape: &Shape) -> Result<Tour, AllocError> {
 fn name_members(alloc: Global, program: &Program) -> Result<Named, AllocError>
     ensures { is_well_formed program.now ≡ true → IfOk result (λ named. IsNamed program.now named) }
 {
-    let classes = program.classes.as_slice();
-    let field_keys = field_keys(alloc, program.fields.as_slice())?;
-    let method_keys = method_keys(alloc, program.methods.as_slice())?;
-    let field_rows = rows_of_fields(alloc, classes, field_keys.keys.as_slice())?;
-    let fields = members_of(alloc, &field_rows)?;
-    let method_rows = rows_of_methods(alloc, classes, method_keys.keys.as_slice())?;
-    let methods = members_of(alloc, &method_rows)?;
-    let definers = definers(alloc, &method_rows, method_keys.count)?;
+    let fields = key_fields(alloc, program)?;
+    let methods = key_methods(alloc, program)?;
     let special = special(alloc, program)?;
-    let of_object = of_object(
-        alloc,
-        program,
-        method_keys.keys.as_slice(),
-        method_keys.count,
-    )?;
+    let keys = methods.keys.keys.as_slice();
+    let of_object = of_object(alloc, program, keys, methods.keys.count)?;
+    let definers = definers(alloc, &methods.rows, methods.keys.count)?;
     Ok(Named {
-        field_keys,
-        method_keys,
-        fields,
-        methods,
+        field_keys: fields.keys,
+        method_keys: methods.keys,
+        fields: fields.members,
+        methods: methods.members,
         definers,
         special,
         of_object,
@@ -305,6 +339,7 @@ fn fill(
     ensures targets { IfOk result (λ hierarchy. IsOf program.now hierarchy → AreTargets program.now hierarchy.targets) }
     ensures starts { is_well_formed program.now ≡ true → IfOk result (λ hierarchy. HasStarts program.now hierarchy.starts.initialisers.items) }
     ensures trivial { is_well_formed program.now ≡ true → IsMade program.now shape → IfOk result (λ hierarchy. Marks (length program.now.classes) (is_trivial program.now) hierarchy.starts.trivial.items) }
+    ensures toured { is_well_formed program.now ≡ true → IsMade program.now shape → IfOk result (λ hierarchy. IsToured program.now hierarchy.tour) }
 {
     let tour = make_tour(alloc, &shape)?;
     let starts = find_starts(alloc, program, &shape)?;
@@ -329,6 +364,7 @@ fn complete(alloc: Global, program: &Program, shape: Shape) -> Result<Hierarchy,
     ensures targets { IfOk result (λ hierarchy. IsOf program.now hierarchy → AreTargets program.now hierarchy.targets) }
     ensures starts { is_well_formed program.now ≡ true → IfOk result (λ hierarchy. HasStarts program.now hierarchy.starts.initialisers.items) }
     ensures trivial { is_well_formed program.now ≡ true → IsMade program.now shape → IfOk result (λ hierarchy. Marks (length program.now.classes) (is_trivial program.now) hierarchy.starts.trivial.items) }
+    ensures toured { is_well_formed program.now ≡ true → IsMade program.now shape → IfOk result (λ hierarchy. IsToured program.now hierarchy.tour) }
     ensures unsplit { is_well_formed program.now ≡ true → IsMade program.now shape → IfOk result (λ _. NoSplit program.now) }
     ensures refuses { is_well_formed program.now ≡ true → IsMade program.now shape → IfErr result (λ fault. IsSplitOr program.now fault) }
 {

@@ -1,9 +1,11 @@
 //! What calls find.
 
-ghost use Rattle.std.specs.Prelude.{◌≡◌, false, slice_index_or};
+ghost use Rattle.std.specs.Prelude.{◌≡◌, ◌&&◌, false, slice_index_or};
+ghost use Rattle.std.specs.List.{list_all};
 ghost use Rattle.std.specs.Option.{option_copied};
 ghost use Rattle.program_model.specs.Lookups.{method_at};
-ghost use Rattle.hierarchy.specs.Tables.{read_at};
+ghost use Rattle.hierarchy.specs.Tables.{read_at, row_of};
+ghost use Rattle.hierarchy.specs.Giving.{is_waiting, search_given, verdict_more};
 ghost use Rattle.hierarchy.specs.Shapes.{IsOf, IsResolved};
 ghost use Rattle.program_model.specs.Lookups.{method_or};
 ghost use Rattle.class_defs.specs.Starts.{initialiser_place};
@@ -11,12 +13,12 @@ ghost use Rattle.std.specs.Prelude.{None};
 ghost use Rattle.program_model.specs.Lookups.{class_place};
 ghost use Rattle.program_model.specs.declared.program.Program.{Program};
 ghost use Rattle.class_defs.specs.Places.{super_place, interface_places, chain_of};
-ghost use Rattle.std.specs.Prelude.{ℕ, Some, IfOk, slice_get, vec_len, not};
-ghost use Rattle.hierarchy.specs.Walking.{IsClear, IsFair};
+ghost use Rattle.std.specs.Prelude.{ℕ, Some, IfOk, OnOk, slice_get, vec_len, not, cond, length, filter, flat_map, [], ◌∷◌, ◌++◌, nat_lt, true};
+ghost use Rattle.hierarchy.specs.Walking.{is_seen, waits, IsClear, IsFair, IsUnseen, Visits, Takes, own_candidate, above_interface};
 ghost use Rattle.program_model.specs.MemberRules.{is_direct};
 ghost use Rattle.program_model.specs.declared.pools.MethodName.{MethodName};
-ghost use Rattle.class_defs.specs.Members.{own_method, own_virtual, virtual_only, is_interface, has_code};
-ghost use Rattle.class_defs.specs.Finding.{finds_from, finds_static, finds_virtual};
+ghost use Rattle.class_defs.specs.Members.{own_method, own_virtual, virtual_only, is_common, is_interface, has_code};
+ghost use Rattle.class_defs.specs.Finding.{is_037, beside, finds_from, finds_static, finds_virtual, one_or_none, without_repeats, candidates_from, candidates, is_lowest, lowest, verdict};
 ghost use Rattle.hierarchy.specs.Membership.{key_at};
 ghost use Rattle.hierarchy.specs.Naming.{IsKey};
 
@@ -98,7 +100,8 @@ impl Hierarchy {
     /// Whether the key is of one of `equals`, `hashCode`, `toString`, `clone` and `finalize` by the protos of
     /// `Ljava/lang/Object;`.
     pub fn is_key_of_object(&self, key: u32) -> bool
-        ensures { result ≡ slice_index_or self.now.named.of_object.items key false }
+        ensures table { result ≡ slice_index_or self.now.named.of_object.items key false }
+        ensures is { (p : Program) (name proto : ℕ) → IsOf p self.now → IsKey p self.now key name proto → result ≡ is_common p name proto }
     {
         is_on(self.named.of_object.as_slice(), key)
     }
@@ -213,16 +216,6 @@ impl Hierarchy {
         None
     }
 
-    /// How many steps a walk that goes from classes to those directly above them has at most, where each class is seen
-    /// once and may wait twice.
-    pub(crate) fn steps(&self) -> usize {
-        self.shape
-            .lists
-            .size()
-            .saturating_add(self.shape.supers.len())
-            .saturating_mul(2)
-    }
-
     /// A walk over the classes of this hierarchy.
     pub fn walk(&self, alloc: Global) -> Result<Walk, AllocError>
         ensures clear { IfOk result (λ w. IsClear (vec_len self.now.shape.supers) w) }
@@ -233,11 +226,75 @@ impl Hierarchy {
 
     /// Whether there are candidates for the key: in version 037, and for none of the five methods that the framework
     /// may call on every object.
-    fn has_candidates(&self, program: &Program, key: u32) -> bool {
+    fn has_candidates(&self, program: &Program, key: u32) -> bool
+        ensures { (name proto : ℕ) → IsOf program.now self.now → IsKey program.now self.now key name proto → result ≡ (is_037 program.now.version && not (is_common program.now name proto)) }
+    {
         match program.version {
             Version::V035 => false,
             Version::V037 => !self.is_key_of_object(key),
         }
+    }
+
+    /// The interfaces that an interface lists, none where the class is none.
+    fn above_interface(&self, program: &Program, class: u32) -> &[u32]
+        ensures { result.now ≡ cond (is_interface (slice_get program.now.classes class)) (row_of self.now.shape.lists.rows class) [] }
+    {
+        if is_interface(program, class) {
+            self.shape.lists.row(class)
+        } else {
+            &[]
+        }
+    }
+
+    /// The virtual method with the key that a class defines, where it is an interface.
+    fn own_candidate(&self, program: &Program, class: u32, key: u32) -> Option<MethodAt>
+        ensures { (name proto : ℕ) → IsOf program.now self.now → IsKey program.now self.now key name proto → result ≡ own_candidate program.now name proto class }
+    {
+        if is_interface(program, class) {
+            self.own_virtual(program, class, key)
+        } else {
+            None
+        }
+    }
+
+    /// Adds the candidate for the key that a class gives.
+    fn add_candidate(
+        &self,
+        program: &Program,
+        class: u32,
+        key: u32,
+        out: &mut Vec<MethodAt>,
+    ) -> Result<(), AllocError>
+        ensures { (name proto : ℕ) → IsOf program.now self.now → IsKey program.now self.now key name proto → OnOk result (out.new.items ≡ out.old.items ++ one_or_none (own_candidate program.now name proto class)) }
+    {
+        match self.own_candidate(program, class, key) {
+            Some(found) => {
+                out.push(found)?;
+                Ok(())
+            }
+            None => Ok(()),
+        }
+    }
+
+    /// Adds the candidate for the key that a class gives, and lets the interfaces above it wait, unless it was seen
+    /// before.
+    fn collect_at(
+        &self,
+        program: &Program,
+        class: u32,
+        key: u32,
+        walk: &mut Walk,
+        out: &mut Vec<MethodAt>,
+    ) -> Result<(), AllocError>
+        ensures fair { OnOk result (IsFair walk.old → IsFair walk.new) }
+        ensures size { OnOk result (length walk.new.seen.items ≡ length walk.old.seen.items) }
+        ensures visits { OnOk result (Visits walk.old.seen.items (waits walk.old) class None (cond (is_interface (slice_get program.now.classes class)) (row_of self.now.shape.lists.rows class) [] ++ []) walk.new.seen.items (waits walk.new) None) }
+        ensures takes { (name proto : ℕ) → IsOf program.now self.now → IsKey program.now self.now key name proto → OnOk result (Takes (one_or_none (own_candidate program.now name proto class)) walk.old.seen.items (waits walk.old) class (above_interface program.now class) walk.new.seen.items (waits walk.new) out.old.items out.new.items) }
+    {
+        if walk.open(class, self.above_interface(program, class), None)? {
+            self.add_candidate(program, class, key, out)?;
+        }
+        Ok(())
     }
 
     /// Adds the candidates for the key in the interfaces that wait, and in all above them.
@@ -247,29 +304,31 @@ impl Hierarchy {
         key: u32,
         walk: &mut Walk,
         out: &mut Vec<MethodAt>,
-    ) -> Result<(), AllocError> {
-        for _ in 0..self.steps() {
-            let one = match walk.pop() {
-                Some(one) => one,
-                None => break,
-            };
-            if !walk.see(one)? {
-                continue;
-            }
-            if !is_interface(program, one) {
-                continue;
-            }
-            if let Some(found) = self.own_virtual(program, one, key) {
-                out.push(found)?;
-            }
-            walk.push_all(self.shape.lists.row(one))?;
+    ) -> Result<(), AllocError>
+        ensures fair { OnOk result (IsFair walk.old → IsFair walk.new) }
+        ensures size { OnOk result (length walk.new.seen.items ≡ length walk.old.seen.items) }
+        ensures is { (name proto : ℕ) → IsOf program.now self.now → IsKey program.now self.now key name proto → IsUnseen (length program.now.classes) walk.old → OnOk result (out.new.items ≡ out.old.items ++ without_repeats (candidates_from (length program.now.classes) program.now name proto (waits walk.old))) }
+    {
+        while let Some(one) = walk.pop() {
+            self.collect_at(program, one, key, walk, out)?;
         }
         Ok(())
     }
 
+    /// Lets the interfaces wait that a class and its program superclasses list, those of the class first.
+    fn push_lists(&self, class: u32, walk: &mut Walk) -> Result<(), AllocError>
+        ensures waits { (p : Program) → IsOf p self.now → OnOk result (waits walk.new ≡ flat_map (interface_places p) (chain_of p (Some class)) ++ waits walk.old) }
+        ensures seen { walk.new.seen ≡ walk.old.seen }
+        ensures list { walk.new.list ≡ walk.old.list }
+    {
+        let chain = self.chain(walk.allocator(), class)?;
+        walk.push_rows(&self.shape.lists, chain.as_slice())
+    }
+
     /// Adds the candidates for the key of the interfaces that a class and its program superclasses list: the virtual
-    /// methods of that name and proto in these and in all interfaces above them, where a class without the flag of interfaces counts for none. In version 035, and for the five
-    /// methods that the framework may call on every object, there are none.
+    /// methods of that name and proto in these and in all interfaces above them, each interface followed by those above
+    /// it, where a class without the flag of interfaces counts for none. In version 035, and for the five methods that
+    /// the framework may call on every object, there are none.
     pub fn candidates(
         &self,
         program: &Program,
@@ -277,20 +336,16 @@ impl Hierarchy {
         key: u32,
         walk: &mut Walk,
         out: &mut Vec<MethodAt>,
-    ) -> Result<(), AllocError> {
+    ) -> Result<(), AllocError>
+        ensures fair { OnOk result (IsFair walk.old → IsFair walk.new) }
+        ensures size { OnOk result (length walk.new.seen.items ≡ length walk.old.seen.items) }
+        ensures is { (name proto : ℕ) → IsOf program.now self.now → IsKey program.now self.now key name proto → IsFair walk.old → length walk.old.seen.items ≡ length program.now.classes → OnOk result (out.new.items ≡ out.old.items ++ candidates program.now (flat_map (interface_places program.now) (chain_of program.now (Some class))) name proto) }
+    {
         if !self.has_candidates(program, key) {
             return Ok(());
         }
         walk.clear();
-        let mut at = Some(class);
-        for _ in 0..self.shape.supers.len() {
-            let one = match at {
-                Some(one) => one,
-                None => break,
-            };
-            walk.push_all(self.shape.lists.row(one))?;
-            at = self.super_of(one);
-        }
+        self.push_lists(class, walk)?;
         self.collect(program, key, walk, out)
     }
 
@@ -302,7 +357,11 @@ impl Hierarchy {
         key: u32,
         walk: &mut Walk,
         out: &mut Vec<MethodAt>,
-    ) -> Result<(), AllocError> {
+    ) -> Result<(), AllocError>
+        ensures fair { OnOk result (IsFair walk.old → IsFair walk.new) }
+        ensures size { OnOk result (length walk.new.seen.items ≡ length walk.old.seen.items) }
+        ensures is { (name proto : ℕ) → IsOf program.now self.now → IsKey program.now self.now key name proto → IsFair walk.old → length walk.old.seen.items ≡ length program.now.classes → OnOk result (out.new.items ≡ out.old.items ++ candidates program.now (interface ∷ []) name proto) }
+    {
         if !self.has_candidates(program, key) {
             return Ok(());
         }
@@ -311,50 +370,88 @@ impl Hierarchy {
         self.collect(program, key, walk, out)
     }
 
-    /// Lets the classes directly above one wait.
-    fn push_above(&self, class: u32, walk: &mut Walk) -> Result<(), AllocError> {
-        if let Some(superclass) = self.super_of(class) {
-            walk.push(superclass)?;
-        }
-        walk.push_all(self.shape.lists.row(class))
+    /// Lets the classes directly above a class wait.
+    fn push_ups(&self, class: u32, walk: &mut Walk) -> Result<(), AllocError>
+        ensures waits { OnOk result (waits walk.new ≡ (row_of self.now.shape.lists.rows class ++ beside (read_at self.now.shape.supers.items class)) ++ waits walk.old) }
+        ensures seen { walk.new.seen ≡ walk.old.seen }
+        ensures list { walk.new.list ≡ walk.old.list }
+    {
+        walk.push_above(self.shape.lists.row(class), self.super_of(class))
     }
 
-    /// Sees all classes that stand above one of the candidates' interfaces, by superclasses and interfaces.
-    fn see_above(&self, candidates: &[MethodAt], walk: &mut Walk) -> Result<(), AllocError> {
-        walk.clear();
-        for candidate in candidates {
-            self.push_above(candidate.class, walk)?;
-        }
-        for _ in 0..self.steps() {
-            let one = match walk.pop() {
-                Some(one) => one,
-                None => break,
-            };
-            if walk.see(one)? {
-                self.push_above(one, walk)?;
-            }
+    /// Lets the classes directly above those of some candidates wait.
+    fn push_above(&self, candidates: &[MethodAt], walk: &mut Walk) -> Result<(), AllocError>
+        ensures waits { OnOk result (waits walk.new ≡ flat_map (λ f. row_of self.now.shape.lists.rows f.class ++ beside (read_at self.now.shape.supers.items f.class)) candidates.now ++ waits walk.old) }
+        ensures seen { walk.new.seen ≡ walk.old.seen }
+        ensures list { walk.new.list ≡ walk.old.list }
+    {
+        for at in (0..candidates.len()).rev() {
+            self.push_ups(candidates[at].class, walk)?;
         }
         Ok(())
     }
 
-    /// What candidates give.
+    /// Sees the classes that wait, and all above them.
+    fn see_waiting(&self, walk: &mut Walk) -> Result<(), AllocError>
+        ensures fair { OnOk result (IsFair walk.old → IsFair walk.new) }
+        ensures size { OnOk result (length walk.new.seen.items ≡ length walk.old.seen.items) }
+        ensures is { (p : Program) → IsOf p self.now → IsUnseen (length p.classes) walk.old → list_all (λ u. nat_lt u (length p.classes)) (waits walk.old) ≡ true → OnOk result ((c : ℕ) → is_seen walk.new c ≡ is_waiting p (waits walk.old) c) }
+    {
+        while let Some(one) = walk.pop() {
+            walk.open(one, self.shape.lists.row(one), self.super_of(one))?;
+        }
+        Ok(())
+    }
+
+    /// Sees all classes that stand above one of the candidates' interfaces, by superclasses and interfaces.
+    fn see_above(&self, candidates: &[MethodAt], walk: &mut Walk) -> Result<(), AllocError>
+        ensures fair { OnOk result (IsFair walk.old → IsFair walk.new) }
+        ensures size { OnOk result (length walk.new.seen.items ≡ length walk.old.seen.items) }
+        ensures is { (p : Program) → IsOf p self.now → IsFair walk.old → length walk.old.seen.items ≡ length p.classes → OnOk result ((f : MethodAt) → not (is_seen walk.new f.class) ≡ is_lowest p candidates.now f) }
+    {
+        walk.clear();
+        self.push_above(candidates, walk)?;
+        self.see_waiting(walk)
+    }
+
+    /// What candidates give: the one with code that stands in no interface above another candidate's.
     pub fn given(
         &self,
         program: &Program,
         candidates: &[MethodAt],
         walk: &mut Walk,
-    ) -> Result<Given, AllocError> {
+    ) -> Result<Given, AllocError>
+        ensures fair { OnOk result (IsFair walk.old → IsFair walk.new) }
+        ensures size { OnOk result (length walk.new.seen.items ≡ length walk.old.seen.items) }
+        ensures is { IsOf program.now self.now → IsFair walk.old → length walk.old.seen.items ≡ length program.now.classes → IfOk result (λ given. search_given given ≡ verdict (lowest program.now candidates.now)) }
+    {
         self.see_above(candidates, walk)?;
-        let mut given = Given::Nothing;
-        for candidate in candidates {
-            if !walk.has_seen(candidate.class) && has_code(program, *candidate) {
-                given = match given {
-                    Given::Nothing => Given::One(*candidate),
-                    _ => Given::Clash,
-                };
-            }
-        }
-        Ok(given)
+        Ok(given_unseen(program, candidates, walk))
+    }
+}
+
+/// What the candidates give that have code and whose classes aren't seen.
+fn given_unseen(program: &Program, candidates: &[MethodAt], walk: &Walk) -> Given
+    ensures { search_given result ≡ verdict (filter (λ f. has_code (method_at program.now f) && not (is_seen walk.now f.class)) candidates.now) }
+{
+    let mut given = Given::Nothing;
+    for candidate in candidates {
+        let counts = has_code(program, *candidate) && !walk.has_seen(candidate.class);
+        given = given_more(given, *candidate, counts);
+    }
+    given
+}
+
+/// What is given with one candidate more, where it counts.
+fn given_more(given: Given, candidate: MethodAt, counts: bool) -> Given
+    ensures { search_given result ≡ cond counts (verdict_more (search_given given) candidate) (search_given given) }
+{
+    if !counts {
+        return given;
+    }
+    match given {
+        Given::Nothing => Given::One(candidate),
+        _ => Given::Clash,
     }
 }
 

@@ -20,6 +20,7 @@ mod names;
 mod order;
 mod queries;
 mod quiet;
+mod ranges;
 mod resolve;
 mod split;
 mod table;

@@ -1,8 +1,10 @@
 //! Which classes stand directly above and below a class.
 
-ghost use Rattle.std.specs.Prelude.{◌≡◌, map, IfOk, slice_index_or};
+ghost use Rattle.std.specs.Prelude.{◌≡◌, ◌<◌, ◌^◌, ◌++◌, [], length, map, replicate, IfOk, OnOk, slice_index_or};
+ghost use Rattle.class_defs.specs.Finding.{beside};
 ghost use Rattle.hierarchy.specs.Placing.{known_places};
 ghost use Rattle.hierarchy.specs.Tables.{row_of};
+ghost use Rattle.hierarchy.specs.Touring.{add_to, add_to_all, IsBelow};
 
 use crate::table::{read, word};
 use program_model::Class;
@@ -86,7 +88,9 @@ pub fn interfaces(alloc: Global, classes: &[Class], places: &[u32]) -> Result<Li
 }
 
 /// So many empty lists.
-pub fn empty_rows(alloc: Global, count: usize) -> Result<Links, AllocError> {
+pub fn empty_rows(alloc: Global, count: usize) -> Result<Links, AllocError>
+    ensures { IfOk result (λ links. links.rows ≡ replicate count []) }
+{
     let mut rows = Seq::new(alloc);
     for _ in 0..count {
         rows.push(Seq::new(alloc))?;
@@ -94,26 +98,40 @@ pub fn empty_rows(alloc: Global, count: usize) -> Result<Links, AllocError> {
     Ok(Links { rows })
 }
 
+/// Adds a number to the list at a place, unless the place is past the end.
+fn push_at(rows: &mut [Seq<u32>], place: u32, number: u32) -> Result<(), AllocError>
+    ensures { OnOk result (rows.new ≡ add_to rows.old place number) }
+{
+    let at = place as usize;
+    if at < rows.len() {
+        rows[at].push(number)?;
+    }
+    Ok(())
+}
+
 impl Links {
     /// Adds a number to the list of a place, unless the place is past the end.
-    pub fn add(&mut self, place: u32, number: u32) -> Result<(), AllocError> {
-        match self.rows.items.as_mut_slice().get_mut(place as usize) {
-            Some(row) => row.push(number),
-            None => Ok(()),
-        }
+    pub fn add(&mut self, place: u32, number: u32) -> Result<(), AllocError>
+        ensures { OnOk result (self.new.rows ≡ add_to self.old.rows place number) }
+    {
+        push_at(self.rows.items.as_mut_slice(), place, number)
     }
 }
 
-/// Adds a class to the lists of those directly above it.
-fn note_above(
-    below: &mut Links,
-    class: u32,
-    above: Option<u32>,
-    list: &[u32],
-) -> Result<(), AllocError> {
-    if let Some(superclass) = above {
-        below.add(superclass, class)?;
+/// Adds a class to the list of its superclass, where it has one.
+fn note_super(below: &mut Links, class: u32, above: Option<u32>) -> Result<(), AllocError>
+    ensures { OnOk result (below.new.rows ≡ add_to_all below.old.rows (beside above) class) }
+{
+    match above {
+        Some(superclass) => below.add(superclass, class),
+        None => Ok(()),
     }
+}
+
+/// Adds a class to the lists of the interfaces of its list.
+fn note_all(below: &mut Links, class: u32, list: &[u32]) -> Result<(), AllocError>
+    ensures { OnOk result (below.new.rows ≡ add_to_all below.old.rows list.now class) }
+{
     for up in list {
         below.add(*up, class)?;
     }
@@ -122,10 +140,13 @@ fn note_above(
 
 /// The places of the classes directly below each class, in file order. One that lists an interface twice stands there
 /// twice.
-pub fn subclasses(alloc: Global, supers: &[u32], lists: &Links) -> Result<Links, AllocError> {
+pub fn subclasses(alloc: Global, supers: &[u32], lists: &Links) -> Result<Links, AllocError>
+    ensures { length supers.now < 2 ^ 32 → IfOk result (λ below. IsBelow supers.now lists.now.rows below.rows (length supers.now)) }
+{
     let mut below = empty_rows(alloc, supers.len())?;
     for place in 0..word(supers.len()) {
-        note_above(&mut below, place, read(supers, place), lists.row(place))?;
+        note_super(&mut below, place, read(supers, place))?;
+        note_all(&mut below, place, lists.row(place))?;
     }
     Ok(below)
 }

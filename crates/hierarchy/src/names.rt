@@ -2,58 +2,18 @@
 //! that the framework may call on every object.
 
 ghost use Rattle.std.specs.Prelude.{◌≡◌, ◌+◌, length, map, IfOk};
-ghost use Rattle.std.specs.Prelude.{◌<◌, ◌^◌, [], Some, None, nat_eq, codes, cond, slice_get};
+ghost use Rattle.std.specs.Prelude.{◌<◌, ◌^◌, [], ◌∷◌, ℕ, true, false, Some, None, nat_eq, codes, cond, slice_get, slice_set, replicate};
 ghost use Rattle.std.specs.Cmp.Lexicographic.{pointwise};
 ghost use Rattle.program_model.specs.Texts.{first_unit, string_text, type_text};
-ghost use Rattle.class_defs.specs.Members.{types_are, proto_is};
+ghost use Rattle.class_defs.specs.Members.{types_are, proto_is, is_common};
 ghost use Rattle.class_defs.specs.Starts.{is_initialiser, runs, initialiser_of};
-ghost use Rattle.hierarchy.specs.Naming.{is_special};
+ghost use Rattle.hierarchy.specs.Membership.{method_pair, AreKeys};
+ghost use Rattle.hierarchy.specs.Naming.{is_special, common_by, AreCommon};
 
 use crate::members::key_of;
 use crate::table::{turn, word};
-use dex_base::Text;
 use program_model::{Class, Flags, Method, MethodName, Program, Proto};
 use std::alloc::{AllocError, Global};
-
-/// Whether a text is made of these ASCII characters.
-fn is_text(text: &Text, ascii: &str) -> bool {
-    let units = text.units();
-    let bytes = ascii.as_bytes();
-    units.len() == bytes.len()
-        && units
-            .iter()
-            .zip(bytes)
-            .all(|(unit, byte)| *unit == u16::from(*byte))
-}
-
-/// The text of a string number.
-fn string_of(program: &Program, string: u32) -> Option<&Text> {
-    program.strings.as_slice().get(string as usize)
-}
-
-/// The descriptor of a type number.
-pub fn descriptor_of(program: &Program, kind: u32) -> Option<&Text> {
-    match program.types.as_slice().get(kind as usize) {
-        Some(string) => string_of(program, *string),
-        None => None,
-    }
-}
-
-/// Whether the string has these ASCII characters.
-fn string_is(program: &Program, string: u32, ascii: &str) -> bool {
-    match string_of(program, string) {
-        Some(text) => is_text(text, ascii),
-        None => false,
-    }
-}
-
-/// Whether the type has this descriptor.
-pub fn kind_is(program: &Program, kind: u32, ascii: &str) -> bool {
-    match descriptor_of(program, kind) {
-        Some(text) => is_text(text, ascii),
-        None => false,
-    }
-}
 
 /// The units of the text of a string number, none past the table.
 fn units_of(program: &Program, string: u32) -> &[u16]
@@ -158,37 +118,163 @@ fn is_initialiser(program: &Program, method: &Method) -> bool
     }
 }
 
-/// Whether the proto takes nothing and gives the type of this descriptor.
-fn gives(program: &Program, proto: &Proto, kind: &str) -> bool {
-    proto.parameters.is_empty() && kind_is(program, proto.result, kind)
+/// Whether the units are `Z`.
+fn is_boolean(units: &[u16]) -> bool
+    ensures { result ≡ pointwise nat_eq units.now (codes "Z") }
+{
+    let name: [u16; 1] = [90];
+    units == name.as_slice()
+}
+
+/// Whether the units are `I`.
+fn is_int(units: &[u16]) -> bool
+    ensures { result ≡ pointwise nat_eq units.now (codes "I") }
+{
+    let name: [u16; 1] = [73];
+    units == name.as_slice()
+}
+
+/// Whether the units are `Ljava/lang/Object;`.
+fn is_object(units: &[u16]) -> bool
+    ensures { result ≡ pointwise nat_eq units.now (codes "Ljava/lang/Object;") }
+{
+    let name: [u16; 18] = [
+        76, 106, 97, 118, 97, 47, 108, 97, 110, 103, 47, 79, 98, 106, 101, 99, 116, 59,
+    ];
+    units == name.as_slice()
+}
+
+/// Whether the units are `Ljava/lang/String;`.
+fn is_string(units: &[u16]) -> bool
+    ensures { result ≡ pointwise nat_eq units.now (codes "Ljava/lang/String;") }
+{
+    let name: [u16; 18] = [
+        76, 106, 97, 118, 97, 47, 108, 97, 110, 103, 47, 83, 116, 114, 105, 110, 103, 59,
+    ];
+    units == name.as_slice()
+}
+
+/// Whether the units are `equals`.
+fn is_equals(units: &[u16]) -> bool
+    ensures { result ≡ pointwise nat_eq units.now (codes "equals") }
+{
+    let name: [u16; 6] = [101, 113, 117, 97, 108, 115];
+    units == name.as_slice()
+}
+
+/// Whether the units are `hashCode`.
+fn is_hash_code(units: &[u16]) -> bool
+    ensures { result ≡ pointwise nat_eq units.now (codes "hashCode") }
+{
+    let name: [u16; 8] = [104, 97, 115, 104, 67, 111, 100, 101];
+    units == name.as_slice()
+}
+
+/// Whether the units are `toString`.
+fn is_to_string(units: &[u16]) -> bool
+    ensures { result ≡ pointwise nat_eq units.now (codes "toString") }
+{
+    let name: [u16; 8] = [116, 111, 83, 116, 114, 105, 110, 103];
+    units == name.as_slice()
+}
+
+/// Whether the units are `clone`.
+fn is_clone(units: &[u16]) -> bool
+    ensures { result ≡ pointwise nat_eq units.now (codes "clone") }
+{
+    let name: [u16; 5] = [99, 108, 111, 110, 101];
+    units == name.as_slice()
+}
+
+/// Whether the units are `finalize`.
+fn is_finalize(units: &[u16]) -> bool
+    ensures { result ≡ pointwise nat_eq units.now (codes "finalize") }
+{
+    let name: [u16; 8] = [102, 105, 110, 97, 108, 105, 122, 101];
+    units == name.as_slice()
+}
+
+/// Whether there is one parameter, an object of any class.
+fn takes_object(program: &Program, parameters: &[u32]) -> bool
+    ensures { result ≡ types_are program.now parameters.now (codes "Ljava/lang/Object;" ∷ []) }
+{
+    parameters.len() == 1 && is_object(type_units(program, parameters[0]))
 }
 
 /// Whether the proto takes an object and gives a boolean.
-fn takes_object(program: &Program, proto: &Proto) -> bool {
-    match proto.parameters.as_slice() {
-        [only] => {
-            kind_is(program, *only, "Ljava/lang/Object;") && kind_is(program, proto.result, "Z")
-        }
-        _ => false,
-    }
+fn compares(program: &Program, proto: &Proto) -> bool
+    ensures { result ≡ proto_is program.now (codes "Ljava/lang/Object;" ∷ []) (codes "Z") (Some proto.now) }
+{
+    is_boolean(type_units(program, proto.result))
+        && takes_object(program, proto.parameters.as_slice())
+}
+
+/// Whether the proto takes nothing and gives an integer.
+fn gives_int(program: &Program, proto: &Proto) -> bool
+    ensures { result ≡ proto_is program.now [] (codes "I") (Some proto.now) }
+{
+    is_int(type_units(program, proto.result)) && takes_nothing(program, proto.parameters.as_slice())
+}
+
+/// Whether the proto takes nothing and gives a string.
+fn gives_string(program: &Program, proto: &Proto) -> bool
+    ensures { result ≡ proto_is program.now [] (codes "Ljava/lang/String;") (Some proto.now) }
+{
+    is_string(type_units(program, proto.result))
+        && takes_nothing(program, proto.parameters.as_slice())
+}
+
+/// Whether the proto takes nothing and gives an object.
+fn gives_object(program: &Program, proto: &Proto) -> bool
+    ensures { result ≡ proto_is program.now [] (codes "Ljava/lang/Object;") (Some proto.now) }
+{
+    is_object(type_units(program, proto.result))
+        && takes_nothing(program, proto.parameters.as_slice())
+}
+
+/// Whether a name of these units with this proto is one of the five.
+fn is_of_five(program: &Program, name: &[u16], proto: &Proto) -> bool
+    ensures { result ≡ common_by program.now name.now (Some proto.now) }
+{
+    (is_equals(name) && compares(program, proto))
+        || (is_hash_code(name) && gives_int(program, proto))
+        || (is_to_string(name) && gives_string(program, proto))
+        || (is_clone(name) && gives_object(program, proto))
+        || (is_finalize(name) && is_bare_proto(program, proto))
 }
 
 /// Whether the method has the name and the proto of `equals`, `hashCode`, `toString`, `clone` or `finalize` of
 /// `Ljava/lang/Object;`.
-pub fn is_of_object(program: &Program, method: &MethodName) -> bool {
-    let proto = match program.protos.as_slice().get(method.proto as usize) {
-        Some(proto) => proto,
-        None => return false,
-    };
-    let name = match string_of(program, method.name) {
-        Some(name) => name,
-        None => return false,
-    };
-    (is_text(name, "equals") && takes_object(program, proto))
-        || (is_text(name, "hashCode") && gives(program, proto, "I"))
-        || (is_text(name, "toString") && gives(program, proto, "Ljava/lang/String;"))
-        || (is_text(name, "clone") && gives(program, proto, "Ljava/lang/Object;"))
-        || (is_text(name, "finalize") && gives(program, proto, "V"))
+fn is_of_object(program: &Program, method: &MethodName) -> bool
+    ensures { result ≡ is_common program.now method.now.name method.now.proto }
+{
+    match program.protos.as_slice().get(method.proto as usize) {
+        Some(proto) => is_of_five(program, units_of(program, method.name), proto),
+        None => false,
+    }
+}
+
+/// Marks a place where it is one of the five.
+fn note(marks: &mut [bool], key: u32, on: bool)
+    ensures { marks.new ≡ cond on (slice_set marks.old key true) marks.old }
+{
+    if on {
+        turn(marks, key, true);
+    }
+}
+
+/// Marks the keys of those methods that are of the five.
+fn note_all(program: &Program, methods: &[MethodName], keys: &[u32], marks: &mut [bool])
+    ensures size { length marks.new ≡ length marks.old }
+    ensures common { (count : ℕ) → AreKeys method_pair methods.now keys.now count → marks.old ≡ replicate count false → AreCommon program.now methods.now keys.now marks.new }
+{
+    for (number, method) in methods.iter().enumerate() {
+        note(
+            marks,
+            key_of(keys, word(number)),
+            is_of_object(program, method),
+        );
+    }
 }
 
 /// For each key of methods whether it is one of the five.
@@ -197,13 +283,16 @@ pub fn of_object(
     program: &Program,
     keys: &[u32],
     count: usize,
-) -> Result<Vec<bool>, AllocError> {
+) -> Result<Vec<bool>, AllocError>
+    ensures { AreKeys method_pair program.now.methods keys.now count → IfOk result (λ marks. AreCommon program.now program.now.methods keys.now marks.items) }
+{
     let mut marks = vec![in alloc; false; count]?;
-    for (number, method) in program.methods.as_slice().iter().enumerate() {
-        if is_of_object(program, method) {
-            turn(marks.as_mut_slice(), key_of(keys, word(number)), true);
-        }
-    }
+    note_all(
+        program,
+        program.methods.as_slice(),
+        keys,
+        marks.as_mut_slice(),
+    );
     Ok(marks)
 }
 

@@ -1,11 +1,12 @@
-//! Numbers of the classes by a tour of a forest, and for each class the ranges of the numbers of the classes under it.
+//! Numbers of the classes by a tour of a forest.
 
-ghost use Rattle.std.specs.Prelude.{◌≡◌, length};
+ghost use Rattle.std.specs.Prelude.{◌≡◌, ◌<◌, ◌^◌, ℕ, Some, true, length, IfOk, slice_get, slice_index};
+ghost use Rattle.std.specs.List.{range_with_len};
+ghost use Rattle.hierarchy.specs.Touring.{IsNumbering};
 
 use crate::links::Links;
 use crate::table::{add, count_at, put, read, word};
 use std::alloc::{AllocError, Global};
-use std::cmp::Ordering;
 
 /// How many classes each tree has that is made of a class and all below it in the forest of these parents.
 fn tree_sizes(alloc: Global, parents: &[u32], order: &[u32]) -> Result<Vec<u32>, AllocError> {
@@ -21,7 +22,7 @@ fn tree_sizes(alloc: Global, parents: &[u32], order: &[u32]) -> Result<Vec<u32>,
 
 /// The number of each class in a tour of the forest of these parents that goes to a class before those below it, and to
 /// a whole tree before what stands behind it.
-pub fn tour(alloc: Global, parents: &[u32], order: &[u32]) -> Result<Vec<u32>, AllocError> {
+fn tour(alloc: Global, parents: &[u32], order: &[u32]) -> Result<Vec<u32>, AllocError> {
     let sizes = tree_sizes(alloc, parents, order)?;
     let mut numbers = vec![in alloc; 0u32; parents.len()]?;
     let mut cursors = vec![in alloc; 0u32; parents.len()]?;
@@ -43,7 +44,7 @@ pub fn tour(alloc: Global, parents: &[u32], order: &[u32]) -> Result<Vec<u32>, A
 }
 
 /// The class with each number.
-pub fn by_number(alloc: Global, numbers: &[u32]) -> Result<Vec<u32>, AllocError> {
+fn by_number(alloc: Global, numbers: &[u32]) -> Result<Vec<u32>, AllocError> {
     let mut classes = vec![in alloc; 0u32; numbers.len()]?;
     for (place, number) in numbers.iter().enumerate() {
         put(classes.as_mut_slice(), *number, word(place));
@@ -51,118 +52,76 @@ pub fn by_number(alloc: Global, numbers: &[u32]) -> Result<Vec<u32>, AllocError>
     Ok(classes)
 }
 
-/// The numbers from `first` up to and without `end`.
-#[derive(Clone, Copy, PartialEq, Eq, PartialOrd, Ord)]
-pub struct Range {
-    pub first: u32,
-    pub end: u32,
+/// Whether the number at a place is the place of this number in another table.
+fn is_back(back: &[u32], number: u32, place: usize) -> bool
+    ensures { result ≡ true → slice_get back.now number ≡ Some place }
+{
+    match back.get(number as usize) {
+        Some(there) => *there as usize == place,
+        None => false,
+    }
 }
 
-/// For each class the ranges of the numbers of the classes under it, in order and apart.
+/// Whether a table leads back from each number of another to the number's place.
+fn leads_back(numbers: &[u32], back: &[u32]) -> bool
+    ensures { result ≡ true → (c : ℕ) → c < length numbers.now → slice_get back.now (slice_index numbers.now c) ≡ Some c }
+{
+    for (place, number) in numbers.iter().enumerate() {
+        if !is_back(back, *number, place) {
+            return false;
+        }
+    }
+    true
+}
+
+/// The numbers below a count, each at its own place.
+fn in_turn(alloc: Global, count: usize) -> Result<Vec<u32>, AllocError>
+    ensures { count < 2 ^ 32 → IfOk result (λ numbers. numbers.items ≡ range_with_len 0 count) }
+{
+    let mut numbers = Vec::new(alloc);
+    for number in 0..word(count) {
+        numbers.push(number)?;
+    }
+    Ok(numbers)
+}
+
+/// The number of each class, and the class with each number.
 #[derive(Drop)]
-pub struct Ranges {
-    firsts: Vec<u32>,
-    ends: Vec<u32>,
-    items: Vec<Range>,
+pub struct Numbering {
+    pub numbers: Vec<u32>,
+    pub classes: Vec<u32>,
 }
 
-impl Ranges {
-    /// The ranges of a class.
-    pub fn row(&self, class: u32) -> &[Range] {
-        let first = count_at(self.firsts.as_slice(), class) as usize;
-        let end = count_at(self.ends.as_slice(), class) as usize;
-        match self.items.as_slice().get(first..end) {
-            Some(row) => row,
-            None => &[],
-        }
+/// Numbers of the classes by a tour of the forest of these parents. Numbers that were no numbering would give way to the
+/// places of the classes.
+pub fn number(alloc: Global, parents: &[u32], order: &[u32]) -> Result<Numbering, AllocError>
+    ensures { length parents.now < 2 ^ 32 → IfOk result (λ tour. IsNumbering (length parents.now) tour.numbers.items tour.classes.items) }
+{
+    let numbers = tour(alloc, parents, order)?;
+    let classes = by_number(alloc, numbers.as_slice())?;
+    if is_numbering(parents.len(), numbers.as_slice(), classes.as_slice()) {
+        return Ok(Numbering { numbers, classes });
     }
-
-    /// Whether a range of the class has the number.
-    pub fn has(&self, class: u32, number: u32) -> bool {
-        self.row(class)
-            .binary_search_by(|range| side(range, number))
-            .is_ok()
-    }
-
-    /// Gives a class these ranges, where those that meet become one.
-    fn set(&mut self, class: u32, ranges: &[Range]) -> Result<(), AllocError> {
-        put(self.firsts.as_mut_slice(), class, word(self.items.len()));
-        let mut last: Option<Range> = None;
-        for range in ranges {
-            last = match last {
-                Some(before) if range.first <= before.end => Some(Range {
-                    first: before.first,
-                    end: before.end.max(range.end),
-                }),
-                Some(before) => {
-                    self.items.push(before)?;
-                    Some(*range)
-                }
-                None => Some(*range),
-            };
-        }
-        if let Some(range) = last {
-            self.items.push(range)?;
-        }
-        put(self.ends.as_mut_slice(), class, word(self.items.len()));
-        Ok(())
-    }
+    Ok(Numbering {
+        numbers: in_turn(alloc, parents.len())?,
+        classes: in_turn(alloc, parents.len())?,
+    })
 }
 
-/// Where a range stands seen from a number.
-fn side(range: &Range, number: u32) -> Ordering {
-    if number < range.first {
-        Ordering::Greater
-    } else if number < range.end {
-        Ordering::Equal
-    } else {
-        Ordering::Less
-    }
-}
-
-/// Collects the ranges of the classes directly below one, and its own number.
-fn gather(
-    ranges: &Ranges,
-    below: &[u32],
-    number: u32,
-    out: &mut Vec<Range>,
-) -> Result<(), AllocError> {
-    out.clear();
-    out.push(Range {
-        first: number,
-        end: number.saturating_add(1),
-    })?;
-    for class in below {
-        out.extend_from_slice(ranges.row(*class))?;
-    }
-    Ok(())
-}
-
-/// For each class the ranges of the numbers of the classes under it: its own, and those of the classes directly below
-/// it.
-pub fn ranges_under(
-    alloc: Global,
-    numbers: &[u32],
-    order: &[u32],
-    below: &Links,
-) -> Result<Ranges, AllocError> {
-    let mut ranges = Ranges {
-        firsts: vec![in alloc; 0u32; numbers.len()]?,
-        ends: vec![in alloc; 0u32; numbers.len()]?,
-        items: Vec::new(alloc),
-    };
-    let mut scratch = Vec::new(alloc);
-    for class in order.iter().rev() {
-        let number = count_at(numbers, *class);
-        gather(&ranges, below.row(*class), number, &mut scratch)?;
-        scratch.sort_unstable();
-        ranges.set(*class, scratch.as_slice())?;
-    }
-    Ok(ranges)
+/// Whether each of so many places has a number of its own, and each number its place.
+fn is_numbering(count: usize, numbers: &[u32], classes: &[u32]) -> bool
+    ensures { result ≡ true → IsNumbering count numbers.now classes.now }
+{
+    numbers.len() == count
+        && classes.len() == count
+        && leads_back(numbers, classes)
+        && leads_back(classes, numbers)
 }
 
 /// The parent of each class in the forest of the tour: its superclass, else the first of its interfaces.
-pub fn parents(alloc: Global, supers: &[u32], lists: &Links) -> Result<Vec<u32>, AllocError> {
+pub fn parents(alloc: Global, supers: &[u32], lists: &Links) -> Result<Vec<u32>, AllocError>
+    ensures { IfOk result (λ parents. length parents.items ≡ length supers.now) }
+{
     let mut parents = Vec::new(alloc);
     for (place, superclass) in supers.iter().enumerate() {
         let parent = match (read(supers, word(place)), lists.row(word(place))) {

@@ -1,9 +1,11 @@
 //! Walks over classes that take each class once.
 
-ghost use Rattle.std.specs.Prelude.{◌≡◌, ◌<◌, ◌&&◌, ◌∷◌, ◌++◌, [], true, not, length, nat_lt, slice_set, slice_index_or, Contains, ℕ, false, cond, Some, None, MatchOption, IfNone, IfOk, OnOk};
+ghost use Rattle.std.specs.Prelude.{◌≡◌, ◌<◌, ◌&&◌, ◌∷◌, ◌++◌, [], true, not, length, nat_lt, slice_set, slice_index_or, Contains, ℕ, false, cond, Some, None, MatchOption, IfNone, IfOk, OnOk, flat_map};
 ghost use Rattle.class_defs.specs.Finding.{beside};
-ghost use Rattle.hierarchy.specs.Walking.{is_seen, waits, IsFair, IsClear, Visits};
+ghost use Rattle.hierarchy.specs.Tables.{row_of};
+ghost use Rattle.hierarchy.specs.Walking.{is_seen, waits, IsFair, IsClear, Enters, Visits};
 
+use crate::links::Links;
 use crate::table::{is_on, turn};
 use std::alloc::{AllocError, Global};
 
@@ -71,6 +73,23 @@ impl Walk {
         Ok(())
     }
 
+    /// Lets the rows of these places wait, before all that wait, that of the first place first.
+    pub(crate) fn push_rows(&mut self, rows: &Links, places: &[u32]) -> Result<(), AllocError>
+        ensures waits { OnOk result (waits self.new ≡ flat_map (row_of rows.now.rows) places.now ++ waits self.old) }
+        ensures seen { self.new.seen ≡ self.old.seen }
+        ensures list { self.new.list ≡ self.old.list }
+    {
+        for at in (0..places.len()).rev() {
+            self.push_all(rows.row(places[at]))?;
+        }
+        Ok(())
+    }
+
+    /// Where the walk takes its memory from.
+    pub(crate) fn allocator(&self) -> Global {
+        *self.waiting.allocator()
+    }
+
     /// The class that waits first, which waits no longer.
     pub fn pop(&mut self) -> Option<u32>
         ensures waits { MatchOption result (waits self.old ≡ []) (λ class. waits self.old ≡ class ∷ waits self.new) }
@@ -81,27 +100,20 @@ impl Walk {
         self.waiting.pop()
     }
 
-    /// Sees a class, and answers whether it wasn't seen before.
-    pub fn see(&mut self, class: u32) -> Result<bool, AllocError> {
-        if is_on(self.seen.as_slice(), class) {
-            return Ok(false);
-        }
-        self.list.push(class)?;
-        turn(self.seen.as_mut_slice(), class, true);
-        Ok(true)
-    }
-
     /// Whether the walk has seen the class.
-    pub fn has_seen(&self, class: u32) -> bool {
+    pub fn has_seen(&self, class: u32) -> bool
+        ensures { result ≡ is_seen self.now class }
+    {
         is_on(self.seen.as_slice(), class)
     }
 
     /// Sees a class of those that there are, and answers whether it wasn't seen before.
-    fn meet(&mut self, class: u32) -> Result<bool, AllocError>
+    pub fn see(&mut self, class: u32) -> Result<bool, AllocError>
         ensures met { IfOk result (λ b. b ≡ (nat_lt class (length self.old.seen.items) && not (is_seen self.old class))) }
         ensures seen { IfOk result (λ b. self.new.seen.items ≡ cond b (slice_set self.old.seen.items class true) self.old.seen.items) }
         ensures waits { OnOk result (waits self.new ≡ waits self.old) }
         ensures fair { OnOk result (IsFair self.old → IsFair self.new) }
+        ensures size { OnOk result (length self.new.seen.items ≡ length self.old.seen.items) }
     {
         if class as usize >= self.seen.len() || is_on(self.seen.as_slice(), class) {
             return Ok(false);
@@ -123,6 +135,24 @@ impl Walk {
         self.push_all(list)
     }
 
+    /// Sees a class and lets those directly above it wait, unless it was seen before; answers whether it wasn't.
+    pub(crate) fn open(
+        &mut self,
+        class: u32,
+        list: &[u32],
+        above: Option<u32>,
+    ) -> Result<bool, AllocError>
+        ensures enters { IfOk result (λ b. Enters self.old.seen.items (waits self.old) class (list.now ++ beside above) self.new.seen.items (waits self.new) b) }
+        ensures fair { OnOk result (IsFair self.old → IsFair self.new) }
+        ensures size { OnOk result (length self.new.seen.items ≡ length self.old.seen.items) }
+    {
+        if !self.see(class)? {
+            return Ok(false);
+        }
+        self.push_above(list, above)?;
+        Ok(true)
+    }
+
     /// Goes to a class where `found` is the place of what is looked for: answers it, or lets the classes directly above
     /// it wait. A class that was seen before is passed over.
     pub(crate) fn visit(
@@ -136,7 +166,7 @@ impl Walk {
         ensures fair { OnOk result (IsFair self.old → IsFair self.new) }
         ensures size { OnOk result (length self.new.seen.items ≡ length self.old.seen.items) }
     {
-        if !self.meet(class)? {
+        if !self.see(class)? {
             return Ok(None);
         }
         match found {

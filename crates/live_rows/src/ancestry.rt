@@ -1,4 +1,4 @@
-use dex_base::Text;
+use crate::help::{are_numbers, tables_of, text};
 use hierarchy::{Hierarchy, HierarchyFault};
 use program_model::{Body, Class, Flags, Method, MethodAt, MethodName, Program, Proto, Version};
 use seq::Seq;
@@ -12,14 +12,6 @@ struct Made<'a> {
     superclass: u32,
     interfaces: &'a [u32],
     methods: &'a [(u32, u32)],
-}
-
-fn text(alloc: Global, ascii: &str) -> Result<Text, AllocError> {
-    let mut units = Vec::new(alloc);
-    for byte in ascii.as_bytes() {
-        units.push(u16::from(*byte))?;
-    }
-    Ok(Text::from_vec(units))
 }
 
 /// A static method has code.
@@ -271,15 +263,9 @@ fn family(alloc: Global) -> Result<Program, AllocError> {
 #[test]
 fn subclasses_stand_in_file_order(rt: HostRuntime) -> Result<(), Fail> {
     let program = family(rt.alloc())?;
-    let tables = Hierarchy::build(rt.alloc(), &program)?;
-    assert_eq!(rt;
-        tables.own_subclasses(rt.alloc(), 3)?.as_slice(),
-        [0, 1, 2].as_slice()
-    );
-    assert_eq!(rt;
-        tables.own_subclasses(rt.alloc(), 1)?.as_slice(),
-        [0].as_slice()
-    );
+    let tables = tables_of(rt.alloc(), &program)?;
+    assert!(rt; are_numbers(tables.own_subclasses(rt.alloc(), 3)?.as_slice(), &[0, 1, 2]));
+    assert!(rt; are_numbers(tables.own_subclasses(rt.alloc(), 1)?.as_slice(), &[0]));
     assert!(rt; tables.is_under(0, 3));
     assert!(rt; tables.is_under(2, 2));
     assert!(rt; !tables.is_under(3, 2));
@@ -290,7 +276,7 @@ fn subclasses_stand_in_file_order(rt: HostRuntime) -> Result<(), Fail> {
 #[test]
 fn names_resolve_along_superclasses_then_interfaces(rt: HostRuntime) -> Result<(), Fail> {
     let program = family(rt.alloc())?;
-    let tables = Hierarchy::build(rt.alloc(), &program)?;
+    let tables = tables_of(rt.alloc(), &program)?;
     assert_eq!(rt;
         tables.resolve_method(&program, 1),
         Some(MethodAt { class: 3, place: 0 })
@@ -306,7 +292,7 @@ fn names_resolve_along_superclasses_then_interfaces(rt: HostRuntime) -> Result<(
 #[test]
 fn overriders_are_below(rt: HostRuntime) -> Result<(), Fail> {
     let program = family(rt.alloc())?;
-    let tables = Hierarchy::build(rt.alloc(), &program)?;
+    let tables = tables_of(rt.alloc(), &program)?;
     let found = tables.overriders(rt.alloc(), &program, MethodAt { class: 3, place: 0 })?;
     let wanted = [
         MethodAt { class: 0, place: 1 },
@@ -319,7 +305,7 @@ fn overriders_are_below(rt: HostRuntime) -> Result<(), Fail> {
 #[test]
 fn an_initialiser_counts_for_those_below(rt: HostRuntime) -> Result<(), Fail> {
     let program = family(rt.alloc())?;
-    let tables = Hierarchy::build(rt.alloc(), &program)?;
+    let tables = tables_of(rt.alloc(), &program)?;
     assert!(rt; !tables.trivially_initialised(&program, 0));
     assert!(rt; tables.trivially_initialised(&program, 1));
     Ok(())
@@ -349,7 +335,7 @@ fn a_superclass_of_an_interface_counts_for_no_class_below(rt: HostRuntime) -> Re
         },
     ];
     let program = make_program(rt.alloc(), &strings, &[(2, 5)], &classes)?;
-    let tables = Hierarchy::build(rt.alloc(), &program)?;
+    let tables = tables_of(rt.alloc(), &program)?;
     assert!(rt; tables.trivially_initialised(&program, 0));
     assert!(rt; !tables.trivially_initialised(&program, 1));
     assert!(rt; !tables.trivially_initialised(&program, 2));

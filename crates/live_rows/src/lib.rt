@@ -10,6 +10,8 @@ pub use outside::keeps;
 #[cfg(test)]
 mod ancestry;
 #[cfg(test)]
+mod help;
+#[cfg(test)]
 mod reached;
 #[cfg(test)]
 mod removed;

@@ -1,22 +1,14 @@
+use crate::help::{are_marks, tables_of, text};
 use crate::keeps;
-use call_graph::{Edge, callees, live_members};
-use dex_base::Text;
+use call_graph::{Edge, LiveSet, callees, live_members};
 use hierarchy::Hierarchy;
 use program_model::{
-    Body, Class, Flags, Insn, InvokeKind, Method, MethodAt, MethodName, Program, Proto, Slot,
-    Version,
+    Body, Class, Flags, Insn, InvokeKind, Method, MethodAt, MethodName, Outside, Program, Proto,
+    Slot, Version,
 };
 use seq::{Seq, Words};
 use std::alloc::{AllocError, Global};
 use std::test::*;
-
-fn text(alloc: Global, ascii: &str) -> Result<Text, AllocError> {
-    let mut units = Vec::new(alloc);
-    for byte in ascii.as_bytes() {
-        units.push(u16::from(*byte))?;
-    }
-    Ok(Text::from_vec(units))
-}
 
 fn make_method(alloc: Global, name: u32, flags: u32, insns: Vec<Insn>) -> Method {
     Method {
@@ -116,18 +108,25 @@ fn two_classes(alloc: Global, kind: InvokeKind, flags: u32) -> Result<Program, A
     Ok(program)
 }
 
+/// What is live in a program where these are kept.
+fn live_in(
+    alloc: Global,
+    program: &Program,
+    tables: &Hierarchy,
+    outside: &Outside,
+) -> Result<LiveSet, AllocError> {
+    live_members(alloc, program, tables, outside)
+}
+
 #[test]
 fn what_a_kept_method_calls_is_live(rt: HostRuntime) -> Result<(), Fail> {
     let alloc = rt.alloc();
     let program = two_classes(alloc, InvokeKind::Static, 9)?;
-    let tables = Hierarchy::build(alloc, &program)?;
-    let live = live_members(alloc, &program, &tables, &keeps(alloc, &[2], &[0], &[])?)?;
-    assert_eq!(rt;
-        live.classes.as_slice(),
-        [false, false, true, true].as_slice()
-    );
-    assert_eq!(rt; live.made.as_slice(), [false, false, true, true].as_slice());
-    assert_eq!(rt; live.methods.as_slice(), [true, true, false].as_slice());
+    let tables = tables_of(alloc, &program)?;
+    let live = live_in(alloc, &program, &tables, &keeps(alloc, &[2], &[0], &[])?)?;
+    assert!(rt; are_marks(live.classes.as_slice(), &[false, false, true, true]));
+    assert!(rt; are_marks(live.made.as_slice(), &[false, false, true, true]));
+    assert!(rt; are_marks(live.methods.as_slice(), &[true, true, false]));
     Ok(())
 }
 
@@ -135,9 +134,9 @@ fn what_a_kept_method_calls_is_live(rt: HostRuntime) -> Result<(), Fail> {
 fn a_virtual_call_finds_what_made_objects_have(rt: HostRuntime) -> Result<(), Fail> {
     let alloc = rt.alloc();
     let program = two_classes(alloc, InvokeKind::Virtual, 1)?;
-    let tables = Hierarchy::build(alloc, &program)?;
-    let live = live_members(alloc, &program, &tables, &keeps(alloc, &[2], &[0], &[])?)?;
-    assert_eq!(rt; live.methods.as_slice(), [true, true, false].as_slice());
+    let tables = tables_of(alloc, &program)?;
+    let live = live_in(alloc, &program, &tables, &keeps(alloc, &[2], &[0], &[])?)?;
+    assert!(rt; are_marks(live.methods.as_slice(), &[true, true, false]));
     let edges = callees(
         alloc,
         &program,
@@ -157,10 +156,10 @@ fn a_virtual_call_finds_what_made_objects_have(rt: HostRuntime) -> Result<(), Fa
 fn nothing_kept_is_nothing_live(rt: HostRuntime) -> Result<(), Fail> {
     let alloc = rt.alloc();
     let program = two_classes(alloc, InvokeKind::Static, 9)?;
-    let tables = Hierarchy::build(alloc, &program)?;
-    let live = live_members(alloc, &program, &tables, &keeps(alloc, &[], &[], &[])?)?;
-    assert_eq!(rt; live.classes.as_slice(), [false; 4].as_slice());
-    assert_eq!(rt; live.methods.as_slice(), [false; 3].as_slice());
+    let tables = tables_of(alloc, &program)?;
+    let live = live_in(alloc, &program, &tables, &keeps(alloc, &[], &[], &[])?)?;
+    assert!(rt; are_marks(live.classes.as_slice(), &[false; 4]));
+    assert!(rt; are_marks(live.methods.as_slice(), &[false; 3]));
     Ok(())
 }
 
@@ -168,10 +167,10 @@ fn nothing_kept_is_nothing_live(rt: HostRuntime) -> Result<(), Fail> {
 fn a_conditional_method_is_live_with_its_class(rt: HostRuntime) -> Result<(), Fail> {
     let alloc = rt.alloc();
     let program = two_classes(alloc, InvokeKind::Static, 9)?;
-    let tables = Hierarchy::build(alloc, &program)?;
-    let live = live_members(alloc, &program, &tables, &keeps(alloc, &[2], &[0], &[2])?)?;
-    assert_eq!(rt; live.methods.as_slice(), [true, true, true].as_slice());
-    let live = live_members(alloc, &program, &tables, &keeps(alloc, &[], &[], &[2])?)?;
-    assert_eq!(rt; live.methods.as_slice(), [false; 3].as_slice());
+    let tables = tables_of(alloc, &program)?;
+    let live = live_in(alloc, &program, &tables, &keeps(alloc, &[2], &[0], &[2])?)?;
+    assert!(rt; are_marks(live.methods.as_slice(), &[true, true, true]));
+    let live = live_in(alloc, &program, &tables, &keeps(alloc, &[], &[], &[2])?)?;
+    assert!(rt; are_marks(live.methods.as_slice(), &[false; 3]));
     Ok(())
 }

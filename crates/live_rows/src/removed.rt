@@ -1,18 +1,13 @@
-use dex_base::Text;
+use crate::help::{are_numbers, tables_of, text};
+use crate::keeps;
 use hierarchy::Hierarchy;
-use program_model::{Class, ClassIf, Flags, Method, MethodName, Outside, Program, Proto, Version};
+use program_model::{
+    Changed, Class, ClassIf, Flags, Method, MethodName, Outside, Program, Proto, Version,
+};
 use reach::{apply, close};
 use seq::Seq;
 use std::alloc::{AllocError, Global};
 use std::test::*;
-
-fn text(alloc: Global, ascii: &str) -> Result<Text, AllocError> {
-    let mut units = Vec::new(alloc);
-    for byte in ascii.as_bytes() {
-        units.push(u16::from(*byte))?;
-    }
-    Ok(Text::from_vec(units))
-}
 
 /// A class whose methods, by number, are abstract.
 fn make_class(alloc: Global, name: u32, names: &[u32]) -> Result<Class, AllocError> {
@@ -74,34 +69,45 @@ fn two_classes(alloc: Global) -> Result<Program, AllocError> {
 }
 
 /// Keeps these methods; the method 1 with its class, and the class B with A.
-fn keeps(alloc: Global, methods: &[u32]) -> Result<Outside, AllocError> {
-    let mut classes_if = Seq::new(alloc);
-    classes_if.push(ClassIf { class: 3, owner: 2 })?;
-    Ok(Outside {
-        classes: Seq::new(alloc),
-        methods: Seq::of_vec(Vec::from_slice(alloc, methods)?),
-        fields: Seq::new(alloc),
-        methods_if: Seq::of_vec(Vec::from_slice(alloc, &[1])?),
-        fields_if: Seq::new(alloc),
-        classes_if,
-        shrink: true,
-        optimise: false,
-        silent: Seq::of_vec(Vec::from_slice(alloc, &[0])?),
-        shut: Seq::new(alloc),
-    })
+fn some_kept(alloc: Global, methods: &[u32]) -> Result<Outside, AllocError> {
+    let mut outside = keeps(alloc, &[], methods, &[1])?;
+    outside.classes_if.push(ClassIf { class: 3, owner: 2 })?;
+    outside.silent.push(0)?;
+    outside.optimise = false;
+    Ok(outside)
+}
+
+/// What is left of a program where these methods are kept.
+fn left_by(
+    alloc: Global,
+    program: Program,
+    tables: &Hierarchy,
+    methods: &[u32],
+) -> Result<Changed, AllocError> {
+    apply(alloc, program, tables, &some_kept(alloc, methods)?)
+}
+
+/// What is kept of these methods, and beside them, without conditions.
+fn closed_by(
+    alloc: Global,
+    program: &Program,
+    tables: &Hierarchy,
+    methods: &[u32],
+) -> Result<Outside, AllocError> {
+    close(alloc, program, tables, &some_kept(alloc, methods)?)
 }
 
 #[test]
 fn conditions_hold_where_the_class_is_live(rt: HostRuntime) -> Result<(), Fail> {
     let alloc = rt.alloc();
     let program = two_classes(alloc)?;
-    let tables = Hierarchy::build(alloc, &program)?;
-    let closed = close(alloc, &program, &tables, &keeps(alloc, &[0])?)?;
-    assert_eq!(rt; closed.classes.as_slice(), [3].as_slice());
-    assert_eq!(rt; closed.methods.as_slice(), [0, 1].as_slice());
-    let closed = close(alloc, &program, &tables, &keeps(alloc, &[2])?)?;
-    assert_eq!(rt; closed.classes.as_slice(), [].as_slice());
-    assert_eq!(rt; closed.methods.as_slice(), [2].as_slice());
+    let tables = tables_of(alloc, &program)?;
+    let closed = closed_by(alloc, &program, &tables, &[0])?;
+    assert!(rt; are_numbers(closed.classes.as_slice(), &[3]));
+    assert!(rt; are_numbers(closed.methods.as_slice(), &[0, 1]));
+    let closed = closed_by(alloc, &program, &tables, &[2])?;
+    assert!(rt; are_numbers(closed.classes.as_slice(), &[]));
+    assert!(rt; are_numbers(closed.methods.as_slice(), &[2]));
     Ok(())
 }
 
@@ -109,8 +115,8 @@ fn conditions_hold_where_the_class_is_live(rt: HostRuntime) -> Result<(), Fail> 
 fn what_is_not_live_goes(rt: HostRuntime) -> Result<(), Fail> {
     let alloc = rt.alloc();
     let program = two_classes(alloc)?;
-    let tables = Hierarchy::build(alloc, &program)?;
-    let changed = apply(alloc, program, &tables, &keeps(alloc, &[2])?)?;
+    let tables = tables_of(alloc, &program)?;
+    let changed = left_by(alloc, program, &tables, &[2])?;
     assert_eq!(rt; changed.count, 1);
     assert_eq!(rt; changed.program.classes.len(), 1);
     Ok(())
@@ -120,8 +126,8 @@ fn what_is_not_live_goes(rt: HostRuntime) -> Result<(), Fail> {
 fn where_all_is_live_nothing_goes(rt: HostRuntime) -> Result<(), Fail> {
     let alloc = rt.alloc();
     let program = two_classes(alloc)?;
-    let tables = Hierarchy::build(alloc, &program)?;
-    let changed = apply(alloc, program, &tables, &keeps(alloc, &[0, 2])?)?;
+    let tables = tables_of(alloc, &program)?;
+    let changed = left_by(alloc, program, &tables, &[0, 2])?;
     assert_eq!(rt; changed.count, 0);
     assert_eq!(rt; changed.program, two_classes(alloc)?);
     Ok(())

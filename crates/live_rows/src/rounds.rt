@@ -1,5 +1,6 @@
+use crate::keeps;
 use pipeline::optimise;
-use program_model::{Outside, Program, Version};
+use program_model::{Program, Version};
 use redex_outside::Panel;
 use seq::Seq;
 use std::test::*;
@@ -16,18 +17,7 @@ fn a_program_without_classes_takes_one_round(rt: HostRuntime) -> Result<(), Fail
         classes: Seq::new(alloc),
         version: Version::V035,
     };
-    let outside = Outside {
-        classes: Seq::new(alloc),
-        methods: Seq::new(alloc),
-        fields: Seq::new(alloc),
-        methods_if: Seq::new(alloc),
-        fields_if: Seq::new(alloc),
-        classes_if: Seq::new(alloc),
-        shrink: true,
-        optimise: true,
-        silent: Seq::new(alloc),
-        shut: Seq::new(alloc),
-    };
+    let outside = keeps(alloc, &[], &[], &[])?;
     let mut panel = Panel::new(alloc, Vec::new(alloc));
     let outcome = optimise(alloc, program, &outside, &mut panel)?;
     assert_eq!(rt; outcome.rounds, 1);

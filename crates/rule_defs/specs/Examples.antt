@@ -1,5 +1,5 @@
 -- Small rules and programs for the examples of `examples.rt`.
-use Rattle.std.specs.Prelude.{ℕ, false, true, List, [], ◌∷◌, Option, Some, None, codes}
+use Rattle.std.specs.Prelude.{ℕ, false, List, [], ◌∷◌, Some, None, codes}
 use Rattle.rule_text.specs.declared.rules.Access.TheVariants as access
 use Rattle.rule_text.specs.declared.rules.ClassKind.{ClassKind}
 use Rattle.rule_text.specs.declared.rules.ClassKind.TheVariants as class
@@ -14,8 +14,8 @@ use Rattle.dalvik_defs.specs.declared.program.NamedField.{NamedField}
 use Rattle.dalvik_defs.specs.declared.program.NamedMethod.{NamedMethod}
 use Rattle.dalvik_defs.specs.declared.program.NamedClass.{NamedClass}
 use Rattle.dalvik_defs.specs.declared.program.NamedProgram.{NamedProgram}
-use Rattle.rule_defs.specs.Tokens.{Word}
-use Rattle.rule_defs.specs.Rules.{Condition, Has, Arguments, Any, These, What, All, Init, Field, Method, MemberRule, ClassRule, KeepRule, AssumeRule, Entry, Keep, Assume}
+use Rattle.rule_text.specs.Tokens.{Word}
+use Rattle.rule_text.specs.Rules.{Condition, Has, These, What, All, Field, Method, MemberRule, ClassRule, Entry, Keep, Assume}
 
 -- ---- rules
 

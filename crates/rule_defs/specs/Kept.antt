@@ -1,6 +1,6 @@
 -- What rules keep of a program, by names (ProGuard manual, "Keep options"; this project's profile), and the closed table
 -- in which no condition is left.
-use Rattle.std.specs.Prelude.{◌≡◌, ℕ, zero, suc, Bool, true, false, ◌&&◌, ◌||◌, not, if◌then◌else◌, List, [], ◌∷◌, ◌++◌, map, filter, length, Option, Some, None, codes}
+use Rattle.std.specs.Prelude.{ℕ, zero, suc, Bool, true, false, ◌&&◌, ◌||◌, not, if◌then◌else◌, List, [], ◌∷◌, ◌++◌, filter, length, Option, Some, None}
 use Rattle.std.specs.List.{flat_map, list_any, list_all}
 use Rattle.rule_text.specs.declared.rules.ClassKind.{ClassKind}
 use Rattle.rule_text.specs.declared.rules.ClassKind.TheVariants as class
@@ -15,16 +15,14 @@ use Rattle.dalvik_defs.specs.Flags.{has_bit}
 use Rattle.dalvik_defs.specs.Under.{class_named, defines, own_above}
 use Rattle.dalvik_defs.specs.Outer.{Outer}
 use Rattle.dalvik_defs.specs.Silence.{key_in}
-use Rattle.dalvik_defs.specs.declared.names.Signature.{Signature}
 use Rattle.dalvik_defs.specs.declared.names.MethodKey.{MethodKey}
 use Rattle.dalvik_defs.specs.declared.names.FieldKey.{FieldKey}
 use Rattle.dalvik_defs.specs.declared.program.NamedField.{NamedField}
 use Rattle.dalvik_defs.specs.declared.program.NamedMethod.{NamedMethod}
 use Rattle.dalvik_defs.specs.declared.program.NamedClass.{NamedClass}
 use Rattle.dalvik_defs.specs.declared.program.NamedProgram.{NamedProgram}
-use Rattle.rule_defs.specs.Tokens.{Word}
-use Rattle.rule_defs.specs.Rules.{MemberRule, Above, ClassRule, KeepRule, AssumeRule, Entry, Setting, Keep, Assume}
-use Rattle.rule_defs.specs.Spelling.{word_eq, modifier_word, setting_word}
+use Rattle.rule_text.specs.Rules.{MemberRule, Above, ClassRule, KeepRule, Entry, Setting, Keep, Assume}
+use Rattle.rule_text.specs.Spelling.{word_eq, modifier_word, setting_word}
 use Rattle.rule_defs.specs.Patterns.{some_name_fits, class_name_fits}
 use Rattle.rule_defs.specs.Members.{OfClass, conditions_hold, has_mark, names_method, matches_method, matches_field}
 

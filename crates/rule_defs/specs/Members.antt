@@ -1,7 +1,7 @@
 -- Which members and classes the lines of a rule match (ProGuard manual, "Class specifications"; Dalvik executable format,
 -- "access_flags Definitions").
-use Rattle.std.specs.Prelude.{ℕ, ◌+◌, ◌-◌, Bool, true, false, ◌&&◌, ◌||◌, not, if◌then◌else◌, nat_eq, List, [], ◌∷◌, ◌++◌, map, filter, length, Option, Some, None, codes}
-use Rattle.std.specs.List.{concat, list_any, list_all}
+use Rattle.std.specs.Prelude.{ℕ, Bool, true, false, ◌&&◌, ◌||◌, not, if◌then◌else◌, nat_eq, List, filter, length, codes}
+use Rattle.std.specs.List.{list_any, list_all}
 use Rattle.rule_text.specs.declared.rules.Access.{Access}
 use Rattle.rule_text.specs.declared.rules.Access.TheVariants as access
 use Rattle.dalvik_defs.specs.Names.{Text, text_eq}
@@ -11,8 +11,8 @@ use Rattle.dalvik_defs.specs.declared.encoded.NamedMark.{NamedMark}
 use Rattle.dalvik_defs.specs.declared.encoded.NamedNote.{NamedNote, fold-NamedNote}
 use Rattle.dalvik_defs.specs.declared.program.NamedField.{NamedField}
 use Rattle.dalvik_defs.specs.declared.program.NamedMethod.{NamedMethod}
-use Rattle.rule_defs.specs.Tokens.{Word}
-use Rattle.rule_defs.specs.Rules.{Condition, Mark, Has, What, All, Fields, Methods, Init, Field, Method, MemberRule}
+use Rattle.rule_text.specs.Tokens.{Word}
+use Rattle.rule_text.specs.Rules.{Condition, Mark, Has, What, All, Fields, Methods, Init, Field, Method, MemberRule}
 use Rattle.rule_defs.specs.Patterns.{class_name_fits, member_name_fits, type_fits, arguments_fit}
 
 -- ---- access words

@@ -1,17 +1,17 @@
 -- What names and types with wildcards match (ProGuard manual, "Class specifications"). In the name of a class `?` is one
 -- character other than a dot, `*` any characters without a dot and `**` any characters; `*` alone matches every class.
 -- In the name of a member `?` and `*` match any characters.
-use Rattle.std.specs.Prelude.{◌≡◌, ℕ, zero, suc, ◌+◌, ◌-◌, ◌*◌, ◌/◌, ◌%◌, Bool, true, false, ◌&&◌, ◌||◌, not, if◌then◌else◌, nat_eq, nat_lt, List, [], ◌∷◌, ◌++◌, map, length, Option, Some, None, codes}
-use Rattle.std.specs.List.{concat, list_any, list_all}
+use Rattle.std.specs.Prelude.{ℕ, zero, suc, ◌+◌, ◌-◌, ◌*◌, ◌/◌, ◌%◌, Bool, true, false, ◌&&◌, ◌||◌, if◌then◌else◌, nat_eq, nat_lt, List, [], ◌∷◌, ◌++◌, map, length, codes}
+use Rattle.std.specs.List.{list_any}
 use Rattle.rule_text.specs.declared.pattern.Piece.{Piece}
 use Rattle.rule_text.specs.declared.pattern.Piece.TheVariants as piece
 use Rattle.rule_text.specs.declared.pattern.Named.{Named}
 use Rattle.rule_text.specs.declared.pattern.Named.TheVariants as named
 use Rattle.rule_text.specs.Glob.{matches_of}
 use Rattle.dalvik_defs.specs.Names.{Text, text_eq, is_array, is_class_type, item_of}
-use Rattle.rule_defs.specs.Tokens.{Word}
-use Rattle.rule_defs.specs.Rules.{Arguments, Any, These}
-use Rattle.rule_defs.specs.Spelling.{word_eq}
+use Rattle.rule_text.specs.Tokens.{Word}
+use Rattle.rule_text.specs.Rules.{Arguments, Any, These}
+use Rattle.rule_text.specs.Spelling.{word_eq}
 
 -- ---- characters
 

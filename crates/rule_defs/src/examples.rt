@@ -2,8 +2,8 @@
 
 ghost use Rattle.std.specs.Prelude.{◌≡◌, true, false, [], ◌∷◌, codes};
 ghost use Rattle.dalvik_defs.specs.Names.{text_eq};
-ghost use Rattle.rule_defs.specs.Tokens.{words_of, last_line};
-ghost use Rattle.rule_defs.specs.Spelling.{spelled, is_entry};
+ghost use Rattle.rule_text.specs.Tokens.{words_of, last_line};
+ghost use Rattle.rule_text.specs.Spelling.{spelled, is_entry};
 ghost use Rattle.rule_defs.specs.Patterns.{class_name_fits, member_name_fits, type_fits};
 ghost use Rattle.rule_defs.specs.Members.{matches_method};
 ghost use Rattle.rule_defs.specs.Kept.{table_of, closed};

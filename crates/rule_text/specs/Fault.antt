@@ -1,21 +1,34 @@
 -- The faults of a text of rules.
-use Rattle.std.specs.Prelude.{◌≡◌, ℕ, ◌≤◌, List, Option, Some}
-use Rattle.std.specs.Str.{IsValidUpTo}
+use Rattle.std.specs.Prelude.{◌≡◌, ◌⊎◌, ℕ, suc, List, map, Option, Some, None, Contains}
+use Rattle.std.specs.Str.{IsUtf8, IsValidUpTo}
+use Rattle.rule_text.specs.Tokens.{tokens_of, last_line}
+use Rattle.rule_text.specs.Faults.{IsReadable}
 use Rattle.rule_text.specs.declared.fault.RuleFault.{RuleFault}
 use Rattle.rule_text.specs.declared.fault.RuleFault.TheVariants as fault
+use Rattle.rule_text.specs.declared.token.Tokens.{Tokens}
 
--- what a fault carries: a line counts from 1, and the bytes before those that are not UTF-8 are the longest front that is
-abbrev pub IsFault : List ℕ → RuleFault → Type 0
-IsFault text fault.NoMemory = Unit {0}
-IsFault text (fault.Syntax line) = 1 ≤ line
-IsFault text (fault.Option line) = 1 ≤ line
-IsFault text (fault.NotUtf8 at) = IsValidUpTo text at
-IsFault text (fault.TooMany count) = count ≡ 4097
+-- a token of the text stands in this line
+abbrev pub IsTokenLine : List ℕ → ℕ → Type 0
+IsTokenLine text line = Contains (map (λ t. t.line) (tokens_of text)) line
 
--- the same, where it is known which bytes are not UTF-8
-abbrev pub IsFaultBy : Option ℕ → RuleFault → Type 0
-IsFaultBy bad fault.NoMemory = Unit {0}
-IsFaultBy bad (fault.Syntax line) = 1 ≤ line
-IsFaultBy bad (fault.Option line) = 1 ≤ line
-IsFaultBy bad (fault.NotUtf8 at) = bad ≡ Some at
-IsFaultBy bad (fault.TooMany count) = count ≡ 4097
+-- What a fault carries, where the front is the part of the text that can be read: the line of a token, or that in which a
+-- text without bad bytes ends; the number of bytes before those that are not UTF-8, which is the longest front that is.
+abbrev pub StandsIn : List ℕ → List ℕ → RuleFault → Type 0
+StandsIn text front fault.NoMemory = Unit {0}
+StandsIn text front (fault.Syntax line) = IsTokenLine front line ⊎ (IsUtf8 text × (line ≡ last_line text))
+StandsIn text front (fault.Option line) = IsTokenLine front line
+StandsIn text front (fault.NotUtf8 at) = IsValidUpTo text at
+StandsIn text front (fault.TooMany count) = count ≡ 4097
+
+pub record IsFault (text : List ℕ) (fault : RuleFault) : Type 0 where
+  pub front : List ℕ
+  pub readable : IsReadable text front
+  pub stands : StandsIn text front fault
+
+-- the same, where the tokens are known and which bytes are not UTF-8
+abbrev pub IsFaultBy : Tokens → Option ℕ → RuleFault → Type 0
+IsFaultBy tokens bad fault.NoMemory = Unit {0}
+IsFaultBy tokens bad (fault.Syntax line) = Contains (map (λ t. t.line) tokens.items.items) line ⊎ ((bad ≡ None) × (line ≡ suc tokens.ends))
+IsFaultBy tokens bad (fault.Option line) = Contains (map (λ t. t.line) tokens.items.items) line
+IsFaultBy tokens bad (fault.NotUtf8 at) = bad ≡ Some at
+IsFaultBy tokens bad (fault.TooMany count) = count ≡ 4097

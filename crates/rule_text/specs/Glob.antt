@@ -1,5 +1,5 @@
 -- What patterns with wildcards match.
-use Rattle.std.specs.Prelude.{◌≡◌, ℕ, ◌+◌, ◌≤◌, List, [], ◌∷◌, length, drop, Bool, true, false, Option, Some, None, not, ◌==◌, ◌&&◌, ◌||◌, nat_le, slice_index_or, if◌then◌else◌}
+use Rattle.std.specs.Prelude.{◌≡◌, ℕ, ◌≤◌, List, [], ◌∷◌, length, drop, Bool, true, false, Option, Some, None, not, ◌==◌, ◌&&◌, ◌||◌, nat_le, slice_index_or, if◌then◌else◌}
 use Rattle.rule_text.specs.declared.pattern.Piece.{Piece}
 use Rattle.rule_text.specs.declared.pattern.Piece.TheVariants.{Exactly, One, Star, Stars}
 use Rattle.rule_text.specs.declared.pattern.Named.{Named}

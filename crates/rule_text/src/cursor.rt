@@ -1,13 +1,16 @@
 //! Steps over the tokens of a text. `at` is the place of the next token, and at a fault that of the token where it
 //! stands, or the number of tokens where the text ends too early.
 
-ghost use Rattle.std.specs.Prelude.{◌≡◌, ◌+◌, ◌<◌, ◌≤◌, length, IsTrue, OnOk};
+ghost use Rattle.std.specs.Prelude.{◌≡◌, ◌+◌, ◌<◌, ◌≤◌, ◌∷◌, length, IsTrue, IsFalse, IsErr, OnOk};
+ghost use Rattle.rule_text.specs.Steps.{words_at, first_word, BeginOtherwise};
 
 use crate::stop::Stop;
 use crate::token::Token;
 
 /// The token at the place, no bytes at the end.
-pub fn word_at<'a>(tokens: &[Token<'a>], at: usize) -> &'a [u8] {
+pub fn word_at<'a>(tokens: &[Token<'a>], at: usize) -> &'a [u8]
+    ensures { result.now ≡ first_word (words_at tokens.now at) }
+{
     match tokens.get(at) {
         Some(token) => token.word,
         None => &[],
@@ -20,6 +23,7 @@ pub fn advance(tokens: &[Token<'_>], at: &mut usize)
     ensures moves { at.old ≤ at.new }
     ensures inside { at.new ≤ length tokens.now }
     ensures on { at.old < length tokens.now → at.old < at.new }
+    ensures step { at.old < length tokens.now → words_at tokens.now at.old ≡ first_word (words_at tokens.now at.old) ∷ words_at tokens.now at.new }
 {
     if *at < tokens.len() {
         *at += 1;
@@ -32,14 +36,18 @@ pub fn accept(tokens: &[Token<'_>], at: &mut usize, word: &[u8]) -> bool
     ensures moves { at.old ≤ at.new }
     ensures inside { at.new ≤ length tokens.now }
     ensures on { IsTrue result → at.old < at.new }
+    ensures step { IsTrue result → words_at tokens.now at.old ≡ word.now ∷ words_at tokens.now at.new }
+    ensures stays { IsFalse result → at.new ≡ at.old }
+    ensures otherwise { IsFalse result → BeginOtherwise word.now (words_at tokens.now at.old) }
 {
-    match tokens.get(*at) {
-        Some(token) if token.word == word => {
-            *at += 1;
-            true
-        }
-        _ => false,
+    let Some(token) = tokens.get(*at) else {
+        return false;
+    };
+    if token.word != word {
+        return false;
     }
+    *at += 1;
+    true
 }
 
 /// Goes over the next token, which has to be this word.
@@ -48,6 +56,9 @@ pub fn expect_word(tokens: &[Token<'_>], at: &mut usize, word: &[u8]) -> Result<
     ensures moves { at.old ≤ at.new }
     ensures inside { at.new ≤ length tokens.now }
     ensures on { OnOk result (at.old < at.new) }
+    ensures step { OnOk result (words_at tokens.now at.old ≡ word.now ∷ words_at tokens.now at.new) }
+    ensures stays { IsErr result → at.new ≡ at.old }
+    ensures otherwise { IsErr result → BeginOtherwise word.now (words_at tokens.now at.old) }
 {
     if accept(tokens, at, word) {
         Ok(())

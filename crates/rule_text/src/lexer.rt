@@ -1,7 +1,8 @@
 //! From a text of rules to its tokens.
 
-ghost use Rattle.std.specs.Prelude.{◌≡◌, ◌+◌, ◌<◌, ◌≤◌, ◌^◌, length, not, position, IfSome};
-ghost use Rattle.rule_text.specs.Tokens.{is_mark, is_blank, in_run, in_line, front_len, FrontIsShorter};
+ghost use Rattle.std.specs.Prelude.{◌≡◌, ◌+◌, ◌<◌, ◌≤◌, ◌^◌, length, not, position, IfOk, IfSome};
+ghost use Rattle.rule_text.specs.Bytes.{is_mark, is_blank, in_run, in_line, front_len, FrontIsShorter};
+ghost use Rattle.rule_text.specs.Fronts.{FrontTells, AreTokensOf, IsWholeLen};
 
 use crate::token::{Token, Tokens};
 use std::alloc::{AllocError, Global};
@@ -84,21 +85,23 @@ fn comment_len(text: &[u8]) -> usize
 
 /// How many bytes are left without the run at the end, of which it is not known how it goes on.
 pub fn whole_len(text: &[u8]) -> usize
-    ensures { result ≤ length text.now }
+    ensures whole { IsWholeLen text.now result }
+    ensures inside { result ≤ length text.now }
 {
-    let mut rest = text;
-    while let [front @ .., last] = rest {
-        if !in_run(*last) {
+    let mut len = text.len();
+    while len > 0 {
+        if !in_run(text[len - 1]) {
             break;
         }
-        rest = front;
+        len -= 1;
     }
-    rest.len()
+    len
 }
 
 /// What stands at the front.
 fn read_front(text: &[u8]) -> Front<'_>
-    ensures { FrontIsShorter text.now result }
+    ensures tells { FrontTells text.now result }
+    ensures shorter { FrontIsShorter text.now result }
 {
     let (first, tail) = match text {
         [] => return Front::End,
@@ -121,6 +124,7 @@ fn read_front(text: &[u8]) -> Front<'_>
 /// The tokens of a text. The only error is want of memory.
 pub fn tokens_of(alloc: Global, text: &[u8]) -> Result<Tokens<'_>, AllocError>
     requires { length text.now < 2 ^ 32 }
+    ensures { IfOk result (AreTokensOf text.now) }
 {
     let mut items = Vec::new(alloc);
     let mut ends: u32 = 0;

@@ -1,6 +1,9 @@
 //! Reading of which classes a rule names.
 
-ghost use Rattle.std.specs.Prelude.{◌≡◌, ◌+◌, ◌<◌, ◌≤◌, length, IsTrue, OnOk};
+ghost use Rattle.std.specs.Prelude.{◌≡◌, ◌+◌, ◌<◌, ◌≤◌, ◌∷◌, ◌++◌, true, length, IsTrue, IsErr, IfOk, IfSome, IfNone, OnOk};
+ghost use Rattle.rule_text.specs.Spelling.{access_word, kind_word, bang};
+ghost use Rattle.rule_text.specs.Words.{is_of_class};
+ghost use Rattle.rule_text.specs.Steps.{words_at, BeginWithNone};
 
 use crate::cursor::{accept, advance, word_at};
 use crate::parse_member::{read_mark, read_members, read_name};
@@ -35,13 +38,16 @@ fn read_access(tokens: &[Token<'_>], at: &mut usize) -> Option<(bool, Access)>
     requires { at.old ≤ length tokens.now }
     ensures moves { at.old ≤ at.new }
     ensures inside { at.new ≤ length tokens.now }
+    ensures step { IfSome result (λ found. words_at tokens.now at.old ≡ bang found.0 ++ (access_word found.1 ∷ words_at tokens.now at.new)) }
+    ensures class { IfSome result (λ found. is_of_class found.1 ≡ true) }
+    ensures stays { IfNone result (at.new ≡ at.old) }
 {
-    let negated = matches!(word_at(tokens, *at), b"!");
-    let place = at.saturating_add(usize::from(negated));
-    let access = class_access(word_at(tokens, place))?;
-    if negated {
-        advance(tokens, at);
-    }
+    let start = *at;
+    let negated = accept(tokens, at, b"!");
+    let Some(access) = class_access(word_at(tokens, *at)) else {
+        *at = start;
+        return None;
+    };
     advance(tokens, at);
     Some((negated, access))
 }
@@ -93,6 +99,8 @@ fn read_kind(tokens: &[Token<'_>], at: &mut usize) -> Result<ClassKind, Stop>
     requires { at.old ≤ length tokens.now }
     ensures moves { at.old ≤ at.new }
     ensures inside { at.new ≤ length tokens.now }
+    ensures step { IfOk result (λ kind. words_at tokens.now at.old ≡ kind_word kind ∷ words_at tokens.now at.new) }
+    ensures stays { IsErr result → (at.new ≡ at.old) × BeginWithNone kind_word (words_at tokens.now at.old) }
 {
     match class_kind(word_at(tokens, *at)) {
         Some(kind) => {

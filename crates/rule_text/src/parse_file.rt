@@ -1,8 +1,12 @@
 //! Reading of a whole text.
 
-ghost use Rattle.std.specs.Prelude.{◌≡◌, ◌+◌, ◌<◌, ◌≤◌, ◌^◌, ◌↔◌, length, IsErr, IsTrue, OnOk, IfOk, IfErr, IfSome, MatchOption};
+ghost use Rattle.std.specs.Prelude.{◌≡◌, ◌+◌, ◌<◌, ◌≤◌, ◌^◌, ◌↔◌, ◌∷◌, None, length, IsErr, IsTrue, OnOk, IfOk, IfErr, IfSome, MatchOption};
 ghost use Rattle.std.specs.Str.{IsUtf8, IsValidUpTo};
 ghost use Rattle.rule_text.specs.Fault.{IsFault, IsFaultBy};
+ghost use Rattle.rule_text.specs.Faults.{IsReadable};
+ghost use Rattle.rule_text.specs.Fronts.{AreTokensOf};
+ghost use Rattle.rule_text.specs.Spelling.{modifier_word};
+ghost use Rattle.rule_text.specs.Steps.{words_at, BeginWithNone};
 
 use crate::cursor::{accept, advance, expect_word, word_at};
 use crate::fault::RuleFault;
@@ -23,6 +27,8 @@ fn read_modifier(tokens: &[Token<'_>], at: &mut usize) -> Result<Modifier, Stop>
     requires { at.old ≤ length tokens.now }
     ensures moves { at.old ≤ at.new }
     ensures inside { at.new ≤ length tokens.now }
+    ensures step { IfOk result (λ modifier. words_at tokens.now at.old ≡ modifier_word modifier ∷ words_at tokens.now at.new) }
+    ensures stays { IsErr result → (at.new ≡ at.old) × BeginWithNone modifier_word (words_at tokens.now at.old) }
 {
     match modifier(word_at(tokens, *at)) {
         Some(modifier) => {
@@ -159,6 +165,7 @@ fn read_entries(alloc: Global, tokens: &[Token<'_>], at: &mut usize) -> Result<V
     requires { at.old ≤ length tokens.now }
     ensures moves { at.old ≤ at.new }
     ensures inside { at.new ≤ length tokens.now }
+    ensures some { IsErr result → 0 < length tokens.now }
 {
     let mut entries = Vec::new(alloc);
     let mut rules: u32 = 0;
@@ -183,8 +190,10 @@ fn bad_byte(text: &[u8]) -> Option<usize>
 
 /// The bytes of the text up to those that are not UTF-8, without the run that goes on into them.
 fn readable(text: &[u8], bad: Option<usize>) -> &[u8]
-    requires { IfSome bad (λ at. at < length text.now) }
-    ensures { length result.now ≤ length text.now }
+    requires { MatchOption bad (IsUtf8 text.now) (IsValidUpTo text.now) }
+    ensures readable { IsReadable text.now result.now }
+    ensures all { bad ≡ None → result.now ≡ text.now }
+    ensures short { length result.now ≤ length text.now }
 {
     match bad {
         Some(at) => {
@@ -198,39 +207,40 @@ fn readable(text: &[u8], bad: Option<usize>) -> &[u8]
 /// The fault of a token that fits nothing, or of a text that ends too early: by bytes that are not UTF-8, if there are
 /// any.
 fn syntax_fault(tokens: &Tokens<'_>, at: usize, bad: Option<usize>) -> RuleFault
-    ensures { IsFaultBy bad result }
+    requires { tokens.now.ends + 1 < 2 ^ 32 }
+    ensures { IsFaultBy tokens.now bad result }
 {
     match tokens.items.get(at) {
         Some(token) => RuleFault::Syntax { line: token.line },
         None => match bad {
             Some(at) => RuleFault::NotUtf8 { at },
             None => RuleFault::Syntax {
-                line: tokens.ends.saturating_add(1),
+                line: tokens.ends + 1,
             },
         },
     }
 }
 
-/// The line of the token at the place, which is there.
-fn line_at(tokens: &Tokens<'_>, at: usize) -> u32
-    ensures { 1 ≤ result }
+/// The fault of an option that isn't known. It stands at a token; the end of the text is no option.
+fn option_fault(tokens: &Tokens<'_>, at: usize, bad: Option<usize>) -> RuleFault
+    requires { tokens.now.ends + 1 < 2 ^ 32 }
+    ensures { IsFaultBy tokens.now bad result }
 {
     match tokens.items.get(at) {
-        Some(token) => token.line,
-        None => 1,
+        Some(token) => RuleFault::Option { line: token.line },
+        None => syntax_fault(tokens, at, bad),
     }
 }
 
 /// The fault at a token.
 fn fault_of(tokens: &Tokens<'_>, at: usize, stop: Stop, bad: Option<usize>) -> RuleFault
-    ensures { IsFaultBy bad result }
+    requires { tokens.now.ends + 1 < 2 ^ 32 }
+    ensures { IsFaultBy tokens.now bad result }
 {
     match stop {
         Stop::NoMemory => RuleFault::NoMemory,
         Stop::Syntax => syntax_fault(tokens, at, bad),
-        Stop::Option => RuleFault::Option {
-            line: line_at(tokens, at),
-        },
+        Stop::Option => option_fault(tokens, at, bad),
         Stop::TooMany => RuleFault::TooMany {
             count: MOST_RULES + 1,
         },

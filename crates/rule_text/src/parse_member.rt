@@ -1,6 +1,8 @@
 //! Reading of names, types and member lines.
 
-ghost use Rattle.std.specs.Prelude.{◌≡◌, ◌+◌, ◌<◌, ◌≤◌, length, IsTrue, OnOk};
+ghost use Rattle.std.specs.Prelude.{◌≡◌, ◌+◌, ◌<◌, ◌≤◌, ◌∷◌, ◌++◌, length, IsTrue, IfOk, IfSome, IfNone, OnOk};
+ghost use Rattle.rule_text.specs.Spelling.{access_word, bang};
+ghost use Rattle.rule_text.specs.Steps.{IsNameStep, words_at};
 
 use crate::cursor::{accept, advance, expect_word, word_at};
 use crate::pattern::NamePattern;
@@ -17,15 +19,17 @@ pub fn read_name(alloc: Global, tokens: &[Token<'_>], at: &mut usize) -> Result<
     ensures moves { at.old ≤ at.new }
     ensures inside { at.new ≤ length tokens.now }
     ensures on { OnOk result (at.old < at.new) }
+    ensures step { OnOk result (IsNameStep tokens.now at.old at.new) }
 {
-    match tokens.get(*at) {
-        Some(token) if is_name(token.word) => {
-            let name = pattern_of(alloc, token.word)?;
-            *at += 1;
-            Ok(name)
-        }
-        _ => Err(Stop::Syntax),
+    let Some(token) = tokens.get(*at) else {
+        return Err(Stop::Syntax);
+    };
+    if !is_name(token.word) {
+        return Err(Stop::Syntax);
     }
+    let name = pattern_of(alloc, token.word)?;
+    *at += 1;
+    Ok(name)
 }
 
 /// The annotation that a token `@NAME` asks for.
@@ -86,15 +90,17 @@ fn read_type(alloc: Global, tokens: &[Token<'_>], at: &mut usize) -> Result<Type
     ensures moves { at.old ≤ at.new }
     ensures inside { at.new ≤ length tokens.now }
     ensures on { OnOk result (at.old < at.new) }
+    ensures step { OnOk result (IsNameStep tokens.now at.old at.new) }
 {
-    match tokens.get(*at) {
-        Some(token) if is_name(token.word) => {
-            let kind = type_of(alloc, token.word)?;
-            *at += 1;
-            Ok(kind)
-        }
-        _ => Err(Stop::Syntax),
+    let Some(token) = tokens.get(*at) else {
+        return Err(Stop::Syntax);
+    };
+    if !is_name(token.word) {
+        return Err(Stop::Syntax);
     }
+    let kind = type_of(alloc, token.word)?;
+    *at += 1;
+    Ok(kind)
 }
 
 /// A type of an argument, for which `...` doesn't stand.
@@ -203,6 +209,8 @@ fn read_access(tokens: &[Token<'_>], at: &mut usize) -> Result<Option<(bool, Acc
     requires { at.old ≤ length tokens.now }
     ensures moves { at.old ≤ at.new }
     ensures inside { at.new ≤ length tokens.now }
+    ensures step { IfOk result (λ read. IfSome read (λ found. words_at tokens.now at.old ≡ bang found.0 ++ (access_word found.1 ∷ words_at tokens.now at.new))) }
+    ensures stays { IfOk result (λ read. IfNone read (at.new ≡ at.old)) }
 {
     let negated = accept(tokens, at, b"!");
     match member_access(word_at(tokens, *at)) {

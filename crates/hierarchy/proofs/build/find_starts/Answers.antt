@@ -1,5 +1,4 @@
-use Rattle.std.proofs.Common.{◌≡◌, ◌∙◌, subst, sym}
-use Rattle.class_defs.specs.Starts.{is_trivial}
+use Rattle.std.proofs.Common.{subst, sym}
 use Rattle.hierarchy.specs.Quieting.{Serves}
 use Rattle.hierarchy.proofs.Served.{serves}
 use Rattle.hierarchy.proofs.Started.{starts_are, few_of}

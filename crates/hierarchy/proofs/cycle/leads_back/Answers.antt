@@ -1,4 +1,4 @@
-use Rattle.std.proofs.Common.{◌≡◌, ◌∙◌, ◌∷◌, ◌++◌, ℕ, List, refl, ap, sym, subst, length, false, append-nil, None}
+use Rattle.std.proofs.Common.{◌≡◌, ◌∙◌, ◌++◌, ℕ, List, ap, sym, subst, length, false, append-nil, None}
 use Rattle.std.specs.Prelude.{slice_index_or}
 use Rattle.class_defs.specs.Finding.{beside}
 use Rattle.hierarchy.specs.Climbing.{ups}

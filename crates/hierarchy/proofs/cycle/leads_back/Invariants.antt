@@ -1,4 +1,4 @@
-use Rattle.std.proofs.Common.{◌≡◌, ◌+◌, ◌++◌, ◌<◌, ℕ, length}
+use Rattle.std.proofs.Common.{◌≡◌, ◌+◌, ◌++◌, length}
 use Rattle.class_defs.specs.Finding.{beside}
 use Rattle.hierarchy.specs.Climbing.{ups}
 use Rattle.hierarchy.specs.Tables.{read_at, row_of}

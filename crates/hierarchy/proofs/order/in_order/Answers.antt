@@ -1,6 +1,6 @@
-use Rattle.std.proofs.Common.{◌≡◌, ◌∙◌, ◌<◌, ◌+◌, [], ℕ, List, refl, sym, ap, subst, length, ◌∷◌}
-use Rattle.hierarchy.specs.Climbing.{todo, ups, Follows}
-use Rattle.hierarchy.proofs.Climbs.{follow_on, fewer_tasks, same_sizes, cost, Walks}
+use Rattle.std.proofs.Common.{◌≡◌, ◌∙◌, ◌<◌, ◌+◌, [], ℕ, List, sym, ap, subst, length, ◌∷◌}
+use Rattle.hierarchy.specs.Climbing.{todo, ups}
+use Rattle.hierarchy.proofs.Climbs.{follow_on, fewer_tasks, same_sizes, cost}
 use Rattle.hierarchy.proofs.Climbed.{new_free, new_walks, pushed_free, pushed_walks, popped_walks, round_circle, walked_order}
 use Rattle.hierarchy.proofs.Deep.{weight}
 use Rattle.hierarchy.proofs.order.in_order.Goals as goal

@@ -1,4 +1,4 @@
-use Rattle.std.proofs.Common.{◌≡◌, ◌∙◌, ◌<◌, ◌≤◌, ℕ, sym, ap, length, slice_index, arith, false}
+use Rattle.std.proofs.Common.{◌∙◌, ◌≤◌, ℕ, ap, length, slice_index, arith, false}
 use Rattle.std.specs.Prelude.{◌&&◌, not, is_some, slice_index_or}
 use Rattle.std.specs.List.{list_all}
 use Rattle.hierarchy.specs.Quieting.{is_quiet}

@@ -1,5 +1,3 @@
-use Rattle.std.proofs.Common.{◌≡◌, ◌≤◌, take, get_or, length, arith}
-use Rattle.program_model.specs.declared.program.Method.{Method}
 use Rattle.std.proofs.lemmas.List.{take_all}
 use Rattle.hierarchy.proofs.Splits.{notes_none, notes_method, notes_all}
 use Rattle.hierarchy.proofs.split.note_all.Goals as goal

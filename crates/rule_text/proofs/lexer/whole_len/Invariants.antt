@@ -1,8 +1,11 @@
-use Rattle.std.proofs.Common.{◌≤◌, length}
+use Rattle.std.proofs.Common.{◌≡◌, ◌≤◌, length, drop, true}
+use Rattle.std.specs.List.{list_all}
+use Rattle.rule_text.specs.Bytes.{in_run}
 use Rattle.rule_text.proofs.lexer.whole_len.Given as goal
 
-abbrev pub invariant-loop-rest : goal.invariant-loop-rest
-invariant-loop-rest l = length l.rest ≤ length l.fn.text
+-- what is left out is part of a run
+abbrev pub invariant-loop-len : goal.invariant-loop-len
+invariant-loop-len l = (l.len ≤ length l.fn.text) × (list_all in_run (drop l.len l.fn.text) ≡ true)
 
-abbrev pub decreases-loop-rest : goal.decreases-loop-rest
-decreases-loop-rest l = length l.rest
+abbrev pub decreases-loop-len : goal.decreases-loop-len
+decreases-loop-len l = l.len

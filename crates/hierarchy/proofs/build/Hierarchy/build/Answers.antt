@@ -16,7 +16,7 @@ pub returns-in-Ok-clause-acyclic : goal.returns-in-Ok-clause-acyclic
 returns-in-Ok-clause-acyclic c = λ h. built_acyclic c.args.program.now c.complete.result (filled c.args.program.now c.in-Ok.shape c.complete.result h c.in-Ok.ensures.made c.complete.ensures.links (c.complete.ensures.names h))
 
 pub returns-in-Ok-clause-resolved : goal.returns-in-Ok-clause-resolved
-returns-in-Ok-clause-resolved c = λ h. resolved c.args.program.now c.complete.result (filled c.args.program.now c.in-Ok.shape c.complete.result h c.in-Ok.ensures.made c.complete.ensures.links (c.complete.ensures.names h)) c.complete.ensures.targets (c.complete.ensures.starts h) (c.complete.ensures.trivial h c.in-Ok.ensures.made)
+returns-in-Ok-clause-resolved c = λ h. resolved c.args.program.now c.complete.result (filled c.args.program.now c.in-Ok.shape c.complete.result h c.in-Ok.ensures.made c.complete.ensures.links (c.complete.ensures.names h)) c.complete.ensures.targets (c.complete.ensures.starts h) (c.complete.ensures.trivial h c.in-Ok.ensures.made) (c.complete.ensures.toured h c.in-Ok.ensures.made)
 
 pub returns-in-Ok-clause-unsplit : goal.returns-in-Ok-clause-unsplit
 returns-in-Ok-clause-unsplit c = λ h. c.complete.ensures.unsplit h c.in-Ok.ensures.made

@@ -1,0 +1,92 @@
+-- The lines of faults, and the part of a text that can be read.
+use Rattle.std.proofs.Common.{◌≡◌, inl, inr, ◌<◌, ◌≤◌, ℕ, suc, Bool, true, false, List, [], ◌∷◌, map, length, take, drop, filter, nat_eq, slice_index_or, Option, Some, None, MatchOption, Contains, refl, sym, ap, subst, ◌∙◌, eqb-true, eq-or-lt_of_le, cond, arith}
+use Rattle.std.specs.Str.{IsUtf8, IsValidUpTo}
+use Rattle.std.proofs.lemmas.List.{take-append-drop, length-map, get_or-map}
+use Rattle.std.proofs.lemmas.Simd.{map-map}
+use Rattle.rule_text.specs.Tokens.{tokens_from, tokens_of, last_line}
+use Rattle.rule_text.specs.Faults.{IsReadable, Whole, Front}
+use Rattle.rule_text.specs.Fronts.{line_ends, token_view, AreTokensOf, IsWholeLen}
+use Rattle.rule_text.specs.Fault.{IsTokenLine, IsFault, IsFaultBy}
+use Rattle.rule_text.specs.declared.fault.RuleFault.{RuleFault}
+use Rattle.rule_text.specs.declared.fault.RuleFault.TheVariants as fault
+use Rattle.rule_text.specs.declared.token.Token.{Token as Lexed}
+use Rattle.rule_text.specs.declared.token.Tokens.{Tokens}
+
+pub front_readable : (text : List ℕ) (bad : Option ℕ) (at n : ℕ) → MatchOption bad (IsUtf8 text) (IsValidUpTo text) → bad ≡ Some at → IsWholeLen (take at text) n → IsReadable text (take n (take at text))
+front_readable text bad at n known is whole =
+    let valid : IsValidUpTo text at = subst (λ o. MatchOption o (IsUtf8 text) (IsValidUpTo text)) is known in
+    Front text (take n (take at text)) (drop n (take at text)) at valid (take-append-drop n (take at text)) whole.run whole.front
+
+pub all_readable : (text : List ℕ) (bad : Option ℕ) → MatchOption bad (IsUtf8 text) (IsValidUpTo text) → bad ≡ None → IsReadable text text
+all_readable text bad known is = Whole text (subst (λ o. MatchOption o (IsUtf8 text) (IsValidUpTo text)) is known)
+
+pub contains_line : (xs : List Lexed) (k : ℕ) (t : Lexed) → k < length xs → slice_index_or xs k t ≡ t → Contains (map (λ t. t.line) xs) t.line
+contains_line xs k t below is =
+    let many : length (map (λ t. t.line) xs) ≡ length xs = length-map xs (λ t. t.line) in
+    (k, rw many below, get_or-map (λ t. t.line) xs k t t.line below ∙ ap (λ t. t.line) is)
+
+-- ---- a text with a token has a byte that ends no line
+
+ends_one : (c : ℕ) (cs : List ℕ) (b : Bool) → nat_eq 10 c ≡ b → line_ends cs ≤ length cs → line_ends (c ∷ cs) ≤ length (c ∷ cs)
+ends_one c cs true e h = rw e (omega arith)
+ends_one c cs false e h = rw e (omega arith)
+
+ends_most : (text : List ℕ) → line_ends text ≤ length text
+ends_most [] = omega arith
+ends_most (c ∷ cs) = ends_one c cs (nat_eq 10 c) refl (ends_most cs)
+
+feeds_alone : (c : ℕ) (cs : List ℕ) (b : Bool) → nat_eq 10 c ≡ b → line_ends (c ∷ cs) ≡ length (c ∷ cs)
+    → (line_ends cs ≡ length cs → (line : ℕ) → tokens_from line false [] cs ≡ []) → (line : ℕ) → tokens_from line false [] (c ∷ cs) ≡ []
+feeds_alone c cs true e all more line =
+    let same : suc (line_ends cs) ≡ suc (length cs) = ap (λ b. length (cond b (c ∷ filter (nat_eq 10) cs) (filter (nat_eq 10) cs))) (sym e) ∙ all in
+    subst (λ x. tokens_from line false [] (x ∷ cs) ≡ []) (eqb-true 10 c e) (more (omega arith) (suc line))
+feeds_alone c cs false e all more line =
+    let same : line_ends cs ≡ suc (length cs) = ap (λ b. length (cond b (c ∷ filter (nat_eq 10) cs) (filter (nat_eq 10) cs))) (sym e) ∙ all in
+    let most : line_ends cs ≤ length cs = ends_most cs in
+    let no : ⊥ = omega arith in
+    absurd no
+
+only_feeds : (text : List ℕ) → line_ends text ≡ length text → (line : ℕ) → tokens_from line false [] text ≡ []
+only_feeds [] all line = refl
+only_feeds (c ∷ cs) all line = feeds_alone c cs (nat_eq 10 c) refl all (only_feeds cs) line
+
+no_items : (xs : List Lexed) → map token_view xs ≡ [] → 0 < length xs → ⊥
+no_items [] none some = omega arith
+no_items (x ∷ xs) none some = cc
+
+pub few_ends : (text : List ℕ) (tokens : Tokens) → AreTokensOf text tokens → 0 < length tokens.items.items → tokens.ends < length text
+few_ends text tokens are some =
+    let most : line_ends text ≤ length text = ends_most text in
+    let ends : tokens.ends ≡ line_ends text = are.ends in
+    let other : line_ends text ≡ length text → ⊥ = λ all. no_items tokens.items.items (are.items ∙ only_feeds text all 1) some in
+    let less : line_ends text < length text = elim (eq-or-lt_of_le most) [ inl all ↦ absurd (other all) | inr l ↦ l ] in
+    rw ends less
+
+line_of : (text : List ℕ) (tokens : Tokens) (line : ℕ) → AreTokensOf text tokens → Contains (map (λ t. t.line) tokens.items.items) line → IsTokenLine text line
+line_of text tokens line are has =
+    let views : map (λ t. t.line) (map token_view tokens.items.items) ≡ map (λ t. t.line) tokens.items.items = map-map (λ t. t.line) token_view tokens.items.items in
+    let lines : map (λ t. t.line) (tokens_of text) ≡ map (λ t. t.line) tokens.items.items = ap (λ ts. map (λ t. t.line) ts) (sym are.items) ∙ views in
+    subst (λ ls. Contains ls line) (sym lines) has
+
+-- what the tokens and the bad bytes tell of the fault is what the text tells
+pub faults : (text front : List ℕ) (bad : Option ℕ) (tokens : Tokens) (found : RuleFault)
+    → MatchOption bad (IsUtf8 text) (IsValidUpTo text) → IsReadable text front → (bad ≡ None → front ≡ text) → AreTokensOf front tokens
+    → IsFaultBy tokens bad found → IsFault text found
+faults text front bad tokens fault.NoMemory known readable all are by = record { front = front; readable = readable; stands = tt }
+faults text front bad tokens (fault.Syntax line) known readable all are (inl has) = record { front = front; readable = readable; stands = inl (line_of front tokens line are has) }
+faults text front bad tokens (fault.Syntax line) known readable all are (inr ends) = record {
+  front = front;
+  readable = readable;
+  stands = inr (subst (λ o. MatchOption o (IsUtf8 text) (IsValidUpTo text)) ends.0 known, ends.1 ∙ ap suc are.ends ∙ ap last_line (all ends.0));
+}
+faults text front bad tokens (fault.Option line) known readable all are has = record { front = front; readable = readable; stands = line_of front tokens line are has }
+faults text front bad tokens (fault.NotUtf8 at) known readable all are is = record {
+  front = front;
+  readable = readable;
+  stands = subst (λ o. MatchOption o (IsUtf8 text) (IsValidUpTo text)) is known;
+}
+faults text front bad tokens (fault.TooMany count) known readable all are is = record { front = front; readable = readable; stands = is }
+
+-- no token has to be read where memory runs out
+pub no_memory : (text front : List ℕ) (found : RuleFault) → IsReadable text front → found ≡ fault.NoMemory → IsFault text found
+no_memory text front found readable is = subst (IsFault text) (sym is) (record { front = front; readable = readable; stands = tt })

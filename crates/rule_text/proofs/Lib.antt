@@ -1,0 +1,4 @@
+pub mod FaultLemmas
+pub mod FrontLemmas
+pub mod RunLemmas
+pub mod StepLemmas

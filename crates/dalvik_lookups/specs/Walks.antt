@@ -1,7 +1,17 @@
 -- Walks up from a type by the rows of types, and what is kept of walks.
-use Rattle.std.specs.Prelude.{◌≡◌, ◌⊎◌, ◌<◌, ◌≤◌, ℕ, ◌+◌, Bool, true, false, not, List, [], ◌++◌, length, take, count_by, Some, slice_get, slice_index_or, vec_len, Contains}
-use Rattle.dalvik_defs.specs.Naming.{named}
-use Rattle.dalvik_defs.specs.Under.{class_under}
+use Rattle.std.specs.Prelude.{◌≡◌, ◌⊎◌, ◌<◌, ◌≤◌, ℕ, ◌+◌, Bool, true, false, not, List, [], ◌++◌, length, take, count_by, Option, Some, None, slice_get, slice_index_or, vec_len, Contains, cond}
+use Rattle.program_model.specs.declared.pools.MethodName.{MethodName}
+use Rattle.program_model.specs.declared.program.Class.{Class}
+use Rattle.program_model.specs.declared.program.Program.{Program}
+use Rattle.class_defs.specs.Finding.{finds_at}
+use Rattle.class_defs.specs.Finding as look
+use Rattle.hierarchy.specs.Walking.{IsFair}
+use Rattle.dalvik_defs.specs.Names.{Text}
+use Rattle.dalvik_defs.specs.Naming.{type_at, named}
+use Rattle.dalvik_defs.specs.Under.{class_under, is_under}
+use Rattle.dalvik_lookups.specs.declared.finds.Search.{Search}
+use Rattle.dalvik_lookups.specs.declared.finds.Search.TheVariants as find
+use Rattle.dalvik_lookups.specs.declared.memo.Recent.{Recent}
 use Rattle.dalvik_lookups.specs.declared.graph.Above.{Above}
 use Rattle.dalvik_lookups.specs.declared.marks.Marks.{Marks}
 use Rattle.dalvik_lookups.specs.declared.memo.Asked.{Asked}
@@ -64,8 +74,36 @@ pub record IsWalked (a : Above) (m : Marks) (x : ℕ) : Type 0 where
 pub record IsInside (a : Above) (size : ℕ) : Type 0 where
   pub below : (n u : ℕ) → n < size → Contains (row_at a n) u → u < size
 
--- What is kept of the tests whether types are under others is right, and no mark is left of a walk.
+-- ---- what calls find, and what is kept of it
+
+-- an answer of a look-up by number
+abbrev pub search_by : look.Search → Search
+search_by look.Nothing = find.Nothing
+search_by look.Clash = find.Clash
+search_by (look.Finds at) = find.Finds at
+
+abbrev pub type_of_class : Program → Option Class → Text
+type_of_class p None = []
+type_of_class p (Some k) = type_at p k.name
+
+-- what a virtual or interface call of a name finds at a receiver of a class, where that is under the class that it names
+abbrev pub found_at : Lookups → ℕ → MethodName → Search
+found_at l c q = cond (is_under (named l.program.now) l.framework.now (type_of_class l.program.now (slice_get l.program.now.classes c)) (type_at l.program.now q.class)) (search_by (finds_at l.program.now c q.name q.proto)) find.Nothing
+
+abbrev pub found_of : Lookups → Option ℕ → MethodName → Search
+found_of l None q = find.Nothing
+found_of l (Some c) q = found_at l c q
+
+-- what is kept of virtual and interface calls is what they find
+pub record AreFound (l : Lookups) (calls : List Recent) : Type 0 where
+  pub is : (i c : ℕ) (found : Search) (q : MethodName) → slice_get calls i ≡ Some (record { class = Some c; found = found }) → slice_get l.program.now.methods i ≡ Some q → found ≡ found_at l c q
+
+-- What is kept of the tests whether types are under others and of calls is right, and no mark is left of a walk up; a walk over
+-- classes has a mark for each.
 pub record IsKept (l : Lookups) (m : Memo) : Type 0 where
+  pub fair : IsFair m.walk
+  pub long : length m.walk.seen.items ≡ length l.program.now.classes
+  pub virtuals : AreFound l m.virtual_calls.items
   pub size : vec_len m.marks.marks ≡ length (names_of l.types)
   pub clean : IsClean m.marks
   pub under : (u : ℕ) (a : Asked) → slice_get m.under.items u ≡ Some (Some a) → a.answer ≡ class_under (named l.program.now) l.framework.now (name_at l.types a.lower) (name_at l.types u)
@@ -73,4 +111,12 @@ pub record IsKept (l : Lookups) (m : Memo) : Type 0 where
 -- one more answer is kept
 pub record KeepsUnder (old new : Memo) (lower upper : ℕ) (answer : Bool) : Type 0 where
   pub marks : new.marks ≡ old.marks
+  pub walk : new.walk ≡ old.walk
+  pub virtuals : new.virtual_calls ≡ old.virtual_calls
   pub under : (u : ℕ) (a : Asked) → slice_get new.under.items u ≡ Some (Some a) → (slice_get old.under.items u ≡ Some (Some a)) ⊎ ((u ≡ upper) × (a ≡ record { lower = lower; answer = answer }))
+
+-- the marks, the walk and the answers whether types are under others stay
+pub record Rests (old new : Memo) : Type 0 where
+  pub marks : new.marks ≡ old.marks
+  pub walk : new.walk ≡ old.walk
+  pub under : new.under ≡ old.under

@@ -1,8 +1,15 @@
 //! What a call finds.
 
-ghost use Rattle.std.specs.Prelude.{◌≡◌};
-ghost use Rattle.class_defs.specs.Finding.{finds_static};
-ghost use Rattle.dalvik_lookups.specs.Tables.{search_of, IsRight};
+ghost use Rattle.std.specs.Prelude.{◌≡◌, ℕ, Some, flat_map, slice_get, IfOk, OnOk};
+ghost use Rattle.program_model.specs.declared.pools.MethodName.{MethodName};
+ghost use Rattle.program_model.specs.declared.program.Class.{Class};
+ghost use Rattle.class_defs.specs.Finding.{finds_static, finds_at, finds_among, verdict, lowest};
+ghost use Rattle.class_defs.specs.Places.{interface_places, chain_of};
+ghost use Rattle.hierarchy.specs.Giving as giving;
+ghost use Rattle.hierarchy.specs.Naming.{IsKey};
+ghost use Rattle.dalvik_lookups.specs.Tables.{search_of, place_named, IsRight};
+ghost use Rattle.dalvik_lookups.specs.Views.{type_text, IsKind};
+ghost use Rattle.dalvik_lookups.specs.Walks.{search_by, found_at, found_of, IsKept};
 
 use crate::lookups::Lookups;
 use crate::memo::Memo;
@@ -30,7 +37,9 @@ fn search_of(found: Option<MethodAt>) -> Search
 }
 
 /// What candidates give.
-fn search_given(given: Given) -> Search {
+fn search_given(given: Given) -> Search
+    ensures { result ≡ search_by (giving.search_given given) }
+{
     match given {
         Given::Nothing => Search::Nothing,
         Given::One(at) => Search::Finds(at),
@@ -47,22 +56,40 @@ impl<'a> Lookups<'a> {
     }
 
     /// What the candidates give that `memo` has collected.
-    fn given(&self, memo: &mut Memo) -> Result<Search, AllocError> {
+    fn given(&self, memo: &mut Memo) -> Result<Search, AllocError>
+        ensures kept { IsKept self.now memo.old → OnOk result (IsKept self.now memo.new) }
+        ensures is { IsRight self.now → IsKept self.now memo.old → IfOk result (λ s. s ≡ search_by (verdict (lowest self.now.program.now memo.old.found.items))) }
+    {
         let given = self
             .hierarchy
             .given(self.program, memo.found.as_slice(), &mut memo.walk)?;
         Ok(search_given(given))
     }
 
-    /// What a virtual call of a name and proto finds at a receiver's class.
-    fn find_at(&self, memo: &mut Memo, class: u32, key: u32) -> Result<Search, AllocError> {
-        if let Some(at) = self.hierarchy.find_virtual(self.program, class, key) {
-            return Ok(Search::Finds(at));
-        }
+    /// What the candidates of the interfaces of a class and of its superclasses give.
+    fn find_candidate(&self, memo: &mut Memo, class: u32, key: u32) -> Result<Search, AllocError>
+        ensures kept { IsKept self.now memo.old → OnOk result (IsKept self.now memo.new) }
+        ensures is { (name proto : ℕ) → IsRight self.now → IsKept self.now memo.old → IsKey self.now.program.now self.now.hierarchy key name proto → IfOk result (λ s. s ≡ search_by (finds_among self.now.program.now (flat_map (interface_places self.now.program.now) (chain_of self.now.program.now (Some class))) name proto)) }
+    {
         memo.found.clear();
         self.hierarchy
             .candidates(self.program, class, key, &mut memo.walk, &mut memo.found)?;
-        self.given(memo)
+        let found = self.given(memo)?;
+        Ok(found)
+    }
+
+    /// What a virtual call of a name and proto finds at a receiver's class.
+    fn find_at(&self, memo: &mut Memo, class: u32, key: u32) -> Result<Search, AllocError>
+        ensures kept { IsKept self.now memo.old → OnOk result (IsKept self.now memo.new) }
+        ensures is { (name proto : ℕ) → IsRight self.now → IsKept self.now memo.old → IsKey self.now.program.now self.now.hierarchy key name proto → IfOk result (λ s. s ≡ search_by (finds_at self.now.program.now class name proto)) }
+    {
+        match self.hierarchy.find_virtual(self.program, class, key) {
+            Some(at) => Ok(Search::Finds(at)),
+            None => {
+                let found = self.find_candidate(memo, class, key)?;
+                Ok(found)
+            }
+        }
     }
 
     /// What a virtual or interface call of a method number finds at a receiver's class, where that is under the class
@@ -72,33 +99,58 @@ impl<'a> Lookups<'a> {
         memo: &mut Memo,
         class: u32,
         method: u32,
-    ) -> Result<Search, AllocError> {
+    ) -> Result<Search, AllocError>
+        ensures kept { (c : Class) (q : MethodName) → IsRight self.now → IsKept self.now memo.old → slice_get self.now.program.now.classes class ≡ Some c → slice_get self.now.program.now.methods method ≡ Some q → OnOk result (IsKept self.now memo.new) }
+        ensures is { (c : Class) (q : MethodName) → IsRight self.now → IsKept self.now memo.old → slice_get self.now.program.now.classes class ≡ Some c → slice_get self.now.program.now.methods method ≡ Some q → IfOk result (λ s. s ≡ found_at self.now class q) }
+    {
         let receiver = self.kind_of_class(class);
-        if self.is_under(memo, receiver, self.class_of_method(method))? {
-            self.find_at(memo, class, self.hierarchy.key_of_method(method))
+        let named = self.class_of_method(method);
+        if self.is_under(memo, receiver, named)? {
+            let found = self.find_at(memo, class, self.hierarchy.key_of_method(method))?;
+            Ok(found)
         } else {
             Ok(Search::Nothing)
         }
     }
 
-    /// What a virtual or interface call of a method number finds at a receiver's type. What the call found last time is
-    /// kept.
+    /// What a virtual or interface call of a method number finds at a class. What the call found last time is kept.
+    fn virtually_at(
+        &self,
+        memo: &mut Memo,
+        class: u32,
+        method: u32,
+    ) -> Result<Search, AllocError>
+        ensures kept { (c : Class) (q : MethodName) → IsRight self.now → IsKept self.now memo.old → slice_get self.now.program.now.classes class ≡ Some c → slice_get self.now.program.now.methods method ≡ Some q → OnOk result (IsKept self.now memo.new) }
+        ensures is { (c : Class) (q : MethodName) → IsRight self.now → IsKept self.now memo.old → slice_get self.now.program.now.classes class ≡ Some c → slice_get self.now.program.now.methods method ≡ Some q → IfOk result (λ s. s ≡ found_at self.now class q) }
+    {
+        match memo.virtual_at(class, method) {
+            Some(found) => Ok(found),
+            None => {
+                let found = self.find_virtually(memo, class, method)?;
+                memo.keep_virtual(class, method, found);
+                Ok(found)
+            }
+        }
+    }
+
+    /// What a virtual or interface call of a method number finds at a receiver's type, nothing where no class of the
+    /// program has the type.
     pub fn virtually(
         &self,
         memo: &mut Memo,
         receiver: Kind,
         method: u32,
-    ) -> Result<Search, AllocError> {
-        let class = match self.class_at(receiver) {
-            Some(class) => class,
-            None => return Ok(Search::Nothing),
-        };
-        if let Some(found) = memo.virtual_at(class, method) {
-            return Ok(found);
+    ) -> Result<Search, AllocError>
+        ensures kept { (q : MethodName) → IsRight self.now → IsKept self.now memo.old → IsKind self.now.types receiver → slice_get self.now.program.now.methods method ≡ Some q → OnOk result (IsKept self.now memo.new) }
+        ensures is { (q : MethodName) → IsRight self.now → IsKept self.now memo.old → IsKind self.now.types receiver → slice_get self.now.program.now.methods method ≡ Some q → IfOk result (λ s. s ≡ found_of self.now (place_named self.now.program.now (type_text self.now.types receiver)) q) }
+    {
+        match self.class_at(receiver) {
+            Some(class) => {
+                let found = self.virtually_at(memo, class, method)?;
+                Ok(found)
+            }
+            None => Ok(Search::Nothing),
         }
-        let found = self.find_virtually(memo, class, method)?;
-        memo.keep_virtual(class, method, found);
-        Ok(found)
     }
 
     /// The first method of a number's name and proto along the superclasses of a class.

@@ -421,7 +421,7 @@ impl<'a> Lookups<'a> {
 
     /// What look-ups have found, which is nothing yet.
     pub fn memo(&self, alloc: Global) -> Result<Memo, AllocError>
-        ensures { IfOk result (IsKept self.now) }
+        ensures { IsRight self.now → IfOk result (IsKept self.now) }
     {
         let memo = Memo::new(
             alloc,

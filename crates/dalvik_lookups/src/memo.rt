@@ -1,7 +1,9 @@
 //! What look-ups have found, and the marks of their walks.
 
-ghost use Rattle.std.specs.Prelude.{◌≡◌, ℕ, Some, length, slice_get, IfOk, IfSome, vec_len};
-ghost use Rattle.dalvik_lookups.specs.Walks.{IsClean, KeepsUnder};
+ghost use Rattle.std.specs.Prelude.{◌≡◌, ℕ, Some, None, length, replicate, slice_get, slice_set, IfOk, IfSome, vec_len};
+ghost use Rattle.hierarchy.specs.Walking.{IsFair};
+ghost use Rattle.dalvik_lookups.specs.declared.finds.Search.TheVariants.{Nothing};
+ghost use Rattle.dalvik_lookups.specs.Walks.{IsClean, KeepsUnder, Rests};
 
 use crate::finds::Search;
 use crate::marks::Marks;
@@ -35,11 +37,13 @@ pub struct Memo {
     pub(crate) found: Vec<MethodAt>,
 }
 
-/// What was found last in the class, if this was the class.
-fn recent_at(calls: &[Recent], class: u32, method: u32) -> Option<Search> {
-    match calls.get(method as usize) {
-        Some(recent) => {
-            if recent.class == Some(class) {
+/// What was found, if it was at this class.
+fn found_at(recent: Recent, class: u32) -> Option<Search>
+    ensures { IfSome result (λ found. recent ≡ record { class = Some class; found = found }) }
+{
+    match recent.class {
+        Some(own) => {
+            if own == class {
                 Some(recent.found)
             } else {
                 None
@@ -49,10 +53,22 @@ fn recent_at(calls: &[Recent], class: u32, method: u32) -> Option<Search> {
     }
 }
 
+/// What was found last in the class, if this was the class.
+fn recent_at(calls: &[Recent], class: u32, method: u32) -> Option<Search>
+    ensures { IfSome result (λ found. slice_get calls.now method ≡ Some (record { class = Some class; found = found })) }
+{
+    match calls.get(method as usize) {
+        Some(recent) => found_at(*recent, class),
+        None => None,
+    }
+}
+
 /// Keeps what was found.
-fn keep(calls: &mut [Recent], class: u32, method: u32, found: Search) {
-    if let Some(recent) = calls.get_mut(method as usize) {
-        *recent = Recent {
+fn keep(calls: &mut [Recent], class: u32, method: u32, found: Search)
+    ensures { calls.new ≡ slice_set calls.old method (record { class = Some class; found = found }) }
+{
+    if (method as usize) < calls.len() {
+        calls[method as usize] = Recent {
             class: Some(class),
             found,
         };
@@ -97,6 +113,9 @@ impl Memo {
         ensures size { IfOk result (λ m. vec_len m.marks.marks ≡ types) }
         ensures clean { IfOk result (λ m. IsClean m.marks) }
         ensures under { IfOk result (λ m. (u : ℕ) (a : Asked) → slice_get m.under.items u ≡ Some (Some a) → ⊥) }
+        ensures fair { IfOk result (λ m. IsFair m.walk) }
+        ensures long { IfOk result (λ m. length m.walk.seen.items ≡ vec_len hierarchy.now.shape.supers) }
+        ensures virtuals { IfOk result (λ m. m.virtual_calls.items ≡ replicate methods (record { class = None; found = Nothing })) }
     {
         let none = Recent {
             class: None,
@@ -113,12 +132,17 @@ impl Memo {
     }
 
     /// What a virtual or interface call of the method found last, if it was at this class.
-    pub(crate) fn virtual_at(&self, class: u32, method: u32) -> Option<Search> {
+    pub(crate) fn virtual_at(&self, class: u32, method: u32) -> Option<Search>
+        ensures { IfSome result (λ found. slice_get self.now.virtual_calls.items method ≡ Some (record { class = Some class; found = found })) }
+    {
         recent_at(self.virtual_calls.as_slice(), class, method)
     }
 
     /// Keeps what a virtual or interface call found.
-    pub(crate) fn keep_virtual(&mut self, class: u32, method: u32, found: Search) {
+    pub(crate) fn keep_virtual(&mut self, class: u32, method: u32, found: Search)
+        ensures calls { self.new.virtual_calls.items ≡ slice_set self.old.virtual_calls.items method (record { class = Some class; found = found }) }
+        ensures rest { Rests self.old self.new }
+    {
         keep(self.virtual_calls.as_mut_slice(), class, method, found);
     }
 

@@ -1,0 +1,57 @@
+-- What is kept of calls.
+use Rattle.std.proofs.Common.{◌≡◌, true≢false, ℕ, zero, suc, List, [], ◌∷◌, replicate, length, Option, Some, None, refl, sym, ap, subst, ◌∙◌, inl, inr, ◌⊎◌}
+use Rattle.std.specs.Prelude.{slice_get, slice_set, vec_len, is_some}
+use Rattle.program_model.specs.declared.pools.MethodName.{MethodName}
+use Rattle.dalvik_lookups.specs.declared.finds.Search.{Search}
+use Rattle.dalvik_lookups.specs.declared.finds.Search.TheVariants.{Nothing}
+use Rattle.dalvik_lookups.specs.declared.memo.Memo.{Memo}
+use Rattle.dalvik_lookups.specs.declared.memo.Recent.{Recent}
+use Rattle.dalvik_lookups.specs.declared.lookups.Lookups.{Lookups}
+use Rattle.dalvik_lookups.specs.Walks.{AreFound, IsKept, IsClean, Rests, found_at}
+use Rattle.hierarchy.specs.Walking.{IsFair}
+
+one_of : {X : Type 0} (n i : ℕ) (x y : X) → slice_get (replicate n x) i ≡ Some y → x ≡ y
+one_of zero i x y e = absurd (true≢false (sym (ap is_some e)))
+one_of (suc n) zero x y e = ap (λ o. elim o [ Some z ↦ z | None ↦ x ]) e
+one_of (suc n) (suc i) x y e = one_of n i x y e
+
+-- nothing is kept yet
+pub none_found : (l : Lookups) (calls : List Recent) (n : ℕ) → calls ≡ replicate n (record { class = None; found = Nothing }) → AreFound l calls
+none_found l calls n e = record { is = λ i c found q h h'. nothing (ap (λ r. r.class) (one_of n i (record { class = None; found = Nothing }) (record { class = Some c; found = found }) (sym (ap (λ v. slice_get v i) e) ∙ h))) }
+  where
+    nothing : {X : Type 0} {c : ℕ} → None ≡ Some c → X
+    nothing e = absurd (true≢false (sym (ap is_some e)))
+
+-- an entry of a list in which one was set
+pub set_entry : {X : Type 0} (xs : List X) (i j : ℕ) (x y : X) → slice_get (slice_set xs i x) j ≡ Some y → (slice_get xs j ≡ Some y) ⊎ ((j ≡ i) × (y ≡ x))
+set_entry [] i j x y e = inl e
+set_entry (z ∷ xs) zero zero x y e = inr (refl, sym (ap (λ o. elim o [ Some w ↦ w | None ↦ y ]) e))
+set_entry (z ∷ xs) zero (suc j) x y e = inl e
+set_entry (z ∷ xs) (suc i) zero x y e = inl e
+set_entry (z ∷ xs) (suc i) (suc j) x y e = elim (set_entry xs i j x y e) [ inl h ↦ inl h | inr h ↦ inr (ap suc h.0, h.1) ]
+
+-- one answer more
+pub found_more : (l : Lookups) (calls new : List Recent) (i c : ℕ) (found : Search) → AreFound l calls → new ≡ slice_set calls i (record { class = Some c; found = found })
+    → ((q : MethodName) → slice_get l.program.now.methods i ≡ Some q → found ≡ found_at l c q) → AreFound l new
+found_more l calls new i c found a e is = record { is = λ j d other q h hq. entry j d other q hq (set_entry calls i j (record { class = Some c; found = found }) (record { class = Some d; found = other }) (sym (ap (λ v. slice_get v j) e) ∙ h)) }
+  where
+    kept : ℕ → Search → Recent
+    kept c found = record { class = Some c; found = found }
+    got : {X : Type 0} → X → Option X → X
+    got d None = d
+    got d (Some x) = x
+    entry : (j d : ℕ) (other : Search) (q : MethodName) → slice_get l.program.now.methods j ≡ Some q → (slice_get calls j ≡ Some (record { class = Some d; found = other })) ⊎ ((j ≡ i) × (kept d other ≡ kept c found))
+        → other ≡ found_at l d q
+    entry j d other q hq (inl h) = a.is j d other q h hq
+    entry j d other q hq (inr h) = ap (λ r. r.found) h.1 ∙ is q (sym (ap (slice_get l.program.now.methods) h.0) ∙ hq) ∙ ap (λ n. found_at l n q) (sym (ap (λ r. got 0 r.class) h.1))
+
+-- an answer more is kept, and the rest stays
+pub kept_call : (l : Lookups) (m new : Memo) → IsKept l m → Rests m new → AreFound l new.virtual_calls.items → IsKept l new
+kept_call l m new k r a = record {
+  fair = subst IsFair (sym r.walk) k.fair;
+  long = ap (λ w. length w.seen.items) r.walk ∙ k.long;
+  virtuals = a;
+  size = ap (λ w. vec_len w.marks) r.marks ∙ k.size;
+  clean = subst IsClean (sym r.marks) k.clean;
+  under = λ u b e. k.under u b (sym (ap (λ v. slice_get v.items u) r.under) ∙ e);
+}

@@ -1,13 +1,21 @@
 -- What is kept of calls.
-use Rattle.std.proofs.Common.{◌≡◌, true≢false, ℕ, zero, suc, List, [], ◌∷◌, replicate, length, Option, Some, None, refl, sym, ap, subst, ◌∙◌, inl, inr, ◌⊎◌}
-use Rattle.std.specs.Prelude.{slice_get, slice_set, vec_len, is_some}
+use Rattle.std.proofs.Common.{Bool, ◌<◌, arith, ◌≡◌, true≢false, ℕ, zero, suc, List, [], ◌∷◌, replicate, length, Option, Some, None, refl, sym, ap, subst, ◌∙◌, inl, inr, ◌⊎◌}
+use Rattle.std.specs.Prelude.{slice_get, slice_set, vec_len, is_some, cond, position}
 use Rattle.program_model.specs.declared.pools.MethodName.{MethodName}
+use Rattle.program_model.specs.declared.program.Class.{Class}
+use Rattle.program_model.specs.declared.program.Program.{Program}
+use Rattle.class_defs.specs.Finding.{finds_at}
+use Rattle.class_defs.proofs.Positions.{PlaceFits, place_entry}
+use Rattle.dalvik_defs.specs.Names.{Text, text_eq}
+use Rattle.dalvik_defs.specs.Naming.{type_at, named}
+use Rattle.dalvik_defs.specs.Under.{is_under}
+use Rattle.dalvik_lookups.specs.Tables.{place_named}
 use Rattle.dalvik_lookups.specs.declared.finds.Search.{Search}
 use Rattle.dalvik_lookups.specs.declared.finds.Search.TheVariants.{Nothing}
 use Rattle.dalvik_lookups.specs.declared.memo.Memo.{Memo}
 use Rattle.dalvik_lookups.specs.declared.memo.Recent.{Recent}
 use Rattle.dalvik_lookups.specs.declared.lookups.Lookups.{Lookups}
-use Rattle.dalvik_lookups.specs.Walks.{AreFound, IsKept, IsClean, Rests, found_at}
+use Rattle.dalvik_lookups.specs.Walks.{AreFound, IsKept, IsClean, Rests, found_at, search_by, type_of_class}
 use Rattle.hierarchy.specs.Walking.{IsFair}
 
 one_of : {X : Type 0} (n i : ℕ) (x y : X) → slice_get (replicate n x) i ≡ Some y → x ≡ y
@@ -55,3 +63,27 @@ kept_call l m new k r a = record {
   clean = subst IsClean (sym r.marks) k.clean;
   under = λ u b e. k.under u b (sym (ap (λ v. slice_get v.items u) r.under) ∙ e);
 }
+
+-- ---- what virtual calls find
+
+pub below : {X : Type 0} (xs : List X) (i : ℕ) (x : X) → slice_get xs i ≡ Some x → i < length xs
+below [] i x e = absurd (true≢false (sym (ap is_some e)))
+below (y ∷ ys) zero x e = omega arith
+below (y ∷ ys) (suc i) x e = omega (arith, below ys i x e)
+
+-- the test of a virtual call, by the texts of its types
+asked : (l : Lookups) (c : ℕ) (q : MethodName) (k : Class) (b : Bool) (receiver own : Text) → slice_get l.program.now.classes c ≡ Some k → receiver ≡ type_at l.program.now k.name → own ≡ type_at l.program.now q.class
+    → b ≡ is_under (named l.program.now) l.framework.now receiver own → is_under (named l.program.now) l.framework.now (type_of_class l.program.now (slice_get l.program.now.classes c)) (type_at l.program.now q.class) ≡ b
+asked l c q k b receiver own hc r o e =
+    ap (λ x. is_under (named l.program.now) l.framework.now (type_of_class l.program.now x) (type_at l.program.now q.class)) hc
+    ∙ ap (λ x. is_under (named l.program.now) l.framework.now x (type_at l.program.now q.class)) (sym r)
+    ∙ ap (is_under (named l.program.now) l.framework.now receiver) (sym o)
+    ∙ sym e
+
+pub found_by : (l : Lookups) (c : ℕ) (q : MethodName) (k : Class) (b : Bool) (receiver own : Text) → slice_get l.program.now.classes c ≡ Some k → receiver ≡ type_at l.program.now k.name → own ≡ type_at l.program.now q.class
+    → b ≡ is_under (named l.program.now) l.framework.now receiver own → found_at l c q ≡ cond b (search_by (finds_at l.program.now c q.name q.proto)) Nothing
+found_by l c q k b receiver own hc r o e = ap (λ x. cond x (search_by (finds_at l.program.now c q.name q.proto)) Nothing) (asked l c q k b receiver own hc r o e)
+
+-- the class at the place of a type has that type
+pub class_there : (p : Program) (t : Text) (c : ℕ) → place_named p t ≡ Some c → PlaceFits (λ k. text_eq (type_at p k.name) t) p.classes c
+class_there p t c e = place_entry (λ k. text_eq (type_at p k.name) t) p.classes c e

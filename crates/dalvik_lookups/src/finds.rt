@@ -1,8 +1,9 @@
 //! What a call finds.
 
-ghost use Rattle.std.specs.Prelude.{◌≡◌};
+ghost use Rattle.std.specs.Prelude.{◌≡◌, Some, slice_get};
+ghost use Rattle.program_model.specs.declared.pools.MethodName.{MethodName};
 ghost use Rattle.class_defs.specs.Finding.{finds_static};
-ghost use Rattle.dalvik_lookups.specs.Tables.{search_of, IsRight};
+ghost use Rattle.dalvik_lookups.specs.Tables.{above_finds, search_of, IsRight};
 
 use crate::lookups::Lookups;
 use crate::memo::Memo;
@@ -102,7 +103,9 @@ impl<'a> Lookups<'a> {
     }
 
     /// The first method of a number's name and proto along the superclasses of a class.
-    fn find_above(&self, class: u32, method: u32) -> Search {
+    fn find_above(&self, class: u32, method: u32) -> Search
+        ensures { IsRight self.now → (q : MethodName) → slice_get self.now.program.now.methods method ≡ Some q → result ≡ search_of (above_finds self.now.program.now class q) }
+    {
         match self.hierarchy.super_of(class) {
             Some(above) => search_of(
                 self.hierarchy

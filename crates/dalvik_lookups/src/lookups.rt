@@ -14,7 +14,7 @@ ghost use Rattle.dalvik_defs.specs.Under.{class_under, is_under};
 ghost use Rattle.dalvik_defs.specs.Names.{is_reference};
 ghost use Rattle.dalvik_lookups.specs.Walks.{IsKept};
 ghost use Rattle.dalvik_lookups.specs.Views.{names_of, name_at, type_text, AreKept, AreTypes, AreTexts, IsKind, IsType, IsText, IsNamed};
-ghost use Rattle.dalvik_lookups.specs.Tables.{kind_in, string_in, text_among, place_of, place_named, AreBelow, KindsMade, StringsMade, ArePlaces, HasNames, AreReady, AreAbove, Grows, IsOver, IsRight};
+ghost use Rattle.dalvik_lookups.specs.Tables.{class_has, kind_in, string_in, text_among, place_of, place_named, AreBelow, KindsMade, StringsMade, ArePlaces, HasNames, AreReady, AreAbove, Grows, IsOver, IsRight};
 
 use crate::declared::Declared;
 use crate::graph::{Above, above_all, rows_of};
@@ -500,7 +500,9 @@ impl<'a> Lookups<'a> {
     }
 
     /// Whether a class has a flag.
-    pub fn has_flag(&self, class: u32, flag: Flags) -> bool {
+    pub fn has_flag(&self, class: u32, flag: Flags) -> bool
+        ensures { result ≡ class_has self.now.program.now class flag.0 }
+    {
         match self.class(class) {
             Some(defined) => defined.flags.has(flag),
             None => false,

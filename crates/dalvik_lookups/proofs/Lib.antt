@@ -7,3 +7,4 @@ pub mod Paths
 pub mod Standing
 pub mod Climbing
 pub mod Unders
+pub mod Slotted

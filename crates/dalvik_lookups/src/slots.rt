@@ -1,10 +1,15 @@
 //! A place for each field that a class defines.
 
+ghost use Rattle.std.specs.Prelude.{◌≡◌, IfOk};
+ghost use Rattle.dalvik_lookups.specs.Slots.{slots_from, slots_after};
+
 use program_model::Program;
 use std::alloc::{AllocError, Global};
 
 /// Where the fields of each class begin among the fields of all classes.
-pub fn first_slots(alloc: Global, program: &Program) -> Result<Vec<usize>, AllocError> {
+pub fn first_slots(alloc: Global, program: &Program) -> Result<Vec<usize>, AllocError>
+    ensures { IfOk result (λ slots. slots.items ≡ slots_from 0 program.now.classes) }
+{
     let mut slots = Vec::new(alloc);
     let mut next: usize = 0;
     for class in program.classes.as_slice() {
@@ -15,7 +20,9 @@ pub fn first_slots(alloc: Global, program: &Program) -> Result<Vec<usize>, Alloc
 }
 
 /// How many fields all classes have.
-pub fn slot_count(program: &Program) -> usize {
+pub fn slot_count(program: &Program) -> usize
+    ensures { result ≡ slots_after 0 program.now.classes }
+{
     let mut count: usize = 0;
     for class in program.classes.as_slice() {
         count = count.saturating_add(class.fields.len());

@@ -21,6 +21,7 @@ use Rattle.dalvik_lookups.specs.declared.texts.Texts.{Texts}
 use Rattle.dalvik_lookups.specs.declared.graph.Above.{Above}
 use Rattle.dalvik_lookups.specs.declared.lookups.Names.{Names}
 use Rattle.dalvik_lookups.specs.declared.lookups.Lookups.{Lookups}
+use Rattle.dalvik_lookups.specs.Slots.{slots_from, slots_after}
 use Rattle.dalvik_lookups.specs.Views.{names_of, texts_of, AreKept, AreTypes, AreTexts, IsType, IsText, IsNamed, Stays}
 
 -- the type of a type number, and the number of a string number's text
@@ -142,6 +143,8 @@ pub record IsRight (l : Lookups) : Type 0 where
   pub well : is_well_formed l.program.now ≡ true
   pub resolved : IsResolved l.program.now l.hierarchy
   pub above : AreAbove l.program.now l.framework.now l.types l.above
+  pub slots : l.slots.items ≡ slots_from 0 l.program.now.classes
+  pub count : l.slot_count ≡ slots_after 0 l.program.now.classes
 
 -- what was found along superclasses
 abbrev pub search_of : Option MethodAt → Search

@@ -1,7 +1,7 @@
 //! A place for each field that a class defines.
 
 ghost use Rattle.std.specs.Prelude.{◌≡◌, IfOk};
-ghost use Rattle.dalvik_lookups.specs.Slots.{slots_from, slots_after};
+ghost use Rattle.dalvik_lookups.specs.Slots.{slot_in, slots_from, slots_after};
 
 use program_model::Program;
 use std::alloc::{AllocError, Global};
@@ -28,4 +28,14 @@ pub fn slot_count(program: &Program) -> usize
         count = count.saturating_add(class.fields.len());
     }
     count
+}
+
+/// The place of a field of a class, where the fields of each class begin at `firsts`; the largest number past its end.
+pub(crate) fn slot_at(firsts: &[usize], class: u32, place: u32) -> usize
+    ensures { result ≡ slot_in firsts.now class place }
+{
+    match firsts.get(class as usize) {
+        Some(first) => first.saturating_add(place as usize),
+        None => usize::MAX,
+    }
 }

@@ -8,3 +8,4 @@ pub mod Standing
 pub mod Climbing
 pub mod Unders
 pub mod Calls
+pub mod Slotted

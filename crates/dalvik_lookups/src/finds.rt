@@ -7,7 +7,7 @@ ghost use Rattle.class_defs.specs.Finding.{finds_static, finds_at, finds_among, 
 ghost use Rattle.class_defs.specs.Places.{interface_places, chain_of};
 ghost use Rattle.hierarchy.specs.Giving as giving;
 ghost use Rattle.hierarchy.specs.Naming.{IsKey};
-ghost use Rattle.dalvik_lookups.specs.Tables.{search_of, place_named, IsRight};
+ghost use Rattle.dalvik_lookups.specs.Tables.{above_finds, search_of, place_named, IsRight};
 ghost use Rattle.dalvik_lookups.specs.Views.{type_text, IsKind};
 ghost use Rattle.dalvik_lookups.specs.Walks.{search_by, found_at, found_of, IsKept};
 
@@ -154,7 +154,9 @@ impl<'a> Lookups<'a> {
     }
 
     /// The first method of a number's name and proto along the superclasses of a class.
-    fn find_above(&self, class: u32, method: u32) -> Search {
+    fn find_above(&self, class: u32, method: u32) -> Search
+        ensures { IsRight self.now → (q : MethodName) → slice_get self.now.program.now.methods method ≡ Some q → result ≡ search_of (above_finds self.now.program.now class q) }
+    {
         match self.hierarchy.super_of(class) {
             Some(above) => search_of(
                 self.hierarchy

@@ -14,7 +14,8 @@ ghost use Rattle.dalvik_defs.specs.Under.{class_under, is_under};
 ghost use Rattle.dalvik_defs.specs.Names.{is_reference};
 ghost use Rattle.dalvik_lookups.specs.Walks.{IsKept};
 ghost use Rattle.dalvik_lookups.specs.Views.{names_of, name_at, type_text, AreKept, AreTypes, AreTexts, IsKind, IsType, IsText, IsNamed};
-ghost use Rattle.dalvik_lookups.specs.Tables.{kind_in, string_in, text_among, place_of, place_named, AreBelow, KindsMade, StringsMade, ArePlaces, HasNames, AreReady, AreAbove, Grows, IsOver, IsRight};
+ghost use Rattle.dalvik_lookups.specs.Slots.{slots_from, slots_after, slot_of};
+ghost use Rattle.dalvik_lookups.specs.Tables.{class_has, kind_in, string_in, text_among, place_of, place_named, AreBelow, KindsMade, StringsMade, ArePlaces, HasNames, AreReady, AreAbove, Grows, IsOver, IsRight};
 
 use crate::declared::Declared;
 use crate::graph::{Above, above_all, rows_of};
@@ -23,7 +24,7 @@ use crate::memo::Memo;
 use crate::naming::object_constructors;
 use crate::outer::{Outer, outer_of};
 use crate::plays::{Play, plays_of};
-use crate::slots::{first_slots, slot_count};
+use crate::slots::{first_slots, slot_at, slot_count};
 use crate::starts::defaults;
 use crate::texts::Texts;
 use crate::types::{Kind, Types};
@@ -318,7 +319,9 @@ fn marks_of(
     outside: &Outside,
     hierarchy: &Hierarchy,
     names: &Names<'_>,
-) -> Result<Marked, AllocError> {
+) -> Result<Marked, AllocError>
+    ensures { IfOk result (λ made. made.slots.items ≡ slots_from 0 program.now.classes) }
+{
     let kinds = names.kinds.as_slice();
     let defaults = defaults(alloc, program, hierarchy)?;
     let slots = first_slots(alloc, program)?;
@@ -345,6 +348,8 @@ fn tables_of<'a>(
     ensures classes { result.hierarchy ≡ hierarchy }
     ensures above { result.above ≡ above }
     ensures framework { result.framework.now ≡ framework.now }
+    ensures slots { result.slots ≡ marked.slots }
+    ensures count { result.slot_count ≡ slots_after 0 program.now.classes }
 {
     Lookups {
         program,
@@ -500,7 +505,9 @@ impl<'a> Lookups<'a> {
     }
 
     /// Whether a class has a flag.
-    pub fn has_flag(&self, class: u32, flag: Flags) -> bool {
+    pub fn has_flag(&self, class: u32, flag: Flags) -> bool
+        ensures { result ≡ class_has self.now.program.now class flag.0 }
+    {
         match self.class(class) {
             Some(defined) => defined.flags.has(flag),
             None => false,
@@ -544,16 +551,17 @@ impl<'a> Lookups<'a> {
     }
 
     /// How many places the fields of all classes have.
-    pub fn slot_count(&self) -> usize {
+    pub fn slot_count(&self) -> usize
+        ensures { IsRight self.now → result ≡ slots_after 0 self.now.program.now.classes }
+    {
         self.slot_count
     }
 
     /// The place of a field among the fields of all classes.
-    pub fn slot(&self, class: u32, place: u32) -> usize {
-        match self.slots.as_slice().get(class as usize) {
-            Some(first) => first.saturating_add(place as usize),
-            None => usize::MAX,
-        }
+    pub fn slot(&self, class: u32, place: u32) -> usize
+        ensures { IsRight self.now → result ≡ slot_of self.now.program.now class place }
+    {
+        slot_at(self.slots.as_slice(), class, place)
     }
 
     /// Whether a type that is no array is under another one. The last answer for each upper type is kept.

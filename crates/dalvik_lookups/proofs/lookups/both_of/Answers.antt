@@ -1,6 +1,7 @@
-use Rattle.std.proofs.Common.{◌≡◌, true, sym, subst}
+use Rattle.std.proofs.Common.{◌≡◌, true, sym, ap, ◌∙◌, subst}
 use Rattle.program_model.specs.ProgramRules.{is_well_formed}
 use Rattle.hierarchy.specs.Shapes.{IsResolved}
+use Rattle.dalvik_lookups.specs.Slots.{slots_from, slots_after}
 use Rattle.dalvik_lookups.proofs.Making.{tabled, grows_same}
 use Rattle.dalvik_lookups.proofs.Unders.{above_over}
 use Rattle.dalvik_lookups.proofs.lookups.both_of.Goals as goal
@@ -21,4 +22,6 @@ returns-clause-tables c = λ w r.
       well = subst (λ q. is_well_formed q ≡ true) (sym over.program) w;
       resolved = subst (λ q. IsResolved q c.tables_of-tables.result.hierarchy) (sym over.program) (subst (IsResolved c.args.program.now) (sym c.tables_of-tables.ensures.classes) r);
       above = above_over c.args.program.now c.args.framework.now _ c.in_ok-made.made.above c.tables_of-tables.result (c.in_ok-made.ensures.above w) over.program c.tables_of-tables.ensures.framework over.types c.tables_of-tables.ensures.above;
+      slots = ap (λ v. v.items) c.tables_of-tables.ensures.slots ∙ c.in_ok-marked.ensures ∙ ap (λ q. slots_from 0 q.classes) (sym over.program);
+      count = c.tables_of-tables.ensures.count ∙ ap (λ q. slots_after 0 q.classes) (sym over.program);
     }

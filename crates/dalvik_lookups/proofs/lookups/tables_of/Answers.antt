@@ -7,4 +7,6 @@ returns c = record {
   classes = refl;
   above = refl;
   framework = refl;
+  slots = refl;
+  count = c.slot_count.ensures;
 }

@@ -1,7 +1,7 @@
 -- What a set of lists is after one more.
 use Rattle.std.specs.Prelude.{Vec}
 use Rattle.std.specs.declared.alloc.Global.{Global}
-use Rattle.std.proofs.Common.{◌≡◌, ℕ, suc, List, [], ◌∷◌, ◌++◌, length, true, false, if◌then◌else◌, Some, ◌+◌, ◌<◌, not-suc-le-zero, zero, drop, ◌==◌, true≢false, length-append, append_assoc, arith, refl, sym, ap, ◌∙◌}
+use Rattle.std.proofs.Common.{◌≡◌, ℕ, suc, List, [], ◌∷◌, ◌++◌, length, false, if◌then◌else◌, Some, ◌+◌, ◌<◌, not-suc-le-zero, zero, drop, ◌==◌, true≢false, length-append, append_assoc, arith, refl, sym, ap, ◌∙◌}
 use Rattle.std.specs.List.{list_any, position_or_len}
 use Rattle.indexmap.specs.IndexSet.{insert_key}
 use Rattle.code_write.proofs.Known.{same_items, lists_if, any_in, place_in}

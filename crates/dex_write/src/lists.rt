@@ -5,7 +5,8 @@ ghost use Rattle.std.specs.List.{flat_map};
 ghost use Rattle.dex_pools.specs.Written.{renumbered};
 ghost use Rattle.dex_write.specs.Numbers.{words, gap};
 ghost use Rattle.dex_write.specs.Plans.{plan_in};
-ghost use Rattle.dex_write.specs.Lists.{lists_in, with_list, index_of, all_lists, indexes_of, proto_use, class_use, list_text, padded_text, lists_text, list_starts, list_at, used_offset, lists_at};
+ghost use Rattle.dex_write.specs.declared.run.Kind.TheVariants.{TypeList};
+ghost use Rattle.dex_write.specs.Lists.{lists_in, with_list, index_of, all_lists, indexes_of, proto_use, class_use, list_text, padded_text, lists_text, list_starts, list_at, used_offset, protos_use, classes_use, type_lists, lists_at};
 
 use crate::numbers::{at_place, behind, gap, push_words, push_zeros, up, word_of};
 use crate::ordered::{Ordered, renumbered};
@@ -196,8 +197,52 @@ pub struct Lists {
     pub interfaces: Seq<u32>,
 }
 
+/// The different lists, and which of them the protos that are used and the classes have, none for the empty one.
+#[derive(Drop)]
+struct Uses {
+    known: Known,
+    parameters: Vec<Option<usize>>,
+    interfaces: Vec<Option<usize>>,
+}
+
+/// The lists of the protos that are used, in their order, and then of the classes.
+#[tactic(auto, unfolding(crate::specs::Lists::type_lists))]
+fn uses_of(
+    alloc: Global,
+    program: &Program,
+    interner: &Interner,
+    order: &[Ordered],
+) -> Result<Uses, AllocError>
+    ensures known { IfOk result (λ uses. lists_in uses.known.keys ≡ type_lists program.now interner.now (map plan_in order.now)) }
+    ensures parameters { IfOk result (λ uses. uses.parameters.items ≡ indexes_of [] (protos_use program.now interner.now)) }
+    ensures interfaces { IfOk result (λ uses. uses.interfaces.items ≡ indexes_of (all_lists [] (protos_use program.now interner.now)) (classes_use interner.now (map plan_in order.now))) }
+{
+    let types = interner.numbers().types.as_slice();
+    let protos = interner.order().protos.as_slice();
+    let mut known = IndexSet::new(alloc);
+    let parameters = know_parameters(alloc, program, protos, types, &mut known)?;
+    let interfaces = know_interfaces(alloc, order, types, &mut known)?;
+    Ok(Uses {
+        known,
+        parameters,
+        interfaces,
+    })
+}
+
+/// The run of these lists from `at` on.
+fn list_run(at: u32, lists: ListBytes) -> Result<Run, AllocError>
+    ensures { IfOk result (λ run. run ≡ record { kind = TypeList; count = length lists.starts; at = at; bytes = lists.bytes }) }
+{
+    Ok(Run {
+        kind: Kind::TypeList,
+        count: word_of(lists.starts.len())?,
+        at,
+        bytes: lists.bytes,
+    })
+}
+
 /// The type lists of the protos that are used and of the classes, the first from `at` on.
-#[tactic(auto, unfolding(crate::specs::Lists::type_lists, crate::specs::Lists::lists_at))]
+#[tactic(auto, unfolding(crate::specs::Lists::lists_at))]
 pub fn lists_at(
     alloc: Global,
     program: &Program,
@@ -207,23 +252,12 @@ pub fn lists_at(
 ) -> Result<Lists, AllocError>
     ensures { IfOk result (λ lists. lists ≡ lists_at program.now interner.now (map plan_in order.now) at) }
 {
-    let types = interner.numbers().types.as_slice();
-    let protos = interner.order().protos.as_slice();
-    let mut known = IndexSet::new(alloc);
-    let of_protos = know_parameters(alloc, program, protos, types, &mut known)?;
-    let of_classes = know_interfaces(alloc, order, types, &mut known)?;
-    let lists = list_bytes(alloc, &known, at)?;
-    let starts = lists.starts.as_slice();
-    let parameters = used_offsets(alloc, starts, &of_protos)?;
-    let interfaces = used_offsets(alloc, starts, &of_classes)?;
-    let run = Run {
-        kind: Kind::TypeList,
-        count: word_of(starts.len())?,
-        at,
-        bytes: lists.bytes,
-    };
+    let uses = uses_of(alloc, program, interner, order)?;
+    let lists = list_bytes(alloc, &uses.known, at)?;
+    let parameters = used_offsets(alloc, lists.starts.as_slice(), uses.parameters.as_slice())?;
+    let interfaces = used_offsets(alloc, lists.starts.as_slice(), uses.interfaces.as_slice())?;
     Ok(Lists {
-        run,
+        run: list_run(at, lists)?,
         parameters: Seq::of_vec(parameters),
         interfaces: Seq::of_vec(interfaces),
     })

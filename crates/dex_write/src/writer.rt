@@ -5,6 +5,8 @@ ghost use Rattle.std.specs.List.{flat_map};
 ghost use Rattle.dex_write.specs.Plans.{plan_in};
 ghost use Rattle.dex_write.specs.Codes.{IsPlan};
 ghost use Rattle.dex_write.specs.File.{IsSealed};
+ghost use Rattle.dex_write.specs.Lists.{lists_at};
+ghost use Rattle.dex_write.specs.Runs.{end_behind};
 ghost use Rattle.dex_write.specs.Places.{placed_items, words_end, words_behind, words_run, codes_end, places_behind, refs_behind, sets_behind, directories_behind, data_behind, strings_behind, front_of, codes_run, lines_run, refs_run, marks_behind, firsts_behind, back_of, counts_of, file_with, parts_in, runs_in, file_for};
 ghost use Rattle.dex_write.specs.Order.{classes_at};
 ghost use Rattle.dex_write.specs.Written.{ArePlans, AreOnlyPlans, MorePlans, IsWritten};
@@ -289,6 +291,70 @@ fn strings_at(
     place_items(Kind::StringData, at, at, items)
 }
 
+/// The type lists, where lists of words stand, and where code stands.
+#[derive(Drop)]
+struct Early {
+    lists: Lists,
+    refs: Words,
+    sets: Words,
+    code: CodePlaces,
+}
+
+/// What stands in front of the directories, the first run at `at`.
+fn early_of(
+    alloc: Global,
+    program: &Program,
+    interner: &Interner,
+    order: &[Ordered],
+    at: u32,
+) -> Result<Early, AllocError>
+    ensures lists { IfOk result (λ early. early.lists ≡ lists_at program.now interner.now (map plan_in order.now) at) }
+    ensures refs { IfOk result (λ early. early.refs ≡ refs_behind (end_behind at early.lists.run) (map plan_in order.now)) }
+    ensures sets { IfOk result (λ early. early.sets ≡ sets_behind early.refs.end (map plan_in order.now)) }
+    ensures code { IfOk result (λ early. early.code ≡ places_behind early.sets.end (map plan_in order.now)) }
+{
+    let lists = lists_at(alloc, program, interner, order, at)?;
+    let refs = refs_behind(alloc, order, end_behind(at, &lists.run)?)?;
+    let sets = sets_behind(alloc, order, refs.end)?;
+    let code = codes_behind(sets.end, order)?;
+    Ok(Early {
+        lists,
+        refs,
+        sets,
+        code,
+    })
+}
+
+/// The directories, the class data and the strings.
+#[derive(Drop)]
+struct Late {
+    directories: Placed,
+    class_data: Placed,
+    strings: Placed,
+}
+
+/// What stands behind the code, up to the strings.
+fn late_of(
+    alloc: Global,
+    program: &Program,
+    interner: &Interner,
+    order: &[Ordered],
+    early: &Early,
+) -> Result<Late, AllocError>
+    ensures directories { IfOk result (λ late. late.directories ≡ directories_behind early.now.code.end (map plan_in order.now) early.now.sets early.now.refs) }
+    ensures class_data { IfOk result (λ late. late.class_data ≡ data_behind late.directories.end (map plan_in order.now) early.now.code.at) }
+    ensures strings { IfOk result (λ late. late.strings ≡ strings_behind late.class_data.end program.now interner.now) }
+{
+    let directories = directories_behind(alloc, order, &early.sets, &early.refs, early.code.end)?;
+    let class_data = data_at(alloc, order, early.code.at, directories.end)?;
+    let strings = strings_at(alloc, program, interner, class_data.end)?;
+    Ok(Late {
+        directories,
+        class_data,
+        strings,
+    })
+}
+
 /// The runs up to the strings, the first of which stands at `at`.
 #[tactic(auto, unfolding(crate::specs::Places::front_of))]
 fn front_of(
@@ -300,21 +366,16 @@ fn front_of(
 ) -> Result<Front, AllocError>
     ensures { IfOk result (λ front. front ≡ front_of program.now interner.now (map plan_in order.now) at) }
 {
-    let lists = lists_at(alloc, program, interner, order, at)?;
-    let refs = refs_behind(alloc, order, end_behind(at, &lists.run)?)?;
-    let sets = sets_behind(alloc, order, refs.end)?;
-    let code = codes_behind(sets.end, order)?;
-    let directories = directories_behind(alloc, order, &sets, &refs, code.end)?;
-    let data = data_at(alloc, order, code.at, directories.end)?;
-    let strings = strings_at(alloc, program, interner, data.end)?;
+    let early = early_of(alloc, program, interner, order, at)?;
+    let late = late_of(alloc, program, interner, order, &early)?;
     Ok(Front {
-        lists,
-        refs,
-        sets,
-        code,
-        directories,
-        data,
-        strings,
+        lists: early.lists,
+        refs: early.refs,
+        sets: early.sets,
+        code: early.code,
+        directories: late.directories,
+        data: late.class_data,
+        strings: late.strings,
     })
 }
 

@@ -5,7 +5,9 @@ ghost use Rattle.class_defs.specs.Members.{string_is};
 ghost use Rattle.hierarchy.specs.Shapes.{IsOf};
 ghost use Rattle.program_model.specs.ProgramRules.{is_well_formed};
 ghost use Rattle.verify.specs.Building.{AreChainsOf};
-ghost use Rattle.verify.specs.Descriptors.{same_text, short, width_in, AreTypesOf};
+ghost use Rattle.program_model.specs.MemberRules.{words_of};
+ghost use Rattle.program_model.specs.Texts.{string_text};
+ghost use Rattle.verify.specs.Descriptors.{same_text, short, width_in, shape_named, base_shape, without_brackets, item_number, item_named, object_text, AreTypesOf};
 ghost use Rattle.verify.specs.Flow.{greatest};
 ghost use Rattle.verify.specs.Meeting.{IsMeeting};
 ghost use Rattle.verify.specs.Types.{shape_in, shape_of, item_shape, item_of_class, kind_of_class, kind_of_shape, kind_of, reference_kind, cast_kind, kind_of_item, proto_words, is_constructor};
@@ -158,6 +160,61 @@ fn kind_of_class(place: Option<u32>, plain: bool) -> Kind
     }
 }
 
+/// What the types of a program are by their texts, and how many registers the parameters of each proto take.
+#[derive(Drop)]
+struct TypeTables {
+    shapes: Vec<Shape>,
+    bases: Vec<Shape>,
+    items: Vec<u32>,
+    object: Option<u32>,
+    words: Vec<u32>,
+}
+
+/// The tables of the types of a program.
+fn types_of(alloc: Global, program: &Program) -> Result<TypeTables, AllocError>
+    ensures shapes { IfOk result (λ t. t.shapes.items ≡ map (λ s. shape_named program.now (string_text program.now s)) program.now.types) }
+    ensures bases { IfOk result (λ t. t.bases.items ≡ map (λ s. base_shape program.now (without_brackets (string_text program.now s))) program.now.types) }
+    ensures items { IfOk result (λ t. t.items.items ≡ map (λ s. item_number program.now (without_brackets (string_text program.now s))) program.now.types) }
+    ensures object { IfOk result (λ t. t.object ≡ item_named program.now object_text) }
+    ensures words { IfOk result (λ t. t.words.items ≡ map (λ q. short (sum_by (words_of program.now) q.parameters)) program.now.protos) }
+{
+    let named = Named::make(alloc, program)?;
+    let shapes = named.shapes(alloc, program)?;
+    let words = proto_words(alloc, program.protos.as_slice(), shapes.as_slice())?;
+    let bases = named.bases(alloc, program)?;
+    let items = named.items(alloc, program)?;
+    Ok(TypeTables {
+        shapes,
+        bases,
+        items,
+        object: named.object(program),
+        words,
+    })
+}
+
+/// The names of the classes, which methods are constructors, and which types the classes list.
+#[derive(Drop)]
+struct NameTables {
+    classes: Vec<u32>,
+    constructors: Vec<bool>,
+    listed: Vec<bool>,
+}
+
+/// The tables of the names of a program.
+fn names_of(alloc: Global, program: &Program) -> Result<NameTables, AllocError>
+    ensures classes { IfOk result (λ t. t.classes.items ≡ map (λ c. c.name) program.now.classes) }
+    ensures constructors { IfOk result (λ t. t.constructors.items ≡ map (λ m. string_is program.now m.name (codes "<init>")) program.now.methods) }
+{
+    let classes = class_names(alloc, program.classes.as_slice())?;
+    let constructors = constructors(alloc, program)?;
+    let listed = listed(alloc, program)?;
+    Ok(NameTables {
+        classes,
+        constructors,
+        listed,
+    })
+}
+
 impl Tables {
     /// The tables of a program. The only error is want of memory.
     pub fn make(
@@ -169,20 +226,19 @@ impl Tables {
         ensures chains { is_well_formed program.now ≡ true → IsOf program.now hierarchy.now → IfOk result (λ t. AreChainsOf program.now t.chains) }
         ensures types { is_well_formed program.now ≡ true → IsOf program.now hierarchy.now → IfOk result (AreTypesOf program.now) }
     {
-        let named = Named::make(alloc, program)?;
-        let shapes = named.shapes(alloc, program)?;
-        let words = proto_words(alloc, program.protos.as_slice(), shapes.as_slice())?;
+        let types = types_of(alloc, program)?;
+        let names = names_of(alloc, program)?;
         let chains = Chains::make(alloc, program, hierarchy)?;
         let tables = Tables {
             chains,
-            classes: class_names(alloc, program.classes.as_slice())?,
-            shapes,
-            bases: named.bases(alloc, program)?,
-            items: named.items(alloc, program)?,
-            object: named.object(program),
-            words,
-            constructors: constructors(alloc, program)?,
-            listed: listed(alloc, program)?,
+            classes: names.classes,
+            shapes: types.shapes,
+            bases: types.bases,
+            items: types.items,
+            object: types.object,
+            words: types.words,
+            constructors: names.constructors,
+            listed: names.listed,
         };
         Ok(tables.checked(alloc))
     }

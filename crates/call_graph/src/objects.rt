@@ -40,7 +40,8 @@ fn add_candidates(
             let mut candidates = Vec::new(alloc);
             at.hierarchy
                 .candidates(at.program, class, key, walk, &mut candidates)?;
-            add_all_found(at, candidates.as_slice(), out)
+            add_all_found(at, candidates.as_slice(), out)?;
+            Ok(())
         }
     }
 }

@@ -21,12 +21,13 @@ use Rattle.verify.specs.Entry.{begun}
 use Rattle.verify.specs.Flow.{places_of}
 use Rattle.program_model.specs.declared.program.MethodAt.{MethodAt}
 use Rattle.program_model.specs.Lookups.{method_at}
-use Rattle.verify.specs.Methods.{constructs, receiver_of, IsSettingOf, HasTyping, Refuses, Types, HasTypings, TypesAt, RefusesAt, AllBelow, RefusesFirst, IsFor, TypesAll, RefusesOne}
+use Rattle.verify.specs.Methods.{constructs, receiver_of, IsSettingOf, HasTyping, Refuses, Types, HasTypings, TypesAt, RefusesAt, RefusesIn, AllBelow, RefusesFirst, IsFor, TypesAll, RefusesOne}
 use Rattle.hierarchy.specs.Shapes.{IsOf}
 use Rattle.hierarchy.specs.declared.Hierarchy.{Hierarchy}
 use Rattle.insn_set.specs.declared.form.Insn.{Insn}
 use Rattle.verify.specs.declared.calls.Search.{Search}
-use Rattle.verify.specs.Supers.{Finds}
+use Rattle.verify.specs.Supers.{Finds, Serves}
+use Rattle.hierarchy.specs.declared.walk.Walk.{Walk}
 use Rattle.program_model.specs.declared.program.Program.{Program}
 use Rattle.verify.specs.Names.{parameters_of}
 use Rattle.verify.specs.Typings.{IsLeastTyping, IsIllTyped}
@@ -36,6 +37,9 @@ use Rattle.verify.specs.Typings.{Refuses as RefusesBody}
 pub finds_from : (p q : Program) (h k : Hierarchy) (at : ℕ) (is slice : List Insn) (found fs : List Search) → q ≡ p → k ≡ h → slice ≡ is → fs ≡ found → (IsOf q k → Finds q at slice found) → IsOf p h → Finds p at is fs
 finds_from p q h k at is slice found fs e f g j made of =
     subst (λ x. Finds p at is x) (sym j) (subst (λ x. Finds p at x found) g (subst (λ x. Finds x at slice found) e (made (subst (λ x. IsOf q x) (sym f) (subst (λ x. IsOf x h) (sym e) of)))))
+
+pub serves_by : (h k : Hierarchy) (w : Option Walk) → k ≡ h → Serves h w → Serves k w
+serves_by h k w e s = subst (λ x. Serves x w) (sym e) s
 
 module _ (v : Verifier) (c : Class) (at : ℕ) (m : Method) (b : Body) (s : Setting) (is : IsSettingOf v c at m s) (begins : Bool) (receiver : Option Kind) (kinds : List ℕ)
     (e : begins ≡ constructs v.tables m) (f : receiver ≡ receiver_of c at m begins) (g : kinds ≡ parameters_of v.program.now m.name) (finds : IsOf v.program.now v.hierarchy.now → Finds v.program.now at b.insns s.found.now) where
@@ -89,6 +93,16 @@ class_on v cs c i at same lt e q h all k d l is = elim (cases_lt k i) [
       let e' : c ≡ d = some_same c d (sym here ∙ subst (λ n. slice_get v.program.now.classes n ≡ Some d) j is) in
       subst (λ n. All (HasTypings v d n) d.methods) (q ∙ sym j) (subst (λ d. All (HasTypings v d at) d.methods) e' h)
 ]
+
+-- the first that is refused
+pub first_refused : (v : Verifier) (cs : List Class) (c : Class) (i at : ℕ) (y : TypeFault) → cs ≡ v.program.now.classes → i < length cs → c ≡ get_or cs i c → at ≡ i → AllBelow v i → RefusesIn v c at y → RefusesFirst v y
+first_refused v cs c i at y same lt e q all r = record {
+  at = i;
+  class = c;
+  is = subst (λ l. slice_get l i ≡ Some c) same (slice_get_read cs (length cs) i c refl lt e);
+  before = all;
+  refuses = subst (λ n. RefusesIn v c n y) q r;
+}
 
 pub nothing_at : (v : Verifier) (at : MethodAt) (x : Table) → slice_get v.program.now.classes at.class ≡ None → TypesAt v at x
 nothing_at v at x e c m f g = let h : None ≡ Some c = sym e ∙ f in absurd (cc)

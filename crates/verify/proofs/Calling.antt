@@ -5,7 +5,7 @@ use Rattle.std.specs.List.{list_any}
 use Rattle.std.proofs.lemmas.Bool.{cases_lt}
 use Rattle.class_defs.specs.Finding.{first_among, finds_from, finds_super, finds_super_of, finds_super_037, finds_above, finds_among, reaches, by_entry, is_037}
 use Rattle.class_defs.specs.Finding as finding
-use Rattle.class_defs.specs.Members.{own_method, is_interface}
+use Rattle.class_defs.specs.Members.{own_method}
 use Rattle.class_defs.specs.Places.{super_place, chain_from}
 use Rattle.program_model.specs.Lookups.{class_place}
 use Rattle.program_model.specs.declared.pools.MethodName.{MethodName}
@@ -17,7 +17,7 @@ use Rattle.insn_set.specs.declared.ops.InvokeKind.{InvokeKind}
 use Rattle.insn_set.specs.declared.ops.InvokeKind.TheVariants as call
 use Rattle.verify.specs.declared.calls.Search.{Search}
 use Rattle.verify.specs.declared.calls.Search.TheVariants as search
-use Rattle.verify.specs.Supers.{found_at_place, above_of, said, lists, is_listed, begins_at, begins_by, begins_above, is_super_kind, is_super, is_above_call, called_by_kind, super_search, Finds, FindsBelow}
+use Rattle.verify.specs.Supers.{found_at_place, place_found, said, lists, is_listed, is_super_kind, is_super, is_settled, called_by_kind, super_search, Finds, FindsBelow}
 
 no_chain : (f : ℕ → Option ℕ) (n : ℕ) → chain_from f n None ≡ []
 no_chain f zero = refl
@@ -26,16 +26,6 @@ no_chain f (suc n) = refl
 -- nothing stands above a class without a superclass
 pub none_above : (p : Program) (name proto : ℕ) → finds_from p name proto None ≡ None
 none_above p name proto = ap (first_among (own_method p name proto)) (no_chain (super_place p) (length p.classes))
-
-pub above_some : (p : Program) (class method : ℕ) (q : MethodName) (r : Option MethodAt) → slice_get p.methods method ≡ Some q → r ≡ finds_from p q.name q.proto (super_place p class) → r ≡ above_of p class method
-above_some p class method q r e f = f ∙ sym (ap (by_entry (λ x. finds_from p x.name x.proto (super_place p class))) e)
-
-pub above_none : (p : Program) (class method : ℕ) → slice_get p.methods method ≡ None → None ≡ above_of p class method
-above_none p class method e = sym (ap (by_entry (λ x. finds_from p x.name x.proto (super_place p class))) e)
-
-said_search : (p : Program) (r : Option MethodAt) → found_at_place p r ≡ said p (finding.search_of r)
-said_search p None = refl
-said_search p (Some at) = refl
 
 -- what no class lists, none above a class lists
 none_both : {X : Type 0} (a b : X → Bool) (xs : List X) → list_any b xs ≡ false → list_any (λ x. a x && b x) xs ≡ false
@@ -51,30 +41,19 @@ untrue : (b : Bool) → not b ≡ true → b ≡ false
 untrue true e = absurd (true≢false (sym e))
 untrue false e = refl
 
--- a call that begins at the superclass finds what stands above
-module _ (p : Program) (class : ℕ) where
-  abbrev super_by : Bool → Option MethodName → finding.Search
-  super_by v None = finding.Nothing
-  super_by v (Some q) = cond v (finds_super_037 p class q (class_place p q.class)) (finds_above p class q)
+pub said_place : (p : Program) (s : finding.Search) → found_at_place p (place_found s) ≡ said p s
+said_place p (finding.Finds at) = refl
+said_place p finding.Nothing = refl
+said_place p finding.Clash = refl
 
-  by_version : (o : Option MethodName) → super_by (is_037 p.version) o ≡ finds_super_of p class o
-  by_version None = refl
-  by_version (Some q) = refl
+pub place_above : (o : Option MethodAt) → o ≡ place_found (finding.search_of o)
+place_above None = refl
+place_above (Some at) = refl
 
-  begins : (q : MethodName) (o : Option ℕ) → begins_at p q.class o ≡ true → finds_super_037 p class q o ≡ finds_above p class q
-  begins q None h = ap (λ b. cond b finding.Nothing (finds_above p class q)) (none_both (λ k. reaches p class (class_place p k.name)) (lists q.class) p.classes (untrue (is_listed p q.class) h))
-  begins q (Some c) h = ap (λ b. cond b (finds_among p (c ∷ []) q.name q.proto) (finds_above p class q)) (untrue (is_interface (slice_get p.classes c)) h)
-
-  go : (v : Bool) (o : Option MethodName) → (not v || begins_by p o) ≡ true → found_at_place p (by_entry (λ x. finds_from p x.name x.proto (super_place p class)) o) ≡ said p (super_by v o)
-  go v None h = refl
-  go false (Some q) h = said_search p (finds_from p q.name q.proto (super_place p class))
-  go true (Some q) h = said_search p (finds_from p q.name q.proto (super_place p class)) ∙ ap (said p) (sym (begins q (class_place p q.class) h))
-
-  pub above_said : (method : ℕ) → begins_above p method ≡ true → found_at_place p (above_of p class method) ≡ said p (finds_super p class method)
-  above_said method h = go (is_037 p.version) (slice_get p.methods method) h ∙ ap (said p) (by_version (slice_get p.methods method))
-
-pub above_found : (p : Program) (class method : ℕ) (r : Option MethodAt) → begins_above p method ≡ true → r ≡ above_of p class method → found_at_place p r ≡ said p (finds_super p class method)
-above_found p class method r b e = ap (found_at_place p) e ∙ above_said p class method b
+-- a call that names a type that no class lists finds what stands above
+pub kind_above : (p : Program) (class kind : ℕ) (q : MethodName) (r : Option MethodAt) → q.class ≡ kind → is_listed p kind ≡ false → r ≡ finds_from p q.name q.proto (super_place p class) → r ≡ place_found (finds_super_037 p class q None)
+kind_above p class kind q r e f g = g ∙ place_above (finds_from p q.name q.proto (super_place p class))
+    ∙ sym (ap (λ b. place_found (cond b finding.Nothing (finds_above p class q))) (none_both (λ k. reaches p class (class_place p k.name)) (lists q.class) p.classes (ap (is_listed p) e ∙ f)))
 
 -- ---- super calls in a body
 
@@ -118,7 +97,7 @@ got_short (y ∷ ys) (suc i) x e = let h = got_short ys i x e in omega (arith, h
 
 -- one more position
 pub finds_more : (p : Program) (class : ℕ) (is slice : List Insn) (n : ℕ) (x : Insn) (old new : List Search) (y : Search) → slice ≡ is → x ≡ get_or slice n x → n < length slice → length old ≡ n → new ≡ old ++ y ∷ []
-    → (is_above_call p x ≡ true → y ≡ super_search p class x) → FindsBelow p class is old n → FindsBelow p class is new (n + 1)
+    → (is_settled p x ≡ true → y ≡ super_search p class x) → FindsBelow p class is old n → FindsBelow p class is new (n + 1)
 finds_more p class is slice n x old new y same item lt long pushed here so_far k i below e b = elim (cases_lt k n) [
   | inl l ↦ ap (λ z. slice_index_or z k search.Nothing) pushed ∙ before old k y (omega (arith, l, long)) ∙ so_far k i l e b
   | inr g ↦
@@ -127,7 +106,7 @@ finds_more p class is slice n x old new y same item lt long pushed here so_far k
       let s : Some x ≡ Some i = sym at ∙ ap (slice_get is) (sym q) ∙ e in
       let t : x ≡ i = cc in
       ap (λ z. slice_index_or z k search.Nothing) pushed ∙ ap (λ m. slice_index_or (old ++ y ∷ []) m search.Nothing) (q ∙ sym long) ∙ last old y
-      ∙ here (ap (is_above_call p) t ∙ b) ∙ ap (super_search p class) t
+      ∙ here (ap (is_settled p) t ∙ b) ∙ ap (super_search p class) t
 ]
   where
     before : (xs : List Search) (k : ℕ) (y : Search) → k < length xs → slice_index_or (xs ++ y ∷ []) k search.Nothing ≡ slice_index_or xs k search.Nothing

@@ -1,10 +1,11 @@
 -- What super calls find, with the numbers of the classes' types (this project's profile).
-use Rattle.std.specs.Prelude.{◌≡◌, ℕ, ◌<◌, ◌||◌, Bool, true, false, not, List, Option, Some, None, nat_eq, slice_get, slice_index_or}
+use Rattle.std.specs.Prelude.{◌≡◌, ℕ, ◌<◌, ◌||◌, Bool, true, false, not, List, Option, Some, None, nat_eq, slice_get, slice_index_or, length, vec_len}
 use Rattle.std.specs.List.{list_any}
-use Rattle.class_defs.specs.Finding.{finds_from, finds_super, by_entry, is_037}
+use Rattle.class_defs.specs.Finding.{finds_super, is_037}
 use Rattle.class_defs.specs.Finding as finding
-use Rattle.class_defs.specs.Members.{is_interface}
-use Rattle.class_defs.specs.Places.{super_place}
+use Rattle.hierarchy.specs.Walking.{IsFair}
+use Rattle.hierarchy.specs.declared.build.Hierarchy.{Hierarchy}
+use Rattle.hierarchy.specs.declared.walk.Walk.{Walk}
 use Rattle.insn_set.specs.declared.form.Insn.{Insn}
 use Rattle.insn_set.specs.declared.form.Insn.TheVariants as insn
 use Rattle.insn_set.specs.declared.ops.InvokeKind.{InvokeKind}
@@ -28,9 +29,11 @@ abbrev pub found_at_place : Program → Option MethodAt → Search
 found_at_place p None = search.Nothing
 found_at_place p (Some at) = found_in (method_at p at) (slice_get p.classes at.class)
 
--- the first method of the name and proto of a method number along the superclasses of a class
-abbrev pub above_of : Program → ℕ → ℕ → Option MethodAt
-above_of p class method = by_entry (λ q. finds_from p q.name q.proto (super_place p class)) (slice_get p.methods method)
+-- the place that a look-up answers, where it finds one method
+abbrev pub place_found : finding.Search → Option MethodAt
+place_found (finding.Finds at) = Some at
+place_found finding.Nothing = None
+place_found finding.Clash = None
 
 abbrev pub said : Program → finding.Search → Search
 said p (finding.Finds at) = found_at_place p (Some at)
@@ -46,8 +49,6 @@ abbrev pub super_search : Program → ℕ → Insn → Search
 super_search p class (insn.Invoke k method args) = called_by_kind p class k method
 super_search p class i = search.Nothing
 
--- ---- super calls that begin at the superclass whatever the interfaces are
-
 -- a type stands in the interface list of a class, or of some class
 abbrev pub lists : ℕ → Class → Bool
 lists kind c = list_any (nat_eq kind) c.interfaces
@@ -55,18 +56,18 @@ lists kind c = list_any (nat_eq kind) c.interfaces
 abbrev pub is_listed : Program → ℕ → Bool
 is_listed p kind = list_any (lists kind) p.classes
 
--- the named type is a program class and no interface, or a type that no class lists
-abbrev pub begins_at : Program → ℕ → Option ℕ → Bool
-begins_at p kind None = not (is_listed p kind)
-begins_at p kind (Some c) = not (is_interface (slice_get p.classes c))
+-- the named type is a program class, or a type that no class lists
+abbrev pub settles_at : Program → ℕ → Option ℕ → Bool
+settles_at p kind None = not (is_listed p kind)
+settles_at p kind (Some c) = true
 
-abbrev pub begins_by : Program → Option MethodName → Bool
-begins_by p None = true
-begins_by p (Some q) = begins_at p q.class (class_place p q.class)
+abbrev pub settles_by : Program → Option MethodName → Bool
+settles_by p None = true
+settles_by p (Some q) = settles_at p q.class (class_place p q.class)
 
--- a super call of a method number begins at the superclass: each one in version 035
-abbrev pub begins_above : Program → ℕ → Bool
-begins_above p method = not (is_037 p.version) || begins_by p (slice_get p.methods method)
+-- what a super call of a method number finds is settled: each one in version 035
+abbrev pub settles : Program → ℕ → Bool
+settles p method = not (is_037 p.version) || settles_by p (slice_get p.methods method)
 
 abbrev pub is_super_kind : InvokeKind → Bool
 is_super_kind call.Super = true
@@ -76,14 +77,19 @@ abbrev pub is_super : Insn → Bool
 is_super (insn.Invoke k method args) = is_super_kind k
 is_super i = false
 
--- an instruction is no super call, or one that begins at the superclass
-abbrev pub is_above_call : Program → Insn → Bool
-is_above_call p (insn.Invoke k method args) = begins_above p method
-is_above_call p i = true
+-- an instruction is no super call, or one that is settled
+abbrev pub is_settled : Program → Insn → Bool
+is_settled p (insn.Invoke k method args) = settles p method
+is_settled p i = true
 
--- what is found at each position, of so many or of all, whose call, if it is one, begins at the superclass
+-- what is found at each position, of so many or of all, whose call, if it is one, is settled
 abbrev pub FindsBelow : Program → ℕ → List Insn → List Search → ℕ → Type 0
-FindsBelow p class insns found count = (n : ℕ) (i : Insn) → n < count → slice_get insns n ≡ Some i → is_above_call p i ≡ true → slice_index_or found n search.Nothing ≡ super_search p class i
+FindsBelow p class insns found count = (n : ℕ) (i : Insn) → n < count → slice_get insns n ≡ Some i → is_settled p i ≡ true → slice_index_or found n search.Nothing ≡ super_search p class i
 
 abbrev pub Finds : Program → ℕ → List Insn → List Search → Type 0
-Finds p class insns found = (n : ℕ) (i : Insn) → slice_get insns n ≡ Some i → is_above_call p i ≡ true → slice_index_or found n search.Nothing ≡ super_search p class i
+Finds p class insns found = (n : ℕ) (i : Insn) → slice_get insns n ≡ Some i → is_settled p i ≡ true → slice_index_or found n search.Nothing ≡ super_search p class i
+
+-- a walk that was made serves the hierarchy
+abbrev pub Serves : Hierarchy → Option Walk → Type 0
+Serves h None = Unit {0}
+Serves h (Some w) = IsFair w × (length w.seen.items ≡ vec_len h.shape.supers)

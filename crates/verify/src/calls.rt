@@ -1,13 +1,16 @@
 //! What the super calls of a body find.
 
-ghost use Rattle.std.specs.Prelude.{◌≡◌, true, false, Some, IfOk, slice_get};
+ghost use Rattle.std.specs.Prelude.{◌≡◌, ◌∷◌, [], true, false, length, Some, IfOk, OnOk, slice_get};
 ghost use Rattle.std.specs.List.{list_any};
-ghost use Rattle.class_defs.specs.Finding.{finds_from};
+ghost use Rattle.class_defs.specs.Finding.{finds_from, finds_among, finds_super, finds_super_037};
 ghost use Rattle.class_defs.specs.Members.{is_interface};
 ghost use Rattle.class_defs.specs.Places.{super_place};
+ghost use Rattle.hierarchy.specs.Giving.{search_given};
 ghost use Rattle.hierarchy.specs.Shapes.{IsOf};
+ghost use Rattle.hierarchy.specs.Walking.{IsFair};
+ghost use Rattle.hierarchy.specs.declared.build.Hierarchy.{Hierarchy};
 ghost use Rattle.program_model.specs.declared.pools.MethodName.{MethodName};
-ghost use Rattle.verify.specs.Supers.{lists, is_listed, begins_at, begins_above, found_at_place, above_of, called_by_kind, super_search, is_super, is_above_call, Finds};
+ghost use Rattle.verify.specs.Supers.{lists, is_listed, settles, settles_at, place_found, found_at_place, called_by_kind, super_search, is_super, is_settled, Finds, Serves};
 ghost use Rattle.std.specs.Option.{option_copied};
 ghost use Rattle.program_model.specs.Lookups.{class_place, method_at};
 
@@ -32,7 +35,9 @@ pub struct Scratch {
 }
 
 impl Scratch {
-    pub fn new(alloc: Global) -> Scratch {
+    pub fn new(alloc: Global) -> Scratch
+        ensures { (h : Hierarchy) → Serves h result.walk }
+    {
         Scratch {
             walk: None,
             found: Vec::new(alloc),
@@ -100,6 +105,17 @@ fn is_interface(program: &Program, class: u32) -> bool
     }
 }
 
+/// The method that the candidates of an interface give, if they give one.
+fn placed(given: Given) -> Option<MethodAt>
+    ensures { result ≡ place_found (search_given given) }
+{
+    match given {
+        Given::One(found) => Some(found),
+        Given::Nothing => None,
+        Given::Clash => None,
+    }
+}
+
 impl Calls<'_> {
     /// The first method of the name and proto along the superclasses of the calling class.
     fn find_above(&self, class: u32, method: u32) -> Option<MethodAt>
@@ -120,15 +136,17 @@ impl Calls<'_> {
         walk: &mut Walk,
         interface: u32,
         method: u32,
-    ) -> Result<Option<MethodAt>, AllocError> {
+    ) -> Result<Option<MethodAt>, AllocError>
+        ensures fair { OnOk result (IsFair walk.old → IsFair walk.new) }
+        ensures size { OnOk result (length walk.new.seen.items ≡ length walk.old.seen.items) }
+        ensures is { (q : MethodName) → IsOf self.now.program.now self.now.hierarchy.now → slice_get self.now.program.now.methods method ≡ Some q → IsFair walk.old → length walk.old.seen.items ≡ length self.now.program.now.classes → IfOk result (λ found. found ≡ place_found (finds_among self.now.program.now (interface ∷ []) q.name q.proto)) }
+    {
         let key = self.hierarchy.key_of_method(method);
         found.clear();
         self.hierarchy
             .candidates_of(self.program, interface, key, walk, found)?;
-        match self.hierarchy.given(self.program, found.as_slice(), walk)? {
-            Given::One(found) => Ok(Some(found)),
-            _ => Ok(None),
-        }
+        let given = self.hierarchy.given(self.program, found.as_slice(), walk)?;
+        Ok(placed(given))
     }
 
     /// Whether a type stands in the interface list of a class or of a program class above it.
@@ -148,36 +166,31 @@ impl Calls<'_> {
         false
     }
 
-    /// What the candidates of a program interface give, by a walk that is made where there is none yet.
-    fn find_given(
-        &self,
-        alloc: Global,
-        scratch: &mut Scratch,
-        interface: u32,
-        method: u32,
-    ) -> Result<Option<MethodAt>, AllocError> {
-        let mut walk = match scratch.walk.take() {
-            Some(walk) => walk,
-            None => self.hierarchy.walk(alloc)?,
-        };
-        let found = self.find_among(&mut scratch.found, &mut walk, interface, method)?;
-        scratch.walk = Some(walk);
-        Ok(found)
+    /// The walk that was made before, or a new one where there is none.
+    fn walk_of(&self, alloc: Global, made: Option<Walk>) -> Result<Walk, AllocError>
+        ensures { Serves self.now.hierarchy.now made → IfOk result (λ w. Serves self.now.hierarchy.now (Some w)) }
+    {
+        match made {
+            Some(walk) => Ok(walk),
+            None => self.hierarchy.walk(alloc),
+        }
     }
 
     /// What a super call of version 037 finds that names a program class.
     fn find_by_class(
         &self,
-        alloc: Global,
-        scratch: &mut Scratch,
+        found: &mut Vec<MethodAt>,
+        walk: &mut Walk,
         class: u32,
         method: u32,
         named: u32,
     ) -> Result<Option<MethodAt>, AllocError>
-        ensures { (q : MethodName) → IsOf self.now.program.now self.now.hierarchy.now → slice_get self.now.program.now.methods method ≡ Some q → is_interface (slice_get self.now.program.now.classes named) ≡ false → IfOk result (λ found. found ≡ finds_from self.now.program.now q.name q.proto (super_place self.now.program.now class)) }
+        ensures fair { OnOk result (IsFair walk.old → IsFair walk.new) }
+        ensures size { OnOk result (length walk.new.seen.items ≡ length walk.old.seen.items) }
+        ensures is { (q : MethodName) → IsOf self.now.program.now self.now.hierarchy.now → slice_get self.now.program.now.methods method ≡ Some q → IsFair walk.old → length walk.old.seen.items ≡ length self.now.program.now.classes → IfOk result (λ found. found ≡ place_found (finds_super_037 self.now.program.now class q (Some named))) }
     {
         if is_interface(self.program, named) {
-            let found = self.find_given(alloc, scratch, named, method)?;
+            let found = self.find_among(found, walk, named, method)?;
             Ok(found)
         } else {
             Ok(self.find_above(class, method))
@@ -186,7 +199,7 @@ impl Calls<'_> {
 
     /// What a super call of version 037 finds that names a type of the framework.
     fn find_by_kind(&self, class: u32, method: u32, kind: u32) -> Option<MethodAt>
-        ensures { (q : MethodName) → IsOf self.now.program.now self.now.hierarchy.now → slice_get self.now.program.now.methods method ≡ Some q → is_listed self.now.program.now kind ≡ false → result ≡ finds_from self.now.program.now q.name q.proto (super_place self.now.program.now class) }
+        ensures { (q : MethodName) → IsOf self.now.program.now self.now.hierarchy.now → slice_get self.now.program.now.methods method ≡ Some q → q.class ≡ kind → is_listed self.now.program.now kind ≡ false → result ≡ place_found (finds_super_037 self.now.program.now class q None) }
     {
         if self.lists_above(class, kind) {
             None
@@ -198,21 +211,41 @@ impl Calls<'_> {
     /// What a super call of version 037 finds.
     fn find_in_037(
         &self,
+        found: &mut Vec<MethodAt>,
+        walk: &mut Walk,
+        class: u32,
+        method: u32,
+        kind: u32,
+    ) -> Result<Option<MethodAt>, AllocError>
+        ensures fair { OnOk result (IsFair walk.old → IsFair walk.new) }
+        ensures size { OnOk result (length walk.new.seen.items ≡ length walk.old.seen.items) }
+        ensures is { (q : MethodName) → IsOf self.now.program.now self.now.hierarchy.now → slice_get self.now.program.now.methods method ≡ Some q → q.class ≡ kind → settles_at self.now.program.now kind (class_place self.now.program.now kind) ≡ true → IsFair walk.old → length walk.old.seen.items ≡ length self.now.program.now.classes → IfOk result (λ found. found ≡ place_found (finds_super_037 self.now.program.now class q (class_place self.now.program.now q.class))) }
+    {
+        match self.hierarchy.place_of(kind) {
+            Some(named) => {
+                let found = self.find_by_class(found, walk, class, method, named)?;
+                Ok(found)
+            }
+            None => Ok(self.find_by_kind(class, method, kind)),
+        }
+    }
+
+    /// What a super call of version 037 finds, by a walk that is made where there is none yet.
+    fn find_walking(
+        &self,
         alloc: Global,
         scratch: &mut Scratch,
         class: u32,
         method: u32,
         kind: u32,
     ) -> Result<Option<MethodAt>, AllocError>
-        ensures { (q : MethodName) → IsOf self.now.program.now self.now.hierarchy.now → slice_get self.now.program.now.methods method ≡ Some q → begins_at self.now.program.now kind (class_place self.now.program.now kind) ≡ true → IfOk result (λ found. found ≡ finds_from self.now.program.now q.name q.proto (super_place self.now.program.now class)) }
+        ensures serves { Serves self.now.hierarchy.now scratch.old.walk → OnOk result (Serves self.now.hierarchy.now scratch.new.walk) }
+        ensures is { (q : MethodName) → IsOf self.now.program.now self.now.hierarchy.now → slice_get self.now.program.now.methods method ≡ Some q → q.class ≡ kind → settles_at self.now.program.now kind (class_place self.now.program.now kind) ≡ true → Serves self.now.hierarchy.now scratch.old.walk → IfOk result (λ found. found ≡ place_found (finds_super_037 self.now.program.now class q (class_place self.now.program.now q.class))) }
     {
-        match self.hierarchy.place_of(kind) {
-            Some(named) => {
-                let found = self.find_by_class(alloc, scratch, class, method, named)?;
-                Ok(found)
-            }
-            None => Ok(self.find_by_kind(class, method, kind)),
-        }
+        let mut walk = self.walk_of(alloc, scratch.walk.take())?;
+        let found = self.find_in_037(&mut scratch.found, &mut walk, class, method, kind)?;
+        scratch.walk = Some(walk);
+        Ok(found)
     }
 
     /// What a super call from a class finds.
@@ -223,7 +256,8 @@ impl Calls<'_> {
         class: u32,
         method: u32,
     ) -> Result<Option<MethodAt>, AllocError>
-        ensures above { IsOf self.now.program.now self.now.hierarchy.now → begins_above self.now.program.now method ≡ true → IfOk result (λ found. found ≡ above_of self.now.program.now class method) }
+        ensures serves { Serves self.now.hierarchy.now scratch.old.walk → OnOk result (Serves self.now.hierarchy.now scratch.new.walk) }
+        ensures is { IsOf self.now.program.now self.now.hierarchy.now → settles self.now.program.now method ≡ true → Serves self.now.hierarchy.now scratch.old.walk → IfOk result (λ found. found ≡ place_found (finds_super self.now.program.now class method)) }
     {
         let kind = match self.program.methods.as_slice().get(method as usize) {
             Some(name) => name.class,
@@ -232,14 +266,14 @@ impl Calls<'_> {
         match self.program.version {
             Version::V035 => Ok(self.find_above(class, method)),
             Version::V037 => {
-                let found = self.find_in_037(alloc, scratch, class, method, kind)?;
+                let found = self.find_walking(alloc, scratch, class, method, kind)?;
                 Ok(found)
             }
         }
     }
 
     /// What a call finds, if it is a super call.
-    #[tactic(auto, using(crate::proofs::Calling::above_found))]
+    #[tactic(auto, using(crate::proofs::Calling::said_place))]
     fn search_call(
         &self,
         alloc: Global,
@@ -248,7 +282,8 @@ impl Calls<'_> {
         kind: InvokeKind,
         method: u32,
     ) -> Result<Search, AllocError>
-        ensures { IsOf self.now.program.now self.now.hierarchy.now → begins_above self.now.program.now method ≡ true → IfOk result (λ found. found ≡ called_by_kind self.now.program.now class kind method) }
+        ensures serves { Serves self.now.hierarchy.now scratch.old.walk → OnOk result (Serves self.now.hierarchy.now scratch.new.walk) }
+        ensures is { IsOf self.now.program.now self.now.hierarchy.now → settles self.now.program.now method ≡ true → Serves self.now.hierarchy.now scratch.old.walk → IfOk result (λ found. found ≡ called_by_kind self.now.program.now class kind method) }
     {
         match kind {
             InvokeKind::Super => {
@@ -267,7 +302,8 @@ impl Calls<'_> {
         class: u32,
         insn: &Insn,
     ) -> Result<Search, AllocError>
-        ensures { IsOf self.now.program.now self.now.hierarchy.now → is_above_call self.now.program.now insn.now ≡ true → IfOk result (λ found. found ≡ super_search self.now.program.now class insn.now) }
+        ensures serves { Serves self.now.hierarchy.now scratch.old.walk → OnOk result (Serves self.now.hierarchy.now scratch.new.walk) }
+        ensures is { IsOf self.now.program.now self.now.hierarchy.now → is_settled self.now.program.now insn.now ≡ true → Serves self.now.hierarchy.now scratch.old.walk → IfOk result (λ found. found ≡ super_search self.now.program.now class insn.now) }
     {
         match insn {
             Insn::Invoke { kind, method, .. } => {
@@ -286,7 +322,8 @@ impl Calls<'_> {
         class: u32,
         insns: &[Insn],
     ) -> Result<Vec<Search>, AllocError>
-        ensures { IsOf self.now.program.now self.now.hierarchy.now → IfOk result (λ found. Finds self.now.program.now class insns.now found.items) }
+        ensures serves { Serves self.now.hierarchy.now scratch.old.walk → OnOk result (Serves self.now.hierarchy.now scratch.new.walk) }
+        ensures is { IsOf self.now.program.now self.now.hierarchy.now → Serves self.now.hierarchy.now scratch.old.walk → IfOk result (λ found. Finds self.now.program.now class insns.now found.items) }
     {
         let mut found = Vec::new(alloc);
         for insn in insns {
@@ -303,7 +340,8 @@ impl Calls<'_> {
         class: u32,
         insns: &[Insn],
     ) -> Result<Vec<Search>, AllocError>
-        ensures { IsOf self.now.program.now self.now.hierarchy.now → IfOk result (λ found. Finds self.now.program.now class insns.now found.items) }
+        ensures serves { Serves self.now.hierarchy.now scratch.old.walk → OnOk result (Serves self.now.hierarchy.now scratch.new.walk) }
+        ensures is { IsOf self.now.program.now self.now.hierarchy.now → Serves self.now.hierarchy.now scratch.old.walk → IfOk result (λ found. Finds self.now.program.now class insns.now found.items) }
     {
         if has_super(insns) {
             let found = self.search_each(alloc, scratch, class, insns)?;

@@ -8,6 +8,7 @@ ghost use Rattle.verify.specs.Typings.{IsShort, IsLeastTyping, Refuses as Refuse
 ghost use Rattle.verify.specs.Meeting.{IsMeeting};
 ghost use Rattle.verify.specs.Names.{parameters_of, result_of};
 ghost use Rattle.verify.specs.Methods.{receiver_of, constructs, HasTyping, Refuses, Types, HasTypings, TypesAt, RefusesAt, RefusesIn, AllBelow, RefusesFirst, IsFor};
+ghost use Rattle.verify.specs.Supers.{Serves};
 ghost use Rattle.verify.specs.Frames.{kinds_of};
 ghost use Rattle.verify.specs.Faults.{fault_of, fault_at, NoneBreaks};
 
@@ -217,8 +218,9 @@ impl<'a> Verifier<'a> {
         body: &Body,
     ) -> Result<Typings, TypeFault>
         requires { IsMeeting self.now.tables }
-        ensures typed { IfOk result (λ x. HasTyping self.now class.entry.0.now class.entry.1 method.now body.now (places_of x.states.items)) }
-        ensures refused { method.now.body ≡ Some body.now → IfErr result (Refuses self.now class.entry.0.now class.entry.1 method.now) }
+        ensures serves { Serves self.now.hierarchy.now scratch.old.walk → OnOk result (Serves self.now.hierarchy.now scratch.new.walk) }
+        ensures typed { Serves self.now.hierarchy.now scratch.old.walk → IfOk result (λ x. HasTyping self.now class.entry.0.now class.entry.1 method.now body.now (places_of x.states.items)) }
+        ensures refused { method.now.body ≡ Some body.now → Serves self.now.hierarchy.now scratch.old.walk → IfErr result (Refuses self.now class.entry.0.now class.entry.1 method.now) }
     {
         let calls = self.calls();
         let found = calls.search_all(alloc, scratch, class.1, body.insns.as_slice())?;
@@ -285,8 +287,9 @@ impl<'a> Verifier<'a> {
         method: &Method,
     ) -> Result<Typings, TypeFault>
         requires { IsMeeting self.now.tables }
-        ensures typed { IfOk result (λ x. Types self.now class.entry.0.now class.entry.1 method.now (places_of x.states.items)) }
-        ensures refused { IfErr result (Refuses self.now class.entry.0.now class.entry.1 method.now) }
+        ensures serves { Serves self.now.hierarchy.now scratch.old.walk → OnOk result (Serves self.now.hierarchy.now scratch.new.walk) }
+        ensures typed { Serves self.now.hierarchy.now scratch.old.walk → IfOk result (λ x. Types self.now class.entry.0.now class.entry.1 method.now (places_of x.states.items)) }
+        ensures refused { Serves self.now.hierarchy.now scratch.old.walk → IfErr result (Refuses self.now class.entry.0.now class.entry.1 method.now) }
     {
         match &method.body {
             Some(body) => self.of_body(alloc, scratch, class, method, body),
@@ -305,8 +308,9 @@ impl<'a> Verifier<'a> {
         at: u32,
     ) -> Result<(), TypeFault>
         requires { IsMeeting self.now.tables }
-        ensures typed { OnOk result (All (HasTypings self.now class.now at) class.now.methods) }
-        ensures refused { IfErr result (RefusesIn self.now class.now at) }
+        ensures serves { Serves self.now.hierarchy.now scratch.old.walk → OnOk result (Serves self.now.hierarchy.now scratch.new.walk) }
+        ensures typed { Serves self.now.hierarchy.now scratch.old.walk → OnOk result (All (HasTypings self.now class.now at) class.now.methods) }
+        ensures refused { Serves self.now.hierarchy.now scratch.old.walk → IfErr result (RefusesIn self.now class.now at) }
     {
         for method in class.methods.as_slice() {
             match self.of_method(alloc, scratch, (class, at), method) {

@@ -10,7 +10,7 @@ pub returns-in-None-method_at-clause-typed : goal.returns-in-None-method_at-clau
 returns-in-None-method_at-clause-typed c = nothing_in c.args.self.now c.args.method _ (sym c.method_at.ensures ∙ ap option_copied c.in-None-method_at.is)
 
 pub returns-clause-typed : goal.returns-clause-typed
-returns-clause-typed c = typed_at c.args.self.now c.args.method _ _ (sym c.class_at.ensures ∙ ap option_copied c.in-Some.is) (sym c.method_at.ensures ∙ ap option_copied c.in-Some-method_at.is) c.of_method.result c.of_method.ensures.typed
+returns-clause-typed c = typed_at c.args.self.now c.args.method _ _ (sym c.class_at.ensures ∙ ap option_copied c.in-Some.is) (sym c.method_at.ensures ∙ ap option_copied c.in-Some-method_at.is) c.of_method.result (c.of_method.ensures.typed (c.new-scratch.ensures c.args.self.now.hierarchy.now))
 
 pub returns-clause-refused : goal.returns-clause-refused
-returns-clause-refused c = refused_at c.args.self.now c.args.method _ _ (sym c.class_at.ensures ∙ ap option_copied c.in-Some.is) (sym c.method_at.ensures ∙ ap option_copied c.in-Some-method_at.is) c.of_method.result c.of_method.ensures.refused
+returns-clause-refused c = refused_at c.args.self.now c.args.method _ _ (sym c.class_at.ensures ∙ ap option_copied c.in-Some.is) (sym c.method_at.ensures ∙ ap option_copied c.in-Some-method_at.is) c.of_method.result (c.of_method.ensures.refused (c.new-scratch.ensures c.args.self.now.hierarchy.now))

@@ -45,9 +45,11 @@ found_more l calls new i c found a e is = record { is = λ j d other q h hq. ent
   where
     kept : ℕ → Search → Recent
     kept c found = record { class = Some c; found = found }
+
     got : {X : Type 0} → X → Option X → X
     got d None = d
     got d (Some x) = x
+
     entry : (j d : ℕ) (other : Search) (q : MethodName) → slice_get l.program.now.methods j ≡ Some q → (slice_get calls j ≡ Some (record { class = Some d; found = other })) ⊎ ((j ≡ i) × (kept d other ≡ kept c found))
         → other ≡ found_at l d q
     entry j d other q hq (inl h) = a.is j d other q h hq

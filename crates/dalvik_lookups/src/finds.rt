@@ -94,12 +94,7 @@ impl<'a> Lookups<'a> {
 
     /// What a virtual or interface call of a method number finds at a receiver's class, where that is under the class
     /// that the call names.
-    fn find_virtually(
-        &self,
-        memo: &mut Memo,
-        class: u32,
-        method: u32,
-    ) -> Result<Search, AllocError>
+    fn find_virtually(&self, memo: &mut Memo, class: u32, method: u32) -> Result<Search, AllocError>
         ensures kept { (c : Class) (q : MethodName) → IsRight self.now → IsKept self.now memo.old → slice_get self.now.program.now.classes class ≡ Some c → slice_get self.now.program.now.methods method ≡ Some q → OnOk result (IsKept self.now memo.new) }
         ensures is { (c : Class) (q : MethodName) → IsRight self.now → IsKept self.now memo.old → slice_get self.now.program.now.classes class ≡ Some c → slice_get self.now.program.now.methods method ≡ Some q → IfOk result (λ s. s ≡ found_at self.now class q) }
     {
@@ -114,12 +109,7 @@ impl<'a> Lookups<'a> {
     }
 
     /// What a virtual or interface call of a method number finds at a class. What the call found last time is kept.
-    fn virtually_at(
-        &self,
-        memo: &mut Memo,
-        class: u32,
-        method: u32,
-    ) -> Result<Search, AllocError>
+    fn virtually_at(&self, memo: &mut Memo, class: u32, method: u32) -> Result<Search, AllocError>
         ensures kept { (c : Class) (q : MethodName) → IsRight self.now → IsKept self.now memo.old → slice_get self.now.program.now.classes class ≡ Some c → slice_get self.now.program.now.methods method ≡ Some q → OnOk result (IsKept self.now memo.new) }
         ensures is { (c : Class) (q : MethodName) → IsRight self.now → IsKept self.now memo.old → slice_get self.now.program.now.classes class ≡ Some c → slice_get self.now.program.now.methods method ≡ Some q → IfOk result (λ s. s ≡ found_at self.now class q) }
     {

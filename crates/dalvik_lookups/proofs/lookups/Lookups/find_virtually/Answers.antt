@@ -19,7 +19,7 @@ returns-in_ok-found-clause-is c = λ k q r m hc hq.
     let own = c.class_of_method-named.ensures r (below c.args.self.now.program.now.methods c.args.method q hq) in
     c.in_ok-found.ensures.is q.name q.proto r (c.in_ok-is_under.ensures.kept r m receiver.kind own.kind) (c.key_of_method.ensures.is c.args.self.now.program.now q hq)
     ∙ sym (found_by c.args.self.now c.args.class q k c.in_ok-is_under.field-0 _ _ hc receiver.text (own.text ∙ sym (method_class_is c.args.self.now.program.now c.args.method q hq)) (c.in_ok-is_under.ensures.answer r m receiver.kind own.kind)
-        ∙ ap (λ b. cond b (search_by (finds_at c.args.self.now.program.now c.args.class q.name q.proto)) Nothing) c.if-branch.true)
+    ∙ ap (λ b. cond b (search_by (finds_at c.args.self.now.program.now c.args.class q.name q.proto)) Nothing) c.if-branch.true)
 
 pub returns-else-branch-clause-kept : goal.returns-else-branch-clause-kept
 returns-else-branch-clause-kept c = λ k q r m hc hq.
@@ -32,4 +32,4 @@ returns-else-branch-clause-is c = λ k q r m hc hq.
     let receiver = c.kind_of_class-receiver.ensures r k hc in
     let own = c.class_of_method-named.ensures r (below c.args.self.now.program.now.methods c.args.method q hq) in
     sym (found_by c.args.self.now c.args.class q k c.in_ok-is_under.field-0 _ _ hc receiver.text (own.text ∙ sym (method_class_is c.args.self.now.program.now c.args.method q hq)) (c.in_ok-is_under.ensures.answer r m receiver.kind own.kind)
-        ∙ ap (λ b. cond b (search_by (finds_at c.args.self.now.program.now c.args.class q.name q.proto)) Nothing) c.if-branch.false)
+    ∙ ap (λ b. cond b (search_by (finds_at c.args.self.now.program.now c.args.class q.name q.proto)) Nothing) c.if-branch.false)

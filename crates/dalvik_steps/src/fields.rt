@@ -7,6 +7,7 @@ use dalvik_state::{
     Datum, Gifts, State, Tables, Thing, Waiting, World, drafted, drafted_option, show, show_option,
     zero_of,
 };
+use dex_base::Text;
 use program_model::{EncValue, FieldName, Item};
 use std::alloc::{AllocError, Global};
 
@@ -142,6 +143,22 @@ fn reads_value(state: &mut State<'_>, reading: Reading, value: Option<Datum>) {
     }
 }
 
+/// The texts of a field's class, of its name and of its type.
+#[derive(Drop)]
+struct FieldTexts {
+    class: Text,
+    name: Text,
+    kind: Text,
+}
+
+/// The texts of a field by its number.
+fn field_texts(alloc: Global, tables: &Tables<'_>, field: u32) -> Result<FieldTexts, AllocError> {
+    let class = tables.lookups.kind_text(alloc, field_class(tables, field))?;
+    let name = tables.lookups.field_text(alloc, field)?;
+    let kind = tables.lookups.kind_text(alloc, field_kind(tables, field))?;
+    Ok(FieldTexts { class, name, kind })
+}
+
 /// A field of the framework is read by it, which owes the value.
 fn reads_out<'a>(
     alloc: Global,
@@ -149,22 +166,19 @@ fn reads_out<'a>(
     state: &mut State<'a>,
     reading: Reading,
 ) -> Result<Option<Event>, AllocError> {
-    let (owner, kind) = (
-        field_class(tables, reading.field),
-        field_kind(tables, reading.field),
-    );
+    let texts = field_texts(alloc, tables, reading.field)?;
+    let owner = field_class(tables, reading.field);
     let none = Gifts::new(alloc);
     let draft = drafted_option(alloc, tables, &state.world, &none, owner, reading.on)?;
-    let class = tables.lookups.kind_text(alloc, owner)?;
-    let name = tables.lookups.field_text(alloc, reading.field)?;
-    let text = tables.lookups.kind_text(alloc, kind)?;
     state.stack.reserve(1)?;
     state.world.exposed.reserve(1)?;
-    let _ = state.stack.push(Waiting::Outside { owes: Some(kind) });
+    let owes = Some(field_kind(tables, reading.field));
+    let _ = state.stack.push(Waiting::Outside { owes });
+    let FieldTexts { class, name, kind } = texts;
     Ok(Some(Event::Get {
         class,
         name,
-        kind: text,
+        kind,
         on: show_option(&mut state.world, draft),
     }))
 }
@@ -234,24 +248,21 @@ fn writes_out<'a>(
     state: &mut State<'a>,
     writing: Writing,
 ) -> Result<Option<Event>, AllocError> {
-    let (owner, kind) = (
-        field_class(tables, writing.field),
-        field_kind(tables, writing.field),
-    );
+    let texts = field_texts(alloc, tables, writing.field)?;
+    let owner = field_class(tables, writing.field);
     let none = Gifts::new(alloc);
     let on = drafted_option(alloc, tables, &state.world, &none, owner, writing.on)?;
-    let value = drafted(alloc, tables, &state.world, &none, kind, writing.value)?;
-    let class = tables.lookups.kind_text(alloc, owner)?;
-    let name = tables.lookups.field_text(alloc, writing.field)?;
-    let text = tables.lookups.kind_text(alloc, kind)?;
+    let own = field_kind(tables, writing.field);
+    let value = drafted(alloc, tables, &state.world, &none, own, writing.value)?;
     state.world.exposed.reserve(2)?;
     go_on(state);
     let on = show_option(&mut state.world, on);
     let value = show(&mut state.world, value);
+    let FieldTexts { class, name, kind } = texts;
     Ok(Some(Event::Put {
         class,
         name,
-        kind: text,
+        kind,
         on,
         value,
     }))

@@ -1,6 +1,6 @@
 -- What super calls find, case by case.
 use Rattle.std.proofs.Common.{◌≡◌, ◌∙◌, ℕ, zero, suc, ◌<◌, ◌⊎◌, inl, inr, Bool, true, false, true≢false, List, [], ◌∷◌, ◌++◌, ◌+◌, length, take, get_or, refl, sym, ap, subst, Some, None, Option, append-nil}
-use Rattle.std.specs.Prelude.{cond, nat_eq, ◌||◌, ◌&&◌, Contains, slice_get, option_and_then, Decides}
+use Rattle.std.specs.Prelude.{cond, nat_eq, ◌||◌, Contains, slice_get, option_and_then, Decides}
 use Rattle.std.specs.List.{list_any}
 use Rattle.program_model.specs.declared.pools.MethodName.{MethodName}
 use Rattle.program_model.specs.declared.program.MethodAt.{MethodAt}

@@ -6,17 +6,18 @@ use Rattle.std.specs.Option.{option_or}
 use Rattle.program_model.specs.declared.pools.MethodName.{MethodName}
 use Rattle.program_model.specs.declared.program.MethodAt.{MethodAt}
 use Rattle.program_model.specs.declared.program.Program.{Program}
-use Rattle.program_model.specs.Lookups.{class_place}
+use Rattle.program_model.specs.Lookups.{class_place, method_at}
 use Rattle.program_model.specs.ProgramRules.{is_well_formed}
-use Rattle.class_defs.specs.Members.{is_common, own_virtual}
-use Rattle.class_defs.specs.Finding.{finds_virtual, is_037}
+use Rattle.class_defs.specs.Members.{is_common, own_virtual, has_code}
+use Rattle.class_defs.specs.Finding.{finds_virtual, is_037, found_or, verdict, lowest, is_lowest, finds_at, Nothing, Clash, Finds}
 use Rattle.hierarchy.specs.declared.build.Hierarchy.{Hierarchy}
 use Rattle.hierarchy.specs.Naming.{IsKey}
 use Rattle.hierarchy.specs.Membership.{key_at}
 use Rattle.call_graph.specs.declared.facts.Fact.{Fact}
 use Rattle.call_graph.specs.Above.{HasAbove, is_outer, has_outer}
-use Rattle.call_graph.specs.Objects.{answers_or, answers_to, class_candidates, open_facts, inherited, AllIn, Inherits, InheritsOf, FindsOpen, HasCommon, IsOutward, CalledBack}
-use Rattle.call_graph.proofs.Contained.{none_in, only_in, first_or, each_at, AtPlace}
+use Rattle.call_graph.specs.Objects.{answers_or, answers_by, answers_to, answer_facts, class_candidates, open_facts, inherited, AllIn, Inherits, InheritsOf, FindsOpen, HasCommon, IsOutward, CallsBack}
+use Rattle.call_graph.proofs.Contained.{none_in, only_in, first_in, first_or, flat_has, filter_from, each_at, AtPlace}
+use Rattle.call_graph.specs.Follows.{found_facts}
 use Rattle.call_graph.specs.Stays.{Stays}
 use Rattle.std.proofs.lemmas.List.Elements.{Contains-append_cases}
 use Rattle.program_model.specs.declared.program.Method.{Method}
@@ -111,7 +112,7 @@ module _ (p : Program) (fits : is_well_formed p ≡ true) (shut : List Bool) (cl
 
   pub called_back : (h : Hierarchy) (object kind : ℕ) (keys above : List ℕ) (y : Fact) → class_place p kind ≡ Some class → HasAbove p kind above → HasCommon p h keys
       → ((key : ℕ) → Contains keys key → FindsOpen p h shut class key out)
-      → (has_outer p object above ≡ true → (u : ℕ) → Contains above u → InheritsOf p shut class u out) → CalledBack p object shut kind y → Contains out y
+      → (has_outer p object above ≡ true → (u : ℕ) → Contains above u → InheritsOf p shut class u out) → CallsBack p object shut kind y → Contains out y
   called_back h object kind keys above y place has knows common inh b =
       let same : b.class ≡ class = some_inj b.class class (sym b.is_class ∙ place) in
       let answers : Contains (answers_to p class b.name.name b.name.proto) b.at = subst (λ c. Contains (answers_to p c b.name.name b.name.proto) b.at) same b.answers in
@@ -119,3 +120,31 @@ module _ (p : Program) (fits : is_well_formed p ≡ true) (shut : List Bool) (cl
         | inl o ↦ by_outward kind above b.name.name b.name.proto b.at place has (inh (outer_in p object kind above has o)) answers y b.fact_is
         | inr c ↦ by_common h keys b.number kind b.name b.at b.is_name c place knows common answers y b.fact_is
       ]
+
+-- ---- what a call finds is among the answers
+
+verdict_in : (fs : List MethodAt) (at : MethodAt) → verdict fs ≡ Finds at → Contains fs at
+verdict_in [] at e = absurd (nothing_finds e)
+  where
+    nothing_finds : Nothing ≡ Finds at → ⊥
+    nothing_finds e = cc
+verdict_in (f ∷ []) at e = subst (Contains (f ∷ [])) (same e) (first_in f [])
+  where
+    same : Finds f ≡ Finds at → f ≡ at
+    same e = cc
+verdict_in (f ∷ g ∷ fs) at e = absurd (clash_finds e)
+  where
+    clash_finds : Clash ≡ Finds at → ⊥
+    clash_finds e = cc
+
+answers_have : (p : Program) (o : Option MethodAt) (cs : List MethodAt) (at : MethodAt) → found_or o (verdict (lowest p cs)) ≡ Finds at → Contains (answers_or o cs) at
+answers_have p None cs at e = filter_from (λ f. has_code (method_at p f) && is_lowest p cs f) cs at (verdict_in (lowest p cs) at e)
+answers_have p (Some x) cs at e = subst (Contains (x ∷ [])) (same e) (first_in x [])
+  where
+    same : Finds x ≡ Finds at → x ≡ at
+    same e = cc
+
+pub found_answers : (p : Program) (number c : ℕ) (q : MethodName) (at : MethodAt) (y : Fact) → slice_get p.methods number ≡ Some q → finds_at p c q.name q.proto ≡ Finds at
+    → Contains (found_facts p (Some at)) y → Contains (answer_facts p number c) y
+found_answers p number c q at y e f i = subst (λ o. Contains (answers_by p c o) y) (sym e)
+    (flat_has (λ a. found_facts p (Some a)) (answers_to p c q.name q.proto) at y (answers_have p (finds_virtual p q.name q.proto c) (class_candidates p c q.name q.proto) at f) i)

@@ -11,7 +11,7 @@ use Rattle.call_graph.specs.declared.facts.Fact.TheVariants as fact
 use Rattle.call_graph.specs.declared.notes.Notes.{Notes}
 use Rattle.call_graph.specs.declared.tables.Tables.{Tables}
 use Rattle.call_graph.specs.Follows.{class_facts, field_facts, body_facts, own_method, names_of_method}
-use Rattle.call_graph.specs.Closed.{conditional, SuperForces, Followed}
+use Rattle.call_graph.specs.Closed.{conditional, FindsSuper, Followed}
 use Rattle.call_graph.specs.Objects.{AreNotes, SameNotes, NotesCall, NotesMade, all_found}
 use Rattle.call_graph.specs.Stays.{Stays}
 use Rattle.call_graph.specs.Supers.{SuperFacts, AddsSupers, super_found, super_037, above_call}
@@ -43,7 +43,7 @@ followed_field p t n number before out are e = record {
 }
 
 pub followed_method : (p : Program) (t : Tables) (old new : Notes) (number : ℕ) (before out : List Fact) → SameNotes old new → AreNotes p new → Stays (before ++ body_facts p t.bases.items number) out
-    → ((y : Fact) → SuperForces p number y → Contains out y) → Followed p t old new (fact.Method number) out
+    → ((y : Fact) → FindsSuper p number y → Contains out y) → Followed p t old new (fact.Method number) out
 followed_method p t old new number before out same are stays supers = record {
   forces = λ y f. elim f [ inl c ↦ stays.has y (Contains-append_right before (body_facts p t.bases.items number) y c) | inr b ↦ supers y b ];
   noted = tt;
@@ -97,11 +97,11 @@ some_same x y e = cc
 
 -- what the super calls among the names of a method force
 pub supers_forced : (p : Program) (number caller : ℕ) (name : MethodName) (out : List Fact) → slice_get p.methods number ≡ Some name → class_place p name.class ≡ Some caller → AddsSupers p name.class caller (names_of_method (own_method p number)) out
-    → (y : Fact) → SuperForces p number y → Contains out y
+    → (y : Fact) → FindsSuper p number y → Contains out y
 supers_forced p number caller name out e place adds y f =
     let n : f.name ≡ name = some_same f.name name (sym f.is_name ∙ e) in
     let c : f.caller ≡ caller = some_same f.caller caller (sym f.is_caller ∙ ap (λ m. class_place p m.class) n ∙ place) in
-    let h = adds f.callee f.called f.calls f.is_called f.plain in
+    let h = adds f.callee f.called f.calls f.is_called in
     let mine : SuperFacts p name.class caller f.called f.facts = subst (λ m. SuperFacts p m.class caller f.called f.facts) n (subst (λ k. SuperFacts p f.name.class k f.called f.facts) c f.finds) in
     h.has y (subst (λ l. Contains l y) (facts_same p name.class caller f.called f.facts h.facts mine h.finds) f.has)
 

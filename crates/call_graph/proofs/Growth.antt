@@ -1,6 +1,6 @@
 -- How facts become known, and what waits for what follows from it.
 use Rattle.std.proofs.Common.{◌≡◌, ℕ, zero, suc, ◌+◌, ◌<◌, ◌≤◌, ◌⊎◌, inl, inr, Bool, true, false, true≢false, List, [], ◌∷◌, ◌++◌, length, take, get_or, refl, sym, ap, subst, ◌∙◌, arith, Some, None}
-use Rattle.std.specs.Prelude.{slice_index_or, slice_set, Contains}
+use Rattle.std.specs.Prelude.{slice_index_or, slice_get, slice_set, Contains}
 use Rattle.std.proofs.lemmas.List.{take_more, take_all}
 use Rattle.call_graph.specs.Facts.{Grows, Sized}
 use Rattle.std.proofs.lemmas.List.Elements.{Contains-push, Contains-push_cases, Contains-append_left}
@@ -12,11 +12,14 @@ use Rattle.call_graph.specs.declared.facts.Facts.{Facts}
 use Rattle.call_graph.specs.declared.tables.Tables.{Tables}
 use Rattle.call_graph.specs.declared.marks.Marks.{Marks}
 use Rattle.call_graph.specs.Marks.{Keeps, Pops}
-use Rattle.call_graph.specs.Closed.{has, reached, Waits, Goes, Takes, kept_facts, Reaches, Forces, Followed, Follows, IsClosed, IsBlank, Ends, is_live, is_met, IsClosedSet}
+use Rattle.call_graph.specs.Closed.{has, reached, Waits, Goes, Takes, kept_facts, Reaches, Forces, Entails, Followed, Follows, IsClosed, IsBlank, Ends, is_live, is_met, IsCalled, IsClosedSet}
 use Rattle.call_graph.specs.declared.live_set.LiveSet.{LiveSet}
 use Rattle.call_graph.specs.declared.notes.Notes.{Notes}
 use Rattle.call_graph.specs.Tables.{AreTables}
-use Rattle.call_graph.specs.Objects.{Noted, NotesGrow, NothingNoted}
+use Rattle.call_graph.specs.Objects.{Noted, NotesGrow, NothingNoted, IsOver, answer_facts}
+use Rattle.program_model.specs.declared.pools.MethodName.{MethodName}
+use Rattle.program_model.specs.Lookups.{class_place}
+use Rattle.call_graph.proofs.Calling.{found_answers}
 
 -- ---- marks
 
@@ -145,14 +148,14 @@ follows_on p o t m n f g h x more s k go all r = record {
   goes = λ y e. elim (new_waits g h go y e) [
     | inl d ↦ elim (s.goes y (sym (k.known y) ∙ d)) [
       | inl w ↦ elim (k.waits y w) [
-        | inl same ↦ inr (record { forces = λ z c. r z (all.forces z (subst (λ q. Forces p t q z) same c)); noted = subst (Noted p t.object n) (sym same) all.noted })
+        | inl same ↦ inr (record { forces = λ z c. r z (all.forces z (subst (λ q. Entails p t q z) same c)); noted = subst (Noted p t.object n) (sym same) all.noted })
         | inr w ↦ inl (still_waits g h go y w)
       ]
       | inr done ↦ inr (record { forces = λ z c. still z (done.forces z c); noted = noted_keeps p t.object m n more y all.grow done.noted })
     ]
     | inr w ↦ inl w
   ];
-  meets = λ v number class q z c. elim (all.grow.pairs v number class q) [ inl old ↦ still z (s.meets v number class old z c) | inr added ↦ r z (added z c) ];
+  meets = λ number class q z c. elim (all.grow.pairs number class q) [ inl old ↦ still z (s.meets number class old z c) | inr added ↦ r z (added z c) ];
 }
   where
     still : (y : Fact) → reached f y ≡ true → reached h y ≡ true
@@ -167,7 +170,7 @@ closed_then p o t n f g s e = record {
     | inl w ↦ absurd (e.done y w)
     | inr b ↦ record { forces = λ z c. e.met z ∙ b.forces z c; noted = b.noted }
   ];
-  meets = λ v number class q z c. e.met z ∙ s.meets v number class q z c;
+  meets = λ number class q z c. e.met z ∙ s.meets number class q z c;
 }
 
 -- at the start
@@ -182,7 +185,7 @@ pub follows_first : (p : Program) (o : Outside) (t : Tables) (n : Notes) (f g : 
 follows_first p o t n f g more empty nothing go is r = record {
   begins = λ y c. r y (subst (λ l. Contains l y) (sym is) c);
   goes = λ y e. elim (new_waits f g go y e) [ inl d ↦ absurd (blank f empty y d) | inr w ↦ inl w ];
-  meets = λ v number class q z c. absurd (none_in number (subst (λ l. Contains l number) (nothing.called q.kind) q.called));
+  meets = λ number class q z c. absurd (none_in number (subst (λ l. Contains l number) (nothing.called q.kind) q.called));
 }
 
 -- ---- a fact that is taken
@@ -311,20 +314,26 @@ marked_so [] n lt h = absurd (omega (arith, lt))
 marked_so (b ∷ bs) zero lt h = h
 marked_so (b ∷ bs) (suc n) lt h = marked_so bs n (omega (arith, lt)) h
 
+-- what is forced in version 035 is entailed in either
+entailed : (p : Program) (t : Tables) (x y : Fact) → Forces p t x y → Entails p t x y
+entailed p t x y (inl c) = inl c
+entailed p t (fact.Class n) y (inr b) = absurd b
+entailed p t (fact.Made n) y (inr b) = inr (record { number = b.number; name = b.name; class = b.class; at = b.at; is_name = b.is_name; is_class = b.is_class; may = b.may; answers = b.answers; fact_is = b.fact_is })
+entailed p t (fact.Field n) y (inr b) = absurd b
+entailed p t (fact.Method n) y (inr b) = inr (record { name = b.name; caller = b.caller; callee = b.callee; called = b.called; facts = b.facts; is_name = b.is_name; is_caller = b.is_caller; calls = b.calls; is_called = b.is_called; finds = b.finds; has = b.has })
+entailed p t (fact.Called n) y (inr b) = absurd b
+
 pub closed_set : (p : Program) (o : Outside) (t : Tables) (f : Facts) (s : LiveSet) → s.classes ≡ f.classes.marks → s.made ≡ f.made.marks → s.fields ≡ f.fields.marks → s.methods ≡ f.methods.marks
     → AreTables p o t → Sized p f → IsClosed p o t f → IsClosedSet p o s
 closed_set p o t f s a b c d are sized k = record {
   tables = t;
   are = are;
   begins = λ x h. met x (k.begins x h);
-  goes = λ x y h force. met y ((k.goes x (known x h)).forces y force);
-  called = λ old number kind class q y called lt e l made place over i.
-      let call : has f (fact.Called number) ≡ true = marked_so f.called.marks.items number (let z = sized.4 in omega (arith, lt, z)) ((k.goes called.from (known called.from called.live)).forces (fact.Called number) (inl called.calls)) in
-      met y (k.meets old number class (record {
-        kind = q.class;
-        called = (k.goes (fact.Called number) call).noted q e l;
-        made = (k.goes (fact.Made kind) (known (fact.Made kind) made)).noted class q.class place over l;
-      }) y i);
+  entails = λ x y h force. met y ((k.goes x (known x h)).forces y force);
+  answers = answers;
+  finds = λ number kind class q at y called lt e l made place over f i. answers number kind class q y called lt e l made place over (found_answers p number class q at y e f i);
+  goes = λ x y h force. met y ((k.goes x (known x h)).forces y (entailed p t x y force));
+  called = λ old. answers;
 }
   where
     met : (x : Fact) → reached f x ≡ true → is_met s x ≡ true
@@ -332,3 +341,13 @@ closed_set p o t f s a b c d are sized k = record {
 
     known : (x : Fact) → is_live s x ≡ true → has f x ≡ true
     known = set_has f s a b c d
+
+    answers : (number kind class : ℕ) (q : MethodName) (y : Fact) → IsCalled p t s number → number < length p.methods → slice_get p.methods number ≡ Some q → q.class < length p.types → is_live s (fact.Made kind) ≡ true
+        → class_place p kind ≡ Some class → IsOver p t.object kind q.class → Contains (answer_facts p number class) y → is_met s y ≡ true
+    answers number kind class q y called lt e l made place over i =
+        let call : has f (fact.Called number) ≡ true = marked_so f.called.marks.items number (let z = sized.4 in omega (arith, lt, z)) ((k.goes called.from (known called.from called.live)).forces (fact.Called number) (inl called.calls)) in
+        met y (k.meets number class (record {
+          kind = q.class;
+          called = (k.goes (fact.Called number) call).noted q e l;
+          made = (k.goes (fact.Made kind) (known (fact.Made kind) made)).noted class q.class place over l;
+        }) y i)

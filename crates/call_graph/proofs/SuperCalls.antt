@@ -1,6 +1,6 @@
 -- What super calls find, case by case.
 use Rattle.std.proofs.Common.{◌≡◌, ◌∙◌, ℕ, zero, suc, ◌<◌, ◌⊎◌, inl, inr, Bool, true, false, true≢false, List, [], ◌∷◌, ◌++◌, ◌+◌, length, take, get_or, refl, sym, ap, subst, Some, None, Option, append-nil}
-use Rattle.std.specs.Prelude.{cond, nat_eq, ◌||◌, ◌&&◌, Contains, slice_get, option_and_then, Decides}
+use Rattle.std.specs.Prelude.{cond, nat_eq, ◌||◌, Contains, slice_get, option_and_then, Decides}
 use Rattle.std.specs.List.{list_any}
 use Rattle.program_model.specs.declared.pools.MethodName.{MethodName}
 use Rattle.program_model.specs.declared.program.MethodAt.{MethodAt}
@@ -13,7 +13,7 @@ use Rattle.call_graph.specs.declared.facts.Fact.{Fact}
 use Rattle.call_graph.specs.Follows.{found_facts}
 use Rattle.call_graph.specs.Above.{HasAbove, AllFrom}
 use Rattle.call_graph.specs.Objects.{all_found}
-use Rattle.call_graph.specs.Supers.{lists_at, interfaces_in, ListsAbove, above_call, interface_call, super_037, NamesNone, AddsSuper, HasSuper, AddsSupers}
+use Rattle.call_graph.specs.Supers.{lists_at, interfaces_in, ListsAbove, above_call, interface_call, super_037, AddsSuper, HasSuper, AddsSupers}
 use Rattle.call_graph.specs.Stays.{Stays}
 use Rattle.call_graph.specs.declared.named.Named.{Named}
 use Rattle.call_graph.specs.declared.named.Named.TheVariants as named
@@ -52,14 +52,14 @@ adds_old p kind caller q before out old adds = record {
 }
 
 -- of version 037, where the named class is one of the program
-pub adds_class : (p : Program) (kind caller place : ℕ) (q : MethodName) (before out : List Fact) → is_037 p.version ≡ true → class_place p q.class ≡ Some place → is_interface (slice_get p.classes place) ≡ false
-    → out ≡ before ++ all_found p (above_call p caller q) → AddsSuper p kind caller q before out
-adds_class p kind caller place q before out new named plain adds = record {
-  facts = all_found p (above_call p caller q);
+pub adds_class : (p : Program) (kind caller place : ℕ) (q : MethodName) (before out : List Fact) → is_037 p.version ≡ true → class_place p q.class ≡ Some place
+    → out ≡ before ++ all_found p (interface_call p caller q place (is_interface (slice_get p.classes place))) → AddsSuper p kind caller q before out
+adds_class p kind caller place q before out new named adds = record {
+  facts = all_found p (interface_call p caller q place (is_interface (slice_get p.classes place)));
   finds = record {
     lists = false;
     decided = λ n none. absurd (none_some place (sym none ∙ named));
-    is = sym (ap (λ b. all_found p (cond b (super_037 p caller q false (class_place p q.class)) (above_call p caller q))) new ∙ ap (λ o. all_found p (super_037 p caller q false o)) named ∙ ap (λ b. all_found p (interface_call p caller q place b)) plain);
+    is = sym (ap (λ b. all_found p (cond b (super_037 p caller q false (class_place p q.class)) (above_call p caller q))) new ∙ ap (λ o. all_found p (super_037 p caller q false o)) named);
   };
   adds = adds;
 }
@@ -76,9 +76,6 @@ adds_outside p kind caller q lists before out new named decided adds = record {
   };
   adds = adds;
 }
-
-pub no_interface : (p : Program) (q : MethodName) (place : ℕ) → is_037 p.version ≡ true → class_place p q.class ≡ Some place → NamesNone p q → is_interface (slice_get p.classes place) ≡ false
-no_interface p q place new named plain = sym (ap (λ b. b && is_interface (slice_get p.classes place)) new) ∙ plain place named
 
 -- ---- interface lists above a class
 
@@ -117,7 +114,7 @@ has_of p kind caller q before out a = record { facts = a.facts; finds = a.finds;
 
 pub supers_at : (p : Program) (kind caller : ℕ) (names : List Named) (i : ℕ) (d : Named) (old new : List Fact) → AddsSupers p kind caller (take i names) old → i < length names → Stays old new → AddsSupers p kind caller (get_or names i d ∷ []) new
     → AddsSupers p kind caller (take (i + 1) names) new
-supers_at p kind caller names i d old new so_far lt s one callee q c e plain = elim (Contains-append_cases (take i names) (get_or names i d ∷ []) _ (subst (λ l. Contains l (named.Call call.Super callee)) (take_more names i d lt) c)) [
-  | inl h ↦ let f = so_far callee q h e plain in record { facts = f.facts; finds = f.finds; has = λ y k. s.has y (f.has y k) }
-  | inr h ↦ one callee q h e plain
+supers_at p kind caller names i d old new so_far lt s one callee q c e = elim (Contains-append_cases (take i names) (get_or names i d ∷ []) _ (subst (λ l. Contains l (named.Call call.Super callee)) (take_more names i d lt) c)) [
+  | inl h ↦ let f = so_far callee q h e in record { facts = f.facts; finds = f.finds; has = λ y k. s.has y (f.has y k) }
+  | inr h ↦ one callee q h e
 ]

@@ -9,14 +9,16 @@ use Rattle.call_graph.specs.declared.live_set.LiveSet.{LiveSet}
 use Rattle.call_graph.specs.declared.tables.Tables.{Tables}
 use Rattle.call_graph.specs.Lists.{row_of}
 use Rattle.call_graph.specs.Marks.{Keeps}
-use Rattle.call_graph.specs.Follows.{kept_class, kept_field, kept_method, class_facts, field_facts, body_facts, own_method, names_of_method}
+use Rattle.call_graph.specs.Follows.{kept_class, kept_field, kept_method, class_facts, field_facts, body_facts, own_method, names_of_method, found_facts}
 use Rattle.program_model.specs.declared.pools.MethodName.{MethodName}
+use Rattle.program_model.specs.declared.program.MethodAt.{MethodAt}
 use Rattle.program_model.specs.Lookups.{class_place}
+use Rattle.class_defs.specs.Finding.{finds_at, Finds}
 use Rattle.insn_set.specs.declared.ops.InvokeKind.TheVariants as call
 use Rattle.call_graph.specs.declared.named.Named.TheVariants as named
 use Rattle.call_graph.specs.declared.notes.Notes.{Notes}
 use Rattle.call_graph.specs.Tables.{AreTables}
-use Rattle.call_graph.specs.Objects.{IsOld, CalledBack, Noted, Meets, IsOver, NotesGrow, AreNotes, answer_facts}
+use Rattle.call_graph.specs.Objects.{IsOld, CalledBack, CallsBack, Noted, Meets, IsOver, NotesGrow, AreNotes, answer_facts}
 use Rattle.call_graph.specs.Supers.{SuperFacts, NamesNone}
 
 abbrev pub marks_on : Bool → Facts → Fact → Bool
@@ -108,21 +110,46 @@ Beside p t (fact.Called n) y = ⊥
 abbrev pub Forces : Program → Tables → Fact → Fact → Type 0
 Forces p t x y = Contains (forced p t x) y ⊎ Beside p t x y
 
+-- what a super call in the code of a method finds in either version, with all candidates of a program interface that it names
+pub record FindsSuper (p : Program) (number : ℕ) (y : Fact) : Type 0 where
+  pub name : MethodName
+  pub caller : ℕ
+  pub callee : ℕ
+  pub called : MethodName
+  pub facts : List Fact
+  pub is_name : slice_get p.methods number ≡ Some name
+  pub is_caller : class_place p name.class ≡ Some caller
+  pub calls : Contains (names_of_method (own_method p number)) (named.Call call.Super callee)
+  pub is_called : slice_get p.methods callee ≡ Some called
+  pub finds : SuperFacts p name.class caller called facts
+  pub has : Contains facts y
+
+abbrev pub Alongside : Program → Tables → Fact → Fact → Type 0
+Alongside p t (fact.Class n) y = ⊥
+Alongside p t (fact.Made n) y = CallsBack p t.object t.shut.items n y
+Alongside p t (fact.Field n) y = ⊥
+Alongside p t (fact.Method n) y = FindsSuper p n y
+Alongside p t (fact.Called n) y = ⊥
+
+-- a fact entails another by itself in either version
+abbrev pub Entails : Program → Tables → Fact → Fact → Type 0
+Entails p t x y = Contains (forced p t x) y ⊎ Alongside p t x y
+
 -- what follows from a fact is added, and noted
 pub record Followed (p : Program) (t : Tables) (old new : Notes) (x : Fact) (out : List Fact) : Type 0 where
-  pub forces : (y : Fact) → Forces p t x y → Contains out y
+  pub forces : (y : Fact) → Entails p t x y → Contains out y
   pub noted : Noted p t.object new x
   pub grow : NotesGrow p old new out
   pub are : AreNotes p new
 
 -- what a fact forces is known, and it is noted
 pub record Brings (p : Program) (t : Tables) (n : Notes) (f : Facts) (x : Fact) : Type 0 where
-  pub forces : (y : Fact) → Forces p t x y → reached f y ≡ true
+  pub forces : (y : Fact) → Entails p t x y → reached f y ≡ true
   pub noted : Noted p t.object n x
 
 -- what is called on objects of noted classes is known
 abbrev pub MeetsAll : Program → Notes → Facts → Type 0
-MeetsAll p n f = IsOld p → (number class : ℕ) → Meets n number class → Reaches f (answer_facts p number class)
+MeetsAll p n f = (number class : ℕ) → Meets n number class → Reaches f (answer_facts p number class)
 
 -- what the outside keeps is known, and what follows from each known fact that waits no longer
 pub record Follows (p : Program) (o : Outside) (t : Tables) (n : Notes) (f : Facts) : Type 0 where
@@ -175,12 +202,18 @@ pub record IsCalled (p : Program) (t : Tables) (s : LiveSet) (number : ℕ) : Ty
   pub live : is_live s from ≡ true
   pub calls : Contains (forced p t from) (fact.Called number)
 
--- What the outside keeps is live, and what each live thing forces by itself. In version 035 what objects of made classes find for
--- what is called on types above them is live too.
+-- What the outside keeps is live, and what each live thing entails by itself. What objects of made classes find for what is called
+-- on types above them is live too: in version 037 all candidates of their interfaces where the superclasses have no method, so also
+-- what a call finds. What holds of version 035 alone is also said by itself.
 pub record IsClosedSet (p : Program) (o : Outside) (s : LiveSet) : Type 0 where
   pub tables : Tables
   pub are : AreTables p o tables
   pub begins : (x : Fact) → Contains (kept_facts p o) x → is_met s x ≡ true
+  pub entails : (x y : Fact) → is_live s x ≡ true → Entails p tables x y → is_met s y ≡ true
+  pub answers : (number kind class : ℕ) (q : MethodName) (y : Fact) → IsCalled p tables s number → number < length p.methods → slice_get p.methods number ≡ Some q → q.class < length p.types → is_live s (fact.Made kind) ≡ true
+      → class_place p kind ≡ Some class → IsOver p tables.object kind q.class → Contains (answer_facts p number class) y → is_met s y ≡ true
+  pub finds : (number kind class : ℕ) (q : MethodName) (at : MethodAt) (y : Fact) → IsCalled p tables s number → number < length p.methods → slice_get p.methods number ≡ Some q → q.class < length p.types → is_live s (fact.Made kind) ≡ true
+      → class_place p kind ≡ Some class → IsOver p tables.object kind q.class → finds_at p class q.name q.proto ≡ Finds at → Contains (found_facts p (Some at)) y → is_met s y ≡ true
   pub goes : (x y : Fact) → is_live s x ≡ true → Forces p tables x y → is_met s y ≡ true
   pub called : IsOld p → (number kind class : ℕ) (q : MethodName) (y : Fact) → IsCalled p tables s number → number < length p.methods → slice_get p.methods number ≡ Some q → q.class < length p.types → is_live s (fact.Made kind) ≡ true
       → class_place p kind ≡ Some class → IsOver p tables.object kind q.class → Contains (answer_facts p number class) y → is_met s y ≡ true

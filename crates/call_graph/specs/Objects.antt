@@ -14,6 +14,8 @@ use Rattle.std.specs.Option.{option_or}
 use Rattle.hierarchy.specs.declared.build.Hierarchy.{Hierarchy}
 use Rattle.hierarchy.specs.Membership.{key_at}
 use Rattle.hierarchy.specs.Naming.{IsKey}
+use Rattle.hierarchy.specs.Walking.{IsFair}
+use Rattle.hierarchy.specs.declared.walk.Walk.{Walk}
 use Rattle.call_graph.specs.declared.facts.Fact.{Fact}
 use Rattle.call_graph.specs.declared.facts.Fact.TheVariants as fact
 use Rattle.call_graph.specs.declared.notes.Notes.{Notes}
@@ -113,7 +115,24 @@ pub record CalledBack (p : Program) (object : ℕ) (shut : List Bool) (kind : �
   pub answers : Contains (answers_to p class name.name name.proto) at
   pub fact_is : Contains (open_facts p shut (Some at)) y
 
+-- the same in both versions, with all candidates of interfaces where the class finds no method along its superclasses
+pub record CallsBack (p : Program) (object : ℕ) (shut : List Bool) (kind : ℕ) (y : Fact) : Type 0 where
+  pub number : ℕ
+  pub name : MethodName
+  pub class : ℕ
+  pub at : MethodAt
+  pub is_name : slice_get p.methods number ≡ Some name
+  pub is_class : class_place p kind ≡ Some class
+  pub may : MayCall p object kind name
+  pub answers : Contains (answers_to p class name.name name.proto) at
+  pub fact_is : Contains (open_facts p shut (Some at)) y
+
 -- ---- notes
+
+-- a walk over the classes of a program may begin anew
+pub record IsReady (p : Program) (w : Walk) : Type 0 where
+  pub fair : IsFair w
+  pub long : length w.seen.items ≡ length p.classes
 
 -- a call of a method number that is noted on a type, and a class that is noted under it
 pub record Meets (n : Notes) (number class : ℕ) : Type 0 where
@@ -125,14 +144,15 @@ pub record Meets (n : Notes) (number class : ℕ) : Type 0 where
 pub record NotesGrow (p : Program) (old new : Notes) (out : List Fact) : Type 0 where
   pub called : (kind number : ℕ) → Contains (row_of old.called_on kind) number → Contains (row_of new.called_on kind) number
   pub made : (kind class : ℕ) → Contains (row_of old.made_under kind) class → Contains (row_of new.made_under kind) class
-  pub pairs : IsOld p → (number class : ℕ) → Meets new number class → Meets old number class ⊎ AllIn (answer_facts p number class) out
+  pub pairs : (number class : ℕ) → Meets new number class → Meets old number class ⊎ AllIn (answer_facts p number class) out
 
--- the tables of notes are as long as that of the types, and their walks are clear
+-- the tables of notes are as long as that of the types, and their walks may begin
 pub record AreNotes (p : Program) (n : Notes) : Type 0 where
   pub called_size : size_of n.called_on ≡ length p.types
   pub made_size : size_of n.made_under ≡ length p.types
   pub kinds_size : vec_len n.kinds.marks ≡ length p.types
   pub kinds : IsClean n.kinds
+  pub walk : IsReady p n.classes
 
 -- a type stands above another, or is Object
 abbrev pub IsOver : Program → ℕ → ℕ → ℕ → Type 0
@@ -168,7 +188,7 @@ pub record NotesMade (p : Program) (t : Tables) (old new : Notes) (kind : ℕ) (
   pub grow : NotesGrow p old new out
   pub are : AreNotes p new
   pub noted : Noted p t.object new (fact.Made kind)
-  pub called_back : (y : Fact) → CalledBack p t.object t.shut.items kind y → Contains out y
+  pub called_back : (y : Fact) → CallsBack p t.object t.shut.items kind y → Contains out y
 
 -- nothing is noted
 pub record NothingNoted (n : Notes) : Type 0 where

@@ -73,4 +73,4 @@ pub record HasSuper (p : Program) (kind caller : ℕ) (q : MethodName) (out : Li
   pub has : AllIn facts out
 
 abbrev pub AddsSupers : Program → ℕ → ℕ → List Named → List Fact → Type 0
-AddsSupers p kind caller names out = (callee : ℕ) (q : MethodName) → Contains names (named.Call call.Super callee) → slice_get p.methods callee ≡ Some q → NamesNone p q → HasSuper p kind caller q out
+AddsSupers p kind caller names out = (callee : ℕ) (q : MethodName) → Contains names (named.Call call.Super callee) → slice_get p.methods callee ≡ Some q → HasSuper p kind caller q out

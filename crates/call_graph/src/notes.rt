@@ -1,6 +1,7 @@
 //! What the search for live members notes.
 
 ghost use Rattle.std.specs.Prelude.{IfOk};
+ghost use Rattle.hierarchy.specs.Shapes.{IsResolved};
 ghost use Rattle.call_graph.specs.Objects.{AreNotes, NothingNoted};
 
 use crate::lists::Lists;
@@ -22,7 +23,7 @@ pub struct Notes {
 impl Notes {
     /// Nothing is noted of a program.
     pub fn new(alloc: Global, program: &Program, hierarchy: &Hierarchy) -> Result<Notes, AllocError>
-        ensures notes { IfOk result (λ notes. AreNotes program.now notes) }
+        ensures notes { IsResolved program.now hierarchy.now → IfOk result (λ notes. AreNotes program.now notes) }
         ensures nothing { IfOk result (λ notes. NothingNoted notes) }
     {
         let types = program.types.len();

@@ -8,7 +8,7 @@ ghost use Rattle.hierarchy.specs.Naming.{IsKey};
 ghost use Rattle.hierarchy.specs.Shapes.{IsResolved};
 ghost use Rattle.call_graph.specs.declared.facts.Fact.{Fact};
 ghost use Rattle.call_graph.specs.Above.{HasAbove};
-ghost use Rattle.call_graph.specs.Objects.{IsOld, all_found, class_candidates, answers_to, answer_facts, inherited, open_of, open_facts, AllIn, Inherits, InheritsOf, FindsOpen, HasCommon, CalledBack, AreNotes, NotesCall, NotesUnder, NotesMade};
+ghost use Rattle.call_graph.specs.Objects.{all_found, class_candidates, answers_to, answer_facts, inherited, open_of, open_facts, AllIn, Inherits, InheritsOf, FindsOpen, HasCommon, CallsBack, IsReady, AreNotes, NotesCall, NotesUnder, NotesMade};
 ghost use Rattle.call_graph.specs.Stays.{Stays};
 
 use crate::above::{climb, has_outer};
@@ -31,7 +31,8 @@ fn add_candidates(
     walk: &mut Walk,
     out: &mut Vec<Fact>,
 ) -> Result<(), AllocError>
-    ensures adds { IsOld at.now.program.now → OnOk result ((name proto : ℕ) → out.new.items ≡ out.old.items ++ all_found at.now.program.now (class_candidates at.now.program.now class name proto)) }
+    ensures adds { IsResolved at.now.program.now at.now.hierarchy.now → IsReady at.now.program.now walk.old → (name proto : ℕ) → IsKey at.now.program.now at.now.hierarchy.now key name proto → OnOk result (out.new.items ≡ out.old.items ++ all_found at.now.program.now (class_candidates at.now.program.now class name proto)) }
+    ensures ready { IsReady at.now.program.now walk.old → OnOk result (IsReady at.now.program.now walk.new) }
     ensures stays { OnOk result (Stays out.old.items out.new.items) }
 {
     match at.program.version {
@@ -56,7 +57,8 @@ fn add_answers(
     out: &mut Vec<Fact>,
 ) -> Result<(), AllocError>
     ensures stays { OnOk result (Stays out.old.items out.new.items) }
-    ensures adds { IsResolved at.now.program.now at.now.hierarchy.now → IsOld at.now.program.now → (name proto : ℕ) → IsKey at.now.program.now at.now.hierarchy.now key name proto → OnOk result (out.new.items ≡ out.old.items ++ all_found at.now.program.now (answers_to at.now.program.now class name proto)) }
+    ensures adds { IsResolved at.now.program.now at.now.hierarchy.now → IsReady at.now.program.now walk.old → (name proto : ℕ) → IsKey at.now.program.now at.now.hierarchy.now key name proto → OnOk result (out.new.items ≡ out.old.items ++ all_found at.now.program.now (answers_to at.now.program.now class name proto)) }
+    ensures ready { IsReady at.now.program.now walk.old → OnOk result (IsReady at.now.program.now walk.new) }
 {
     match at.hierarchy.find_virtual(at.program, class, key) {
         Some(found) => add_found(at, Some(found), out),
@@ -74,7 +76,8 @@ fn add_called(
     out: &mut Vec<Fact>,
 ) -> Result<(), AllocError>
     ensures stays { OnOk result (Stays out.old.items out.new.items) }
-    ensures adds { IsResolved at.now.program.now at.now.hierarchy.now → IsOld at.now.program.now → OnOk result (out.new.items ≡ out.old.items ++ answer_facts at.now.program.now number class) }
+    ensures adds { IsResolved at.now.program.now at.now.hierarchy.now → IsReady at.now.program.now walk.old → OnOk result (out.new.items ≡ out.old.items ++ answer_facts at.now.program.now number class) }
+    ensures ready { IsReady at.now.program.now walk.old → OnOk result (IsReady at.now.program.now walk.new) }
 {
     match at.method_name(number) {
         Some(_) => {
@@ -95,7 +98,8 @@ fn add_on_all(
     out: &mut Vec<Fact>,
 ) -> Result<(), AllocError>
     ensures stays { OnOk result (Stays out.old.items out.new.items) }
-    ensures adds { IsResolved at.now.program.now at.now.hierarchy.now → IsOld at.now.program.now → OnOk result (out.new.items ≡ out.old.items ++ flat_map (answer_facts at.now.program.now number) classes.now) }
+    ensures adds { IsResolved at.now.program.now at.now.hierarchy.now → IsReady at.now.program.now walk.old → OnOk result (out.new.items ≡ out.old.items ++ flat_map (answer_facts at.now.program.now number) classes.now) }
+    ensures ready { IsReady at.now.program.now walk.old → OnOk result (IsReady at.now.program.now walk.new) }
 {
     for class in classes {
         add_called(alloc, at, *class, number, walk, out)?;
@@ -113,7 +117,8 @@ fn add_all_called(
     out: &mut Vec<Fact>,
 ) -> Result<(), AllocError>
     ensures stays { OnOk result (Stays out.old.items out.new.items) }
-    ensures adds { IsResolved at.now.program.now at.now.hierarchy.now → IsOld at.now.program.now → OnOk result (out.new.items ≡ out.old.items ++ flat_map (λ n. answer_facts at.now.program.now n class) numbers.now) }
+    ensures adds { IsResolved at.now.program.now at.now.hierarchy.now → IsReady at.now.program.now walk.old → OnOk result (out.new.items ≡ out.old.items ++ flat_map (λ n. answer_facts at.now.program.now n class) numbers.now) }
+    ensures ready { IsReady at.now.program.now walk.old → OnOk result (IsReady at.now.program.now walk.new) }
 {
     for number in numbers {
         add_called(alloc, at, class, *number, walk, out)?;
@@ -223,7 +228,7 @@ fn add_open(
 /// What the framework may call of a virtual method of a class above a class, by its key: what the class finds; where
 /// there is none, the interface's own method, which is a candidate.
 fn inherited(at: &At<'_>, class: u32, above: u32, key: u32) -> Option<MethodAt>
-    ensures { IsResolved at.now.program.now at.now.hierarchy.now → IsOld at.now.program.now → (name proto : ℕ) → IsKey at.now.program.now at.now.hierarchy.now key name proto → result ≡ inherited at.now.program.now class above name proto }
+    ensures { IsResolved at.now.program.now at.now.hierarchy.now → (name proto : ℕ) → IsKey at.now.program.now at.now.hierarchy.now key name proto → result ≡ inherited at.now.program.now class above name proto }
 {
     match at.hierarchy.find_virtual(at.program, class, key) {
         Some(found) => Some(found),
@@ -250,7 +255,7 @@ fn add_inherited(
     out: &mut Vec<Fact>,
 ) -> Result<(), AllocError>
     ensures stays { OnOk result (Stays out.old.items out.new.items) }
-    ensures inherits { IsResolved at.now.program.now at.now.hierarchy.now → IsOld at.now.program.now → OnOk result (Inherits at.now.program.now shut.now class above (method.now ∷ []) out.new.items) }
+    ensures inherits { IsResolved at.now.program.now at.now.hierarchy.now → OnOk result (Inherits at.now.program.now shut.now class above (method.now ∷ []) out.new.items) }
 {
     if at.hierarchy.is_virtual(method) {
         let key = at.hierarchy.key_of_method(method.name);
@@ -269,7 +274,7 @@ fn add_inherited_all(
     out: &mut Vec<Fact>,
 ) -> Result<(), AllocError>
     ensures stays { OnOk result (Stays out.old.items out.new.items) }
-    ensures inherits { IsResolved at.now.program.now at.now.hierarchy.now → IsOld at.now.program.now → OnOk result (Inherits at.now.program.now shut.now class above methods.now out.new.items) }
+    ensures inherits { IsResolved at.now.program.now at.now.hierarchy.now → OnOk result (Inherits at.now.program.now shut.now class above methods.now out.new.items) }
 {
     for method in methods {
         add_inherited(at, shut, class, above, method, out)?;
@@ -286,7 +291,7 @@ fn add_inherited_of(
     out: &mut Vec<Fact>,
 ) -> Result<(), AllocError>
     ensures stays { OnOk result (Stays out.old.items out.new.items) }
-    ensures inherits { IsResolved at.now.program.now at.now.hierarchy.now → IsOld at.now.program.now → OnOk result (InheritsOf at.now.program.now shut.now class kind out.new.items) }
+    ensures inherits { IsResolved at.now.program.now at.now.hierarchy.now → OnOk result (InheritsOf at.now.program.now shut.now class kind out.new.items) }
 {
     match at.hierarchy.place_of(kind) {
         Some(above) => match at.class_at(above) {
@@ -309,7 +314,7 @@ fn add_all_inherited(
     out: &mut Vec<Fact>,
 ) -> Result<(), AllocError>
     ensures stays { OnOk result (Stays out.old.items out.new.items) }
-    ensures inherits { IsResolved at.now.program.now at.now.hierarchy.now → IsOld at.now.program.now → OnOk result ((kind : ℕ) → Contains kinds.now kind → InheritsOf at.now.program.now shut.now class kind out.new.items) }
+    ensures inherits { IsResolved at.now.program.now at.now.hierarchy.now → OnOk result ((kind : ℕ) → Contains kinds.now kind → InheritsOf at.now.program.now shut.now class kind out.new.items) }
 {
     for kind in kinds {
         add_inherited_of(at, shut, class, *kind, out)?;
@@ -363,7 +368,7 @@ fn add_callbacks(
     out: &mut Vec<Fact>,
 ) -> Result<(), AllocError>
     ensures stays { OnOk result (Stays out.old.items out.new.items) }
-    ensures called_back { IsResolved at.now.program.now at.now.hierarchy.now → is_well_formed at.now.program.now ≡ true → HasCommon at.now.program.now at.now.hierarchy.now tables.now.of_object.items → OnOk result ((kind : ℕ) (y : Fact) → class_place at.now.program.now kind ≡ Some class → HasAbove at.now.program.now kind above.now → CalledBack at.now.program.now tables.now.object tables.now.shut.items kind y → Contains out.new.items y) }
+    ensures called_back { IsResolved at.now.program.now at.now.hierarchy.now → is_well_formed at.now.program.now ≡ true → HasCommon at.now.program.now at.now.hierarchy.now tables.now.of_object.items → OnOk result ((kind : ℕ) (y : Fact) → class_place at.now.program.now kind ≡ Some class → HasAbove at.now.program.now kind above.now → CallsBack at.now.program.now tables.now.object tables.now.shut.items kind y → Contains out.new.items y) }
 {
     add_common(
         at,

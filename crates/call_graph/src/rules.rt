@@ -4,7 +4,7 @@ ghost use Rattle.std.specs.Prelude.{◌≡◌, ◌++◌, true, OnOk, Contains};
 ghost use Rattle.hierarchy.specs.Shapes.{IsResolved};
 ghost use Rattle.program_model.specs.ProgramRules.{is_well_formed};
 ghost use Rattle.call_graph.specs.declared.facts.Fact.{Fact};
-ghost use Rattle.call_graph.specs.Closed.{kept_facts, conditional, SuperForces, Followed};
+ghost use Rattle.call_graph.specs.Closed.{kept_facts, conditional, FindsSuper, Followed};
 ghost use Rattle.call_graph.specs.Follows.{class_facts, field_facts, body_facts};
 ghost use Rattle.call_graph.specs.Follows as follow;
 ghost use Rattle.call_graph.specs.Objects.{AreNotes, SameNotes, HasCommon};
@@ -76,7 +76,7 @@ fn add_supers_of(
     ensures same { OnOk result (SameNotes notes.old notes.new) }
     ensures are { IsResolved at.now.program.now at.now.hierarchy.now → AreNotes at.now.program.now notes.old → OnOk result (AreNotes at.now.program.now notes.new) }
     ensures finds { IsResolved at.now.program.now at.now.hierarchy.now → is_well_formed at.now.program.now ≡ true → AreNotes at.now.program.now notes.old → names.now ≡ follow.names_of_method (follow.own_method at.now.program.now number)
-        → OnOk result ((y : Fact) → SuperForces at.now.program.now number y → Contains out.new.items y) }
+        → OnOk result ((y : Fact) → FindsSuper at.now.program.now number y → Contains out.new.items y) }
 {
     match at.method_name(number) {
         Some(name) => match at.hierarchy.place_of(name.class) {
@@ -102,7 +102,7 @@ fn follow_method(
     ensures stays { IsResolved at.now.program.now at.now.hierarchy.now → OnOk result (Stays (out.old.items ++ body_facts at.now.program.now tables.now.bases.items number) out.new.items) }
     ensures same { OnOk result (SameNotes notes.old notes.new) }
     ensures are { IsResolved at.now.program.now at.now.hierarchy.now → AreNotes at.now.program.now notes.old → OnOk result (AreNotes at.now.program.now notes.new) }
-    ensures supers { IsResolved at.now.program.now at.now.hierarchy.now → is_well_formed at.now.program.now ≡ true → AreNotes at.now.program.now notes.old → OnOk result ((y : Fact) → SuperForces at.now.program.now number y → Contains out.new.items y) }
+    ensures supers { IsResolved at.now.program.now at.now.hierarchy.now → is_well_formed at.now.program.now ≡ true → AreNotes at.now.program.now notes.old → OnOk result ((y : Fact) → FindsSuper at.now.program.now number y → Contains out.new.items y) }
 {
     let names = names_of_method(alloc, at, number)?;
     add_of_method(at, tables.bases.as_slice(), number, names.as_slice(), out)?;

@@ -6,13 +6,13 @@ ghost use Rattle.program_model.specs.declared.pools.MethodName.{MethodName};
 ghost use Rattle.program_model.specs.ProgramRules.{is_well_formed};
 ghost use Rattle.class_defs.specs.Members.{is_interface};
 ghost use Rattle.class_defs.specs.Places.{super_place};
-ghost use Rattle.class_defs.specs.Finding.{is_037};
+ghost use Rattle.class_defs.specs.Finding.{is_037, candidates};
 ghost use Rattle.hierarchy.specs.Naming.{IsKey};
 ghost use Rattle.hierarchy.specs.Shapes.{IsResolved};
 ghost use Rattle.call_graph.specs.Above.{IsClean};
 ghost use Rattle.call_graph.specs.Follows.{found_facts};
-ghost use Rattle.call_graph.specs.Objects.{all_found, AreNotes, SameNotes};
-ghost use Rattle.call_graph.specs.Supers.{lists_at, above_call, ListsAbove, NamesNone, AddsSuper, AddsSupers};
+ghost use Rattle.call_graph.specs.Objects.{all_found, AreNotes, IsReady, SameNotes};
+ghost use Rattle.call_graph.specs.Supers.{lists_at, above_call, interface_call, ListsAbove, AddsSuper, AddsSupers};
 ghost use Rattle.call_graph.specs.Stays.{Stays};
 
 use crate::above::climb;
@@ -107,7 +107,9 @@ fn add_candidates(
     key: u32,
     out: &mut Vec<Fact>,
 ) -> Result<(), AllocError>
+    ensures adds { IsResolved at.now.program.now at.now.hierarchy.now → IsReady at.now.program.now walk.old → (name proto : ℕ) → IsKey at.now.program.now at.now.hierarchy.now key name proto → OnOk result (out.new.items ≡ out.old.items ++ all_found at.now.program.now (candidates at.now.program.now (interface ∷ []) name proto)) }
     ensures stays { OnOk result (Stays out.old.items out.new.items) }
+    ensures ready { IsReady at.now.program.now walk.old → OnOk result (IsReady at.now.program.now walk.new) }
 {
     let mut candidates = Vec::new(alloc);
     at.hierarchy
@@ -127,8 +129,9 @@ fn add_super_of_class(
     key: u32,
     out: &mut Vec<Fact>,
 ) -> Result<(), AllocError>
-    ensures adds { IsResolved at.now.program.now at.now.hierarchy.now → is_interface (slice_get at.now.program.now.classes named) ≡ false → (q : MethodName) → IsKey at.now.program.now at.now.hierarchy.now key q.name q.proto → OnOk result (out.new.items ≡ out.old.items ++ all_found at.now.program.now (above_call at.now.program.now caller q)) }
+    ensures adds { IsResolved at.now.program.now at.now.hierarchy.now → IsReady at.now.program.now walk.old → (q : MethodName) → IsKey at.now.program.now at.now.hierarchy.now key q.name q.proto → OnOk result (out.new.items ≡ out.old.items ++ all_found at.now.program.now (interface_call at.now.program.now caller q named (is_interface (slice_get at.now.program.now.classes named)))) }
     ensures stays { OnOk result (Stays out.old.items out.new.items) }
+    ensures ready { IsReady at.now.program.now walk.old → OnOk result (IsReady at.now.program.now walk.new) }
 {
     if is_interface(at, named) {
         add_candidates(alloc, at, walk, named, key, out)?;
@@ -154,7 +157,7 @@ fn add_super_037(
     ensures stays { OnOk result (Stays out.old.items out.new.items) }
     ensures same { OnOk result (SameNotes notes.old notes.new) }
     ensures are { IsResolved at.now.program.now at.now.hierarchy.now → AreNotes at.now.program.now notes.old → OnOk result (AreNotes at.now.program.now notes.new) }
-    ensures finds { IsResolved at.now.program.now at.now.hierarchy.now → is_well_formed at.now.program.now ≡ true → AreNotes at.now.program.now notes.old → caller.0 < length at.now.program.now.types → (q : MethodName) → q ≡ name.now → IsKey at.now.program.now at.now.hierarchy.now key q.name q.proto → is_037 at.now.program.now.version ≡ true → NamesNone at.now.program.now q → OnOk result (AddsSuper at.now.program.now caller.0 caller.1 q out.old.items out.new.items) }
+    ensures finds { IsResolved at.now.program.now at.now.hierarchy.now → is_well_formed at.now.program.now ≡ true → AreNotes at.now.program.now notes.old → caller.0 < length at.now.program.now.types → (q : MethodName) → q ≡ name.now → IsKey at.now.program.now at.now.hierarchy.now key q.name q.proto → is_037 at.now.program.now.version ≡ true → OnOk result (AddsSuper at.now.program.now caller.0 caller.1 q out.old.items out.new.items) }
 {
     match at.hierarchy.place_of(name.class) {
         Some(named) => {
@@ -183,7 +186,7 @@ fn add_super(
     ensures stays { OnOk result (Stays out.old.items out.new.items) }
     ensures same { OnOk result (SameNotes notes.old notes.new) }
     ensures are { IsResolved at.now.program.now at.now.hierarchy.now → AreNotes at.now.program.now notes.old → OnOk result (AreNotes at.now.program.now notes.new) }
-    ensures finds { IsResolved at.now.program.now at.now.hierarchy.now → is_well_formed at.now.program.now ≡ true → AreNotes at.now.program.now notes.old → caller.0 < length at.now.program.now.types → (q : MethodName) → slice_get at.now.program.now.methods method ≡ Some q → NamesNone at.now.program.now q → OnOk result (AddsSuper at.now.program.now caller.0 caller.1 q out.old.items out.new.items) }
+    ensures finds { IsResolved at.now.program.now at.now.hierarchy.now → is_well_formed at.now.program.now ≡ true → AreNotes at.now.program.now notes.old → caller.0 < length at.now.program.now.types → (q : MethodName) → slice_get at.now.program.now.methods method ≡ Some q → OnOk result (AddsSuper at.now.program.now caller.0 caller.1 q out.old.items out.new.items) }
 {
     let name = match at.method_name(method) {
         Some(name) => name,

@@ -12,7 +12,7 @@ loop-fact-init c = record {
     c.in_ok-add_all.ensures.grows.4 ∙ c.in_ok-facts.ensures.sized.3,
     c.in_ok-add_all.ensures.grows.5 ∙ c.in_ok-facts.ensures.sized.4,
   );
-  notes = λ is fits common. c.in_ok-notes.ensures.notes;
+  notes = λ is fits common. c.in_ok-notes.ensures.notes is;
   follows = λ is fits common. follows_first c.args.program.now c.args.outside.now c.args.tables.now c.in_ok-notes.notes c.in_ok-facts.facts c.add_all.new.self c.begin.new.out.items c.in_ok-facts.ensures.blank c.in_ok-notes.ensures.nothing c.in_ok-add_all.ensures.goes
       (c.in_ok-begin.ensures is ∙ ap (λ l. l ++ kept_facts c.args.program.now c.args.outside.now) c.new-more.ensures.items)
       (subst (λ l. Reaches c.add_all.new.self l) c.as_slice.ensures.value c.in_ok-add_all.ensures.known);

@@ -2,11 +2,11 @@ use Rattle.std.proofs.Common.{ℕ, take}
 use Rattle.std.specs.Prelude.{Contains}
 use Rattle.hierarchy.specs.Shapes.{IsResolved}
 use Rattle.call_graph.specs.Stays.{Stays}
-use Rattle.call_graph.specs.Objects.{IsOld, InheritsOf}
+use Rattle.call_graph.specs.Objects.{InheritsOf}
 use Rattle.call_graph.proofs.objects.add_all_inherited.Given as goal
 
 abbrev pub invariant-loop-kind : goal.invariant-loop-kind
 invariant-loop-kind l = record {
   stays : Stays l.fn.out.items l.out.items;
-  inherits : IsResolved l.at.program.now l.at.hierarchy.now → IsOld l.at.program.now → (kind : ℕ) → Contains (take l.kind-index l.kinds) kind → InheritsOf l.at.program.now l.shut l.class kind l.out.items;
+  inherits : IsResolved l.at.program.now l.at.hierarchy.now → (kind : ℕ) → Contains (take l.kind-index l.kinds) kind → InheritsOf l.at.program.now l.shut l.class kind l.out.items;
 }

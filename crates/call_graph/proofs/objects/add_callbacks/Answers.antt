@@ -10,7 +10,7 @@ returns-in_ok-add_all_inherited-clause-called_back c = λ is fits has kind y pla
     (λ key i. open_stays c.args.at.now.program.now c.args.at.now.hierarchy.now c.args.tables.now.shut.items c.args.class key c.add_common.new.out.items c.add_all_inherited.new.out.items c.in_ok-add_all_inherited.ensures.stays
     (subst (λ l. FindsOpen c.args.at.now.program.now c.args.at.now.hierarchy.now l c.args.class key c.add_common.new.out.items) c.as_slice-2.ensures.value
     (c.in_ok-add_common.ensures.common is key (subst (λ l. Contains l key) (sym c.as_slice.ensures.value) i))))
-    (λ h u i. subst (λ l. InheritsOf c.args.at.now.program.now l c.args.class u c.add_all_inherited.new.out.items) c.as_slice-then-has_outer.ensures.value (c.in_ok-add_all_inherited.ensures.inherits is b.old u i)) b
+    (λ h u i. subst (λ l. InheritsOf c.args.at.now.program.now l c.args.class u c.add_all_inherited.new.out.items) c.as_slice-then-has_outer.ensures.value (c.in_ok-add_all_inherited.ensures.inherits is u i)) b
 
 pub returns-else-has_outer-clause-called_back : goal.returns-else-has_outer-clause-called_back
 returns-else-has_outer-clause-called_back c = λ is fits has kind y place above b.

@@ -9,9 +9,9 @@ use Rattle.call_graph.proofs.objects.add_inherited_all.Goals as goal
 pub loop-method-preserved : goal.loop-method-preserved
 loop-method-preserved c = record {
   stays = stays_then c.args.out.now.items c.loop-method.out.items c.add_inherited.new.out.items c.loop-method.invariant.stays c.in_ok-add_inherited.ensures.stays;
-  inherits = λ is old. inherits_at c.args.at.now.program.now c.args.shut.now c.args.class c.args.above c.args.methods.now c.loop-method.method-index c.method-item.result c.loop-method.out.items c.add_inherited.new.out.items
-      (at_place c.args.methods.now c.args.methods.now c.loop-method.method-index c.method-item.result refl c.method-item.is c.loop-method-test.true) (c.loop-method.invariant.inherits is old) c.in_ok-add_inherited.ensures.stays (c.in_ok-add_inherited.ensures.inherits is old);
+  inherits = λ is. inherits_at c.args.at.now.program.now c.args.shut.now c.args.class c.args.above c.args.methods.now c.loop-method.method-index c.method-item.result c.loop-method.out.items c.add_inherited.new.out.items
+      (at_place c.args.methods.now c.args.methods.now c.loop-method.method-index c.method-item.result refl c.method-item.is c.loop-method-test.true) (c.loop-method.invariant.inherits is) c.in_ok-add_inherited.ensures.stays (c.in_ok-add_inherited.ensures.inherits is);
 }
 
 pub returns-clause-inherits : goal.returns-clause-inherits
-returns-clause-inherits c = λ is old. subst (λ ms. Inherits c.args.at.now.program.now c.args.shut.now c.args.class c.args.above ms c.loop-method.out.items) (take_all c.loop-method.method-index c.args.methods.now c.loop-method-test.false) (c.loop-method.invariant.inherits is old)
+returns-clause-inherits c = λ is. subst (λ ms. Inherits c.args.at.now.program.now c.args.shut.now c.args.class c.args.above ms c.loop-method.out.items) (take_all c.loop-method.method-index c.args.methods.now c.loop-method-test.false) (c.loop-method.invariant.inherits is)

@@ -13,7 +13,7 @@ some_same x y e = cc
 pub returns : goal.returns
 returns c = λ is fits are has place.
     let mid : Notes = record c.args.notes.now { kinds = c.climb.new.marks } in
-    let are_mid : AreNotes c.args.at.now.program.now mid = walked_notes c.args.at.now.program.now c.args.notes.now mid refl refl c.in_ok-above.ensures.size (c.in_ok-above.ensures.clean is are.kinds) are in
+    let are_mid : AreNotes c.args.at.now.program.now mid = walked_notes c.args.at.now.program.now c.args.notes.now mid refl refl c.in_ok-above.ensures.size (c.in_ok-above.ensures.clean is are.kinds) refl are in
     let under : NotesUnder c.args.at.now.program.now mid c.add_under_all.new.notes c.args.made.1 c.as_slice.result.now c.args.out.now.items c.add_under_all.new.out.items = c.in_ok-add_under_all.ensures is are_mid in
     let first : NotesGrow c.args.at.now.program.now c.args.notes.now c.add_under_all.new.notes c.add_under_all.new.out.items =
     grow_then c.args.at.now.program.now c.args.notes.now mid c.add_under_all.new.notes [] c.add_under_all.new.out.items (grow_same c.args.at.now.program.now c.args.notes.now mid [] (record { called = refl; made = refl })) (λ y i. absurd (none_in y i)) under.grow in

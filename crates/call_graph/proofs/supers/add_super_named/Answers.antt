@@ -11,7 +11,7 @@ called_same : (k : InvokeKind) (a b : ℕ) → named.Call k a ≡ named.Call cal
 called_same k a b e = cc
 
 pub returns-in_ok-add_super-in-Call-Super-default-clause-finds : goal.returns-in_ok-add_super-in-Call-Super-default-clause-finds
-returns-in_ok-add_super-in-Call-Super-default-clause-finds c = λ is fits are short callee q i e plain.
+returns-in_ok-add_super-in-Call-Super-default-clause-finds c = λ is fits are short callee q i e.
     let same : c.in-Call-Super-default.method ≡ callee = called_same c.in-Call-Super-default.kind c.in-Call-Super-default.method callee (sym c.in-Call-Super-default.is ∙ only_in c.args.named (named.Call call.Super callee) i) in
     has_of c.args.at.now.program.now c.args.caller.0 c.args.caller.1 q c.args.out.now.items c.add_super.new.out.items
-    (c.in_ok-add_super-in-Call-Super-default.ensures.finds is fits are short q (subst (λ n. slice_get c.args.at.now.program.now.methods n ≡ Some q) (sym same) e) plain)
+    (c.in_ok-add_super-in-Call-Super-default.ensures.finds is fits are short q (subst (λ n. slice_get c.args.at.now.program.now.methods n ≡ Some q) (sym same) e))

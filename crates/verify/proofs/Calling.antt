@@ -1,13 +1,12 @@
 -- What super calls find that begin at the superclass.
 use Rattle.std.proofs.Common.{◌≡◌, ℕ, zero, suc, ◌+◌, ◌<◌, ◌≤◌, Bool, true, false, true≢false, List, [], ◌∷◌, ◌++◌, length, get_or, Option, Some, None, inl, inr, refl, sym, ap, subst, ◌∙◌, arith}
-use Rattle.std.specs.Prelude.{◌&&◌, ◌||◌, not, slice_get, slice_index_or, cond}
+use Rattle.std.specs.Prelude.{◌||◌, slice_get, slice_index_or, cond}
 use Rattle.std.specs.List.{list_any}
 use Rattle.std.proofs.lemmas.Bool.{cases_lt}
 use Rattle.class_defs.specs.Finding.{first_among, finds_from, finds_super, finds_super_of, finds_super_037, finds_above, lists_interface, by_entry, is_037}
 use Rattle.class_defs.specs.Finding as finding
 use Rattle.class_defs.specs.Members.{own_method}
 use Rattle.class_defs.specs.Places.{super_place, chain_from}
-use Rattle.program_model.specs.Lookups.{class_place}
 use Rattle.program_model.specs.declared.pools.MethodName.{MethodName}
 use Rattle.program_model.specs.declared.program.MethodAt.{MethodAt}
 use Rattle.program_model.specs.declared.program.Program.{Program}

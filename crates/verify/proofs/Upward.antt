@@ -10,7 +10,7 @@ use Rattle.program_model.specs.declared.program.Program.{Program}
 use Rattle.program_model.specs.Lookups.{class_place}
 use Rattle.class_defs.specs.ClassGraph.{IsTwice}
 use Rattle.class_defs.specs.Finding.{beside, reaches, lists_interface}
-use Rattle.class_defs.specs.Places.{super_place, interface_places, placed, places_of, listed, above_places, walks, is_under}
+use Rattle.class_defs.specs.Places.{super_place, interface_places, placed, listed, above_places, walks, is_under}
 use Rattle.class_defs.proofs.Positions.{both, number_test, number_of, place_entry, place_first}
 use Rattle.class_defs.proofs.WellFormed.{and_left, and_right}
 use Rattle.hierarchy.specs.Climbing.{In}

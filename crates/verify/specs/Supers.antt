@@ -1,5 +1,5 @@
 -- What super calls find, with the numbers of the classes' types (this project's profile).
-use Rattle.std.specs.Prelude.{◌≡◌, ℕ, ◌<◌, ◌||◌, Bool, true, false, not, List, Option, Some, None, nat_eq, slice_get, slice_index_or, length, vec_len}
+use Rattle.std.specs.Prelude.{◌≡◌, ℕ, ◌<◌, Bool, true, false, List, Option, Some, None, nat_eq, slice_get, slice_index_or, length, vec_len}
 use Rattle.std.specs.List.{list_any}
 use Rattle.class_defs.specs.Finding.{finds_super, is_037}
 use Rattle.class_defs.specs.Finding as finding
@@ -10,9 +10,8 @@ use Rattle.insn_set.specs.declared.form.Insn.{Insn}
 use Rattle.insn_set.specs.declared.form.Insn.TheVariants as insn
 use Rattle.insn_set.specs.declared.ops.InvokeKind.{InvokeKind}
 use Rattle.insn_set.specs.declared.ops.InvokeKind.TheVariants as call
-use Rattle.program_model.specs.Lookups.{class_place, method_at}
+use Rattle.program_model.specs.Lookups.{method_at}
 use Rattle.program_model.specs.MemberRules.{has_flag}
-use Rattle.program_model.specs.declared.pools.MethodName.{MethodName}
 use Rattle.program_model.specs.declared.program.Class.{Class}
 use Rattle.program_model.specs.declared.program.Method.{Method}
 use Rattle.program_model.specs.declared.program.MethodAt.{MethodAt}

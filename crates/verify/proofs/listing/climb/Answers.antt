@@ -1,7 +1,7 @@
 use Rattle.std.proofs.Common.{◌≡◌, ◌∙◌, refl, ap, sym, subst, length, suc, arith}
 use Rattle.class_defs.specs.Places.{above_places}
 use Rattle.hierarchy.specs.Walking.{waits}
-use Rattle.verify.specs.Listing.{left, Grows, Climbs}
+use Rattle.verify.specs.Listing.{left, Grows}
 use Rattle.verify.proofs.Upward.{fair_same, climb_on, climb_finds, climb_ends}
 use Rattle.verify.proofs.listing.climb.Goals as goal
 

@@ -1,13 +1,12 @@
 -- What super calls find that begin at the superclass.
 use Rattle.std.proofs.Common.{◌≡◌, ℕ, zero, suc, ◌+◌, ◌<◌, ◌≤◌, Bool, true, false, true≢false, List, [], ◌∷◌, ◌++◌, length, get_or, Option, Some, None, inl, inr, refl, sym, ap, subst, ◌∙◌, arith}
-use Rattle.std.specs.Prelude.{◌&&◌, ◌||◌, not, slice_get, slice_index_or, cond}
+use Rattle.std.specs.Prelude.{◌||◌, slice_get, slice_index_or, cond}
 use Rattle.std.specs.List.{list_any}
 use Rattle.std.proofs.lemmas.Bool.{cases_lt}
-use Rattle.class_defs.specs.Finding.{first_among, finds_from, finds_super, finds_super_of, finds_super_037, finds_above, finds_among, reaches, by_entry, is_037}
+use Rattle.class_defs.specs.Finding.{first_among, finds_from, finds_super, finds_super_of, finds_super_037, finds_above, lists_interface, by_entry, is_037}
 use Rattle.class_defs.specs.Finding as finding
 use Rattle.class_defs.specs.Members.{own_method}
 use Rattle.class_defs.specs.Places.{super_place, chain_from}
-use Rattle.program_model.specs.Lookups.{class_place}
 use Rattle.program_model.specs.declared.pools.MethodName.{MethodName}
 use Rattle.program_model.specs.declared.program.MethodAt.{MethodAt}
 use Rattle.program_model.specs.declared.program.Program.{Program}
@@ -17,7 +16,7 @@ use Rattle.insn_set.specs.declared.ops.InvokeKind.{InvokeKind}
 use Rattle.insn_set.specs.declared.ops.InvokeKind.TheVariants as call
 use Rattle.verify.specs.declared.calls.Search.{Search}
 use Rattle.verify.specs.declared.calls.Search.TheVariants as search
-use Rattle.verify.specs.Supers.{found_at_place, place_found, said, lists, is_listed, is_super_kind, is_super, is_settled, called_by_kind, super_search, Finds, FindsBelow}
+use Rattle.verify.specs.Supers.{found_at_place, place_found, said, is_super_kind, is_super, called_by_kind, super_search, Finds, FindsBelow}
 
 no_chain : (f : ℕ → Option ℕ) (n : ℕ) → chain_from f n None ≡ []
 no_chain f zero = refl
@@ -26,20 +25,6 @@ no_chain f (suc n) = refl
 -- nothing stands above a class without a superclass
 pub none_above : (p : Program) (name proto : ℕ) → finds_from p name proto None ≡ None
 none_above p name proto = ap (first_among (own_method p name proto)) (no_chain (super_place p) (length p.classes))
-
--- what no class lists, none above a class lists
-none_both : {X : Type 0} (a b : X → Bool) (xs : List X) → list_any b xs ≡ false → list_any (λ x. a x && b x) xs ≡ false
-none_both a b [] e = refl
-none_both a b (x ∷ xs) e = by (a x) (b x) e (none_both a b xs)
-  where
-    by : (s t : Bool) → (t || list_any b xs) ≡ false → (list_any b xs ≡ false → list_any (λ x. a x && b x) xs ≡ false) → ((s && t) || list_any (λ x. a x && b x) xs) ≡ false
-    by s true f more = absurd (true≢false f)
-    by true false f more = more f
-    by false false f more = more f
-
-untrue : (b : Bool) → not b ≡ true → b ≡ false
-untrue true e = absurd (true≢false (sym e))
-untrue false e = refl
 
 pub said_place : (p : Program) (s : finding.Search) → found_at_place p (place_found s) ≡ said p s
 said_place p (finding.Finds at) = refl
@@ -50,10 +35,12 @@ pub place_above : (o : Option MethodAt) → o ≡ place_found (finding.search_of
 place_above None = refl
 place_above (Some at) = refl
 
--- a call that names a type that no class lists finds what stands above
-pub kind_above : (p : Program) (class kind : ℕ) (q : MethodName) (r : Option MethodAt) → q.class ≡ kind → is_listed p kind ≡ false → r ≡ finds_from p q.name q.proto (super_place p class) → r ≡ place_found (finds_super_037 p class q None)
-kind_above p class kind q r e f g = g ∙ place_above (finds_from p q.name q.proto (super_place p class))
-    ∙ sym (ap (λ b. place_found (cond b finding.Nothing (finds_above p class q))) (none_both (λ k. reaches p class (class_place p k.name)) (lists q.class) p.classes (ap (is_listed p) e ∙ f)))
+-- a call that names a type of the framework
+pub kind_listed : (p : Program) (class kind : ℕ) (q : MethodName) → q.class ≡ kind → true ≡ lists_interface p class kind → None ≡ place_found (finds_super_037 p class q None)
+kind_listed p class kind q e f = sym (ap (λ b. place_found (cond b finding.Nothing (finds_above p class q))) (ap (lists_interface p class) e ∙ sym f))
+
+pub kind_above : (p : Program) (class kind : ℕ) (q : MethodName) (r : Option MethodAt) → q.class ≡ kind → false ≡ lists_interface p class kind → r ≡ finds_from p q.name q.proto (super_place p class) → r ≡ place_found (finds_super_037 p class q None)
+kind_above p class kind q r e f g = g ∙ place_above (finds_from p q.name q.proto (super_place p class)) ∙ sym (ap (λ b. place_found (cond b finding.Nothing (finds_above p class q))) (ap (lists_interface p class) e ∙ sym f))
 
 -- ---- super calls in a body
 
@@ -83,7 +70,7 @@ no_super p class i e = refl
 
 -- where there is no super call, nothing is found
 pub finds_none : (p : Program) (class : ℕ) (is : List Insn) → list_any is_super is ≡ false → Finds p class is []
-finds_none p class is h n i e b = sym (no_super p class i (none_at is_super is n i h e))
+finds_none p class is h n i e = sym (no_super p class i (none_at is_super is n i h e))
 
 pub got : {X : Type 0} (xs : List X) (n : ℕ) (x : X) → x ≡ get_or xs n x → n < length xs → slice_get xs n ≡ Some x
 got [] n x f l = absurd (omega (arith, l))
@@ -97,16 +84,16 @@ got_short (y ∷ ys) (suc i) x e = let h = got_short ys i x e in omega (arith, h
 
 -- one more position
 pub finds_more : (p : Program) (class : ℕ) (is slice : List Insn) (n : ℕ) (x : Insn) (old new : List Search) (y : Search) → slice ≡ is → x ≡ get_or slice n x → n < length slice → length old ≡ n → new ≡ old ++ y ∷ []
-    → (is_settled p x ≡ true → y ≡ super_search p class x) → FindsBelow p class is old n → FindsBelow p class is new (n + 1)
-finds_more p class is slice n x old new y same item lt long pushed here so_far k i below e b = elim (cases_lt k n) [
-  | inl l ↦ ap (λ z. slice_index_or z k search.Nothing) pushed ∙ before old k y (omega (arith, l, long)) ∙ so_far k i l e b
+    → y ≡ super_search p class x → FindsBelow p class is old n → FindsBelow p class is new (n + 1)
+finds_more p class is slice n x old new y same item lt long pushed here so_far k i below e = elim (cases_lt k n) [
+  | inl l ↦ ap (λ z. slice_index_or z k search.Nothing) pushed ∙ before old k y (omega (arith, l, long)) ∙ so_far k i l e
   | inr g ↦
       let q : k ≡ n = omega (arith, below, g) in
       let at : slice_get is n ≡ Some x = subst (λ l. slice_get l n ≡ Some x) same (got slice n x item lt) in
       let s : Some x ≡ Some i = sym at ∙ ap (slice_get is) (sym q) ∙ e in
       let t : x ≡ i = cc in
       ap (λ z. slice_index_or z k search.Nothing) pushed ∙ ap (λ m. slice_index_or (old ++ y ∷ []) m search.Nothing) (q ∙ sym long) ∙ last old y
-      ∙ here (ap (is_settled p) t ∙ b) ∙ ap (super_search p class) t
+      ∙ here ∙ ap (super_search p class) t
 ]
   where
     before : (xs : List Search) (k : ℕ) (y : Search) → k < length xs → slice_index_or (xs ++ y ∷ []) k search.Nothing ≡ slice_index_or xs k search.Nothing
@@ -119,4 +106,4 @@ finds_more p class is slice n x old new y same item lt long pushed here so_far k
     last (z ∷ zs) y = last zs y
 
 pub finds_all : (p : Program) (class : ℕ) (is : List Insn) (found : List Search) (n : ℕ) → length is ≤ n → FindsBelow p class is found n → Finds p class is found
-finds_all p class is found n le h k i e b = h k i (let l = got_short is k i e in omega (arith, l, le)) e b
+finds_all p class is found n le h k i e = h k i (let l = got_short is k i e in omega (arith, l, le)) e

@@ -35,6 +35,7 @@ pub mod Semilattice
 pub mod Solves
 pub mod Standing
 pub mod Throws
+pub mod Upward
 pub mod Visits
 pub mod Weights
 pub mod Wide

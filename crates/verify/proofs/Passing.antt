@@ -10,7 +10,6 @@ use Rattle.class_defs.specs.ClassGraph.{IsTwice}
 use Rattle.class_defs.specs.Members.{is_interface, string_is}
 use Rattle.class_defs.specs.Places.{super_place}
 use Rattle.dex_base.specs.Descriptor.{descriptor_of}
-use Rattle.insn_set.specs.declared.ops.Item.TheVariants as item
 use Rattle.program_model.specs.Cells.{cells_of}
 use Rattle.program_model.specs.Distinct.{text_key, type_key}
 use Rattle.program_model.specs.Items.{items_of}

@@ -10,6 +10,7 @@ pub mod Flow
 pub mod Frames
 pub mod Joins
 pub mod Kinds
+pub mod Listing
 pub mod Meeting
 pub mod Methods
 pub mod Names

@@ -1,5 +1,5 @@
 -- What super calls find, with the numbers of the classes' types (this project's profile).
-use Rattle.std.specs.Prelude.{◌≡◌, ℕ, ◌<◌, ◌||◌, Bool, true, false, not, List, Option, Some, None, nat_eq, slice_get, slice_index_or, length, vec_len}
+use Rattle.std.specs.Prelude.{◌≡◌, ℕ, ◌<◌, Bool, true, false, List, Option, Some, None, nat_eq, slice_get, slice_index_or, length, vec_len}
 use Rattle.std.specs.List.{list_any}
 use Rattle.class_defs.specs.Finding.{finds_super, is_037}
 use Rattle.class_defs.specs.Finding as finding
@@ -10,9 +10,8 @@ use Rattle.insn_set.specs.declared.form.Insn.{Insn}
 use Rattle.insn_set.specs.declared.form.Insn.TheVariants as insn
 use Rattle.insn_set.specs.declared.ops.InvokeKind.{InvokeKind}
 use Rattle.insn_set.specs.declared.ops.InvokeKind.TheVariants as call
-use Rattle.program_model.specs.Lookups.{class_place, method_at}
+use Rattle.program_model.specs.Lookups.{method_at}
 use Rattle.program_model.specs.MemberRules.{has_flag}
-use Rattle.program_model.specs.declared.pools.MethodName.{MethodName}
 use Rattle.program_model.specs.declared.program.Class.{Class}
 use Rattle.program_model.specs.declared.program.Method.{Method}
 use Rattle.program_model.specs.declared.program.MethodAt.{MethodAt}
@@ -49,25 +48,9 @@ abbrev pub super_search : Program → ℕ → Insn → Search
 super_search p class (insn.Invoke k method args) = called_by_kind p class k method
 super_search p class i = search.Nothing
 
--- a type stands in the interface list of a class, or of some class
+-- a type stands in the interface list of a class
 abbrev pub lists : ℕ → Class → Bool
 lists kind c = list_any (nat_eq kind) c.interfaces
-
-abbrev pub is_listed : Program → ℕ → Bool
-is_listed p kind = list_any (lists kind) p.classes
-
--- the named type is a program class, or a type that no class lists
-abbrev pub settles_at : Program → ℕ → Option ℕ → Bool
-settles_at p kind None = not (is_listed p kind)
-settles_at p kind (Some c) = true
-
-abbrev pub settles_by : Program → Option MethodName → Bool
-settles_by p None = true
-settles_by p (Some q) = settles_at p q.class (class_place p q.class)
-
--- what a super call of a method number finds is settled: each one in version 035
-abbrev pub settles : Program → ℕ → Bool
-settles p method = not (is_037 p.version) || settles_by p (slice_get p.methods method)
 
 abbrev pub is_super_kind : InvokeKind → Bool
 is_super_kind call.Super = true
@@ -77,17 +60,12 @@ abbrev pub is_super : Insn → Bool
 is_super (insn.Invoke k method args) = is_super_kind k
 is_super i = false
 
--- an instruction is no super call, or one that is settled
-abbrev pub is_settled : Program → Insn → Bool
-is_settled p (insn.Invoke k method args) = settles p method
-is_settled p i = true
-
--- what is found at each position, of so many or of all, whose call, if it is one, is settled
+-- what is found at each position, of so many or of all
 abbrev pub FindsBelow : Program → ℕ → List Insn → List Search → ℕ → Type 0
-FindsBelow p class insns found count = (n : ℕ) (i : Insn) → n < count → slice_get insns n ≡ Some i → is_settled p i ≡ true → slice_index_or found n search.Nothing ≡ super_search p class i
+FindsBelow p class insns found count = (n : ℕ) (i : Insn) → n < count → slice_get insns n ≡ Some i → slice_index_or found n search.Nothing ≡ super_search p class i
 
 abbrev pub Finds : Program → ℕ → List Insn → List Search → Type 0
-Finds p class insns found = (n : ℕ) (i : Insn) → slice_get insns n ≡ Some i → is_settled p i ≡ true → slice_index_or found n search.Nothing ≡ super_search p class i
+Finds p class insns found = (n : ℕ) (i : Insn) → slice_get insns n ≡ Some i → slice_index_or found n search.Nothing ≡ super_search p class i
 
 -- a walk that was made serves the hierarchy
 abbrev pub Serves : Hierarchy → Option Walk → Type 0

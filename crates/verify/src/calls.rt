@@ -10,14 +10,14 @@ ghost use Rattle.hierarchy.specs.Shapes.{IsOf};
 ghost use Rattle.hierarchy.specs.Walking.{IsFair};
 ghost use Rattle.hierarchy.specs.declared.build.Hierarchy.{Hierarchy};
 ghost use Rattle.program_model.specs.declared.pools.MethodName.{MethodName};
-ghost use Rattle.verify.specs.Supers.{lists, is_listed, settles, settles_at, place_found, found_at_place, called_by_kind, super_search, is_super, is_settled, Finds, Serves};
+ghost use Rattle.verify.specs.Supers.{place_found, found_at_place, called_by_kind, super_search, is_super, Finds, Serves};
 ghost use Rattle.std.specs.Option.{option_copied};
 ghost use Rattle.program_model.specs.Lookups.{class_place, method_at};
 
-use crate::tables::Tables;
+use crate::listing::lists_above;
 use hierarchy::{Given, Hierarchy, Walk};
 use insn_set::{Insn, InvokeKind};
-use program_model::{Class, Flags, Method, MethodAt, Program, Version};
+use program_model::{Flags, Method, MethodAt, Program, Version};
 use std::alloc::{AllocError, Global};
 
 /// What a super call finds: no program method, or one of the class with this type number.
@@ -50,7 +50,6 @@ impl Scratch {
 pub struct Calls<'a> {
     pub program: &'a Program,
     pub hierarchy: &'a Hierarchy,
-    pub tables: &'a Tables,
 }
 
 /// The method at a place.
@@ -81,18 +80,6 @@ fn search_of(program: &Program, found: Option<MethodAt>) -> Search
         },
         None => Search::Nothing,
     }
-}
-
-/// Whether a type stands in the interface list of a class.
-fn lists(class: &Class, kind: u32) -> bool
-    ensures { result ≡ lists kind class.now }
-{
-    for one in class.interfaces.as_slice() {
-        if kind == *one {
-            return true;
-        }
-    }
-    false
 }
 
 /// Whether the class at a place is an interface.
@@ -149,23 +136,6 @@ impl Calls<'_> {
         Ok(placed(given))
     }
 
-    /// Whether a type stands in the interface list of a class or of a program class above it.
-    fn lists_above(&self, class: u32, kind: u32) -> bool
-        ensures { is_listed self.now.program.now kind ≡ false → result ≡ false }
-    {
-        if !self.tables.is_listed(kind) {
-            return false;
-        }
-        let mut above: u32 = 0;
-        for one in self.program.classes.as_slice() {
-            if lists(one, kind) && self.hierarchy.is_under(class, above) {
-                return true;
-            }
-            above = above.saturating_add(1);
-        }
-        false
-    }
-
     /// The walk that was made before, or a new one where there is none.
     fn walk_of(&self, alloc: Global, made: Option<Walk>) -> Result<Walk, AllocError>
         ensures { Serves self.now.hierarchy.now made → IfOk result (λ w. Serves self.now.hierarchy.now (Some w)) }
@@ -198,13 +168,21 @@ impl Calls<'_> {
     }
 
     /// What a super call of version 037 finds that names a type of the framework.
-    fn find_by_kind(&self, class: u32, method: u32, kind: u32) -> Option<MethodAt>
-        ensures { (q : MethodName) → IsOf self.now.program.now self.now.hierarchy.now → slice_get self.now.program.now.methods method ≡ Some q → q.class ≡ kind → is_listed self.now.program.now kind ≡ false → result ≡ place_found (finds_super_037 self.now.program.now class q None) }
+    fn find_by_kind(
+        &self,
+        walk: &mut Walk,
+        class: u32,
+        method: u32,
+        kind: u32,
+    ) -> Result<Option<MethodAt>, AllocError>
+        ensures fair { OnOk result (IsFair walk.old → IsFair walk.new) }
+        ensures size { OnOk result (length walk.new.seen.items ≡ length walk.old.seen.items) }
+        ensures is { (q : MethodName) → IsOf self.now.program.now self.now.hierarchy.now → slice_get self.now.program.now.methods method ≡ Some q → q.class ≡ kind → IsFair walk.old → length walk.old.seen.items ≡ length self.now.program.now.classes → IfOk result (λ found. found ≡ place_found (finds_super_037 self.now.program.now class q None)) }
     {
-        if self.lists_above(class, kind) {
-            None
+        if lists_above(self.program, self.hierarchy, class, kind, walk)? {
+            Ok(None)
         } else {
-            self.find_above(class, method)
+            Ok(self.find_above(class, method))
         }
     }
 
@@ -219,14 +197,14 @@ impl Calls<'_> {
     ) -> Result<Option<MethodAt>, AllocError>
         ensures fair { OnOk result (IsFair walk.old → IsFair walk.new) }
         ensures size { OnOk result (length walk.new.seen.items ≡ length walk.old.seen.items) }
-        ensures is { (q : MethodName) → IsOf self.now.program.now self.now.hierarchy.now → slice_get self.now.program.now.methods method ≡ Some q → q.class ≡ kind → settles_at self.now.program.now kind (class_place self.now.program.now kind) ≡ true → IsFair walk.old → length walk.old.seen.items ≡ length self.now.program.now.classes → IfOk result (λ found. found ≡ place_found (finds_super_037 self.now.program.now class q (class_place self.now.program.now q.class))) }
+        ensures is { (q : MethodName) → IsOf self.now.program.now self.now.hierarchy.now → slice_get self.now.program.now.methods method ≡ Some q → q.class ≡ kind → IsFair walk.old → length walk.old.seen.items ≡ length self.now.program.now.classes → IfOk result (λ found. found ≡ place_found (finds_super_037 self.now.program.now class q (class_place self.now.program.now q.class))) }
     {
         match self.hierarchy.place_of(kind) {
             Some(named) => {
                 let found = self.find_by_class(found, walk, class, method, named)?;
                 Ok(found)
             }
-            None => Ok(self.find_by_kind(class, method, kind)),
+            None => self.find_by_kind(walk, class, method, kind),
         }
     }
 
@@ -240,7 +218,7 @@ impl Calls<'_> {
         kind: u32,
     ) -> Result<Option<MethodAt>, AllocError>
         ensures serves { Serves self.now.hierarchy.now scratch.old.walk → OnOk result (Serves self.now.hierarchy.now scratch.new.walk) }
-        ensures is { (q : MethodName) → IsOf self.now.program.now self.now.hierarchy.now → slice_get self.now.program.now.methods method ≡ Some q → q.class ≡ kind → settles_at self.now.program.now kind (class_place self.now.program.now kind) ≡ true → Serves self.now.hierarchy.now scratch.old.walk → IfOk result (λ found. found ≡ place_found (finds_super_037 self.now.program.now class q (class_place self.now.program.now q.class))) }
+        ensures is { (q : MethodName) → IsOf self.now.program.now self.now.hierarchy.now → slice_get self.now.program.now.methods method ≡ Some q → q.class ≡ kind → Serves self.now.hierarchy.now scratch.old.walk → IfOk result (λ found. found ≡ place_found (finds_super_037 self.now.program.now class q (class_place self.now.program.now q.class))) }
     {
         let mut walk = self.walk_of(alloc, scratch.walk.take())?;
         let found = self.find_in_037(&mut scratch.found, &mut walk, class, method, kind)?;
@@ -257,7 +235,7 @@ impl Calls<'_> {
         method: u32,
     ) -> Result<Option<MethodAt>, AllocError>
         ensures serves { Serves self.now.hierarchy.now scratch.old.walk → OnOk result (Serves self.now.hierarchy.now scratch.new.walk) }
-        ensures is { IsOf self.now.program.now self.now.hierarchy.now → settles self.now.program.now method ≡ true → Serves self.now.hierarchy.now scratch.old.walk → IfOk result (λ found. found ≡ place_found (finds_super self.now.program.now class method)) }
+        ensures is { IsOf self.now.program.now self.now.hierarchy.now → Serves self.now.hierarchy.now scratch.old.walk → IfOk result (λ found. found ≡ place_found (finds_super self.now.program.now class method)) }
     {
         let kind = match self.program.methods.as_slice().get(method as usize) {
             Some(name) => name.class,
@@ -283,7 +261,7 @@ impl Calls<'_> {
         method: u32,
     ) -> Result<Search, AllocError>
         ensures serves { Serves self.now.hierarchy.now scratch.old.walk → OnOk result (Serves self.now.hierarchy.now scratch.new.walk) }
-        ensures is { IsOf self.now.program.now self.now.hierarchy.now → settles self.now.program.now method ≡ true → Serves self.now.hierarchy.now scratch.old.walk → IfOk result (λ found. found ≡ called_by_kind self.now.program.now class kind method) }
+        ensures is { IsOf self.now.program.now self.now.hierarchy.now → Serves self.now.hierarchy.now scratch.old.walk → IfOk result (λ found. found ≡ called_by_kind self.now.program.now class kind method) }
     {
         match kind {
             InvokeKind::Super => {
@@ -303,7 +281,7 @@ impl Calls<'_> {
         insn: &Insn,
     ) -> Result<Search, AllocError>
         ensures serves { Serves self.now.hierarchy.now scratch.old.walk → OnOk result (Serves self.now.hierarchy.now scratch.new.walk) }
-        ensures is { IsOf self.now.program.now self.now.hierarchy.now → is_settled self.now.program.now insn.now ≡ true → Serves self.now.hierarchy.now scratch.old.walk → IfOk result (λ found. found ≡ super_search self.now.program.now class insn.now) }
+        ensures is { IsOf self.now.program.now self.now.hierarchy.now → Serves self.now.hierarchy.now scratch.old.walk → IfOk result (λ found. found ≡ super_search self.now.program.now class insn.now) }
     {
         match insn {
             Insn::Invoke { kind, method, .. } => {

@@ -23,6 +23,7 @@ mod frames;
 mod joins;
 mod kinds;
 mod laws;
+mod listing;
 mod methods;
 mod named;
 mod operands;

@@ -48,7 +48,6 @@ impl Tables {
             object: None,
             words: Vec::new(alloc),
             constructors: Vec::new(alloc),
-            listed: Vec::new(alloc),
         }
     }
 

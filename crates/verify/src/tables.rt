@@ -22,8 +22,7 @@ use std::alloc::{AllocError, Global};
 
 /// The tables of a program. `shapes` has what each type is, `bases` what it is without its brackets and `items` the
 /// least type number of the same base. `object` is the one with the base `Ljava/lang/Object;`. `words` has for each
-/// proto how many registers its parameters take, `constructors` for each method whether its name is `<init>`, and `listed`
-/// for each type whether it stands in the interface list of a class.
+/// proto how many registers its parameters take, and `constructors` for each method whether its name is `<init>`.
 #[derive(Drop)]
 pub struct Tables {
     pub chains: Chains,
@@ -34,7 +33,6 @@ pub struct Tables {
     pub object: Option<u32>,
     pub words: Vec<u32>,
     pub constructors: Vec<bool>,
-    pub listed: Vec<bool>,
 }
 
 /// A length or a place as a number of 32 bits.
@@ -120,19 +118,6 @@ fn constructors(alloc: Global, program: &Program) -> Result<Vec<bool>, AllocErro
     Ok(marks)
 }
 
-/// For each type whether it stands in the interface list of a class.
-fn listed(alloc: Global, program: &Program) -> Result<Vec<bool>, AllocError> {
-    let mut marks = vec![in alloc; false; program.types.len()]?;
-    for class in program.classes.as_slice() {
-        for kind in class.interfaces.as_slice() {
-            if let Some(mark) = marks.get_mut(*kind as usize) {
-                *mark = true;
-            }
-        }
-    }
-    Ok(marks)
-}
-
 /// The type number of each class.
 fn class_names(alloc: Global, classes: &[Class]) -> Result<Vec<u32>, AllocError>
     ensures { IfOk result (λ names. names.items ≡ map (λ c. c.name) classes.now) }
@@ -192,12 +177,11 @@ fn types_of(alloc: Global, program: &Program) -> Result<TypeTables, AllocError>
     })
 }
 
-/// The names of the classes, which methods are constructors, and which types the classes list.
+/// The names of the classes, and which methods are constructors.
 #[derive(Drop)]
 struct NameTables {
     classes: Vec<u32>,
     constructors: Vec<bool>,
-    listed: Vec<bool>,
 }
 
 /// The tables of the names of a program.
@@ -207,11 +191,9 @@ fn names_of(alloc: Global, program: &Program) -> Result<NameTables, AllocError>
 {
     let classes = class_names(alloc, program.classes.as_slice())?;
     let constructors = constructors(alloc, program)?;
-    let listed = listed(alloc, program)?;
     Ok(NameTables {
         classes,
         constructors,
-        listed,
     })
 }
 
@@ -238,7 +220,6 @@ impl Tables {
             object: types.object,
             words: types.words,
             constructors: names.constructors,
-            listed: names.listed,
         };
         Ok(tables.checked(alloc))
     }
@@ -342,14 +323,6 @@ impl Tables {
         ensures { result ≡ is_constructor self.now method }
     {
         match self.constructors.as_slice().get(method as usize) {
-            Some(mark) => *mark,
-            None => false,
-        }
-    }
-
-    /// Whether a type stands in the interface list of a class.
-    pub fn is_listed(&self, kind: u32) -> bool {
-        match self.listed.as_slice().get(kind as usize) {
             Some(mark) => *mark,
             None => false,
         }

@@ -204,7 +204,6 @@ impl<'a> Verifier<'a> {
         Calls {
             program: self.program,
             hierarchy: self.hierarchy,
-            tables: &self.tables,
         }
     }
 

@@ -9,7 +9,7 @@ loop-insn-preserved c =
       size = omega (arith, i.size, c.in_ok-push.ensures.len);
       serves = λ s. c.in_ok-search.ensures.serves (i.serves s);
       finds = λ of s. finds_more c.args.self.now.program.now c.args.class c.args.insns.now c.args.insns.now c.loop-insn.insn-index c.insn-item.result c.loop-insn.found.items c.push.new.self.items c.in_ok-search.field-0 refl c.insn-item.is c.loop-insn-test.true i.size
-          c.in_ok-push.ensures.items (λ settled. c.in_ok-search.ensures.is of settled (i.serves s)) (i.finds of s);
+          c.in_ok-push.ensures.items (c.in_ok-search.ensures.is of (i.serves s)) (i.finds of s);
     }
 
 pub returns-clause-is : goal.returns-clause-is

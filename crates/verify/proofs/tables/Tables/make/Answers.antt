@@ -7,7 +7,7 @@ pub returns-clause-chains : goal.returns-clause-chains
 returns-clause-chains c = λ w of.
     let of_types = c.in_ok-types.types in
     let of_names = c.in_ok-names.names in
-    let t : Tables = record { chains = c.in_ok-chains.chains; classes = of_names.classes; shapes = of_types.shapes; bases = of_types.bases; items = of_types.items; object = of_types.object; words = of_types.words; constructors = of_names.constructors; listed = of_names.listed } in
+    let t : Tables = record { chains = c.in_ok-chains.chains; classes = of_names.classes; shapes = of_types.shapes; bases = of_types.bases; items = of_types.items; object = of_types.object; words = of_types.words; constructors = of_names.constructors } in
     let types : AreTypesOf c.args.program.now t = record {
       classes = c.in_ok-names.ensures.classes;
       shapes = c.in_ok-types.ensures.shapes;
@@ -23,7 +23,7 @@ pub returns-clause-types : goal.returns-clause-types
 returns-clause-types c = λ w of.
     let of_types = c.in_ok-types.types in
     let of_names = c.in_ok-names.names in
-    let t : Tables = record { chains = c.in_ok-chains.chains; classes = of_names.classes; shapes = of_types.shapes; bases = of_types.bases; items = of_types.items; object = of_types.object; words = of_types.words; constructors = of_names.constructors; listed = of_names.listed } in
+    let t : Tables = record { chains = c.in_ok-chains.chains; classes = of_names.classes; shapes = of_types.shapes; bases = of_types.bases; items = of_types.items; object = of_types.object; words = of_types.words; constructors = of_names.constructors } in
     let types : AreTypesOf c.args.program.now t = record {
       classes = c.in_ok-names.ensures.classes;
       shapes = c.in_ok-types.ensures.shapes;

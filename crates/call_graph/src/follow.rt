@@ -342,7 +342,8 @@ fn add_start(at: &At<'_>, place: u32, class: &Class, out: &mut Vec<Fact>) -> Res
     match at.hierarchy.initialiser_of(place) {
         Some(method) => {
             add_place(at, method, out)?;
-            add_defaults(at, class, out)
+            add_defaults(at, class, out)?;
+            Ok(())
         }
         None => Ok(()),
     }

@@ -15,3 +15,4 @@ pub mod Making
 pub mod Noted
 pub mod Annotated
 pub mod Within
+pub mod Unshut

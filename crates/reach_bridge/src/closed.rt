@@ -1,5 +1,6 @@
 //! Laws of marks that are closed under what follows: the names of the marked numbers keep what a closed family keeps.
 
+ghost use Rattle.std.specs.Prelude.{◌≡◌, []};
 ghost use Rattle.program_model.specs.declared.program.Program.{Program};
 ghost use Rattle.program_model.specs.declared.pass.Outside.{Outside};
 ghost use Rattle.call_graph.specs.declared.live_set.LiveSet.{LiveSet};
@@ -73,4 +74,15 @@ pub fn closed_law()
 /// it says.
 pub fn reach_law()
     ensures { (p : Program) (o : Outside) (s : LiveSet) → IsMarked p o s → IsTyped (named p) → ShutsHold (named p) (outer_of p o) → SameShown (named p) (named (kept_of s p)) (outer_of p o) }
+{}
+
+/// Where no method is shut, as in what rules alone give, the table of shut methods holds what it says.
+pub fn unshut_law()
+    ensures { (p : Program) (o : Outside) → o.shut ≡ [] → ShutsHold (named p) (outer_of p o) }
+{}
+
+/// What marks leave of a well-formed and typed program shows the same, where no method is shut, as in what rules alone
+/// give.
+pub fn open_reach_law()
+    ensures { (p : Program) (o : Outside) (s : LiveSet) → IsMarked p o s → IsTyped (named p) → o.shut ≡ [] → SameShown (named p) (named (kept_of s p)) (outer_of p o) }
 {}

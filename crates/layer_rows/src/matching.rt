@@ -5,6 +5,7 @@ use crate::sample::sample;
 use hierarchy::{Hierarchy, HierarchyFault};
 use keep_rules::{RuleFault, outside_of, read_rules};
 use program_model::{Outside, Program};
+use rule_text::Rules;
 use std::alloc::Global;
 use std::test::*;
 
@@ -18,20 +19,33 @@ enum Trouble {
 }
 
 fn answer(alloc: Global, program: &Program, text: &str) -> Result<Outside, Trouble> {
-    if text.len() > 999 || !is_small(program) {
+    if !is_small(program) {
         return Err(Trouble::Size);
     }
-    let hierarchy = match Hierarchy::build(alloc, program) {
-        Ok(hierarchy) => hierarchy,
-        Err(fault) => return Err(Trouble::Classes(fault)),
-    };
-    let rules = match read_rules(alloc, text.as_bytes()) {
-        Ok(rules) => rules,
-        Err(fault) => return Err(Trouble::Rules(fault)),
-    };
+    let hierarchy = classes_of(alloc, program)?;
+    let rules = rules_of(alloc, text)?;
     match outside_of(alloc, &rules, program, &hierarchy) {
         Ok(outside) => Ok(outside),
         Err(_) => Err(Trouble::Memory),
+    }
+}
+
+/// The classes of a program.
+fn classes_of(alloc: Global, program: &Program) -> Result<Hierarchy, Trouble> {
+    match Hierarchy::build(alloc, program) {
+        Ok(hierarchy) => Ok(hierarchy),
+        Err(fault) => Err(Trouble::Classes(fault)),
+    }
+}
+
+/// The rules of a short text.
+fn rules_of(alloc: Global, text: &str) -> Result<Rules, Trouble> {
+    if text.len() > 999 {
+        return Err(Trouble::Size);
+    }
+    match read_rules(alloc, text.as_bytes()) {
+        Ok(rules) => Ok(rules),
+        Err(fault) => Err(Trouble::Rules(fault)),
     }
 }
 
@@ -101,15 +115,26 @@ const KEPT: [(&str, &[u32], &[u32], &[u32]); 37] = [
     ),
 ];
 
+/// Whether two lists of numbers are the same.
+fn are_numbers(found: &[u32], wanted: &[u32]) -> bool {
+    found == wanted
+}
+
+/// Whether these classes, methods and fields are kept, and none on a condition.
+fn keeps(outside: &Outside, classes: &[u32], methods: &[u32], fields: &[u32]) -> bool {
+    are_numbers(outside.classes.as_slice(), classes)
+        && are_numbers(outside.methods.as_slice(), methods)
+        && are_numbers(outside.fields.as_slice(), fields)
+        && outside.methods_if.is_empty()
+        && outside.classes_if.is_empty()
+}
+
 #[test]
 fn rules_keep_what_they_match(rt: HostRuntime) -> Result<(), Fail> {
     let program = sample(rt.alloc())?;
     for (text, classes, methods, fields) in KEPT {
         let outside = answer(rt.alloc(), &program, text)?;
-        assert_eq!(rt; outside.classes.as_slice(), classes);
-        assert_eq!(rt; outside.methods.as_slice(), methods);
-        assert_eq!(rt; outside.fields.as_slice(), fields);
-        assert!(rt; outside.methods_if.is_empty() && outside.classes_if.is_empty());
+        assert!(rt; keeps(&outside, classes, methods, fields));
     }
     Ok(())
 }
@@ -120,8 +145,8 @@ fn members_of_live_classes_are_kept_apart(rt: HostRuntime) -> Result<(), Fail> {
     let text = "-keepclassmembers,includedescriptorclasses class A { *; } -dontshrink";
     let outside = answer(rt.alloc(), &program, text)?;
     assert!(rt; outside.classes.is_empty() && outside.methods.is_empty());
-    assert_eq!(rt; outside.methods_if.as_slice(), [0, 1, 2].as_slice());
-    assert_eq!(rt; outside.fields_if.as_slice(), [0].as_slice());
+    assert!(rt; are_numbers(outside.methods_if.as_slice(), &[0, 1, 2]));
+    assert!(rt; are_numbers(outside.fields_if.as_slice(), &[0]));
     assert_eq!(rt; outside.classes_if.len(), 1);
     assert_eq!(rt; outside.classes_if.as_slice()[0].class, 2);
     assert_eq!(rt; outside.classes_if.as_slice()[0].owner, 1);
@@ -158,7 +183,7 @@ fn methods_outside_the_program_are_silent(rt: HostRuntime) -> Result<(), Fail> {
     let program = sample(rt.alloc())?;
     for (text, silent) in SILENT {
         let outside = answer(rt.alloc(), &program, text)?;
-        assert_eq!(rt; outside.silent.as_slice(), silent);
+        assert!(rt; are_numbers(outside.silent.as_slice(), silent));
         assert!(rt; outside.methods.is_empty() && outside.classes.is_empty());
     }
     Ok(())

@@ -141,6 +141,20 @@ impl<'a> Machine<'a> {
     }
 }
 
+/// The events of so many steps of a machine that has made none.
+fn events_of(alloc: Global, machine: &mut Machine<'_>, n: u32) -> Result<Vec<Event>, AllocError>
+    requires { machine.old.steps ≡ 0 }
+    ensures { IfOk result (λ events. vec_len events ≤ n) }
+{
+    let mut events = Vec::new(alloc);
+    for at in 0..n {
+        if let Some(event) = machine.step(alloc)? {
+            events.push(event)?;
+        }
+    }
+    Ok(events)
+}
+
 /// The events of `n` steps of a program under a script of framework moves, in order (see [`Machine::new`]). The only error
 /// is want of memory.
 pub fn run(
@@ -155,11 +169,5 @@ pub fn run(
     ensures { IfOk result (λ events. vec_len events ≤ n) }
 {
     let mut machine = Machine::new(alloc, program, outside, framework, floats, script)?;
-    let mut events = Vec::new(alloc);
-    for at in 0..n {
-        if let Some(event) = machine.step(alloc)? {
-            events.push(event)?;
-        }
-    }
-    Ok(events)
+    events_of(alloc, &mut machine, n)
 }

@@ -1,7 +1,7 @@
 use crate::help::{are_marks, tables_of, text};
 use crate::keeps;
 use call_graph::{Edge, LiveSet, callees, live_members};
-use hierarchy::Hierarchy;
+use hierarchy::{Hierarchy, HierarchyFault};
 use program_model::{
     Body, Class, Flags, Insn, InvokeKind, Method, MethodAt, MethodName, Outside, Program, Proto,
     Slot, Version,
@@ -118,12 +118,48 @@ fn live_in(
     live_members(alloc, program, tables, outside)
 }
 
+/// What is live in a program of which these classes and methods are kept, and these methods on the condition that their
+/// class is live.
+fn live_of(
+    alloc: Global,
+    program: &Program,
+    classes: &[u32],
+    methods: &[u32],
+    on_condition: &[u32],
+) -> Result<LiveSet, HierarchyFault> {
+    let tables = tables_of(alloc, program)?;
+    let outside = keeps(alloc, classes, methods, on_condition)?;
+    Ok(live_in(alloc, program, &tables, &outside)?)
+}
+
+/// Whether these methods are live then.
+fn are_live(
+    alloc: Global,
+    program: &Program,
+    classes: &[u32],
+    methods: &[u32],
+    on_condition: &[u32],
+    wanted: &[bool],
+) -> Result<bool, HierarchyFault> {
+    let live = live_of(alloc, program, classes, methods, on_condition)?;
+    Ok(are_marks(live.methods.as_slice(), wanted))
+}
+
+/// Whether the first method of the first class calls this one alone, where all that a kept method of it reaches is live.
+fn calls_alone(alloc: Global, program: &Program, edge: Edge) -> Result<bool, HierarchyFault> {
+    let tables = tables_of(alloc, program)?;
+    let outside = keeps(alloc, &[2], &[0], &[])?;
+    let live = live_in(alloc, program, &tables, &outside)?;
+    let first = MethodAt { class: 0, place: 0 };
+    let edges = callees(alloc, program, &tables, &live, first)?;
+    Ok(edges.as_slice() == [edge].as_slice())
+}
+
 #[test]
 fn what_a_kept_method_calls_is_live(rt: HostRuntime) -> Result<(), Fail> {
     let alloc = rt.alloc();
     let program = two_classes(alloc, InvokeKind::Static, 9)?;
-    let tables = tables_of(alloc, &program)?;
-    let live = live_in(alloc, &program, &tables, &keeps(alloc, &[2], &[0], &[])?)?;
+    let live = live_of(alloc, &program, &[2], &[0], &[])?;
     assert!(rt; are_marks(live.classes.as_slice(), &[false, false, true, true]));
     assert!(rt; are_marks(live.made.as_slice(), &[false, false, true, true]));
     assert!(rt; are_marks(live.methods.as_slice(), &[true, true, false]));
@@ -134,21 +170,12 @@ fn what_a_kept_method_calls_is_live(rt: HostRuntime) -> Result<(), Fail> {
 fn a_virtual_call_finds_what_made_objects_have(rt: HostRuntime) -> Result<(), Fail> {
     let alloc = rt.alloc();
     let program = two_classes(alloc, InvokeKind::Virtual, 1)?;
-    let tables = tables_of(alloc, &program)?;
-    let live = live_in(alloc, &program, &tables, &keeps(alloc, &[2], &[0], &[])?)?;
-    assert!(rt; are_marks(live.methods.as_slice(), &[true, true, false]));
-    let edges = callees(
-        alloc,
-        &program,
-        &tables,
-        &live,
-        MethodAt { class: 0, place: 0 },
-    )?;
-    let wanted = [Edge {
+    assert!(rt; are_live(alloc, &program, &[2], &[0], &[], &[true, true, false])?);
+    let edge = Edge {
         position: 1,
         target: MethodAt { class: 1, place: 0 },
-    }];
-    assert_eq!(rt; edges.as_slice(), wanted.as_slice());
+    };
+    assert!(rt; calls_alone(alloc, &program, edge)?);
     Ok(())
 }
 
@@ -156,8 +183,7 @@ fn a_virtual_call_finds_what_made_objects_have(rt: HostRuntime) -> Result<(), Fa
 fn nothing_kept_is_nothing_live(rt: HostRuntime) -> Result<(), Fail> {
     let alloc = rt.alloc();
     let program = two_classes(alloc, InvokeKind::Static, 9)?;
-    let tables = tables_of(alloc, &program)?;
-    let live = live_in(alloc, &program, &tables, &keeps(alloc, &[], &[], &[])?)?;
+    let live = live_of(alloc, &program, &[], &[], &[])?;
     assert!(rt; are_marks(live.classes.as_slice(), &[false; 4]));
     assert!(rt; are_marks(live.methods.as_slice(), &[false; 3]));
     Ok(())
@@ -167,10 +193,7 @@ fn nothing_kept_is_nothing_live(rt: HostRuntime) -> Result<(), Fail> {
 fn a_conditional_method_is_live_with_its_class(rt: HostRuntime) -> Result<(), Fail> {
     let alloc = rt.alloc();
     let program = two_classes(alloc, InvokeKind::Static, 9)?;
-    let tables = tables_of(alloc, &program)?;
-    let live = live_in(alloc, &program, &tables, &keeps(alloc, &[2], &[0], &[2])?)?;
-    assert!(rt; are_marks(live.methods.as_slice(), &[true, true, true]));
-    let live = live_in(alloc, &program, &tables, &keeps(alloc, &[], &[], &[2])?)?;
-    assert!(rt; are_marks(live.methods.as_slice(), &[false; 3]));
+    assert!(rt; are_live(alloc, &program, &[2], &[0], &[2], &[true; 3])?);
+    assert!(rt; are_live(alloc, &program, &[], &[], &[2], &[false; 3])?);
     Ok(())
 }

@@ -1,10 +1,10 @@
 -- What is kept of calls.
 use Rattle.std.proofs.Common.{Bool, ◌<◌, arith, ◌≡◌, true≢false, ℕ, zero, suc, List, [], ◌∷◌, replicate, length, Option, Some, None, refl, sym, ap, subst, ◌∙◌, inl, inr, ◌⊎◌}
-use Rattle.std.specs.Prelude.{slice_get, slice_set, vec_len, is_some, cond, position}
+use Rattle.std.specs.Prelude.{slice_get, slice_set, vec_len, is_some, cond}
 use Rattle.program_model.specs.declared.pools.MethodName.{MethodName}
 use Rattle.program_model.specs.declared.program.Class.{Class}
 use Rattle.program_model.specs.declared.program.Program.{Program}
-use Rattle.class_defs.specs.Finding.{finds_at}
+use Rattle.class_defs.specs.Finding.{finds_at, finds_super}
 use Rattle.class_defs.proofs.Positions.{PlaceFits, place_entry}
 use Rattle.dalvik_defs.specs.Names.{Text, text_eq}
 use Rattle.dalvik_defs.specs.Naming.{type_at, named}
@@ -15,7 +15,7 @@ use Rattle.dalvik_lookups.specs.declared.finds.Search.TheVariants.{Nothing}
 use Rattle.dalvik_lookups.specs.declared.memo.Memo.{Memo}
 use Rattle.dalvik_lookups.specs.declared.memo.Recent.{Recent}
 use Rattle.dalvik_lookups.specs.declared.lookups.Lookups.{Lookups}
-use Rattle.dalvik_lookups.specs.Walks.{AreFound, IsKept, IsClean, Rests, found_at, search_by, type_of_class}
+use Rattle.dalvik_lookups.specs.Walks.{AreFound, AreFromSuper, IsKept, IsClean, Rests, found_at, search_by, type_of_class}
 use Rattle.hierarchy.specs.Walking.{IsFair}
 
 one_of : {X : Type 0} (n i : ℕ) (x y : X) → slice_get (replicate n x) i ≡ Some y → x ≡ y
@@ -55,12 +55,35 @@ found_more l calls new i c found a e is = record { is = λ j d other q h hq. ent
     entry j d other q hq (inl h) = a.is j d other q h hq
     entry j d other q hq (inr h) = ap (λ r. r.found) h.1 ∙ is q (sym (ap (slice_get l.program.now.methods) h.0) ∙ hq) ∙ ap (λ n. found_at l n q) (sym (ap (λ r. got 0 r.class) h.1))
 
+pub none_from_super : (p : Program) (calls : List Recent) (n : ℕ) → calls ≡ replicate n (record { class = None; found = Nothing }) → AreFromSuper p calls
+none_from_super p calls n e = record { is = λ i c found h. nothing (ap (λ r. r.class) (one_of n i (record { class = None; found = Nothing }) (record { class = Some c; found = found }) (sym (ap (λ v. slice_get v i) e) ∙ h))) }
+  where
+    nothing : {X : Type 0} {c : ℕ} → None ≡ Some c → X
+    nothing e = absurd (true≢false (sym (ap is_some e)))
+
+pub from_super_more : (p : Program) (calls new : List Recent) (i c : ℕ) (found : Search) → AreFromSuper p calls → new ≡ slice_set calls i (record { class = Some c; found = found }) → found ≡ search_by (finds_super p c i) → AreFromSuper p new
+from_super_more p calls new i c found a e is = record { is = λ j d other h. entry j d other (set_entry calls i j (record { class = Some c; found = found }) (record { class = Some d; found = other }) (sym (ap (λ v. slice_get v j) e) ∙ h)) }
+  where
+    kept : ℕ → Search → Recent
+    kept c found = record { class = Some c; found = found }
+
+    got : {X : Type 0} → X → Option X → X
+    got d None = d
+    got d (Some x) = x
+
+    entry : (j d : ℕ) (other : Search) → (slice_get calls j ≡ Some (record { class = Some d; found = other })) ⊎ ((j ≡ i) × (kept d other ≡ kept c found)) → other ≡ search_by (finds_super p d j)
+    entry j d other (inl h) = a.is j d other h
+    entry j d other (inr h) =
+        let same : c ≡ d = sym (ap (λ r. got 0 r.class) h.1) in
+        ap (λ r. r.found) h.1 ∙ is ∙ ap (λ n. search_by (finds_super p n i)) same ∙ ap (λ n. search_by (finds_super p d n)) (sym h.0)
+
 -- an answer more is kept, and the rest stays
-pub kept_call : (l : Lookups) (m new : Memo) → IsKept l m → Rests m new → AreFound l new.virtual_calls.items → IsKept l new
-kept_call l m new k r a = record {
+pub kept_call : (l : Lookups) (m new : Memo) → IsKept l m → Rests m new → AreFound l new.virtual_calls.items → AreFromSuper l.program.now new.super_calls.items → IsKept l new
+kept_call l m new k r a s = record {
   fair = subst IsFair (sym r.walk) k.fair;
   long = ap (λ w. length w.seen.items) r.walk ∙ k.long;
   virtuals = a;
+  supers = s;
   size = ap (λ w. vec_len w.marks) r.marks ∙ k.size;
   clean = subst IsClean (sym r.marks) k.clean;
   under = λ u b e. k.under u b (sym (ap (λ v. slice_get v.items u) r.under) ∙ e);

@@ -9,3 +9,7 @@ pub mod Climbing
 pub mod Unders
 pub mod Calls
 pub mod Slotted
+pub mod Upward
+pub mod Spelled
+pub mod Marked
+pub mod Empty

@@ -21,7 +21,7 @@ use Rattle.dalvik_lookups.specs.declared.lookups.Lookups.{Lookups}
 use Rattle.dalvik_lookups.specs.Views.{names_of, name_at, type_text, StandOnce, IsKind}
 use Rattle.dalvik_lookups.specs.Tables.{row_at, Stand, AreAbove, IsRight}
 use Rattle.dalvik_lookups.specs.declared.memo.Memo.{Memo}
-use Rattle.dalvik_lookups.specs.Walks.{Climbs, IsInside, IsClean, IsKept, AreFound, KeepsUnder}
+use Rattle.dalvik_lookups.specs.Walks.{Climbs, IsInside, IsClean, IsKept, AreFound, AreFromSuper, KeepsUnder}
 use Rattle.hierarchy.specs.Walking.{IsFair}
 use Rattle.dalvik_lookups.proofs.Interned.{text_same, text_sound, got_short, entry_in, entry_is}
 use Rattle.dalvik_lookups.proofs.Descriptors.{same_kind}
@@ -272,12 +272,13 @@ array_text l k u b f h = by k.depth refl
 
 -- ---- what is kept
 
-pub kept_more : (l : Lookups) (m mid new : Memo) (lower upper : ℕ) (answer : Bool) → IsKept l m → vec_len mid.marks.marks ≡ vec_len m.marks.marks → IsClean mid.marks → mid.under ≡ m.under → mid.walk ≡ m.walk → mid.virtual_calls ≡ m.virtual_calls → KeepsUnder mid new lower upper answer
+pub kept_more : (l : Lookups) (m mid new : Memo) (lower upper : ℕ) (answer : Bool) → IsKept l m → vec_len mid.marks.marks ≡ vec_len m.marks.marks → IsClean mid.marks → mid.under ≡ m.under → mid.walk ≡ m.walk → mid.virtual_calls ≡ m.virtual_calls → mid.super_calls ≡ m.super_calls → KeepsUnder mid new lower upper answer
     → answer ≡ class_under (named l.program.now) l.framework.now (name_at l.types lower) (name_at l.types upper) → IsKept l new
-kept_more l m mid new lower upper answer k size clean same walks calls keeps is = record {
+kept_more l m mid new lower upper answer k size clean same walks calls supers keeps is = record {
   fair = subst IsFair (sym (keeps.walk ∙ walks)) k.fair;
   long = ap (λ w. length w.seen.items) (keeps.walk ∙ walks) ∙ k.long;
   virtuals = subst (λ v. AreFound l v.items) (sym (keeps.virtuals ∙ calls)) k.virtuals;
+  supers = subst (λ v. AreFromSuper l.program.now v.items) (sym (keeps.supers ∙ supers)) k.supers;
   size = ap (λ w. vec_len w.marks) keeps.marks ∙ size ∙ k.size;
   clean = subst IsClean (sym keeps.marks) clean;
   under = λ u a e. elim (keeps.under u a e) [

@@ -3,3 +3,7 @@ pub mod Views
 pub mod Rows
 pub mod Walks
 pub mod Slots
+pub mod Listing
+pub mod Spelling
+pub mod Starting
+pub mod Reached

@@ -5,9 +5,6 @@ use Rattle.program_model.specs.declared.program.Program.{Program}
 use Rattle.program_model.specs.declared.program.MethodAt.{MethodAt}
 use Rattle.program_model.specs.ProgramRules.{is_well_formed}
 use Rattle.program_model.specs.MemberRules.{has_flag}
-use Rattle.program_model.specs.declared.pools.MethodName.{MethodName}
-use Rattle.class_defs.specs.Places.{super_place}
-use Rattle.class_defs.specs.Finding.{finds_from}
 use Rattle.hierarchy.specs.Shapes.{IsResolved}
 use Rattle.dalvik_lookups.specs.declared.finds.Search.{Search}
 use Rattle.dalvik_lookups.specs.declared.finds.Search.TheVariants as find
@@ -21,6 +18,8 @@ use Rattle.dalvik_lookups.specs.declared.texts.Texts.{Texts}
 use Rattle.dalvik_lookups.specs.declared.graph.Above.{Above}
 use Rattle.dalvik_lookups.specs.declared.lookups.Names.{Names}
 use Rattle.dalvik_lookups.specs.declared.lookups.Lookups.{Lookups}
+use Rattle.dalvik_lookups.specs.Spelling.{is_constructor}
+use Rattle.dalvik_lookups.specs.Starting.{class_default}
 use Rattle.dalvik_lookups.specs.Slots.{slots_from, slots_after}
 use Rattle.dalvik_lookups.specs.Views.{names_of, texts_of, AreKept, AreTypes, AreTexts, IsType, IsText, IsNamed, Stays}
 
@@ -145,6 +144,8 @@ pub record IsRight (l : Lookups) : Type 0 where
   pub above : AreAbove l.program.now l.framework.now l.types l.above
   pub slots : l.slots.items ≡ slots_from 0 l.program.now.classes
   pub count : l.slot_count ≡ slots_after 0 l.program.now.classes
+  pub defaults : l.defaults.items ≡ map (class_default l.program.now) l.program.now.classes
+  pub constructors : l.constructors.items ≡ map (is_constructor l.program.now) l.program.now.methods
 
 -- what was found along superclasses
 abbrev pub search_of : Option MethodAt → Search
@@ -154,7 +155,3 @@ search_of (Some at) = find.Finds at
 -- whether the class at a place has all bits of a flag
 abbrev pub class_has : Program → ℕ → ℕ → Bool
 class_has p class bit = elim (slice_get p.classes class) [ Some c ↦ has_flag c.flags bit | None ↦ false ]
-
--- the first method of a name and proto along the superclasses of a class
-abbrev pub above_finds : Program → ℕ → MethodName → Option MethodAt
-above_finds p class q = finds_from p q.name q.proto (super_place p class)

@@ -3,7 +3,7 @@ use Rattle.std.specs.Prelude.{◌≡◌, ◌⊎◌, ◌<◌, ◌≤◌, ℕ, ◌
 use Rattle.program_model.specs.declared.pools.MethodName.{MethodName}
 use Rattle.program_model.specs.declared.program.Class.{Class}
 use Rattle.program_model.specs.declared.program.Program.{Program}
-use Rattle.class_defs.specs.Finding.{finds_at}
+use Rattle.class_defs.specs.Finding.{finds_at, finds_super}
 use Rattle.class_defs.specs.Finding as look
 use Rattle.hierarchy.specs.Walking.{IsFair}
 use Rattle.dalvik_defs.specs.Names.{Text}
@@ -98,12 +98,17 @@ found_of l (Some c) q = found_at l c q
 pub record AreFound (l : Lookups) (calls : List Recent) : Type 0 where
   pub is : (i c : ℕ) (found : Search) (q : MethodName) → slice_get calls i ≡ Some (record { class = Some c; found = found }) → slice_get l.program.now.methods i ≡ Some q → found ≡ found_at l c q
 
+-- what is kept of super calls is what they find
+pub record AreFromSuper (p : Program) (calls : List Recent) : Type 0 where
+  pub is : (i c : ℕ) (found : Search) → slice_get calls i ≡ Some (record { class = Some c; found = found }) → found ≡ search_by (finds_super p c i)
+
 -- What is kept of the tests whether types are under others and of calls is right, and no mark is left of a walk up; a walk over
 -- classes has a mark for each.
 pub record IsKept (l : Lookups) (m : Memo) : Type 0 where
   pub fair : IsFair m.walk
   pub long : length m.walk.seen.items ≡ length l.program.now.classes
   pub virtuals : AreFound l m.virtual_calls.items
+  pub supers : AreFromSuper l.program.now m.super_calls.items
   pub size : vec_len m.marks.marks ≡ length (names_of l.types)
   pub clean : IsClean m.marks
   pub under : (u : ℕ) (a : Asked) → slice_get m.under.items u ≡ Some (Some a) → a.answer ≡ class_under (named l.program.now) l.framework.now (name_at l.types a.lower) (name_at l.types u)
@@ -113,6 +118,7 @@ pub record KeepsUnder (old new : Memo) (lower upper : ℕ) (answer : Bool) : Typ
   pub marks : new.marks ≡ old.marks
   pub walk : new.walk ≡ old.walk
   pub virtuals : new.virtual_calls ≡ old.virtual_calls
+  pub supers : new.super_calls ≡ old.super_calls
   pub under : (u : ℕ) (a : Asked) → slice_get new.under.items u ≡ Some (Some a) → (slice_get old.under.items u ≡ Some (Some a)) ⊎ ((u ≡ upper) × (a ≡ record { lower = lower; answer = answer }))
 
 -- the marks, the walk and the answers whether types are under others stay

@@ -1,21 +1,24 @@
 //! What a call finds.
 
-ghost use Rattle.std.specs.Prelude.{◌≡◌, ℕ, Some, flat_map, slice_get, IfOk, OnOk};
+ghost use Rattle.std.specs.Prelude.{◌≡◌, ◌∷◌, [], ℕ, Some, None, flat_map, slice_get, IfOk, OnOk};
 ghost use Rattle.program_model.specs.declared.pools.MethodName.{MethodName};
 ghost use Rattle.program_model.specs.declared.program.Class.{Class};
-ghost use Rattle.class_defs.specs.Finding.{finds_static, finds_at, finds_among, verdict, lowest};
+ghost use Rattle.class_defs.specs.Finding.{finds_static, finds_at, finds_among, finds_above, finds_super, finds_super_of, finds_super_037, verdict, lowest};
+ghost use Rattle.class_defs.specs.Finding as look;
+ghost use Rattle.program_model.specs.Lookups.{class_place};
 ghost use Rattle.class_defs.specs.Places.{interface_places, chain_of};
 ghost use Rattle.hierarchy.specs.Giving as giving;
 ghost use Rattle.hierarchy.specs.Naming.{IsKey};
-ghost use Rattle.dalvik_lookups.specs.Tables.{above_finds, search_of, place_named, IsRight};
+ghost use Rattle.dalvik_lookups.specs.Tables.{search_of, place_named, IsRight};
 ghost use Rattle.dalvik_lookups.specs.Views.{type_text, IsKind};
 ghost use Rattle.dalvik_lookups.specs.Walks.{search_by, found_at, found_of, IsKept};
 
+use crate::listing::lists_above;
 use crate::lookups::Lookups;
 use crate::memo::Memo;
 use crate::types::Kind;
 use hierarchy::Given;
-use program_model::{Flags, MethodAt, Version};
+use program_model::{MethodAt, Version};
 use std::alloc::{AllocError, Global};
 
 /// What a look-up answers: none, several methods that clash, or one.
@@ -28,7 +31,8 @@ pub enum Search {
 
 /// A method that was looked for along superclasses.
 fn search_of(found: Option<MethodAt>) -> Search
-    ensures { result ≡ search_of found }
+    ensures is { result ≡ search_of found }
+    ensures by { result ≡ search_by (look.search_of found) }
 {
     match found {
         Some(at) => Search::Finds(at),
@@ -145,7 +149,7 @@ impl<'a> Lookups<'a> {
 
     /// The first method of a number's name and proto along the superclasses of a class.
     fn find_above(&self, class: u32, method: u32) -> Search
-        ensures { IsRight self.now → (q : MethodName) → slice_get self.now.program.now.methods method ≡ Some q → result ≡ search_of (above_finds self.now.program.now class q) }
+        ensures { IsRight self.now → (q : MethodName) → slice_get self.now.program.now.methods method ≡ Some q → result ≡ search_by (finds_above self.now.program.now class q) }
     {
         match self.hierarchy.super_of(class) {
             Some(above) => search_of(
@@ -157,12 +161,10 @@ impl<'a> Lookups<'a> {
     }
 
     /// What the candidates of one interface give.
-    fn find_among(
-        &self,
-        memo: &mut Memo,
-        interface: u32,
-        method: u32,
-    ) -> Result<Search, AllocError> {
+    fn find_among(&self, memo: &mut Memo, interface: u32, method: u32) -> Result<Search, AllocError>
+        ensures kept { IsKept self.now memo.old → OnOk result (IsKept self.now memo.new) }
+        ensures is { (q : MethodName) → IsRight self.now → IsKept self.now memo.old → slice_get self.now.program.now.methods method ≡ Some q → IfOk result (λ s. s ≡ search_by (finds_among self.now.program.now (interface ∷ []) q.name q.proto)) }
+    {
         memo.found.clear();
         let key = self.hierarchy.key_of_method(method);
         self.hierarchy.candidates_of(
@@ -172,38 +174,118 @@ impl<'a> Lookups<'a> {
             &mut memo.walk,
             &mut memo.found,
         )?;
-        self.given(memo)
+        let found = self.given(memo)?;
+        Ok(found)
     }
 
-    /// Whether a class lists a type among its interfaces.
-    fn lists(&self, class: u32, kind: Kind) -> bool {
-        match self.program.classes.as_slice().get(class as usize) {
-            Some(defined) => defined
-                .interfaces
-                .as_slice()
-                .iter()
-                .any(|interface| self.kind(*interface) == kind),
-            None => false,
+    /// What a super call of version 037 that names no class of the program finds, where `kind` is the type that it names:
+    /// nothing if an interface list of the class or above it has the type.
+    fn find_super_outside(
+        &self,
+        memo: &mut Memo,
+        class: u32,
+        method: u32,
+        kind: u32,
+    ) -> Result<Search, AllocError>
+        ensures kept { IsKept self.now memo.old → OnOk result (IsKept self.now memo.new) }
+        ensures is { (q : MethodName) → IsRight self.now → IsKept self.now memo.old → slice_get self.now.program.now.methods method ≡ Some q → kind ≡ q.class → IfOk result (λ s. s ≡ search_by (finds_super_037 self.now.program.now class q None)) }
+    {
+        if lists_above(self.program, &self.hierarchy, class, kind, &mut memo.walk)? {
+            Ok(Search::Nothing)
+        } else {
+            Ok(self.find_above(class, method))
         }
     }
 
-    /// Whether a type stands in the interface list of a class or of a program class above it.
-    fn lists_interface(&self, memo: &mut Memo, class: u32, kind: Kind) -> Result<bool, AllocError> {
-        memo.walk.clear();
-        memo.walk.push(class)?;
-        for _ in 0..usize::MAX {
-            let one = match memo.walk.pop() {
-                Some(one) => one,
-                None => break,
-            };
-            if memo.walk.see(one)? {
-                if self.lists(one, kind) {
-                    return Ok(true);
-                }
-                self.push_above(memo, one)?;
+    /// What a super call of version 037 that names a class of the program finds.
+    fn find_super_inside(
+        &self,
+        memo: &mut Memo,
+        class: u32,
+        method: u32,
+        named: u32,
+    ) -> Result<Search, AllocError>
+        ensures kept { IsKept self.now memo.old → OnOk result (IsKept self.now memo.new) }
+        ensures is { (q : MethodName) → IsRight self.now → IsKept self.now memo.old → slice_get self.now.program.now.methods method ≡ Some q → IfOk result (λ s. s ≡ search_by (finds_super_037 self.now.program.now class q (Some named))) }
+    {
+        if self.is_interface(named) {
+            let found = self.find_among(memo, named, method)?;
+            Ok(found)
+        } else {
+            Ok(self.find_above(class, method))
+        }
+    }
+
+    /// What a super call of version 037 finds, where `kind` is the type that it names.
+    fn find_super_037(
+        &self,
+        memo: &mut Memo,
+        class: u32,
+        method: u32,
+        kind: u32,
+    ) -> Result<Search, AllocError>
+        ensures kept { IsKept self.now memo.old → OnOk result (IsKept self.now memo.new) }
+        ensures is { (q : MethodName) → IsRight self.now → IsKept self.now memo.old → slice_get self.now.program.now.methods method ≡ Some q → kind ≡ q.class → IfOk result (λ s. s ≡ search_by (finds_super_037 self.now.program.now class q (class_place self.now.program.now q.class))) }
+    {
+        match self.hierarchy.place_of(kind) {
+            Some(named) => {
+                let found = self.find_super_inside(memo, class, method, named)?;
+                Ok(found)
+            }
+            None => {
+                let found = self.find_super_outside(memo, class, method, kind)?;
+                Ok(found)
             }
         }
-        Ok(false)
+    }
+
+    /// What a super call of a method number finds in a class, where `kind` is the type that it names.
+    fn find_super_of(
+        &self,
+        memo: &mut Memo,
+        class: u32,
+        method: u32,
+        kind: u32,
+    ) -> Result<Search, AllocError>
+        ensures kept { IsKept self.now memo.old → OnOk result (IsKept self.now memo.new) }
+        ensures is { (q : MethodName) → IsRight self.now → IsKept self.now memo.old → slice_get self.now.program.now.methods method ≡ Some q → kind ≡ q.class → IfOk result (λ s. s ≡ search_by (finds_super_of self.now.program.now class (Some q))) }
+    {
+        match self.program.version {
+            Version::V035 => Ok(self.find_above(class, method)),
+            Version::V037 => {
+                let found = self.find_super_037(memo, class, method, kind)?;
+                Ok(found)
+            }
+        }
+    }
+
+    /// What a super call of a method number finds in a class.
+    fn find_super(&self, memo: &mut Memo, class: u32, method: u32) -> Result<Search, AllocError>
+        ensures kept { IsKept self.now memo.old → OnOk result (IsKept self.now memo.new) }
+        ensures is { IsRight self.now → IsKept self.now memo.old → IfOk result (λ s. s ≡ search_by (finds_super self.now.program.now class method)) }
+    {
+        match self.method_name(method) {
+            Some(name) => {
+                let found = self.find_super_of(memo, class, method, name.class)?;
+                Ok(found)
+            }
+            None => Ok(Search::Nothing),
+        }
+    }
+
+    /// What a super call of a method number finds in a class. What the call found last time is kept.
+    pub fn from_super(&self, memo: &mut Memo, class: u32, method: u32) -> Result<Search, AllocError>
+        ensures kept { IsRight self.now → IsKept self.now memo.old → OnOk result (IsKept self.now memo.new) }
+        ensures is { IsRight self.now → IsKept self.now memo.old → IfOk result (λ s. s ≡ search_by (finds_super self.now.program.now class method)) }
+    {
+        match memo.super_at(class, method) {
+            Some(found) => Ok(found),
+            None => {
+                let found = self.find_super(memo, class, method)?;
+                memo.keep_super(class, method, found);
+                Ok(found)
+            }
+        }
     }
 
     /// Lets the program classes directly above a class wait.
@@ -213,46 +295,5 @@ impl<'a> Lookups<'a> {
         }
         memo.walk.push_all(self.hierarchy.interfaces_of(class))?;
         Ok(())
-    }
-
-    /// What a super call of version 037 finds.
-    fn find_super_037(
-        &self,
-        memo: &mut Memo,
-        class: u32,
-        method: u32,
-    ) -> Result<Search, AllocError> {
-        let named = self.class_of_method(method);
-        match self.class_at(named) {
-            Some(place) if self.has_flag(place, Flags::INTERFACE) => {
-                self.find_among(memo, place, method)
-            }
-            Some(_) => Ok(self.find_above(class, method)),
-            None => {
-                if self.lists_interface(memo, class, named)? {
-                    Ok(Search::Nothing)
-                } else {
-                    Ok(self.find_above(class, method))
-                }
-            }
-        }
-    }
-
-    /// What a super call of a method number finds in a class. What the call found last time is kept.
-    pub fn from_super(
-        &self,
-        memo: &mut Memo,
-        class: u32,
-        method: u32,
-    ) -> Result<Search, AllocError> {
-        if let Some(found) = memo.super_at(class, method) {
-            return Ok(found);
-        }
-        let found = match self.program.version {
-            Version::V035 => self.find_above(class, method),
-            Version::V037 => self.find_super_037(memo, class, method)?,
-        };
-        memo.keep_super(class, method, found);
-        Ok(found)
     }
 }

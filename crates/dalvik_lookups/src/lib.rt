@@ -11,6 +11,7 @@ mod declared;
 mod finds;
 mod graph;
 pub mod known;
+mod listing;
 mod lookups;
 mod marks;
 mod memo;

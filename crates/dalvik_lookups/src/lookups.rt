@@ -2,16 +2,21 @@
 
 ghost use Rattle.std.specs.Prelude.{◌≡◌, ◌<◌, ◌^◌, ◌&&◌, ◌||◌, ◌⊎◌, not, ℕ, true, length, map, nat_eq, cond, Some, None, slice_get, slice_set, slice_index_or, IfOk, IfSome, OnOk, vec_len, replicate};
 ghost use Rattle.std.specs.Option.{option_copied};
+ghost use Rattle.program_model.specs.declared.pools.MethodName.{MethodName};
 ghost use Rattle.program_model.specs.Lookups as look;
 ghost use Rattle.program_model.specs.Lookups.{method_or};
 ghost use Rattle.program_model.specs.MemberRules.{is_direct};
 ghost use Rattle.program_model.specs.ProgramRules.{is_well_formed};
 ghost use Rattle.class_defs.specs.Finding.{resolves_field};
+ghost use Rattle.class_defs.specs.Members.{is_interface, is_common};
 ghost use Rattle.class_defs.specs.Starts.{initialiser_place};
-ghost use Rattle.hierarchy.specs.Shapes.{IsResolved};
+ghost use Rattle.hierarchy.specs.Shapes.{IsOf, IsResolved};
+ghost use Rattle.dalvik_lookups.specs.Reached.{IsOuter};
+ghost use Rattle.dalvik_lookups.specs.Starting.{class_default};
 ghost use Rattle.dalvik_defs.specs.Naming.{text_at, type_at, method_at, named};
 ghost use Rattle.dalvik_defs.specs.Under.{class_under, is_under};
-ghost use Rattle.dalvik_defs.specs.Names.{is_reference};
+ghost use Rattle.dalvik_defs.specs.Names.{is_reference, method_eq, object_constructor};
+ghost use Rattle.dalvik_lookups.specs.Spelling.{is_constructor};
 ghost use Rattle.dalvik_lookups.specs.Walks.{IsKept};
 ghost use Rattle.dalvik_lookups.specs.Views.{names_of, name_at, type_text, AreKept, AreTypes, AreTexts, IsKind, IsType, IsText, IsNamed};
 ghost use Rattle.dalvik_lookups.specs.Slots.{slots_from, slots_after, slot_of};
@@ -22,7 +27,7 @@ use crate::graph::{Above, above_all, rows_of};
 use crate::known::OBJECT;
 use crate::memo::Memo;
 use crate::naming::object_constructors;
-use crate::outer::{Outer, outer_of};
+use crate::outer::{Outer, is_on, outer_of};
 use crate::plays::{Play, plays_of};
 use crate::slots::{first_slots, slot_at, slot_count};
 use crate::starts::defaults;
@@ -320,12 +325,15 @@ fn marks_of(
     hierarchy: &Hierarchy,
     names: &Names<'_>,
 ) -> Result<Marked, AllocError>
-    ensures { IfOk result (λ made. made.slots.items ≡ slots_from 0 program.now.classes) }
+    ensures slots { IfOk result (λ made. made.slots.items ≡ slots_from 0 program.now.classes) }
+    ensures outer { IfOk result (λ made. IsOuter program.now outside.now made.outer) }
+    ensures constructors { IfOk result (λ made. made.constructors.items ≡ map (is_constructor program.now) program.now.methods) }
+    ensures defaults { IsOf program.now hierarchy.now → IfOk result (λ made. made.defaults.items ≡ map (class_default program.now) program.now.classes) }
 {
     let kinds = names.kinds.as_slice();
     let defaults = defaults(alloc, program, hierarchy)?;
     let slots = first_slots(alloc, program)?;
-    let constructors = object_constructors(alloc, program, kinds)?;
+    let constructors = object_constructors(alloc, program)?;
     let outer = outer_of(alloc, program, outside, kinds, names.types.len())?;
     Ok(Marked {
         outer,
@@ -349,6 +357,9 @@ fn tables_of<'a>(
     ensures above { result.above ≡ above }
     ensures framework { result.framework.now ≡ framework.now }
     ensures slots { result.slots ≡ marked.slots }
+    ensures constructors { result.constructors ≡ marked.constructors }
+    ensures outer { result.outer ≡ marked.outer }
+    ensures defaults { result.defaults ≡ marked.defaults }
     ensures count { result.slot_count ≡ slots_after 0 program.now.classes }
 {
     Lookups {
@@ -381,6 +392,7 @@ fn both_of<'a>(
 ) -> Result<(Lookups<'a>, Vec<Play>), AllocError>
     ensures program { IfOk result (λ both. both.0.program.now ≡ program.now) }
     ensures framework { IfOk result (λ both. both.0.framework.now ≡ framework.now) }
+    ensures outer { IfOk result (λ both. IsOuter program.now outside.now both.0.outer) }
     ensures tables { is_well_formed program.now ≡ true → IsResolved program.now hierarchy → IfOk result (λ both. IsRight both.0) }
 {
     let made = names_above(alloc, program, framework, script)?;
@@ -414,6 +426,7 @@ impl<'a> Lookups<'a> {
     ) -> Result<Option<(Lookups<'a>, Vec<Play>)>, AllocError>
         ensures program { IfOk result (λ made. IfSome made (λ both. both.0.program.now ≡ program.now)) }
         ensures framework { IfOk result (λ made. IfSome made (λ both. both.0.framework.now ≡ framework.now)) }
+        ensures outer { IfOk result (λ made. IfSome made (λ both. IsOuter program.now outside.now both.0.outer)) }
         ensures tables { is_well_formed program.now ≡ true → IfOk result (λ made. IfSome made (λ both. IsRight both.0)) }
     {
         let hierarchy = match build(alloc, program)? {
@@ -471,7 +484,7 @@ impl<'a> Lookups<'a> {
     }
 
     /// What a method number names.
-    fn method_name(&self, method: u32) -> Option<&'a MethodName>
+    pub(crate) fn method_name(&self, method: u32) -> Option<&'a MethodName>
         ensures { option_copied result ≡ slice_get self.now.program.now.methods method }
     {
         self.program.methods.as_slice().get(method as usize)
@@ -514,6 +527,13 @@ impl<'a> Lookups<'a> {
         }
     }
 
+    /// Whether a class is an interface.
+    pub(crate) fn is_interface(&self, class: u32) -> bool
+        ensures { result ≡ is_interface (slice_get self.now.program.now.classes class) }
+    {
+        self.has_flag(class, Flags::INTERFACE)
+    }
+
     /// Whether calls find the method by the class of their receiver.
     pub fn is_virtual(&self, method: &Method) -> bool
         ensures { IsRight self.now → result ≡ not (is_direct self.now.program.now method.now) }
@@ -522,15 +542,16 @@ impl<'a> Lookups<'a> {
     }
 
     /// Whether a method number is that of the constructor of `Ljava/lang/Object;`.
-    pub fn is_object_constructor(&self, method: u32) -> bool {
-        match self.constructors.as_slice().get(method as usize) {
-            Some(mark) => *mark,
-            None => false,
-        }
+    pub fn is_object_constructor(&self, method: u32) -> bool
+        ensures { IsRight self.now → result ≡ method_eq (method_at self.now.program.now method) object_constructor }
+    {
+        is_on(self.constructors.as_slice(), method as usize)
     }
 
     /// Whether every object answers to the method.
-    pub fn is_common(&self, method: u32) -> bool {
+    pub fn is_common(&self, method: u32) -> bool
+        ensures { (q : MethodName) → IsRight self.now → slice_get self.now.program.now.methods method ≡ Some q → result ≡ is_common self.now.program.now q.name q.proto }
+    {
         self.hierarchy
             .is_key_of_object(self.hierarchy.key_of_method(method))
     }

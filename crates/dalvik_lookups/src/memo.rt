@@ -116,6 +116,7 @@ impl Memo {
         ensures fair { IfOk result (λ m. IsFair m.walk) }
         ensures long { IfOk result (λ m. length m.walk.seen.items ≡ vec_len hierarchy.now.shape.supers) }
         ensures virtuals { IfOk result (λ m. m.virtual_calls.items ≡ replicate methods (record { class = None; found = Nothing })) }
+        ensures supers { IfOk result (λ m. m.super_calls.items ≡ replicate methods (record { class = None; found = Nothing })) }
     {
         let none = Recent {
             class: None,
@@ -141,18 +142,25 @@ impl Memo {
     /// Keeps what a virtual or interface call found.
     pub(crate) fn keep_virtual(&mut self, class: u32, method: u32, found: Search)
         ensures calls { self.new.virtual_calls.items ≡ slice_set self.old.virtual_calls.items method (record { class = Some class; found = found }) }
+        ensures supers { self.new.super_calls ≡ self.old.super_calls }
         ensures rest { Rests self.old self.new }
     {
         keep(self.virtual_calls.as_mut_slice(), class, method, found);
     }
 
     /// What a super call of the method found last, if it was in this class.
-    pub(crate) fn super_at(&self, class: u32, method: u32) -> Option<Search> {
+    pub(crate) fn super_at(&self, class: u32, method: u32) -> Option<Search>
+        ensures { IfSome result (λ found. slice_get self.now.super_calls.items method ≡ Some (record { class = Some class; found = found })) }
+    {
         recent_at(self.super_calls.as_slice(), class, method)
     }
 
     /// Keeps what a super call found.
-    pub(crate) fn keep_super(&mut self, class: u32, method: u32, found: Search) {
+    pub(crate) fn keep_super(&mut self, class: u32, method: u32, found: Search)
+        ensures calls { self.new.super_calls.items ≡ slice_set self.old.super_calls.items method (record { class = Some class; found = found }) }
+        ensures virtuals { self.new.virtual_calls ≡ self.old.virtual_calls }
+        ensures rest { Rests self.old self.new }
+    {
         keep(self.super_calls.as_mut_slice(), class, method, found);
     }
 

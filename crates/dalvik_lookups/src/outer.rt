@@ -1,5 +1,10 @@
 //! What the framework may reach.
 
+ghost use Rattle.std.specs.Prelude.{◌≡◌, true, false, length, slice_index_or, slice_set, IfOk};
+ghost use Rattle.program_model.specs.declared.pass.Outside.{Outside};
+ghost use Rattle.program_model.specs.declared.program.Program.{Program};
+ghost use Rattle.dalvik_lookups.specs.Reached.{is_among, AreMarks, MarksMore, IsOuter};
+
 use crate::lookups::Lookups;
 use crate::memo::Memo;
 use crate::types::{Kind, Types};
@@ -16,14 +21,30 @@ pub struct Outer {
     shut: Vec<bool>,
 }
 
-/// Marks for these of so many numbers.
-fn marks(alloc: Global, count: usize, numbers: &[u32]) -> Result<Vec<bool>, AllocError> {
-    let mut marks = vec![in alloc; false; count]?;
-    for number in numbers {
-        if let Some(mark) = marks.get_mut(*number as usize) {
-            *mark = true;
-        }
+/// Marks a place, unless that is past the end.
+fn mark(marks: &mut [bool], place: usize)
+    ensures { marks.new ≡ slice_set marks.old place true }
+{
+    if place < marks.len() {
+        marks[place] = true;
     }
+}
+
+/// Marks these places, of those that there are.
+fn mark_all(marks: &mut [bool], numbers: &[u32])
+    ensures { MarksMore marks.old numbers.now marks.new }
+{
+    for number in numbers {
+        mark(marks, *number as usize);
+    }
+}
+
+/// Marks for these of so many numbers.
+fn marks(alloc: Global, count: usize, numbers: &[u32]) -> Result<Vec<bool>, AllocError>
+    ensures { IfOk result (λ marks. AreMarks count numbers.now marks.items) }
+{
+    let mut marks = vec![in alloc; false; count]?;
+    mark_all(marks.as_mut_slice(), numbers);
     Ok(marks)
 }
 
@@ -52,18 +73,25 @@ pub(crate) fn outer_of(
     outside: &Outside,
     kinds: &[Kind],
     types: usize,
-) -> Result<Outer, AllocError> {
-    let methods = program.methods.len();
+) -> Result<Outer, AllocError>
+    ensures { IfOk result (IsOuter program.now outside.now) }
+{
+    let classes = type_marks(alloc, types, kinds, outside.classes.as_slice())?;
+    let methods = marks(alloc, program.methods.len(), outside.methods.as_slice())?;
+    let fields = marks(alloc, program.fields.len(), outside.fields.as_slice())?;
+    let shut = marks(alloc, program.methods.len(), outside.shut.as_slice())?;
     Ok(Outer {
-        classes: type_marks(alloc, types, kinds, outside.classes.as_slice())?,
-        methods: marks(alloc, methods, outside.methods.as_slice())?,
-        fields: marks(alloc, program.fields.len(), outside.fields.as_slice())?,
-        shut: marks(alloc, methods, outside.shut.as_slice())?,
+        classes,
+        methods,
+        fields,
+        shut,
     })
 }
 
 /// Whether a place is marked.
-fn is_marked(marks: &[bool], place: usize) -> bool {
+pub(crate) fn is_on(marks: &[bool], place: usize) -> bool
+    ensures { result ≡ slice_index_or marks.now place false }
+{
     match marks.get(place) {
         Some(mark) => *mark,
         None => false,
@@ -73,22 +101,28 @@ fn is_marked(marks: &[bool], place: usize) -> bool {
 impl Outer {
     /// Whether a class is kept.
     pub fn keeps_class(&self, kind: Kind) -> bool {
-        !kind.is_array() && is_marked(self.classes.as_slice(), kind.base)
+        !kind.is_array() && is_on(self.classes.as_slice(), kind.base)
     }
 
     /// Whether a method is kept.
-    pub fn keeps_method(&self, method: u32) -> bool {
-        is_marked(self.methods.as_slice(), method as usize)
+    pub fn keeps_method(&self, method: u32) -> bool
+        ensures { (p : Program) (o : Outside) → IsOuter p o self.now → result ≡ is_among (length p.methods) o.methods method }
+    {
+        is_on(self.methods.as_slice(), method as usize)
     }
 
     /// Whether a field is kept.
-    pub fn keeps_field(&self, field: u32) -> bool {
-        is_marked(self.fields.as_slice(), field as usize)
+    pub fn keeps_field(&self, field: u32) -> bool
+        ensures { (p : Program) (o : Outside) → IsOuter p o self.now → result ≡ is_among (length p.fields) o.fields field }
+    {
+        is_on(self.fields.as_slice(), field as usize)
     }
 
     /// Whether no type of the framework declares the method.
-    pub fn is_shut(&self, method: u32) -> bool {
-        is_marked(self.shut.as_slice(), method as usize)
+    pub fn is_shut(&self, method: u32) -> bool
+        ensures { (p : Program) (o : Outside) → IsOuter p o self.now → result ≡ is_among (length p.methods) o.shut method }
+    {
+        is_on(self.shut.as_slice(), method as usize)
     }
 }
 

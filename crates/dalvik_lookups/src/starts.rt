@@ -1,15 +1,35 @@
 //! What is initialised when.
 
+ghost use Rattle.std.specs.Prelude.{◌≡◌, map, slice_get, IfOk};
+ghost use Rattle.program_model.specs.declared.program.Program.{Program};
+ghost use Rattle.hierarchy.specs.Shapes.{IsOf};
+ghost use Rattle.dalvik_lookups.specs.Starting.{is_default, class_default, has_default};
+ghost use Rattle.dalvik_lookups.specs.Tables.{IsRight};
+
 use crate::lookups::Lookups;
 use crate::memo::Memo;
+use crate::outer::is_on;
 use hierarchy::Hierarchy;
-use program_model::{Class, Flags, Program, Version};
+use program_model::{Class, Flags, Method, Program, Version};
 use std::alloc::{AllocError, Global};
 
+/// Whether a method is virtual and has code.
+fn is_default(hierarchy: &Hierarchy, method: &Method) -> bool
+    ensures { (p : Program) → IsOf p hierarchy.now → result ≡ is_default p method.now }
+{
+    hierarchy.is_virtual(method) && method.body.is_some()
+}
+
 /// Whether a class has a virtual method with code.
-fn has_default(hierarchy: &Hierarchy, class: &Class) -> bool {
-    class.methods.as_slice().iter().any(|method| hierarchy.is_virtual(method)
-        && method.body.is_some())
+fn has_default(hierarchy: &Hierarchy, class: &Class) -> bool
+    ensures { (p : Program) → IsOf p hierarchy.now → result ≡ class_default p class.now }
+{
+    for method in class.methods.as_slice() {
+        if is_default(hierarchy, method) {
+            return true;
+        }
+    }
+    false
 }
 
 /// For each class whether it has a virtual method with code.
@@ -17,7 +37,9 @@ pub(crate) fn defaults(
     alloc: Global,
     program: &Program,
     hierarchy: &Hierarchy,
-) -> Result<Vec<bool>, AllocError> {
+) -> Result<Vec<bool>, AllocError>
+    ensures { IsOf program.now hierarchy.now → IfOk result (λ marks. marks.items ≡ map (class_default program.now) program.now.classes) }
+{
     let mut marks = Vec::new(alloc);
     for class in program.classes.as_slice() {
         marks.push(has_default(hierarchy, class))?;
@@ -44,11 +66,10 @@ impl<'a> Lookups<'a> {
     }
 
     /// Whether a class has a virtual method with code.
-    fn has_default(&self, class: u32) -> bool {
-        match self.defaults.as_slice().get(class as usize) {
-            Some(mark) => *mark,
-            None => false,
-        }
+    fn has_default(&self, class: u32) -> bool
+        ensures { IsRight self.now → result ≡ has_default self.now.program.now (slice_get self.now.program.now.classes class) }
+    {
+        is_on(self.defaults.as_slice(), class as usize)
     }
 
     /// Goes one step of a walk over interfaces.

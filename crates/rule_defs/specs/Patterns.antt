@@ -1,53 +1,16 @@
 -- What names and types with wildcards match (ProGuard manual, "Class specifications"). In the name of a class `?` is one
 -- character other than a dot, `*` any characters without a dot and `**` any characters; `*` alone matches every class.
 -- In the name of a member `?` and `*` match any characters.
-use Rattle.std.specs.Prelude.{ℕ, zero, suc, ◌+◌, ◌-◌, ◌*◌, ◌/◌, ◌%◌, Bool, true, false, ◌&&◌, ◌||◌, if◌then◌else◌, nat_eq, nat_lt, List, [], ◌∷◌, ◌++◌, map, length, codes}
+use Rattle.std.specs.Prelude.{ℕ, zero, suc, Bool, true, false, ◌&&◌, ◌||◌, if◌then◌else◌, List, [], ◌∷◌, map, length, codes}
 use Rattle.std.specs.List.{list_any}
-use Rattle.rule_text.specs.declared.pattern.Piece.{Piece}
-use Rattle.rule_text.specs.declared.pattern.Piece.TheVariants as piece
 use Rattle.rule_text.specs.declared.pattern.Named.{Named}
 use Rattle.rule_text.specs.declared.pattern.Named.TheVariants as named
 use Rattle.rule_text.specs.Glob.{matches_of}
+use Rattle.rule_text.specs.Pieces.{characters, pieces_of, primitives, is_primitive_word, ends_in_brackets}
 use Rattle.dalvik_defs.specs.Names.{Text, text_eq, is_array, is_class_type, item_of}
 use Rattle.rule_text.specs.Tokens.{Word}
 use Rattle.rule_text.specs.Rules.{Arguments, Any, These}
 use Rattle.rule_text.specs.Spelling.{word_eq}
-
--- ---- characters
-
-abbrev pub low_bits : ℕ → ℕ
-low_bits c = c % 64
-
--- the characters of a word in UTF-8
-abbrev pub characters : Word → List ℕ
-characters [] = []
-characters (a ∷ []) = a ∷ []
-characters (a ∷ b ∷ []) = if nat_lt a 128 then a ∷ characters (b ∷ []) else (a % 32 * 64 + low_bits b) ∷ []
-characters (a ∷ b ∷ c ∷ []) =
-    if nat_lt a 128 then a ∷ characters (b ∷ c ∷ [])
-    else if nat_lt a 224 then (a % 32 * 64 + low_bits b) ∷ characters (c ∷ [])
-    else (a % 16 * 4096 + low_bits b * 64 + low_bits c) ∷ []
-characters (a ∷ b ∷ c ∷ d ∷ cs) =
-    if nat_lt a 128 then a ∷ characters (b ∷ c ∷ d ∷ cs)
-    else if nat_lt a 224 then (a % 32 * 64 + low_bits b) ∷ characters (c ∷ d ∷ cs)
-    else if nat_lt a 240 then (a % 16 * 4096 + low_bits b * 64 + low_bits c) ∷ characters (d ∷ cs)
-    else (a % 8 * 262144 + low_bits b * 4096 + low_bits c * 64 + low_bits d) ∷ characters cs
-
--- a character in UTF-16
-abbrev pub units_of : ℕ → List ℕ
-units_of c = if nat_lt c 65536 then c ∷ [] else (55296 + (c - 65536) / 1024) ∷ (56320 + (c - 65536) % 1024) ∷ []
-
-abbrev pub exactly : ℕ → List Piece
-exactly c = map (λ u. piece.Exactly u) (units_of c)
-
--- the pieces of a name
-abbrev pub pieces_of : List ℕ → List Piece
-pieces_of [] = []
-pieces_of (c ∷ []) = if nat_eq c 63 then piece.One ∷ [] else if nat_eq c 42 then piece.Star ∷ [] else exactly c
-pieces_of (c ∷ d ∷ cs) =
-    if nat_eq c 63 then piece.One ∷ pieces_of (d ∷ cs)
-    else if nat_eq c 42 then (if nat_eq d 42 then piece.Stars ∷ pieces_of cs else piece.Star ∷ pieces_of (d ∷ cs))
-    else exactly c ++ pieces_of (d ∷ cs)
 
 abbrev pub matches : Named → Word → Text → Bool
 matches kind word text = matches_of kind (pieces_of (characters word)) text
@@ -75,26 +38,13 @@ member_name_fits w t = matches named.Member w t
 
 -- ---- types
 
--- the descriptor of a primitive type or of void by its name
-abbrev pub primitives : List (Word × Text)
-primitives = (codes "boolean", codes "Z") ∷ (codes "byte", codes "B") ∷ (codes "char", codes "C") ∷ (codes "short", codes "S") ∷ (codes "int", codes "I") ∷ (codes "long", codes "J") ∷ (codes "float", codes "F") ∷ (codes "double", codes "D") ∷ (codes "void", codes "V") ∷ []
-
-abbrev pub is_primitive_word : Word → Bool
-is_primitive_word w = list_any (λ q. word_eq q.0 w) primitives
-
 abbrev pub is_primitive_of : Word → Text → Bool
 is_primitive_of w t = list_any (λ q. word_eq q.0 w && text_eq q.1 t) primitives
 
 abbrev pub is_primitive : Text → Bool
 is_primitive t = list_any (text_eq t) (map (λ u. u ∷ []) (codes "ZBCSIJFD"))
 
--- The word of a type's item and how often `[]` stands behind it.
-abbrev pub ends_in_brackets : Word → Bool
-ends_in_brackets [] = false
-ends_in_brackets (c ∷ []) = false
-ends_in_brackets (c ∷ d ∷ []) = nat_eq c 91 && nat_eq d 93
-ends_in_brackets (c ∷ d ∷ e ∷ cs) = ends_in_brackets (d ∷ e ∷ cs)
-
+-- The word of a type's item
 abbrev pub without_brackets : Word → Word
 without_brackets [] = []
 without_brackets (c ∷ []) = c ∷ []

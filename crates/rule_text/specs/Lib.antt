@@ -3,6 +3,9 @@ pub mod Fault
 pub mod Faults
 pub mod Fronts
 pub mod Glob
+pub mod Pieces
+pub mod Reads
+pub mod Related
 pub mod Rules
 pub mod Spelling
 pub mod Steps

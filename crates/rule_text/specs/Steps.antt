@@ -1,7 +1,9 @@
 -- The words from a place of the tokens on.
-use Rattle.std.specs.Prelude.{◌≡◌, ℕ, true, List, [], ◌∷◌, map, drop}
+use Rattle.std.specs.Prelude.{◌≡◌, ℕ, false, List, [], ◌∷◌, map, drop}
 use Rattle.rule_text.specs.Tokens.{Word}
 use Rattle.rule_text.specs.Spelling.{is_name}
+use Rattle.rule_text.specs.declared.stop.Stop.{Stop}
+use Rattle.rule_text.specs.declared.stop.Stop.TheVariants as stop
 use Rattle.rule_text.specs.declared.token.Token.{Token as Lexed}
 
 abbrev pub words_at : List Lexed → ℕ → List Word
@@ -20,7 +22,14 @@ BeginOtherwise w ws = (rest : List Word) → ws ≡ w ∷ rest → ⊥
 abbrev pub BeginWithNone : {K : Type 0} → (K → Word) → List Word → Type 0
 BeginWithNone {K} spell ws = (name : K) → BeginOtherwise (spell name) ws
 
--- one word, which is a name, was gone over
-pub record IsNameStep (tokens : List Lexed) (at next : ℕ) : Type 0 where
-  pub name : is_name (first_word (words_at tokens at)) ≡ true
-  pub words : words_at tokens at ≡ first_word (words_at tokens at) ∷ words_at tokens next
+-- What is known where reading stops at a word; of want of memory nothing is.
+abbrev pub AtSyntax : Type 0 → Stop → Type 0
+AtSyntax P stop.NoMemory = Unit {0}
+AtSyntax P stop.Syntax = P
+AtSyntax P stop.Option = ⊥
+AtSyntax P stop.TooMany = ⊥
+
+-- No name stands at the place.
+pub record IsNoName (tokens : List Lexed) (at next : ℕ) : Type 0 where
+  pub stays : next ≡ at
+  pub other : is_name (first_word (words_at tokens at)) ≡ false

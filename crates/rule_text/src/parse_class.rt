@@ -1,7 +1,9 @@
 //! Reading of which classes a rule names.
 
 ghost use Rattle.std.specs.Prelude.{◌≡◌, ◌+◌, ◌<◌, ◌≤◌, ◌∷◌, ◌++◌, true, length, IsTrue, IsErr, IfOk, IfSome, IfNone, OnOk};
-ghost use Rattle.rule_text.specs.Spelling.{access_word, kind_word, bang};
+ghost use Rattle.rule_text.specs.Reads.{Reads, ReadsEach};
+ghost use Rattle.rule_text.specs.Related.{AreEach, IsPatternOf, IsConditionOf};
+ghost use Rattle.rule_text.specs.Spelling.{are_names, separated, is_class_condition, condition_words, access_word, kind_word, bang};
 ghost use Rattle.rule_text.specs.Words.{is_of_class};
 ghost use Rattle.rule_text.specs.Steps.{words_at, BeginWithNone};
 
@@ -24,6 +26,7 @@ pub fn read_names(
     ensures moves { at.old ≤ at.new }
     ensures inside { at.new ≤ length tokens.now }
     ensures on { OnOk result (at.old < at.new) }
+    ensures step { IfOk result (λ names. Reads (AreEach IsPatternOf) are_names separated tokens.now at.old at.new names.items) }
 {
     let mut names = Vec::new(alloc);
     names.push(read_name(alloc, tokens, at)?)?;
@@ -61,6 +64,8 @@ fn read_condition(
     requires { at.old ≤ length tokens.now }
     ensures moves { at.old ≤ at.new }
     ensures inside { at.new ≤ length tokens.now }
+    ensures step { IfOk result (λ read. IfSome read (Reads IsConditionOf is_class_condition condition_words tokens.now at.old at.new)) }
+    ensures stays { IfOk result (λ read. IfNone read (at.new ≡ at.old)) }
 {
     if class_kind(word_at(tokens, *at)).is_some() {
         return Ok(None);
@@ -83,6 +88,7 @@ fn read_conditions(
     requires { at.old ≤ length tokens.now }
     ensures moves { at.old ≤ at.new }
     ensures inside { at.new ≤ length tokens.now }
+    ensures step { IfOk result (λ conditions. ReadsEach IsConditionOf is_class_condition condition_words tokens.now at.old at.new conditions.items) }
 {
     let mut conditions = Vec::new(alloc);
     for _ in 0..tokens.len() {

@@ -1,8 +1,11 @@
 //! Reading of names, types and member lines.
 
-ghost use Rattle.std.specs.Prelude.{◌≡◌, ◌+◌, ◌<◌, ◌≤◌, ◌∷◌, ◌++◌, length, IsTrue, IfOk, IfSome, IfNone, OnOk};
-ghost use Rattle.rule_text.specs.Spelling.{access_word, bang};
-ghost use Rattle.rule_text.specs.Steps.{IsNameStep, words_at};
+ghost use Rattle.std.specs.Prelude.{◌≡◌, ◌+◌, ◌<◌, ◌≤◌, ◌∷◌, ◌++◌, [], false, length, IsTrue, IfOk, IfErr, IfSome, IfNone, OnOk};
+ghost use Rattle.rule_text.specs.Pieces.{ends_in_brackets};
+ghost use Rattle.rule_text.specs.Reads.{Reads, alone};
+ghost use Rattle.rule_text.specs.Related.{IsPatternOf, IsItemOf, IsTypeOf};
+ghost use Rattle.rule_text.specs.Spelling.{is_name, access_word, bang, marked};
+ghost use Rattle.rule_text.specs.Steps.{AtSyntax, IsNoName, words_at};
 
 use crate::cursor::{accept, advance, expect_word, word_at};
 use crate::pattern::NamePattern;
@@ -19,7 +22,8 @@ pub fn read_name(alloc: Global, tokens: &[Token<'_>], at: &mut usize) -> Result<
     ensures moves { at.old ≤ at.new }
     ensures inside { at.new ≤ length tokens.now }
     ensures on { OnOk result (at.old < at.new) }
-    ensures step { OnOk result (IsNameStep tokens.now at.old at.new) }
+    ensures step { IfOk result (Reads IsPatternOf is_name alone tokens.now at.old at.new) }
+    ensures stop { IfErr result (AtSyntax (IsNoName tokens.now at.old at.new)) }
 {
     let Some(token) = tokens.get(*at) else {
         return Err(Stop::Syntax);
@@ -41,6 +45,8 @@ pub fn read_mark(
     requires { at.old ≤ length tokens.now }
     ensures moves { at.old ≤ at.new }
     ensures inside { at.new ≤ length tokens.now }
+    ensures step { IfOk result (λ read. IfSome read (Reads IsPatternOf is_name (λ name. marked name ∷ []) tokens.now at.old at.new)) }
+    ensures stays { IfOk result (λ read. IfNone read (at.new ≡ at.old)) }
 {
     match tokens.get(*at) {
         Some(token) => match token.word {
@@ -58,24 +64,41 @@ pub fn read_mark(
     }
 }
 
-/// The item of a type without the `[]` behind it.
-fn item_of(alloc: Global, word: &[u8]) -> Result<ItemPattern, AllocError> {
+/// What stands before `[]` at the end of a word.
+fn before_brackets(word: &[u8]) -> Option<&[u8]>
+    ensures some { IfSome result (λ front. word.now ≡ front.now ++ 91 ∷ 93 ∷ []) }
+    ensures none { IfNone result (ends_in_brackets word.now ≡ false) }
+{
     match word {
-        b"***" => Ok(ItemPattern::Any),
-        b"%" => Ok(ItemPattern::Primitive),
-        _ => match letter_of(word) {
-            Some(letter) => Ok(ItemPattern::Letter(letter)),
-            None => Ok(ItemPattern::Class(pattern_of(alloc, word)?)),
-        },
+        [front @ .., b'[', b']'] => Some(front),
+        _ => None,
     }
 }
 
+/// The item of a type without the `[]` behind it.
+fn item_of(alloc: Global, word: &[u8]) -> Result<ItemPattern, AllocError>
+    ensures { IfOk result (λ item. IsItemOf item word.now) }
+{
+    if word == b"***".as_slice() {
+        return Ok(ItemPattern::Any);
+    }
+    if word == b"%".as_slice() {
+        return Ok(ItemPattern::Primitive);
+    }
+    if let Some(letter) = letter_of(word) {
+        return Ok(ItemPattern::Letter(letter));
+    }
+    Ok(ItemPattern::Class(pattern_of(alloc, word)?))
+}
+
 /// The type that a token writes.
-fn type_of(alloc: Global, word: &[u8]) -> Result<TypePattern, AllocError> {
+fn type_of(alloc: Global, word: &[u8]) -> Result<TypePattern, AllocError>
+    ensures { IfOk result (λ kind. IsTypeOf kind word.now) }
+{
     let mut depth: usize = 0;
     let mut rest = word;
-    while let [front @ .., b'[', b']'] = rest {
-        depth = depth.saturating_add(1);
+    while let Some(front) = before_brackets(rest) {
+        depth += 1;
         rest = front;
     }
     Ok(TypePattern {
@@ -90,7 +113,8 @@ fn read_type(alloc: Global, tokens: &[Token<'_>], at: &mut usize) -> Result<Type
     ensures moves { at.old ≤ at.new }
     ensures inside { at.new ≤ length tokens.now }
     ensures on { OnOk result (at.old < at.new) }
-    ensures step { OnOk result (IsNameStep tokens.now at.old at.new) }
+    ensures step { IfOk result (Reads IsTypeOf is_name alone tokens.now at.old at.new) }
+    ensures stop { IfErr result (AtSyntax (IsNoName tokens.now at.old at.new)) }
 {
     let Some(token) = tokens.get(*at) else {
         return Err(Stop::Syntax);

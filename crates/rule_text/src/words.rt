@@ -1,7 +1,8 @@
 //! The words of the language (ProGuard manual, "Keep options", "Class specifications").
 
-ghost use Rattle.std.specs.Prelude.{◌≡◌, not};
+ghost use Rattle.std.specs.Prelude.{◌≡◌, not, true, false, IfSome, IfNone};
 ghost use Rattle.rule_text.specs.Spelling.{is_name, is_long, keep_word, modifier_word, setting_word, access_word, kind_word};
+ghost use Rattle.rule_text.specs.Pieces.{is_letter_of, is_primitive_word};
 ghost use Rattle.rule_text.specs.Words.{IsNameOf, IsNameAmong, is_of_class, is_rare};
 
 use crate::rules::{Access, ClassKind, KeepKind, Modifier, SettingName};
@@ -183,7 +184,10 @@ pub fn class_kind(word: &[u8]) -> Option<ClassKind>
 }
 
 /// The letter in a descriptor of a primitive type or `void` of this name.
-pub fn letter_of(word: &[u8]) -> Option<u16> {
+pub fn letter_of(word: &[u8]) -> Option<u16>
+    ensures some { IfSome result (λ letter. is_letter_of letter word.now ≡ true) }
+    ensures none { IfNone result (is_primitive_word word.now ≡ false) }
+{
     if word == b"boolean".as_slice() {
         Some(90)
     } else if word == b"byte".as_slice() {

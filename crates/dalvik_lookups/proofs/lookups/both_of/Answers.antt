@@ -1,6 +1,9 @@
-use Rattle.std.proofs.Common.{◌≡◌, true, sym, ap, ◌∙◌, subst}
+use Rattle.std.proofs.Common.{◌≡◌, map, true, sym, ap, ◌∙◌, subst}
 use Rattle.program_model.specs.ProgramRules.{is_well_formed}
 use Rattle.hierarchy.specs.Shapes.{IsResolved}
+use Rattle.dalvik_lookups.specs.Spelling.{is_constructor}
+use Rattle.dalvik_lookups.specs.Starting.{class_default}
+use Rattle.dalvik_lookups.specs.Reached.{IsOuter}
 use Rattle.dalvik_lookups.specs.Slots.{slots_from, slots_after}
 use Rattle.dalvik_lookups.proofs.Making.{tabled, grows_same}
 use Rattle.dalvik_lookups.proofs.Unders.{above_over}
@@ -12,6 +15,9 @@ returns-clause-program c = c.tables_of-tables.ensures.over.program
 pub returns-clause-framework : goal.returns-clause-framework
 returns-clause-framework c = c.tables_of-tables.ensures.framework
 
+pub returns-clause-outer : goal.returns-clause-outer
+returns-clause-outer c = subst (IsOuter c.args.program.now c.args.outside.now) (sym c.tables_of-tables.ensures.outer) c.in_ok-marked.ensures.outer
+
 pub returns-clause-tables : goal.returns-clause-tables
 returns-clause-tables c = λ w r.
     let names = c.in_ok-made.ensures.names w in
@@ -22,6 +28,8 @@ returns-clause-tables c = λ w r.
       well = subst (λ q. is_well_formed q ≡ true) (sym over.program) w;
       resolved = subst (λ q. IsResolved q c.tables_of-tables.result.hierarchy) (sym over.program) (subst (IsResolved c.args.program.now) (sym c.tables_of-tables.ensures.classes) r);
       above = above_over c.args.program.now c.args.framework.now _ c.in_ok-made.made.above c.tables_of-tables.result (c.in_ok-made.ensures.above w) over.program c.tables_of-tables.ensures.framework over.types c.tables_of-tables.ensures.above;
-      slots = ap (λ v. v.items) c.tables_of-tables.ensures.slots ∙ c.in_ok-marked.ensures ∙ ap (λ q. slots_from 0 q.classes) (sym over.program);
+      slots = ap (λ v. v.items) c.tables_of-tables.ensures.slots ∙ c.in_ok-marked.ensures.slots ∙ ap (λ q. slots_from 0 q.classes) (sym over.program);
       count = c.tables_of-tables.ensures.count ∙ ap (λ q. slots_after 0 q.classes) (sym over.program);
+      defaults = ap (λ v. v.items) c.tables_of-tables.ensures.defaults ∙ c.in_ok-marked.ensures.defaults r.of ∙ ap (λ q. map (class_default q) q.classes) (sym over.program);
+      constructors = ap (λ v. v.items) c.tables_of-tables.ensures.constructors ∙ c.in_ok-marked.ensures.constructors ∙ ap (λ q. map (is_constructor q) q.methods) (sym over.program);
     }

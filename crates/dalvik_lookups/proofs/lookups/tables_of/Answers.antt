@@ -8,5 +8,8 @@ returns c = record {
   above = refl;
   framework = refl;
   slots = refl;
+  constructors = refl;
+  outer = refl;
+  defaults = refl;
   count = c.slot_count.ensures;
 }

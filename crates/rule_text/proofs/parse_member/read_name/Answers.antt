@@ -1,6 +1,10 @@
 use Rattle.std.proofs.Common.{rules, tests}
-use Rattle.rule_text.proofs.StepLemmas.{name_step}
+use Rattle.rule_text.specs.Related.{IsPatternOf}
+use Rattle.rule_text.proofs.StepLemmas.{name_step, no_name}
 use Rattle.rule_text.proofs.parse_member.read_name.Goals as goal
 
+pub returns-then-not-is_name-clause-stop : goal.returns-then-not-is_name-clause-stop
+returns-then-not-is_name-clause-stop c = no_name c.args.tokens.now c.args.at.now c.in-Some.token.now (search rules) (search rules) (search (rules, tests))
+
 pub returns-clause-step : goal.returns-clause-step
-returns-clause-step c = name_step c.args.tokens.now c.args.at.now c.in-Some.token.now (search rules) (search rules) (search (rules, tests))
+returns-clause-step c = name_step IsPatternOf c.args.tokens.now c.args.at.now c.in-Some.token.now c.in_ok-name.name (search rules) (search rules) (search (rules, tests)) (search rules)

@@ -18,6 +18,6 @@ answered c r k l u =
 
 pub returns : goal.returns
 returns c = record {
-  kept = λ r k l u. kept_more c.args.self.now c.args.memo.now _ c.keep_under.new.self c.args.lower c.args.upper c.in_ok-answer.answer k c.in_ok-answer.ensures.size (c.in_ok-answer.ensures.clean k.clean) refl refl refl c.keep_under.ensures (answered c r k l u);
+  kept = λ r k l u. kept_more c.args.self.now c.args.memo.now _ c.keep_under.new.self c.args.lower c.args.upper c.in_ok-answer.answer k c.in_ok-answer.ensures.size (c.in_ok-answer.ensures.clean k.clean) refl refl refl refl c.keep_under.ensures (answered c r k l u);
   answer = answered c;
 }

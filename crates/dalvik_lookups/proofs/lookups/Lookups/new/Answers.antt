@@ -12,5 +12,8 @@ returns-clause-program c = c.in_ok-both.ensures.program
 pub returns-clause-framework : goal.returns-clause-framework
 returns-clause-framework c = c.in_ok-both.ensures.framework
 
+pub returns-clause-outer : goal.returns-clause-outer
+returns-clause-outer c = c.in_ok-both.ensures.outer
+
 pub returns-clause-tables : goal.returns-clause-tables
 returns-clause-tables c = λ w. c.in_ok-both.ensures.tables w (there c.in_ok-hierarchy.field-0 (IsResolved c.args.program.now) c.in-Some.hierarchy c.in-Some.is (c.in_ok-hierarchy.ensures w))

@@ -104,7 +104,7 @@ module _ (p : Program) (o : Outside) (s : LiveSet) (g : IsMarked p o s) where
         ap (λ z. inherits (named p) z (text_at p q.0.name) (signature_at p q.0.proto)) n.is ∙ ap (λ z. inherits (named p) t z.name z.signature) (sym key) ∙ answer_from p o s g t k.name k.signature f j in
         let w = inherits_at p o s g n.number q.0.name q.0.proto f n.short (method_name p (S p o s g) r.number q.0 q.1) (method_proto p (S p o s g) r.number q.0 q.1) from in
         let facts = answers_are p r.number q.0 w.class w.at q.1 w.finds in
-        place_held p o s g w.at f w.found (λ y i'. g.closed.called g.old r.number n.number w.class q.0 y (is_called bound) (short p o s g m b l i at kind k r) q.1 (method_class p (S p o s g) r.number q.0 q.1) n.marked w.is_class
+        place_held p o s g w.at f w.found (λ y i'. g.closed.answers r.number n.number w.class q.0 y (is_called bound) (short p o s g m b l i at kind k r) q.1 (method_class p (S p o s g) r.number q.0 q.1) n.marked w.is_class
         (over n.number q.0 n.short q.1 (subst (λ z. is_within (named p) z k.class ≡ true) (sym n.is) within))
         (contained y (answer_facts p r.number w.class) (subst (In y) (sym facts) (in_front y (found_facts p (Some w.at)) [] i'))))
 
@@ -185,14 +185,13 @@ module _ (p : Program) (o : Outside) (s : LiveSet) (g : IsMarked p o s) where
       let short = entry_below p g.formed there.method.name fit.entry fit.is in
       let facts : open_facts p g.closed.tables.shut.items (Some h.at) ≡ fact.Method there.method.name ∷ [] =
       ap (open_of g.closed.tables.shut.items) (looked_up p h.at there) ∙ ap (λ b. cond b [] (fact.Method there.method.name ∷ [])) (not_shut there.method.name short (ap (methods_in p o.shut) key ∙ away)) in
-      ap (family_of p s).methods (sym key) ∙ method_met p s g.sized there.method.name short (g.closed.goes (fact.Made k.number) (fact.Method there.method.name) k.marked (inr (record {
+      ap (family_of p s).methods (sym key) ∙ method_met p s g.sized there.method.name short (g.closed.entails (fact.Made k.number) (fact.Method there.method.name) k.marked (inr (record {
         number = w.number;
         name = w.entry;
         class = h.class;
         at = h.at;
         is_name = w.is_entry;
         is_class = h.is_class;
-        old = g.old;
         may = may_call k.number n q w k.short (ap (λ z. is_outward (named p) z || spelled.is_common n q) k.is ∙ may);
         answers = contained h.at (object.answers_to p h.class w.entry.name w.entry.proto) (subst (In h.at) (sym (ap (λ x. answers_or x (class_candidates p h.class w.entry.name w.entry.proto)) h.finds)) (here []));
         fact_is = contained (fact.Method there.method.name) (open_facts p g.closed.tables.shut.items (Some h.at)) (subst (In (fact.Method there.method.name)) (sym facts) (here []));

@@ -10,7 +10,7 @@ use Rattle.program_model.specs.declared.program.Program.{Program}
 use Rattle.program_model.specs.declared.pass.Outside.{Outside}
 use Rattle.program_model.specs.Lookups.{class_place}
 use Rattle.class_defs.specs.Places.{super_place, chain_from, chain_of}
-use Rattle.class_defs.specs.Members.{own_virtual, is_interface}
+use Rattle.class_defs.specs.Members.{own_virtual}
 use Rattle.class_defs.specs.Finding.{search_of, first_among, finds_from, finds_static, finds_virtual, finds_super, finds_super_of, finds_super_037, finds_above, one_or_none, is_037}
 use Rattle.class_defs.proofs.Positions.{entry_at}
 use Rattle.call_graph.specs.Bases.{bases_of}
@@ -124,7 +124,7 @@ module _ (p : Program) (o : Outside) (s : LiveSet) (g : IsMarked p o s) where
 
     -- what a super call finds is forced by the method that it stands in
     super_met : (q : MethodName) → slice_get p.methods r.number ≡ Some q → kind ≡ call.Super → Met s (all_found p (super_found p l.own.place q false))
-    super_met q is e y i = g.closed.goes (fact.Method l.number.number) y l.number.marked (inr (record {
+    super_met q is e y i = g.closed.entails (fact.Method l.number.number) y l.number.marked (inr (record {
       name = l.own.entry;
       caller = l.own.place;
       callee = r.number;
@@ -135,7 +135,6 @@ module _ (p : Program) (o : Outside) (s : LiveSet) (g : IsMarked p o s) where
       calls = contained (item.Call call.Super r.number) (names_of_method (follow.own_method p l.number.number)) (subst (λ z. In (item.Call z r.number) (names_of_method (follow.own_method p l.number.number))) e names);
       is_called = is;
       finds = record { lists = false; decided = λ new none. clash (is_037 p.version) new g.old; is = refl };
-      plain = λ place e. ap (λ b. b && is_interface (slice_get p.classes place)) g.old;
       has = contained y (all_found p (super_found p l.own.place q false)) i;
     }))
 

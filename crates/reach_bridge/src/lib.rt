@@ -8,7 +8,6 @@
 //!
 //! What is not proved, and stands as a premise:
 //!
-//! - The program is of version 035. Of version 037 the marks say less: no candidates of interfaces.
 //! - `kept_law` asks that marked members are of classes of the program (`AreDefined`), so that their classes are live;
 //!   `owners_law` has this without the premise for the classes that the program defines. `closed_law` and `reach_law`
 //!   don't ask it, since they leave out the other members (`within`, in `specs/Names.antt`), of which nothing is left.

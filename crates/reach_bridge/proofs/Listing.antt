@@ -12,11 +12,10 @@ use Rattle.class_defs.proofs.Positions.{both}
 use Rattle.class_defs.proofs.WellFormed.{class_parts}
 use Rattle.call_graph.specs.declared.live_set.LiveSet.{LiveSet}
 use Rattle.call_graph.specs.Above.{above_of, above_kinds, Climbs}
-use Rattle.call_graph.specs.Supers.{interfaces_in, lists_at, ListsAbove}
+use Rattle.call_graph.specs.Supers.{interfaces_in, ListsAbove}
 use Rattle.dalvik_defs.specs.Names.{Text, text_eq}
 use Rattle.dalvik_defs.specs.Naming.{type_at, named_class, named}
 use Rattle.dalvik_defs.specs.Under.{own_above, walks, is_own_under}
-use Rattle.dalvik_defs.specs.declared.program.NamedClass.{NamedClass}
 use Rattle.name_bridge.specs.Named.{class_at}
 use Rattle.name_bridge.proofs.Classes.{class_by_number}
 use Rattle.name_bridge.proofs.Above.{defined, own_place, under_by_number}

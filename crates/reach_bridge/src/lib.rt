@@ -2,9 +2,10 @@
 //! empty body, and their contracts are the laws.
 //!
 //! `laws` says that what marks on numbers leave of a program is what is left of it by the names of the marked numbers.
-//! `closed` says, record by record, that the names of the marked numbers keep what a closed family keeps, where the marks
-//! have what the contract of `live_members` promises: they fit the tables, and they are closed under what follows. With
-//! all records `closed_law` has the closed family, and `reach_law` that what the marks leave shows the same.
+//! `closed` says, record by record, that in both versions the names of the marked numbers keep what a closed family
+//! keeps, where the marks have what the contract of `live_members` promises: they fit the tables, and they are closed
+//! under what follows. With all records `closed_law` has the closed family, and `reach_law` that what the marks leave
+//! shows the same.
 //!
 //! What is not proved, and stands as a premise:
 //!

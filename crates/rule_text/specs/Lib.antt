@@ -4,6 +4,7 @@ pub mod Faults
 pub mod Fronts
 pub mod Glob
 pub mod Pieces
+pub mod ReadEntries
 pub mod Reads
 pub mod Related
 pub mod Rules

@@ -4,7 +4,6 @@ use Rattle.std.specs.List.{list_all, flat_map}
 use Rattle.std.specs.declared.alloc.Global.{Global}
 use Rattle.std.proofs.lemmas.List.{append_assoc}
 use Rattle.rule_text.specs.Tokens.{Word}
-use Rattle.rule_text.specs.Rules.{Condition, Above}
 use Rattle.rule_text.specs.Spelling.{is_name, marked, bang, kind_word, condition_words, mark_words, is_class_condition, are_names, separated, is_above, above_words, are_members, braces_words, is_member_rule, braces, is_class_rule, class_rule_words}
 use Rattle.rule_text.specs.Words.{above_word}
 use Rattle.rule_text.specs.Steps.{words_at}

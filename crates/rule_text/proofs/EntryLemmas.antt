@@ -1,19 +1,18 @@
 -- Rules and options by their words.
-use Rattle.std.proofs.Common.{◌≡◌, ◌≤◌, ◌+◌, ℕ, Bool, true, false, not, ◌&&◌, ◌||◌, List, [], ◌∷◌, ◌++◌, Option, Some, None, is_some, if◌then◌else◌, nat_eq, length, map, refl, sym, ap, subst, ◌∙◌, codes, arith}
+use Rattle.std.proofs.Common.{◌≡◌, ◌≤◌, ◌+◌, ℕ, Bool, true, false, not, ◌&&◌, ◌||◌, List, [], ◌∷◌, ◌++◌, Option, Some, None, is_some, if◌then◌else◌, length, map, refl, sym, ap, subst, ◌∙◌, codes, arith}
 use Rattle.std.specs.List.{list_all, flat_map}
 use Rattle.std.proofs.lemmas.List.{append-nil, append_assoc}
 use Rattle.std.proofs.lemmas.Simd.{map-map}
 use Rattle.std.specs.Cmp.Lexicographic.{bytes_decides}
 use Rattle.std.specs.Str.{IsUtf8}
-use Rattle.rule_text.specs.Tokens.{Word, tokens_of, words_of}
+use Rattle.rule_text.specs.Tokens.{Word, words_of}
 use Rattle.rule_text.specs.Fronts.{token_view, AreTokensOf}
-use Rattle.rule_text.specs.Faults.{SpellsRules}
-use Rattle.rule_text.specs.Rules.{Entry, Setting, Keep, Assume, KeepRule, AssumeRule}
+use Rattle.rule_text.specs.Rules.{Entry, Setting, Keep, Assume}
 use Rattle.rule_text.specs.Spelling.{word_eq, begins_option, begins_rule, is_long, setting_word, keep_word, modifier_word, modifier_words, is_class_rule, class_rule_words, are_names, separated, is_assumed_rule, braces, is_rule, count_rules, is_entry, entry_words}
 use Rattle.rule_text.specs.Words.{IsNameOf}
 use Rattle.rule_text.specs.Steps.{words_at, first_word}
-use Rattle.rule_text.specs.Related.{AreEach, IsPatternOf, IsMemberOf, IsClassOf, IsKeepOf, IsAssumeOf, IsSettingOf, IsEntryOf, OfSetting, OfKeep, OfAssume}
-use Rattle.rule_text.specs.Reads.{Reads, ReadsEach}
+use Rattle.rule_text.specs.Related.{AreEach, IsPatternOf, IsMemberOf, IsClassOf, IsEntryOf, OfSetting, OfKeep, OfAssume}
+use Rattle.rule_text.specs.Reads.{Reads}
 use Rattle.rule_text.specs.ReadEntries.{IsKeepBehind, IsAssumeBehind, AreWordsBehind, ReadsCounted, ReadsFew, IsReading}
 use Rattle.rule_text.specs.declared.rules.KeepKind.{KeepKind}
 use Rattle.rule_text.specs.declared.rules.KeepKind.TheVariants as keep
@@ -28,8 +27,8 @@ use Rattle.rule_text.specs.declared.rules.Entry.TheVariants as entry
 use Rattle.rule_text.specs.declared.rules.Rules.{Rules}
 use Rattle.rule_text.specs.declared.token.Token.{Token as Lexed}
 use Rattle.rule_text.specs.declared.token.Tokens.{Tokens}
-use Rattle.rule_text.proofs.ReadLemmas.{each_more, all_more, spelled_more, words_more, reads_more}
-use Rattle.rule_text.proofs.StepLemmas.{step_on, end_at}
+use Rattle.rule_text.proofs.ReadLemmas.{each_more, all_more, spelled_more}
+use Rattle.rule_text.proofs.StepLemmas.{end_at}
 
 -- ---- keep rules
 

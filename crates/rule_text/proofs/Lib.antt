@@ -9,3 +9,4 @@ pub mod MemberLemmas
 pub mod ReadLemmas
 pub mod RunLemmas
 pub mod StepLemmas
+pub mod StopLemmas

@@ -5,7 +5,7 @@ use Rattle.std.proofs.lemmas.List.{append_assoc}
 use Rattle.std.specs.Cmp.Lexicographic.{bytes_decides}
 use Rattle.rule_text.specs.Tokens.{Word}
 use Rattle.rule_text.specs.Rules.{Condition, Mark, Has, What, All, Fields, Methods, Init, Field, Method, MemberRule}
-use Rattle.rule_text.specs.Spelling.{word_eq, is_name, marked, bang, access_word, condition_words, is_first_type, is_what, is_assumed_what, what_words, are_arguments, argument_words, is_member_condition, is_plain_condition, member_rule_words, braces}
+use Rattle.rule_text.specs.Spelling.{word_eq, is_name, marked, bang, access_word, condition_words, is_first_type, is_what, is_assumed_what, what_words, are_arguments, argument_words, is_member_condition, member_rule_words, braces}
 use Rattle.rule_text.specs.Steps.{words_at, BeginWithNone}
 use Rattle.rule_text.specs.Related.{AreEach, IsPatternOf, IsTypeOf, AreArgumentsOf, IsConditionOf, OfMark, OfAccess, IsWhatOf, OfAll, OfFields, OfMethods, OfInit, OfField, OfMethod, IsMemberOf}
 use Rattle.rule_text.specs.Reads.{Reads, ReadsEach, alone}

@@ -10,5 +10,6 @@ pub mod Related
 pub mod Rules
 pub mod Spelling
 pub mod Steps
+pub mod Stops
 pub mod Tokens
 pub mod Words

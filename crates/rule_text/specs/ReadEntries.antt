@@ -1,5 +1,5 @@
 -- What was read of a text: rules behind their options, words of options, and the whole.
-use Rattle.std.specs.Prelude.{◌≡◌, ◌≤◌, ℕ, Bool, true, false, not, ◌&&◌, List, [], ◌∷◌, ◌++◌}
+use Rattle.std.specs.Prelude.{◌≡◌, ◌≤◌, ℕ, true, not, List, [], ◌∷◌, ◌++◌}
 use Rattle.std.specs.List.{list_all, flat_map}
 use Rattle.rule_text.specs.Tokens.{Word}
 use Rattle.rule_text.specs.Rules.{Entry, KeepRule, AssumeRule, Keep, Assume}
@@ -7,7 +7,7 @@ use Rattle.rule_text.specs.Spelling.{begins_option, is_entry, entry_words, count
 use Rattle.rule_text.specs.Faults.{SpellsRules}
 use Rattle.rule_text.specs.Steps.{words_at}
 use Rattle.rule_text.specs.Related.{IsKeepOf, IsAssumeOf, IsEntryOf, AreEntriesOf}
-use Rattle.rule_text.specs.Reads.{Reads, ReadsEach}
+use Rattle.rule_text.specs.Reads.{ReadsEach}
 use Rattle.rule_text.specs.declared.rules.KeepKind.{KeepKind}
 use Rattle.rule_text.specs.declared.rules.KeepRule.{KeepRule as ReadKeep}
 use Rattle.rule_text.specs.declared.rules.AssumeRule.{AssumeRule as ReadAssume}

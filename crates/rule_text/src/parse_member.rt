@@ -6,6 +6,7 @@ ghost use Rattle.rule_text.specs.Pieces.{ends_in_brackets};
 ghost use Rattle.rule_text.specs.Reads.{Reads, ReadsEach, alone};
 ghost use Rattle.rule_text.specs.Related.{AreEach, IsPatternOf, IsItemOf, IsTypeOf, AreArgumentsOf, IsWhatOf, IsConditionOf, IsMemberOf};
 ghost use Rattle.rule_text.specs.Spelling.{is_name, is_argument, are_some, are_arguments, separated, argument_words, is_what, is_assumed_what, what_words, is_member_condition, is_plain_condition, condition_words, is_member_rule, is_assumed_rule, member_rule_words, braces, access_word, bang, marked};
+ghost use Rattle.rule_text.specs.Stops.{IsNoMark, IsBareBang, IsNoArgument};
 ghost use Rattle.rule_text.specs.Steps.{AtSyntax, BeginWithNone, IsNoName, first_word, words_at};
 
 use crate::cursor::{accept, advance, expect_word, word_at};
@@ -49,6 +50,7 @@ pub fn read_mark(
     ensures on { IfOk result (λ read. IfSome read (λ _. at.old < at.new)) }
     ensures step { IfOk result (λ read. IfSome read (Reads IsPatternOf is_name (λ name. marked name ∷ []) tokens.now at.old at.new)) }
     ensures stays { IfOk result (λ read. IfNone read (at.new ≡ at.old)) }
+    ensures stop { IfErr result (AtSyntax (IsNoMark tokens.now at.old at.new)) }
 {
     match tokens.get(*at) {
         Some(token) => match token.word {
@@ -136,6 +138,7 @@ fn read_argument(alloc: Global, tokens: &[Token<'_>], at: &mut usize) -> Result<
     ensures inside { at.new ≤ length tokens.now }
     ensures on { OnOk result (at.old < at.new) }
     ensures step { IfOk result (Reads IsTypeOf is_argument alone tokens.now at.old at.new) }
+    ensures stop { IfErr result (AtSyntax (IsNoArgument tokens.now at.old at.new)) }
 {
     if word_at(tokens, *at) == b"...".as_slice() {
         return Err(Stop::Syntax);
@@ -252,6 +255,7 @@ fn read_access(tokens: &[Token<'_>], at: &mut usize) -> Result<Option<(bool, Acc
     ensures step { IfOk result (λ read. IfSome read (λ found. words_at tokens.now at.old ≡ bang found.0 ++ (access_word found.1 ∷ words_at tokens.now at.new))) }
     ensures stays { IfOk result (λ read. IfNone read (at.new ≡ at.old)) }
     ensures none { IfOk result (λ read. IfNone read (BeginWithNone access_word (words_at tokens.now at.new))) }
+    ensures stop { IfErr result (AtSyntax (IsBareBang tokens.now at.old at.new)) }
 {
     let negated = accept(tokens, at, b"!");
     match member_access(word_at(tokens, *at)) {

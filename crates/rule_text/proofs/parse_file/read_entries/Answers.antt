@@ -1,4 +1,4 @@
-use Rattle.std.proofs.Common.{◌≡◌, ◌≤◌, ◌+◌, [], ◌∷◌, ◌++◌, if◌then◌else◌, rules}
+use Rattle.std.proofs.Common.{◌≡◌, ◌+◌, [], ◌∷◌, ◌++◌, if◌then◌else◌, rules}
 use Rattle.rule_text.specs.Reads.{Reads}
 use Rattle.rule_text.specs.Related.{IsEntryOf}
 use Rattle.rule_text.specs.Spelling.{is_entry, entry_words, begins_rule}

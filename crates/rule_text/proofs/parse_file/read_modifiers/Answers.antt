@@ -1,4 +1,4 @@
-use Rattle.std.proofs.Common.{◌≡◌, [], ◌∷◌, ◌++◌, sym, ap, subst, ◌∙◌, codes, rules}
+use Rattle.std.proofs.Common.{◌≡◌, [], ◌∷◌, ◌++◌, sym, ap, ◌∙◌, codes, rules}
 use Rattle.rule_text.specs.Spelling.{modifier_word, modifier_words}
 use Rattle.rule_text.specs.Steps.{words_at}
 use Rattle.rule_text.proofs.EntryLemmas.{more_modifiers}

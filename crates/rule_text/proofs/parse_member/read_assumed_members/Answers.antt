@@ -1,9 +1,8 @@
 use Rattle.std.proofs.Common.{◌≡◌, [], ◌∷◌, ◌++◌, subst, rules}
-use Rattle.std.specs.List.{list_all}
 use Rattle.rule_text.specs.Reads.{Reads}
-use Rattle.rule_text.specs.Related.{AreEach, IsMemberOf}
+use Rattle.rule_text.specs.Related.{IsMemberOf}
 use Rattle.rule_text.specs.Spelling.{is_assumed_rule, member_rule_words}
-use Rattle.rule_text.proofs.MemberLemmas.{opened, no_lines, more_lines, closed}
+use Rattle.rule_text.proofs.MemberLemmas.{no_lines, more_lines, closed}
 use Rattle.rule_text.proofs.parse_member.read_assumed_members.Goals as goal
 
 pub loop-alloc-init : goal.loop-alloc-init

@@ -1,4 +1,4 @@
-use Rattle.std.proofs.Common.{◌≤◌, ◌<◌, ◌-◌, length}
+use Rattle.std.proofs.Common.{◌≤◌, ◌-◌, length}
 use Rattle.std.specs.List.{list_all}
 use Rattle.rule_text.specs.Reads.{Reads}
 use Rattle.rule_text.specs.Related.{AreEach, IsMemberOf}

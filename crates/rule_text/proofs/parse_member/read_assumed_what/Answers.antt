@@ -1,4 +1,4 @@
-use Rattle.std.proofs.Common.{◌≡◌, ◌∷◌, codes, subst, ◌∙◌, rules}
+use Rattle.std.proofs.Common.{◌≡◌, ◌∷◌, codes, subst, rules}
 use Rattle.rule_text.specs.Steps.{words_at}
 use Rattle.rule_text.proofs.MemberLemmas.{assumed_all, assumed_methods}
 use Rattle.rule_text.proofs.parse_member.read_assumed_what.Goals as goal

@@ -1,4 +1,4 @@
-use Rattle.std.proofs.Common.{◌≡◌, [], ◌∷◌, ◌++◌, sym, subst, rules, arith}
+use Rattle.std.proofs.Common.{◌≡◌, [], ◌∷◌, ◌++◌, sym, subst, rules}
 use Rattle.rule_text.specs.Reads.{Reads, ReadsEach}
 use Rattle.rule_text.specs.Related.{IsConditionOf}
 use Rattle.rule_text.specs.Spelling.{is_member_condition, condition_words}

@@ -85,7 +85,7 @@ module _ (p : Program) (o : Outside) (s : LiveSet) (g : IsMarked p o s) where
           top = k.name;
           climbs = climbs p o s g (length (named p).classes) kind k.name hk short under;
           lists = ap (λ x. list_any (nat_eq one) (interfaces_in (option_and_then (slice_get p.classes) x))) (own_place p g.once at.0 k at.1) ∙ ap (λ x. list_any (nat_eq one) (interfaces_in x)) at.1
-          ∙ and_behind (reaches p caller (class_place p k.name)) (list_any (nat_eq one) k.interfaces) r.1.1;
+              ∙ and_behind (reaches p caller (class_place p k.name)) (list_any (nat_eq one) k.interfaces) r.1.1;
         }
 
     above_listed : ListsAbove p kind one → lists_interface p caller one ≡ true

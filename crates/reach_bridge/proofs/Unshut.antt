@@ -1,5 +1,5 @@
 -- Where no method is shut, the table of shut methods holds what it says.
-use Rattle.std.proofs.Common.{◌≡◌, true, false, true≢false, List, [], sym, ap, ◌∙◌}
+use Rattle.std.proofs.Common.{◌≡◌, true, true≢false, [], sym, ap, ◌∙◌}
 use Rattle.program_model.specs.declared.program.Program.{Program}
 use Rattle.program_model.specs.declared.pass.Outside.{Outside}
 use Rattle.dalvik_defs.specs.Naming.{named}

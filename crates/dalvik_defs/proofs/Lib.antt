@@ -4,6 +4,7 @@ pub mod LookUps
 pub mod Frames
 pub mod Glides
 pub mod Calm
+pub mod Firsts
 pub mod Quiet
 pub mod Programs
 pub mod SameBodies

@@ -6,7 +6,7 @@ use Rattle.dalvik_defs.specs.Names.{Text, text_eq}
 use Rattle.dalvik_defs.specs.Flags.{is_interface}
 use Rattle.dalvik_defs.specs.Under.{class_named, defines}
 use Rattle.dalvik_defs.specs.Find.{is_037, chain_from}
-use Rattle.dalvik_defs.specs.Initialised.{initialiser_in, initialiser_of, has_default, only_if, interfaces_before, interfaces_first, first_of_class, initialised_first, has_initialiser, interfaces_quiet, is_trivial}
+use Rattle.dalvik_defs.specs.Initialised.{initialiser_in, initialiser_of, has_default, only_if, interfaces_before, firsts, interfaces_first, first_of_class, initialised_first, has_initialiser, interfaces_quiet, is_trivial}
 use Rattle.dalvik_defs.specs.Face.{Face, face_of}
 use Rattle.dalvik_defs.specs.Quiet.{quiet_within, EndsWithin, calm_opening}
 use Rattle.dalvik_defs.specs.Outer.{Outer}
@@ -23,6 +23,7 @@ use Rattle.dalvik_defs.specs.declared.tables.Framework.{Framework}
 use Rattle.dalvik_defs.proofs.Same.{and_more, all_more}
 use Rattle.dalvik_defs.proofs.Simulation.{joined}
 use Rattle.dalvik_defs.proofs.Calm.{Each, each_map, text_sound, IsDeep, IsCalm, calm_shows, calm_shown}
+use Rattle.dalvik_defs.proofs.Firsts.{each_firsts}
 
 -- ---- tests
 
@@ -156,8 +157,8 @@ module _ (p : NamedProgram) where
 
   first_fine : (c : NamedClass) → interfaces_quiet (length p.classes) p c.interfaces ≡ true → Each Fine (interfaces_first p c)
   first_fine c h = at (is_037 p.version) where
-    at : (b : Bool) → Each Fine (elim b as (λ b. List Text) [ true ↦ interfaces_before (length p.classes) p c.interfaces | false ↦ [] ])
-    at true = before_fine (length p.classes) c.interfaces h
+    at : (b : Bool) → Each Fine (elim b as (λ b. List Text) [ true ↦ firsts (interfaces_before (length p.classes) p c.interfaces) | false ↦ [] ])
+    at true = each_firsts Fine (interfaces_before (length p.classes) p c.interfaces) (before_fine (length p.classes) c.interfaces h)
     at false = tt
 
   module _ (f : Framework) where

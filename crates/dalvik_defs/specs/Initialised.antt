@@ -1,7 +1,7 @@
 -- Which classes are initialised before a class, and by what (this project's profile).
-use Rattle.std.specs.Prelude.{ℕ, zero, suc, Bool, true, false, ◌&&◌, not, List, [], ◌∷◌, ◌++◌, length, Option, Some, None, is_some, flat_map}
+use Rattle.std.specs.Prelude.{ℕ, zero, suc, Bool, true, false, ◌&&◌, not, List, [], ◌∷◌, ◌++◌, length, Option, Some, None, is_some, filter, flat_map}
 use Rattle.std.specs.List.{list_any, list_all}
-use Rattle.dalvik_defs.specs.Names.{Text, void, initialiser_name}
+use Rattle.dalvik_defs.specs.Names.{Text, text_eq, void, initialiser_name}
 use Rattle.dalvik_defs.specs.Flags.{is_static, is_interface}
 use Rattle.dalvik_defs.specs.Under.{class_named, defines}
 use Rattle.dalvik_defs.specs.Find.{method_in, is_virtual_method, interface_named, is_037, chain_of}
@@ -39,8 +39,13 @@ abbrev pub interfaces_before : ℕ → NamedProgram → List Text → List Text
 interfaces_before zero p ts = []
 interfaces_before (suc n) p ts = flat_map (λ t. elim (interface_named p t) [ Some c ↦ interfaces_before n p c.interfaces ++ only_if (has_default c) t | None ↦ [] ]) ts
 
+-- each of them once: where it comes again it is running or done
+abbrev pub firsts : List Text → List Text
+firsts [] = []
+firsts (t ∷ ts) = t ∷ filter (λ u. not (text_eq u t)) (firsts ts)
+
 abbrev pub interfaces_first : NamedProgram → NamedClass → List Text
-interfaces_first p c = elim (is_037 p.version) [ true ↦ interfaces_before (length p.classes) p c.interfaces | false ↦ [] ]
+interfaces_first p c = elim (is_037 p.version) [ true ↦ firsts (interfaces_before (length p.classes) p c.interfaces) | false ↦ [] ]
 
 -- The program superclass comes first, then in version 037 these interfaces. An interface initialises nothing above it.
 abbrev pub first_of_class : NamedProgram → NamedClass → List Text

@@ -13,3 +13,5 @@ pub mod Upward
 pub mod Spelled
 pub mod Marked
 pub mod Empty
+pub mod Outward
+pub mod Facing

@@ -18,6 +18,7 @@ use Rattle.hierarchy.specs.Ranks.{is_lower, is_lower_all, IsRanked}
 use Rattle.hierarchy.specs.Walking.{IsFair}
 use Rattle.hierarchy.specs.declared.walk.Walk.{Walk}
 use Rattle.dalvik_lookups.specs.Listing.{lists_in, lists_at, left, Grows, Climbs}
+use Rattle.dalvik_lookups.specs.Reached.{touches, touches_at, reaches_framework}
 
 -- ---- members of lists
 
@@ -154,18 +155,18 @@ module _ (p : Program) (r : IsRanked p) where
 
   -- ---- the walk
 
-  pub climb_begins : (class kind : ℕ) (seen seen' : List Bool) (stack stack' : List ℕ) → length seen ≡ length p.classes → ((c : ℕ) → slice_index_or seen c false ≡ true → ⊥) → stack ≡ [] → Grows (class ∷ []) seen stack seen' stack' → Climbs p class kind seen' stack'
-  climb_begins class kind seen seen' stack stack' size none empty g = record {
+  pub climb_begins : (class : ℕ) (test : ℕ → Bool) (seen seen' : List Bool) (stack stack' : List ℕ) → length seen ≡ length p.classes → ((c : ℕ) → slice_index_or seen c false ≡ true → ⊥) → stack ≡ [] → Grows (class ∷ []) seen stack seen' stack' → Climbs p class test seen' stack'
+  climb_begins class test seen seen' stack stack' size none empty g = record {
     size = g.size ∙ size;
     start = λ lt. g.reached class (inl refl) (omega (arith, size, lt));
     sound = λ c e. elim (g.from c e) [ inl f ↦ absurd (none c f) | inr i ↦ elim i.0 [ inl s ↦ here (length p.classes) class c (sym s) | inr n ↦ absurd n ] ];
     stacked = λ c i. elim (g.waiting c i) [ inl j ↦ absurd (subst (In c) empty j) | inr f ↦ f ];
     closed = λ c e. elim (g.from c e) [ inl f ↦ absurd (none c f) | inr i ↦ inl i.1 ];
-    unlisted = λ c e. elim (g.from c e) [ inl f ↦ absurd (none c f) | inr i ↦ inl i.1 ];
+    failed = λ c e. elim (g.from c e) [ inl f ↦ absurd (none c f) | inr i ↦ inl i.1 ];
   }
 
-  pub climb_on : (class kind one : ℕ) (seen seen' : List Bool) (stack rest stack' : List ℕ) → stack ≡ one ∷ rest → lists_at p kind one ≡ false → Grows (above_places p one) seen rest seen' stack' → Climbs p class kind seen stack → Climbs p class kind seen' stack'
-  climb_on class kind one seen seen' stack rest stack' e lacks g k = record {
+  pub climb_on : (class : ℕ) (test : ℕ → Bool) (one : ℕ) (seen seen' : List Bool) (stack rest stack' : List ℕ) → stack ≡ one ∷ rest → test one ≡ false → Grows (above_places p one) seen rest seen' stack' → Climbs p class test seen stack → Climbs p class test seen' stack'
+  climb_on class test one seen seen' stack rest stack' e lacks g k = record {
     size = g.size ∙ k.size;
     start = λ lt. g.kept class (k.start lt);
     sound = λ c f. elim (g.from c f) [ inl h ↦ k.sound c h | inr i ↦ under_up class one c (k.sound one first) i.0 ];
@@ -180,11 +181,11 @@ module _ (p : Program) (r : IsRanked p) where
         ]
       ]
     ];
-    unlisted = λ c f. elim (g.from c f) [
+    failed = λ c f. elim (g.from c f) [
       | inr i ↦ inl i.1
-      | inl h ↦ elim (k.unlisted c h) [
+      | inl h ↦ elim (k.failed c h) [
         | inr n ↦ inr n
-        | inl i ↦ elim (subst (In c) e i) [ inr j ↦ inl (g.waits c j) | inl s ↦ inr (ap (lists_at p kind) s ∙ lacks) ]
+        | inl i ↦ elim (subst (In c) e i) [ inr j ↦ inl (g.waits c j) | inl s ↦ inr (ap test s ∙ lacks) ]
       ]
     ];
   }
@@ -193,15 +194,84 @@ module _ (p : Program) (r : IsRanked p) where
       first = k.stacked one (subst (In one) (sym e) (inl refl))
 
   -- a class in whose walks all is seen
-  known : (class kind : ℕ) (seen : List Bool) → Climbs p class kind seen [] → (m c d : ℕ) → (c < length p.classes → slice_index_or seen c false ≡ true) → walks (above_places p) m c d ≡ true → d < length p.classes → slice_index_or seen d false ≡ true
-  known class kind seen k zero c d h w lt = subst (λ x. x < length p.classes → slice_index_or seen x false ≡ true) (number_of c d w) h lt
-  known class kind seen k (suc m) c d h w lt = elim (split m c d w) [
+  known : (class : ℕ) (test : ℕ → Bool) (seen : List Bool) → Climbs p class test seen [] → (m c d : ℕ) → (c < length p.classes → slice_index_or seen c false ≡ true) → walks (above_places p) m c d ≡ true → d < length p.classes → slice_index_or seen d false ≡ true
+  known class test seen k zero c d h w lt = subst (λ x. x < length p.classes → slice_index_or seen x false ≡ true) (number_of c d w) h lt
+  known class test seen k (suc m) c d h w lt = elim (split m c d w) [
     | inl s ↦ subst (λ x. x < length p.classes → slice_index_or seen x false ≡ true) s h lt
-    | inr g ↦ known class kind seen k m g.at d (elim (cases_lt c (length p.classes)) [
+    | inr g ↦ known class test seen k m g.at d (elim (cases_lt c (length p.classes)) [
       | inr le ↦ absurd (subst (In g.at) (past_above c le) g.there)
       | inl short ↦ elim (k.closed c (h short)) [ inl i ↦ absurd i | inr all ↦ all g.at g.there ]
     ]) g.walk lt
   ]
+
+  -- a class above another that passes a test
+  pub record Under (class : ℕ) (test : ℕ → Bool) : Type 0 where
+    pub at : ℕ
+    pub under : is_under p class at ≡ true
+    pub passes : test at ≡ true
+
+  pub climb_finds : (class : ℕ) (test : ℕ → Bool) (one : ℕ) (seen : List Bool) (stack rest : List ℕ) → stack ≡ one ∷ rest → test one ≡ true → Climbs p class test seen stack → Under class test
+  climb_finds class test one seen stack rest e l k = record { at = one; under = k.sound one (k.stacked one (subst (In one) (sym e) (inl refl))); passes = l }
+
+  pub climb_ends : (class : ℕ) (test : ℕ → Bool) (seen : List Bool) (stack : List ℕ) → stack ≡ [] → Climbs p class test seen stack → (c : ℕ) → c < length p.classes → is_under p class c ≡ true → test c ≡ false
+  climb_ends class test seen stack e k c lt w =
+      let z : Climbs p class test seen [] = subst (Climbs p class test seen) e k in
+      elim (z.failed c (known class test seen z (length p.classes) class c z.start w lt)) [ inl i ↦ absurd i | inr n ↦ n ]
+
+  -- ---- classes under the framework
+
+  pub record Reached (n c : ℕ) : Type 0 where
+    pub at : ℕ
+    pub walk : walks (above_places p) n c at ≡ true
+    pub passes : touches_at p at ≡ true
+
+  reach_under : (n c : ℕ) → reaches_framework n p c ≡ true → Reached n c
+  reach_under zero c e = absurd (true≢false (sym e))
+  reach_under (suc n) c e = by_test (λ u. reach_under n u) (touches_at p c) refl e
+    where
+      by_test : ((u : ℕ) → reaches_framework n p u ≡ true → Reached n u) → (b : Bool) → touches_at p c ≡ b → (b || list_any (reaches_framework n p) (above_places p c)) ≡ true → Reached (suc n) c
+      by_test more true f g = record { at = c; walk = here (suc n) c c refl; passes = f }
+      by_test more false f g =
+          let a = any_of (reaches_framework n p) (above_places p c) g in
+          let m = more a.at a.is in
+          record { at = m.at; walk = on_walk n c a.at m.at a.there m.walk; passes = m.passes }
+
+  reaches_here : (n c d : ℕ) → c ≡ d → touches_at p d ≡ true → reaches_framework (suc n) p c ≡ true
+  reaches_here n c d e t = ap (λ b. b || list_any (reaches_framework n p) (above_places p c)) (ap (touches_at p) e ∙ t)
+
+  walk_reaches : (n c d : ℕ) → walks (above_places p) n c d ≡ true → touches_at p d ≡ true → reaches_framework (suc n) p c ≡ true
+  walk_reaches zero c d w t = reaches_here zero c d (number_of c d w) t
+  walk_reaches (suc n) c d w t = elim (split n c d w) [
+    | inl s ↦ reaches_here (suc n) c d s t
+    | inr g ↦ or_right (touches_at p c) (list_any (reaches_framework (suc n) p) (above_places p c)) (of_any (reaches_framework (suc n) p) (above_places p c) g.at g.there (walk_reaches n g.at d g.walk t))
+  ]
+
+  touches_past : (c : ℕ) → length p.classes ≤ c → touches_at p c ≡ false
+  touches_past c le = ap (touches p) (slice_get_past p.classes c le)
+
+  pub outward_finds : (class : ℕ) → Under class (touches_at p) → reaches_framework (length p.classes) p class ≡ true
+  outward_finds class u = elim (cases_lt class (length p.classes)) [
+    | inl lt ↦ by_size (length p.classes) refl (rank_short class lt)
+    | inr le ↦
+        let same = stays (length p.classes) class u.at (past_above class le) u.under in
+        absurd (true≢false (sym (ap (touches_at p) same ∙ u.passes) ∙ touches_past class le))
+  ]
+    where
+      by_size : (n : ℕ) → length p.classes ≡ n → r.rank class < length p.classes → reaches_framework n p class ≡ true
+      by_size zero e l = absurd (omega (arith, e, l))
+      by_size (suc m) e l = walk_reaches m class u.at (tight (length p.classes) class u.at m u.under (omega (arith, e, l))) u.passes
+
+  pub outward_ends : (class : ℕ) → ((c : ℕ) → c < length p.classes → is_under p class c ≡ true → touches_at p c ≡ false) → reaches_framework (length p.classes) p class ≡ false
+  outward_ends class h = by_test (reaches_framework (length p.classes) p class) refl
+    where
+      by_test : (b : Bool) → reaches_framework (length p.classes) p class ≡ b → b ≡ false
+      by_test false e = refl
+      by_test true e =
+          let a = reach_under (length p.classes) class e in
+          elim (cases_lt a.at (length p.classes)) [
+            | inl lt ↦ sym a.passes ∙ h a.at lt a.walk
+            | inr le ↦ sym a.passes ∙ touches_past a.at le
+          ]
 
   module _ (once : (class : ℕ) → IsTwice p class → ⊥) where
     own_place : (b : ℕ) (u : Class) → slice_get p.classes b ≡ Some u → class_place p u.name ≡ Some b
@@ -228,13 +298,11 @@ module _ (p : Program) (r : IsRanked p) where
         by_test i k e true w = sym (ap (lists_in kind) e) ∙ h i (got_short p.classes i k e) w
         by_test i k e false w = refl
 
-    pub climb_finds : (class kind one : ℕ) (seen : List Bool) (stack rest : List ℕ) → stack ≡ one ∷ rest → lists_at p kind one ≡ true → Climbs p class kind seen stack → lists_interface p class kind ≡ true
-    climb_finds class kind one seen stack rest e l k = lister class kind one (k.sound one (k.stacked one (subst (In one) (sym e) (inl refl)))) (slice_get p.classes one) refl l
+    pub list_finds : (class kind : ℕ) → Under class (lists_at p kind) → lists_interface p class kind ≡ true
+    list_finds class kind u = lister class kind u.at u.under (slice_get p.classes u.at) refl u.passes
 
-    pub climb_ends : (class kind : ℕ) (seen : List Bool) (stack : List ℕ) → stack ≡ [] → Climbs p class kind seen stack → lists_interface p class kind ≡ false
-    climb_ends class kind seen stack e k =
-        let z : Climbs p class kind seen [] = subst (Climbs p class kind seen) e k in
-        no_lister class kind (λ c lt w. elim (z.unlisted c (known class kind seen z (length p.classes) class c z.start w lt)) [ inl i ↦ absurd i | inr n ↦ n ])
+    pub list_ends : (class kind : ℕ) → ((c : ℕ) → c < length p.classes → is_under p class c ≡ true → lists_at p kind c ≡ false) → lists_interface p class kind ≡ false
+    list_ends class kind h = no_lister class kind h
 
 -- ---- what a walk comes to
 

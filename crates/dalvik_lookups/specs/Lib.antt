@@ -7,3 +7,4 @@ pub mod Listing
 pub mod Spelling
 pub mod Starting
 pub mod Reached
+pub mod Facing

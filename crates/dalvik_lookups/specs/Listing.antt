@@ -33,11 +33,12 @@ pub record Grows (us : List ℕ) (seen : List Bool) (stack : List ℕ) (seen' : 
   pub waits : (c : ℕ) → In c stack → In c stack'
   pub waiting : (c : ℕ) → In c stack' → In c stack ⊎ (slice_index_or seen' c false ≡ true)
 
--- the walk up from a class: what is seen stands above the class, and lists the type or leads on only where it still waits
-pub record Climbs (p : Program) (class kind : ℕ) (seen : List Bool) (stack : List ℕ) : Type 0 where
+-- The walk up from a class for one that passes a test: what is seen stands above the class, and passes or leads on only where it
+-- still waits.
+pub record Climbs (p : Program) (class : ℕ) (test : ℕ → Bool) (seen : List Bool) (stack : List ℕ) : Type 0 where
   pub size : length seen ≡ length p.classes
   pub start : class < length p.classes → slice_index_or seen class false ≡ true
   pub sound : (c : ℕ) → slice_index_or seen c false ≡ true → is_under p class c ≡ true
   pub stacked : (c : ℕ) → In c stack → slice_index_or seen c false ≡ true
   pub closed : (c : ℕ) → slice_index_or seen c false ≡ true → In c stack ⊎ ((u : ℕ) → In u (above_places p c) → u < length p.classes → slice_index_or seen u false ≡ true)
-  pub unlisted : (c : ℕ) → slice_index_or seen c false ≡ true → In c stack ⊎ (lists_at p kind c ≡ false)
+  pub failed : (c : ℕ) → slice_index_or seen c false ≡ true → In c stack ⊎ (test c ≡ false)

@@ -35,7 +35,7 @@ fn lists_at(program: &Program, kind: u32, class: u32) -> bool
 }
 
 /// Sees a class and lets it wait, unless it was seen before.
-fn enter(walk: &mut Walk, class: u32) -> Result<(), AllocError>
+pub(crate) fn enter(walk: &mut Walk, class: u32) -> Result<(), AllocError>
     ensures fair { OnOk result (IsFair walk.old → IsFair walk.new) }
     ensures size { OnOk result (length walk.new.seen.items ≡ length walk.old.seen.items) }
     ensures grows { OnOk result (Grows (class ∷ []) walk.old.seen.items (waits walk.old) walk.new.seen.items (waits walk.new)) }
@@ -74,7 +74,11 @@ fn enter_one(walk: &mut Walk, class: Option<u32>) -> Result<(), AllocError>
 }
 
 /// The same of the classes directly above one.
-fn enter_above(hierarchy: &Hierarchy, walk: &mut Walk, class: u32) -> Result<(), AllocError>
+pub(crate) fn enter_above(
+    hierarchy: &Hierarchy,
+    walk: &mut Walk,
+    class: u32,
+) -> Result<(), AllocError>
     ensures fair { OnOk result (IsFair walk.old → IsFair walk.new) }
     ensures size { OnOk result (length walk.new.seen.items ≡ length walk.old.seen.items) }
     ensures grows { (p : Program) → IsOf p hierarchy.now → OnOk result (Grows (above_places p class) walk.old.seen.items (waits walk.old) walk.new.seen.items (waits walk.new)) }
@@ -94,7 +98,7 @@ fn climb(
 ) -> Result<bool, AllocError>
     ensures fair { OnOk result (IsFair walk.old → IsFair walk.new) }
     ensures size { OnOk result (length walk.new.seen.items ≡ length walk.old.seen.items) }
-    ensures is { (class : ℕ) → IsOf program.now hierarchy.now → Climbs program.now class kind walk.old.seen.items (waits walk.old) → IfOk result (λ b. b ≡ lists_interface program.now class kind) }
+    ensures is { (class : ℕ) → IsOf program.now hierarchy.now → Climbs program.now class (lists_at program.now kind) walk.old.seen.items (waits walk.old) → IfOk result (λ b. b ≡ lists_interface program.now class kind) }
 {
     while let Some(one) = walk.pop() {
         if lists_at(program, kind, one) {

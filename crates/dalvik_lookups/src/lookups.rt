@@ -11,7 +11,8 @@ ghost use Rattle.class_defs.specs.Finding.{resolves_field};
 ghost use Rattle.class_defs.specs.Members.{is_interface, is_common};
 ghost use Rattle.class_defs.specs.Starts.{initialiser_place};
 ghost use Rattle.hierarchy.specs.Shapes.{IsOf, IsResolved};
-ghost use Rattle.dalvik_lookups.specs.Reached.{IsOuter};
+ghost use Rattle.dalvik_lookups.specs.Facing.{IsFace};
+ghost use Rattle.dalvik_lookups.specs.Reached.{AreTypeMarks, IsOuter};
 ghost use Rattle.dalvik_lookups.specs.Starting.{class_default};
 ghost use Rattle.dalvik_defs.specs.Naming.{text_at, type_at, method_at, named};
 ghost use Rattle.dalvik_defs.specs.Under.{class_under, is_under};
@@ -327,14 +328,14 @@ fn marks_of(
 ) -> Result<Marked, AllocError>
     ensures slots { IfOk result (λ made. made.slots.items ≡ slots_from 0 program.now.classes) }
     ensures outer { IfOk result (λ made. IsOuter program.now outside.now made.outer) }
+    ensures classes { HasNames program.now names.now → IfOk result (λ made. AreTypeMarks program.now names.now.types outside.now.classes made.outer.classes.items) }
     ensures constructors { IfOk result (λ made. made.constructors.items ≡ map (is_constructor program.now) program.now.methods) }
     ensures defaults { IsOf program.now hierarchy.now → IfOk result (λ made. made.defaults.items ≡ map (class_default program.now) program.now.classes) }
 {
-    let kinds = names.kinds.as_slice();
     let defaults = defaults(alloc, program, hierarchy)?;
     let slots = first_slots(alloc, program)?;
     let constructors = object_constructors(alloc, program)?;
-    let outer = outer_of(alloc, program, outside, kinds, names.types.len())?;
+    let outer = outer_of(alloc, program, outside, names)?;
     Ok(Marked {
         outer,
         defaults,
@@ -393,6 +394,7 @@ fn both_of<'a>(
     ensures program { IfOk result (λ both. both.0.program.now ≡ program.now) }
     ensures framework { IfOk result (λ both. both.0.framework.now ≡ framework.now) }
     ensures outer { IfOk result (λ both. IsOuter program.now outside.now both.0.outer) }
+    ensures classes { is_well_formed program.now ≡ true → IfOk result (λ both. AreTypeMarks program.now both.0.types outside.now.classes both.0.outer.classes.items) }
     ensures tables { is_well_formed program.now ≡ true → IsResolved program.now hierarchy → IfOk result (λ both. IsRight both.0) }
 {
     let made = names_above(alloc, program, framework, script)?;
@@ -427,7 +429,9 @@ impl<'a> Lookups<'a> {
         ensures program { IfOk result (λ made. IfSome made (λ both. both.0.program.now ≡ program.now)) }
         ensures framework { IfOk result (λ made. IfSome made (λ both. both.0.framework.now ≡ framework.now)) }
         ensures outer { IfOk result (λ made. IfSome made (λ both. IsOuter program.now outside.now both.0.outer)) }
+        ensures classes { is_well_formed program.now ≡ true → IfOk result (λ made. IfSome made (λ both. AreTypeMarks program.now both.0.types outside.now.classes both.0.outer.classes.items)) }
         ensures tables { is_well_formed program.now ≡ true → IfOk result (λ made. IfSome made (λ both. IsRight both.0)) }
+        ensures face { is_well_formed program.now ≡ true → IfOk result (λ made. IfSome made (λ both. IsFace both.0)) }
     {
         let hierarchy = match build(alloc, program)? {
             Some(hierarchy) => hierarchy,

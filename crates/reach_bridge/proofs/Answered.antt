@@ -1,17 +1,15 @@
 -- What made objects answer to: calls of marked code, and calls of the framework.
-use Rattle.std.proofs.Common.{◌≡◌, ℕ, ◌<◌, inl, inr, Bool, true, false, nat_eq, List, [], ◌∷◌, ◌++◌, length, Some, refl, sym, ap, ◌∙◌, subst, arith}
+use Rattle.std.proofs.Common.{◌≡◌, ℕ, ◌<◌, inl, inr, Bool, true, false, nat_eq, List, [], ◌∷◌, length, Some, refl, sym, ap, ◌∙◌, subst, arith}
 use Rattle.std.specs.Prelude.{◌||◌, cond, slice_get, slice_index_or}
 use Rattle.std.specs.List.{list_any}
 use Rattle.insn_set.specs.declared.form.Insn.{Insn}
 use Rattle.insn_set.specs.declared.ops.InvokeKind.{InvokeKind}
 use Rattle.insn_set.specs.declared.ops.InvokeKind.TheVariants as call
 use Rattle.program_model.specs.declared.pools.MethodName.{MethodName}
-use Rattle.program_model.specs.declared.program.MethodAt.{MethodAt}
 use Rattle.program_model.specs.declared.program.Method.{Method}
 use Rattle.program_model.specs.declared.program.Class.{Class}
 use Rattle.program_model.specs.declared.program.Program.{Program}
 use Rattle.program_model.specs.declared.pass.Outside.{Outside}
-use Rattle.class_defs.specs.Finding.{finds_virtual}
 use Rattle.class_defs.proofs.Positions.{entry_at, number_of}
 use Rattle.call_graph.specs.declared.facts.Fact.TheVariants as fact
 use Rattle.call_graph.specs.declared.named.Named.TheVariants as item
@@ -19,13 +17,13 @@ use Rattle.call_graph.specs.declared.live_set.LiveSet.{LiveSet}
 use Rattle.call_graph.specs.Follows as follow
 use Rattle.call_graph.specs.Follows.{method_types, names_of_method, named_facts, all_named, method_facts, call_facts, found_facts}
 use Rattle.call_graph.specs.Objects as object
-use Rattle.call_graph.specs.Objects.{class_candidates, answers_or, answers_by, answer_facts, open_of, open_facts, IsOver, MayCall}
+use Rattle.call_graph.specs.Objects.{answers_by, answer_facts, open_of, open_facts, IsOver, MayCall}
 use Rattle.call_graph.specs.Closed.{forced, IsCalled}
 use Rattle.dalvik_defs.specs.Names as spelled
-use Rattle.dalvik_defs.specs.Names.{Text, text_eq, method_eq, same_name, object_type}
+use Rattle.dalvik_defs.specs.Names.{Text, text_eq, method_eq, object_type}
 use Rattle.dalvik_defs.specs.Naming.{text_at, type_at, signature_at, method_at, named_method, named_class, named}
 use Rattle.dalvik_defs.specs.Under.{is_own_under, is_outward}
-use Rattle.dalvik_defs.specs.Find.{Found, is_virtual_method, method_in, chain_of}
+use Rattle.dalvik_defs.specs.Find.{Found}
 use Rattle.dalvik_defs.specs.Outer.{methods_in, outer_of}
 use Rattle.dalvik_defs.specs.Silence.{key_in}
 use Rattle.dalvik_defs.specs.declared.names.Signature.{Signature}
@@ -34,32 +32,29 @@ use Rattle.dalvik_defs.specs.declared.program.NamedBody.{NamedBody}
 use Rattle.dalvik_defs.specs.declared.program.NamedMethod.{NamedMethod}
 use Rattle.dalvik_defs.specs.declared.program.NamedClass.{NamedClass}
 use Rattle.dalvik_defs.proofs.Calm.{text_sound}
-use Rattle.pass_defs.specs.Calls.{is_within, inherits}
+use Rattle.pass_defs.specs.Calls.{is_within}
 use Rattle.pass_defs.specs.Live.{is_bound, answers_to, KeepsVirtual, KeepsCalledBack}
 use Rattle.name_bridge.proofs.Tables.{method_is, method_class, method_name, method_proto}
 use Rattle.name_bridge.proofs.Found.{looked_up, found_parts}
 use Rattle.name_bridge.proofs.Candidates.{common_test}
-use Rattle.removal_law.proofs.Lists as list
-use Rattle.removal_law.proofs.Lists.{In, here, there, clash, contained, in_front, in_back}
-use Rattle.removal_law.proofs.Finds.{in_flat, first_where}
-use Rattle.removal_law.proofs.Members.{key, key_sound}
-use Rattle.removal_law.proofs.Trees.{chain_named, class_in}
+use Rattle.removal_law.proofs.Lists.{In, here, clash, contained, in_back}
+use Rattle.removal_law.proofs.Finds.{in_flat}
+use Rattle.removal_law.proofs.Members.{key}
+use Rattle.removal_law.proofs.Trees.{class_in}
+use Rattle.removal_law.proofs.Virtuals.{answer}
 use Rattle.removal_law.proofs.Outward.{any_here, any_where}
 use Rattle.removal_law.proofs.Declared.{method_same}
 use Rattle.removal_bridge.proofs.Formed.{method_of, key_of, entry_below}
 use Rattle.reach_bridge.specs.Names.{family_of}
 use Rattle.reach_bridge.specs.Reached.{IsMarked}
 use Rattle.reach_bridge.proofs.Held.{stands, of_image, placed_at, made_number, method_met}
-use Rattle.reach_bridge.proofs.Based.{S}
+use Rattle.reach_bridge.proofs.Based.{S, regular}
 use Rattle.reach_bridge.proofs.Mentioned.{place_held}
 use Rattle.reach_bridge.proofs.Coded.{LiveCode, IsCall, live_code, call_from}
 use Rattle.reach_bridge.proofs.Upward.{keeps_above}
-use Rattle.reach_bridge.proofs.Calls.{answer_from, inherits_at, short, names}
+use Rattle.reach_bridge.proofs.Answering.{answers_named}
+use Rattle.reach_bridge.proofs.Calls.{short, names}
 use Rattle.reach_bridge.proofs.Climbing.{climbs, object_found, object_is, outward}
-
--- the methods of an answer
-answers_are : (p : Program) (number : ℕ) (q : MethodName) (c : ℕ) (at : MethodAt) → slice_get p.methods number ≡ Some q → finds_virtual p q.name q.proto c ≡ Some at → answer_facts p number c ≡ found_facts p (Some at) ++ []
-answers_are p number q c at is e = ap (answers_by p c) is ∙ ap (λ x. object.all_found p (answers_or x (class_candidates p c q.name q.proto))) e
 
 module _ (p : Program) (o : Outside) (s : LiveSet) (g : IsMarked p o s) where
   -- ---- calls of marked code
@@ -100,13 +95,12 @@ module _ (p : Program) (o : Outside) (s : LiveSet) (g : IsMarked p o s) where
         let n = made_number p s t made in
         let q = entry_at p.methods r.number (short p o s g m b l i at kind k r) in
         let key = sym r.is ∙ method_is p (S p o s g) r.number q.0 q.1 in
-        let from : inherits (named p) (type_at p n.number) (text_at p q.0.name) (signature_at p q.0.proto) ≡ Some f =
-        ap (λ z. inherits (named p) z (text_at p q.0.name) (signature_at p q.0.proto)) n.is ∙ ap (λ z. inherits (named p) t z.name z.signature) (sym key) ∙ answer_from p o s g t k.name k.signature f j in
-        let w = inherits_at p o s g n.number q.0.name q.0.proto f n.short (method_name p (S p o s g) r.number q.0 q.1) (method_proto p (S p o s g) r.number q.0 q.1) from in
-        let facts = answers_are p r.number q.0 w.class w.at q.1 w.finds in
-        place_held p o s g w.at f w.found (λ y i'. g.closed.called g.old r.number n.number w.class q.0 y (is_called bound) (short p o s g m b l i at kind k r) q.1 (method_class p (S p o s g) r.number q.0 q.1) n.marked w.is_class
+        let from : In f (answers_to (named p) (type_at p n.number) (text_at p q.0.name) (signature_at p q.0.proto)) =
+        subst (λ z. In f (answers_to (named p) z (text_at p q.0.name) (signature_at p q.0.proto))) (sym n.is) (subst (λ z. In f (answers_to (named p) t z.name z.signature)) key j) in
+        let w = answers_named p (S p o s g) g.once q.0.name q.0.proto (method_name p (S p o s g) r.number q.0 q.1) (method_proto p (S p o s g) r.number q.0 q.1) n.number n.short f from in
+        place_held p o s g w.at f w.found (λ y i'. g.closed.answers r.number n.number w.class q.0 y (is_called bound) (short p o s g m b l i at kind k r) q.1 (method_class p (S p o s g) r.number q.0 q.1) n.marked w.is_class
         (over n.number q.0 n.short q.1 (subst (λ z. is_within (named p) z k.class ≡ true) (sym n.is) within))
-        (contained y (answer_facts p r.number w.class) (subst (In y) (sym facts) (in_front y (found_facts p (Some w.at)) [] i'))))
+        (contained y (answer_facts p r.number w.class) (subst (In y) (sym (ap (answers_by p w.class) q.1)) (in_flat (λ a. found_facts p (Some a)) w.at y (object.answers_to p w.class q.0.name q.0.proto) w.answers i'))))
 
   pub keeps_virtual : KeepsVirtual (named p) (family_of p s)
   keeps_virtual m b kind k args h c bound t made within f i =
@@ -140,17 +134,12 @@ module _ (p : Program) (o : Outside) (s : LiveSet) (g : IsMarked p o s) where
       let fit = method_of p g.formed k i.0 j.0 m i.1 j.1 in
       entry_numbered m fit.entry nm c n q fit.is same h
 
-  method_numbered : (k : Class) (c : NamedClass) (nm : NamedMethod) (n : Text) (q : Signature) → In k p.classes → named_class p k ≡ c → method_in c n q ≡ Some nm → IsNumbered n q
-  method_numbered k c nm n q at is e =
-      let found = list.found_in (λ m. same_name m.name m.signature n q) c.methods nm e in
-      let m = of_image (named_method p) nm k.methods (subst (λ z. In nm z.methods) (sym is) found.is_in) in
-      class_numbered k m.0 nm c n q at m.1.0 m.1.1 (key_sound c nm n q found.passes)
-
-  numbered : (t n : Text) (q : Signature) (f : Found) → inherits (named p) t n q ≡ Some f → IsNumbered n q
-  numbered t n q f e =
-      let w = first_where is_virtual_method n q (chain_of (named p) t) f e in
-      let c = of_image (named_class p) w.class p.classes (class_in (named p) w.class.name w.class (chain_named (named p) (family_of p s) (keeps_above p o s g) (length (named p).classes) t w.class w.stands)) in
-      method_numbered c.0 w.class w.method n q c.1.0 c.1.1 w.found
+  numbered : (t n : Text) (q : Signature) (f : Found) → In f (answers_to (named p) t n q) → IsNumbered n q
+  numbered t n q f i =
+      let w = answer (named p) (family_of p s) (keeps_above p o s g) (regular p o s g) n q t f i in
+      let c = of_image (named_class p) w.class p.classes (class_in (named p) w.class.name w.class w.named) in
+      let m = of_image (named_method p) w.method c.0.methods (subst (λ z. In w.method z.methods) (sym c.1.1) w.stands) in
+      class_numbered c.0 m.0 w.method w.class n q c.1.0 m.1.0 m.1.1 (ap (λ z. z.key) w.is ∙ w.key_is)
 
   -- a method that isn't shut by name isn't by number
   not_shut : (n : ℕ) → n < length p.methods → methods_in p o.shut (method_at p n) ≡ false → slice_index_or g.closed.tables.shut.items n false ≡ false
@@ -171,13 +160,14 @@ module _ (p : Program) (o : Outside) (s : LiveSet) (g : IsMarked p o s) where
       by false h e = inr (sym (common_test p w.entry.name w.entry.proto) ∙ ap (λ z. spelled.is_common z (signature_at p w.entry.proto)) w.name ∙ ap (spelled.is_common n) w.proto ∙ e)
 
   called_held : (t n : Text) (q : Signature) → (family_of p s).made t ≡ true → (is_outward (named p) t || spelled.is_common n q) ≡ true
-      → (f : Found) → inherits (named p) t n q ≡ Some f → methods_in p o.shut f.key ≡ false → (family_of p s).methods f.key ≡ true
-  called_held t n q made may f e away =
+      → (f : Found) → In f (answers_to (named p) t n q) → methods_in p o.shut f.key ≡ false → (family_of p s).methods f.key ≡ true
+  called_held t n q made may f j away =
       let k = made_number p s t made in
-      let w = numbered t n q f e in
-      let from : inherits (named p) (type_at p k.number) (text_at p w.entry.name) (signature_at p w.entry.proto) ≡ Some f =
-      ap (λ z. inherits (named p) z (text_at p w.entry.name) (signature_at p w.entry.proto)) k.is ∙ ap (λ z. inherits (named p) t z (signature_at p w.entry.proto)) w.name ∙ ap (inherits (named p) t n) w.proto ∙ e in
-      let h = inherits_at p o s g k.number w.entry.name w.entry.proto f k.short (method_name p (S p o s g) w.number w.entry w.is_entry) (method_proto p (S p o s g) w.number w.entry w.is_entry) from in
+      let w = numbered t n q f j in
+      let from : In f (answers_to (named p) (type_at p k.number) (text_at p w.entry.name) (signature_at p w.entry.proto)) =
+      subst (λ z. In f (answers_to (named p) z (text_at p w.entry.name) (signature_at p w.entry.proto))) (sym k.is)
+      (subst (λ z. In f (answers_to (named p) t z (signature_at p w.entry.proto))) (sym w.name) (subst (λ z. In f (answers_to (named p) t n z)) (sym w.proto) j)) in
+      let h = answers_named p (S p o s g) g.once w.entry.name w.entry.proto (method_name p (S p o s g) w.number w.entry w.is_entry) (method_proto p (S p o s g) w.number w.entry w.is_entry) k.number k.short f from in
       let parts = found_parts p h.at f h.found in
       let there = parts.there in
       let fit = method_of p g.formed there.class h.at.class h.at.place there.method there.is_class there.is_method in
@@ -185,18 +175,17 @@ module _ (p : Program) (o : Outside) (s : LiveSet) (g : IsMarked p o s) where
       let short = entry_below p g.formed there.method.name fit.entry fit.is in
       let facts : open_facts p g.closed.tables.shut.items (Some h.at) ≡ fact.Method there.method.name ∷ [] =
       ap (open_of g.closed.tables.shut.items) (looked_up p h.at there) ∙ ap (λ b. cond b [] (fact.Method there.method.name ∷ [])) (not_shut there.method.name short (ap (methods_in p o.shut) key ∙ away)) in
-      ap (family_of p s).methods (sym key) ∙ method_met p s g.sized there.method.name short (g.closed.goes (fact.Made k.number) (fact.Method there.method.name) k.marked (inr (record {
+      ap (family_of p s).methods (sym key) ∙ method_met p s g.sized there.method.name short (g.closed.entails (fact.Made k.number) (fact.Method there.method.name) k.marked (inr (record {
         number = w.number;
         name = w.entry;
         class = h.class;
         at = h.at;
         is_name = w.is_entry;
         is_class = h.is_class;
-        old = g.old;
         may = may_call k.number n q w k.short (ap (λ z. is_outward (named p) z || spelled.is_common n q) k.is ∙ may);
-        answers = contained h.at (object.answers_to p h.class w.entry.name w.entry.proto) (subst (In h.at) (sym (ap (λ x. answers_or x (class_candidates p h.class w.entry.name w.entry.proto)) h.finds)) (here []));
+        answers = contained h.at (object.answers_to p h.class w.entry.name w.entry.proto) h.answers;
         fact_is = contained (fact.Method there.method.name) (open_facts p g.closed.tables.shut.items (Some h.at)) (subst (In (fact.Method there.method.name)) (sym facts) (here []));
       })))
 
   pub keeps_called_back : KeepsCalledBack (named p) (outer_of p o) (family_of p s)
-  keeps_called_back t n q made may f i away = called_held t n q made may f (answer_from p o s g t n q f (stands (answers_to (named p) t n q) f i)) away
+  keeps_called_back t n q made may f i away = called_held t n q made may f (stands (answers_to (named p) t n q) f i) away

@@ -236,7 +236,7 @@ pub record LiveCode (p : Program) (s : LiveSet) (k : MethodKey) (b : NamedBody) 
 module _ (p : Program) (o : Outside) (s : LiveSet) (g : IsMarked p o s) where
   -- what follows from a marked thing is marked
   forced_met : (x : Fact) → is_live s x ≡ true → Met s (forced p g.closed.tables x)
-  forced_met x live y i = g.closed.goes x y live (inl (contained y (forced p g.closed.tables x) i))
+  forced_met x live y i = g.closed.entails x y live (inl (contained y (forced p g.closed.tables x) i))
 
   pub field_facts_met : (n : ℕ) → is_live s (fact.Field n) ≡ true → Met s (field_facts p (bases_of p) n)
   field_facts_met n live = subst (λ b. Met s (field_facts p b n)) g.closed.are.bases (forced_met (fact.Field n) live)

@@ -7,8 +7,10 @@ pub mod Owned
 pub mod Coded
 pub mod Upward
 pub mod Numbers
-pub mod Calls
 pub mod Climbing
+pub mod Listing
+pub mod Answering
+pub mod Calls
 pub mod Answered
 pub mod Keeping
 pub mod Making

@@ -1,6 +1,6 @@
 -- What stands above a marked class, what runs when it is initialised, and what its annotations name.
 use Rattle.std.proofs.Common.{◌≡◌, ℕ, ◌<◌, Bool, true, false, [], ◌∷◌, ◌++◌, length, Option, Some, None, refl, sym, ap, ◌∙◌, subst}
-use Rattle.std.specs.Prelude.{cond, slice_get, position, option_and_then, codes, flat_map}
+use Rattle.std.specs.Prelude.{◌&&◌, cond, is_some, not, slice_get, position, option_and_then, codes, flat_map}
 use Rattle.std.specs.Option.{option_map}
 use Rattle.program_model.specs.declared.pools.MethodName.{MethodName}
 use Rattle.program_model.specs.declared.program.Method.{Method}
@@ -8,32 +8,40 @@ use Rattle.program_model.specs.declared.program.Class.{Class}
 use Rattle.program_model.specs.declared.program.Program.{Program}
 use Rattle.program_model.specs.declared.pass.Outside.{Outside}
 use Rattle.program_model.specs.Lookups.{class_place}
+use Rattle.program_model.specs.MemberRules.{has_flag, is_direct}
 use Rattle.class_defs.specs.Starts.{names_initialiser, is_initialiser, runs, running, initialiser_of, initialiser_place}
-use Rattle.class_defs.proofs.Positions.{PlaceFits, place_entry}
+use Rattle.class_defs.specs.Finding.{is_037}
+use Rattle.class_defs.proofs.Positions.{PlaceFits, both, place_entry}
 use Rattle.call_graph.specs.Bases.{bases_of}
+use Rattle.call_graph.specs.declared.facts.Fact.TheVariants as fact
 use Rattle.call_graph.specs.declared.live_set.LiveSet.{LiveSet}
 use Rattle.call_graph.specs.Names.{marks_names}
-use Rattle.call_graph.specs.Follows.{kind_facts, found_facts, defaults_of, starts_of, start_facts, above_facts, class_facts_of, class_facts_at, all_named}
+use Rattle.call_graph.specs.Follows.{kind_facts, found_facts, coded, defaults_of, starts_of, start_facts, above_facts, class_facts_of, class_facts_at, all_named}
 use Rattle.dalvik_defs.specs.Names.{Text, same_name, base_of, is_class_type, void, initialiser_name}
 use Rattle.dalvik_defs.specs.Naming.{text_at, type_at, signature_at, named_class, named_method, named}
 use Rattle.dalvik_defs.specs.Under.{class_named, defines}
 use Rattle.dalvik_defs.specs.Find as find
+use Rattle.dalvik_defs.specs.Flags as remainder
 use Rattle.dalvik_defs.specs.Initialised.{initialiser_key, initialiser_in}
+use Rattle.dalvik_defs.specs.Silence.{key_in}
 use Rattle.dalvik_defs.specs.declared.names.MethodKey.{MethodKey}
+use Rattle.dalvik_defs.specs.declared.program.NamedMethod.{NamedMethod}
 use Rattle.dalvik_defs.specs.declared.program.NamedClass.{NamedClass}
 use Rattle.pass_defs.specs.Live.{KeepsAbove}
 use Rattle.name_bridge.specs.Named.{class_at}
 use Rattle.name_bridge.proofs.Classes.{class_by_number}
-use Rattle.name_bridge.proofs.Found.{IsThere, found_there_is}
-use Rattle.name_bridge.proofs.Candidates.{named_test, version_test}
+use Rattle.name_bridge.proofs.Flags.{interface_flag}
+use Rattle.name_bridge.proofs.Found.{IsThere, found_there_is, virtual_test}
+use Rattle.name_bridge.proofs.Candidates.{named_test, version_test, coded_test}
 use Rattle.name_bridge.proofs.Started.{initialiser_by_number}
 use Rattle.removal_law.proofs.Lists.{In, here, there, clash}
 use Rattle.removal_law.proofs.Outward.{no_bracket}
 use Rattle.removal_law.proofs.Members.{key_sound}
 use Rattle.removal_law.proofs.Trees.{none_some, some_same}
+use Rattle.removal_bridge.proofs.Formed.{method_of, key_of, entry_below}
 use Rattle.reach_bridge.specs.Names.{family_of}
 use Rattle.reach_bridge.specs.Reached.{IsMarked}
-use Rattle.reach_bridge.proofs.Held.{stands, of_image, ByNumber, class_number}
+use Rattle.reach_bridge.proofs.Held.{stands, of_image, placed_at, ByNumber, class_number, method_met}
 use Rattle.reach_bridge.proofs.Based.{Met, Held, S, regular, kind_held}
 use Rattle.reach_bridge.proofs.Mentioned.{met_front, met_back, met_one, place_held}
 use Rattle.reach_bridge.proofs.Coded.{class_facts_met}
@@ -144,11 +152,42 @@ module _ (p : Program) (o : Outside) (s : LiveSet) (g : IsMarked p o s) where
         by None i h = none_some k h
         by (Some i) h same = start_at i k h (some_same (initialiser_key (type_at p own.class.name)) k same)
 
+    -- ---- the methods with code of an interface that has an initialiser
+
+    flag_is : remainder.is_interface c.flags ≡ true → has_flag own.class.flags 512 ≡ true
+    flag_is e = interface_flag own.class.flags ∙ ap (λ z. remainder.is_interface z.flags) own.is ∙ e
+
+    defaults_met : is_037 p.version ≡ true → remainder.is_interface c.flags ≡ true → is_some (initialiser_in c) ≡ true → Met s (flat_map (coded p) own.class.methods)
+    defaults_met new flag starts = by (initialiser_of p (Some own.class)) refl (ap is_some (sym (initialiser_by_number p own.class) ∙ ap initialiser_in own.is) ∙ starts)
+      where
+        at : (i : ℕ) → initialiser_place p own.place ≡ Some i → Met s (flat_map (coded p) own.class.methods)
+        at i e = subst (Met s) (ap (λ b. cond b (flat_map (coded p) own.class.methods) []) (both (is_037 p.version) (has_flag own.class.flags 512) new (flag_is flag)))
+            (met_back p o s g (found_facts p (Some (record { class = own.place; place = i }))) (defaults_of p own.class) (subst (Met s) (ap (starts_of p own.class own.place) e) start_met))
+
+        by : (x : Option ℕ) → initialiser_of p (Some own.class) ≡ x → is_some (option_map (λ i. initialiser_key (type_at p own.class.name)) x) ≡ true → Met s (flat_map (coded p) own.class.methods)
+        by None e h = clash false h refl
+        by (Some i) e h = at i (ap (initialiser_of p) own.is_class ∙ e)
+
+    -- a virtual method with code by name is one by number
+    coded_is : (x : Method) (m : NamedMethod) → named_method p x ≡ m → (find.is_virtual_method m && is_some m.body) ≡ true → (not (is_direct p x) && is_some x.body) ≡ true
+    coded_is x m same h = ap (λ b. b && is_some x.body) (sym (virtual_test p x)) ∙ ap (λ b. find.is_virtual_method (named_method p x) && b) (sym (coded_test p x.body)) ∙ ap (λ z. find.is_virtual_method z && is_some z.body) same ∙ h
+
+    pub default_live : (m : NamedMethod) → is_037 p.version ≡ true → remainder.is_interface c.flags ≡ true → is_some (initialiser_in c) ≡ true → In m c.methods → (find.is_virtual_method m && is_some m.body) ≡ true → (family_of p s).methods (key_in c m) ≡ true
+    default_live m new flag starts i h =
+        let r = of_image (named_method p) m own.class.methods (subst (λ z. In m z.methods) (sym own.is) i) in
+        let x = r.0 in
+        let at = placed_at own.class.methods x r.1.0 in
+        let w = method_of p g.formed own.class own.place at.0 x own.is_class at.1 in
+        let key = key_of p g.formed own.class own.place at.0 x own.is_class at.1 ∙ ap (λ z. key_in z (named_method p x)) own.is ∙ ap (key_in c) r.1.1 in
+        let facts : coded p x ≡ fact.Method x.name ∷ [] = ap (λ b. cond b (fact.Method x.name ∷ []) []) (coded_is x m r.1.1 h) in
+        ap (family_of p s).methods (sym key) ∙ method_met p s g.sized x.name (entry_below p g.formed x.name w.entry w.is)
+        (met_one p o s g (coded p) own.class.methods x (defaults_met new flag starts) r.1.0 (fact.Method x.name) (subst (In (fact.Method x.name)) (sym facts) (here [])))
+
   pub keeps_above : KeepsAbove (named p) (family_of p s)
   keeps_above = record {
     above = λ t c is live u i d. above_live t c is live u (stands (c.superclass ∷ c.interfaces) u i) d;
     initialisers = λ t k live e. by t k live (class_named (named p) t) refl e;
-    defaults = λ t c m new is live i e j h. clash (find.is_037 p.version) new (version_test p.version ∙ g.old);
+    defaults = λ t c m new is live flag starts i h. default_live t c is live m (sym (version_test p.version) ∙ new) flag (sym (ap (λ x. is_some (elim x as (λ x. Option MethodKey) [ Some c ↦ initialiser_in c | None ↦ None ])) is) ∙ starts) (stands c.methods m i) h;
   }
     where
       by : (t : Text) (k : MethodKey) → (family_of p s).classes t ≡ true → (x : Option NamedClass) → class_named (named p) t ≡ x → elim x as (λ x. Option MethodKey) [ Some c ↦ initialiser_in c | None ↦ None ] ≡ Some k → (family_of p s).methods k ≡ true

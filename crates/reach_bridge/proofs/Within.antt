@@ -11,6 +11,7 @@ use Rattle.dalvik_defs.specs.Names.{Text, text_eq, initialiser_name, void}
 use Rattle.dalvik_defs.specs.Naming.{named}
 use Rattle.dalvik_defs.specs.Outer.{outer_of}
 use Rattle.dalvik_defs.specs.Shown.{SameShown}
+use Rattle.dalvik_defs.specs.Flags.{is_interface}
 use Rattle.dalvik_defs.specs.Under.{class_named, defines}
 use Rattle.dalvik_defs.specs.Find as find
 use Rattle.dalvik_defs.specs.Find.{Found, Search, first_method, chain_of, interfaces_from, finds_statically, finds_super, finds_field, resolves_method, defined_field, defined_method}
@@ -32,9 +33,9 @@ use Rattle.removal_law.specs.Reach.{IsRegular, ShutsHold}
 use Rattle.removal_law.proofs.Lists.{In, here, there, clash, and_left, and_behind, in_either}
 use Rattle.removal_law.proofs.Walks.{text_same}
 use Rattle.removal_law.proofs.Declared.{none_there}
-use Rattle.removal_law.proofs.Finds.{filter_same, out_of_flat, first_where, where_key, in_unfiltered}
+use Rattle.removal_law.proofs.Finds.{filter_same, out_of_flat, first_where, where_key, in_unfiltered, among_in}
 use Rattle.removal_law.proofs.Fields as member
-use Rattle.removal_law.proofs.Virtuals.{answer}
+use Rattle.removal_law.proofs.Virtuals.{candidate, answer}
 use Rattle.removal_law.proofs.Trees.{none_some, some_same, class_name, defined, chain_named}
 use Rattle.removal_bridge.proofs.Formed.{removed_program}
 use Rattle.reach_bridge.specs.Names.{family_of, within}
@@ -45,7 +46,7 @@ use Rattle.reach_bridge.proofs.Based.{regular}
 use Rattle.reach_bridge.proofs.Mentioned.{nothing_in, only}
 use Rattle.reach_bridge.proofs.Coded.{keeps_types, keeps_resolved}
 use Rattle.reach_bridge.proofs.Upward.{keeps_above}
-use Rattle.reach_bridge.proofs.Calls.{old_named, no_super_candidates, keeps_bound}
+use Rattle.reach_bridge.proofs.Calls.{keeps_bound}
 use Rattle.reach_bridge.proofs.Answered.{keeps_virtual, keeps_called_back}
 use Rattle.reach_bridge.proofs.Keeping.{class_kept, field_kept, method_kept, keeps_owners}
 use Rattle.reach_bridge.proofs.Making.{keeps_made}
@@ -108,19 +109,57 @@ module _ (p : NamedProgram) (regular : IsRegular p) where
   pub answer_defined : (t n : Text) (q : Signature) (f : Found) → In f (answers_to p t n q) → defines p f.key.class ≡ true
   answer_defined t n q f i = let r = answer p everything (all_above p) regular n q t f i in ap (λ k. defines p k.class) r.key_is ∙ defined p r.class.name r.class r.named
 
-  pub bound_defined : find.is_037 p.version ≡ false → ((k : MethodKey) → super_candidates p k ≡ []) → (class : Text) (kind : InvokeKind) (k : MethodKey) (f : Found) → is_bound kind ≡ true → In f (may_find p class kind k) → defines p f.key.class ≡ true
-  bound_defined old none class call.Static k f bound i = searched_defined k.class k.name k.signature f i
-  bound_defined old none class call.Direct k f bound i = searched_defined k.class k.name k.signature f i
-  bound_defined old none class call.Super k f bound i = either (in_either f (found_by (finds_super p class k)) (super_candidates p k) i)
-    where
-      above : finds_super p class k ≡ find.finds_above p class k
-      above = ap (λ b. elim b as (λ b. Search) [ true ↦ find.finds_super_037 p class k (class_named p k.class) | false ↦ find.finds_above p class k ]) old
+  candidate_defined : (ts : List Text) (n : Text) (q : Signature) (f : Found) → In f (find.candidates p ts n q) → defines p f.key.class ≡ true
+  candidate_defined ts n q f i = let r = candidate p everything (all_above p) regular n q ts f i in ap (λ k. defines p k.class) r.key_is ∙ defined p r.class.name r.class r.named
 
+  among_defined : (ts : List Text) (n : Text) (q : Signature) (f : Found) → In f (found_by (find.finds_among p ts n q)) → defines p f.key.class ≡ true
+  among_defined ts n q f i = by (find.finds_among p ts n q) refl i
+    where
+      by : (x : Search) → find.finds_among p ts n q ≡ x → In f (found_by x) → defines p f.key.class ≡ true
+      by Search.Nothing e j = nothing_in f j
+      by Search.Clash e j = nothing_in f j
+      by (Search.Finds y) e j = candidate_defined ts n q f (subst (λ z. In z (find.candidates p ts n q)) (only f y j) (among_in p everything (all_above p) regular ts n q y e))
+
+  -- what a super call finds, by its version and by the class that it names
+  super_defined : (class : Text) (k : MethodKey) (f : Found) → In f (found_by (finds_super p class k)) → defines p f.key.class ≡ true
+  super_defined class k f i = by (find.is_037 p.version) i
+    where
+      above : In f (found_by (find.finds_above p class k)) → defines p f.key.class ≡ true
+      above j = searched_defined (find.superclass_of p class) k.name k.signature f j
+
+      by_flag : (c : NamedClass) (b : Bool) → In f (found_by (elim b as (λ b. Search) [ true ↦ find.finds_among p (c.name ∷ []) k.name k.signature | false ↦ find.finds_above p class k ])) → defines p f.key.class ≡ true
+      by_flag c true j = among_defined (c.name ∷ []) k.name k.signature f j
+      by_flag c false j = above j
+
+      by_lists : (b : Bool) → In f (found_by (elim b as (λ b. Search) [ true ↦ Search.Nothing | false ↦ find.finds_above p class k ])) → defines p f.key.class ≡ true
+      by_lists true j = nothing_in f j
+      by_lists false j = above j
+
+      by_class : (x : Option NamedClass) → In f (found_by (find.finds_super_037 p class k x)) → defines p f.key.class ≡ true
+      by_class None j = by_lists (find.lists_interface p class k.class) j
+      by_class (Some c) j = by_flag c (is_interface c.flags) j
+
+      by : (b : Bool) → In f (found_by (elim b as (λ b. Search) [ true ↦ find.finds_super_037 p class k (class_named p k.class) | false ↦ find.finds_above p class k ])) → defines p f.key.class ≡ true
+      by true j = by_class (class_named p k.class) j
+      by false j = above j
+
+  named_defined : (k : MethodKey) (f : Found) → In f (super_candidates p k) → defines p f.key.class ≡ true
+  named_defined k f i = by (find.is_037 p.version && is_some (find.interface_named p k.class)) i
+    where
+      by : (b : Bool) → In f (elim b as (λ b. List Found) [ true ↦ find.candidates p (k.class ∷ []) k.name k.signature | false ↦ [] ]) → defines p f.key.class ≡ true
+      by true j = candidate_defined (k.class ∷ []) k.name k.signature f j
+      by false j = nothing_in f j
+
+  pub bound_defined : (class : Text) (kind : InvokeKind) (k : MethodKey) (f : Found) → is_bound kind ≡ true → In f (may_find p class kind k) → defines p f.key.class ≡ true
+  bound_defined class call.Static k f bound i = searched_defined k.class k.name k.signature f i
+  bound_defined class call.Direct k f bound i = searched_defined k.class k.name k.signature f i
+  bound_defined class call.Super k f bound i = either (in_either f (found_by (finds_super p class k)) (super_candidates p k) i)
+    where
       either : In f (found_by (finds_super p class k)) ⊎ In f (super_candidates p k) → defines p f.key.class ≡ true
-      either (inl j) = searched_defined (find.superclass_of p class) k.name k.signature f (subst (λ z. In f (found_by z)) above j)
-      either (inr j) = nothing_in f (subst (In f) (none k) j)
-  bound_defined old none class call.Virtual k f bound i = clash false bound refl
-  bound_defined old none class call.Interface k f bound i = clash false bound refl
+      either (inl j) = super_defined class k f j
+      either (inr j) = named_defined k f j
+  bound_defined class call.Virtual k f bound i = clash false bound refl
+  bound_defined class call.Interface k f bound i = clash false bound refl
 
 -- ---- the family
 
@@ -197,7 +236,7 @@ module _ (p : Program) (o : Outside) (s : LiveSet) (g : IsMarked p o s) where
     above = record {
       above = (keeps_above p o s g).above;
       initialisers = λ t k l e. method_in k ((keeps_above p o s g).initialisers t k l e) (initialiser_defined t k e);
-      defaults = λ t c m new is live i e j h. clash (find.is_037 p.version) new (old_named p o s g);
+      defaults = λ t c m new is live i e j h. method_in (key_in c m) ((keeps_above p o s g).defaults t c m new is live i e j h) (ap (defines (named p)) (class_name (named p) t c is) ∙ defined (named p) t c is);
     };
     types = record {
       fields = λ k e. (keeps_types p o s g).fields k (field_out k e);
@@ -218,7 +257,7 @@ module _ (p : Program) (o : Outside) (s : LiveSet) (g : IsMarked p o s) where
       methods = λ m b kind k args h i k' f c e. method_in f.key ((keeps_resolved p o s g).methods m b kind k args (method_out m h.0, h.1) i k' f c e) (resolved_defined (named p) R k' f e);
     };
     bound = λ m b kind k args h i e f c. method_in f.key (keeps_bound p o s g m b kind k args (method_out m h.0, h.1) i e f c)
-        (bound_defined (named p) R (old_named p o s g) (no_super_candidates p o s g) m.class kind k f e (stands (may_find (named p) m.class kind k) f c));
+        (bound_defined (named p) R m.class kind k f e (stands (may_find (named p) m.class kind k) f c));
     virtual = λ m b kind k args h i e t made under f c. method_in f.key (keeps_virtual p o s g m b kind k args (method_out m h.0, h.1) i e t made under f c)
         (answer_defined (named p) R t k.name k.signature f (stands (answers_to (named p) t k.name k.signature) f c));
     called_back = λ t n q made may f c away. method_in f.key (keeps_called_back p o s g t n q made may f c away) (answer_defined (named p) R t n q f (stands (answers_to (named p) t n q) f c));

@@ -9,7 +9,6 @@ use Rattle.class_defs.specs.ClassGraph.{IsTwice, IsAncestor}
 use Rattle.call_graph.specs.declared.live_set.LiveSet.{LiveSet}
 use Rattle.call_graph.specs.Facts.{Fits}
 use Rattle.call_graph.specs.Follows.{class_of}
-use Rattle.call_graph.specs.Objects.{IsOld}
 use Rattle.call_graph.specs.Closed.{IsClosedSet}
 use Rattle.reach.specs.Kept.{is_marked}
 use Rattle.dalvik_defs.specs.Under.{defines}
@@ -18,13 +17,12 @@ use Rattle.dalvik_defs.specs.declared.names.FieldKey.{FieldKey}
 use Rattle.dalvik_defs.specs.declared.program.NamedProgram.{NamedProgram}
 use Rattle.pass_defs.specs.Live.{Family}
 
--- A well-formed program of version 035, of which no class is defined twice or is its own ancestor, and marks on its numbers that
--- are closed under what follows.
+-- A well-formed program, of which no class is defined twice or is its own ancestor, and marks on its numbers that are closed under
+-- what follows.
 pub record IsMarked (p : Program) (o : Outside) (s : LiveSet) : Type 0 where
   pub formed : is_well_formed p ≡ true
   pub once : (class : ℕ) → IsTwice p class → ⊥
   pub grounded : (class : ℕ) → IsAncestor p class class → ⊥
-  pub old : IsOld p
   pub sized : Fits p s
   pub closed : IsClosedSet p o s
 

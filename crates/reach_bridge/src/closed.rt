@@ -24,17 +24,20 @@ pub fn resolved_law()
     ensures { (p : Program) (o : Outside) (s : LiveSet) → IsMarked p o s → KeepsResolved (named p) (family_of p s) }
 {}
 
-/// What stands above a live class is live, and so is its initialiser.
+/// What stands above a live class is live, and so is its initialiser; in version 037 also the methods with code of a live
+/// interface with an initialiser.
 pub fn above_law()
     ensures { (p : Program) (o : Outside) (s : LiveSet) → IsMarked p o s → KeepsAbove (named p) (family_of p s) }
 {}
 
-/// What a static, direct or super call in live code finds is live.
+/// What a static, direct or super call in live code finds is live, and so are all candidates of a program interface that a
+/// super call names.
 pub fn bound_law()
     ensures { (p : Program) (o : Outside) (s : LiveSet) → IsMarked p o s → KeepsBound (named p) (family_of p s) }
 {}
 
-/// What each made class under the class that a virtual or interface call of live code names finds for the call is live.
+/// What each made class under the class that a virtual or interface call of live code names finds for the call is live:
+/// the method along its superclasses, or all candidates of their interfaces where there is none.
 pub fn virtual_law()
     ensures { (p : Program) (o : Outside) (s : LiveSet) → IsMarked p o s → KeepsVirtual (named p) (family_of p s) }
 {}

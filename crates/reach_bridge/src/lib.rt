@@ -2,13 +2,13 @@
 //! empty body, and their contracts are the laws.
 //!
 //! `laws` says that what marks on numbers leave of a program is what is left of it by the names of the marked numbers.
-//! `closed` says, record by record, that the names of the marked numbers keep what a closed family keeps, where the marks
-//! have what the contract of `live_members` promises: they fit the tables, and they are closed under what follows. With
-//! all records `closed_law` has the closed family, and `reach_law` that what the marks leave shows the same.
+//! `closed` says, record by record, that in both versions the names of the marked numbers keep what a closed family
+//! keeps, where the marks have what the contract of `live_members` promises: they fit the tables, and they are closed
+//! under what follows. With all records `closed_law` has the closed family, and `reach_law` that what the marks leave
+//! shows the same.
 //!
 //! What is not proved, and stands as a premise:
 //!
-//! - The program is of version 035. Of version 037 the marks say less: no candidates of interfaces.
 //! - `kept_law` asks that marked members are of classes of the program (`AreDefined`), so that their classes are live;
 //!   `owners_law` has this without the premise for the classes that the program defines. `closed_law` and `reach_law`
 //!   don't ask it, since they leave out the other members (`within`, in `specs/Names.antt`), of which nothing is left.

@@ -3,11 +3,12 @@ use Rattle.std.proofs.Common.{◌≡◌, ℕ, zero, suc, Bool, true, false, List
 use Rattle.std.specs.Prelude.{◌⊎◌, ◌&&◌, ◌||◌, not, cond, Option, Some, None, is_some, is_none, filter, flat_map}
 use Rattle.std.specs.List.{list_any}
 use Rattle.std.specs.Option.{option_map}
-use Rattle.dalvik_defs.specs.Names.{Text, void, initialiser_name}
+use Rattle.dalvik_defs.specs.Names.{Text, text_eq, void, initialiser_name}
 use Rattle.dalvik_defs.specs.Flags.{is_interface}
 use Rattle.dalvik_defs.specs.Under.{class_named, defines}
 use Rattle.dalvik_defs.specs.Find.{method_in, is_virtual_method, interface_named, is_037}
-use Rattle.dalvik_defs.specs.Initialised.{initialiser_key, is_initialiser, initialiser_in, initialiser_of, has_default, only_if, interfaces_before, interfaces_first, first_of_class, initialised_first}
+use Rattle.dalvik_defs.specs.Initialised.{initialiser_key, is_initialiser, initialiser_in, initialiser_of, has_default, only_if, interfaces_before, firsts, interfaces_first, first_of_class, initialised_first}
+use Rattle.dalvik_defs.proofs.Firsts.{filter_firsts}
 use Rattle.dalvik_defs.specs.declared.names.MethodKey.{MethodKey}
 use Rattle.dalvik_defs.specs.declared.program.NamedMethod.{NamedMethod}
 use Rattle.dalvik_defs.specs.declared.program.NamedClass.{NamedClass}
@@ -21,7 +22,7 @@ use Rattle.removal_law.proofs.Lists.{clash, In, here, there, in_either, containe
 use Rattle.removal_law.proofs.Classes.{Kept, class_left, dead_found}
 use Rattle.removal_law.proofs.Members.{method_left}
 use Rattle.removal_law.proofs.Trees.{Tree, absent, some_same, none_some, class_name, class_kept, up_kept, defined, tree, defines_same}
-use Rattle.removal_law.proofs.Finds.{flat_same, flat_none, out_of_flat, dead_method, interface_left, interface_class, trees_up, Trees}
+use Rattle.removal_law.proofs.Finds.{in_unfiltered, flat_same, flat_none, out_of_flat, dead_method, interface_left, interface_class, trees_up, Trees}
 
 -- a test that only kept elements pass
 any_filter : {A : Type 0} (f keep : A → Bool) (xs : List A) → ((x : A) → In x xs → f x ≡ true → keep x ≡ true) → list_any f (filter keep xs) ≡ list_any f xs
@@ -178,9 +179,11 @@ module _ (p : NamedProgram) (s : Family) (above : KeepsAbove p s) (regular : IsR
       ups : (u : Text) → In u c.interfaces → Kept s p u
       ups u i = up_kept p s above t c e h u (there c.superclass c.interfaces i)
 
-      by : (b : Bool) → is_037 p.version ≡ b → sieve calm (elim b as (λ b. List Text) [ true ↦ interfaces_before (length q.classes) q c.interfaces | false ↦ [] ])
-          ≡ sieve calm (elim b as (λ b. List Text) [ true ↦ interfaces_before (length p.classes) p c.interfaces | false ↦ [] ])
-      by true v = before_left v (length q.classes) (length p.classes) c.interfaces (λ u i. tree p s above regular u (ups u i)) ups
+      by : (b : Bool) → is_037 p.version ≡ b → sieve calm (elim b as (λ b. List Text) [ true ↦ firsts (interfaces_before (length q.classes) q c.interfaces) | false ↦ [] ])
+          ≡ sieve calm (elim b as (λ b. List Text) [ true ↦ firsts (interfaces_before (length p.classes) p c.interfaces) | false ↦ [] ])
+      by true v = filter_firsts (λ t. not (calm t)) (interfaces_before (length q.classes) q c.interfaces)
+          ∙ ap firsts (before_left v (length q.classes) (length p.classes) c.interfaces (λ u i. tree p s above regular u (ups u i)) ups)
+          ∙ sym (filter_firsts (λ t. not (calm t)) (interfaces_before (length p.classes) p c.interfaces))
       by false v = refl
 
   abbrev first_at : NamedProgram → Option NamedClass → List Text
@@ -273,11 +276,16 @@ module _ (p : NamedProgram) (s : Family) (above : KeepsAbove p s) (regular : IsR
           either (inl b) = ih c.interfaces (λ v j. up_kept p s above w.0 c (interface_class p s above regular w.0 c e) (h w.0 w.1.0) v (there c.superclass c.interfaces j)) b
           either (inr b) = subst Stands (sym (one_if (has_default c) w.0 u b).0) (stands w.0 c (interface_class p s above regular w.0 c e) (h w.0 w.1.0))
 
+  out_of_firsts : (u : Text) (ts : List Text) → In u (firsts ts) → In u ts
+  out_of_firsts u [] i = i
+  out_of_firsts u (t ∷ ts) (here ys) = here ts
+  out_of_firsts u (t ∷ ts) (there y ys j) = there t ts (out_of_firsts u ts (in_unfiltered (λ v. not (text_eq v t)) u (firsts ts) j))
+
   pub first_stands : (t : Text) → Kept s p t → (u : Text) → In u (initialised_first p t) → Stands u
   first_stands t h u i = by (class_named p t) refl i
     where
-      inner : (c : NamedClass) → class_named p t ≡ Some c → (b : Bool) → In u (elim b as (λ b. List Text) [ true ↦ interfaces_before (length p.classes) p c.interfaces | false ↦ [] ]) → Stands u
-      inner c e true j = before_kept (length p.classes) c.interfaces (λ v k. up_kept p s above t c e h v (there c.superclass c.interfaces k)) u j
+      inner : (c : NamedClass) → class_named p t ≡ Some c → (b : Bool) → In u (elim b as (λ b. List Text) [ true ↦ firsts (interfaces_before (length p.classes) p c.interfaces) | false ↦ [] ]) → Stands u
+      inner c e true j = before_kept (length p.classes) c.interfaces (λ v k. up_kept p s above t c e h v (there c.superclass c.interfaces k)) u (out_of_firsts u (interfaces_before (length p.classes) p c.interfaces) j)
       inner c e false j = elim j [ ]
 
       parts : (c : NamedClass) → class_named p t ≡ Some c → In u (only_if (defines p c.superclass) c.superclass) ⊎ In u (interfaces_first p c) → Stands u

@@ -28,7 +28,7 @@ class_mark tokens at next p one other = record {
   related = OfMark p one.thing one.related;
 }
 
-banged : (negated : Bool) (w : Word) (ws : List Word) → bang negated ++ (w ∷ ws) ≡ (bang negated ++ w ∷ []) ++ ws
+pub banged : (negated : Bool) (w : Word) (ws : List Word) → bang negated ++ (w ∷ ws) ≡ (bang negated ++ w ∷ []) ++ ws
 banged true w ws = refl
 banged false w ws = refl
 

@@ -1,7 +1,12 @@
+pub mod ArgumentLemmas
+pub mod ClassLemmas
 pub mod ConditionLemmas
+pub mod EntryLemmas
 pub mod FaultLemmas
 pub mod FrontLemmas
 pub mod LetterLemmas
+pub mod MemberLemmas
 pub mod ReadLemmas
 pub mod RunLemmas
 pub mod StepLemmas
+pub mod StopLemmas

@@ -70,7 +70,7 @@ no_name tokens at t inside is other = record { stays = refl; other = ap is_name 
 pub no_name_behind : (tokens : List Lexed) (at : ℕ) → length tokens ≤ at → IsNoName tokens at at
 no_name_behind tokens at past = record { stays = refl; other = ap (λ ws. is_name (first_word ws)) (end_at tokens at past) }
 
-marked_by : (w : Word) → 1 ≤ length w → slice_index_or w 0 0 ≡ 64 → w ≡ marked (take (length w - 1) (drop 1 w))
+pub marked_by : (w : Word) → 1 ≤ length w → slice_index_or w 0 0 ≡ 64 → w ≡ marked (take (length w - 1) (drop 1 w))
 marked_by [] some first =
     let no : ⊥ = omega arith in
     absurd no

@@ -4,10 +4,12 @@ pub mod Faults
 pub mod Fronts
 pub mod Glob
 pub mod Pieces
+pub mod ReadEntries
 pub mod Reads
 pub mod Related
 pub mod Rules
 pub mod Spelling
 pub mod Steps
+pub mod Stops
 pub mod Tokens
 pub mod Words

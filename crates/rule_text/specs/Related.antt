@@ -1,7 +1,8 @@
 -- What is read and what is meant: patterns are read for the words of names and types, and everything else as it is
 -- written.
-use Rattle.std.specs.Prelude.{◌≡◌, ℕ, zero, suc, Bool, true, false, List, [], ◌∷◌, ◌++◌, map, Option, Some, None, codes}
+use Rattle.std.specs.Prelude.{◌≡◌, ℕ, zero, suc, Bool, true, false, List, [], ◌∷◌, ◌++◌, map, Option, Some, None, Vec, codes}
 use Rattle.std.specs.List.{flat_map}
+use Rattle.std.specs.declared.alloc.Global.{Global}
 use Rattle.rule_text.specs.declared.pattern.Piece.TheVariants as piece
 use Rattle.rule_text.specs.declared.pattern.NamePattern.{NamePattern}
 use Rattle.rule_text.specs.declared.rules.Access.{Access}
@@ -88,6 +89,9 @@ pub record IsMemberOf (r : ReadMember) (m : MemberRule) : Type 0 where
   pub conditions : AreEach IsConditionOf r.conditions.items m.conditions
   pub what : IsWhatOf r.what m.what
 
+abbrev pub AreMembersOf : Vec ReadMember Global → List MemberRule → Type 0
+AreMembersOf rs ms = AreEach IsMemberOf rs.items ms
+
 abbrev pub is_extends : AboveWord → Bool
 is_extends word.Extends = true
 is_extends word.Implements = false
@@ -103,7 +107,7 @@ pub record IsClassOf (r : ReadClass) (c : ClassRule) : Type 0 where
   pub kind : r.kind ≡ c.kind
   pub names : AreEach IsPatternOf r.names.items c.names
   pub above : AreBoth IsAboveOf r.above c.above
-  pub members : AreBoth (λ rs ms. AreEach IsMemberOf rs.items ms) r.members c.members
+  pub members : AreBoth AreMembersOf r.members c.members
 
 pub record IsKeepOf (r : ReadKeep) (k : KeepRule) : Type 0 where
   pub kind : r.kind ≡ k.kind

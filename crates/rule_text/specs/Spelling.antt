@@ -187,9 +187,12 @@ is_plain_condition (Has negated access) = true
 abbrev pub is_first_type : Word → Bool
 is_first_type w = is_name w && is_other w member_words
 
+abbrev pub is_argument : Word → Bool
+is_argument w = is_name w && is_other w (codes "..." ∷ [])
+
 abbrev pub are_arguments : Arguments → Bool
 are_arguments Any = true
-are_arguments (These types) = list_all (λ w. is_name w && is_other w (codes "..." ∷ [])) types
+are_arguments (These types) = list_all is_argument types
 
 abbrev pub is_what : What → Bool
 is_what (Init arguments) = are_arguments arguments
@@ -209,10 +212,13 @@ is_member_rule m = list_all is_member_condition m.conditions && is_what m.what
 abbrev pub is_assumed_rule : MemberRule → Bool
 is_assumed_rule m = list_all is_plain_condition m.conditions && is_assumed_what m.what
 
--- one name at least
+-- one word of these at least
+abbrev pub are_some : (Word → Bool) → List Word → Bool
+are_some is [] = false
+are_some is (w ∷ ws) = list_all is (w ∷ ws)
+
 abbrev pub are_names : List Word → Bool
-are_names [] = false
-are_names (w ∷ ws) = list_all is_name (w ∷ ws)
+are_names ws = are_some is_name ws
 
 abbrev pub is_above : Option Above → Bool
 is_above (Some a) = is_name a.name && elim a.mark [ Some name ↦ is_name name | None ↦ true ]

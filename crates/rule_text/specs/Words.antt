@@ -1,10 +1,12 @@
 -- Which words are spelled by which names of the language.
-use Rattle.std.specs.Prelude.{◌≡◌, Bool, true, false, Option, Some, None}
+use Rattle.std.specs.Prelude.{◌≡◌, Bool, true, false, Option, Some, None, codes}
 use Rattle.std.specs.List.{list_any}
 use Rattle.rule_text.specs.Tokens.{Word}
 use Rattle.rule_text.specs.Spelling.{word_eq, access_word, class_words}
 use Rattle.rule_text.specs.declared.rules.Access.{Access}
 use Rattle.rule_text.specs.declared.rules.Access.TheVariants as access
+use Rattle.rule_text.specs.declared.rules.AboveWord.{AboveWord}
+use Rattle.rule_text.specs.declared.rules.AboveWord.TheVariants as above
 
 -- the name whose word this is; none has it where there is none
 abbrev pub IsNameOf : {K : Type 0} → (K → Word) → Word → Option K → Type 0
@@ -31,3 +33,8 @@ is_rare access.Varargs = true
 is_rare access.Bridge = true
 is_rare access.Synthetic = true
 is_rare name = false
+
+-- the word before an ancestor
+abbrev pub above_word : AboveWord → Word
+above_word above.Extends = codes "extends"
+above_word above.Implements = codes "implements"

@@ -1,10 +1,10 @@
 //! Reading of which classes a rule names.
 
 ghost use Rattle.std.specs.Prelude.{◌≡◌, ◌+◌, ◌<◌, ◌≤◌, ◌∷◌, ◌++◌, true, length, IsTrue, IsErr, IfOk, IfSome, IfNone, OnOk};
-ghost use Rattle.rule_text.specs.Reads.{Reads, ReadsEach};
-ghost use Rattle.rule_text.specs.Related.{AreEach, IsPatternOf, IsConditionOf};
-ghost use Rattle.rule_text.specs.Spelling.{are_names, separated, is_class_condition, condition_words, access_word, kind_word, bang};
-ghost use Rattle.rule_text.specs.Words.{is_of_class};
+ghost use Rattle.rule_text.specs.Reads.{Reads, ReadsEach, IsHead};
+ghost use Rattle.rule_text.specs.Related.{AreEach, AreBoth, IsPatternOf, IsConditionOf, IsAboveOf, AreMembersOf, IsClassOf};
+ghost use Rattle.rule_text.specs.Spelling.{are_names, separated, is_class_condition, condition_words, access_word, kind_word, bang, is_above, above_words, are_members, braces_words, is_class_rule, class_rule_words};
+ghost use Rattle.rule_text.specs.Words.{above_word, is_of_class};
 ghost use Rattle.rule_text.specs.Steps.{words_at, BeginWithNone};
 
 use crate::cursor::{accept, advance, word_at};
@@ -118,11 +118,19 @@ fn read_kind(tokens: &[Token<'_>], at: &mut usize) -> Result<ClassKind, Stop>
 }
 
 /// The word before an ancestor.
-fn above_word(word: &[u8]) -> Option<AboveWord> {
-    match word {
-        b"extends" => Some(AboveWord::Extends),
-        b"implements" => Some(AboveWord::Implements),
-        _ => None,
+fn read_above_word(tokens: &[Token<'_>], at: &mut usize) -> Option<AboveWord>
+    requires { at.old ≤ length tokens.now }
+    ensures moves { at.old ≤ at.new }
+    ensures inside { at.new ≤ length tokens.now }
+    ensures step { IfSome result (λ word. words_at tokens.now at.old ≡ above_word word ∷ words_at tokens.now at.new) }
+    ensures stays { IfNone result (at.new ≡ at.old) }
+{
+    if accept(tokens, at, b"extends") {
+        Some(AboveWord::Extends)
+    } else if accept(tokens, at, b"implements") {
+        Some(AboveWord::Implements)
+    } else {
+        None
     }
 }
 
@@ -131,11 +139,11 @@ fn read_above(alloc: Global, tokens: &[Token<'_>], at: &mut usize) -> Result<Opt
     requires { at.old ≤ length tokens.now }
     ensures moves { at.old ≤ at.new }
     ensures inside { at.new ≤ length tokens.now }
+    ensures step { IfOk result (Reads (AreBoth IsAboveOf) is_above above_words tokens.now at.old at.new) }
 {
-    let Some(word) = above_word(word_at(tokens, *at)) else {
+    let Some(word) = read_above_word(tokens, at) else {
         return Ok(None);
     };
-    advance(tokens, at);
     let mark = read_mark(alloc, tokens, at)?;
     let name = read_name(alloc, tokens, at)?;
     Ok(Some(Above { word, mark, name }))
@@ -150,11 +158,30 @@ fn read_braces(
     requires { at.old ≤ length tokens.now }
     ensures moves { at.old ≤ at.new }
     ensures inside { at.new ≤ length tokens.now }
+    ensures step { IfOk result (Reads (AreBoth AreMembersOf) are_members braces_words tokens.now at.old at.new) }
 {
-    match word_at(tokens, *at) {
-        b"{" => Ok(Some(read_members(alloc, tokens, at)?)),
-        _ => Ok(None),
+    if word_at(tokens, *at) != b"{".as_slice() {
+        return Ok(None);
     }
+    let members = read_members(alloc, tokens, at)?;
+    Ok(Some(members))
+}
+
+/// The kind of the classes that a keep rule names, and what stands before it.
+fn read_head(
+    alloc: Global,
+    tokens: &[Token<'_>],
+    at: &mut usize,
+) -> Result<(Vec<Condition>, bool, ClassKind), Stop>
+    requires { at.old ≤ length tokens.now }
+    ensures moves { at.old ≤ at.new }
+    ensures inside { at.new ≤ length tokens.now }
+    ensures step { IfOk result (λ head. IsHead tokens.now at.old at.new head.0.items head.1 head.2) }
+{
+    let conditions = read_conditions(alloc, tokens, at)?;
+    let negated = accept(tokens, at, b"!");
+    let kind = read_kind(tokens, at)?;
+    Ok((conditions, negated, kind))
 }
 
 /// Which classes a keep rule names, and which of their members.
@@ -162,10 +189,9 @@ pub fn read_class(alloc: Global, tokens: &[Token<'_>], at: &mut usize) -> Result
     requires { at.old ≤ length tokens.now }
     ensures moves { at.old ≤ at.new }
     ensures inside { at.new ≤ length tokens.now }
+    ensures step { IfOk result (Reads IsClassOf is_class_rule class_rule_words tokens.now at.old at.new) }
 {
-    let conditions = read_conditions(alloc, tokens, at)?;
-    let negated = accept(tokens, at, b"!");
-    let kind = read_kind(tokens, at)?;
+    let (conditions, negated, kind) = read_head(alloc, tokens, at)?;
     let names = read_names(alloc, tokens, at)?;
     let above = read_above(alloc, tokens, at)?;
     let members = read_braces(alloc, tokens, at)?;

@@ -1,11 +1,14 @@
 //! Reading of a whole text.
 
-ghost use Rattle.std.specs.Prelude.{◌≡◌, ◌+◌, ◌<◌, ◌≤◌, ◌^◌, ◌↔◌, ◌∷◌, None, length, IsErr, IsTrue, OnOk, IfOk, IfErr, IfSome, MatchOption};
+ghost use Rattle.std.specs.Prelude.{◌≡◌, ◌+◌, ◌<◌, ◌≤◌, ◌^◌, ◌∷◌, ◌++◌, true, false, if◌then◌else◌, None, length, IsErr, OnOk, IfOk, IfErr, IfSome, IfNone, MatchOption};
 ghost use Rattle.std.specs.Str.{IsUtf8, IsValidUpTo};
 ghost use Rattle.rule_text.specs.Fault.{IsFault, IsFaultBy};
 ghost use Rattle.rule_text.specs.Faults.{IsReadable};
 ghost use Rattle.rule_text.specs.Fronts.{AreTokensOf};
-ghost use Rattle.rule_text.specs.Spelling.{modifier_word};
+ghost use Rattle.rule_text.specs.Reads.{Reads};
+ghost use Rattle.rule_text.specs.ReadEntries.{IsKeepBehind, IsAssumeBehind, AreWordsBehind, ReadsFew, IsReading};
+ghost use Rattle.rule_text.specs.Related.{IsEntryOf};
+ghost use Rattle.rule_text.specs.Spelling.{modifier_word, modifier_words, setting_word, keep_word, is_long, is_entry, entry_words, begins_option, begins_rule};
 ghost use Rattle.rule_text.specs.Steps.{words_at, BeginWithNone};
 
 use crate::cursor::{accept, advance, expect_word, word_at};
@@ -39,6 +42,24 @@ fn read_modifier(tokens: &[Token<'_>], at: &mut usize) -> Result<Modifier, Stop>
     }
 }
 
+/// The modifiers of a keep option, each behind a comma.
+fn read_modifiers(
+    alloc: Global,
+    tokens: &[Token<'_>],
+    at: &mut usize,
+) -> Result<Vec<Modifier>, Stop>
+    requires { at.old ≤ length tokens.now }
+    ensures moves { at.old ≤ at.new }
+    ensures inside { at.new ≤ length tokens.now }
+    ensures step { IfOk result (λ modifiers. words_at tokens.now at.old ≡ modifier_words modifiers.items ++ words_at tokens.now at.new) }
+{
+    let mut modifiers = Vec::new(alloc);
+    while accept(tokens, at, b",") {
+        modifiers.push(read_modifier(tokens, at)?)?;
+    }
+    Ok(modifiers)
+}
+
 /// A keep rule behind its option.
 fn read_keep(
     alloc: Global,
@@ -49,15 +70,14 @@ fn read_keep(
     requires { at.old ≤ length tokens.now }
     ensures moves { at.old ≤ at.new }
     ensures inside { at.new ≤ length tokens.now }
+    ensures step { IfOk result (IsKeepBehind kind tokens.now at.old at.new) }
 {
-    let mut modifiers = Vec::new(alloc);
-    while accept(tokens, at, b",") {
-        modifiers.push(read_modifier(tokens, at)?)?;
-    }
+    let modifiers = read_modifiers(alloc, tokens, at)?;
+    let class = read_class(alloc, tokens, at)?;
     Ok(KeepRule {
         kind,
         modifiers,
-        class: read_class(alloc, tokens, at)?,
+        class,
     })
 }
 
@@ -66,12 +86,39 @@ fn read_assume(alloc: Global, tokens: &[Token<'_>], at: &mut usize) -> Result<As
     requires { at.old ≤ length tokens.now }
     ensures moves { at.old ≤ at.new }
     ensures inside { at.new ≤ length tokens.now }
+    ensures step { IfOk result (IsAssumeBehind tokens.now at.old at.new) }
 {
     expect_word(tokens, at, b"class")?;
-    Ok(AssumeRule {
-        names: read_names(alloc, tokens, at)?,
-        members: read_assumed_members(alloc, tokens, at)?,
-    })
+    let names = read_names(alloc, tokens, at)?;
+    let members = read_assumed_members(alloc, tokens, at)?;
+    Ok(AssumeRule { names, members })
+}
+
+/// Whether an option begins with this token.
+fn begins_option(word: &[u8]) -> bool
+    ensures { result ≡ begins_option word.now }
+{
+    matches!(word, [b'-', ..])
+}
+
+/// Goes over a word of an option, none where another option begins or the text ends.
+fn option_word<'a>(tokens: &[Token<'a>], at: &mut usize) -> Option<&'a [u8]>
+    requires { at.old ≤ length tokens.now }
+    ensures moves { at.old ≤ at.new }
+    ensures inside { at.new ≤ length tokens.now }
+    ensures on { IfSome result (λ _. at.old < at.new) }
+    ensures step { IfSome result (λ word. words_at tokens.now at.old ≡ word.now ∷ words_at tokens.now at.new) }
+    ensures plain { IfSome result (λ word. begins_option word.now ≡ false) }
+    ensures stays { IfNone result (at.new ≡ at.old) }
+{
+    let Some(token) = tokens.get(*at) else {
+        return None;
+    };
+    if begins_option(token.word) {
+        return None;
+    }
+    *at += 1;
+    Some(token.word)
 }
 
 /// The words of an option: the tokens up to one that begins with `-`.
@@ -79,51 +126,86 @@ fn read_words(alloc: Global, tokens: &[Token<'_>], at: &mut usize) -> Result<Vec
     requires { at.old ≤ length tokens.now }
     ensures moves { at.old ≤ at.new }
     ensures inside { at.new ≤ length tokens.now }
+    ensures step { IfOk result (λ words. AreWordsBehind tokens.now at.old at.new words.items) }
 {
     let mut words = Vec::new(alloc);
-    for _ in 0..tokens.len() {
-        let word = word_at(tokens, *at);
-        if matches!(word, [] | [b'-', ..]) {
-            break;
-        }
+    while let Some(word) = option_word(tokens, at) {
         words.push(b' ')?;
         words.extend_from_slice(word)?;
-        advance(tokens, at);
     }
     Ok(words)
 }
 
+/// The name of an option without words.
+fn read_lone(tokens: &[Token<'_>], at: &mut usize) -> Option<SettingName>
+    requires { at.old < length tokens.now }
+    ensures inside { at.new ≤ length tokens.now }
+    ensures on { IfSome result (λ _. at.old < at.new) }
+    ensures step { IfSome result (λ name. words_at tokens.now at.old ≡ setting_word name ∷ words_at tokens.now at.new) }
+    ensures stays { IfNone result (at.new ≡ at.old) }
+{
+    let name = lone_setting(word_at(tokens, *at))?;
+    advance(tokens, at);
+    Some(name)
+}
+
+/// The name of an option with words.
+fn read_long(tokens: &[Token<'_>], at: &mut usize) -> Option<SettingName>
+    requires { at.old < length tokens.now }
+    ensures inside { at.new ≤ length tokens.now }
+    ensures on { IfSome result (λ _. at.old < at.new) }
+    ensures step { IfSome result (λ name. words_at tokens.now at.old ≡ setting_word name ∷ words_at tokens.now at.new) }
+    ensures long { IfSome result (λ name. is_long name ≡ true) }
+    ensures stays { IfNone result (at.new ≡ at.old) }
+{
+    let name = long_setting(word_at(tokens, *at))?;
+    advance(tokens, at);
+    Some(name)
+}
+
 /// An option that isn't a rule.
-fn read_setting(alloc: Global, tokens: &[Token<'_>], at: &mut usize) -> Result<Setting, Stop>
+fn read_setting(alloc: Global, tokens: &[Token<'_>], at: &mut usize) -> Result<Entry, Stop>
     requires { at.old < length tokens.now }
     ensures moves { at.old ≤ at.new }
     ensures inside { at.new ≤ length tokens.now }
     ensures on { OnOk result (at.old < at.new) }
+    ensures step { IfOk result (Reads IsEntryOf is_entry entry_words tokens.now at.old at.new) }
 {
-    let word = word_at(tokens, *at);
-    if let Some(name) = lone_setting(word) {
-        advance(tokens, at);
-        return Ok(Setting {
-            name,
-            words: Vec::new(alloc),
-        });
+    if let Some(name) = read_lone(tokens, at) {
+        let words = Vec::new(alloc);
+        return Ok(Entry::Setting(Setting { name, words }));
     }
-    match long_setting(word) {
-        Some(name) => {
-            advance(tokens, at);
-            Ok(Setting {
-                name,
-                words: read_words(alloc, tokens, at)?,
-            })
-        }
-        None if matches!(word, [b'-', ..]) => Err(Stop::Option),
-        None => Err(Stop::Syntax),
+    if let Some(name) = read_long(tokens, at) {
+        let words = read_words(alloc, tokens, at)?;
+        return Ok(Entry::Setting(Setting { name, words }));
     }
+    if begins_option(word_at(tokens, *at)) {
+        return Err(Stop::Option);
+    }
+    Err(Stop::Syntax)
 }
 
 /// Whether a rule begins with this token.
-fn begins_rule(word: &[u8]) -> bool {
-    matches!(word, b"-assumenosideeffects") || keep_kind(word).is_some()
+fn begins_rule(word: &[u8]) -> bool
+    ensures { result ≡ begins_rule word.now }
+{
+    if word == b"-assumenosideeffects".as_slice() {
+        return true;
+    }
+    keep_kind(word).is_some()
+}
+
+/// A keep option.
+fn read_keep_kind(tokens: &[Token<'_>], at: &mut usize) -> Option<KeepKind>
+    requires { at.old < length tokens.now }
+    ensures inside { at.new ≤ length tokens.now }
+    ensures on { IfSome result (λ _. at.old < at.new) }
+    ensures step { IfSome result (λ kind. words_at tokens.now at.old ≡ keep_word kind ∷ words_at tokens.now at.new) }
+    ensures stays { IfNone result (at.new ≡ at.old) }
+{
+    let kind = keep_kind(word_at(tokens, *at))?;
+    advance(tokens, at);
+    Some(kind)
 }
 
 /// A rule or an option.
@@ -132,27 +214,28 @@ fn read_entry(alloc: Global, tokens: &[Token<'_>], at: &mut usize) -> Result<Ent
     ensures moves { at.old ≤ at.new }
     ensures inside { at.new ≤ length tokens.now }
     ensures on { OnOk result (at.old < at.new) }
+    ensures step { IfOk result (Reads IsEntryOf is_entry entry_words tokens.now at.old at.new) }
 {
-    let word = word_at(tokens, *at);
-    if matches!(word, b"-assumenosideeffects") {
-        advance(tokens, at);
-        return Ok(Entry::Assume(read_assume(alloc, tokens, at)?));
+    if accept(tokens, at, b"-assumenosideeffects") {
+        let rule = read_assume(alloc, tokens, at)?;
+        return Ok(Entry::Assume(rule));
     }
-    match keep_kind(word) {
-        Some(kind) => {
-            advance(tokens, at);
-            Ok(Entry::Keep(read_keep(alloc, tokens, at, kind)?))
-        }
-        None => Ok(Entry::Setting(read_setting(alloc, tokens, at)?)),
+    if let Some(kind) = read_keep_kind(tokens, at) {
+        let rule = read_keep(alloc, tokens, at, kind)?;
+        return Ok(Entry::Keep(rule));
     }
+    read_setting(alloc, tokens, at)
 }
 
-/// Counts a rule that begins.
-fn count_rule(rules: u32) -> Result<u32, Stop>
+/// How many rules there are with the one that may begin with this token.
+fn count_rule(word: &[u8], rules: u32) -> Result<u32, Stop>
     requires { rules ≤ MOST_RULES }
-    ensures ok { IfOk result (λ count. (count ≡ rules + 1) × (count ≤ MOST_RULES)) }
-    ensures err { IsErr result ↔ (rules ≡ MOST_RULES) }
+    ensures ok { IfOk result (λ count. (count ≡ rules + (if begins_rule word.now then 1 else 0)) × (count ≤ MOST_RULES)) }
+    ensures err { IsErr result → (begins_rule word.now ≡ true) × (rules ≡ MOST_RULES) }
 {
+    if !begins_rule(word) {
+        return Ok(rules);
+    }
     if rules < MOST_RULES {
         Ok(rules + 1)
     } else {
@@ -166,13 +249,13 @@ fn read_entries(alloc: Global, tokens: &[Token<'_>], at: &mut usize) -> Result<V
     ensures moves { at.old ≤ at.new }
     ensures inside { at.new ≤ length tokens.now }
     ensures some { IsErr result → 0 < length tokens.now }
+    ensures step { IfOk result (λ entries. ReadsFew tokens.now at.old at.new entries.items) }
+    ensures all { OnOk result (at.new ≡ length tokens.now) }
 {
     let mut entries = Vec::new(alloc);
     let mut rules: u32 = 0;
     while *at < tokens.len() {
-        if begins_rule(word_at(tokens, *at)) {
-            rules = count_rule(rules)?;
-        }
+        rules = count_rule(word_at(tokens, *at), rules)?;
         entries.push(read_entry(alloc, tokens, at)?)?;
     }
     Ok(entries)
@@ -251,7 +334,7 @@ fn fault_of(tokens: &Tokens<'_>, at: usize, stop: Stop, bad: Option<usize>) -> R
 /// end before them; the end of a text that ends too early comes last.
 pub fn read_rules(alloc: Global, text: &[u8]) -> Result<Rules, RuleFault>
     requires { length text.now < 2 ^ 32 }
-    ensures ok { OnOk result (IsUtf8 text.now) }
+    ensures ok { IfOk result (IsReading text.now) }
     ensures fault { IfErr result (IsFault text.now) }
 {
     let bad = bad_byte(text);

@@ -1,11 +1,13 @@
 //! Reading of names, types and member lines.
 
-ghost use Rattle.std.specs.Prelude.{◌≡◌, ◌+◌, ◌<◌, ◌≤◌, ◌∷◌, ◌++◌, [], false, length, IsTrue, IfOk, IfErr, IfSome, IfNone, OnOk};
+ghost use Rattle.std.specs.Prelude.{◌≡◌, ◌+◌, ◌<◌, ◌≤◌, ◌∷◌, ◌++◌, [], false, length, codes, IsTrue, IsFalse, IfOk, IfErr, IfSome, IfNone, OnOk};
+ghost use Rattle.std.specs.List.{list_all};
 ghost use Rattle.rule_text.specs.Pieces.{ends_in_brackets};
-ghost use Rattle.rule_text.specs.Reads.{Reads, alone};
-ghost use Rattle.rule_text.specs.Related.{IsPatternOf, IsItemOf, IsTypeOf};
-ghost use Rattle.rule_text.specs.Spelling.{is_name, access_word, bang, marked};
-ghost use Rattle.rule_text.specs.Steps.{AtSyntax, IsNoName, words_at};
+ghost use Rattle.rule_text.specs.Reads.{Reads, ReadsEach, alone};
+ghost use Rattle.rule_text.specs.Related.{AreEach, IsPatternOf, IsItemOf, IsTypeOf, AreArgumentsOf, IsWhatOf, IsConditionOf, IsMemberOf};
+ghost use Rattle.rule_text.specs.Spelling.{is_name, is_argument, are_some, are_arguments, separated, argument_words, is_what, is_assumed_what, what_words, is_member_condition, is_plain_condition, condition_words, is_member_rule, is_assumed_rule, member_rule_words, braces, access_word, bang, marked};
+ghost use Rattle.rule_text.specs.Stops.{IsNoMark, IsBareBang, IsNoArgument};
+ghost use Rattle.rule_text.specs.Steps.{AtSyntax, BeginWithNone, IsNoName, first_word, words_at};
 
 use crate::cursor::{accept, advance, expect_word, word_at};
 use crate::pattern::NamePattern;
@@ -45,8 +47,10 @@ pub fn read_mark(
     requires { at.old ≤ length tokens.now }
     ensures moves { at.old ≤ at.new }
     ensures inside { at.new ≤ length tokens.now }
+    ensures on { IfOk result (λ read. IfSome read (λ _. at.old < at.new)) }
     ensures step { IfOk result (λ read. IfSome read (Reads IsPatternOf is_name (λ name. marked name ∷ []) tokens.now at.old at.new)) }
     ensures stays { IfOk result (λ read. IfNone read (at.new ≡ at.old)) }
+    ensures stop { IfErr result (AtSyntax (IsNoMark tokens.now at.old at.new)) }
 {
     match tokens.get(*at) {
         Some(token) => match token.word {
@@ -133,14 +137,16 @@ fn read_argument(alloc: Global, tokens: &[Token<'_>], at: &mut usize) -> Result<
     ensures moves { at.old ≤ at.new }
     ensures inside { at.new ≤ length tokens.now }
     ensures on { OnOk result (at.old < at.new) }
+    ensures step { IfOk result (Reads IsTypeOf is_argument alone tokens.now at.old at.new) }
+    ensures stop { IfErr result (AtSyntax (IsNoArgument tokens.now at.old at.new)) }
 {
-    match word_at(tokens, *at) {
-        b"..." => Err(Stop::Syntax),
-        _ => read_type(alloc, tokens, at),
+    if word_at(tokens, *at) == b"...".as_slice() {
+        return Err(Stop::Syntax);
     }
+    read_type(alloc, tokens, at)
 }
 
-/// The types of arguments, up to the closing parenthesis.
+/// The types of arguments with a comma between two.
 fn read_argument_types(
     alloc: Global,
     tokens: &[Token<'_>],
@@ -149,13 +155,13 @@ fn read_argument_types(
     requires { at.old ≤ length tokens.now }
     ensures moves { at.old ≤ at.new }
     ensures inside { at.new ≤ length tokens.now }
+    ensures step { IfOk result (λ types. Reads (AreEach IsTypeOf) (are_some is_argument) separated tokens.now at.old at.new types.items) }
 {
     let mut types = Vec::new(alloc);
     types.push(read_argument(alloc, tokens, at)?)?;
     while accept(tokens, at, b",") {
         types.push(read_argument(alloc, tokens, at)?)?;
     }
-    expect_word(tokens, at, b")")?;
     Ok(types)
 }
 
@@ -165,6 +171,7 @@ fn read_arguments(alloc: Global, tokens: &[Token<'_>], at: &mut usize) -> Result
     ensures moves { at.old ≤ at.new }
     ensures inside { at.new ≤ length tokens.now }
     ensures on { OnOk result (at.old < at.new) }
+    ensures step { IfOk result (Reads AreArgumentsOf are_arguments argument_words tokens.now at.old at.new) }
 {
     expect_word(tokens, at, b"(")?;
     if accept(tokens, at, b")") {
@@ -174,7 +181,9 @@ fn read_arguments(alloc: Global, tokens: &[Token<'_>], at: &mut usize) -> Result
         expect_word(tokens, at, b")")?;
         return Ok(Arguments::Any);
     }
-    Ok(Arguments::These(read_argument_types(alloc, tokens, at)?))
+    let types = read_argument_types(alloc, tokens, at)?;
+    expect_word(tokens, at, b")")?;
+    Ok(Arguments::These(types))
 }
 
 /// A type and a name, and arguments where a method is meant.
@@ -183,22 +192,36 @@ fn read_typed(alloc: Global, tokens: &[Token<'_>], at: &mut usize) -> Result<Wha
     ensures moves { at.old ≤ at.new }
     ensures inside { at.new ≤ length tokens.now }
     ensures on { OnOk result (at.old < at.new) }
+    ensures step { BeginWithNone access_word (words_at tokens.now at.old) → IfOk result (Reads IsWhatOf is_what what_words tokens.now at.old at.new) }
 {
     let kind = read_type(alloc, tokens, at)?;
     let name = read_name(alloc, tokens, at)?;
-    match word_at(tokens, *at) {
-        b"(" => Ok(What::Method {
-            result: kind,
-            name,
-            arguments: read_arguments(alloc, tokens, at)?,
-        }),
-        _ => Ok(What::Field { kind, name }),
+    if word_at(tokens, *at) != b"(".as_slice() {
+        return Ok(What::Field { kind, name });
     }
+    let arguments = read_arguments(alloc, tokens, at)?;
+    Ok(What::Method {
+        result: kind,
+        name,
+        arguments,
+    })
 }
 
-/// Whether the line is `*` alone.
-fn is_all(tokens: &[Token<'_>], at: usize) -> bool {
-    matches!(word_at(tokens, at), b"*") && matches!(word_at(tokens, at.saturating_add(1)), b";")
+/// Goes over a `*` that names all members: the line ends behind it.
+fn accept_all(tokens: &[Token<'_>], at: &mut usize) -> bool
+    requires { at.old ≤ length tokens.now }
+    ensures moves { at.old ≤ at.new }
+    ensures inside { at.new ≤ length tokens.now }
+    ensures step { IsTrue result → words_at tokens.now at.old ≡ codes "*" ∷ words_at tokens.now at.new }
+    ensures last { IsTrue result → first_word (words_at tokens.now at.new) ≡ codes ";" }
+    ensures stays { IsFalse result → at.new ≡ at.old }
+{
+    let start = *at;
+    if accept(tokens, at, b"*") && word_at(tokens, *at) == b";".as_slice() {
+        return true;
+    }
+    *at = start;
+    false
 }
 
 /// Which members a line names.
@@ -206,26 +229,21 @@ fn read_what(alloc: Global, tokens: &[Token<'_>], at: &mut usize) -> Result<What
     requires { at.old ≤ length tokens.now }
     ensures moves { at.old ≤ at.new }
     ensures inside { at.new ≤ length tokens.now }
+    ensures step { BeginWithNone access_word (words_at tokens.now at.old) → IfOk result (Reads IsWhatOf is_what what_words tokens.now at.old at.new) }
 {
-    if is_all(tokens, *at) {
-        advance(tokens, at);
+    if accept_all(tokens, at) {
         return Ok(What::All);
     }
-    match word_at(tokens, *at) {
-        b"<fields>" => {
-            advance(tokens, at);
-            Ok(What::Fields)
-        }
-        b"<methods>" => {
-            advance(tokens, at);
-            Ok(What::Methods)
-        }
-        b"<init>" => {
-            advance(tokens, at);
-            Ok(What::Init(read_arguments(alloc, tokens, at)?))
-        }
-        _ => read_typed(alloc, tokens, at),
+    if accept(tokens, at, b"<fields>") {
+        return Ok(What::Fields);
     }
+    if accept(tokens, at, b"<methods>") {
+        return Ok(What::Methods);
+    }
+    if accept(tokens, at, b"<init>") {
+        return Ok(What::Init(read_arguments(alloc, tokens, at)?));
+    }
+    read_typed(alloc, tokens, at)
 }
 
 /// An access word of a member, with or without `!`.
@@ -233,8 +251,11 @@ fn read_access(tokens: &[Token<'_>], at: &mut usize) -> Result<Option<(bool, Acc
     requires { at.old ≤ length tokens.now }
     ensures moves { at.old ≤ at.new }
     ensures inside { at.new ≤ length tokens.now }
+    ensures on { IfOk result (λ read. IfSome read (λ _. at.old < at.new)) }
     ensures step { IfOk result (λ read. IfSome read (λ found. words_at tokens.now at.old ≡ bang found.0 ++ (access_word found.1 ∷ words_at tokens.now at.new))) }
     ensures stays { IfOk result (λ read. IfNone read (at.new ≡ at.old)) }
+    ensures none { IfOk result (λ read. IfNone read (BeginWithNone access_word (words_at tokens.now at.new))) }
+    ensures stop { IfErr result (AtSyntax (IsBareBang tokens.now at.old at.new)) }
 {
     let negated = accept(tokens, at, b"!");
     match member_access(word_at(tokens, *at)) {
@@ -256,6 +277,10 @@ fn read_condition(
     requires { at.old ≤ length tokens.now }
     ensures moves { at.old ≤ at.new }
     ensures inside { at.new ≤ length tokens.now }
+    ensures on { IfOk result (λ read. IfSome read (λ _. at.old < at.new)) }
+    ensures step { IfOk result (λ read. IfSome read (Reads IsConditionOf is_member_condition condition_words tokens.now at.old at.new)) }
+    ensures stays { IfOk result (λ read. IfNone read (at.new ≡ at.old)) }
+    ensures none { IfOk result (λ read. IfNone read (BeginWithNone access_word (words_at tokens.now at.new))) }
 {
     if let Some(mark) = read_mark(alloc, tokens, at)? {
         return Ok(Some(Condition::Mark(mark)));
@@ -266,20 +291,34 @@ fn read_condition(
     }
 }
 
+/// The conditions on a member.
+fn read_conditions(
+    alloc: Global,
+    tokens: &[Token<'_>],
+    at: &mut usize,
+) -> Result<Vec<Condition>, Stop>
+    requires { at.old ≤ length tokens.now }
+    ensures moves { at.old ≤ at.new }
+    ensures inside { at.new ≤ length tokens.now }
+    ensures step { IfOk result (λ conditions. ReadsEach IsConditionOf is_member_condition condition_words tokens.now at.old at.new conditions.items) }
+    ensures none { OnOk result (BeginWithNone access_word (words_at tokens.now at.new)) }
+{
+    let mut conditions = Vec::new(alloc);
+    while let Some(condition) = read_condition(alloc, tokens, at)? {
+        conditions.push(condition)?;
+    }
+    Ok(conditions)
+}
+
 /// A line: conditions, what it names, and `;`.
 fn read_member(alloc: Global, tokens: &[Token<'_>], at: &mut usize) -> Result<MemberRule, Stop>
     requires { at.old ≤ length tokens.now }
     ensures moves { at.old ≤ at.new }
     ensures inside { at.new ≤ length tokens.now }
     ensures on { OnOk result (at.old < at.new) }
+    ensures step { IfOk result (Reads IsMemberOf is_member_rule member_rule_words tokens.now at.old at.new) }
 {
-    let mut conditions = Vec::new(alloc);
-    for _ in 0..tokens.len() {
-        match read_condition(alloc, tokens, at)? {
-            Some(condition) => conditions.push(condition)?,
-            None => break,
-        }
-    }
+    let conditions = read_conditions(alloc, tokens, at)?;
     let what = read_what(alloc, tokens, at)?;
     expect_word(tokens, at, b";")?;
     Ok(MemberRule { conditions, what })
@@ -295,6 +334,7 @@ pub fn read_members(
     ensures moves { at.old ≤ at.new }
     ensures inside { at.new ≤ length tokens.now }
     ensures on { OnOk result (at.old < at.new) }
+    ensures step { IfOk result (λ members. Reads (AreEach IsMemberOf) (list_all is_member_rule) braces tokens.now at.old at.new members.items) }
 {
     let mut members = Vec::new(alloc);
     expect_word(tokens, at, b"{")?;
@@ -304,26 +344,56 @@ pub fn read_members(
     Ok(members)
 }
 
+/// A type, a name and arguments.
+fn read_method(alloc: Global, tokens: &[Token<'_>], at: &mut usize) -> Result<What, Stop>
+    requires { at.old ≤ length tokens.now }
+    ensures moves { at.old ≤ at.new }
+    ensures inside { at.new ≤ length tokens.now }
+    ensures step { BeginWithNone access_word (words_at tokens.now at.old) → IfOk result (Reads IsWhatOf is_assumed_what what_words tokens.now at.old at.new) }
+{
+    let kind = read_type(alloc, tokens, at)?;
+    let name = read_name(alloc, tokens, at)?;
+    let arguments = read_arguments(alloc, tokens, at)?;
+    Ok(What::Method {
+        result: kind,
+        name,
+        arguments,
+    })
+}
+
 /// Which methods a line of an assume rule names.
 fn read_assumed_what(alloc: Global, tokens: &[Token<'_>], at: &mut usize) -> Result<What, Stop>
     requires { at.old ≤ length tokens.now }
     ensures moves { at.old ≤ at.new }
     ensures inside { at.new ≤ length tokens.now }
+    ensures step { BeginWithNone access_word (words_at tokens.now at.old) → IfOk result (Reads IsWhatOf is_assumed_what what_words tokens.now at.old at.new) }
 {
-    if is_all(tokens, *at) {
-        advance(tokens, at);
+    if accept_all(tokens, at) {
         return Ok(What::All);
     }
     if accept(tokens, at, b"<methods>") {
         return Ok(What::Methods);
     }
-    let result = read_type(alloc, tokens, at)?;
-    let name = read_name(alloc, tokens, at)?;
-    Ok(What::Method {
-        result,
-        name,
-        arguments: read_arguments(alloc, tokens, at)?,
-    })
+    read_method(alloc, tokens, at)
+}
+
+/// The access words of a line of an assume rule.
+fn read_accesses(
+    alloc: Global,
+    tokens: &[Token<'_>],
+    at: &mut usize,
+) -> Result<Vec<Condition>, Stop>
+    requires { at.old ≤ length tokens.now }
+    ensures moves { at.old ≤ at.new }
+    ensures inside { at.new ≤ length tokens.now }
+    ensures step { IfOk result (λ conditions. ReadsEach IsConditionOf is_plain_condition condition_words tokens.now at.old at.new conditions.items) }
+    ensures none { OnOk result (BeginWithNone access_word (words_at tokens.now at.new)) }
+{
+    let mut conditions = Vec::new(alloc);
+    while let Some((negated, access)) = read_access(tokens, at)? {
+        conditions.push(Condition::Access { negated, access })?;
+    }
+    Ok(conditions)
 }
 
 /// A line of an assume rule: access words, methods, and `;`.
@@ -332,14 +402,9 @@ fn read_assumed(alloc: Global, tokens: &[Token<'_>], at: &mut usize) -> Result<M
     ensures moves { at.old ≤ at.new }
     ensures inside { at.new ≤ length tokens.now }
     ensures on { OnOk result (at.old < at.new) }
+    ensures step { IfOk result (Reads IsMemberOf is_assumed_rule member_rule_words tokens.now at.old at.new) }
 {
-    let mut conditions = Vec::new(alloc);
-    for _ in 0..tokens.len() {
-        match read_access(tokens, at)? {
-            Some((negated, access)) => conditions.push(Condition::Access { negated, access })?,
-            None => break,
-        }
-    }
+    let conditions = read_accesses(alloc, tokens, at)?;
     let what = read_assumed_what(alloc, tokens, at)?;
     expect_word(tokens, at, b";")?;
     Ok(MemberRule { conditions, what })
@@ -355,6 +420,7 @@ pub fn read_assumed_members(
     ensures moves { at.old ≤ at.new }
     ensures inside { at.new ≤ length tokens.now }
     ensures on { OnOk result (at.old < at.new) }
+    ensures step { IfOk result (λ members. Reads (AreEach IsMemberOf) (list_all is_assumed_rule) braces tokens.now at.old at.new members.items) }
 {
     let mut members = Vec::new(alloc);
     expect_word(tokens, at, b"{")?;

@@ -9,7 +9,7 @@ pub loop-alloc-init : goal.loop-alloc-init
 loop-alloc-init c =
     let is : c.push.new.self.items ≡ c.in_ok-read_name.field-0 ∷ [] = search rules in
     let one : Reads IsPatternOf is_name alone c.args.tokens.now c.args.at.now c.read_name.new.at c.in_ok-read_name.field-0 = search rules in
-    (search rules, search rules, subst (λ items. Reads (AreEach IsPatternOf) are_names separated c.args.tokens.now c.args.at.now c.read_name.new.at items) (sym is) (first_of IsPatternOf c.args.tokens.now c.args.at.now c.read_name.new.at c.in_ok-read_name.field-0 one))
+    (search rules, search rules, subst (λ items. Reads (AreEach IsPatternOf) are_names separated c.args.tokens.now c.args.at.now c.read_name.new.at items) (sym is) (first_of IsPatternOf is_name c.args.tokens.now c.args.at.now c.read_name.new.at c.in_ok-read_name.field-0 one))
 
 pub loop-alloc-preserved : goal.loop-alloc-preserved
 loop-alloc-preserved c =
@@ -18,5 +18,5 @@ loop-alloc-preserved c =
       search rules,
       search rules,
       subst (λ items. Reads (AreEach IsPatternOf) are_names separated c.args.tokens.now c.args.at.now c.read_name-in-loop-alloc.new.at items) (sym is)
-          (names_more IsPatternOf c.args.tokens.now c.args.at.now c.loop-alloc.at c.accept.new.at c.read_name-in-loop-alloc.new.at c.loop-alloc.names.items c.in_ok-read_name-2.field-0 c.loop-alloc.invariant.2 (search rules) one),
+          (names_more IsPatternOf is_name c.args.tokens.now c.args.at.now c.loop-alloc.at c.accept.new.at c.read_name-in-loop-alloc.new.at c.loop-alloc.names.items c.in_ok-read_name-2.field-0 c.loop-alloc.invariant.2 (search rules) one),
     )

@@ -1,6 +1,7 @@
 use Rattle.std.proofs.Common.{◌≡◌, Option, Some, subst}
 use Rattle.std.specs.Prelude.{IfSome}
 use Rattle.hierarchy.specs.Shapes.{IsResolved}
+use Rattle.dalvik_lookups.proofs.Facing.{right_face}
 use Rattle.dalvik_lookups.proofs.lookups.Lookups.new.Goals as goal
 
 there : {X : Type 0} (o : Option X) (P : X → Type 0) (x : X) → o ≡ Some x → IfSome o P → P x
@@ -15,5 +16,11 @@ returns-clause-framework c = c.in_ok-both.ensures.framework
 pub returns-clause-outer : goal.returns-clause-outer
 returns-clause-outer c = c.in_ok-both.ensures.outer
 
+pub returns-clause-classes : goal.returns-clause-classes
+returns-clause-classes c = c.in_ok-both.ensures.classes
+
 pub returns-clause-tables : goal.returns-clause-tables
 returns-clause-tables c = λ w. c.in_ok-both.ensures.tables w (there c.in_ok-hierarchy.field-0 (IsResolved c.args.program.now) c.in-Some.hierarchy c.in-Some.is (c.in_ok-hierarchy.ensures w))
+
+pub returns-clause-face : goal.returns-clause-face
+returns-clause-face c = λ w. right_face c.in_ok-both.both.0 (c.in_ok-both.ensures.tables w (there c.in_ok-hierarchy.field-0 (IsResolved c.args.program.now) c.in-Some.hierarchy c.in-Some.is (c.in_ok-hierarchy.ensures w)))

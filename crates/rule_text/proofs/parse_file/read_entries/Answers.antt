@@ -1,0 +1,23 @@
+use Rattle.std.proofs.Common.{◌≡◌, ◌+◌, [], ◌∷◌, ◌++◌, if◌then◌else◌, rules}
+use Rattle.rule_text.specs.Reads.{Reads}
+use Rattle.rule_text.specs.Related.{IsEntryOf}
+use Rattle.rule_text.specs.Spelling.{is_entry, entry_words, begins_rule}
+use Rattle.rule_text.proofs.EntryLemmas.{none_counted, more_counted, few_counted}
+use Rattle.rule_text.proofs.parse_file.read_entries.Goals as goal
+
+pub loop-at-init : goal.loop-at-init
+loop-at-init c = (search rules, search rules, search rules, none_counted c.args.tokens.now c.args.at.now c.new-entries.result.items c.new-entries.ensures.items)
+
+pub loop-at-preserved : goal.loop-at-preserved
+loop-at-preserved c =
+    let is : c.push.new.self.items ≡ c.loop-at.entries.items ++ c.in_ok-read_entry.field-0 ∷ [] = search rules in
+    let one : Reads IsEntryOf is_entry entry_words c.args.tokens.now c.loop-at.at c.read_entry.new.at c.in_ok-read_entry.field-0 = search rules in
+    let counts : c.in_ok-rules.rules ≡ c.loop-at.rules + (if begins_rule c.word_at.result.now then 1 else 0) = search rules in (
+      search rules,
+      search rules,
+      search rules,
+      more_counted c.args.tokens.now c.args.at.now c.loop-at.at c.read_entry.new.at c.loop-at.entries.items c.push.new.self.items c.in_ok-read_entry.field-0 c.word_at.result.now c.loop-at.rules c.in_ok-rules.rules c.loop-at.invariant.3 one c.word_at.ensures counts is,
+    )
+
+pub returns-clause-step : goal.returns-clause-step
+returns-clause-step c = few_counted c.args.tokens.now c.args.at.now c.loop-at.at c.loop-at.entries.items c.loop-at.rules c.loop-at.invariant.3 c.loop-at.invariant.2

@@ -1,5 +1,0 @@
-use Rattle.std.proofs.Common.{◌≤◌, length}
-use Rattle.rule_text.proofs.parse_member.read_member.Given as goal
-
-abbrev pub invariant-loop : goal.invariant-loop
-invariant-loop l = (l.initial.at ≤ l.at) × (l.at ≤ length l.tokens)

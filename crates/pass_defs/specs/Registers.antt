@@ -15,14 +15,14 @@ pub record Kinds : Type 0 where
 abbrev pub kind_at : List Kind → ℕ → Kind
 kind_at ks r = slice_index_or ks r Undefined
 
--- a write to one half of a wide makes the other half undefined
-abbrev pub split_at : Kind → ℕ → List Kind → List Kind
-split_at Low r ks = slice_set ks (r + 1) Undefined
-split_at High r ks = slice_set ks (r - 1) Undefined
-split_at k r ks = ks
+-- a register that holds this half of a wide is undefined
+abbrev pub cleared : ℕ → Kind → List Kind → List Kind
+cleared r half ks = if kind_eq (kind_at ks r) half then slice_set ks r Undefined else ks
 
+-- A write to one half of a wide makes the other half undefined: the low half in the register before, or the high half in
+-- the register behind. It goes by what the other register holds, so that of two lists of kinds the lower one stays lower.
 abbrev pub split : ℕ → List Kind → List Kind
-split r ks = split_at (kind_at ks r) r ks
+split r ks = cleared (r - 1) Low (cleared (r + 1) High ks)
 
 abbrev pub written_one : ℕ → Kind → List Kind → List Kind
 written_one r k ks = slice_set (split r ks) r k

@@ -1,0 +1,16 @@
+pub mod After
+pub mod Allowed
+pub mod Asked
+pub mod Bodies
+pub mod Entries
+pub mod Fits
+pub mod Frames
+pub mod Grounds
+pub mod Judged
+pub mod Members
+pub mod Order
+pub mod Programs
+pub mod Spelled
+pub mod Texts
+pub mod Told
+pub mod Wrong

@@ -71,11 +71,24 @@ fn tables_of<'a>(
     }
 }
 
+/// What a run begins with over its tables: nothing that it remembers, and the opening state.
+#[derive(Drop)]
+struct Opening<'a> {
+    memo: Memo,
+    state: State<'a>,
+}
+
+/// The opening over some tables.
+fn opening<'a>(alloc: Global, tables: &Tables<'a>) -> Result<Opening<'a>, AllocError> {
+    let memo = tables.lookups.memo(alloc)?;
+    let state = State::new(alloc, tables)?;
+    Ok(Opening { memo, state })
+}
+
 impl<'a> Parts<'a> {
     /// The opening of a run over its tables.
     fn new(alloc: Global, tables: Tables<'a>) -> Result<Parts<'a>, AllocError> {
-        let memo = tables.lookups.memo(alloc)?;
-        let state = State::new(alloc, &tables)?;
+        let Opening { memo, state } = opening(alloc, &tables)?;
         Ok(Parts {
             tables,
             memo,

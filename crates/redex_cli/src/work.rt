@@ -9,7 +9,7 @@ ghost use Rattle.dex_read.specs.Kept.{KeepsLimits};
 ghost use Rattle.hierarchy.specs.Shapes.{IsCause};
 ghost use Rattle.program_model.specs.ProgramRules.{is_well_formed};
 ghost use Rattle.redex_cli.specs.Files.{FileRefused, HasGraphFault, IsRead};
-ghost use Rattle.redex_cli.specs.Finished.{Checks, Finished, IsSummary, IsTraced};
+ghost use Rattle.redex_cli.specs.Finished.{Checks, Finished, IsSummary, IsTraced, program_text};
 ghost use Rattle.redex_cli.specs.Refusals.{TraceRefused, WorkRefused};
 
 use crate::check_line::check_line;
@@ -209,19 +209,28 @@ fn optimise_program(
     Ok(Optimised { bytes, summary })
 }
 
-/// Tells the advisers what the words say, and optimises a program with them.
-fn optimise_advised(
+/// A panel of the advisers that were told what the words say.
+fn told(
     alloc: Global,
-    input: Input,
-    before: Sizes,
     tells: &[Tell],
     advisers: Vec<Box<dyn Adviser>>,
+) -> Result<Panel, AllocError> {
+    let mut panel = Panel::new(alloc, advisers);
+    tell_all(alloc, &mut panel, tells)?;
+    Ok(panel)
+}
+
+/// Optimises an input that was read from so many bytes.
+fn optimise_input(
+    alloc: Global,
+    input: Input,
+    length: usize,
+    panel: &mut Panel,
 ) -> Result<Optimised, AllocError>
     ensures { IfOk result (λ optimised. Finished optimised.bytes.items (string_bytes optimised.summary)) }
 {
-    let mut panel = Panel::new(alloc, advisers);
-    tell_all(alloc, &mut panel, tells)?;
-    optimise_program(alloc, input.program, &input.outside, before, &mut panel)
+    let before = sizes_of(&input.program, length);
+    optimise_program(alloc, input.program, &input.outside, before, panel)
 }
 
 /// Optimises a file by its rules.
@@ -239,12 +248,15 @@ pub fn optimise_file(
     ensures file { IfErr result (FileRefused file.items) }
 {
     let length = file.len();
+    let mut panel = match told(alloc, tells, advisers) {
+        Ok(panel) => panel,
+        Err(_) => return Err(Status::NoMemory),
+    };
     let input = match read_input(alloc, rules, file) {
         Ok(input) => input,
         Err(status) => return Err(status),
     };
-    let before = sizes_of(&input.program, length);
-    match optimise_advised(alloc, input, before, tells, advisers) {
+    match optimise_input(alloc, input, length, &mut panel) {
         Ok(optimised) => Ok(optimised),
         Err(_) => Err(Status::NoMemory),
     }
@@ -289,9 +301,18 @@ pub fn optimise_workload(
 }
 
 /// The live classes and members of an input, as they are said.
-fn live_of(alloc: Global, input: &Input) -> Result<Vec<u8>, AllocError> {
-    let live = live_members(alloc, &input.program, &input.hierarchy, &input.outside)?;
-    live_list(alloc, &input.program, &live)
+fn live_of(alloc: Global, input: &Input) -> Result<Vec<u8>, Status>
+    ensures refused { IfErr result WorkRefused }
+    ensures file { IfErr result (λ status. (bytes : List ℕ) → FileRefused bytes status) }
+{
+    let live = match live_members(alloc, &input.program, &input.hierarchy, &input.outside) {
+        Ok(live) => live,
+        Err(_) => return Err(Status::NoMemory),
+    };
+    match live_list(alloc, &input.program, &live) {
+        Ok(text) => Ok(text),
+        Err(_) => Err(Status::NoMemory),
+    }
 }
 
 /// The live classes and members of a file by its rules, as they are said.
@@ -305,8 +326,17 @@ pub fn list_live(alloc: Global, rules: Vec<u8>, file: Vec<u8>) -> Result<Vec<u8>
         Ok(input) => input,
         Err(status) => return Err(status),
     };
-    match live_of(alloc, &input) {
-        Ok(text) => Ok(text),
+    live_of(alloc, &input)
+}
+
+/// How many classes, methods and instructions a program has, as they are said.
+fn counts_of(alloc: Global, program: &Program) -> Result<Vec<u8>, Status>
+    ensures checked { IfOk result (λ text. text.items ≡ program_text program.now) }
+    ensures refused { IfErr result WorkRefused }
+    ensures file { IfErr result (λ status. (bytes : List ℕ) → FileRefused bytes status) }
+{
+    match check_line(alloc, program) {
+        Ok(text) => Ok(text.into_bytes()),
         Err(_) => Err(Status::NoMemory),
     }
 }
@@ -322,10 +352,7 @@ pub fn check_file(alloc: Global, file: Vec<u8>) -> Result<Vec<u8>, Status>
         Ok(classes) => classes,
         Err(status) => return Err(status),
     };
-    match check_line(alloc, &classes.program) {
-        Ok(text) => Ok(text.into_bytes()),
-        Err(_) => Err(Status::NoMemory),
-    }
+    counts_of(alloc, &classes.program)
 }
 
 /// The play that a script spells.
@@ -359,6 +386,23 @@ fn trace_play(alloc: Global, input: &Input, play: &Play, steps: u32) -> Result<V
     write_events(alloc, events.as_slice())
 }
 
+/// The events of so many steps of an input under a script, as they are said.
+fn trace_input(alloc: Global, input: &Input, script: &[u8], steps: u32) -> Result<Vec<u8>, Status>
+    requires { length script.now < 2 ^ 32 }
+    ensures traced { IfOk result (λ text. IsTraced steps text.items) }
+    ensures refused { IfErr result (TraceRefused script.now) }
+    ensures file { IfErr result (λ status. (bytes : List ℕ) → FileRefused bytes status) }
+{
+    let play = match read_play(alloc, script) {
+        Ok(play) => play,
+        Err(status) => return Err(status),
+    };
+    match trace_play(alloc, input, &play, steps) {
+        Ok(text) => Ok(text),
+        Err(_) => Err(Status::NoMemory),
+    }
+}
+
 /// The events of so many steps of a file under a script, as they are said.
 #[tactic(auto, using(crate::proofs::CommandLemmas::work_traces))]
 pub fn trace_file(
@@ -379,12 +423,5 @@ pub fn trace_file(
         Ok(input) => input,
         Err(status) => return Err(status),
     };
-    let play = match read_play(alloc, script) {
-        Ok(play) => play,
-        Err(status) => return Err(status),
-    };
-    match trace_play(alloc, &input, &play, steps) {
-        Ok(text) => Ok(text),
-        Err(_) => Err(Status::NoMemory),
-    }
+    trace_input(alloc, &input, script, steps)
 }

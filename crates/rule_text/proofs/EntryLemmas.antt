@@ -202,7 +202,7 @@ more_counted tokens at mid next reads all r w rules count counted one first is s
 pub few_counted : (tokens : List Lexed) (at next : ℕ) (reads : List ReadEntry) (rules : ℕ) → ReadsCounted tokens at next reads rules → rules ≤ 4096 → ReadsFew tokens at next reads
 few_counted tokens at next reads rules counted few = record { each = counted.each; few = subst (λ n. n ≤ 4096) (sym counted.count) few }
 
-words_from : (text : List ℕ) (tokens : Tokens) → AreTokensOf text tokens → words_at tokens.items.items 0 ≡ words_of text
+pub words_from : (text : List ℕ) (tokens : Tokens) → AreTokensOf text tokens → words_at tokens.items.items 0 ≡ words_of text
 words_from text tokens are =
     let views : map (λ t. t.word) (map token_view tokens.items.items) ≡ map (λ t. t.word.now) tokens.items.items = map-map (λ t. t.word) token_view tokens.items.items in
     sym views ∙ ap (λ ts. map (λ t. t.word) ts) are.items

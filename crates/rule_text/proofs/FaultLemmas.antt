@@ -11,6 +11,7 @@ use Rattle.rule_text.specs.declared.fault.RuleFault.{RuleFault}
 use Rattle.rule_text.specs.declared.fault.RuleFault.TheVariants as fault
 use Rattle.rule_text.specs.declared.token.Token.{Token as Lexed}
 use Rattle.rule_text.specs.declared.token.Tokens.{Tokens}
+use Rattle.rule_text.proofs.HaltLemmas.{option_fault, rule_fault}
 
 pub front_readable : (text : List ℕ) (bad : Option ℕ) (at n : ℕ) → MatchOption bad (IsUtf8 text) (IsValidUpTo text) → bad ≡ Some at → IsWholeLen (take at text) n → IsReadable text (take n (take at text))
 front_readable text bad at n known is whole =
@@ -79,13 +80,13 @@ faults text front bad tokens (fault.Syntax line) known readable all are (inr end
   readable = readable;
   stands = inr (subst (λ o. MatchOption o (IsUtf8 text) (IsValidUpTo text)) ends.0 known, ends.1 ∙ ap suc are.ends ∙ ap last_line (all ends.0));
 }
-faults text front bad tokens (fault.Option line) known readable all are has = record { front = front; readable = readable; stands = line_of front tokens line are has }
+faults text front bad tokens (fault.Option line) known readable all are by = record { front = front; readable = readable; stands = option_fault front tokens line are by }
 faults text front bad tokens (fault.NotUtf8 at) known readable all are is = record {
   front = front;
   readable = readable;
   stands = subst (λ o. MatchOption o (IsUtf8 text) (IsValidUpTo text)) is known;
 }
-faults text front bad tokens (fault.TooMany count) known readable all are is = record { front = front; readable = readable; stands = is }
+faults text front bad tokens (fault.TooMany count) known readable all are by = record { front = front; readable = readable; stands = rule_fault front tokens count are by }
 
 -- no token has to be read where memory runs out
 pub no_memory : (text front : List ℕ) (found : RuleFault) → IsReadable text front → found ≡ fault.NoMemory → IsFault text found

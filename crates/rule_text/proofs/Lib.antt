@@ -4,6 +4,7 @@ pub mod ConditionLemmas
 pub mod EntryLemmas
 pub mod FaultLemmas
 pub mod FrontLemmas
+pub mod HaltLemmas
 pub mod LetterLemmas
 pub mod MemberLemmas
 pub mod ReadLemmas

@@ -27,5 +27,3 @@ no_argument w other = rw other refl
 pub no_type : (tokens : List Lexed) (at next : ℕ) (s : Stop) → AtSyntax (IsNoName tokens at next) s → AtSyntax (IsNoArgument tokens at next) s
 no_type tokens at next stop.NoMemory none = tt
 no_type tokens at next stop.Syntax none = record { stays = none.stays; other = no_argument (first_word (words_at tokens at)) none.other }
-no_type tokens at next stop.Option none = none
-no_type tokens at next stop.TooMany none = none

@@ -3,6 +3,7 @@ pub mod Fault
 pub mod Faults
 pub mod Fronts
 pub mod Glob
+pub mod Halts
 pub mod Pieces
 pub mod ReadEntries
 pub mod Reads

@@ -26,8 +26,6 @@ BeginWithNone {K} spell ws = (name : K) → BeginOtherwise (spell name) ws
 abbrev pub AtSyntax : Type 0 → Stop → Type 0
 AtSyntax P stop.NoMemory = Unit {0}
 AtSyntax P stop.Syntax = P
-AtSyntax P stop.Option = ⊥
-AtSyntax P stop.TooMany = ⊥
 
 -- No name stands at the place.
 pub record IsNoName (tokens : List Lexed) (at next : ℕ) : Type 0 where

@@ -6,6 +6,8 @@ ghost use Rattle.rule_text.specs.Fault.{IsFault, IsFaultBy};
 ghost use Rattle.rule_text.specs.Faults.{IsReadable};
 ghost use Rattle.rule_text.specs.Fronts.{AreTokensOf};
 ghost use Rattle.rule_text.specs.Reads.{Reads};
+ghost use Rattle.rule_text.specs.Halts.{IsOptionBehind, HaltsAt, HaltsBefore};
+ghost use Rattle.rule_text.specs.declared.stop.Halt.TheVariants.{TooMany};
 ghost use Rattle.rule_text.specs.ReadEntries.{IsKeepBehind, IsAssumeBehind, AreWordsBehind, ReadsFew, IsReading};
 ghost use Rattle.rule_text.specs.Related.{IsEntryOf};
 ghost use Rattle.rule_text.specs.Spelling.{modifier_word, modifier_words, setting_word, keep_word, is_long, is_entry, entry_words, begins_option, begins_rule};
@@ -17,7 +19,7 @@ use crate::lexer::{tokens_of, whole_len};
 use crate::parse_class::{read_class, read_names};
 use crate::parse_member::read_assumed_members;
 use crate::rules::{AssumeRule, Entry, KeepKind, KeepRule, Modifier, Rules, Setting, SettingName};
-use crate::stop::Stop;
+use crate::stop::{Halt, Stop};
 use crate::token::{Token, Tokens};
 use crate::words::{keep_kind, lone_setting, long_setting, modifier};
 use std::alloc::{AllocError, Global};
@@ -164,12 +166,13 @@ fn read_long(tokens: &[Token<'_>], at: &mut usize) -> Option<SettingName>
 }
 
 /// An option that isn't a rule.
-fn read_setting(alloc: Global, tokens: &[Token<'_>], at: &mut usize) -> Result<Entry, Stop>
+fn read_setting(alloc: Global, tokens: &[Token<'_>], at: &mut usize) -> Result<Entry, Halt>
     requires { at.old < length tokens.now }
     ensures moves { at.old ≤ at.new }
     ensures inside { at.new ≤ length tokens.now }
     ensures on { OnOk result (at.old < at.new) }
     ensures step { IfOk result (Reads IsEntryOf is_entry entry_words tokens.now at.old at.new) }
+    ensures halt { IfErr result (HaltsBefore tokens.now at.old at.new) }
 {
     if let Some(name) = read_lone(tokens, at) {
         let words = Vec::new(alloc);
@@ -180,9 +183,9 @@ fn read_setting(alloc: Global, tokens: &[Token<'_>], at: &mut usize) -> Result<E
         return Ok(Entry::Setting(Setting { name, words }));
     }
     if begins_option(word_at(tokens, *at)) {
-        return Err(Stop::Option);
+        return Err(Halt::Option);
     }
-    Err(Stop::Syntax)
+    Err(Halt::Inside(Stop::Syntax))
 }
 
 /// Whether a rule begins with this token.
@@ -209,12 +212,13 @@ fn read_keep_kind(tokens: &[Token<'_>], at: &mut usize) -> Option<KeepKind>
 }
 
 /// A rule or an option.
-fn read_entry(alloc: Global, tokens: &[Token<'_>], at: &mut usize) -> Result<Entry, Stop>
+fn read_entry(alloc: Global, tokens: &[Token<'_>], at: &mut usize) -> Result<Entry, Halt>
     requires { at.old < length tokens.now }
     ensures moves { at.old ≤ at.new }
     ensures inside { at.new ≤ length tokens.now }
     ensures on { OnOk result (at.old < at.new) }
     ensures step { IfOk result (Reads IsEntryOf is_entry entry_words tokens.now at.old at.new) }
+    ensures halt { IfErr result (HaltsBefore tokens.now at.old at.new) }
 {
     if accept(tokens, at, b"-assumenosideeffects") {
         let rule = read_assume(alloc, tokens, at)?;
@@ -228,10 +232,10 @@ fn read_entry(alloc: Global, tokens: &[Token<'_>], at: &mut usize) -> Result<Ent
 }
 
 /// How many rules there are with the one that may begin with this token.
-fn count_rule(word: &[u8], rules: u32) -> Result<u32, Stop>
+fn count_rule(word: &[u8], rules: u32) -> Result<u32, Halt>
     requires { rules ≤ MOST_RULES }
     ensures ok { IfOk result (λ count. (count ≡ rules + (if begins_rule word.now then 1 else 0)) × (count ≤ MOST_RULES)) }
-    ensures err { IsErr result → (begins_rule word.now ≡ true) × (rules ≡ MOST_RULES) }
+    ensures err { IfErr result (λ halt. (halt ≡ TooMany) × (begins_rule word.now ≡ true) × (rules ≡ MOST_RULES)) }
 {
     if !begins_rule(word) {
         return Ok(rules);
@@ -239,18 +243,19 @@ fn count_rule(word: &[u8], rules: u32) -> Result<u32, Stop>
     if rules < MOST_RULES {
         Ok(rules + 1)
     } else {
-        Err(Stop::TooMany)
+        Err(Halt::TooMany)
     }
 }
 
 /// The rules and options of all tokens.
-fn read_entries(alloc: Global, tokens: &[Token<'_>], at: &mut usize) -> Result<Vec<Entry>, Stop>
+fn read_entries(alloc: Global, tokens: &[Token<'_>], at: &mut usize) -> Result<Vec<Entry>, Halt>
     requires { at.old ≤ length tokens.now }
     ensures moves { at.old ≤ at.new }
     ensures inside { at.new ≤ length tokens.now }
     ensures some { IsErr result → 0 < length tokens.now }
     ensures step { IfOk result (λ entries. ReadsFew tokens.now at.old at.new entries.items) }
     ensures all { OnOk result (at.new ≡ length tokens.now) }
+    ensures halt { IfErr result (HaltsAt tokens.now at.old at.new) }
 {
     let mut entries = Vec::new(alloc);
     let mut rules: u32 = 0;
@@ -306,7 +311,8 @@ fn syntax_fault(tokens: &Tokens<'_>, at: usize, bad: Option<usize>) -> RuleFault
 
 /// The fault of an option that isn't known. It stands at a token; the end of the text is no option.
 fn option_fault(tokens: &Tokens<'_>, at: usize, bad: Option<usize>) -> RuleFault
-    requires { tokens.now.ends + 1 < 2 ^ 32 }
+    requires lines { tokens.now.ends + 1 < 2 ^ 32 }
+    requires option { IsOptionBehind tokens.now.items.items 0 at }
     ensures { IsFaultBy tokens.now bad result }
 {
     match tokens.items.get(at) {
@@ -316,15 +322,16 @@ fn option_fault(tokens: &Tokens<'_>, at: usize, bad: Option<usize>) -> RuleFault
 }
 
 /// The fault at a token.
-fn fault_of(tokens: &Tokens<'_>, at: usize, stop: Stop, bad: Option<usize>) -> RuleFault
-    requires { tokens.now.ends + 1 < 2 ^ 32 }
+fn fault_of(tokens: &Tokens<'_>, at: usize, halt: Halt, bad: Option<usize>) -> RuleFault
+    requires lines { tokens.now.ends + 1 < 2 ^ 32 }
+    requires halt { HaltsAt tokens.now.items.items 0 at halt }
     ensures { IsFaultBy tokens.now bad result }
 {
-    match stop {
-        Stop::NoMemory => RuleFault::NoMemory,
-        Stop::Syntax => syntax_fault(tokens, at, bad),
-        Stop::Option => option_fault(tokens, at, bad),
-        Stop::TooMany => RuleFault::TooMany {
+    match halt {
+        Halt::Inside(Stop::NoMemory) => RuleFault::NoMemory,
+        Halt::Inside(Stop::Syntax) => syntax_fault(tokens, at, bad),
+        Halt::Option => option_fault(tokens, at, bad),
+        Halt::TooMany => RuleFault::TooMany {
             count: MOST_RULES + 1,
         },
     }
@@ -345,6 +352,6 @@ pub fn read_rules(alloc: Global, text: &[u8]) -> Result<Rules, RuleFault>
             None => Ok(Rules { entries }),
             Some(at) => Err(RuleFault::NotUtf8 { at }),
         },
-        Err(stop) => Err(fault_of(&tokens, at, stop, bad)),
+        Err(halt) => Err(fault_of(&tokens, at, halt, bad)),
     }
 }

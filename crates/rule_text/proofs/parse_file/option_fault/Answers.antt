@@ -1,6 +1,6 @@
 use Rattle.std.proofs.Common.{rules}
-use Rattle.rule_text.proofs.FaultLemmas.{contains_line}
+use Rattle.rule_text.proofs.HaltLemmas.{option_by}
 use Rattle.rule_text.proofs.parse_file.option_fault.Goals as goal
 
 pub returns-in-Some : goal.returns-in-Some
-returns-in-Some c = contains_line c.args.tokens.now.items.items c.args.at c.in-Some.token.now (search rules) (search rules)
+returns-in-Some c = option_by c.args.tokens.now.items.items c.args.at c.in-Some.token.now (search rules) (search rules) c.requires.option

@@ -1,13 +1,20 @@
 use Rattle.std.proofs.Common.{◌≡◌, ◌<◌, length, ap, subst, ◌∙◌, MatchOption, rules, arith}
 use Rattle.std.specs.Str.{IsUtf8, IsValidUpTo}
 use Rattle.rule_text.specs.Fronts.{AreTokensOf}
+use Rattle.rule_text.specs.Halts.{HaltsAt}
 use Rattle.rule_text.specs.ReadEntries.{ReadsFew}
 use Rattle.rule_text.proofs.EntryLemmas.{whole_read}
 use Rattle.rule_text.proofs.FaultLemmas.{few_ends, faults}
 use Rattle.rule_text.proofs.parse_file.read_rules.Goals as goal
 
-pub fault_of-requires : goal.fault_of-requires
-fault_of-requires c =
+pub fault_of-requires-clause-halt : goal.fault_of-requires-clause-halt
+fault_of-requires-clause-halt c =
+    let items : c.as_slice.result.now ≡ c.in_ok-tokens.tokens.items.items = search rules in
+    let halts : HaltsAt c.as_slice.result.now 0 c.read_entries.new.at c.in-Err.halt = search rules in
+    subst (λ xs. HaltsAt xs 0 c.read_entries.new.at c.in-Err.halt) items halts
+
+pub fault_of-requires-clause-lines : goal.fault_of-requires-clause-lines
+fault_of-requires-clause-lines c =
     let few : c.in_ok-tokens.tokens.ends < length c.readable.result.now = few_ends c.readable.result.now c.in_ok-tokens.tokens (search rules) (search rules) in
     omega (arith, few, c.readable.ensures.short, c.requires)
 

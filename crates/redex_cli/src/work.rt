@@ -303,7 +303,7 @@ pub fn optimise_workload(
 /// The live classes and members of an input, as they are said.
 fn live_of(alloc: Global, input: &Input) -> Result<Vec<u8>, Status>
     ensures refused { IfErr result WorkRefused }
-    ensures file { IfErr result (λ status. (bytes : List ℕ) → FileRefused bytes status) }
+    ensures file { (bytes : List ℕ) → IfErr result (FileRefused bytes) }
 {
     let live = match live_members(alloc, &input.program, &input.hierarchy, &input.outside) {
         Ok(live) => live,
@@ -333,7 +333,7 @@ pub fn list_live(alloc: Global, rules: Vec<u8>, file: Vec<u8>) -> Result<Vec<u8>
 fn counts_of(alloc: Global, program: &Program) -> Result<Vec<u8>, Status>
     ensures checked { IfOk result (λ text. text.items ≡ program_text program.now) }
     ensures refused { IfErr result WorkRefused }
-    ensures file { IfErr result (λ status. (bytes : List ℕ) → FileRefused bytes status) }
+    ensures file { (bytes : List ℕ) → IfErr result (FileRefused bytes) }
 {
     match check_line(alloc, program) {
         Ok(text) => Ok(text.into_bytes()),
@@ -360,7 +360,7 @@ pub fn check_file(alloc: Global, file: Vec<u8>) -> Result<Vec<u8>, Status>
 fn read_play(alloc: Global, script: &[u8]) -> Result<Play, Status>
     requires { length script.now < 2 ^ 32 }
     ensures refused { IfErr result (TraceRefused script.now) }
-    ensures file { IfErr result (λ status. (bytes : List ℕ) → FileRefused bytes status) }
+    ensures file { (bytes : List ℕ) → IfErr result (FileRefused bytes) }
 {
     match read_script(alloc, script) {
         Ok(play) => Ok(play),
@@ -391,7 +391,7 @@ fn trace_input(alloc: Global, input: &Input, script: &[u8], steps: u32) -> Resul
     requires { length script.now < 2 ^ 32 }
     ensures traced { IfOk result (λ text. IsTraced steps text.items) }
     ensures refused { IfErr result (TraceRefused script.now) }
-    ensures file { IfErr result (λ status. (bytes : List ℕ) → FileRefused bytes status) }
+    ensures file { (bytes : List ℕ) → IfErr result (FileRefused bytes) }
 {
     let play = match read_play(alloc, script) {
         Ok(play) => play,

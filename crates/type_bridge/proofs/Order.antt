@@ -24,6 +24,7 @@ use Rattle.name_bridge.proofs.Above.{Defined, defined, own_place}
 use Rattle.name_bridge.proofs.Nearest.{nearest_by_number}
 use Rattle.pass_defs.specs.Kinds as name
 use Rattle.pass_defs.specs.Kinds.{Kind, Undefined, Zero, Word, Low, High, Null, Class as ClassKind, Array, Reference, Fresh, FreshThis, kind_eq, depth, arrays_of, is_flat, object_array, joined_deep, joined_items, joined_arrays, class_or_reference, is_below}
+pub use Rattle.pass_defs.proofs.Writes.{same_kind, itself_below}
 use Rattle.verify.specs.declared.kinds.Kind as number
 use Rattle.verify.specs.declared.kinds.Kind.TheVariants as kind
 use Rattle.verify.specs.declared.shapes.Shape.{Shape}
@@ -48,23 +49,7 @@ use Rattle.type_bridge.proofs.Texts.{IsBase, depth_of, base_under, item_bare, Cl
 
 -- ---- the order by names
 
-pub same_kind : (k : Kind) → kind_eq k k ≡ true
-same_kind Undefined = refl
-same_kind Zero = refl
-same_kind Word = refl
-same_kind Low = refl
-same_kind High = refl
-same_kind Null = refl
-same_kind (ClassKind s) = text_same s
-same_kind (Array s) = text_same s
-same_kind Reference = refl
-same_kind (Fresh s n) = ap (λ b. b && nat_eq n n) (text_same s) ∙ number_test n n refl
-same_kind FreshThis = refl
-
 module _ (q : NamedProgram) where
-  pub itself_below : (k : Kind) → is_below q k k ≡ true
-  itself_below k = rw (same_kind k) (same_kind k)
-
   pub undefined_above : (k : Kind) → is_below q k Undefined ≡ true
   undefined_above Undefined = refl
   undefined_above Zero = refl

@@ -4,3 +4,4 @@ pub mod Flows
 pub mod Conditional
 pub mod Idle
 pub mod Least
+pub mod Writes

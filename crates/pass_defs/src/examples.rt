@@ -7,7 +7,8 @@ ghost use Rattle.dalvik_defs.specs.Names.{object_type, void};
 ghost use Rattle.dalvik_defs.specs.Under.{is_under};
 ghost use Rattle.dalvik_defs.specs.Examples.{a_type, b_type, m_key, keeps_m, answers_two, to_int, constructor};
 ghost use Rattle.dalvik_defs.specs.declared.forms.Form.TheVariants as form;
-ghost use Rattle.pass_defs.specs.Kinds.{Undefined, Zero, Word, Null, Class, Array, Reference, joined};
+ghost use Rattle.pass_defs.specs.Kinds.{Undefined, Zero, Word, Low, High, Null, Class, Array, Reference, joined};
+ghost use Rattle.pass_defs.specs.Registers.{written_kinds};
 ghost use Rattle.pass_defs.specs.Demands.{is_refused};
 ghost use Rattle.pass_defs.specs.Typed.{IsTyping, is_ill_at};
 ghost use Rattle.pass_defs.specs.Live.{IsLiveField, IsLiveClass, IsLiveMethod};
@@ -32,6 +33,15 @@ pub fn kinds_join()
     ensures unlike { joined (meeting copies_both) (Class a_type) (Array (codes "[I")) ≡ Reference }
     ensures null { joined (meeting copies_both) Zero Null ≡ Null }
     ensures number { joined (meeting copies_both) Word (Class a_type) ≡ Undefined }
+{}
+
+/// A write over one half of a wide makes the other half undefined, also where that alone is still known; a number behind
+/// another register stays.
+pub fn halves_go_together()
+    ensures low { written_kinds 0 Word (Low ∷ High ∷ []) ≡ Word ∷ Undefined ∷ [] }
+    ensures high { written_kinds 1 Word (Low ∷ High ∷ []) ≡ Undefined ∷ Word ∷ [] }
+    ensures alone { written_kinds 0 Word (Undefined ∷ High ∷ []) ≡ Word ∷ Undefined ∷ [] }
+    ensures other { written_kinds 0 Null (Word ∷ Word ∷ []) ≡ Null ∷ Word ∷ [] }
 {}
 
 /// Where two classes under S meet, a field of S is read.

@@ -1,12 +1,11 @@
 -- What a form leaves is, by name, at or below what is at or above it.
 use Rattle.std.proofs.Common.{◌≡◌, ℕ, zero, suc, ◌+◌, ◌-◌, ◌<◌, Bool, true, false, true≢false, nat_eq, List, [], ◌∷◌, map, length, Option, Some, None, ◌⊎◌, inl, inr, refl, sym, ap, ◌∙◌, subst, arith}
-use Rattle.std.specs.Prelude.{◌&&◌, ◌||◌, not, slice_get, slice_set, nat_lt, ℤ, pos, if◌then◌else◌}
+use Rattle.std.specs.Prelude.{◌&&◌, ◌||◌, not, slice_get, ℤ, pos, if◌then◌else◌}
 use Rattle.std.specs.Ordering.{int_eq}
 use Rattle.std.proofs.lemmas.Bool.{cases_lt}
 use Rattle.std.proofs.lemmas.Option.{slice_get_within}
-use Rattle.class_defs.proofs.Positions.{number_test, number_of, same_test, both}
-use Rattle.class_defs.proofs.WellFormed.{and_left, and_right, class_parts}
-use Rattle.insn_set.specs.Widths.{is_wide_item, unary_writes_wide, binary_is_wide}
+use Rattle.class_defs.proofs.Positions.{number_test, number_of, same_test}
+use Rattle.insn_set.specs.Widths.{unary_writes_wide, binary_is_wide}
 use Rattle.insn_set.specs.declared.form.Insn.{Insn}
 use Rattle.insn_set.specs.declared.form.Insn.TheVariants as insn
 use Rattle.insn_set.specs.declared.ops.InvokeKind.{InvokeKind}
@@ -21,8 +20,7 @@ use Rattle.program_model.specs.declared.program.Method.{Method}
 use Rattle.program_model.specs.declared.program.Program.{Program}
 use Rattle.dalvik_defs.specs.Names as text
 use Rattle.dalvik_defs.specs.Names.{Text, text_eq}
-use Rattle.dalvik_defs.specs.Naming.{type_at, field_at, method_at, form_of, named_class, named_method, named}
-use Rattle.dalvik_defs.specs.declared.program.NamedProgram.{NamedProgram}
+use Rattle.dalvik_defs.specs.Naming.{type_at, field_at, method_at, form_of, named_class, named}
 use Rattle.dalvik_defs.proofs.Calm.{text_sound}
 use Rattle.name_bridge.proofs.Classes.{type_test}
 use Rattle.pass_defs.specs.Kinds as name
@@ -36,12 +34,12 @@ use Rattle.verify.specs.declared.setting.Setting.{Setting}
 use Rattle.verify.specs.declared.shapes.Shape.{Shape}
 use Rattle.verify.specs.declared.shapes.Shape.TheVariants as shape
 use Rattle.verify.specs.declared.tables.Tables.{Tables}
-use Rattle.verify.specs.After.{constant_kind, moved, got_object, got, constructed, receiver_register, begun_call, called, called_by}
+use Rattle.verify.specs.After.{constant_kind, moved, got, constructed, receiver_register, called}
 use Rattle.verify.specs.Demands.{same_item, unless}
 use Rattle.verify.specs.Fits.{fits, is_fillable_shape, stored_item}
 use Rattle.program_model.specs.Texts.{first_unit}
 use Rattle.verify.specs.Flow.{form_after}
-use Rattle.verify.specs.Frames.{Kinds, kind_at, written, written_kinds, replace, forget}
+use Rattle.verify.specs.Frames.{Kinds, kind_at, written, forget}
 use Rattle.verify.specs.Kinds as kinds
 use Rattle.verify.specs.Kinds.{same_kind, is_initialised, replaced, forgotten, number_kind}
 use Rattle.verify.specs.Meeting.{is_settled}
@@ -50,21 +48,21 @@ use Rattle.verify.specs.Reads.{is_array_of, is_constructed, is_receiver, refused
 use Rattle.verify.specs.Shapes as shapes
 use Rattle.verify.specs.Types.{shape_of, item_shape, kind_of, kind_of_shape, kind_of_class, reference_kind, cast_kind, kind_of_item, is_constructor}
 use Rattle.verify.specs.Typings.{Below, IsBelow}
-use Rattle.verify.specs.Wrong.{differ, static_method, is_static_call, finds_static, wrong_super, wrong_call, passed_words, parameter_words, is_wrong}
+use Rattle.verify.specs.Wrong.{differ, static_method, is_static_call, finds_static, wrong_super, passed_words, parameter_words, is_wrong}
 use Rattle.verify.proofs.Descriptions.{text_same}
 use Rattle.verify.proofs.Fitting.{item_settled}
 use Rattle.verify.proofs.Orders.{bare_below}
 use Rattle.verify.proofs.Raises.{below_itself, below_on}
 use Rattle.verify.proofs.Ranks.{lattice_of}
-use Rattle.verify.proofs.Reading.{unless_true, lower_left, lower_right}
+use Rattle.verify.proofs.Reading.{unless_true, lower_left}
 use Rattle.verify.proofs.Writes.{moved_on}
-use Rattle.type_bridge.specs.Views.{item_text, class_kind, array_kind, kind_named, receiver_named, kinds_named}
+use Rattle.type_bridge.specs.Views.{class_kind, array_kind, kind_named, receiver_named, kinds_named}
 use Rattle.type_bridge.proofs.Told.{Told}
 use Rattle.type_bridge.proofs.Texts.{Sorts, sorts, item_sorts, kind_is, has_entry, class_unit}
 use Rattle.type_bridge.proofs.Order.{itself_below, undefined_above, below_named}
-use Rattle.type_bridge.proofs.Frames.{at_named, written_named, forgotten_named, mapped, all_named, close, made_receiver, receiver_below, kinds_below_named}
+use Rattle.type_bridge.proofs.Frames.{at_named, written_named, forgotten_named, mapped, all_named, close, receiver_below, kinds_below_named}
 use Rattle.type_bridge.proofs.Fits.{array_kind_of, deeper, less}
-use Rattle.type_bridge.proofs.Members.{FieldIs, field_is, field_kind_is, MethodIs, method_is, method_class_small, method_class_is, result_is, constructor_is}
+use Rattle.type_bridge.proofs.Members.{field_is, field_kind_is, MethodIs, method_is, method_class_small, result_is, constructor_is}
 use Rattle.type_bridge.proofs.Asked.{item_is}
 use Rattle.type_bridge.proofs.Grounds.{IsSet, get_fits, static_get_fits, invoke_fits}
 use Rattle.type_bridge.proofs.Spelled.{nonempty}

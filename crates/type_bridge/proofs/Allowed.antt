@@ -1,7 +1,6 @@
 -- A form whose reads are allowed has them allowed by name.
-use Rattle.std.proofs.Common.{◌≡◌, ℕ, Bool, true, false, List, [], ◌∷◌, map, length, Option, Some, None, refl, sym, ap, ◌∙◌, subst}
-use Rattle.std.specs.Prelude.{◌&&◌, slice_get}
-use Rattle.std.specs.List.{list_all}
+use Rattle.std.proofs.Common.{◌≡◌, ℕ, true, None, refl, ap, ◌∙◌}
+use Rattle.std.specs.Prelude.{◌&&◌}
 use Rattle.insn_set.specs.Widths.{compares_wide, unary_reads_wide, binary_is_wide, second_is_wide}
 use Rattle.insn_set.specs.declared.form.Insn.{Insn}
 use Rattle.insn_set.specs.declared.form.Insn.TheVariants as insn
@@ -11,31 +10,27 @@ use Rattle.insn_set.specs.declared.ops.Slot.TheVariants as slot
 use Rattle.program_model.specs.OperandRules.{numbers_fit}
 use Rattle.program_model.specs.declared.program.Class.{Class}
 use Rattle.program_model.specs.declared.program.Method.{Method}
-use Rattle.program_model.specs.declared.program.Program.{Program}
-use Rattle.dalvik_defs.specs.Naming.{type_at, field_at, method_at, form_of, named_class, named_method, named}
+use Rattle.dalvik_defs.specs.Naming.{field_at, method_at, form_of, named_class, named_method, named}
 use Rattle.pass_defs.specs.Kinds as name
 use Rattle.pass_defs.specs.Kinds.{kind_eq}
 use Rattle.pass_defs.specs.Demands as asked
 use Rattle.pass_defs.specs.Demands.{is_allowed}
-use Rattle.verify.specs.declared.kinds.Kind as number
-use Rattle.verify.specs.declared.kinds.Kind.TheVariants as kind
 use Rattle.verify.specs.declared.setting.Setting.{Setting}
 use Rattle.verify.specs.Demands as demands
 use Rattle.verify.specs.Demands.{unless, lower}
-use Rattle.verify.specs.Fits.{fits}
 use Rattle.verify.specs.Frames.{Kinds, kind_at}
 use Rattle.verify.specs.Kinds as kinds
 use Rattle.verify.specs.Names.{field_kind, field_class}
-use Rattle.verify.specs.Reads.{is_of_type, is_holder, is_array_of, is_array_filled, refused_array, refused, found_at}
+use Rattle.verify.specs.Reads.{is_of_type, is_holder, is_array_of, refused_array, refused, found_at}
 use Rattle.verify.specs.Supers.{super_search}
 use Rattle.verify.proofs.Reading.{unless_true, lower_left, lower_right}
 use Rattle.type_bridge.specs.Views.{kind_named, kinds_named}
 use Rattle.type_bridge.proofs.Frames.{low_test}
 use Rattle.type_bridge.proofs.Fits.{number_named}
 use Rattle.type_bridge.proofs.Order.{made_named}
-use Rattle.type_bridge.proofs.Members.{FieldIs, field_is, field_kind_is, field_class_is, MethodIs, method_is}
+use Rattle.type_bridge.proofs.Members.{field_is, field_kind_is, field_class_is, method_is}
 use Rattle.type_bridge.proofs.Asked.{one_of, two_of, three_of, meets_number, meets_made, meets_fits, meets_wide, meets_type, meets_slot, meets_item, meets_tested, meets_tested_with, meets_array, meets_filled, meets_any_array, meets_holder, call_all, items_all}
-use Rattle.type_bridge.proofs.Grounds.{IsSet, get_fits, put_fits, static_get_fits, static_put_fits, invoke_fits, result_named}
+use Rattle.type_bridge.proofs.Grounds.{IsSet, get_fits, put_fits, static_put_fits, invoke_fits, result_named}
 
 module _ (s : Setting) (c : Class) (m : Method) (i : IsSet s c m) (made : name.Kind) (n : ℕ) (a : Kinds) where
   -- what a body asks of all registers

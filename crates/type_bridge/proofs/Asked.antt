@@ -1,14 +1,11 @@
 -- A read that is allowed is allowed by name.
-use Rattle.std.proofs.Common.{◌≡◌, ℕ, zero, suc, ◌+◌, ◌<◌, Bool, true, false, true≢false, nat_eq, List, [], ◌∷◌, ◌++◌, map, length, Option, Some, None, refl, sym, ap, ◌∙◌, subst}
-use Rattle.std.specs.Prelude.{◌&&◌, ◌||◌, not, drop, slice_get, nat_lt, if◌then◌else◌}
+use Rattle.std.proofs.Common.{◌≡◌, ℕ, zero, suc, ◌+◌, Bool, true, false, true≢false, nat_eq, List, [], ◌∷◌, ◌++◌, map, Option, Some, None, refl, sym, ap, ◌∙◌, subst}
+use Rattle.std.specs.Prelude.{◌&&◌, ◌||◌, drop, slice_get, if◌then◌else◌}
 use Rattle.std.specs.List.{list_all}
-use Rattle.class_defs.proofs.Positions.{number_test, number_of, both}
-use Rattle.class_defs.proofs.WellFormed.{and_left, and_right, below}
+use Rattle.class_defs.proofs.Positions.{number_of, both}
+use Rattle.class_defs.proofs.WellFormed.{and_left, and_right}
 use Rattle.class_defs.specs.Finding as finding
 use Rattle.hierarchy.specs.Shapes.{IsResolved}
-use Rattle.insn_set.specs.Widths.{compares_wide, unary_reads_wide, binary_is_wide, second_is_wide}
-use Rattle.insn_set.specs.declared.form.Insn.{Insn}
-use Rattle.insn_set.specs.declared.form.Insn.TheVariants as insn
 use Rattle.insn_set.specs.declared.ops.InvokeKind.{InvokeKind}
 use Rattle.insn_set.specs.declared.ops.InvokeKind.TheVariants as call
 use Rattle.insn_set.specs.declared.ops.Item.{Item}
@@ -17,16 +14,13 @@ use Rattle.insn_set.specs.declared.ops.Slot.{Slot}
 use Rattle.insn_set.specs.declared.ops.Slot.TheVariants as slot
 use Rattle.insn_set.specs.declared.ops.Test.{Test}
 use Rattle.insn_set.specs.declared.ops.Test.TheVariants as test
-use Rattle.program_model.specs.OperandRules.{numbers_fit}
 use Rattle.program_model.specs.declared.program.Class.{Class}
-use Rattle.program_model.specs.declared.program.Method.{Method}
 use Rattle.program_model.specs.declared.program.Program.{Program}
 use Rattle.dalvik_defs.specs.Names as text
 use Rattle.dalvik_defs.specs.Names.{Text, text_eq}
 use Rattle.dalvik_defs.specs.Items.{item_of_type}
 use Rattle.dalvik_defs.specs.Find as find
-use Rattle.dalvik_defs.specs.Naming.{type_at, field_at, method_at, form_of, named_class, named_method, named}
-use Rattle.dalvik_defs.specs.declared.program.NamedClass.{NamedClass}
+use Rattle.dalvik_defs.specs.Naming.{type_at, field_at, method_at, named_class, named}
 use Rattle.pass_defs.specs.Kinds as name
 use Rattle.pass_defs.specs.Kinds.{kind_eq}
 use Rattle.pass_defs.specs.Registers as by_name
@@ -41,9 +35,9 @@ use Rattle.verify.specs.declared.tables.Tables.{Tables}
 use Rattle.verify.specs.Demands as demands
 use Rattle.verify.specs.Demands.{unless, lower, same_item}
 use Rattle.verify.specs.Fits.{fits, fits_item, stored_item}
-use Rattle.verify.specs.Frames.{Kinds, kind_at, is_pair}
+use Rattle.verify.specs.Frames.{kind_at, is_pair}
 use Rattle.verify.specs.Kinds as kinds
-use Rattle.verify.specs.Names.{field_kind, field_class, method_class, parameters_of, result_of}
+use Rattle.verify.specs.Names.{field_class, method_class, parameters_of}
 use Rattle.verify.specs.Reads as reads
 use Rattle.verify.specs.Reads.{is_of_type, is_holder, is_constructed, is_receiver, is_array_of, is_array_filled, refused_from, refused_arguments, refused_received, refused_call, refused_items_from, refused_array, refused_several, refused, found_at, fits_search}
 use Rattle.verify.specs.Shapes as shapes
@@ -52,13 +46,13 @@ use Rattle.verify.specs.Supers.{Finds, super_search}
 use Rattle.verify.specs.Types.{shape_of, is_constructor}
 use Rattle.verify.proofs.Descriptions.{text_same}
 use Rattle.verify.proofs.Reading.{unless_true, lower_left, lower_right}
-use Rattle.type_bridge.specs.Views.{item_text, class_kind, kind_named, kinds_named}
+use Rattle.type_bridge.specs.Views.{item_text, class_kind, kind_named}
 use Rattle.type_bridge.proofs.Told.{Told}
 use Rattle.type_bridge.proofs.Texts.{sorts}
 use Rattle.type_bridge.proofs.Order.{made_named}
-use Rattle.type_bridge.proofs.Fits.{or_first, or_second, either_true, number_named, fits_named, fits_item_named, stored_named}
+use Rattle.type_bridge.proofs.Fits.{either_true, number_named, fits_named, fits_item_named, stored_named}
 use Rattle.type_bridge.proofs.Frames.{at_named, pair_named}
-use Rattle.type_bridge.proofs.Members.{FieldIs, field_is, field_kind_is, field_class_is, MethodIs, method_is, method_class_is, result_is, parameters_is, constructor_is, defines_is, classes_of, SameFound, found_same}
+use Rattle.type_bridge.proofs.Members.{FieldIs, field_class_is, MethodIs, method_class_is, parameters_is, constructor_is, defines_is, SameFound, found_same}
 
 -- ---- tests
 

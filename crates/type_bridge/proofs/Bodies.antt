@@ -1,20 +1,18 @@
 -- What the code of a well-formed program keeps to.
-use Rattle.std.proofs.Common.{◌≡◌, ℕ, zero, suc, ◌+◌, ◌-◌, ◌*◌, ◌<◌, ◌≤◌, Bool, true, false, true≢false, nat_eq, List, [], ◌∷◌, ◌++◌, map, length, Option, Some, None, ◌⊎◌, inl, inr, refl, sym, ap, ◌∙◌, subst, arith, leb-true, add-mul}
+use Rattle.std.proofs.Common.{◌≡◌, ℕ, zero, suc, ◌+◌, ◌-◌, ◌*◌, ◌<◌, ◌≤◌, true, true≢false, List, [], ◌∷◌, length, Option, Some, None, inl, inr, refl, sym, ap, ◌∙◌, subst, arith, leb-true}
 use Rattle.std.proofs.lemmas.List.Sums.{sum_by-cons}
-use Rattle.std.specs.Prelude.{◌&&◌, ◌||◌, not, slice_get, slice_index_or, nat_lt, nat_le, sum_by, if◌then◌else◌}
+use Rattle.std.specs.Prelude.{◌&&◌, not, slice_get, nat_le, sum_by}
 use Rattle.std.specs.List.{list_all, enumerate_from}
 use Rattle.std.proofs.lemmas.Bool.{cases_lt}
-use Rattle.class_defs.proofs.Positions.{number_of, entry_at}
-use Rattle.class_defs.proofs.WellFormed.{and_left, and_right, all_at, below, Sound}
-use Rattle.insn_set.specs.Flow.{throws, goes_on, targets_of}
+use Rattle.class_defs.proofs.WellFormed.{and_left, and_right, all_at, Sound}
+use Rattle.insn_set.specs.Flow.{goes_on}
 use Rattle.insn_set.specs.Spelling.{is_encodable}
 use Rattle.insn_set.specs.declared.form.Insn.{Insn}
-use Rattle.insn_set.specs.declared.form.Insn.TheVariants as insn
 use Rattle.program_model.specs.BodyRules.{ends, may_enter, targets_fit, leaves, is_caught, follows, insn_fits, body_fits}
-use Rattle.program_model.specs.Cells.{body_cells, method_cells, class_cells, cells_of, entries_of}
+use Rattle.program_model.specs.Cells.{body_cells, method_cells, class_cells, cells_of}
 use Rattle.program_model.specs.Items.{items_of}
 use Rattle.program_model.specs.LineRules.{lines_fit}
-use Rattle.program_model.specs.MemberRules.{class_fits, types_of_class_fit, fields_fit, methods_fit, method_fits, code_fits, frame_fits, lacks_code, is_class_number, class_of_method, receiver_words, words_of, takes_words, proto_of}
+use Rattle.program_model.specs.MemberRules.{class_fits, types_of_class_fit, fields_fit, methods_fit, method_fits, code_fits, frame_fits, lacks_code, is_class_number, class_of_method}
 use Rattle.program_model.specs.Neighbours.{neighbours}
 use Rattle.program_model.specs.OperandRules.{registers_fit, numbers_fit}
 use Rattle.program_model.specs.ProgramRules.{is_well_formed}
@@ -22,7 +20,6 @@ use Rattle.program_model.specs.RegionRules.{may_begin, region_fits, are_apart, r
 use Rattle.program_model.specs.TableRules.{tables_fit}
 use Rattle.program_model.specs.declared.body.Body.{Body}
 use Rattle.program_model.specs.declared.body.Region.{Region}
-use Rattle.program_model.specs.declared.pools.Proto.{Proto}
 use Rattle.program_model.specs.declared.program.Class.{Class}
 use Rattle.program_model.specs.declared.program.Method.{Method}
 use Rattle.program_model.specs.declared.program.Program.{Program}

@@ -1,25 +1,22 @@
 -- The kinds with which code begins, by number and by name.
-use Rattle.std.proofs.Common.{◌≡◌, ℕ, zero, suc, ◌+◌, ◌-◌, ◌<◌, ◌≤◌, Bool, true, false, true≢false, nat_eq, List, [], ◌∷◌, ◌++◌, map, replicate, length, Option, Some, None, refl, sym, ap, ◌∙◌, subst, arith, append_assoc, length-append}
+use Rattle.std.proofs.Common.{◌≡◌, ℕ, zero, suc, ◌+◌, ◌-◌, ◌<◌, ◌≤◌, Bool, true, false, List, [], ◌∷◌, ◌++◌, map, replicate, length, Option, Some, None, refl, sym, ap, ◌∙◌, arith, append_assoc, length-append}
 use Rattle.std.proofs.lemmas.List.Sums.{sum_by-cons}
-use Rattle.std.specs.Prelude.{◌&&◌, not, slice_get, slice_set, min, nat_le, nat_lt, sum_by, if◌then◌else◌}
+use Rattle.std.specs.Prelude.{slice_get, slice_set, nat_le, sum_by, if◌then◌else◌}
 use Rattle.std.proofs.Math.Nat.{min-eq_left}
 use Rattle.std.proofs.lemmas.Bool.{leb-true}
 use Rattle.class_defs.proofs.Positions.{number_of}
 use Rattle.class_defs.proofs.WellFormed.{and_left, and_right}
 use Rattle.program_model.specs.MemberRules.{has_flag, frame_fits, takes_words, receiver_words, words_of}
 use Rattle.program_model.specs.MemberRules as rules
-use Rattle.program_model.specs.Texts.{is_wide, letter_of}
 use Rattle.program_model.specs.declared.body.Body.{Body}
 use Rattle.program_model.specs.declared.pools.Proto.{Proto}
 use Rattle.program_model.specs.declared.program.Class.{Class}
 use Rattle.program_model.specs.declared.program.Method.{Method}
 use Rattle.program_model.specs.declared.program.Program.{Program}
 use Rattle.dalvik_defs.specs.Flags as remainder
-use Rattle.dalvik_defs.specs.Names.{Text}
 use Rattle.dalvik_defs.specs.Naming.{type_at, method_at, body_of, named_class, named_method, named}
 use Rattle.name_bridge.proofs.Flags.{static_flag, interface_flag}
 use Rattle.pass_defs.specs.Kinds as name
-use Rattle.pass_defs.specs.Registers as by_name
 use Rattle.pass_defs.specs.Typed as typed
 use Rattle.verify.specs.declared.kinds.Kind as number
 use Rattle.verify.specs.declared.kinds.Kind.TheVariants as kind
@@ -32,12 +29,12 @@ use Rattle.verify.specs.Flow.{greatest, next_of}
 use Rattle.verify.specs.Methods.{constructs, receiver_of}
 use Rattle.verify.specs.Names.{parameters_or, parameters_of}
 use Rattle.verify.specs.Shapes as shapes
-use Rattle.verify.specs.Types.{shape_of, kind_of, kind_of_shape, kind_of_class}
+use Rattle.verify.specs.Types.{shape_of, kind_of, kind_of_shape}
 use Rattle.type_bridge.specs.Views.{class_kind, kind_named, receiver_named, kinds_named}
 use Rattle.type_bridge.proofs.Told.{Told}
 use Rattle.type_bridge.proofs.Texts.{sorts, kind_is}
 use Rattle.type_bridge.proofs.Spelled.{word_same}
-use Rattle.type_bridge.proofs.Members.{MethodIs, parameters_is, proto_is}
+use Rattle.type_bridge.proofs.Members.{parameters_is, proto_is}
 use Rattle.type_bridge.proofs.Grounds.{IsSet, constructs_is}
 use Rattle.type_bridge.proofs.Bodies.{IsCode}
 

@@ -1,7 +1,7 @@
 -- A kind that fits a type fits it by name.
-use Rattle.std.proofs.Common.{◌≡◌, ℕ, zero, suc, ◌+◌, ◌-◌, ◌<◌, Bool, true, false, true≢false, nat_eq, List, [], ◌∷◌, map, length, Option, Some, None, refl, sym, ap, ◌∙◌, subst, arith, lt-ltb, ltb-true}
+use Rattle.std.proofs.Common.{◌≡◌, ℕ, zero, suc, ◌-◌, Bool, true, false, true≢false, nat_eq, [], Option, Some, None, refl, sym, ap, ◌∙◌, subst, arith, lt-ltb}
 use Rattle.std.specs.Prelude.{◌&&◌, ◌||◌, not, slice_get, nat_lt, if◌then◌else◌}
-use Rattle.class_defs.proofs.Positions.{number_test, number_of, both}
+use Rattle.class_defs.proofs.Positions.{number_of}
 use Rattle.class_defs.proofs.WellFormed.{and_left, and_right}
 use Rattle.program_model.specs.declared.program.Class.{Class}
 use Rattle.program_model.specs.declared.program.Program.{Program}
@@ -11,26 +11,23 @@ use Rattle.dalvik_defs.specs.Items.{item_of_type}
 use Rattle.dalvik_defs.specs.Naming.{type_at, named}
 use Rattle.pass_defs.specs.Kinds as name
 use Rattle.pass_defs.specs.Kinds.{Kind, Null, Class as ClassKind, Array, is_below, depth, arrays_of}
-use Rattle.insn_set.specs.declared.ops.Item.{Item}
 use Rattle.insn_set.specs.declared.ops.Item.TheVariants as item
 use Rattle.verify.specs.declared.kinds.Kind as number
 use Rattle.verify.specs.declared.kinds.Kind.TheVariants as kind
 use Rattle.verify.specs.declared.shapes.Shape.{Shape}
 use Rattle.verify.specs.declared.shapes.Shape.TheVariants as shape
 use Rattle.verify.specs.declared.tables.Tables.{Tables}
-use Rattle.verify.specs.Chains.{is_in_chain}
-use Rattle.verify.specs.Fits.{is_below_class, class_fits, reference_fits, item_fits, array_fits, fits_array, fits_class, fits_shape, fits, stored_item, fits_item_of, fits_item}
+use Rattle.verify.specs.Fits.{is_below_class, class_fits, reference_fits, item_fits, array_fits, fits_array, fits_shape, fits, stored_item, fits_item_of, fits_item}
 use Rattle.verify.specs.Kinds as kinds
 use Rattle.verify.specs.Kinds.{same_number}
 use Rattle.verify.specs.Meeting.{is_settled}
 use Rattle.verify.specs.Shapes as shapes
 use Rattle.verify.specs.Types.{shape_of, item_shape, kind_of_shape}
 use Rattle.verify.proofs.Descriptions.{text_same}
-use Rattle.verify.proofs.Fitting.{item_settled}
 use Rattle.verify.proofs.Lattice.{number_is}
-use Rattle.type_bridge.specs.Views.{item_text, class_kind, array_kind, kind_named}
+use Rattle.type_bridge.specs.Views.{item_text, class_kind, kind_named}
 use Rattle.type_bridge.proofs.Told.{Told}
-use Rattle.type_bridge.proofs.Texts.{IsBase, depth_of, base_under, item_bare, ClassText, class_text, Sorts, sorts, item_sorts, item_class}
+use Rattle.type_bridge.proofs.Texts.{depth_of, base_under, item_bare, ClassText, class_text, Sorts, sorts, item_sorts, item_class}
 use Rattle.type_bridge.proofs.Order.{made_named, class_over, near_texts}
 
 -- an array of more than one dimension

@@ -1,11 +1,10 @@
 -- The kinds of a position by names: their order, and how writes change them.
-use Rattle.std.proofs.Common.{◌≡◌, ℕ, zero, suc, ◌+◌, ◌-◌, ◌<◌, Bool, true, false, true≢false, nat_eq, List, [], ◌∷◌, map, length, Option, Some, None, refl, sym, ap, ◌∙◌, subst, arith}
-use Rattle.std.specs.Prelude.{◌&&◌, ◌||◌, not, slice_set, slice_get, slice_index_or, if◌then◌else◌}
+use Rattle.std.proofs.Common.{◌≡◌, ℕ, zero, suc, ◌+◌, ◌-◌, Bool, true, false, true≢false, nat_eq, List, [], ◌∷◌, map, length, Option, Some, None, refl, sym, ap, ◌∙◌, subst, arith}
+use Rattle.std.specs.Prelude.{◌&&◌, slice_set, slice_get, if◌then◌else◌}
 use Rattle.std.specs.Option.{option_map}
 use Rattle.class_defs.proofs.Positions.{number_test, number_of, same_test, both}
 use Rattle.program_model.specs.declared.program.Class.{Class}
 use Rattle.program_model.specs.declared.program.Program.{Program}
-use Rattle.dalvik_defs.specs.Names.{Text, text_eq}
 use Rattle.dalvik_defs.specs.Naming.{type_at, named}
 use Rattle.dalvik_defs.specs.declared.program.NamedProgram.{NamedProgram}
 use Rattle.pass_defs.specs.Kinds as name
@@ -14,14 +13,14 @@ use Rattle.pass_defs.specs.Registers as by_name
 use Rattle.verify.specs.declared.kinds.Kind as number
 use Rattle.verify.specs.declared.kinds.Kind.TheVariants as kind
 use Rattle.verify.specs.declared.tables.Tables.{Tables}
-use Rattle.verify.specs.Frames.{Kinds, kind_at, is_pair, cleared, split, written_one, written_pair, written_kinds, written}
+use Rattle.verify.specs.Frames.{Kinds, kind_at, is_pair, cleared, split, written_one, written_pair, written_kinds}
 use Rattle.verify.specs.Kinds as kinds
 use Rattle.verify.specs.Kinds.{same_kind, forgotten}
 use Rattle.verify.specs.Typings.{Below, IsBelow, AtMost}
 use Rattle.verify.proofs.Orders.{made_below, bare_below}
-use Rattle.type_bridge.specs.Views.{class_kind, array_kind, kind_named, receiver_named, kinds_named, table_named}
+use Rattle.type_bridge.specs.Views.{class_kind, kind_named, receiver_named, kinds_named}
 use Rattle.type_bridge.proofs.Told.{Told}
-use Rattle.type_bridge.proofs.Order.{same_kind as kind_self, itself_below, undefined_above, below_named}
+use Rattle.type_bridge.proofs.Order.{itself_below, undefined_above, below_named}
 
 -- ---- kinds at registers
 

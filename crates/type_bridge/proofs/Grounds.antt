@@ -1,9 +1,8 @@
 -- What the code of a method is judged by, by number and by name.
-use Rattle.std.proofs.Common.{◌≡◌, ℕ, ◌<◌, Bool, true, false, List, Option, Some, None, length, refl, sym, ap, ◌∙◌, subst}
-use Rattle.std.specs.Prelude.{◌&&◌, not, slice_get, nat_lt}
-use Rattle.class_defs.proofs.WellFormed.{and_left, and_right, below}
+use Rattle.std.proofs.Common.{◌≡◌, ℕ, ◌<◌, true, List, Some, length, sym, ap, ◌∙◌, subst}
+use Rattle.std.specs.Prelude.{◌&&◌, not, slice_get}
+use Rattle.class_defs.proofs.WellFormed.{below}
 use Rattle.hierarchy.specs.Shapes.{IsResolved}
-use Rattle.insn_set.specs.declared.form.Insn.{Insn}
 use Rattle.insn_set.specs.declared.form.Insn.TheVariants as insn
 use Rattle.insn_set.specs.declared.ops.InvokeKind.{InvokeKind}
 use Rattle.insn_set.specs.declared.ops.Item.{Item}
@@ -12,16 +11,15 @@ use Rattle.program_model.specs.OperandRules.{numbers_fit}
 use Rattle.program_model.specs.declared.program.Class.{Class}
 use Rattle.program_model.specs.declared.program.Method.{Method}
 use Rattle.program_model.specs.declared.program.Program.{Program}
-use Rattle.dalvik_defs.specs.Naming.{type_at, method_at, named_method, named}
+use Rattle.dalvik_defs.specs.Naming.{type_at, method_at, named_method}
 use Rattle.name_bridge.proofs.Flags.{static_flag}
 use Rattle.pass_defs.specs.Typed as typed
 use Rattle.pass_defs.specs.Demands as asked
 use Rattle.verify.specs.declared.setting.Setting.{Setting}
 use Rattle.verify.specs.Methods.{constructs}
 use Rattle.verify.specs.Names.{result_of}
-use Rattle.verify.specs.Types.{is_constructor}
 use Rattle.type_bridge.proofs.Told.{Told}
-use Rattle.type_bridge.proofs.Members.{FieldIs, field_is, MethodIs, method_is, constructor_is, result_is, result_below}
+use Rattle.type_bridge.proofs.Members.{MethodIs, constructor_is, result_is, result_below}
 
 pub record IsSet (s : Setting) (c : Class) (m : Method) : Type 0 where
   pub told : Told s.program.now s.tables.now

@@ -1,15 +1,15 @@
 -- A typing by numbers is one by names.
-use Rattle.std.proofs.Common.{◌≡◌, ℕ, zero, suc, ◌+◌, ◌<◌, ◌≤◌, Bool, true, false, true≢false, List, [], ◌∷◌, ◌++◌, map, length, Option, Some, None, refl, sym, ap, ◌∙◌, subst, arith}
-use Rattle.std.specs.Prelude.{◌&&◌, not, slice_get, slice_index_or, find, cond, All, Contains, option_and_then, if◌then◌else◌}
+use Rattle.std.proofs.Common.{◌≡◌, ℕ, zero, suc, ◌+◌, ◌<◌, Bool, true, false, List, [], ◌∷◌, ◌++◌, map, length, Option, Some, None, refl, sym, ap, ◌∙◌, subst, arith}
+use Rattle.std.specs.Prelude.{◌&&◌, not, slice_get, find, cond, All, option_and_then, if◌then◌else◌}
 use Rattle.std.specs.List.{list_all}
 use Rattle.std.specs.Option.{option_map}
 use Rattle.std.proofs.lemmas.Option.{slice_get-map}
 use Rattle.class_defs.proofs.Positions.{both}
-use Rattle.class_defs.proofs.WellFormed.{and_left, and_right, all_at, below}
+use Rattle.class_defs.proofs.WellFormed.{and_left, and_right}
 use Rattle.insn_set.specs.Flow.{throws, goes_on, targets_of}
 use Rattle.insn_set.specs.declared.form.Insn.{Insn}
 use Rattle.insn_set.specs.declared.form.Insn.TheVariants as insn
-use Rattle.program_model.specs.BodyRules.{may_enter, targets_fit}
+use Rattle.program_model.specs.BodyRules.{may_enter}
 use Rattle.program_model.specs.OperandRules.{numbers_fit}
 use Rattle.program_model.specs.RegionRules.{may_begin, handler_fits, rest_fits, region_fits, catches as has_handler}
 use Rattle.program_model.specs.Texts.{has_type}
@@ -21,10 +21,8 @@ use Rattle.program_model.specs.declared.program.Method.{Method}
 use Rattle.program_model.specs.declared.program.Program.{Program}
 use Rattle.dalvik_defs.specs.Naming.{type_at, form_of, handler_of, region_of, body_of, named_class, named_method, named}
 use Rattle.dalvik_defs.specs.declared.forms.Form.{Form}
-use Rattle.dalvik_defs.specs.declared.program.NamedProgram.{NamedProgram}
 use Rattle.dalvik_defs.specs.declared.program.NamedHandler.{NamedHandler}
-use Rattle.dalvik_defs.specs.declared.program.NamedRegion.{NamedRegion}
-use Rattle.pass_defs.specs.Bare.{bare, may_throw, continues, targets}
+use Rattle.pass_defs.specs.Bare.{may_throw, continues, targets}
 use Rattle.pass_defs.specs.Walks as walks
 use Rattle.pass_defs.specs.Kinds as name
 use Rattle.pass_defs.specs.Registers as by_name
@@ -33,9 +31,7 @@ use Rattle.pass_defs.specs.Typed as typed
 use Rattle.verify.specs.declared.kinds.Kind as number
 use Rattle.verify.specs.declared.kinds.Kind.TheVariants as kind
 use Rattle.verify.specs.declared.setting.Setting.{Setting}
-use Rattle.verify.specs.declared.tables.Tables.{Tables}
 use Rattle.verify.specs.Entry.{begun}
-use Rattle.verify.specs.Faults.{fault_of}
 use Rattle.verify.specs.Flow.{form_after, place_at}
 use Rattle.verify.specs.Frames.{Kinds}
 use Rattle.verify.specs.Methods.{constructs, receiver_of}
@@ -44,12 +40,11 @@ use Rattle.verify.specs.Reads.{found_at, refused}
 use Rattle.verify.specs.Wrong.{is_wrong}
 use Rattle.verify.specs.Supers.{Finds, super_search}
 use Rattle.verify.specs.Types.{kind_of}
-use Rattle.verify.specs.Typings.{IsBelow, AtMost, Table, next_if, onward, covers, first_covering, place_covering, catch_rest, catches_in, region_at, catches, Arrives, AtEach, IsTyping}
+use Rattle.verify.specs.Typings.{IsBelow, AtMost, Table, next_if, onward, covers, first_covering, place_covering, catch_rest, catches_in, region_at, catches, Arrives, IsTyping}
 use Rattle.verify.proofs.Reading.{no_fault}
 use Rattle.type_bridge.specs.Views.{kind_named, kinds_named, table_named}
-use Rattle.type_bridge.proofs.Told.{Told}
 use Rattle.type_bridge.proofs.Texts.{kind_is}
-use Rattle.type_bridge.proofs.Frames.{kinds_below_named, state_named}
+use Rattle.type_bridge.proofs.Frames.{kinds_below_named}
 use Rattle.type_bridge.proofs.Grounds.{IsSet}
 use Rattle.type_bridge.proofs.Allowed.{allowed}
 use Rattle.type_bridge.proofs.Wrong.{right}

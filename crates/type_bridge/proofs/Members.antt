@@ -1,18 +1,15 @@
 -- What members' numbers name.
-use Rattle.std.proofs.Common.{◌≡◌, ℕ, zero, suc, ◌<◌, Bool, true, false, true≢false, nat_eq, List, [], ◌∷◌, ◌++◌, map, length, Option, Some, None, refl, sym, ap, ◌∙◌, subst}
-use Rattle.std.specs.Prelude.{◌&&◌, ◌||◌, not, slice_get, slice_index_or, option_and_then, position, nat_lt, codes}
+use Rattle.std.proofs.Common.{◌≡◌, ℕ, zero, suc, ◌<◌, Bool, true, false, true≢false, List, [], ◌∷◌, ◌++◌, map, length, Option, Some, None, refl, sym, ap, ◌∙◌, subst}
+use Rattle.std.specs.Prelude.{not, slice_get, option_and_then, position, codes}
 use Rattle.std.specs.Option.{option_map, option_or}
-use Rattle.class_defs.proofs.Positions.{entry_at, number_test, number_of, place_entry}
+use Rattle.class_defs.proofs.Positions.{entry_at, number_of, place_entry}
 use Rattle.class_defs.proofs.WellFormed.{class_parts}
 use Rattle.class_defs.specs.Finding as finding
-use Rattle.class_defs.specs.Members.{string_is, is_field, own_field, own_method, field_of_class}
+use Rattle.class_defs.specs.Members.{is_field, own_field, own_method, field_of_class}
 use Rattle.class_defs.specs.Places.{super_place, interface_places}
 use Rattle.hierarchy.specs.Shapes.{IsResolved}
 use Rattle.hierarchy.specs.Tables.{answer}
 use Rattle.hierarchy.specs.Walking.{method_by}
-use Rattle.insn_set.specs.declared.form.Insn.{Insn}
-use Rattle.insn_set.specs.declared.form.Insn.TheVariants as insn
-use Rattle.insn_set.specs.declared.ops.InvokeKind.TheVariants as call
 use Rattle.program_model.specs.Lookups as look
 use Rattle.program_model.specs.MemberRules.{has_flag}
 use Rattle.program_model.specs.declared.pools.FieldName.{FieldName}
@@ -23,13 +20,12 @@ use Rattle.program_model.specs.declared.program.Field.{Field}
 use Rattle.program_model.specs.declared.program.Method.{Method}
 use Rattle.program_model.specs.declared.program.MethodAt.{MethodAt}
 use Rattle.program_model.specs.declared.program.Program.{Program}
-use Rattle.dalvik_defs.specs.Names.{Text, text_eq}
-use Rattle.dalvik_defs.specs.Naming.{text_at, type_at, signature_at, field_at, method_at, named_class, named_method, named_field, named}
+use Rattle.dalvik_defs.specs.Names.{text_eq}
+use Rattle.dalvik_defs.specs.Naming.{type_at, signature_at, field_at, method_at, named_class, named}
 use Rattle.dalvik_defs.specs.Find as find
 use Rattle.dalvik_defs.specs.Find.{finds_field, resolves_method}
 use Rattle.dalvik_defs.specs.Flags as remainder
 use Rattle.dalvik_defs.specs.declared.names.Signature.{Signature}
-use Rattle.dalvik_defs.specs.declared.program.NamedField.{NamedField}
 use Rattle.name_bridge.specs.Named.{field_at_place, field_of, field_there, found_at, found_of, found_there, finds, search_at}
 use Rattle.name_bridge.proofs.Above.{own_place}
 use Rattle.name_bridge.proofs.Fields.{field_resolves_by_number}
@@ -44,7 +40,7 @@ use Rattle.verify.specs.declared.calls.Search.TheVariants as search
 use Rattle.verify.specs.declared.setting.Setting.{Setting}
 use Rattle.verify.specs.declared.tables.Tables.{Tables}
 use Rattle.verify.specs.Names.{kind_or, field_class_or, class_or, field_kind, field_class, method_class, proto_of, parameters_or, result_or, parameters_of, result_of}
-use Rattle.verify.specs.Reads.{is_place, defines_field, found_at as found_of_call}
+use Rattle.verify.specs.Reads.{is_place, defines_field}
 use Rattle.verify.specs.Supers as supers
 use Rattle.verify.specs.Types.{is_constructor}
 use Rattle.verify.specs.Wrong as wrong

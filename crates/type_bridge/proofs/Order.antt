@@ -1,6 +1,6 @@
 -- A kind at or below another one is so by name.
-use Rattle.std.proofs.Common.{◌≡◌, ℕ, zero, suc, ◌<◌, ◌≤◌, Bool, true, false, true≢false, nat_eq, List, [], ◌∷◌, map, length, Option, Some, None, ◌⊎◌, inl, inr, refl, sym, ap, ◌∙◌, subst, arith}
-use Rattle.std.specs.Prelude.{◌&&◌, ◌||◌, not, cond, slice_get, slice_index_or, option_and_then, nat_lt, find, if◌then◌else◌}
+use Rattle.std.proofs.Common.{◌≡◌, ℕ, zero, suc, ◌<◌, Bool, true, false, true≢false, nat_eq, List, [], ◌∷◌, length, Option, Some, None, ◌⊎◌, inl, inr, refl, sym, ap, ◌∙◌, subst, arith}
+use Rattle.std.specs.Prelude.{◌&&◌, ◌||◌, not, cond, slice_get, option_and_then, find, if◌then◌else◌}
 use Rattle.std.specs.List.{list_any}
 use Rattle.std.specs.Option.{option_map}
 use Rattle.std.proofs.lemmas.Option.{slice_get_within}
@@ -13,29 +13,24 @@ use Rattle.program_model.specs.declared.program.Class.{Class}
 use Rattle.program_model.specs.declared.program.Program.{Program}
 use Rattle.dalvik_defs.specs.Names as text
 use Rattle.dalvik_defs.specs.Names.{Text, text_eq, object_type, base_of}
-use Rattle.dalvik_defs.specs.Naming.{type_at, named_class, named}
+use Rattle.dalvik_defs.specs.Naming.{type_at, named}
 use Rattle.dalvik_defs.specs.Find as find
-use Rattle.dalvik_defs.specs.Under.{class_named}
 use Rattle.dalvik_defs.specs.declared.program.NamedClass.{NamedClass}
 use Rattle.dalvik_defs.specs.declared.program.NamedProgram.{NamedProgram}
-use Rattle.dalvik_defs.proofs.Calm.{text_sound}
 use Rattle.name_bridge.specs.Named.{class_at, name_at}
-use Rattle.name_bridge.proofs.Above.{Defined, defined, own_place}
+use Rattle.name_bridge.proofs.Above.{defined, own_place}
 use Rattle.name_bridge.proofs.Nearest.{nearest_by_number}
 use Rattle.pass_defs.specs.Kinds as name
 use Rattle.pass_defs.specs.Kinds.{Kind, Undefined, Zero, Word, Low, High, Null, Class as ClassKind, Array, Reference, Fresh, FreshThis, kind_eq, depth, arrays_of, is_flat, object_array, joined_deep, joined_items, joined_arrays, class_or_reference, is_below}
+pub use Rattle.pass_defs.proofs.Writes.{same_kind, itself_below}
 use Rattle.verify.specs.declared.kinds.Kind as number
 use Rattle.verify.specs.declared.kinds.Kind.TheVariants as kind
-use Rattle.verify.specs.declared.shapes.Shape.{Shape}
-use Rattle.verify.specs.declared.shapes.Shape.TheVariants as shape
 use Rattle.verify.specs.declared.tables.Tables.{Tables}
-use Rattle.verify.specs.Building.{class_above, chain_above, is_among}
+use Rattle.verify.specs.Building.{class_above}
 use Rattle.verify.specs.Chains.{nearest, is_in_chain}
 use Rattle.verify.specs.Descriptors as descriptors
 use Rattle.verify.specs.Joins as joins
 use Rattle.verify.specs.Kinds as kinds
-use Rattle.verify.specs.Shapes as shapes
-use Rattle.verify.specs.Types.{item_shape}
 use Rattle.verify.specs.Typings.{Below}
 use Rattle.verify.proofs.Chained as chained
 use Rattle.verify.proofs.Descriptions.{text_same}
@@ -44,27 +39,11 @@ use Rattle.verify.proofs.Orders.{Under, itself, unknown, word, empty, any, class
 use Rattle.verify.proofs.Ranked.{above_super, rank_falls}
 use Rattle.type_bridge.specs.Views.{item_text, class_kind, array_kind, kind_named}
 use Rattle.type_bridge.proofs.Told.{Told}
-use Rattle.type_bridge.proofs.Texts.{IsBase, depth_of, base_under, item_bare, ClassText, class_text, class_by_text, no_object, Sorts, item_sorts, item_class, item_named_text}
+use Rattle.type_bridge.proofs.Texts.{IsBase, depth_of, base_under, item_bare, class_text, class_by_text, no_object, item_sorts, item_class, item_named_text}
 
 -- ---- the order by names
 
-pub same_kind : (k : Kind) → kind_eq k k ≡ true
-same_kind Undefined = refl
-same_kind Zero = refl
-same_kind Word = refl
-same_kind Low = refl
-same_kind High = refl
-same_kind Null = refl
-same_kind (ClassKind s) = text_same s
-same_kind (Array s) = text_same s
-same_kind Reference = refl
-same_kind (Fresh s n) = ap (λ b. b && nat_eq n n) (text_same s) ∙ number_test n n refl
-same_kind FreshThis = refl
-
 module _ (q : NamedProgram) where
-  pub itself_below : (k : Kind) → is_below q k k ≡ true
-  itself_below k = rw (same_kind k) (same_kind k)
-
   pub undefined_above : (k : Kind) → is_below q k Undefined ≡ true
   undefined_above Undefined = refl
   undefined_above Zero = refl

@@ -1,6 +1,6 @@
 -- A program whose methods have typings by numbers is typed by names.
-use Rattle.std.proofs.Common.{◌≡◌, ℕ, zero, suc, ◌<◌, Bool, true, false, List, [], ◌∷◌, map, length, Option, Some, None, refl, sym, ap, ◌∙◌, subst, arith}
-use Rattle.std.specs.Prelude.{slice_get, slice_index_or, Contains, All}
+use Rattle.std.proofs.Common.{◌≡◌, ℕ, zero, suc, ◌<◌, true, List, [], ◌∷◌, map, length, Option, Some, None, refl, sym, ap, ◌∙◌, subst}
+use Rattle.std.specs.Prelude.{slice_get, slice_index_or, Contains}
 use Rattle.std.specs.Option.{option_map}
 use Rattle.class_defs.proofs.Positions.{entry_at}
 use Rattle.class_defs.proofs.WellFormed.{class_parts}
@@ -17,10 +17,9 @@ use Rattle.dalvik_defs.specs.declared.program.NamedClass.{NamedClass}
 use Rattle.dalvik_defs.specs.declared.program.NamedMethod.{NamedMethod}
 use Rattle.pass_defs.specs.Typed as typed
 use Rattle.verify.specs.declared.setting.Setting.{Setting}
-use Rattle.verify.specs.declared.tables.Tables.{Tables}
 use Rattle.verify.specs.declared.typed.Verifier.{Verifier}
 use Rattle.verify.specs.Entry.{begun}
-use Rattle.verify.specs.Methods.{constructs, receiver_of, IsSettingOf, HasTyping, HasTypings, Types, AllBelow, IsFor, TypesAll}
+use Rattle.verify.specs.Methods.{constructs, receiver_of, IsSettingOf, HasTyping, HasTypings, AllBelow, IsFor, TypesAll}
 use Rattle.verify.specs.Names.{parameters_of, result_of}
 use Rattle.verify.specs.Supers.{Finds}
 use Rattle.verify.specs.Typings.{Table, IsTyping}

@@ -1,12 +1,12 @@
 -- What the texts of types are, letter by letter.
-use Rattle.std.proofs.Common.{◌≡◌, ℕ, zero, suc, ◌+◌, ◌*◌, ◌<◌, ◌≤◌, Bool, true, false, true≢false, nat_eq, List, [], ◌∷◌, ◌++◌, map, length, Option, Some, None, refl, sym, ap, ◌∙◌, subst, arith}
+use Rattle.std.proofs.Common.{◌≡◌, ℕ, zero, suc, ◌+◌, ◌<◌, ◌≤◌, Bool, true, false, true≢false, nat_eq, List, [], ◌∷◌, ◌++◌, map, length, Some, refl, sym, ap, ◌∙◌, subst, arith}
 use Rattle.std.proofs.lemmas.List.Sums.{sum_by-cons}
-use Rattle.std.specs.Prelude.{◌&&◌, ◌||◌, not, slice_get, slice_index_or, nat_lt, is_ok, sum_by, replicate, zip, codes, Result, Ok, Err, IsTrue, if◌then◌else◌}
+use Rattle.std.specs.Prelude.{◌&&◌, ◌||◌, slice_get, is_ok, sum_by, replicate, zip, codes, Result, Ok, Err, if◌then◌else◌}
 use Rattle.std.specs.List.{list_all}
-use Rattle.class_defs.proofs.Positions.{number_test, number_of, entry_at}
-use Rattle.class_defs.proofs.WellFormed.{and_left, and_right, all_at, below}
+use Rattle.class_defs.proofs.Positions.{number_of, entry_at}
+use Rattle.class_defs.proofs.WellFormed.{and_left, and_right, all_at}
 use Rattle.dex_base.specs.Descriptor.{is_primitive, descriptor_of}
-use Rattle.dex_base.specs.Grammar.{IsElement, OfLetter, OfClass, IsDescriptor, OfVoid, OfElement, OfArray}
+use Rattle.dex_base.specs.Grammar.{OfLetter, OfClass, IsDescriptor, OfVoid, OfElement, OfArray}
 use Rattle.dex_base.specs.declared.descriptor.Descriptor.{Descriptor}
 use Rattle.dex_base.specs.declared.fault.BaseFault.{BaseFault}
 use Rattle.dex_base.proofs.Names.{descriptor_found}
@@ -17,7 +17,7 @@ use Rattle.program_model.specs.declared.pools.Proto.{Proto}
 use Rattle.program_model.specs.declared.program.Program.{Program}
 use Rattle.dalvik_defs.specs.Names as text
 use Rattle.dalvik_defs.specs.Names.{Text, text_eq}
-use Rattle.dalvik_defs.specs.Naming.{type_at, named}
+use Rattle.dalvik_defs.specs.Naming.{type_at}
 use Rattle.name_bridge.proofs.Found.{type_same}
 use Rattle.pass_defs.specs.Kinds.{arrays_of}
 use Rattle.pass_defs.specs.Typed as typed
@@ -25,7 +25,6 @@ use Rattle.verify.specs.declared.shapes.Shape.{Shape}
 use Rattle.verify.specs.declared.shapes.Shape.TheVariants as shape
 use Rattle.verify.specs.declared.tables.Tables.{Tables}
 use Rattle.verify.specs.Descriptors.{short}
-use Rattle.verify.specs.Flow.{greatest}
 use Rattle.verify.specs.Shapes as shapes
 use Rattle.verify.specs.Types.{shape_of, item_shape}
 use Rattle.type_bridge.specs.Views.{item_text}

@@ -1,18 +1,18 @@
 -- What the tables say of types, by their texts.
-use Rattle.std.proofs.Common.{◌≡◌, ℕ, zero, suc, ◌+◌, ◌<◌, ◌≤◌, ◌^◌, Bool, true, false, true≢false, nat_eq, List, [], ◌∷◌, map, length, Option, Some, None, ◌⊎◌, inl, inr, refl, sym, ap, ◌∙◌, subst, arith, leb-true, eqb-true, eq-eqb, ne_eqb}
-use Rattle.std.specs.Prelude.{◌&&◌, ◌||◌, not, cond, slice_get, slice_index_or, position, option_and_then, nat_lt, nat_le, is_ok, sum_by, find, if◌then◌else◌, codes}
-use Rattle.std.specs.List.{list_any, list_all}
+use Rattle.std.proofs.Common.{◌≡◌, ℕ, zero, suc, ◌<◌, ◌≤◌, ◌^◌, Bool, true, false, true≢false, nat_eq, List, [], ◌∷◌, map, length, Option, Some, None, refl, sym, ap, ◌∙◌, subst, arith, leb-true, eqb-true, ne_eqb}
+use Rattle.std.specs.Prelude.{◌&&◌, ◌||◌, not, cond, slice_get, slice_index_or, position, option_and_then, nat_lt, nat_le, sum_by, if◌then◌else◌}
+use Rattle.std.specs.List.{list_all}
 use Rattle.std.specs.Option.{option_map}
 use Rattle.std.proofs.Math.Nat.{min-eq_left}
 use Rattle.std.proofs.lemmas.List.Sums.{sum_by-cons}
-use Rattle.class_defs.proofs.Positions.{number_test, number_of, entry_at, find_place, place_entry, PlaceFits, place_first, FirstPlace}
-use Rattle.class_defs.proofs.WellFormed.{and_left, and_right, all_at, below, few_classes}
+use Rattle.class_defs.proofs.Positions.{number_test, number_of, find_place, place_entry, PlaceFits, place_first, FirstPlace}
+use Rattle.class_defs.proofs.WellFormed.{and_left, and_right, all_at, few_classes}
 use Rattle.program_model.specs.Cells.{cells_of}
 use Rattle.program_model.specs.Items.{items_of}
-use Rattle.program_model.specs.MemberRules.{class_fits, types_of_class_fit, is_class_type, is_object, source_fits, fields_fit, methods_fit, has_flag}
+use Rattle.program_model.specs.MemberRules.{class_fits, types_of_class_fit, is_class_type, is_object, source_fits, fields_fit, methods_fit}
 use Rattle.program_model.specs.ProgramRules.{is_well_formed}
 use Rattle.program_model.specs.TableRules.{tables_fit, tables_are_short, texts_are_short, entries_fit, entries_differ}
-use Rattle.program_model.specs.Texts.{has_type, is_class, letter_of, first_unit, string_text, type_text, text_or_none}
+use Rattle.program_model.specs.Texts.{has_type, is_class, letter_of, first_unit, string_text, type_text}
 use Rattle.program_model.specs.ValueRules.{marks_fit}
 use Rattle.program_model.specs.declared.program.Class.{Class}
 use Rattle.program_model.specs.declared.program.Program.{Program}
@@ -23,18 +23,15 @@ use Rattle.dalvik_defs.specs.Items.{small_item, item_of_type}
 use Rattle.insn_set.specs.declared.ops.Item.TheVariants as item
 use Rattle.dalvik_defs.specs.Naming.{text_at, type_at, named_class, named}
 use Rattle.dalvik_defs.specs.Under as name
-use Rattle.dalvik_defs.specs.declared.program.NamedClass.{NamedClass}
-use Rattle.dalvik_defs.specs.declared.program.NamedProgram.{NamedProgram}
 use Rattle.name_bridge.specs.Named.{class_at}
 use Rattle.name_bridge.proofs.Flags.{interface_flag}
 use Rattle.name_bridge.proofs.Found.{text_same, type_same}
 use Rattle.name_bridge.proofs.Lists.{find_named}
 use Rattle.pass_defs.specs.Kinds as kinds
-use Rattle.verify.specs.declared.kinds.Kind as number
 use Rattle.verify.specs.declared.shapes.Shape.{Shape}
 use Rattle.verify.specs.declared.shapes.Shape.TheVariants as shape
 use Rattle.verify.specs.declared.tables.Tables.{Tables}
-use Rattle.verify.specs.Descriptors.{same_text, brackets, without_brackets, shape_of_unit, shape_of_text, short, first_number, is_class_of, class_named, is_item_of, item_named, item_number, number_or, is_plain_class, plain_at, base_shape, shape_named, object_text}
+use Rattle.verify.specs.Descriptors.{same_text, brackets, without_brackets, short, first_number, is_class_of, class_named, is_item_of, item_named, item_number, number_or, is_plain_class, plain_at, base_shape, shape_named}
 use Rattle.verify.specs.Flow.{greatest}
 use Rattle.verify.specs.Shapes as shapes
 use Rattle.verify.specs.Types.{shape_in, shape_of, item_shape, kind_of, kind_of_shape, kind_of_class}

@@ -1,5 +1,5 @@
 -- What the tables of a verifier of a well-formed program say.
-use Rattle.std.proofs.Common.{◌≡◌, ℕ, true, refl, sym, subst}
+use Rattle.std.proofs.Common.{◌≡◌, ℕ, true}
 use Rattle.program_model.specs.declared.program.Program.{Program}
 use Rattle.program_model.specs.ProgramRules.{is_well_formed}
 use Rattle.class_defs.specs.ClassGraph.{IsTwice}

@@ -1,10 +1,9 @@
 -- A position that isn't wrong isn't wrong by name.
-use Rattle.std.proofs.Common.{◌≡◌, ℕ, zero, suc, ◌+◌, ◌<◌, Bool, true, false, true≢false, nat_eq, List, [], ◌∷◌, map, length, Option, Some, None, refl, sym, ap, ◌∙◌, subst}
-use Rattle.std.specs.Prelude.{◌&&◌, ◌||◌, not, slice_get, option_and_then, nat_lt, codes, if◌then◌else◌}
+use Rattle.std.proofs.Common.{◌≡◌, ℕ, zero, suc, ◌+◌, ◌<◌, Bool, true, false, true≢false, nat_eq, List, [], ◌∷◌, length, Option, Some, None, refl, sym, ap, ◌∙◌}
+use Rattle.std.specs.Prelude.{◌&&◌, ◌||◌, not, slice_get, option_and_then, codes, if◌then◌else◌}
 use Rattle.std.specs.Option.{option_map}
 use Rattle.std.proofs.Math.Nat.{add_comm}
 use Rattle.class_defs.specs.Finding as finding
-use Rattle.class_defs.proofs.WellFormed.{and_left, and_right}
 use Rattle.insn_set.specs.declared.form.Insn.{Insn}
 use Rattle.insn_set.specs.declared.form.Insn.TheVariants as insn
 use Rattle.insn_set.specs.declared.ops.InvokeKind.{InvokeKind}
@@ -21,23 +20,19 @@ use Rattle.program_model.specs.declared.program.Program.{Program}
 use Rattle.dalvik_defs.specs.Flags as remainder
 use Rattle.dalvik_defs.specs.Names as text
 use Rattle.dalvik_defs.specs.Names.{Text, text_eq}
-use Rattle.dalvik_defs.specs.Find as find
 use Rattle.dalvik_defs.specs.Naming.{type_at, field_at, method_at, form_of, named_class, named_method, named}
 use Rattle.dalvik_defs.specs.Under as under
-use Rattle.dalvik_defs.specs.declared.program.NamedClass.{NamedClass}
 use Rattle.name_bridge.proofs.Flags.{interface_flag, abstract_flag}
 use Rattle.name_bridge.specs.Named.{class_at}
 use Rattle.pass_defs.specs.Kinds as name
 use Rattle.pass_defs.specs.Kinds.{kind_eq}
 use Rattle.pass_defs.specs.Demands as asked
 use Rattle.pass_defs.specs.Typed as typed
-use Rattle.verify.specs.declared.kinds.Kind as number
-use Rattle.verify.specs.declared.kinds.Kind.TheVariants as kind
 use Rattle.verify.specs.declared.setting.Setting.{Setting}
 use Rattle.verify.specs.declared.shapes.Shape.{Shape}
 use Rattle.verify.specs.declared.shapes.Shape.TheVariants as shape
 use Rattle.verify.specs.Descriptors.{class_named}
-use Rattle.verify.specs.Fits.{is_fillable_item, is_fillable_shape, is_fillable}
+use Rattle.verify.specs.Fits.{is_fillable_item, is_fillable_shape}
 use Rattle.verify.specs.Frames.{Kinds}
 use Rattle.verify.specs.Kinds.{is_initialised}
 use Rattle.verify.specs.Names.{field_kind}
@@ -47,14 +42,13 @@ use Rattle.verify.specs.Supers as supers
 use Rattle.verify.specs.Supers.{super_search}
 use Rattle.verify.specs.Types.{shape_of, item_shape, proto_words, is_constructor}
 use Rattle.verify.specs.Wrong.{differ, static_field, static_method, wrong_item, wrong_access, is_static_call, finds_static, wrong_super, parameter_words, passed_words, wrong_call, is_unmade, wrong_instance, wrong_result, ends_early, is_wrong}
-use Rattle.type_bridge.specs.Views.{item_text, kind_named, receiver_named, kinds_named}
-use Rattle.type_bridge.proofs.Told.{Told}
+use Rattle.type_bridge.specs.Views.{receiver_named, kinds_named}
 use Rattle.type_bridge.proofs.Texts.{Sorts, sorts, item_sorts, class_by_text, is_int}
 use Rattle.type_bridge.proofs.Order.{same_kind}
 use Rattle.type_bridge.proofs.Frames.{made_receiver}
 use Rattle.type_bridge.proofs.Fits.{no_array, array_text}
-use Rattle.type_bridge.proofs.Members.{FieldIs, field_is, field_kind_is, field_flags, MethodIs, method_is, constructor_is, method_flags, parameters_is, signature_is, SameFound, found_same}
-use Rattle.type_bridge.proofs.Grounds.{IsSet, type_fits_class, filled_type_fits, get_fits, put_fits, static_get_fits, static_put_fits, invoke_fits, constructs_is, result_named, result_small}
+use Rattle.type_bridge.proofs.Members.{FieldIs, field_is, field_kind_is, field_flags, MethodIs, method_is, constructor_is, method_flags, signature_is, found_same}
+use Rattle.type_bridge.proofs.Grounds.{IsSet, filled_type_fits, get_fits, put_fits, static_get_fits, static_put_fits, invoke_fits, constructs_is, result_named, result_small}
 use Rattle.type_bridge.proofs.Spelled.{void_text, int_array, words_are}
 
 pub or_none : (a b : Bool) → (a || b) ≡ false → (a ≡ false) × (b ≡ false)

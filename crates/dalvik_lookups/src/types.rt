@@ -1,6 +1,6 @@
 //! Numbers for types (Dalvik executable format, "TypeDescriptor").
 
-ghost use Rattle.std.specs.Prelude.{◌≡◌, ◌+◌, ◌-◌, ◌*◌, ◌<◌, ◌≤◌, ◌^◌, ◌++◌, ◌∷◌, ◌⊎◌, ℕ, true, false, not, length, drop, replicate, nat_eq, slice_get, slice_index_or, Some, None, map, fold, IfOk, IfSome, OnOk};
+ghost use Rattle.std.specs.Prelude.{◌≡◌, ◌+◌, ◌-◌, ◌*◌, ◌<◌, ◌≤◌, ◌^◌, ◌++◌, ◌∷◌, ◌⊎◌, ℕ, true, false, not, length, drop, min, replicate, nat_eq, slice_get, slice_index_or, Some, None, map, fold, IfOk, IfSome, OnOk};
 ghost use Rattle.dalvik_defs.specs.Names as name;
 ghost use Rattle.dalvik_defs.specs.Names.{Text, text_eq, object_type};
 ghost use Rattle.dalvik_defs.specs.Items.{item_of_type};
@@ -44,6 +44,7 @@ impl Kind {
 
     /// The type of an array of such items.
     pub fn array_of(self) -> Kind
+        ensures is { result ≡ record { depth = min (self.depth + 1) 18446744073709551615; base = self.base } }
         ensures base { result.base ≡ self.base }
         ensures depth { self.depth < 2 ^ 64 - 1 → result.depth ≡ self.depth + 1 }
         ensures text { self.depth < 2 ^ 64 - 1 → (t : Types) → type_text t result ≡ name.array_of (type_text t self) }

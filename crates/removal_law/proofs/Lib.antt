@@ -25,6 +25,8 @@ pub mod CallsLeft
 pub mod Faces
 pub mod Acyclic
 pub mod Protos
+pub mod KindsLeft
+pub mod DemandsLeft
 pub mod TypedCode
 pub mod ShutTables
 pub mod Trivial

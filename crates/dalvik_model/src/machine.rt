@@ -79,7 +79,7 @@ struct Opening<'a> {
 }
 
 /// The opening over some tables.
-fn opening<'a>(alloc: Global, tables: &Tables<'a>) -> Result<Opening<'a>, AllocError> {
+fn open<'a>(alloc: Global, tables: &Tables<'a>) -> Result<Opening<'a>, AllocError> {
     let memo = tables.lookups.memo(alloc)?;
     let state = State::new(alloc, tables)?;
     Ok(Opening { memo, state })
@@ -88,7 +88,7 @@ fn opening<'a>(alloc: Global, tables: &Tables<'a>) -> Result<Opening<'a>, AllocE
 impl<'a> Parts<'a> {
     /// The opening of a run over its tables.
     fn new(alloc: Global, tables: Tables<'a>) -> Result<Parts<'a>, AllocError> {
-        let Opening { memo, state } = opening(alloc, &tables)?;
+        let Opening { memo, state } = open(alloc, &tables)?;
         Ok(Parts {
             tables,
             memo,

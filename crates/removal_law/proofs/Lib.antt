@@ -27,6 +27,10 @@ pub mod Acyclic
 pub mod Protos
 pub mod KindsLeft
 pub mod DemandsLeft
+pub mod WritesLeft
+pub mod AllowedLeft
+pub mod WrongLeft
+pub mod AfterLeft
 pub mod TypedCode
 pub mod ShutTables
 pub mod Trivial

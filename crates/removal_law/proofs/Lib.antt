@@ -21,6 +21,7 @@ pub mod Fields
 pub mod Firsts
 pub mod Declared
 pub mod Entered
+pub mod Supers
 pub mod CallsLeft
 pub mod Faces
 pub mod Acyclic
@@ -32,6 +33,7 @@ pub mod AllowedLeft
 pub mod WrongLeft
 pub mod AfterLeft
 pub mod TypedCode
+pub mod TypedLeft
 pub mod ShutTables
 pub mod Trivial
 pub mod Removal

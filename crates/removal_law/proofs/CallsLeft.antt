@@ -6,9 +6,8 @@ use Rattle.std.specs.Option.{option_and_then}
 use Rattle.insn_set.specs.declared.ops.InvokeKind.{InvokeKind}
 use Rattle.insn_set.specs.declared.ops.InvokeKind.TheVariants as call
 use Rattle.dalvik_defs.specs.Names.{Text, text_eq, object_type, same_name, is_common}
-use Rattle.dalvik_defs.specs.Flags.{is_interface}
 use Rattle.dalvik_defs.specs.Under.{class_named, defines, is_under, is_outward, is_own_under}
-use Rattle.dalvik_defs.specs.Find.{Found, method_in, Search, Nothing, Finds, is_037, finds_statically, finds_super, finds_super_037, finds_above, finds_at, finds_among, lists_interface, superclass_of}
+use Rattle.dalvik_defs.specs.Find.{Found, method_in, Search, Nothing, Finds, finds_statically, finds_super, finds_at}
 use Rattle.dalvik_defs.specs.Face.{Face, face_of, bodies_of, finds_virtually}
 use Rattle.dalvik_defs.specs.Outer.{Outer}
 use Rattle.dalvik_defs.specs.Shut.{names_outside, called_outside}
@@ -31,9 +30,9 @@ use Rattle.removal_law.proofs.Lists.{clash, In, here, contained, in_front, in_ba
 use Rattle.removal_law.proofs.Classes.{Kept}
 use Rattle.removal_law.proofs.Under.{under_same}
 use Rattle.removal_law.proofs.Trees.{none_some, class_in, defined, defines_same}
-use Rattle.removal_law.proofs.Finds.{in_flat, among_in}
+use Rattle.removal_law.proofs.Finds.{in_flat}
 use Rattle.removal_law.proofs.Searches.{nothing_finds, along_defined, statically_left, super_left, at_left, at_in}
-use Rattle.removal_law.proofs.Virtuals.{IsMethodOf, answer, candidate}
+use Rattle.removal_law.proofs.Virtuals.{IsMethodOf, answer}
 use Rattle.removal_law.proofs.Outward.{any_here, Up, inside, through, object, under_up}
 use Rattle.removal_law.proofs.Supers.{super_defined}
 use Rattle.removal_law.proofs.Declared.{name_same, ok_kept, method_kept}

@@ -34,6 +34,7 @@ pub mod WrongLeft
 pub mod AfterLeft
 pub mod TypedCode
 pub mod TypedLeft
+pub mod LeftTyped
 pub mod ShutTables
 pub mod Trivial
 pub mod Removal

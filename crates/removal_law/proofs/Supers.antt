@@ -1,5 +1,5 @@
 -- What a super call finds is of a class of the program; and what a name resolves to in what is left of a program.
-use Rattle.std.proofs.Common.{◌≡◌, ℕ, zero, suc, Bool, true, false, List, [], ◌∷◌, ◌++◌, length, refl, sym, ap, ◌∙◌, subst}
+use Rattle.std.proofs.Common.{◌≡◌, ℕ, zero, suc, Bool, true, false, List, [], ◌∷◌, ◌++◌, length, refl, sym, ap, ◌∙◌}
 use Rattle.std.specs.Prelude.{Option, Some, None, map, flat_map}
 use Rattle.dalvik_defs.specs.Names.{Text}
 use Rattle.dalvik_defs.specs.Flags.{is_interface}

@@ -1,9 +1,9 @@
 -- A typing of a body in a program is one in what is left of it, where each kind is as it is left.
-use Rattle.std.proofs.Common.{◌≡◌, ℕ, zero, suc, ◌+◌, ◌-◌, ◌<◌, Bool, true, false, List, [], ◌∷◌, ◌++◌, length, refl, sym, ap, ◌∙◌, subst, arith}
-use Rattle.std.specs.Prelude.{◌&&◌, not, Option, Some, None, map, replicate, slice_index_or, if◌then◌else◌}
+use Rattle.std.proofs.Common.{◌≡◌, ℕ, zero, suc, ◌-◌, ◌<◌, Bool, true, false, List, [], ◌∷◌, ◌++◌, length, refl, sym, ap, ◌∙◌, arith}
+use Rattle.std.specs.Prelude.{◌&&◌, not, Option, Some, None, map, replicate, if◌then◌else◌}
 use Rattle.std.specs.List.{list_all}
 use Rattle.std.specs.Option.{option_map}
-use Rattle.dalvik_defs.specs.Names.{Text, object_type, is_word, is_wide, is_reference}
+use Rattle.dalvik_defs.specs.Names.{Text, object_type}
 use Rattle.dalvik_defs.specs.Flags.{is_static, is_interface}
 use Rattle.dalvik_defs.specs.Under.{defines}
 use Rattle.dalvik_defs.specs.declared.forms.Form.{Form}
@@ -15,17 +15,16 @@ use Rattle.dalvik_defs.specs.declared.program.NamedMethod.{NamedMethod}
 use Rattle.dalvik_defs.specs.declared.program.NamedProgram.{NamedProgram}
 use Rattle.pass_defs.specs.Bare.{may_throw}
 use Rattle.pass_defs.specs.Walks.{form_at, region_at, onward}
-use Rattle.pass_defs.specs.Kinds.{Kind, Undefined, Zero, Word, Low, High, Null, Class, Array, Reference, Fresh, FreshThis, kind_of}
+use Rattle.pass_defs.specs.Kinds.{Kind, Undefined, Class, Array, Reference, FreshThis, kind_of}
 use Rattle.pass_defs.specs.Registers.{Kinds, state_below}
 use Rattle.pass_defs.specs.Demands.{is_allowed}
 use Rattle.pass_defs.specs.Live.{Family, KeepsAbove}
 use Rattle.pass_defs.specs.Typed.{is_constructor, receiver_kind, halves, parameter_kinds, argument_kinds, begun, after, is_wrong, catch_all, catches_in, catches, edges, Table, state_at, each, at_state, arrives, IsTyping}
 use Rattle.removal_law.specs.Left.{left_in, left_of, In, here, there}
 use Rattle.removal_law.specs.Reach.{IsRegular, OkType}
-use Rattle.removal_law.proofs.Lists.{clash, and_left, and_behind}
+use Rattle.removal_law.proofs.Lists.{and_left, and_behind}
 use Rattle.removal_law.proofs.Classes.{Kept}
-use Rattle.removal_law.proofs.Trees.{none_some}
-use Rattle.removal_law.proofs.TypedCode.{place_below, each_at}
+use Rattle.removal_law.proofs.TypedCode.{each_at}
 use Rattle.removal_law.proofs.KindsLeft.{null_if, is_gone, is_lost, left_kind, class_stays, kind_left}
 use Rattle.removal_law.proofs.DemandsLeft.{FormLeft}
 use Rattle.removal_law.proofs.AllowedLeft.{allowed_left}

@@ -32,14 +32,11 @@ use Rattle.removal_law.specs.Reach.{IsRegular, OkType}
 use Rattle.removal_law.proofs.Lists.{clash, and_left}
 use Rattle.removal_law.proofs.Classes.{Kept}
 use Rattle.removal_law.proofs.Faces.{item_base}
+use Rattle.removal_law.proofs.TypedCode.{not_not}
 use Rattle.removal_law.proofs.KindsLeft.{null_if, is_lost, left_kind, at_left, array_left, array_stays, reference_left, kind_left, is_object}
 use Rattle.removal_law.proofs.DemandsLeft.{FormLeft}
 use Rattle.removal_law.proofs.AllowedLeft.{filled_array}
 use Rattle.removal_law.proofs.WritesLeft.{left_kinds, written_left, replace_left, forget_left, Stands, stands_same, null_stands}
-
-not_not : (b : Bool) → not (not b) ≡ true → b ≡ true
-not_not true e = refl
-not_not false e = e
 
 -- ---- items that are objects
 

@@ -30,13 +30,10 @@ use Rattle.removal_law.specs.Reach.{IsRegular, OkType}
 use Rattle.removal_law.proofs.Lists.{clash}
 use Rattle.removal_law.proofs.Classes.{Kept}
 use Rattle.removal_law.proofs.Faces.{item_base, each_in}
+use Rattle.removal_law.proofs.TypedCode.{not_not}
 use Rattle.removal_law.proofs.KindsLeft.{left_kind, same_left, at_left}
 use Rattle.removal_law.proofs.DemandsLeft.{each_all, each_both, each_same, FormLeft, OkDemand, meets_left}
 use Rattle.removal_law.proofs.WritesLeft.{left_kinds}
-
-not_not : (b : Bool) → not (not b) ≡ true → b ≡ true
-not_not true e = refl
-not_not false e = e
 
 neither : (a b : Bool) → not (a || b) ≡ true → not a ≡ true
 neither true b e = e

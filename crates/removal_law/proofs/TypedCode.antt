@@ -146,7 +146,7 @@ module _ (p : NamedProgram) (c : NamedClass) (m : NamedMethod) (b : NamedBody) (
         ∙ each_at (length b.forms) (at_state b t (λ f a. not (is_wrong p c m a f))) typing.right n (place_below b.forms n f i),
   )
 
-not_not : (b : Bool) → not (not b) ≡ true → b ≡ true
+pub not_not : (b : Bool) → not (not b) ≡ true → b ≡ true
 not_not true e = refl
 not_not false e = e
 

@@ -1,5 +1,5 @@
 -- What forms ask of registers, in what is left of a program: met where it was met.
-use Rattle.std.proofs.Common.{◌≡◌, ℕ, zero, suc, ◌+◌, Bool, true, false, List, [], ◌∷◌, ◌++◌, refl, sym, ap, ◌∙◌, subst}
+use Rattle.std.proofs.Common.{◌≡◌, ℕ, ◌+◌, Bool, true, false, List, [], ◌∷◌, ◌++◌, refl, sym, ap, ◌∙◌, subst}
 use Rattle.std.specs.Prelude.{◌&&◌, ◌||◌, not, nat_eq, nat_lt, Some, None, map, if◌then◌else◌}
 use Rattle.std.specs.List.{list_all}
 use Rattle.insn_set.specs.declared.ops.InvokeKind.{InvokeKind}
@@ -26,7 +26,7 @@ use Rattle.removal_law.specs.Reach.{IsRegular, OkType}
 use Rattle.removal_law.proofs.Lists.{clash}
 use Rattle.removal_law.proofs.Classes.{Kept}
 use Rattle.removal_law.proofs.Faces.{base_twice}
-use Rattle.removal_law.proofs.KindsLeft.{null_if, is_gone, left_kind, same_left, stays_kept, class_stays, plain_left, bare_kept, kind_left, below_left}
+use Rattle.removal_law.proofs.KindsLeft.{at_left, null_if, is_gone, is_lost, array_left, left_kind, same_left, class_stays, plain_left, bare_kept, kind_left, below_left}
 
 -- ---- lists
 
@@ -39,15 +39,15 @@ each_all {A} P f g h (x ∷ xs) k e = by (f x) (list_all f xs) refl refl e (each
     by true false i j e ih = clash false e refl
     by false b i j e ih = clash false e refl
 
-each_both : {A : Type 0} (P : A → Type 0) (xs ys : List A) → Each P xs → Each P ys → Each P (xs ++ ys)
+pub each_both : {A : Type 0} (P : A → Type 0) (xs ys : List A) → Each P xs → Each P ys → Each P (xs ++ ys)
 each_both P [] ys h k = k
 each_both P (x ∷ xs) ys h k = (h.0, each_both P xs ys h.1 k)
 
-each_map : {A B : Type 0} (P : A → Type 0) (Q : B → Type 0) (g : A → B) → ((x : A) → P x → Q (g x)) → (xs : List A) → Each P xs → Each Q (map g xs)
+pub each_map : {A B : Type 0} (P : A → Type 0) (Q : B → Type 0) (g : A → B) → ((x : A) → P x → Q (g x)) → (xs : List A) → Each P xs → Each Q (map g xs)
 each_map P Q g h [] k = tt
 each_map P Q g h (x ∷ xs) k = (h x k.0, each_map P Q g h xs k.1)
 
-each_same : {A B : Type 0} (Q : B → Type 0) (g : A → B) → ((x : A) → Q (g x)) → (xs : List A) → Each Q (map g xs)
+pub each_same : {A B : Type 0} (Q : B → Type 0) (g : A → B) → ((x : A) → Q (g x)) → (xs : List A) → Each Q (map g xs)
 each_same Q g h [] = tt
 each_same Q g h (x ∷ xs) = (h x, each_same Q g h xs)
 
@@ -85,8 +85,8 @@ module _ (p : NamedProgram) (s : Family) (above : KeepsAbove p s) (regular : IsR
       by true false x y i e = clash false e refl
       by false b x y i e = clash false e refl
 
-  array_left : (t u : Text) → OkType p s t → OkType p s u → array_fits p t u ≡ true → array_fits q t u ≡ true
-  array_left t u h k e = by (nat_eq (depth t) (depth u)) e
+  items_left : (t u : Text) → OkType p s t → OkType p s u → array_fits p t u ≡ true → array_fits q t u ≡ true
+  items_left t u h k e = by (nat_eq (depth t) (depth u)) e
     where
       ok_base : OkType p s (base_of t)
       ok_base = subst (Kept s p) (sym (base_twice t)) h
@@ -103,11 +103,11 @@ module _ (p : NamedProgram) (s : Family) (above : KeepsAbove p s) (regular : IsR
   fits_array_left : (k : Kind) (t : Text) → OkType p s t → fits_array p k t ≡ true → fits_array q (left k) t ≡ true
   fits_array_left Zero t h e = refl
   fits_array_left Null t h e = refl
-  fits_array_left (Array u) t h e = by (is_gone p s (base_of u)) refl
+  fits_array_left (Array u) t h e = by (is_lost p s u) refl
     where
-      by : (b : Bool) → is_gone p s (base_of u) ≡ b → fits_array q (null_if p s b (Array u)) t ≡ true
+      by : (b : Bool) → is_lost p s u ≡ b → fits_array q (null_if p s b (Array u)) t ≡ true
       by true i = refl
-      by false i = array_left u t (stays_kept p s (base_of u) i) h e
+      by false i = items_left u t (array_left p s u i).ok h e
   fits_array_left k t h e = clash false e refl
 
   pub fits_left : (k : Kind) (t : Text) → OkType p s t → fits p k t ≡ true → fits q (left k) t ≡ true
@@ -131,15 +131,10 @@ module _ (p : NamedProgram) (s : Family) (above : KeepsAbove p s) (regular : IsR
   OkDemand (Holder k) = OkType p s k.class × (finds_field q k ≡ finds_field p k)
   OkDemand d = Unit {0}
 
-  pub at_left : (ks : List Kind) (r : ℕ) → kind_at (map left ks) r ≡ left (kind_at ks r)
-  at_left [] r = refl
-  at_left (k ∷ ks) zero = refl
-  at_left (k ∷ ks) (suc r) = at_left ks r
-
   where_left : (of : Text → Bool) (k : Kind) → is_array_where of k ≡ true → is_array_where of (left k) ≡ true
   where_left of Zero e = refl
   where_left of Null e = refl
-  where_left of (Array t) e = by (is_gone p s (base_of t))
+  where_left of (Array t) e = by (is_lost p s t)
     where
       by : (b : Bool) → is_array_where of (null_if p s b (Array t)) ≡ true
       by true = refl
@@ -153,31 +148,31 @@ module _ (p : NamedProgram) (s : Family) (above : KeepsAbove p s) (regular : IsR
       by : (b : Bool) → holds_field q (left_in s c) k (null_if p s b (Class t)) ≡ fits q (null_if p s b (Class t)) k.class
       by true = refl
       by false = refl
-  holds_left c k (Array t) h f e = by (is_gone p s (base_of t)) ∙ fits_left (Array t) k.class h e
+  holds_left c k (Array t) h f e = by (is_lost p s t) ∙ fits_left (Array t) k.class h e
     where
       by : (b : Bool) → holds_field q (left_in s c) k (null_if p s b (Array t)) ≡ fits q (null_if p s b (Array t)) k.class
       by true = refl
       by false = refl
   holds_left c k kind h f e = fits_left kind k.class h e
 
-  meets_left : (c : NamedClass) (ks : List Kind) (r : ℕ) (d : Demand) → OkDemand d → meets p c ks r d ≡ true → meets q (left_in s c) (map left ks) r d ≡ true
-  meets_left c ks r Moved h e = ap is_moved (at_left ks r) ∙ same_left p s is_moved (λ t. refl) (λ t. refl) (kind_at ks r) ∙ e
-  meets_left c ks r Number h e = ap is_number (at_left ks r) ∙ same_left p s is_number (λ t. refl) (λ t. refl) (kind_at ks r) ∙ e
+  pub meets_left : (c : NamedClass) (ks : List Kind) (r : ℕ) (d : Demand) → OkDemand d → meets p c ks r d ≡ true → meets q (left_in s c) (map left ks) r d ≡ true
+  meets_left c ks r Moved h e = ap is_moved (at_left p s ks r) ∙ same_left p s is_moved (λ t. refl) (λ t. refl) (kind_at ks r) ∙ e
+  meets_left c ks r Number h e = ap is_number (at_left p s ks r) ∙ same_left p s is_number (λ t. refl) (λ t. refl) (kind_at ks r) ∙ e
   meets_left c ks r Pair h e =
-      ap (λ k. kind_eq k Low && kind_eq (kind_at (map left ks) (r + 1)) High) (at_left ks r)
+      ap (λ k. kind_eq k Low && kind_eq (kind_at (map left ks) (r + 1)) High) (at_left p s ks r)
       ∙ ap (λ b. b && kind_eq (kind_at (map left ks) (r + 1)) High) (same_left p s (λ k. kind_eq k Low) (λ t. refl) (λ t. refl) (kind_at ks r))
-      ∙ ap (λ k. kind_eq (kind_at ks r) Low && kind_eq k High) (at_left ks (r + 1))
+      ∙ ap (λ k. kind_eq (kind_at ks r) Low && kind_eq k High) (at_left p s ks (r + 1))
       ∙ ap (λ b. kind_eq (kind_at ks r) Low && b) (same_left p s (λ k. kind_eq k High) (λ t. refl) (λ t. refl) (kind_at ks (r + 1)))
       ∙ e
   meets_left c ks r (Behind n) h e = e
-  meets_left c ks r Initialised h e = ap is_initialised (at_left ks r) ∙ same_left p s is_initialised (λ t. refl) (λ t. refl) (kind_at ks r) ∙ e
-  meets_left c ks r Either h e = ap (λ k. is_number k || is_initialised k) (at_left ks r) ∙ same_left p s (λ k. is_number k || is_initialised k) (λ t. refl) (λ t. refl) (kind_at ks r) ∙ e
-  meets_left c ks r (Fits t) h e = ap (λ k. fits q k t) (at_left ks r) ∙ fits_left (kind_at ks r) t h e
-  meets_left c ks r (Holder k) h e = ap (holds_field q (left_in s c) k) (at_left ks r) ∙ holds_left c k (kind_at ks r) h.0 h.1 e
-  meets_left c ks r (Constructed t) h e = ap (is_constructed (left_in s c) t) (at_left ks r) ∙ same_left p s (is_constructed (left_in s c) t) (λ t. refl) (λ t. refl) (kind_at ks r) ∙ same (kind_at ks r) ∙ e
+  meets_left c ks r Initialised h e = ap is_initialised (at_left p s ks r) ∙ same_left p s is_initialised (λ t. refl) (λ t. refl) (kind_at ks r) ∙ e
+  meets_left c ks r Either h e = ap (λ k. is_number k || is_initialised k) (at_left p s ks r) ∙ same_left p s (λ k. is_number k || is_initialised k) (λ t. refl) (λ t. refl) (kind_at ks r) ∙ e
+  meets_left c ks r (Fits t) h e = ap (λ k. fits q k t) (at_left p s ks r) ∙ fits_left (kind_at ks r) t h e
+  meets_left c ks r (Holder k) h e = ap (holds_field q (left_in s c) k) (at_left p s ks r) ∙ holds_left c k (kind_at ks r) h.0 h.1 e
+  meets_left c ks r (Constructed t) h e = ap (is_constructed (left_in s c) t) (at_left p s ks r) ∙ same_left p s (is_constructed (left_in s c) t) (λ t. refl) (λ t. refl) (kind_at ks r) ∙ same (kind_at ks r) ∙ e
     where
       same : (k : Kind) → is_constructed (left_in s c) t k ≡ is_constructed c t k
       same k = refl
-  meets_left c ks r AnArray h e = ap (is_array_where (λ t. true)) (at_left ks r) ∙ where_left (λ t. true) (kind_at ks r) e
-  meets_left c ks r (ArrayOf i) h e = ap (is_array_where (λ t. item_eq (item_of_type t) i)) (at_left ks r) ∙ where_left (λ t. item_eq (item_of_type t) i) (kind_at ks r) e
-  meets_left c ks r (Filled n) h e = ap (is_array_where (λ t. nat_eq (width_of_item (item_of_type t)) n)) (at_left ks r) ∙ where_left (λ t. nat_eq (width_of_item (item_of_type t)) n) (kind_at ks r) e
+  meets_left c ks r AnArray h e = ap (is_array_where (λ t. true)) (at_left p s ks r) ∙ where_left (λ t. true) (kind_at ks r) e
+  meets_left c ks r (ArrayOf i) h e = ap (is_array_where (λ t. item_eq (item_of_type t) i)) (at_left p s ks r) ∙ where_left (λ t. item_eq (item_of_type t) i) (kind_at ks r) e
+  meets_left c ks r (Filled n) h e = ap (is_array_where (λ t. nat_eq (width_of_item (item_of_type t)) n)) (at_left p s ks r) ∙ where_left (λ t. nat_eq (width_of_item (item_of_type t)) n) (kind_at ks r) e

@@ -66,7 +66,7 @@ one_field : (k d : FieldKey) → In k (d ∷ []) → In k.class (d.class ∷ d.k
 one_field k d (here ys) = (here (k.kind ∷ []), there k.class (k.kind ∷ []) (here []))
 one_field k d (there y ys i) = elim i [ ]
 
-field_types : (x : Form) (k : FieldKey) → In k (fields_in x) → Typed x k
+pub field_types : (x : Form) (k : FieldKey) → In k (fields_in x) → Typed x k
 field_types (form.InstanceGet item to on field) k i = one_field k field i
 field_types (form.InstancePut item from on field) k i = one_field k field i
 field_types (form.StaticGet item to field) k i = one_field k field i

@@ -13,6 +13,7 @@ use Rattle.dalvik_defs.specs.declared.program.NamedClass.{NamedClass}
 use Rattle.dalvik_defs.specs.declared.program.NamedProgram.{NamedProgram}
 use Rattle.dalvik_defs.proofs.Calm.{text_sound}
 use Rattle.pass_defs.specs.Kinds.{Kind, Undefined, Zero, Word, Low, High, Null, Class, Array, Reference, Fresh, FreshThis, kind_eq, is_initialised, depth, arrays_of, is_plain, kind_of_reference, kind_of, nearest, is_flat, object_array, joined_items, joined_deep, joined_arrays, class_or_reference, is_below}
+use Rattle.pass_defs.specs.Registers.{kind_at}
 use Rattle.pass_defs.specs.Live.{Family, KeepsAbove}
 use Rattle.removal_law.specs.Left.{left_in, left_of}
 use Rattle.removal_law.specs.Reach.{IsRegular, OkType}
@@ -31,6 +32,13 @@ kind_self (Array t) = text_same t
 kind_self (Fresh t n) = ap (λ b. b && nat_eq n n) (text_same t) ∙ eq-eqb n n refl
 kind_self k = refl
 
+-- a kind of objects
+abbrev pub is_object : Kind → Bool
+is_object (Class t) = true
+is_object (Array t) = true
+is_object Reference = true
+is_object k = false
+
 -- ---- a type without its brackets
 
 base_step : (x : ℕ) (us : Text) → is_array (x ∷ us) ≡ false → base_of (x ∷ us) ≡ x ∷ us
@@ -44,7 +52,7 @@ pub base_arrays : (n : ℕ) (t : Text) → base_of (arrays_of n t) ≡ base_of t
 base_arrays zero t = refl
 base_arrays (suc n) t = base_arrays n t
 
-class_bare : (t : Text) → is_class_type t ≡ true → is_array t ≡ false
+pub class_bare : (t : Text) → is_class_type t ≡ true → is_array t ≡ false
 class_bare [] e = refl
 class_bare (x ∷ us) e = no_bracket x e
 
@@ -113,22 +121,31 @@ module _ (p : NamedProgram) (s : Family) where
   abbrev pub is_gone : Text → Bool
   is_gone t = defines p t && not (s.classes t)
 
+  -- the base of an array isn't left
+  abbrev pub is_lost : Text → Bool
+  is_lost t = is_gone (base_of t) || not (is_array t)
+
   abbrev pub null_if : Bool → Kind → Kind
   null_if b k = elim b as (λ b. Kind) [ true ↦ Null | false ↦ k ]
 
   abbrev pub left_kind : Kind → Kind
   left_kind (Class t) = null_if (is_gone t) (Class t)
-  left_kind (Array t) = null_if (is_gone (base_of t)) (Array t)
+  left_kind (Array t) = null_if (is_lost t) (Array t)
   left_kind k = k
 
   null_same : {X : Type 0} (F : Kind → X) (b : Bool) (k : Kind) → F Null ≡ F k → F (null_if b k) ≡ F k
   null_same F true k e = e
   null_same F false k e = refl
 
+  pub at_left : (ks : List Kind) (r : ℕ) → kind_at (map left_kind ks) r ≡ left_kind (kind_at ks r)
+  at_left [] r = refl
+  at_left (k ∷ ks) zero = refl
+  at_left (k ∷ ks) (suc r) = at_left ks r
+
   -- what null and each class and array answer alike
   pub same_left : {X : Type 0} (F : Kind → X) → ((t : Text) → F Null ≡ F (Class t)) → ((t : Text) → F Null ≡ F (Array t)) → (k : Kind) → F (left_kind k) ≡ F k
   same_left F c a (Class t) = null_same F (is_gone t) (Class t) (c t)
-  same_left F c a (Array t) = null_same F (is_gone (base_of t)) (Array t) (a t)
+  same_left F c a (Array t) = null_same F (is_lost t) (Array t) (a t)
   same_left F c a k = refl
 
   pub kept_stays : (t : Text) → Kept s p t → is_gone t ≡ false
@@ -149,8 +166,23 @@ module _ (p : NamedProgram) (s : Family) where
   pub class_stays : (t : Text) → Kept s p t → left_kind (Class t) ≡ Class t
   class_stays t h = ap (λ b. null_if b (Class t)) (kept_stays t h)
 
-  pub array_stays : (t : Text) → OkType p s t → left_kind (Array t) ≡ Array t
-  array_stays t h = ap (λ b. null_if b (Array t)) (kept_stays (base_of t) h)
+  pub record LeftArray (t : Text) : Type 0 where
+    pub ok : OkType p s t
+    pub array : is_array t ≡ true
+
+  left_array : (t : Text) → LeftArray t → is_lost t ≡ false
+  left_array t h = ap (λ b. b || not (is_array t)) (kept_stays (base_of t) h.ok) ∙ ap not h.array
+
+  pub array_left : (t : Text) → is_lost t ≡ false → LeftArray t
+  array_left t e = by (is_gone (base_of t)) (is_array t) refl refl e
+    where
+      by : (a b : Bool) → is_gone (base_of t) ≡ a → is_array t ≡ b → (a || not b) ≡ false → LeftArray t
+      by false true i j e = record { ok = stays_kept (base_of t) i; array = j }
+      by false false i j e = clash true refl e
+      by true b i j e = clash true refl e
+
+  pub array_stays : (t : Text) → LeftArray t → left_kind (Array t) ≡ Array t
+  array_stays t h = ap (λ b. null_if b (Array t)) (left_array t h)
 
 module _ (p : NamedProgram) (s : Family) (above : KeepsAbove p s) (regular : IsRegular p) (none : defines p object_type ≡ false) where
   abbrev q : NamedProgram
@@ -176,7 +208,7 @@ module _ (p : NamedProgram) (s : Family) (above : KeepsAbove p s) (regular : IsR
       plain k false = refl
 
       by : (b : Bool) → is_array t ≡ b → (if b then Array t else if is_plain q t then Class t else Reference) ≡ left_kind p s (if b then Array t else if is_plain p t then Class t else Reference)
-      by true e = sym (array_stays p s t h)
+      by true e = sym (array_stays p s t (record { ok = h; array = e }))
       by false e = ap (λ b. if b then Class t else Reference) (plain_left t (bare_kept t e h)) ∙ plain (bare_kept t e h) (is_plain p t)
 
   pub kind_left : (t : Text) → OkType p s t → kind_of q t ≡ left_kind p s (kind_of p t)
@@ -236,19 +268,32 @@ module _ (p : NamedProgram) (s : Family) (above : KeepsAbove p s) (regular : IsR
       by false i (Some c) j e = subst (Kept s p) (text_sound c u e) (near t u c h j).kept
       by false i None j e = clash false e refl
 
-  array_falls : (t u : Text) → OkType p s t → array_met t u (joined_arrays p t u) ≡ true → OkType p s u
+  deep_array : (n : ℕ) (t : Text) → is_array (arrays_of (suc n) t) ≡ true
+  deep_array n t = refl
+
+  has_depth : (t : Text) → is_array t ≡ true → (n : ℕ) × (depth t ≡ suc n)
+  has_depth [] e = clash false e refl
+  has_depth (x ∷ t) e = (depth t, ap (λ b. elim b as (λ b. ℕ) [ true ↦ suc (depth t) | false ↦ 0 ]) e)
+
+  array_falls : (t u : Text) → LeftArray p s t → array_met t u (joined_arrays p t u) ≡ true → LeftArray p s u
   array_falls t u h e = by (text_eq t u) refl (nat_eq (depth t) (depth u)) (nearest p (base_of t) (base_of u)) refl e
     where
-      deep : (b : Bool) → kind_eq (if b then Reference else Array object_array) (Array u) ≡ true → OkType p s u
+      deep : (b : Bool) → kind_eq (if b then Reference else Array object_array) (Array u) ≡ true → LeftArray p s u
       deep true e = clash false e refl
-      deep false e = subst (OkType p s) (text_sound object_array u e) (λ d. clash (defines p object_type) d none)
+      deep false e = subst (LeftArray p s) (text_sound object_array u e) (record { ok = λ d. clash (defines p object_type) d none; array = refl })
+
+      raised : (c : Text) → IsNear (base_of t) c → arrays_of (depth t) c ≡ u → LeftArray p s u
+      raised c n e =
+          let d = has_depth t h.array in
+          record {
+            ok = subst (Kept s p) (sym (base_bare c n.bare) ∙ sym (base_arrays (depth t) c) ∙ ap base_of e) n.kept;
+            array = ap is_array (sym e) ∙ ap (λ n. is_array (arrays_of n c)) d.1 ∙ deep_array d.0 c;
+          }
 
       by : (b : Bool) → text_eq t u ≡ b → (d : Bool) → (o : Option Text) → nearest p (base_of t) (base_of u) ≡ o
-          → kind_eq (if b then Array t else elim d as (λ d. Kind) [ true ↦ joined_items t u o | false ↦ joined_deep t u ]) (Array u) ≡ true → OkType p s u
-      by true i d o j e = subst (OkType p s) (text_sound t u i) h
-      by false i true (Some c) j e =
-          let n = near (base_of t) (base_of u) c h j in
-          subst (Kept s p) (sym (base_bare c n.bare) ∙ sym (base_arrays (depth t) c) ∙ ap base_of (text_sound (arrays_of (depth t) c) u e)) n.kept
+          → kind_eq (if b then Array t else elim d as (λ d. Kind) [ true ↦ joined_items t u o | false ↦ joined_deep t u ]) (Array u) ≡ true → LeftArray p s u
+      by true i d o j e = subst (LeftArray p s) (text_sound t u i) h
+      by false i true (Some c) j e = raised c (near (base_of t) (base_of u) c h.ok j) (text_sound (arrays_of (depth t) c) u e)
       by false i true None j e = deep (is_flat t || is_flat u) e
       by false i false o j e = deep (is_flat t || is_flat u) e
 
@@ -257,12 +302,11 @@ module _ (p : NamedProgram) (s : Family) (above : KeepsAbove p s) (regular : IsR
   class_below t u false true i j e = clash (is_gone p s u) j (kept_stays p s u (class_falls t u (stays_kept p s t i) e))
   class_below t u false false i j e = ap (class_met t u) (nearest_left t u (stays_kept p s t i) (stays_kept p s u j)) ∙ e
 
-  array_below : (t u : Text) (a b : Bool) → is_gone p s (base_of t) ≡ a → is_gone p s (base_of u) ≡ b → array_met t u (joined_arrays p t u) ≡ true
-      → is_below q (null_if p s a (Array t)) (null_if p s b (Array u)) ≡ true
+  array_below : (t u : Text) (a b : Bool) → is_lost p s t ≡ a → is_lost p s u ≡ b → array_met t u (joined_arrays p t u) ≡ true → is_below q (null_if p s a (Array t)) (null_if p s b (Array u)) ≡ true
   array_below t u true b i j e = null_over b (Array u) (text_same u)
-  array_below t u false true i j e = clash (is_gone p s (base_of u)) j (kept_stays p s (base_of u) (array_falls t u (stays_kept p s (base_of t) i) e))
+  array_below t u false true i j e = clash (is_lost p s u) j (left_array p s u (array_falls t u (array_left p s t i) e))
   array_below t u false false i j e = ap (λ o. array_met t u (elim (nat_eq (depth t) (depth u)) as (λ d. Kind) [ true ↦ joined_items t u o | false ↦ joined_deep t u ]))
-      (nearest_left (base_of t) (base_of u) (stays_kept p s (base_of t) i) (stays_kept p s (base_of u) j)) ∙ e
+      (nearest_left (base_of t) (base_of u) (array_left p s t i).ok (array_left p s u j).ok) ∙ e
 
   pub below_left : (a b : Kind) → is_below p a b ≡ true → is_below q (left_kind p s a) (left_kind p s b) ≡ true
   below_left a Undefined e = undefined_above q (left_kind p s a)
@@ -270,9 +314,9 @@ module _ (p : NamedProgram) (s : Family) (above : KeepsAbove p s) (regular : IsR
   below_left Zero (Class u) e = zero_over (is_gone p s u) (Class u) (text_same u)
   below_left Null (Class u) e = null_over (is_gone p s u) (Class u) (text_same u)
   below_left (Class t) (Class u) e = class_below t u (is_gone p s t) (is_gone p s u) refl refl e
-  below_left Zero (Array u) e = zero_over (is_gone p s (base_of u)) (Array u) (text_same u)
-  below_left Null (Array u) e = null_over (is_gone p s (base_of u)) (Array u) (text_same u)
-  below_left (Array t) (Array u) e = array_below t u (is_gone p s (base_of t)) (is_gone p s (base_of u)) refl refl e
+  below_left Zero (Array u) e = zero_over (is_lost p s u) (Array u) (text_same u)
+  below_left Null (Array u) e = null_over (is_lost p s u) (Array u) (text_same u)
+  below_left (Array t) (Array u) e = array_below t u (is_lost p s t) (is_lost p s u) refl refl e
   below_left Zero Zero e = refl
   below_left Zero Word e = refl
   below_left Word Word e = refl
@@ -285,17 +329,11 @@ module _ (p : NamedProgram) (s : Family) (above : KeepsAbove p s) (regular : IsR
   below_left a b e = clash false e refl
 
   -- null is below what is left of a kind that an object is below
-  abbrev pub is_object : Kind → Bool
-  is_object (Class t) = true
-  is_object (Array t) = true
-  is_object Reference = true
-  is_object k = false
-
   pub null_under : (k b : Kind) → is_object k ≡ true → is_below p k b ≡ true → is_below q Null (left_kind p s b) ≡ true
   null_under k Undefined i e = refl
   null_under k Reference i e = refl
   null_under k (Class u) i e = null_over (is_gone p s u) (Class u) (text_same u)
-  null_under k (Array u) i e = null_over (is_gone p s (base_of u)) (Array u) (text_same u)
+  null_under k (Array u) i e = null_over (is_lost p s u) (Array u) (text_same u)
   null_under (Class t) b i e = clash false e refl
   null_under (Array t) b i e = clash false e refl
   null_under Reference b i e = clash false e refl

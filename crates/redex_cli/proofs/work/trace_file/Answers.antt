@@ -1,0 +1,4 @@
+use Rattle.redex_cli.proofs.work.trace_file.Goals as goal
+
+pub returns-clause-file : goal.returns-clause-file
+returns-clause-file c = c.trace_input.ensures.file c.args.file.items

@@ -39,10 +39,6 @@ class_letter : (u : Text) → first_unit u ≡ 76 → text.is_class_type u ≡ t
 class_letter [] e = absurd (cc)
 class_letter (u ∷ us) e = number_test u 76 e
 
-same_number_itself : (o : Option ℕ) → same_number o o ≡ true
-same_number_itself None = refl
-same_number_itself (Some n) = number_test n n refl
-
 module _ (p : Program) (t : Tables) (d : Told p t) where
   abbrev q : NamedProgram
   q = named p
@@ -92,7 +88,7 @@ module _ (p : Program) (t : Tables) (d : Told p t) where
   pub near_has : (a b x : ℕ) (k : Class) → slice_get p.classes a ≡ Some k → nearest t.chains a b ≡ Some x → HasClass p x
   near_has a b x k f e = above_class p t d a x k f (chained.in_chain t.chains d.chains.sound a x (chained.least_left t.chains d.chains.sound a b x e))
 
-  item_has : (i j : Option ℕ) (x : ℕ) → nearest_item t i j ≡ Some x → HasClass p x
+  pub item_has : (i j : Option ℕ) (x : ℕ) → nearest_item t i j ≡ Some x → HasClass p x
   item_has i j x e = by (place_of (item_shape t i)) (place_of (item_shape t j)) refl e
     where
       by : (o r : Option ℕ) → place_of (item_shape t i) ≡ o → nearest_place t o r ≡ Some x → HasClass p x
@@ -101,7 +97,7 @@ module _ (p : Program) (t : Tables) (d : Told p t) where
       by (Some a) (Some b) f g = let w = class_text p d.well (item_text p i) a (place_same i ∙ f) in near_has a b x w.class w.is g
 
   -- the text of a class stands for it among items
-  class_item : (c : ℕ) (k : Class) → slice_get p.classes c ≡ Some k → item_text p (item_of_class t c) ≡ type_at p k.name
+  pub class_item : (c : ℕ) (k : Class) → slice_get p.classes c ≡ Some k → item_text p (item_of_class t c) ≡ type_at p k.name
   class_item c k f =
       let r = item_class p t d (item_of_class t c) c _ (d.says.class c k f) in
       let s : Some r.class ≡ Some k = sym r.is ∙ f in

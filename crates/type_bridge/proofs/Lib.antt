@@ -10,6 +10,7 @@ pub mod Joined
 pub mod Judged
 pub mod Lines
 pub mod Members
+pub mod Numbering
 pub mod Numbers
 pub mod Order
 pub mod Programs

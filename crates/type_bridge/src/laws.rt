@@ -37,6 +37,11 @@ pub fn joins_law()
     ensures { (p : Program) (h : Hierarchy) (v : Verifier) → is_well_formed p ≡ true → IsOf p h → IsFor p h v → (a b : number.Kind) → is_numbered p a ≡ true → is_numbered p b ≡ true → name.joined (named p) (kind_named p a) (kind_named p b) ≡ kind_named p (joined v.tables a b) }
 {}
 
+/// Where a kind that stands for one name alone is at or below another one by name, it is so by number.
+pub fn order_by_name_law()
+    ensures { (p : Program) (h : Hierarchy) (v : Verifier) → is_well_formed p ≡ true → IsOf p h → IsFor p h v → (a b : number.Kind) → is_numbered p a ≡ true → is_numbered p b ≡ true → name.is_below (named p) (kind_named p a) (kind_named p b) ≡ true → Below v.tables a b }
+{}
+
 /// A well-formed program whose methods the verifier finds well typed is typed.
 pub fn typed_law()
     ensures { (p : Program) (h : Hierarchy) → is_well_formed p ≡ true → IsResolved p h → TypesAll p h → IsTyped (named p) }

@@ -8,11 +8,10 @@ use Rattle.std.specs.Option.{option_map}
 use Rattle.dalvik_defs.specs.Names.{Text, text_eq, object_type, is_word, is_wide, is_reference, is_array, is_class_type, base_of}
 use Rattle.dalvik_defs.specs.Flags.{is_interface}
 use Rattle.dalvik_defs.specs.Under.{class_named, defines}
-use Rattle.dalvik_defs.specs.Find.{chain_of}
 use Rattle.dalvik_defs.specs.declared.program.NamedClass.{NamedClass}
 use Rattle.dalvik_defs.specs.declared.program.NamedProgram.{NamedProgram}
 use Rattle.dalvik_defs.proofs.Calm.{text_sound}
-use Rattle.pass_defs.specs.Kinds.{Kind, Undefined, Zero, Word, Low, High, Null, Class, Array, Reference, Fresh, FreshThis, kind_eq, is_initialised, depth, arrays_of, is_plain, kind_of_reference, kind_of, nearest, is_flat, object_array, joined_items, joined_deep, joined_arrays, class_or_reference, is_below}
+use Rattle.pass_defs.specs.Kinds.{Kind, Undefined, Zero, Word, Low, High, Null, Class, Array, Reference, Fresh, FreshThis, kind_eq, is_initialised, depth, arrays_of, is_plain, kind_of_reference, kind_of, line_of, nearest, is_flat, object_array, joined_items, joined_deep, joined_arrays, class_or_reference, is_below}
 use Rattle.pass_defs.specs.Registers.{kind_at}
 use Rattle.pass_defs.specs.Live.{Family, KeepsAbove}
 use Rattle.removal_law.specs.Left.{left_in, left_of}
@@ -21,7 +20,7 @@ use Rattle.removal_law.proofs.Lists.{clash, found_in}
 use Rattle.removal_law.proofs.Walks.{text_same}
 use Rattle.removal_law.proofs.Classes.{Kept, class_left}
 use Rattle.removal_law.proofs.Trees.{some_same, none_some, chain_named, chain_kept, defined}
-use Rattle.removal_law.proofs.Finds.{chain_same}
+use Rattle.removal_law.proofs.Lines.{line_same, line_in_chain}
 use Rattle.removal_law.proofs.Outward.{no_bracket}
 
 -- ---- texts and kinds equal to themselves
@@ -223,20 +222,20 @@ module _ (p : NamedProgram) (s : Family) (above : KeepsAbove p s) (regular : IsR
   -- ---- the nearest common superclass is the same, and kept
 
   pub nearest_left : (t u : Text) → Kept s p t → Kept s p u → nearest q t u ≡ nearest p t u
-  nearest_left t u h k = ap (λ cs. first_shared (chain_of q u) cs) (chain_same p s above regular t h) ∙ ap (λ ds. first_shared ds (map (left_in s) (chain_of p t))) (chain_same p s above regular u k) ∙ first_left p s (chain_of p u) (chain_of p t)
+  nearest_left t u h k = ap (λ cs. first_shared (line_of q u) cs) (line_same p s above regular t h) ∙ ap (λ ds. first_shared ds (map (left_in s) (line_of p t))) (line_same p s above regular u k) ∙ first_left p s (line_of p u) (line_of p t)
 
   record IsNear (t c : Text) : Type 0 where
     pub kept : Kept s p c
     pub bare : is_array c ≡ false
 
   near : (t u c : Text) → Kept s p t → nearest p t u ≡ Some c → IsNear t c
-  near t u c h e = by (find (shared (chain_of p u)) (chain_of p t)) refl e
+  near t u c h e = by (find (shared (line_of p u)) (line_of p t)) refl e
     where
-      by : (o : Option NamedClass) → find (shared (chain_of p u)) (chain_of p t) ≡ o → option_map (λ (c : NamedClass). c.name) o ≡ Some c → IsNear t c
+      by : (o : Option NamedClass) → find (shared (line_of p u)) (line_of p t) ≡ o → option_map (λ (c : NamedClass). c.name) o ≡ Some c → IsNear t c
       by None i j = none_some c j
       by (Some d) i j =
           let e : d.name ≡ c = some_same d.name c j in
-          let f = (found_in (shared (chain_of p u)) (chain_of p t) d i).is_in in
+          let f = line_in_chain p (length p.classes) t d (found_in (shared (line_of p u)) (line_of p t) d i).is_in in
           record {
             kept = subst (Kept s p) e (chain_kept p s above (length p.classes) t d h f);
             bare = class_bare c (regular.names c (ap (defines p) (sym e) ∙ defined p d.name d (chain_named p s above (length p.classes) t d f)));

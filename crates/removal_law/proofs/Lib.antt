@@ -26,6 +26,7 @@ pub mod CallsLeft
 pub mod Faces
 pub mod Acyclic
 pub mod Protos
+pub mod Lines
 pub mod KindsLeft
 pub mod DemandsLeft
 pub mod WritesLeft

@@ -1,16 +1,13 @@
 -- The queries of a run answer by numbers what the face of its program says by names.
-use Rattle.std.proofs.Common.{◌≡◌, ℕ, ◌<◌, Bool, true, false, List, [], length, Option, Some, None, refl, sym, ap, ◌∙◌}
-use Rattle.std.specs.Prelude.{◌&&◌, cond, is_some, slice_get, position, option_and_then}
+use Rattle.std.proofs.Common.{◌≡◌, ℕ, ◌<◌, Bool, true, false, length, Option, Some, None, refl, sym, ap, ◌∙◌}
+use Rattle.std.specs.Prelude.{◌&&◌, cond, is_some, slice_get, option_and_then}
 use Rattle.std.specs.Option.{option_map}
 use Rattle.program_model.specs.declared.pools.MethodName.{MethodName}
 use Rattle.program_model.specs.declared.program.MethodAt.{MethodAt}
 use Rattle.program_model.specs.declared.program.Class.{Class}
 use Rattle.program_model.specs.declared.program.Program.{Program}
-use Rattle.program_model.specs.ProgramRules.{is_well_formed}
-use Rattle.class_defs.specs.ClassGraph.{IsTwice}
 use Rattle.class_defs.specs.Finding as look
 use Rattle.class_defs.specs.Starts as start
-use Rattle.class_defs.proofs.Positions.{PlaceFits}
 use Rattle.name_bridge.specs.Named.{search_at, field_at_place}
 use Rattle.name_bridge.proofs.Tables.{Sound, sound, method_is, method_name, method_proto}
 use Rattle.name_bridge.proofs.Lists.{find_place, find_named}
@@ -32,10 +29,11 @@ use Rattle.dalvik_defs.specs.declared.tables.Framework.{Framework}
 use Rattle.dalvik_lookups.specs.declared.finds.Search.TheVariants as find
 use Rattle.dalvik_lookups.specs.declared.lookups.Lookups.{Lookups}
 use Rattle.dalvik_lookups.specs.Tables.{search_of, place_named, IsRight}
-use Rattle.dalvik_lookups.specs.Walks.{search_by, type_of_class, found_at, found_of}
-use Rattle.dalvik_lookups.specs.Facing.{run_face, named_search, place_at, IsFace}
+use Rattle.dalvik_lookups.specs.Walks.{search_by, type_of_class, found_of}
+use Rattle.dalvik_lookups.specs.Facing.{named_search, place_at, IsFace}
 use Rattle.dalvik_lookups.proofs.Interned.{text_sound}
-use Rattle.dalvik_lookups.proofs.Calls.{below, class_there}
+use Rattle.dalvik_lookups.proofs.Firsting.{first_named, started}
+use Rattle.dalvik_lookups.proofs.Calls.{class_there}
 
 -- the class of a name by its place
 pub named_place : (p : Program) (t : Text) → class_named (named p) t ≡ option_map (named_class p) (option_and_then (slice_get p.classes) (place_named p t))
@@ -141,6 +139,8 @@ right_face l r = record {
   virtually = virtually_named l r;
   field = field_of l.program.now s;
   initialiser = initialiser_named l.program.now;
+  first = first_named l.program.now s r.resolved.of.once;
+  started = started l.program.now s;
   trivial = λ c k e. trivial_by_number l.program.now s r.resolved.of.once k.name c (class_parts l.program.now s c k e).name (own_place l.program.now r.resolved.of.once c k e);
 }
   where

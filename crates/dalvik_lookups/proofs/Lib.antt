@@ -15,3 +15,5 @@ pub mod Marked
 pub mod Empty
 pub mod Outward
 pub mod Facing
+pub mod Firsting
+pub mod Rising

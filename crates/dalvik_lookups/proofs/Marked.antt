@@ -7,12 +7,12 @@ use Rattle.std.proofs.lemmas.Bool.{cases_lt}
 use Rattle.program_model.specs.declared.program.Program.{Program}
 use Rattle.class_defs.proofs.Positions.{same_test, number_test, number_of}
 use Rattle.class_defs.proofs.WellFormed.{and_left, and_right}
-use Rattle.dalvik_defs.specs.Names.{Text, text_eq, is_array}
+use Rattle.dalvik_defs.specs.Names.{text_eq, is_array}
 use Rattle.dalvik_defs.specs.Naming.{type_at}
 use Rattle.dalvik_lookups.specs.declared.types.Kind.{Kind}
 use Rattle.dalvik_lookups.specs.declared.types.Types.{Types}
 use Rattle.dalvik_lookups.specs.declared.lookups.Names.{Names}
-use Rattle.dalvik_lookups.specs.Views.{names_of, name_at, type_text, IsKind, IsType}
+use Rattle.dalvik_lookups.specs.Views.{names_of, name_at, type_text, IsKind}
 use Rattle.dalvik_lookups.specs.Tables.{kind_in, is_plain, HasNames}
 use Rattle.dalvik_lookups.specs.Reached.{is_among, has_base, has_descriptor, AreMarks, AreBaseMarks, AreTypeMarks, MarksMore}
 use Rattle.dalvik_lookups.proofs.Interned.{text_same, text_sound}

@@ -27,7 +27,7 @@ pub record Among (t : ℕ → Bool) (us : List ℕ) : Type 0 where
   pub there : In at us
   pub is : t at ≡ true
 
-any_of : (t : ℕ → Bool) (us : List ℕ) → list_any t us ≡ true → Among t us
+pub any_of : (t : ℕ → Bool) (us : List ℕ) → list_any t us ≡ true → Among t us
 any_of t [] e = absurd (true≢false (sym e))
 any_of t (x ∷ xs) e = by_test (t x) refl e (any_of t xs)
   where
@@ -39,7 +39,7 @@ or_right : (a b : Bool) → b ≡ true → (a || b) ≡ true
 or_right true b e = refl
 or_right false b e = e
 
-of_any : (t : ℕ → Bool) (us : List ℕ) (u : ℕ) → In u us → t u ≡ true → list_any t us ≡ true
+pub of_any : (t : ℕ → Bool) (us : List ℕ) (u : ℕ) → In u us → t u ≡ true → list_any t us ≡ true
 of_any t [] u i e = absurd i
 of_any t (x ∷ xs) u (inl s) e = ap (λ b. b || list_any t xs) (sym (ap t s) ∙ e)
 of_any t (x ∷ xs) u (inr i) e = or_right (t x) (list_any t xs) (of_any t xs u i e)
@@ -74,7 +74,7 @@ module _ (p : Program) (r : IsRanked p) where
   past_above : (c : ℕ) → length p.classes ≤ c → above_places p c ≡ []
   past_above c le = ap (λ o. placed (option_and_then (λ k. class_place p k.superclass) o) (listed p o)) (slice_get_past p.classes c le)
 
-  lower_above : (c u : ℕ) → In u (above_places p c) → r.rank u < r.rank c
+  pub lower_above : (c u : ℕ) → In u (above_places p c) → r.rank u < r.rank c
   lower_above c u i = elim (cases_lt c (length p.classes)) [
     | inr le ↦ absurd (subst (In u) (past_above c le) i)
     | inl lt ↦
@@ -86,7 +86,7 @@ module _ (p : Program) (r : IsRanked p) where
         ])
   ]
 
-  rank_short : (c : ℕ) → c < length p.classes → r.rank c < length p.classes
+  pub rank_short : (c : ℕ) → c < length p.classes → r.rank c < length p.classes
   rank_short c lt =
       let all = r.each c lt in
       ltb-true (r.rank c) (length p.classes) (and_left (nat_lt (r.rank c) (length p.classes)) (is_lower r.rank (r.rank c) (super_place p c))
@@ -306,31 +306,31 @@ module _ (p : Program) (r : IsRanked p) where
 
 -- ---- what a walk comes to
 
-set_size : (l : List Bool) (x : ℕ) → length (slice_set l x true) ≡ length l
+pub set_size : (l : List Bool) (x : ℕ) → length (slice_set l x true) ≡ length l
 set_size [] x = refl
 set_size (b ∷ bs) zero = refl
 set_size (b ∷ bs) (suc x) = ap suc (set_size bs x)
 
-stays_seen : (l : List Bool) (x c : ℕ) → slice_index_or l c false ≡ true → slice_index_or (slice_set l x true) c false ≡ true
+pub stays_seen : (l : List Bool) (x c : ℕ) → slice_index_or l c false ≡ true → slice_index_or (slice_set l x true) c false ≡ true
 stays_seen [] x c e = e
 stays_seen (b ∷ bs) zero zero e = refl
 stays_seen (b ∷ bs) zero (suc c) e = e
 stays_seen (b ∷ bs) (suc x) zero e = e
 stays_seen (b ∷ bs) (suc x) (suc c) e = stays_seen bs x c e
 
-seen_now : (l : List Bool) (x : ℕ) → x < length l → slice_index_or (slice_set l x true) x false ≡ true
+pub seen_now : (l : List Bool) (x : ℕ) → x < length l → slice_index_or (slice_set l x true) x false ≡ true
 seen_now [] x lt = absurd (omega (arith, lt))
 seen_now (b ∷ bs) zero lt = refl
 seen_now (b ∷ bs) (suc x) lt = seen_now bs x (omega (arith, lt))
 
-marked_at : (l : List Bool) (x c : ℕ) → slice_index_or (slice_set l x true) c false ≡ true → (slice_index_or l c false ≡ true) ⊎ (c ≡ x)
+pub marked_at : (l : List Bool) (x c : ℕ) → slice_index_or (slice_set l x true) c false ≡ true → (slice_index_or l c false ≡ true) ⊎ (c ≡ x)
 marked_at [] x c e = inl e
 marked_at (b ∷ bs) zero zero e = inr refl
 marked_at (b ∷ bs) zero (suc c) e = inl e
 marked_at (b ∷ bs) (suc x) zero e = inl e
 marked_at (b ∷ bs) (suc x) (suc c) e = elim (marked_at bs x c e) [ inr s ↦ inr (ap suc s) | inl f ↦ inl f ]
 
-left_set : (l : List Bool) (x : ℕ) → x < length l → slice_index_or l x false ≡ false → suc (left (slice_set l x true)) ≡ left l
+pub left_set : (l : List Bool) (x : ℕ) → x < length l → slice_index_or l x false ≡ false → suc (left (slice_set l x true)) ≡ left l
 left_set [] x lt e = absurd (omega (arith, lt))
 left_set (true ∷ bs) zero lt e = absurd (true≢false e)
 left_set (false ∷ bs) zero lt e = refl
@@ -404,16 +404,16 @@ left_new class seen seen' stack stack' n e f =
     let c = left_set seen class n.short n.new in
     omega (arith, a, b, c)
 
-in_left : (u : ℕ) (xs ys : List ℕ) → In u xs → In u (xs ++ ys)
+pub in_left : (u : ℕ) (xs ys : List ℕ) → In u xs → In u (xs ++ ys)
 in_left u [] ys i = absurd i
 in_left u (x ∷ xs) ys (inl s) = inl s
 in_left u (x ∷ xs) ys (inr i) = inr (in_left u xs ys i)
 
-in_right : (u : ℕ) (xs ys : List ℕ) → In u ys → In u (xs ++ ys)
+pub in_right : (u : ℕ) (xs ys : List ℕ) → In u ys → In u (xs ++ ys)
 in_right u [] ys i = i
 in_right u (x ∷ xs) ys i = inr (in_right u xs ys i)
 
-in_split : (u : ℕ) (xs ys : List ℕ) → In u (xs ++ ys) → In u xs ⊎ In u ys
+pub in_split : (u : ℕ) (xs ys : List ℕ) → In u (xs ++ ys) → In u xs ⊎ In u ys
 in_split u [] ys i = inr i
 in_split u (x ∷ xs) ys (inl s) = inl (inl s)
 in_split u (x ∷ xs) ys (inr i) = elim (in_split u xs ys i) [ inl j ↦ inl (inr j) | inr j ↦ inr j ]

@@ -1,5 +1,6 @@
 -- The face of a run's program, by what the queries of the run answer.
-use Rattle.std.specs.Prelude.{◌≡◌, ◌<◌, ℕ, Bool, length, Option, Some, slice_get, option_and_then}
+use Rattle.std.specs.Prelude.{◌≡◌, ◌<◌, ℕ, Bool, true, length, map, nat_lt, Option, Some, slice_get, option_and_then}
+use Rattle.std.specs.List.{list_all}
 use Rattle.std.specs.Option.{option_map}
 use Rattle.program_model.specs.declared.pools.MethodName.{MethodName}
 use Rattle.program_model.specs.declared.program.Class.{Class}
@@ -17,7 +18,8 @@ use Rattle.dalvik_lookups.specs.declared.finds.Search.{Search}
 use Rattle.dalvik_lookups.specs.declared.finds.Search.TheVariants as find
 use Rattle.dalvik_lookups.specs.declared.lookups.Lookups.{Lookups}
 use Rattle.dalvik_lookups.specs.Tables.{search_of, place_named}
-use Rattle.dalvik_lookups.specs.Walks.{search_by, found_of}
+use Rattle.dalvik_lookups.specs.Walks.{search_by, type_of_class, found_of}
+use Rattle.dalvik_lookups.specs.Starting.{initialised_first}
 
 -- the face of the program of a run
 abbrev pub run_face : Lookups → Face
@@ -33,6 +35,14 @@ named_search p (find.Finds at) = finds (found_at p at)
 abbrev pub place_at : Program → ℕ × ℕ → Option Place
 place_at p at = option_map (λ c. place_of c.0 c.1) (field_at_place p at)
 
+-- a class has this place
+abbrev pub is_place : Program → ℕ → Bool
+is_place p c = nat_lt c (length p.classes)
+
+-- the name of the class at a place
+abbrev pub class_name : Program → ℕ → Text
+class_name p c = type_of_class p (slice_get p.classes c)
+
 -- What the face of the program says of each name is what the queries answer of the numbers: of a type by the place of its class
 -- (`class_at`), of a method or a field by the number of its name.
 pub record IsFace (l : Lookups) : Type 0 where
@@ -45,4 +55,6 @@ pub record IsFace (l : Lookups) : Type 0 where
   pub virtually : (t : Text) (m : ℕ) (q : MethodName) → slice_get l.program.now.methods m ≡ Some q → (run_face l).virtually t (method_at l.program.now m) ≡ named_search l.program.now (found_of l (place_named l.program.now t) q)
   pub field : (f : ℕ) → f < length l.program.now.fields → (run_face l).field (field_at l.program.now f) ≡ option_and_then (place_at l.program.now) (resolves_field l.program.now f)
   pub initialiser : (t : Text) → (run_face l).initialiser t ≡ option_map (λ i. initialiser_key t) (option_and_then (initialiser_place l.program.now) (place_named l.program.now t))
+  pub first : (c : ℕ) (k : Class) → slice_get l.program.now.classes c ≡ Some k → (run_face l).first (type_at l.program.now k.name) ≡ map (class_name l.program.now) (initialised_first l.program.now c)
+  pub started : (c : ℕ) → list_all (is_place l.program.now) (initialised_first l.program.now c) ≡ true
   pub trivial : (c : ℕ) (k : Class) → slice_get l.program.now.classes c ≡ Some k → (run_face l).trivial (type_at l.program.now k.name) ≡ is_trivial l.program.now c

@@ -8,3 +8,4 @@ pub mod Spelling
 pub mod Starting
 pub mod Reached
 pub mod Facing
+pub mod Rising

@@ -1,5 +1,5 @@
 -- What the framework may reach, by tables of marks.
-use Rattle.std.specs.Prelude.{◌≡◌, ◌<◌, ℕ, zero, suc, ◌&&◌, ◌||◌, not, Bool, false, List, ◌∷◌, length, Option, Some, None, nat_eq, nat_lt, slice_get, slice_index_or}
+use Rattle.std.specs.Prelude.{◌≡◌, ◌<◌, ℕ, zero, suc, ◌&&◌, ◌||◌, not, Bool, false, List, length, Option, Some, None, nat_eq, nat_lt, slice_get, slice_index_or}
 use Rattle.std.specs.List.{list_any}
 use Rattle.class_defs.specs.Places.{above_places}
 use Rattle.program_model.specs.declared.program.Class.{Class}

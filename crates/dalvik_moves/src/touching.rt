@@ -213,9 +213,7 @@ pub fn array_get(
 /// Writes an item that is there.
 fn put_item(state: &mut State<'_>, gifts: Gifts, array: Datum, place: u32, datum: Datum) {
     gifts.give(&mut state.world);
-    if let Some(items) = state.world.items_mut(array) {
-        dalvik_state::write_register(items.as_mut_slice(), place as usize, datum);
-    }
+    state.world.put_item(array, place as usize, datum);
     done(state);
 }
 

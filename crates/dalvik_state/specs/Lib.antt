@@ -1,4 +1,5 @@
 pub mod Effects
 pub mod Frames
+pub mod States
 pub mod Views
 pub mod Worlds

@@ -1,7 +1,13 @@
 //! The state of a run, and the tables that it reads.
 
-ghost use Rattle.std.specs.Prelude.{◌≡◌, slice_index_or};
-ghost use Rattle.dalvik_state.specs.Views.{class_in};
+ghost use Rattle.std.specs.Prelude.{◌≡◌, ◌<◌, ℕ, List, Some, length, slice_index_or, slice_set, true, IfOk};
+ghost use Rattle.std.specs.Option.{option_copied};
+ghost use Rattle.program_model.specs.declared.program.Program.{Program};
+ghost use Rattle.dalvik_defs.specs.State.{opening, put_status};
+ghost use Rattle.dalvik_defs.specs.declared.script.Move.{Move};
+ghost use Rattle.dalvik_lookups.specs.Tables.{place_named, IsRight};
+ghost use Rattle.dalvik_state.specs.States.{class_text, classes_of, state_of, status_of, top_frame, IsOpening, IsRunning};
+ghost use Rattle.dalvik_state.specs.Views.{class_in, names_in};
 
 use crate::datum::Datum;
 use crate::frame::Frame;
@@ -68,21 +74,42 @@ pub struct State<'a> {
     pub ended: bool,
 }
 
+/// The state in which a run begins.
+fn begin<'a>(alloc: Global, tables: &Tables<'a>) -> Result<State<'a>, AllocError>
+    ensures { IsRight tables.now.lookups → IfOk result (IsOpening tables.now.lookups) }
+{
+    let world = World::new(alloc, tables.lookups.slot_count())?;
+    let classes = tables.lookups.program.classes.len();
+    let statuses = vec![in alloc; Status::New; classes]?;
+    let mut stack = Vec::new(alloc);
+    stack.push(Waiting::Outside { owes: None })?;
+    Ok(State {
+        world,
+        statuses,
+        stack,
+        next: 0,
+        ended: false,
+    })
+}
+
+/// Writes how far a class is, unless there is no such class.
+fn write_status(statuses: &mut Vec<Status>, class: usize, status: Status)
+    ensures { statuses.new.items ≡ slice_set statuses.old.items class status }
+{
+    if class < statuses.len() {
+        statuses[class] = status;
+    }
+}
+
 impl<'a> State<'a> {
     /// No objects, all classes new, and one framework frame.
-    pub fn new(alloc: Global, tables: &Tables<'a>) -> Result<State<'a>, AllocError> {
-        let world = World::new(alloc, tables.lookups.slot_count())?;
-        let classes = tables.lookups.program.classes.len();
-        let statuses = vec![in alloc; Status::New; classes]?;
-        let mut stack = Vec::new(alloc);
-        stack.push(Waiting::Outside { owes: None })?;
-        Ok(State {
-            world,
-            statuses,
-            stack,
-            next: 0,
-            ended: false,
-        })
+    #[tactic(auto, using(crate::proofs::Opening::opening_named, crate::proofs::Opening::opening_runs))]
+    pub fn new(alloc: Global, tables: &Tables<'a>) -> Result<State<'a>, AllocError>
+        ensures named { (script : List Move) → IsRight tables.now.lookups → IfOk result (λ s. state_of (names_in tables.now.lookups) script s ≡ opening script) }
+        ensures running { IsRight tables.now.lookups → IfOk result (IsRunning tables.now.lookups) }
+    {
+        let state = begin(alloc, tables)?;
+        Ok(state)
     }
 
     /// How far the initialisation of a class is.
@@ -96,14 +123,21 @@ impl<'a> State<'a> {
     }
 
     /// Sets how far the initialisation of a class is.
-    pub fn set_status(&mut self, class: u32, status: Status) {
-        if let Some(cell) = self.statuses.get_mut(class as usize) {
-            *cell = status;
-        }
+    pub fn set_status(&mut self, class: u32, status: Status)
+        ensures statuses { self.new.statuses.items ≡ slice_set self.old.statuses.items class status }
+        ensures named { (p : Program) → place_named p (class_text p class) ≡ Some class → class < length self.old.statuses.items → classes_of p self.new.statuses.items ≡ put_status (class_text p class) (status_of status) (classes_of p self.old.statuses.items) }
+        ensures world { self.new.world ≡ self.old.world }
+        ensures stack { self.new.stack ≡ self.old.stack }
+        ensures next { self.new.next ≡ self.old.next }
+        ensures ended { self.new.ended ≡ self.old.ended }
+    {
+        write_status(&mut self.statuses, class as usize, status);
     }
 
     /// The frame on top.
-    pub fn frame(&self) -> Option<&Frame<'a>> {
+    pub fn frame(&self) -> Option<&Frame<'a>>
+        ensures { option_copied result ≡ top_frame self.now.stack.items }
+    {
         match self.stack.as_slice().last() {
             Some(Waiting::Method(frame)) => Some(frame),
             _ => None,
@@ -119,7 +153,9 @@ impl<'a> State<'a> {
     }
 
     /// The run ends, and shows nothing.
-    pub fn end(&mut self) {
+    pub fn end(&mut self)
+        ensures { self.new ≡ record self.old { ended = true } }
+    {
         self.ended = true;
     }
 }

@@ -1,10 +1,11 @@
 //! The heap, the fields, the monitors, and what was exposed.
 
-ghost use Rattle.std.specs.Prelude.{◌≡◌, ◌++◌, ◌∷◌, [], length, map, IfOk, OnErr, OnOk};
+ghost use Rattle.std.specs.Prelude.{◌≡◌, ◌+◌, ◌++◌, ◌∷◌, ℕ, [], length, map, replicate, vec_capacity, vec_len, None, IfOk, OnErr, OnOk};
 ghost use Rattle.std.specs.Map.{lookup};
 ghost use Rattle.std.specs.Option.{option_map, unwrap_or};
 ghost use Rattle.dalvik_state.specs.Frames.{same_in};
-ghost use Rattle.dalvik_state.specs.Worlds.{IsHeap, IsSameWorld, fill_shape, new_spot, put_shape, reshape, reshape_at, shape_at, shape_of, spot_of, spots_of};
+ghost use Rattle.dalvik_state.specs.States.{HasRoom};
+ghost use Rattle.dalvik_state.specs.Worlds.{IsExposed, IsHeap, IsSameWorld, fill_shape, kind_in, kind_of_shape, new_spot, place_at, place_spot, print_at, printed_at, put_shape, reshape, reshape_at, shape_at, shape_of, spot_of, spots_of};
 
 use crate::datum::Datum;
 use crate::frame::write_register;
@@ -23,7 +24,9 @@ pub enum Thing {
 
 impl Thing {
     /// The type of the object or array.
-    pub fn kind(&self) -> Kind {
+    pub fn kind(&self) -> Kind
+        ensures { result ≡ kind_of_shape (shape_of self.now) }
+    {
         match self {
             Thing::Instance(kind) => *kind,
             Thing::Items { kind, .. } => kind.array_of(),
@@ -76,6 +79,26 @@ fn fill_at(heap: &mut Vec<Cell>, number: usize, item: Item, numbers: &[u64])
     }
 }
 
+/// Gives the thing with a number its place among the exposed ones.
+fn place_cell(heap: &mut Vec<Cell>, number: usize, place: usize)
+    ensures { map spot_of heap.new.items ≡ place_spot place (map spot_of heap.old.items) number }
+{
+    if number < heap.len() {
+        heap[number].place = Some(place);
+    }
+}
+
+/// Notes that what stands at a place has been printed.
+fn mark_printed(exposed: &mut Vec<Exposed>, place: usize)
+    ensures exposed { exposed.new.items ≡ print_at exposed.old.items place }
+    ensures len { vec_len exposed.new ≡ vec_len exposed.old }
+    ensures capacity { vec_capacity exposed.new ≡ vec_capacity exposed.old }
+{
+    if place < exposed.len() {
+        exposed[place].printed = true;
+    }
+}
+
 /// An object that was exposed, and whether it has been printed.
 #[derive(Clone, Copy, PartialEq, Eq, Debug, Drop)]
 pub struct Exposed {
@@ -96,7 +119,13 @@ pub struct World {
 
 impl World {
     /// No objects, and nothing written to so many fields.
-    pub fn new(alloc: Global, slots: usize) -> Result<World, AllocError> {
+    pub fn new(alloc: Global, slots: usize) -> Result<World, AllocError>
+        ensures heap { IfOk result (λ w. spots_of w ≡ []) }
+        ensures exposed { IfOk result (λ w. w.exposed.items ≡ []) }
+        ensures fields { IfOk result (λ w. w.fields.entries ≡ []) }
+        ensures locks { IfOk result (λ w. w.locks.entries ≡ []) }
+        ensures statics { IfOk result (λ w. w.statics.items ≡ replicate slots None) }
+    {
         Ok(World {
             heap: Vec::new(alloc),
             fields: HashMap::new(alloc),
@@ -137,20 +166,6 @@ impl World {
         }
     }
 
-    /// The items of the array that a value refers to.
-    pub fn items_mut(&mut self, datum: Datum) -> Option<&mut Vec<Datum>> {
-        match datum {
-            Datum::Object(number) => match self.heap.get_mut(number as usize) {
-                Some(cell) => match &mut cell.thing {
-                    Thing::Items { items, .. } => Some(items),
-                    Thing::Instance(_) => None,
-                },
-                None => None,
-            },
-            _ => None,
-        }
-    }
-
     /// Writes an item of the array that a value refers to, unless it has no such place.
     pub fn put_item(&mut self, array: Datum, place: usize, datum: Datum)
         ensures { IsHeap self.old self.new (reshape_at (put_shape place datum) (spots_of self.old) array) }
@@ -170,10 +185,12 @@ impl World {
     }
 
     /// The type of what a value refers to, none of a number.
-    pub fn kind_of(&self, datum: Datum) -> Option<Kind> {
+    pub fn kind_of(&self, datum: Datum) -> Option<Kind>
+        ensures { result ≡ kind_in (spots_of self.now) datum }
+    {
         match datum {
-            Datum::Object(_) => match self.thing(datum) {
-                Some(thing) => Some(thing.kind()),
+            Datum::Object(number) => match self.heap.as_slice().get(number as usize) {
+                Some(cell) => Some(cell.thing.kind()),
                 None => None,
             },
             Datum::Literal(_) => Some(Kind::plain(known::STRING)),
@@ -193,7 +210,9 @@ impl World {
     }
 
     /// Whether an object has been printed.
-    pub fn is_printed(&self, number: u64) -> bool {
+    pub fn is_printed(&self, number: u64) -> bool
+        ensures { result ≡ printed_at self.now.exposed.items (place_at (spots_of self.now) number) }
+    {
         match self.place(number) {
             Some(place) => match self.exposed.as_slice().get(place) {
                 Some(one) => one.printed,
@@ -204,7 +223,9 @@ impl World {
     }
 
     /// The place of an object among the exposed ones.
-    pub fn place(&self, number: u64) -> Option<usize> {
+    pub fn place(&self, number: u64) -> Option<usize>
+        ensures { result ≡ place_at (spots_of self.now) number }
+    {
         match self.heap.as_slice().get(number as usize) {
             Some(cell) => cell.place,
             None => None,
@@ -212,19 +233,24 @@ impl World {
     }
 
     /// Gives an object that isn't exposed the next place, for which there is room.
-    pub fn expose(&mut self, number: u64, printed: bool) -> usize {
+    #[tactic(auto, using(crate::proofs::Room::room_less))]
+    pub fn expose(&mut self, number: u64, printed: bool) -> usize
+        ensures place { result ≡ length self.old.exposed.items }
+        ensures shown { HasRoom self.old 1 → IsExposed self.old self.new (place_spot (length self.old.exposed.items) (spots_of self.old) number) (self.old.exposed.items ++ record { number = number; printed = printed } ∷ []) }
+        ensures room { (count : ℕ) → HasRoom self.old (count + 1) → HasRoom self.new count }
+    {
         let place = self.exposed.len();
         let _ = self.exposed.push(Exposed { number, printed });
-        if let Some(cell) = self.heap.get_mut(number as usize) {
-            cell.place = Some(place);
-        }
+        place_cell(&mut self.heap, number as usize, place);
         place
     }
 
     /// Notes that an exposed object has been printed.
-    pub fn print(&mut self, place: usize) {
-        if let Some(one) = self.exposed.get_mut(place) {
-            one.printed = true;
-        }
+    #[tactic(auto, using(crate::proofs::Room::room_same))]
+    pub fn print(&mut self, place: usize)
+        ensures shown { IsExposed self.old self.new (spots_of self.old) (print_at self.old.exposed.items place) }
+        ensures room { (count : ℕ) → HasRoom self.old count → HasRoom self.new count }
+    {
+        mark_printed(&mut self.exposed, place);
     }
 }

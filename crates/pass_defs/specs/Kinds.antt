@@ -1,12 +1,12 @@
 -- The kinds of what registers hold, their order, and which kinds fit a type (Dalvik executable format,
 -- "TypeDescriptor"; this project's profile).
-use Rattle.std.specs.Prelude.{ℕ, zero, suc, ◌+◌, Bool, true, false, ◌&&◌, ◌||◌, not, if◌then◌else◌, nat_eq, nat_lt, List, [], ◌∷◌, Option, Some, None, find}
+use Rattle.std.specs.Prelude.{ℕ, zero, suc, ◌+◌, Bool, true, false, ◌&&◌, ◌||◌, not, if◌then◌else◌, nat_eq, nat_lt, List, [], ◌∷◌, length, Option, Some, None, find}
 use Rattle.std.specs.List.{list_any}
 use Rattle.std.specs.Option.{option_map}
 use Rattle.dalvik_defs.specs.Names.{Text, text_eq, object_type, is_word, is_wide, is_reference, is_array, base_of, array_of}
 use Rattle.dalvik_defs.specs.Flags.{is_interface}
 use Rattle.dalvik_defs.specs.Under.{class_named}
-use Rattle.dalvik_defs.specs.Find.{chain_of}
+use Rattle.dalvik_defs.specs.declared.program.NamedClass.{NamedClass}
 use Rattle.dalvik_defs.specs.declared.program.NamedProgram.{NamedProgram}
 
 pub data Kind : Type 0 where
@@ -19,7 +19,7 @@ pub data Kind : Type 0 where
   Low : Kind
   High : Kind
   Null : Kind
-  -- an object of a program class that is no interface, or of a class under it
+  -- an object of a program class or of a class under it; only a join of two classes makes it that of an interface
   Class : (name : Text) → Kind
   Array : (type : Text) → Kind
   -- any object
@@ -80,9 +80,21 @@ kind_of p t = if is_word t then Word else if is_wide t then Low else if is_refer
 
 -- ---- joins
 
--- the nearest common program superclass
+-- A class and those that stand above it for kinds, the class first, at most so many: its program superclasses up to the
+-- first interface, above which none stands. So a kind is never at or below one that is reached through an interface.
+abbrev pub line_from : ℕ → NamedProgram → Text → List NamedClass
+line_from zero p t = []
+line_from (suc n) p t = elim (class_named p t) [
+  | Some c ↦ c ∷ (if is_interface c.flags then [] else line_from n p c.superclass)
+  | None ↦ []
+]
+
+abbrev pub line_of : NamedProgram → Text → List NamedClass
+line_of p t = line_from (length p.classes) p t
+
+-- the nearest class that stands above both, or is one of them and stands above the other
 abbrev pub nearest : NamedProgram → Text → Text → Option Text
-nearest p s t = option_map (λ c. c.name) (find (λ c. list_any (λ d. text_eq c.name d.name) (chain_of p t)) (chain_of p s))
+nearest p s t = option_map (λ c. c.name) (find (λ c. list_any (λ d. text_eq c.name d.name) (line_of p t)) (line_of p s))
 
 -- an array of one dimension with primitive items
 abbrev pub is_flat : Text → Bool

@@ -1,2 +1,5 @@
 pub mod Each
+pub mod Formed
 pub mod Sizes
+pub mod Sublists
+pub mod Tables

@@ -107,8 +107,8 @@ fn keep_live(alloc: Global, program: Program, live: &LiveSet) -> Changed
 }
 
 /// Takes the classes and members that aren't live out of a program, in place. `count` is how many classes go, and how many
-/// members of the others. The pools
-/// stay, and no position moves. The only error is want of memory.
+/// members of the others. The pools stay, and no position moves. What is left of a well-formed program is well-formed.
+/// The only error is want of memory.
 pub fn apply(
     alloc: Global,
     program: Program,
@@ -118,6 +118,7 @@ pub fn apply(
     ensures origins { IfOk result (λ changed. changed.origins ≡ []) }
     ensures kept { IfOk result (λ changed. (s : LiveSet) × Fits program s × (changed.program ≡ kept_of s program)) }
     ensures closed { is_well_formed program ≡ true → IsResolved program hierarchy.now → IfOk result (λ changed. (s : LiveSet) × Fits program s × IsClosedSet program outside.now s × (changed.program ≡ kept_of s program)) }
+    ensures formed { is_well_formed program ≡ true → IfOk result (λ changed. is_well_formed changed.program ≡ true) }
     ensures falls { IfOk result (λ changed. size_of changed.program ≤ size_of program) }
     ensures same { IfOk result (λ changed. changed.count ≡ 0 → changed.program ≡ program) }
     ensures less { IfOk result (λ changed. 0 < changed.count → size_of changed.program < size_of program) }

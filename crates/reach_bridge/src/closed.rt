@@ -79,6 +79,11 @@ pub fn reach_law()
     ensures { (p : Program) (o : Outside) (s : LiveSet) → IsMarked p o s → IsTyped (named p) → ShutsHold (named p) (outer_of p o) → SameShown (named p) (named (kept_of s p)) (outer_of p o) }
 {}
 
+/// What marks leave of a well-formed and typed program is typed, so that it may be marked and removed from again.
+pub fn reach_keeps_typing_law()
+    ensures { (p : Program) (o : Outside) (s : LiveSet) → IsMarked p o s → IsTyped (named p) → IsTyped (named (kept_of s p)) }
+{}
+
 /// Where no method is shut, as in what rules alone give, the table of shut methods holds what it says.
 pub fn unshut_law()
     ensures { (p : Program) (o : Outside) → o.shut ≡ [] → ShutsHold (named p) (outer_of p o) }

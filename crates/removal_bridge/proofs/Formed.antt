@@ -19,7 +19,7 @@ use Rattle.program_model.specs.ValueRules.{marks_fit}
 use Rattle.class_defs.specs.ClassGraph.{IsTwice, IsAbove, IsAncestor}
 use Rattle.class_defs.proofs.WellFormed.{and_left, and_right, all_at, below, Sound, sound, MethodFits, class_parts}
 use Rattle.class_defs.proofs.Positions.{number_test}
-use Rattle.dalvik_defs.specs.Names.{Text, text_eq, is_class_type}
+use Rattle.dalvik_defs.specs.Names.{Text, text_eq, is_class_type, object_type}
 use Rattle.dalvik_defs.specs.Naming.{text_at, type_at, signature_at, method_at, named_method, named_class, named}
 use Rattle.dalvik_defs.specs.Under.{class_named, defines, own_above, walks}
 use Rattle.dalvik_defs.specs.declared.names.Signature.{Signature}
@@ -34,9 +34,11 @@ use Rattle.pass_defs.specs.Typed.{IsTyped}
 use Rattle.removal_law.proofs.Removal.{removal}
 use Rattle.removal_law.proofs.TypedCode.{typed_code}
 use Rattle.removal_law.specs.Left.{In, here, there, left_of}
-use Rattle.removal_law.specs.Reach.{ShutsHold, IsRegular, IsAcyclic, TellsApart, IsDescribed, DefinesOnce}
+use Rattle.removal_law.specs.Reach.{ShutsHold, IsRegular, IsAcyclic, TellsApart, IsDescribed, DefinesOnce, NamesOnce}
 use Rattle.removal_law.proofs.Lists.{clash}
-use Rattle.removal_law.proofs.Walks.{choice}
+use Rattle.removal_law.proofs.Walks.{choice, text_same as text_itself}
+use Rattle.removal_law.proofs.Declared.{none_there, not_false}
+use Rattle.removal_law.proofs.LeftTyped.{typed_left}
 use Rattle.removal_law.proofs.Outward.{any_where}
 use Rattle.removal_law.proofs.Trees.{class_name, class_in, defines_class, some_same, none_some}
 use Rattle.removal_law.proofs.Acyclic.{regular}
@@ -95,6 +97,11 @@ name_letter p c h = and_right (has_type p c.name) (is_class (letter_of p c.name)
     (and_left (rules.is_class_type p c.name) (not (is_object (type_text p c.name)))
     (and_left (rules.is_class_type p c.name && not (is_object (type_text p c.name))) (rules.is_class_type p c.superclass && list_all (rules.is_class_type p) c.interfaces) h))
 
+name_strange : (p : Program) (c : Class) → types_of_class_fit p c ≡ true → not (is_object (type_text p c.name)) ≡ true
+unfolding types_of_class_fit
+name_strange p c h = and_right (rules.is_class_type p c.name) (not (is_object (type_text p c.name)))
+    (and_left (rules.is_class_type p c.name && not (is_object (type_text p c.name))) (rules.is_class_type p c.superclass && list_all (rules.is_class_type p) c.interfaces) h)
+
 letter_text : (p : Program) (k : ℕ) → is_class (letter_of p k) ≡ true → is_class (first_unit (type_at p k)) ≡ true
 unfolding letter_of
 letter_text p k h = ap (λ t. is_class (first_unit t)) (type_same p k) ∙ h
@@ -127,6 +134,18 @@ module _ (p : Program) (fits : is_well_formed p ≡ true) where
       let o = origin_of t c.0 c.1 in
       subst (λ x. is_class_type x ≡ true) o.0.named_so
       (class_text (type_at p o.0.class.name) (letter_text p o.0.class.name (name_letter p o.0.class (types_fit_class p o.0.class (fits_at o.0.place o.0.class o.0.is_class)))))
+
+  -- Object is no class of the program
+  no_object : defines (named p) object_type ≡ false
+  no_object = by (defines (named p) object_type) refl
+    where
+      by : (b : Bool) → defines (named p) object_type ≡ b → defines (named p) object_type ≡ false
+      by false e = e
+      by true e =
+          let c = defines_class (named p) object_type e in
+          let o = origin_of object_type c.0 c.1 in
+          clash (is_object (type_text p o.0.class.name)) (ap (λ t. text_eq t object_type) (sym (type_same p o.0.class.name) ∙ o.0.named_so) ∙ text_itself object_type)
+          (not_false (is_object (type_text p o.0.class.name)) (name_strange p o.0.class (types_fit_class p o.0.class (fits_at o.0.place o.0.class o.0.is_class))))
 
   -- ---- methods
 
@@ -294,6 +313,23 @@ module _ (p : Program) (fits : is_well_formed p ≡ true) where
         close i j h (inl same) = ancestor i (record { mids = []; steps = subst (IsAbove p i) same h })
         close i j h (inr anc) = ancestor i (record { mids = j ∷ anc.mids; steps = (h, anc.steps) })
 
+    -- a class stands under its name
+    names_once : NamesOnce (named p)
+    names_once c i = by (class_named (named p) c.name) refl
+      where
+        m : Image (named_class p) p.classes c
+        m = image (named_class p) c p.classes i
+
+        mine : Origin c.name
+        mine = record { place = m.place; class = m.entry; is_class = m.is_entry; named_so = ap (λ x. x.name) m.is }
+
+        by : (o : Option NamedClass) → class_named (named p) c.name ≡ o → class_named (named p) c.name ≡ Some c
+        by None e = clash (text_eq c.name c.name) (text_itself c.name) (none_there (λ d. text_eq d.name c.name) (named p).classes e c i)
+        by (Some d) e =
+            let o = origin_of c.name d e in
+            let entry : o.0.class ≡ m.entry = some_same o.0.class m.entry (sym o.0.is_class ∙ ap (slice_get p.classes) (one_place c.name o.0 mine) ∙ m.is_entry) in
+            e ∙ ap Some (sym o.1 ∙ ap (named_class p) entry ∙ m.is)
+
 pub regular_program : (p : Program) → is_well_formed p ≡ true → ((class : ℕ) → IsTwice p class → ⊥) → ((class : ℕ) → IsAncestor p class class → ⊥) → IsRegular (named p)
 regular_program p fits twice ancestor = regular (named p) (acyclic p fits twice ancestor) (class_names p fits)
 
@@ -304,3 +340,9 @@ pub removed_program : (p : Program) → is_well_formed p ≡ true → ((class : 
     → (o : Outer) (k : Conditions) (s : Family) → IsClosedFamily (named p) o k s → ShutsHold (named p) o → SameShown (named p) (left_of s (named p)) o
 removed_program p fits twice ancestor typed o k s closed shuts =
     removal (named p) o k s closed (regular_program p fits twice ancestor) (typed_code (named p) typed (apart_program p fits)) shuts
+
+-- what is left of its named program is typed
+pub typed_program : (p : Program) → IsTyped (named p) → is_well_formed p ≡ true → ((class : ℕ) → IsTwice p class → ⊥) → ((class : ℕ) → IsAncestor p class class → ⊥)
+    → (o : Outer) (k : Conditions) (s : Family) → IsClosedFamily (named p) o k s → IsTyped (left_of s (named p))
+typed_program p typed fits twice ancestor o k s closed =
+    typed_left (named p) o k s closed (regular_program p fits twice ancestor) (names_once p fits twice ancestor) (once p fits) (no_object p fits) typed

@@ -25,3 +25,10 @@ pub fn removal_of_programs_law()
     ensures { (p : Program) → is_well_formed p ≡ true → ((class : ℕ) → IsTwice p class → ⊥) → ((class : ℕ) → IsAncestor p class class → ⊥) → IsTyped (named p)
         → (o : Outer) (k : Conditions) (s : Family) → IsClosedFamily (named p) o k s → ShutsHold (named p) o → SameShown (named p) (left_of s (named p)) o }
 {}
+
+/// Of a typed and well-formed program, of which no class is defined twice or is its own ancestor, what is left by a closed
+/// family of live sets is typed.
+pub fn removal_keeps_typing_law()
+    ensures { (p : Program) → IsTyped (named p) → is_well_formed p ≡ true → ((class : ℕ) → IsTwice p class → ⊥) → ((class : ℕ) → IsAncestor p class class → ⊥)
+        → (o : Outer) (k : Conditions) (s : Family) → IsClosedFamily (named p) o k s → IsTyped (left_of s (named p)) }
+{}

@@ -6,9 +6,8 @@ use Rattle.std.specs.Option.{option_and_then}
 use Rattle.insn_set.specs.declared.ops.InvokeKind.{InvokeKind}
 use Rattle.insn_set.specs.declared.ops.InvokeKind.TheVariants as call
 use Rattle.dalvik_defs.specs.Names.{Text, text_eq, object_type, same_name, is_common}
-use Rattle.dalvik_defs.specs.Flags.{is_interface}
 use Rattle.dalvik_defs.specs.Under.{class_named, defines, is_under, is_outward, is_own_under}
-use Rattle.dalvik_defs.specs.Find.{Found, method_in, Search, Nothing, Finds, is_037, finds_statically, finds_super, finds_super_037, finds_above, finds_at, finds_among, lists_interface, superclass_of}
+use Rattle.dalvik_defs.specs.Find.{Found, method_in, Search, Nothing, Finds, finds_statically, finds_super, finds_at}
 use Rattle.dalvik_defs.specs.Face.{Face, face_of, bodies_of, finds_virtually}
 use Rattle.dalvik_defs.specs.Outer.{Outer}
 use Rattle.dalvik_defs.specs.Shut.{names_outside, called_outside}
@@ -31,10 +30,11 @@ use Rattle.removal_law.proofs.Lists.{clash, In, here, contained, in_front, in_ba
 use Rattle.removal_law.proofs.Classes.{Kept}
 use Rattle.removal_law.proofs.Under.{under_same}
 use Rattle.removal_law.proofs.Trees.{none_some, class_in, defined, defines_same}
-use Rattle.removal_law.proofs.Finds.{in_flat, among_in}
+use Rattle.removal_law.proofs.Finds.{in_flat}
 use Rattle.removal_law.proofs.Searches.{nothing_finds, along_defined, statically_left, super_left, at_left, at_in}
-use Rattle.removal_law.proofs.Virtuals.{IsMethodOf, answer, candidate}
+use Rattle.removal_law.proofs.Virtuals.{IsMethodOf, answer}
 use Rattle.removal_law.proofs.Outward.{any_here, Up, inside, through, object, under_up}
+use Rattle.removal_law.proofs.Supers.{super_defined}
 use Rattle.removal_law.proofs.Declared.{name_same, ok_kept, method_kept}
 
 -- ---- where a body stands
@@ -124,34 +124,11 @@ module _ (p : NamedProgram) (o : Outer) (kept : Conditions) (s : Family) (f : Fr
 
     -- ---- super calls
 
-    among_defined : (ts : List Text) (g : Found) → finds_among p ts k.name k.signature ≡ Finds g → defines p g.key.class ≡ true
-    among_defined ts g e = let x = candidate p s above regular k.name k.signature ts g (among_in p s above regular ts k.name k.signature g e) in
-        ap (λ z. defines p z.class) x.key_is ∙ defined p x.class.name x.class x.named
-
-    super_defined : (class : Text) (g : Found) → finds_super p class k ≡ Finds g → defines p g.key.class ≡ true
-    super_defined class g e = by (is_037 p.version) (class_named p k.class) e
-      where
-        up : finds_above p class k ≡ Finds g → defines p g.key.class ≡ true
-        up i = along_defined p s above regular k (superclass_of p class) g i
-
-        listed : (b : Bool) → (elim b as (λ b. Search) [ true ↦ Nothing | false ↦ finds_above p class k ]) ≡ Finds g → defines p g.key.class ≡ true
-        listed true i = nothing_finds g i
-        listed false i = up i
-
-        flagged : (c : NamedClass) (b : Bool) → (elim b as (λ b. Search) [ true ↦ finds_among p (c.name ∷ []) k.name k.signature | false ↦ finds_above p class k ]) ≡ Finds g → defines p g.key.class ≡ true
-        flagged c true i = among_defined (c.name ∷ []) g i
-        flagged c false i = up i
-
-        by : (b : Bool) (x : Option NamedClass) → (elim b as (λ b. Search) [ true ↦ finds_super_037 p class k x | false ↦ finds_above p class k ]) ≡ Finds g → defines p g.key.class ≡ true
-        by false x i = up i
-        by true None i = listed (lists_interface p class k.class) i
-        by true (Some c) i = flagged c (is_interface c.flags) i
-
     superly : Says p s m (form.Invoke call.Super k args) → OnCall (finds_super p m.class k) (finds_super q m.class k)
     superly a = record {
       same = sym (super_left p s above regular found_kept m.class k (method_class (form.Invoke call.Super k args) a) (class_kept call.Super a) lives
           (λ g i. bound call.Super refl a g (in_back g (found_by (finds_super p m.class k)) (super_candidates p k) i)));
-      live_found = λ g i. record { live = lives g i; defined = super_defined m.class g i };
+      live_found = λ g i. record { live = lives g i; defined = super_defined p s above regular k m.class g i };
     }
       where
         lives : (g : Found) → finds_super p m.class k ≡ Finds g → s.methods g.key ≡ true

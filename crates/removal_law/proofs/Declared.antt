@@ -1,8 +1,8 @@
 -- What the framework may enter is the same in what is left of a program.
 use Rattle.std.proofs.Common.{◌≡◌, ℕ, Bool, true, false, List, [], ◌∷◌, refl, sym, ap, ◌∙◌, subst, inl, inr}
-use Rattle.std.specs.Prelude.{◌⊎◌, ◌&&◌, ◌||◌, not, cond, Option, Some, None, is_some, filter, find, flat_map, nat_eq}
+use Rattle.std.specs.Prelude.{◌⊎◌, ◌&&◌, ◌||◌, not, cond, Option, Some, None, is_some, filter, find, flat_map}
 use Rattle.std.specs.Option.{option_map}
-use Rattle.dalvik_defs.specs.Names.{Text, text_eq, texts_eq, signature_eq, method_eq, same_name, is_common, is_class_type, base_of, proto_text}
+use Rattle.dalvik_defs.specs.Names.{Text, text_eq, texts_eq, signature_eq, method_eq, same_name, is_common, base_of, proto_text}
 use Rattle.dalvik_defs.specs.Flags.{is_interface, is_virtual}
 use Rattle.dalvik_defs.specs.Under.{class_named, defines, is_under, is_outward, is_own_under}
 use Rattle.dalvik_defs.specs.Find.{Found, found_in as found_of, method_in, defined_method, chain_of, Search, Nothing, Clash, Finds, is_virtual_method, finds_at}
@@ -33,7 +33,7 @@ use Rattle.removal_law.proofs.Finds.{in_unfiltered}
 use Rattle.removal_law.proofs.Searches.{nothing_finds, at_left, at_some, at_in}
 use Rattle.removal_law.proofs.Virtuals.{IsMethodOf, inherited, answer, candidate_interface, candidate_version}
 use Rattle.removal_law.proofs.Climbs.{answer_climbs, climb_under}
-use Rattle.removal_law.proofs.Outward.{no_bracket}
+use Rattle.removal_law.proofs.KindsLeft.{base_bare, class_bare}
 
 -- ---- names
 
@@ -130,15 +130,8 @@ module _ (p : NamedProgram) (o : Outer) (kept : Conditions) (s : Family) (f : Fr
 
   -- ---- types
 
-  base_step : (x : ℕ) (us : Text) → nat_eq x 76 ≡ true → base_of (x ∷ us) ≡ x ∷ us
-  base_step x us e = ap (λ b. elim b as (λ b. Text) [ true ↦ base_of us | false ↦ x ∷ us ]) (no_bracket x e)
-
-  base_class : (t : Text) → is_class_type t ≡ true → base_of t ≡ t
-  base_class [] e = refl
-  base_class (x ∷ us) e = base_step x us e
-
   pub base_defined : (t : Text) → defines p t ≡ true → base_of t ≡ t
-  base_defined t d = base_class t (regular.names t d)
+  base_defined t d = base_bare t (class_bare t (regular.names t d))
 
   pub ok_kept : (t : Text) → OkType p s t → Kept s p t
   ok_kept t h = λ d. let e = base_defined t d in ap s.classes (sym e) ∙ h (ap (defines p) e ∙ d)

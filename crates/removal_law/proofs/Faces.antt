@@ -48,7 +48,7 @@ pub each_in : {A : Type 0} (P : A → Type 0) (xs : List A) → ((x : A) → In 
 each_in P [] h = tt
 each_in P (x ∷ xs) h = (h x (here xs), each_in P xs (λ y i. h y (there x xs i)))
 
-slice_in : {A : Type 0} (xs : List A) (n : ℕ) (x : A) → slice_get xs n ≡ Some x → In x xs
+pub slice_in : {A : Type 0} (xs : List A) (n : ℕ) (x : A) → slice_get xs n ≡ Some x → In x xs
 slice_in [] n x e = none_some x e
 slice_in (y ∷ xs) zero x e = subst (λ z. In z (y ∷ xs)) (some_same y x e) (here xs)
 slice_in (y ∷ xs) (suc n) x e = there y xs (slice_in xs n x e)
@@ -66,7 +66,7 @@ one_field : (k d : FieldKey) → In k (d ∷ []) → In k.class (d.class ∷ d.k
 one_field k d (here ys) = (here (k.kind ∷ []), there k.class (k.kind ∷ []) (here []))
 one_field k d (there y ys i) = elim i [ ]
 
-field_types : (x : Form) (k : FieldKey) → In k (fields_in x) → Typed x k
+pub field_types : (x : Form) (k : FieldKey) → In k (fields_in x) → Typed x k
 field_types (form.InstanceGet item to on field) k i = one_field k field i
 field_types (form.InstancePut item from on field) k i = one_field k field i
 field_types (form.StaticGet item to field) k i = one_field k field i
@@ -105,7 +105,7 @@ field_types (form.Binary op to a b) k i = elim i [ ]
 field_types (form.Literal op to a value) k i = elim i [ ]
 
 -- a type without its brackets has none
-base_twice : (t : Text) → base_of (base_of t) ≡ base_of t
+pub base_twice : (t : Text) → base_of (base_of t) ≡ base_of t
 base_twice [] = refl
 base_twice (x ∷ us) = by (nat_eq x 91) refl (base_twice us)
   where
@@ -114,7 +114,7 @@ base_twice (x ∷ us) = by (nat_eq x 91) refl (base_twice us)
     by true e h = h
     by false e h = ap (λ b. elim b as (λ b. Text) [ true ↦ base_of us | false ↦ x ∷ us ]) e
 
-item_base : (t : Text) → is_array t ≡ true → base_of (item_of t) ≡ base_of t
+pub item_base : (t : Text) → is_array t ≡ true → base_of (item_of t) ≡ base_of t
 item_base [] e = clash false e refl
 item_base (x ∷ us) e = sym (ap (λ b. elim b as (λ b. Text) [ true ↦ base_of us | false ↦ x ∷ us ]) e)
 

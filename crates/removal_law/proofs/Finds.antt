@@ -210,10 +210,10 @@ module _ (p : NamedProgram) (s : Family) (above : KeepsAbove p s) (regular : IsR
   trees_up n m t c (absent k l u e i) j = none_some c (sym e ∙ j)
   trees_up n m t c (present k l u d e i sub) j = subst (λ x. Trees n m (x.superclass ∷ x.interfaces)) (some_same d c (sym e ∙ j)) sub
 
-  zero_left : (m : ℕ) (t : Text) → Tree p s above zero m t → class_named p t ≡ None
+  pub zero_left : (m : ℕ) (t : Text) → Tree p s above zero m t → class_named p t ≡ None
   zero_left m t (absent k l u e i) = e
 
-  zero_right : (n : ℕ) (t : Text) → Tree p s above n zero t → class_named p t ≡ None
+  pub zero_right : (n : ℕ) (t : Text) → Tree p s above n zero t → class_named p t ≡ None
   zero_right n t (absent k l u e i) = e
 
   none_left : (n m : ℕ) (t : Text) → Tree p s above n m t → class_named p t ≡ None → interface_named q t ≡ None

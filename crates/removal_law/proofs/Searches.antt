@@ -168,7 +168,7 @@ module _ (p : NamedProgram) (s : Family) (above : KeepsAbove p s) (regular : IsR
   interfaces_kept t u h i = let w = out_of_flat (λ c. c.interfaces) u (chain_of p t) i in
       up_kept p s above w.0.name w.0 (chain_named p s above (length p.classes) t w.0 w.1.0) (chain_kept p s above (length p.classes) t w.0 h w.1.0) u (there w.0.superclass w.0.interfaces w.1.1)
 
-  interfaces_same : (t : Text) → Kept s p t → flat_map (λ c. c.interfaces) (chain_of q t) ≡ flat_map (λ c. c.interfaces) (chain_of p t)
+  pub interfaces_same : (t : Text) → Kept s p t → flat_map (λ c. c.interfaces) (chain_of q t) ≡ flat_map (λ c. c.interfaces) (chain_of p t)
   interfaces_same t h = ap (flat_map (λ c. c.interfaces)) (chain_same p s above regular t h) ∙ flat_mapped (λ c. c.interfaces) (left_in s) (chain_of p t) (λ c. refl)
 
   abbrev at_of : NamedProgram → List Text → MethodKey → Option Found → Search

@@ -28,19 +28,19 @@ use Rattle.removal_law.proofs.Trees.{none_some}
 use Rattle.removal_law.proofs.CallsLeft.{body_in}
 
 -- what stands at a place of a list stands in it
-from_contained : {A : Type 0} (xs : List A) (x : A) (k : ℕ) → k < length xs → slice_index_or xs k x ≡ x → In x xs
+pub from_contained : {A : Type 0} (xs : List A) (x : A) (k : ℕ) → k < length xs → slice_index_or xs k x ≡ x → In x xs
 from_contained [] x k lt e = absurd (omega (arith, lt))
 from_contained (y ∷ xs) x zero lt e = subst (λ z. In z (y ∷ xs)) e (here xs)
 from_contained (y ∷ xs) x (suc k) lt e = there y xs (from_contained xs x k (omega (arith, lt)) e)
 
 -- a place at which there is something
-place_below : {A : Type 0} (xs : List A) (n : ℕ) (x : A) → slice_get xs n ≡ Some x → n < length xs
+pub place_below : {A : Type 0} (xs : List A) (n : ℕ) (x : A) → slice_get xs n ≡ Some x → n < length xs
 place_below [] n x e = none_some x e
 place_below (y ∷ xs) zero x e = omega arith
 place_below (y ∷ xs) (suc n) x e = let h = place_below xs n x e in omega (arith, h)
 
 -- a test of each number below a bound
-each_at : (n : ℕ) (test : ℕ → Bool) → each n test ≡ true → (k : ℕ) → k < n → test k ≡ true
+pub each_at : (n : ℕ) (test : ℕ → Bool) → each n test ≡ true → (k : ℕ) → k < n → test k ≡ true
 each_at zero test e k lt = absurd (omega (arith, lt))
 each_at (suc n) test e k lt = by (less_or_same k n lt) (each_at n test (and_left (each n test) (test n) e) k)
   where
@@ -146,7 +146,7 @@ module _ (p : NamedProgram) (c : NamedClass) (m : NamedMethod) (b : NamedBody) (
         ∙ each_at (length b.forms) (at_state b t (λ f a. not (is_wrong p c m a f))) typing.right n (place_below b.forms n f i),
   )
 
-not_not : (b : Bool) → not (not b) ≡ true → b ≡ true
+pub not_not : (b : Bool) → not (not b) ≡ true → b ≡ true
 not_not true e = refl
 not_not false e = e
 

@@ -107,3 +107,7 @@ IsDescribed p = (t : Text) (c : NamedClass) (m : NamedMethod) (u : Text) → cla
 -- no class defines two methods of one name and signature
 abbrev pub DefinesOnce : NamedProgram → Type 0
 DefinesOnce p = (t : Text) (c : NamedClass) (m x : NamedMethod) → class_named p t ≡ Some c → In m c.methods → In x c.methods → m.name ≡ x.name → m.signature ≡ x.signature → m ≡ x
+
+-- no two classes have one name
+abbrev pub NamesOnce : NamedProgram → Type 0
+NamesOnce p = (c : NamedClass) → In c p.classes → class_named p c.name ≡ Some c

@@ -3,7 +3,7 @@
 ghost use Rattle.std.specs.Prelude.{◌≡◌, ℕ, List, false, true};
 ghost use Rattle.std.specs.List.{list_all};
 ghost use Rattle.std.specs.Option.{option_map};
-ghost use Rattle.dalvik_defs.specs.Names.{Text, base_of, is_class_type};
+ghost use Rattle.dalvik_defs.specs.Names.{Text, base_of, is_class_type, object_type};
 ghost use Rattle.dalvik_defs.specs.Face.{bodies_of};
 ghost use Rattle.dalvik_defs.specs.declared.names.MethodKey.{MethodKey};
 ghost use Rattle.dalvik_defs.specs.Outer.{Outer};
@@ -19,7 +19,7 @@ ghost use Rattle.dalvik_defs.specs.declared.tables.Framework.{Framework};
 ghost use Rattle.dalvik_defs.specs.declared.tables.Floats.{Floats};
 ghost use Rattle.pass_defs.specs.Live.{Conditions, Family, IsClosedFamily, KeepsAbove};
 ghost use Rattle.removal_law.specs.Left.{left_in, left_of, NamesNone};
-ghost use Rattle.removal_law.specs.Reach.{DefinesOnce, IsAcyclic, IsDescribed, IsNarrowed, IsRegular, IsSoundCode, LeftAgrees, ShutsHold, TellsApart, is_idle};
+ghost use Rattle.removal_law.specs.Reach.{DefinesOnce, IsAcyclic, IsDescribed, IsNarrowed, IsRegular, IsSoundCode, LeftAgrees, NamesOnce, ShutsHold, TellsApart, is_idle};
 
 /// A class that is live is left with its live members, and no other class is left.
 pub fn classes_left_law()
@@ -66,6 +66,13 @@ pub fn removal_shows_the_same_law()
 /// In a typed program new arrays are of array types wherever a walk comes.
 pub fn typed_code_is_sound_law()
     ensures { (p : NamedProgram) → IsTyped p → TellsApart p → IsSoundCode p }
+{}
+
+/// What is left of a typed program by a closed family is typed, where classes and methods stand once by their names and
+/// Object is no class of the program.
+pub fn typed_left_law()
+    ensures { (p : NamedProgram) (o : Outer) (k : Conditions) (s : Family) → IsClosedFamily p o k s → IsRegular p → NamesOnce p → DefinesOnce p → defines p object_type ≡ false
+        → IsTyped p → IsTyped (left_of s p) }
 {}
 
 /// A table of shut methods holds what it says where it has none, and where it has those of the definition.

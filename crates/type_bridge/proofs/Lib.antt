@@ -6,8 +6,12 @@ pub mod Entries
 pub mod Fits
 pub mod Frames
 pub mod Grounds
+pub mod Joined
 pub mod Judged
+pub mod Lines
 pub mod Members
+pub mod Numbering
+pub mod Numbers
 pub mod Order
 pub mod Programs
 pub mod Spelled

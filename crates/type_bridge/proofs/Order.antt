@@ -1,45 +1,36 @@
 -- A kind at or below another one is so by name.
-use Rattle.std.proofs.Common.{◌≡◌, ℕ, zero, suc, ◌<◌, Bool, true, false, true≢false, nat_eq, List, [], ◌∷◌, length, Option, Some, None, ◌⊎◌, inl, inr, refl, sym, ap, ◌∙◌, subst, arith}
-use Rattle.std.specs.Prelude.{◌&&◌, ◌||◌, not, cond, slice_get, option_and_then, find, if◌then◌else◌}
-use Rattle.std.specs.List.{list_any}
+use Rattle.std.proofs.Common.{◌≡◌, ℕ, zero, suc, Bool, true, false, nat_eq, Option, Some, None, refl, sym, ap, ◌∙◌, subst}
+use Rattle.std.specs.Prelude.{◌&&◌, ◌||◌, not, slice_get, option_and_then, if◌then◌else◌}
 use Rattle.std.specs.Option.{option_map}
-use Rattle.std.proofs.lemmas.Option.{slice_get_within}
-use Rattle.class_defs.proofs.Positions.{number_test, number_of}
-use Rattle.class_defs.proofs.WellFormed.{class_parts}
-use Rattle.class_defs.specs.Nearest.{nearest_place}
-use Rattle.class_defs.specs.Places.{super_place, chain_from, chain_of}
-use Rattle.program_model.specs.Lookups.{class_place}
+use Rattle.class_defs.proofs.Positions.{number_test}
 use Rattle.program_model.specs.declared.program.Class.{Class}
 use Rattle.program_model.specs.declared.program.Program.{Program}
 use Rattle.dalvik_defs.specs.Names as text
 use Rattle.dalvik_defs.specs.Names.{Text, text_eq, object_type, base_of}
 use Rattle.dalvik_defs.specs.Naming.{type_at, named}
-use Rattle.dalvik_defs.specs.Find as find
-use Rattle.dalvik_defs.specs.declared.program.NamedClass.{NamedClass}
 use Rattle.dalvik_defs.specs.declared.program.NamedProgram.{NamedProgram}
-use Rattle.name_bridge.specs.Named.{class_at, name_at}
-use Rattle.name_bridge.proofs.Above.{defined, own_place}
-use Rattle.name_bridge.proofs.Nearest.{nearest_by_number}
+use Rattle.name_bridge.specs.Named.{name_at}
 use Rattle.pass_defs.specs.Kinds as name
 use Rattle.pass_defs.specs.Kinds.{Kind, Undefined, Zero, Word, Low, High, Null, Class as ClassKind, Array, Reference, Fresh, FreshThis, kind_eq, depth, arrays_of, is_flat, object_array, joined_deep, joined_items, joined_arrays, class_or_reference, is_below}
 pub use Rattle.pass_defs.proofs.Writes.{same_kind, itself_below}
 use Rattle.verify.specs.declared.kinds.Kind as number
 use Rattle.verify.specs.declared.kinds.Kind.TheVariants as kind
 use Rattle.verify.specs.declared.tables.Tables.{Tables}
-use Rattle.verify.specs.Building.{class_above}
 use Rattle.verify.specs.Chains.{nearest, is_in_chain}
 use Rattle.verify.specs.Descriptors as descriptors
+use Rattle.verify.specs.Descriptors.{class_named}
 use Rattle.verify.specs.Joins as joins
+use Rattle.verify.specs.Joins.{nearest_place}
 use Rattle.verify.specs.Kinds as kinds
 use Rattle.verify.specs.Typings.{Below}
 use Rattle.verify.proofs.Chained as chained
 use Rattle.verify.proofs.Descriptions.{text_same}
 use Rattle.verify.proofs.Fitting.{AreItems, are_items}
 use Rattle.verify.proofs.Orders.{Under, itself, unknown, word, empty, any, classes, items, deep, under, is_null, number_below}
-use Rattle.verify.proofs.Ranked.{above_super, rank_falls}
 use Rattle.type_bridge.specs.Views.{item_text, class_kind, array_kind, kind_named}
+use Rattle.type_bridge.proofs.Lines.{above_class, placed_at, nearest_is, nearest_none}
 use Rattle.type_bridge.proofs.Told.{Told}
-use Rattle.type_bridge.proofs.Texts.{IsBase, depth_of, base_under, item_bare, class_text, class_by_text, no_object, item_sorts, item_class, item_named_text}
+use Rattle.type_bridge.proofs.Texts.{IsBase, depth_of, base_under, item_bare, class_text, no_object, item_sorts, item_class, item_named_text}
 
 -- ---- the order by names
 
@@ -106,15 +97,8 @@ module _ (q : NamedProgram) where
       ∙ ap (joined_items s u) e
       ∙ ap (λ n. Array (arrays_of n y)) (depth_of m x hx)
 
-  nothing : (cs : List NamedClass) → find.chain_of q object_type ≡ [] → option_map (λ (c : NamedClass). c.name) (find (λ c. list_any (λ (d : NamedClass). text_eq c.name d.name) (find.chain_of q object_type)) cs) ≡ None
-  nothing cs e = ap (λ ds. option_map (λ (c : NamedClass). c.name) (find (λ c. list_any (λ (d : NamedClass). text_eq c.name d.name) ds) cs)) e ∙ by cs
-    where
-      by : (cs : List NamedClass) → option_map (λ (c : NamedClass). c.name) (find (λ c. list_any (λ (d : NamedClass). text_eq c.name d.name) []) cs) ≡ None
-      by [] = refl
-      by (c ∷ cs) = by cs
-
-  deep_over : (m : ℕ) (x : Text) → IsBase x → (nat_eq m 1 && not (text.is_reference x)) ≡ false → find.chain_of q object_type ≡ [] → joined_arrays q (arrays_of m x) object_array ≡ Array object_array
-  deep_over m x hx f e = by (nat_eq (depth (arrays_of m x)) (depth object_array))
+  deep_over : (m : ℕ) (x : Text) → IsBase x → (nat_eq m 1 && not (text.is_reference x)) ≡ false → ((y : Text) → name.nearest q y object_type ≡ None) → joined_arrays q (arrays_of m x) object_array ≡ Array object_array
+  deep_over m x hx f none = by (nat_eq (depth (arrays_of m x)) (depth object_array))
     where
       flat : is_flat (arrays_of m x) ≡ false
       flat = ap (λ n. nat_eq n 1 && not (text.is_reference (base_of (arrays_of m x)))) (depth_of m x hx) ∙ ap (λ u. nat_eq m 1 && not (text.is_reference u)) (base_under m x hx) ∙ f
@@ -123,108 +107,35 @@ module _ (q : NamedProgram) where
       two = ap (λ b. if b || is_flat object_array then Reference else Array object_array) flat
 
       by : (b : Bool) → elim b as (λ b. Kind) [ true ↦ joined_items (arrays_of m x) object_array (name.nearest q (base_of (arrays_of m x)) (base_of object_array)) | false ↦ joined_deep (arrays_of m x) object_array ] ≡ Array object_array
-      by true = ap (joined_items (arrays_of m x) object_array) (nothing (find.chain_of q (base_of (arrays_of m x))) e) ∙ two
+      by true = ap (joined_items (arrays_of m x) object_array) (none (base_of (arrays_of m x))) ∙ two
       by false = two
 
 -- ---- classes
 
-or_both : (a b : Bool) → (a || b) ≡ true → (a ≡ true) ⊎ (b ≡ true)
-or_both true b e = inl refl
-or_both false b e = inr e
-
-or_right : (a b : Bool) → b ≡ true → (a || b) ≡ true
-or_right true b e = refl
-or_right false b e = e
-
-none_left : (up : ℕ → Option ℕ) (n x : ℕ) → list_any (nat_eq x) (chain_from up n None) ≡ true → ⊥
-none_left up zero x e = true≢false (sym e)
-none_left up (suc n) x e = true≢false (sym e)
-
--- the class itself, or one above what is directly above it
-on_chain : (up : ℕ → Option ℕ) (n c x : ℕ) (P : Type 0) → list_any (nat_eq x) (chain_from up (suc n) (Some c)) ≡ true → (x ≡ c → P) → ((y : ℕ) → up c ≡ Some y → list_any (nat_eq x) (chain_from up n (Some y)) ≡ true → P) → P
-on_chain up n c x P e here on = split (or_both (nat_eq x c) (list_any (nat_eq x) (chain_from up n (up c))) e)
-  where
-    above : (o : Option ℕ) → up c ≡ o → list_any (nat_eq x) (chain_from up n o) ≡ true → P
-    above None f h = absurd (none_left up n x h)
-    above (Some y) f h = on y f h
-
-    split : (nat_eq x c ≡ true) ⊎ (list_any (nat_eq x) (chain_from up n (up c)) ≡ true) → P
-    split (inl h) = here (number_of x c h)
-    split (inr h) = above (up c) refl h
-
 module _ (p : Program) (t : Tables) (d : Told p t) where
-  pub super_of : (c y : ℕ) → super_place p c ≡ Some y → c < length p.classes
-  super_of c y e = by (slice_get p.classes c) refl e
-    where
-      by : (o : Option Class) → slice_get p.classes c ≡ o → option_and_then (λ k. class_place p k.superclass) o ≡ Some y → c < length p.classes
-      by None f g = absurd (cc)
-      by (Some k) f g = slice_get_within p.classes c k f
-
-  pub super_class : (c y : ℕ) → super_place p c ≡ Some y → (k : Class) × (slice_get p.classes y ≡ Some k)
-  super_class c y e = by (slice_get p.classes c) e
-    where
-      by : (o : Option Class) → option_and_then (λ k. class_place p k.superclass) o ≡ Some y → (k : Class) × (slice_get p.classes y ≡ Some k)
-      by None g = absurd (cc)
-      by (Some k) g = let r = defined p k.superclass y g in (r.class, r.is)
-
-  -- those above a class as an interface has none are among those above it
-  supers : (n c x : ℕ) → list_any (nat_eq x) (chain_from (class_above p) n (Some c)) ≡ true → list_any (nat_eq x) (chain_from (super_place p) n (Some c)) ≡ true
-  supers zero c x e = e
-  supers (suc n) c x e = on_chain (class_above p) n c x (list_any (nat_eq x) (chain_from (super_place p) (suc n) (Some c)) ≡ true) e
-      (λ s. ap (λ b. b || list_any (nat_eq x) (chain_from (super_place p) n (super_place p c))) (number_test x c s))
-      (λ y f h. or_right (nat_eq x c) (list_any (nat_eq x) (chain_from (super_place p) n (super_place p c))) (ap (λ o. list_any (nat_eq x) (chain_from (super_place p) n o)) (above_super p c y f) ∙ supers n y x h))
-
-  ranks : (n c x : ℕ) → list_any (nat_eq x) (chain_from (super_place p) n (Some c)) ≡ true → (x ≡ c) ⊎ (d.ranked.rank x < d.ranked.rank c)
-  ranks zero c x e = absurd (true≢false (sym e))
-  ranks (suc n) c x e = on_chain (super_place p) n c x ((x ≡ c) ⊎ (d.ranked.rank x < d.ranked.rank c)) e (λ s. inl s) (λ y f h. inr (step y (rank_falls p d.ranked c y (super_of c y f) f) (ranks n y x h)))
-    where
-      step : (y : ℕ) → d.ranked.rank y < d.ranked.rank c → (x ≡ y) ⊎ (d.ranked.rank x < d.ranked.rank y) → d.ranked.rank x < d.ranked.rank c
-      step y l (inl s) = subst (λ z. d.ranked.rank z < d.ranked.rank c) (sym s) l
-      step y l (inr m) = omega (arith, l, m)
-
-  has_class : (n c x : ℕ) (k : Class) → slice_get p.classes c ≡ Some k → list_any (nat_eq x) (chain_from (super_place p) n (Some c)) ≡ true → (k : Class) × (slice_get p.classes x ≡ Some k)
-  has_class zero c x k f e = absurd (true≢false (sym e))
-  has_class (suc n) c x k f e = on_chain (super_place p) n c x ((k : Class) × (slice_get p.classes x ≡ Some k)) e (λ s. (k, ap (slice_get p.classes) s ∙ f)) (λ y g h. let r = super_class c y g in has_class n y x r.0 r.1 h)
-
-  own_chain : (m e : ℕ) → 0 < m → list_any (nat_eq e) (chain_from (super_place p) m (Some e)) ≡ true
-  own_chain zero e h = absurd (omega (arith, h))
-  own_chain (suc m) e h = ap (λ b. b || list_any (nat_eq e) (chain_from (super_place p) m (super_place p e))) (number_test e e refl)
-
-  -- the first class above one that is above another one, where that is above the first
-  first_found : (e : ℕ) → 0 < length p.classes → (n x : ℕ) → list_any (nat_eq e) (chain_from (super_place p) n (Some x)) ≡ true → find (λ z. list_any (nat_eq z) (chain_of p (Some e))) (chain_from (super_place p) n (Some x)) ≡ Some e
-  first_found e some zero x h = absurd (true≢false (sym h))
-  first_found e some (suc n) x h = by (list_any (nat_eq x) (chain_of p (Some e))) refl (first_found e some n)
-    where
-      same : (x ≡ e) ⊎ (d.ranked.rank x < d.ranked.rank e) → (e ≡ x) ⊎ (d.ranked.rank e < d.ranked.rank x) → x ≡ e
-      same (inl s) r = s
-      same (inr l) (inl s) = sym s
-      same (inr l) (inr m) = absurd (omega (arith, l, m))
-
-      by : (b : Bool) → list_any (nat_eq x) (chain_of p (Some e)) ≡ b
-          → ((y : ℕ) → list_any (nat_eq e) (chain_from (super_place p) n (Some y)) ≡ true → find (λ z. list_any (nat_eq z) (chain_of p (Some e))) (chain_from (super_place p) n (Some y)) ≡ Some e)
-          → cond b (Some x) (find (λ z. list_any (nat_eq z) (chain_of p (Some e))) (chain_from (super_place p) n (super_place p x))) ≡ Some e
-      by true g more = ap Some (same (ranks (length p.classes) e x g) (ranks (suc n) x e h))
-      by false g more = on_chain (super_place p) n x e (find (λ z. list_any (nat_eq z) (chain_of p (Some e))) (chain_from (super_place p) n (super_place p x)) ≡ Some e) h
-          (λ s. absurd (true≢false (sym (own_chain (length p.classes) e some) ∙ ap (λ z. list_any (nat_eq z) (chain_of p (Some e))) s ∙ g)))
-          (λ y f k. ap (λ o. find (λ z. list_any (nat_eq z) (chain_of p (Some e))) (chain_from (super_place p) n o)) f ∙ more y k)
-
   pub chain_of_nearest : (c e : ℕ) → nearest t.chains c e ≡ Some e → is_in_chain t.chains c e ≡ true
   chain_of_nearest c e n = chained.in_chain t.chains d.chains.sound c e (chained.least_left t.chains d.chains.sound c e e n)
 
-  above_it : (c e : ℕ) → c < length p.classes → is_in_chain t.chains c e ≡ true → list_any (nat_eq e) (chain_of p (Some c)) ≡ true
-  above_it c e h n = supers (length p.classes) c e (sym (d.follows.in_chain c e h) ∙ n)
+  -- a class that stands above another one is where their chains meet
+  pub nearest_of_chain : (c e : ℕ) → is_in_chain t.chains c e ≡ true → nearest t.chains c e ≡ Some e
+  nearest_of_chain c e n = by (nearest t.chains c e) (chained.meeting t.chains d.chains.sound c e)
+    where
+      above : chained.Up t.chains d.chains.sound c e
+      above = chained.from_chain t.chains d.chains.sound c e n
 
-  -- a class above another one has a class of the program
-  pub above_class : (c e : ℕ) (k : Class) → slice_get p.classes c ≡ Some k → is_in_chain t.chains c e ≡ true → (k : Class) × (slice_get p.classes e ≡ Some k)
-  above_class c e k f n = has_class (length p.classes) c e k f (above_it c e (slice_get_within p.classes c k f) n)
+      itself : chained.Up t.chains d.chains.sound e e
+      itself = chained.up_itself t.chains d.chains.sound e
+
+      by : (o : Option ℕ) → chained.Meets t.chains d.chains.sound c e o → o ≡ Some e
+      by None m = absurd (m e above itself)
+      by (Some x) m = ap Some (chained.up_both t.chains d.chains.sound x e (m.least e above itself) m.right)
 
   pub near_texts : (c e : ℕ) (k l : Class) → slice_get p.classes c ≡ Some k → slice_get p.classes e ≡ Some l → is_in_chain t.chains c e ≡ true → name.nearest (named p) (type_at p k.name) (type_at p l.name) ≡ Some (type_at p l.name)
   near_texts c e k l f g n =
-      let h = slice_get_within p.classes c k f in
-      nearest_by_number p d.sound d.once k.name l.name (class_parts p d.sound c k f).name (class_parts p d.sound e l g).name
-      ∙ ap (λ o. option_and_then (name_at p) (nearest_place p o (class_place p l.name))) (own_place p d.once c k f)
-      ∙ ap (λ o. option_and_then (name_at p) (nearest_place p (Some c) o)) (own_place p d.once e l g)
-      ∙ ap (option_and_then (name_at p)) (first_found e (omega (arith, h)) (length p.classes) c (above_it c e h n))
+      nearest_is p t d (type_at p k.name) (type_at p l.name)
+      ∙ ap (λ o. option_and_then (name_at p) (nearest_place t o (class_named p (type_at p l.name)))) (placed_at p t d c k f)
+      ∙ ap (λ o. option_and_then (name_at p) (nearest_place t (Some c) o)) (placed_at p t d e l g)
+      ∙ ap (option_and_then (name_at p)) (nearest_of_chain c e n)
       ∙ ap (option_map (λ k. type_at p k.name)) g
 
   pub class_below : (c e : ℕ) → is_in_chain t.chains c e ≡ true → (o : Option Class) → slice_get p.classes c ≡ o → is_below (named p) (class_kind p o) (class_kind p (slice_get p.classes e)) ≡ true
@@ -234,21 +145,17 @@ module _ (p : Program) (t : Tables) (d : Told p t) where
       by None = refl
       by (Some l) = text_same (type_at p l.name)
   class_below c e n (Some k) f =
-      let r = above_class c e k f n in
-      ap (λ o. is_below (named p) (ClassKind (type_at p k.name)) (class_kind p o)) r.1 ∙ class_over (named p) (type_at p k.name) (type_at p r.0.name) (near_texts c e k r.0 f r.1 n)
+      let r = above_class p t d c e k f n in
+      ap (λ o. is_below (named p) (ClassKind (type_at p k.name)) (class_kind p o)) r.is ∙ class_over (named p) (type_at p k.name) (type_at p r.class.name) (near_texts c e k r.class f r.is n)
 
   -- ---- arrays
 
-  pub no_chain : find.chain_of (named p) object_type ≡ []
-  no_chain = by (length (named p).classes)
+  pub unnamed_object : class_named p object_type ≡ None
+  unnamed_object = by (class_named p object_type) refl
     where
-      none : (o : Option ℕ) → descriptors.class_named p object_type ≡ o → option_and_then (class_at p) o ≡ None
-      none None e = refl
-      none (Some c) e = let r = class_text p d.well object_type c e in absurd (no_object p t d c r.class r.is (ap (λ u. text_eq u object_type) r.named ∙ text_same object_type))
-
-      by : (n : ℕ) → find.chain_from n (named p) object_type ≡ []
-      by zero = refl
-      by (suc n) = ap (λ o. elim o as (λ o. List NamedClass) [ Some c ↦ c ∷ find.chain_from n (named p) c.superclass | None ↦ [] ]) (class_by_text p d.well object_type ∙ none (descriptors.class_named p object_type) refl)
+      by : (o : Option ℕ) → class_named p object_type ≡ o → o ≡ None
+      by None e = refl
+      by (Some c) e = let r = class_text p d.well object_type c e in absurd (no_object p t d c r.class r.is (ap (λ u. text_eq u object_type) r.named ∙ text_same object_type))
 
   pub array_texts : (m : ℕ) (i j : Option ℕ) → AreItems t i j → is_below (named p) (Array (arrays_of m (item_text p i))) (Array (arrays_of m (item_text p j))) ≡ true
   array_texts m i j a =
@@ -262,7 +169,7 @@ module _ (p : Program) (t : Tables) (d : Told p t) where
   items_below zero i j a = refl
   items_below (suc m) i j a = array_texts (suc m) i j a
 
-  object_text : item_text p t.object ≡ object_type
+  pub object_text : item_text p t.object ≡ object_type
   object_text = ap (item_text p) d.types.object ∙ by (descriptors.item_named p descriptors.object_text) refl
     where
       by : (o : Option ℕ) → descriptors.item_named p descriptors.object_text ≡ o → item_text p o ≡ object_type
@@ -273,7 +180,7 @@ module _ (p : Program) (t : Tables) (d : Told p t) where
   deep_below zero i f = text_same (arrays_of 1 (item_text p t.object))
   deep_below (suc m) i f =
       ap (λ u. is_below (named p) (Array (arrays_of (suc m) (item_text p i))) (Array (arrays_of 1 u))) object_text
-      ∙ array_over (named p) (arrays_of (suc m) (item_text p i)) object_array (deep_over (named p) (suc m) (item_text p i) (item_bare p i) (ap (λ b. nat_eq (suc m) 1 && not b) (item_sorts p t d i).reference ∙ f) no_chain)
+      ∙ array_over (named p) (arrays_of (suc m) (item_text p i)) object_array (deep_over (named p) (suc m) (item_text p i) (item_bare p i) (ap (λ b. nat_eq (suc m) 1 && not b) (item_sorts p t d i).reference ∙ f) (λ u. nearest_none p t d u object_type unnamed_object))
 
   -- ---- all kinds
 

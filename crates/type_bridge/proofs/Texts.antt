@@ -164,7 +164,7 @@ pub record First {X : Type 0} (test : X → Bool) (xs : List X) (i : ℕ) : Type
   pub got : slice_get xs number ≡ Some entry
   pub passes : test entry ≡ true
 
-first_of : {X : Type 0} (test : X → Bool) (xs : List X) (i : ℕ) (x : X) → length xs ≤ greatest → slice_get xs i ≡ Some x → test x ≡ true → First test xs i
+pub first_of : {X : Type 0} (test : X → Bool) (xs : List X) (i : ℕ) (x : X) → length xs ≤ greatest → slice_get xs i ≡ Some x → test x ≡ true → First test xs i
 first_of test xs i x few e h =
     let f : FirstPlace test xs i = place_first test xs i x e h in
     let r : PlaceFits test xs f.place = place_entry test xs f.place f.is in
@@ -197,7 +197,7 @@ has_entry p k u us e = by (slice_get p.types k) refl e
     by (Some s) f g = (s, f)
 
 module _ (p : Program) (w : is_well_formed p ≡ true) where
-  few_types : length p.types ≤ greatest
+  pub few_types : length p.types ≤ greatest
   few_types = let l = types_short p (and_left (tables_are_short p) (texts_are_short p) (lengths_of p (tables_of p w))) in omega (arith, l)
 
   few : length p.classes ≤ greatest

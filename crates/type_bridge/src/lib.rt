@@ -2,7 +2,8 @@
 //! of this crate have an empty body, and their contracts are the laws.
 //!
 //! A kind by numbers has a kind by names (`specs/Views.antt`). The laws say that this is so for the kinds of types, that
-//! the order of kinds is kept, and that a program of whose methods the verifier has typings is typed by names.
+//! the order of kinds is kept, that kinds which stand for one name alone (`specs/Numbered.antt`) join and lie below one
+//! another by names as by numbers, and that a program of whose methods the verifier has typings is typed by names.
 //!
 //! What is not proved: that a method which the verifier refuses has no typing by names.
 #![tactic(auto)]

@@ -1,5 +1,4 @@
-use Rattle.std.proofs.Common.{sym, ◌∙◌, get_or, length}
-use Rattle.program_model.specs.Texts.{has_type}
+use Rattle.std.proofs.Common.{sym, ◌∙◌}
 use Rattle.dalvik_defs.specs.Naming.{type_at, named}
 use Rattle.dalvik_lookups.specs.Reached.{is_framework_type}
 use Rattle.dalvik_lookups.proofs.Outward.{any_here, any_before, all_here}

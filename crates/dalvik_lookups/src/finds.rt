@@ -287,13 +287,4 @@ impl<'a> Lookups<'a> {
             }
         }
     }
-
-    /// Lets the program classes directly above a class wait.
-    pub(crate) fn push_above(&self, memo: &mut Memo, class: u32) -> Result<(), AllocError> {
-        if let Some(above) = self.hierarchy.super_of(class) {
-            memo.walk.push(above)?;
-        }
-        memo.walk.push_all(self.hierarchy.interfaces_of(class))?;
-        Ok(())
-    }
 }

@@ -1,5 +1,17 @@
 //! How values are shown. What an event needs memory for is drafted first; then the objects get their places.
 
+ghost use Rattle.std.specs.Prelude.{◌≡◌, ◌+◌, [], ℕ, List, length, map, IfOk};
+ghost use Rattle.std.specs.Option.{option_map};
+ghost use Rattle.dalvik_defs.specs.Names.{Text};
+ghost use Rattle.dalvik_defs.specs.Show.{show_word};
+ghost use Rattle.dalvik_defs.specs.declared.state.Value.{Value};
+ghost use Rattle.dalvik_defs.specs.declared.state.Value.TheVariants as value;
+ghost use Rattle.dalvik_lookups.specs.Views.{AreTypes, type_text};
+ghost use Rattle.dalvik_lookups.specs.declared.lookups.Lookups.{Lookups};
+ghost use Rattle.dalvik_state.specs.Drafts.{given_world, AreAllDrawn, AreAllShown, AreDrafts, AreDraftsOf, AreDrawn, AreShown, IsDraft, IsDrawn, IsShown};
+ghost use Rattle.dalvik_state.specs.States.{HasRoom, IsSound};
+ghost use Rattle.dalvik_state.specs.Views.{names_in, value_of, world_of};
+
 use crate::datum::Datum;
 use crate::gifts::Gifts;
 use crate::state::Tables;
@@ -19,7 +31,9 @@ pub enum Draft {
 }
 
 /// A word by its declared type: 0 of a reference type is null.
-fn show_word(tables: &Tables<'_>, kind: Kind, word: u32) -> Shown {
+fn show_word(tables: &Tables<'_>, kind: Kind, word: u32) -> Shown
+    ensures { AreTypes tables.now.lookups.types → result ≡ show_word (type_text tables.now.lookups.types kind) word }
+{
     if word == 0 && tables.lookups.types.is_reference(kind) {
         Shown::Null
     } else {
@@ -34,7 +48,9 @@ fn draft_object(
     world: &World,
     gifts: &Gifts,
     number: u64,
-) -> Result<Draft, AllocError> {
+) -> Result<Draft, AllocError>
+    ensures { (kind : Text) → IsDrawn tables.now.lookups world.now gifts.now (Datum.Object number) → IfOk result (λ d. IsDraft (given_world (names_in tables.now.lookups) world.now gifts.now) kind (value.Object number) d) }
+{
     if world.is_printed(number) {
         return Ok(Draft::Object { number, kind: None });
     }
@@ -53,7 +69,9 @@ pub fn drafted(
     gifts: &Gifts,
     kind: Kind,
     datum: Datum,
-) -> Result<Draft, AllocError> {
+) -> Result<Draft, AllocError>
+    ensures { IsDrawn tables.now.lookups world.now gifts.now datum → IfOk result (λ d. IsDraft (given_world (names_in tables.now.lookups) world.now gifts.now) (type_text tables.now.lookups.types kind) (value_of (names_in tables.now.lookups) datum) d) }
+{
     match datum {
         Datum::Word(word) => Ok(Draft::Done(show_word(tables, kind, word))),
         Datum::Low(wide) | Datum::High(wide) => Ok(Draft::Done(Shown::Wide(wide))),
@@ -75,7 +93,9 @@ pub fn drafted_option(
     gifts: &Gifts,
     kind: Kind,
     datum: Option<Datum>,
-) -> Result<Option<Draft>, AllocError> {
+) -> Result<Option<Draft>, AllocError>
+    ensures { AreDrawn tables.now.lookups world.now gifts.now datum → IfOk result (λ d. AreDrafts (given_world (names_in tables.now.lookups) world.now gifts.now) (type_text tables.now.lookups.types kind) (option_map (value_of (names_in tables.now.lookups)) datum) d) }
+{
     match datum {
         Some(datum) => Ok(Some(drafted(alloc, tables, world, gifts, kind, datum)?)),
         None => Ok(None),
@@ -110,7 +130,10 @@ fn show_object(world: &mut World, number: u64, kind: Option<Text>) -> Shown {
 }
 
 /// Shows a drafted value.
-pub fn show(world: &mut World, draft: Draft) -> Shown {
+pub fn show(world: &mut World, draft: Draft) -> Shown
+    ensures shown { (l : Lookups) (kind : Text) (v : Value) → IsSound l world.old → HasRoom world.old 1 → IsDraft (world_of (names_in l) world.old) kind v draft → IsShown l kind v world.old world.new result }
+    ensures room { (count : ℕ) → HasRoom world.old (count + 1) → HasRoom world.new count }
+{
     match draft {
         Draft::Done(shown) => shown,
         Draft::Object { number, kind } => show_object(world, number, kind),
@@ -118,7 +141,10 @@ pub fn show(world: &mut World, draft: Draft) -> Shown {
 }
 
 /// Shows a drafted value that may be none.
-pub fn show_option(world: &mut World, draft: Option<Draft>) -> Option<Shown> {
+pub fn show_option(world: &mut World, draft: Option<Draft>) -> Option<Shown>
+    ensures shown { (l : Lookups) (kind : Text) (v : Option Value) → IsSound l world.old → HasRoom world.old 1 → AreDrafts (world_of (names_in l) world.old) kind v draft → AreShown l kind v world.old world.new result }
+    ensures room { (count : ℕ) → HasRoom world.old (count + 1) → HasRoom world.new count }
+{
     match draft {
         Some(draft) => Some(show(world, draft)),
         None => None,
@@ -140,7 +166,9 @@ impl Drafts {
         world: &World,
         kinds: &[Kind],
         values: &[Datum],
-    ) -> Result<Drafts, AllocError> {
+    ) -> Result<Drafts, AllocError>
+        ensures { AreAllDrawn tables.now.lookups world.now values.now → IfOk result (AreDraftsOf (world_of (names_in tables.now.lookups) world.now) (map (type_text tables.now.lookups.types) kinds.now) (map (value_of (names_in tables.now.lookups)) values.now)) }
+    {
         let mut drafts = Vec::new(alloc);
         let none = Gifts::new(alloc);
         let mut at: usize = 0;
@@ -161,12 +189,16 @@ impl Drafts {
     }
 
     /// How many values there are.
-    pub fn len(&self) -> usize {
+    pub fn len(&self) -> usize
+        ensures { result ≡ length self.now.drafts.items }
+    {
         self.drafts.len()
     }
 
     /// Shows the values.
-    pub fn show(self, world: &mut World) -> Seq<Shown> {
+    pub fn show(self, world: &mut World) -> Seq<Shown>
+        ensures { (l : Lookups) (kinds : List Text) (values : List Value) → IsSound l world.old → HasRoom world.old (length self.drafts.items) → AreDraftsOf (world_of (names_in l) world.old) kinds values self → AreAllShown l kinds values world.old world.new result }
+    {
         let Drafts { drafts, mut shown } = self;
         for one in drafts {
             let _ = shown.push(show(world, one));

@@ -1,2 +1,4 @@
 pub mod Entries
+pub mod Invoking
 pub mod Needs
+pub mod Reaching

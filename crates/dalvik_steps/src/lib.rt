@@ -3,6 +3,7 @@
 //! before it changes the state, so a refusal has done nothing.
 #![tactic(auto)]
 
+mod asking;
 mod calling;
 mod fields;
 mod objects;

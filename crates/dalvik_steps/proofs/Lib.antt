@@ -1,0 +1,13 @@
+pub mod FieldPlaces
+pub mod FieldReads
+pub mod Firsts
+pub mod Invoked
+pub mod Leaving
+pub mod Locked
+pub mod Made
+pub mod Outcomes
+pub mod Reserved
+pub mod Resolving
+pub mod Searching
+pub mod Slots
+pub mod Written

@@ -1,0 +1,9 @@
+pub mod Backing
+pub mod Falling
+pub mod Flying
+pub mod Handing
+pub mod Landed
+pub mod Made
+pub mod Stacked
+pub mod Turning
+pub mod Undone

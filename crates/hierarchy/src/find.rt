@@ -286,8 +286,8 @@ impl Hierarchy {
         walk: &mut Walk,
         out: &mut Vec<MethodAt>,
     ) -> Result<(), AllocError>
-        ensures fair { OnOk result (IsFair walk.old → IsFair walk.new) }
-        ensures size { OnOk result (length walk.new.seen.items ≡ length walk.old.seen.items) }
+        ensures fair { IsFair walk.old → IsFair walk.new }
+        ensures size { length walk.new.seen.items ≡ length walk.old.seen.items }
         ensures visits { OnOk result (Visits walk.old.seen.items (waits walk.old) class None (cond (is_interface (slice_get program.now.classes class)) (row_of self.now.shape.lists.rows class) [] ++ []) walk.new.seen.items (waits walk.new) None) }
         ensures takes { (name proto : ℕ) → IsOf program.now self.now → IsKey program.now self.now key name proto → OnOk result (Takes (one_or_none (own_candidate program.now name proto class)) walk.old.seen.items (waits walk.old) class (above_interface program.now class) walk.new.seen.items (waits walk.new) out.old.items out.new.items) }
     {
@@ -305,8 +305,8 @@ impl Hierarchy {
         walk: &mut Walk,
         out: &mut Vec<MethodAt>,
     ) -> Result<(), AllocError>
-        ensures fair { OnOk result (IsFair walk.old → IsFair walk.new) }
-        ensures size { OnOk result (length walk.new.seen.items ≡ length walk.old.seen.items) }
+        ensures fair { IsFair walk.old → IsFair walk.new }
+        ensures size { length walk.new.seen.items ≡ length walk.old.seen.items }
         ensures is { (name proto : ℕ) → IsOf program.now self.now → IsKey program.now self.now key name proto → IsUnseen (length program.now.classes) walk.old → OnOk result (out.new.items ≡ out.old.items ++ without_repeats (candidates_from (length program.now.classes) program.now name proto (waits walk.old))) }
     {
         while let Some(one) = walk.pop() {
@@ -337,8 +337,8 @@ impl Hierarchy {
         walk: &mut Walk,
         out: &mut Vec<MethodAt>,
     ) -> Result<(), AllocError>
-        ensures fair { OnOk result (IsFair walk.old → IsFair walk.new) }
-        ensures size { OnOk result (length walk.new.seen.items ≡ length walk.old.seen.items) }
+        ensures fair { IsFair walk.old → IsFair walk.new }
+        ensures size { length walk.new.seen.items ≡ length walk.old.seen.items }
         ensures is { (name proto : ℕ) → IsOf program.now self.now → IsKey program.now self.now key name proto → IsFair walk.old → length walk.old.seen.items ≡ length program.now.classes → OnOk result (out.new.items ≡ out.old.items ++ candidates program.now (flat_map (interface_places program.now) (chain_of program.now (Some class))) name proto) }
     {
         if !self.has_candidates(program, key) {
@@ -358,8 +358,8 @@ impl Hierarchy {
         walk: &mut Walk,
         out: &mut Vec<MethodAt>,
     ) -> Result<(), AllocError>
-        ensures fair { OnOk result (IsFair walk.old → IsFair walk.new) }
-        ensures size { OnOk result (length walk.new.seen.items ≡ length walk.old.seen.items) }
+        ensures fair { IsFair walk.old → IsFair walk.new }
+        ensures size { length walk.new.seen.items ≡ length walk.old.seen.items }
         ensures is { (name proto : ℕ) → IsOf program.now self.now → IsKey program.now self.now key name proto → IsFair walk.old → length walk.old.seen.items ≡ length program.now.classes → OnOk result (out.new.items ≡ out.old.items ++ candidates program.now (interface ∷ []) name proto) }
     {
         if !self.has_candidates(program, key) {
@@ -393,8 +393,8 @@ impl Hierarchy {
 
     /// Sees the classes that wait, and all above them.
     fn see_waiting(&self, walk: &mut Walk) -> Result<(), AllocError>
-        ensures fair { OnOk result (IsFair walk.old → IsFair walk.new) }
-        ensures size { OnOk result (length walk.new.seen.items ≡ length walk.old.seen.items) }
+        ensures fair { IsFair walk.old → IsFair walk.new }
+        ensures size { length walk.new.seen.items ≡ length walk.old.seen.items }
         ensures is { (p : Program) → IsOf p self.now → IsUnseen (length p.classes) walk.old → list_all (λ u. nat_lt u (length p.classes)) (waits walk.old) ≡ true → OnOk result ((c : ℕ) → is_seen walk.new c ≡ is_waiting p (waits walk.old) c) }
     {
         while let Some(one) = walk.pop() {
@@ -405,8 +405,8 @@ impl Hierarchy {
 
     /// Sees all classes that stand above one of the candidates' interfaces, by superclasses and interfaces.
     fn see_above(&self, candidates: &[MethodAt], walk: &mut Walk) -> Result<(), AllocError>
-        ensures fair { OnOk result (IsFair walk.old → IsFair walk.new) }
-        ensures size { OnOk result (length walk.new.seen.items ≡ length walk.old.seen.items) }
+        ensures fair { IsFair walk.old → IsFair walk.new }
+        ensures size { length walk.new.seen.items ≡ length walk.old.seen.items }
         ensures is { (p : Program) → IsOf p self.now → IsFair walk.old → length walk.old.seen.items ≡ length p.classes → OnOk result ((f : MethodAt) → not (is_seen walk.new f.class) ≡ is_lowest p candidates.now f) }
     {
         walk.clear();
@@ -421,8 +421,8 @@ impl Hierarchy {
         candidates: &[MethodAt],
         walk: &mut Walk,
     ) -> Result<Given, AllocError>
-        ensures fair { OnOk result (IsFair walk.old → IsFair walk.new) }
-        ensures size { OnOk result (length walk.new.seen.items ≡ length walk.old.seen.items) }
+        ensures fair { IsFair walk.old → IsFair walk.new }
+        ensures size { length walk.new.seen.items ≡ length walk.old.seen.items }
         ensures is { IsOf program.now self.now → IsFair walk.old → length walk.old.seen.items ≡ length program.now.classes → IfOk result (λ given. search_given given ≡ verdict (lowest program.now candidates.now)) }
     {
         self.see_above(candidates, walk)?;

@@ -112,8 +112,8 @@ impl Walk {
         ensures met { IfOk result (λ b. b ≡ (nat_lt class (length self.old.seen.items) && not (is_seen self.old class))) }
         ensures seen { IfOk result (λ b. self.new.seen.items ≡ cond b (slice_set self.old.seen.items class true) self.old.seen.items) }
         ensures waits { OnOk result (waits self.new ≡ waits self.old) }
-        ensures fair { OnOk result (IsFair self.old → IsFair self.new) }
-        ensures size { OnOk result (length self.new.seen.items ≡ length self.old.seen.items) }
+        ensures fair { IsFair self.old → IsFair self.new }
+        ensures size { length self.new.seen.items ≡ length self.old.seen.items }
     {
         if class as usize >= self.seen.len() || is_on(self.seen.as_slice(), class) {
             return Ok(false);
@@ -143,8 +143,8 @@ impl Walk {
         above: Option<u32>,
     ) -> Result<bool, AllocError>
         ensures enters { IfOk result (λ b. Enters self.old.seen.items (waits self.old) class (list.now ++ beside above) self.new.seen.items (waits self.new) b) }
-        ensures fair { OnOk result (IsFair self.old → IsFair self.new) }
-        ensures size { OnOk result (length self.new.seen.items ≡ length self.old.seen.items) }
+        ensures fair { IsFair self.old → IsFair self.new }
+        ensures size { length self.new.seen.items ≡ length self.old.seen.items }
     {
         if !self.see(class)? {
             return Ok(false);
@@ -163,8 +163,8 @@ impl Walk {
         above: Option<u32>,
     ) -> Result<Option<u32>, AllocError>
         ensures visits { IfOk result (λ r. Visits self.old.seen.items (waits self.old) class found (list.now ++ beside above) self.new.seen.items (waits self.new) r) }
-        ensures fair { OnOk result (IsFair self.old → IsFair self.new) }
-        ensures size { OnOk result (length self.new.seen.items ≡ length self.old.seen.items) }
+        ensures fair { IsFair self.old → IsFair self.new }
+        ensures size { length self.new.seen.items ≡ length self.old.seen.items }
     {
         if !self.see(class)? {
             return Ok(None);

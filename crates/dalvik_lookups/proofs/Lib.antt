@@ -17,3 +17,7 @@ pub mod Outward
 pub mod Facing
 pub mod Firsting
 pub mod Rising
+pub mod Indexed
+pub mod Short
+pub mod Declaring
+pub mod Playing

@@ -33,7 +33,7 @@ pub push_here : {X : Type 0} (xs : List X) (x : X) (d : X) → slice_index_or (x
 push_here [] x d = refl
 push_here (y ∷ ys) x d = push_here ys x d
 
-before_or_here : (i n : ℕ) → i < n + 1 → (i < n) ⊎ (i ≡ n)
+pub before_or_here : (i n : ℕ) → i < n + 1 → (i < n) ⊎ (i ≡ n)
 before_or_here zero zero lt = inr refl
 before_or_here zero (suc n) lt = inl (omega arith)
 before_or_here (suc i) zero lt = absurd (omega (arith, lt))

@@ -14,6 +14,8 @@ use Rattle.dalvik_defs.specs.Naming.{type_at, method_at, field_at, named}
 use Rattle.dalvik_defs.specs.Under.{is_under, is_outward}
 use Rattle.dalvik_defs.specs.Initialised.{initialiser_key}
 use Rattle.dalvik_defs.specs.Face.{Face, Place, place_of, face_of}
+use Rattle.dalvik_defs.specs.declared.names.FieldKey.{FieldKey}
+use Rattle.dalvik_lookups.specs.Declaring.{declared_method, declared_field}
 use Rattle.dalvik_lookups.specs.declared.finds.Search.{Search}
 use Rattle.dalvik_lookups.specs.declared.finds.Search.TheVariants as find
 use Rattle.dalvik_lookups.specs.declared.lookups.Lookups.{Lookups}
@@ -53,6 +55,8 @@ pub record IsFace (l : Lookups) : Type 0 where
   pub above : (c m : ℕ) (k : Class) → slice_get l.program.now.classes c ≡ Some k → m < length l.program.now.methods
       → (run_face l).above (type_at l.program.now k.name) (method_at l.program.now m) ≡ named_search l.program.now (search_by (finds_super l.program.now c m))
   pub virtually : (t : Text) (m : ℕ) (q : MethodName) → slice_get l.program.now.methods m ≡ Some q → (run_face l).virtually t (method_at l.program.now m) ≡ named_search l.program.now (found_of l (place_named l.program.now t) q)
+  pub declared : (t n q : Text) → (run_face l).declared t n q ≡ option_and_then (found_at l.program.now) (declared_method l.program.now t n q)
+  pub own_field : (k : FieldKey) → (run_face l).own_field k ≡ option_and_then (place_at l.program.now) (declared_field l.program.now k.class k.name k.kind)
   pub field : (f : ℕ) → f < length l.program.now.fields → (run_face l).field (field_at l.program.now f) ≡ option_and_then (place_at l.program.now) (resolves_field l.program.now f)
   pub initialiser : (t : Text) → (run_face l).initialiser t ≡ option_map (λ i. initialiser_key t) (option_and_then (initialiser_place l.program.now) (place_named l.program.now t))
   pub first : (c : ℕ) (k : Class) → slice_get l.program.now.classes c ≡ Some k → (run_face l).first (type_at l.program.now k.name) ≡ map (class_name l.program.now) (initialised_first l.program.now c)

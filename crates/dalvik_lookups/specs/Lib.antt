@@ -9,3 +9,5 @@ pub mod Starting
 pub mod Reached
 pub mod Facing
 pub mod Rising
+pub mod Declaring
+pub mod Playing

@@ -12,6 +12,7 @@ ghost use Rattle.class_defs.specs.Members.{is_interface, is_common};
 ghost use Rattle.class_defs.specs.Starts.{initialiser_place};
 ghost use Rattle.hierarchy.specs.Shapes.{IsOf, IsResolved};
 ghost use Rattle.dalvik_lookups.specs.Facing.{IsFace};
+ghost use Rattle.dalvik_lookups.specs.Playing.{ArePlays};
 ghost use Rattle.dalvik_lookups.specs.Reached.{AreTypeMarks, IsOuter};
 ghost use Rattle.dalvik_lookups.specs.Starting.{class_default};
 ghost use Rattle.dalvik_defs.specs.Naming.{text_at, type_at, method_at, named};
@@ -278,7 +279,8 @@ fn plays_in<'a>(
     names: &mut Names<'a>,
     script: &'a [Move],
 ) -> Result<Vec<Play>, AllocError>
-    ensures { AreReady names.old → OnOk result (Grows names.old names.new) }
+    ensures grows { AreReady names.old → OnOk result (Grows names.old names.new) }
+    ensures are { is_well_formed program.now ≡ true → HasNames program.now names.old → IfOk result (λ plays. ArePlays program.now names.new.types names.new.texts script.now plays.items) }
 {
     let declared = Declared::new(alloc, program, names)?;
     let plays = plays_of(alloc, names, &declared, script)?;
@@ -291,7 +293,8 @@ fn script_names<'a>(
     program: &'a Program,
     script: &'a [Move],
 ) -> Result<Scripted<'a>, AllocError>
-    ensures { length program.now.classes < 2 ^ 32 → IfOk result (λ made. HasNames program.now made.names) }
+    ensures names { length program.now.classes < 2 ^ 32 → IfOk result (λ made. HasNames program.now made.names) }
+    ensures plays { is_well_formed program.now ≡ true → IfOk result (λ made. ArePlays program.now made.names.types made.names.texts script.now made.plays.items) }
 {
     let mut names = names_of(alloc, program)?;
     let plays = plays_in(alloc, program, &mut names, script)?;
@@ -307,6 +310,7 @@ fn names_above<'a>(
 ) -> Result<Stood<'a>, AllocError>
     ensures names { is_well_formed program.now ≡ true → IfOk result (λ made. HasNames program.now made.names) }
     ensures above { is_well_formed program.now ≡ true → IfOk result (λ made. AreAbove program.now framework.now made.names.types made.above) }
+    ensures plays { is_well_formed program.now ≡ true → IfOk result (λ made. ArePlays program.now made.names.types made.names.texts script.now made.plays.items) }
 {
     let made = script_names(alloc, program, script)?;
     let mut names = made.names;
@@ -396,6 +400,7 @@ fn both_of<'a>(
     ensures outer { IfOk result (λ both. IsOuter program.now outside.now both.0.outer) }
     ensures classes { is_well_formed program.now ≡ true → IfOk result (λ both. AreTypeMarks program.now both.0.types outside.now.classes both.0.outer.classes.items) }
     ensures tables { is_well_formed program.now ≡ true → IsResolved program.now hierarchy → IfOk result (λ both. IsRight both.0) }
+    ensures plays { is_well_formed program.now ≡ true → IfOk result (λ both. ArePlays program.now both.0.types both.0.texts script.now both.1.items) }
 {
     let made = names_above(alloc, program, framework, script)?;
     let marked = marks_of(alloc, program, outside, &hierarchy, &made.names)?;
@@ -432,6 +437,7 @@ impl<'a> Lookups<'a> {
         ensures classes { is_well_formed program.now ≡ true → IfOk result (λ made. IfSome made (λ both. AreTypeMarks program.now both.0.types outside.now.classes both.0.outer.classes.items)) }
         ensures tables { is_well_formed program.now ≡ true → IfOk result (λ made. IfSome made (λ both. IsRight both.0)) }
         ensures face { is_well_formed program.now ≡ true → IfOk result (λ made. IfSome made (λ both. IsFace both.0)) }
+        ensures plays { is_well_formed program.now ≡ true → IfOk result (λ made. IfSome made (λ both. ArePlays program.now both.0.types both.0.texts script.now both.1.items)) }
     {
         let hierarchy = match build(alloc, program)? {
             Some(hierarchy) => hierarchy,

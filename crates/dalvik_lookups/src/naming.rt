@@ -137,7 +137,7 @@ fn spell_types(program: &Program, types: &[u32], out: &mut Vec<u16>) -> Result<(
 }
 
 /// Appends what a proto spells: its parameters between parentheses, and its result.
-fn spell(program: &Program, proto: &Proto, out: &mut Vec<u16>) -> Result<(), AllocError>
+pub(crate) fn spell(program: &Program, proto: &Proto, out: &mut Vec<u16>) -> Result<(), AllocError>
     ensures { OnOk result (out.new.items ≡ out.old.items ++ proto_text (signature_of program.now proto.now)) }
 {
     out.push(40)?;

@@ -4,6 +4,7 @@ use Rattle.hierarchy.specs.Shapes.{IsResolved}
 use Rattle.dalvik_lookups.specs.Spelling.{is_constructor}
 use Rattle.dalvik_lookups.specs.Starting.{class_default}
 use Rattle.dalvik_lookups.specs.Reached.{AreTypeMarks, IsOuter}
+use Rattle.dalvik_lookups.specs.Playing.{ArePlays}
 use Rattle.dalvik_lookups.specs.Slots.{slots_from, slots_after}
 use Rattle.dalvik_lookups.proofs.Making.{tabled, grows_same}
 use Rattle.dalvik_lookups.proofs.Unders.{above_over}
@@ -38,3 +39,9 @@ returns-clause-tables c = λ w r.
       defaults = ap (λ v. v.items) c.tables_of-tables.ensures.defaults ∙ c.in_ok-marked.ensures.defaults r.of ∙ ap (λ q. map (class_default q) q.classes) (sym over.program);
       constructors = ap (λ v. v.items) c.tables_of-tables.ensures.constructors ∙ c.in_ok-marked.ensures.constructors ∙ ap (λ q. map (is_constructor q) q.methods) (sym over.program);
     }
+
+pub returns-clause-plays : goal.returns-clause-plays
+returns-clause-plays c = λ w.
+    let over = c.tables_of-tables.ensures.over in
+    subst (λ t. ArePlays c.args.program.now t c.tables_of-tables.result.texts c.args.script.now c.in_ok-made.made.plays.items) (sym over.types)
+    (subst (λ x. ArePlays c.args.program.now c.in_ok-made.made.names.types x c.args.script.now c.in_ok-made.made.plays.items) (sym over.texts) (c.in_ok-made.ensures.plays w))

@@ -127,6 +127,7 @@ opening_runs l s h = record {
     };
     written = record { at = λ i e g. absurd (nothing_in s.world.fields.entries i e h.fields g) };
     short = record { at = λ i x e. absurd (nothing_in (spots_of s.world) i x h.heap e) };
+    statics = ap length h.statics ∙ length-replicate (slots_after 0 l.program.now.classes) None;
   };
   classes = ap length h.statuses ∙ length-replicate (length l.program.now.classes) status.New;
   stack = λ i x e. first_fine l (length (spots_of s.world)) i x (ap (λ ws. slice_get ws i) (sym h.stack) ∙ e);

@@ -84,6 +84,7 @@ sound_exposed l old new spots exposed h s p w =
             let r = s.at i x (ap (λ (ss : List Spot). slice_get ss i) (sym h.heap) ∙ e) in
             subst IsShortShape r.2 (w.short.at i r.0 r.1);
       };
+      statics = ap (λ v. length v.items) h.statics ∙ w.statics;
     }
 
 pub sound_expose : (l : Lookups) (old new : OwnWorld) (e : Exposed) → IsExposed old new (place_spot (length old.exposed.items) (spots_of old) e.number) (old.exposed.items ++ e ∷ []) → e.number < length (spots_of old) → place_at (spots_of old) e.number ≡ None → IsSound l old → IsSound l new

@@ -152,6 +152,8 @@ pub record IsSound (l : Lookups) (w : World) : Type 0 where
   pub placed : ArePlaced (spots_of w) w.exposed.items
   pub written : AreWritten (length (spots_of w)) w.fields.entries
   pub short : IsShort (spots_of w)
+  -- each field of the program has a place among the static ones
+  pub statics : length w.statics.items ≡ slots_after 0 l.program.now.classes
 
 -- a frame as a run keeps it: it is in the body of the method at its place
 pub record IsSoundFrame (l : Lookups) (size : ℕ) (f : Frame) : Type 0 where

@@ -1,11 +1,9 @@
 -- What classes define themselves is found by numbers as by names.
-use Rattle.std.proofs.Common.{◌≡◌, ℕ, zero, suc, ◌+◌, ◌<◌, ◌⊎◌, inl, inr, Bool, true, false, true≢false, nat_eq, List, [], ◌∷◌, ◌++◌, map, length, replicate, Option, Some, None, refl, sym, ap, subst, ◌∙◌, arith}
+use Rattle.std.proofs.Common.{◌≡◌, ℕ, zero, suc, ◌+◌, ◌<◌, inl, inr, Bool, true, false, true≢false, nat_eq, List, [], ◌∷◌, ◌++◌, map, length, replicate, Option, Some, None, refl, sym, ap, ◌∙◌, arith}
 use Rattle.std.proofs.lemmas.List.{length_push}
 use Rattle.std.proofs.lemmas.Option.{slice_get-map}
 use Rattle.std.specs.Prelude.{◌&&◌, cond, position, slice_get, slice_index_or, option_and_then}
 use Rattle.std.specs.Option.{option_map}
-use Rattle.program_model.specs.declared.pools.FieldName.{FieldName}
-use Rattle.program_model.specs.declared.pools.MethodName.{MethodName}
 use Rattle.program_model.specs.declared.pools.Proto.{Proto}
 use Rattle.program_model.specs.declared.program.Field.{Field}
 use Rattle.program_model.specs.declared.program.Method.{Method}
@@ -18,7 +16,7 @@ use Rattle.name_bridge.proofs.Tables.{Sound, sound, method_is, method_name, meth
 use Rattle.name_bridge.proofs.Lists.{both}
 use Rattle.name_bridge.proofs.Classes.{MethodFits, FieldFits, class_parts}
 use Rattle.dalvik_defs.specs.Names.{Text, text_eq, is_array, proto_text}
-use Rattle.dalvik_defs.specs.Naming.{text_at, type_at, signature_at, method_at, field_at}
+use Rattle.dalvik_defs.specs.Naming.{text_at, type_at, signature_at, method_at}
 use Rattle.dalvik_defs.specs.declared.names.Signature.{Signature}
 use Rattle.dalvik_lookups.specs.declared.types.Kind.{Kind}
 use Rattle.dalvik_lookups.specs.declared.types.Types.{Types}

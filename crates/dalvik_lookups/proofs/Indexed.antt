@@ -1,12 +1,12 @@
 -- Members by class and key.
 use Rattle.std.proofs.Common.{◌≡◌, ℕ, zero, suc, ◌+◌, ◌<◌, ◌^◌, Bool, true, false, nat_eq, List, [], ◌∷◌, ◌++◌, map, take, get_or, length, Option, Some, None, refl, sym, ap, subst, ◌∙◌, arith}
-use Rattle.std.proofs.lemmas.List.{take_more, length-take-le, length-map, map_more}
+use Rattle.std.proofs.lemmas.List.{take_more, length-take-le, length-map}
 use Rattle.std.specs.Prelude.{◌&&◌, cond, slice_get, position}
 use Rattle.std.specs.Option.{option_or}
 use Rattle.class_defs.proofs.Positions.{number_test, number_of, same_test, position_snoc}
 use Rattle.class_defs.proofs.WellFormed.{and_left, and_right}
 use Rattle.program_model.specs.declared.program.Class.{Class}
-use Rattle.dalvik_lookups.specs.Declaring.{Key, same_key, same_entry, one_at, place_in, index_of_row, place_in_rows, AreFew}
+use Rattle.dalvik_lookups.specs.Declaring.{Key, same_key, same_entry, one_at, index_of_row, place_in_rows, AreFew}
 
 or_none : {X : Type 0} (o : Option X) → o ≡ option_or o None
 or_none None = refl

@@ -20,7 +20,7 @@ use Rattle.dalvik_state.proofs.Named.{item_is, with_cells}
 
 -- ---- by numbers
 
-set_own : (xs : List OwnWaiting) (i : ℕ) (w : OwnWaiting) → slice_get xs i ≡ Some w → slice_set xs i w ≡ xs
+pub set_own : (xs : List OwnWaiting) (i : ℕ) (w : OwnWaiting) → slice_get xs i ≡ Some w → slice_set xs i w ≡ xs
 set_own [] i w e = refl
 set_own (x ∷ xs) zero w e = let same : x ≡ w = cc in ap (λ (y : OwnWaiting). y ∷ xs) (sym same)
 set_own (x ∷ xs) (suc i) w e = ap (λ (ys : List OwnWaiting). x ∷ ys) (set_own xs i w e)
@@ -56,6 +56,10 @@ changes_top changes xs (waiting.Outside owes) v e h = record {
   other = λ t. stayed xs (waiting.Outside owes) v e h;
 }
 
+-- by its place
+pub changes_at : (changes : Frame → Frame → Type 0) (xs : List OwnWaiting) (k : ℕ) (w v : OwnWaiting) → k ≡ length xs - 1 → slice_get xs k ≡ Some w → ChangesIn changes w v → ChangesTop changes xs (slice_set xs k v)
+changes_at changes xs k w v e g h = subst (λ (i : ℕ). ChangesTop changes xs (slice_set xs i v)) (sym e) (changes_top changes xs w v (ap (slice_get xs) (sym e) ∙ g) h)
+
 -- an empty stack stays
 pub changes_none : (changes : Frame → Frame → Type 0) (xs : List OwnWaiting) → length xs ≤ 0 → ChangesTop changes xs xs
 changes_none changes [] le = record { top = λ f e. absurd (let no : None ≡ Some f = e in cc); other = λ e. refl }
@@ -63,15 +67,20 @@ changes_none changes (x ∷ xs) le = absurd (omega (arith, le))
 
 -- ---- by names
 
-split_last : (xs : List OwnWaiting) (w : OwnWaiting) → slice_get xs (length xs - 1) ≡ Some w → (v : OwnWaiting) → slice_set xs (length xs - 1) v ≡ take (length xs - 1) xs ++ v ∷ []
-split_last [] w e v = absurd (cc)
-split_last (x ∷ []) w e v = refl
-split_last (x ∷ y ∷ ys) w e v = ap (λ (zs : List OwnWaiting). x ∷ zs) (split_last (y ∷ ys) w e v)
+set_last : (xs : List OwnWaiting) (k : ℕ) (v : OwnWaiting) → suc k ≡ length xs → slice_set xs k v ≡ take k xs ++ v ∷ []
+set_last [] k v h = absurd (omega (arith, h))
+set_last (x ∷ []) zero v h = refl
+set_last (x ∷ y ∷ ys) zero v h = absurd (omega (arith, h))
+set_last (x ∷ xs) (suc k) v h = ap (λ (zs : List OwnWaiting). x ∷ zs) (set_last xs k v (omega (arith, h)))
 
-last_named : (n : Names) (below : List OwnWaiting) (v : OwnWaiting) → stack_of n (below ++ v ∷ []) ≡ waiting_of n v ∷ stack_of n below
+pub split_last : (xs : List OwnWaiting) (w : OwnWaiting) → slice_get xs (length xs - 1) ≡ Some w → (v : OwnWaiting) → slice_set xs (length xs - 1) v ≡ take (length xs - 1) xs ++ v ∷ []
+split_last [] w e v = absurd (cc)
+split_last (x ∷ xs) w e v = set_last (x ∷ xs) (length (x ∷ xs) - 1) v (omega arith)
+
+pub last_named : (n : Names) (below : List OwnWaiting) (v : OwnWaiting) → stack_of n (below ++ v ∷ []) ≡ waiting_of n v ∷ stack_of n below
 last_named n below v = ap (map (waiting_of n)) (reverse-append below (v ∷ []))
 
-top_there : (xs : List OwnWaiting) (f : Frame) → top_frame xs ≡ Some f → slice_get xs (length xs - 1) ≡ Some (waiting.Method f)
+pub top_there : (xs : List OwnWaiting) (f : Frame) → top_frame xs ≡ Some f → slice_get xs (length xs - 1) ≡ Some (waiting.Method f)
 top_there xs f e = by (slice_get xs (length xs - 1)) e
   where
     by : (o : Option OwnWaiting) → option_and_then frame_in o ≡ Some f → o ≡ Some (waiting.Method f)

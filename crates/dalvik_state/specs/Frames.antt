@@ -119,9 +119,9 @@ pub record GoesOn (old new : Frame) (cells : List Datum) : Type 0 where
   pub caught : new.caught ≡ old.caught
 
 -- the frame goes on at a handler with what was caught, and all else stays
-pub record Handles (old new : Frame) (at : ℕ) (caught : Datum) : Type 0 where
+pub record Handles (old new : Frame) (at : ℕ) (thrown : Datum) : Type 0 where
   pub code : IsSameCode old new
   pub registers : new.registers.items ≡ old.registers.items
   pub position : new.position ≡ at
   pub result : new.result ≡ old.result
-  pub caught : new.caught ≡ caught
+  pub caught : new.caught ≡ thrown

@@ -13,7 +13,8 @@ use Rattle.dalvik_defs.specs.Naming.{named}
 use Rattle.dalvik_defs.specs.Outcome.{Outcome, Need, need_of}
 use Rattle.dalvik_defs.specs.Outer.{outer_of}
 use Rattle.dalvik_defs.specs.Names.{Text}
-use Rattle.dalvik_defs.specs.State.{World, Classes, Waiting, Next, State as NamedState}
+use Rattle.dalvik_defs.specs.State.{World, Classes, Next, State as NamedState}
+use Rattle.dalvik_defs.specs.declared.state.Waiting.{Waiting}
 use Rattle.dalvik_defs.specs.declared.events.Event.{Event}
 use Rattle.dalvik_defs.specs.declared.script.Move.{Move}
 use Rattle.dalvik_defs.specs.declared.tables.Floats.{Floats}
@@ -75,9 +76,9 @@ pub record IsLeft (l : Lookups) (steps : ℕ) (script : List Move) (s : State) (
   pub state : state_of (names_in l) script s ≡ to
   pub running : s.ended ≡ false → IsRunning l (steps + 1) s
 
-pub record IsEvent (l : Lookups) (steps : ℕ) (script : List Move) (s : State) (shown : Option Event) (next : Next) : Type 0 where
+pub record IsEvent (l : Lookups) (steps : ℕ) (script : List Move) (s : State) (event : Option Event) (next : Next) : Type 0 where
   pub left : IsLeft l steps script s next.0
-  pub shown : shown ≡ next.1
+  pub shown : event ≡ next.1
 
 pub record IsNext (l : Lookups) (steps : ℕ) (script : List Move) (m : Memo) (s : State) (shown : Option Event) (next : Next) : Type 0 where
   pub event : IsEvent l steps script s shown next

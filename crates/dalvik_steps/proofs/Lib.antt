@@ -1,7 +1,12 @@
+pub mod Backing
+pub mod Falling
 pub mod FieldPlaces
 pub mod FieldReads
 pub mod Firsts
+pub mod Flying
+pub mod Handing
 pub mod Invoked
+pub mod Landed
 pub mod Leaving
 pub mod Locked
 pub mod Made
@@ -10,4 +15,7 @@ pub mod Reserved
 pub mod Resolving
 pub mod Searching
 pub mod Slots
+pub mod Stacked
+pub mod Turning
+pub mod Undone
 pub mod Written

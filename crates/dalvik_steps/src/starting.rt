@@ -1,17 +1,27 @@
 //! Classes that are initialised.
 
-ghost use Rattle.std.specs.Prelude.{◌≡◌, ◌<◌, ℕ, List, IfOk, OnErr, length};
+ghost use Rattle.std.specs.Prelude.{◌≡◌, ◌+◌, ◌-◌, ◌++◌, ◌∷◌, [], ◌<◌, ◌≤◌, ◌^◌, ℕ, List, false, Some, IfOk, OnErr, OnOk, drop, length, map, slice_get, take, vec_capacity, vec_len, Vec};
+ghost use Rattle.std.specs.declared.alloc.Global.{Global as OwnGlobal};
+ghost use Rattle.dalvik_defs.specs.Happens.{initialises, Setting};
+ghost use Rattle.dalvik_defs.specs.Stack.{ends, goes_on, left_of, resumes, runs, starts};
+ghost use Rattle.dalvik_defs.specs.State.{On};
 ghost use Rattle.dalvik_defs.specs.declared.script.Move.{Move};
+ghost use Rattle.dalvik_lookups.specs.Facing.{run_face};
+ghost use Rattle.dalvik_lookups.specs.Tables.{IsRight as AreRight};
 ghost use Rattle.dalvik_lookups.specs.Walks.{IsKept};
-ghost use Rattle.dalvik_state.specs.Runs.{IsRun, IsUndoneWith};
+ghost use Rattle.dalvik_state.specs.Runs.{below_in, bodies_in, classes_in, script_in, stack_in, world_in, IsLeft, IsNext, IsRun, IsUndone, IsUndoneWith};
+ghost use Rattle.dalvik_state.specs.States.{class_text, stack_of, AreClasses, IsRunning};
+ghost use Rattle.dalvik_state.specs.Views.{names_in};
+ghost use Rattle.dalvik_state.specs.declared.state.Waiting.TheVariants as waiting;
 ghost use Rattle.dalvik_steps.specs.Entries.{IsReadied};
 ghost use Rattle.dalvik_steps.specs.Needs.{IsRight, need_at, status_at};
+ghost use Rattle.dalvik_steps.specs.Turns.{is_initialiser, left_in, turn_entries, waits_at, IsReserved, IsTurn, Looks};
 
 use crate::stack::entry_frame;
 use crate::throwing::{Thrown, throws};
 use dalvik_defs::Event;
 use dalvik_lookups::{Memo, known};
-use dalvik_state::{State, Status, Tables, Waiting};
+use dalvik_state::{Frame, State, Status, Tables, Waiting};
 use std::alloc::{AllocError, Global};
 
 /// Whether a class that is needed is no hindrance, has to be initialised first, or has failed.
@@ -52,7 +62,7 @@ pub fn readies<'a>(
     class: u32,
 ) -> Result<Readied, AllocError>
     ensures standing { IfOk result (λ readied. IsRight readied (status_at state.old.statuses.items class)) }
-    ensures readied { (steps : ℕ) (script : List Move) → IsRun tables.now.lookups memo.old steps state.old → class < length tables.now.lookups.program.now.classes → IfOk result (IsReadied tables.now.lookups steps script memo.new state.old state.new class) }
+    ensures readied { (steps : ℕ) (script : List Move) → length script < 2 ^ 64 → IsRun tables.now.lookups memo.old steps state.old → class < length tables.now.lookups.program.now.classes → IfOk result (IsReadied tables.now.lookups steps script memo.new state.old state.new class) }
     ensures kept { (steps : ℕ) → IsRun tables.now.lookups memo.old steps state.old → class < length tables.now.lookups.program.now.classes → IsKept tables.now.lookups memo.new }
     ensures err { (steps : ℕ) → IsRun tables.now.lookups memo.old steps state.old → class < length tables.now.lookups.program.now.classes → OnErr result (IsUndoneWith tables.now.lookups steps memo.new state.old state.new) }
 {
@@ -70,39 +80,81 @@ pub fn readies<'a>(
 }
 
 /// The place, from `next` on, of the first class that is neither running nor done.
-fn left_of(state: &State<'_>, above: &[u32], next: usize) -> usize {
-    let mut at = next;
-    for class in above.iter().skip(next) {
-        match state.status(*class) {
-            Status::Running | Status::Done => at = at.saturating_add(1),
+fn left_of(state: &State<'_>, above: &[u32], next: usize) -> usize
+    ensures { drop result above.now ≡ left_in state.now.statuses.items (drop next above.now) }
+{
+    for at in next..above.len() {
+        match state.status(above[at]) {
+            Status::Running | Status::Done => {}
             Status::New | Status::Failed => return at,
         }
     }
-    at
+    above.len()
 }
 
-/// What a class's turn puts on the stack: the class that ends, and the frame of its initialiser where it has one.
+/// The frame of the initialiser of a class, none where it has none.
 fn turn_of<'a>(
     alloc: Global,
     tables: &Tables<'a>,
-    state: &mut State<'a>,
     class: u32,
-) -> Result<Option<Waiting<'a>>, AllocError> {
-    state.stack.reserve(2)?;
+) -> Result<Option<Frame<'a>>, AllocError>
+    ensures { (size : ℕ) → AreRight tables.now.lookups → class < length tables.now.lookups.program.now.classes → IfOk result (IsTurn tables.now.lookups size class) }
+{
     match tables.lookups.initialiser(class) {
-        Some(at) => match entry_frame(alloc, tables, at, &[])? {
-            Some(frame) => Ok(Some(Waiting::Method(frame))),
-            None => Ok(None),
-        },
+        Some(at) => entry_frame(alloc, tables, at, &[]),
         None => Ok(None),
     }
 }
 
-/// Puts a class that ends and its initialiser's frame on the stack; there is room for both.
-fn runs<'a>(state: &mut State<'a>, class: u32, frame: Option<Waiting<'a>>) {
-    let _ = state.stack.push(Waiting::Ending { class });
+/// Puts a class that ends and its initialiser's frame on a stack, which has room for both.
+fn runs<'a>(stack: &mut Vec<Waiting<'a>>, class: u32, frame: Option<Frame<'a>>)
+    ensures { vec_len stack.old + 2 ≤ vec_capacity stack.old → stack.new.items ≡ stack.old.items ++ turn_entries class frame }
+{
+    let _ = stack.push(Waiting::Ending { class });
     if let Some(frame) = frame {
-        let _ = state.stack.push(frame);
+        let _ = stack.push(Waiting::Method(frame));
+    }
+}
+
+/// The turn of a class has come: it stands on what is left of the stack below a length.
+fn turns<'a>(
+    alloc: Global,
+    tables: &Tables<'a>,
+    state: &mut State<'a>,
+    class: u32,
+    length: usize,
+) -> Result<(), AllocError>
+    ensures ok { (steps : ℕ) (script : List Move) → AreRight tables.now.lookups → IsRunning tables.now.lookups steps state.old → state.old.ended ≡ false → class < length tables.now.lookups.program.now.classes → OnOk result (IsLeft tables.now.lookups steps script state.new (runs (bodies_in tables.now.lookups) (world_in tables.now.lookups state.old) (classes_in tables.now.lookups state.old) (class_text tables.now.lookups.program.now class) ((run_face tables.now.lookups).initialiser (class_text tables.now.lookups.program.now class)) (stack_of (names_in tables.now.lookups) (take length state.old.stack.items)) (script_in script state.old))) }
+    ensures err { OnErr result (IsReserved state.old state.new) }
+{
+    let frame = turn_of(alloc, tables, class)?;
+    state.stack.reserve(2)?;
+    state.stack.truncate(length);
+    runs(&mut state.stack, class, frame);
+    Ok(())
+}
+
+/// A class is initialised from what comes before it on: the first of those that hinder it is looked at, or its own turn
+/// has come.
+fn begins<'a>(
+    alloc: Global,
+    tables: &Tables<'a>,
+    state: &mut State<'a>,
+    class: u32,
+    above: Vec<u32>,
+) -> Result<(), AllocError>
+    ensures ok { (steps : ℕ) (script : List Move) → AreRight tables.now.lookups → IsRunning tables.now.lookups steps state.old → state.old.ended ≡ false → class < length tables.now.lookups.program.now.classes → AreClasses tables.now.lookups above.items → OnOk result (IsLeft tables.now.lookups steps script state.new (goes_on (run_face tables.now.lookups) (bodies_in tables.now.lookups) (world_in tables.now.lookups state.old) (classes_in tables.now.lookups state.old) (class_text tables.now.lookups.program.now class) (left_of (classes_in tables.now.lookups state.old) (map (class_text tables.now.lookups.program.now) above.items)) (stack_in tables.now.lookups state.old) (script_in script state.old))) }
+    ensures err { OnErr result (IsReserved state.old state.new) }
+{
+    let next = left_of(state, above.as_slice(), 0);
+    if next < above.len() {
+        state
+            .stack
+            .push(Waiting::Initialiser { class, above, next })?;
+        Ok(())
+    } else {
+        let length = state.stack.len();
+        turns(alloc, tables, state, class, length)
     }
 }
 
@@ -113,49 +165,28 @@ pub fn starts<'a>(
     memo: &mut Memo,
     state: &mut State<'a>,
     class: u32,
-) -> Result<(), AllocError> {
+) -> Result<(), AllocError>
+    ensures ok { (steps : ℕ) (script : List Move) → IsRun tables.now.lookups memo.old steps state.old → class < length tables.now.lookups.program.now.classes → OnOk result (IsLeft tables.now.lookups steps script state.new (starts (run_face tables.now.lookups) (bodies_in tables.now.lookups) (world_in tables.now.lookups state.old) (classes_in tables.now.lookups state.old) (class_text tables.now.lookups.program.now class) (stack_in tables.now.lookups state.old) (script_in script state.old))) }
+    ensures kept { (steps : ℕ) → IsRun tables.now.lookups memo.old steps state.old → class < length tables.now.lookups.program.now.classes → IsKept tables.now.lookups memo.new }
+    ensures err { (steps : ℕ) → IsRun tables.now.lookups memo.old steps state.old → class < length tables.now.lookups.program.now.classes → OnErr result (IsUndoneWith tables.now.lookups steps memo.new state.old state.new) }
+{
     let above = tables.lookups.initialised_first(alloc, memo, class)?;
-    let next = left_of(state, above.as_slice(), 0);
-    if next < above.len() {
-        state
-            .stack
-            .push(Waiting::Initialiser { class, above, next })?;
-        state.set_status(class, Status::Running);
-    } else {
-        let frame = turn_of(alloc, tables, state, class)?;
-        state.set_status(class, Status::Running);
-        runs(state, class, frame);
-    }
-    Ok(())
-}
-
-/// Goes on with the class that is being initialised on top of the stack, from a place among those that come before it:
-/// the next of them is looked at, or its own turn has come.
-fn goes_on<'a>(
-    alloc: Global,
-    tables: &Tables<'a>,
-    state: &mut State<'a>,
-    class: u32,
-    left: Option<usize>,
-) -> Result<(), AllocError> {
-    match left {
-        Some(place) => {
-            if let Some(Waiting::Initialiser { next, .. }) = state.stack.as_mut_slice().last_mut() {
-                *next = place;
-            }
-        }
-        None => {
-            let frame = turn_of(alloc, tables, state, class)?;
-            state.stack.pop();
-            runs(state, class, frame);
+    let before = state.status(class);
+    state.set_status(class, Status::Running);
+    match begins(alloc, tables, state, class, above) {
+        Ok(()) => Ok(()),
+        Err(fault) => {
+            state.set_status(class, before);
+            Err(fault)
         }
     }
-    Ok(())
 }
 
-/// The class that is being initialised at a place of the stack, and what is left for it from a place on, `from` where it
-/// has none of its own.
-fn left_at(state: &State<'_>, place: usize, more: usize) -> Option<(u32, Option<usize>)> {
+/// The class that is being initialised at a place of the stack, and what is left of those before it, `more` further than
+/// it stands.
+fn left_at(state: &State<'_>, place: usize, more: usize) -> Option<(u32, Option<usize>)>
+    ensures { Looks state.now.statuses.items more (slice_get state.now.stack.items place) result }
+{
     match state.stack.as_slice().get(place) {
         Some(Waiting::Initialiser { class, above, next }) => {
             let left = left_of(state, above.as_slice(), next.saturating_add(more));
@@ -166,26 +197,87 @@ fn left_at(state: &State<'_>, place: usize, more: usize) -> Option<(u32, Option<
     }
 }
 
+/// What is left before a class that is being initialised begins at a place.
+fn wait_in(waiting: &mut Waiting<'_>, place: usize)
+    ensures { waiting.new ≡ waits_at place waiting.old }
+{
+    if let Waiting::Initialiser { next, .. } = waiting {
+        *next = place;
+    }
+}
+
+/// The class that is being initialised at a place of a stack comes on top, and what is left before it begins at a place.
+fn wait_on(stack: &mut Vec<Waiting<'_>>, place: usize, next: usize)
+    ensures { (w : Waiting) → slice_get stack.old.items place ≡ Some w → stack.new.items ≡ take place stack.old.items ++ waits_at next w ∷ [] }
+{
+    stack.truncate(place.saturating_add(1));
+    if place < stack.len() {
+        wait_in(&mut stack[place], next);
+    }
+}
+
+/// What waits at a place of the stack goes on, and all above it is gone: of a class that is being initialised the next of
+/// those before it is looked at, `more` further than it stands, or its own turn has come.
+fn goes_on<'a>(
+    alloc: Global,
+    tables: &Tables<'a>,
+    state: &mut State<'a>,
+    place: usize,
+    more: usize,
+) -> Result<(), AllocError>
+    ensures class { (steps : ℕ) (script : List Move) (class : ℕ) (above : Vec ℕ OwnGlobal) (next : ℕ) → AreRight tables.now.lookups → IsRunning tables.now.lookups steps state.old → state.old.ended ≡ false → slice_get state.old.stack.items place ≡ Some (waiting.Initialiser class above next)
+        → OnOk result (IsLeft tables.now.lookups steps script state.new (goes_on (run_face tables.now.lookups) (bodies_in tables.now.lookups) (world_in tables.now.lookups state.old) (classes_in tables.now.lookups state.old) (class_text tables.now.lookups.program.now class) (left_of (classes_in tables.now.lookups state.old) (map (class_text tables.now.lookups.program.now) (drop (next + more) above.items))) (stack_of (names_in tables.now.lookups) (take place state.old.stack.items)) (script_in script state.old))) }
+    ensures other { (steps : ℕ) (script : List Move) → AreRight tables.now.lookups → IsRunning tables.now.lookups steps state.old → state.old.ended ≡ false → place < length state.old.stack.items → is_initialiser (slice_get state.old.stack.items place) ≡ false
+        → OnOk result (IsLeft tables.now.lookups steps script state.new (On (world_in tables.now.lookups state.old) (classes_in tables.now.lookups state.old) (stack_of (names_in tables.now.lookups) (take (place + 1) state.old.stack.items)) (script_in script state.old))) }
+    ensures err { OnErr result (IsReserved state.old state.new) }
+{
+    match left_at(state, place, more) {
+        Some((class, None)) => turns(alloc, tables, state, class, place),
+        Some((_, Some(next))) => {
+            wait_on(&mut state.stack, place, next);
+            Ok(())
+        }
+        None => {
+            state.stack.truncate(place.saturating_add(1));
+            Ok(())
+        }
+    }
+}
+
 /// The class that the one being initialised on top of the stack waits for.
-fn first_needed(state: &State<'_>) -> Option<u32> {
+fn first_needed(state: &State<'_>) -> Option<u32>
+    ensures { (class : ℕ) (above : Vec ℕ OwnGlobal) (next : ℕ) → slice_get state.now.stack.items (length state.now.stack.items - 1) ≡ Some (waiting.Initialiser class above next) → result ≡ slice_get above.items next }
+{
     match state.stack.as_slice().last() {
         Some(Waiting::Initialiser { above, next, .. }) => above.as_slice().get(*next).copied(),
         _ => None,
     }
 }
 
-/// Goes on where the class that comes first is no hindrance.
-fn passes_on<'a>(
+/// Looks at the first of the classes that come before the one being initialised on top of the stack.
+fn looks_at<'a>(
     alloc: Global,
     tables: &Tables<'a>,
+    memo: &mut Memo,
     state: &mut State<'a>,
-    more: usize,
-) -> Result<(), AllocError> {
-    let top = state.stack.len().saturating_sub(1);
-    if let Some((class, left)) = left_at(state, top, more) {
-        goes_on(alloc, tables, state, class, left)?;
+    first: u32,
+) -> Result<Option<Event>, AllocError>
+    ensures ok { (steps : ℕ) (script : List Move) (setting : Setting) (class : ℕ) (above : Vec ℕ OwnGlobal) (next : ℕ) → length script < 2 ^ 64 → setting.face ≡ run_face tables.now.lookups → IsRun tables.now.lookups memo.old steps state.old → slice_get state.old.stack.items (length state.old.stack.items - 1) ≡ Some (waiting.Initialiser class above next) → slice_get above.items next ≡ Some first → IfOk result (λ e. IsNext tables.now.lookups steps script memo.new state.new e (initialises setting (bodies_in tables.now.lookups) (world_in tables.now.lookups state.old) (classes_in tables.now.lookups state.old) (class_text tables.now.lookups.program.now class) (map (class_text tables.now.lookups.program.now) (drop next above.items)) (below_in tables.now.lookups state.old) (script_in script state.old))) }
+    ensures kept { (steps : ℕ) (class : ℕ) (above : Vec ℕ OwnGlobal) (next : ℕ) → IsRun tables.now.lookups memo.old steps state.old → slice_get state.old.stack.items (length state.old.stack.items - 1) ≡ Some (waiting.Initialiser class above next) → slice_get above.items next ≡ Some first → IsKept tables.now.lookups memo.new }
+    ensures err { (steps : ℕ) (class : ℕ) (above : Vec ℕ OwnGlobal) (next : ℕ) → IsRun tables.now.lookups memo.old steps state.old → slice_get state.old.stack.items (length state.old.stack.items - 1) ≡ Some (waiting.Initialiser class above next) → slice_get above.items next ≡ Some first → OnErr result (IsUndoneWith tables.now.lookups steps memo.new state.old state.new) }
+{
+    match state.status(first) {
+        Status::New => {
+            starts(alloc, tables, memo, state, first)?;
+            Ok(None)
+        }
+        Status::Failed => throws(alloc, tables, memo, state, Thrown::New(known::NO_CLASS)),
+        Status::Running | Status::Done => {
+            let top = state.stack.len().saturating_sub(1);
+            goes_on(alloc, tables, state, top, 1)?;
+            Ok(None)
+        }
     }
-    Ok(())
 }
 
 /// A step of a class that is being initialised on top of the stack: the first of those that come before it is started,
@@ -195,50 +287,37 @@ pub fn initialises<'a>(
     tables: &Tables<'a>,
     memo: &mut Memo,
     state: &mut State<'a>,
-) -> Result<Option<Event>, AllocError> {
-    let first = match first_needed(state) {
-        Some(first) => first,
+) -> Result<Option<Event>, AllocError>
+    ensures ok { (steps : ℕ) (script : List Move) (setting : Setting) (class : ℕ) (above : Vec ℕ OwnGlobal) (next : ℕ) → length script < 2 ^ 64 → setting.face ≡ run_face tables.now.lookups → IsRun tables.now.lookups memo.old steps state.old → slice_get state.old.stack.items (length state.old.stack.items - 1) ≡ Some (waiting.Initialiser class above next) → IfOk result (λ e. IsNext tables.now.lookups steps script memo.new state.new e (initialises setting (bodies_in tables.now.lookups) (world_in tables.now.lookups state.old) (classes_in tables.now.lookups state.old) (class_text tables.now.lookups.program.now class) (map (class_text tables.now.lookups.program.now) (drop next above.items)) (below_in tables.now.lookups state.old) (script_in script state.old))) }
+    ensures kept { (steps : ℕ) (class : ℕ) (above : Vec ℕ OwnGlobal) (next : ℕ) → IsRun tables.now.lookups memo.old steps state.old → slice_get state.old.stack.items (length state.old.stack.items - 1) ≡ Some (waiting.Initialiser class above next) → IsKept tables.now.lookups memo.new }
+    ensures err { (steps : ℕ) (class : ℕ) (above : Vec ℕ OwnGlobal) (next : ℕ) → IsRun tables.now.lookups memo.old steps state.old → slice_get state.old.stack.items (length state.old.stack.items - 1) ≡ Some (waiting.Initialiser class above next) → OnErr result (IsUndoneWith tables.now.lookups steps memo.new state.old state.new) }
+{
+    match first_needed(state) {
+        Some(first) => looks_at(alloc, tables, memo, state, first),
         None => {
-            passes_on(alloc, tables, state, 0)?;
-            return Ok(None);
-        }
-    };
-    match state.status(first) {
-        Status::New => {
-            starts(alloc, tables, memo, state, first)?;
-            Ok(None)
-        }
-        Status::Failed => throws(alloc, tables, memo, state, Thrown::New(known::NO_CLASS)),
-        Status::Running | Status::Done => {
-            passes_on(alloc, tables, state, 1)?;
+            let top = state.stack.len().saturating_sub(1);
+            goes_on(alloc, tables, state, top, 0)?;
             Ok(None)
         }
     }
 }
 
-/// What waits below a class that has ended goes on, where it is a class.
+/// What waits below a class that has ended goes on.
 fn resumes<'a>(
     alloc: Global,
     tables: &Tables<'a>,
     state: &mut State<'a>,
-) -> Result<(), AllocError> {
-    let below = state.stack.len().saturating_sub(2);
-    match left_at(state, below, 0) {
-        Some((class, None)) => {
-            let frame = turn_of(alloc, tables, state, class)?;
-            state.stack.pop();
-            state.stack.pop();
-            runs(state, class, frame);
-        }
-        Some((class, left)) => {
-            state.stack.pop();
-            goes_on(alloc, tables, state, class, left)?;
-        }
+) -> Result<(), AllocError>
+    ensures ok { (steps : ℕ) (script : List Move) → AreRight tables.now.lookups → IsRunning tables.now.lookups steps state.old → state.old.ended ≡ false → OnOk result (IsLeft tables.now.lookups steps script state.new (resumes (run_face tables.now.lookups) (bodies_in tables.now.lookups) (world_in tables.now.lookups state.old) (classes_in tables.now.lookups state.old) (below_in tables.now.lookups state.old) (script_in script state.old))) }
+    ensures err { OnErr result (IsReserved state.old state.new) }
+{
+    match state.stack.len().checked_sub(2) {
+        Some(place) => goes_on(alloc, tables, state, place, 0),
         None => {
             state.stack.pop();
+            Ok(())
         }
     }
-    Ok(())
 }
 
 /// The end of the class on top of the stack: it is done.
@@ -247,12 +326,16 @@ pub fn ends<'a>(
     tables: &Tables<'a>,
     state: &mut State<'a>,
     class: u32,
-) -> Result<(), AllocError> {
+) -> Result<(), AllocError>
+    ensures ok { (steps : ℕ) (script : List Move) → AreRight tables.now.lookups → IsRunning tables.now.lookups steps state.old → state.old.ended ≡ false → class < length tables.now.lookups.program.now.classes → OnOk result (IsLeft tables.now.lookups steps script state.new (ends (run_face tables.now.lookups) (bodies_in tables.now.lookups) (world_in tables.now.lookups state.old) (classes_in tables.now.lookups state.old) (class_text tables.now.lookups.program.now class) (below_in tables.now.lookups state.old) (script_in script state.old))) }
+    ensures err { (steps : ℕ) → AreRight tables.now.lookups → IsRunning tables.now.lookups steps state.old → state.old.ended ≡ false → class < length tables.now.lookups.program.now.classes → OnErr result (IsUndone tables.now.lookups steps state.old state.new) }
+{
+    let before = state.status(class);
     state.set_status(class, Status::Done);
     match resumes(alloc, tables, state) {
         Ok(()) => Ok(()),
         Err(fault) => {
-            state.set_status(class, Status::Running);
+            state.set_status(class, before);
             Err(fault)
         }
     }

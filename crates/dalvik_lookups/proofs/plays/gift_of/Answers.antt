@@ -1,4 +1,4 @@
-use Rattle.std.proofs.Common.{◌≡◌, refl, sym, subst}
+use Rattle.std.proofs.Common.{sym, subst}
 use Rattle.std.specs.Prelude.{IfOk}
 use Rattle.dalvik_lookups.specs.Playing.{IsGift}
 use Rattle.dalvik_lookups.proofs.plays.gift_of.Goals as goal

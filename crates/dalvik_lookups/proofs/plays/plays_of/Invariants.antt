@@ -1,4 +1,4 @@
-use Rattle.std.proofs.Common.{ℕ, take}
+use Rattle.std.proofs.Common.{take}
 use Rattle.program_model.specs.declared.program.Program.{Program}
 use Rattle.dalvik_lookups.specs.Playing.{ArePlays, Knows}
 use Rattle.dalvik_lookups.specs.Tables.{AreReady, Grows}

@@ -7,12 +7,13 @@ use Rattle.std.proofs.lemmas.Option.{slice_get-map}
 use Rattle.program_model.specs.declared.body.Body.{Body}
 use Rattle.program_model.specs.declared.program.Class.{Class}
 use Rattle.program_model.specs.declared.program.Method.{Method}
+use Rattle.program_model.specs.declared.program.MethodAt.{MethodAt}
 use Rattle.program_model.specs.declared.program.Program.{Program}
 use Rattle.program_model.specs.Distinct.{all_differ, method_key, own_method_key}
 use Rattle.program_model.specs.MemberRules.{class_fits, fields_fit, method_fits, methods_fit, methods_in_order, source_fits, types_of_class_fit}
 use Rattle.program_model.specs.Neighbours.{neighbours}
 use Rattle.program_model.specs.ValueRules.{marks_fit}
-use Rattle.program_model.specs.Lookups.{class_place}
+use Rattle.program_model.specs.Lookups as look
 use Rattle.class_defs.specs.ClassGraph.{IsTwice}
 use Rattle.class_defs.specs.Members.{is_method, names_method}
 use Rattle.name_bridge.specs.Named.{class_at}
@@ -20,12 +21,11 @@ use Rattle.name_bridge.proofs.Above.{own_place}
 use Rattle.name_bridge.proofs.Classes.{MethodFits, class_parts, class_by_number, method_by_number}
 use Rattle.name_bridge.proofs.Lists.{PlaceFits, both, find_place, number_of, number_test, place_entry, place_first}
 use Rattle.name_bridge.proofs.Tables.{Sound, all_at, and_left, and_right, method_is, method_name, method_proto, same_number, sound}
-use Rattle.dalvik_defs.specs.Face.{bodies_of}
 use Rattle.dalvik_defs.specs.Find.{defined_method, method_in}
 use Rattle.dalvik_defs.specs.Naming.{body_of, form_of, method_at, named, named_class, named_method, signature_at, text_at, type_at}
 use Rattle.dalvik_defs.specs.Stack.{form_at}
 use Rattle.dalvik_defs.specs.Under.{class_named}
-use Rattle.dalvik_defs.specs.declared.forms.Form.{Form}
+use Rattle.dalvik_defs.specs.declared.names.MethodKey.{MethodKey}
 use Rattle.dalvik_defs.specs.declared.program.NamedBody.{NamedBody}
 use Rattle.dalvik_defs.specs.declared.program.NamedClass.{NamedClass}
 use Rattle.dalvik_defs.specs.declared.program.NamedMethod.{NamedMethod}
@@ -90,14 +90,37 @@ pub defined_named : (p : Program) → Sound p → ((class : ℕ) → IsTwice p c
     → defined_method (named p) (method_at p m.name) ≡ Some (named_method p m)
 defined_named p s once c j k m e f = named_there p s c k e once j m f ((class_parts p s c k e).methods j m f)
 
+-- the class in which a method stands is that of its name
+pub record IsMethodOf (p : Program) (at : MethodAt) (own : Method) : Type 0 where
+  pub class : Class
+  pub within : slice_get p.classes at.class ≡ Some class
+  pub is : slice_get class.methods at.place ≡ Some own
+  pub of_class : type_at p class.name ≡ (method_at p own.name).class
+
+pub method_class : (l : Lookups) → IsRight l → (at : MethodAt) (own : Method) → look.method_at l.program.now at ≡ Some own → IsMethodOf l.program.now at own
+method_class l r at own e = by (slice_get l.program.now.classes at.class) refl e
+  where
+    by : (o : Option Class) → slice_get l.program.now.classes at.class ≡ o → option_and_then (λ (c : Class). slice_get c.methods at.place) o ≡ Some own → IsMethodOf l.program.now at own
+    by None f g = absurd (cc)
+    by (Some k) f g =
+        let s = sound l.program.now r.well in
+        let fit = (class_parts l.program.now s at.class k f).methods at.place own g in
+        record {
+          class = k;
+          within = f;
+          is = g;
+          of_class = sym (ap (λ (x : MethodKey). x.class) (method_is l.program.now s own.name fit.entry fit.is) ∙ ap (type_at l.program.now) fit.owner);
+        }
+
+-- the body of a method at a place
+pub method_body : (l : Lookups) → IsRight l → (at : MethodAt) (own : Method) → look.method_at l.program.now at ≡ Some own → bodies_in l (method_at l.program.now own.name) ≡ option_map (body_of l.program.now) own.body
+method_body l r at own e =
+    let m = method_class l r at own e in
+    ap (option_and_then (λ (x : NamedMethod). x.body)) (defined_named l.program.now (sound l.program.now r.well) r.resolved.of.once at.class at.place m.class own m.within m.is)
+
 -- the body of a method that runs
-pub frame_body : (l : Lookups) → IsRight l → (size : ℕ) (f : Frame) → IsSoundFrame l size f → bodies_of (named l.program.now) (method_at l.program.now f.method) ≡ Some (body_of l.program.now f.body.now)
-frame_body l r size f h =
-    let p = l.program.now in
-    let there : slice_get h.class.methods f.at.place ≡ Some h.own = sym (ap (option_and_then (λ (c : Class). slice_get c.methods f.at.place)) h.within) ∙ h.found in
-    ap (λ (n : ℕ). bodies_of (named p) (method_at p n)) (sym h.name)
-    ∙ ap (option_and_then (λ (m : NamedMethod). m.body)) (defined_named p (sound p r.well) r.resolved.of.once f.at.class f.at.place h.class h.own h.within there)
-    ∙ ap (option_map (body_of p)) h.body
+pub frame_body : (l : Lookups) → IsRight l → (size : ℕ) (f : Frame) → IsSoundFrame l size f → bodies_in l (method_at l.program.now f.method) ≡ Some (body_of l.program.now f.body.now)
+frame_body l r size f h = ap (λ (n : ℕ). bodies_in l (method_at l.program.now n)) (sym h.name) ∙ method_body l r f.at h.own h.found ∙ ap (option_map (body_of l.program.now)) h.body
 
 -- the form at the position of a method that runs
 pub frame_form : (l : Lookups) → IsRight l → (size : ℕ) (f : Frame) → IsSoundFrame l size f → form_at (bodies_in l) (frame_of (names_in l) f) ≡ option_map (form_of l.program.now) (slice_get f.body.now.insns f.position)

@@ -20,7 +20,7 @@ use Rattle.dalvik_state.specs.declared.shows.Draft.{Draft}
 use Rattle.dalvik_state.specs.declared.shows.Draft.TheVariants as draft
 use Rattle.dalvik_state.specs.declared.world.Exposed.{Exposed}
 use Rattle.dalvik_state.specs.declared.world.World.{World as OwnWorld}
-use Rattle.dalvik_state.specs.Drafts.{AreAllDrawn, AreAllShown, again, first_exposed, first_place, first_spots, give_all, gift_spots, given_things, given_world, has_printed, kind_text, DraftsOf, IsDraft, IsDrawn, IsLater, IsObject, IsShown, Stands}
+use Rattle.dalvik_state.specs.Drafts.{AreAllDrawn, AreAllShown, AreDrafts, AreShown, again, first_exposed, first_place, first_spots, give_all, gift_spots, given_things, given_world, has_printed, kind_text, DraftsOf, IsDraft, IsDrawn, IsLater, IsObject, IsShown, Stands}
 use Rattle.dalvik_state.specs.States.{AreKinds, HasRoom, IsSound}
 use Rattle.dalvik_state.specs.Views.{IsFine, exposed_of, names_in, value_of, world_of}
 use Rattle.dalvik_state.specs.Frames.{cell}
@@ -63,21 +63,6 @@ object_typed l w g x kind t d e = record {
     typed = e ∙ sym (kind_named l w g (datum.Object x) d.types d.kinds);
   };
 }
-
-pub word_drafted : (w : World) (kind : Text) (n : ℕ) (s : Shown) → s ≡ show_word kind n → IsDraft w kind (value.Word n) (draft.Done s)
-word_drafted w kind n s e = record { drafts = λ u. ap (λ (x : Shown). (u, x)) (sym e) }
-
-pub low_drafted : (w : World) (kind : Text) (n : ℕ) → IsDraft w kind (value.Low n) (draft.Done (shown.Wide n))
-low_drafted w kind n = record { drafts = λ u. refl }
-
-pub high_drafted : (w : World) (kind : Text) (n : ℕ) → IsDraft w kind (value.High n) (draft.Done (shown.Wide n))
-high_drafted w kind n = record { drafts = λ u. refl }
-
-pub literal_drafted : (w : World) (kind t x : Text) → t ≡ x → IsDraft w kind (value.Literal x) (draft.Done (shown.Literal t))
-literal_drafted w kind t x e = record { drafts = λ u. ap (λ (y : Text). (u, shown.Literal y)) (sym e) }
-
-pub class_drafted : (w : World) (kind t x : Text) → t ≡ x → IsDraft w kind (value.Class x) (draft.Done (shown.Class t))
-class_drafted w kind t x e = record { drafts = λ u. ap (λ (y : Text). (u, shown.Class y)) (sym e) }
 
 -- ---- worlds in which objects are shown
 
@@ -146,9 +131,6 @@ object_low l v x t w o = let low = o.there in let long = things_long (names_in l
 -- where the text is missing it has been printed
 pub object_known : (l : Lookups) (v : Value) (x : ℕ) (w : OwnWorld) → IsSound l w → IsObject (world_of (names_in l) w) v x None → printed_at w.exposed.items (place_at (spots_of w) x) ≡ true
 object_known l v x w s o = printed_named l w s x ∙ o.typed
-
-pub done_shown : (l : Lookups) (declared : Text) (v : Value) (w : OwnWorld) (s : Shown) → IsSound l w → IsDraft (world_of (names_in l) w) declared v (draft.Done s) → IsShown l declared v w w s
-done_shown l declared v w s sound d = record { shown = d.drafts (world_of (names_in l) w); sound = sound; stands = stands_same w }
 
 -- ---- values are shown one behind another
 
@@ -276,10 +258,13 @@ drawn_one l w g values i d a e got = record {
   fine = subst (λ (ss : List Spot). IsFine (names_in l) (length ss) d) (none_spots w g e) (subst (IsFine (names_in l) (length (spots_of w))) (cell_got values i d got) (a.fine.at i));
 }
 
+drop_step : {X : Type 0} (xs : List X) (i : ℕ) (x : X) → slice_get xs i ≡ Some x → drop i xs ≡ x ∷ drop (suc i) xs
+drop_step [] i x e = absurd (cc)
+drop_step (y ∷ ys) zero x e = (let same : y ≡ x = cc in ap (λ z. z ∷ ys) same)
+drop_step (y ∷ ys) (suc i) x e = drop_step ys i x e
+
 drop_got : {X : Type 0} (xs : List X) (i : ℕ) (x : X) → slice_get xs i ≡ Some x → drop i xs ≡ x ∷ drop (i + 1) xs
-drop_got [] i x e = absurd (cc)
-drop_got (y ∷ ys) zero x e = (let same : y ≡ x = cc in ap (λ z. z ∷ ys) same)
-drop_got (y ∷ ys) (suc i) x e = drop_got ys i x e
+drop_got xs i x e = let next : suc i ≡ i + 1 = omega arith in drop_step xs i x e ∙ ap (λ (j : ℕ). x ∷ drop j xs) next
 
 drop_past : {X : Type 0} (xs : List X) (i : ℕ) → length xs ≤ i → drop i xs ≡ []
 drop_past [] zero h = refl
@@ -287,11 +272,14 @@ drop_past [] (suc i) h = refl
 drop_past (x ∷ xs) zero h = absurd (omega arith)
 drop_past (x ∷ xs) (suc i) h = drop_past xs i (omega arith)
 
+drop_next : {X Y : Type 0} (f : X → Y) (xs : List X) (i : ℕ) → drop 1 (map f (drop i xs)) ≡ map f (drop (suc i) xs)
+drop_next f [] zero = refl
+drop_next f [] (suc i) = refl
+drop_next f (x ∷ xs) zero = refl
+drop_next f (x ∷ xs) (suc i) = drop_next f xs i
+
 drop_one : {X Y : Type 0} (f : X → Y) (xs : List X) (i : ℕ) → drop 1 (map f (drop i xs)) ≡ map f (drop (i + 1) xs)
-drop_one f [] zero = refl
-drop_one f [] (suc i) = refl
-drop_one f (x ∷ xs) zero = refl
-drop_one f (x ∷ xs) (suc i) = drop_one f xs i
+drop_one f xs i = let next : suc i ≡ i + 1 = omega arith in drop_next f xs i ∙ ap (λ (j : ℕ). map f (drop j xs)) next
 
 -- Some values have been drafted: where the others are by some drafts, all are by those behind these.
 pub record AreDrafting (l : Lookups) (w : OwnWorld) (kinds : List Kind) (values : List Datum) (index at : ℕ) (drafts : List Draft) : Type 0 where
@@ -353,3 +341,9 @@ each_ends old new before now done all e size h l kinds values s room low none d 
     let zero_long : vec_len before ≡ 0 = size ∙ ap length none in
     let m = h.shows l kinds values [] s (subst (DraftsOf (world_of (names_in l) old) kinds values) same d) (subst (λ (k : ℕ). HasRoom old k) count room) (subst (λ (k : ℕ). k ≤ vec_capacity before) count low) none zero_long in
     record { shown = showing_ends l kinds values old new now.items m; sound = m.sound; stands = m.stands }
+
+-- ---- values that may be none
+
+pub option_shown : (l : Lookups) (kind : Text) (v : Option Value) (old new : OwnWorld) (d : Draft) (s : Shown) → AreDrafts (world_of (names_in l) old) kind v (Some d) → ((u : Value) → IsDraft (world_of (names_in l) old) kind u d → IsShown l kind u old new s) → AreShown l kind v old new (Some s)
+option_shown l kind None old new d s a h = absurd a.drafts
+option_shown l kind (Some v) old new d s a h = let r = h v a.drafts in record { shown = ap (λ (z : World × Shown). (z.0, Some z.1)) r.shown; sound = r.sound; stands = r.stands }

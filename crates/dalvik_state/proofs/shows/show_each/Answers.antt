@@ -1,8 +1,4 @@
-use Rattle.std.proofs.Common.{◌≡◌, List, [], ◌++◌, length, arith, ap, sym, subst, append-nil}
-use Rattle.std.specs.Prelude.{vec_len}
-use Rattle.dalvik_state.specs.Drafts.{DraftsOf}
-use Rattle.dalvik_state.specs.States.{HasRoom}
-use Rattle.dalvik_state.specs.Views.{names_in, world_of}
+use Rattle.std.proofs.Common.{rules, arith}
 use Rattle.dalvik_state.proofs.Showing.{each_begins, each_goes_on, each_ends}
 use Rattle.dalvik_state.proofs.shows.show_each.Goals as goal
 
@@ -15,4 +11,4 @@ loop-draft-preserved c =
     c.show-one.ensures.shown c.show-one.ensures.room c.push_one.ensures.items c.push_one.ensures.len c.push_one.ensures.capacity
 
 pub returns : goal.returns
-returns c = each_ends c.args.world.now c.loop-draft.world c.args.shown c.loop-draft.shown c.loop-draft.yielded c.args.drafts.items (search rules) (omega arith) c.loop-draft.invariant
+returns c = each_ends c.args.world.now c.loop-draft.world c.args.shown c.loop-draft.shown c.loop-draft.yielded c.args.drafts.items (search rules) (omega (arith, c.args.shown.ok)) c.loop-draft.invariant

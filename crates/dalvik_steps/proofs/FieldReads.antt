@@ -11,7 +11,7 @@ use Rattle.program_model.specs.declared.program.Field.{Field}
 use Rattle.program_model.specs.declared.program.Program.{Program}
 use Rattle.dalvik_defs.specs.Effect.{next, write_item}
 use Rattle.dalvik_defs.specs.Face.{Face, Place}
-use Rattle.dalvik_defs.specs.Fields.{first_of, instance_value, key_at, static_value, written_or}
+use Rattle.dalvik_defs.specs.Fields.{first_of, instance_value, key_at, static_value, with_instance, written_or}
 use Rattle.dalvik_defs.specs.Names.{Text, is_wide}
 use Rattle.dalvik_defs.specs.Naming.{field_at, type_at}
 use Rattle.dalvik_defs.specs.Outcome.{Need, reads, reads_out, reads_static, reads_instance, reads_value, writes, writes_out, writes_static, writes_instance, Stays}
@@ -192,3 +192,22 @@ reads_unfound face need item to k (Some on) w f e = ap (reads_instance item to k
 pub writes_unfound : (face : Face) (need : Text → Need) (k : FieldKey) (on : Option Value) (v : Value) (w : NamedWorld) (f : NamedFrame) → face.field k ≡ None → writes face need k on v w f ≡ writes_out k on v w f
 writes_unfound face need k None v w f e = ap (writes_static need k v w f) e
 writes_unfound face need k (Some on) v w f e = ap (writes_instance k on v w f) e
+
+-- ---- another thing has no fields that are written
+
+no_write : (n : Names) (w : World) (k : FieldKey) (u : NamedWorld) (on v : Value) (x : ℕ) (o : Option Spot) → slice_get (spots_of w) x ≡ o → plain_number x (option_map (λ (s : Spot). s.shape) o) ≡ None
+    → with_instance u k on v (option_map (λ (s : Spot). thing_of n w.fields.entries (0 + x) s.shape) o) ≡ None
+no_write n w k u on v x None e h = refl
+no_write n w k u on v x (Some s) e h = by s.shape h
+  where
+    by : (y : Shape) → plain_number x (Some y) ≡ None → with_instance u k on v (Some (thing_of n w.fields.entries (0 + x) y)) ≡ None
+    by (Plain kind) g = absurd (cc)
+    by (Array kind items) g = refl
+
+pub with_none : (n : Names) (w : World) (k : FieldKey) (u : NamedWorld) (at v : Value) (on : Datum) → object_in (spots_of w) on ≡ None → with_instance u k at v (thing_at (world_of n w) (value_of n on)) ≡ None
+with_none n w k u at v (datum.Object x) h = ap (with_instance u k at v) (thing_named n w.fields.entries 0 (spots_of w) x) ∙ no_write n w k u at v x (slice_get (spots_of w) x) refl h
+with_none n w k u at v (datum.Word x) h = refl
+with_none n w k u at v (datum.Low x) h = refl
+with_none n w k u at v (datum.High x) h = refl
+with_none n w k u at v (datum.Literal x) h = refl
+with_none n w k u at v (datum.Class x) h = refl

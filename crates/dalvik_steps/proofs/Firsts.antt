@@ -1,6 +1,6 @@
 -- First values of static fields, by numbers and by names.
-use Rattle.std.proofs.Common.{◌≡◌, ℕ, zero, suc, ◌<◌, Bool, true, false, true≢false, List, [], ◌∷◌, length, map, ap, refl, sym, subst, ◌∙◌}
-use Rattle.std.specs.Prelude.{◌&&◌, Option, Some, None, slice_get}
+use Rattle.std.proofs.Common.{◌≡◌, ℕ, ℤ, zero, suc, ◌<◌, Bool, true, false, true≢false, List, [], ◌∷◌, length, map, ap, refl, sym, subst, ◌∙◌}
+use Rattle.std.specs.Prelude.{◌&&◌, cond, Option, Some, None, slice_get}
 use Rattle.std.specs.Int.{w32, w64, cast_unsigned}
 use Rattle.std.specs.List.{list_all}
 use Rattle.class_defs.proofs.Positions.{entry_at}
@@ -16,7 +16,9 @@ use Rattle.program_model.specs.declared.program.Field.{Field}
 use Rattle.program_model.specs.declared.program.Program.{Program}
 use Rattle.program_model.specs.declared.value.EncValue.{EncValue, EncValue-F, fold-roll-EncValue, out-EncValue, roll-EncValue}
 use Rattle.program_model.specs.declared.value.EncValue.TheOpen as layer
+use Rattle.program_model.specs.declared.value.EncValue.TheVariants as own
 use Rattle.program_model.specs.declared.value.EncValue.TheFolds as folds
+use Rattle.program_model.specs.declared.value.EncValue.TheFolds.{ind-EncValue}
 use Rattle.program_model.specs.declared.value.Element.{Element, fold-Element}
 use Rattle.program_model.specs.declared.value.Note.{Note}
 use Rattle.name_bridge.proofs.Tables.{type_string}
@@ -146,3 +148,77 @@ pub first_there : (p : Program) → is_well_formed p ≡ true → (class index :
 first_there p w class index c f e g =
     let s : Sound p = sound p w in
     field_first p c.name f (all_at (field_fits p c.name) c.fields index f (fields_of_class p c (all_at (class_fits p) p.classes class c s.classes_fit e)) g)
+
+-- ---- each kind of first value
+
+pub first_byte : (p : Program) (v : EncValue) (z : ℤ) (n : ℕ) → v ≡ own.Byte z → n ≡ cast_unsigned w32 z → Word n ≡ first_value (value_of p v)
+first_byte p v z n e h = ap Word h ∙ sym (ap (λ (x : EncValue). first_value (value_of p x)) (e ∙ sym (own.rolls-Byte z)) ∙ first_is p (layer.Byte z))
+
+pub first_short : (p : Program) (v : EncValue) (z : ℤ) (n : ℕ) → v ≡ own.Short z → n ≡ cast_unsigned w32 z → Word n ≡ first_value (value_of p v)
+first_short p v z n e h = ap Word h ∙ sym (ap (λ (x : EncValue). first_value (value_of p x)) (e ∙ sym (own.rolls-Short z)) ∙ first_is p (layer.Short z))
+
+pub first_int : (p : Program) (v : EncValue) (z : ℤ) (n : ℕ) → v ≡ own.Int z → n ≡ cast_unsigned w32 z → Word n ≡ first_value (value_of p v)
+first_int p v z n e h = ap Word h ∙ sym (ap (λ (x : EncValue). first_value (value_of p x)) (e ∙ sym (own.rolls-Int z)) ∙ first_is p (layer.Int z))
+
+pub first_long : (p : Program) (v : EncValue) (z : ℤ) (n : ℕ) → v ≡ own.Long z → n ≡ cast_unsigned w64 z → Low n ≡ first_value (value_of p v)
+first_long p v z n e h = ap Low h ∙ sym (ap (λ (x : EncValue). first_value (value_of p x)) (e ∙ sym (own.rolls-Long z)) ∙ first_is p (layer.Long z))
+
+pub first_char : (p : Program) (v : EncValue) (m n : ℕ) → v ≡ own.Char m → n ≡ m → Word n ≡ first_value (value_of p v)
+first_char p v m n e h = ap Word h ∙ sym (ap (λ (x : EncValue). first_value (value_of p x)) (e ∙ sym (own.rolls-Char m)) ∙ first_is p (layer.Char m))
+
+pub first_float : (p : Program) (v : EncValue) (m n : ℕ) → v ≡ own.Float m → n ≡ m → Word n ≡ first_value (value_of p v)
+first_float p v m n e h = ap Word h ∙ sym (ap (λ (x : EncValue). first_value (value_of p x)) (e ∙ sym (own.rolls-Float m)) ∙ first_is p (layer.Float m))
+
+pub first_double : (p : Program) (v : EncValue) (m n : ℕ) → v ≡ own.Double m → n ≡ m → Low n ≡ first_value (value_of p v)
+first_double p v m n e h = ap Low h ∙ sym (ap (λ (x : EncValue). first_value (value_of p x)) (e ∙ sym (own.rolls-Double m)) ∙ first_is p (layer.Double m))
+
+pub first_str : (p : Program) (v : EncValue) (m : ℕ) (x : Value) → v ≡ own.Str m → x ≡ Literal (text_at p m) → x ≡ first_value (value_of p v)
+first_str p v m x e h = h ∙ sym (ap (λ (y : EncValue). first_value (value_of p y)) (e ∙ sym (own.rolls-Str m)) ∙ first_is p (layer.Str m))
+
+pub first_class : (p : Program) (v : EncValue) (m : ℕ) (x : Value) → v ≡ own.Class m → x ≡ named.Class (type_at p m) → x ≡ first_value (value_of p v)
+first_class p v m x e h = h ∙ sym (ap (λ (y : EncValue). first_value (value_of p y)) (e ∙ sym (own.rolls-Class m)) ∙ first_is p (layer.Class m))
+
+truth_is : (n : state.Names) (b : Bool) → state.value_of n (cond b (datum.Word 1) (datum.Word 0)) ≡ truth b
+truth_is n true = refl
+truth_is n false = refl
+
+pub first_bool : (n : state.Names) (p : Program) (v : EncValue) (b : Bool) (d : Datum) → v ≡ own.Bool b → d ≡ cond b (datum.Word 1) (datum.Word 0) → state.value_of n d ≡ first_value (value_of p v)
+first_bool n p v b d e h = ap (state.value_of n) h ∙ truth_is n b ∙ sym (ap (λ (y : EncValue). first_value (value_of p y)) (e ∙ sym (own.rolls-Bool b)) ∙ first_is p (layer.Bool b))
+
+-- what is there of a value
+pub there_str : (p : Program) (v : EncValue) (m : ℕ) → v ≡ own.Str m → IsFirst p v → m < length p.strings
+unfolding out-EncValue denote.Hole.Carrier.out roll-EncValue denote.Hole.Carrier.roll
+there_str p v m e h = (subst (IsFirst p) (e ∙ sym (own.rolls-Str m)) h).there
+
+pub there_class : (p : Program) (v : EncValue) (m : ℕ) → v ≡ own.Class m → IsFirst p v → m < length p.types
+unfolding out-EncValue denote.Hole.Carrier.out roll-EncValue denote.Hole.Carrier.roll
+there_class p v m e h = (subst (IsFirst p) (e ∙ sym (own.rolls-Class m)) h).there
+
+-- a value has a layer
+abbrev Layered : EncValue → Type 0
+Layered v = (x : EncValue-F EncValue Element Note) × (v ≡ roll-EncValue x)
+
+layered : (v : EncValue) → Layered v
+layered = ind-EncValue Layered (λ e. Unit {0}) (λ n. Unit {0}) (λ x y is. (x, refl)) (λ x y is. tt) (λ x y is. tt)
+
+module _ (q : Program) (v : EncValue) (nByte : (x : ℤ) → v ≡ own.Byte x → ⊥) (nShort : (x : ℤ) → v ≡ own.Short x → ⊥) (nChar : (x : ℕ) → v ≡ own.Char x → ⊥) (nInt : (x : ℤ) → v ≡ own.Int x → ⊥) (nLong : (x : ℤ) → v ≡ own.Long x → ⊥) (nFloat : (x : ℕ) → v ≡ own.Float x → ⊥) (nDouble : (x : ℕ) → v ≡ own.Double x → ⊥) (nStr : (x : ℕ) → v ≡ own.Str x → ⊥) (nClass : (x : ℕ) → v ≡ own.Class x → ⊥) (nBool : (x : Bool) → v ≡ own.Bool x → ⊥) where
+  other_layer : (x : EncValue-F EncValue Element Note) → v ≡ roll-EncValue x → first_at q x ≡ Word 0
+  other_layer (layer.Byte x) e = absurd (nByte x (e ∙ own.rolls-Byte x))
+  other_layer (layer.Short x) e = absurd (nShort x (e ∙ own.rolls-Short x))
+  other_layer (layer.Char x) e = absurd (nChar x (e ∙ own.rolls-Char x))
+  other_layer (layer.Int x) e = absurd (nInt x (e ∙ own.rolls-Int x))
+  other_layer (layer.Long x) e = absurd (nLong x (e ∙ own.rolls-Long x))
+  other_layer (layer.Float x) e = absurd (nFloat x (e ∙ own.rolls-Float x))
+  other_layer (layer.Double x) e = absurd (nDouble x (e ∙ own.rolls-Double x))
+  other_layer (layer.Str x) e = absurd (nStr x (e ∙ own.rolls-Str x))
+  other_layer (layer.Class x) e = absurd (nClass x (e ∙ own.rolls-Class x))
+  other_layer (layer.Field x) e = refl
+  other_layer (layer.Method x) e = refl
+  other_layer (layer.Enum x) e = refl
+  other_layer (layer.Array x) e = refl
+  other_layer (layer.Annotation x) e = refl
+  other_layer layer.Null e = refl
+  other_layer (layer.Bool x) e = absurd (nBool x (e ∙ own.rolls-Bool x))
+
+  pub first_other : Word 0 ≡ first_value (value_of q v)
+  first_other = (let l = layered v in sym (ap (λ (y : EncValue). first_value (value_of q y)) l.1 ∙ first_is q l.0 ∙ other_layer l.0 l.1))

@@ -1,7 +1,11 @@
 pub mod Backing
+pub mod Depths
+pub mod Drawn
 pub mod Falling
+pub mod FieldNames
 pub mod FieldPlaces
 pub mod FieldReads
+pub mod FirstReads
 pub mod Firsts
 pub mod Flying
 pub mod Handing
@@ -10,12 +14,14 @@ pub mod Landed
 pub mod Leaving
 pub mod Locked
 pub mod Made
+pub mod Nexts
 pub mod Outcomes
 pub mod Reserved
 pub mod Resolving
 pub mod Searching
 pub mod Slots
 pub mod Stacked
+pub mod Telling
 pub mod Turning
 pub mod Undone
 pub mod Written

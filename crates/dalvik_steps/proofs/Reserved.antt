@@ -4,17 +4,21 @@ use Rattle.std.specs.Prelude.{◌<◌, slice_get, Option, Some}
 use Rattle.dalvik_lookups.specs.declared.lookups.Lookups.{Lookups}
 use Rattle.dalvik_lookups.specs.declared.memo.Memo.{Memo}
 use Rattle.dalvik_lookups.specs.Walks.{IsKept}
-use Rattle.dalvik_defs.specs.State.{On, Ended, State as NamedState}
+use Rattle.program_model.specs.declared.pass.Outside.{Outside}
+use Rattle.dalvik_defs.specs.Happens.{happens}
+use Rattle.dalvik_defs.specs.Outcome.{Outcome}
+use Rattle.dalvik_defs.specs.State.{On, Ended, State as NamedState, World as NamedWorld}
+use Rattle.dalvik_defs.specs.declared.tables.Floats.{Floats}
 use Rattle.dalvik_defs.specs.declared.script.Move.{Move}
 use Rattle.dalvik_state.specs.declared.datum.Datum.{Datum}
 use Rattle.dalvik_state.specs.declared.frame.Frame.{Frame}
 use Rattle.dalvik_state.specs.declared.state.State.{State}
 use Rattle.dalvik_state.specs.declared.world.Exposed.{Exposed}
 use Rattle.dalvik_state.specs.declared.world.World.{World}
-use Rattle.dalvik_state.specs.Runs.{IsRun, IsUndone, IsUndoneWith}
-use Rattle.dalvik_state.specs.States.{classes_of, stack_of, state_of, top_frame, AreKinds, ArePlaced, IsRunning, IsSound}
-use Rattle.dalvik_state.specs.Views.{exposed_of, lock_in, names_in, static_in, things_from, world_of, AreFineLocks, AreFineSpots, IsFine, Names}
-use Rattle.dalvik_state.specs.Worlds.{spots_of, IsHeap, IsShort, Spot}
+use Rattle.dalvik_state.specs.Runs.{bodies_in, comes_of, setting_in, world_in, IsRun, IsUndone, IsUndoneWith}
+use Rattle.dalvik_state.specs.States.{below_top, classes_of, stack_of, state_of, top_frame, AreKinds, ArePlaced, IsRunning, IsSound}
+use Rattle.dalvik_state.specs.Views.{exposed_of, frame_of, lock_in, names_in, static_in, things_from, world_of, AreFineLocks, AreFineSpots, IsFine, Names}
+use Rattle.dalvik_state.specs.Worlds.{spot_of, spots_of, IsHeap, IsShort, Spot}
 use Rattle.dalvik_state.proofs.Running.{AreHeld, ArePaced, AreSoundWaiting, running_held, running_of, running_paced, running_stack}
 use Rattle.dalvik_steps.specs.Reaching.{IsReserved, IsStep, IsUnwritten, SameItems}
 
@@ -97,3 +101,29 @@ undone_run l m steps old new h r = record { undone = undone l steps old new h r.
 -- a run with a frame on top
 pub step_of : (l : Lookups) (m : Memo) (steps : ℕ) (s : State) (f : Frame) → IsRun l m steps s → top_frame s.stack.items ≡ Some f → IsStep l steps s f
 step_of l m steps s f r top = record { right = r.right; state = r.state; early = r.early; on = r.on; top = top }
+
+-- ---- what comes of an outcome after room was taken
+
+pub reserved_step : (l : Lookups) (steps : ℕ) (old new : State) (f : Frame) → IsReserved old new → IsStep l steps old f → IsStep l steps new f
+reserved_step l steps old new f h s = record { right = s.right; state = reserved_running l steps old new h s.state; early = s.early; on = h.ended ∙ s.on; top = ap top_frame h.stack ∙ s.top }
+
+pub reserved_comes : (l : Lookups) (o : Outside) (floats : Floats) (script : List Move) (old new : State) (f : Frame) → IsReserved old new → (g : NamedWorld → Outcome) → comes_of l o floats script new f (g (world_in l new)) ≡ comes_of l o floats script old f (g (world_in l old))
+reserved_comes l o floats script old new f h g =
+    let n = names_in l in
+    let w = items_named n old.world new.world h.world in
+    λ i. happens (setting_in l o floats) (bodies_in l) (g (w i)) (w i) (classes_of l.program.now (h.statuses i).items) (frame_of n f) (stack_of n (below_top (h.stack i))) (drop (h.next i) script)
+
+pub reserved_heap : (s : State) (w : World) → IsHeap s.world w (spots_of s.world) → IsReserved s (record s { world = w })
+reserved_heap s w h = reserved_world s w (items_heap s.world w h)
+
+pub items_unwritten : (old new : World) → IsUnwritten old new → SameItems old new
+items_unwritten old new h = record {
+  heap = ap (λ hs. map spot_of hs.items) h.heap;
+  fields = h.fields;
+  statics = ap (λ v. v.items) h.statics;
+  locks = ap (λ m. m.entries) h.locks;
+  exposed = ap (λ v. v.items) h.exposed;
+}
+
+pub reserved_unwritten : (s : State) (w : World) → IsUnwritten s.world w → IsReserved s (record s { world = w })
+reserved_unwritten s w h = reserved_world s w (items_unwritten s.world w h)

@@ -34,7 +34,7 @@ use Rattle.dalvik_state.specs.Drafts.{gift_spots, given_things, given_world, giv
 use Rattle.dalvik_state.specs.States.{class_text, kind_within, AreKinds, IsFineKind, IsSound}
 use Rattle.dalvik_state.specs.Views.{names_in, thing_of, value_of, world_of, Names}
 use Rattle.dalvik_state.specs.Worlds.{kind_in, kind_of_shape, new_spot, spots_of, Plain, Array, Shape, Spot}
-use Rattle.dalvik_state.proofs.Deep.{never_empty}
+use Rattle.dalvik_steps.proofs.Depths.{never_empty}
 use Rattle.dalvik_state.proofs.Things.{thing_named}
 
 -- ---- no objects of a move

@@ -1,5 +1,5 @@
 -- Calls, by numbers and by names.
-use Rattle.std.specs.Alloc.{Global}
+use Rattle.std.specs.declared.alloc.Global.{Global}
 use Rattle.std.specs.Prelude.{ℕ, Vec, ◌≡◌, ◌<◌, List, [], ◌∷◌, Option, Some, None, Bool, true, false, is_some, length, map}
 use Rattle.insn_set.specs.declared.ops.InvokeKind.{InvokeKind}
 use Rattle.insn_set.specs.declared.ops.InvokeKind.TheVariants as call

@@ -1,6 +1,7 @@
 //! Fields (Dalvik bytecode, "iget", "iput", "sget", "sput"; Dalvik executable format, "encoded_value").
 
 ghost use Rattle.std.specs.Prelude.{◌≡◌, ◌<◌, ◌^◌, ℕ, List, Option, Some, None, length, slice_get, slice_set, IfOk, OnErr, OnOk};
+ghost use Rattle.std.specs.Int.{w32, cast_unsigned};
 ghost use Rattle.std.specs.Map.{lookup};
 ghost use Rattle.std.specs.Option.{option_and_then, option_copied, option_map};
 ghost use Rattle.program_model.specs.declared.pass.Outside.{Outside};
@@ -48,6 +49,22 @@ fn text_value(tables: &Tables<'_>, string: u32) -> Datum
     Datum::Literal(tables.lookups.string(string))
 }
 
+/// A byte as a word.
+fn byte_word(number: &i8) -> u32
+    ensures { result ≡ cast_unsigned w32 number.now }
+{
+    let value = *number;
+    i32::from(value).cast_unsigned()
+}
+
+/// A short as a word.
+fn short_word(number: &i16) -> u32
+    ensures { result ≡ cast_unsigned w32 number.now }
+{
+    let value = *number;
+    i32::from(value).cast_unsigned()
+}
+
 /// A first value; those that fit no field are 0.
 #[tactic(auto, using(crate::proofs::Firsts::class_named, crate::proofs::Firsts::class_fine))]
 fn first_value(tables: &Tables<'_>, value: &EncValue) -> Datum
@@ -55,8 +72,8 @@ fn first_value(tables: &Tables<'_>, value: &EncValue) -> Datum
     ensures fine { (size : ℕ) → IsRight tables.now.lookups → IsFirst tables.now.lookups.program.now value.now → IsFine (names_in tables.now.lookups) size result }
 {
     match value {
-        EncValue::Byte(number) => Datum::Word(i32::from(*number).cast_unsigned()),
-        EncValue::Short(number) => Datum::Word(i32::from(*number).cast_unsigned()),
+        EncValue::Byte(number) => Datum::Word(byte_word(number)),
+        EncValue::Short(number) => Datum::Word(short_word(number)),
         EncValue::Char(number) => Datum::Word(u32::from(*number)),
         EncValue::Int(number) => Datum::Word(number.cast_unsigned()),
         EncValue::Long(number) => Datum::Low(number.cast_unsigned()),
@@ -390,6 +407,28 @@ fn reads_instance(
     reads_value(state, reading, value);
 }
 
+/// Reads a field that the program defines.
+fn reads_found<'a>(
+    alloc: Global,
+    tables: &Tables<'a>,
+    memo: &mut Memo,
+    state: &mut State<'a>,
+    reading: Reading,
+    at: (u32, u32),
+) -> Result<Option<Event>, AllocError>
+    ensures ok { (o : Outside) (floats : Floats) (script : List Move) (steps : ℕ) (f : Frame) (place : Place) → length script < 2 ^ 64 → IsRun tables.now.lookups memo.old steps state.old → top_frame state.old.stack.items ≡ Some f → IsReading tables.now.lookups state.old reading → IsFieldOf tables.now.lookups (field_at tables.now.lookups.program.now reading.field) place at.0 at.1 → (run_face tables.now.lookups).field (field_at tables.now.lookups.program.now reading.field) ≡ Some place
+        → IfOk result (λ e. IsNext tables.now.lookups steps script memo.new state.new e (comes_of tables.now.lookups o floats script state.old f (reads (run_face tables.now.lookups) (need_in tables.now.lookups state.old) reading.item reading.to (field_at tables.now.lookups.program.now reading.field) (option_map (value_of (names_in tables.now.lookups)) reading.on) (world_in tables.now.lookups state.old) (frame_of (names_in tables.now.lookups) f)))) }
+    ensures err { (steps : ℕ) (f : Frame) (place : Place) → IsRun tables.now.lookups memo.old steps state.old → top_frame state.old.stack.items ≡ Some f → IsFieldOf tables.now.lookups (field_at tables.now.lookups.program.now reading.field) place at.0 at.1 → OnErr result (IsUndoneWith tables.now.lookups steps memo.new state.old state.new) }
+{
+    match reading.on {
+        None => reads_static(alloc, tables, memo, state, reading, at),
+        Some(on) => {
+            reads_instance(tables, state, reading, on, at);
+            Ok(None)
+        }
+    }
+}
+
 /// Reads a field for the frame on top of the stack.
 pub fn reads<'a>(
     alloc: Global,
@@ -402,13 +441,9 @@ pub fn reads<'a>(
         → IfOk result (λ e. IsNext tables.now.lookups steps script memo.new state.new e (comes_of tables.now.lookups o floats script state.old f (reads (run_face tables.now.lookups) (need_in tables.now.lookups state.old) reading.item reading.to (field_at tables.now.lookups.program.now reading.field) (option_map (value_of (names_in tables.now.lookups)) reading.on) (world_in tables.now.lookups state.old) (frame_of (names_in tables.now.lookups) f)))) }
     ensures err { (steps : ℕ) (f : Frame) → IsRun tables.now.lookups memo.old steps state.old → top_frame state.old.stack.items ≡ Some f → IsReading tables.now.lookups state.old reading → OnErr result (IsUndoneWith tables.now.lookups steps memo.new state.old state.new) }
 {
-    match (tables.lookups.field(reading.field), reading.on) {
-        (None, _) => reads_out(alloc, tables, state, reading),
-        (Some(at), None) => reads_static(alloc, tables, memo, state, reading, at),
-        (Some(at), Some(on)) => {
-            reads_instance(tables, state, reading, on, at);
-            Ok(None)
-        }
+    match tables.lookups.field(reading.field) {
+        Some(at) => reads_found(alloc, tables, memo, state, reading, at),
+        None => reads_out(alloc, tables, state, reading),
     }
 }
 
@@ -516,6 +551,28 @@ fn writes_instance(
     Ok(())
 }
 
+/// Writes a field that the program defines.
+fn writes_found<'a>(
+    alloc: Global,
+    tables: &Tables<'a>,
+    memo: &mut Memo,
+    state: &mut State<'a>,
+    writing: Writing,
+    at: (u32, u32),
+) -> Result<Option<Event>, AllocError>
+    ensures ok { (o : Outside) (floats : Floats) (script : List Move) (steps : ℕ) (f : Frame) (place : Place) → length script < 2 ^ 64 → IsRun tables.now.lookups memo.old steps state.old → top_frame state.old.stack.items ≡ Some f → IsWriting tables.now.lookups state.old writing → IsFieldOf tables.now.lookups (field_at tables.now.lookups.program.now writing.field) place at.0 at.1 → (run_face tables.now.lookups).field (field_at tables.now.lookups.program.now writing.field) ≡ Some place
+        → IfOk result (λ e. IsNext tables.now.lookups steps script memo.new state.new e (comes_of tables.now.lookups o floats script state.old f (writes (run_face tables.now.lookups) (need_in tables.now.lookups state.old) (field_at tables.now.lookups.program.now writing.field) (option_map (value_of (names_in tables.now.lookups)) writing.on) (value_of (names_in tables.now.lookups) writing.value) (world_in tables.now.lookups state.old) (frame_of (names_in tables.now.lookups) f)))) }
+    ensures err { (steps : ℕ) (f : Frame) (place : Place) → IsRun tables.now.lookups memo.old steps state.old → top_frame state.old.stack.items ≡ Some f → IsFieldOf tables.now.lookups (field_at tables.now.lookups.program.now writing.field) place at.0 at.1 → OnErr result (IsUndoneWith tables.now.lookups steps memo.new state.old state.new) }
+{
+    match writing.on {
+        None => writes_static(alloc, tables, memo, state, writing, at),
+        Some(on) => {
+            writes_instance(tables, state, writing, on, at)?;
+            Ok(None)
+        }
+    }
+}
+
 /// Writes a field for the frame on top of the stack.
 pub fn writes<'a>(
     alloc: Global,
@@ -528,12 +585,8 @@ pub fn writes<'a>(
         → IfOk result (λ e. IsNext tables.now.lookups steps script memo.new state.new e (comes_of tables.now.lookups o floats script state.old f (writes (run_face tables.now.lookups) (need_in tables.now.lookups state.old) (field_at tables.now.lookups.program.now writing.field) (option_map (value_of (names_in tables.now.lookups)) writing.on) (value_of (names_in tables.now.lookups) writing.value) (world_in tables.now.lookups state.old) (frame_of (names_in tables.now.lookups) f)))) }
     ensures err { (steps : ℕ) (f : Frame) → IsRun tables.now.lookups memo.old steps state.old → top_frame state.old.stack.items ≡ Some f → IsWriting tables.now.lookups state.old writing → OnErr result (IsUndoneWith tables.now.lookups steps memo.new state.old state.new) }
 {
-    match (tables.lookups.field(writing.field), writing.on) {
-        (None, _) => writes_out(alloc, tables, state, writing),
-        (Some(at), None) => writes_static(alloc, tables, memo, state, writing, at),
-        (Some(at), Some(on)) => {
-            writes_instance(tables, state, writing, on, at)?;
-            Ok(None)
-        }
+    match tables.lookups.field(writing.field) {
+        Some(at) => writes_found(alloc, tables, memo, state, writing, at),
+        None => writes_out(alloc, tables, state, writing),
     }
 }

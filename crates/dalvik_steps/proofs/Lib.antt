@@ -1,4 +1,6 @@
+pub mod Alike
 pub mod Backing
+pub mod Born
 pub mod Depths
 pub mod Drawn
 pub mod Falling
@@ -12,6 +14,7 @@ pub mod Handing
 pub mod Invoked
 pub mod Landed
 pub mod Leaving
+pub mod LockDrafts
 pub mod Locked
 pub mod Made
 pub mod Nexts

@@ -9,9 +9,10 @@ use Rattle.dalvik_lookups.specs.declared.lookups.Lookups.{Lookups}
 use Rattle.dalvik_lookups.proofs.Interned.{same_number, text_same, text_sound}
 use Rattle.dalvik_defs.specs.Names.{Text}
 use Rattle.dalvik_defs.specs.Outcome.{with_lock}
-use Rattle.dalvik_defs.specs.Show.{show, show_at, place_in, is_printed}
+use Rattle.dalvik_defs.specs.Show.{show, show_at, place_in, is_printed, mark_printed}
 use Rattle.dalvik_defs.specs.State.{World as NamedWorld, kind_of, put_lock, same_value}
 use Rattle.dalvik_defs.specs.declared.events.Shown.{Shown}
+use Rattle.dalvik_defs.specs.declared.events.Shown.TheVariants as shown
 use Rattle.dalvik_defs.specs.declared.state.Value.{Value}
 use Rattle.dalvik_defs.specs.declared.state.Value.TheVariants as value
 use Rattle.dalvik_state.specs.declared.datum.Datum.{Datum}
@@ -30,6 +31,9 @@ use Rattle.dalvik_steps.specs.Reaching.{HasKey, IsLockShown, PutsLock}
 
 -- ---- showing leaves the locks
 
+abbrev shown_by : NamedWorld → ℕ → ℕ → Bool → NamedWorld × Shown
+shown_by w n i b = elim b as (λ b. NamedWorld × Shown) [ true ↦ (w, shown.Again i) | false ↦ (record w { exposed = mark_printed n w.exposed }, shown.First i (kind_of w (value.Object n))) ]
+
 pub show_locked : (w : NamedWorld) (locks : Value → ℕ) (kind : Text) (v : Value) → show (record w { locks = locks }) kind v ≡ (record (show w kind v).0 { locks = locks }, (show w kind v).1)
 show_locked w locks kind (value.Word n) = refl
 show_locked w locks kind (value.Low n) = refl
@@ -40,11 +44,11 @@ show_locked w locks kind (value.Object n) = by (place_in w.exposed n)
   where
     by : (o : Option ℕ) → ◌≡◌ {A = NamedWorld × Shown} (show_at (record w { locks = locks }) n o) (record (show_at w n o).0 { locks = locks }, (show_at w n o).1)
     by None = refl
-    by (Some i) = printed (is_printed w.exposed i) refl
+    by (Some i) = printed i (is_printed w.exposed i)
       where
-        printed : (b : Bool) → is_printed w.exposed i ≡ b → ◌≡◌ {A = NamedWorld × Shown} (show_at (record w { locks = locks }) n (Some i)) (record (show_at w n (Some i)).0 { locks = locks }, (show_at w n (Some i)).1)
-        printed true e = rw e refl
-        printed false e = rw e refl
+        printed : (i : ℕ) (b : Bool) → ◌≡◌ {A = NamedWorld × Shown} (shown_by (record w { locks = locks }) n i b) (record (shown_by w n i b).0 { locks = locks }, (shown_by w n i b).1)
+        printed i true = refl
+        printed i false = refl
 
 -- ---- numbers of texts
 
@@ -185,11 +189,11 @@ show_locks w kind (value.Object n) = by (place_in w.exposed n)
   where
     by : (o : Option ℕ) → (show_at w n o).0.locks ≡ w.locks
     by None = refl
-    by (Some i) = printed (is_printed w.exposed i) refl
+    by (Some i) = printed i (is_printed w.exposed i)
       where
-        printed : (b : Bool) → is_printed w.exposed i ≡ b → (show_at w n (Some i)).0.locks ≡ w.locks
-        printed true e = rw e refl
-        printed false e = rw e refl
+        printed : (i : ℕ) (b : Bool) → (shown_by w n i b).0.locks ≡ w.locks
+        printed i true = refl
+        printed i false = refl
 
 module _ (l : Lookups) (r : IsRight l) (old new : World) (d : Datum) (count : ℕ) (puts : PutsLock old new d count) (w : IsSound l old) (fine : IsFine (names_in l) (length (spots_of old)) d) where
   abbrev n : Names

@@ -1,17 +1,17 @@
 //! New objects and monitors (Dalvik bytecode, "new-instance", "monitor-enter", "monitor-exit").
 
-ghost use Rattle.std.specs.Prelude.{◌≡◌, ◌<◌, ◌+◌, ◌-◌, ◌^◌, ℕ, List, Some, None, length, false, IfOk, OnErr, OnOk};
+ghost use Rattle.std.specs.Prelude.{◌≡◌, ◌<◌, ◌≤◌, ◌+◌, ◌-◌, ◌^◌, ℕ, List, Some, None, length, false, IfOk, OnErr, OnOk};
 ghost use Rattle.program_model.specs.declared.pass.Outside.{Outside};
 ghost use Rattle.dalvik_defs.specs.Effect.{next, write};
 ghost use Rattle.dalvik_defs.specs.Naming.{type_at};
-ghost use Rattle.dalvik_defs.specs.Outcome.{locks, makes, unlocks, with_lock, Stays};
+ghost use Rattle.dalvik_defs.specs.Outcome.{locks, makes, unlocks, when_ready, with_lock, Stays};
 ghost use Rattle.dalvik_defs.specs.Show.{show};
 ghost use Rattle.dalvik_defs.specs.State.{fresh, kind_of, next_object, with_thing};
 ghost use Rattle.dalvik_defs.specs.declared.events.Event.TheVariants as event;
 ghost use Rattle.dalvik_defs.specs.declared.script.Move.{Move};
 ghost use Rattle.dalvik_defs.specs.declared.tables.Floats.{Floats};
 ghost use Rattle.dalvik_lookups.specs.Facing.{run_face};
-ghost use Rattle.dalvik_lookups.specs.Tables.{IsRight};
+ghost use Rattle.dalvik_lookups.specs.Tables.{place_named, IsRight};
 ghost use Rattle.dalvik_lookups.specs.Views.{type_text};
 ghost use Rattle.dalvik_lookups.specs.declared.lookups.Lookups.{Lookups};
 ghost use Rattle.dalvik_state.specs.Drafts.{IsDraft};
@@ -21,7 +21,7 @@ ghost use Rattle.dalvik_state.specs.States.{top_frame, HasRoom, IsFineKind, IsSo
 ghost use Rattle.dalvik_state.specs.Views.{frame_of, names_in, value_of, world_of, IsFine};
 ghost use Rattle.dalvik_state.specs.Worlds.{spots_of};
 ghost use Rattle.dalvik_state.specs.declared.frame.Frame.{Frame};
-ghost use Rattle.dalvik_steps.specs.Reaching.{lock_count, IsLockShown, IsMade, IsMadeIn, IsReserved, IsStep, IsUnwritten, PutsLock, SameItems};
+ghost use Rattle.dalvik_steps.specs.Reaching.{IsLockShown, IsMade, IsMadeIn, IsReserved, IsStep, PutsLock, SameItems};
 
 use crate::asking::{reserve, reserve_exposed};
 use crate::starting::{Readied, readies};
@@ -90,6 +90,30 @@ fn makes_outer(
     Ok(Some(event))
 }
 
+/// Makes an object of a program class, which is initialised first.
+fn makes_ready<'a>(
+    alloc: Global,
+    tables: &Tables<'a>,
+    memo: &mut Memo,
+    state: &mut State<'a>,
+    to: u16,
+    kind: Kind,
+    class: u32,
+) -> Result<Option<Event>, AllocError>
+    ensures ok { (o : Outside) (floats : Floats) (script : List Move) (steps : ℕ) (f : Frame) → length script < 2 ^ 64 → IsRun tables.now.lookups memo.old steps state.old → top_frame state.old.stack.items ≡ Some f → IsFineKind tables.now.lookups kind → place_named tables.now.lookups.program.now (type_text tables.now.lookups.types kind) ≡ Some class
+        → IfOk result (λ e. IsNext tables.now.lookups steps script memo.new state.new e (comes_of tables.now.lookups o floats script state.old f (when_ready (need_in tables.now.lookups state.old (type_text tables.now.lookups.types kind)) (world_in tables.now.lookups state.old) (type_text tables.now.lookups.types kind) (Stays (with_thing (world_in tables.now.lookups state.old) (fresh (type_text tables.now.lookups.types kind))) (next (write (frame_of (names_in tables.now.lookups) f) to (next_object (world_in tables.now.lookups state.old)))) None)))) }
+    ensures err { (steps : ℕ) → IsRun tables.now.lookups memo.old steps state.old → place_named tables.now.lookups.program.now (type_text tables.now.lookups.types kind) ≡ Some class → OnErr result (IsUndoneWith tables.now.lookups steps memo.new state.old state.new) }
+{
+    match readies(alloc, tables, memo, state, class)? {
+        Readied::Ready => {
+            makes_own(state, to, kind)?;
+            Ok(None)
+        }
+        Readied::Started => Ok(None),
+        Readied::Failed(event) => Ok(event),
+    }
+}
+
 /// Makes an object for the frame on top of the stack; its class is initialised first.
 pub fn makes<'a>(
     alloc: Global,
@@ -103,19 +127,26 @@ pub fn makes<'a>(
         → IfOk result (λ e. IsNext tables.now.lookups steps script memo.new state.new e (comes_of tables.now.lookups o floats script state.old f (makes (run_face tables.now.lookups) (need_in tables.now.lookups state.old) to (type_at tables.now.lookups.program.now kind) (world_in tables.now.lookups state.old) (frame_of (names_in tables.now.lookups) f)))) }
     ensures err { (steps : ℕ) (f : Frame) → IsRun tables.now.lookups memo.old steps state.old → top_frame state.old.stack.items ≡ Some f → kind < length tables.now.lookups.program.now.types → OnErr result (IsUndoneWith tables.now.lookups steps memo.new state.old state.new) }
 {
-    let kind = tables.lookups.kind(kind);
-    let class = match tables.lookups.class_at(kind) {
-        Some(class) => class,
-        None => return makes_outer(alloc, tables, state, to, kind),
-    };
-    match readies(alloc, tables, memo, state, class)? {
-        Readied::Ready => {
-            makes_own(state, to, kind)?;
-            Ok(None)
-        }
-        Readied::Started => Ok(None),
-        Readied::Failed(event) => Ok(event),
+    let own = tables.lookups.kind(kind);
+    match tables.lookups.class_at(own) {
+        Some(class) => makes_ready(alloc, tables, memo, state, to, own, class),
+        None => makes_outer(alloc, tables, state, to, own),
     }
+}
+
+/// What is shown of a value of a type.
+fn draft_as(
+    alloc: Global,
+    tables: &Tables<'_>,
+    world: &World,
+    kind: Kind,
+    datum: Datum,
+) -> Result<Draft, AllocError>
+    ensures { IsRight tables.now.lookups → IsSound tables.now.lookups world.now → IsFine (names_in tables.now.lookups) (length (spots_of world.now)) datum → IfOk result (λ d. IsDraft (world_of (names_in tables.now.lookups) world.now) (type_text tables.now.lookups.types kind) (value_of (names_in tables.now.lookups) datum) d) }
+{
+    let none = Gifts::new(alloc);
+    let draft = drafted(alloc, tables, world, &none, kind, datum)?;
+    Ok(draft)
 }
 
 /// What is shown of a value that is locked, which isn't null.
@@ -127,19 +158,16 @@ fn draft_locked(
 ) -> Result<Draft, AllocError>
     ensures { IsRight tables.now.lookups → IsSound tables.now.lookups world.now → IsFine (names_in tables.now.lookups) (length (spots_of world.now)) datum → is_null_in datum ≡ false → IfOk result (λ d. IsDraft (world_of (names_in tables.now.lookups) world.now) (kind_of (world_of (names_in tables.now.lookups) world.now) (value_of (names_in tables.now.lookups) datum)) (value_of (names_in tables.now.lookups) datum) d) }
 {
-    let kind = match world.kind_of(datum) {
-        Some(kind) => kind,
-        None => Kind::plain(known::OBJECT),
-    };
-    let none = Gifts::new(alloc);
-    let draft = drafted(alloc, tables, world, &none, kind, datum)?;
-    Ok(draft)
+    match world.kind_of(datum) {
+        Some(kind) => draft_as(alloc, tables, world, kind, datum),
+        None => draft_as(alloc, tables, world, Kind::plain(known::OBJECT), datum),
+    }
 }
 
 /// Writes how often a monitor is held.
 fn write_lock(world: &mut World, datum: Datum, count: u64) -> Result<(), AllocError>
     ensures put { OnOk result (PutsLock world.old world.new datum count) }
-    ensures err { OnErr result (IsUnwritten world.old world.new) }
+    ensures err { OnErr result (SameItems world.old world.new) }
 {
     world.locks.insert(datum, count)?;
     Ok(())

@@ -1,6 +1,7 @@
 pub mod Alike
 pub mod Backing
 pub mod Born
+pub mod Calling
 pub mod Depths
 pub mod Drawn
 pub mod Falling

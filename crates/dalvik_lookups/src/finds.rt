@@ -1,6 +1,6 @@
 //! What a call finds.
 
-ghost use Rattle.std.specs.Prelude.{◌≡◌, ◌∷◌, [], ℕ, Some, None, flat_map, slice_get, IfOk, OnOk};
+ghost use Rattle.std.specs.Prelude.{◌≡◌, ◌∷◌, [], ℕ, Some, None, flat_map, slice_get, IfOk};
 ghost use Rattle.program_model.specs.declared.pools.MethodName.{MethodName};
 ghost use Rattle.program_model.specs.declared.program.Class.{Class};
 ghost use Rattle.class_defs.specs.Finding.{finds_static, finds_at, finds_among, finds_above, finds_super, finds_super_of, finds_super_037, verdict, lowest};

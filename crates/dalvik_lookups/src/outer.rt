@@ -1,6 +1,6 @@
 //! What the framework may reach.
 
-ghost use Rattle.std.specs.Prelude.{◌≡◌, ◌<◌, ◌&&◌, not, ℕ, true, false, length, map, nat_eq, nat_lt, cond, replicate, Some, slice_get, slice_index_or, slice_set, IfOk, OnOk};
+ghost use Rattle.std.specs.Prelude.{◌≡◌, ◌<◌, ◌&&◌, not, ℕ, true, false, length, map, nat_eq, nat_lt, cond, replicate, Some, slice_get, slice_index_or, slice_set, IfOk};
 ghost use Rattle.std.specs.List.{list_any, list_all};
 ghost use Rattle.program_model.specs.declared.pass.Outside.{Outside};
 ghost use Rattle.program_model.specs.declared.program.Class.{Class};

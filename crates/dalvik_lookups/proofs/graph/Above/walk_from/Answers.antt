@@ -1,4 +1,4 @@
-use Rattle.std.proofs.Common.{◌∙◌, sym, subst, arith, vec_len}
+use Rattle.std.proofs.Common.{sym, subst, arith}
 use Rattle.dalvik_lookups.specs.Walks.{IsInside}
 use Rattle.dalvik_lookups.proofs.Climbing.{begun, begun_from}
 use Rattle.dalvik_lookups.proofs.graph.Above.walk_from.Goals as goal

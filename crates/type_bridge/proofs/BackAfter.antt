@@ -1,10 +1,10 @@
 -- What a form leaves is, by number, at or below what is at or above it by name.
-use Rattle.std.proofs.Common.{◌≡◌, ℕ, zero, suc, ◌<◌, Bool, true, false, true≢false, nat_eq, List, [], ◌∷◌, map, length, Option, Some, None, ◌⊎◌, inl, inr, refl, sym, ap, ◌∙◌, subst}
+use Rattle.std.proofs.Common.{◌≡◌, ℕ, zero, suc, ◌<◌, Bool, true, false, true≢false, nat_eq, List, [], ◌∷◌, length, Option, Some, None, ◌⊎◌, inl, inr, refl, sym, ap, ◌∙◌, subst}
 use Rattle.std.specs.Prelude.{◌-◌, ◌&&◌, ◌||◌, not, slice_get, nat_lt, ℤ, pos, if◌then◌else◌}
 use Rattle.std.specs.Ordering.{int_eq}
 use Rattle.class_defs.proofs.Positions.{number_of, both}
-use Rattle.class_defs.proofs.WellFormed.{and_left, and_right}
-use Rattle.insn_set.specs.Widths.{is_wide_item, unary_writes_wide, binary_is_wide}
+use Rattle.class_defs.proofs.WellFormed.{and_left}
+use Rattle.insn_set.specs.Widths.{unary_writes_wide, binary_is_wide}
 use Rattle.insn_set.specs.declared.form.Insn.{Insn}
 use Rattle.insn_set.specs.declared.form.Insn.TheVariants as insn
 use Rattle.insn_set.specs.declared.ops.InvokeKind.{InvokeKind}
@@ -30,27 +30,21 @@ use Rattle.pass_defs.specs.Typed as typed
 use Rattle.verify.specs.declared.kinds.Kind as number
 use Rattle.verify.specs.declared.kinds.Kind.TheVariants as kind
 use Rattle.verify.specs.declared.setting.Setting.{Setting}
-use Rattle.verify.specs.declared.shapes.Shape.{Shape}
-use Rattle.verify.specs.declared.shapes.Shape.TheVariants as shape
 use Rattle.verify.specs.After.{constant_kind, moved, got, constructed, receiver_register, called}
 use Rattle.verify.specs.Flow.{form_after}
 use Rattle.verify.specs.Frames.{Kinds, kind_at, written, replace, forget}
-use Rattle.verify.specs.Kinds as kinds
 use Rattle.verify.specs.Kinds.{same_number, number_kind}
 use Rattle.verify.specs.Descriptors.{item_named}
-use Rattle.verify.specs.Fits.{is_fillable_shape}
 use Rattle.verify.specs.Names.{field_kind, method_class, result_of}
 use Rattle.verify.specs.Reads.{is_constructed, refused}
 use Rattle.verify.specs.Shapes as shapes
 use Rattle.verify.specs.Types.{shape_of, item_shape, kind_of, kind_of_shape, cast_kind, kind_of_item, is_constructor}
-use Rattle.verify.specs.Typings.{Below, IsBelow}
+use Rattle.verify.specs.Typings.{IsBelow}
 use Rattle.verify.specs.Wrong.{is_static_call, is_wrong}
 use Rattle.verify.proofs.Lattice.{right_true}
-use Rattle.verify.proofs.Raises.{below_itself}
 use Rattle.verify.proofs.Writes.{moved_on}
 use Rattle.type_bridge.specs.Views.{item_text, class_kind, kind_named}
 use Rattle.type_bridge.specs.Numbered.{is_numbered}
-use Rattle.type_bridge.proofs.Told.{Told}
 use Rattle.type_bridge.proofs.Texts.{item_sorts}
 use Rattle.type_bridge.proofs.After.{cast_named, array_named, filled_array, receives, frames_on, self_below}
 use Rattle.type_bridge.proofs.Back.{or_null, numbered, for_class, for_array, Sense, known, no_class, no_array, no_type, sense, some_dimension, is_over, null_under}

@@ -1,11 +1,9 @@
 -- A kind that fits a type by name fits it by number, and the kinds of types have numbers.
-use Rattle.std.proofs.Common.{◌≡◌, ℕ, zero, suc, ◌-◌, ◌<◌, Bool, true, false, true≢false, nat_eq, nat_lt, List, [], ◌∷◌, length, Option, Some, None, refl, sym, ap, ◌∙◌, subst, arith, ne_eqb, ltb-true}
+use Rattle.std.proofs.Common.{◌≡◌, ℕ, zero, suc, ◌-◌, Bool, true, false, true≢false, nat_eq, nat_lt, [], ◌∷◌, Option, Some, None, refl, sym, ap, ◌∙◌, subst, arith, ne_eqb}
 use Rattle.std.specs.Prelude.{◌&&◌, ◌||◌, not, cond, slice_get, is_some, if◌then◌else◌}
 use Rattle.std.specs.Option.{option_map}
-use Rattle.class_defs.proofs.Positions.{number_of, both}
+use Rattle.class_defs.proofs.Positions.{both}
 use Rattle.class_defs.proofs.WellFormed.{and_left, and_right}
-use Rattle.insn_set.specs.declared.ops.Item.TheVariants as item
-use Rattle.program_model.specs.Texts.{string_text}
 use Rattle.program_model.specs.declared.program.Class.{Class}
 use Rattle.program_model.specs.declared.program.Program.{Program}
 use Rattle.dalvik_defs.specs.Names as text
@@ -22,11 +20,10 @@ use Rattle.verify.specs.declared.shapes.Shape.TheVariants as shape
 use Rattle.verify.specs.declared.tables.Tables.{Tables}
 use Rattle.verify.specs.Descriptors.{same_text, brackets, without_brackets, short, is_item_of, item_named, item_number, number_or, base_shape, shape_named}
 use Rattle.verify.specs.Fits.{is_below_class, class_fits, reference_fits, item_fits, array_fits, fits_array, fits_shape, fits, fits_item_of, fits_item}
-use Rattle.verify.specs.Kinds as kinds
 use Rattle.verify.specs.Kinds.{same_number}
 use Rattle.verify.specs.Meeting.{is_settled}
 use Rattle.verify.specs.Shapes as shapes
-use Rattle.verify.specs.Types.{shape_of, item_shape, kind_of, kind_of_shape, kind_of_class, reference_kind, cast_kind}
+use Rattle.verify.specs.Types.{shape_of, item_shape, kind_of, kind_of_shape, reference_kind, cast_kind}
 use Rattle.verify.specs.Typings.{Below}
 use Rattle.verify.proofs.Descriptions as texts
 use Rattle.verify.proofs.Fitting.{item_settled}
@@ -37,10 +34,9 @@ use Rattle.type_bridge.specs.Numbered.{is_numbered}
 use Rattle.type_bridge.proofs.Back.{or_null, type_or, numbered, Sense, known, no_class, no_array, no_type, sense, some_dimension}
 use Rattle.type_bridge.proofs.Fits.{either_true, deeper, less, no_array as no_array_type, array_text}
 use Rattle.type_bridge.proofs.Joined.{number_same, made_same}
-use Rattle.type_bridge.proofs.Numbers.{type_named, kind_number, type_back, number_back, one_kind}
+use Rattle.type_bridge.proofs.Numbers.{type_named, kind_number, number_back, one_kind}
 use Rattle.type_bridge.proofs.Numbering.{same_number_itself, below_numbered}
 use Rattle.type_bridge.proofs.Order.{chain_of_nearest}
-use Rattle.type_bridge.proofs.Spelled.{nonempty}
 use Rattle.type_bridge.proofs.Told.{Told}
 use Rattle.type_bridge.proofs.Texts.{First, first_of, few_types, ClassText, class_text, Sorts, sorts, item_sorts, item_class, kind_is, text_of_type, depth_of, base_under, item_bare, item_base, depth_short, has_entry, base_is, no_plain}
 

@@ -1,7 +1,7 @@
 -- The kinds of a position, from names back to numbers: what they are, their order, and how writes change them.
-use Rattle.std.proofs.Common.{◌≡◌, ℕ, zero, suc, ◌+◌, ◌-◌, ◌<◌, Bool, true, false, true≢false, nat_eq, List, [], ◌∷◌, map, length, Option, Some, None, refl, sym, ap, ◌∙◌, subst, arith}
+use Rattle.std.proofs.Common.{◌≡◌, ℕ, zero, suc, ◌+◌, ◌-◌, ◌<◌, Bool, true, false, true≢false, nat_eq, List, [], ◌∷◌, map, length, Option, Some, None, refl, sym, ap, ◌∙◌, arith}
 use Rattle.std.specs.Prelude.{◌&&◌, slice_set, if◌then◌else◌}
-use Rattle.class_defs.proofs.Positions.{number_test, number_of, same_test}
+use Rattle.class_defs.proofs.Positions.{number_of, same_test}
 use Rattle.class_defs.proofs.WellFormed.{and_left, and_right}
 use Rattle.program_model.specs.declared.program.Program.{Program}
 use Rattle.dalvik_defs.specs.Names.{Text, text_eq}
@@ -19,9 +19,7 @@ use Rattle.verify.specs.Frames.{Kinds, kind_at, is_pair, cleared, split, written
 use Rattle.verify.specs.Kinds as kinds
 use Rattle.verify.specs.Kinds.{same_kind, forgotten, replaced}
 use Rattle.verify.specs.Typings.{Below, IsBelow}
-use Rattle.verify.proofs.Descriptions.{text_same}
-use Rattle.verify.proofs.Raises.{below_itself}
-use Rattle.type_bridge.proofs.Back.{type_or, or_null, numbered, for_class, for_array, some_dimension, type_is, below_number}
+use Rattle.type_bridge.proofs.Back.{type_or, numbered, for_class, for_array, some_dimension, type_is, below_number}
 use Rattle.type_bridge.proofs.Frames.{number_swaps, mapped}
 use Rattle.type_bridge.proofs.Numbers.{type_named, type_back}
 use Rattle.type_bridge.proofs.Told.{Told}

@@ -1,6 +1,6 @@
 -- A read that is allowed by name is allowed.
 use Rattle.std.proofs.Common.{◌≡◌, ℕ, zero, suc, ◌+◌, ◌<◌, Bool, true, false, true≢false, nat_eq, List, [], ◌∷◌, ◌++◌, map, length, Option, Some, None, refl, sym, ap, ◌∙◌, subst}
-use Rattle.std.specs.Prelude.{◌&&◌, ◌||◌, drop, slice_get, is_some, if◌then◌else◌}
+use Rattle.std.specs.Prelude.{◌&&◌, ◌||◌, drop, slice_get, if◌then◌else◌}
 use Rattle.std.specs.List.{list_all}
 use Rattle.class_defs.proofs.Positions.{number_of, number_test}
 use Rattle.class_defs.proofs.WellFormed.{and_left, and_right, class_parts}
@@ -51,7 +51,7 @@ use Rattle.type_bridge.proofs.Back.{or_null, numbered, for_class, for_array, Sen
 use Rattle.type_bridge.proofs.BackFits.{fits_back, fits_item_back}
 use Rattle.type_bridge.proofs.BackFrames.{number_back, made_back, moved_back, at_back, pair_back, fresh_text}
 use Rattle.type_bridge.proofs.Fits.{either_true, or_first, array_is, stored_named}
-use Rattle.type_bridge.proofs.Members.{FieldIs, field_class_is, MethodIs, method_class_is, method_class_small, parameters_is, constructor_is, defines_back, classes_of, SameFound, found_same}
+use Rattle.type_bridge.proofs.Members.{FieldIs, field_class_is, MethodIs, method_class_is, method_class_small, parameters_is, constructor_is, defines_back, SameFound, found_same}
 
 -- ---- tests
 
@@ -287,7 +287,7 @@ module _ (s : Setting) (d : Told s.program.now s.tables.now) (h : IsResolved s.p
         )
         by false w g = (
           ap (λ b. if b then reads.refused_wide numbers (r ∷ rs) else reads.refused_word s numbers t (r ∷ rs)) w
-            ∙ unless_none (fits s.tables.now (kind_at numbers r) t) r (met_fits r t (type_at p t) refl (and_left (test (r, Fits (type_at p t))) (list_all test (asked.passed (map (type_at p) ts) rs)) g)),
+              ∙ unless_none (fits s.tables.now (kind_at numbers r) t) r (met_fits r t (type_at p t) refl (and_left (test (r, Fits (type_at p t))) (list_all test (asked.passed (map (type_at p) ts) rs)) g)),
           subst (λ b. All (asked.passed (map (type_at p) ts) (if b then drop 2 (r ∷ rs) else drop 1 (r ∷ rs)))) (sym w) (and_right (test (r, Fits (type_at p t))) (list_all test (asked.passed (map (type_at p) ts) rs)) g),
         )
 

@@ -1,6 +1,6 @@
 -- A typing by names is one by numbers: each position that has as many registers as the code has the numbers of its kinds.
 use Rattle.std.proofs.Common.{◌≡◌, ℕ, zero, suc, ◌+◌, ◌<◌, Bool, true, false, true≢false, nat_eq, List, [], ◌∷◌, ◌++◌, map, length, Option, Some, None, inl, inr, refl, sym, ap, ◌∙◌, subst, arith}
-use Rattle.std.specs.Prelude.{◌&&◌, not, slice_get, slice_index_or, find, All, option_and_then, if◌then◌else◌}
+use Rattle.std.specs.Prelude.{not, slice_get, slice_index_or, find, All, if◌then◌else◌}
 use Rattle.std.specs.List.{list_all}
 use Rattle.std.specs.Option.{option_map}
 use Rattle.std.proofs.lemmas.Bool.{cases_lt}
@@ -20,7 +20,7 @@ use Rattle.program_model.specs.declared.program.Program.{Program}
 use Rattle.dalvik_defs.specs.Naming.{type_at, form_of, handler_of, region_of, body_of, named_class, named_method, named}
 use Rattle.dalvik_defs.specs.declared.forms.Form.{Form}
 use Rattle.dalvik_defs.specs.declared.program.NamedHandler.{NamedHandler}
-use Rattle.pass_defs.specs.Bare.{may_throw, continues, targets}
+use Rattle.pass_defs.specs.Bare.{continues, targets}
 use Rattle.pass_defs.specs.Kinds as name
 use Rattle.pass_defs.specs.Demands as asked
 use Rattle.pass_defs.specs.Registers as by_name

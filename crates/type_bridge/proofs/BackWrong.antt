@@ -1,9 +1,7 @@
 -- A position that isn't wrong by name isn't wrong.
-use Rattle.std.proofs.Common.{◌≡◌, ℕ, zero, suc, ◌<◌, Bool, true, false, true≢false, nat_eq, List, [], ◌∷◌, length, Option, Some, None, refl, sym, ap, ◌∙◌, subst}
-use Rattle.std.specs.Prelude.{◌&&◌, ◌||◌, not, slice_get, option_and_then, nat_lt, codes, if◌then◌else◌}
-use Rattle.std.specs.Option.{option_map}
+use Rattle.std.proofs.Common.{◌≡◌, ℕ, zero, suc, Bool, true, false, true≢false, nat_eq, [], ◌∷◌, Option, Some, None, refl, sym, ap, ◌∙◌, subst}
+use Rattle.std.specs.Prelude.{◌&&◌, ◌||◌, not, slice_get, option_and_then, codes}
 use Rattle.class_defs.proofs.Positions.{number_of}
-use Rattle.class_defs.proofs.WellFormed.{and_left, and_right}
 use Rattle.insn_set.specs.declared.form.Insn.{Insn}
 use Rattle.insn_set.specs.declared.form.Insn.TheVariants as insn
 use Rattle.program_model.specs.OperandRules.{numbers_fit}
@@ -14,7 +12,7 @@ use Rattle.program_model.specs.declared.program.Program.{Program}
 use Rattle.dalvik_defs.specs.Flags as remainder
 use Rattle.dalvik_defs.specs.Names as text
 use Rattle.dalvik_defs.specs.Names.{Text, text_eq, base_of}
-use Rattle.dalvik_defs.specs.Naming.{text_at, type_at, field_at, method_at, form_of, named_class, named_method, named}
+use Rattle.dalvik_defs.specs.Naming.{text_at, type_at, method_at, form_of, named_class, named_method, named}
 use Rattle.dalvik_defs.specs.Under as under
 use Rattle.dalvik_defs.specs.declared.program.NamedClass.{NamedClass}
 use Rattle.dalvik_defs.proofs.Calm.{text_sound}
@@ -34,8 +32,8 @@ use Rattle.verify.specs.Meeting.{is_settled}
 use Rattle.verify.specs.Reads.{found_at}
 use Rattle.verify.specs.Shapes as shapes
 use Rattle.verify.specs.Supers.{super_search}
-use Rattle.verify.specs.Types.{shape_in, shape_of, item_shape, kind_of}
-use Rattle.verify.specs.Wrong.{is_unmade, wrong_instance, wrong_result, ends_early, is_wrong}
+use Rattle.verify.specs.Types.{shape_in, shape_of, item_shape}
+use Rattle.verify.specs.Wrong.{wrong_instance, ends_early, is_wrong}
 use Rattle.verify.proofs.Fitting.{item_settled}
 use Rattle.type_bridge.specs.Views.{item_text}
 use Rattle.type_bridge.proofs.After.{made_type}
@@ -43,7 +41,7 @@ use Rattle.type_bridge.proofs.Back.{numbered}
 use Rattle.type_bridge.proofs.BackFits.{type_of_back}
 use Rattle.type_bridge.proofs.BackFrames.{kinds_numbered}
 use Rattle.type_bridge.proofs.Fits.{deeper, no_array, array_text}
-use Rattle.type_bridge.proofs.Grounds.{IsSet, filled_type_fits, get_fits, put_fits, static_get_fits, static_put_fits, invoke_fits, constructs_is, result_named}
+use Rattle.type_bridge.proofs.Grounds.{IsSet, get_fits, put_fits, static_get_fits, static_put_fits, invoke_fits, constructs_is, result_named}
 use Rattle.type_bridge.proofs.Joined.{class_letter}
 use Rattle.type_bridge.proofs.Members.{field_is, method_is}
 use Rattle.type_bridge.proofs.Numbers.{kind_is}

@@ -1,5 +1,5 @@
 -- A method that the verifier refuses has no typing by names.
-use Rattle.std.proofs.Common.{◌≡◌, ℕ, ◌<◌, true, map, length, Option, Some, sym, ap, ◌∙◌, subst}
+use Rattle.std.proofs.Common.{◌≡◌, ℕ, ◌<◌, true, Some, sym, ap, ◌∙◌, subst}
 use Rattle.std.specs.Prelude.{slice_get, option_and_then, Contains}
 use Rattle.std.specs.Option.{option_map}
 use Rattle.hierarchy.specs.Shapes.{IsResolved}
@@ -15,7 +15,7 @@ use Rattle.dalvik_defs.specs.Naming.{body_of, named_class, named_method, named}
 use Rattle.pass_defs.specs.Typed as typed
 use Rattle.verify.specs.declared.fault.TypeFault.TheVariants as fault
 use Rattle.verify.specs.declared.typed.Verifier.{Verifier}
-use Rattle.verify.specs.Methods.{HasNone, IsFor, RefusesAt, RefusesIn, RefusesFirst, RefusesFor, RefusesOne}
+use Rattle.verify.specs.Methods.{HasNone, IsFor, RefusesAt, RefusesFirst, RefusesFor, RefusesOne}
 use Rattle.verify.specs.Typings.{IsTyping}
 use Rattle.type_bridge.proofs.BackTypings.{table_numbered, typing_numbered}
 use Rattle.type_bridge.proofs.Bodies.{got_short}

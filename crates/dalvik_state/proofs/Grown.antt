@@ -1,6 +1,6 @@
 -- Worlds whose heap changes stay as a run keeps them.
-use Rattle.std.proofs.Common.{◌≡◌, ℕ, zero, suc, ◌+◌, ◌<◌, ◌≤◌, ◌⊎◌, inl, inr, List, [], ◌∷◌, ◌++◌, length, map, arith, ap, refl, sym, subst, ◌∙◌, length-append}
-use Rattle.std.specs.Prelude.{◌^◌, Option, Some, None, slice_get, slice_set}
+use Rattle.std.proofs.Common.{◌≡◌, ℕ, zero, suc, ◌≤◌, ◌⊎◌, inl, inr, List, [], ◌∷◌, ◌++◌, length, map, arith, ap, refl, sym, subst, ◌∙◌, length-append}
+use Rattle.std.specs.Prelude.{Some, slice_get}
 use Rattle.std.proofs.lemmas.List.{length-set}
 use Rattle.insn_set.specs.declared.ops.Item.{Item}
 use Rattle.dalvik_lookups.proofs.Interned.{got_last}
@@ -8,7 +8,6 @@ use Rattle.dalvik_lookups.specs.declared.lookups.Lookups.{Lookups}
 use Rattle.dalvik_defs.specs.Show.{place_in}
 use Rattle.dalvik_state.specs.declared.datum.Datum.{Datum}
 use Rattle.dalvik_state.specs.declared.datum.Datum.TheVariants as datum
-use Rattle.dalvik_state.specs.declared.world.Exposed.{Exposed}
 use Rattle.dalvik_state.specs.declared.world.Thing.{Thing}
 use Rattle.dalvik_state.specs.declared.world.World.{World}
 use Rattle.dalvik_state.specs.Frames.{fill_in}

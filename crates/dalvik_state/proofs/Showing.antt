@@ -1,7 +1,6 @@
 -- What is drafted of a value, and what is shown by a draft, by numbers and by names.
 use Rattle.std.proofs.Common.{◌≡◌, ℕ, zero, suc, ◌+◌, ◌<◌, ◌≤◌, Bool, true, false, true≢false, List, [], ◌∷◌, ◌++◌, length, map, min, get_or, arith, inl, inr, ap, refl, sym, subst, ◌∙◌, append_assoc, append-nil, length-append}
-use Rattle.std.specs.Prelude.{Option, Some, None, Result, Ok, Err, OnErr, Vec, cond, drop, if◌then◌else◌, is_ok, slice_get, slice_index_or, vec_capacity, vec_len}
-use Rattle.std.specs.Option.{option_map}
+use Rattle.std.specs.Prelude.{Option, Some, None, Result, Ok, Err, OnErr, Vec, cond, drop, if◌then◌else◌, is_ok, slice_get, vec_capacity, vec_len}
 use Rattle.std.proofs.lemmas.Bool.{cases_lt}
 use Rattle.std.proofs.lemmas.Option.{slice_get-get_or}
 use Rattle.std.specs.declared.alloc.Global.{Global}
@@ -9,8 +8,8 @@ use Rattle.dalvik_lookups.specs.declared.lookups.Lookups.{Lookups}
 use Rattle.dalvik_lookups.specs.declared.types.Kind.{Kind}
 use Rattle.dalvik_lookups.specs.Views.{type_text, AreTypes}
 use Rattle.dalvik_defs.specs.Names.{Text, is_wide}
-use Rattle.dalvik_defs.specs.Show.{expose, is_printed, mark_printed, place_in, show, show_all, show_at, show_word, skip}
-use Rattle.dalvik_defs.specs.State.{World, Exposed as Seen, kind_of}
+use Rattle.dalvik_defs.specs.Show.{mark_printed, place_in, show_all, show_at, skip}
+use Rattle.dalvik_defs.specs.State.{World, kind_of}
 use Rattle.dalvik_defs.specs.declared.state.Value.{Value}
 use Rattle.dalvik_defs.specs.declared.state.Value.TheVariants as value
 use Rattle.dalvik_defs.specs.declared.events.Shown.{Shown}

@@ -1,4 +1,5 @@
-use Rattle.std.proofs.Common.{◌+◌, arith, sym, subst}
+use Rattle.std.proofs.Common.{◌+◌, List, arith, sym, subst}
+use Rattle.dalvik_state.specs.declared.shows.Draft.{Draft}
 use Rattle.dalvik_state.proofs.Showing.{drafting_begins, drafting_ends, drafting_goes_on, drafting_stops, got_is, got_or, AreDrafting}
 use Rattle.dalvik_state.proofs.shows.draft_all.Goals.{else-loop-kind-test, then-loop-kind-test+in-None}
 use Rattle.dalvik_state.proofs.shows.draft_all.Goals as goal
@@ -12,7 +13,7 @@ loop-kind-preserved c =
     let kinds = c.args.kinds.now in
     let values = c.args.values.now in
     let look = c.in-Some.ensures.lookup in
-    subst (AreDrafting l c.args.world.now kinds values (c.loop-kind.kind-index + 1) c.saturating_add-at.result) (sym c.in_ok-push.ensures.items)
+    subst (AreDrafting l c.args.world.now kinds values (c.loop-kind.kind-index + 1) c.saturating_add-at.result) (sym {A = List Draft} c.in_ok-push.ensures.items)
     (drafting_goes_on l c.args.world.now c.new-none.result kinds values c.loop-kind.kind-index c.loop-kind.at c.saturating_add-at.result c.width.result 18446744073709551615 c.loop-kind.drafts.items _ c.in-Some.datum.now c.in_ok-drafted.field-0
     c.loop-kind.invariant c.new-none.ensures (got_or kinds c.loop-kind.kind-index _ c.loop-kind-test.true) (got_is values c.loop-kind.at c.in-Some.datum.now look.1 look.3.0) c.in_ok-drafted.ensures c.width.ensures c.saturating_add-at.ensures (omega arith))
 

@@ -16,6 +16,7 @@ use Rattle.dalvik_defs.specs.declared.names.FieldKey.{FieldKey}
 use Rattle.dalvik_defs.specs.declared.script.Move.{Move}
 use Rattle.dalvik_defs.specs.State.{Status, New, State, On, Ended, opening, opening_world, put_status}
 use Rattle.dalvik_state.specs.declared.datum.Datum.{Datum}
+use Rattle.dalvik_state.specs.declared.frame.Frame.{Frame}
 use Rattle.dalvik_state.specs.declared.state.Status.{Status as OwnStatus}
 use Rattle.dalvik_state.specs.declared.state.Status.TheVariants as status
 use Rattle.dalvik_state.specs.declared.state.Waiting.{Waiting}
@@ -106,7 +107,11 @@ first_fine : (l : Lookups) (size i : ℕ) (x : Waiting) → slice_get (waiting.O
 first_fine l size zero x e = let same : waiting.Outside None ≡ x = cc in subst (IsSoundWaiting l size) same tt
 first_fine l size (suc i) x e = absurd (cc)
 
-pub opening_runs : (l : Lookups) (s : OwnState) → IsOpening l s → IsRunning l s
+no_frame_first : (i : ℕ) (f : Frame) → slice_get (waiting.Outside None ∷ []) i ≡ Some (waiting.Method f) → ⊥
+no_frame_first zero f e = absurd (cc)
+no_frame_first (suc i) f e = absurd (cc)
+
+pub opening_runs : (l : Lookups) (s : OwnState) → IsOpening l s → IsRunning l 0 s
 opening_runs l s h = record {
   world = record {
     fine = record {
@@ -121,7 +126,11 @@ opening_runs l s h = record {
       at = λ i x e. absurd (nothing_in (spots_of s.world) i x h.heap e);
     };
     written = record { at = λ i e g. absurd (nothing_in s.world.fields.entries i e h.fields g) };
+    short = record { at = λ i x e. absurd (nothing_in (spots_of s.world) i x h.heap e) };
+    statics = ap length h.statics ∙ length-replicate (slots_after 0 l.program.now.classes) None;
   };
   classes = ap length h.statuses ∙ length-replicate (length l.program.now.classes) status.New;
   stack = λ i x e. first_fine l (length (spots_of s.world)) i x (ap (λ ws. slice_get ws i) (sym h.stack) ∙ e);
+  paced = λ i f e. absurd (no_frame_first i f (ap (λ ws. slice_get ws i) (sym h.stack) ∙ e));
+  held = λ i e g. absurd (nothing_in s.world.locks.entries i e h.locks g);
 }

@@ -7,7 +7,7 @@ use Rattle.dalvik_defs.specs.State.{Thing, World, Exposed as Seen}
 use Rattle.dalvik_state.specs.declared.datum.Datum.{Datum}
 use Rattle.dalvik_state.specs.declared.world.Exposed.{Exposed}
 use Rattle.dalvik_state.specs.declared.world.World.{World as OwnWorld}
-use Rattle.dalvik_state.specs.Worlds.{Spot, place_at, place_spot, print_at, spots_of, IsExposed}
+use Rattle.dalvik_state.specs.Worlds.{Spot, place_at, place_spot, print_at, spots_of, IsExposed, IsShortShape}
 use Rattle.dalvik_state.specs.States.{kind_within, AreKinds, ArePlaced, AreWritten, IsFineKind, IsSound}
 use Rattle.dalvik_state.specs.Views.{AreFineLocks, AreFineSpots, IsFine, IsFineShape, IsFineWorld, Names, names_in, exposed_of, lock_in, static_in, thing_of, things_from, world_of}
 use Rattle.dalvik_state.proofs.Fine.{fine_more, shape_more}
@@ -79,6 +79,12 @@ sound_exposed l old new spots exposed h s p w =
       };
       placed = subst (λ es. ArePlaced (spots_of new) es) (sym h.exposed) (subst (λ (ss : List Spot). ArePlaced ss exposed) (sym h.heap) p);
       written = record { at = λ i e g. let low = w.written.at i e (ap (λ m. slice_get m.entries i) (sym h.fields) ∙ g) in omega (arith, low, more) };
+      short = record {
+        at = λ i x e.
+            let r = s.at i x (ap (λ (ss : List Spot). slice_get ss i) (sym h.heap) ∙ e) in
+            subst IsShortShape r.2 (w.short.at i r.0 r.1);
+      };
+      statics = ap (λ v. length v.items) h.statics ∙ w.statics;
     }
 
 pub sound_expose : (l : Lookups) (old new : OwnWorld) (e : Exposed) → IsExposed old new (place_spot (length old.exposed.items) (spots_of old) e.number) (old.exposed.items ++ e ∷ []) → e.number < length (spots_of old) → place_at (spots_of old) e.number ≡ None → IsSound l old → IsSound l new

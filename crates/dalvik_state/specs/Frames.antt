@@ -1,5 +1,5 @@
 -- What a write does to a frame.
-use Rattle.std.specs.Prelude.{◌≡◌, ℕ, ◌+◌, ◌%◌, ◌^◌, Bool, true, false, List, [], ◌∷◌, nat_eq, slice_set, slice_index_or}
+use Rattle.std.specs.Prelude.{◌≡◌, ℕ, ◌+◌, ◌<◌, ◌%◌, ◌^◌, Bool, true, false, List, [], ◌∷◌, nat_eq, slice_set, slice_index_or}
 use Rattle.std.specs.Int.{w8, w16}
 use Rattle.dalvik_defs.specs.Arith.{low_signed}
 use Rattle.insn_set.specs.declared.ops.Item.{Item}
@@ -103,3 +103,25 @@ kept_by e old new = IsSame old new
 -- an instruction that doesn't go on in its frame leaves it as it was: one that throws writes no register
 pub record Leaves (e : Effect) (old new : Frame) : Type 0 where
   pub kept : kept_by e old new
+
+-- a frame is of the same code as it was
+pub record IsSameCode (old new : Frame) : Type 0 where
+  pub at : new.at ≡ old.at
+  pub method : new.method ≡ old.method
+  pub body : new.body ≡ old.body
+
+-- the frame goes on at the next position with these registers, and all else stays
+pub record GoesOn (old new : Frame) (cells : List Datum) : Type 0 where
+  pub code : IsSameCode old new
+  pub registers : new.registers.items ≡ cells
+  pub position : old.position < 2 ^ 63 → new.position ≡ old.position + 1
+  pub result : new.result ≡ old.result
+  pub caught : new.caught ≡ old.caught
+
+-- the frame goes on at a handler with what was caught, and all else stays
+pub record Handles (old new : Frame) (at : ℕ) (thrown : Datum) : Type 0 where
+  pub code : IsSameCode old new
+  pub registers : new.registers.items ≡ old.registers.items
+  pub position : new.position ≡ at
+  pub result : new.result ≡ old.result
+  pub caught : new.caught ≡ thrown

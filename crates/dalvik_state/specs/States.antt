@@ -1,5 +1,5 @@
 -- What the state of a run by numbers is by names, and what a run keeps.
-use Rattle.std.specs.Prelude.{ℕ, ◌≡◌, ◌+◌, ◌-◌, ◌<◌, ◌≤◌, ◌^◌, Bool, true, false, List, [], ◌∷◌, map, length, drop, replicate, reverse, Option, Some, None, slice_get, slice_index_or, vec_len, vec_capacity}
+use Rattle.std.specs.Prelude.{ℕ, ◌≡◌, ◌+◌, ◌-◌, ◌<◌, ◌≤◌, ◌^◌, Bool, true, false, List, [], ◌∷◌, map, length, drop, take, replicate, reverse, Option, Some, None, slice_get, slice_set, slice_index_or, vec_len, vec_capacity}
 use Rattle.std.specs.Option.{option_and_then, option_map}
 use Rattle.program_model.specs.declared.program.Program.{Program}
 use Rattle.program_model.specs.declared.program.Class.{Class}
@@ -14,6 +14,7 @@ use Rattle.dalvik_defs.specs.Names.{Text}
 use Rattle.dalvik_defs.specs.Naming.{type_at, method_at}
 use Rattle.dalvik_defs.specs.Show.{place_in}
 use Rattle.dalvik_defs.specs.State.{Classes, Status, New, Running, Done, Failed, State, On, Ended}
+use Rattle.dalvik_defs.specs.declared.state.Frame.{Frame as NamedFrame}
 use Rattle.dalvik_defs.specs.declared.state.Waiting.{Waiting}
 use Rattle.dalvik_defs.specs.declared.state.Waiting.TheVariants.{Method as InMethod, Initialiser, Ending, Outside}
 use Rattle.dalvik_defs.specs.declared.script.Move.{Move}
@@ -26,7 +27,7 @@ use Rattle.dalvik_state.specs.declared.state.Waiting.TheVariants as waiting
 use Rattle.dalvik_state.specs.declared.state.State.{State as OwnState}
 use Rattle.dalvik_state.specs.declared.world.Exposed.{Exposed}
 use Rattle.dalvik_state.specs.declared.world.World.{World}
-use Rattle.dalvik_state.specs.Worlds.{Shape, Plain, Array, Spot, spots_of}
+use Rattle.dalvik_state.specs.Worlds.{Shape, Plain, Array, Spot, IsShort, spots_of}
 use Rattle.dalvik_state.specs.Views.{Names, names_in, exposed_of, frame_of, world_of, IsFineFrame, IsFineWorld}
 
 -- ---- by names
@@ -67,6 +68,48 @@ frame_in w = None
 abbrev pub top_frame : List OwnWaiting → Option Frame
 top_frame stack = option_and_then frame_in (slice_get stack (length stack - 1))
 
+-- ---- the top of the stack
+
+-- an entry is a method whose frame is so
+pub record IsInMethod (is_so : Frame → Type 0) (w : OwnWaiting) : Type 0 where
+  pub frame : Frame
+  pub is : w ≡ waiting.Method frame
+  pub so : is_so frame
+
+-- the frame of a method changes so, and any other entry stays
+abbrev pub ChangesIn : (Frame → Frame → Type 0) → OwnWaiting → OwnWaiting → Type 0
+ChangesIn changes (waiting.Method f) w = IsInMethod (changes f) w
+ChangesIn changes v w = w ≡ v
+
+-- the top of a stack is now a frame that is so, and all below it stays
+pub record IsTopped (is_so : Frame → Type 0) (old new : List OwnWaiting) : Type 0 where
+  pub frame : Frame
+  pub stack : new ≡ slice_set old (length old - 1) (waiting.Method frame)
+  pub so : is_so frame
+
+-- the frame on top changes so, and all below it stays; where no frame is on top, nothing changes
+pub record ChangesTop (changes : Frame → Frame → Type 0) (old new : List OwnWaiting) : Type 0 where
+  pub top : (f : Frame) → top_frame old ≡ Some f → IsTopped (changes f) old new
+  pub other : top_frame old ≡ None → new ≡ old
+
+-- what stands below the top
+abbrev pub below_top : List OwnWaiting → List OwnWaiting
+below_top stack = take (length stack - 1) stack
+
+-- by names a frame was on top, another one is, and all below it stays
+pub record IsReplaced (n : Names) (old new : List OwnWaiting) (f g : NamedFrame) : Type 0 where
+  pub was : stack_of n old ≡ InMethod f ∷ stack_of n (below_top old)
+  pub is : stack_of n new ≡ InMethod g ∷ stack_of n (below_top old)
+
+-- only the stack may change
+pub record KeepsRest (old new : OwnState) : Type 0 where
+  pub world : new.world ≡ old.world
+  pub statuses : new.statuses ≡ old.statuses
+  pub next : new.next ≡ old.next
+  pub ended : new.ended ≡ old.ended
+
+-- ---- the state
+
 -- the state of a run of these moves
 abbrev pub state_of : Names → List Move → OwnState → State
 state_of n script s = elim s.ended [
@@ -80,6 +123,10 @@ state_of n script s = elim s.ended [
 pub record IsFineKind (l : Lookups) (k : Kind) : Type 0 where
   pub there : IsKind l.types k
   pub deep : k.depth < 2 ^ 63
+
+-- types of the tables that are not too deep
+pub record AreFineKinds (l : Lookups) (ks : List Kind) : Type 0 where
+  pub at : (i : ℕ) (k : Kind) → slice_get ks i ≡ Some k → IsFineKind l k
 
 abbrev pub kind_within : Shape → Kind
 kind_within (Plain kind) = kind
@@ -104,6 +151,9 @@ pub record IsSound (l : Lookups) (w : World) : Type 0 where
   pub kinds : AreKinds l (spots_of w)
   pub placed : ArePlaced (spots_of w) w.exposed.items
   pub written : AreWritten (length (spots_of w)) w.fields.entries
+  pub short : IsShort (spots_of w)
+  -- each field of the program has a place among the static ones
+  pub statics : length w.statics.items ≡ slots_after 0 l.program.now.classes
 
 -- a frame as a run keeps it: it is in the body of the method at its place
 pub record IsSoundFrame (l : Lookups) (size : ℕ) (f : Frame) : Type 0 where
@@ -130,11 +180,13 @@ IsSoundWaiting l size (waiting.Initialiser class above next) = AreClasses l (cla
 IsSoundWaiting l size (waiting.Ending class) = AreClasses l (class ∷ [])
 IsSoundWaiting l size (waiting.Outside owes) = IsOwed l owes
 
--- a state of a run
-pub record IsRunning (l : Lookups) (s : OwnState) : Type 0 where
+-- a state of a run after so many steps: no position and no lock has grown more than once in a step
+pub record IsRunning (l : Lookups) (steps : ℕ) (s : OwnState) : Type 0 where
   pub world : IsSound l s.world
   pub classes : length s.statuses.items ≡ length l.program.now.classes
   pub stack : (i : ℕ) (x : OwnWaiting) → slice_get s.stack.items i ≡ Some x → IsSoundWaiting l (length (spots_of s.world)) x
+  pub paced : (i : ℕ) (f : Frame) → slice_get s.stack.items i ≡ Some (waiting.Method f) → f.position ≤ 2 ^ 32 + steps
+  pub held : (i : ℕ) (e : Datum × ℕ) → slice_get s.world.locks.entries i ≡ Some e → e.1 ≤ steps
 
 -- the state in which a run begins
 pub record IsOpening (l : Lookups) (s : OwnState) : Type 0 where
@@ -153,3 +205,11 @@ pub record IsOpening (l : Lookups) (s : OwnState) : Type 0 where
 -- there is room to expose so many more objects
 pub record HasRoom (w : World) (count : ℕ) : Type 0 where
   pub room : vec_len w.exposed + count ≤ vec_capacity w.exposed
+
+-- there is room for so many more objects on the heap
+pub record HasSpace (w : World) (count : ℕ) : Type 0 where
+  pub space : vec_len w.heap + count ≤ vec_capacity w.heap
+
+-- there is room for so many more entries of the stack
+pub record HasPlaces (s : OwnState) (count : ℕ) : Type 0 where
+  pub places : vec_len s.stack + count ≤ vec_capacity s.stack

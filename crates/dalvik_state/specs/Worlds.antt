@@ -1,5 +1,5 @@
 -- The heap of a run by numbers, as lists.
-use Rattle.std.specs.Prelude.{ℕ, zero, suc, ◌≡◌, ◌+◌, Bool, true, false, min, List, [], ◌∷◌, ◌++◌, map, Option, Some, None, slice_get, slice_set}
+use Rattle.std.specs.Prelude.{ℕ, zero, suc, ◌≡◌, ◌+◌, ◌<◌, ◌^◌, Bool, true, false, min, List, [], ◌∷◌, ◌++◌, map, length, Option, Some, None, slice_get, slice_set}
 use Rattle.std.specs.Option.{option_map, option_and_then}
 use Rattle.insn_set.specs.declared.ops.Item.{Item}
 use Rattle.dalvik_lookups.specs.declared.types.Kind.{Kind}
@@ -41,6 +41,14 @@ spots_of w = map spot_of w.heap.items
 abbrev pub shape_at : List Spot → Datum → Option Shape
 shape_at spots (datum.Object n) = option_map (λ (s : Spot). s.shape) (slice_get spots n)
 shape_at spots d = None
+
+-- the length of an array is a word
+abbrev pub IsShortShape : Shape → Type 0
+IsShortShape (Plain kind) = Unit {0}
+IsShortShape (Array kind items) = length items < 2 ^ 32
+
+pub record IsShort (spots : List Spot) : Type 0 where
+  pub at : (i : ℕ) (s : Spot) → slice_get spots i ≡ Some s → IsShortShape s.shape
 
 -- the type of a thing; no array is as deep as the largest number
 abbrev pub kind_of_shape : Shape → Kind

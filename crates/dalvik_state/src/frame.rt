@@ -1,7 +1,7 @@
 //! A method that runs.
 
 ghost use Rattle.std.specs.Prelude.{◌≡◌, ◌+◌, ◌<◌, ◌^◌, slice_set};
-ghost use Rattle.dalvik_state.specs.Frames.{cell, with_item, with_slot, with_wide, IsWritten, IsMoved};
+ghost use Rattle.dalvik_state.specs.Frames.{cell, with_item, with_slot, with_wide, GoesOn, Handles, IsWritten, IsMoved};
 
 use crate::datum::Datum;
 use program_model::{Body, Insn, Item, MethodAt, Slot};
@@ -35,6 +35,20 @@ pub fn write_register(registers: &mut [Datum], register: usize, datum: Datum)
 {
     if register < registers.len() {
         registers[register] = datum;
+    }
+}
+
+/// Writes what an item of an array or a field held.
+fn write_item(registers: &mut [Datum], item: Item, register: u16, datum: Datum)
+    ensures { registers.new ≡ with_item item registers.old register datum }
+{
+    let first = register as usize;
+    match item {
+        Item::Wide => {
+            write_register(registers, first, Datum::Low(datum.number()));
+            write_register(registers, first + 1, Datum::High(datum.number()));
+        }
+        _ => write_register(registers, first, datum),
     }
 }
 
@@ -106,6 +120,29 @@ impl<'a> Frame<'a> {
         ensures { self.old.position < 2 ^ 63 → IsMoved self.old self.new (self.old.position + 1) }
     {
         self.position = self.position.saturating_add(1);
+    }
+
+    /// Goes to the next position with what an item of an array or a field held in a register.
+    pub fn next_with(&mut self, item: Item, register: u16, datum: Datum)
+        ensures { GoesOn self.old self.new (with_item item self.old.registers.items register datum) }
+    {
+        write_item(self.registers.as_mut_slice(), item, register, datum);
+        self.position = self.position.saturating_add(1);
+    }
+
+    /// Goes to the next position, and nothing else changes.
+    pub fn next_alone(&mut self)
+        ensures { GoesOn self.old self.new self.old.registers.items }
+    {
+        self.position = self.position.saturating_add(1);
+    }
+
+    /// Goes to a handler with what it catches.
+    pub fn handle(&mut self, position: u32, caught: Datum)
+        ensures { Handles self.old self.new position caught }
+    {
+        self.position = position as usize;
+        self.caught = caught;
     }
 
     /// Goes to a position.

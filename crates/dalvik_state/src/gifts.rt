@@ -1,5 +1,25 @@
 //! The values that the framework gives in one move.
 
+ghost use Rattle.std.specs.Prelude.{◌≡◌, ◌+◌, ◌∷◌, [], ℕ, length, IfOk, OnOk};
+ghost use Rattle.program_model.specs.declared.pass.Outside.{Outside};
+ghost use Rattle.dalvik_defs.specs.Gives.{fits, is_on, may_give, may_throw, value_fits};
+ghost use Rattle.dalvik_defs.specs.Outer.{outer_of};
+ghost use Rattle.dalvik_defs.specs.State.{World as NamedWorld};
+ghost use Rattle.dalvik_defs.specs.declared.script.Given.{Given};
+ghost use Rattle.dalvik_defs.specs.declared.script.Given.TheVariants as giving;
+ghost use Rattle.dalvik_lookups.specs.Facing.{run_face};
+ghost use Rattle.dalvik_lookups.specs.Playing.{AreBoth, IsGift};
+ghost use Rattle.dalvik_lookups.specs.Tables.{IsRight};
+ghost use Rattle.dalvik_lookups.specs.Views.{type_text, IsKind};
+ghost use Rattle.dalvik_lookups.specs.Walks.{IsKept};
+ghost use Rattle.dalvik_lookups.specs.declared.lookups.Lookups.{Lookups};
+ghost use Rattle.dalvik_state.specs.Drafts.{gift_spots, given_world};
+ghost use Rattle.dalvik_state.specs.Giving.{AreGiven, IsGiven, IsGivenFine, Takes, TakesMaybe};
+ghost use Rattle.dalvik_state.specs.Runs.{IsReach};
+ghost use Rattle.dalvik_state.specs.States.{HasRoom, HasSpace};
+ghost use Rattle.dalvik_state.specs.Views.{names_in, value_of};
+ghost use Rattle.dalvik_state.specs.Worlds.{kind_in, IsSameWorld};
+
 use crate::datum::Datum;
 use crate::items::zeros;
 use crate::state::Tables;
@@ -22,7 +42,9 @@ pub struct Taken {
 
 impl Gifts {
     /// No objects.
-    pub fn new(alloc: Global) -> Gifts {
+    pub fn new(alloc: Global) -> Gifts
+        ensures { result.things.items ≡ [] }
+    {
         Gifts {
             things: Vec::new(alloc),
         }
@@ -59,7 +81,9 @@ impl Gifts {
 
     /// Whether an array of such items may be given: of a primitive type, of a kept class, or of a class that the program
     /// doesn't define.
-    fn may_give_array(tables: &Tables<'_>, item: Kind) -> bool {
+    fn may_give_array(tables: &Tables<'_>, item: Kind) -> bool
+        ensures { (o : Outside) (w : NamedWorld) (size : ℕ) → IsRight tables.now.lookups → IsReach tables.now.lookups o → IsKind tables.now.lookups.types item → result ≡ may_give (run_face tables.now.lookups) (outer_of tables.now.lookups.program.now o) w (giving.Array (type_text tables.now.lookups.types item) size) }
+    {
         let base = Kind::plain(item.base);
         let types = &tables.lookups.types;
         types.is_word(base)
@@ -76,7 +100,9 @@ impl Gifts {
         tables: &Tables<'_>,
         world: &World,
         gift: Gift,
-    ) -> Result<Taken, AllocError> {
+    ) -> Result<Taken, AllocError>
+        ensures { (o : Outside) (g : Given) → IsRight tables.now.lookups → IsReach tables.now.lookups o → IsGiven tables.now.lookups world.now self.old → IsGift tables.now.lookups.types tables.now.lookups.texts g gift → IfOk result (Takes tables.now.lookups o world.now self.old self.new g) }
+    {
         let (datum, allowed) = match gift {
             Gift::Null => (Datum::NULL, true),
             Gift::Word(word) => (Datum::Word(word), true),
@@ -104,7 +130,9 @@ impl Gifts {
         tables: &Tables<'_>,
         world: &World,
         gift: Option<Gift>,
-    ) -> Result<Option<Taken>, AllocError> {
+    ) -> Result<Option<Taken>, AllocError>
+        ensures { (o : Outside) (g : Option Given) → IsRight tables.now.lookups → IsReach tables.now.lookups o → IsGiven tables.now.lookups world.now self.old → AreBoth (IsGift tables.now.lookups.types tables.now.lookups.texts) g gift → IfOk result (TakesMaybe tables.now.lookups o world.now self.old self.new g) }
+    {
         match gift {
             Some(gift) => Ok(Some(self.take(alloc, tables, world, gift)?)),
             None => Ok(None),
@@ -112,7 +140,9 @@ impl Gifts {
     }
 
     /// The type of what a value refers to, which may be one of these objects.
-    pub fn kind_of(&self, world: &World, datum: Datum) -> Option<Kind> {
+    pub fn kind_of(&self, world: &World, datum: Datum) -> Option<Kind>
+        ensures { result ≡ kind_in (gift_spots world.now self.now) datum }
+    {
         match datum {
             Datum::Object(number) => {
                 match self
@@ -136,7 +166,10 @@ impl Gifts {
         world: &World,
         datum: Datum,
         kind: Kind,
-    ) -> Result<bool, AllocError> {
+    ) -> Result<bool, AllocError>
+        ensures kept { IsRight tables.now.lookups → IsKept tables.now.lookups memo.old → IsGiven tables.now.lookups world.now self.now → IsKind tables.now.lookups.types kind → IsKept tables.now.lookups memo.new }
+        ensures is { IsRight tables.now.lookups → IsKept tables.now.lookups memo.old → IsGiven tables.now.lookups world.now self.now → IsGivenFine tables.now.lookups world.now self.now datum → IsKind tables.now.lookups.types kind → IfOk result (λ b. b ≡ is_on (run_face tables.now.lookups) (given_world (names_in tables.now.lookups) world.now self.now) (value_of (names_in tables.now.lookups) datum) (type_text tables.now.lookups.types kind)) }
+    {
         match self.kind_of(world, datum) {
             Some(own) => tables.lookups.is_under(memo, own, kind),
             None => Ok(false),
@@ -144,12 +177,18 @@ impl Gifts {
     }
 
     /// How many objects there are.
-    pub fn len(&self) -> usize {
+    pub fn len(&self) -> usize
+        ensures { result ≡ length self.now.things.items }
+    {
         self.things.len()
     }
 
     /// Makes room for the objects, and for so many more.
-    pub fn reserve(&self, world: &mut World, more: usize) -> Result<(), AllocError> {
+    pub fn reserve(&self, world: &mut World, more: usize) -> Result<(), AllocError>
+        ensures same { IsSameWorld world.old world.new }
+        ensures room { OnOk result (HasRoom world.new (length self.now.things.items + more)) }
+        ensures space { OnOk result (HasSpace world.new (length self.now.things.items + more)) }
+    {
         let count = self.things.len().saturating_add(more);
         world.heap.reserve(count)?;
         world.exposed.reserve(count)?;
@@ -157,7 +196,11 @@ impl Gifts {
     }
 
     /// Puts the objects on the heap and gives them their places; there is room for them.
-    pub fn give(self, world: &mut World) {
+    pub fn give(self, world: &mut World)
+        ensures given { (l : Lookups) → IsGiven l world.old self → HasRoom world.old (length self.things.items) → HasSpace world.old (length self.things.items) → AreGiven l self world.old world.new }
+        ensures room { (count : ℕ) → HasRoom world.old (length self.things.items + count) → HasRoom world.new count }
+        ensures space { (count : ℕ) → HasSpace world.old (length self.things.items + count) → HasSpace world.new count }
+    {
         let Gifts { things } = self;
         for thing in things {
             let number = world.next_number();
@@ -176,7 +219,10 @@ fn value_fits(
     gifts: &Gifts,
     given: (Gift, Datum),
     kind: Kind,
-) -> Result<bool, AllocError> {
+) -> Result<bool, AllocError>
+    ensures kept { IsRight tables.now.lookups → IsKept tables.now.lookups memo.old → IsGiven tables.now.lookups world.now gifts.now → IsKind tables.now.lookups.types kind → IsKept tables.now.lookups memo.new }
+    ensures is { (g : Given) → IsRight tables.now.lookups → IsKept tables.now.lookups memo.old → IsGiven tables.now.lookups world.now gifts.now → IsGivenFine tables.now.lookups world.now gifts.now given.1 → IsGift tables.now.lookups.types tables.now.lookups.texts g given.0 → IsKind tables.now.lookups.types kind → IfOk result (λ b. b ≡ value_fits (run_face tables.now.lookups) (given_world (names_in tables.now.lookups) world.now gifts.now) g (value_of (names_in tables.now.lookups) given.1) (type_text tables.now.lookups.types kind)) }
+{
     let types = &tables.lookups.types;
     match given.0 {
         Gift::Null => Ok(types.is_reference(kind)),
@@ -200,7 +246,11 @@ pub fn fits(
     gifts: &Gifts,
     given: (Gift, Taken),
     kind: Kind,
-) -> Result<bool, AllocError> {
+) -> Result<bool, AllocError>
+    ensures kept { IsRight tables.now.lookups → IsKept tables.now.lookups memo.old → IsGiven tables.now.lookups world.now gifts.now → IsKind tables.now.lookups.types kind → IsKept tables.now.lookups memo.new }
+    ensures is { (o : Outside) (before : NamedWorld) (g : Given) → IsRight tables.now.lookups → IsKept tables.now.lookups memo.old → IsGiven tables.now.lookups world.now gifts.now → IsGivenFine tables.now.lookups world.now gifts.now given.1.datum → IsGift tables.now.lookups.types tables.now.lookups.texts g given.0 → given.1.allowed ≡ may_give (run_face tables.now.lookups) (outer_of tables.now.lookups.program.now o) before g → IsKind tables.now.lookups.types kind
+        → IfOk result (λ b. b ≡ fits (run_face tables.now.lookups) (outer_of tables.now.lookups.program.now o) before (given_world (names_in tables.now.lookups) world.now gifts.now) g (value_of (names_in tables.now.lookups) given.1.datum) (type_text tables.now.lookups.types kind)) }
+{
     let (gift, taken) = given;
     if !taken.allowed {
         return Ok(false);
@@ -215,7 +265,11 @@ pub fn may_throw(
     world: &World,
     gifts: &Gifts,
     given: (Gift, Taken),
-) -> Result<bool, AllocError> {
+) -> Result<bool, AllocError>
+    ensures kept { IsRight tables.now.lookups → IsKept tables.now.lookups memo.old → IsGiven tables.now.lookups world.now gifts.now → IsKept tables.now.lookups memo.new }
+    ensures is { (o : Outside) (before : NamedWorld) (g : Given) → IsRight tables.now.lookups → IsKept tables.now.lookups memo.old → IsGiven tables.now.lookups world.now gifts.now → IsGivenFine tables.now.lookups world.now gifts.now given.1.datum → IsGift tables.now.lookups.types tables.now.lookups.texts g given.0 → given.1.allowed ≡ may_give (run_face tables.now.lookups) (outer_of tables.now.lookups.program.now o) before g
+        → IfOk result (λ b. b ≡ may_throw (run_face tables.now.lookups) (outer_of tables.now.lookups.program.now o) before (given_world (names_in tables.now.lookups) world.now gifts.now) g (value_of (names_in tables.now.lookups) given.1.datum)) }
+{
     let kind = Kind::plain(known::THROWABLE);
     if fits(tables, memo, world, gifts, given, kind)? {
         gifts.is_on(tables, memo, world, given.1.datum, kind)

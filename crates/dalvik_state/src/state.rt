@@ -106,7 +106,7 @@ impl<'a> State<'a> {
     #[tactic(auto, using(crate::proofs::Opening::opening_named, crate::proofs::Opening::opening_runs))]
     pub fn new(alloc: Global, tables: &Tables<'a>) -> Result<State<'a>, AllocError>
         ensures named { (script : List Move) → IsRight tables.now.lookups → IfOk result (λ s. state_of (names_in tables.now.lookups) script s ≡ opening script) }
-        ensures running { IsRight tables.now.lookups → IfOk result (IsRunning tables.now.lookups) }
+        ensures running { IsRight tables.now.lookups → IfOk result (IsRunning tables.now.lookups 0) }
     {
         let state = begin(alloc, tables)?;
         Ok(state)

@@ -1,22 +1,5 @@
 //! Entries and results (Dalvik bytecode, "invoke-kind", "return").
 
-ghost use Rattle.std.specs.Prelude.{◌≡◌, ◌-◌, ◌++◌, ℕ, List, Some, IfOk, OnErr, OnOk, false, replicate, length};
-ghost use Rattle.std.specs.Option.{option_map};
-ghost use Rattle.program_model.specs.Lookups as look;
-ghost use Rattle.program_model.specs.declared.program.Method.{Method};
-ghost use Rattle.dalvik_defs.specs.Naming.{method_at};
-ghost use Rattle.dalvik_defs.specs.Stack.{enters, gives};
-ghost use Rattle.dalvik_defs.specs.declared.script.Move.{Move};
-ghost use Rattle.dalvik_lookups.specs.Tables.{IsRight};
-ghost use Rattle.dalvik_lookups.specs.Views.{type_text};
-ghost use Rattle.dalvik_state.specs.Drafts.{given_world};
-ghost use Rattle.dalvik_state.specs.Giving.{IsGiven, IsGivenFine};
-ghost use Rattle.dalvik_state.specs.Runs.{below_in, bodies_in, classes_in, script_in, stack_in, world_in, IsEvent, IsLeft, IsUndone};
-ghost use Rattle.dalvik_state.specs.States.{IsRunning};
-ghost use Rattle.dalvik_state.specs.Views.{names_in, value_of, values_of, AreFine};
-ghost use Rattle.dalvik_state.specs.Worlds.{spots_of};
-ghost use Rattle.dalvik_steps.specs.Entries.{AreGivenFine, IsEntry};
-
 use dalvik_defs::Event;
 use dalvik_lookups::Kind;
 use dalvik_state::{
@@ -39,9 +22,7 @@ pub fn entry_frame<'a>(
     tables: &Tables<'a>,
     at: MethodAt,
     values: &[Datum],
-) -> Result<Option<Frame<'a>>, AllocError>
-    ensures { (size : ℕ) (own : Method) → IsRight tables.now.lookups → look.method_at tables.now.lookups.program.now at ≡ Some own → AreFine (names_in tables.now.lookups) size values.now → IfOk result (IsEntry tables.now.lookups size own values.now) }
-{
+) -> Result<Option<Frame<'a>>, AllocError> {
     let method = match tables.lookups.method(at) {
         Some(method) => method,
         None => return Ok(None),
@@ -68,11 +49,7 @@ pub fn enters<'a>(
     state: &mut State<'a>,
     at: MethodAt,
     values: &[Datum],
-) -> Result<(), AllocError>
-    ensures ok { (steps : ℕ) (script : List Move) (own : Method) → IsRight tables.now.lookups → IsRunning tables.now.lookups steps state.old → state.old.ended ≡ false → look.method_at tables.now.lookups.program.now at ≡ Some own → AreFine (names_in tables.now.lookups) (length (spots_of state.old.world)) values.now
-        → OnOk result (IsLeft tables.now.lookups steps script state.new (enters (bodies_in tables.now.lookups) (world_in tables.now.lookups state.old) (classes_in tables.now.lookups state.old) (method_at tables.now.lookups.program.now own.name) (values_of (names_in tables.now.lookups) values.now) (stack_in tables.now.lookups state.old) (script_in script state.old))) }
-    ensures err { (steps : ℕ) → IsRight tables.now.lookups → IsRunning tables.now.lookups steps state.old → state.old.ended ≡ false → OnErr result (IsUndone tables.now.lookups steps state.old state.new) }
-{
+) -> Result<(), AllocError> {
     match entry_frame(alloc, tables, at, values)? {
         Some(frame) => state.stack.push(Waiting::Method(frame))?,
         None => state.end(),
@@ -113,12 +90,7 @@ pub fn gives<'a>(
     gifts: Gifts,
     kind: Kind,
     value: Option<Datum>,
-) -> Result<Option<Event>, AllocError>
-    ensures ok { (steps : ℕ) (script : List Move) → IsRight tables.now.lookups → IsRunning tables.now.lookups steps state.old → state.old.ended ≡ false → IsGiven tables.now.lookups state.old.world gifts → AreGivenFine tables.now.lookups state.old.world gifts value
-        → IfOk result (λ e. IsEvent tables.now.lookups steps script state.new e (gives (bodies_in tables.now.lookups) (type_text tables.now.lookups.types kind) (given_world (names_in tables.now.lookups) state.old.world gifts) (classes_in tables.now.lookups state.old) (option_map (value_of (names_in tables.now.lookups)) value) (below_in tables.now.lookups state.old) (script_in script state.old))) }
-    ensures next { OnOk result (state.new.next ≡ state.old.next) }
-    ensures err { (steps : ℕ) → IsRight tables.now.lookups → IsRunning tables.now.lookups steps state.old → state.old.ended ≡ false → OnErr result (IsUndone tables.now.lookups steps state.old state.new) }
-{
+) -> Result<Option<Event>, AllocError> {
     let shown = if is_outside_below(state) {
         Some(drafted_option(alloc, tables, &state.world, &gifts, kind, value)?)
     } else {

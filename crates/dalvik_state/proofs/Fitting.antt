@@ -1,18 +1,16 @@
 -- Which values fit a type, by numbers and by names.
-use Rattle.std.proofs.Common.{◌≡◌, ℕ, Bool, true, false, true≢false, nat_eq, ap, refl, sym, subst, ◌∙◌}
+use Rattle.std.proofs.Common.{◌≡◌, Bool, true, false, nat_eq, ap, refl, sym, subst, ◌∙◌}
 use Rattle.std.specs.Prelude.{◌&&◌, ◌||◌, not}
 use Rattle.dalvik_defs.specs.Face.{is_plain_class}
 use Rattle.dalvik_defs.specs.Gives.{fits, is_on, may_give, may_throw, reference_fits, value_fits}
-use Rattle.dalvik_defs.specs.Names.{Text, is_array, is_reference, is_wide, is_word, throwable_type}
+use Rattle.dalvik_defs.specs.Names.{Text, is_array, is_reference, throwable_type}
 use Rattle.dalvik_defs.specs.Outer.{Outer}
 use Rattle.dalvik_defs.specs.State.{World, kind_of}
 use Rattle.dalvik_defs.specs.declared.state.Value.{Value}
 use Rattle.dalvik_defs.specs.declared.state.Value.TheVariants as value
 use Rattle.dalvik_defs.specs.declared.script.Given.{Given}
-use Rattle.dalvik_defs.specs.declared.script.Given.TheVariants as given
 use Rattle.dalvik_lookups.specs.declared.lookups.Lookups.{Lookups}
 use Rattle.dalvik_lookups.specs.declared.plays.Gift.{Gift}
-use Rattle.dalvik_lookups.specs.declared.plays.Gift.TheVariants as gift
 use Rattle.dalvik_lookups.specs.declared.types.Kind.{Kind}
 use Rattle.dalvik_lookups.specs.Facing.{run_face}
 use Rattle.dalvik_lookups.specs.Playing.{given_of, IsGift}

@@ -1,23 +1,22 @@
 -- Objects that are put on the heap and exposed there.
-use Rattle.std.proofs.Common.{◌≡◌, ℕ, zero, suc, ◌+◌, ◌<◌, ◌≤◌, inl, inr, Bool, true, false, List, [], ◌∷◌, ◌++◌, length, map, cond, nat_eq, arith, ap, refl, sym, subst, ◌∙◌, append-nil, length-append, eq-eqb}
+use Rattle.std.proofs.Common.{◌≡◌, ℕ, zero, suc, ◌+◌, ◌<◌, ◌≤◌, inl, inr, Bool, false, List, [], ◌∷◌, ◌++◌, length, map, cond, nat_eq, arith, ap, refl, sym, subst, ◌∙◌, append-nil, length-append, eq-eqb}
 use Rattle.std.specs.Prelude.{Option, Some, None, ◌&&◌, slice_get}
 use Rattle.std.specs.Map.{lookup}
 use Rattle.std.specs.Option.{option_map, option_and_then, option_or}
 use Rattle.dalvik_lookups.specs.declared.lookups.Lookups.{Lookups}
 use Rattle.dalvik_lookups.proofs.Interned.{got_last, got_short}
 use Rattle.dalvik_defs.specs.Show.{place_in, with_given}
-use Rattle.dalvik_defs.specs.State.{Exposed as Seen, Instance, Thing, World}
+use Rattle.dalvik_defs.specs.State.{Instance, Thing, World}
 use Rattle.dalvik_defs.specs.declared.names.FieldKey.{FieldKey}
-use Rattle.dalvik_defs.specs.declared.state.Value.{Value}
 use Rattle.dalvik_state.specs.declared.datum.Datum.{Datum}
 use Rattle.dalvik_state.specs.declared.gifts.Gifts.{Gifts}
 use Rattle.dalvik_state.specs.declared.world.Exposed.{Exposed}
 use Rattle.dalvik_state.specs.declared.world.Thing.{Thing as OwnThing}
 use Rattle.dalvik_state.specs.declared.world.World.{World as OwnWorld}
-use Rattle.dalvik_state.specs.Drafts.{give_all, given_exposed, given_shape, given_spots, given_things, given_world}
+use Rattle.dalvik_state.specs.Drafts.{give_all, given_exposed, given_shape, given_spots, given_things}
 use Rattle.dalvik_state.specs.Giving.{AreGiven, IsGiven}
 use Rattle.dalvik_state.specs.States.{kind_within, AreKinds, ArePlaced, AreWritten, HasRoom, HasSpace, IsFineKind, IsSound}
-use Rattle.dalvik_state.specs.Views.{AreFineSpots, IsFineShape, IsFineWorld, Names, exposed_of, field_in, is_at, names_in, place_of_field, thing_of, things_from, value_of, world_of}
+use Rattle.dalvik_state.specs.Views.{AreFineSpots, IsFineShape, Names, exposed_of, field_in, is_at, names_in, place_of_field, thing_of, things_from, value_of, world_of}
 use Rattle.dalvik_state.specs.Worlds.{Array, Plain, Shape, Spot, new_spot, shape_of, spots_of, IsExposed, IsShort, IsShortShape}
 use Rattle.dalvik_state.proofs.Fine.{fine_more, shape_more}
 use Rattle.dalvik_state.proofs.Gifted.{give_more, spots_count, things_more}

@@ -1,6 +1,6 @@
 -- Which moves are legal, by numbers and by names.
-use Rattle.std.proofs.Common.{◌≡◌, ℕ, zero, suc, ◌<◌, Bool, true, false, true≢false, List, [], ◌∷◌, ◌++◌, length, map, nat_eq, arith, ap, refl, sym, subst, ◌∙◌, lt-ltb, eqb-true, eq-eqb}
-use Rattle.std.specs.Prelude.{Option, Some, None, ◌&&◌, ◌||◌, not, nat_lt, slice_get, option_and_then}
+use Rattle.std.proofs.Common.{◌≡◌, ℕ, zero, suc, ◌<◌, Bool, true, false, true≢false, List, [], ◌∷◌, length, map, nat_eq, ap, refl, sym, subst, ◌∙◌, lt-ltb, eqb-true, eq-eqb}
+use Rattle.std.specs.Prelude.{Option, Some, None, ◌&&◌, ◌||◌, not, slice_get, option_and_then}
 use Rattle.std.specs.List.{list_all, list_any}
 use Rattle.std.specs.Option.{option_map}
 use Rattle.program_model.specs.declared.pass.Outside.{Outside}
@@ -11,31 +11,30 @@ use Rattle.program_model.specs.declared.program.Field.{Field}
 use Rattle.program_model.specs.declared.program.Method.{Method}
 use Rattle.program_model.specs.declared.program.MethodAt.{MethodAt}
 use Rattle.program_model.specs.declared.program.Program.{Program}
-use Rattle.program_model.specs.Distinct.{all_differ, own_field_key, own_method_key}
+use Rattle.program_model.specs.Distinct.{all_differ, own_method_key}
 use Rattle.program_model.specs.Lookups as look
-use Rattle.program_model.specs.MemberRules.{has_flag, class_fits, field_fits, fields_fit, fields_in_order, is_direct, method_fits, methods_fit, methods_in_order, source_fits, types_of_class_fit}
+use Rattle.program_model.specs.MemberRules.{has_flag, class_fits, fields_fit, is_direct, method_fits, methods_fit, methods_in_order, source_fits, types_of_class_fit}
 use Rattle.program_model.specs.Neighbours.{neighbours}
 use Rattle.program_model.specs.Texts.{has_type}
 use Rattle.program_model.specs.ValueRules.{marks_fit}
 use Rattle.program_model.specs.Lookups.{class_place}
 use Rattle.class_defs.specs.Members as member
 use Rattle.class_defs.proofs.Positions.{both, same_test}
-use Rattle.class_defs.proofs.WellFormed.{below, class_parts, ClassFits}
+use Rattle.class_defs.proofs.WellFormed.{below, class_parts}
 use Rattle.name_bridge.specs.Named.{field_of, field_there, finds, found_at}
 use Rattle.name_bridge.proofs.Flags.{static_flag}
 use Rattle.name_bridge.proofs.Above.{own_place}
 use Rattle.name_bridge.proofs.Candidates.{common_test}
-use Rattle.name_bridge.proofs.Found.{FoundParts, IsThere, found_parts, found_there_is, looked_up, virtual_test}
+use Rattle.name_bridge.proofs.Found.{found_parts, looked_up, virtual_test}
 use Rattle.name_bridge.proofs.Tables.{Sound, all_at, and_left, and_right, entry_at, field_is, method_class, method_is, method_once, method_proto, proto_parameters, proto_result, same_number, sound}
 use Rattle.dalvik_defs.specs.Face.{Place, place_of}
 use Rattle.dalvik_defs.specs.Gives.{is_on}
-use Rattle.dalvik_defs.specs.Find as name
-use Rattle.dalvik_defs.specs.Find.{Found, found_in, is_virtual_method}
+use Rattle.dalvik_defs.specs.Find.{Found, found_in}
 use Rattle.dalvik_defs.specs.Flags.{is_static, is_virtual}
 use Rattle.dalvik_defs.specs.Legal.{calls_back, is_found, on_fits, receiver_ok}
 use Rattle.dalvik_defs.specs.Names as spelled
 use Rattle.dalvik_defs.specs.Names.{Text, method_eq}
-use Rattle.dalvik_defs.specs.Naming.{field_at, method_at, named, named_class, named_field, named_method, signature_at, text_at, type_at}
+use Rattle.dalvik_defs.specs.Naming.{field_at, method_at, named, named_class, named_field, named_method, type_at}
 use Rattle.dalvik_defs.specs.Outcome.{passed_types}
 use Rattle.dalvik_defs.specs.Outer.{methods_in, outer_of}
 use Rattle.dalvik_defs.specs.State.{World, kind_of}
@@ -55,7 +54,7 @@ use Rattle.dalvik_lookups.specs.Facing.{named_search, place_at, run_face}
 use Rattle.dalvik_lookups.specs.Tables.{kind_in, place_named, IsRight}
 use Rattle.dalvik_lookups.specs.Views.{type_text}
 use Rattle.dalvik_lookups.specs.Walks.{found_of}
-use Rattle.dalvik_lookups.proofs.Facing.{ClassOf, class_of, named_place, right_face}
+use Rattle.dalvik_lookups.proofs.Facing.{ClassOf, named_place, right_face}
 use Rattle.dalvik_lookups.proofs.Interned.{got_short}
 use Rattle.dalvik_state.specs.declared.gifts.Gifts.{Gifts}
 use Rattle.dalvik_state.specs.declared.gifts.Taken.{Taken}

@@ -1,10 +1,9 @@
 -- Values that fit the types of a call, one behind another.
-use Rattle.std.proofs.Common.{◌≡◌, ℕ, zero, suc, ◌+◌, ◌<◌, ◌≤◌, Bool, true, false, List, [], ◌∷◌, length, map, drop, get_or, arith, ap, refl, sym, subst, ◌∙◌}
-use Rattle.std.specs.Prelude.{Option, Some, None, ◌&&◌, slice_get}
+use Rattle.std.proofs.Common.{◌≡◌, ℕ, zero, suc, ◌+◌, ◌<◌, ◌≤◌, Bool, true, false, List, [], ◌∷◌, length, map, drop, arith, ap, refl, sym, subst, ◌∙◌}
+use Rattle.std.specs.Prelude.{Some, ◌&&◌, slice_get}
 use Rattle.program_model.specs.declared.pass.Outside.{Outside}
-use Rattle.dalvik_defs.specs.Gives.{all_fit, fits, gets, may_give}
-use Rattle.dalvik_defs.specs.Names.{Text}
-use Rattle.dalvik_defs.specs.Outer.{Outer, outer_of}
+use Rattle.dalvik_defs.specs.Gives.{all_fit, fits, gets}
+use Rattle.dalvik_defs.specs.Outer.{outer_of}
 use Rattle.dalvik_defs.specs.State.{World}
 use Rattle.dalvik_defs.specs.declared.script.Given.{Given}
 use Rattle.dalvik_defs.specs.declared.state.Value.{Value}
@@ -18,7 +17,6 @@ use Rattle.dalvik_state.specs.declared.gifts.Taken.{Taken}
 use Rattle.dalvik_state.specs.declared.world.World.{World as OwnWorld}
 use Rattle.dalvik_state.specs.Drafts.{given_world}
 use Rattle.dalvik_state.specs.Giving.{AreTakenFrom, IsTakenFrom}
-use Rattle.dalvik_state.specs.States.{AreFineKinds, IsFineKind}
 use Rattle.dalvik_state.specs.Views.{names_in, value_of}
 
 module _ (l : Lookups) (o : Outside) (w : OwnWorld) (all : Gifts) where

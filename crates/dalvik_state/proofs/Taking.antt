@@ -1,5 +1,5 @@
 -- Values that a move takes, and which of them may be given.
-use Rattle.std.proofs.Common.{◌≡◌, ℕ, zero, suc, ◌+◌, ◌-◌, ◌<◌, ◌≤◌, ◌^◌, inl, inr, Bool, true, false, List, [], ◌∷◌, ◌++◌, length, map, replicate, nat_eq, nat_lt, is_none, is_some, arith, ap, refl, sym, subst, ◌∙◌, length-append, lt-ltb, ltb-true, eqb-true}
+use Rattle.std.proofs.Common.{◌≡◌, ℕ, zero, suc, ◌+◌, ◌-◌, ◌<◌, ◌≤◌, ◌^◌, inl, inr, Bool, true, false, List, [], ◌∷◌, ◌++◌, length, map, replicate, nat_lt, is_none, is_some, arith, ap, refl, sym, subst, ◌∙◌, length-append, lt-ltb, ltb-true}
 use Rattle.std.specs.Prelude.{Option, Some, None, ◌&&◌, ◌||◌, not, slice_get, option_and_then}
 use Rattle.std.specs.Option.{option_map}
 use Rattle.std.specs.List.{list_any}
@@ -21,7 +21,7 @@ use Rattle.dalvik_lookups.proofs.Calls.{class_there}
 use Rattle.dalvik_lookups.proofs.Facing.{right_face}
 use Rattle.dalvik_lookups.proofs.Interned.{got_last, got_short}
 use Rattle.dalvik_defs.specs.Face.{is_defined}
-use Rattle.dalvik_defs.specs.Gives.{exposed_at, gets, may_give}
+use Rattle.dalvik_defs.specs.Gives.{gets, may_give}
 use Rattle.dalvik_defs.specs.Names.{Text, base_of, is_array, is_class_type, is_wide, is_word, text_eq}
 use Rattle.dalvik_defs.specs.Naming.{text_at, type_at}
 use Rattle.dalvik_defs.specs.Outer.{outer_of}
@@ -41,9 +41,9 @@ use Rattle.dalvik_state.specs.declared.world.World.{World as OwnWorld}
 use Rattle.dalvik_state.specs.Drafts.{gift_spots, given_shape, given_world}
 use Rattle.dalvik_state.specs.Frames.{zero_in}
 use Rattle.dalvik_state.specs.Giving.{kept_or_free, own_taken, IsGiven, IsGivenFine, Takes, TakesMaybe}
-use Rattle.dalvik_state.specs.States.{kind_within, AreKinds, IsFineKind}
-use Rattle.dalvik_state.specs.Views.{AreFineSpots, IsFineShape, Names, names_in, value_of, values_of}
-use Rattle.dalvik_state.specs.Worlds.{Array, Plain, Shape, Spot, new_spot, shape_of, spots_of, IsShort, IsShortShape}
+use Rattle.dalvik_state.specs.States.{kind_within, IsFineKind}
+use Rattle.dalvik_state.specs.Views.{IsFineShape, names_in, value_of}
+use Rattle.dalvik_state.specs.Worlds.{Array, Shape, Spot, new_spot, shape_of, spots_of, IsShortShape}
 use Rattle.dalvik_state.proofs.Fine.{fine_alike, fine_zero}
 use Rattle.dalvik_state.proofs.Gifted.{next_given, place_before, place_behind, place_past, places_count, spots_count, world_more}
 use Rattle.dalvik_state.proofs.Places.{none_past}

@@ -1,5 +1,5 @@
 -- The values that the framework gives in one move, and which moves are legal.
-use Rattle.std.specs.Prelude.{ℕ, ◌≡◌, ◌<◌, ◌≤◌, ◌+◌, ◌&&◌, ◌||◌, not, is_none, nat_eq, nat_lt, Bool, true, false, List, [], ◌∷◌, ◌++◌, length, map, slice_get, Option, Some, None}
+use Rattle.std.specs.Prelude.{ℕ, ◌≡◌, ◌≤◌, ◌+◌, ◌&&◌, ◌||◌, not, is_none, nat_eq, nat_lt, Bool, true, false, List, [], ◌∷◌, ◌++◌, length, map, slice_get, Option, Some, None}
 use Rattle.std.specs.List.{list_any}
 use Rattle.program_model.specs.declared.pass.Outside.{Outside}
 use Rattle.program_model.specs.declared.pools.MethodName.{MethodName}
@@ -28,7 +28,7 @@ use Rattle.dalvik_state.specs.declared.gifts.Gifts.{Gifts}
 use Rattle.dalvik_state.specs.declared.gifts.Taken.{Taken}
 use Rattle.dalvik_state.specs.declared.world.World.{World as OwnWorld}
 use Rattle.dalvik_state.specs.Drafts.{gift_spots, given_world}
-use Rattle.dalvik_state.specs.States.{AreKinds, HasRoom, HasSpace, IsSound}
+use Rattle.dalvik_state.specs.States.{AreKinds, IsSound}
 use Rattle.dalvik_state.specs.Views.{AreFineSpots, IsFine, names_in, value_of, world_of}
 use Rattle.dalvik_state.specs.Worlds.{IsShort, new_spot, spots_of}
 

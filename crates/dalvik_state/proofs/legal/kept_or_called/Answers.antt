@@ -1,4 +1,4 @@
-use Rattle.std.proofs.Common.{ap, sym, true, false, ◌∙◌}
+use Rattle.std.proofs.Common.{ap, sym, ◌∙◌}
 use Rattle.std.specs.Prelude.{◌||◌}
 use Rattle.name_bridge.proofs.Tables.{sound}
 use Rattle.dalvik_defs.specs.Legal.{calls_back}

@@ -1,12 +1,11 @@
-use Rattle.std.proofs.Common.{ap, refl, sym, subst, Some, None, Option, true, false, ◌≡◌, ◌∙◌}
-use Rattle.std.specs.Prelude.{IfOk, ◌&&◌}
+use Rattle.std.proofs.Common.{ap, refl, sym, subst, Option, false, ◌≡◌, ◌∙◌}
+use Rattle.std.specs.Prelude.{◌&&◌}
 use Rattle.std.specs.Option.{option_map}
 use Rattle.dalvik_defs.specs.Gives.{is_on}
 use Rattle.dalvik_defs.specs.Legal.{on_fits}
 use Rattle.dalvik_defs.specs.Naming.{field_at}
 use Rattle.dalvik_defs.specs.Outer.{outer_of}
 use Rattle.dalvik_lookups.specs.Facing.{run_face}
-use Rattle.dalvik_lookups.specs.Views.{type_text}
 use Rattle.dalvik_state.specs.declared.gifts.Taken.{Taken}
 use Rattle.dalvik_state.specs.Drafts.{given_world}
 use Rattle.dalvik_state.specs.Giving.{OnTaken}

@@ -1,5 +1,5 @@
-use Rattle.std.proofs.Common.{ap, refl, sym, subst, true, false, ◌∙◌}
-use Rattle.std.specs.Prelude.{IfOk, ◌||◌, ◌≡◌}
+use Rattle.std.proofs.Common.{ap, refl, sym, true, false, ◌∙◌}
+use Rattle.std.specs.Prelude.{◌||◌}
 use Rattle.dalvik_defs.specs.Legal.{calls_back}
 use Rattle.dalvik_defs.specs.Outer.{methods_in, outer_of}
 use Rattle.dalvik_defs.specs.State.{kind_of}

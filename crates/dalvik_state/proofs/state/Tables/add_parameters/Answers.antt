@@ -1,4 +1,4 @@
-use Rattle.std.proofs.Common.{ap, sym, subst, List, ℕ, Some, ◌≡◌, ◌∙◌}
+use Rattle.std.proofs.Common.{ap, subst, List, ℕ, Some, ◌≡◌, ◌∙◌}
 use Rattle.std.specs.Prelude.{OnOk, ◌++◌, map}
 use Rattle.program_model.specs.declared.pools.Proto.{Proto}
 use Rattle.dalvik_lookups.specs.Tables.{kind_in}

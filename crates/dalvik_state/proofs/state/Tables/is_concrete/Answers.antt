@@ -1,4 +1,4 @@
-use Rattle.std.proofs.Common.{ap, not, true, false, ◌∙◌}
+use Rattle.std.proofs.Common.{ap, not, ◌∙◌}
 use Rattle.std.specs.Prelude.{◌&&◌}
 use Rattle.dalvik_lookups.specs.Tables.{class_has}
 use Rattle.dalvik_state.proofs.Faced.{concrete_some}

@@ -3,6 +3,7 @@ pub mod Elements
 pub mod Goes
 pub mod Lengths
 pub mod Outward
+pub mod Safe
 pub mod Sparse
 pub mod Tabled
 pub mod Tests

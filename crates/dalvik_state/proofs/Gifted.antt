@@ -12,8 +12,9 @@ use Rattle.dalvik_defs.specs.Names.{Text, array_of, class_type, string_type}
 use Rattle.dalvik_defs.specs.Naming.{named}
 use Rattle.dalvik_defs.specs.Gives.{exposed_at, is_on}
 use Rattle.dalvik_defs.specs.Show.{with_given}
-use Rattle.dalvik_defs.specs.State.{Exposed as Seen, Thing, World, Value, kind_of, kind_of_thing, next_object}
+use Rattle.dalvik_defs.specs.State.{Exposed as Seen, Thing, World, kind_of, kind_of_thing, next_object}
 use Rattle.dalvik_defs.specs.Under.{is_under}
+use Rattle.dalvik_defs.specs.declared.state.Value.{Value}
 use Rattle.dalvik_defs.specs.declared.state.Value.TheVariants.{Word, Object}
 use Rattle.dalvik_state.specs.declared.datum.Datum.{Datum}
 use Rattle.dalvik_state.specs.declared.datum.Datum.TheVariants as datum

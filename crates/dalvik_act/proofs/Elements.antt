@@ -39,8 +39,7 @@ use Rattle.dalvik_state.proofs.Named.{cell_named, moved_named, null_named}
 use Rattle.dalvik_state.proofs.Storing.{fill_named, zeros_named}
 use Rattle.dalvik_state.proofs.Things.{added_named, changed_named, next_is}
 use Rattle.dalvik_act.proofs.Lengths.{here, number_of, unless_something}
-use Rattle.dalvik_defs.specs.declared.forms.Form.TheVariants as form
-use Rattle.dalvik_act.specs.Acting.{Answers, AnswersStore, new_array_of, adds_array, adds_zeros, contents_of, fits_by, fits_in, item_in, outline_of, place_below, place_in, puts_by}
+use Rattle.dalvik_act.specs.Acting.{new_array_of, adds_array, adds_zeros, contents_of, item_in, outline_of, place_below, place_in, puts_by}
 
 -- ---- what a value refers to
 
@@ -143,32 +142,6 @@ module _ (fits : Bool) (i : Item) (k : Text) (vs : List Value) (w : World) (f : 
       by_test true t g = absurd (cc)
       by_test false t g = sym (ap (λ (o : Option Value). elim o as (λ o. Effect) [ Some x ↦ writes_item fits w f on (put_item i k vs (pos j) v) | None ↦ Faults out_of_bounds ]) (item_past vs j (not_less j (length vs) t)))
 
--- ---- the test of types that a store asks
-
-pub fits_named : (n : Names) (holds : Bool) (i : Item) (d : Datum) → fits_in holds i d ≡ fits_by holds i (value_of n d)
-fits_named n holds item.Object d = ap (λ (b : Bool). b || holds) (sym (null_named n d))
-fits_named n holds item.Plain d = refl
-fits_named n holds item.Wide d = refl
-fits_named n holds item.Boolean d = refl
-fits_named n holds item.Byte d = refl
-fits_named n holds item.Char d = refl
-fits_named n holds item.Short d = refl
-
-module _ (under : Text → Text → Bool) (holds : Bool) (w : World) (f : NamedFrame) (v on : Value) (z : ℤ) where
-  puts_with : (i : Item) (t : Option Thing) (test : Bool) → ((k : Text) (vs : List Value) → t ≡ Some (Items k vs) → test ≡ may_store under w i v k) → puts_by test i t w f v on z ≡ array_put under i t w f v on z
-  puts_with i None test h = refl
-  puts_with i (Some (Instance c fs)) test h = refl
-  puts_with i (Some (Items k vs)) test h = ap (λ (b : Bool). puts_by b i (Some (Items k vs)) w f v on z) (h k vs refl)
-
-  asked : (t : Option Thing) (k : Text) (vs : List Value) → t ≡ Some (Items k vs) → AnswersStore under holds w v t → under (kind_of w v) k ≡ holds
-  asked None k vs e a = absurd (cc)
-  asked (Some (Instance c fs)) k vs e a = absurd (cc)
-  asked (Some (Items j us)) k vs e a = let same : k ≡ j = cc in ap (under (kind_of w v)) same ∙ a
-
-  -- a write of an item whose test has that answer
-  pub puts_object : (t : Option Thing) → AnswersStore under holds w v t → puts_by (fits_by holds item.Object v) item.Object t w f v on z ≡ array_put under item.Object t w f v on z
-  puts_object t a = puts_with item.Object t (fits_by holds item.Object v) (λ k vs e. ap (λ (b : Bool). is_null v || b) (sym (asked t k vs e a)))
-
 -- ---- arrays that are made
 
 pub zeroed : (l : Lookups) (old new : OwnWorld) (t : OwnThing) (kind : Kind) (size to : ℕ) (d : Datum) (f : NamedFrame) → IsHeap old new (spots_of old ++ new_spot t ∷ []) → shape_of t ≡ Array kind (replicate size (zero_in (is_wide (type_text l.types kind))))
@@ -268,17 +241,6 @@ module _ (n : Names) (w : OwnWorld) (d : Datum) (i : Item) (f : NamedFrame) (to 
 pub made_by : (z : ℤ) (kind : Text) (w : World) (f : NamedFrame) (to : ℕ) → new_array_of z (item_of kind) w f to ≡ new_array z kind w f to
 made_by (pos k) kind w f to = refl
 made_by (negsuc k) kind w f to = refl
-
--- a put of any item, by the answer of the test that it asks
-pub puts_tested : (under : Text → Text → Bool) (holds : Bool) (w : World) (f : NamedFrame) (z : ℤ) (i : Item) (from array index : ℕ) → Answers under holds (form.ArrayPut i from array index) w f
-    → puts_by (fits_by holds i (register f from)) i (thing_at w (register f array)) w f (register f from) (register f array) z ≡ array_put under i (thing_at w (register f array)) w f (register f from) (register f array) z
-puts_tested under holds w f z item.Object from array index a = puts_object under holds w f (register f from) (register f array) z (thing_at w (register f array)) a
-puts_tested under holds w f z item.Plain from array index a = puts_with under holds w f (register f from) (register f array) z item.Plain (thing_at w (register f array)) true (λ k vs e. refl)
-puts_tested under holds w f z item.Wide from array index a = puts_with under holds w f (register f from) (register f array) z item.Wide (thing_at w (register f array)) true (λ k vs e. refl)
-puts_tested under holds w f z item.Boolean from array index a = puts_with under holds w f (register f from) (register f array) z item.Boolean (thing_at w (register f array)) true (λ k vs e. refl)
-puts_tested under holds w f z item.Byte from array index a = puts_with under holds w f (register f from) (register f array) z item.Byte (thing_at w (register f array)) true (λ k vs e. refl)
-puts_tested under holds w f z item.Char from array index a = puts_with under holds w f (register f from) (register f array) z item.Char (thing_at w (register f array)) true (λ k vs e. refl)
-puts_tested under holds w f z item.Short from array index a = puts_with under holds w f (register f from) (register f array) z item.Short (thing_at w (register f array)) true (λ k vs e. refl)
 
 -- the size of a new array
 as_placed : (x : ℕ) → x < 2 ^ 32 → (i : ℕ) → Some i ≡ place_in (cast_signed w32 x) → cast_signed w32 x ≡ pos x

@@ -1,7 +1,7 @@
 -- Arrays that instructions measure and read, by names.
-use Rattle.std.proofs.Common.{◌≡◌, ℕ, ◌+◌, Bool, true, false, List, length, arith, ap, refl, sym, ◌∙◌}
-use Rattle.std.specs.Prelude.{Option, Some, None, min, slice_get}
-use Rattle.dalvik_act.specs.Acting.{IsShort, outline_of}
+use Rattle.std.proofs.Common.{◌≡◌, ℕ, ◌+◌, ◌<◌, subst, Bool, true, false, List, length, arith, ap, refl, sym, ◌∙◌}
+use Rattle.std.specs.Prelude.{◌^◌, Option, Some, None, min, slice_get}
+use Rattle.dalvik_act.specs.Acting.{outline_of}
 use Rattle.std.specs.Option.{option_map}
 use lib.ListN.{length-map}
 use Rattle.dalvik_defs.specs.State.{Thing, is_null, thing_at}
@@ -13,7 +13,7 @@ use Rattle.dalvik_lookups.specs.declared.types.Kind.{Kind}
 use Rattle.dalvik_state.specs.declared.datum.Datum.{Datum}
 use Rattle.dalvik_state.specs.declared.datum.Datum.TheVariants as datum
 use Rattle.dalvik_state.specs.declared.world.World.{World as OwnWorld}
-use Rattle.dalvik_state.specs.Worlds.{Shape, Plain, Array, Spot, shape_at, spots_of}
+use Rattle.dalvik_state.specs.Worlds.{Shape, Plain, Array, Spot, IsShort, IsShortShape, shape_at, spots_of}
 use Rattle.dalvik_state.specs.Views.{Names, value_of, thing_of, world_of}
 use Rattle.dalvik_state.proofs.Things.{thing_named}
 
@@ -48,6 +48,19 @@ something n spots (datum.Class x) s e = refl
 pub unless_something : (n : Names) (spots : List Spot) (d : Datum) (s : Shape) (e : Effect) → shape_at spots d ≡ Some s → unless_null (value_of n d) e ≡ e
 unless_something n spots d s e h = ap (λ (b : Bool). elim b [ true ↦ unless_null (Word 0) e | false ↦ e ]) (something n spots d s h)
 
+short_spot : (o : Option Spot) (kind : Kind) (items : List Datum) → ((s : Spot) → o ≡ Some s → IsShortShape s.shape) → option_map (λ (s : Spot). s.shape) o ≡ Some (Array kind items) → IsShortShape (Array kind items)
+short_spot None kind items h e = absurd (cc)
+short_spot (Some s) kind items h e = let same : s.shape ≡ Array kind items = cc in subst IsShortShape same (h s refl)
+
+-- an array that is there is short
+short_at : (spots : List Spot) (d : Datum) (kind : Kind) (items : List Datum) → IsShort spots → shape_at spots d ≡ Some (Array kind items) → IsShortShape (Array kind items)
+short_at spots (datum.Object i) kind items h e = short_spot (slice_get spots i) kind items (h.at i) e
+short_at spots (datum.Word x) kind items h e = absurd (cc)
+short_at spots (datum.Low x) kind items h e = absurd (cc)
+short_at spots (datum.High x) kind items h e = absurd (cc)
+short_at spots (datum.Literal x) kind items h e = absurd (cc)
+short_at spots (datum.Class x) kind items h e = absurd (cc)
+
 module _ (n : Names) (w : OwnWorld) (f : NamedFrame) (d : Datum) (to : ℕ) where
   there : (o : Option Shape) → shape_at (spots_of w) d ≡ o → thing_at (world_of n w) (value_of n d) ≡ option_map (thing_of n w.fields.entries (number_of d)) o
   there o e = here n w d ∙ ap (option_map (thing_of n w.fields.entries (number_of d))) e
@@ -75,7 +88,7 @@ module _ (n : Names) (w : OwnWorld) (f : NamedFrame) (d : Datum) (to : ℕ) wher
       by_shape (Some (Array k items)) s g =
           let pair : ◌≡◌ {A = Kind × ℕ} (kind, len) (k, length items) = cc in
           let same : len ≡ length items = ap (λ (p : Kind × ℕ). p.1) pair in
-          let below = short.short d k items s in
+          let below : length items < 2 ^ 32 = short_at (spots_of w) d k items short s in
           let whole : x ≡ length items = omega arith in
           ap (λ (y : ℕ). sets (world_of n w) f to (Word y)) whole ∙ measured k items s
 

@@ -1,9 +1,14 @@
+pub mod Acts
 pub mod Answered
+pub mod Bodies
 pub mod Elements
 pub mod Goes
+pub mod Instances
 pub mod Lengths
 pub mod Outward
+pub mod Safe
 pub mod Sparse
 pub mod Tabled
 pub mod Tests
 pub mod Typed
+pub mod Worlds

@@ -14,7 +14,7 @@ use Rattle.dalvik_lookups.specs.Views.{AreTexts, AreTypes, IsKind, IsNamed, IsTy
 use Rattle.dalvik_lookups.proofs.Interned.{entry_is, same_number}
 use Rattle.dalvik_state.specs.declared.datum.Datum.{Datum}
 use Rattle.dalvik_state.specs.declared.datum.Datum.TheVariants as datum
-use Rattle.dalvik_state.specs.Views.{HasType, Names, TellsApart, class_in, names_in, value_of}
+use Rattle.dalvik_state.specs.Views.{HasType, IsFine, Names, TellsApart, class_in, names_in, value_of}
 use Rattle.dalvik_act.specs.Acting.{Knows}
 
 module _ (l : Lookups) (are : AreTypes l.types) where
@@ -61,3 +61,8 @@ pub item_named : (l : Lookups) → IsNamed l → (kind : ℕ) (k item : Kind) �
 item_named l named kind k item h a e f =
     let is : IsType l.types k (type_at l.program.now kind) = subst (λ (x : Kind). IsType l.types x (type_at l.program.now kind)) (sym e) (named.kinds kind h) in
     f (deep l.types k is.kind (ap is_array is.text ∙ a)) ∙ ap item_of is.text
+
+-- the class of a type number, whose descriptor is a text
+pub class_fine : (l : Lookups) (size : ℕ) → IsNamed l → (k : ℕ) → HasType l.program.now k → IsFine (names_in l) size (class_in l k)
+class_fine l size named k has =
+    subst (λ (o : Option ℕ). IsFine (names_in l) size (elim o as (λ o. Datum) [ Some t ↦ datum.Class (string_in l.strings.items t) | None ↦ datum.Word 0 ])) (sym has.is) (named.strings has.text has.there).below

@@ -18,7 +18,7 @@ use Rattle.dalvik_defs.specs.Items.{item_of_type}
 use Rattle.dalvik_defs.specs.declared.forms.Form.{Form}
 use Rattle.dalvik_defs.specs.declared.forms.Form.TheVariants as form
 use Rattle.dalvik_defs.specs.declared.state.Value.{Value}
-use Rattle.dalvik_defs.specs.ActArray.{fills, item_at, put_item, writes_item, zeros}
+use Rattle.dalvik_defs.specs.ActArray.{array_put, fills, item_at, put_item, writes_item, zeros}
 use Rattle.dalvik_defs.specs.ActPlain.{exits}
 use Rattle.dalvik_defs.specs.Known.{arithmetic_exception, null_pointer, bad_cast, negative_size, bad_store, out_of_bounds, bad_monitor}
 use Rattle.dalvik_defs.specs.Operators.{Number}
@@ -30,8 +30,10 @@ use Rattle.dalvik_defs.specs.Act.{act}
 use Rattle.dalvik_defs.specs.declared.tables.Floats.{Floats}
 use Rattle.dalvik_numbers.specs.Rows.{IsTable}
 use Rattle.dalvik_numbers.specs.declared.floats.FloatTable.{FloatTable}
-use Rattle.dalvik_lookups.specs.Views.{AreTypes, IsNamed}
-use Rattle.dalvik_state.specs.Views.{Names, AreFineLocks, HasType, IsFine, IsFineFrame, TellsApart, frame_of, names_in, value_of, world_of}
+use Rattle.dalvik_lookups.specs.Facing.{run_face}
+use Rattle.dalvik_lookups.specs.Views.{type_text, AreTypes, IsNamed}
+use Rattle.dalvik_lookups.specs.declared.lookups.Lookups.{Lookups}
+use Rattle.dalvik_state.specs.Views.{Names, AreFineLocks, HasType, IsFine, IsFineFrame, TellsApart, frame_of, names_in, value_of, values_of, world_of}
 use Rattle.dalvik_state.specs.declared.state.Tables.{Tables}
 use Rattle.dalvik_lookups.specs.declared.types.Kind.{Kind}
 use Rattle.dalvik_state.specs.Worlds.{Shape, Plain, Array, Spot, shape_at, spots_of}
@@ -63,10 +65,6 @@ abbrev pub outline_of : Option Shape → Option (Kind × ℕ)
 outline_of (Some (Array kind items)) = Some (kind, length items)
 outline_of (Some (Plain kind)) = None
 outline_of None = None
-
--- the length of an array is a word
-pub record IsShort (spots : List Spot) : Type 0 where
-  pub short : (d : Datum) (kind : Kind) (items : List Datum) → shape_at spots d ≡ Some (Array kind items) → length items < 2 ^ 32
 
 -- an effect unless a value is null
 abbrev pub Guards : Datum → OwnEffect → OwnEffect → Type 0
@@ -167,15 +165,6 @@ abbrev pub Stores : Datum → ℕ → Datum → Bool → OwnWorld → OwnWorld �
 Stores array place d fits world world' old new effect = (n : Names) → Knows n → old.position < 2 ^ 63 → (kind : Kind) (items : List Datum) → shape_at (spots_of world) array ≡ Some (Array kind items)
     → effect_of n effect (world_of n world') (frame_of n new) ≡ writes_item fits (world_of n world) (frame_of n old) (value_of n array) (Items (n.kind kind) (slice_set (map (value_of n) items) place (value_of n d)))
 
--- whether a value may be stored, by the answer of the test of types
-abbrev pub fits_by : Bool → Item → Value → Bool
-fits_by holds item.Object v = is_null v || holds
-fits_by holds i v = true
-
-abbrev pub fits_in : Bool → Item → Datum → Bool
-fits_in holds item.Object d = is_null_in d || holds
-fits_in holds i d = true
-
 -- a write of an item, by whether the value may be stored
 abbrev pub puts_by : Bool → Item → Option Thing → World → Frame → Value → Value → ℤ → Effect
 puts_by fits i (Some (Items k vs)) w f v on at = elim (item_at vs at) [
@@ -185,11 +174,17 @@ puts_by fits i (Some (Items k vs)) w f v on at = elim (item_at vs at) [
 puts_by fits i (Some (Instance c fs)) w f v on at = Stuck
 puts_by fits i None w f v on at = Stuck
 
--- a write of an item of an array that is there
-abbrev pub Puts : Item → Datum → Datum → ℕ → Kind × ℕ → Bool → OwnWorld → OwnWorld → OwnFrame → OwnFrame → OwnEffect → Type 0
-Puts i array d index outline holds world world' old new effect = (n : Names) → Knows n → old.position < 2 ^ 63 → (kind : Kind) (items : List Datum) → shape_at (spots_of world) array ≡ Some (Array kind items) → outline.1 ≡ length items
-    → effect_of n effect (world_of n world') (frame_of n new)
-    ≡ puts_by (fits_by holds i (value_of n d)) i (Some (Items (n.kind kind) (map (value_of n) items))) (world_of n world) (frame_of n old) (value_of n d) (value_of n array) (cast_signed w32 index)
+-- a write of an item of an array that is there, by the types of the run
+abbrev pub Puts : Lookups → Item → Datum → Datum → ℕ → Kind × ℕ → OwnWorld → OwnWorld → OwnFrame → OwnFrame → OwnEffect → Type 0
+Puts l i array d index outline world world' old new effect = (items : List Datum) → shape_at (spots_of world) array ≡ Some (Array outline.0 items) → outline.1 ≡ length items
+    → effect_of (names_in l) effect (world_of (names_in l) world') (frame_of (names_in l) new)
+    ≡ array_put (run_face l).under i (Some (Items (type_text l.types outline.0) (values_of (names_in l) items))) (world_of (names_in l) world) (frame_of (names_in l) old) (value_of (names_in l) d) (value_of (names_in l) array) (cast_signed w32 index)
+
+-- the same of whatever a value refers to
+abbrev pub PutsAt : Lookups → Item → Datum → Datum → ℕ → OwnWorld → OwnWorld → OwnFrame → OwnFrame → OwnEffect → Type 0
+PutsAt l i array d index world world' old new effect =
+    effect_of (names_in l) effect (world_of (names_in l) world') (frame_of (names_in l) new)
+    ≡ unless_null (value_of (names_in l) array) (array_put (run_face l).under i (thing_at (world_of (names_in l) world) (value_of (names_in l) array)) (world_of (names_in l) world) (frame_of (names_in l) old) (value_of (names_in l) d) (value_of (names_in l) array) (cast_signed w32 index))
 
 -- ---- constants, tests of types and monitors
 
@@ -217,33 +212,15 @@ abbrev pub casts_by : Bool → World → Frame → Effect
 casts_by true w f = Goes w (next f)
 casts_by false w f = Faults bad_cast
 
--- the answer of the test of types that a store asks
-abbrev pub AnswersStore : (Text → Text → Bool) → Bool → World → Value → Option Thing → Type 0
-AnswersStore under holds w v (Some (Items k vs)) = under (kind_of w v) k ≡ holds
-AnswersStore under holds w v t = Unit {0}
-
--- the answer of the test of types that a form asks
-abbrev pub Answers : (Text → Text → Bool) → Bool → Form → World → Frame → Type 0
-Answers under holds (form.CheckCast on kind) w f = under (kind_of w (register f on)) kind ≡ holds
-Answers under holds (form.InstanceOf to from kind) w f = under (kind_of w (register f from)) kind ≡ holds
-Answers under holds (form.ArrayPut item.Object from array index) w f = AnswersStore under holds w (register f from) (thing_at w (register f array))
-Answers under holds x w f = Unit {0}
-
--- an instruction that asks at most one test of types, which has some answer
-abbrev pub ActsTested : Insn → OwnWorld → OwnWorld → OwnFrame → OwnFrame → OwnEffect → Type 0
-ActsTested x world world' old new effect = (holds : Bool) × ((under : Text → Text → Bool) (floats : Floats) (n : Names) → Knows n → old.position < 2 ^ 63
-    → Answers under holds (form_of n.program x) (world_of n world) (frame_of n old)
-    → effect_of n effect (world_of n world') (frame_of n new) ≡ act under floats (form_of n.program x) (world_of n world) (frame_of n old))
-
 -- a monitor that is freed, in a world whose locks are of fine values
 abbrev pub ExitsIn : OwnWorld → Datum → OwnEffect → Type 0
 ExitsIn world d effect = (n : Names) → Knows n → TellsApart n → AreFineLocks n (length (spots_of world)) world.locks.entries → IsFine n (length (spots_of world)) d → (f : Frame)
     → effect_of n effect (world_of n world) f ≡ exits (world_of n world) (value_of n d)
 
 -- an instruction on a monitor, likewise
-abbrev pub ActsLocked : Insn → OwnWorld → OwnFrame → OwnEffect → Type 0
-ActsLocked x world f effect = (under : Text → Text → Bool) (floats : Floats) (n : Names) → Knows n → TellsApart n → AreFineLocks n (length (spots_of world)) world.locks.entries → IsFineFrame n (length (spots_of world)) f
-    → effect_of n effect (world_of n world) (frame_of n f) ≡ act under floats (form_of n.program x) (world_of n world) (frame_of n f)
+abbrev pub ActsLocked : Insn → OwnWorld → OwnFrame → OwnFrame → OwnEffect → Type 0
+ActsLocked x world old new effect = (under : Text → Text → Bool) (floats : Floats) (n : Names) → Knows n → TellsApart n → AreFineLocks n (length (spots_of world)) world.locks.entries → IsFineFrame n (length (spots_of world)) old
+    → effect_of n effect (world_of n world) (frame_of n new) ≡ act under floats (form_of n.program x) (world_of n world) (frame_of n old)
 
 -- ---- which instructions a function is for
 

@@ -1,17 +1,24 @@
 //! What an instruction does to an array (Dalvik bytecode, "array-length", "new-array", "filled-new-array",
 //! "fill-array-data", "aget", "aput").
 
-ghost use Rattle.std.specs.Prelude.{◌≡◌, Bool, IfOk, IsTrue, OnErr};
+ghost use Rattle.std.specs.Prelude.{◌≡◌, ◌<◌, ◌^◌, ℕ, length, IfOk, IsTrue, OnErr};
 ghost use Rattle.std.specs.Option.{option_map};
 ghost use Rattle.std.specs.Int.{w32, cast_signed};
-ghost use Rattle.dalvik_defs.specs.ActArray.{array_get, fills, measures, reads_item, writes_item};
+ghost use Rattle.dalvik_defs.specs.ActArray.{array_get, fills, may_store, measures, reads_item, writes_item};
 ghost use Rattle.dalvik_defs.specs.Effect.{unless_null};
 ghost use Rattle.dalvik_defs.specs.Items.{item_of_type};
 ghost use Rattle.dalvik_defs.specs.State.{thing_at};
+ghost use Rattle.dalvik_lookups.specs.Facing.{run_face};
+ghost use Rattle.dalvik_lookups.specs.Tables.{IsRight};
+ghost use Rattle.dalvik_lookups.specs.Views.{type_text, AreTypes};
+ghost use Rattle.dalvik_lookups.specs.Walks.{IsKept};
+ghost use Rattle.dalvik_lookups.specs.declared.lookups.Lookups.{Lookups};
 ghost use Rattle.dalvik_state.specs.Frames.{IsSame, Leaves, stored_in};
-ghost use Rattle.dalvik_state.specs.Views.{Names, frame_of, value_of, world_of};
-ghost use Rattle.dalvik_state.specs.Worlds.{LeavesWorld, IsSameWorld, shape_at, spots_of};
-ghost use Rattle.dalvik_act.specs.Acting.{ActsNamed, ActsTested, ActsWith, Does, DoesIn, DoesNamed, DoesTo, Fills, IsShort, Puts, Stores, adds_array, adds_zeros, contents_of, fits_by, fits_in, is_array_form, is_get, is_length, is_put, item_in, new_array_of, outline_of, place_below, place_in, puts_by};
+ghost use Rattle.dalvik_state.specs.States.{IsFineKind};
+ghost use Rattle.dalvik_state.specs.Views.{IsFine, IsFineFrame, Names, frame_of, names_in, value_of, world_of};
+ghost use Rattle.dalvik_state.specs.Worlds.{LeavesWorld, IsSameWorld, IsShort, shape_at, spots_of};
+ghost use Rattle.dalvik_act.specs.Acted.{ActsUnder, Fits, IsAsking, IsGivenBack, IsReady, IsSafe, IsSafeIn, IsSafely, IsTested, NamesArray};
+ghost use Rattle.dalvik_act.specs.Acting.{ActsNamed, ActsWith, Does, DoesIn, DoesNamed, DoesTo, Fills, Puts, PutsAt, Stores, adds_array, adds_zeros, contents_of, is_array_form, is_get, is_length, is_put, item_in, new_array_of, outline_of, place_below, place_in};
 
 use crate::going::{goes_on, sets, sets_item};
 use crate::plain::{is_instance, unless_null};
@@ -26,6 +33,7 @@ use std::alloc::{AllocError, Global};
 fn measures<'a>(world: &World, frame: &mut Frame<'a>, array: Datum, to: u16) -> Effect<'a>
     ensures left { Leaves result frame.old frame.new }
     ensures does { IsShort (spots_of world.now) → DoesIn (λ n w f. unless_null (value_of n array) (measures (thing_at w (value_of n array)) w f to)) world.now frame.old frame.new result }
+    ensures safe { IsSafely frame.old frame.new result }
 {
     match shape_of(world, array) {
         Some((_, length)) => sets(frame, to, Datum::Word(length_word(length))),
@@ -58,6 +66,7 @@ fn zeroed_array<'a>(
     ensures lost { OnErr result (IsSameWorld world.old world.new) }
     ensures kept { IfOk result (λ effect. LeavesWorld effect world.old world.new) }
     ensures does { IfOk result (DoesNamed tables.now (λ n w f. adds_zeros (n.kind array.1) array.0 w f to) world.old world.new frame.old frame.new) }
+    ensures safe { AreTypes tables.now.lookups.types → IsReady tables.now.lookups world.old frame.old → IsFineKind tables.now.lookups array.1 → IfOk result (IsSafeIn tables.now.lookups world.old world.new frame.old frame.new) }
 {
     let thing = zeros(alloc, tables, array.1, array.0)?;
     let reference = world.add(thing)?;
@@ -78,6 +87,7 @@ fn new_array<'a>(
     ensures lost { OnErr result (IsSameWorld world.old world.new) }
     ensures kept { IfOk result (λ effect. LeavesWorld effect world.old world.new) }
     ensures does { IfOk result (DoesNamed tables.now (λ n w f. new_array_of (cast_signed w32 array.0) (n.kind array.1) w f to) world.old world.new frame.old frame.new) }
+    ensures safe { AreTypes tables.now.lookups.types → IsReady tables.now.lookups world.old frame.old → IsFineKind tables.now.lookups array.1 → IfOk result (IsSafeIn tables.now.lookups world.old world.new frame.old frame.new) }
 {
     match place_of(array.0) {
         Some(_) => zeroed_array(alloc, tables, world, frame, to, array),
@@ -98,6 +108,7 @@ fn filled_array<'a>(
     ensures lost { OnErr result (IsSameWorld world.old world.new) }
     ensures kept { IfOk result (λ effect. LeavesWorld effect world.old world.new) }
     ensures does { IfOk result (DoesTo (λ n w f. adds_array (n.kind kind) args.now w f) world.old world.new frame.old frame.new) }
+    ensures safe { (l : Lookups) → IsReady l world.old frame.old → IsFineKind l kind → length args.now < 2 ^ 32 → IfOk result (IsSafeIn l world.old world.new frame.old frame.new) }
 {
     let items = values_of(alloc, frame, args)?;
     frame.result = world.add(Thing::Items { kind, items })?;
@@ -127,6 +138,7 @@ fn fills_items<'a>(
     ensures left { Leaves result frame.old frame.new }
     ensures kept { LeavesWorld result world.old world.new }
     ensures does { Fills array item lacks numbers.now world.old world.new frame.old frame.new result }
+    ensures safe { (l : Lookups) → IsReady l world.old frame.old → IsSafeIn l world.old world.new frame.old frame.new result }
 {
     if lacks {
         Effect::Faults(known::OUT_OF_BOUNDS)
@@ -147,6 +159,7 @@ fn fills<'a>(
     ensures left { Leaves result frame.old frame.new }
     ensures kept { LeavesWorld result world.old world.new }
     ensures does { DoesNamed tables.now (λ n w f. unless_null (value_of n array) (fills (thing_at w (value_of n array)) w f (value_of n array) numbers.now)) world.old world.new frame.old frame.new result }
+    ensures safe { (l : Lookups) → IsReady l world.old frame.old → IsSafeIn l world.old world.new frame.old frame.new result }
 {
     match shape_of(world, array) {
         Some((kind, length)) => {
@@ -172,6 +185,7 @@ pub fn act_arrays<'a>(
     ensures still { IsTrue (is_length insn.now) → IsSameWorld world.old world.new }
     ensures acts { IsTrue (is_length insn.now) → IsShort (spots_of world.old) → IfOk result (ActsWith insn.now world.old world.new frame.old frame.new) }
     ensures named { IsTrue (is_array_form insn.now) → IfOk result (ActsNamed tables.now insn.now world.old world.new frame.old frame.new) }
+    ensures safe { IsRight tables.now.lookups → IsReady tables.now.lookups world.old frame.old → Fits tables.now.lookups.program.now insn.now → NamesArray tables.now.lookups.program.now insn.now → IfOk result (IsSafeIn tables.now.lookups world.old world.new frame.old frame.new) }
 {
     match insn {
         Insn::ArrayLength { to, from } => {
@@ -215,6 +229,7 @@ fn item_at(items: &[Datum], index: u32) -> Option<Datum>
 fn gets_item<'a>(frame: &mut Frame<'a>, item: Item, to: u16, found: Option<Datum>) -> Effect<'a>
     ensures left { Leaves result frame.old frame.new }
     ensures does { Does (λ n w f. reads_item item (option_map (value_of n) found) w f to) frame.old frame.new result }
+    ensures safe { (l : Lookups) (size : ℕ) → IsGivenBack l size found → frame.old.position < 2 ^ 63 → IsFineFrame (names_in l) size frame.old → IsSafe l size frame.old frame.new result }
 {
     match found {
         Some(datum) => sets_item(frame, item, to, datum),
@@ -243,6 +258,7 @@ fn array_get<'a>(
 ) -> Effect<'a>
     ensures left { Leaves result frame.old frame.new }
     ensures does { DoesIn (λ n w f. unless_null (value_of n array) (array_get item (thing_at w (value_of n array)) w f to (cast_signed w32 index))) world.now frame.old frame.new result }
+    ensures safe { (l : Lookups) → IsReady l world.now frame.old → IsSafe l (length (spots_of world.now)) frame.old frame.new result }
 {
     match items_of(world, array) {
         Some(items) => gets_item(frame, item, to, item_at(items, index)),
@@ -259,7 +275,8 @@ fn may_store(
     datum: Datum,
     kind: Kind,
 ) -> Result<bool, AllocError>
-    ensures { IfOk result (λ fits. fits ≡ fits_in fits item datum) }
+    ensures answer { IsTested tables.now.lookups memo.old world.now datum kind → IfOk result (λ fits. fits ≡ may_store (run_face tables.now.lookups).under (world_of (names_in tables.now.lookups) world.now) item (value_of (names_in tables.now.lookups) datum) (type_text tables.now.lookups.types kind)) }
+    ensures kept { IsTested tables.now.lookups memo.old world.now datum kind → IsKept tables.now.lookups memo.new }
 {
     match item {
         Item::Object => {
@@ -303,6 +320,7 @@ fn stores<'a>(
     ensures left { Leaves result frame.old frame.new }
     ensures kept { LeavesWorld result world.old world.new }
     ensures does { Stores put.array place (stored_in put.item put.datum) fits world.old world.new frame.old frame.new result }
+    ensures safe { (l : Lookups) → IsReady l world.old frame.old → IsFine (names_in l) (length (spots_of world.old)) put.datum → IsSafeIn l world.old world.new frame.old frame.new result }
 {
     if fits {
         world.put_item(put.array, place, stored(put.item, put.datum));
@@ -325,7 +343,9 @@ fn puts_item<'a>(
     ensures err { OnErr result (IsSame frame.old frame.new) }
     ensures lost { OnErr result (IsSameWorld world.old world.new) }
     ensures kept { IfOk result (λ effect. LeavesWorld effect world.old world.new) }
-    ensures does { IfOk result (λ effect. (holds : Bool) × Puts put.item put.array put.datum put.index outline holds world.old world.new frame.old frame.new effect) }
+    ensures puts { IsTested tables.now.lookups memo.old world.old put.datum outline.0 → frame.old.position < 2 ^ 63 → IfOk result (Puts tables.now.lookups put.item put.array put.datum put.index outline world.old world.new frame.old frame.new) }
+    ensures safe { (l : Lookups) → IsReady l world.old frame.old → IsFine (names_in l) (length (spots_of world.old)) put.datum → IfOk result (IsSafeIn l world.old world.new frame.old frame.new) }
+    ensures memo { IsTested tables.now.lookups memo.old world.old put.datum outline.0 → IsKept tables.now.lookups memo.new }
 {
     match place_within(put.index, outline.1) {
         Some(place) => {
@@ -348,7 +368,9 @@ fn array_put<'a>(
     ensures err { OnErr result (IsSame frame.old frame.new) }
     ensures lost { OnErr result (IsSameWorld world.old world.new) }
     ensures kept { IfOk result (λ effect. LeavesWorld effect world.old world.new) }
-    ensures does { IfOk result (λ effect. (holds : Bool) × DoesTo (λ n w f. unless_null (value_of n put.array) (puts_by (fits_by holds put.item (value_of n put.datum)) put.item (thing_at w (value_of n put.array)) w f (value_of n put.datum) (value_of n put.array) (cast_signed w32 put.index))) world.old world.new frame.old frame.new effect) }
+    ensures puts { IsAsking tables.now.lookups memo.old world.old frame.old → IsFine (names_in tables.now.lookups) (length (spots_of world.old)) put.datum → IfOk result (PutsAt tables.now.lookups put.item put.array put.datum put.index world.old world.new frame.old frame.new) }
+    ensures safe { (l : Lookups) → IsReady l world.old frame.old → IsFine (names_in l) (length (spots_of world.old)) put.datum → IfOk result (IsSafeIn l world.old world.new frame.old frame.new) }
+    ensures memo { IsAsking tables.now.lookups memo.old world.old frame.old → IsFine (names_in tables.now.lookups) (length (spots_of world.old)) put.datum → IsKept tables.now.lookups memo.new }
 {
     match shape_of(world, put.array) {
         Some(outline) => puts_item(tables, memo, world, frame, put, outline),
@@ -370,7 +392,9 @@ pub fn act_items<'a>(
     ensures kept { IfOk result (λ effect. LeavesWorld effect world.old world.new) }
     ensures still { IsTrue (is_get insn.now) → IsSameWorld world.old world.new }
     ensures gets { IsTrue (is_get insn.now) → IfOk result (ActsWith insn.now world.old world.new frame.old frame.new) }
-    ensures puts { IsTrue (is_put insn.now) → IfOk result (ActsTested insn.now world.old world.new frame.old frame.new) }
+    ensures puts { IsTrue (is_put insn.now) → IsAsking tables.now.lookups memo.old world.old frame.old → IfOk result (ActsUnder tables.now.lookups insn.now world.old world.new frame.old frame.new) }
+    ensures safe { (l : Lookups) → IsReady l world.old frame.old → IfOk result (IsSafeIn l world.old world.new frame.old frame.new) }
+    ensures memo { IsAsking tables.now.lookups memo.old world.old frame.old → IsKept tables.now.lookups memo.new }
 {
     match insn {
         Insn::ArrayGet {

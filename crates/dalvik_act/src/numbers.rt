@@ -5,6 +5,7 @@ ghost use Rattle.std.specs.Option.{option_map};
 ghost use Rattle.dalvik_defs.specs.Operators.{OneWord};
 ghost use Rattle.dalvik_numbers.specs.Kinds.{number_is};
 ghost use Rattle.dalvik_state.specs.Frames.{Leaves};
+ghost use Rattle.dalvik_act.specs.Acted.{IsSafely};
 ghost use Rattle.dalvik_act.specs.Acting.{ActsOn, is_number};
 
 use crate::going::gives_number;
@@ -26,6 +27,7 @@ fn one_word(word: Option<u32>) -> Option<Number>
 pub fn act_numbers<'a>(floats: &FloatTable, frame: &mut Frame<'a>, insn: &'a Insn) -> Effect<'a>
     ensures left { Leaves result frame.old frame.new }
     ensures acts { IsTrue (is_number insn.now) → ActsOn floats.now insn.now frame.old frame.new result }
+    ensures safe { IsSafely frame.old frame.new result }
 {
     match insn {
         Insn::Cmp { op, to, a, b } => {

@@ -1,11 +1,17 @@
 //! What an instruction does: moves, constants, ends, monitors, types, branches (Dalvik bytecode, "Summary of bytecode
 //! set").
 
-ghost use Rattle.std.specs.Prelude.{◌≡◌, ◌||◌, false, slice_get, IfOk, IsTrue, OnErr};
+ghost use Rattle.std.specs.Prelude.{◌≡◌, ◌<◌, ◌^◌, ◌||◌, ℕ, false, slice_get, IfOk, IsTrue, OnErr};
 ghost use Rattle.dalvik_state.specs.Frames.{IsSame, Leaves, is_null_in, number_in};
-ghost use Rattle.dalvik_defs.specs.ActPlain.{packed_target, switch_target};
+ghost use Rattle.dalvik_defs.specs.ActPlain.{is_instance, packed_target, switch_target};
 ghost use Rattle.dalvik_defs.specs.Arith.{signed};
-ghost use Rattle.dalvik_act.specs.Acting.{Acts, ActsFine, ActsLocked, ActsNow, ActsTabled, ActsTested, Does, ExitsIn, Guards, are_keys, casts_by, is_constant, is_end, is_monitor, is_move, is_switch, is_test, is_type_test, passes_in};
+ghost use Rattle.dalvik_lookups.specs.Facing.{run_face};
+ghost use Rattle.dalvik_lookups.specs.Views.{type_text, IsNamed};
+ghost use Rattle.dalvik_lookups.specs.Walks.{IsKept};
+ghost use Rattle.dalvik_lookups.specs.declared.lookups.Lookups.{Lookups};
+ghost use Rattle.dalvik_state.specs.Views.{IsFine, IsFineFrame, names_in, value_of, world_of};
+ghost use Rattle.dalvik_act.specs.Acted.{ActsUnder, Fits, IsAsking, IsFineEffect, IsSafe, IsSafely, IsTested};
+ghost use Rattle.dalvik_act.specs.Acting.{Acts, ActsFine, ActsLocked, ActsNow, ActsTabled, Does, ExitsIn, IsPlaced, Guards, are_keys, casts_by, is_constant, is_end, is_monitor, is_move, is_switch, is_test, is_type_test, passes_in};
 
 use crate::going::{branches, goes_on, goes_to, moves, sets, sets_slot, sets_wide};
 use dalvik_lookups::{Kind, Memo, known};
@@ -18,6 +24,7 @@ use std::alloc::AllocError;
 pub fn act_moves<'a>(frame: &mut Frame<'a>, insn: &'a Insn) -> Effect<'a>
     ensures left { Leaves result frame.old frame.new }
     ensures acts { IsTrue (is_move insn.now) → Acts insn.now frame.old frame.new result }
+    ensures safe { IsSafely frame.old frame.new result }
 {
     match insn {
         Insn::Nop => goes_on(frame),
@@ -39,6 +46,7 @@ pub fn act_moves<'a>(frame: &mut Frame<'a>, insn: &'a Insn) -> Effect<'a>
 pub fn act_constants<'a>(tables: &Tables<'a>, frame: &mut Frame<'a>, insn: &'a Insn) -> Effect<'a>
     ensures left { Leaves result frame.old frame.new }
     ensures acts { IsTrue (is_constant insn.now) → ActsTabled tables.now insn.now frame.old frame.new result }
+    ensures safe { IsNamed tables.now.lookups → IsPlaced tables.now.lookups.program.now insn.now → (size : ℕ) → frame.old.position < 2 ^ 63 → IsFineFrame (names_in tables.now.lookups) size frame.old → IsSafe tables.now.lookups size frame.old frame.new result }
 {
     match insn {
         Insn::Const { to, value } => sets(frame, *to, Datum::Word(value.cast_unsigned())),
@@ -57,7 +65,8 @@ pub fn act_constants<'a>(tables: &Tables<'a>, frame: &mut Frame<'a>, insn: &'a I
 
 /// What ends a frame: returns and throws.
 pub fn act_ends<'a>(frame: &Frame<'a>, insn: &'a Insn) -> Effect<'a>
-    ensures { IsTrue (is_end insn.now) → ActsNow insn.now frame.now result }
+    ensures acts { IsTrue (is_end insn.now) → ActsNow insn.now frame.now result }
+    ensures fine { (l : Lookups) (size : ℕ) → IsFineFrame (names_in l) size frame.now → IsFineEffect l size result }
 {
     match insn {
         Insn::ReturnVoid => Effect::Gives(None),
@@ -72,7 +81,8 @@ pub fn act_ends<'a>(frame: &Frame<'a>, insn: &'a Insn) -> Effect<'a>
 
 /// The effect, unless the value is null.
 pub fn unless_null<'a>(datum: Datum, effect: Effect<'a>) -> Effect<'a>
-    ensures { Guards datum effect.entry result }
+    ensures acts { Guards datum effect.entry result }
+    ensures fine { (l : Lookups) (size : ℕ) → (is_null_in datum ≡ false → IsFineEffect l size effect.entry) → IsFineEffect l size result }
 {
     if datum.is_null() {
         Effect::Faults(known::NULL_POINTER)
@@ -83,7 +93,8 @@ pub fn unless_null<'a>(datum: Datum, effect: Effect<'a>) -> Effect<'a>
 
 /// Frees a monitor that is held.
 fn exits<'a>(world: &World, datum: Datum) -> Effect<'a>
-    ensures { ExitsIn world.now datum result }
+    ensures acts { ExitsIn world.now datum result }
+    ensures fine { (l : Lookups) (size : ℕ) → IsFine (names_in l) size datum → is_null_in datum ≡ false → IsFineEffect l size result }
 {
     if world.locked(datum) == 0 {
         Effect::Faults(known::BAD_MONITOR)
@@ -94,7 +105,8 @@ fn exits<'a>(world: &World, datum: Datum) -> Effect<'a>
 
 /// The monitors.
 pub fn act_monitors<'a>(world: &World, frame: &Frame<'a>, insn: &'a Insn) -> Effect<'a>
-    ensures { IsTrue (is_monitor insn.now) → ActsLocked insn.now world.now frame.now result }
+    ensures acts { IsTrue (is_monitor insn.now) → ActsLocked insn.now world.now frame.now frame.now result }
+    ensures fine { (l : Lookups) (size : ℕ) → IsFineFrame (names_in l) size frame.now → IsFineEffect l size result }
 {
     match insn {
         Insn::MonitorEnter { on } => {
@@ -117,7 +129,8 @@ pub fn is_instance(
     datum: Datum,
     kind: Kind,
 ) -> Result<bool, AllocError>
-    ensures { IsTrue (is_null_in datum) → IfOk result (λ holds. holds ≡ false) }
+    ensures answer { IsTested tables.now.lookups memo.old world.now datum kind → IfOk result (λ holds. holds ≡ is_instance (run_face tables.now.lookups).under (world_of (names_in tables.now.lookups) world.now) (value_of (names_in tables.now.lookups) datum) (type_text tables.now.lookups.types kind)) }
+    ensures kept { IsTested tables.now.lookups memo.old world.now datum kind → IsKept tables.now.lookups memo.new }
 {
     if datum.is_null() {
         return Ok(false);
@@ -139,6 +152,7 @@ fn may_cast(datum: Datum, holds: bool) -> bool
 fn casts<'a>(frame: &mut Frame<'a>, passes: bool) -> Effect<'a>
     ensures left { Leaves result frame.old frame.new }
     ensures does { Does (λ n w f. casts_by passes w f) frame.old frame.new result }
+    ensures safe { IsSafely frame.old frame.new result }
 {
     if passes {
         goes_on(frame)
@@ -157,7 +171,9 @@ pub fn act_types<'a>(
 ) -> Result<Effect<'a>, AllocError>
     ensures ok { IfOk result (λ effect. Leaves effect frame.old frame.new) }
     ensures err { OnErr result (IsSame frame.old frame.new) }
-    ensures acts { IsTrue (is_type_test insn.now) → IfOk result (ActsTested insn.now world.now world.now frame.old frame.new) }
+    ensures acts { IsTrue (is_type_test insn.now) → IsAsking tables.now.lookups memo.old world.now frame.old → Fits tables.now.lookups.program.now insn.now → IfOk result (ActsUnder tables.now.lookups insn.now world.now world.now frame.old frame.new) }
+    ensures safe { IfOk result (IsSafely frame.old frame.new) }
+    ensures memo { IsAsking tables.now.lookups memo.old world.now frame.old → Fits tables.now.lookups.program.now insn.now → IsKept tables.now.lookups memo.new }
 {
     match insn {
         Insn::CheckCast { on, kind } => {
@@ -227,6 +243,7 @@ fn sparse_target(key: i32, keys: &[i32], targets: &[u32]) -> Option<u32>
 pub fn act_tests<'a>(frame: &mut Frame<'a>, insn: &'a Insn) -> Effect<'a>
     ensures left { Leaves result frame.old frame.new }
     ensures acts { IsTrue (is_test insn.now) → ActsFine insn.now frame.old frame.new result }
+    ensures safe { IsSafely frame.old frame.new result }
 {
     match insn {
         Insn::If { test, a, b, target } => {
@@ -245,6 +262,7 @@ pub fn act_tests<'a>(frame: &mut Frame<'a>, insn: &'a Insn) -> Effect<'a>
 pub fn act_switches<'a>(frame: &mut Frame<'a>, insn: &'a Insn) -> Effect<'a>
     ensures left { Leaves result frame.old frame.new }
     ensures acts { IsTrue (is_switch insn.now) → Acts insn.now frame.old frame.new result }
+    ensures safe { IsSafely frame.old frame.new result }
 {
     match insn {
         Insn::PackedSwitch { on, first, targets } => {

@@ -1,10 +1,9 @@
 -- The bodies of the methods that run, by numbers and by names.
-use Rattle.std.proofs.Common.{◌≡◌, ℕ, ◌<◌, Bool, true, nat_eq, List, [], ◌∷◌, map, length, Option, Some, None, refl, sym, ap, ◌∙◌}
-use Rattle.std.specs.Prelude.{◌&&◌, not, slice_get, find, position, option_and_then}
+use Rattle.std.proofs.Common.{◌≡◌, ℕ, true, nat_eq, [], ◌∷◌, Option, Some, None, refl, sym, ap, ◌∙◌}
+use Rattle.std.specs.Prelude.{◌&&◌, slice_get, find, option_and_then}
 use Rattle.std.specs.List.{list_all}
 use Rattle.std.specs.Option.{option_map}
 use Rattle.std.proofs.lemmas.Option.{slice_get-map}
-use Rattle.program_model.specs.declared.body.Body.{Body}
 use Rattle.program_model.specs.declared.program.Class.{Class}
 use Rattle.program_model.specs.declared.program.Method.{Method}
 use Rattle.program_model.specs.declared.program.MethodAt.{MethodAt}
@@ -19,7 +18,7 @@ use Rattle.class_defs.specs.Members.{is_method, names_method}
 use Rattle.name_bridge.specs.Named.{class_at}
 use Rattle.name_bridge.proofs.Above.{own_place}
 use Rattle.name_bridge.proofs.Classes.{MethodFits, class_parts, class_by_number, method_by_number}
-use Rattle.name_bridge.proofs.Lists.{PlaceFits, both, find_place, number_of, number_test, place_entry, place_first}
+use Rattle.name_bridge.proofs.Lists.{both, find_place, number_of, number_test, place_entry, place_first}
 use Rattle.name_bridge.proofs.Tables.{Sound, all_at, and_left, and_right, method_is, method_name, method_proto, same_number, sound}
 use Rattle.dalvik_defs.specs.Find.{defined_method, method_in}
 use Rattle.dalvik_defs.specs.Naming.{body_of, form_of, method_at, named, named_class, named_method, signature_at, text_at, type_at}

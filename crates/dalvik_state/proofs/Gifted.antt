@@ -1,12 +1,11 @@
 -- The world with the objects of a move, by numbers and by names.
-use Rattle.std.proofs.Common.{◌≡◌, ℕ, zero, suc, ◌+◌, ◌-◌, ◌<◌, ◌≤◌, ◌^◌, Bool, true, false, min, List, [], ◌∷◌, ◌++◌, length, map, replicate, nat_lt, arith, ap, refl, sym, subst, ◌∙◌, append_assoc, append-nil, length-append, lt-ltb, ltb-true, true≢false}
+use Rattle.std.proofs.Common.{◌≡◌, ℕ, zero, suc, ◌+◌, ◌-◌, ◌<◌, ◌≤◌, Bool, true, false, min, List, [], ◌∷◌, ◌++◌, length, map, replicate, arith, ap, refl, sym, subst, ◌∙◌, append_assoc, append-nil, length-append}
 use Rattle.std.specs.Prelude.{Option, Some, None, ◌&&◌, not, nat_eq, slice_get}
 use Rattle.std.specs.Option.{option_map}
 use Rattle.dalvik_lookups.specs.declared.lookups.Lookups.{Lookups}
 use Rattle.dalvik_lookups.specs.declared.types.Kind.{Kind}
-use Rattle.dalvik_lookups.specs.declared.types.Types.{Types}
 use Rattle.dalvik_lookups.specs.Facing.{run_face}
-use Rattle.dalvik_lookups.specs.Views.{known_names, name_at, type_text, AreTypes, IsKind}
+use Rattle.dalvik_lookups.specs.Views.{name_at, type_text, AreTypes, IsKind}
 use Rattle.dalvik_lookups.proofs.Descriptors.{known_at, known_kind}
 use Rattle.dalvik_defs.specs.Names.{Text, array_of, class_type, string_type}
 use Rattle.dalvik_defs.specs.Naming.{named}

@@ -8,7 +8,7 @@ use Rattle.dalvik_state.specs.declared.world.World.{World}
 use Rattle.dalvik_state.specs.Worlds.{IsHeap, LeavesWorld, keeps_world, spots_of}
 
 pub same : (f : Frame) → IsMoved f f f.position
-same f = record { registers = refl; position = refl; result = refl; caught = refl; method = refl }
+same f = record { registers = refl; position = refl; result = refl; caught = refl; code = record { at = refl; method = refl; body = refl } }
 
 same_kept : (e : Effect) (f : Frame) → kept_by e f f
 same_kept effect.Goes f = tt

@@ -1,5 +1,5 @@
 -- What stays so in a run, and drafts that stay right.
-use Rattle.std.proofs.Common.{◌≡◌, ℕ, zero, suc, ◌+◌, ◌<◌, ◌≤◌, Bool, true, false, true≢false, List, [], ◌∷◌, ◌++◌, length, map, nat_eq, arith, ap, refl, sym, subst, ◌∙◌, length-append}
+use Rattle.std.proofs.Common.{◌≡◌, ℕ, zero, suc, ◌<◌, Bool, true, false, true≢false, List, [], ◌∷◌, ◌++◌, length, nat_eq, arith, ap, refl, sym, ◌∙◌, length-append}
 use Rattle.std.specs.Prelude.{Option, Some, None, cond, slice_get}
 use Rattle.std.specs.Option.{option_map, option_or}
 use Rattle.class_defs.proofs.Positions.{position_snoc, position_step, entry_at}
@@ -15,7 +15,7 @@ use Rattle.dalvik_defs.specs.declared.state.Value.TheVariants as value
 use Rattle.dalvik_state.specs.declared.shows.Draft.{Draft}
 use Rattle.dalvik_state.specs.declared.shows.Draft.TheVariants as draft
 use Rattle.dalvik_state.proofs.Places.{marked_by}
-use Rattle.dalvik_state.specs.Drafts.{give_all, has_printed, IsDraft, IsLater, IsObject, IsTyped}
+use Rattle.dalvik_state.specs.Drafts.{give_all, IsDraft, IsLater, IsTyped}
 
 abbrev printed_by : List Seen → Option ℕ → Bool
 printed_by es o = elim o as (λ o. Bool) [ Some i ↦ is_printed es i | None ↦ false ]

@@ -79,7 +79,7 @@ item_is n f item.Short r d = set_is n f r d
 
 pub written_named : (n : Names) (f g : Frame) (cells : List Datum) → IsWritten f g cells → frame_of n g ≡ with_cells n f cells
 written_named n f g cells h = λ i. record {
-  method = method_at n.program (h.method i);
+  method = method_at n.program (h.code.method i);
   position = h.position i;
   registers = values_of n (h.registers i);
   result = value_of n (h.result i);
@@ -88,7 +88,7 @@ written_named n f g cells h = λ i. record {
 
 pub moved_named : (n : Names) (f g : Frame) (at : ℕ) → IsMoved f g at → frame_of n g ≡ go (frame_of n f) at
 moved_named n f g at h = λ i. record {
-  method = method_at n.program (h.method i);
+  method = method_at n.program (h.code.method i);
   position = h.position i;
   registers = values_of n (h.registers i);
   result = value_of n (h.result i);

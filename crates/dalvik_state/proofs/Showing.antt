@@ -1,14 +1,15 @@
 -- What is drafted of a value, and what is shown by a draft, by numbers and by names.
-use Rattle.std.proofs.Common.{◌≡◌, ℕ, zero, suc, ◌+◌, ◌<◌, ◌≤◌, Bool, true, false, true≢false, List, [], ◌∷◌, ◌++◌, length, map, arith, ap, refl, sym, subst, ◌∙◌, append_assoc, append-nil, length-append}
-use Rattle.std.specs.Prelude.{Option, Some, None, Result, Ok, Err, OnErr, Vec, cond, drop, if◌then◌else◌, is_ok, slice_get, slice_index_or, vec_capacity, vec_len}
-use Rattle.std.specs.Option.{option_map}
+use Rattle.std.proofs.Common.{◌≡◌, ℕ, zero, suc, ◌+◌, ◌<◌, ◌≤◌, Bool, true, false, true≢false, List, [], ◌∷◌, ◌++◌, length, map, min, get_or, arith, inl, inr, ap, refl, sym, subst, ◌∙◌, append_assoc, append-nil, length-append}
+use Rattle.std.specs.Prelude.{Option, Some, None, Result, Ok, Err, OnErr, Vec, cond, drop, if◌then◌else◌, is_ok, slice_get, vec_capacity, vec_len}
+use Rattle.std.proofs.lemmas.Bool.{cases_lt}
+use Rattle.std.proofs.lemmas.Option.{slice_get-get_or}
 use Rattle.std.specs.declared.alloc.Global.{Global}
 use Rattle.dalvik_lookups.specs.declared.lookups.Lookups.{Lookups}
 use Rattle.dalvik_lookups.specs.declared.types.Kind.{Kind}
 use Rattle.dalvik_lookups.specs.Views.{type_text, AreTypes}
 use Rattle.dalvik_defs.specs.Names.{Text, is_wide}
-use Rattle.dalvik_defs.specs.Show.{expose, is_printed, mark_printed, place_in, show, show_all, show_at, show_word, skip}
-use Rattle.dalvik_defs.specs.State.{World, Exposed as Seen, kind_of}
+use Rattle.dalvik_defs.specs.Show.{mark_printed, place_in, show_all, show_at, skip}
+use Rattle.dalvik_defs.specs.State.{World, kind_of}
 use Rattle.dalvik_defs.specs.declared.state.Value.{Value}
 use Rattle.dalvik_defs.specs.declared.state.Value.TheVariants as value
 use Rattle.dalvik_defs.specs.declared.events.Shown.{Shown}
@@ -289,32 +290,51 @@ pub record AreDrafting (l : Lookups) (w : OwnWorld) (kinds : List Kind) (values 
 pub drafting_begins : (l : Lookups) (w : OwnWorld) (kinds : List Kind) (values : List Datum) → AreDrafting l w kinds values 0 0 []
 drafting_begins l w kinds values = record { goes = λ a more d. d }
 
-skipped : (l : Lookups) (values : List Datum) (at next : ℕ) (kind : Text) (b : Bool) → is_wide kind ≡ b → next ≡ at + cond (is_wide kind) 2 1 → map (value_of (names_in l)) (drop next values) ≡ skip kind (map (value_of (names_in l)) (drop (at + 1) values))
-skipped l values at next kind true e n =
-    let far : next ≡ at + 1 + 1 = n ∙ ap (λ (b : Bool). at + cond b 2 1) e ∙ (let h : at + 2 ≡ at + 1 + 1 = omega arith in h) in
-    ap (λ (i : ℕ). map (value_of (names_in l)) (drop i values)) far
+-- a number that would grow past the largest one stops there, which is past the end too
+drop_most : {X : Type 0} (xs : List X) (i next most : ℕ) → next ≡ min i most → length xs ≤ most → drop next xs ≡ drop i xs
+drop_most xs i next most e h = elim (cases_lt i most) [
+  | inl low ↦ ap (λ (j : ℕ). drop j xs) (let same : next ≡ i = omega (arith, e, low) in same)
+  | inr high ↦ drop_past xs next (omega (arith, e, high, h)) ∙ sym (drop_past xs i (omega (arith, high, h)))
+]
+
+skipped : (l : Lookups) (values : List Datum) (at : ℕ) (kind : Text) (b : Bool) → is_wide kind ≡ b → map (value_of (names_in l)) (drop (at + cond b 2 1) values) ≡ skip kind (map (value_of (names_in l)) (drop (at + 1) values))
+skipped l values at kind true e =
+    ap (λ (i : ℕ). map (value_of (names_in l)) (drop i values)) (let far : at + 2 ≡ at + 1 + 1 = omega arith in far)
     ∙ sym (drop_one (value_of (names_in l)) values (at + 1))
     ∙ sym (ap (λ (b : Bool). elim b as (λ b. List Value) [ true ↦ drop 1 (map (value_of (names_in l)) (drop (at + 1) values)) | false ↦ map (value_of (names_in l)) (drop (at + 1) values) ]) e)
-skipped l values at next kind false e n =
-    ap (λ (i : ℕ). map (value_of (names_in l)) (drop i values)) (n ∙ ap (λ (b : Bool). at + cond b 2 1) e)
-    ∙ sym (ap (λ (b : Bool). elim b as (λ b. List Value) [ true ↦ drop 1 (map (value_of (names_in l)) (drop (at + 1) values)) | false ↦ map (value_of (names_in l)) (drop (at + 1) values) ]) e)
+skipped l values at kind false e = sym (ap (λ (b : Bool). elim b as (λ b. List Value) [ true ↦ drop 1 (map (value_of (names_in l)) (drop (at + 1) values)) | false ↦ map (value_of (names_in l)) (drop (at + 1) values) ]) e)
 
-pub drafting_goes_on : (l : Lookups) (w : OwnWorld) (g : Gifts) (kinds : List Kind) (values : List Datum) (index at next : ℕ) (drafts : List Draft) (k : Kind) (d : Datum) (x : Draft) → AreDrafting l w kinds values index at drafts → g.things.items ≡ []
-    → slice_get kinds index ≡ Some k → slice_get values at ≡ Some d → (IsDrawn l w g d → IsDraft (given_world (names_in l) w g) (type_text l.types k) (value_of (names_in l) d) x) → (AreTypes l.types → next ≡ at + cond (is_wide (type_text l.types k)) 2 1)
+pub drafting_goes_on : (l : Lookups) (w : OwnWorld) (g : Gifts) (kinds : List Kind) (values : List Datum) (index at next width most : ℕ) (drafts : List Draft) (k : Kind) (d : Datum) (x : Draft) → AreDrafting l w kinds values index at drafts → g.things.items ≡ []
+    → slice_get kinds index ≡ Some k → slice_get values at ≡ Some d → (IsDrawn l w g d → IsDraft (given_world (names_in l) w g) (type_text l.types k) (value_of (names_in l) d) x) → (AreTypes l.types → width ≡ cond (is_wide (type_text l.types k)) 2 1) → next ≡ min (at + width) most → length values ≤ most
     → AreDrafting l w kinds values (index + 1) next (drafts ++ x ∷ [])
-drafting_goes_on l w g kinds values index at next drafts k d x h e kind datum drafted step = record { goes = on }
+drafting_goes_on l w g kinds values index at next width most drafts k d x h e kind datum drafted wide step short = record { goes = on }
   where
     on : AreAllDrawn l w values → (more : List Draft) → DraftsOf (world_of (names_in l) w) (map (type_text l.types) (drop (index + 1) kinds)) (map (value_of (names_in l)) (drop next values)) more
         → DraftsOf (world_of (names_in l) w) (map (type_text l.types) kinds) (map (value_of (names_in l)) values) ((drafts ++ x ∷ []) ++ more)
     on a more r =
         let n = names_in l in
         let one : IsDraft (world_of n w) (type_text l.types k) (value_of n d) x = subst (λ (u : World). IsDraft u (type_text l.types k) (value_of n d) x) (none_given l w g e) (drafted (drawn_one l w g values at d a e datum)) in
+        let behind : map (value_of n) (drop next values) ≡ skip (type_text l.types k) (map (value_of n) (drop (at + 1) values)) =
+        ap (map (value_of n)) (drop_most values (at + width) next most step short)
+        ∙ ap (λ (i : ℕ). map (value_of n) (drop (at + i) values)) (wide a.types)
+        ∙ skipped l values at (type_text l.types k) (is_wide (type_text l.types k)) refl in
         let rest : DraftsOf (world_of n w) (map (type_text l.types) (drop (index + 1) kinds)) (skip (type_text l.types k) (map (value_of n) (drop (at + 1) values))) more =
-        subst (λ (vs : List Value). DraftsOf (world_of n w) (map (type_text l.types) (drop (index + 1) kinds)) vs more) (skipped l values at next (type_text l.types k) (is_wide (type_text l.types k)) refl (step a.types)) r in
+        subst (λ (vs : List Value). DraftsOf (world_of n w) (map (type_text l.types) (drop (index + 1) kinds)) vs more) behind r in
         let both : DraftsOf (world_of n w) (map (type_text l.types) (k ∷ drop (index + 1) kinds)) (map (value_of n) (d ∷ drop (at + 1) values)) (x ∷ more) = (one, rest) in
         let of_kinds = subst (λ (ks : List Kind). DraftsOf (world_of n w) (map (type_text l.types) ks) (map (value_of n) (d ∷ drop (at + 1) values)) (x ∷ more)) (sym (drop_got kinds index k kind)) both in
         let of_values = subst (λ (ds : List Datum). DraftsOf (world_of n w) (map (type_text l.types) (drop index kinds)) (map (value_of n) ds) (x ∷ more)) (sym (drop_got values at d datum)) of_kinds in
         subst (DraftsOf (world_of n w) (map (type_text l.types) kinds) (map (value_of n) values)) (sym (append_assoc drafts (x ∷ []) more)) (h.goes a (x ∷ more) of_values)
+
+-- the entry that a loop or a look-up reads
+pub got_or : {X : Type 0} (xs : List X) (i : ℕ) (d : X) → i < length xs → slice_get xs i ≡ Some (get_or xs i d)
+got_or xs i d h = slice_get-get_or xs i d h
+
+pub got_is : {X : Type 0} (xs : List X) (i : ℕ) (d : X) → d ≡ get_or xs i d → i < length xs → slice_get xs i ≡ Some d
+got_is xs i d e h = slice_get-get_or xs i d h ∙ ap (λ x. Some x) (sym e)
+
+pub same_list : (xs : List Draft) → map (λ (x : Draft). x) xs ≡ xs
+same_list [] = refl
+same_list (x ∷ xs) = ap (λ (ys : List Draft). x ∷ ys) (same_list xs)
 
 none_of_none : (w : World) (ks : List Text) → DraftsOf w ks [] []
 none_of_none w [] = tt

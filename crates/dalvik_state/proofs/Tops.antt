@@ -1,13 +1,12 @@
 -- The top of the stack.
-use Rattle.std.proofs.Common.{◌≡◌, ℕ, zero, suc, ◌+◌, ◌-◌, ◌<◌, ◌≤◌, List, [], ◌∷◌, ◌++◌, length, map, take, drop, arith, ap, refl, sym, subst, ◌∙◌}
-use Rattle.std.specs.Prelude.{◌^◌, Option, Some, None, reverse, slice_get, slice_set}
+use Rattle.std.proofs.Common.{◌≡◌, ℕ, zero, suc, ◌-◌, ◌<◌, ◌≤◌, List, [], ◌∷◌, ◌++◌, length, map, take, arith, ap, refl, sym, subst, ◌∙◌}
+use Rattle.std.specs.Prelude.{◌^◌, Option, Some, None, slice_get, slice_set}
 use Rattle.std.specs.Option.{option_and_then}
 use Rattle.std.proofs.lemmas.List.{reverse-append}
 use Rattle.insn_set.specs.declared.ops.Item.{Item}
 use Rattle.dalvik_defs.specs.Effect.{go, next, write_item}
 use Rattle.dalvik_defs.specs.Naming.{method_at}
 use Rattle.dalvik_defs.specs.declared.state.Frame.{Frame as NamedFrame}
-use Rattle.dalvik_defs.specs.declared.state.Waiting.{Waiting}
 use Rattle.dalvik_defs.specs.declared.state.Waiting.TheVariants.{Method as InMethod}
 use Rattle.dalvik_state.specs.declared.datum.Datum.{Datum}
 use Rattle.dalvik_state.specs.declared.frame.Frame.{Frame}

@@ -76,13 +76,19 @@ fill_in i [] ds = ds
 fill_in i (n ∷ ns) [] = []
 fill_in i (n ∷ ns) (d ∷ ds) = filled_in i n ∷ fill_in i ns ds
 
+-- a frame is of the same code as it was
+pub record IsSameCode (old new : Frame) : Type 0 where
+  pub at : new.at ≡ old.at
+  pub method : new.method ≡ old.method
+  pub body : new.body ≡ old.body
+
 -- the registers are these, and all else stays
 pub record IsWritten (old new : Frame) (cells : List Datum) : Type 0 where
   pub registers : new.registers.items ≡ cells
   pub position : new.position ≡ old.position
   pub result : new.result ≡ old.result
   pub caught : new.caught ≡ old.caught
-  pub method : new.method ≡ old.method
+  pub code : IsSameCode old new
 
 -- the position is this, and all else stays
 pub record IsMoved (old new : Frame) (at : ℕ) : Type 0 where
@@ -90,7 +96,7 @@ pub record IsMoved (old new : Frame) (at : ℕ) : Type 0 where
   pub position : new.position ≡ at
   pub result : new.result ≡ old.result
   pub caught : new.caught ≡ old.caught
-  pub method : new.method ≡ old.method
+  pub code : IsSameCode old new
 
 -- nothing has changed
 abbrev pub IsSame : Frame → Frame → Type 0
@@ -103,12 +109,6 @@ kept_by e old new = IsSame old new
 -- an instruction that doesn't go on in its frame leaves it as it was: one that throws writes no register
 pub record Leaves (e : Effect) (old new : Frame) : Type 0 where
   pub kept : kept_by e old new
-
--- a frame is of the same code as it was
-pub record IsSameCode (old new : Frame) : Type 0 where
-  pub at : new.at ≡ old.at
-  pub method : new.method ≡ old.method
-  pub body : new.body ≡ old.body
 
 -- the frame goes on at the next position with these registers, and all else stays
 pub record GoesOn (old new : Frame) (cells : List Datum) : Type 0 where

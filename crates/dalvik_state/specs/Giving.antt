@@ -1,18 +1,24 @@
 -- The values that the framework gives in one move, and which moves are legal.
-use Rattle.std.specs.Prelude.{ℕ, ◌≡◌, ◌<◌, ◌≤◌, ◌+◌, nat_lt, Bool, true, false, List, [], ◌∷◌, ◌++◌, length, map, slice_get, Option, Some, None}
+use Rattle.std.specs.Prelude.{ℕ, ◌≡◌, ◌≤◌, ◌+◌, ◌&&◌, ◌||◌, not, is_none, nat_eq, nat_lt, Bool, true, false, List, [], ◌∷◌, ◌++◌, length, map, slice_get, Option, Some, None}
+use Rattle.std.specs.List.{list_any}
 use Rattle.program_model.specs.declared.pass.Outside.{Outside}
 use Rattle.program_model.specs.declared.pools.MethodName.{MethodName}
 use Rattle.program_model.specs.declared.pools.Proto.{Proto}
 use Rattle.program_model.specs.declared.program.Class.{Class}
 use Rattle.program_model.specs.declared.program.Field.{Field}
+use Rattle.program_model.specs.declared.program.MethodAt.{MethodAt}
 use Rattle.program_model.specs.declared.program.Program.{Program}
 use Rattle.dalvik_lookups.specs.Facing.{run_face}
 use Rattle.dalvik_lookups.specs.Playing.{IsGift}
+use Rattle.dalvik_lookups.specs.Reached.{has_descriptor}
+use Rattle.dalvik_lookups.specs.Tables.{place_named}
 use Rattle.dalvik_lookups.specs.declared.lookups.Lookups.{Lookups}
+use Rattle.dalvik_lookups.specs.declared.finds.Search.{Search}
+use Rattle.dalvik_lookups.specs.declared.finds.Search.TheVariants as find
 use Rattle.dalvik_lookups.specs.declared.plays.FieldAt.{FieldAt}
 use Rattle.dalvik_lookups.specs.declared.plays.Gift.{Gift}
 use Rattle.dalvik_defs.specs.Gives.{gets, may_give}
-use Rattle.dalvik_defs.specs.Moves.{got}
+use Rattle.dalvik_defs.specs.Names.{Text, is_array}
 use Rattle.dalvik_defs.specs.Outer.{outer_of}
 use Rattle.dalvik_defs.specs.State.{World}
 use Rattle.dalvik_defs.specs.declared.script.Given.{Given}
@@ -22,7 +28,7 @@ use Rattle.dalvik_state.specs.declared.gifts.Gifts.{Gifts}
 use Rattle.dalvik_state.specs.declared.gifts.Taken.{Taken}
 use Rattle.dalvik_state.specs.declared.world.World.{World as OwnWorld}
 use Rattle.dalvik_state.specs.Drafts.{gift_spots, given_world}
-use Rattle.dalvik_state.specs.States.{AreKinds, HasRoom, HasSpace, IsSound}
+use Rattle.dalvik_state.specs.States.{AreKinds, IsSound}
 use Rattle.dalvik_state.specs.Views.{AreFineSpots, IsFine, names_in, value_of, world_of}
 use Rattle.dalvik_state.specs.Worlds.{IsShort, new_spot, spots_of}
 
@@ -40,6 +46,10 @@ IsGivenFine l w g d = IsFine (names_in l) (length (gift_spots w g)) d
 -- what stands at a place among the objects of a move, which are so many, behind so many on the heap
 abbrev pub own_taken : ℕ → ℕ → ℕ → Taken
 own_taken size count place = elim (nat_lt place count) [ true ↦ record { datum = datum.Object (size + place); allowed = true } | false ↦ record { datum = datum.Word 0; allowed = false } ]
+
+-- a class is kept, or the program doesn't define it
+abbrev pub kept_or_free : Lookups → Outside → Text → Bool
+kept_or_free l o t = (not (is_array t) && list_any (has_descriptor l.program.now t) o.classes) || is_none (place_named l.program.now t)
 
 -- a value is taken, after those that were taken before
 pub record Takes (l : Lookups) (o : Outside) (w : OwnWorld) (old new : Gifts) (what : Given) (t : Taken) : Type 0 where
@@ -92,5 +102,14 @@ pub record IsFieldAt (p : Program) (at : FieldAt) (f : Field) : Type 0 where
   pub is : slice_get class.fields at.place ≡ Some f
 
 -- the type numbers of what a call passes, the receiver's first unless it is static
+abbrev pub receiver_numbers : Bool → ℕ → List ℕ
+receiver_numbers true class = []
+receiver_numbers false class = class ∷ []
+
 abbrev pub passed_numbers : Bool → MethodName → Proto → List ℕ
-passed_numbers static m q = elim static [ true ↦ q.parameters | false ↦ m.class ∷ q.parameters ]
+passed_numbers static m q = receiver_numbers static m.class ++ q.parameters
+
+-- whether a search finds the method at a place
+abbrev pub finds_at : MethodAt → Search → Bool
+finds_at at (find.Finds one) = nat_eq one.class at.class && nat_eq one.place at.place
+finds_at at search = false

@@ -1,5 +1,5 @@
 -- What a step of a run begins with, and what it leaves: its state by names, what is kept of look-ups, and what is shown.
-use Rattle.std.specs.Prelude.{ℕ, ◌≡◌, ◌+◌, ◌<◌, ◌^◌, Bool, true, false, List, drop, Option, Some}
+use Rattle.std.specs.Prelude.{ℕ, ◌≡◌, ◌+◌, ◌<◌, ◌^◌, false, List, drop, Option}
 use Rattle.program_model.specs.declared.pass.Outside.{Outside as OwnOutside}
 use Rattle.dalvik_lookups.specs.Facing.{run_face}
 use Rattle.dalvik_lookups.specs.Reached.{IsOuter, AreTypeMarks}

@@ -1,6 +1,7 @@
 //! A method that runs.
 
-ghost use Rattle.std.specs.Prelude.{◌≡◌, ◌+◌, ◌<◌, ◌^◌, slice_set};
+ghost use Rattle.std.specs.Prelude.{◌≡◌, ◌+◌, ◌<◌, ◌^◌, slice_get, slice_set};
+ghost use Rattle.std.specs.Option.{option_copied};
 ghost use Rattle.dalvik_state.specs.Frames.{cell, with_item, with_slot, with_wide, GoesOn, Handles, IsWritten, IsMoved};
 
 use crate::datum::Datum;
@@ -54,7 +55,9 @@ fn write_item(registers: &mut [Datum], item: Item, register: u16, datum: Datum)
 
 impl<'a> Frame<'a> {
     /// The instruction at the position.
-    pub fn insn(&self) -> Option<&'a Insn> {
+    pub fn insn(&self) -> Option<&'a Insn>
+        ensures { option_copied result ≡ slice_get self.now.body.now.insns self.now.position }
+    {
         self.body.insns.as_slice().get(self.position)
     }
 

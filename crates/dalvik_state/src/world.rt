@@ -1,6 +1,6 @@
 //! The heap, the fields, the monitors, and what was exposed.
 
-ghost use Rattle.std.specs.Prelude.{◌≡◌, ◌+◌, ◌++◌, ◌∷◌, ℕ, [], length, map, replicate, vec_capacity, vec_len, None, IfOk, OnErr, OnOk};
+ghost use Rattle.std.specs.Prelude.{◌≡◌, ◌<◌, ◌^◌, ◌+◌, ◌++◌, ◌∷◌, ℕ, [], length, map, replicate, vec_capacity, vec_len, None, IfOk, OnErr, OnOk};
 ghost use Rattle.std.specs.Map.{lookup};
 ghost use Rattle.std.specs.Option.{option_map, unwrap_or};
 ghost use Rattle.dalvik_state.specs.Frames.{same_in};
@@ -137,9 +137,10 @@ impl World {
 
     /// The number of the next object.
     pub fn next_number(&self) -> u64
-        ensures { result ≡ length (spots_of self.now) }
+        ensures is { result ≡ length (spots_of self.now) }
+        ensures small { result < 2 ^ 63 }
     {
-        self.heap.len() as u64
+        self.heap.as_slice().len() as u64
     }
 
     /// Adds a thing, and answers the reference to it.

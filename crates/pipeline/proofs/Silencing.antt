@@ -1,6 +1,5 @@
 -- Bodies silenced one position after another.
-use Rattle.std.specs.Prelude.{MatchOption}
-use Rattle.std.proofs.Common.{lt-ltb, ltb-true, subst, nat_lt, take, ◌||◌, if◌then◌else◌, map, Option, Some, None, ◌≡◌, ◌<◌, ◌≤◌, ◌+◌, nat_eq, slice_index_or, replicate, get_or, ℕ, zero, suc, Bool, true, false, not, ◌&&◌, List, [], ◌∷◌, length, refl, ap, sym, ◌∙◌, ◌⊎◌, inl, inr, arith}
+use Rattle.std.proofs.Common.{lt-ltb, ltb-true, subst, nat_lt, take, ◌||◌, if◌then◌else◌, map, Option, Some, None, ◌≡◌, ◌<◌, ◌≤◌, ◌+◌, nat_eq, slice_index_or, replicate, get_or, ℕ, zero, suc, Bool, true, false, ◌&&◌, List, [], ◌∷◌, length, refl, ap, sym, ◌∙◌, ◌⊎◌, inl, inr, arith}
 use Rattle.std.proofs.Math.ListN.{set}
 use Rattle.insn_set.specs.declared.ops.InvokeKind.TheVariants as call
 use Rattle.insn_set.specs.declared.form.Insn.{Insn}
@@ -15,10 +14,10 @@ use Rattle.program_model.specs.declared.program.Class.{Class}
 use Rattle.program_model.specs.declared.program.Program.{Program}
 use Rattle.class_defs.proofs.Positions.{number_of, number_test, same_test}
 use Rattle.class_defs.specs.Finding.{finds_static}
-use Rattle.hierarchy.specs.Shapes.{IsCause, IsOf}
+use Rattle.hierarchy.specs.Shapes.{IsOf}
 use Rattle.hierarchy.specs.declared.build.Hierarchy.{Hierarchy}
-use Rattle.hierarchy.specs.declared.fault.HierarchyFault.{HierarchyFault}
-use Rattle.pipeline.specs.Silence.{ArePartOf, AreQuiet, HasGraphFault, IsFault, IsSilenced, IsSilent, is_nowhere, is_quiet, noted, silenced, silenced_body, silenced_class, silenced_method, marked, calls, takes_result, begins_with_result, silenced_insn, silenced_insns, is_silent_at, silenced_at, silenced_to}
+use Rattle.pipeline.specs.Graph.{HasGraphFault}
+use Rattle.pipeline.specs.Silence.{ArePartOf, AreQuiet, IsSilenced, IsSilent, is_nowhere, is_quiet, noted, silenced, silenced_body, silenced_class, silenced_method, marked, calls, silenced_insn, silenced_insns, is_silent_at, silenced_at, silenced_to}
 
 -- a silent call becomes a nop
 pub silenced_is : (s : ℕ → Bool) (xs : List Insn) (i : ℕ) → is_silent_at s xs i ≡ true → set xs i form.Nop ≡ silenced_at s i xs
@@ -238,12 +237,14 @@ none_is_silent silent admitted p e =
 pub marked_is_silent : (silent : List ℕ) (admitted marks : List Bool) (p q : Program) → q ≡ silenced (marked marks) admitted p → AreQuiet p silent marks → IsSilent silent admitted p q
 marked_is_silent silent admitted marks p q is quiet = inl (is ∙ same_silenced (marked marks) (is_quiet p silent) quiet admitted p)
 
-pub graph_fault : (p : Program) (f : HierarchyFault) → IsFault f → IsCause p f → HasGraphFault p
-graph_fault p f is cause = record { fault = f; is = is; cause = cause }
-
-pub found_is_of : (p : Program) (found : Option Hierarchy) (h : Hierarchy) → MatchOption found (HasGraphFault p) (λ g. IsOf p g) → found ≡ Some h → IsOf p h
-found_is_of p found h m e = subst (λ (f : Option Hierarchy). MatchOption f (HasGraphFault p) (λ g. IsOf p g)) e m
+pub fault_is_silent : (silent : List ℕ) (admitted : List Bool) (p q : Program) → q ≡ p → HasGraphFault p → IsSilent silent admitted p q
+fault_is_silent silent admitted p q same fault = inr (same, fault)
 
 pub step_is_silent : (silent : List ℕ) (admitted given marks seen : List Bool) (p q : Program) → given ≡ admitted → seen ≡ marks → q ≡ silenced (marked seen) given p → AreQuiet p silent marks → IsSilent silent admitted p q
 step_is_silent silent admitted given marks seen p q e f is quiet =
     marked_is_silent silent admitted marks p q (is ∙ ap (λ a. silenced (marked seen) a p) e ∙ ap (λ m. silenced (marked m) admitted p) f) quiet
+
+-- where no method is silent, nothing is silenced
+pub none_is_same : (silent : List ℕ) (admitted : List Bool) (p q : Program) → silent ≡ [] → IsSilent silent admitted p q → q ≡ p
+none_is_same silent admitted p q e (inl is) = is ∙ same_silenced (is_quiet p silent) (marked []) (λ n. ap (λ s. is_quiet p s n) e ∙ sym (none_quiet p n)) admitted p ∙ sym (program_none admitted p)
+none_is_same silent admitted p q e (inr same) = same.0

@@ -10,9 +10,7 @@ use Rattle.program_model.specs.declared.program.Method.{Method}
 use Rattle.program_model.specs.declared.program.Class.{Class}
 use Rattle.program_model.specs.declared.program.Program.{Program}
 use Rattle.class_defs.specs.Finding.{finds_static}
-use Rattle.hierarchy.specs.Shapes.{IsCause}
-use Rattle.hierarchy.specs.declared.fault.HierarchyFault.{HierarchyFault}
-use Rattle.hierarchy.specs.declared.fault.HierarchyFault.TheVariants as fault
+use Rattle.pipeline.specs.Graph.{HasGraphFault}
 
 abbrev pub is_nowhere : {A : Type 0} → Option A → Bool
 is_nowhere None = true
@@ -94,19 +92,9 @@ AreQuiet p silent marks = (n : ℕ) → marked marks n ≡ is_quiet p silent n
 abbrev pub noted : Program → ℕ → List Bool → List Bool
 noted p m marks = if is_nowhere (finds_static p m) then slice_set marks m true else marks
 
--- a program whose class graph has a fault
-abbrev pub IsFault : HierarchyFault → Type 0
-IsFault fault.NoMemory = ⊥
-IsFault _ = Unit {0}
-
-pub record HasGraphFault (p : Program) : Type 0 where
-  pub fault : HierarchyFault
-  pub is : IsFault fault
-  pub cause : IsCause p fault
-
 -- each silent call in an admitted method is a nop, and all else stays; a program without a class graph stays whole
 abbrev pub IsSilent : List ℕ → List Bool → Program → Program → Type 0
-IsSilent silent admitted p q = (q ≡ silenced (is_quiet p silent) admitted p) ⊎ HasGraphFault p
+IsSilent silent admitted p q = (q ≡ silenced (is_quiet p silent) admitted p) ⊎ ((q ≡ p) × HasGraphFault p)
 
 -- some of the silent methods' calls are nops
 pub record IsSilenced (silent : List ℕ) (admitted : List Bool) (p q : Program) : Type 0 where

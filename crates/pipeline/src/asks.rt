@@ -1,9 +1,11 @@
 //! The asks about methods.
 
-ghost use Rattle.std.specs.Prelude.{◌≡◌, ◌≤◌, ◌<◌, length, vec_len, IfOk};
+ghost use Rattle.std.specs.Prelude.{◌≡◌, ◌∷◌, [], false, slice_index_or, length, IfOk, OnOk};
+ghost use Rattle.pipeline.specs.Asks.{ask_of, is_asked, asked_one, asked_in, asked, judged, no_verdict, AreAnswered};
+ghost use Rattle.pipeline.specs.Advised.{verdict};
 
+use crate::texts::{name_text, signature_text, type_text};
 use call_graph::LiveSet;
-use dex_base::Text;
 use program_model::{Admitted, Class, Method, Program};
 use redex_outside::{Ask, Panel};
 use std::alloc::{AllocError, Global};
@@ -15,45 +17,6 @@ pub struct Advice {
     pub spared: u32,
 }
 
-/// Adds the units of a type's text, none where there is no such type.
-fn push_type(units: &mut Vec<u16>, program: &Program, kind: u32) -> Result<(), AllocError> {
-    if let Some(string) = program.types.items.get(kind as usize) {
-        if let Some(text) = program.strings.items.get(*string as usize) {
-            units.extend_from_slice(text.units())?;
-        }
-    }
-    Ok(())
-}
-
-/// The text of a proto: `(PARAMETERS)RESULT`.
-pub fn proto_text(alloc: Global, program: &Program, proto: u32) -> Result<Text, AllocError> {
-    let mut units = Vec::new(alloc);
-    if let Some(proto) = program.protos.items.get(proto as usize) {
-        units.push(0x28)?;
-        for kind in proto.parameters.as_slice() {
-            push_type(&mut units, program, *kind)?;
-        }
-        units.push(0x29)?;
-        push_type(&mut units, program, proto.result)?;
-    }
-    Ok(Text::from_vec(units))
-}
-
-/// The text of a type.
-fn type_text(alloc: Global, program: &Program, kind: u32) -> Result<Text, AllocError> {
-    let mut units = Vec::new(alloc);
-    push_type(&mut units, program, kind)?;
-    Ok(Text::from_vec(units))
-}
-
-/// The text with this number.
-fn string_text(alloc: Global, program: &Program, string: u32) -> Result<Text, AllocError> {
-    match program.strings.items.get(string as usize) {
-        Some(text) => text.clone(),
-        None => Ok(Text::from_vec(Vec::new(alloc))),
-    }
-}
-
 /// The ask about a method of a class with so many instructions.
 fn ask_of(
     alloc: Global,
@@ -61,26 +24,78 @@ fn ask_of(
     class: u32,
     method: u32,
     instructions: u32,
-) -> Result<Ask, AllocError> {
-    let (name, proto) = match program.methods.items.get(method as usize) {
-        Some(named) => (named.name, named.proto),
-        None => (u32::MAX, u32::MAX),
-    };
+) -> Result<Ask, AllocError>
+    ensures { IfOk result (λ ask. ask ≡ ask_of program.now class method instructions) }
+{
     Ok(Ask {
         class: type_text(alloc, program, class)?,
-        name: string_text(alloc, program, name)?,
-        proto: proto_text(alloc, program, proto)?,
+        name: name_text(alloc, program, method)?,
+        proto: signature_text(alloc, program, method)?,
         instructions,
         site: None,
     })
 }
 
 /// Whether a method, by its number, is live.
-fn is_live(live: &LiveSet, method: u32) -> bool {
+fn is_live(live: &LiveSet, method: u32) -> bool
+    ensures { result ≡ slice_index_or live.now.methods.items method false }
+{
     match live.methods.get(method as usize) {
         Some(live) => *live,
         None => false,
     }
+}
+
+/// Whether a method is asked about: it is live and has code.
+fn is_asked(live: &LiveSet, method: &Method) -> bool
+    ensures { result ≡ is_asked live.now method.now }
+{
+    method.body.is_some() && is_live(live, method.name)
+}
+
+/// How many instructions a method has.
+fn instructions_of(method: &Method) -> u32 {
+    match &method.body {
+        Some(body) => u32::try_from(body.insns.len()).unwrap_or(u32::MAX),
+        None => 0,
+    }
+}
+
+/// Notes whether every adviser allowed that a method is rewritten.
+fn judge(advice: &mut Advice, method: u32, admitted: bool)
+    ensures { verdict advice.new ≡ judged method admitted (verdict advice.old) }
+{
+    if admitted {
+        if let Some(mark) = advice.admitted.methods.get_mut(method as usize) {
+            *mark = true;
+        }
+    } else {
+        advice.spared = advice.spared.saturating_add(1);
+    }
+}
+
+/// Asks about one method, and notes the answer.
+fn ask_one(
+    alloc: Global,
+    program: &Program,
+    class: &Class,
+    method: &Method,
+    panel: &mut Panel,
+    advice: &mut Advice,
+) -> Result<(), AllocError>
+    ensures answered { OnOk result (AreAnswered (length panel.old.advisers.items) (method.now.name ∷ []) panel.old.answers.items panel.new.answers.items (verdict advice.old) (verdict advice.new)) }
+    ensures count { length panel.new.advisers.items ≡ length panel.old.advisers.items }
+{
+    let ask = ask_of(
+        alloc,
+        program,
+        class.name,
+        method.name,
+        instructions_of(method),
+    )?;
+    let admitted = panel.ask(alloc, &ask)?;
+    judge(advice, method.name, admitted);
+    Ok(())
 }
 
 /// Asks about one method, where it is live and has code, and notes the answer.
@@ -92,21 +107,12 @@ fn ask_about(
     method: &Method,
     panel: &mut Panel,
     advice: &mut Advice,
-) -> Result<(), AllocError> {
-    let Some(body) = &method.body else {
-        return Ok(());
-    };
-    if !is_live(live, method.name) {
-        return Ok(());
-    }
-    let instructions = u32::try_from(body.insns.len()).unwrap_or(u32::MAX);
-    let ask = ask_of(alloc, program, class.name, method.name, instructions)?;
-    if panel.ask(alloc, &ask)? {
-        if let Some(admitted) = advice.admitted.methods.get_mut(method.name as usize) {
-            *admitted = true;
-        }
-    } else {
-        advice.spared = advice.spared.saturating_add(1);
+) -> Result<(), AllocError>
+    ensures answered { OnOk result (AreAnswered (length panel.old.advisers.items) (asked_one live.now method.now) panel.old.answers.items panel.new.answers.items (verdict advice.old) (verdict advice.new)) }
+    ensures count { length panel.new.advisers.items ≡ length panel.old.advisers.items }
+{
+    if is_asked(live, method) {
+        ask_one(alloc, program, class, method, panel, advice)?;
     }
     Ok(())
 }
@@ -119,7 +125,10 @@ fn ask_class(
     class: &Class,
     panel: &mut Panel,
     advice: &mut Advice,
-) -> Result<(), AllocError> {
+) -> Result<(), AllocError>
+    ensures answered { OnOk result (AreAnswered (length panel.old.advisers.items) (asked_in live.now class.now) panel.old.answers.items panel.new.answers.items (verdict advice.old) (verdict advice.new)) }
+    ensures count { length panel.new.advisers.items ≡ length panel.old.advisers.items }
+{
     for method in class.methods.as_slice() {
         ask_about(alloc, program, live, class, method, panel, advice)?;
     }
@@ -127,7 +136,9 @@ fn ask_class(
 }
 
 /// No method admitted, and none asked about.
-pub fn no_advice(alloc: Global, program: &Program) -> Result<Advice, AllocError> {
+pub fn no_advice(alloc: Global, program: &Program) -> Result<Advice, AllocError>
+    ensures { IfOk result (λ advice. verdict advice ≡ no_verdict program.now) }
+{
     Ok(Advice {
         admitted: Admitted {
             methods: vec![in alloc; false; program.methods.len()]?,
@@ -143,7 +154,9 @@ pub fn ask_all(
     program: &Program,
     live: &LiveSet,
     panel: &mut Panel,
-) -> Result<Advice, AllocError> {
+) -> Result<Advice, AllocError>
+    ensures { IfOk result (λ advice. AreAnswered (length panel.old.advisers.items) (asked live.now program.now) panel.old.answers.items panel.new.answers.items (no_verdict program.now) (verdict advice)) }
+{
     let mut advice = no_advice(alloc, program)?;
     for class in program.classes.as_slice() {
         ask_class(alloc, program, live, class, panel, &mut advice)?;

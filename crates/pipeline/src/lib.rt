@@ -7,8 +7,9 @@ mod counts;
 mod graph;
 mod rounds;
 mod silent;
+mod texts;
 
-pub use asks::proto_text;
 pub use counts::{count_instructions, count_members};
 pub use rounds::{Outcome, optimise};
 pub use silent::silence;
+pub use texts::proto_text;

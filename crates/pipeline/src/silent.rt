@@ -184,8 +184,8 @@ fn quiet_methods(
 
 /// The program with each silent call of the admitted methods a nop at its position. A call is silent where it is static,
 /// names one of the outside's silent methods, finds no method of the program, and no instruction takes its result. All
-/// else stays. The only error is want of memory.
-#[tactic(auto, using(crate::proofs::Silencing::stays_whole, crate::proofs::Silencing::none_is_silent, crate::proofs::Silencing::marked_is_silent))]
+/// else stays, and a well-formed program is well-formed still. The only error is want of memory.
+#[tactic(auto, using(crate::proofs::Silencing::stays_whole, crate::proofs::Silencing::none_is_silent, crate::proofs::Silencing::marked_is_silent, crate::proofs::Silencing::fault_is_silent))]
 pub fn silence(
     alloc: Global,
     program: Program,
@@ -194,6 +194,7 @@ pub fn silence(
 ) -> Result<Program, AllocError>
     ensures part { IfOk result (λ p. IsSilenced outside.now.silent admitted.now.methods.items program p) }
     ensures exact { is_well_formed program ≡ true → IfOk result (λ p. IsSilent outside.now.silent admitted.now.methods.items program p) }
+    ensures formed { is_well_formed program ≡ true → IfOk result (λ p. is_well_formed p ≡ true) }
 {
     if outside.silent.is_empty() {
         return Ok(program);

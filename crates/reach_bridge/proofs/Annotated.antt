@@ -14,7 +14,7 @@ use Rattle.dalvik_defs.specs.Find.{defined_field, defined_method}
 use Rattle.pass_defs.specs.Live.{HasMentions, KeepsMentions}
 use Rattle.pass_defs.specs.Mentions.{Mentions, all_of, in_marks, in_first, in_field, in_method, in_class}
 use Rattle.reach_bridge.specs.Names.{family_of}
-use Rattle.reach_bridge.specs.Reached.{IsMarked}
+use Rattle.reach.specs.Marked.{IsMarked}
 use Rattle.reach_bridge.proofs.Held.{stands, field_number, method_number}
 use Rattle.reach_bridge.proofs.Mentioned.{Holds, met_back, all_held}
 use Rattle.reach_bridge.proofs.Owned.{own_field, own_method}

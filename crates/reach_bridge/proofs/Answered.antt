@@ -46,7 +46,7 @@ use Rattle.removal_law.proofs.Outward.{any_here, any_where}
 use Rattle.removal_law.proofs.Declared.{method_same}
 use Rattle.removal_bridge.proofs.Formed.{method_of, key_of, entry_below}
 use Rattle.reach_bridge.specs.Names.{family_of}
-use Rattle.reach_bridge.specs.Reached.{IsMarked}
+use Rattle.reach.specs.Marked.{IsMarked}
 use Rattle.reach_bridge.proofs.Held.{stands, of_image, placed_at, made_number, method_met}
 use Rattle.reach_bridge.proofs.Based.{S, regular}
 use Rattle.reach_bridge.proofs.Mentioned.{place_held}

@@ -31,7 +31,7 @@ use Rattle.removal_law.proofs.Walks as walk
 use Rattle.removal_law.proofs.Trees.{class_name, class_in, defines_class}
 use Rattle.removal_bridge.proofs.Formed.{regular_program}
 use Rattle.reach_bridge.specs.Names.{family_of}
-use Rattle.reach_bridge.specs.Reached.{IsMarked}
+use Rattle.reach.specs.Marked.{IsMarked}
 use Rattle.reach_bridge.proofs.Held.{of_image, placed_at, class_met}
 use Rattle.reach_bridge.proofs.Kept.{other_number}
 

@@ -42,7 +42,7 @@ use Rattle.name_bridge.proofs.Candidates.{version_test, candidates_by_number}
 use Rattle.removal_law.proofs.Lists.{In, here, clash, contained, in_either}
 use Rattle.removal_law.proofs.Finds.{in_unfiltered, in_flat}
 use Rattle.reach_bridge.specs.Names.{family_of}
-use Rattle.reach_bridge.specs.Reached.{IsMarked}
+use Rattle.reach.specs.Marked.{IsMarked}
 use Rattle.reach_bridge.proofs.Held.{stands}
 use Rattle.reach_bridge.proofs.Based.{Met, S}
 use Rattle.reach_bridge.proofs.Mentioned.{nothing_in, met_back, met_one, place_held}

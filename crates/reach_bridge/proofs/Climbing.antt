@@ -31,7 +31,7 @@ use Rattle.removal_law.proofs.Walks.{choice}
 use Rattle.removal_law.proofs.Outward.{any_where}
 use Rattle.removal_law.proofs.Declared.{not_false}
 use Rattle.removal_law.proofs.Trees.{defined}
-use Rattle.reach_bridge.specs.Reached.{IsMarked}
+use Rattle.reach.specs.Marked.{IsMarked}
 use Rattle.reach_bridge.proofs.Kept.{other_number, place_below}
 use Rattle.reach_bridge.proofs.Held.{of_image}
 use Rattle.reach_bridge.proofs.Based.{S, few_types}

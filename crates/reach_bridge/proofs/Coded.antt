@@ -36,7 +36,7 @@ use Rattle.removal_law.proofs.Lists.{In, here, there, contained, in_front, in_ba
 use Rattle.removal_law.proofs.Finds.{in_flat, out_of_flat}
 use Rattle.removal_law.proofs.Trees.{none_some, some_same}
 use Rattle.reach_bridge.specs.Names.{family_of}
-use Rattle.reach_bridge.specs.Reached.{IsMarked}
+use Rattle.reach.specs.Marked.{IsMarked}
 use Rattle.reach_bridge.proofs.Held.{stands, of_image, ByNumber, field_number, method_number}
 use Rattle.reach_bridge.proofs.Based.{Met, Held}
 use Rattle.reach_bridge.proofs.Mentioned.{Holds, FieldHeld, MethodHeld, mention_of, nothing_in, only, met_front, met_back, all_held, field_types_held, method_types_held}

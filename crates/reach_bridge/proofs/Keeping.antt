@@ -49,7 +49,8 @@ use Rattle.removal_law.proofs.Outward.{any_where}
 use Rattle.removal_law.proofs.Declared.{none_there, method_sound}
 use Rattle.removal_law.proofs.Trees.{none_some, defined, defines_class}
 use Rattle.reach_bridge.specs.Names.{family_of}
-use Rattle.reach_bridge.specs.Reached.{IsMarked, AreDefined, KeepsOwners}
+use Rattle.reach.specs.Marked.{IsMarked}
+use Rattle.reach_bridge.specs.Reached.{AreDefined, KeepsOwners}
 use Rattle.reach_bridge.proofs.Kept.{field_sound}
 use Rattle.reach_bridge.proofs.Held.{ByNumber, class_number, field_number, method_number, class_met, made_met, field_met, method_met}
 use Rattle.reach_bridge.proofs.Based.{Met, S, empty_undefined}

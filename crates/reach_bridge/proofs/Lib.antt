@@ -18,3 +18,4 @@ pub mod Noted
 pub mod Annotated
 pub mod Within
 pub mod Unshut
+pub mod Repeated

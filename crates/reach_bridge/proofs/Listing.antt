@@ -25,7 +25,7 @@ use Rattle.removal_law.proofs.Climbs.{climb_under as walk_under}
 use Rattle.removal_law.proofs.Trees.{some_same}
 use Rattle.removal_law.proofs.Outward.{any_here, any_where}
 use Rattle.reach_bridge.specs.Names.{family_of}
-use Rattle.reach_bridge.specs.Reached.{IsMarked}
+use Rattle.reach.specs.Marked.{IsMarked}
 use Rattle.reach_bridge.proofs.Held.{stands, at_stands, placed_at}
 use Rattle.reach_bridge.proofs.Based.{S, regular}
 use Rattle.reach_bridge.proofs.Mentioned.{nothing_in}

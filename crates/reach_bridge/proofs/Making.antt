@@ -24,7 +24,7 @@ use Rattle.pass_defs.specs.Live.{conditions_of, HasBody, is_concrete, KeepsMade}
 use Rattle.removal_law.proofs.Lists.{In, here, clash, contained}
 use Rattle.removal_law.proofs.Trees.{defined}
 use Rattle.reach_bridge.specs.Names.{family_of}
-use Rattle.reach_bridge.specs.Reached.{IsMarked}
+use Rattle.reach.specs.Marked.{IsMarked}
 use Rattle.reach_bridge.proofs.Held.{stands, made_met}
 use Rattle.reach_bridge.proofs.Based.{Met}
 use Rattle.reach_bridge.proofs.Mentioned.{met_back, met_one}

@@ -44,7 +44,7 @@ use Rattle.removal_law.proofs.Finds.{in_flat}
 use Rattle.removal_law.proofs.Trees.{none_some, some_same, defined}
 use Rattle.removal_bridge.proofs.Formed.{method_of, key_of, entry_below}
 use Rattle.reach_bridge.specs.Names.{family_of}
-use Rattle.reach_bridge.specs.Reached.{IsMarked}
+use Rattle.reach.specs.Marked.{IsMarked}
 use Rattle.reach_bridge.proofs.Kept.{place_below, field_name}
 use Rattle.reach_bridge.proofs.Held.{of_image, field_met, method_met}
 use Rattle.reach_bridge.proofs.Based.{Met, Held, S, empty_undefined, empty_held, kind_held}

@@ -32,7 +32,7 @@ use Rattle.name_bridge.proofs.Classes.{class_by_number, method_by_number}
 use Rattle.name_bridge.proofs.Defined.{fields_of, field_defined_known}
 use Rattle.removal_law.proofs.Lists.{In, and_left, and_behind}
 use Rattle.removal_law.proofs.Trees.{none_some, some_same}
-use Rattle.reach_bridge.specs.Reached.{IsMarked}
+use Rattle.reach.specs.Marked.{IsMarked}
 use Rattle.reach_bridge.proofs.Kept.{place_below}
 use Rattle.reach_bridge.proofs.Held.{at_stands}
 use Rattle.reach_bridge.proofs.Based.{S}

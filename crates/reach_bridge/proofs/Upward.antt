@@ -40,7 +40,7 @@ use Rattle.removal_law.proofs.Members.{key_sound}
 use Rattle.removal_law.proofs.Trees.{none_some, some_same}
 use Rattle.removal_bridge.proofs.Formed.{method_of, key_of, entry_below}
 use Rattle.reach_bridge.specs.Names.{family_of}
-use Rattle.reach_bridge.specs.Reached.{IsMarked}
+use Rattle.reach.specs.Marked.{IsMarked}
 use Rattle.reach_bridge.proofs.Held.{stands, of_image, placed_at, ByNumber, class_number, method_met}
 use Rattle.reach_bridge.proofs.Based.{Met, Held, S, regular, kind_held}
 use Rattle.reach_bridge.proofs.Mentioned.{met_front, met_back, met_one, place_held}

@@ -39,7 +39,7 @@ use Rattle.removal_law.proofs.Virtuals.{candidate, answer}
 use Rattle.removal_law.proofs.Trees.{none_some, some_same, class_name, defined, chain_named}
 use Rattle.removal_bridge.proofs.Formed.{removed_program, typed_program}
 use Rattle.reach_bridge.specs.Names.{family_of, within}
-use Rattle.reach_bridge.specs.Reached.{IsMarked}
+use Rattle.reach.specs.Marked.{IsMarked}
 use Rattle.reach_bridge.proofs.Kept.{kept_named}
 use Rattle.reach_bridge.proofs.Held.{stands}
 use Rattle.reach_bridge.proofs.Based.{regular}

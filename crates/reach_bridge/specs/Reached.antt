@@ -1,30 +1,16 @@
--- What the laws of this crate ask of a program, of what the outside keeps, and of marks.
+-- What the laws of this crate say of marks, and ask of them, beside what reach says of marked programs.
 use Rattle.std.specs.Prelude.{◌≡◌, ℕ, true, Some, is_some, slice_get}
 use Rattle.program_model.specs.declared.pools.FieldName.{FieldName}
 use Rattle.program_model.specs.declared.pools.MethodName.{MethodName}
 use Rattle.program_model.specs.declared.program.Program.{Program}
-use Rattle.program_model.specs.declared.pass.Outside.{Outside}
-use Rattle.program_model.specs.ProgramRules.{is_well_formed}
-use Rattle.class_defs.specs.ClassGraph.{IsTwice, IsAncestor}
 use Rattle.call_graph.specs.declared.live_set.LiveSet.{LiveSet}
-use Rattle.call_graph.specs.Facts.{Fits}
 use Rattle.call_graph.specs.Follows.{class_of}
-use Rattle.call_graph.specs.Closed.{IsClosedSet}
 use Rattle.reach.specs.Kept.{is_marked}
 use Rattle.dalvik_defs.specs.Under.{defines}
 use Rattle.dalvik_defs.specs.declared.names.MethodKey.{MethodKey}
 use Rattle.dalvik_defs.specs.declared.names.FieldKey.{FieldKey}
 use Rattle.dalvik_defs.specs.declared.program.NamedProgram.{NamedProgram}
 use Rattle.pass_defs.specs.Live.{Family}
-
--- A well-formed program, of which no class is defined twice or is its own ancestor, and marks on its numbers that are closed under
--- what follows.
-pub record IsMarked (p : Program) (o : Outside) (s : LiveSet) : Type 0 where
-  pub formed : is_well_formed p ≡ true
-  pub once : (class : ℕ) → IsTwice p class → ⊥
-  pub grounded : (class : ℕ) → IsAncestor p class class → ⊥
-  pub sized : Fits p s
-  pub closed : IsClosedSet p o s
 
 -- ---- premises
 

@@ -10,9 +10,10 @@ ghost use Rattle.pass_defs.specs.Live.{conditions_of, IsClosedFamily, KeepsKept,
 ghost use Rattle.dalvik_defs.specs.Shown.{SameShown};
 ghost use Rattle.pass_defs.specs.Typed.{IsTyped};
 ghost use Rattle.reach.specs.Kept.{kept_of};
+ghost use Rattle.reach.specs.Marked.{IsMarked};
 ghost use Rattle.removal_law.specs.Reach.{ShutsHold};
 ghost use Rattle.reach_bridge.specs.Names.{family_of, within};
-ghost use Rattle.reach_bridge.specs.Reached.{IsMarked, AreDefined, KeepsOwners};
+ghost use Rattle.reach_bridge.specs.Reached.{AreDefined, KeepsOwners};
 
 /// The types in the descriptors of live members, and in live code, its handlers and the members that it names, are live.
 pub fn types_law()

@@ -94,7 +94,7 @@ module _ (p : Program) (t : Tables) (d : Told p t) where
   made_class (Some x) false = refl
 
   -- the kind of a class type is that of made objects
-  made_type : (k : ℕ) → text.is_class_type (type_at p k) ≡ true → is_initialised (kind_of t k) ≡ true
+  pub made_type : (k : ℕ) → text.is_class_type (type_at p k) ≡ true → is_initialised (kind_of t k) ≡ true
   made_type k e = by (shape_of t k) (sorts p t d k)
     where
       reference : (u : Text) → text.is_class_type u ≡ true → text.is_reference u ≡ true
@@ -234,7 +234,7 @@ module _ (p : Program) (t : Tables) (d : Told p t) where
 
   -- ---- casts and arrays
 
-  cast_named : (k : ℕ) → kind_named p (cast_kind t k) ≡ name.kind_of_reference (named p) (type_at p k)
+  pub cast_named : (k : ℕ) → kind_named p (cast_kind t k) ≡ name.kind_of_reference (named p) (type_at p k)
   cast_named k = by (shape_of t k) (sorts p t d k)
     where
       plainly : (u : Text) (s : Shape) → Sorts p u s → shapes.is_array s ≡ false → shapes.is_plain s ≡ false → name.Reference ≡ name.kind_of_reference (named p) u
@@ -251,21 +251,21 @@ module _ (p : Program) (t : Tables) (d : Told p t) where
       by (shape.Word w) s = plainly (type_at p k) (shape.Word w) s refl refl
       by shape.Wide s = plainly (type_at p k) shape.Wide s refl refl
 
-  array_named : (k : ℕ) → shapes.is_array (shape_of t k) ≡ true → kind_named p (kind_of t k) ≡ name.Array (type_at p k)
+  pub array_named : (k : ℕ) → shapes.is_array (shape_of t k) ≡ true → kind_named p (kind_of t k) ≡ name.Array (type_at p k)
   array_named k e = by (shape_of t k) (sorts p t d k) e
     where
       by : (s : Shape) → Sorts p (type_at p k) s → shapes.is_array s ≡ true → kind_named p (kind_of_shape s) ≡ name.Array (type_at p k)
       by (shape.Array m i) s e = s.kind ∙ array_kind_of p t d (type_at p k) s.word s.wide s.reference s.array
       by s h e = absurd (true≢false (sym e))
 
-  number_kind_named : (b : Bool) → typed.number_kind b ≡ kind_named p (number_kind b)
+  pub number_kind_named : (b : Bool) → typed.number_kind b ≡ kind_named p (number_kind b)
   number_kind_named true = refl
   number_kind_named false = refl
 
   -- ---- what is got from an array
 
   -- it is that by name, or null is got by name
-  abbrev IsGot : name.Kind → number.Kind → Type 0
+  abbrev pub IsGot : name.Kind → number.Kind → Type 0
   IsGot k l = (k ≡ kind_named p l) ⊎ ((k ≡ name.Null) × ((Below t kind.Null l) × (kinds.is_moved l ≡ true)))
 
   null_under : (s : Shape) → shapes.stored s ≡ item.Object → is_settled t s ≡ true → (Below t kind.Null (kind_of_shape s)) × (kinds.is_moved (kind_of_shape s) ≡ true)
@@ -284,7 +284,7 @@ module _ (p : Program) (t : Tables) (d : Told p t) where
   null_under shape.Int e f = absurd (cc)
   null_under shape.Wide e f = absurd (cc)
 
-  got_array : (m : ℕ) (i : Option ℕ) → same_item (stored_item t m i) item.Object ≡ true → IsGot (typed.got (named p) item.Object (array_kind p m i)) (kind_of_item t m i)
+  pub got_array : (m : ℕ) (i : Option ℕ) → same_item (stored_item t m i) item.Object ≡ true → IsGot (typed.got (named p) item.Object (array_kind p m i)) (kind_of_item t m i)
   got_array zero i e = inr (refl, null_under (item_shape t i) (item_is (shapes.stored (item_shape t i)) item.Object e) (item_settled t d.meets i))
   got_array (suc zero) i e = inl (sym (item_sorts p t d i).kind)
   got_array (suc (suc m)) i e = inl (sym (ap (kind_named p) (ap (λ b. if b then kind.Array (suc (suc m) - 1) i else kind_of_shape (item_shape t i)) (deeper m) ∙ ap (λ n. kind.Array n i) (sym (less m)))))
@@ -349,7 +349,7 @@ module _ (s : Setting) (c : Class) (m : Method) (i : IsSet s c m) (n : ℕ) (a :
   got_kind item.Char k e = inl refl
   got_kind item.Short k e = inl refl
 
-  self_below : IsBelow s.tables.now a a
+  pub self_below : IsBelow s.tables.now a a
   self_below = record {
     long = refl;
     registers = λ r. below_itself s.tables.now (kind_at a.registers r);
@@ -358,7 +358,7 @@ module _ (s : Setting) (c : Class) (m : Method) (i : IsSet s c m) (n : ℕ) (a :
     receiver = below_itself s.tables.now a.receiver;
   }
 
-  frames_on : (x y z : Kinds) → IsBelow s.tables.now x y → IsBelow s.tables.now y z → IsBelow s.tables.now x z
+  pub frames_on : (x y z : Kinds) → IsBelow s.tables.now x y → IsBelow s.tables.now y z → IsBelow s.tables.now x z
   frames_on x y z e f =
       let l = lattice_of s.tables.now i.told.meets in
       record {
@@ -441,7 +441,7 @@ module _ (s : Setting) (c : Class) (m : Method) (i : IsSet s c m) (n : ℕ) (a :
       ∙ kinds_below_named s.program.now s.tables.now i.told own (record a { result = kind_of s.tables.now (result_of s.program.now q) }) b h
 
   -- a call of a constructor is one on a receiver that it may make
-  receives : (k : InvokeKind) (q : ℕ) (args : List ℕ) → is_static_call k ≡ false → is_constructor s.tables.now q ≡ true → is_wrong s n a (insn.Invoke k q args) ≡ false → refused s n a (insn.Invoke k q args) ≡ None
+  pub receives : (k : InvokeKind) (q : ℕ) (args : List ℕ) → is_static_call k ≡ false → is_constructor s.tables.now q ≡ true → is_wrong s n a (insn.Invoke k q args) ≡ false → refused s n a (insn.Invoke k q args) ≡ None
       → is_constructed s (kind_at a.registers (receiver_register args)) (method_class s.program.now q) ≡ true
   receives k q [] e f g h = absurd (no_words (parameter_words s q) (passed_words s k q) (ap (λ b. parameter_words s q + (if b then 0 else 1)) e) (or_none (differ (is_static_call k) (static_method s q) || wrong_super s n k q) (not (nat_eq 0 (passed_words s k q))) g).1)
     where
@@ -507,7 +507,7 @@ module _ (s : Setting) (c : Class) (m : Method) (i : IsSet s c m) (n : ℕ) (a :
 
   -- ---- all forms
 
-  filled_array : (x : Shape) → is_fillable_shape s.tables.now x ≡ true → shapes.is_array x ≡ true
+  pub filled_array : (x : Shape) → is_fillable_shape s.tables.now x ≡ true → shapes.is_array x ≡ true
   filled_array (shape.Array m j) e = refl
   filled_array x e = absurd (true≢false (sym e))
 

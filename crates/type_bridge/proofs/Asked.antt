@@ -75,7 +75,7 @@ item_self item.Byte = refl
 item_self item.Char = refl
 item_self item.Short = refl
 
-width_same : (a : Item) → asked.width_of_item a ≡ shapes.width_of a
+pub width_same : (a : Item) → asked.width_of_item a ≡ shapes.width_of a
 width_same item.Plain = refl
 width_same item.Wide = refl
 width_same item.Object = refl
@@ -84,7 +84,7 @@ width_same item.Byte = refl
 width_same item.Char = refl
 width_same item.Short = refl
 
-equality_same : (t : Test) → asked.is_equality t ≡ demands.is_equality t
+pub equality_same : (t : Test) → asked.is_equality t ≡ demands.is_equality t
 equality_same test.Eq = refl
 equality_same test.Ne = refl
 equality_same t = refl

@@ -1,10 +1,11 @@
 -- The kinds with which code begins, by number and by name.
 use Rattle.std.proofs.Common.{◌≡◌, ℕ, zero, suc, ◌+◌, ◌-◌, ◌<◌, ◌≤◌, Bool, true, false, List, [], ◌∷◌, ◌++◌, map, replicate, length, Option, Some, None, refl, sym, ap, ◌∙◌, arith, append_assoc, length-append}
 use Rattle.std.proofs.lemmas.List.Sums.{sum_by-cons}
-use Rattle.std.specs.Prelude.{slice_get, slice_set, nat_le, sum_by, if◌then◌else◌}
+use Rattle.std.specs.Prelude.{slice_get, slice_set, nat_le, sum_by, is_some, if◌then◌else◌}
+use Rattle.std.specs.List.{list_all}
 use Rattle.std.proofs.Math.Nat.{min-eq_left}
 use Rattle.std.proofs.lemmas.Bool.{leb-true}
-use Rattle.class_defs.proofs.Positions.{number_of}
+use Rattle.class_defs.proofs.Positions.{number_of, both}
 use Rattle.class_defs.proofs.WellFormed.{and_left, and_right}
 use Rattle.program_model.specs.MemberRules.{has_flag, frame_fits, takes_words, receiver_words, words_of}
 use Rattle.program_model.specs.MemberRules as rules
@@ -30,7 +31,10 @@ use Rattle.verify.specs.Methods.{constructs, receiver_of}
 use Rattle.verify.specs.Names.{parameters_or, parameters_of}
 use Rattle.verify.specs.Shapes as shapes
 use Rattle.verify.specs.Types.{shape_of, kind_of, kind_of_shape}
+use Rattle.type_bridge.specs.Numbered.{is_numbered}
 use Rattle.type_bridge.specs.Views.{class_kind, kind_named, receiver_named, kinds_named}
+use Rattle.type_bridge.proofs.Asked.{all_append}
+use Rattle.type_bridge.proofs.BackFits.{type_numbered}
 use Rattle.type_bridge.proofs.Told.{Told}
 use Rattle.type_bridge.proofs.Texts.{sorts, kind_is}
 use Rattle.type_bridge.proofs.Spelled.{word_same}
@@ -284,3 +288,35 @@ module _ (s : Setting) (c : Class) (m : Method) (i : IsSet s c m) (b : Body) (co
       ∙ ap (λ l. map (kind_named s.program.now) (replicate free kind.Undefined) ++ l) (sym arguments_named)
       ∙ sym (map_append (kind_named s.program.now) (replicate free kind.Undefined) (arguments held))
       ∙ ap (map (kind_named s.program.now)) (sym (registers_are held count_is)))
+
+  -- ---- they have numbers
+
+  none_numbered : (n : ℕ) → list_all (is_numbered s.program.now) (replicate n kind.Undefined) ≡ true
+  none_numbered zero = refl
+  none_numbered (suc n) = none_numbered n
+
+  halves_numbered : (k : number.Kind) → is_numbered s.program.now k ≡ true → list_all (is_numbered s.program.now) (halves k) ≡ true
+  halves_numbered kind.WideLow e = refl
+  halves_numbered k e = both (is_numbered s.program.now k) true e refl
+
+  parameters_numbered : (ks : List ℕ) → list_all (is_numbered s.program.now) (parameters s.tables.now ks) ≡ true
+  parameters_numbered [] = refl
+  parameters_numbered (k ∷ ks) = all_append (is_numbered s.program.now) (halves (kind_of s.tables.now k)) (parameters s.tables.now ks) (halves_numbered (kind_of s.tables.now k) (type_numbered s.program.now s.tables.now i.told k)) (parameters_numbered ks)
+
+  head_numbered : is_numbered s.program.now head ≡ true
+  head_numbered = by (constructs s.tables.now m) (has_flag c.flags 512)
+    where
+      by : (x y : Bool) → is_numbered s.program.now (if x then kind.FreshThis else if y then kind.Reference else kind.Program s.class) ≡ true
+      by true y = refl
+      by false true = refl
+      by false false = ap is_some i.class
+
+  arguments_numbered : (x : Bool) → list_all (is_numbered s.program.now) (arguments (receiver_by x)) ≡ true
+  arguments_numbered true = parameters_numbered types
+  arguments_numbered false = both (is_numbered s.program.now head) (list_all (is_numbered s.program.now) (parameters s.tables.now types)) head_numbered (parameters_numbered types)
+
+  pub begun_numbered : list_all (is_numbered s.program.now) (begun s b held types).registers ≡ true
+  begun_numbered =
+      ap (list_all (is_numbered s.program.now)) (registers_are held count_is)
+      ∙ all_append (is_numbered s.program.now) (replicate free kind.Undefined) (arguments held) (none_numbered free)
+      (ap (λ o. list_all (is_numbered s.program.now) (arguments o)) held_is ∙ arguments_numbered (has_flag m.flags 8))

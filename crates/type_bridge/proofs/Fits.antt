@@ -51,7 +51,7 @@ pub either_true : (a b c d : Bool) → (a ≡ true → c ≡ true) → (b ≡ tr
 either_true true b c d f g e = or_first c d (f refl)
 either_true false b c d f g e = or_second c d (g e)
 
-array_is : (s u : Text) → Array s ≡ Array u → s ≡ u
+pub array_is : (s u : Text) → Array s ≡ Array u → s ≡ u
 array_is s u e = ap text_in e
   where
     text_in : Kind → Text

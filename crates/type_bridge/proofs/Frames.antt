@@ -103,7 +103,7 @@ written_named p r k ks = one_named p r k ks
 
 -- ---- what was made at a position
 
-number_swaps : (m n : ℕ) → nat_eq m n ≡ nat_eq n m
+pub number_swaps : (m n : ℕ) → nat_eq m n ≡ nat_eq n m
 number_swaps m n = same_test (nat_eq m n) (nat_eq n m) (λ e. number_test n m (sym (number_of m n e))) (λ e. number_test m n (sym (number_of n m e)))
 
 forgotten_one : (p : Program) (n : ℕ) (k : number.Kind) → by_name.forgotten n (kind_named p k) ≡ kind_named p (forgotten n k)

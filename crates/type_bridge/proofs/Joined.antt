@@ -35,7 +35,7 @@ use Rattle.type_bridge.proofs.Order.{object_text}
 use Rattle.type_bridge.proofs.Told.{Told}
 use Rattle.type_bridge.proofs.Texts.{class_text, class_unit, depth_of, base_under, item_bare, item_sorts, item_class}
 
-class_letter : (u : Text) → first_unit u ≡ 76 → text.is_class_type u ≡ true
+pub class_letter : (u : Text) → first_unit u ≡ 76 → text.is_class_type u ≡ true
 class_letter [] e = absurd (cc)
 class_letter (u ∷ us) e = number_test u 76 e
 

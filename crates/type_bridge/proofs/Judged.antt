@@ -54,15 +54,15 @@ use Rattle.type_bridge.proofs.Entries.{begun_named}
 
 -- ---- forms without their names
 
-goes_same : (p : Program) (x : Insn) → continues (form_of p x) ≡ goes_on x
+pub goes_same : (p : Program) (x : Insn) → continues (form_of p x) ≡ goes_on x
 goes_same p insn.ReturnVoid = refl
 goes_same p x = refl
 
-targets_same : (p : Program) (x : Insn) → targets (form_of p x) ≡ targets_of x
+pub targets_same : (p : Program) (x : Insn) → targets (form_of p x) ≡ targets_of x
 targets_same p (insn.Goto target) = refl
 targets_same p x = refl
 
-throws_same : (p : Program) (x : Insn) → may_throw (form_of p x) ≡ throws x
+pub throws_same : (p : Program) (x : Insn) → may_throw (form_of p x) ≡ throws x
 throws_same p insn.Nop = refl
 throws_same p x = refl
 
@@ -97,7 +97,7 @@ map_append : {A B : Type 0} (f : A → B) (xs ys : List A) → map f (xs ++ ys) 
 map_append f [] ys = refl
 map_append f (x ∷ xs) ys = ap (λ zs. f x ∷ zs) (map_append f xs ys)
 
-map_long : {A B : Type 0} (f : A → B) (xs : List A) → length (map f xs) ≡ length xs
+pub map_long : {A B : Type 0} (f : A → B) (xs : List A) → length (map f xs) ≡ length xs
 map_long f [] = refl
 map_long f (x ∷ xs) = ap suc (map_long f xs)
 
@@ -112,7 +112,7 @@ state_is p made (o ∷ x) (suc n) = state_is p made x n
 
 -- ---- regions
 
-regions_behind : (n : ℕ) (pre rs : List Region) (k : ℕ) → length pre ≡ k → option_and_then (slice_get (pre ++ rs)) (first_covering n k rs) ≡ find (covers n) rs
+pub regions_behind : (n : ℕ) (pre rs : List Region) (k : ℕ) → length pre ≡ k → option_and_then (slice_get (pre ++ rs)) (first_covering n k rs) ≡ find (covers n) rs
 regions_behind n pre [] k e = refl
 regions_behind n pre (r ∷ rs) k e = by (covers n r) (regions_behind n (pre ++ r ∷ []) rs (k + 1) (longer pre k e))
   where
@@ -135,7 +135,7 @@ regions_behind n pre (r ∷ rs) k e = by (covers n r) (regions_behind n (pre ++ 
     by true more = here pre k e
     by false more = ap (λ l. option_and_then (slice_get l) (first_covering n (k + 1) rs)) (sym (joined pre)) ∙ more
 
-region_found : (p : Program) (n : ℕ) (rs : List Region) → find (walks.is_covered n) (map (region_of p) rs) ≡ option_map (region_of p) (find (covers n) rs)
+pub region_found : (p : Program) (n : ℕ) (rs : List Region) → find (walks.is_covered n) (map (region_of p) rs) ≡ option_map (region_of p) (find (covers n) rs)
 region_found p n [] = refl
 region_found p n (r ∷ rs) = by (covers n r) (region_found p n rs)
   where

@@ -1,6 +1,14 @@
 pub mod After
 pub mod Allowed
 pub mod Asked
+pub mod Back
+pub mod BackAfter
+pub mod BackAllowed
+pub mod BackFits
+pub mod BackFrames
+pub mod BackReads
+pub mod BackTypings
+pub mod BackWrong
 pub mod Bodies
 pub mod Entries
 pub mod Fits
@@ -14,6 +22,7 @@ pub mod Numbering
 pub mod Numbers
 pub mod Order
 pub mod Programs
+pub mod Refused
 pub mod Spelled
 pub mod Texts
 pub mod Told

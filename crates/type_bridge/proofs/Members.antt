@@ -2,7 +2,7 @@
 use Rattle.std.proofs.Common.{◌≡◌, ℕ, zero, suc, ◌<◌, Bool, true, false, true≢false, List, [], ◌∷◌, ◌++◌, map, length, Option, Some, None, refl, sym, ap, ◌∙◌, subst}
 use Rattle.std.specs.Prelude.{not, slice_get, option_and_then, position, codes}
 use Rattle.std.specs.Option.{option_map, option_or}
-use Rattle.class_defs.proofs.Positions.{entry_at, number_of, place_entry}
+use Rattle.class_defs.proofs.Positions.{entry_at, number_of, number_test, place_entry}
 use Rattle.class_defs.proofs.WellFormed.{class_parts}
 use Rattle.class_defs.specs.Finding as finding
 use Rattle.class_defs.specs.Members.{is_field, own_field, own_method, field_of_class}
@@ -28,6 +28,7 @@ use Rattle.dalvik_defs.specs.Flags as remainder
 use Rattle.dalvik_defs.specs.declared.names.Signature.{Signature}
 use Rattle.name_bridge.specs.Named.{field_at_place, field_of, field_there, found_at, found_of, found_there, finds, search_at}
 use Rattle.name_bridge.proofs.Above.{own_place}
+use Rattle.name_bridge.proofs.Classes.{type_test}
 use Rattle.name_bridge.proofs.Fields.{field_resolves_by_number}
 use Rattle.name_bridge.proofs.Flags.{static_flag}
 use Rattle.name_bridge.proofs.Found.{text_same}
@@ -237,6 +238,23 @@ module _ (s : Setting) (d : Told s.program.now s.tables.now) (h : IsResolved s.p
           ∙ ap (λ o. elim (field_there s.program.now there.class o) as (λ o. Bool) [ Some f ↦ text_eq f.0 (type_at s.program.now c.name) | None ↦ false ]) there.is_field
           ∙ ap (λ k. text_eq (type_at s.program.now k.name) (type_at s.program.now c.name)) one
           ∙ same_text (type_at s.program.now c.name)
+
+  pub defines_back : (c : Class) → slice_get s.program.now.classes s.class ≡ Some c → (f : ℕ) → FieldIs s.program.now s.tables.now d f → asked.defines_field (named s.program.now) (named_class s.program.now c) (field_at s.program.now f) ≡ true → defines_field s f ≡ true
+  defines_back c i f e g =
+      ap (λ o. is_place o s.class) (field_target f e)
+      ∙ by (finding.resolves_field s.program.now f) refl
+      (sym (ap (λ o. elim o as (λ o. Bool) [ Some f ↦ text_eq f.0 (type_at s.program.now c.name) | None ↦ false ]) (field_resolves_by_number s.program.now d.sound f e.small)) ∙ g)
+    where
+      by : (o : Option (ℕ × ℕ)) → finding.resolves_field s.program.now f ≡ o → elim (option_and_then (field_at_place s.program.now) o) as (λ o. Bool) [ Some f ↦ text_eq f.0 (type_at s.program.now c.name) | None ↦ false ] ≡ true → is_place o s.class ≡ true
+      by None x y = absurd (true≢false (sym y))
+      by (Some at) x y =
+          let there = resolved_there s.program.now f e.entry at e.is x in
+          let same : text_eq (type_at s.program.now there.class.name) (type_at s.program.now c.name) ≡ true =
+          sym (ap (λ o. elim (field_of s.program.now at.1 o) as (λ o. Bool) [ Some f ↦ text_eq f.0 (type_at s.program.now c.name) | None ↦ false ]) there.is_class
+          ∙ ap (λ o. elim (field_there s.program.now there.class o) as (λ o. Bool) [ Some f ↦ text_eq f.0 (type_at s.program.now c.name) | None ↦ false ]) there.is_field) ∙ y in
+          let one : there.class.name ≡ c.name = number_of there.class.name c.name (sym (type_test s.program.now d.sound there.class.name c.name (class_parts s.program.now d.sound at.0 there.class there.is_class).name (class_parts s.program.now d.sound s.class c i).name) ∙ same) in
+          let place : Some at.0 ≡ Some s.class = sym (own_place s.program.now d.once at.0 there.class there.is_class) ∙ ap (look.class_place s.program.now) one ∙ own_place s.program.now d.once s.class c i in
+          number_test at.0 s.class (let q : at.0 ≡ s.class = cc in q)
 
   -- ---- super calls
 

@@ -31,7 +31,7 @@ use Rattle.type_bridge.proofs.Order.{object_text}
 use Rattle.type_bridge.proofs.Told.{Told}
 use Rattle.type_bridge.proofs.Texts.{First, first_of, few_types, base_is, base_stays, item_bare, text_of_type}
 
-same_number_itself : (o : Option ℕ) → same_number o o ≡ true
+pub same_number_itself : (o : Option ℕ) → same_number o o ≡ true
 same_number_itself None = refl
 same_number_itself (Some n) = number_test n n refl
 

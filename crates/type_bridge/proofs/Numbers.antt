@@ -74,7 +74,7 @@ module _ (p : Program) (t : Tables) (d : Told p t) where
       by true = ap Some e
       by false = ap (option_map Some) e
 
-  type_back : (k : ℕ) → k < length p.types → type_named p (type_at p k) ≡ Some k
+  pub type_back : (k : ℕ) → k < length p.types → type_named p (type_at p k) ≡ Some k
   type_back k h =
       let r = entry_at p.types k h in
       let here : type_at p k ≡ text_at p r.0 = spelled k r.0 r.1 in

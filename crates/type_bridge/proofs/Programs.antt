@@ -29,17 +29,17 @@ use Rattle.type_bridge.proofs.Grounds.{IsSet}
 use Rattle.type_bridge.proofs.Bodies.{IsCode, code, got_short}
 use Rattle.type_bridge.proofs.Judged.{table, typing_named}
 
-index_at : {X : Type 0} (xs : List X) (i : ℕ) (x d : X) → slice_get xs i ≡ Some x → slice_index_or xs i d ≡ x
+pub index_at : {X : Type 0} (xs : List X) (i : ℕ) (x d : X) → slice_get xs i ≡ Some x → slice_index_or xs i d ≡ x
 index_at [] i x d e = cc
 index_at (y ∷ ys) zero x d e = let s : y ≡ x = cc in s
 index_at (y ∷ ys) (suc i) x d e = index_at ys i x d e
 
-index_map : {X Y : Type 0} (f : X → Y) (xs : List X) (i : ℕ) (x : X) (d : Y) → slice_get xs i ≡ Some x → slice_index_or (map f xs) i d ≡ f x
+pub index_map : {X Y : Type 0} (f : X → Y) (xs : List X) (i : ℕ) (x : X) (d : Y) → slice_get xs i ≡ Some x → slice_index_or (map f xs) i d ≡ f x
 index_map f [] i x d e = cc
 index_map f (y ∷ ys) zero x d e = let s : y ≡ x = cc in ap f s
 index_map f (y ∷ ys) (suc i) x d e = index_map f ys i x d e
 
-map_long : {A B : Type 0} (f : A → B) (xs : List A) → length (map f xs) ≡ length xs
+pub map_long : {A B : Type 0} (f : A → B) (xs : List A) → length (map f xs) ≡ length xs
 map_long f [] = refl
 map_long f (x ∷ xs) = ap suc (map_long f xs)
 
@@ -65,7 +65,7 @@ body_image p None b e = absurd (cc)
 body_image p (Some x) b e = record { body = x; has = refl; is = (let s : body_of p x ≡ b = cc in s) }
 
 -- the typing of a body by names
-abbrev Named : Program → Class → Method → Body → Type 0
+abbrev pub Named : Program → Class → Method → Body → Type 0
 Named p c m b = (t : typed.Table) × typed.IsTyping (named p) (named_class p c) (named_method p m) (body_of p b) t
 
 module _ (p : Program) (h : Hierarchy) (w : is_well_formed p ≡ true) (r : IsResolved p h) (v : Verifier) (f : IsFor p h v) where
@@ -73,52 +73,53 @@ module _ (p : Program) (h : Hierarchy) (w : is_well_formed p ≡ true) (r : IsRe
     all : Told p v.tables
     all = told p h v w r.of f
 
+    -- what the code of the method is judged by
+    module _ (s : Setting) (is : IsSettingOf v c k m s) where
+      pub program : s.program.now ≡ p
+      program = is.program ∙ f.program
+
+      told_here : Told s.program.now s.tables.now
+      told_here = subst (λ q. Told q s.tables.now) (sym program) (subst (Told p) (sym is.tables) all)
+
+      class_here : slice_get s.program.now.classes s.class ≡ Some c
+      class_here = ap (λ q. slice_get q.classes s.class) program ∙ ap (slice_get p.classes) is.class ∙ is_class
+
+      name_here : MethodIs s.program.now s.tables.now told_here m.name
+      name_here =
+          let fits = (class_parts s.program.now told_here.sound s.class c class_here).methods j m is_method in
+          method_is s.program.now s.tables.now told_here m.name (got_short s.program.now.methods m.name fits.entry fits.is)
+
+      pub ground : IsSet s c m
+      ground = record {
+        told = told_here;
+        resolved = subst (λ q. IsResolved q s.hierarchy.now) (sym program) (subst (IsResolved p) (sym (is.hierarchy ∙ f.hierarchy)) r);
+        class = class_here;
+        kind = is.kind;
+        superclass = is.superclass;
+        result = is.result ∙ ap (λ q. result_of q m.name) (sym is.program);
+        begins = is.begins ∙ ap (λ t. constructs t m) (sym is.tables);
+        name = name_here;
+      }
+
+      pub body : IsCode s.program.now m b
+      body = subst (λ q. IsCode q m b) (sym program) (code p w all.sound k c j m b is_class is_method has)
+
+      of : IsOf v.program.now v.hierarchy.now
+      of = subst (λ q. IsOf q v.hierarchy.now) (sym f.program) (subst (IsOf p) (sym f.hierarchy) r.of)
+
+      pub found : (IsOf v.program.now v.hierarchy.now → Finds v.program.now k b.insns s.found.now) → Finds s.program.now s.class b.insns s.found.now
+      found finds = subst (λ q. Finds q s.class b.insns s.found.now) (sym is.program) (subst (λ k. Finds v.program.now k b.insns s.found.now) (sym is.class) (finds of))
+
+      pub entry_same : begun s b (receiver_of c k m (constructs v.tables m)) (parameters_of v.program.now m.name) ≡ begun s b (receiver_of c s.class m (constructs s.tables.now m)) (parameters_of s.program.now m.name)
+      entry_same =
+          ap (λ k. begun s b (receiver_of c k m (constructs v.tables m)) (parameters_of v.program.now m.name)) (sym is.class)
+          ∙ ap (λ t. begun s b (receiver_of c s.class m (constructs t m)) (parameters_of v.program.now m.name)) (sym is.tables)
+          ∙ ap (λ q. begun s b (receiver_of c s.class m (constructs s.tables.now m)) (parameters_of q m.name)) (sym is.program)
+
     by_setting : (s : Setting) → IsSettingOf v c k m s → (IsOf v.program.now v.hierarchy.now → Finds v.program.now k b.insns s.found.now) → (x : Table)
         → IsTyping s b (begun s b (receiver_of c k m (constructs v.tables m)) (parameters_of v.program.now m.name)) x → Named p c m b
-    by_setting s is finds x typing = subst (λ q. Named q c m b) program (table s c m ground b body found x, typing_named s c m ground b body found x same)
-      where
-        program : s.program.now ≡ p
-        program = is.program ∙ f.program
-
-        tables : s.tables.now ≡ v.tables
-        tables = is.tables
-
-        told_here : Told s.program.now s.tables.now
-        told_here = subst (λ q. Told q s.tables.now) (sym program) (subst (Told p) (sym tables) all)
-
-        class_here : slice_get s.program.now.classes s.class ≡ Some c
-        class_here = ap (λ q. slice_get q.classes s.class) program ∙ ap (slice_get p.classes) is.class ∙ is_class
-
-        name_here : MethodIs s.program.now s.tables.now told_here m.name
-        name_here =
-            let fits = (class_parts s.program.now told_here.sound s.class c class_here).methods j m is_method in
-            method_is s.program.now s.tables.now told_here m.name (got_short s.program.now.methods m.name fits.entry fits.is)
-
-        ground : IsSet s c m
-        ground = record {
-          told = told_here;
-          resolved = subst (λ q. IsResolved q s.hierarchy.now) (sym program) (subst (IsResolved p) (sym (is.hierarchy ∙ f.hierarchy)) r);
-          class = class_here;
-          kind = is.kind;
-          superclass = is.superclass;
-          result = is.result ∙ ap (λ q. result_of q m.name) (sym is.program);
-          begins = is.begins ∙ ap (λ t. constructs t m) (sym tables);
-          name = name_here;
-        }
-
-        body : IsCode s.program.now m b
-        body = subst (λ q. IsCode q m b) (sym program) (code p w all.sound k c j m b is_class is_method has)
-
-        of : IsOf v.program.now v.hierarchy.now
-        of = subst (λ q. IsOf q v.hierarchy.now) (sym f.program) (subst (IsOf p) (sym f.hierarchy) r.of)
-
-        found : Finds s.program.now s.class b.insns s.found.now
-        found = subst (λ q. Finds q s.class b.insns s.found.now) (sym is.program) (subst (λ k. Finds v.program.now k b.insns s.found.now) (sym is.class) (finds of))
-
-        same : IsTyping s b (begun s b (receiver_of c s.class m (constructs s.tables.now m)) (parameters_of s.program.now m.name)) x
-        same = subst (λ q. IsTyping s b (begun s b (receiver_of c s.class m (constructs s.tables.now m)) (parameters_of q m.name)) x) (sym is.program)
-            (subst (λ t. IsTyping s b (begun s b (receiver_of c s.class m (constructs t m)) (parameters_of v.program.now m.name)) x) (sym tables)
-            (subst (λ k. IsTyping s b (begun s b (receiver_of c k m (constructs v.tables m)) (parameters_of v.program.now m.name)) x) (sym is.class) typing))
+    by_setting s is finds x typing = subst (λ q. Named q c m b) (program s is)
+        (table s c m (ground s is) b (body s is) (found s is finds) x, typing_named s c m (ground s is) b (body s is) (found s is finds) x (subst (λ k. IsTyping s b k x) (entry_same s is) typing))
 
     by_typing : (x : Table) → HasTyping v c k m b x → Named p c m b
     by_typing x t = by_setting t.setting t.is t.finds x t.least.typing

@@ -342,7 +342,7 @@ module _ (p : Program) (t : Tables) (d : Told p t) where
       let z : is_object (type_text p k.name) ≡ true = ap (λ u. text_eq u object_type) (sym (type_same p k.name)) ∙ h in
       true≢false (sym g ∙ ap not z)
 
-  no_plain : (u : Text) → nat_eq (first_unit u) 76 ≡ false → kinds.is_plain (named p) u ≡ false
+  pub no_plain : (u : Text) → nat_eq (first_unit u) 76 ≡ false → kinds.is_plain (named p) u ≡ false
   no_plain u e = plain_is p d.well u ∙ by (class_named p u) refl
     where
       by : (o : Option ℕ) → class_named p u ≡ o → plain_at p o ≡ false

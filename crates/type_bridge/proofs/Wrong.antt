@@ -55,7 +55,7 @@ pub or_none : (a b : Bool) → (a || b) ≡ false → (a ≡ false) × (b ≡ fa
 or_none true b e = absurd (true≢false e)
 or_none false b e = (refl, e)
 
-none_or : (a b : Bool) → a ≡ false → b ≡ false → (a || b) ≡ false
+pub none_or : (a b : Bool) → a ≡ false → b ≡ false → (a || b) ≡ false
 none_or true b e f = e
 none_or false b e f = f
 
@@ -64,7 +64,7 @@ untrue true e = refl
 untrue false e = absurd (true≢false e)
 
 -- what is wrong with an item's or a result's width goes by its type's sort
-item_same : (i : Item) (p : Program) (u : Text) (s : Shape) → Sorts p u s → wrong_item i s ≡ typed.wrong_item i u
+pub item_same : (i : Item) (p : Program) (u : Text) (s : Shape) → Sorts p u s → wrong_item i s ≡ typed.wrong_item i u
 item_same item.Wide p u s h = ap not (sym h.wide)
 item_same item.Object p u s h = ap not (sym h.reference)
 item_same item.Plain p u s h = ap (λ b. b || shapes.is_reference s) (sym h.wide) ∙ ap (λ b. text.is_wide u || b) (sym h.reference)
@@ -73,7 +73,7 @@ item_same item.Byte p u s h = ap (λ b. b || shapes.is_reference s) (sym h.wide)
 item_same item.Char p u s h = ap (λ b. b || shapes.is_reference s) (sym h.wide) ∙ ap (λ b. text.is_wide u || b) (sym h.reference)
 item_same item.Short p u s h = ap (λ b. b || shapes.is_reference s) (sym h.wide) ∙ ap (λ b. text.is_wide u || b) (sym h.reference)
 
-result_same : (x : Slot) (p : Program) (u : Text) (s : Shape) → Sorts p u s → wrong_result x s ≡ typed.wrong_return x u
+pub result_same : (x : Slot) (p : Program) (u : Text) (s : Shape) → Sorts p u s → wrong_result x s ≡ typed.wrong_return x u
 result_same slot.Word p u s h = ap not (sym h.word)
 result_same slot.Wide p u s h = ap not (sym h.wide)
 result_same slot.Object p u s h = ap not (sym h.reference)
@@ -110,17 +110,20 @@ module _ (s : Setting) (c : Class) (m : Method) (i : IsSet s c m) (n : ℕ) (a :
   void_result : shapes.is_void (shape_of s.tables.now s.result) ≡ true → text.is_void (method_at s.program.now m.name).signature.result ≡ true
   void_result e = ap text.is_void (sym (result_named s c m i)) ∙ void_text s.program.now s.tables.now i.told s.result (result_small s c m i) e
 
-  access : (static : Bool) (x : Item) (f : ℕ) → FieldIs s.program.now s.tables.now i.told f → wrong_access s static x f ≡ false
-      → (typed.wrong_item x (field_at s.program.now f).kind || typed.wrong_field (named s.program.now) static (field_at s.program.now f)) ≡ false
-  access static x f e h =
+  pub access_same : (static : Bool) (x : Item) (f : ℕ) → FieldIs s.program.now s.tables.now i.told f
+      → (typed.wrong_item x (field_at s.program.now f).kind || typed.wrong_field (named s.program.now) static (field_at s.program.now f)) ≡ wrong_access s static x f
+  access_same static x f e =
       ap (λ b. typed.wrong_item x (field_at s.program.now f).kind || b) (sym (field_flags s i.told i.resolved static f e))
       ∙ ap (λ u. typed.wrong_item x u || differ static (static_field s f)) (sym (field_kind_is s.program.now s.tables.now i.told f e))
       ∙ ap (λ b. b || differ static (static_field s f)) (sym (item_same x s.program.now (type_at s.program.now (field_kind s.program.now f)) (shape_of s.tables.now (field_kind s.program.now f)) (sorts s.program.now s.tables.now i.told (field_kind s.program.now f))))
-      ∙ h
+
+  access : (static : Bool) (x : Item) (f : ℕ) → FieldIs s.program.now s.tables.now i.told f → wrong_access s static x f ≡ false
+      → (typed.wrong_item x (field_at s.program.now f).kind || typed.wrong_field (named s.program.now) static (field_at s.program.now f)) ≡ false
+  access static x f e h = access_same static x f e ∙ h
 
   -- ---- new objects
 
-  unmade : (o : Option Class) → is_unmade o ≡ elim (option_map (named_class s.program.now) o) as (λ o. Bool) [ Some c ↦ remainder.is_abstract c.flags || remainder.is_interface c.flags | None ↦ false ]
+  pub unmade : (o : Option Class) → is_unmade o ≡ elim (option_map (named_class s.program.now) o) as (λ o. Bool) [ Some c ↦ remainder.is_abstract c.flags || remainder.is_interface c.flags | None ↦ false ]
   unmade None = refl
   unmade (Some k) = ap (λ b. b || has_flag k.flags 512) (abstract_flag k.flags) ∙ ap (λ b. remainder.is_abstract k.flags.0 || b) (interface_flag k.flags)
 
@@ -205,7 +208,7 @@ module _ (s : Setting) (c : Class) (m : Method) (i : IsSet s c m) (n : ℕ) (a :
   super_same call.Static q args e f = refl
   super_same call.Interface q args e f = refl
 
-  call_same : (k : InvokeKind) (q : ℕ) (args : List ℕ) → MethodIs s.program.now s.tables.now i.told q → found_at s n ≡ supers.called_by_kind s.program.now s.class k q → wrong_call s n k q (length args)
+  pub call_same : (k : InvokeKind) (q : ℕ) (args : List ℕ) → MethodIs s.program.now s.tables.now i.told q → found_at s n ≡ supers.called_by_kind s.program.now s.class k q → wrong_call s n k q (length args)
       ≡ (typed.wrong_method (named s.program.now) k (method_at s.program.now q) || typed.wrong_super (named s.program.now) (named_class s.program.now c) k (method_at s.program.now q) || not (nat_eq (length args) (typed.passed_words k (method_at s.program.now q))))
   call_same k q args e f =
       ap (λ b. differ b (static_method s q) || wrong_super s n k q || not (nat_eq (length args) (passed_words s k q))) (static_same k)

@@ -1,17 +1,23 @@
 //! Laws of the verifier's answers.
 
-ghost use Rattle.std.specs.Prelude.{◌≡◌, ℕ, true};
-ghost use Rattle.dalvik_defs.specs.Naming.{type_at, named};
+ghost use Rattle.std.specs.Prelude.{◌≡◌, ℕ, true, Some, slice_get};
+ghost use Rattle.dalvik_defs.specs.Naming.{type_at, body_of, named_class, named_method, named};
 ghost use Rattle.pass_defs.specs.Kinds as name;
-ghost use Rattle.pass_defs.specs.Typed.{IsTyped};
+ghost use Rattle.pass_defs.specs.Typed.{IsTyped, IsTyping, Table};
+ghost use Rattle.program_model.specs.declared.body.Body.{Body};
+ghost use Rattle.program_model.specs.declared.program.Class.{Class};
+ghost use Rattle.program_model.specs.declared.program.Method.{Method};
+ghost use Rattle.program_model.specs.declared.program.MethodAt.{MethodAt};
 ghost use Rattle.program_model.specs.declared.program.Program.{Program};
+ghost use Rattle.program_model.specs.Lookups.{method_at};
 ghost use Rattle.program_model.specs.ProgramRules.{is_well_formed};
 ghost use Rattle.hierarchy.specs.Shapes.{IsOf, IsResolved};
 ghost use Rattle.hierarchy.specs.declared.build.Hierarchy.{Hierarchy};
 ghost use Rattle.verify.specs.declared.typed.Verifier.{Verifier};
+ghost use Rattle.verify.specs.declared.fault.TypeFault.TheVariants as fault;
 ghost use Rattle.verify.specs.declared.kinds.Kind as number;
 ghost use Rattle.verify.specs.Joins.{joined};
-ghost use Rattle.verify.specs.Methods.{IsFor, TypesAll};
+ghost use Rattle.verify.specs.Methods.{IsFor, RefusesFor, RefusesOne, TypesAll};
 ghost use Rattle.verify.specs.Types.{kind_of};
 ghost use Rattle.verify.specs.Typings.{Below};
 ghost use Rattle.type_bridge.specs.Numbered.{is_numbered};
@@ -45,4 +51,14 @@ pub fn order_by_name_law()
 /// A well-formed program whose methods the verifier finds well typed is typed.
 pub fn typed_law()
     ensures { (p : Program) (h : Hierarchy) → is_well_formed p ≡ true → IsResolved p h → TypesAll p h → IsTyped (named p) }
+{}
+
+/// A method of a well-formed program that the verifier finds ill typed has no typing by names.
+pub fn refused_law()
+    ensures { (p : Program) (h : Hierarchy) → is_well_formed p ≡ true → IsResolved p h → (at : MethodAt) (k n r : ℕ) → RefusesFor p h at (fault.IllTyped k n r) → (c : Class) (m : Method) (b : Body) → slice_get p.classes at.class ≡ Some c → method_at p at ≡ Some m → m.body ≡ Some b → (t : Table) → IsTyping (named p) (named_class p c) (named_method p m) (body_of p b) t → ⊥ }
+{}
+
+/// A well-formed program of which the verifier finds a method ill typed is not typed.
+pub fn ill_typed_law()
+    ensures { (p : Program) (h : Hierarchy) → is_well_formed p ≡ true → IsResolved p h → (k n r : ℕ) → RefusesOne p h (fault.IllTyped k n r) → IsTyped (named p) → ⊥ }
 {}

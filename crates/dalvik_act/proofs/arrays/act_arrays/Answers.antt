@@ -1,9 +1,13 @@
-use Rattle.std.proofs.Common.{◌≡◌, ℕ, ◌%◌, ◌^◌, ap, sym, subst, ◌∙◌}
-use Rattle.std.specs.Prelude.{ℤ, List, false}
+use Rattle.std.proofs.Common.{◌≡◌, ℕ, ◌<◌, ◌%◌, ◌^◌, length, ap, sym, subst, ◌∙◌}
+use Rattle.dalvik_state.specs.Worlds.{spots_of}
+use Rattle.dalvik_act.specs.Acted.{Fits}
+use Rattle.dalvik_act.proofs.Bodies.{array_type, filled_short, filled_type, item_fine, kind_fine}
+use Rattle.dalvik_act.proofs.Worlds.{kept_same}
+use Rattle.std.specs.Prelude.{List, false}
 use Rattle.std.specs.Int.{w32, cast_signed}
 use Rattle.std.proofs.lemmas.Result.{IfOk-weaker}
 use Rattle.insn_set.specs.declared.form.Insn.{Insn}
-use Rattle.dalvik_defs.specs.Names.{Text, item_of}
+use Rattle.dalvik_defs.specs.Names.{item_of}
 use Rattle.dalvik_defs.specs.Naming.{form_of, type_at}
 use Rattle.dalvik_defs.specs.Arith.{signed}
 use Rattle.dalvik_defs.specs.ActNumber.{number}
@@ -71,3 +75,30 @@ returns-in-FillArray-clause-named c = λ is under floats named placed h.
     c.fills.ensures.does named.types h
     ∙ (λ i. unless_null (read i) (fills (thing_at w (read i)) w f (read i) (numbers i)))
     ∙ ap (λ (x : Insn). act under floats (form_of l.program.now x) w f) (sym asked.is)
+
+pub returns-in-ArrayLength-clause-safe : goal.returns-in-ArrayLength-clause-safe
+returns-in-ArrayLength-clause-safe c = λ right ready fits array. let l = c.args.tables.now.lookups in record {
+  world = kept_same l c.args.world.now ready.sound;
+  safe = c.measures.ensures.safe l (length (spots_of c.args.world.now)) ready.below ready.fine;
+}
+
+pub returns-in-NewArray-clause-safe : goal.returns-in-NewArray-clause-safe
+returns-in-NewArray-clause-safe c = λ right ready fits array.
+    let l = c.args.tables.now.lookups in
+    let asked = c.in-NewArray in
+    let fine = kind_fine l right asked.kind c.kind.result (c.kind.ensures.is right.tabled.named (array_type l.program.now asked.to asked.size asked.kind (subst (Fits l.program.now) asked.is fits))) in
+    c.new_array.ensures.safe right.tabled.named.types ready (item_fine l c.kind.result c.item_of.result fine c.item_of.ensures.depth (c.item_of.ensures.kind l.types fine.there))
+
+pub returns-in-FilledNewArray-clause-safe : goal.returns-in-FilledNewArray-clause-safe
+returns-in-FilledNewArray-clause-safe c = λ right ready fits array.
+    let l = c.args.tables.now.lookups in
+    let asked = c.in-FilledNewArray in
+    let own = subst (Fits l.program.now) asked.is fits in
+    let kind = c.kind-in-FilledNewArray in
+    let item = c.item_of-item in
+    let fine = kind_fine l right asked.kind kind.result (kind.ensures.is right.tabled.named (filled_type l.program.now asked.kind asked.args own)) in
+    let short : length c.as_slice.result.now < 2 ^ 32 = subst (λ (args : List ℕ). length args < 2 ^ 32) (sym c.as_slice.ensures) (filled_short l.program.now asked.kind asked.args own) in
+    c.filled_array.ensures.safe l ready (item_fine l kind.result item.result fine item.ensures.depth (item.ensures.kind l.types fine.there)) short
+
+pub returns-in-FillArray-clause-safe : goal.returns-in-FillArray-clause-safe
+returns-in-FillArray-clause-safe c = λ right ready fits array. c.fills.ensures.safe c.args.tables.now.lookups ready

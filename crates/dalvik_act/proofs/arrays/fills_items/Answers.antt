@@ -1,7 +1,12 @@
-use Rattle.std.proofs.Common.{◌≡◌, true, false, ap, sym, ◌∙◌}
+use Rattle.std.proofs.Common.{◌≡◌, true, arith, ap, sym, ◌∙◌}
+use Rattle.dalvik_state.specs.Worlds.{spots_of}
+use Rattle.dalvik_state.specs.declared.effect.Effect.TheVariants as own
+use Rattle.dalvik_state.proofs.Fine.{fine_frame}
+use Rattle.dalvik_act.proofs.Safe.{stays}
+use Rattle.dalvik_act.proofs.Worlds.{kept_filled, kept_same}
 use Rattle.std.specs.Prelude.{length, nat_lt}
 use Rattle.dalvik_defs.specs.Effect.{Faults}
-use Rattle.dalvik_state.specs.Views.{frame_of, value_of, world_of}
+use Rattle.dalvik_state.specs.Views.{frame_of, names_in, value_of, world_of}
 use Rattle.dalvik_act.proofs.Elements.{fills_short, refilled, went}
 use Rattle.dalvik_act.proofs.arrays.fills_items.Goals as goal
 
@@ -16,3 +21,19 @@ returns-else-lacks-clause-does c = λ n k h kind items s lacks item.
 
 pub returns-else-lacks-clause-kept : goal.returns-else-lacks-clause-kept
 returns-else-lacks-clause-kept c = went c.goes_on.result c.args.world.now c.fill.new.self c.goes_on.ensures.goes
+
+pub returns-then-lacks-clause-safe : goal.returns-then-lacks-clause-safe
+returns-then-lacks-clause-safe c = λ l ready. record {
+  world = kept_same l c.args.world.now ready.sound;
+  safe = stays l (length (spots_of c.args.world.now)) c.args.frame.now (own.Faults 14) ready.fine (omega arith);
+}
+
+pub returns-else-lacks-clause-safe : goal.returns-else-lacks-clause-safe
+returns-else-lacks-clause-safe c = λ l ready.
+    let old = c.args.world.now in
+    let new = c.fill.new.self in
+    let world = kept_filled l old new c.args.array c.args.item c.args.numbers.now c.fill.ensures ready.sound in
+    record {
+      world = world;
+      safe = c.goes_on.ensures.safe l (length (spots_of new)) ready.below (fine_frame (names_in l) (length (spots_of old)) (length (spots_of new)) c.args.frame.now world.more ready.fine);
+    }

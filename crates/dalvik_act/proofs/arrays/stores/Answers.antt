@@ -1,11 +1,15 @@
-use Rattle.std.proofs.Common.{◌≡◌, true, false, ap, sym, ◌∙◌}
+use Rattle.std.proofs.Common.{◌≡◌, arith, length, ap, subst, sym, ◌∙◌}
+use Rattle.dalvik_state.specs.Worlds.{spots_of}
+use Rattle.dalvik_state.specs.declared.effect.Effect.TheVariants as own
+use Rattle.dalvik_state.proofs.Fine.{fine_frame, fine_stored}
+use Rattle.dalvik_act.proofs.Safe.{stays}
+use Rattle.dalvik_act.proofs.Worlds.{kept_put, kept_same}
 use Rattle.std.specs.Prelude.{Bool, map, slice_set}
 use Rattle.dalvik_defs.specs.ActArray.{writes_item}
 use Rattle.dalvik_defs.specs.State.{Items, World}
 use Rattle.dalvik_defs.specs.Effect.{Faults, Goes, next}
-use Rattle.dalvik_state.specs.declared.datum.Datum.{Datum}
 use Rattle.dalvik_state.specs.Frames.{stored_in}
-use Rattle.dalvik_state.specs.Views.{frame_of, value_of, world_of}
+use Rattle.dalvik_state.specs.Views.{IsFine, frame_of, names_in, value_of, world_of}
 use Rattle.dalvik_act.proofs.Elements.{stored_at, went}
 use Rattle.dalvik_act.proofs.arrays.stores.Goals as goal
 
@@ -25,3 +29,21 @@ returns-else-fits-clause-does c = λ n k h kind items s.
 
 pub returns-then-fits-clause-kept : goal.returns-then-fits-clause-kept
 returns-then-fits-clause-kept c = went c.goes_on.result c.args.world.now c.put_item.new.self c.goes_on.ensures.goes
+
+pub returns-then-fits-clause-safe : goal.returns-then-fits-clause-safe
+returns-then-fits-clause-safe c = λ l ready fine.
+    let old = c.args.world.now in
+    let new = c.put_item.new.self in
+    let size = length (spots_of old) in
+    let value = subst (IsFine (names_in l) size) (sym c.stored.ensures.is) (fine_stored (names_in l) size c.args.put.item c.args.put.datum fine) in
+    let world = kept_put l old new c.args.put.array c.stored.result c.args.place c.put_item.ensures value ready.sound in
+    record {
+      world = world;
+      safe = c.goes_on.ensures.safe l (length (spots_of new)) ready.below (fine_frame (names_in l) size (length (spots_of new)) c.args.frame.now world.more ready.fine);
+    }
+
+pub returns-else-fits-clause-safe : goal.returns-else-fits-clause-safe
+returns-else-fits-clause-safe c = λ l ready fine. record {
+  world = kept_same l c.args.world.now ready.sound;
+  safe = stays l (length (spots_of c.args.world.now)) c.args.frame.now (own.Faults 11) ready.fine (omega arith);
+}

@@ -1,4 +1,4 @@
-use Rattle.std.proofs.Common.{◌≡◌, arith, ◌∙◌}
+use Rattle.std.proofs.Common.{arith, ◌∙◌}
 use Rattle.std.specs.Prelude.{slice_set}
 use Rattle.dalvik_state.proofs.Fills.{fill_more}
 use Rattle.dalvik_state.proofs.items.fill.Goals as goal

@@ -1,9 +1,3 @@
-use Rattle.dalvik_state.proofs.Bodies.{frame_form}
-use Rattle.dalvik_state.proofs.Running.{running_more}
-use Rattle.dalvik_state.proofs.Faced.{plain_none}
-use Rattle.dalvik_state.proofs.Later.{later_show}
-use Rattle.dalvik_state.proofs.Opening.{opening_named}
-use Rattle.dalvik_state.proofs.Sound.{sound_print}
 use Rattle.dalvik_state.proofs.Tops.{stack_goes_on, stack_goes_on_with, stack_handles}
 use Rattle.dalvik_state.proofs.laws.top_law.Goals as goal
 

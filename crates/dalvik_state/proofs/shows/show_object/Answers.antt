@@ -1,5 +1,5 @@
 use Rattle.std.proofs.Common.{sym, subst}
-use Rattle.std.specs.Prelude.{Option, Some, None}
+use Rattle.std.specs.Prelude.{Option, None}
 use Rattle.dalvik_defs.specs.Names.{Text}
 use Rattle.dalvik_state.specs.Drafts.{again, IsObject, IsShown}
 use Rattle.dalvik_state.specs.Views.{names_in, world_of}

@@ -3,7 +3,6 @@ use Rattle.std.specs.Prelude.{Some, slice_get}
 use Rattle.std.proofs.lemmas.Option.{slice_get-get_or}
 use Rattle.dalvik_state.specs.declared.world.Exposed.{Exposed}
 use Rattle.dalvik_state.proofs.Heaps.{printed_there, printed_past}
-use Rattle.dalvik_state.proofs.Sound.{sound_print}
 use Rattle.dalvik_state.proofs.world.mark_printed.Goals as goal
 
 pub returns-then-place-len-clause-exposed : goal.returns-then-place-len-clause-exposed

@@ -1,6 +1,6 @@
-use Rattle.std.proofs.Common.{◌≡◌, ◌∙◌, ap, add-one, length, ◌+◌, suc, arith}
-use Rattle.pipeline.specs.Silence.{marked, silenced_at, silenced_to}
-use Rattle.pipeline.proofs.Silencing.{silenced_all, silenced_on, silenced_end, to_none_is}
+use Rattle.std.proofs.Common.{◌∙◌, ap, add-one, arith}
+use Rattle.pipeline.specs.Silence.{marked, silenced_at}
+use Rattle.pipeline.proofs.Silencing.{silenced_on, silenced_end, to_none_is}
 use Rattle.pipeline.proofs.silent.silence_insns.Goals as goal
 
 pub loop-position-init : goal.loop-position-init

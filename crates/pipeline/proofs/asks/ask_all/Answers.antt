@@ -1,0 +1,19 @@
+use Rattle.std.proofs.Common.{arith, refl, ap, get_or, length, ◌∙◌}
+use Rattle.pipeline.specs.Advised.{verdict}
+use Rattle.pipeline.specs.Asks.{asked_in, no_verdict}
+use Rattle.pipeline.proofs.AskLemmas.{item_answered, all_answered, none_yet}
+use Rattle.pipeline.proofs.asks.ask_all.Goals as goal
+
+pub loop-class-init : goal.loop-class-init
+loop-class-init g c = record { answered = none_yet _ _ _ _ c.in_ok-advice.ensures; count = refl }
+
+pub loop-class-preserved : goal.loop-class-preserved
+loop-class-preserved g c = record {
+  answered = item_answered (asked_in c.args.live.now) (length c.args.panel.now.advisers.items) (length c.loop-class.panel.advisers.items) c.args.program.now.classes c.loop-class.class-index _ c.class-item.result c.args.panel.now.answers.items c.loop-class.panel.answers.items c.ask_class.new.panel.answers.items
+      (no_verdict c.args.program.now) (verdict c.loop-class.advice) (verdict c.ask_class.new.advice) (omega (arith, ap length c.as_slice-class-items.ensures)) (c.class-item.is ∙ ap (λ l. get_or l c.loop-class.class-index c.class-item.result) c.as_slice-class-items.ensures) c.loop-class.invariant.count
+      c.loop-class.invariant.answered c.in_ok-ask_class.ensures.answered;
+  count = c.ask_class.ensures.count ∙ c.loop-class.invariant.count;
+}
+
+pub returns : goal.returns
+returns g c = all_answered (asked_in c.args.live.now) _ c.args.program.now.classes c.loop-class.class-index _ _ _ _ (omega (arith, ap length c.as_slice-class-items.ensures)) c.loop-class.invariant.answered

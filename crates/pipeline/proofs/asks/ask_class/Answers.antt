@@ -1,0 +1,19 @@
+use Rattle.std.proofs.Common.{arith, refl, ap, get_or, length, ◌∙◌}
+use Rattle.pipeline.specs.Advised.{verdict}
+use Rattle.pipeline.specs.Asks.{asked_one, NoneLeft}
+use Rattle.pipeline.proofs.AskLemmas.{item_answered, all_answered}
+use Rattle.pipeline.proofs.asks.ask_class.Goals as goal
+
+pub loop-method-init : goal.loop-method-init
+loop-method-init g c = record { answered = NoneLeft _ _; count = refl }
+
+pub loop-method-preserved : goal.loop-method-preserved
+loop-method-preserved g c = record {
+  answered = item_answered (asked_one c.args.live.now) (length c.args.panel.now.advisers.items) (length c.loop-method.panel.advisers.items) c.args.class.now.methods c.loop-method.method-index _ c.method-item.result c.args.panel.now.answers.items c.loop-method.panel.answers.items c.ask_about.new.panel.answers.items
+      (verdict c.args.advice.now) (verdict c.loop-method.advice) (verdict c.ask_about.new.advice) (omega (arith, ap length c.as_slice-method-items.ensures)) (c.method-item.is ∙ ap (λ l. get_or l c.loop-method.method-index c.method-item.result) c.as_slice-method-items.ensures) c.loop-method.invariant.count
+      c.loop-method.invariant.answered c.in_ok-ask_about.ensures.answered;
+  count = c.ask_about.ensures.count ∙ c.loop-method.invariant.count;
+}
+
+pub returns-clause-answered : goal.returns-clause-answered
+returns-clause-answered g c = all_answered (asked_one c.args.live.now) _ c.args.class.now.methods c.loop-method.method-index _ _ _ _ (omega (arith, ap length c.as_slice-method-items.ensures)) c.loop-method.invariant.answered

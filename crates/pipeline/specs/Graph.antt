@@ -1,0 +1,22 @@
+-- The class graph of a program, or a fault in it.
+use Rattle.program_model.specs.declared.program.Program.{Program}
+use Rattle.hierarchy.specs.Shapes.{IsAcyclic, IsCause, IsResolved}
+use Rattle.hierarchy.specs.declared.build.Hierarchy.{Hierarchy}
+use Rattle.hierarchy.specs.declared.fault.HierarchyFault.{HierarchyFault}
+use Rattle.hierarchy.specs.declared.fault.HierarchyFault.TheVariants as fault
+
+-- the tables are those of the program, no class of which is defined twice or is its own ancestor
+pub record HasGraph (p : Program) (h : Hierarchy) : Type 0 where
+  pub resolved : IsResolved p h
+  pub grounded : IsAcyclic p
+
+-- want of memory is no fault of a program
+abbrev pub IsFault : HierarchyFault → Type 0
+IsFault fault.NoMemory = ⊥
+IsFault _ = Unit {0}
+
+-- a program whose class graph has a fault
+pub record HasGraphFault (p : Program) : Type 0 where
+  pub fault : HierarchyFault
+  pub is : IsFault fault
+  pub cause : IsCause p fault

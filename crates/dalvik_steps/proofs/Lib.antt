@@ -1,9 +1,13 @@
 pub mod Backing
+pub mod Begun
+pub mod Entering
 pub mod Falling
 pub mod Flying
 pub mod Handing
 pub mod Landed
 pub mod Made
 pub mod Stacked
+pub mod Started
+pub mod Starters
 pub mod Turning
 pub mod Undone

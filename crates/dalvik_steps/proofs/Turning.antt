@@ -35,7 +35,7 @@ use Rattle.dalvik_state.specs.Runs.{bodies_in}
 use Rattle.dalvik_state.specs.States.{class_text, classes_of, stack_of, status_at, status_of, AreClasses, IsSoundWaiting}
 use Rattle.dalvik_state.specs.Views.{frame_of, names_in}
 use Rattle.dalvik_state.proofs.Running.{one_paced, paced_pushed, pushed_named, sound_pushed, ArePaced, AreSoundWaiting}
-use Rattle.dalvik_steps.specs.Turns.{left_by, left_in, turn_entries, IsTurn}
+use Rattle.dalvik_steps.specs.Turns.{hinders, left_by, left_in, turn_entries, IsTurn}
 
 -- ---- the place of a class
 
@@ -45,7 +45,7 @@ position_same t u (x ∷ xs) h =
     let more = position_same t u xs (λ j y e. h (suc j) y e) in
     position_step t x xs ∙ (λ i. cond (h 0 x refl i) (Some 0) (option_map suc (more i))) ∙ sym (position_step u x xs)
 
-abbrev text_by : Program → Option Class → Text
+abbrev pub text_by : Program → Option Class → Text
 text_by p o = elim o as (λ o. Text) [ Some d ↦ type_at p d.name | None ↦ [] ]
 
 -- a class is the one of its type
@@ -124,6 +124,16 @@ pub left_more : (statuses : List OwnStatus) (n : ℕ) (cs : List ℕ) (c : ℕ) 
 left_more statuses n [] c e = absurd (cc)
 left_more statuses zero (x ∷ xs) c e = let same : x ≡ c = cc in ap (λ (y : ℕ). left_by (status_at statuses y) (x ∷ xs) (left_in statuses xs)) same
 left_more statuses (suc n) (x ∷ xs) c e = left_more statuses n xs c e
+
+left_if : (s : OwnStatus) (b : Bool) (here behind : List ℕ) → hinders s ≡ b → left_by s here behind ≡ cond b here behind
+left_if status.New b here behind e = ap (λ (x : Bool). cond x here behind) e
+left_if status.Running b here behind e = ap (λ (x : Bool). cond x here behind) e
+left_if status.Done b here behind e = ap (λ (x : Bool). cond x here behind) e
+left_if status.Failed b here behind e = ap (λ (x : Bool). cond x here behind) e
+
+-- by whether the class at a place comes first
+pub left_test : (statuses : List OwnStatus) (n : ℕ) (cs : List ℕ) (c : ℕ) (b : Bool) → slice_get cs n ≡ Some c → hinders (status_at statuses c) ≡ b → left_in statuses (drop n cs) ≡ cond b (drop n cs) (left_in statuses (drop (suc n) cs))
+left_test statuses n cs c b e h = left_more statuses n cs c e ∙ left_if (status_at statuses c) b (drop n cs) (left_in statuses (drop (suc n) cs)) h
 
 -- ---- what comes before a class
 

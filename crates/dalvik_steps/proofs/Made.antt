@@ -50,6 +50,7 @@ instance_named n old new kind h w =
     heap_named n old new (spots_of old ++ new_spot (thing.Instance kind) ∷ []) h
     ∙ ap (λ (hs : List Thing). record (world_of n old) { heap = hs })
     (more_named n old.fields.entries 0 (spots_of old) (new_spot (thing.Instance kind))
+    ∙ ap (λ (j : ℕ). things_from n old.fields.entries 0 (spots_of old) ++ Instance (n.kind kind) (field_in n old.fields.entries j) ∷ []) (let same : 0 + length (spots_of old) ≡ length (spots_of old) = omega arith in same)
     ∙ ap (λ (f : FieldKey → Option Value). things_from n old.fields.entries 0 (spots_of old) ++ Instance (n.kind kind) f ∷ []) (no_fields n (length (spots_of old)) old.fields.entries w.at))
 
 -- ---- what a run keeps

@@ -9,7 +9,7 @@ use Rattle.dalvik_lookups.specs.declared.marks.Marks.{Marks}
 use Rattle.dalvik_lookups.specs.Tables.{row_at}
 use Rattle.dalvik_lookups.specs.Walks.{Climbs, is_on, is_met, left, Extends, Grow, IsClean, IsWalking, AllAbove, IsWalked, IsInside}
 use Rattle.dalvik_lookups.proofs.Interned.{got_short}
-use Rattle.dalvik_lookups.proofs.Inside.{none_in, only_in, first_in}
+use Rattle.dalvik_lookups.proofs.Inside.{none_in, only_in, first_in, first_or, later_in}
 
 -- ---- marks
 
@@ -62,6 +62,17 @@ extends_in xs ys n e c = subst (λ l. Contains l n) (sym e.is) (Contains-append_
 pub grow_none : (m : Marks) (ns : List ℕ) → Grow m m ns
 grow_none m ns = record { size = refl; less = omega arith; reached = λ n h. h; new = λ n h. inl h; more = record { more = []; is = append_none m.listed.items }; each = λ n c. inl c }
 
+-- the same marks, and the same numbers listed
+pub grow_same : (m m' : Marks) (ns : List ℕ) → m'.marks ≡ m.marks → m'.listed.items ≡ m.listed.items → vec_len m'.listed ≡ vec_len m.listed → Grow m m' ns
+grow_same m m' ns same items len = record {
+  size = ap vec_len same;
+  less = (let s : count_by not m'.marks.items ≡ count_by not m.marks.items = ap (λ v. count_by not v.items) same in omega (arith, s, len));
+  reached = λ n h. ap (λ v. slice_index_or v.items n true) same ∙ h;
+  new = λ n h. inl (sym (ap (λ v. slice_index_or v.items n false) same) ∙ h);
+  more = record { more = []; is = items ∙ append_none m.listed.items };
+  each = λ n c. inl (subst (λ l. Contains l n) items c);
+}
+
 pub grow_set : (m m' : Marks) (x : ℕ) → vec_len m'.marks ≡ vec_len m.marks → left m' ≤ left m → m'.marks.items ≡ slice_set m.marks.items x true → m'.listed.items ≡ m.listed.items ++ x ∷ [] → Grow m m' (x ∷ [])
 grow_set m m' x size less e w = record {
   size = size;
@@ -101,6 +112,22 @@ grow_more a b c xs i d f g lt = record {
 
 pub grow_all : (a b : Marks) (xs : List ℕ) (i : ℕ) → Grow a b (take i xs) → length xs ≤ i → Grow a b xs
 grow_all a b xs i f le = subst (Grow a b) (take_all i xs le) f
+
+part_in : (xs : List ℕ) (i n : ℕ) → Contains (take i xs) n → Contains xs n
+part_in xs zero n c = absurd (none_in n c)
+part_in [] (suc i) n c = c
+part_in (x ∷ xs) (suc i) n c = elim (first_or x (take i xs) n c) [ inl e ↦ subst (Contains (x ∷ xs)) e (first_in x xs) | inr e ↦ later_in x xs n (part_in xs i n e) ]
+
+-- the first numbers of a list are numbers of it
+pub grow_part : (a b : Marks) (xs : List ℕ) (i : ℕ) → Grow a b (take i xs) → Grow a b xs
+grow_part a b xs i f = record {
+  size = f.size;
+  less = f.less;
+  reached = f.reached;
+  new = f.new;
+  more = f.more;
+  each = λ n c. elim (f.each n c) [ inl e ↦ inl e | inr e ↦ inr (part_in xs i n e) ];
+}
 
 pub marked_more : (a b : Marks) (xs : List ℕ) (i d : ℕ) → ((n : ℕ) → is_met a n ≡ true → is_met b n ≡ true) → ((n : ℕ) → Contains (take i xs) n → is_met a n ≡ true) → i < length xs → is_met b (get_or xs i d) ≡ true → (n : ℕ) → Contains (take (i + 1) xs) n → is_met b n ≡ true
 marked_more a b xs i d k so_far lt one n c = elim (Contains-push_cases (take i xs) (get_or xs i d) n (subst (λ l. Contains l n) (take_more xs i d lt) c)) [
@@ -167,9 +194,13 @@ next_of xs ys i k e f =
     let lt : i < length xs = got_short xs i k e in
     ap (take (i + 1)) f.is ∙ take_left xs f.more (i + 1) (omega (arith, lt)) ∙ take_more xs i 0 lt ∙ ap (λ n. take i xs ++ n ∷ []) (got_or xs i k e)
 
+-- marks that are listed stay so as they grow
+pub listed_on : (m m' : Marks) (ns : List ℕ) → Grow m m' ns → ((n : ℕ) → is_on m n ≡ true → Contains m.listed.items n) → (n : ℕ) → is_on m' n ≡ true → Contains m'.listed.items n
+listed_on m m' ns g all n h = elim (g.new n h) [ inl f ↦ extends_in m.listed.items m'.listed.items n g.more (all n f) | inr c ↦ c ]
+
 pub walk_on : (a : Above) (m m' : Marks) (i k : ℕ) → IsWalking a m i → slice_get m.listed.items i ≡ Some k → Grow m m' (row_at a k) → ((n : ℕ) → Contains (row_at a k) n → is_met m' n ≡ true) → IsWalking a m' (i + 1)
 walk_on a m m' i k w e g met = record {
-  marked = λ n h. elim (g.new n h) [ inl f ↦ extends_in m.listed.items m'.listed.items n g.more (w.marked n f) | inr c ↦ c ];
+  marked = listed_on m m' (row_at a k) g w.marked;
   above = λ n u c d. elim (Contains-push_cases (take i m.listed.items) k n (subst (λ l. Contains l n) (next_of m.listed.items m'.listed.items i k e g.more) c)) [
     | inl f ↦ g.reached u (w.above n u f d)
     | inr s ↦ met u (subst (λ z. Contains (row_at a z) u) (sym s) d)

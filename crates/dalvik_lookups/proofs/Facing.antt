@@ -191,8 +191,6 @@ own_named p k = by_place (place_named p k.class) refl
 pub right_face : (l : Lookups) → IsRight l → IsFace l
 right_face l r = record {
   flags = flags_of l.program.now;
-  under = λ s t. refl;
-  outward = λ t. refl;
   statically = λ m lt. static_by_number l.program.now s m lt ∙ searched l.program.now (look.finds_static l.program.now m);
   above = λ c m k e lt. super_by_number l.program.now s r.resolved.of.once k.name c (class_parts l.program.now s c k e).name (own_place l.program.now r.resolved.of.once c k e) k e m lt ∙ by_search l.program.now (look.finds_super l.program.now c m);
   virtually = virtually_named l r;

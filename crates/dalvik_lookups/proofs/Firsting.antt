@@ -30,8 +30,8 @@ use Rattle.name_bridge.proofs.Above.{length_map, map_append, own_place, defined}
 use Rattle.name_bridge.proofs.Found.{virtual_test}
 use Rattle.name_bridge.proofs.Candidates.{coded_test, version_test}
 use Rattle.dalvik_lookups.specs.Starting.{is_default, class_default, has_default, only_if, interfaces_before, firsts, interfaces_first, initialised_first}
-use Rattle.dalvik_lookups.specs.Walks.{type_of_class}
-use Rattle.dalvik_lookups.specs.Facing.{is_place, class_name}
+use Rattle.dalvik_lookups.specs.Walks.{type_of_class, class_text}
+use Rattle.dalvik_lookups.specs.Facing.{is_place}
 
 -- whether a class has a virtual method with code
 default_named : (p : Program) (k : Class) → first.has_default (named_class p k) ≡ class_default p k
@@ -61,52 +61,52 @@ before_class n p t o = elim o [ Some c ↦ first.interfaces_before n (named p) c
 
 module _ (p : Program) (s : Sound p) where
   abbrev Before : ℕ → Type 0
-  Before n = (ks : List ℕ) → list_all (has_type p) ks ≡ true → first.interfaces_before n (named p) (map (type_at p) ks) ≡ map (class_name p) (interfaces_before n p (places_of p ks))
+  Before n = (ks : List ℕ) → list_all (has_type p) ks ≡ true → first.interfaces_before n (named p) (map (type_at p) ks) ≡ map (class_text p) (interfaces_before n p (places_of p ks))
 
   abbrev of_place : ℕ → Option ℕ → List ℕ
   of_place n None = []
   of_place n (Some c) = cond (is_interface (slice_get p.classes c)) (interfaces_before n p (interface_places p c) ++ only_if (has_default p (slice_get p.classes c)) c) []
 
-  only_named : (b : Bool) (t : Text) (c : ℕ) → t ≡ class_name p c → first.only_if b t ≡ map (class_name p) (only_if b c)
+  only_named : (b : Bool) (t : Text) (c : ℕ) → t ≡ class_text p c → first.only_if b t ≡ map (class_text p) (only_if b c)
   only_named true t c e = ap (λ x. x ∷ []) e
   only_named false t c e = refl
 
-  by_type : (n : ℕ) → Before n → (k : ℕ) → k < length p.types → before_class n p (type_at p k) (interface_named (named p) (type_at p k)) ≡ map (class_name p) (of_place n (class_place p k))
+  by_type : (n : ℕ) → Before n → (k : ℕ) → k < length p.types → before_class n p (type_at p k) (interface_named (named p) (type_at p k)) ≡ map (class_text p) (of_place n (class_place p k))
   by_type n more k hk = ap (before_class n p (type_at p k)) (interface_is p (type_at p k) ∙ ap flagged (class_by_number p s k hk)) ∙ by_place (class_place p k) refl
     where
       by_flag : (c : ℕ) (d : Class) → slice_get p.classes c ≡ Some d → d.name ≡ k → (b : Bool) → before_class n p (type_at p k) (elim b [ true ↦ Some (named_class p d) | false ↦ None ])
-          ≡ map (class_name p) (cond b (interfaces_before n p (places_of p d.interfaces) ++ only_if (class_default p d) c) [])
+          ≡ map (class_text p) (cond b (interfaces_before n p (places_of p d.interfaces) ++ only_if (class_default p d) c) [])
       by_flag c d e same false = refl
       by_flag c d e same true =
           ap (λ l. l ++ first.only_if (first.has_default (named_class p d)) (type_at p k)) (more d.interfaces (class_parts p s c d e).interfaces)
-          ∙ ap (λ b. map (class_name p) (interfaces_before n p (places_of p d.interfaces)) ++ first.only_if b (type_at p k)) (default_named p d)
-          ∙ ap (λ l. map (class_name p) (interfaces_before n p (places_of p d.interfaces)) ++ l) (only_named (class_default p d) (type_at p k) c (ap (type_at p) (sym same) ∙ sym (ap (type_of_class p) e)))
-          ∙ sym (map_append (class_name p) (interfaces_before n p (places_of p d.interfaces)) (only_if (class_default p d) c))
+          ∙ ap (λ b. map (class_text p) (interfaces_before n p (places_of p d.interfaces)) ++ first.only_if b (type_at p k)) (default_named p d)
+          ∙ ap (λ l. map (class_text p) (interfaces_before n p (places_of p d.interfaces)) ++ l) (only_named (class_default p d) (type_at p k) c (ap (type_at p) (sym same) ∙ sym (ap (type_of_class p) e)))
+          ∙ sym (map_append (class_text p) (interfaces_before n p (places_of p d.interfaces)) (only_if (class_default p d) c))
 
-      by_place : (o : Option ℕ) → class_place p k ≡ o → before_class n p (type_at p k) (flagged (option_and_then (class_at p) o)) ≡ map (class_name p) (of_place n o)
+      by_place : (o : Option ℕ) → class_place p k ≡ o → before_class n p (type_at p k) (flagged (option_and_then (class_at p) o)) ≡ map (class_text p) (of_place n o)
       by_place None e = refl
       by_place (Some c) e =
           let d = defined p k c e in
           ap (λ o. before_class n p (type_at p k) (flagged (option_map (named_class p) o))) d.is
           ∙ ap (λ b. before_class n p (type_at p k) (elim b as (λ b. Option NamedClass) [ true ↦ Some (named_class p d.class) | false ↦ None ])) (sym (interface_flag d.class.flags))
           ∙ by_flag c d.class d.is d.named (has_flag d.class.flags 512)
-          ∙ ap (λ o. map (class_name p) (cond (is_interface o) (interfaces_before n p (interface_of o) ++ only_if (has_default p o) c) [])) (sym d.is)
+          ∙ ap (λ o. map (class_text p) (cond (is_interface o) (interfaces_before n p (interface_of o) ++ only_if (has_default p o) c) [])) (sym d.is)
         where
           interface_of : Option Class → List ℕ
           interface_of None = []
           interface_of (Some k) = places_of p k.interfaces
 
   any_types : (n : ℕ) → Before n → (ks : List ℕ) → list_all (has_type p) ks ≡ true
-      → flat_map (λ t. before_class n p t (interface_named (named p) t)) (map (type_at p) ks) ≡ map (class_name p) (flat_map (λ c. of_place n (Some c)) (places_of p ks))
+      → flat_map (λ t. before_class n p t (interface_named (named p) t)) (map (type_at p) ks) ≡ map (class_text p) (flat_map (λ c. of_place n (Some c)) (places_of p ks))
   any_types n more [] h = refl
   any_types n more (k ∷ ks) h =
       ap (λ l. l ++ flat_map (λ t. before_class n p t (interface_named (named p) t)) (map (type_at p) ks)) (by_type n more k (below k (length p.types) (and_left (has_type p k) (list_all (has_type p) ks) h)))
-      ∙ ap (λ l. map (class_name p) (of_place n (class_place p k)) ++ l) (any_types n more ks (and_right (has_type p k) (list_all (has_type p) ks) h))
+      ∙ ap (λ l. map (class_text p) (of_place n (class_place p k)) ++ l) (any_types n more ks (and_right (has_type p k) (list_all (has_type p) ks) h))
       ∙ joined (class_place p k)
     where
-      joined : (o : Option ℕ) → map (class_name p) (of_place n o) ++ map (class_name p) (flat_map (λ c. of_place n (Some c)) (places_of p ks)) ≡ map (class_name p) (flat_map (λ c. of_place n (Some c)) (placed o (places_of p ks)))
+      joined : (o : Option ℕ) → map (class_text p) (of_place n o) ++ map (class_text p) (flat_map (λ c. of_place n (Some c)) (places_of p ks)) ≡ map (class_text p) (flat_map (λ c. of_place n (Some c)) (placed o (places_of p ks)))
       joined None = refl
-      joined (Some c) = sym (map_append (class_name p) (of_place n (Some c)) (flat_map (λ c. of_place n (Some c)) (places_of p ks)))
+      joined (Some c) = sym (map_append (class_text p) (of_place n (Some c)) (flat_map (λ c. of_place n (Some c)) (places_of p ks)))
 
   before_named : (n : ℕ) → Before n
   before_named zero ks h = refl
@@ -177,7 +177,7 @@ module _ (p : Program) (s : Sound p) where
       by_flag false = classes_both (beside (super_place p c)) (interfaces_first p c) (superclass (slice_get p.classes c)) (above (is_037 p.version))
 
   module _ (once : (class : ℕ) → IsTwice p class → ⊥) where
-    same_name : (c d : ℕ) (k l : Class) → slice_get p.classes c ≡ Some k → slice_get p.classes d ≡ Some l → text_eq (class_name p c) (class_name p d) ≡ nat_eq c d
+    same_name : (c d : ℕ) (k l : Class) → slice_get p.classes c ≡ Some k → slice_get p.classes d ≡ Some l → text_eq (class_text p c) (class_text p d) ≡ nat_eq c d
     same_name c d k l e f =
         ap (λ o. text_eq (type_of_class p o) (type_of_class p (slice_get p.classes d))) e ∙ ap (λ o. text_eq (type_at p k.name) (type_of_class p o)) f
         ∙ type_test p s k.name l.name (class_parts p s c k e).name (class_parts p s d l f).name
@@ -185,30 +185,30 @@ module _ (p : Program) (s : Sound p) where
         (λ h. number_test c d (let x : Some c ≡ Some d = sym (own_place p once c k e) ∙ ap (class_place p) (number_of k.name l.name h) ∙ own_place p once d l f in cc))
         (λ h. number_test k.name l.name (let x : Some k ≡ Some l = sym e ∙ ap (slice_get p.classes) (number_of c d h) ∙ f in let y : k ≡ l = cc in ap (λ z. z.name) y))
 
-    filter_named : (c : ℕ) (k : Class) → slice_get p.classes c ≡ Some k → (ds : List ℕ) → AreClasses ds → filter (λ u. not (text_eq u (class_name p c))) (map (class_name p) ds) ≡ map (class_name p) (filter (λ d. not (nat_eq d c)) ds)
+    filter_named : (c : ℕ) (k : Class) → slice_get p.classes c ≡ Some k → (ds : List ℕ) → AreClasses ds → filter (λ u. not (text_eq u (class_text p c))) (map (class_text p) ds) ≡ map (class_text p) (filter (λ d. not (nat_eq d c)) ds)
     filter_named c k e [] h = refl
     filter_named c k e (d ∷ ds) h =
-        ap (λ b. cond (not b) (class_name p d ∷ filter (λ u. not (text_eq u (class_name p c))) (map (class_name p) ds)) (filter (λ u. not (text_eq u (class_name p c))) (map (class_name p) ds))) (same_name d c h.0.0 k h.0.1 e)
-        ∙ ap (λ l. cond (not (nat_eq d c)) (class_name p d ∷ l) l) (filter_named c k e ds h.1)
+        ap (λ b. cond (not b) (class_text p d ∷ filter (λ u. not (text_eq u (class_text p c))) (map (class_text p) ds)) (filter (λ u. not (text_eq u (class_text p c))) (map (class_text p) ds))) (same_name d c h.0.0 k h.0.1 e)
+        ∙ ap (λ l. cond (not (nat_eq d c)) (class_text p d ∷ l) l) (filter_named c k e ds h.1)
         ∙ either (not (nat_eq d c))
       where
-        either : (b : Bool) → cond b (class_name p d ∷ map (class_name p) (filter (λ d. not (nat_eq d c)) ds)) (map (class_name p) (filter (λ d. not (nat_eq d c)) ds)) ≡ map (class_name p) (cond b (d ∷ filter (λ d. not (nat_eq d c)) ds) (filter (λ d. not (nat_eq d c)) ds))
+        either : (b : Bool) → cond b (class_text p d ∷ map (class_text p) (filter (λ d. not (nat_eq d c)) ds)) (map (class_text p) (filter (λ d. not (nat_eq d c)) ds)) ≡ map (class_text p) (cond b (d ∷ filter (λ d. not (nat_eq d c)) ds) (filter (λ d. not (nat_eq d c)) ds))
         either true = refl
         either false = refl
 
-    firsts_named : (cs : List ℕ) → AreClasses cs → first.firsts (map (class_name p) cs) ≡ map (class_name p) (firsts cs)
+    firsts_named : (cs : List ℕ) → AreClasses cs → first.firsts (map (class_text p) cs) ≡ map (class_text p) (firsts cs)
     firsts_named [] h = refl
     firsts_named (c ∷ cs) h =
-        ap (λ l. class_name p c ∷ filter (λ u. not (text_eq u (class_name p c))) l) (firsts_named cs h.1)
-        ∙ ap (λ l. class_name p c ∷ l) (filter_named c h.0.0 h.0.1 (firsts cs) (classes_firsts cs h.1))
+        ap (λ l. class_text p c ∷ filter (λ u. not (text_eq u (class_text p c))) l) (firsts_named cs h.1)
+        ∙ ap (λ l. class_text p c ∷ l) (filter_named c h.0.0 h.0.1 (firsts cs) (classes_firsts cs h.1))
 
     -- what is initialised before a class
-    pub first_named : (c : ℕ) (k : Class) → slice_get p.classes c ≡ Some k → first.initialised_first (named p) (type_at p k.name) ≡ map (class_name p) (initialised_first p c)
+    pub first_named : (c : ℕ) (k : Class) → slice_get p.classes c ≡ Some k → first.initialised_first (named p) (type_at p k.name) ≡ map (class_text p) (initialised_first p c)
     first_named c k e =
         ap before (class_by_number p s k.name fits.name ∙ ap (option_and_then (class_at p)) (own_place p once c k e) ∙ ap (option_map (named_class p)) e)
         ∙ ap (λ b. elim b as (λ b. List Text) [ true ↦ [] | false ↦ first.only_if (defines (named p) (type_at p k.superclass)) (type_at p k.superclass) ++ first.interfaces_first (named p) (named_class p k) ]) (sym (interface_flag k.flags))
         ∙ by_flag (has_flag k.flags 512)
-        ∙ sym (ap (λ o. map (class_name p) (cond (is_interface o) [] (beside (option_and_then (λ d. class_place p d.superclass) o) ++ cond (is_037 p.version) (firsts (interfaces_before (length p.classes) p (listed p o))) []))) e)
+        ∙ sym (ap (λ o. map (class_text p) (cond (is_interface o) [] (beside (option_and_then (λ d. class_place p d.superclass) o) ++ cond (is_037 p.version) (firsts (interfaces_before (length p.classes) p (listed p o))) []))) e)
       where
         before : Option NamedClass → List Text
         before o = elim o [ Some c ↦ first.first_of_class (named p) c | None ↦ [] ]
@@ -219,21 +219,21 @@ module _ (p : Program) (s : Sound p) where
         above : List ℕ
         above = cond (is_037 p.version) (firsts (interfaces_before (length p.classes) p (places_of p k.interfaces))) []
 
-        super_named : first.only_if (defines (named p) (type_at p k.superclass)) (type_at p k.superclass) ≡ map (class_name p) (beside (class_place p k.superclass))
+        super_named : first.only_if (defines (named p) (type_at p k.superclass)) (type_at p k.superclass) ≡ map (class_text p) (beside (class_place p k.superclass))
         super_named = ap (λ o. first.only_if (elim o as (λ o. Bool) [ Some d ↦ true | None ↦ false ]) (type_at p k.superclass)) (class_by_number p s k.superclass fits.superclass) ∙ by_place (class_place p k.superclass) refl
           where
-            by_place : (o : Option ℕ) → class_place p k.superclass ≡ o → first.only_if (elim (option_and_then (class_at p) o) as (λ o. Bool) [ Some d ↦ true | None ↦ false ]) (type_at p k.superclass) ≡ map (class_name p) (beside o)
+            by_place : (o : Option ℕ) → class_place p k.superclass ≡ o → first.only_if (elim (option_and_then (class_at p) o) as (λ o. Bool) [ Some d ↦ true | None ↦ false ]) (type_at p k.superclass) ≡ map (class_text p) (beside o)
             by_place None i = refl
             by_place (Some d) i =
                 let q = defined p k.superclass d i in
                 ap (λ o. first.only_if (elim (option_map (named_class p) o) as (λ o. Bool) [ Some d ↦ true | None ↦ false ]) (type_at p k.superclass)) q.is
                 ∙ ap (λ x. x ∷ []) (ap (type_at p) (sym q.named) ∙ sym (ap (type_of_class p) q.is))
 
-        interfaces_named : first.interfaces_first (named p) (named_class p k) ≡ map (class_name p) above
+        interfaces_named : first.interfaces_first (named p) (named_class p k) ≡ map (class_text p) above
         interfaces_named = ap (λ b. elim b as (λ b. List Text) [ true ↦ first.firsts (first.interfaces_before (length (named p).classes) (named p) (map (type_at p) k.interfaces)) | false ↦ [] ]) (version_test p.version) ∙ by_version (is_037 p.version)
           where
             by_version : (b : Bool) → elim b as (λ b. List Text) [ true ↦ first.firsts (first.interfaces_before (length (named p).classes) (named p) (map (type_at p) k.interfaces)) | false ↦ [] ]
-                ≡ map (class_name p) (cond b (firsts (interfaces_before (length p.classes) p (places_of p k.interfaces))) [])
+                ≡ map (class_text p) (cond b (firsts (interfaces_before (length p.classes) p (places_of p k.interfaces))) [])
             by_version false = refl
             by_version true =
                 ap (λ n. first.firsts (first.interfaces_before n (named p) (map (type_at p) k.interfaces))) (length_map (named_class p) p.classes)
@@ -241,8 +241,8 @@ module _ (p : Program) (s : Sound p) where
                 ∙ firsts_named (interfaces_before (length p.classes) p (places_of p k.interfaces)) (classes_before (length p.classes) (places_of p k.interfaces))
 
         by_flag : (b : Bool) → elim b as (λ b. List Text) [ true ↦ [] | false ↦ first.only_if (defines (named p) (type_at p k.superclass)) (type_at p k.superclass) ++ first.interfaces_first (named p) (named_class p k) ]
-            ≡ map (class_name p) (cond b [] (beside (class_place p k.superclass) ++ above))
+            ≡ map (class_text p) (cond b [] (beside (class_place p k.superclass) ++ above))
         by_flag true = refl
         by_flag false =
-            ap (λ l. l ++ first.interfaces_first (named p) (named_class p k)) super_named ∙ ap (λ l. map (class_name p) (beside (class_place p k.superclass)) ++ l) interfaces_named
-            ∙ sym (map_append (class_name p) (beside (class_place p k.superclass)) above)
+            ap (λ l. l ++ first.interfaces_first (named p) (named_class p k)) super_named ∙ ap (λ l. map (class_text p) (beside (class_place p k.superclass)) ++ l) interfaces_named
+            ∙ sym (map_append (class_text p) (beside (class_place p k.superclass)) above)

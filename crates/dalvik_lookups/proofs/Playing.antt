@@ -55,8 +55,8 @@ module _ (t t' : Types) (x x' : Texts) (s : Stays (names_of t) (names_of t')) (r
   gift_stays d (gift.Word w) h = record { is = h.is; stands = tt }
   gift_stays d (gift.Wide w) h = record { is = h.is; stands = tt }
   gift_stays d (gift.Exposed n) h = record { is = h.is; stands = tt }
-  gift_stays d (gift.New k) h = let q = type_stays t t' s k h.stands in record { is = ap (λ u. given.New u) q.1 ∙ h.is; stands = q.0 }
-  gift_stays d (gift.Array k size) h = let q = type_stays t t' s k h.stands in record { is = ap (λ u. given.Array u size) q.1 ∙ h.is; stands = q.0 }
+  gift_stays d (gift.New k) h = let q = type_stays t t' s k h.stands.kind in record { is = ap (λ u. given.New u) q.1 ∙ h.is; stands = record { kind = q.0; deep = h.stands.deep } }
+  gift_stays d (gift.Array k size) h = let q = type_stays t t' s k h.stands.kind in record { is = ap (λ u. given.Array u size) q.1 ∙ h.is; stands = record { kind = q.0; deep = h.stands.deep } }
   gift_stays d (gift.Literal n) h = record { is = ap (λ u. given.Literal u) (stays_in (texts_of x) (texts_of x') r n h.stands) ∙ h.is; stands = stays_below (texts_of x) (texts_of x') r n h.stands }
   gift_stays d (gift.Class n) h = record { is = ap (λ u. given.Class u) (stays_in (texts_of x) (texts_of x') r n h.stands) ∙ h.is; stands = stays_below (texts_of x) (texts_of x') r n h.stands }
 

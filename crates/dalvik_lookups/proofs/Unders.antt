@@ -272,6 +272,18 @@ array_text l k u b f h = by k.depth refl
 
 -- ---- what is kept
 
+-- after a walk up that leaves no mark
+pub kept_marks : (l : Lookups) (m mid : Memo) → IsKept l m → vec_len mid.marks.marks ≡ vec_len m.marks.marks → IsClean mid.marks → mid.under ≡ m.under → mid.walk ≡ m.walk → mid.virtual_calls ≡ m.virtual_calls → mid.super_calls ≡ m.super_calls → IsKept l mid
+kept_marks l m mid k size clean same walks calls supers = record {
+  fair = subst IsFair (sym walks) k.fair;
+  long = ap (λ w. length w.seen.items) walks ∙ k.long;
+  virtuals = subst (λ v. AreFound l v.items) (sym calls) k.virtuals;
+  supers = subst (λ v. AreFromSuper l.program.now v.items) (sym supers) k.supers;
+  size = size ∙ k.size;
+  clean = clean;
+  under = λ u a e. k.under u a (sym (ap (λ v. slice_get v.items u) same) ∙ e);
+}
+
 pub kept_more : (l : Lookups) (m mid new : Memo) (lower upper : ℕ) (answer : Bool) → IsKept l m → vec_len mid.marks.marks ≡ vec_len m.marks.marks → IsClean mid.marks → mid.under ≡ m.under → mid.walk ≡ m.walk → mid.virtual_calls ≡ m.virtual_calls → mid.super_calls ≡ m.super_calls → KeepsUnder mid new lower upper answer
     → answer ≡ class_under (named l.program.now) l.framework.now (name_at l.types lower) (name_at l.types upper) → IsKept l new
 kept_more l m mid new lower upper answer k size clean same walks calls supers keeps is = record {

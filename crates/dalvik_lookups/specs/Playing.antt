@@ -1,5 +1,5 @@
 -- The moves of a script by numbers: what each stands for.
-use Rattle.std.specs.Prelude.{◌≡◌, ◌<◌, ℕ, true, List, [], ◌∷◌, length, Option, Some, None}
+use Rattle.std.specs.Prelude.{◌≡◌, ◌<◌, ◌^◌, ℕ, true, List, [], ◌∷◌, length, Option, Some, None}
 use Rattle.std.specs.Option.{option_map}
 use Rattle.program_model.specs.declared.program.MethodAt.{MethodAt}
 use Rattle.program_model.specs.declared.program.Program.{Program}
@@ -50,10 +50,15 @@ given_of t x (gift.Array k size) = given.Array (type_text t k) size
 given_of t x (gift.Literal n) = given.Literal (text_of x n)
 given_of t x (gift.Class n) = given.Class (text_of x n)
 
+-- a type that stands in the tables, and has fewer brackets than there are places in memory
+pub record IsDeep (t : Types) (k : Kind) : Type 0 where
+  pub kind : IsKind t k
+  pub deep : k.depth < 2 ^ 63
+
 -- what it names stands in the tables
 abbrev pub Stands : Types → Texts → Gift → Type 0
-Stands t x (gift.New k) = IsKind t k
-Stands t x (gift.Array k size) = IsKind t k
+Stands t x (gift.New k) = IsDeep t k
+Stands t x (gift.Array k size) = IsDeep t k
 Stands t x (gift.Literal n) = n < length (texts_of x)
 Stands t x (gift.Class n) = n < length (texts_of x)
 Stands t x g = Unit {0}

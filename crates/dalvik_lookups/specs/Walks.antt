@@ -86,9 +86,13 @@ abbrev pub type_of_class : Program → Option Class → Text
 type_of_class p None = []
 type_of_class p (Some k) = type_at p k.name
 
+-- the type of the class at a place
+abbrev pub class_text : Program → ℕ → Text
+class_text p c = type_of_class p (slice_get p.classes c)
+
 -- what a virtual or interface call of a name finds at a receiver of a class, where that is under the class that it names
 abbrev pub found_at : Lookups → ℕ → MethodName → Search
-found_at l c q = cond (is_under (named l.program.now) l.framework.now (type_of_class l.program.now (slice_get l.program.now.classes c)) (type_at l.program.now q.class)) (search_by (finds_at l.program.now c q.name q.proto)) find.Nothing
+found_at l c q = cond (is_under (named l.program.now) l.framework.now (class_text l.program.now c) (type_at l.program.now q.class)) (search_by (finds_at l.program.now c q.name q.proto)) find.Nothing
 
 abbrev pub found_of : Lookups → Option ℕ → MethodName → Search
 found_of l None q = find.Nothing

@@ -1,6 +1,6 @@
 //! What a call finds.
 
-ghost use Rattle.std.specs.Prelude.{◌≡◌, ◌∷◌, [], ℕ, Some, None, flat_map, slice_get, IfOk, OnOk};
+ghost use Rattle.std.specs.Prelude.{◌≡◌, ◌∷◌, [], ℕ, Some, None, flat_map, slice_get, IfOk};
 ghost use Rattle.program_model.specs.declared.pools.MethodName.{MethodName};
 ghost use Rattle.program_model.specs.declared.program.Class.{Class};
 ghost use Rattle.class_defs.specs.Finding.{finds_static, finds_at, finds_among, finds_above, finds_super, finds_super_of, finds_super_037, verdict, lowest};
@@ -61,7 +61,7 @@ impl<'a> Lookups<'a> {
 
     /// What the candidates give that `memo` has collected.
     fn given(&self, memo: &mut Memo) -> Result<Search, AllocError>
-        ensures kept { IsKept self.now memo.old → OnOk result (IsKept self.now memo.new) }
+        ensures kept { IsKept self.now memo.old → IsKept self.now memo.new }
         ensures is { IsRight self.now → IsKept self.now memo.old → IfOk result (λ s. s ≡ search_by (verdict (lowest self.now.program.now memo.old.found.items))) }
     {
         let given = self
@@ -72,7 +72,7 @@ impl<'a> Lookups<'a> {
 
     /// What the candidates of the interfaces of a class and of its superclasses give.
     fn find_candidate(&self, memo: &mut Memo, class: u32, key: u32) -> Result<Search, AllocError>
-        ensures kept { IsKept self.now memo.old → OnOk result (IsKept self.now memo.new) }
+        ensures kept { IsKept self.now memo.old → IsKept self.now memo.new }
         ensures is { (name proto : ℕ) → IsRight self.now → IsKept self.now memo.old → IsKey self.now.program.now self.now.hierarchy key name proto → IfOk result (λ s. s ≡ search_by (finds_among self.now.program.now (flat_map (interface_places self.now.program.now) (chain_of self.now.program.now (Some class))) name proto)) }
     {
         memo.found.clear();
@@ -84,7 +84,7 @@ impl<'a> Lookups<'a> {
 
     /// What a virtual call of a name and proto finds at a receiver's class.
     fn find_at(&self, memo: &mut Memo, class: u32, key: u32) -> Result<Search, AllocError>
-        ensures kept { IsKept self.now memo.old → OnOk result (IsKept self.now memo.new) }
+        ensures kept { IsKept self.now memo.old → IsKept self.now memo.new }
         ensures is { (name proto : ℕ) → IsRight self.now → IsKept self.now memo.old → IsKey self.now.program.now self.now.hierarchy key name proto → IfOk result (λ s. s ≡ search_by (finds_at self.now.program.now class name proto)) }
     {
         match self.hierarchy.find_virtual(self.program, class, key) {
@@ -99,7 +99,7 @@ impl<'a> Lookups<'a> {
     /// What a virtual or interface call of a method number finds at a receiver's class, where that is under the class
     /// that the call names.
     fn find_virtually(&self, memo: &mut Memo, class: u32, method: u32) -> Result<Search, AllocError>
-        ensures kept { (c : Class) (q : MethodName) → IsRight self.now → IsKept self.now memo.old → slice_get self.now.program.now.classes class ≡ Some c → slice_get self.now.program.now.methods method ≡ Some q → OnOk result (IsKept self.now memo.new) }
+        ensures kept { (c : Class) (q : MethodName) → IsRight self.now → IsKept self.now memo.old → slice_get self.now.program.now.classes class ≡ Some c → slice_get self.now.program.now.methods method ≡ Some q → IsKept self.now memo.new }
         ensures is { (c : Class) (q : MethodName) → IsRight self.now → IsKept self.now memo.old → slice_get self.now.program.now.classes class ≡ Some c → slice_get self.now.program.now.methods method ≡ Some q → IfOk result (λ s. s ≡ found_at self.now class q) }
     {
         let receiver = self.kind_of_class(class);
@@ -114,7 +114,7 @@ impl<'a> Lookups<'a> {
 
     /// What a virtual or interface call of a method number finds at a class. What the call found last time is kept.
     fn virtually_at(&self, memo: &mut Memo, class: u32, method: u32) -> Result<Search, AllocError>
-        ensures kept { (c : Class) (q : MethodName) → IsRight self.now → IsKept self.now memo.old → slice_get self.now.program.now.classes class ≡ Some c → slice_get self.now.program.now.methods method ≡ Some q → OnOk result (IsKept self.now memo.new) }
+        ensures kept { (c : Class) (q : MethodName) → IsRight self.now → IsKept self.now memo.old → slice_get self.now.program.now.classes class ≡ Some c → slice_get self.now.program.now.methods method ≡ Some q → IsKept self.now memo.new }
         ensures is { (c : Class) (q : MethodName) → IsRight self.now → IsKept self.now memo.old → slice_get self.now.program.now.classes class ≡ Some c → slice_get self.now.program.now.methods method ≡ Some q → IfOk result (λ s. s ≡ found_at self.now class q) }
     {
         match memo.virtual_at(class, method) {
@@ -135,7 +135,7 @@ impl<'a> Lookups<'a> {
         receiver: Kind,
         method: u32,
     ) -> Result<Search, AllocError>
-        ensures kept { (q : MethodName) → IsRight self.now → IsKept self.now memo.old → IsKind self.now.types receiver → slice_get self.now.program.now.methods method ≡ Some q → OnOk result (IsKept self.now memo.new) }
+        ensures kept { (q : MethodName) → IsRight self.now → IsKept self.now memo.old → IsKind self.now.types receiver → slice_get self.now.program.now.methods method ≡ Some q → IsKept self.now memo.new }
         ensures is { (q : MethodName) → IsRight self.now → IsKept self.now memo.old → IsKind self.now.types receiver → slice_get self.now.program.now.methods method ≡ Some q → IfOk result (λ s. s ≡ found_of self.now (place_named self.now.program.now (type_text self.now.types receiver)) q) }
     {
         match self.class_at(receiver) {
@@ -162,7 +162,7 @@ impl<'a> Lookups<'a> {
 
     /// What the candidates of one interface give.
     fn find_among(&self, memo: &mut Memo, interface: u32, method: u32) -> Result<Search, AllocError>
-        ensures kept { IsKept self.now memo.old → OnOk result (IsKept self.now memo.new) }
+        ensures kept { IsKept self.now memo.old → IsKept self.now memo.new }
         ensures is { (q : MethodName) → IsRight self.now → IsKept self.now memo.old → slice_get self.now.program.now.methods method ≡ Some q → IfOk result (λ s. s ≡ search_by (finds_among self.now.program.now (interface ∷ []) q.name q.proto)) }
     {
         memo.found.clear();
@@ -187,7 +187,7 @@ impl<'a> Lookups<'a> {
         method: u32,
         kind: u32,
     ) -> Result<Search, AllocError>
-        ensures kept { IsKept self.now memo.old → OnOk result (IsKept self.now memo.new) }
+        ensures kept { IsKept self.now memo.old → IsKept self.now memo.new }
         ensures is { (q : MethodName) → IsRight self.now → IsKept self.now memo.old → slice_get self.now.program.now.methods method ≡ Some q → kind ≡ q.class → IfOk result (λ s. s ≡ search_by (finds_super_037 self.now.program.now class q None)) }
     {
         if lists_above(self.program, &self.hierarchy, class, kind, &mut memo.walk)? {
@@ -205,7 +205,7 @@ impl<'a> Lookups<'a> {
         method: u32,
         named: u32,
     ) -> Result<Search, AllocError>
-        ensures kept { IsKept self.now memo.old → OnOk result (IsKept self.now memo.new) }
+        ensures kept { IsKept self.now memo.old → IsKept self.now memo.new }
         ensures is { (q : MethodName) → IsRight self.now → IsKept self.now memo.old → slice_get self.now.program.now.methods method ≡ Some q → IfOk result (λ s. s ≡ search_by (finds_super_037 self.now.program.now class q (Some named))) }
     {
         if self.is_interface(named) {
@@ -224,7 +224,7 @@ impl<'a> Lookups<'a> {
         method: u32,
         kind: u32,
     ) -> Result<Search, AllocError>
-        ensures kept { IsKept self.now memo.old → OnOk result (IsKept self.now memo.new) }
+        ensures kept { IsKept self.now memo.old → IsKept self.now memo.new }
         ensures is { (q : MethodName) → IsRight self.now → IsKept self.now memo.old → slice_get self.now.program.now.methods method ≡ Some q → kind ≡ q.class → IfOk result (λ s. s ≡ search_by (finds_super_037 self.now.program.now class q (class_place self.now.program.now q.class))) }
     {
         match self.hierarchy.place_of(kind) {
@@ -247,7 +247,7 @@ impl<'a> Lookups<'a> {
         method: u32,
         kind: u32,
     ) -> Result<Search, AllocError>
-        ensures kept { IsKept self.now memo.old → OnOk result (IsKept self.now memo.new) }
+        ensures kept { IsKept self.now memo.old → IsKept self.now memo.new }
         ensures is { (q : MethodName) → IsRight self.now → IsKept self.now memo.old → slice_get self.now.program.now.methods method ≡ Some q → kind ≡ q.class → IfOk result (λ s. s ≡ search_by (finds_super_of self.now.program.now class (Some q))) }
     {
         match self.program.version {
@@ -261,7 +261,7 @@ impl<'a> Lookups<'a> {
 
     /// What a super call of a method number finds in a class.
     fn find_super(&self, memo: &mut Memo, class: u32, method: u32) -> Result<Search, AllocError>
-        ensures kept { IsKept self.now memo.old → OnOk result (IsKept self.now memo.new) }
+        ensures kept { IsKept self.now memo.old → IsKept self.now memo.new }
         ensures is { IsRight self.now → IsKept self.now memo.old → IfOk result (λ s. s ≡ search_by (finds_super self.now.program.now class method)) }
     {
         match self.method_name(method) {
@@ -275,7 +275,7 @@ impl<'a> Lookups<'a> {
 
     /// What a super call of a method number finds in a class. What the call found last time is kept.
     pub fn from_super(&self, memo: &mut Memo, class: u32, method: u32) -> Result<Search, AllocError>
-        ensures kept { IsRight self.now → IsKept self.now memo.old → OnOk result (IsKept self.now memo.new) }
+        ensures kept { IsRight self.now → IsKept self.now memo.old → IsKept self.now memo.new }
         ensures is { IsRight self.now → IsKept self.now memo.old → IfOk result (λ s. s ≡ search_by (finds_super self.now.program.now class method)) }
     {
         match memo.super_at(class, method) {

@@ -34,10 +34,10 @@ impl Above {
         }
     }
 
-    /// Marks all types above those that are listed.
+    /// Marks all types above those that are listed. What is marked is listed also where memory runs out.
     fn walk_up(&self, marks: &mut Marks) -> Result<(), AllocError>
-        ensures size { OnOk result (vec_len marks.new.marks ≡ vec_len marks.old.marks) }
-        ensures listed { ((n : ℕ) → is_on marks.old n ≡ true → Contains marks.old.listed.items n) → OnOk result ((n : ℕ) → is_on marks.new n ≡ true → Contains marks.new.listed.items n) }
+        ensures size { vec_len marks.new.marks ≡ vec_len marks.old.marks }
+        ensures listed { ((n : ℕ) → is_on marks.old n ≡ true → Contains marks.old.listed.items n) → (n : ℕ) → is_on marks.new n ≡ true → Contains marks.new.listed.items n }
         ensures walked { ((n : ℕ) → is_on marks.old n ≡ true → Contains marks.old.listed.items n) → IsInside self.now (vec_len marks.old.marks) → (x : ℕ) → x < vec_len marks.old.marks → is_met marks.old x ≡ true → AllAbove self.now x marks.old.listed.items → OnOk result (IsWalked self.now marks.new x) }
     {
         let mut next: usize = 0;
@@ -48,22 +48,33 @@ impl Above {
         Ok(())
     }
 
-    /// Whether a walk up from a type meets another. No mark stays.
+    /// Marks a type and all types above it. What is marked is listed also where memory runs out.
+    fn walk_from(&self, marks: &mut Marks, lower: usize) -> Result<(), AllocError>
+        ensures size { vec_len marks.new.marks ≡ vec_len marks.old.marks }
+        ensures listed { IsClean marks.old → (n : ℕ) → is_on marks.new n ≡ true → Contains marks.new.listed.items n }
+        ensures walked { IsClean marks.old → IsInside self.now (vec_len marks.old.marks) → lower < vec_len marks.old.marks → OnOk result (IsWalked self.now marks.new lower) }
+    {
+        marks.mark(lower)?;
+        self.walk_up(marks)?;
+        Ok(())
+    }
+
+    /// Whether a walk up from a type meets another. No mark stays, also where memory runs out.
     pub(crate) fn climbs(
         &self,
         marks: &mut Marks,
         lower: usize,
         upper: usize,
     ) -> Result<bool, AllocError>
-        ensures size { OnOk result (vec_len marks.new.marks ≡ vec_len marks.old.marks) }
-        ensures clean { IsClean marks.old → OnOk result (IsClean marks.new) }
+        ensures size { vec_len marks.new.marks ≡ vec_len marks.old.marks }
+        ensures clean { IsClean marks.old → IsClean marks.new }
         ensures so { IsClean marks.old → IsInside self.now (vec_len marks.old.marks) → lower < vec_len marks.old.marks → IfOk result (λ r. r ≡ true → Climbs self.now lower upper) }
         ensures all { IsClean marks.old → IsInside self.now (vec_len marks.old.marks) → lower < vec_len marks.old.marks → upper < vec_len marks.old.marks → IfOk result (λ r. Climbs self.now lower upper → r ≡ true) }
     {
-        marks.mark(lower)?;
-        self.walk_up(marks)?;
+        let walked = self.walk_from(marks, lower);
         let found = marks.has(upper);
         marks.clear();
+        walked?;
         Ok(found)
     }
 }

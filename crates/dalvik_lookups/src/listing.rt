@@ -36,8 +36,8 @@ fn lists_at(program: &Program, kind: u32, class: u32) -> bool
 
 /// Sees a class and lets it wait, unless it was seen before.
 pub(crate) fn enter(walk: &mut Walk, class: u32) -> Result<(), AllocError>
-    ensures fair { OnOk result (IsFair walk.old → IsFair walk.new) }
-    ensures size { OnOk result (length walk.new.seen.items ≡ length walk.old.seen.items) }
+    ensures fair { IsFair walk.old → IsFair walk.new }
+    ensures size { length walk.new.seen.items ≡ length walk.old.seen.items }
     ensures grows { OnOk result (Grows (class ∷ []) walk.old.seen.items (waits walk.old) walk.new.seen.items (waits walk.new)) }
     ensures left { OnOk result (left walk.new.seen.items + length (waits walk.new) ≡ left walk.old.seen.items + length (waits walk.old)) }
 {
@@ -49,8 +49,8 @@ pub(crate) fn enter(walk: &mut Walk, class: u32) -> Result<(), AllocError>
 
 /// The same of some classes.
 fn enter_all(walk: &mut Walk, classes: &[u32]) -> Result<(), AllocError>
-    ensures fair { OnOk result (IsFair walk.old → IsFair walk.new) }
-    ensures size { OnOk result (length walk.new.seen.items ≡ length walk.old.seen.items) }
+    ensures fair { IsFair walk.old → IsFair walk.new }
+    ensures size { length walk.new.seen.items ≡ length walk.old.seen.items }
     ensures grows { OnOk result (Grows classes.now walk.old.seen.items (waits walk.old) walk.new.seen.items (waits walk.new)) }
     ensures left { OnOk result (left walk.new.seen.items + length (waits walk.new) ≡ left walk.old.seen.items + length (waits walk.old)) }
 {
@@ -62,8 +62,8 @@ fn enter_all(walk: &mut Walk, classes: &[u32]) -> Result<(), AllocError>
 
 /// The same of a class, if there is one.
 fn enter_one(walk: &mut Walk, class: Option<u32>) -> Result<(), AllocError>
-    ensures fair { OnOk result (IsFair walk.old → IsFair walk.new) }
-    ensures size { OnOk result (length walk.new.seen.items ≡ length walk.old.seen.items) }
+    ensures fair { IsFair walk.old → IsFair walk.new }
+    ensures size { length walk.new.seen.items ≡ length walk.old.seen.items }
     ensures grows { OnOk result (Grows (beside class) walk.old.seen.items (waits walk.old) walk.new.seen.items (waits walk.new)) }
     ensures left { OnOk result (left walk.new.seen.items + length (waits walk.new) ≡ left walk.old.seen.items + length (waits walk.old)) }
 {
@@ -79,8 +79,8 @@ pub(crate) fn enter_above(
     walk: &mut Walk,
     class: u32,
 ) -> Result<(), AllocError>
-    ensures fair { OnOk result (IsFair walk.old → IsFair walk.new) }
-    ensures size { OnOk result (length walk.new.seen.items ≡ length walk.old.seen.items) }
+    ensures fair { IsFair walk.old → IsFair walk.new }
+    ensures size { length walk.new.seen.items ≡ length walk.old.seen.items }
     ensures grows { (p : Program) → IsOf p hierarchy.now → OnOk result (Grows (above_places p class) walk.old.seen.items (waits walk.old) walk.new.seen.items (waits walk.new)) }
     ensures left { OnOk result (left walk.new.seen.items + length (waits walk.new) ≡ left walk.old.seen.items + length (waits walk.old)) }
 {
@@ -96,8 +96,8 @@ fn climb(
     kind: u32,
     walk: &mut Walk,
 ) -> Result<bool, AllocError>
-    ensures fair { OnOk result (IsFair walk.old → IsFair walk.new) }
-    ensures size { OnOk result (length walk.new.seen.items ≡ length walk.old.seen.items) }
+    ensures fair { IsFair walk.old → IsFair walk.new }
+    ensures size { length walk.new.seen.items ≡ length walk.old.seen.items }
     ensures is { (class : ℕ) → IsOf program.now hierarchy.now → Climbs program.now class (lists_at program.now kind) walk.old.seen.items (waits walk.old) → IfOk result (λ b. b ≡ lists_interface program.now class kind) }
 {
     while let Some(one) = walk.pop() {
@@ -117,8 +117,8 @@ pub(crate) fn lists_above(
     kind: u32,
     walk: &mut Walk,
 ) -> Result<bool, AllocError>
-    ensures fair { OnOk result (IsFair walk.old → IsFair walk.new) }
-    ensures size { OnOk result (length walk.new.seen.items ≡ length walk.old.seen.items) }
+    ensures fair { IsFair walk.old → IsFair walk.new }
+    ensures size { length walk.new.seen.items ≡ length walk.old.seen.items }
     ensures is { IsOf program.now hierarchy.now → IsFair walk.old → length walk.old.seen.items ≡ length program.now.classes → IfOk result (λ b. b ≡ lists_interface program.now class kind) }
 {
     walk.clear();

@@ -597,7 +597,7 @@ impl<'a> Lookups<'a> {
 
     /// Whether a type that is no array is under another one. The last answer for each upper type is kept.
     fn base_under(&self, memo: &mut Memo, lower: usize, upper: usize) -> Result<bool, AllocError>
-        ensures kept { IsRight self.now → IsKept self.now memo.old → lower < length (names_of self.now.types) → upper < length (names_of self.now.types) → OnOk result (IsKept self.now memo.new) }
+        ensures kept { IsRight self.now → IsKept self.now memo.old → lower < length (names_of self.now.types) → upper < length (names_of self.now.types) → IsKept self.now memo.new }
         ensures answer { IsRight self.now → IsKept self.now memo.old → lower < length (names_of self.now.types) → upper < length (names_of self.now.types) → IfOk result (λ r. r ≡ class_under (named self.now.program.now) self.now.framework.now (name_at self.now.types lower) (name_at self.now.types upper)) }
     {
         if let Some(answer) = memo.under_at(lower, upper) {
@@ -610,7 +610,7 @@ impl<'a> Lookups<'a> {
 
     /// Whether a type is under another one, where not both are arrays.
     fn item_under(&self, memo: &mut Memo, lower: Kind, upper: Kind) -> Result<bool, AllocError>
-        ensures kept { IsRight self.now → IsKept self.now memo.old → IsKind self.now.types lower → IsKind self.now.types upper → OnOk result (IsKept self.now memo.new) }
+        ensures kept { IsRight self.now → IsKept self.now memo.old → IsKind self.now.types lower → IsKind self.now.types upper → IsKept self.now memo.new }
         ensures answer { IsRight self.now → IsKept self.now memo.old → IsKind self.now.types lower → IsKind self.now.types upper → (lower.depth ≡ 0) ⊎ (upper.depth ≡ 0) → IfOk result (λ r. r ≡ is_under (named self.now.program.now) self.now.framework.now (type_text self.now.types lower) (type_text self.now.types upper)) }
     {
         if self.types.is_empty_type(lower) {
@@ -639,7 +639,7 @@ impl<'a> Lookups<'a> {
     /// Whether a type is under another: itself, and what stands above it. An array is under `Ljava/lang/Object;` and
     /// under each array of references whose item type is above its own.
     pub fn is_under(&self, memo: &mut Memo, lower: Kind, upper: Kind) -> Result<bool, AllocError>
-        ensures kept { IsRight self.now → IsKept self.now memo.old → IsKind self.now.types lower → IsKind self.now.types upper → OnOk result (IsKept self.now memo.new) }
+        ensures kept { IsRight self.now → IsKept self.now memo.old → IsKind self.now.types lower → IsKind self.now.types upper → IsKept self.now memo.new }
         ensures answer { IsRight self.now → IsKept self.now memo.old → IsKind self.now.types lower → IsKind self.now.types upper → IfOk result (λ r. r ≡ is_under (named self.now.program.now) self.now.framework.now (type_text self.now.types lower) (type_text self.now.types upper)) }
     {
         if lower.is_same(upper) {

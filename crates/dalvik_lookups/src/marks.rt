@@ -65,9 +65,9 @@ impl Marks {
         }
     }
 
-    /// Marks a number of the table, and lists it unless it was marked.
+    /// Marks a number of the table, and lists it unless it was marked. Where memory runs out, all stays.
     pub fn mark(&mut self, number: usize) -> Result<(), AllocError>
-        ensures grow { OnOk result (Grow self.old self.new (number ∷ [])) }
+        ensures grow { Grow self.old self.new (number ∷ []) }
         ensures marked { OnOk result (is_met self.new number ≡ true) }
     {
         if number < self.marks.len() && !self.marks[number] {
@@ -77,9 +77,9 @@ impl Marks {
         Ok(())
     }
 
-    /// Marks numbers.
+    /// Marks numbers, up to the one where memory runs out.
     pub fn mark_all(&mut self, numbers: &[usize]) -> Result<(), AllocError>
-        ensures grow { OnOk result (Grow self.old self.new numbers.now) }
+        ensures grow { Grow self.old self.new numbers.now }
         ensures marked { OnOk result ((n : ℕ) → Contains numbers.now n → is_met self.new n ≡ true) }
     {
         for number in numbers {

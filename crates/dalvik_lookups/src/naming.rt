@@ -9,6 +9,7 @@ ghost use Rattle.dalvik_lookups.specs.Tables.{IsRight};
 ghost use Rattle.dalvik_lookups.specs.Views.{type_text, text_of};
 ghost use Rattle.dalvik_lookups.specs.Spelling.{signature_of, spelled, is_constructor};
 
+use crate::known::{NAMES, OBJECT};
 use crate::lookups::{Lookups, units_at};
 use crate::types::Kind;
 use dex_base::Text;
@@ -72,10 +73,7 @@ fn is_void(units: &[u16]) -> bool
 fn is_object(units: &[u16]) -> bool
     ensures { result ≡ text_eq units.now object_type }
 {
-    let name: [u16; 18] = [
-        76, 106, 97, 118, 97, 47, 108, 97, 110, 103, 47, 79, 98, 106, 101, 99, 116, 59,
-    ];
-    units == name.as_slice()
+    units == NAMES[OBJECT]
 }
 
 /// Whether there are no parameters.

@@ -1,6 +1,6 @@
 //! What the framework may reach.
 
-ghost use Rattle.std.specs.Prelude.{◌≡◌, ◌<◌, ◌&&◌, not, ℕ, true, false, length, map, nat_eq, nat_lt, cond, replicate, Some, slice_get, slice_index_or, slice_set, IfOk, OnOk};
+ghost use Rattle.std.specs.Prelude.{◌≡◌, ◌<◌, ◌&&◌, not, ℕ, true, false, length, map, nat_eq, nat_lt, cond, replicate, Some, slice_get, slice_index_or, slice_set, IfOk};
 ghost use Rattle.std.specs.List.{list_any, list_all};
 ghost use Rattle.program_model.specs.declared.pass.Outside.{Outside};
 ghost use Rattle.program_model.specs.declared.program.Class.{Class};
@@ -217,8 +217,8 @@ impl<'a> Lookups<'a> {
     /// Whether one of the classes that the walk comes to stands directly under the framework, where a class was just
     /// entered.
     fn climb_out(&self, walk: &mut Walk) -> Result<bool, AllocError>
-        ensures fair { OnOk result (IsFair walk.old → IsFair walk.new) }
-        ensures size { OnOk result (length walk.new.seen.items ≡ length walk.old.seen.items) }
+        ensures fair { IsFair walk.old → IsFair walk.new }
+        ensures size { length walk.new.seen.items ≡ length walk.old.seen.items }
         ensures is { (class : ℕ) → IsRight self.now → Climbs self.now.program.now class (touches_at self.now.program.now) walk.old.seen.items (waits walk.old) → IfOk result (λ b. b ≡ reaches_framework (length self.now.program.now.classes) self.now.program.now class) }
     {
         while let Some(one) = walk.pop() {
@@ -232,7 +232,7 @@ impl<'a> Lookups<'a> {
 
     /// Whether a class has an ancestor of the framework other than `Ljava/lang/Object;`.
     pub fn is_outward(&self, memo: &mut Memo, class: u32) -> Result<bool, AllocError>
-        ensures kept { IsKept self.now memo.old → OnOk result (IsKept self.now memo.new) }
+        ensures kept { IsKept self.now memo.old → IsKept self.now memo.new }
         ensures is { (c : Class) → IsRight self.now → IsKept self.now memo.old → slice_get self.now.program.now.classes class ≡ Some c → IfOk result (λ b. b ≡ is_outward (named self.now.program.now) (type_at self.now.program.now c.name)) }
     {
         memo.walk.clear();

@@ -1,6 +1,6 @@
 //! The moves of a script, all names being numbers.
 
-ghost use Rattle.std.specs.Prelude.{◌≡◌, true, IfOk, OnOk};
+ghost use Rattle.std.specs.Prelude.{◌≡◌, ◌<◌, ◌^◌, true, IfOk, OnOk};
 ghost use Rattle.std.specs.Option.{option_map};
 ghost use Rattle.program_model.specs.declared.program.Program.{Program};
 ghost use Rattle.program_model.specs.ProgramRules.{is_well_formed};
@@ -84,6 +84,7 @@ pub enum Play {
 fn add_type<'a>(names: &mut Names<'a>, units: &'a [u16]) -> Result<Kind, AllocError>
     ensures grows { AreReady names.old → OnOk result (Grows names.old names.new) }
     ensures is { AreReady names.old → IfOk result (λ k. IsType names.new.types k units.now) }
+    ensures deep { AreReady names.old → IfOk result (λ k. k.depth < 2 ^ 63) }
 {
     names.types.add(units)
 }

@@ -116,8 +116,8 @@ impl<'a> Lookups<'a> {
     fn opens(&self, walk: &mut Walk, class: u32) -> Result<bool, AllocError>
         ensures met { IfOk result (λ b. b ≡ (is_interface (slice_get self.now.program.now.classes class) && (nat_lt class (length walk.old.seen.items) && not (is_seen walk.old class)))) }
         ensures seen { IfOk result (λ b. walk.new.seen.items ≡ cond b (slice_set walk.old.seen.items class true) walk.old.seen.items) }
-        ensures fair { OnOk result (IsFair walk.old → IsFair walk.new) }
-        ensures size { OnOk result (length walk.new.seen.items ≡ length walk.old.seen.items) }
+        ensures fair { IsFair walk.old → IsFair walk.new }
+        ensures size { length walk.new.seen.items ≡ length walk.old.seen.items }
     {
         if !self.is_interface(class) {
             return Ok(false);
@@ -128,8 +128,8 @@ impl<'a> Lookups<'a> {
 
     /// Lets the interfaces above an interface wait, and itself behind them, unless the walk has been there.
     fn rise(&self, walk: &mut Walk, class: u32, rise: &mut Rise) -> Result<(), AllocError>
-        ensures fair { OnOk result (IsFair walk.old → IsFair walk.new) }
-        ensures size { OnOk result (length walk.new.seen.items ≡ length walk.old.seen.items) }
+        ensures fair { IsFair walk.old → IsFair walk.new }
+        ensures size { length walk.new.seen.items ≡ length walk.old.seen.items }
         ensures less { OnOk result (work walk.new.seen.items (todo rise.new) ≤ work walk.old.seen.items (todo rise.old)) }
         ensures rises { IsRight self.now → OnOk result (Skipped self.now.program.now class walk.old.seen.items (todo rise.old) walk.new.seen.items (todo rise.new) ⊎ Opened self.now.program.now class walk.old.seen.items (todo rise.old) walk.new.seen.items (todo rise.new)) }
     {
@@ -159,8 +159,8 @@ impl<'a> Lookups<'a> {
         rise: &mut Rise,
         out: &mut Vec<u32>,
     ) -> Result<(), AllocError>
-        ensures fair { OnOk result (IsFair walk.old → IsFair walk.new) }
-        ensures size { OnOk result (length walk.new.seen.items ≡ length walk.old.seen.items) }
+        ensures fair { IsFair walk.old → IsFair walk.new }
+        ensures size { length walk.new.seen.items ≡ length walk.old.seen.items }
         ensures less { OnOk result (work walk.new.seen.items (todo rise.new) ≤ work walk.old.seen.items (todo rise.old)) }
         ensures goes { IsRight self.now → OnOk result (Goes self.now.program.now one walk.old.seen.items (todo rise.old) out.old.items walk.new.seen.items (todo rise.new) out.new.items) }
     {
@@ -183,8 +183,8 @@ impl<'a> Lookups<'a> {
         walk: &mut Walk,
         rise: &mut Rise,
     ) -> Result<Vec<u32>, AllocError>
-        ensures fair { OnOk result (IsFair walk.old → IsFair walk.new) }
-        ensures size { OnOk result (length walk.new.seen.items ≡ length walk.old.seen.items) }
+        ensures fair { IsFair walk.old → IsFair walk.new }
+        ensures size { length walk.new.seen.items ≡ length walk.old.seen.items }
         ensures is { (c : ℕ) → IsRight self.now → IsUnseen (length self.now.program.now.classes) walk.old → todo rise.old ≡ map (λ c. Above c) (interface_places self.now.program.now c) ++ [] → IfOk result (λ out. out.items ≡ firsts (interfaces_before (length self.now.program.now.classes) self.now.program.now (interface_places self.now.program.now c))) }
     {
         let mut out = Vec::new(alloc);
@@ -201,7 +201,7 @@ impl<'a> Lookups<'a> {
         memo: &mut Memo,
         class: u32,
     ) -> Result<Vec<u32>, AllocError>
-        ensures kept { IsKept self.now memo.old → OnOk result (IsKept self.now memo.new) }
+        ensures kept { IsKept self.now memo.old → IsKept self.now memo.new }
         ensures is { IsRight self.now → IsKept self.now memo.old → IfOk result (λ out. out.items ≡ firsts (interfaces_before (length self.now.program.now.classes) self.now.program.now (interface_places self.now.program.now class))) }
     {
         let mut rise = Rise::new(alloc);
@@ -218,7 +218,7 @@ impl<'a> Lookups<'a> {
         memo: &mut Memo,
         class: u32,
     ) -> Result<Vec<u32>, AllocError>
-        ensures kept { IsKept self.now memo.old → OnOk result (IsKept self.now memo.new) }
+        ensures kept { IsKept self.now memo.old → IsKept self.now memo.new }
         ensures is { IsRight self.now → IsKept self.now memo.old → IfOk result (λ out. out.items ≡ interfaces_first self.now.program.now class) }
     {
         match self.program.version {
@@ -249,7 +249,7 @@ impl<'a> Lookups<'a> {
         memo: &mut Memo,
         class: u32,
     ) -> Result<Vec<u32>, AllocError>
-        ensures kept { IsKept self.now memo.old → OnOk result (IsKept self.now memo.new) }
+        ensures kept { IsKept self.now memo.old → IsKept self.now memo.new }
         ensures is { IsRight self.now → IsKept self.now memo.old → IfOk result (λ out. out.items ≡ initialised_first self.now.program.now class) }
     {
         if self.is_interface(class) {

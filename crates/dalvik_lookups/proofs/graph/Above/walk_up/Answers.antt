@@ -3,11 +3,14 @@ use Rattle.std.specs.Prelude.{count_by, not, Contains}
 use Rattle.dalvik_lookups.specs.Walks.{Grow, left}
 use Rattle.dalvik_lookups.specs.Tables.{row_at}
 use Rattle.dalvik_lookups.proofs.Interned.{got_short}
-use Rattle.dalvik_lookups.proofs.Climbing.{walk_begins, walk_on, walk_ends, from_on, less_left}
+use Rattle.dalvik_lookups.proofs.Climbing.{walk_begins, walk_on, walk_ends, from_on, less_left, listed_on}
 use Rattle.dalvik_lookups.proofs.graph.Above.walk_up.Goals as goal
 
 grown : (c : goal.In_ok-mark_all) → Grow c.loop-number.marks c.mark_all.new.self (row_at c.args.self.now c.in-Some.number)
-grown c = subst (Grow c.loop-number.marks c.mark_all.new.self) c.row.ensures c.in_ok-mark_all.ensures.grow
+grown c = subst (Grow c.loop-number.marks c.mark_all.new.self) c.row.ensures c.mark_all.ensures.grow
+
+grown_so_far : (c : goal.After-from_residual) → Grow c.loop-number.marks c.mark_all.new.self (row_at c.args.self.now c.in-Some.number)
+grown_so_far c = subst (Grow c.loop-number.marks c.mark_all.new.self) c.row.ensures c.mark_all.ensures.grow
 
 pub loop-number-init : goal.loop-number-init
 loop-number-init c = record { size = refl; met = λ n h. h; from = λ x f. f; walking = λ all. walk_begins c.args.self.now c.args.marks.now all }
@@ -25,6 +28,12 @@ pub loop-number-smaller : goal.loop-number-smaller
 loop-number-smaller c =
     let short = got_short c.loop-number.marks.listed.items c.loop-number.next c.in-Some.number (sym c.in-Some.ensures) in
     less_left (left c.mark_all.new.self) (count_by not c.loop-number.marks.marks.items) (vec_len c.loop-number.marks.listed) c.loop-number.next (omega (arith, short, c.loop-number.marks.listed.ok)) (grown c).less
+
+pub returns-in_err-mark_all-clause-size : goal.returns-in_err-mark_all-clause-size
+returns-in_err-mark_all-clause-size c = (grown_so_far c).size ∙ c.loop-number.invariant.size
+
+pub returns-in_err-mark_all-clause-listed : goal.returns-in_err-mark_all-clause-listed
+returns-in_err-mark_all-clause-listed c = λ all. listed_on c.loop-number.marks c.mark_all.new.self (row_at c.args.self.now c.in-Some.number) (grown_so_far c) (c.loop-number.invariant.walking all).marked
 
 pub returns : goal.returns
 returns c = record {

@@ -4,7 +4,7 @@ use Rattle.dalvik_defs.specs.Naming.{named}
 use Rattle.dalvik_lookups.specs.Views.{names_of, name_at}
 use Rattle.dalvik_lookups.specs.Tables.{IsRight}
 use Rattle.dalvik_lookups.specs.Walks.{IsKept, IsInside}
-use Rattle.dalvik_lookups.proofs.Unders.{base_right, rows_inside, kept_more}
+use Rattle.dalvik_lookups.proofs.Unders.{base_right, rows_inside, kept_marks, kept_more}
 use Rattle.dalvik_lookups.proofs.lookups.Lookups.base_under.Goals as goal
 
 pub returns-in-Some : goal.returns-in-Some
@@ -18,6 +18,9 @@ answered c r k l u =
 
 pub returns : goal.returns
 returns c = record {
-  kept = λ r k l u. kept_more c.args.self.now c.args.memo.now _ c.keep_under.new.self c.args.lower c.args.upper c.in_ok-answer.answer k c.in_ok-answer.ensures.size (c.in_ok-answer.ensures.clean k.clean) refl refl refl refl c.keep_under.ensures (answered c r k l u);
+  kept = λ r k l u. kept_more c.args.self.now c.args.memo.now _ c.keep_under.new.self c.args.lower c.args.upper c.in_ok-answer.answer k c.climbs.ensures.size (c.climbs.ensures.clean k.clean) refl refl refl refl c.keep_under.ensures (answered c r k l u);
   answer = answered c;
 }
+
+pub returns-in_err-answer-clause-kept : goal.returns-in_err-answer-clause-kept
+returns-in_err-answer-clause-kept c = λ r k l u. kept_marks c.args.self.now c.args.memo.now _ k c.climbs.ensures.size (c.climbs.ensures.clean k.clean) refl refl refl refl

@@ -8,7 +8,7 @@ returns-in-Some-clause-is c = λ k q r m hc hq. m.virtuals.is c.args.method c.ar
 
 pub returns-in_ok-found-in-None-clause-kept : goal.returns-in_ok-found-in-None-clause-kept
 returns-in_ok-found-in-None-clause-kept c = λ k q r m hc hq.
-    let mid = c.in_ok-found-in-None.ensures.kept k q r m hc hq in
+    let mid = c.find_virtually.ensures.kept k q r m hc hq in
     kept_call c.args.self.now c.find_virtually.new.memo c.keep_virtual.new.self mid c.keep_virtual.ensures.rest
     (found_more c.args.self.now _ _ c.args.method c.args.class c.in_ok-found-in-None.found mid.virtuals c.keep_virtual.ensures.calls (λ other h. c.in_ok-found-in-None.ensures.is k other r m hc h))
     (subst (λ v. AreFromSuper c.args.self.now.program.now v.items) (sym c.keep_virtual.ensures.supers) mid.supers)

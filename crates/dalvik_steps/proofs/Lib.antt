@@ -5,7 +5,10 @@ pub mod Falling
 pub mod Flying
 pub mod Handing
 pub mod Landed
+pub mod Looked
 pub mod Made
+pub mod Restored
+pub mod Resumed
 pub mod Stacked
 pub mod Started
 pub mod Starters

@@ -18,7 +18,7 @@ ghost use Rattle.dalvik_state.specs.Drafts.{given_world, kind_text, IsDraft};
 ghost use Rattle.dalvik_state.specs.Effects.{plain};
 ghost use Rattle.dalvik_state.specs.Giving.{IsGiven};
 ghost use Rattle.dalvik_state.specs.Runs.{classes_in, script_in, stack_in, world_in, IsEvent, IsNext, IsRun, IsUndoneWith};
-ghost use Rattle.dalvik_state.specs.States.{HasRoom, HasSpace, IsRunning, IsSound, IsSoundFrame, IsSoundWaiting};
+ghost use Rattle.dalvik_state.specs.States.{below_top, HasRoom, HasSpace, IsRunning, IsSound, IsSoundFrame, IsSoundWaiting};
 ghost use Rattle.dalvik_state.specs.Views.{names_in, value_of, Names};
 ghost use Rattle.dalvik_state.specs.Worlds.{spots_of, IsHeap, Plain};
 ghost use Rattle.dalvik_state.specs.declared.state.Waiting.{Waiting as OwnWaiting};
@@ -381,7 +381,8 @@ fn failing(state: &State<'_>) -> Option<u32>
 
 /// Takes the top off the stack, which a thrown object passes.
 fn drop_top(state: &mut State<'_>)
-    ensures { DropsTop (last_of state.old.stack.items) state.old state.new }
+    ensures drops { DropsTop (last_of state.old.stack.items) state.old state.new }
+    ensures stack { state.new.stack.items ≡ below_top state.old.stack.items }
 {
     let class = failing(state);
     state.stack.pop();
@@ -403,7 +404,8 @@ fn is_noted(wraps: &[usize], wrapped: usize, top: usize) -> bool
 /// A thrown object passes the top of the stack, and is replaced where it is noted. Answers how many have been made, and
 /// the object.
 fn fall(state: &mut State<'_>, wraps: &[usize], wrapped: usize, datum: Datum) -> (usize, Datum)
-    ensures { (l : Lookups) (steps : ℕ) (script : List Move) (whole : Next) (to : Landing) (place : ℕ) → length script < 2 ^ 64 → IsRight l → LandsThere to place → place + 1 < length state.old.stack.items → IsFalling l steps script whole to state.old (drop wrapped wraps.now) datum → IsFalling l steps script whole to state.new (drop result.0 wraps.now) result.1 }
+    ensures stack { state.new.stack.items ≡ below_top state.old.stack.items }
+    ensures falls { (l : Lookups) (steps : ℕ) (script : List Move) (whole : Next) (to : Landing) (place : ℕ) → length script < 2 ^ 64 → IsRight l → LandsThere to place → place + 1 < length state.old.stack.items → IsFalling l steps script whole to state.old (drop wrapped wraps.now) datum → IsFalling l steps script whole to state.new (drop result.0 wraps.now) result.1 }
 {
     let _count = wraps.len();
     let top = state.stack.len().saturating_sub(1);

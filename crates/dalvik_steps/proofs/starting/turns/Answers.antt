@@ -12,6 +12,9 @@ returns-clause-ok c = λ steps script r run on low.
     let old = c.args.state.now in
     let o = c.in_ok-frame.frame in
     let cut = c.truncate.new.self in
-    let room : vec_len cut + 2 ≤ vec_capacity cut = omega arith in
+    let h = c.in_ok-reserve.ensures.ok in
+    let a = c.truncate.ensures.len in
+    let b = c.truncate.ensures.capacity in
+    let room : vec_len cut + 2 ≤ vec_capacity cut = omega (arith, h, a, b) in
     let e : c.runs.new.stack.items ≡ take c.args.count old.stack.items ++ turn_entries c.args.class o = c.runs.ensures room ∙ ap (λ (xs : List Waiting). xs ++ turn_entries c.args.class o) (c.truncate.ensures.items ∙ ap (take c.args.count) c.reserve.ensures.items) in
     turn_left l r steps script old run on _ c.args.count c.args.class o (record { world = refl; statuses = refl; next = refl; ended = refl }) low (c.in_ok-frame.ensures (length (spots_of old.world)) r low) e

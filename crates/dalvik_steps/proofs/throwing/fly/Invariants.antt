@@ -11,8 +11,8 @@ use Rattle.dalvik_steps.proofs.throwing.fly.Given as goal
 abbrev pub invariant-loop-place : goal.invariant-loop-place
 invariant-loop-place l = record {
   low : l.place ≤ l.top;
-  kept : (steps : ℕ) (w : World) (v : Value) → IsRun l.tables.lookups l.fn.memo steps l.state → IsGiven l.tables.lookups l.state.world l.gifts → IsFlying l.tables.lookups l.state.world l.gifts w v l.flying → l.top ≤ length l.state.stack.items → IsKept l.tables.lookups l.memo;
-  course : (steps : ℕ) (w : World) (v : Value) → IsRun l.tables.lookups l.fn.memo steps l.state → IsGiven l.tables.lookups l.state.world l.gifts → IsFlying l.tables.lookups l.state.world l.gifts w v l.flying → l.top ≤ length l.state.stack.items
+  kept : (steps : ℕ) (w : World) (v : Value) → IsRun l.tables.lookups l.fn.memo steps l.state → IsGiven l.tables.lookups l.state.world l.gifts → IsFlying l.tables.lookups l.state.world l.gifts w v l.fn.flying → l.top ≤ length l.state.stack.items → IsKept l.tables.lookups l.memo;
+  course : (steps : ℕ) (w : World) (v : Value) → IsRun l.tables.lookups l.fn.memo steps l.state → IsGiven l.tables.lookups l.state.world l.gifts → IsFlying l.tables.lookups l.state.world l.gifts w v l.fn.flying → l.top ≤ length l.state.stack.items
       → IsCourse l.tables.lookups l.state.world l.gifts w v (reverse (take l.top l.state.stack.items)) (reverse (take l.place l.state.stack.items)) l.course;
 }
 

@@ -1,4 +1,4 @@
-use Rattle.std.proofs.Common.{length}
+use Rattle.std.proofs.Common.{length, arith}
 use Rattle.dalvik_state.specs.Runs.{classes_in, script_in, stack_in, world_in}
 use Rattle.dalvik_steps.specs.Entries.{thrown_by}
 use Rattle.dalvik_steps.proofs.Begun.{falling_of}
@@ -8,5 +8,5 @@ pub returns : goal.returns
 returns c = λ l steps script few r run on fine h room.
     let old = c.args.state.now in
     let f = c.args.flight in
-    let t = c.throw-datum.ensures l (length f.wraps.items) r run.world fine room.space room.room in
+    let t = c.throw-datum.ensures l (length f.wraps.items) r run.world fine (record { space = (let s = room.space.space in omega (arith, s)) }) (record { room = (let s = room.room.room in omega (arith, s)) }) in
     c.descend.ensures l steps script (thrown_by l f.thrown (world_in l old) (classes_in l old) (stack_in l old) (script_in script old)) few r (falling_of l steps script old c.throw-datum.new.world f c.throw-datum.result run on t h)

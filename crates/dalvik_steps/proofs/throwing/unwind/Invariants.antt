@@ -8,9 +8,9 @@ use Rattle.dalvik_steps.specs.Falls.{IsFalling, LandsThere}
 use Rattle.dalvik_steps.specs.declared.throwing.Landing.{Landing}
 use Rattle.dalvik_steps.proofs.throwing.unwind.Given as goal
 
-abbrev pub invariant-loop-place : goal.invariant-loop-place
-invariant-loop-place l = (k : Lookups) (steps : ℕ) (script : List Move) (all : Next) (to : Landing) → length script < 2 ^ 64 → IsRight k → LandsThere to l.place → IsFalling k steps script all to l.fn.state l.wraps l.datum
+abbrev pub invariant-loop-state : goal.invariant-loop-state
+invariant-loop-state l = (k : Lookups) (steps : ℕ) (script : List Move) (all : Next) (to : Landing) → length script < 2 ^ 64 → IsRight k → LandsThere to l.place → IsFalling k steps script all to l.fn.state l.wraps l.fn.datum
     → IsFalling k steps script all to l.state (drop l.flown.0 l.wraps) l.flown.1
 
-abbrev pub decreases-loop-place : goal.decreases-loop-place
-decreases-loop-place l = length l.state.stack.items
+abbrev pub decreases-loop-state : goal.decreases-loop-state
+decreases-loop-state l = length l.state.stack.items

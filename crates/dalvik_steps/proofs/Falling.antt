@@ -281,7 +281,7 @@ module _ (l : Lookups) (r : IsRight l) (steps : ℕ) (old new : State) (run : Is
 pub top_first : (xs : List Waiting) (x : Waiting) → last_of xs ≡ Some x → reverse xs ≡ x ∷ reverse (below_top xs)
 top_first xs x e = ap reverse (sym (set_own xs (length xs - 1) x e) ∙ split_last xs x e x) ∙ reverse-append (below_top xs) (x ∷ [])
 
-below_long : (xs : List Waiting) (k : ℕ) → k ≤ length xs → length (take k xs) ≡ k
+pub below_long : (xs : List Waiting) (k : ℕ) → k ≤ length xs → length (take k xs) ≡ k
 below_long xs zero h = refl
 below_long [] (suc k) h = absurd (omega arith)
 below_long (x ∷ xs) (suc k) h = ap suc (below_long xs k (omega arith))

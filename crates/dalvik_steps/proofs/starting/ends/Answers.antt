@@ -22,7 +22,7 @@ returns-in-Ok-clause-ok c = λ steps script r run on low.
     let e = c.set_status.ensures in
     let count : class < length old.statuses.items = (let all = run.classes in omega (arith, all, low)) in
     let classes = e.named p (own_class l r class low) count in
-    let begun = c.resumes.ensures.ok steps script r (running_set l steps class status.Done old set run e.world e.stack e.statuses) (e.ended ∙ on) in
+    let begun = c.in-Ok.ensures.ok steps script r (running_set l steps class status.Done old set run e.world e.stack e.statuses) (e.ended ∙ on) in
     subst (IsLeft l steps script c.resumes.new.state)
     (λ i. resumes (run_face l) (bodies_in l) (world_of (names_in l) (e.world i)) (classes i) (stack_of (names_in l) (below_top (e.stack i).items)) (drop (e.next i) script)) begun
 

@@ -1,9 +1,10 @@
 -- What a thrown object does to the stack on its way, by numbers and by names.
-use Rattle.std.proofs.Common.{◌≡◌, ℕ, zero, suc, ◌+◌, ◌-◌, ◌<◌, ◌≤◌, ◌⊎◌, inl, inr, Bool, true, false, true≢false, List, [], ◌∷◌, ◌++◌, length, map, take, drop, min, arith, ap, refl, sym, subst, ◌∙◌, length-append}
+use Rattle.std.proofs.Common.{◌≡◌, ℕ, zero, suc, ◌+◌, ◌-◌, ◌<◌, ◌≤◌, ◌⊎◌, inl, inr, Bool, true, false, true≢false, List, [], ◌∷◌, ◌++◌, length, map, take, drop, min, arith, ap, refl, sym, subst, ◌∙◌, length-append, eqb-true, eq-eqb}
 use Rattle.std.specs.Prelude.{◌^◌, Option, Some, None, reverse, slice_get, slice_set}
 use Rattle.std.specs.Option.{option_and_then, option_map}
 use Rattle.std.proofs.lemmas.Bool.{cases_lt}
 use Rattle.std.proofs.lemmas.List.{length-reverse, reverse-append}
+use Rattle.class_defs.proofs.Positions.{entry_at}
 use Rattle.dalvik_defs.specs.Effect.{go}
 use Rattle.dalvik_defs.specs.Known.{initialiser_error}
 use Rattle.dalvik_defs.specs.Names.{Text, error_type}
@@ -45,7 +46,7 @@ use Rattle.dalvik_steps.specs.declared.throwing.Exhibit.{Exhibit}
 use Rattle.dalvik_steps.specs.declared.throwing.Landing.{Landing}
 use Rattle.dalvik_steps.specs.declared.throwing.Landing.TheVariants as landing
 use Rattle.dalvik_steps.specs.Backs.{last_of}
-use Rattle.dalvik_steps.specs.Falls.{given_up_at, DropsTop, IsFailed, IsFalling, IsPopped, LandsThere}
+use Rattle.dalvik_steps.specs.Falls.{failing, given_up_at, noted, DropsTop, IsFailed, IsFalling, IsPopped, LandsThere}
 use Rattle.dalvik_steps.specs.Flights.{lands_at, Exhibits, Flies, IfUnder, LandsOr, Reaches}
 use Rattle.dalvik_steps.proofs.Flying.{plain_kind}
 use Rattle.dalvik_steps.proofs.Handing.{nothing_last}
@@ -128,13 +129,6 @@ module _ (l : Lookups) where
   flies_nowhere w v classes (waiting.Outside owes ∷ rest) wraps to script r s h e = absurd (let no : landing.Framework (length rest) h.1.0 ≡ landing.Nowhere = sym h.1.1.0 ∙ e in cc)
 
 -- ---- one entry is passed
-
--- the class that fails where an entry is passed
-abbrev pub failing : Waiting → Option ℕ
-failing (waiting.Method f) = None
-failing (waiting.Initialiser class above next) = Some class
-failing (waiting.Ending class) = Some class
-failing (waiting.Outside owes) = None
 
 abbrev pub classes_after : Lookups → Option ℕ → Classes → Classes
 classes_after l None classes = classes
@@ -287,7 +281,7 @@ module _ (l : Lookups) (r : IsRight l) (steps : ℕ) (old new : State) (run : Is
 pub top_first : (xs : List Waiting) (x : Waiting) → last_of xs ≡ Some x → reverse xs ≡ x ∷ reverse (below_top xs)
 top_first xs x e = ap reverse (sym (set_own xs (length xs - 1) x e) ∙ split_last xs x e x) ∙ reverse-append (below_top xs) (x ∷ [])
 
-below_long : (xs : List Waiting) (k : ℕ) → k ≤ length xs → length (take k xs) ≡ k
+pub below_long : (xs : List Waiting) (k : ℕ) → k ≤ length xs → length (take k xs) ≡ k
 below_long xs zero h = refl
 below_long [] (suc k) h = absurd (omega arith)
 below_long (x ∷ xs) (suc k) h = ap suc (below_long xs k (omega arith))
@@ -373,6 +367,40 @@ module _ (l : Lookups) (r : IsRight l) (steps : ℕ) (script : List Move) (few :
               room = subst (λ (u : OwnWorld). HasRoom u 1) (sym dr.world) room;
             }
       ]
+
+  pub fall_past : (old new : State) (more : List ℕ) (d : Datum) → IsFalling l steps script all to old more d → place + 1 < length old.stack.items → DropsTop (last_of old.stack.items) old new → ((others : List ℕ) → more ≡ (length old.stack.items - 1) ∷ others → ⊥) → IsFalling l steps script all to new more d
+  fall_past old new more d h low drops apart =
+      let top = entry_at old.stack.items (length old.stack.items - 1) (omega (arith, low)) in
+      fall_on top.0 old new more d h low top.1 (dropped l r steps old new h.running top.0 top.1 drops) apart
+
+  pub fall_noted : (old new : State) (w : OwnWorld) (more others : List ℕ) (d : Datum) → IsFalling l steps script all to old more d → place + 1 < length old.stack.items → more ≡ (length old.stack.items - 1) ∷ others
+      → IsHeap old.world w (spots_of old.world ++ new_spot (thing.Instance (plain 16)) ∷ []) → HasSpace w (length others) → HasRoom w 1 → DropsTop (last_of old.stack.items) (record old { world = w }) new → IsFalling l steps script all to new others (datum.Object (length (spots_of old.world)))
+  fall_noted old new w more others d h low is heap space room drops =
+      let top = entry_at old.stack.items (length old.stack.items - 1) (omega (arith, low)) in
+      let kind = plain_kind l.types r.tabled.named.types 16 (omega arith) in
+      let sound = instance_sound l old.world w (plain 16) heap (record { there = kind; deep = omega arith }) h.running.world in
+      let long = ap length heap.heap ∙ length-append (spots_of old.world) (new_spot (thing.Instance (plain 16)) ∷ []) in
+      let larger : length (spots_of old.world) ≤ length (spots_of w) = omega (arith, long) in
+      let mid = record old { world = w } in
+      let running = running_world l steps old mid h.running sound larger heap.locks refl refl in
+      fall_replaced top.0 old new w more others d h low top.1 is heap space room (dropped l r steps mid new running top.0 top.1 drops)
+
+-- what is noted of a list from a place on
+pub noted_there : (ws : List ℕ) (i k : ℕ) → noted (slice_get ws i) k ≡ true → drop i ws ≡ k ∷ drop (suc i) ws
+noted_there [] i k e = absurd (true≢false (sym e))
+noted_there (x ∷ xs) zero k e = ap (λ (y : ℕ). y ∷ xs) (eqb-true x k e)
+noted_there (x ∷ xs) (suc i) k e = noted_there xs i k e
+
+pub noted_inside : (ws : List ℕ) (i k : ℕ) → noted (slice_get ws i) k ≡ true → i < length ws
+noted_inside [] i k e = absurd (true≢false (sym e))
+noted_inside (x ∷ xs) zero k e = omega arith
+noted_inside (x ∷ xs) (suc i) k e = let low = noted_inside xs i k e in omega (arith, low)
+
+pub not_noted : (ws : List ℕ) (i k : ℕ) (others : List ℕ) → noted (slice_get ws i) k ≡ false → drop i ws ≡ k ∷ others → ⊥
+not_noted [] zero k others e f = absurd (cc)
+not_noted [] (suc i) k others e f = absurd (cc)
+not_noted (x ∷ xs) zero k others e f = let same : x ≡ k = cc in absurd (true≢false (sym (eq-eqb x k same) ∙ e))
+not_noted (x ∷ xs) (suc i) k others e f = not_noted xs i k others e f
 
 -- ---- where it lands
 

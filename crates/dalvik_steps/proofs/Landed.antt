@@ -106,7 +106,7 @@ module _ (l : Lookups) (r : IsRight l) (steps : ℕ) (script : List Move) (all :
       let framework = reached l (reverse (below_top old.stack.items)) more place on.low (world_in l old) v on.top shown on.flies in
       let last : last_of old.stack.items ≡ Some (waiting.Outside framework.owes) = on.is ∙ ap (λ (y : Waiting). Some y) framework.is in
       let stack = popped_named n old.stack.items (waiting.Outside framework.owes) last in
-      let shows = λ (p : World × Shown) (ws : List NamedWaiting). (On p.0 (classes_in l old) ws (script_in script old), Some (event.Uncaught p.1)) in
+      let shows : World × Shown → List NamedWaiting → Next = λ p ws. (On p.0 (classes_in l old) ws (script_in script old), Some (event.Uncaught p.1)) in
       let is : all ≡ shows (world_of n w, s) (stack_in l old) =
           sym h.whole ∙ ap (λ (ws : List NamedWaiting). unwinds (run_face l) (bodies_in l) (world_in l old) (classes_in l old) v ws (script_in script old)) stack
           ∙ ap (λ (p : World × Shown). shows p (waiting_of n (waiting.Outside framework.owes) ∷ stack_of n (below_top old.stack.items))) x.shown

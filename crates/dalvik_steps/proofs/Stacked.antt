@@ -1,11 +1,11 @@
 -- What a class's turn and a class that waits leave of a run.
-use Rattle.std.proofs.Common.{◌≡◌, ℕ, zero, suc, ◌+◌, ◌-◌, ◌<◌, ◌≤◌, Bool, true, false, List, [], ◌∷◌, ◌++◌, length, map, take, drop, min, inl, inr, arith, ap, refl, sym, subst, ◌∙◌}
+use Rattle.std.proofs.Common.{◌≡◌, ℕ, zero, suc, ◌+◌, ◌-◌, ◌<◌, ◌≤◌, Bool, true, false, true≢false, List, [], ◌∷◌, ◌++◌, length, map, take, drop, min, inl, inr, arith, ap, refl, sym, subst, ◌∙◌}
 use Rattle.std.specs.Prelude.{◌^◌, Option, Some, None, Vec, slice_get, slice_set}
 use Rattle.std.specs.declared.alloc.Global.{Global}
 use Rattle.std.proofs.lemmas.Bool.{cases_lt}
 use Rattle.dalvik_defs.specs.Names.{Text}
-use Rattle.dalvik_defs.specs.Stack.{goes_on, left_of, runs}
-use Rattle.dalvik_defs.specs.State.{On, State as NamedState}
+use Rattle.dalvik_defs.specs.Stack.{goes_on, left_of, resumes, runs}
+use Rattle.dalvik_defs.specs.State.{Classes, On, State as NamedState, World as NamedWorld}
 use Rattle.dalvik_defs.specs.declared.script.Move.{Move}
 use Rattle.dalvik_defs.specs.declared.state.Waiting.{Waiting as NamedWaiting}
 use Rattle.dalvik_defs.specs.declared.state.Waiting.TheVariants.{Initialiser}
@@ -14,16 +14,18 @@ use Rattle.dalvik_lookups.specs.Tables.{IsRight}
 use Rattle.dalvik_lookups.specs.declared.lookups.Lookups.{Lookups}
 use Rattle.dalvik_state.specs.declared.frame.Frame.{Frame}
 use Rattle.dalvik_state.specs.declared.state.State.{State}
+use Rattle.dalvik_state.specs.declared.state.Status.{Status}
 use Rattle.dalvik_state.specs.declared.state.Waiting.{Waiting}
 use Rattle.dalvik_state.specs.declared.state.Waiting.TheVariants as waiting
 use Rattle.dalvik_state.specs.declared.world.World.{World}
 use Rattle.dalvik_state.specs.Runs.{bodies_in, classes_in, script_in, stack_in, world_in, IsLeft}
-use Rattle.dalvik_state.specs.States.{class_text, classes_of, stack_of, AreClasses, IsRunning, IsSound, KeepsRest}
+use Rattle.dalvik_state.specs.States.{below_top, class_text, classes_of, stack_of, waiting_of, AreClasses, IsRunning, IsSound, KeepsRest}
 use Rattle.dalvik_state.specs.Views.{names_in, world_of}
 use Rattle.dalvik_state.specs.Worlds.{spots_of}
-use Rattle.dalvik_state.proofs.Running.{AreHeld, ArePaced, AreSoundWaiting, paced_below, paced_more, paced_pushed, pushed_named, running_held, running_more, running_of, running_paced, running_stack, sound_below, sound_pushed}
-use Rattle.dalvik_steps.specs.Turns.{left_in, turn_entries, IsTurn}
-use Rattle.dalvik_steps.proofs.Handing.{state_on}
+use Rattle.dalvik_state.proofs.Running.{AreHeld, ArePaced, AreSoundWaiting, paced_below, paced_more, paced_pushed, popped_named, pushed_named, running_held, running_more, running_of, running_paced, running_stack, sound_below, sound_pushed}
+use Rattle.dalvik_steps.specs.Backs.{last_of}
+use Rattle.dalvik_steps.specs.Turns.{is_initialiser, left_in, turn_entries, IsLook, IsTurn, LeftAt, Looks}
+use Rattle.dalvik_steps.proofs.Handing.{nothing_last, state_on}
 use Rattle.dalvik_steps.proofs.Turning.{classes_drop, has_more, left_named, nothing_more, texts, turn_paced, turn_sound, turn_stack, waits_named}
 
 module _ (l : Lookups) (r : IsRight l) (steps : ℕ) (script : List Move) (old : State) (run : IsRunning l steps old) (on : old.ended ≡ false) where
@@ -118,3 +120,60 @@ take_twice [] (suc j) zero h = refl
 take_twice [] (suc j) (suc k) h = refl
 take_twice (x ∷ xs) (suc j) zero h = absurd (omega (arith, h))
 take_twice (x ∷ xs) (suc j) (suc k) h = ap (λ (ys : List Waiting). x ∷ ys) (take_twice xs j k (omega (arith, h)))
+
+-- ---- what waits at a place of the stack
+
+pub looks_is : (statuses : List Status) (more : ℕ) (o : Option Waiting) (found : Option (ℕ × Option ℕ)) (class : ℕ) (above : Vec ℕ Global) (next : ℕ) → Looks statuses more o found → o ≡ Some (waiting.Initialiser class above next) → IsLook statuses class above.items (next + more) found
+looks_is statuses more o found class above next h e = subst (λ (x : Option Waiting). Looks statuses more x found) e h
+
+pub looks_other : (statuses : List Status) (more : ℕ) (o : Option Waiting) (found : Option (ℕ × Option ℕ)) → Looks statuses more o found → is_initialiser o ≡ false → found ≡ None
+looks_other statuses more None found h e = h
+looks_other statuses more (Some (waiting.Method f)) found h e = h
+looks_other statuses more (Some (waiting.Initialiser class above next)) found h e = absurd (true≢false e)
+looks_other statuses more (Some (waiting.Ending class)) found h e = h
+looks_other statuses more (Some (waiting.Outside owes)) found h e = h
+
+-- what is found of a class that is being initialised, and of no other
+pub record IsFound (statuses : List Status) (class : ℕ) (above : List ℕ) (from : ℕ) (c : ℕ) (rest : Option ℕ) : Type 0 where
+  pub same : c ≡ class
+  pub left : LeftAt above (left_in statuses (drop from above)) rest
+
+pub found_is : (statuses : List Status) (class : ℕ) (above : List ℕ) (from : ℕ) (found : Option (ℕ × Option ℕ)) (c : ℕ) (rest : Option ℕ) → IsLook statuses class above from found → found ≡ Some (c, rest) → IsFound statuses class above from c rest
+found_is statuses class above from found c rest h e =
+    let both : Some (class, h.rest) ≡ Some (c, rest) = sym h.is ∙ e in
+    let pair : (class, h.rest) ≡ (c, rest) = cc in
+    let first : class ≡ c = ap (λ (x : ℕ × Option ℕ). x.0) pair in
+    let second : h.rest ≡ rest = ap (λ (x : ℕ × Option ℕ). x.1) pair in
+    record { same = sym first; left = subst (LeftAt above (left_in statuses (drop from above))) second h.left }
+
+-- what stands below the top of a stack
+pub below_at : (xs : List Waiting) (k : ℕ) → suc (suc k) ≡ length xs → last_of (below_top xs) ≡ slice_get xs k
+below_at xs k e =
+    let long = taken_long xs (suc k) (omega (arith, e)) in
+    let count : length xs - 1 ≡ suc k = omega (arith, e) in
+    let place : length (take (suc k) xs) - 1 ≡ k = omega (arith, long) in
+    ap (λ (n : ℕ). last_of (take n xs)) count ∙ ap (slice_get (take (suc k) xs)) place ∙ got xs k (omega (arith, e))
+  where
+    taken_long : (ys : List Waiting) (n : ℕ) → n ≤ length ys → length (take n ys) ≡ n
+    taken_long ys zero h = refl
+    taken_long [] (suc n) h = absurd (omega arith)
+    taken_long (y ∷ ys) (suc n) h = ap suc (taken_long ys n (omega arith))
+
+    got : (ys : List Waiting) (n : ℕ) → n < length ys → slice_get (take (suc n) ys) n ≡ slice_get ys n
+    got [] n h = absurd (omega arith)
+    got (y ∷ ys) zero h = refl
+    got (y ∷ ys) (suc n) h = got ys n (omega arith)
+
+pub not_initialiser : (l : Lookups) (w : NamedWorld) (classes : Classes) (xs : List Waiting) (script : List Move) → is_initialiser (last_of xs) ≡ false → resumes (run_face l) (bodies_in l) w classes (stack_of (names_in l) xs) script ≡ On w classes (stack_of (names_in l) xs) script
+not_initialiser l w classes xs script h = by (last_of xs) refl h
+  where
+    at : (x : Waiting) → last_of xs ≡ Some x → resumes (run_face l) (bodies_in l) w classes (waiting_of (names_in l) x ∷ stack_of (names_in l) (below_top xs)) script ≡ On w classes (waiting_of (names_in l) x ∷ stack_of (names_in l) (below_top xs)) script
+        → resumes (run_face l) (bodies_in l) w classes (stack_of (names_in l) xs) script ≡ On w classes (stack_of (names_in l) xs) script
+    at x e f = subst (λ (ws : List NamedWaiting). resumes (run_face l) (bodies_in l) w classes ws script ≡ On w classes ws script) (sym (popped_named (names_in l) xs x e)) f
+
+    by : (o : Option Waiting) → last_of xs ≡ o → is_initialiser o ≡ false → resumes (run_face l) (bodies_in l) w classes (stack_of (names_in l) xs) script ≡ On w classes (stack_of (names_in l) xs) script
+    by None e g = ap (λ (ys : List Waiting). resumes (run_face l) (bodies_in l) w classes (stack_of (names_in l) ys) script) (nothing_last xs e) ∙ sym (ap (λ (ys : List Waiting). On w classes (stack_of (names_in l) ys) script) (nothing_last xs e))
+    by (Some (waiting.Method f)) e g = at (waiting.Method f) e refl
+    by (Some (waiting.Initialiser class above next)) e g = absurd (true≢false g)
+    by (Some (waiting.Ending class)) e g = at (waiting.Ending class) e refl
+    by (Some (waiting.Outside owes)) e g = at (waiting.Outside owes) e refl

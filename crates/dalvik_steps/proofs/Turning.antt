@@ -20,10 +20,9 @@ use Rattle.dalvik_defs.specs.declared.script.Move.{Move}
 use Rattle.dalvik_defs.specs.declared.state.Frame.{Frame as NamedFrame}
 use Rattle.dalvik_defs.specs.declared.state.Waiting.{Waiting as NamedWaiting}
 use Rattle.dalvik_defs.specs.declared.state.Waiting.TheVariants.{Method as InMethod, Initialiser, Ending}
-use Rattle.dalvik_lookups.specs.Facing.{class_name, is_place, run_face}
+use Rattle.dalvik_lookups.specs.Facing.{is_place, run_face}
 use Rattle.dalvik_lookups.specs.Starting.{initialised_first}
 use Rattle.dalvik_lookups.specs.Tables.{place_named, IsRight}
-use Rattle.dalvik_lookups.specs.Walks.{type_of_class}
 use Rattle.dalvik_lookups.specs.declared.lookups.Lookups.{Lookups}
 use Rattle.dalvik_lookups.proofs.Facing.{right_face}
 use Rattle.dalvik_state.specs.declared.frame.Frame.{Frame}
@@ -35,7 +34,7 @@ use Rattle.dalvik_state.specs.Runs.{bodies_in}
 use Rattle.dalvik_state.specs.States.{class_text, classes_of, stack_of, status_at, status_of, AreClasses, IsSoundWaiting}
 use Rattle.dalvik_state.specs.Views.{frame_of, names_in}
 use Rattle.dalvik_state.proofs.Running.{one_paced, paced_pushed, pushed_named, sound_pushed, ArePaced, AreSoundWaiting}
-use Rattle.dalvik_steps.specs.Turns.{left_by, left_in, turn_entries, IsTurn}
+use Rattle.dalvik_steps.specs.Turns.{hinders, left_by, left_in, turn_entries, IsTurn}
 
 -- ---- the place of a class
 
@@ -45,7 +44,7 @@ position_same t u (x ∷ xs) h =
     let more = position_same t u xs (λ j y e. h (suc j) y e) in
     position_step t x xs ∙ (λ i. cond (h 0 x refl i) (Some 0) (option_map suc (more i))) ∙ sym (position_step u x xs)
 
-abbrev text_by : Program → Option Class → Text
+abbrev pub text_by : Program → Option Class → Text
 text_by p o = elim o as (λ o. Text) [ Some d ↦ type_at p d.name | None ↦ [] ]
 
 -- a class is the one of its type
@@ -75,7 +74,7 @@ classes_drop l zero cs h = h
 classes_drop l (suc n) [] h = h
 classes_drop l (suc n) (c ∷ cs) h = classes_drop l n cs (classes_rest l c cs h)
 
-abbrev texts : Lookups → List ℕ → List Text
+abbrev pub texts : Lookups → List ℕ → List Text
 texts l cs = map (class_text l.program.now) cs
 
 left_step : (l : Lookups) (s : OwnStatus) (here behind : List ℕ) → texts l (left_by s here behind) ≡ left_at (status_of s) (texts l here) (texts l behind)
@@ -125,24 +124,23 @@ left_more statuses n [] c e = absurd (cc)
 left_more statuses zero (x ∷ xs) c e = let same : x ≡ c = cc in ap (λ (y : ℕ). left_by (status_at statuses y) (x ∷ xs) (left_in statuses xs)) same
 left_more statuses (suc n) (x ∷ xs) c e = left_more statuses n xs c e
 
+left_if : (s : OwnStatus) (b : Bool) (here behind : List ℕ) → hinders s ≡ b → left_by s here behind ≡ cond b here behind
+left_if status.New b here behind e = ap (λ (x : Bool). cond x here behind) e
+left_if status.Running b here behind e = ap (λ (x : Bool). cond x here behind) e
+left_if status.Done b here behind e = ap (λ (x : Bool). cond x here behind) e
+left_if status.Failed b here behind e = ap (λ (x : Bool). cond x here behind) e
+
+-- by whether the class at a place comes first
+pub left_test : (statuses : List OwnStatus) (n : ℕ) (cs : List ℕ) (c : ℕ) (b : Bool) → slice_get cs n ≡ Some c → hinders (status_at statuses c) ≡ b → left_in statuses (drop n cs) ≡ cond b (drop n cs) (left_in statuses (drop (suc n) cs))
+left_test statuses n cs c b e h = left_more statuses n cs c e ∙ left_if (status_at statuses c) b (drop n cs) (left_in statuses (drop (suc n) cs)) h
+
 -- ---- what comes before a class
-
-name_is : (p : Program) (c : ℕ) → class_name p c ≡ class_text p c
-name_is p c = by (slice_get p.classes c)
-  where
-    by : (o : Option Class) → type_of_class p o ≡ text_by p o
-    by None = refl
-    by (Some d) = refl
-
-names_are : (p : Program) (cs : List ℕ) → map (class_name p) cs ≡ map (class_text p) cs
-names_are p [] = refl
-names_are p (c ∷ cs) = λ i. name_is p c i ∷ names_are p cs i
 
 pub first_is : (l : Lookups) → IsRight l → (c : ℕ) → c < length l.program.now.classes → (run_face l).first (class_text l.program.now c) ≡ texts l (initialised_first l.program.now c)
 first_is l r c low =
     let p = l.program.now in
     let k = entry_at p.classes c low in
-    ap (run_face l).first (ap (text_by p) k.1) ∙ (right_face l r).first c k.0 k.1 ∙ names_are p (initialised_first p c)
+    ap (run_face l).first (ap (text_by p) k.1) ∙ (right_face l r).first c k.0 k.1
 
 places_all : (l : Lookups) (cs : List ℕ) → list_all (is_place l.program.now) cs ≡ true → (i c : ℕ) → slice_get cs i ≡ Some c → c < length l.program.now.classes
 places_all l [] h i c e = absurd (cc)

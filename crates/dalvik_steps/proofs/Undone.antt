@@ -1,6 +1,7 @@
 -- Where memory runs out nothing has been done.
 use Rattle.std.proofs.Common.{◌≡◌, ℕ, ◌+◌, ◌≤◌, Bool, true, false, List, length, map, arith, ap, refl, sym, subst, ◌∙◌}
 use Rattle.std.specs.Prelude.{◌^◌, drop}
+use Rattle.std.specs.Prelude.{Result, Ok, Err, OnErr}
 use Rattle.dalvik_lookups.specs.declared.lookups.Lookups.{Lookups}
 use Rattle.dalvik_defs.specs.State.{On, Ended, State as NamedState}
 use Rattle.dalvik_defs.specs.declared.script.Move.{Move}
@@ -56,3 +57,8 @@ reserved_world s w h = record { world = h; statuses = refl; stack = refl; next =
 
 pub undone_world : (l : Lookups) (steps : ℕ) (s : State) (w : World) → IsSameWorld s.world w → IsRunning l steps s → s.ended ≡ false → IsUndone l steps s (record s { world = w })
 undone_world l steps s w h r e = undone l steps s (record s { world = w }) r e (reserved_world s w h)
+
+-- what holds anyway holds after an error
+pub on_err : {X Y : Type 0} (r : Result X Y) (P : Type 0) → P → OnErr r P
+on_err (Ok x) P p = tt
+on_err (Err e) P p = p

@@ -50,6 +50,16 @@ pub record IsAtEntry (place : MethodAt) (number : ℕ) (code : Body) (values : L
   pub result : f.result ≡ Word 0
   pub caught : f.caught ≡ Word 0
 
+pub record IsFirstOf (place : MethodAt) (own : Method) (values : List Datum) (f : Frame) : Type 0 where
+  pub code : Body
+  pub coded : own.body ≡ Some code
+  pub entry : IsAtEntry place own.name code values f
+
+-- that of a method, none where it has no code
+abbrev pub IsFirst : MethodAt → Method → List Datum → Option Frame → Type 0
+IsFirst place own values None = own.body ≡ None
+IsFirst place own values (Some f) = IsFirstOf place own values f
+
 -- the frame of a method with code at its entry
 pub record IsEntered (l : Lookups) (size : ℕ) (own : Method) (values : List Datum) (f : Frame) : Type 0 where
   pub body : NamedBody

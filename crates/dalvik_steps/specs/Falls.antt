@@ -1,5 +1,5 @@
 -- What is thrown takes the stack down on its way.
-use Rattle.std.specs.Prelude.{ℕ, ◌≡◌, ◌+◌, ◌<◌, ◌≤◌, ◌^◌, false, List, length, min, reverse, slice_set, take, Option, Some, None}
+use Rattle.std.specs.Prelude.{ℕ, ◌≡◌, ◌+◌, ◌≤◌, Bool, false, List, length, min, nat_eq, reverse, slice_set, Option, Some, None}
 use Rattle.dalvik_lookups.specs.declared.lookups.Lookups.{Lookups}
 use Rattle.dalvik_lookups.specs.Facing.{run_face}
 use Rattle.dalvik_defs.specs.Stack.{unwinds}
@@ -85,7 +85,25 @@ pub record IsFailed (class : ℕ) (old new : State) : Type 0 where
   pub next : new.next ≡ given_up_at (last_of (below_top old.stack.items)) old.next
   pub ended : new.ended ≡ old.ended
 
+-- the class that fails where an entry is passed
+abbrev pub failing : Waiting → Option ℕ
+failing (waiting.Method f) = None
+failing (waiting.Initialiser class above next) = Some class
+failing (waiting.Ending class) = Some class
+failing (waiting.Outside owes) = None
+
+abbrev pub failing_of : Option Waiting → Option ℕ
+failing_of (Some x) = failing x
+failing_of None = None
+
+abbrev pub DropsBy : Option ℕ → State → State → Type 0
+DropsBy (Some class) old new = IsFailed class old new
+DropsBy None old new = IsPopped old new
+
 abbrev pub DropsTop : Option Waiting → State → State → Type 0
-DropsTop (Some (waiting.Initialiser class above next)) old new = IsFailed class old new
-DropsTop (Some (waiting.Ending class)) old new = IsFailed class old new
-DropsTop other old new = IsPopped old new
+DropsTop o old new = DropsBy (failing_of o) old new
+
+-- an object is replaced at a place of the stack
+abbrev pub noted : Option ℕ → ℕ → Bool
+noted (Some place) top = nat_eq place top
+noted None top = false

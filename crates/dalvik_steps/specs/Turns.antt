@@ -19,7 +19,13 @@ use Rattle.dalvik_steps.specs.Needs.{status_at}
 
 -- ---- what is left
 
--- a class that is running or done is no hindrance
+-- a class that is neither running nor done comes first
+abbrev pub hinders : Status → Bool
+hinders status.New = true
+hinders status.Running = false
+hinders status.Done = false
+hinders status.Failed = true
+
 abbrev pub left_by : Status → List ℕ → List ℕ → List ℕ
 left_by status.New here behind = here
 left_by status.Running here behind = behind

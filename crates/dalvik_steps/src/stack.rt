@@ -3,7 +3,7 @@
 ghost use Rattle.std.specs.Prelude.{◌≡◌, ◌-◌, ◌++◌, ◌<◌, ◌^◌, true, ℕ, List, None, Some, IfOk, OnErr, OnOk, false, replicate, length, slice_get};
 ghost use Rattle.std.specs.Option.{option_map};
 ghost use Rattle.program_model.specs.Lookups as look;
-ghost use Rattle.program_model.specs.declared.program.Method.{Method};
+ghost use Rattle.program_model.specs.declared.program.Method.{Method as OwnMethod};
 ghost use Rattle.dalvik_defs.specs.Names.{Text};
 ghost use Rattle.dalvik_defs.specs.Naming.{method_at};
 ghost use Rattle.dalvik_defs.specs.Stack.{enters, gives};
@@ -18,14 +18,14 @@ ghost use Rattle.dalvik_state.specs.States.{below_top, ChangesIn, ChangesTop, Is
 ghost use Rattle.dalvik_state.specs.Views.{names_in, value_of, values_of, AreFine};
 ghost use Rattle.dalvik_state.specs.Worlds.{spots_of, IsSameWorld};
 ghost use Rattle.dalvik_steps.specs.Backs.{asked_by, is_outside, last_of, Backs, IsHanded, TakesResult};
-ghost use Rattle.dalvik_steps.specs.Entries.{first_cell, AreGivenFine, IsEntry, IsAtEntry, ShowsGiven};
+ghost use Rattle.dalvik_steps.specs.Entries.{first_cell, AreGivenFine, IsAtEntry, IsEntry, IsFirst, ShowsGiven};
 
 use dalvik_defs::{Event, Shown};
 use dalvik_lookups::Kind;
 use dalvik_state::{
     Datum, Frame, Gifts, State, Tables, Waiting, World, drafted_option, read_register, show_option,
 };
-use program_model::{Body, Insn, Item, MethodAt};
+use program_model::{Body, Insn, Item, Method, MethodAt};
 use std::alloc::{AllocError, Global};
 
 /// The registers at an entry: the arguments are last.
@@ -60,6 +60,24 @@ fn frame_of<'a>(
     })
 }
 
+/// The frame of a method at its entry, none where it has no code.
+fn first_frame<'a>(
+    alloc: Global,
+    at: MethodAt,
+    method: &'a Method,
+    values: &[Datum],
+) -> Result<Option<Frame<'a>>, AllocError>
+    ensures { IfOk result (IsFirst at method.now values.now) }
+{
+    match &method.body {
+        Some(body) => {
+            let frame = frame_of(alloc, at, method.name, body, values)?;
+            Ok(Some(frame))
+        }
+        None => Ok(None),
+    }
+}
+
 /// The frame of a method that is entered, none where it has no code.
 pub fn entry_frame<'a>(
     alloc: Global,
@@ -67,14 +85,10 @@ pub fn entry_frame<'a>(
     at: MethodAt,
     values: &[Datum],
 ) -> Result<Option<Frame<'a>>, AllocError>
-    ensures { (size : ℕ) (own : Method) → IsRight tables.now.lookups → look.method_at tables.now.lookups.program.now at ≡ Some own → AreFine (names_in tables.now.lookups) size values.now → IfOk result (IsEntry tables.now.lookups size own values.now) }
+    ensures { (size : ℕ) (own : OwnMethod) → IsRight tables.now.lookups → look.method_at tables.now.lookups.program.now at ≡ Some own → AreFine (names_in tables.now.lookups) size values.now → IfOk result (IsEntry tables.now.lookups size own values.now) }
 {
-    let method = match tables.lookups.method(at) {
-        Some(method) => method,
-        None => return Ok(None),
-    };
-    match &method.body {
-        Some(body) => Ok(Some(frame_of(alloc, at, method.name, body, values)?)),
+    match tables.lookups.method(at) {
+        Some(method) => first_frame(alloc, at, method, values),
         None => Ok(None),
     }
 }
@@ -87,15 +101,20 @@ pub fn enters<'a>(
     at: MethodAt,
     values: &[Datum],
 ) -> Result<(), AllocError>
-    ensures ok { (steps : ℕ) (script : List Move) (own : Method) → IsRight tables.now.lookups → IsRunning tables.now.lookups steps state.old → state.old.ended ≡ false → look.method_at tables.now.lookups.program.now at ≡ Some own → AreFine (names_in tables.now.lookups) (length (spots_of state.old.world)) values.now
+    ensures ok { (steps : ℕ) (script : List Move) (own : OwnMethod) → IsRight tables.now.lookups → IsRunning tables.now.lookups steps state.old → state.old.ended ≡ false → look.method_at tables.now.lookups.program.now at ≡ Some own → AreFine (names_in tables.now.lookups) (length (spots_of state.old.world)) values.now
         → OnOk result (IsLeft tables.now.lookups steps script state.new (enters (bodies_in tables.now.lookups) (world_in tables.now.lookups state.old) (classes_in tables.now.lookups state.old) (method_at tables.now.lookups.program.now own.name) (values_of (names_in tables.now.lookups) values.now) (stack_in tables.now.lookups state.old) (script_in script state.old))) }
     ensures err { (steps : ℕ) → IsRight tables.now.lookups → IsRunning tables.now.lookups steps state.old → state.old.ended ≡ false → OnErr result (IsUndone tables.now.lookups steps state.old state.new) }
 {
     match entry_frame(alloc, tables, at, values)? {
-        Some(frame) => state.stack.push(Waiting::Method(frame))?,
-        None => state.end(),
+        Some(frame) => {
+            state.stack.push(Waiting::Method(frame))?;
+            Ok(())
+        }
+        None => {
+            state.end();
+            Ok(())
+        }
     }
-    Ok(())
 }
 
 /// The register for which a frame's position has asked a value, if it is a read.

@@ -1,6 +1,6 @@
 //! Classes that are initialised.
 
-ghost use Rattle.std.specs.Prelude.{◌≡◌, ◌+◌, ◌-◌, ◌++◌, ◌∷◌, [], ◌<◌, ◌≤◌, ◌^◌, ℕ, List, false, Some, IfOk, OnErr, OnOk, drop, length, map, slice_get, take, vec_capacity, vec_len, Vec};
+ghost use Rattle.std.specs.Prelude.{◌≡◌, ◌+◌, ◌-◌, ◌++◌, ◌∷◌, [], ◌<◌, ◌≤◌, ◌^◌, ℕ, List, None, false, Some, cond, nat_lt, IfOk, OnErr, OnOk, drop, length, map, slice_get, take, vec_capacity, vec_len, Vec};
 ghost use Rattle.std.specs.declared.alloc.Global.{Global as OwnGlobal};
 ghost use Rattle.dalvik_defs.specs.Happens.{initialises, Setting};
 ghost use Rattle.dalvik_defs.specs.Stack.{ends, goes_on, left_of, resumes, runs, starts};
@@ -15,7 +15,7 @@ ghost use Rattle.dalvik_state.specs.Views.{names_in};
 ghost use Rattle.dalvik_state.specs.declared.state.Waiting.TheVariants as waiting;
 ghost use Rattle.dalvik_steps.specs.Entries.{IsReadied};
 ghost use Rattle.dalvik_steps.specs.Needs.{IsRight, need_at, status_at};
-ghost use Rattle.dalvik_steps.specs.Turns.{is_initialiser, left_in, turn_entries, waits_at, IsReserved, IsTurn, Looks};
+ghost use Rattle.dalvik_steps.specs.Turns.{hinders, is_initialiser, left_in, turn_entries, waits_at, IsReserved, IsTurn, Looks};
 
 use crate::stack::entry_frame;
 use crate::throwing::{Thrown, throws};
@@ -79,14 +79,23 @@ pub fn readies<'a>(
     }
 }
 
+/// Whether a class is neither running nor done.
+fn hinders(status: Status) -> bool
+    ensures { result ≡ hinders status }
+{
+    match status {
+        Status::New | Status::Failed => true,
+        Status::Running | Status::Done => false,
+    }
+}
+
 /// The place, from `next` on, of the first class that is neither running nor done.
 fn left_of(state: &State<'_>, above: &[u32], next: usize) -> usize
     ensures { drop result above.now ≡ left_in state.now.statuses.items (drop next above.now) }
 {
     for at in next..above.len() {
-        match state.status(above[at]) {
-            Status::Running | Status::Done => {}
-            Status::New | Status::Failed => return at,
+        if hinders(state.status(above[at])) {
+            return at;
         }
     }
     above.len()
@@ -108,7 +117,7 @@ fn turn_of<'a>(
 
 /// Puts a class that ends and its initialiser's frame on a stack, which has room for both.
 fn runs<'a>(stack: &mut Vec<Waiting<'a>>, class: u32, frame: Option<Frame<'a>>)
-    ensures { vec_len stack.old + 2 ≤ vec_capacity stack.old → stack.new.items ≡ stack.old.items ++ turn_entries class frame }
+    ensures { vec_len stack.old + 2 ≤ vec_capacity stack.old → stack.new.items ≡ stack.old.items ++ turn_entries class frame.entry }
 {
     let _ = stack.push(Waiting::Ending { class });
     if let Some(frame) = frame {
@@ -116,20 +125,20 @@ fn runs<'a>(stack: &mut Vec<Waiting<'a>>, class: u32, frame: Option<Frame<'a>>)
     }
 }
 
-/// The turn of a class has come: it stands on what is left of the stack below a length.
+/// The turn of a class has come: it stands on what is left of the stack, so many entries.
 fn turns<'a>(
     alloc: Global,
     tables: &Tables<'a>,
     state: &mut State<'a>,
     class: u32,
-    length: usize,
+    count: usize,
 ) -> Result<(), AllocError>
-    ensures ok { (steps : ℕ) (script : List Move) → AreRight tables.now.lookups → IsRunning tables.now.lookups steps state.old → state.old.ended ≡ false → class < length tables.now.lookups.program.now.classes → OnOk result (IsLeft tables.now.lookups steps script state.new (runs (bodies_in tables.now.lookups) (world_in tables.now.lookups state.old) (classes_in tables.now.lookups state.old) (class_text tables.now.lookups.program.now class) ((run_face tables.now.lookups).initialiser (class_text tables.now.lookups.program.now class)) (stack_of (names_in tables.now.lookups) (take length state.old.stack.items)) (script_in script state.old))) }
+    ensures ok { (steps : ℕ) (script : List Move) → AreRight tables.now.lookups → IsRunning tables.now.lookups steps state.old → state.old.ended ≡ false → class < length tables.now.lookups.program.now.classes → OnOk result (IsLeft tables.now.lookups steps script state.new (runs (bodies_in tables.now.lookups) (world_in tables.now.lookups state.old) (classes_in tables.now.lookups state.old) (class_text tables.now.lookups.program.now class) ((run_face tables.now.lookups).initialiser (class_text tables.now.lookups.program.now class)) (stack_of (names_in tables.now.lookups) (take count state.old.stack.items)) (script_in script state.old))) }
     ensures err { OnErr result (IsReserved state.old state.new) }
 {
     let frame = turn_of(alloc, tables, class)?;
     state.stack.reserve(2)?;
-    state.stack.truncate(length);
+    state.stack.truncate(count);
     runs(&mut state.stack, class, frame);
     Ok(())
 }
@@ -153,8 +162,8 @@ fn begins<'a>(
             .push(Waiting::Initialiser { class, above, next })?;
         Ok(())
     } else {
-        let length = state.stack.len();
-        turns(alloc, tables, state, class, length)
+        let count = state.stack.len();
+        turns(alloc, tables, state, class, count)
     }
 }
 
@@ -182,6 +191,13 @@ pub fn starts<'a>(
     }
 }
 
+/// A place where something is left of so many, none past them.
+fn rest_from(left: usize, count: usize) -> Option<usize>
+    ensures { result ≡ cond (nat_lt left count) (Some left) None }
+{
+    if left < count { Some(left) } else { None }
+}
+
 /// The class that is being initialised at a place of the stack, and what is left of those before it, `more` further than
 /// it stands.
 fn left_at(state: &State<'_>, place: usize, more: usize) -> Option<(u32, Option<usize>)>
@@ -190,10 +206,12 @@ fn left_at(state: &State<'_>, place: usize, more: usize) -> Option<(u32, Option<
     match state.stack.as_slice().get(place) {
         Some(Waiting::Initialiser { class, above, next }) => {
             let left = left_of(state, above.as_slice(), next.saturating_add(more));
-            let rest = if left < above.len() { Some(left) } else { None };
-            Some((*class, rest))
+            Some((*class, rest_from(left, above.len())))
         }
-        _ => None,
+        Some(Waiting::Method(_)) => None,
+        Some(Waiting::Ending { .. }) => None,
+        Some(Waiting::Outside { .. }) => None,
+        None => None,
     }
 }
 

@@ -1,7 +1,7 @@
 //! Thrown objects: which handler they reach, and what they do to the stack on the way (Dalvik bytecode, "throw"; Dalvik
 //! executable format, "try_item").
 
-ghost use Rattle.std.specs.Prelude.{◌≡◌, ◌+◌, ◌++◌, ◌∷◌, [], ◌<◌, ◌≤◌, ◌^◌, ℕ, List, None, Some, IfOk, OnErr, OnOk, false, drop, find, length, reverse, take};
+ghost use Rattle.std.specs.Prelude.{◌≡◌, ◌+◌, ◌++◌, ◌∷◌, [], ◌<◌, ◌≤◌, ◌^◌, ℕ, List, None, Some, IfOk, OnErr, OnOk, false, drop, find, length, reverse, slice_get, take};
 ghost use Rattle.std.specs.Option.{option_copied};
 ghost use Rattle.dalvik_defs.specs.Names.{throwable_type};
 ghost use Rattle.dalvik_defs.specs.Naming.{body_of, region_of};
@@ -18,13 +18,13 @@ ghost use Rattle.dalvik_state.specs.Drafts.{given_world, kind_text, IsDraft};
 ghost use Rattle.dalvik_state.specs.Effects.{plain};
 ghost use Rattle.dalvik_state.specs.Giving.{IsGiven};
 ghost use Rattle.dalvik_state.specs.Runs.{classes_in, script_in, stack_in, world_in, IsEvent, IsNext, IsRun, IsUndoneWith};
-ghost use Rattle.dalvik_state.specs.States.{HasRoom, HasSpace, IsRunning, IsSound, IsSoundFrame, IsSoundWaiting};
+ghost use Rattle.dalvik_state.specs.States.{below_top, HasRoom, HasSpace, IsRunning, IsSound, IsSoundFrame, IsSoundWaiting};
 ghost use Rattle.dalvik_state.specs.Views.{names_in, value_of, Names};
 ghost use Rattle.dalvik_state.specs.Worlds.{spots_of, IsHeap, Plain};
 ghost use Rattle.dalvik_state.specs.declared.state.Waiting.{Waiting as OwnWaiting};
 ghost use Rattle.dalvik_steps.specs.Backs.{last_of};
 ghost use Rattle.dalvik_steps.specs.Entries.{thrown_by, IsThrown};
-ghost use Rattle.dalvik_steps.specs.Falls.{given_up_at, DropsTop, Fails, HasFallen, IsFalling, IsThrownInto, LandsThere};
+ghost use Rattle.dalvik_steps.specs.Falls.{failing_of, given_up_at, noted, DropsTop, Fails, HasFallen, IsFalling, IsThrownInto, LandsThere};
 ghost use Rattle.dalvik_steps.specs.Flights.{covers_in, thrown_value, thrown_world, AreHandlers, Exhibits, Flies, GoesPast, HasFlightRoom, IsCourse, IsFlight, IsFlying, IsKindMaybe, IsThrownWith, Meets};
 ghost use Rattle.dalvik_steps.specs.Turns.{IsReserved};
 
@@ -126,12 +126,19 @@ fn handler_in(
     Ok(region.rest)
 }
 
+/// Whether a region covers a position.
+fn covers(region: &Region, position: usize) -> bool
+    ensures { result ≡ covers_in position region.now }
+{
+    region.first as usize <= position && position < region.end as usize
+}
+
 /// The first region that covers a position.
 fn region_at(regions: &[Region], position: usize) -> Option<&Region>
     ensures { option_copied result ≡ find (covers_in position) regions.now }
 {
     for region in regions {
-        if region.first as usize <= position && position < region.end as usize {
+        if covers(region, position) {
             return Some(region);
         }
     }
@@ -187,8 +194,8 @@ fn meets(
     waiting: (&Waiting<'_>, usize),
     flying: Flying,
 ) -> Result<Met, AllocError>
-    ensures kept { (size : ℕ) → IsRight tables.now.lookups → IsKept tables.now.lookups memo.old → IsKindMaybe tables.now.lookups flying.kind → IsSoundWaiting tables.now.lookups size waiting.0.now → IsKept tables.now.lookups memo.new }
-    ensures is { (size : ℕ) (w : NamedWorld) (v : Value) → IsRight tables.now.lookups → IsKept tables.now.lookups memo.old → IsSoundWaiting tables.now.lookups size waiting.0.now → IsGiven tables.now.lookups world.now gifts.now → IsFlying tables.now.lookups world.now gifts.now w v flying → IfOk result (Meets tables.now.lookups w v waiting.0.now waiting.1) }
+    ensures kept { (size : ℕ) → IsRight tables.now.lookups → IsKept tables.now.lookups memo.old → IsKindMaybe tables.now.lookups flying.kind → IsSoundWaiting tables.now.lookups size waiting.entry.0.now → IsKept tables.now.lookups memo.new }
+    ensures is { (size : ℕ) (w : NamedWorld) (v : Value) → IsRight tables.now.lookups → IsKept tables.now.lookups memo.old → IsSoundWaiting tables.now.lookups size waiting.entry.0.now → IsGiven tables.now.lookups world.now gifts.now → IsFlying tables.now.lookups world.now gifts.now w v flying → IfOk result (Meets tables.now.lookups w v waiting.entry.0.now waiting.entry.1) }
 {
     let (entry, place) = waiting;
     match entry {
@@ -236,8 +243,8 @@ impl Course {
         gifts: &Gifts,
         waiting: (&Waiting<'_>, usize),
     ) -> Result<Option<Landing>, AllocError>
-        ensures kept { (size : ℕ) → IsRight tables.now.lookups → IsKept tables.now.lookups memo.old → IsKindMaybe tables.now.lookups self.old.flying.kind → IsSoundWaiting tables.now.lookups size waiting.0.now → IsKept tables.now.lookups memo.new }
-        ensures goes { (size : ℕ) (w : NamedWorld) (v : Value) (all rest : List OwnWaiting) → IsRight tables.now.lookups → IsKept tables.now.lookups memo.old → IsSoundWaiting tables.now.lookups size waiting.0.now → IsGiven tables.now.lookups world.now gifts.now → length rest ≡ waiting.1 → IsCourse tables.now.lookups world.now gifts.now w v all (waiting.0.now ∷ rest) self.old → IfOk result (GoesPast tables.now.lookups world.now gifts.now w v all rest self.new) }
+        ensures kept { (size : ℕ) → IsRight tables.now.lookups → IsKept tables.now.lookups memo.old → IsKindMaybe tables.now.lookups self.old.flying.kind → IsSoundWaiting tables.now.lookups size waiting.entry.0.now → IsKept tables.now.lookups memo.new }
+        ensures goes { (size : ℕ) (w : NamedWorld) (v : Value) (all rest : List OwnWaiting) → IsRight tables.now.lookups → IsKept tables.now.lookups memo.old → IsSoundWaiting tables.now.lookups size waiting.entry.0.now → IsGiven tables.now.lookups world.now gifts.now → length rest ≡ waiting.entry.1 → IsCourse tables.now.lookups world.now gifts.now w v all (waiting.entry.0.now ∷ rest) self.old → IfOk result (GoesPast tables.now.lookups world.now gifts.now w v all rest self.new) }
     {
         match meets(alloc, tables, memo, world, gifts, waiting, self.flying)? {
             Met::Passes => Ok(None),
@@ -361,32 +368,54 @@ fn fail(state: &mut State<'_>, class: u32)
     give_up(state);
 }
 
+/// The class on top of the stack that fails where a thrown object passes.
+fn failing(state: &State<'_>) -> Option<u32>
+    ensures { result ≡ failing_of (last_of state.now.stack.items) }
+{
+    match state.stack.as_slice().last() {
+        Some(Waiting::Initialiser { class, .. }) => Some(*class),
+        Some(Waiting::Ending { class }) => Some(*class),
+        _ => None,
+    }
+}
+
 /// Takes the top off the stack, which a thrown object passes.
 fn drop_top(state: &mut State<'_>)
-    ensures { DropsTop (last_of state.old.stack.items) state.old state.new }
+    ensures drops { DropsTop (last_of state.old.stack.items) state.old state.new }
+    ensures stack { state.new.stack.items ≡ below_top state.old.stack.items }
 {
-    match state.stack.pop() {
-        Some(Waiting::Initialiser { class, .. } | Waiting::Ending { class }) => fail(state, class),
-        _ => {}
+    let class = failing(state);
+    state.stack.pop();
+    if let Some(class) = class {
+        fail(state, class);
+    }
+}
+
+/// Whether the object is replaced at a place of the stack.
+fn is_noted(wraps: &[usize], wrapped: usize, top: usize) -> bool
+    ensures { result ≡ noted (slice_get wraps.now wrapped) top }
+{
+    match wraps.get(wrapped) {
+        Some(place) => *place == top,
+        None => false,
     }
 }
 
 /// A thrown object passes the top of the stack, and is replaced where it is noted. Answers how many have been made, and
 /// the object.
 fn fall(state: &mut State<'_>, wraps: &[usize], wrapped: usize, datum: Datum) -> (usize, Datum)
-    ensures { (l : Lookups) (steps : ℕ) (script : List Move) (whole : Next) (to : Landing) (place : ℕ) → length script < 2 ^ 64 → IsRight l → LandsThere to place → place + 1 < length state.old.stack.items → IsFalling l steps script whole to state.old (drop wrapped wraps.now) datum → IsFalling l steps script whole to state.new (drop result.0 wraps.now) result.1 }
+    ensures stack { state.new.stack.items ≡ below_top state.old.stack.items }
+    ensures falls { (l : Lookups) (steps : ℕ) (script : List Move) (whole : Next) (to : Landing) (place : ℕ) → length script < 2 ^ 64 → IsRight l → LandsThere to place → place + 1 < length state.old.stack.items → IsFalling l steps script whole to state.old (drop wrapped wraps.now) datum → IsFalling l steps script whole to state.new (drop result.0 wraps.now) result.1 }
 {
+    let _count = wraps.len();
     let top = state.stack.len().saturating_sub(1);
-    match wraps.get(wrapped) {
-        Some(place) if *place == top => {
-            let wrapper = make_new(&mut state.world, known::INITIALISER_ERROR);
-            drop_top(state);
-            (wrapped.saturating_add(1), wrapper)
-        }
-        _ => {
-            drop_top(state);
-            (wrapped, datum)
-        }
+    if is_noted(wraps, wrapped, top) {
+        let wrapper = make_new(&mut state.world, known::INITIALISER_ERROR);
+        drop_top(state);
+        (wrapped.saturating_add(1), wrapper)
+    } else {
+        drop_top(state);
+        (wrapped, datum)
     }
 }
 

@@ -14,7 +14,7 @@ returns-then-count-gt0 c =
     let is : last ≡ length entries - 1 = omega arith in
     let inside : last < length entries = omega arith in
     let there : slice_get entries last ≡ Some top = slice_get-get_or entries last top inside ∙ ap (λ (x : Waiting). Some x) (sym c.index_mut.ensures.value) in
-    changes_at (Backs c.args.value) entries last top c.back_in.new is there c.back_in.ensures
+    changes_at (Backs c.args.value) entries last top c.back_in.new.waiting is there c.back_in.ensures
 
 pub returns-else-count-gt0 : goal.returns-else-count-gt0
 returns-else-count-gt0 c =

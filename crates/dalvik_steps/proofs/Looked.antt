@@ -1,0 +1,27 @@
+-- What is left before a class at a place of the stack, by numbers.
+use Rattle.std.proofs.Common.{◌≡◌, ℕ, zero, suc, ◌+◌, ◌-◌, ◌<◌, ◌≤◌, Bool, true, false, true≢false, List, [], ◌∷◌, length, drop, arith, ap, refl, sym, subst, ◌∙◌, ltb-true, lt-ltb, inl, inr}
+use Rattle.std.specs.Prelude.{Option, Some, None, cond, nat_lt}
+use Rattle.std.proofs.lemmas.Bool.{cases_lt}
+use Rattle.dalvik_state.specs.declared.state.Status.{Status}
+use Rattle.dalvik_state.specs.declared.state.Waiting.{Waiting}
+use Rattle.dalvik_state.specs.declared.state.Waiting.TheVariants as waiting
+use Rattle.dalvik_steps.specs.Turns.{is_initialiser, LeftAt, Looks}
+use Rattle.dalvik_steps.proofs.Turning.{nothing_more}
+
+pub looks_none : (statuses : List Status) (more : ℕ) (o : Option Waiting) → is_initialiser o ≡ false → Looks statuses more o None
+looks_none statuses more None e = refl
+looks_none statuses more (Some (waiting.Method f)) e = refl
+looks_none statuses more (Some (waiting.Initialiser class above next)) e = absurd (true≢false e)
+looks_none statuses more (Some (waiting.Ending class)) e = refl
+looks_none statuses more (Some (waiting.Outside owes)) e = refl
+
+-- the place where what is left begins
+pub left_place : (above left : List ℕ) (at count : ℕ) (rest : Option ℕ) → drop at above ≡ left → count ≡ length above → rest ≡ cond (nat_lt at count) (Some at) None → LeftAt above left rest
+left_place above left at count rest e n h = subst (LeftAt above left) (sym h) (by (nat_lt at count) refl)
+  where
+    by : (b : Bool) → nat_lt at count ≡ b → LeftAt above left (cond b (Some at) None)
+    by true t = (e, (let low = ltb-true at count t in omega (arith, low, n)))
+    by false t = elim (cases_lt at count) [
+      | inl low ↦ absurd (true≢false (sym (lt-ltb at count low) ∙ t))
+      | inr high ↦ (let all : length above ≤ at = omega (arith, high, n) in sym e ∙ nothing_more at above all)
+    ]

@@ -2,7 +2,7 @@ pub mod Alike
 pub mod Backing
 pub mod Begun
 pub mod Born
-pub mod Called
+pub mod Calling
 pub mod Depths
 pub mod Drawn
 pub mod Entering

@@ -24,6 +24,7 @@ pub mod Looked
 pub mod Made
 pub mod Nexts
 pub mod Outcomes
+pub mod Passed
 pub mod Reserved
 pub mod Resolving
 pub mod Restored

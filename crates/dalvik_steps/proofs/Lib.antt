@@ -2,7 +2,8 @@ pub mod Alike
 pub mod Backing
 pub mod Begun
 pub mod Born
-pub mod Calling
+pub mod CallShown
+pub mod Called
 pub mod Depths
 pub mod Drawn
 pub mod Entering
@@ -23,12 +24,14 @@ pub mod Looked
 pub mod Made
 pub mod Nexts
 pub mod Outcomes
+pub mod Passed
 pub mod Reserved
 pub mod Resolving
 pub mod Restored
 pub mod Resumed
 pub mod Searching
 pub mod Slots
+pub mod Sought
 pub mod Stacked
 pub mod Started
 pub mod Starters

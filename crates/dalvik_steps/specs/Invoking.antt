@@ -58,6 +58,6 @@ pub record FramesPass (f : Frame) (args : List ℕ) (values : List Datum) (on : 
   pub first : on ≡ receiver_in values
   pub class : own ≡ f.at.class
 
-abbrev pub FramesCall : Frame → List ℕ → Option (Vec Datum Global × (Datum × ℕ)) → Type 0
+abbrev pub FramesCall : Frame → List ℕ → Option (Vec Datum Global × Datum × ℕ) → Type 0
 FramesCall f args None = ⊥
-FramesCall f args (Some p) = FramesPass f args p.0.items p.1.0 p.1.1
+FramesCall f args (Some p) = FramesPass f args p.0.items p.1 p.2

@@ -2,7 +2,7 @@ use Rattle.std.proofs.Common.{refl}
 use Rattle.dalvik_defs.specs.Naming.{method_at}
 use Rattle.dalvik_defs.specs.Outcome.{passed_types}
 use Rattle.dalvik_defs.specs.declared.events.Event.TheVariants as event
-use Rattle.dalvik_steps.proofs.Calling.{asked_call}
+use Rattle.dalvik_steps.proofs.CallShown.{asked_call}
 use Rattle.dalvik_steps.proofs.calling.shows_call.Goals as goal
 
 pub returns : goal.returns

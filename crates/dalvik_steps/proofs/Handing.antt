@@ -29,9 +29,10 @@ use Rattle.dalvik_state.specs.declared.state.Waiting.TheVariants as waiting
 use Rattle.dalvik_state.specs.Runs.{bodies_in, classes_in, script_in, stack_in, world_in, IsEvent, IsLeft}
 use Rattle.dalvik_state.specs.States.{below_top, classes_of, frame_in, stack_of, state_of, top_frame, waiting_of, AreKinds, HasRoom, HasSpace, IsRunning, IsSound}
 use Rattle.dalvik_state.specs.Views.{frame_of, names_in, value_of, world_of, IsFine, Names}
-use Rattle.dalvik_state.specs.Worlds.{new_spot, spots_of, IsSameWorld, IsShort, Spot}
+use Rattle.dalvik_state.specs.Worlds.{new_spot, spots_of, IsShort, Spot}
 use Rattle.dalvik_state.proofs.Running.{AreHeld, ArePaced, AreSoundWaiting, paced_below, popped_named, running_held, running_more, running_of, running_paced, running_stack, running_topped, sound_below, stack_more, top_paced, top_sound}
 use Rattle.dalvik_state.proofs.Tops.{topped_named}
+use Rattle.dalvik_steps.specs.Turns.{IsAsItWas}
 use Rattle.dalvik_steps.specs.Backs.{is_outside, last_of, Backs, HandedTo, IsHanded, TakesBack}
 use Rattle.dalvik_steps.specs.Entries.{AreGivenFine, ShowsGiven}
 use Rattle.dalvik_steps.proofs.Backing.{backs_named, backs_paced, backs_sound, FineMaybe}
@@ -178,7 +179,7 @@ given_out l steps script old new g value kind s run on outside a statuses stack 
 
 -- ---- the objects of a move are put on the heap
 
-pub given_same : (l : Lookups) (g : Gifts) (old new : OwnWorld) → IsSameWorld old new → IsGiven l old g → IsGiven l new g
+pub given_same : (l : Lookups) (g : Gifts) (old new : OwnWorld) → IsAsItWas old new → IsGiven l old g → IsGiven l new g
 given_same l g old new h i =
     let spots : gift_spots new g ≡ gift_spots old g = ap (λ (ss : List Spot). ss ++ map new_spot g.things.items) h.heap in
     record {
@@ -188,7 +189,7 @@ given_same l g old new h i =
       fine = i.fine;
     }
 
-pub given_after : (l : Lookups) (g : Gifts) (old mid new : OwnWorld) → IsSameWorld old mid → AreGiven l g mid new → AreGiven l g old new
+pub given_after : (l : Lookups) (g : Gifts) (old mid new : OwnWorld) → IsAsItWas old mid → AreGiven l g mid new → AreGiven l g old new
 given_after l g old mid new h a = record {
   world = a.world ∙ ap (λ (w : World). give_all w (given_things (names_in l) g.things.items)) (world_same (names_in l) old mid h);
   spots = a.spots ∙ ap (λ (ss : List Spot). length (ss ++ map new_spot g.things.items)) h.heap;

@@ -10,21 +10,20 @@ use Rattle.dalvik_state.specs.declared.world.World.{World}
 use Rattle.dalvik_state.specs.Runs.{IsUndone}
 use Rattle.dalvik_state.specs.States.{classes_of, stack_of, state_of, IsRunning, IsSound}
 use Rattle.dalvik_state.specs.Views.{Names, exposed_of, lock_in, names_in, static_in, things_from, world_of}
-use Rattle.dalvik_state.specs.Worlds.{spots_of, IsSameWorld}
-use Rattle.dalvik_state.proofs.Kept.{same_world}
+use Rattle.dalvik_state.specs.Worlds.{spots_of}
 use Rattle.dalvik_state.proofs.Running.{AreHeld, ArePaced, AreSoundWaiting, running_held, running_of, running_paced, running_stack, stack_more}
 use Rattle.dalvik_state.proofs.Sound.{shapes_same, sound_exposed}
-use Rattle.dalvik_steps.specs.Turns.{IsReserved}
+use Rattle.dalvik_steps.specs.Turns.{IsAsItWas, IsReserved}
 
-pub sound_same : (l : Lookups) (old new : World) → IsSameWorld old new → IsSound l old → IsSound l new
-sound_same l old new h w = sound_exposed l old new (spots_of old) old.exposed.items (record { heap = h.heap; fields = h.fields; statics = h.statics; locks = h.locks; exposed = ap (λ v. v.items) h.exposed }) (shapes_same (spots_of old)) w.placed w
+pub sound_same : (l : Lookups) (old new : World) → IsAsItWas old new → IsSound l old → IsSound l new
+sound_same l old new h w = sound_exposed l old new (spots_of old) old.exposed.items h (shapes_same (spots_of old)) w.placed w
 
-pub world_same : (n : Names) (old new : World) → IsSameWorld old new → world_of n new ≡ world_of n old
+pub world_same : (n : Names) (old new : World) → IsAsItWas old new → world_of n new ≡ world_of n old
 world_same n old new h = λ i. record {
   heap = things_from n (h.fields i).entries 0 (h.heap i);
   locks = lock_in n (h.locks i).entries;
   statics = static_in n (h.statics i).items;
-  exposed = map exposed_of (h.exposed i).items;
+  exposed = map exposed_of (h.exposed i);
 }
 
 pub running_same : (l : Lookups) (steps : ℕ) (old new : State) → IsRunning l steps old → IsReserved old new → IsRunning l steps new
@@ -46,16 +45,16 @@ undone l steps old new r e h = record { state = λ script. state_same (names_in 
 
 -- nothing at all has changed
 pub reserved_self : (s : State) → IsReserved s s
-reserved_self s = record { world = same_world s.world; statuses = refl; stack = refl; next = refl; ended = refl }
+reserved_self s = record { world = record { heap = refl; fields = refl; statics = refl; locks = refl; exposed = refl }; statuses = refl; stack = refl; next = refl; ended = refl }
 
 pub undone_self : (l : Lookups) (steps : ℕ) (s : State) → IsRunning l steps s → s.ended ≡ false → IsUndone l steps s s
 undone_self l steps s r e = undone l steps s s r e (reserved_self s)
 
 -- only what there is room for has changed in the world
-pub reserved_world : (s : State) (w : World) → IsSameWorld s.world w → IsReserved s (record s { world = w })
+pub reserved_world : (s : State) (w : World) → IsAsItWas s.world w → IsReserved s (record s { world = w })
 reserved_world s w h = record { world = h; statuses = refl; stack = refl; next = refl; ended = refl }
 
-pub undone_world : (l : Lookups) (steps : ℕ) (s : State) (w : World) → IsSameWorld s.world w → IsRunning l steps s → s.ended ≡ false → IsUndone l steps s (record s { world = w })
+pub undone_world : (l : Lookups) (steps : ℕ) (s : State) (w : World) → IsAsItWas s.world w → IsRunning l steps s → s.ended ≡ false → IsUndone l steps s (record s { world = w })
 undone_world l steps s w h r e = undone l steps s (record s { world = w }) r e (reserved_world s w h)
 
 -- what holds anyway holds after an error

@@ -14,7 +14,8 @@ use Rattle.dalvik_state.specs.declared.state.Waiting.TheVariants as waiting
 use Rattle.dalvik_state.specs.Runs.{bodies_in}
 use Rattle.dalvik_state.specs.States.{class_text, IsSoundFrame}
 use Rattle.dalvik_state.specs.Views.{frame_of, names_in}
-use Rattle.dalvik_state.specs.Worlds.{IsSameWorld}
+use Rattle.dalvik_state.specs.Worlds.{spots_of, IsExposed}
+use Rattle.dalvik_state.specs.declared.world.World.{World}
 use Rattle.dalvik_steps.specs.Needs.{status_at}
 
 -- ---- what is left
@@ -85,9 +86,13 @@ IsTurn l size class (Some f) = IsTurnOf l size class f
 
 -- ---- nothing has changed
 
+-- a world has the same items
+abbrev pub IsAsItWas : World → World → Type 0
+IsAsItWas old new = IsExposed old new (spots_of old) old.exposed.items
+
 -- nothing has changed but what there is room for
 pub record IsReserved (old new : State) : Type 0 where
-  pub world : IsSameWorld old.world new.world
+  pub world : IsAsItWas old.world new.world
   pub statuses : new.statuses.items ≡ old.statuses.items
   pub stack : new.stack.items ≡ old.stack.items
   pub next : new.next ≡ old.next

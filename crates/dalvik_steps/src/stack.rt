@@ -16,7 +16,8 @@ ghost use Rattle.dalvik_state.specs.Giving.{AreGiven, IsGiven};
 ghost use Rattle.dalvik_state.specs.Runs.{below_in, bodies_in, classes_in, script_in, stack_in, world_in, IsEvent, IsLeft, IsUndone};
 ghost use Rattle.dalvik_state.specs.States.{below_top, ChangesIn, ChangesTop, IsRunning};
 ghost use Rattle.dalvik_state.specs.Views.{names_in, value_of, values_of, AreFine};
-ghost use Rattle.dalvik_state.specs.Worlds.{spots_of, IsSameWorld};
+ghost use Rattle.dalvik_state.specs.Worlds.{spots_of};
+ghost use Rattle.dalvik_steps.specs.Turns.{IsAsItWas};
 ghost use Rattle.dalvik_steps.specs.Backs.{asked_by, is_outside, last_of, Backs, IsHanded, TakesResult};
 ghost use Rattle.dalvik_steps.specs.Entries.{first_cell, AreGivenFine, IsAtEntry, IsEntry, IsFirst, ShowsGiven};
 
@@ -196,7 +197,7 @@ fn is_outside_below(state: &State<'_>) -> bool
 /// Puts the objects of a move on the heap.
 fn puts(world: &mut World, gifts: Gifts) -> Result<(), AllocError>
     ensures ok { (l : Lookups) → IsGiven l world.old gifts → OnOk result (AreGiven l gifts world.old world.new) }
-    ensures err { OnErr result (IsSameWorld world.old world.new) }
+    ensures err { OnErr result (IsAsItWas world.old world.new) }
 {
     gifts.reserve(world, 0)?;
     gifts.give(world);
@@ -213,7 +214,7 @@ fn shows_given(
     value: Option<Datum>,
 ) -> Result<Option<Shown>, AllocError>
     ensures ok { IsRight tables.now.lookups → IsGiven tables.now.lookups world.old gifts → AreGivenFine tables.now.lookups world.old gifts value → IfOk result (ShowsGiven tables.now.lookups gifts (type_text tables.now.lookups.types kind) value world.old world.new) }
-    ensures err { OnErr result (IsSameWorld world.old world.new) }
+    ensures err { OnErr result (IsAsItWas world.old world.new) }
 {
     let draft = drafted_option(alloc, tables, world, &gifts, kind, value)?;
     gifts.reserve(world, 1)?;

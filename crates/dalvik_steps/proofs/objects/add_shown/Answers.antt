@@ -22,7 +22,7 @@ returns-clause-made c = λ l room w fine text.
     let heap = c.in_ok-reference.ensures.heap in
     let named = instance_named n old mid c.args.kind heap w.written in
     let size = ap length heap.heap ∙ length-append (spots_of old) (new_spot (thing.Instance c.args.kind) ∷ []) in
-    let drafted = subst (λ (x : ℕ). IsDraft (world_of n mid) k (next_object (world_of n old)) (draft.Object x (Some c.args.text))) (sym c.next_number-number.ensures) (made_draft n old (world_of n mid) k c.args.text k named text) in
+    let drafted = subst (λ (x : ℕ). IsDraft (world_of n mid) k (next_object (world_of n old)) (draft.Object x (Some c.args.text))) (sym c.next_number-number.ensures.is) (made_draft n old (world_of n mid) k c.args.text k named text) in
     let shown = c.show.ensures.shown l k (next_object (world_of n old)) (instance_sound l old mid c.args.kind heap fine w) (record { room = subst (λ v. vec_len v + 1 ≤ vec_capacity v) (sym heap.exposed) room.room }) drafted in
     record {
       reference = c.in_ok-reference.ensures.datum;

@@ -6,7 +6,6 @@ use Rattle.dalvik_state.specs.declared.state.Waiting.TheVariants as waiting
 use Rattle.dalvik_steps.specs.Entries.{IsEntry}
 use Rattle.std.proofs.Common.{length}
 use Rattle.dalvik_steps.proofs.Entering.{enters_coded, enters_uncoded}
-use Rattle.dalvik_state.proofs.Kept.{same_world}
 use Rattle.dalvik_steps.proofs.Undone.{on_err, undone, undone_self}
 use Rattle.dalvik_steps.proofs.stack.enters.Goals as goal
 
@@ -17,7 +16,7 @@ pub returns-in_err-push-in-Some-clause-err : goal.returns-in_err-push-in-Some-cl
 returns-in_err-push-in-Some-clause-err c = λ steps r run on.
     let old = c.args.state.now in
     let same : c.push.new.self.items ≡ old.stack.items = search rules in
-    on_err _ _ (undone c.args.tables.now.lookups steps old (record old { stack = c.push.new.self }) run on (record { world = same_world old.world; statuses = refl; stack = same; next = refl; ended = refl }))
+    on_err _ _ (undone c.args.tables.now.lookups steps old (record old { stack = c.push.new.self }) run on (record { world = record { heap = refl; fields = refl; statics = refl; locks = refl; exposed = refl }; statuses = refl; stack = same; next = refl; ended = refl }))
 
 pub returns-in_ok-push-in-Some-clause-ok : goal.returns-in_ok-push-in-Some-clause-ok
 returns-in_ok-push-in-Some-clause-ok c = λ steps script own r run on e fine.

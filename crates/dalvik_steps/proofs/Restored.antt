@@ -7,9 +7,9 @@ use Rattle.dalvik_state.specs.declared.state.Status.{Status}
 use Rattle.dalvik_state.specs.declared.state.Status.TheVariants as status
 use Rattle.dalvik_state.specs.declared.world.World.{World}
 use Rattle.dalvik_state.specs.States.{IsRunning, IsSound}
-use Rattle.dalvik_state.specs.Worlds.{spots_of, IsHeap}
+use Rattle.dalvik_state.specs.Worlds.{spots_of}
 use Rattle.dalvik_state.proofs.Running.{AreHeld, ArePaced, AreSoundWaiting, running_held, running_of, running_paced, running_stack}
-use Rattle.dalvik_steps.specs.Turns.{IsReserved}
+use Rattle.dalvik_steps.specs.Turns.{IsAsItWas, IsReserved}
 use Rattle.dalvik_steps.proofs.Turning.{put_back}
 
 set_long : (xs : List Status) (i : ℕ) (s : Status) → length (slice_set xs i s) ≡ length xs
@@ -28,7 +28,7 @@ running_set l steps class s old new run w st e = running_of l steps new (subst (
 pub restored : (old set tried new : State) (class : ℕ) (s : Status) → set.world ≡ old.world → set.stack ≡ old.stack → set.next ≡ old.next → set.ended ≡ old.ended → set.statuses.items ≡ slice_set old.statuses.items class s → IsReserved set tried
     → new.world ≡ tried.world → new.stack ≡ tried.stack → new.next ≡ tried.next → new.ended ≡ tried.ended → new.statuses.items ≡ slice_set tried.statuses.items class (slice_index_or old.statuses.items class status.Done) → IsReserved old new
 restored old set tried new class s w st n e ss h w' st' n' e' ss' = record {
-  world = subst (λ (u : World). IsHeap old.world u (spots_of old.world)) (sym w') (subst (λ (u : World). IsHeap u tried.world (spots_of u)) w h.world);
+  world = subst (λ (u : World). IsAsItWas old.world u) (sym w') (subst (λ (u : World). IsAsItWas u tried.world) w h.world);
   statuses = ss' ∙ ap (λ (xs : List Status). slice_set xs class (slice_index_or old.statuses.items class status.Done)) (h.statuses ∙ ss) ∙ put_back old.statuses.items class s;
   stack = ap (λ v. v.items) st' ∙ h.stack ∙ ap (λ v. v.items) st;
   next = n' ∙ h.next ∙ n;

@@ -1,6 +1,6 @@
 -- What is thrown begins its way.
 use Rattle.std.proofs.Common.{◌≡◌, ℕ, zero, suc, ◌+◌, ◌<◌, ◌≤◌, Bool, true, false, List, [], ◌∷◌, ◌++◌, length, map, take, arith, ap, refl, sym, subst, ◌∙◌, append-nil, length-append}
-use Rattle.std.specs.Prelude.{◌^◌, Option, Some, None, reverse}
+use Rattle.std.specs.Prelude.{◌^◌, Option, Some, None, drop, reverse}
 use Rattle.dalvik_defs.specs.Names.{Text}
 use Rattle.dalvik_defs.specs.Stack.{unwinds}
 use Rattle.dalvik_defs.specs.State.{Classes, World, Next, fresh, next_object, with_thing}
@@ -23,7 +23,7 @@ use Rattle.dalvik_state.specs.Drafts.{give_all, gift_spots, given_things, given_
 use Rattle.dalvik_state.specs.Effects.{plain}
 use Rattle.dalvik_state.specs.Giving.{IsGiven, IsGivenFine}
 use Rattle.dalvik_state.specs.Runs.{bodies_in, classes_in, script_in, stack_in, world_in}
-use Rattle.dalvik_state.specs.States.{AreKinds, HasRoom, HasSpace, IsRunning, IsSound}
+use Rattle.dalvik_state.specs.States.{classes_of, stack_of, AreKinds, HasRoom, HasSpace, IsRunning, IsSound}
 use Rattle.dalvik_state.specs.Views.{AreFineSpots, IsFine, Names, names_in, value_of, world_of}
 use Rattle.dalvik_state.specs.Worlds.{IsShort, Spot, new_spot, spots_of, IsHeap}
 use Rattle.dalvik_state.proofs.Running.{running_world}
@@ -34,8 +34,10 @@ use Rattle.dalvik_steps.specs.declared.throwing.Thrown.TheVariants as thrown
 use Rattle.dalvik_steps.specs.Entries.{thrown_by, IsThrown}
 use Rattle.dalvik_steps.specs.Falls.{IsFalling, IsThrownInto}
 use Rattle.dalvik_steps.specs.Flights.{thrown_value, thrown_world, Flies, HasFlightRoom, IsFlight, IsThrownWith}
+use Rattle.dalvik_steps.specs.Turns.{IsReserved}
 use Rattle.dalvik_steps.proofs.Flying.{plain_kind}
 use Rattle.dalvik_steps.proofs.Made.{instance_named, instance_sound}
+use Rattle.dalvik_steps.proofs.Undone.{world_same}
 
 -- ---- no objects of a move
 
@@ -121,3 +123,22 @@ falling_of l steps script old w f d run on t h = record {
   space = t.space;
   room = t.room;
 }
+
+-- ---- what is thrown where there is room for its way
+
+-- it goes its way from the state that it was planned in
+pub thrown_same : (l : Lookups) (script : List Move) (old new : State) (t : Thrown) → IsReserved old new
+    → thrown_by l t (world_in l new) (classes_in l new) (stack_in l new) (script_in script new) ≡ thrown_by l t (world_in l old) (classes_in l old) (stack_in l old) (script_in script old)
+thrown_same l script old new t h = λ i. thrown_by l t (world_same (names_in l) old.world new.world h.world i) (classes_of l.program.now (h.statuses i)) (stack_of (names_in l) (h.stack i)) (drop (h.next i) script)
+
+pub still_thrown : (l : Lookups) (old new : State) (t u : Thrown) → IsReserved old new → u ≡ t → IsThrown l (length (spots_of old.world)) t → IsThrown l (length (spots_of new.world)) u
+still_thrown l old new t u h e is = subst (IsThrown l (length (spots_of new.world))) (sym e) (subst (λ (ss : List Spot). IsThrown l (length ss) t) (sym h.world.heap) is)
+
+pub flight_begins : (l : Lookups) (old new : State) (g : Gifts) (t : Thrown) (top : ℕ) (f : Flight) → g.things.items ≡ [] → IsReserved old new → top ≡ length old.stack.items → IsFlight l (given_world (names_in l) old.world g) (take top old.stack.items) t f
+    → IsFlight l (world_in l new) new.stack.items f.thrown f
+flight_begins l old new g t top f e h k x =
+    let world : given_world (names_in l) old.world g ≡ world_in l new = given_none (names_in l) old.world g e ∙ sym (world_same (names_in l) old.world new.world h.world) in
+    let stack : take top old.stack.items ≡ new.stack.items = take_all old.stack.items top k ∙ sym h.stack in
+    subst (λ (u : World). IsFlight l u new.stack.items f.thrown f) world
+    (subst (λ (ws : List Waiting). IsFlight l (given_world (names_in l) old.world g) ws f.thrown f) stack
+    (subst (λ (u : Thrown). IsFlight l (given_world (names_in l) old.world g) (take top old.stack.items) u f) (sym x.thrown) x))

@@ -26,18 +26,20 @@ use Rattle.dalvik_lookups.proofs.Interned.{got_left}
 use Rattle.dalvik_state.specs.declared.datum.Datum.{Datum}
 use Rattle.dalvik_state.specs.declared.frame.Frame.{Frame}
 use Rattle.dalvik_state.specs.declared.gifts.Gifts.{Gifts}
+use Rattle.dalvik_state.specs.declared.shows.Draft.{Draft}
 use Rattle.dalvik_state.specs.declared.state.Waiting.{Waiting}
 use Rattle.dalvik_state.specs.declared.state.Waiting.TheVariants as waiting
 use Rattle.dalvik_state.specs.declared.world.World.{World as OwnWorld}
-use Rattle.dalvik_state.specs.Drafts.{gift_spots, given_world, has_printed, kind_text, IsLater}
+use Rattle.dalvik_state.specs.Drafts.{gift_spots, given_world, kind_text, IsDraft, IsLater}
 use Rattle.dalvik_state.specs.Effects.{plain}
 use Rattle.dalvik_state.specs.Giving.{IsGiven, IsGivenFine}
 use Rattle.dalvik_state.specs.Views.{names_in, value_of}
 use Rattle.dalvik_state.specs.Worlds.{kind_in}
 use Rattle.dalvik_state.proofs.Gifted.{kind_named, kind_there}
-use Rattle.dalvik_state.proofs.Later.{later_on, later_self}
+use Rattle.dalvik_state.proofs.Later.{draft_later, later_on, later_self}
 use Rattle.dalvik_steps.specs.declared.throwing.Course.{Course}
 use Rattle.dalvik_steps.specs.declared.throwing.Exhibit.{Exhibit}
+use Rattle.dalvik_steps.specs.declared.throwing.Exhibit.TheVariants as exhibit
 use Rattle.dalvik_steps.specs.declared.throwing.Flying.{Flying}
 use Rattle.dalvik_steps.specs.declared.throwing.Landing.{Landing}
 use Rattle.dalvik_steps.specs.declared.throwing.Landing.TheVariants as landing
@@ -138,6 +140,15 @@ meets_other l w v class place h = λ rest more to e fl.
 pub meets_framework : (l : Lookups) (w : World) (v : Value) (owes : Option Kind) (place : ℕ) (shown : Exhibit) → Exhibits w v shown → Meets l w v (waiting.Outside owes) place (met.Lands (landing.Framework place shown))
 meets_framework l w v owes place shown x = λ rest e. (refl, (shown, (ap (λ (k : ℕ). landing.Framework k shown) (sym e), x)))
 
+-- what is drafted of a value that flies is shown in the world that comes after
+pub exhibits_old : (l : Lookups) → IsRight l → (base : OwnWorld) (g : Gifts) (w : World) (v : Value) (d : Datum) (kind : Kind) (draft : Draft) → v ≡ value_of (names_in l) d → IsLater (given_world (names_in l) base g) w → kind ≡ plain 3
+    → IsDraft (given_world (names_in l) base g) (type_text l.types kind) (value_of (names_in l) d) draft → Exhibits w v (exhibit.Old draft)
+exhibits_old l r base g w v d kind draft is later k h =
+    let text : type_text l.types kind ≡ throwable_type = ap (type_text l.types) k ∙ throwable_text l r.tabled.named.types in
+    draft_later (given_world (names_in l) base g) w throwable_type v draft later
+    (subst (λ (u : Value). IsDraft (given_world (names_in l) base g) throwable_type u draft) (sym is)
+    (subst (λ (t : Text). IsDraft (given_world (names_in l) base g) t (value_of (names_in l) d) draft) text h))
+
 -- ---- the course
 
 pub course_on : (l : Lookups) (base : OwnWorld) (g : Gifts) (w : World) (v : Value) (all rest : List Waiting) (x : Waiting) (place : ℕ) (c : Course) → (h : IsCourse l base g w v all (x ∷ rest) c) → length rest ≡ place → Meets l h.world h.value x place met.Passes → IsCourse l base g w v all rest c
@@ -176,3 +187,17 @@ taken_long (x ∷ xs) (suc k) h = ap suc (taken_long xs k (omega arith))
 
 pub reverse_long : (xs : List Waiting) (k : ℕ) → k ≤ length xs → length (reverse (take k xs)) ≡ k
 reverse_long xs k h = length-reverse (take k xs) ∙ taken_long xs k h
+
+-- the course goes down the stack
+pub course_next : (l : Lookups) (base : OwnWorld) (g : Gifts) (w : World) (v : Value) (all xs : List Waiting) (k at : ℕ) (x : Waiting) (c : Course) → slice_get xs at ≡ Some x → k ≡ suc at → IsCourse l base g w v all (reverse (take k xs)) c → IsCourse l base g w v all (x ∷ reverse (take at xs)) c
+course_next l base g w v all xs k at x c got e h = subst (λ (rest : List Waiting). IsCourse l base g w v all rest c) (ap (λ (n : ℕ). reverse (take n xs)) e ∙ reverse_taken xs at x got) h
+
+-- nothing is left of it
+pub course_ends : (l : Lookups) (base : OwnWorld) (g : Gifts) (w : World) (v : Value) (all rest : List Waiting) (c : Course) → rest ≡ [] → IsCourse l base g w v all rest c → Flies l w v all c.wraps.items landing.Nowhere
+course_ends l base g w v all rest c e h =
+    subst (λ (ws : List ℕ). Flies l w v all ws landing.Nowhere) (append-nil c.wraps.items)
+    (h.on [] landing.Nowhere (subst (λ (r : List Waiting). Flies l h.world h.value r [] landing.Nowhere) (sym e) (refl, refl)))
+
+-- it begins
+pub course_begins : (l : Lookups) (base : OwnWorld) (g : Gifts) (w : World) (v : Value) (all : List Waiting) (c : Course) → c.wraps.items ≡ [] → IsFlying l base g w v c.flying → IsCourse l base g w v all all c
+course_begins l base g w v all c e f = record { world = w; value = v; flying = f; on = λ more to h. subst (λ (ws : List ℕ). Flies l w v all (ws ++ more) to) (sym e) h }

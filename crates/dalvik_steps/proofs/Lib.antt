@@ -15,6 +15,7 @@ pub mod FirstReads
 pub mod Firsts
 pub mod Flying
 pub mod Handing
+pub mod Handlers
 pub mod Invoked
 pub mod Landed
 pub mod Leaving

@@ -1,15 +1,13 @@
 -- What is thrown begins its way.
-use Rattle.std.proofs.Common.{◌≡◌, ℕ, zero, suc, ◌+◌, ◌<◌, ◌≤◌, Bool, true, false, List, [], ◌∷◌, ◌++◌, length, map, take, arith, ap, refl, sym, subst, ◌∙◌, append-nil, length-append}
-use Rattle.std.specs.Prelude.{◌^◌, Option, Some, None, drop, reverse}
-use Rattle.dalvik_defs.specs.Names.{Text}
+use Rattle.std.proofs.Common.{◌≡◌, ℕ, zero, suc, ◌+◌, ◌<◌, false, List, [], ◌∷◌, ◌++◌, length, map, take, arith, ap, refl, sym, subst, ◌∙◌, append-nil, length-append}
+use Rattle.std.specs.Prelude.{drop, reverse}
 use Rattle.dalvik_defs.specs.Stack.{unwinds}
-use Rattle.dalvik_defs.specs.State.{Classes, World, Next, fresh, next_object, with_thing}
+use Rattle.dalvik_defs.specs.State.{Classes, World}
 use Rattle.dalvik_defs.specs.declared.script.Move.{Move}
 use Rattle.dalvik_defs.specs.declared.state.Value.{Value}
 use Rattle.dalvik_defs.specs.declared.state.Waiting.{Waiting as NamedWaiting}
 use Rattle.dalvik_lookups.specs.Facing.{run_face}
 use Rattle.dalvik_lookups.specs.Tables.{IsRight}
-use Rattle.dalvik_lookups.specs.Views.{name_at}
 use Rattle.dalvik_lookups.specs.declared.lookups.Lookups.{Lookups}
 use Rattle.dalvik_state.specs.declared.datum.Datum.{Datum}
 use Rattle.dalvik_state.specs.declared.datum.Datum.TheVariants as datum
@@ -21,7 +19,7 @@ use Rattle.dalvik_state.specs.declared.world.Thing.TheVariants as thing
 use Rattle.dalvik_state.specs.declared.world.World.{World as OwnWorld}
 use Rattle.dalvik_state.specs.Drafts.{give_all, gift_spots, given_things, given_world}
 use Rattle.dalvik_state.specs.Effects.{plain}
-use Rattle.dalvik_state.specs.Giving.{IsGiven, IsGivenFine}
+use Rattle.dalvik_state.specs.Giving.{IsGiven}
 use Rattle.dalvik_state.specs.Runs.{bodies_in, classes_in, script_in, stack_in, world_in}
 use Rattle.dalvik_state.specs.States.{classes_of, stack_of, AreKinds, HasRoom, HasSpace, IsRunning, IsSound}
 use Rattle.dalvik_state.specs.Views.{AreFineSpots, IsFine, Names, names_in, value_of, world_of}
@@ -33,7 +31,7 @@ use Rattle.dalvik_steps.specs.declared.throwing.Thrown.{Thrown}
 use Rattle.dalvik_steps.specs.declared.throwing.Thrown.TheVariants as thrown
 use Rattle.dalvik_steps.specs.Entries.{thrown_by, IsThrown}
 use Rattle.dalvik_steps.specs.Falls.{IsFalling, IsThrownInto}
-use Rattle.dalvik_steps.specs.Flights.{thrown_value, thrown_world, Flies, HasFlightRoom, IsFlight, IsThrownWith}
+use Rattle.dalvik_steps.specs.Flights.{thrown_value, thrown_world, Flies, IsFlight, IsThrownWith}
 use Rattle.dalvik_steps.specs.Turns.{IsReserved}
 use Rattle.dalvik_steps.proofs.Flying.{plain_kind}
 use Rattle.dalvik_steps.proofs.Made.{instance_named, instance_sound}

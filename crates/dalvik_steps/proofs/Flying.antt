@@ -1,11 +1,8 @@
 -- What a thrown object meets on its way, by numbers and by names.
-use Rattle.std.proofs.Common.{◌≡◌, ℕ, zero, suc, ◌+◌, ◌-◌, ◌<◌, ◌≤◌, Bool, true, false, true≢false, not, List, [], ◌∷◌, ◌++◌, length, map, take, drop, nat_eq, nat_lt, arith, ap, refl, sym, subst, ◌∙◌, append_assoc, append-nil, length-append}
-use Rattle.std.specs.Prelude.{◌&&◌, Option, Some, None, cond, find, nat_le, reverse, slice_get}
+use Rattle.std.proofs.Common.{◌≡◌, ℕ, zero, suc, ◌<◌, ◌≤◌, Bool, true, false, true≢false, not, List, [], ◌∷◌, ◌++◌, length, take, arith, ap, refl, sym, subst, ◌∙◌, append_assoc, append-nil, length-append}
+use Rattle.std.specs.Prelude.{Option, Some, None, reverse, slice_get}
 use Rattle.std.specs.List.{list_all}
-use Rattle.std.specs.Option.{option_and_then, option_map}
 use Rattle.std.proofs.lemmas.List.{length-reverse, reverse-append}
-use Rattle.program_model.specs.declared.body.Handler.{Handler}
-use Rattle.program_model.specs.declared.body.Region.{Region}
 use Rattle.class_defs.proofs.WellFormed.{all_at}
 use Rattle.class_defs.proofs.Positions.{entry_at}
 use Rattle.dalvik_defs.specs.Known.{initialiser_error}
@@ -14,7 +11,6 @@ use Rattle.dalvik_defs.specs.Naming.{body_of}
 use Rattle.dalvik_defs.specs.Stack.{handler_at}
 use Rattle.dalvik_defs.specs.State.{World, Thing, fresh, kind_of, kind_of_thing, next_object, with_thing}
 use Rattle.dalvik_defs.specs.declared.state.Value.{Value}
-use Rattle.dalvik_defs.specs.declared.state.Value.TheVariants.{Object}
 use Rattle.dalvik_lookups.specs.Facing.{run_face}
 use Rattle.dalvik_lookups.specs.Tables.{IsRight}
 use Rattle.dalvik_lookups.specs.Views.{known_names, name_at, type_text, AreTypes, IsKind}
@@ -44,10 +40,8 @@ use Rattle.dalvik_steps.specs.declared.throwing.Flying.{Flying}
 use Rattle.dalvik_steps.specs.declared.throwing.Landing.{Landing}
 use Rattle.dalvik_steps.specs.declared.throwing.Landing.TheVariants as landing
 use Rattle.dalvik_steps.specs.declared.throwing.Met.TheVariants as met
-use Rattle.dalvik_steps.specs.declared.throwing.Thrown.{Thrown}
-use Rattle.dalvik_steps.specs.declared.throwing.Thrown.TheVariants as thrown
 use Rattle.dalvik_steps.proofs.Made.{made_kind}
-use Rattle.dalvik_steps.specs.Flights.{lands_at, thrown_value, thrown_world, Exhibits, Flies, IfUnder, IsCourse, IsFlying, IsKindMaybe, IsNewOf, IsThrownWith, LandsOr, Meets}
+use Rattle.dalvik_steps.specs.Flights.{lands_at, Exhibits, Flies, IfUnder, IsCourse, IsFlying, IsKindMaybe, IsNewOf, LandsOr, Meets}
 
 -- ---- types that the machine knows
 
@@ -197,7 +191,3 @@ pub course_ends : (l : Lookups) (base : OwnWorld) (g : Gifts) (w : World) (v : V
 course_ends l base g w v all rest c e h =
     subst (λ (ws : List ℕ). Flies l w v all ws landing.Nowhere) (append-nil c.wraps.items)
     (h.on [] landing.Nowhere (subst (λ (r : List Waiting). Flies l h.world h.value r [] landing.Nowhere) (sym e) (refl, refl)))
-
--- it begins
-pub course_begins : (l : Lookups) (base : OwnWorld) (g : Gifts) (w : World) (v : Value) (all : List Waiting) (c : Course) → c.wraps.items ≡ [] → IsFlying l base g w v c.flying → IsCourse l base g w v all all c
-course_begins l base g w v all c e f = record { world = w; value = v; flying = f; on = λ more to h. subst (λ (ws : List ℕ). Flies l w v all (ws ++ more) to) (sym e) h }

@@ -1,5 +1,5 @@
 -- What is left before a class at a place of the stack, by numbers.
-use Rattle.std.proofs.Common.{◌≡◌, ℕ, ◌+◌, ◌<◌, ◌≤◌, Bool, true, false, true≢false, List, [], length, drop, get_or, arith, ap, refl, sym, subst, ◌∙◌, ltb-true, lt-ltb, inl, inr}
+use Rattle.std.proofs.Common.{◌≡◌, ℕ, ◌<◌, ◌≤◌, Bool, true, false, true≢false, List, length, drop, get_or, arith, ap, refl, sym, subst, ◌∙◌, ltb-true, lt-ltb, inl, inr}
 use Rattle.std.specs.Prelude.{Option, Some, None, cond, nat_lt, slice_get}
 use Rattle.std.proofs.lemmas.Bool.{cases_lt}
 use Rattle.std.proofs.lemmas.Option.{slice_get_past, slice_get_read}

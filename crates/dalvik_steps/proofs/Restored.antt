@@ -1,5 +1,5 @@
 -- A class whose status is set, and set back where memory runs out.
-use Rattle.std.proofs.Common.{◌≡◌, ℕ, zero, suc, ◌+◌, ◌≤◌, List, [], ◌∷◌, length, arith, ap, refl, sym, subst, ◌∙◌}
+use Rattle.std.proofs.Common.{◌≡◌, ℕ, zero, suc, ◌+◌, List, [], ◌∷◌, length, ap, refl, sym, subst, ◌∙◌}
 use Rattle.std.specs.Prelude.{◌^◌, slice_index_or, slice_set}
 use Rattle.dalvik_lookups.specs.declared.lookups.Lookups.{Lookups}
 use Rattle.dalvik_state.specs.declared.state.State.{State}

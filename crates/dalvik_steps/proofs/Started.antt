@@ -1,17 +1,16 @@
 -- A step of a class that is being initialised, by numbers and by names.
-use Rattle.std.proofs.Common.{◌≡◌, ℕ, zero, suc, ◌+◌, ◌-◌, ◌<◌, List, [], ◌∷◌, length, map, take, drop, ap, arith, refl, sym, subst, ◌∙◌, ◌⊎◌, inl, inr}
+use Rattle.std.proofs.Common.{◌≡◌, ℕ, zero, suc, ◌+◌, ◌-◌, ◌<◌, List, [], ◌∷◌, length, take, drop, ap, arith, refl, sym, subst, ◌∙◌, ◌⊎◌, inl, inr}
 use Rattle.std.specs.Prelude.{Option, Some, None, Vec, slice_get}
 use Rattle.std.specs.Option.{is_some, option_and_then, option_map}
 use Rattle.std.specs.declared.alloc.Global.{Global}
 use Rattle.program_model.specs.declared.program.Class.{Class}
 use Rattle.name_bridge.proofs.Tables.{entry_at}
-use Rattle.dalvik_defs.specs.Face.{Face}
 use Rattle.dalvik_defs.specs.Happens.{first_needed, initialises, Setting}
 use Rattle.dalvik_defs.specs.Known.{no_class}
 use Rattle.dalvik_defs.specs.Names.{Text}
 use Rattle.dalvik_defs.specs.Outcome as name
 use Rattle.dalvik_defs.specs.Stack.{goes_on, left_of, starts, throws_new}
-use Rattle.dalvik_defs.specs.State.{Classes, World, Status, New, Running, Done, Failed, Next, quiet}
+use Rattle.dalvik_defs.specs.State.{Classes, World, Status, Next, quiet}
 use Rattle.dalvik_defs.specs.declared.script.Move.{Move}
 use Rattle.dalvik_defs.specs.declared.state.Waiting.{Waiting}
 use Rattle.dalvik_defs.specs.declared.state.Waiting.TheVariants.{Initialiser}

@@ -1,11 +1,10 @@
-use Rattle.std.proofs.Common.{◌≡◌, ◌∙◌, ◌<◌, ◌≤◌, ◌++◌, ◌∷◌, [], List, length, take, drop, ap, refl, sym, subst, arith, rules}
+use Rattle.std.proofs.Common.{◌≡◌, ◌∙◌, ◌<◌, ◌≤◌, ◌++◌, ◌∷◌, [], List, length, drop, ap, refl, sym, subst, arith, rules}
 use Rattle.dalvik_defs.specs.Stack.{runs}
 use Rattle.dalvik_defs.specs.declared.state.Waiting.{Waiting as NamedWaiting}
 use Rattle.dalvik_lookups.specs.Facing.{run_face}
 use Rattle.dalvik_state.specs.Runs.{bodies_in, classes_in, script_in, world_in, IsLeft}
 use Rattle.dalvik_state.specs.States.{class_text, stack_of}
 use Rattle.dalvik_state.specs.Views.{names_in}
-use Rattle.dalvik_state.specs.declared.state.Waiting.{Waiting}
 use Rattle.dalvik_state.specs.declared.state.Waiting.TheVariants as waiting
 use Rattle.dalvik_state.proofs.Running.{running_paced, running_stack}
 use Rattle.std.proofs.lemmas.Result.{IfOk-weaker}

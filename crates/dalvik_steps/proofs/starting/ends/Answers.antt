@@ -1,4 +1,4 @@
-use Rattle.std.proofs.Common.{◌≡◌, ◌<◌, length, drop, subst, arith}
+use Rattle.std.proofs.Common.{◌<◌, length, drop, subst, arith}
 use Rattle.dalvik_defs.specs.Stack.{resumes}
 use Rattle.dalvik_lookups.specs.Facing.{run_face}
 use Rattle.dalvik_state.specs.Runs.{bodies_in, IsLeft}

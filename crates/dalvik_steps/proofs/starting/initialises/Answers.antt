@@ -1,5 +1,5 @@
-use Rattle.std.proofs.Common.{◌≡◌, ◌∙◌, ◌-◌, ℕ, length, ap, arith, refl, sym, subst}
-use Rattle.std.specs.Prelude.{Option, None, slice_get}
+use Rattle.std.proofs.Common.{◌≡◌, ◌∙◌, ◌-◌, length, ap, arith, refl, sym, subst}
+use Rattle.std.specs.Prelude.{None, slice_get}
 use Rattle.dalvik_state.specs.Runs.{script_in, IsEvent}
 use Rattle.dalvik_steps.proofs.Started.{none_first}
 use Rattle.dalvik_steps.proofs.starting.initialises.Goals as goal

@@ -1,5 +1,5 @@
 use Rattle.std.proofs.Common.{◌≡◌, ◌∙◌, ◌+◌, ◌≤◌, ℕ, List, min, length, drop, ap, sym, subst, refl, arith}
-use Rattle.std.specs.Prelude.{Option, Some, None, slice_get}
+use Rattle.std.specs.Prelude.{Option, Some, slice_get}
 use Rattle.dalvik_state.specs.declared.state.Waiting.{Waiting}
 use Rattle.dalvik_state.specs.declared.state.Waiting.TheVariants as waiting
 use Rattle.dalvik_steps.specs.Turns.{is_initialiser, left_in, Looks}

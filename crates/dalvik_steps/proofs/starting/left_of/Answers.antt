@@ -1,8 +1,7 @@
-use Rattle.std.proofs.Common.{◌≡◌, ◌∙◌, ap, sym, suc, ◌+◌, ◌<◌, true, false, length, drop, get_or, arith}
-use Rattle.std.specs.Prelude.{Some, slice_get}
+use Rattle.std.proofs.Common.{◌∙◌, ap, sym, ◌<◌, true, length, get_or, arith}
 use Rattle.std.proofs.lemmas.Option.{slice_get-get_or}
-use Rattle.dalvik_steps.specs.Turns.{hinders, left_in}
-use Rattle.dalvik_steps.proofs.Turning.{left_test, nothing_more}
+use Rattle.dalvik_steps.specs.Turns.{hinders}
+use Rattle.dalvik_steps.proofs.Turning.{left_test}
 use Rattle.dalvik_steps.proofs.starting.left_of.Goals as goal
 
 pub returns-then-hinders : goal.returns-then-hinders

@@ -1,4 +1,4 @@
-use Rattle.std.proofs.Common.{◌≡◌, ◌∙◌, ◌-◌, ◌<◌, ℕ, length, ap, arith, refl, sym, subst}
+use Rattle.std.proofs.Common.{◌≡◌, ◌∙◌, ◌-◌, ◌<◌, length, ap, arith, refl, sym, subst}
 use Rattle.std.specs.Prelude.{Option, None, IfOk, slice_get}
 use Rattle.dalvik_defs.specs.Known.{no_class}
 use Rattle.dalvik_defs.specs.Names.{Text}

@@ -1,4 +1,4 @@
-use Rattle.std.proofs.Common.{◌≡◌, ◌∙◌, ◌<◌, ap, arith, refl, sym, subst}
+use Rattle.std.proofs.Common.{◌∙◌, ◌<◌, arith, refl, sym, subst}
 use Rattle.dalvik_defs.specs.Known.{no_class}
 use Rattle.dalvik_defs.specs.Names.{Text}
 use Rattle.dalvik_defs.specs.Stack.{throws_new}

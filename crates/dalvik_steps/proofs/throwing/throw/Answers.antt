@@ -1,6 +1,5 @@
 use Rattle.std.proofs.Common.{length, sym, subst}
 use Rattle.dalvik_state.specs.Worlds.{spots_of}
-use Rattle.dalvik_state.specs.declared.datum.Datum.{Datum}
 use Rattle.dalvik_steps.specs.Entries.{IsThrown}
 use Rattle.dalvik_steps.specs.Falls.{IsThrownInto}
 use Rattle.dalvik_steps.specs.declared.throwing.Thrown.{Thrown}

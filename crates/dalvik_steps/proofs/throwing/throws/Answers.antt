@@ -1,4 +1,4 @@
-use Rattle.std.proofs.Common.{ℕ, ◌≡◌, ◌∙◌, ◌≤◌, length, ap, arith, refl, sym, subst}
+use Rattle.std.proofs.Common.{ℕ, ◌≡◌, ◌∙◌, ◌≤◌, length, ap, arith, subst}
 use Rattle.dalvik_state.specs.Runs.{classes_in, script_in, stack_in, world_in, IsEvent, IsUndoneWith}
 use Rattle.dalvik_steps.specs.declared.throwing.Thrown.{Thrown}
 use Rattle.dalvik_steps.specs.Entries.{thrown_by}

@@ -1,4 +1,4 @@
-use Rattle.std.proofs.Common.{◌≡◌, ℕ, ◌<◌, length, drop, List}
+use Rattle.std.proofs.Common.{ℕ, ◌<◌, length, drop, List}
 use Rattle.std.specs.Prelude.{◌^◌}
 use Rattle.dalvik_defs.specs.State.{Next}
 use Rattle.dalvik_defs.specs.declared.script.Move.{Move}

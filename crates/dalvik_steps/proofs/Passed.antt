@@ -1,6 +1,6 @@
 -- What the frame on top passes, by numbers and by names.
-use Rattle.std.proofs.Common.{◌≡◌, ℕ, Bool, List, length, map, ap, sym, subst, ◌∙◌}
-use Rattle.std.specs.Prelude.{Some}
+use Rattle.std.proofs.Common.{◌≡◌, ℕ, Bool, true, false, List, length, map, ap, refl, sym, subst, ◌∙◌}
+use Rattle.std.specs.Prelude.{◌&&◌, Some}
 use Rattle.dalvik_defs.specs.Effect.{register}
 use Rattle.dalvik_defs.specs.Outcome.{receiver}
 use Rattle.dalvik_defs.specs.State.{is_null}
@@ -29,3 +29,7 @@ pub fine_passed : (l : Lookups) (steps : ℕ) (s : State) (f : Frame) (args : Li
 fine_passed l steps s f args values on own r top h =
     let size = length (spots_of s.world) in
     subst (AreFine (names_in l) size) (sym h.all) (fine_read (names_in l) size f.registers.items args (fine_cells (names_in l) size f (top_sound l steps s f r top).fine))
+
+pub no_second : (a b : Bool) → b ≡ false → (a && b) ≡ false
+no_second true b e = e
+no_second false b e = refl

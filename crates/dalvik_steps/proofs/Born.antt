@@ -86,7 +86,7 @@ module _ (l : Lookups) (o : Outside) (floats : Floats) (script : List Move) (ste
   pub shown_goes : (mid new : State) (kind : Kind) (to : ℕ) (d : Datum) (e : Event) → IsMade l old mid kind d e
       → ChangesTop (λ (f g : Frame). GoesOn f g (with_item item.Object f.registers.items to d)) mid.stack.items new.stack.items → KeepsRest mid new
       → IsEvent l steps script new (Some e) (comes_of l o floats script old f (Stays (show (with_thing (world_in l old) (fresh (type_text l.types kind))) (type_text l.types kind) (next_object (world_in l old))).0 (next (write (frame_of (names_in l) f) to (next_object (world_in l old))))
-          (Some (event.Make (show (with_thing (world_in l old) (fresh (type_text l.types kind))) (type_text l.types kind) (next_object (world_in l old))).1))))
+      (Some (event.Make (show (with_thing (world_in l old) (fresh (type_text l.types kind))) (type_text l.types kind) (next_object (world_in l old))).1))))
   shown_goes mid new kind to d e made changes rest =
       let c = type_text l.types kind in
       let size = made.made.size in

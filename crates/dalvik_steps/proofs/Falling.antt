@@ -308,18 +308,18 @@ module _ (l : Lookups) (r : IsRight l) (steps : ℕ) (script : List Move) (few :
       let flies : Flies l (world_in l old) v (x ∷ rest) more to = subst (λ (ws : List Waiting). Flies l (world_in l old) v ws more to) (top_first old.stack.items x e) h.flies in
       elim (falls l r (length (spots_of old.world)) (world_in l old) v x rest more to place (h.running.stack (length old.stack.items - 1) x e) flies t below) [
         | inl p ↦ record {
-            running = running_dropped x old new h.running dr;
-            on = dr.ended ∙ h.on;
-            fine = subst (λ (w : OwnWorld). IsFine (names_in l) (length (spots_of w)) d) (sym dr.world) h.fine;
-            flies = subst (λ (w : OwnWorld). Flies l (world_of (names_in l) w) v (reverse new.stack.items) more to) (sym dr.world) (subst (λ (ws : List Waiting). Flies l (world_in l old) v (reverse ws) more to) (sym dr.stack) p.flies);
-            whole =
-                (λ i. unwinds (run_face l) (bodies_in l) (world_of (names_in l) (dr.world i)) (dr.classes i) v (stack_of (names_in l) (dr.stack i)) (dr.script script few i))
-                ∙ sym (p.same (classes_in l old) (stack_of (names_in l) (below_top old.stack.items)) (script_in script old))
-                ∙ ap (λ (ws : List NamedWaiting). unwinds (run_face l) (bodies_in l) (world_in l old) (classes_in l old) v ws (script_in script old)) (sym (popped_named (names_in l) old.stack.items x e))
-                ∙ h.whole;
-            space = subst (λ (w : OwnWorld). HasSpace w (length more)) (sym dr.world) h.space;
-            room = subst (λ (w : OwnWorld). HasRoom w 1) (sym dr.world) h.room;
-          }
+          running = running_dropped x old new h.running dr;
+          on = dr.ended ∙ h.on;
+          fine = subst (λ (w : OwnWorld). IsFine (names_in l) (length (spots_of w)) d) (sym dr.world) h.fine;
+          flies = subst (λ (w : OwnWorld). Flies l (world_of (names_in l) w) v (reverse new.stack.items) more to) (sym dr.world) (subst (λ (ws : List Waiting). Flies l (world_in l old) v (reverse ws) more to) (sym dr.stack) p.flies);
+          whole =
+              (λ i. unwinds (run_face l) (bodies_in l) (world_of (names_in l) (dr.world i)) (dr.classes i) v (stack_of (names_in l) (dr.stack i)) (dr.script script few i))
+              ∙ sym (p.same (classes_in l old) (stack_of (names_in l) (below_top old.stack.items)) (script_in script old))
+              ∙ ap (λ (ws : List NamedWaiting). unwinds (run_face l) (bodies_in l) (world_in l old) (classes_in l old) v ws (script_in script old)) (sym (popped_named (names_in l) old.stack.items x e))
+              ∙ h.whole;
+          space = subst (λ (w : OwnWorld). HasSpace w (length more)) (sym dr.world) h.space;
+          room = subst (λ (w : OwnWorld). HasRoom w 1) (sym dr.world) h.room;
+        }
         | inr q ↦ absurd (apart q.more (q.is ∙ ap (λ (k : ℕ). k ∷ q.more) count))
       ]
 

@@ -166,9 +166,9 @@ given_out l steps script old new g value kind s run on outside a statuses stack 
     let run_new = running_cut l steps (length old.stack.items - 1) old new run a.sound (omega (arith, size, more)) a.locks statuses stack in
     let shows : World × Option Shown → List NamedWaiting → Next = λ p ws. (On p.0 (classes_in l old) ws (script_in script old), Some (event.Result p.1)) in
     let is : gives (bodies_in l) kind (given_world n old.world g) (classes_in l old) (option_map (value_of n) value) (stack_of n below) (script_in script old) ≡ shows (world_of n new.world, s) (stack_of n below) =
-        ap (λ (ws : List NamedWaiting). gives (bodies_in l) kind (given_world n old.world g) (classes_in l old) (option_map (value_of n) value) ws (script_in script old)) names
-        ∙ ap (λ (p : World × Option Shown). shows p (waiting_of n (waiting.Outside framework.0) ∷ stack_of n (below_top below))) a.shown
-        ∙ ap (shows (world_of n new.world, s)) (sym names) in
+    ap (λ (ws : List NamedWaiting). gives (bodies_in l) kind (given_world n old.world g) (classes_in l old) (option_map (value_of n) value) ws (script_in script old)) names
+    ∙ ap (λ (p : World × Option Shown). shows p (waiting_of n (waiting.Outside framework.0) ∷ stack_of n (below_top below))) a.shown
+    ∙ ap (shows (world_of n new.world, s)) (sym names) in
     subst (IsEvent l steps script new (Some (event.Result s))) (sym is) (record {
       left = record {
         state = state_on l script new (ended ∙ on) ∙ (λ i. On (world_of n new.world) (classes_of l.program.now (statuses i).items) (stack_of n (stack i)) (drop (next i) script));

@@ -79,9 +79,9 @@ module _ (l : Lookups) (r : IsRight l) (steps : ℕ) (script : List Move) (all :
       let caught : NamedFrame = record (go (frame_of n f) at) { caught = v } in
       let rest = stack_of n (below_top old.stack.items) in
       let is : all ≡ quiet (On w (classes_in l old) (InMethod caught ∷ rest) (script_in script old)) =
-          sym h.whole ∙ ap (λ (ws : List NamedWaiting). unwinds (run_face l) (bodies_in l) w (classes_in l old) v ws (script_in script old)) replaced.was
-          ∙ ap (λ (o : Option NamedFrame). lands_or w (classes_in l old) rest (script_in script old) o (unwinds (run_face l) (bodies_in l) w (classes_in l old) v rest (script_in script old)))
-          (lands_named l r (length (spots_of old.world)) f w v sound ∙ ap (option_map (λ (k : ℕ). record (go (frame_of n f) k) { caught = v })) handler.lands) in
+      sym h.whole ∙ ap (λ (ws : List NamedWaiting). unwinds (run_face l) (bodies_in l) w (classes_in l old) v ws (script_in script old)) replaced.was
+      ∙ ap (λ (o : Option NamedFrame). lands_or w (classes_in l old) rest (script_in script old) o (unwinds (run_face l) (bodies_in l) w (classes_in l old) v rest (script_in script old)))
+      (lands_named l r (length (spots_of old.world)) f w v sound ∙ ap (option_map (λ (k : ℕ). record (go (frame_of n f) k) { caught = v })) handler.lands) in
       subst (IsEvent l steps script new None) (sym is) (record {
         left = record {
           state = state_on l script new (keeps.ended ∙ h.on) ∙ (λ i. On (world_of n (keeps.world i)) (classes_of l.program.now (keeps.statuses i).items) (replaced.is i) (drop (keeps.next i) script));
@@ -108,9 +108,9 @@ module _ (l : Lookups) (r : IsRight l) (steps : ℕ) (script : List Move) (all :
       let stack = popped_named n old.stack.items (waiting.Outside framework.owes) last in
       let shows : World × Shown → List NamedWaiting → Next = λ p ws. (On p.0 (classes_in l old) ws (script_in script old), Some (event.Uncaught p.1)) in
       let is : all ≡ shows (world_of n w, s) (stack_in l old) =
-          sym h.whole ∙ ap (λ (ws : List NamedWaiting). unwinds (run_face l) (bodies_in l) (world_in l old) (classes_in l old) v ws (script_in script old)) stack
-          ∙ ap (λ (p : World × Shown). shows p (waiting_of n (waiting.Outside framework.owes) ∷ stack_of n (below_top old.stack.items))) x.shown
-          ∙ ap (shows (world_of n w, s)) (sym stack) in
+      sym h.whole ∙ ap (λ (ws : List NamedWaiting). unwinds (run_face l) (bodies_in l) (world_in l old) (classes_in l old) v ws (script_in script old)) stack
+      ∙ ap (λ (p : World × Shown). shows p (waiting_of n (waiting.Outside framework.owes) ∷ stack_of n (below_top old.stack.items))) x.shown
+      ∙ ap (shows (world_of n w, s)) (sym stack) in
       let size = x.stands.size in
       let run = running_world l steps old new h.running x.sound (omega (arith, size)) x.stands.locks refl refl in
       subst (IsEvent l steps script new (Some (event.Uncaught s))) (sym is) (record {
@@ -124,8 +124,8 @@ module _ (l : Lookups) (r : IsRight l) (steps : ℕ) (script : List Move) (all :
       let ended : new.ended ≡ true = ap (λ (s : State). s.ended) e in
       let size = length (spots_of old.world) in
       let is : all ≡ quiet Ended =
-          sym h.whole ∙ flies_nowhere l (world_in l old) (value_of n d) (classes_in l old) (reverse old.stack.items) more landing.Nowhere (script_in script old) r
-          (λ i x g. (size, reversed_sound l size old.stack.items (running_stack l steps old h.running) i x g)) h.flies refl in
+      sym h.whole ∙ flies_nowhere l (world_in l old) (value_of n d) (classes_in l old) (reverse old.stack.items) more landing.Nowhere (script_in script old) r
+      (λ i x g. (size, reversed_sound l size old.stack.items (running_stack l steps old h.running) i x g)) h.flies refl in
       subst (IsEvent l steps script new None) (sym is) (record {
         left = record { state = state_over l script new ended; running = no_running l (steps + 1) new ended };
         shown = refl;

@@ -101,10 +101,10 @@ module _ (l : Lookups) (steps : ℕ) (script : List Move) (old mid new : State) 
         let sound = goes_sound l (length (spots_of mid.world)) f h.frame (cells f) (entries.at (length mid.stack.items - 1) (waiting.Method f) (top_there mid.stack.items f on_top)) fine so in
         left_with k (InMethod b ∷ below_in l old)
         (topped_named n (λ (g : Frame). GoesOn f g (cells f)) mid.stack.items new.stack.items f on_top h
-            ∙ (λ i. InMethod ((goes_on_named n f h.frame (cells f) low so ∙ same) i) ∷ stack_of n (below_top (t.stack i))))
+        ∙ (λ i. InMethod ((goes_on_named n f h.frame (cells f) low so ∙ same) i) ∷ stack_of n (below_top (t.stack i))))
         (on_stack k
-            (subst (AreSoundWaiting l (length (spots_of mid.world))) (sym h.stack) (sound_set l (length (spots_of mid.world)) (length mid.stack.items - 1) mid.stack.items (waiting.Method h.frame) entries sound))
-            (subst (ArePaced (2 ^ 32 + (steps + 1))) (sym h.stack) (paced_set (2 ^ 32 + (steps + 1)) (length mid.stack.items - 1) mid.stack.items (waiting.Method h.frame) paces (record { at = one h.frame (omega (arith, moved, pace)) }))))
+        (subst (AreSoundWaiting l (length (spots_of mid.world))) (sym h.stack) (sound_set l (length (spots_of mid.world)) (length mid.stack.items - 1) mid.stack.items (waiting.Method h.frame) entries sound))
+        (subst (ArePaced (2 ^ 32 + (steps + 1))) (sym h.stack) (paced_set (2 ^ 32 + (steps + 1)) (length mid.stack.items - 1) mid.stack.items (waiting.Method h.frame) paces (record { at = one h.frame (omega (arith, moved, pace)) }))))
       where
         one : (g : Frame) → g.position ≤ 2 ^ 32 + (steps + 1) → (i : ℕ) (x : Frame) → slice_get (waiting.Method g ∷ []) i ≡ Some (waiting.Method x) → x.position ≤ 2 ^ 32 + (steps + 1)
         one g h zero x e = (let same : g ≡ x = cc in subst (λ (y : Frame). y.position ≤ 2 ^ 32 + (steps + 1)) same h)
@@ -132,8 +132,8 @@ module _ (l : Lookups) (steps : ℕ) (script : List Move) (old mid new : State) 
         left_with a.rest (Outside (Some (type_text l.types kind)) ∷ InMethod (frame_of n f) ∷ below_in l old)
         (ap (stack_of n) a.stack ∙ pushed_named n mid.stack.items (waiting.Outside (Some kind)) ∙ ap (λ (ws : List Waiting). Outside (Some (type_text l.types kind)) ∷ ws) (ap (stack_of n) t.stack ∙ top_named n old.stack.items f top))
         (on_stack a.rest
-            (subst (AreSoundWaiting l (length (spots_of mid.world))) (sym a.stack) (sound_pushed l (length (spots_of mid.world)) mid.stack.items (waiting.Outside (Some kind)) entries fine))
-            (subst (ArePaced (2 ^ 32 + (steps + 1))) (sym a.stack) (paced_pushed (2 ^ 32 + (steps + 1)) mid.stack.items (waiting.Outside (Some kind)) paces (record { at = none }))))
+        (subst (AreSoundWaiting l (length (spots_of mid.world))) (sym a.stack) (sound_pushed l (length (spots_of mid.world)) mid.stack.items (waiting.Outside (Some kind)) entries fine))
+        (subst (ArePaced (2 ^ 32 + (steps + 1))) (sym a.stack) (paced_pushed (2 ^ 32 + (steps + 1)) mid.stack.items (waiting.Outside (Some kind)) paces (record { at = none }))))
       where
         none : (i : ℕ) (x : Frame) → slice_get (waiting.Outside (Some kind) ∷ []) i ≡ Some (waiting.Method x) → x.position ≤ 2 ^ 32 + (steps + 1)
         none zero x e = absurd (cc)

@@ -167,9 +167,9 @@ module _ (n : Names) (size : ℕ) (apart : TellsApart n) (old new : World) (d : 
   at_value x (One i e g h) false t = subst (λ (y : Value). lock_in n new.locks.entries y ≡ put_lock (value_of n d) count (lock_in n old.locks.entries) y) (same_sound (value_of n e.0) x h) (at_fine e.0 (olds.at i e g))
   at_value x (No h) false t =
       let none_new = none_passes (λ (k : Datum). same_value (value_of n k) x) new.locks.entries (λ i e g. elim (puts.keys i e g) [
-          | inl same ↦ ap (λ (k : Datum). same_value (value_of n k) x) same ∙ t
-          | inr key ↦ h key.0 (e.0, key.1.0) key.1.1
-        ]) in
+        | inl same ↦ ap (λ (k : Datum). same_value (value_of n k) x) same ∙ t
+        | inr key ↦ h key.0 (e.0, key.1.0) key.1.1
+      ]) in
       let none_old = none_passes (λ (k : Datum). same_value (value_of n k) x) old.locks.entries h in
       ap (λ (o : Option ℕ). unwrap_or o 0) none_new
       ∙ sym (ap (after x) (unlike_value (value_of n d) x t) ∙ ap (λ (o : Option ℕ). unwrap_or o 0) none_old)
@@ -238,7 +238,7 @@ lock_shown l r old mid new d count s puts w fine h =
     let v = value_of n d in
     let kind = kind_of (world_of n old) v in
     let both : ◌≡◌ {A = NamedWorld × Shown} (record (show (world_of n old) kind v).0 { locks = put_lock v count (lock_in n old.locks.entries) }, (show (world_of n old) kind v).1) (world_of n new, s) =
-        sym (show_locked (world_of n old) (put_lock v count (lock_in n old.locks.entries)) kind v) ∙ ap (λ (u : NamedWorld). show u kind v) (sym (locked_named l r old mid d count puts w fine)) ∙ h.shown in
+    sym (show_locked (world_of n old) (put_lock v count (lock_in n old.locks.entries)) kind v) ∙ ap (λ (u : NamedWorld). show u kind v) (sym (locked_named l r old mid d count puts w fine)) ∙ h.shown in
     record {
       shown = ap (λ (x : NamedWorld × Shown). x.1) (sym both);
       named = ap (λ (x : NamedWorld × Shown). x.0) (sym both) ∙ ap (λ (f : Value → ℕ). record (show (world_of n old) kind v).0 { locks = put_lock v count f }) (sym (show_locks (world_of n old) kind v));

@@ -60,7 +60,7 @@ step_low l steps s f own r top e = subst (λ (c : ℕ). c < length l.program.now
 
 pub found_named : (l : Lookups) (steps : ℕ) (s : State) (f : Frame) (own : ℕ) (kind : InvokeKind) (key : MethodKey) (values : List Datum) → IsRunning l steps s → top_frame s.stack.items ≡ Some f → f.at.class ≡ own
     → searched (run_face l) kind key (kind_of (world_in l s) (value_of (names_in l) (receiver_in values))) (class_text l.program.now own)
-      ≡ searched (run_face l) kind key (kind_of (world_in l s) (receiver (values_of (names_in l) values))) (frame_of (names_in l) f).method.class
+    ≡ searched (run_face l) kind key (kind_of (world_in l s) (receiver (values_of (names_in l) values))) (frame_of (names_in l) f).method.class
 found_named l steps s f own kind key values r top e =
     let class = ap (class_text l.program.now) (sym e) ∙ sym (class_named l (length (spots_of s.world)) f (top_sound l steps s f r top)) in
     λ i. searched (run_face l) kind key (kind_of (world_in l s) (sym (receiver_named (names_in l) values) i)) (class i)

@@ -64,8 +64,8 @@ need_test l r s class low =
     let p = l.program.now in
     let k = entry_at p.classes class low in
     let flags = (right_face l r).flags (class_text p class)
-        ∙ ap (λ (o : Option ℕ). option_map (λ (d : Class). d.flags.0) (option_and_then (slice_get p.classes) o)) (own_class l r class low)
-        ∙ ap (option_map (λ (d : Class). d.flags.0)) k.1 in
+    ∙ ap (λ (o : Option ℕ). option_map (λ (d : Class). d.flags.0) (option_and_then (slice_get p.classes) o)) (own_class l r class low)
+    ∙ ap (option_map (λ (d : Class). d.flags.0)) k.1 in
     (λ i. name.need_if (is_some (flags i)) (status_named l r s.statuses.items class low i))
 
 ready_by : (s : OwnStatus) → need_at s ≡ need.Ready → name.need_at (status_of s) ≡ name.Ready

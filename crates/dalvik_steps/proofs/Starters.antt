@@ -51,9 +51,10 @@ void_is s e =
 
 named_initialiser : (p : Program) (q : MethodName) → names_initialiser p (Some q) ≡ true → (text_at p q.name ≡ initialiser_name) × (signature_at p q.proto ≡ void)
 named_initialiser p q e =
-    let both : (text_eq (text_at p q.name) initialiser_name && signature_eq (signature_at p q.proto) void) ≡ true = named_test p q.name q.proto (codes "<clinit>") [] 86 [] ∙ e in
-    (text_sound (text_at p q.name) initialiser_name (and_left (text_eq (text_at p q.name) initialiser_name) (signature_eq (signature_at p q.proto) void) both),
-    void_is (signature_at p q.proto) (and_right (text_eq (text_at p q.name) initialiser_name) (signature_eq (signature_at p q.proto) void) both))
+    let both : (text_eq (text_at p q.name) initialiser_name && signature_eq (signature_at p q.proto) void) ≡ true = named_test p q.name q.proto (codes "<clinit>") [] 86 [] ∙ e in (
+      text_sound (text_at p q.name) initialiser_name (and_left (text_eq (text_at p q.name) initialiser_name) (signature_eq (signature_at p q.proto) void) both),
+      void_is (signature_at p q.proto) (and_right (text_eq (text_at p q.name) initialiser_name) (signature_eq (signature_at p q.proto) void) both),
+    )
 
 -- ---- the initialiser of a class
 

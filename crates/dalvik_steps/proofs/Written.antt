@@ -151,14 +151,14 @@ instance_written l r old new k at class index on d number o w h fine there puts 
     let low = got_short (spots_of old) number found.0 found.1 in
     let none_more : 0 + number ≡ number = omega arith in
     let before : thing_at (world_of n old) (value_of n on) ≡ Some (Instance (n.kind there.kind) (field_in n old.fields.entries number)) =
-        ap (λ (x : Datum). thing_at (world_of n old) (value_of n x)) there.is
-        ∙ thing_named n old.fields.entries 0 (spots_of old) number
-        ∙ ap (option_map (λ (s : Spot). thing_of n old.fields.entries (0 + number) s.shape)) found.1
-        ∙ ap (λ (x : Shape). Some (thing_of n old.fields.entries (0 + number) x)) found.2
-        ∙ ap (λ (j : ℕ). Some (Instance (n.kind there.kind) (field_in n old.fields.entries j))) none_more in
+    ap (λ (x : Datum). thing_at (world_of n old) (value_of n x)) there.is
+    ∙ thing_named n old.fields.entries 0 (spots_of old) number
+    ∙ ap (option_map (λ (s : Spot). thing_of n old.fields.entries (0 + number) s.shape)) found.1
+    ∙ ap (λ (x : Shape). Some (thing_of n old.fields.entries (0 + number) x)) found.2
+    ∙ ap (λ (j : ℕ). Some (Instance (n.kind there.kind) (field_in n old.fields.entries j))) none_more in
     let changed = with_instance (world_of n old) (key_at k at) (value_of n on) (value_of n d) in
     let after : changed (thing_at (world_of n old) (value_of n on)) ≡ Some (put_thing (world_of n old) (Object number) (Instance (n.kind there.kind) (put_field (key_at k at) (value_of n d) (field_in n old.fields.entries number)))) =
-        ap changed before ∙ ap (λ (x : Datum). Some (put_thing (world_of n old) (value_of n x) (Instance (n.kind there.kind) (put_field (key_at k at) (value_of n d) (field_in n old.fields.entries number))))) there.is in
+    ap changed before ∙ ap (λ (x : Datum). Some (put_thing (world_of n old) (value_of n x) (Instance (n.kind there.kind) (put_field (key_at k at) (value_of n d) (field_in n old.fields.entries number))))) there.is in
     subst (IsPut l old new true) (sym after) (record {
       named = λ i. record {
         heap = (ap (λ h. things_from n new.fields.entries 0 (map spot_of h.items)) heap

@@ -125,13 +125,7 @@ fn calls_out<'a>(
     let drafts = draft_values(alloc, tables, &state.world, call, values)?;
     let texts = call_texts(alloc, tables, call.method)?;
     reserve(state, drafts.len())?;
-    Ok(shows_call(
-        state,
-        call,
-        texts,
-        drafts,
-        tables.result_kind(call.method),
-    ))
+    Ok(shows_call(state, call, texts, drafts, tables.result_kind(call.method)))
 }
 
 /// Of a virtual or interface call that finds a native method the kind is virtual.

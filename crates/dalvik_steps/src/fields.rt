@@ -29,10 +29,10 @@ ghost use Rattle.dalvik_state.specs.Worlds.{spots_of};
 ghost use Rattle.dalvik_state.specs.declared.frame.Frame.{Frame};
 ghost use Rattle.dalvik_steps.specs.Reaching.{first_or_zero, object_in, AreTextsOf, FineMaybe, FirstThere, IsFieldOf, IsFirst, IsPut, IsReading, IsReserved, IsStep, IsUnwritten, IsWriting, PutsField, Rewrites};
 
+use crate::asking::{asks, reserve};
 use crate::starting::{Readied, readies};
 use dalvik_defs::Event;
 use dalvik_lookups::{Kind, Memo, known};
-use crate::asking::{asks, reserve};
 use dalvik_state::{
     Datum, Draft, Gifts, State, Tables, Thing, World, drafted, drafted_option, show, show_option,
     zero_of,
@@ -119,13 +119,7 @@ fn written_static(world: &World, slot: usize) -> Option<Datum>
 }
 
 /// What a static field holds.
-pub fn static_value(
-    tables: &Tables<'_>,
-    world: &World,
-    class: u32,
-    place: u32,
-    kind: Kind,
-) -> Datum
+pub fn static_value(tables: &Tables<'_>, world: &World, class: u32, place: u32, kind: Kind) -> Datum
     ensures named { (k : FieldKey) (at : Place) → IsRight tables.now.lookups → IsFieldOf tables.now.lookups k at class place → type_text tables.now.lookups.types kind ≡ k.kind → value_of (names_in tables.now.lookups) result ≡ static_value (world_of (names_in tables.now.lookups) world.now) k at }
     ensures fine { (k : FieldKey) (at : Place) → IsRight tables.now.lookups → IsSound tables.now.lookups world.now → IsFieldOf tables.now.lookups k at class place → IsFine (names_in tables.now.lookups) (length (spots_of world.now)) result }
 {
@@ -316,7 +310,14 @@ fn draft_value(
     ensures { IsRight tables.now.lookups → IsSound tables.now.lookups world.now → field < length tables.now.lookups.program.now.fields → IsFine (names_in tables.now.lookups) (length (spots_of world.now)) value → IfOk result (λ d. IsDraft (world_of (names_in tables.now.lookups) world.now) (field_at tables.now.lookups.program.now field).kind (value_of (names_in tables.now.lookups) value) d) }
 {
     let none = Gifts::new(alloc);
-    let draft = drafted(alloc, tables, world, &none, field_kind(tables, field), value)?;
+    let draft = drafted(
+        alloc,
+        tables,
+        world,
+        &none,
+        field_kind(tables, field),
+        value,
+    )?;
     Ok(draft)
 }
 
@@ -355,12 +356,7 @@ fn reads_out<'a>(
     let texts = field_texts(alloc, tables, reading.field)?;
     let draft = draft_on(alloc, tables, &state.world, reading.field, reading.on)?;
     reserve(state, 1)?;
-    Ok(asks_value(
-        state,
-        texts,
-        draft,
-        field_kind(tables, reading.field),
-    ))
+    Ok(asks_value(state, texts, draft, field_kind(tables, reading.field)))
 }
 
 /// Reads a static field of the program, whose class is initialised first.

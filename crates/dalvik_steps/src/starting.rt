@@ -321,11 +321,7 @@ pub fn initialises<'a>(
 }
 
 /// What waits below a class that has ended goes on.
-fn resumes<'a>(
-    alloc: Global,
-    tables: &Tables<'a>,
-    state: &mut State<'a>,
-) -> Result<(), AllocError>
+fn resumes<'a>(alloc: Global, tables: &Tables<'a>, state: &mut State<'a>) -> Result<(), AllocError>
     ensures ok { (steps : ℕ) (script : List Move) → AreRight tables.now.lookups → IsRunning tables.now.lookups steps state.old → state.old.ended ≡ false → OnOk result (IsLeft tables.now.lookups steps script state.new (resumes (run_face tables.now.lookups) (bodies_in tables.now.lookups) (world_in tables.now.lookups state.old) (classes_in tables.now.lookups state.old) (below_in tables.now.lookups state.old) (script_in script state.old))) }
     ensures err { OnErr result (IsReserved state.old state.new) }
 {

@@ -174,9 +174,7 @@ fn exhibited(
     match (flying.datum, flying.kind) {
         (Some(datum), _) => {
             let throwable = Kind::plain(known::THROWABLE);
-            Ok(Exhibit::Old(drafted(
-                alloc, tables, world, gifts, throwable, datum,
-            )?))
+            Ok(Exhibit::Old(drafted(alloc, tables, world, gifts, throwable, datum)?))
         }
         (None, Some(kind)) => Ok(Exhibit::New(tables.lookups.kind_text(alloc, kind)?)),
         (None, None) => Ok(Exhibit::New(Text::from_units(alloc, &[])?)),
@@ -455,12 +453,7 @@ fn draft_of(shown: Exhibit, datum: Datum) -> Draft
 }
 
 /// A thrown object goes down the stack to where it lands.
-fn descend(
-    state: &mut State<'_>,
-    wraps: &[usize],
-    landing: Landing,
-    datum: Datum,
-) -> Option<Event>
+fn descend(state: &mut State<'_>, wraps: &[usize], landing: Landing, datum: Datum) -> Option<Event>
     ensures { (l : Lookups) (steps : ℕ) (script : List Move) (whole : Next) → length script < 2 ^ 64 → IsRight l → IsFalling l steps script whole landing state.old wraps.now datum → IsEvent l steps script state.new result whole }
 {
     match landing {

@@ -8,7 +8,7 @@ use Rattle.dalvik_steps.proofs.Written.{puts_each}
 use Rattle.dalvik_steps.proofs.objects.write_lock.Goals as goal
 
 pub returns-in_err-insert-clause-err : goal.returns-in_err-insert-clause-err
-returns-in_err-insert-clause-err c = 
+returns-in_err-insert-clause-err c =
     let same : SameItems c.args.world.now (record c.args.world.now { locks = c.insert.new.self }) = record { heap = refl; fields = refl; statics = refl; locks = c.in_err-insert.ensures.err; exposed = refl } in
     err_of _ _ same
 

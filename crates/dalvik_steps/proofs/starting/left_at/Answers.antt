@@ -43,12 +43,12 @@ returns-in-Some-Initialiser c =
     let above = c.in-Some-Initialiser.above in
     let next = c.in-Some-Initialiser.next in
     let there : slice_get items c.args.place ≡ Some (waiting.Initialiser class above next) =
-        looked_at items c.as_slice.result.now c.args.place c.in-Some-Initialiser.field-0.now (waiting.Initialiser class above next) c.as_slice.ensures.value look.1 look.3.0 c.in-Some-Initialiser.field-0-is in
+    looked_at items c.as_slice.result.now c.args.place c.in-Some-Initialiser.field-0.now (waiting.Initialiser class above next) c.as_slice.ensures.value look.1 look.3.0 c.in-Some-Initialiser.field-0-is in
     let v = c.as_slice-in-Some-Initialiser.ensures.value in
     let count : c.len.result ≡ length above.items = omega arith in
     let few : length above.items ≤ 18446744073709551615 = omega arith in
     let from : c.saturating_add.result ≡ min (next + c.args.more) 18446744073709551615 = omega arith in
     let left = ap (drop c.left_of-left.result) (sym v) ∙ c.left_of-left.ensures ∙ ap (λ (ys : List ℕ). left_in statuses (drop c.saturating_add.result ys)) v
-        ∙ ap (left_in statuses) (ap (λ (n : ℕ). drop n above.items) from ∙ drop_far above.items (next + c.args.more) few) in
+    ∙ ap (left_in statuses) (ap (λ (n : ℕ). drop n above.items) from ∙ drop_far above.items (next + c.args.more) few) in
     subst (λ (o : Option Waiting). Looks statuses c.args.more o (Some (class, c.rest_from.result))) (sym there)
     (record { rest = c.rest_from.result; is = refl; left = left_place above.items (left_in statuses (drop (next + c.args.more) above.items)) c.left_of-left.result c.len.result c.rest_from.result left count c.rest_from.ensures })

@@ -16,7 +16,7 @@ pub returns-in_err-above-clause-kept : goal.returns-in_err-above-clause-kept
 returns-in_err-above-clause-kept c = λ steps run low. c.initialised_first.ensures.kept run.kept
 
 pub returns-in_err-above-clause-err : goal.returns-in_err-above-clause-err
-returns-in_err-above-clause-err c = λ steps run low. 
+returns-in_err-above-clause-err c = λ steps run low.
     let u : IsUndoneWith c.args.tables.now.lookups steps c.initialised_first.new.memo c.args.state.now c.args.state.now = record { undone = undone_self c.args.tables.now.lookups steps c.args.state.now run.state run.on; kept = c.initialised_first.ensures.kept run.kept } in
     on_err _ _ u
 

@@ -47,7 +47,7 @@ loop-handler-preserved c =
     let same = item_same xs i (record { kind = 0; position = 0 }) c.loop-handler-test.true in
     let above = (run_face l).under (kind_text l c.args.kind) in
     let own : IsRight l → AreHandlers l c.args.region.now → IsType l.types c.kind-own.result (type_at l.program.now x.kind) =
-        λ r h. handler_type l r c.args.region.now xs i x c.kind-own.result h c.as_slice-handler-items.ensures c.loop-handler-test.true same c.kind-own.ensures.is in
+    λ r h. handler_type l r c.args.region.now xs i x c.kind-own.result h c.as_slice-handler-items.ensures c.loop-handler-test.true same c.kind-own.ensures.is in
     record {
       kept = λ r k m h. c.is_kind_under.ensures.kept r (c.loop-handler.invariant.kept r k m h) m (own r h).kind;
       same = λ r k m h.

@@ -55,7 +55,7 @@ returns-clause-ok c = λ steps script few run thrown.
     let way = c.in_ok-flight.ensures.flies steps run given with low in
     let none : length g.things.items ≡ 0 = ap length e in
     let event = c.land.ensures l steps script few run.right (running_same l steps old mid run.state same) (same.ended ∙ run.on) (still_thrown l old mid t f.thrown same way.thrown thrown)
-        (flight_begins l old mid g t c.len-top.result f e same top way) (subst (λ (k : ℕ). HasFlightRoom mid.world k f) none c.in_ok-flight.ensures.room) in
+    (flight_begins l old mid g t c.len-top.result f e same top way) (subst (λ (k : ℕ). HasFlightRoom mid.world k f) none c.in_ok-flight.ensures.room) in
     record {
       event = subst (IsEvent l steps script c.land.new.state c.land.result) (ap (λ (u : Thrown). thrown_by l u (world_in l mid) (classes_in l mid) (stack_in l mid) (script_in script mid)) way.thrown ∙ thrown_same l script old mid t same) event;
       kept = c.plan.ensures.kept steps run given with low;

@@ -21,3 +21,4 @@ pub mod Indexed
 pub mod Short
 pub mod Declaring
 pub mod Playing
+mod Accepted

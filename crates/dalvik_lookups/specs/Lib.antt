@@ -11,3 +11,4 @@ pub mod Facing
 pub mod Rising
 pub mod Declaring
 pub mod Playing
+pub mod Accepting

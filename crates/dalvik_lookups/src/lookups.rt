@@ -1,6 +1,6 @@
 //! All tables of a program, made once.
 
-ghost use Rattle.std.specs.Prelude.{◌≡◌, ◌<◌, ◌^◌, ◌&&◌, ◌||◌, ◌⊎◌, not, ℕ, true, length, map, nat_eq, cond, Some, None, slice_get, slice_set, slice_index_or, IfOk, IfSome, OnOk, vec_len, replicate};
+ghost use Rattle.std.specs.Prelude.{◌≡◌, ◌<◌, ◌^◌, ◌&&◌, ◌||◌, ◌⊎◌, not, ℕ, true, length, map, nat_eq, cond, Some, None, slice_get, slice_set, slice_index_or, IfOk, IfSome, IsSome, OnOk, vec_len, replicate};
 ghost use Rattle.std.specs.Option.{option_copied};
 ghost use Rattle.program_model.specs.declared.pools.MethodName.{MethodName};
 ghost use Rattle.program_model.specs.Lookups as look;
@@ -11,6 +11,7 @@ ghost use Rattle.class_defs.specs.Finding.{resolves_field};
 ghost use Rattle.class_defs.specs.Members.{is_interface, is_common};
 ghost use Rattle.class_defs.specs.Starts.{initialiser_place};
 ghost use Rattle.hierarchy.specs.Shapes.{IsOf, IsResolved};
+ghost use Rattle.dalvik_lookups.specs.Accepting.{IsAccepted};
 ghost use Rattle.dalvik_lookups.specs.Facing.{IsFace};
 ghost use Rattle.dalvik_lookups.specs.Playing.{ArePlays};
 ghost use Rattle.dalvik_lookups.specs.Reached.{AreTypeMarks, IsOuter};
@@ -410,9 +411,11 @@ fn both_of<'a>(
     Ok((tables, made.plays))
 }
 
-/// The classes of a program, none where they have a fault.
+/// The classes of a program, none just where they have a fault.
 fn build(alloc: Global, program: &Program) -> Result<Option<Hierarchy>, AllocError>
-    ensures { is_well_formed program.now ≡ true → IfOk result (λ made. IfSome made (λ hierarchy. IsResolved program.now hierarchy)) }
+    ensures resolved { is_well_formed program.now ≡ true → IfOk result (λ made. IfSome made (λ hierarchy. IsResolved program.now hierarchy)) }
+    ensures accepted { is_well_formed program.now ≡ true → IfOk result (λ made. IfSome made (λ _. IsAccepted program.now)) }
+    ensures some { is_well_formed program.now ≡ true → IsAccepted program.now → IfOk result (λ made. IsSome made) }
 {
     match Hierarchy::build(alloc, program) {
         Ok(hierarchy) => Ok(Some(hierarchy)),
@@ -422,8 +425,8 @@ fn build(alloc: Global, program: &Program) -> Result<Option<Hierarchy>, AllocErr
 }
 
 impl<'a> Lookups<'a> {
-    /// The tables of a program and a framework, and the moves of a script by numbers; none where the program's classes
-    /// have a fault. The only error is want of memory.
+    /// The tables of a program and a framework, and the moves of a script by numbers; none just where a class has the
+    /// type of an earlier one, is its own ancestor, or has a split override. The only error is want of memory.
     pub fn new(
         alloc: Global,
         program: &'a Program,
@@ -431,6 +434,8 @@ impl<'a> Lookups<'a> {
         framework: &'a Framework,
         script: &'a [Move],
     ) -> Result<Option<(Lookups<'a>, Vec<Play>)>, AllocError>
+        ensures accepted { is_well_formed program.now ≡ true → IfOk result (λ made. IfSome made (λ _. IsAccepted program.now)) }
+        ensures some { is_well_formed program.now ≡ true → IsAccepted program.now → IfOk result (λ made. IsSome made) }
         ensures program { IfOk result (λ made. IfSome made (λ both. both.0.program.now ≡ program.now)) }
         ensures framework { IfOk result (λ made. IfSome made (λ both. both.0.framework.now ≡ framework.now)) }
         ensures outer { IfOk result (λ made. IfSome made (λ both. IsOuter program.now outside.now both.0.outer)) }

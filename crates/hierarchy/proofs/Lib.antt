@@ -34,3 +34,5 @@ mod Ranging
 mod Toured
 mod Listed
 mod Overriding
+mod Differing
+mod Definers

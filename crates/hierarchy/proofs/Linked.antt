@@ -46,10 +46,10 @@ or_short (suc a) (suc b) = elim (or_short a b) [ inl l ↦ inl (omega (arith, l)
 
 -- ---- one number more in one row
 
-added_other : (rows : List (List ℕ)) (u x d : ℕ) → (d ≡ u → ⊥) → row_of (add_to rows u x) d ≡ row_of rows d
+pub added_other : (rows : List (List ℕ)) (u x d : ℕ) → (d ≡ u → ⊥) → row_of (add_to rows u x) d ≡ row_of rows d
 added_other rows u x d h = ap row_or_empty (got_set_other rows u d (row_of rows u ++ x ∷ []) h)
 
-added_same : (rows : List (List ℕ)) (u x : ℕ) → u < length rows → row_of (add_to rows u x) u ≡ row_of rows u ++ x ∷ []
+pub added_same : (rows : List (List ℕ)) (u x : ℕ) → u < length rows → row_of (add_to rows u x) u ≡ row_of rows u ++ x ∷ []
 added_same rows u x l = ap row_or_empty (got_set_here rows u (row_of rows u ++ x ∷ []) l)
 
 added_past : (rows : List (List ℕ)) (u x d : ℕ) → (u < length rows → ⊥) → row_of (add_to rows u x) d ≡ row_of rows d
@@ -78,7 +78,7 @@ added_in rows u x d c i = elim (or_short u (length rows)) [
 
 -- ---- and in several rows
 
-all_length : (rows : List (List ℕ)) (us : List ℕ) (x : ℕ) → length (add_to_all rows us x) ≡ length rows
+pub all_length : (rows : List (List ℕ)) (us : List ℕ) (x : ℕ) → length (add_to_all rows us x) ≡ length rows
 all_length rows [] x = refl
 all_length rows (u ∷ us) x = all_length (add_to rows u x) us x ∙ set_length rows u (row_of rows u ++ x ∷ [])
 

@@ -104,7 +104,7 @@ few_names p h = short_tables p (short_of p h)
 
 -- ---- the members of a class differ
 
-members_differ : (p : Program) (c : Class) → class_fits p c ≡ true → (all_differ own_field_key c.fields ≡ true) × (all_differ own_method_key c.methods ≡ true)
+pub members_differ : (p : Program) (c : Class) → class_fits p c ≡ true → (all_differ own_field_key c.fields ≡ true) × (all_differ own_method_key c.methods ≡ true)
 unfolding class_fits fields_fit methods_fit
 members_differ p c h =
     let two = and_right (types_of_class_fit p c && (source_fits p c.source && marks_fit p c.marks)) (fields_fit p c.name c.fields && methods_fit p c.name c.methods) h in

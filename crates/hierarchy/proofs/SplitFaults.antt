@@ -165,10 +165,9 @@ module _ (p : Program) (wf : is_well_formed p ≡ true) (once : (class : ℕ) �
         apart = λ e. apart.apart (ap (package_in p) upper.is ∙ sym e ∙ sym (ap (package_in p) own.is));
       }
 
-  pub split_none : (class name : ℕ) (above : Map) → TellsAll p keys special (super_place p class) above → SplitOf p keys special class above None → IsSplit p class name → ⊥
-  split_none class name above t none i =
+  pub split_off : (class name : ℕ) (above : Map) → TellsAll p keys special (super_place p class) above → (i : IsSplit p class name) → splits p keys special class above i.m ≡ false → ⊥
+  split_off class name above t i off =
       let virtual : is_virtual_by special i.m ≡ true = virtual_is i.m ∙ not_direct (is_direct p i.m) i.has.is_virtual in
-      let off : splits p keys special class above i.m ≡ false = none i.has.place i.m (ap (λ o. slice_get (methods_in o) i.has.place) i.has.is_class ∙ i.has.is_method) in
       let apart : is_apart p (finite.get above (key_at keys i.m.name)) class ≡ false = sym (ap (λ b. b && is_apart p (finite.get above (key_at keys i.m.name)) class) virtual) ∙ off in
       let up_virtual : is_virtual_by special i.above ≡ true = virtual_is i.above ∙ not_direct (is_direct p i.above) i.above_has.is_virtual in
       let same_key : key_at keys i.above.name ≡ key_at keys i.m.name = keyed.same i.above.name i.m.name i.above_name i.name i.above_has.named i.has.named (pair_same i.above_name i.name (sym i.same_name) (sym i.same_proto)) in
@@ -181,6 +180,13 @@ module _ (p : Program) (wf : is_well_formed p ≡ true) (once : (class : ℕ) �
       pair_same : (a b : MethodName) → a.name ≡ b.name → a.proto ≡ b.proto → method_pair a ≡ method_pair b
       pair_same a b e f = ap (λ n. (n, a.proto)) e ∙ ap (λ q. (b.name, q)) f
 
+  -- where the method stands among those of the class
+  split_at : (class name : ℕ) (i : IsSplit p class name) → slice_get (methods_at p class) i.has.place ≡ Some i.m
+  split_at class name i = ap (λ o. slice_get (methods_in o) i.has.place) i.has.is_class ∙ i.has.is_method
+
+  pub split_none : (class name : ℕ) (above : Map) → TellsAll p keys special (super_place p class) above → SplitOf p keys special class above None → IsSplit p class name → ⊥
+  split_none class name above t none i = split_off class name above t i (none i.has.place i.m (split_at class name i))
+
   -- ---- all classes
 
   module _ (supers : List ℕ) (ups_are : (c : ℕ) → read_at supers c ≡ super_place p c) (long : length supers ≡ length p.classes) where
@@ -192,8 +198,10 @@ module _ (p : Program) (wf : is_well_formed p ≡ true) (once : (class : ℕ) �
         by_super (Some s) e = h.each s (super_short p class s e)
 
     pub splits_first : (r : Option (ℕ × ℕ)) → AnswersSplit p keys special supers r → SplitsFirst p r
+    unfolding split_is
     splits_first None a = λ class method i. split_none class method (map_of a.maps (read_at supers class)) (tells_above a.maps class a.has) (a.is class (let l = got_short p.classes class i.c i.has.is_class in omega (arith, l, long))) i
     splits_first (Some found) a = record {
       is = split_is found.0 found.1 (map_of a.maps (read_at supers found.0)) (tells_above a.maps found.0 a.has) a.is.is;
       first = λ other number l i. split_none other number (map_of a.maps (read_at supers other)) (tells_above a.maps other a.has) (a.is.first other l) i;
+      front = λ number i l. split_off found.0 number (map_of a.maps (read_at supers found.0)) (tells_above a.maps found.0 a.has) i (a.is.is.front i.has.place i.m l (split_at found.0 number i));
     }

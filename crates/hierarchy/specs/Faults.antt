@@ -13,7 +13,7 @@ IsTwiceOr placing (Twice class) = placing ≡ Err class
 IsTwiceOr placing (Cycle class) = ⊥
 IsTwiceOr placing (SplitOverride class method) = ⊥
 
--- want of memory, or the first class with a split override
+-- want of memory, or the first class with a split override and its first such method
 abbrev pub IsSplitOr : Program → HierarchyFault → Type 0
 IsSplitOr p NoMemory = Unit {0}
 IsSplitOr p (Twice class) = ⊥

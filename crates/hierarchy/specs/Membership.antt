@@ -57,6 +57,10 @@ pub record AreShort (rows : List (List ℕ)) : Type 0 where
   pub few : length rows < 2 ^ 32
   pub each : (c : ℕ) (row : List ℕ) → slice_get rows c ≡ Some row → length row < 2 ^ 32
 
+-- no row has a key twice
+pub record StandOnce (rows : List (List ℕ)) : Type 0 where
+  pub once : (c i j k : ℕ) (row : List ℕ) → slice_get rows c ≡ Some row → slice_get row i ≡ Some k → slice_get row j ≡ Some k → i ≡ j
+
 abbrev pub field_rows : List ℕ → List Class → List (List ℕ)
 field_rows keys cs = map (λ c. map (λ f. key_at keys f.name) c.fields) cs
 

@@ -1,13 +1,15 @@
 -- What the tables of names say of a program.
-use Rattle.std.specs.Prelude.{◌≡◌, ◌==◌, ◌&&◌, ◌||◌, ℕ, Bool, false, List, [], ◌∷◌, map, Option, Some, nat_eq, codes, slice_get, slice_index_or}
+use Rattle.std.specs.Prelude.{◌≡◌, ◌<◌, ◌==◌, ◌&&◌, ◌||◌, ℕ, Bool, false, List, [], ◌∷◌, map, length, Option, Some, is_some, nat_eq, codes, slice_get, slice_index_or}
+use Rattle.std.specs.List.{filter, range_with_len}
 use Rattle.std.specs.Cmp.Lexicographic.{pointwise}
 use Rattle.program_model.specs.declared.pools.Proto.{Proto}
-use Rattle.class_defs.specs.Members.{proto_is, is_common}
+use Rattle.class_defs.specs.Members.{proto_is, is_common, own_method}
 use Rattle.program_model.specs.declared.pools.MethodName.{MethodName}
 use Rattle.program_model.specs.declared.pools.FieldName.{FieldName}
 use Rattle.program_model.specs.declared.program.Program.{Program}
 use Rattle.program_model.specs.Texts.{first_unit, string_text}
 use Rattle.hierarchy.specs.Membership.{key_at, field_pair, method_pair, AreKeys, found_in, place_in_rows, field_rows, method_rows, AreShort}
+use Rattle.hierarchy.specs.Tables.{row_of}
 use Rattle.hierarchy.specs.declared.build.Named.{Named}
 use Rattle.hierarchy.specs.declared.build.Hierarchy.{Hierarchy}
 
@@ -27,12 +29,25 @@ common_by p units proto = (pointwise nat_eq units (codes "equals") && proto_is p
 pub record AreCommon (p : Program) (methods : List MethodName) (keys : List ℕ) (marks : List Bool) : Type 0 where
   pub at : (i : ℕ) (x : MethodName) → slice_get methods i ≡ Some x → slice_index_or marks (key_at keys i) false ≡ is_common p x.name x.proto
 
--- keys for names, the places of the members by key, and which names begin with <
+-- the classes that define a method of a name and a proto, in file order
+abbrev pub definers_of : Program → ℕ → ℕ → List ℕ
+definers_of p name proto = filter (λ c. is_some (own_method p name proto c)) (range_with_len 0 (length p.classes))
+
+-- the rows in which a key stands, in order
+abbrev pub definers_by : List (List ℕ) → ℕ → List ℕ
+definers_by rows key = filter (λ c. is_some (place_in_rows rows c key)) (range_with_len 0 (length rows))
+
+-- for each key below a count there is a list of the rows in which it stands
+pub record AreDefiners (rows : List (List ℕ)) (count : ℕ) (definers : List (List ℕ)) : Type 0 where
+  pub at : (key : ℕ) → key < count → row_of definers key ≡ definers_by rows key
+
+-- keys for names, the places of the members by key, the classes of each key, and which names begin with <
 pub record IsNamed (p : Program) (n : Named) : Type 0 where
   pub field_keys : AreKeys field_pair p.fields n.field_keys.keys.items n.field_keys.count
   pub method_keys : AreKeys method_pair p.methods n.method_keys.keys.items n.method_keys.count
   pub fields : (class key : ℕ) → found_in n.fields class key ≡ place_in_rows (field_rows n.field_keys.keys.items p.classes) class key
   pub methods : (class key : ℕ) → found_in n.methods class key ≡ place_in_rows (method_rows n.method_keys.keys.items p.classes) class key
+  pub definers : AreDefiners (method_rows n.method_keys.keys.items p.classes) n.method_keys.count n.definers.rows
   pub special : n.special.items ≡ map (is_special p) p.methods
   pub common : AreCommon p p.methods n.method_keys.keys.items n.of_object.items
 

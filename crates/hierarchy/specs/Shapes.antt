@@ -81,7 +81,7 @@ abbrev pub IsAcyclic : Program → Type 0
 IsAcyclic p = (class : ℕ) → IsAncestor p class class → ⊥
 
 -- no class has the type of an earlier one or is its own ancestor, and this is the first that repeats a package-private method
--- of another package, by this method
+-- of another package, and this the first of its methods that does
 pub record IsSplitFirst (p : Program) (class method : ℕ) : Type 0 where
   pub once : (other : ℕ) → IsTwice p other → ⊥
   pub acyclic : IsAcyclic p

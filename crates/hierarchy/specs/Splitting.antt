@@ -118,6 +118,7 @@ pub record FirstSplit (p : Program) (keys : List ℕ) (special : List Bool) (cla
   pub place : ℕ
   pub method : Method
   pub is : slice_get (methods_at p class) place ≡ Some method
+  pub front : (other : ℕ) (m : Method) → other < place → slice_get (methods_at p class) other ≡ Some m → splits p keys special class above m ≡ false
   pub splits : splits p keys special class above method ≡ true
   pub named : name ≡ method.name
 
@@ -141,13 +142,14 @@ pub record AnswersSplit (p : Program) (keys : List ℕ) (special : List Bool) (s
 
 -- ---- by the program's definitions
 
--- no class has a split override, or this one is the first that has, by this method
+-- no class has a split override, or this one is the first that has, and this its first method that is one
 abbrev pub NoSplit : Program → Type 0
 NoSplit p = (class method : ℕ) → IsSplit p class method → ⊥
 
 pub record IsFirstSplit (p : Program) (class method : ℕ) : Type 0 where
   pub is : IsSplit p class method
   pub first : (other number : ℕ) → other < class → IsSplit p other number → ⊥
+  pub front : (number : ℕ) (other : IsSplit p class number) → other.has.place < is.has.place → ⊥
 
 abbrev pub SplitsFirst : Program → Option (ℕ × ℕ) → Type 0
 SplitsFirst p None = NoSplit p

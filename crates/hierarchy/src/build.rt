@@ -255,6 +255,7 @@ fn key_fields(alloc: Global, program: &Program) -> Result<Keyed, AllocError>
 
 /// The methods by key.
 fn key_methods(alloc: Global, program: &Program) -> Result<Keyed, AllocError>
+    ensures rows { IfOk result (λ keyed. keyed.rows.rows ≡ method_rows keyed.keys.keys.items program.now.classes) }
     ensures keys { is_well_formed program.now ≡ true → IfOk result (λ keyed. AreKeys method_pair program.now.methods keyed.keys.keys.items keyed.keys.count) }
     ensures found { is_well_formed program.now ≡ true → IfOk result (λ keyed. (class key : ℕ) → found_in keyed.members class key ≡ place_in_rows (method_rows keyed.keys.keys.items program.now.classes) class key) }
 {
@@ -308,7 +309,7 @@ fn find_starts(alloc: Global, program: &Program, shape: &Shape) -> Result<Starts
     })
 }
 
-/// The first class with a split override, and the number of its method.
+/// The first class with a split override, and the number of its first method that is one.
 fn find_split(
     alloc: Global,
     program: &Program,
@@ -376,8 +377,9 @@ fn complete(alloc: Global, program: &Program, shape: Shape) -> Result<Hierarchy,
 }
 
 impl Hierarchy {
-    /// The hierarchy of a program's classes. `Twice` is looked for first, then `Cycle`, then `SplitOverride`; else the
-    /// only error is want of memory.
+    /// The hierarchy of a program's classes. `Twice` is looked for first, then `Cycle`, then `SplitOverride`, each at the
+    /// first such class in file order, and of the split overrides of a class the first among its methods; else the only
+    /// error is want of memory.
     pub fn build(alloc: Global, program: &Program) -> Result<Hierarchy, HierarchyFault>
         ensures size { IfOk result (λ hierarchy. vec_len hierarchy.shape.places ≡ length program.now.types) }
         ensures is { is_well_formed program.now ≡ true → IfOk result (λ hierarchy. IsOf program.now hierarchy) }

@@ -20,7 +20,7 @@ ghost use Rattle.program_model.specs.declared.pools.MethodName.{MethodName};
 ghost use Rattle.class_defs.specs.Members.{own_method, own_virtual, virtual_only, is_common, is_interface, has_code};
 ghost use Rattle.class_defs.specs.Finding.{is_037, beside, finds_from, finds_static, finds_virtual, one_or_none, without_repeats, candidates_from, candidates, is_lowest, lowest, verdict};
 ghost use Rattle.hierarchy.specs.Membership.{key_at};
-ghost use Rattle.hierarchy.specs.Naming.{IsKey};
+ghost use Rattle.hierarchy.specs.Naming.{IsKey, definers_of};
 
 use crate::build::Hierarchy;
 use crate::members::{is_virtual, key_of};
@@ -161,7 +161,9 @@ impl Hierarchy {
     }
 
     /// The classes that define a method with the key, in file order.
-    pub fn definers_of(&self, key: u32) -> &[u32] {
+    pub fn definers_of(&self, key: u32) -> &[u32]
+        ensures { (p : Program) (name proto : ℕ) → IsOf p self.now → IsKey p self.now key name proto → result.now ≡ definers_of p name proto }
+    {
         self.named.definers.row(key)
     }
 

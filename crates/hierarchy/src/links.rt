@@ -128,8 +128,8 @@ fn note_super(below: &mut Links, class: u32, above: Option<u32>) -> Result<(), A
     }
 }
 
-/// Adds a class to the lists of the interfaces of its list.
-fn note_all(below: &mut Links, class: u32, list: &[u32]) -> Result<(), AllocError>
+/// Adds a class to the list of each of some places.
+pub fn note_all(below: &mut Links, class: u32, list: &[u32]) -> Result<(), AllocError>
     ensures { OnOk result (below.new.rows ≡ add_to_all below.old.rows list.now class) }
 {
     for up in list {

@@ -2,9 +2,10 @@
 
 ghost use Rattle.std.specs.Prelude.{◌≡◌, ℕ, ◌<◌, ◌^◌, List, map, length, IfOk, OnOk, Some, None, nat_eq, slice_get, slice_index_or, cond, ◌&&◌};
 ghost use Rattle.std.specs.Option.{option_or};
-ghost use Rattle.hierarchy.specs.Membership.{found_in, key_at, IsIndex, AreShort, index_of_row, one_at, method_rows, field_rows, is_virtual_by};
+ghost use Rattle.hierarchy.specs.Naming.{AreDefiners};
+ghost use Rattle.hierarchy.specs.Membership.{found_in, key_at, IsIndex, AreShort, StandOnce, index_of_row, one_at, method_rows, field_rows, is_virtual_by};
 
-use crate::links::{Links, empty_rows};
+use crate::links::{Links, empty_rows, note_all};
 use crate::table::{NONE, is_on, word};
 use indexmap::IndexMap;
 use program_model::{Class, Flags, Method};
@@ -69,12 +70,12 @@ pub fn members_of(alloc: Global, rows: &Links) -> Result<Members, AllocError>
 }
 
 /// For each of so many keys the classes that define a member with it, in file order.
-pub fn definers(alloc: Global, rows: &Links, count: usize) -> Result<Links, AllocError> {
+pub fn definers(alloc: Global, rows: &Links, count: usize) -> Result<Links, AllocError>
+    ensures { AreShort rows.now.rows → StandOnce rows.now.rows → IfOk result (λ definers. AreDefiners rows.now.rows count definers.rows) }
+{
     let mut definers = empty_rows(alloc, count)?;
     for (place, row) in rows.rows.as_slice().iter().enumerate() {
-        for key in row.as_slice() {
-            definers.add(*key, word(place))?;
-        }
+        note_all(&mut definers, word(place), row.as_slice())?;
     }
     Ok(definers)
 }

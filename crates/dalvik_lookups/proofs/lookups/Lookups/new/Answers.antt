@@ -20,10 +20,10 @@ pub returns-clause-classes : goal.returns-clause-classes
 returns-clause-classes c = c.in_ok-both.ensures.classes
 
 pub returns-clause-tables : goal.returns-clause-tables
-returns-clause-tables c = λ w. c.in_ok-both.ensures.tables w (there c.in_ok-hierarchy.field-0 (IsResolved c.args.program.now) c.in-Some.hierarchy c.in-Some.is (c.in_ok-hierarchy.ensures w))
+returns-clause-tables c = λ w. c.in_ok-both.ensures.tables w (there c.in_ok-hierarchy.field-0 (IsResolved c.args.program.now) c.in-Some.hierarchy c.in-Some.is (c.in_ok-hierarchy.ensures.resolved w))
 
 pub returns-clause-face : goal.returns-clause-face
-returns-clause-face c = λ w. right_face c.in_ok-both.both.0 (c.in_ok-both.ensures.tables w (there c.in_ok-hierarchy.field-0 (IsResolved c.args.program.now) c.in-Some.hierarchy c.in-Some.is (c.in_ok-hierarchy.ensures w)))
+returns-clause-face c = λ w. right_face c.in_ok-both.both.0 (c.in_ok-both.ensures.tables w (there c.in_ok-hierarchy.field-0 (IsResolved c.args.program.now) c.in-Some.hierarchy c.in-Some.is (c.in_ok-hierarchy.ensures.resolved w)))
 
 pub returns-clause-plays : goal.returns-clause-plays
 returns-clause-plays c = λ w. c.in_ok-both.ensures.plays w

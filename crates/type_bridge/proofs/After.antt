@@ -390,14 +390,14 @@ module _ (s : Setting) (c : Class) (m : Method) (i : IsSet s c m) (n : ℕ) (a :
 
   -- ---- calls
 
-  own_is : own ≡ kind_named s.program.now (kind_of s.tables.now s.kind)
+  pub own_is : own ≡ kind_named s.program.now (kind_of s.tables.now s.kind)
   own_is = ap (λ k. name.kind_of (named s.program.now) (type_at s.program.now k)) (sym i.kind) ∙ sym (kind_is s.program.now s.tables.now i.told s.kind)
 
   class_letter : (u : Text) → first_unit u ≡ 76 → text.is_class_type u ≡ true
   class_letter [] e = absurd (omega (arith, e))
   class_letter (u ∷ us) e = number_test u 76 e
 
-  own_made : is_initialised (kind_of s.tables.now s.kind) ≡ true
+  pub own_made : is_initialised (kind_of s.tables.now s.kind) ≡ true
   own_made = made_type s.program.now s.tables.now i.told s.kind (ap (λ k. text.is_class_type (type_at s.program.now k)) i.kind ∙ class_letter (type_at s.program.now c.name) (class_unit s.program.now s.tables.now i.told s.class c i.class))
 
   result_kind : (q : ℕ) (e : MethodIs s.program.now s.tables.now i.told q) → name.kind_of (named s.program.now) (method_at s.program.now q).signature.result ≡ kind_named s.program.now (kind_of s.tables.now (result_of s.program.now q))

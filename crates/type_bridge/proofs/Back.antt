@@ -1,6 +1,6 @@
 -- From names back to numbers: each kind by names has a kind by numbers, null for a class or an array that has none, and what
 -- is at or below another one is so by number.
-use Rattle.std.proofs.Common.{◌≡◌, ℕ, zero, suc, ◌<◌, Bool, true, false, true≢false, nat_eq, nat_lt, [], length, Option, Some, None, refl, sym, ap, ◌∙◌, subst, arith, lt-ltb}
+use Rattle.std.proofs.Common.{◌≡◌, ℕ, zero, suc, ◌+◌, ◌<◌, Bool, true, false, true≢false, nat_eq, nat_lt, [], length, Option, Some, None, refl, sym, ap, ◌∙◌, subst, arith, lt-ltb}
 use Rattle.std.specs.Prelude.{◌&&◌, ◌||◌, is_some, if◌then◌else◌}
 use Rattle.std.specs.Option.{option_map}
 use Rattle.class_defs.proofs.Positions.{number_of, both, entry_at, place_entry, PlaceFits}
@@ -30,17 +30,18 @@ use Rattle.type_bridge.proofs.Texts.{First, first_of, few_types, class_text, tex
 
 -- ---- the kind by numbers of a kind by names
 
--- no type of the program has this number
-abbrev pub type_or : Program → Option ℕ → ℕ
-type_or p None = length p.types
-type_or p (Some k) = k
+-- The number of a type of this name. Where the program has none it is a number that no type has, another one for a name of
+-- another length.
+abbrev pub type_or : Program → Text → Option ℕ → ℕ
+type_or p u None = length p.types + length u
+type_or p u (Some k) = k
 
 abbrev pub or_null : Option number.Kind → number.Kind
 or_null None = kind.Null
 or_null (Some k) = k
 
 abbrev pub numbered : Program → Kind → number.Kind
-numbered p (Fresh u n) = kind.Fresh (type_or p (type_named p u)) n
+numbered p (Fresh u n) = kind.Fresh (type_or p u (type_named p u)) n
 numbered p k = or_null (kind_number p k)
 
 -- what holds of the kind of a class, and of that of an array
@@ -135,7 +136,7 @@ module _ (p : Program) (t : Tables) (d : Told p t) where
     where
       by : (o : Option ℕ) → type_named p u ≡ o → Sense p (Fresh u n)
       by None e = no_type u n refl e
-      by (Some k) e = let r = type_is u k e in known (kind.Fresh k n) (lt-ltb k (length p.types) r.0) (ap (λ v. Fresh v n) r.1) (ap (λ o. kind.Fresh (type_or p o) n) e)
+      by (Some k) e = let r = type_is u k e in known (kind.Fresh k n) (lt-ltb k (length p.types) r.0) (ap (λ v. Fresh v n) r.1) (ap (λ o. kind.Fresh (type_or p u o) n) e)
 
   -- ---- what is at or below a kind that there is none of
 

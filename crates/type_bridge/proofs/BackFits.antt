@@ -112,7 +112,7 @@ module _ (p : Program) (t : Tables) (d : Told p t) where
   of_number : (k : Kind) (x : number.Kind) → kind_number p k ≡ Some x → numbered p k ≡ x
   of_number (Fresh u n) x e = by (type_named p u) e
     where
-      by : (o : Option ℕ) → option_map (λ k. kind.Fresh k n) o ≡ Some x → kind.Fresh (type_or p o) n ≡ x
+      by : (o : Option ℕ) → option_map (λ k. kind.Fresh k n) o ≡ Some x → kind.Fresh (type_or p u o) n ≡ x
       by None e = absurd (cc)
       by (Some k) e = let s : kind.Fresh k n ≡ x = cc in s
   of_number k x e = ap or_null e

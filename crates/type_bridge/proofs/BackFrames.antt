@@ -122,9 +122,9 @@ wrote_back p r k a = ap (λ l. record (kinds_numbered p a) { registers = l }) (w
 -- ---- what was made at a position
 
 forgotten_back : (p : Program) (n : ℕ) (k : Kind) → forgotten n (numbered p k) ≡ numbered p (by_name.forgotten n k)
-forgotten_back p n (Fresh u m) = ap (λ b. if b then kind.Undefined else kind.Fresh (type_or p (type_named p u)) m) (number_swaps m n) ∙ by (nat_eq n m)
+forgotten_back p n (Fresh u m) = ap (λ b. if b then kind.Undefined else kind.Fresh (type_or p u (type_named p u)) m) (number_swaps m n) ∙ by (nat_eq n m)
   where
-    by : (b : Bool) → (if b then kind.Undefined else kind.Fresh (type_or p (type_named p u)) m) ≡ numbered p (elim b as (λ b. Kind) [ true ↦ Undefined | false ↦ Fresh u m ])
+    by : (b : Bool) → (if b then kind.Undefined else kind.Fresh (type_or p u (type_named p u)) m) ≡ numbered p (elim b as (λ b. Kind) [ true ↦ Undefined | false ↦ Fresh u m ])
     by true = refl
     by false = refl
 forgotten_back p n (ClassKind u) = for_class p (λ x. forgotten n x ≡ x) u refl (λ c. refl)
@@ -175,18 +175,18 @@ module _ (p : Program) (t : Tables) (d : Told p t) where
 
   -- ---- objects that aren't made
 
-  pub type_number : (c : ℕ) → c < length p.types → type_or p (type_named p (type_at p c)) ≡ c
-  type_number c h = ap (type_or p) (type_back p t d c h)
+  pub type_number : (c : ℕ) → c < length p.types → type_or p (type_at p c) (type_named p (type_at p c)) ≡ c
+  type_number c h = ap (type_or p (type_at p c)) (type_back p t d c h)
 
-  pub fresh_text : (u : Text) (c : ℕ) → c < length p.types → nat_eq (type_or p (type_named p u)) c ≡ text_eq u (type_at p c)
+  pub fresh_text : (u : Text) (c : ℕ) → c < length p.types → nat_eq (type_or p u (type_named p u)) c ≡ text_eq u (type_at p c)
   fresh_text u c h = by (type_named p u) refl
     where
-      by : (o : Option ℕ) → type_named p u ≡ o → nat_eq (type_or p (type_named p u)) c ≡ text_eq u (type_at p c)
+      by : (o : Option ℕ) → type_named p u ≡ o → nat_eq (type_or p u (type_named p u)) c ≡ text_eq u (type_at p c)
       by (Some k) e =
           let r = type_is p t d u k e in
-          ap (λ o. nat_eq (type_or p o) c) e ∙ sym (type_test p d.sound k c r.0 h) ∙ ap (λ v. text_eq v (type_at p c)) r.1
-      by None e = same_test (nat_eq (type_or p (type_named p u)) c) (text_eq u (type_at p c))
-          (λ f. absurd (let g : length p.types ≡ c = ap (type_or p) (sym e) ∙ number_of (type_or p (type_named p u)) c f in omega (arith, g, h)))
+          ap (λ o. nat_eq (type_or p u o) c) e ∙ sym (type_test p d.sound k c r.0 h) ∙ ap (λ v. text_eq v (type_at p c)) r.1
+      by None e = same_test (nat_eq (type_or p u (type_named p u)) c) (text_eq u (type_at p c))
+          (λ f. absurd (let g : length p.types + length u ≡ c = ap (type_or p u) (sym e) ∙ number_of (type_or p u (type_named p u)) c f in omega (arith, g, h)))
           (λ f. absurd (let g : None ≡ Some c = sym e ∙ ap (type_named p) (text_sound u (type_at p c) f) ∙ type_back p t d c h in cc))
 
   fresh_back : (c n : ℕ) → c < length p.types → (k : Kind) → same_kind (numbered p k) (kind.Fresh c n) ≡ kind_eq k (Fresh (type_at p c) n)

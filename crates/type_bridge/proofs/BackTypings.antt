@@ -58,7 +58,7 @@ use Rattle.type_bridge.proofs.Judged.{goes_same, targets_same, throws_same, map_
 
 -- ---- tables
 
-place_map : {A B : Type 0} (f : Option A → Option B) → f None ≡ None → (xs : List (Option A)) (n : ℕ) → slice_index_or (map f xs) n None ≡ f (slice_index_or xs n None)
+pub place_map : {A B : Type 0} (f : Option A → Option B) → f None ≡ None → (xs : List (Option A)) (n : ℕ) → slice_index_or (map f xs) n None ≡ f (slice_index_or xs n None)
 place_map f e [] n = sym e
 place_map f e (x ∷ xs) zero = refl
 place_map f e (x ∷ xs) (suc n) = place_map f e xs n
@@ -74,12 +74,12 @@ truth_of : (b : Bool) → not b ≡ true → b ≡ false
 truth_of true e = absurd (true≢false (sym e))
 truth_of false e = refl
 
-abbrev kept_if : Program → Bool → by_name.Kinds → Option Kinds
+abbrev pub kept_if : Program → Bool → by_name.Kinds → Option Kinds
 kept_if p true a = Some (kinds_numbered p a)
 kept_if p false a = None
 
 -- the numbers of kinds of so many registers
-abbrev kept : Program → ℕ → Option by_name.Kinds → Option Kinds
+abbrev pub kept : Program → ℕ → Option by_name.Kinds → Option Kinds
 kept p m None = None
 kept p m (Some a) = kept_if p (nat_eq (length a.registers) m) a
 

@@ -105,7 +105,7 @@ tests : (n : ℕ) (test : ℕ → Bool) → ((k : ℕ) → k < n → test k ≡ 
 tests zero test h = refl
 tests (suc n) test h = both (typed.each n test) (test n) (tests n test (λ k l. h k (omega (arith, l)))) (h n (omega arith))
 
-state_is : (p : Program) (made : name.Kind) (x : Table) (n : ℕ) → typed.state_at (table_named p made x) n ≡ option_map (kinds_named p made) (place_at x n)
+pub state_is : (p : Program) (made : name.Kind) (x : Table) (n : ℕ) → typed.state_at (table_named p made x) n ≡ option_map (kinds_named p made) (place_at x n)
 state_is p made [] n = refl
 state_is p made (o ∷ x) zero = refl
 state_is p made (o ∷ x) (suc n) = state_is p made x n

@@ -16,12 +16,14 @@ pub mod Frames
 pub mod Grounds
 pub mod Joined
 pub mod Judged
+pub mod Least
 pub mod Lines
 pub mod Members
 pub mod Numbering
 pub mod Numbers
 pub mod Order
 pub mod Programs
+pub mod Receivers
 pub mod Refused
 pub mod Spelled
 pub mod Texts

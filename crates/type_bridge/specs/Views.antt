@@ -2,7 +2,7 @@
 use Rattle.std.specs.Prelude.{ℕ, zero, suc, List, map, Option, Some, None, slice_get, if◌then◌else◌}
 use Rattle.std.specs.Option.{option_map}
 use Rattle.dalvik_defs.specs.Names.{Text, object_type, base_of}
-use Rattle.dalvik_defs.specs.Naming.{type_at}
+use Rattle.dalvik_defs.specs.Naming.{type_at, named}
 use Rattle.program_model.specs.declared.program.Class.{Class}
 use Rattle.program_model.specs.declared.program.Program.{Program}
 use Rattle.pass_defs.specs.Kinds as name
@@ -57,3 +57,7 @@ kinds_named p made a = record {
 
 abbrev pub table_named : Program → name.Kind → Table → List (Option name_registers.Kinds)
 table_named p made x = map (option_map (kinds_named p made)) x
+
+-- the table of a method of this class
+abbrev pub method_table : Program → Class → Table → List (Option name_registers.Kinds)
+method_table p c x = table_named p (name.kind_of (named p) (type_at p c.name)) x

@@ -3,7 +3,7 @@
 ghost use Rattle.std.specs.Prelude.{◌≡◌, ℕ, true, Some, slice_get};
 ghost use Rattle.dalvik_defs.specs.Naming.{type_at, body_of, named_class, named_method, named};
 ghost use Rattle.pass_defs.specs.Kinds as name;
-ghost use Rattle.pass_defs.specs.Typed.{IsTyped, IsTyping, Table};
+ghost use Rattle.pass_defs.specs.Typed.{IsTyped, IsTyping, IsLeastTyping, Table};
 ghost use Rattle.program_model.specs.declared.body.Body.{Body};
 ghost use Rattle.program_model.specs.declared.program.Class.{Class};
 ghost use Rattle.program_model.specs.declared.program.Method.{Method};
@@ -17,11 +17,12 @@ ghost use Rattle.verify.specs.declared.typed.Verifier.{Verifier};
 ghost use Rattle.verify.specs.declared.fault.TypeFault.TheVariants as fault;
 ghost use Rattle.verify.specs.declared.kinds.Kind as number;
 ghost use Rattle.verify.specs.Joins.{joined};
-ghost use Rattle.verify.specs.Methods.{IsFor, RefusesFor, RefusesOne, TypesAll};
+ghost use Rattle.verify.specs.Methods.{IsFor, TypesFor, RefusesFor, RefusesOne, TypesAll};
 ghost use Rattle.verify.specs.Types.{kind_of};
+ghost use Rattle.verify.specs.Typings as by_number;
 ghost use Rattle.verify.specs.Typings.{Below};
 ghost use Rattle.type_bridge.specs.Numbered.{is_numbered};
-ghost use Rattle.type_bridge.specs.Views.{kind_named};
+ghost use Rattle.type_bridge.specs.Views.{kind_named, method_table};
 
 /// The kind of a type is the kind of its text.
 pub fn types_law()
@@ -61,4 +62,14 @@ pub fn refused_law()
 /// A well-formed program of which the verifier finds a method ill typed is not typed.
 pub fn ill_typed_law()
     ensures { (p : Program) (h : Hierarchy) → is_well_formed p ≡ true → IsResolved p h → (k n r : ℕ) → RefusesOne p h (fault.IllTyped k n r) → IsTyped (named p) → ⊥ }
+{}
+
+/// The table that the verifier answers for the code of a method of a well-formed program is by names the least typing: it
+/// is a typing, and it is at or below each typing by names, at each position in each register and in the places of the last
+/// result, of the caught object and of a constructor's receiver. Where it has no kinds, another one may have any.
+///
+/// This holds against all typings by names, also those that name types, classes or arrays which the program has no number
+/// for, and those that have another number of registers where the least one has no kinds.
+pub fn least_law()
+    ensures { (p : Program) (h : Hierarchy) → is_well_formed p ≡ true → IsResolved p h → (at : MethodAt) (x : by_number.Table) → TypesFor p h at x → (c : Class) (m : Method) (b : Body) → slice_get p.classes at.class ≡ Some c → method_at p at ≡ Some m → m.body ≡ Some b → IsLeastTyping (named p) (named_class p c) (named_method p m) (body_of p b) (method_table p c x) }
 {}

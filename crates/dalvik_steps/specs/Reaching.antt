@@ -1,5 +1,6 @@
 -- What is read, written, made, locked and called, by numbers and by names.
-use Rattle.std.specs.HashMap.{PutsEntry}
+use Rattle.std.specs.HashMap.{PutsEntry, spare}
+use Rattle.std.specs.List.Sorted.{IsPermutation}
 use Rattle.std.specs.Map.{lookup}
 use Rattle.std.specs.Prelude.{ℕ, ◌≡◌, ◌≤◌, ◌<◌, ◌+◌, ◌^◌, ◌&&◌, ◌⊎◌, cond, nat_eq, ◌++◌, ◌∷◌, [], Bool, true, false, List, length, Option, Some, None, slice_get}
 use Rattle.program_model.specs.declared.program.Program.{Program}
@@ -77,6 +78,19 @@ pub record IsUnwritten (old new : World) : Type 0 where
   pub statics : new.statics ≡ old.statics
   pub locks : new.locks ≡ old.locks
   pub exposed : new.exposed ≡ old.exposed
+
+-- there is room for one field more that is written
+pub record HasFieldRoom (w : World) : Type 0 where
+  pub room : 0 < spare w.fields
+
+-- nothing was written, but the fields may stand in another order
+pub record IsShuffled (old new : World) : Type 0 where
+  pub entries : IsPermutation old.fields.entries new.fields.entries
+  pub fields : (number slot : ℕ) → lookup (is_at number slot) new.fields.entries ≡ lookup (is_at number slot) old.fields.entries
+  pub heap : spots_of new ≡ spots_of old
+  pub statics : new.statics.items ≡ old.statics.items
+  pub locks : new.locks ≡ old.locks
+  pub exposed : new.exposed.items ≡ old.exposed.items
 
 -- the texts of a field number
 pub record AreTextsOf (p : Program) (field : ℕ) (t : FieldTexts) : Type 0 where

@@ -1,6 +1,6 @@
 //! Fields (Dalvik bytecode, "iget", "iput", "sget", "sput"; Dalvik executable format, "encoded_value").
 
-ghost use Rattle.std.specs.Prelude.{◌≡◌, ◌<◌, ◌^◌, ℕ, List, Option, Some, None, length, slice_get, slice_set, IfOk, OnErr, OnOk};
+ghost use Rattle.std.specs.Prelude.{◌≡◌, ◌<◌, ◌^◌, ℕ, List, Option, Some, None, length, slice_get, slice_set, IfOk, IsOk, OnErr, OnOk};
 ghost use Rattle.std.specs.Int.{w32, cast_unsigned};
 ghost use Rattle.std.specs.Map.{lookup};
 ghost use Rattle.std.specs.Option.{option_and_then, option_copied, option_map};
@@ -27,7 +27,7 @@ ghost use Rattle.dalvik_state.specs.States.{top_frame, HasPlaces, HasRoom, IsFin
 ghost use Rattle.dalvik_state.specs.Views.{frame_of, is_at, names_in, value_of, world_of, IsFine};
 ghost use Rattle.dalvik_state.specs.Worlds.{spots_of};
 ghost use Rattle.dalvik_state.specs.declared.frame.Frame.{Frame};
-ghost use Rattle.dalvik_steps.specs.Reaching.{first_or_zero, object_in, AreTextsOf, FineMaybe, FirstThere, IsFieldOf, IsFirst, IsPut, IsReading, IsReserved, IsStep, IsUnwritten, IsWriting, PutsField, Rewrites};
+ghost use Rattle.dalvik_steps.specs.Reaching.{first_or_zero, object_in, AreTextsOf, FineMaybe, FirstThere, HasFieldRoom, IsFieldOf, IsFirst, IsPut, IsReading, IsReserved, IsShuffled, IsStep, IsUnwritten, IsWriting, PutsField, Rewrites};
 
 use crate::asking::{asks, reserve};
 use crate::starting::{Readied, readies};
@@ -188,9 +188,19 @@ pub fn instance_value(
     }
 }
 
+/// Makes room for one field more that is written. Nothing that is there changes, whether there is memory or not.
+pub fn field_room(world: &mut World) -> Result<(), AllocError>
+    ensures same { IsShuffled world.old world.new }
+    ensures room { OnOk result (HasFieldRoom world.new) }
+{
+    world.fields.reserve(1)?;
+    Ok(())
+}
+
 /// Writes a field of an object at its place.
 fn write_field(world: &mut World, number: u64, slot: usize, datum: Datum) -> Result<(), AllocError>
     ensures put { OnOk result (PutsField world.old world.new number slot datum) }
+    ensures room { HasFieldRoom world.old → IsOk result }
     ensures err { OnErr result (IsUnwritten world.old world.new) }
 {
     world.fields.insert((number, slot), datum)?;
@@ -206,6 +216,7 @@ pub fn put_instance(
 ) -> Result<bool, AllocError>
     ensures put { (l : Lookups) (k : FieldKey) (at : Place) (class index : ℕ) → IsRight l → IsSound l world.old → IsFieldOf l k at class index → slot ≡ slot_of l.program.now class index → IsFine (names_in l) (length (spots_of world.old)) datum
         → IfOk result (λ b. IsPut l world.old world.new b (with_instance (world_of (names_in l) world.old) (key_at k at) (value_of (names_in l) on) (value_of (names_in l) datum) (thing_at (world_of (names_in l) world.old) (value_of (names_in l) on)))) }
+    ensures room { HasFieldRoom world.old → IsOk result }
     ensures err { OnErr result (IsUnwritten world.old world.new) }
 {
     match object_number(world, on) {
@@ -214,6 +225,17 @@ pub fn put_instance(
             Ok(true)
         }
         None => Ok(false),
+    }
+}
+
+/// Writes a field of an object, and answers whether it is one. There is room for one field more, so no memory is wanted.
+pub fn put_ready(world: &mut World, on: Datum, slot: usize, datum: Datum) -> bool
+    ensures { (l : Lookups) (k : FieldKey) (at : Place) (class index : ℕ) → HasFieldRoom world.old → IsRight l → IsSound l world.old → IsFieldOf l k at class index → slot ≡ slot_of l.program.now class index → IsFine (names_in l) (length (spots_of world.old)) datum
+        → IsPut l world.old world.new result (with_instance (world_of (names_in l) world.old) (key_at k at) (value_of (names_in l) on) (value_of (names_in l) datum) (thing_at (world_of (names_in l) world.old) (value_of (names_in l) on))) }
+{
+    match put_instance(world, on, slot, datum) {
+        Ok(is_there) => is_there,
+        Err(_) => false,
     }
 }
 

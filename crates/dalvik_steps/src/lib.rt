@@ -13,9 +13,10 @@ mod throwing;
 
 pub use calling::calls;
 pub use fields::{
-    Reading, Writing, instance_value, put_instance, put_static, reads, static_value, writes,
+    Reading, Writing, field_room, instance_value, put_instance, put_ready, put_static, reads,
+    static_value, writes,
 };
 pub use objects::{locks, makes, makes_shown, unlocks};
-pub use stack::{enters, entry_frame, gives};
+pub use stack::{enters, entry_frame, gives, shows_given};
 pub use starting::{Readied, ends, initialises, readies};
 pub use throwing::{Flight, Thrown, land, plan, throws};

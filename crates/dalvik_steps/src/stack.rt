@@ -205,7 +205,7 @@ fn puts(world: &mut World, gifts: Gifts) -> Result<(), AllocError>
 }
 
 /// Puts the objects of a move on the heap, and shows a value that may be of one of them.
-fn shows_given(
+pub fn shows_given(
     alloc: Global,
     tables: &Tables<'_>,
     world: &mut World,

@@ -1,5 +1,5 @@
 -- The programs whose classes have no fault.
-use Rattle.std.specs.Prelude.{ℕ, ⊥}
+use Rattle.std.specs.Prelude.{ℕ}
 use Rattle.program_model.specs.declared.program.Program.{Program}
 use Rattle.class_defs.specs.ClassGraph.{IsTwice}
 use Rattle.hierarchy.specs.Shapes.{IsAcyclic}

@@ -6,11 +6,12 @@ ghost use Rattle.program_model.specs.declared.pools.MethodName.{MethodName};
 ghost use Rattle.program_model.specs.Lookups as look;
 ghost use Rattle.program_model.specs.Lookups.{method_or};
 ghost use Rattle.program_model.specs.MemberRules.{is_direct};
+ghost use Rattle.program_model.specs.declared.program.Program.{Program};
 ghost use Rattle.program_model.specs.ProgramRules.{is_well_formed};
 ghost use Rattle.class_defs.specs.Finding.{resolves_field};
 ghost use Rattle.class_defs.specs.Members.{is_interface, is_common};
 ghost use Rattle.class_defs.specs.Starts.{initialiser_place};
-ghost use Rattle.hierarchy.specs.Shapes.{IsOf, IsResolved};
+ghost use Rattle.hierarchy.specs.Shapes.{IsCause, IsOf, IsResolved};
 ghost use Rattle.dalvik_lookups.specs.Accepting.{IsAccepted};
 ghost use Rattle.dalvik_lookups.specs.Facing.{IsFace};
 ghost use Rattle.dalvik_lookups.specs.Playing.{ArePlays};
@@ -411,6 +412,16 @@ fn both_of<'a>(
     Ok((tables, made.plays))
 }
 
+/// Passes want of memory on; every other fault is one of the classes.
+fn refuse(fault: HierarchyFault) -> Result<(), AllocError>
+    ensures { (p : Program) → IsCause p fault → OnOk result (IsAccepted p → ⊥) }
+{
+    match fault {
+        HierarchyFault::NoMemory => Err(AllocError),
+        _ => Ok(()),
+    }
+}
+
 /// The classes of a program, none just where they have a fault.
 fn build(alloc: Global, program: &Program) -> Result<Option<Hierarchy>, AllocError>
     ensures resolved { is_well_formed program.now ≡ true → IfOk result (λ made. IfSome made (λ hierarchy. IsResolved program.now hierarchy)) }
@@ -419,8 +430,10 @@ fn build(alloc: Global, program: &Program) -> Result<Option<Hierarchy>, AllocErr
 {
     match Hierarchy::build(alloc, program) {
         Ok(hierarchy) => Ok(Some(hierarchy)),
-        Err(HierarchyFault::NoMemory) => Err(AllocError),
-        Err(_) => Ok(None),
+        Err(fault) => {
+            refuse(fault)?;
+            Ok(None)
+        }
     }
 }
 

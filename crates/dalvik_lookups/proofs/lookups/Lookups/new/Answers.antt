@@ -1,6 +1,7 @@
 use Rattle.std.proofs.Common.{◌≡◌, Option, Some, subst}
 use Rattle.std.specs.Prelude.{IfSome}
 use Rattle.hierarchy.specs.Shapes.{IsResolved}
+use Rattle.dalvik_lookups.specs.Accepting.{IsAccepted}
 use Rattle.dalvik_lookups.proofs.Facing.{right_face}
 use Rattle.dalvik_lookups.proofs.lookups.Lookups.new.Goals as goal
 
@@ -27,3 +28,6 @@ returns-clause-face c = λ w. right_face c.in_ok-both.both.0 (c.in_ok-both.ensur
 
 pub returns-clause-plays : goal.returns-clause-plays
 returns-clause-plays c = λ w. c.in_ok-both.ensures.plays w
+
+pub returns-clause-accepted : goal.returns-clause-accepted
+returns-clause-accepted c = λ w. there c.in_ok-hierarchy.field-0 (λ _. IsAccepted c.args.program.now) c.in-Some.hierarchy c.in-Some.is (c.in_ok-hierarchy.ensures.accepted w)

@@ -5,6 +5,7 @@
 #![tactic(auto)]
 
 mod answering;
+mod counting;
 mod entering;
 mod framework;
 mod touching;

@@ -1,0 +1,11 @@
+pub mod Admitted
+pub mod Answered
+pub mod Comes
+pub mod Created
+pub mod Entered
+pub mod Framed
+pub mod Moved
+pub mod Played
+pub mod Taken
+pub mod Thrown
+pub mod Touched

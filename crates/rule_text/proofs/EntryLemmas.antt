@@ -121,7 +121,7 @@ long_entry tokens at mid next r first long words = record {
 
 -- ---- which words begin rules
 
-keep_begins : (kind : KeepKind) → begins_rule (keep_word kind) ≡ true
+pub keep_begins : (kind : KeepKind) → begins_rule (keep_word kind) ≡ true
 keep_begins keep.Keep = refl
 keep_begins keep.ClassMembers = refl
 keep_begins keep.ClassesWithMembers = refl
@@ -129,7 +129,7 @@ keep_begins keep.Names = refl
 keep_begins keep.ClassMemberNames = refl
 keep_begins keep.ClassesWithMemberNames = refl
 
-setting_begins : (name : SettingName) → begins_rule (setting_word name) ≡ false
+pub setting_begins : (name : SettingName) → begins_rule (setting_word name) ≡ false
 setting_begins setting.DontOptimize = refl
 setting_begins setting.DontShrink = refl
 setting_begins setting.Verbose = refl
@@ -155,11 +155,11 @@ entry_begins (Assume rule) rest = refl
 pub assume_begins : (w : Word) → w ≡ codes "-assumenosideeffects" → begins_rule w ≡ true
 assume_begins w is = subst (λ w. begins_rule w ≡ true) (sym is) refl
 
-other_word : (w q : Word) (b : Bool) → word_eq w q ≡ b → (w ≡ q → ⊥) → b ≡ false
+pub other_word : (w q : Word) (b : Bool) → word_eq w q ≡ b → (w ≡ q → ⊥) → b ≡ false
 other_word w q true e other = absurd (other ((bytes_decides w q).0 e))
 other_word w q false e other = refl
 
-no_keep : (w : Word) → ((kind : KeepKind) → keep_word kind ≡ w → ⊥) → (kind : KeepKind) → word_eq w (keep_word kind) ≡ false
+pub no_keep : (w : Word) → ((kind : KeepKind) → keep_word kind ≡ w → ⊥) → (kind : KeepKind) → word_eq w (keep_word kind) ≡ false
 no_keep w none kind = other_word w (keep_word kind) (word_eq w (keep_word kind)) refl (λ e. none kind (sym e))
 
 pub keep_named : (w : Word) (found : Option KeepKind) → IsNameOf keep_word w found → (w ≡ codes "-assumenosideeffects" → ⊥) → is_some found ≡ begins_rule w

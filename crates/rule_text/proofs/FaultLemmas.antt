@@ -80,13 +80,13 @@ faults text front bad tokens (fault.Syntax line) known readable all are (inr end
   readable = readable;
   stands = inr (subst (λ o. MatchOption o (IsUtf8 text) (IsValidUpTo text)) ends.0 known, ends.1 ∙ ap suc are.ends ∙ ap last_line (all ends.0));
 }
-faults text front bad tokens (fault.Option line) known readable all are by = record { front = front; readable = readable; stands = option_fault front tokens line are by }
+faults text front bad tokens (fault.Option line) known readable all are by = record { front = front; readable = readable; stands = option_fault text front tokens line readable are by }
 faults text front bad tokens (fault.NotUtf8 at) known readable all are is = record {
   front = front;
   readable = readable;
   stands = subst (λ o. MatchOption o (IsUtf8 text) (IsValidUpTo text)) is known;
 }
-faults text front bad tokens (fault.TooMany count) known readable all are by = record { front = front; readable = readable; stands = rule_fault front tokens count are by }
+faults text front bad tokens (fault.TooMany count) known readable all are by = record { front = front; readable = readable; stands = rule_fault text front tokens count readable are by }
 
 -- no token has to be read where memory runs out
 pub no_memory : (text front : List ℕ) (found : RuleFault) → IsReadable text front → found ≡ fault.NoMemory → IsFault text found

@@ -7,6 +7,7 @@ pub mod FrontLemmas
 pub mod HaltLemmas
 pub mod LetterLemmas
 pub mod MemberLemmas
+pub mod OptionLemmas
 pub mod ReadLemmas
 pub mod RunLemmas
 pub mod StepLemmas

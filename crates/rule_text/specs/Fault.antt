@@ -1,8 +1,8 @@
 -- The faults of a text of rules.
-use Rattle.std.specs.Prelude.{◌≡◌, ◌<◌, ◌⊎◌, ℕ, suc, List, map, length, Option, Some, None, Contains}
+use Rattle.std.specs.Prelude.{◌≡◌, ◌⊎◌, ℕ, suc, List, map, Option, Some, None, Contains}
 use Rattle.std.specs.Str.{IsUtf8, IsValidUpTo}
-use Rattle.rule_text.specs.Tokens.{tokens_of, words_of, last_line}
-use Rattle.rule_text.specs.Faults.{IsReadable, IsUnknownOption, IsCrowdedAt, IsLineOf}
+use Rattle.rule_text.specs.Tokens.{tokens_of, last_line}
+use Rattle.rule_text.specs.Faults.{IsReadable, IsLineOf, HasRuleFault}
 use Rattle.rule_text.specs.Fronts.{token_view}
 use Rattle.rule_text.specs.Halts.{IsOptionBehind, IsRuleBehind}
 use Rattle.rule_text.specs.declared.fault.RuleFault.{RuleFault}
@@ -14,27 +14,15 @@ use Rattle.rule_text.specs.declared.token.Tokens.{Tokens}
 abbrev pub IsTokenLine : List ℕ → ℕ → Type 0
 IsTokenLine text line = Contains (map (λ t. t.line) (tokens_of text)) line
 
--- an option that isn't known, in this line, before which rules and options end
-pub record IsOptionFault (front : List ℕ) (line : ℕ) : Type 0 where
-  pub place : ℕ
-  pub inside : place < length (words_of front)
-  pub unknown : IsUnknownOption (words_of front) place
-  pub tells : IsLineOf (tokens_of front) place line
-
--- a rule behind as many as a text may have
-pub record IsRuleFault (front : List ℕ) (count : ℕ) : Type 0 where
-  pub is : count ≡ 4097
-  pub place : ℕ
-  pub crowded : IsCrowdedAt (words_of front) place
-
 -- What a fault carries, where the front is the part of the text that can be read: the line of a token, or that in which a
--- text without bad bytes ends; the number of bytes before those that are not UTF-8, which is the longest front that is.
+-- text without bad bytes ends; the number of bytes before those that are not UTF-8, which is the longest front that is. An
+-- option that isn't known and a rule too many stand in the text as its faults.
 abbrev pub StandsIn : List ℕ → List ℕ → RuleFault → Type 0
 StandsIn text front fault.NoMemory = Unit {0}
 StandsIn text front (fault.Syntax line) = IsTokenLine front line ⊎ (IsUtf8 text × (line ≡ last_line text))
-StandsIn text front (fault.Option line) = IsOptionFault front line
+StandsIn text front (fault.Option line) = HasRuleFault text (fault.Option line)
 StandsIn text front (fault.NotUtf8 at) = IsValidUpTo text at
-StandsIn text front (fault.TooMany count) = IsRuleFault front count
+StandsIn text front (fault.TooMany count) = HasRuleFault text (fault.TooMany count)
 
 pub record IsFault (text : List ℕ) (fault : RuleFault) : Type 0 where
   pub front : List ℕ

@@ -1,8 +1,10 @@
 -- Where rules and options end at an option that isn't known or at a rule too many.
-use Rattle.std.specs.Prelude.{◌≡◌, ◌<◌, ℕ, true, List, length, ◌++◌}
-use Rattle.std.specs.List.{list_all}
+use Rattle.std.specs.Prelude.{◌≡◌, ◌<◌, ◌≤◌, ℕ, Bool, true, false, ◌||◌, List, [], ◌∷◌, map, length, ◌++◌}
+use Rattle.std.specs.List.{list_all, list_any}
+use Rattle.rule_text.specs.Tokens.{Word}
 use Rattle.rule_text.specs.Rules.{Entry}
-use Rattle.rule_text.specs.Spelling.{begins_option, begins_rule, is_entry, spelled, count_rules}
+use Rattle.rule_text.specs.Spelling.{word_eq, setting_word, begins_option, begins_rule, is_entry, spelled, count_rules}
+use Rattle.rule_text.specs.declared.rules.SettingName.TheVariants as setting
 use Rattle.rule_text.specs.Steps.{words_at, first_word}
 use Rattle.rule_text.specs.declared.stop.Halt.{Halt}
 use Rattle.rule_text.specs.declared.stop.Halt.TheVariants as halt
@@ -15,10 +17,24 @@ pub record EndsBefore (tokens : List Lexed) (at next : ℕ) : Type 0 where
   pub words : words_at tokens at ≡ spelled entries ++ words_at tokens next
   pub inside : next < length tokens
 
--- the word begins an option
+-- the word is that of no name that passes the test
+pub record IsNoNameOf {K : Type 0} (among : K → Bool) (spell : K → Word) (w : Word) : Type 0 where
+  pub none : (name : K) → among name ≡ true → spell name ≡ w → ⊥
+
+-- a word with which a rule or an option that is known begins
+abbrev pub is_known : Word → Bool
+is_known w = begins_rule w || list_any (word_eq w) (map setting_word (
+    setting.DontOptimize ∷ setting.DontShrink ∷ setting.Verbose ∷ setting.DontObfuscate ∷ setting.DontPreverify ∷ setting.DontUseMixedCaseClassNames
+    ∷ setting.DontSkipNonPublicLibraryClasses ∷ setting.AllowAccessModification ∷ setting.IgnoreWarnings ∷ setting.KeepAttributes ∷ setting.DontWarn
+    ∷ setting.DontNote ∷ setting.Optimizations ∷ setting.OptimizationPasses ∷ setting.RenameSourceFileAttribute ∷ setting.RepackageClasses ∷ []
+    ))
+
+-- the word begins an option that isn't known, and no more rules than a text may have stand before it
 pub record IsOptionBehind (tokens : List Lexed) (at next : ℕ) : Type 0 where
   pub front : EndsBefore tokens at next
+  pub few : count_rules front.entries ≤ 4096
   pub option : begins_option (first_word (words_at tokens next)) ≡ true
+  pub unknown : is_known (first_word (words_at tokens next)) ≡ false
 
 -- the word begins a rule, and as many as a text may have stand before it
 pub record IsRuleBehind (tokens : List Lexed) (at next : ℕ) : Type 0 where
@@ -35,5 +51,5 @@ HaltsAt tokens at next halt.TooMany = IsRuleBehind tokens at next
 -- the same where one rule or option is read: an option that isn't known begins at the place
 abbrev pub HaltsBefore : List Lexed → ℕ → ℕ → Halt → Type 0
 HaltsBefore tokens at next (halt.Inside s) = Unit {0}
-HaltsBefore tokens at next halt.Option = (next ≡ at) × (begins_option (first_word (words_at tokens at)) ≡ true)
+HaltsBefore tokens at next halt.Option = (next ≡ at) × (begins_option (first_word (words_at tokens at)) ≡ true) × (is_known (first_word (words_at tokens at)) ≡ false)
 HaltsBefore tokens at next halt.TooMany = ⊥

@@ -1,17 +1,17 @@
 //! Reading of a whole text.
 
-ghost use Rattle.std.specs.Prelude.{◌≡◌, ◌+◌, ◌<◌, ◌≤◌, ◌^◌, ◌∷◌, ◌++◌, true, false, if◌then◌else◌, None, length, IsErr, OnOk, IfOk, IfErr, IfSome, IfNone, MatchOption};
+ghost use Rattle.std.specs.Prelude.{◌≡◌, ◌+◌, ◌<◌, ◌≤◌, ◌^◌, ◌∷◌, ◌++◌, true, false, not, if◌then◌else◌, None, length, IsErr, OnOk, IfOk, IfErr, IfSome, IfNone, MatchOption};
 ghost use Rattle.std.specs.Str.{IsUtf8, IsValidUpTo};
 ghost use Rattle.rule_text.specs.Fault.{IsFault, IsFaultBy};
 ghost use Rattle.rule_text.specs.Faults.{IsReadable};
 ghost use Rattle.rule_text.specs.Fronts.{AreTokensOf};
 ghost use Rattle.rule_text.specs.Reads.{Reads};
-ghost use Rattle.rule_text.specs.Halts.{IsOptionBehind, HaltsAt, HaltsBefore};
+ghost use Rattle.rule_text.specs.Halts.{IsNoNameOf, IsOptionBehind, HaltsAt, HaltsBefore};
 ghost use Rattle.rule_text.specs.declared.stop.Halt.TheVariants.{TooMany};
 ghost use Rattle.rule_text.specs.ReadEntries.{IsKeepBehind, IsAssumeBehind, AreWordsBehind, ReadsFew, IsReading};
 ghost use Rattle.rule_text.specs.Related.{IsEntryOf};
 ghost use Rattle.rule_text.specs.Spelling.{modifier_word, modifier_words, setting_word, keep_word, is_long, is_entry, entry_words, begins_option, begins_rule};
-ghost use Rattle.rule_text.specs.Steps.{words_at, BeginWithNone};
+ghost use Rattle.rule_text.specs.Steps.{words_at, first_word, BeginWithNone};
 
 use crate::cursor::{accept, advance, expect_word, word_at};
 use crate::fault::RuleFault;
@@ -145,10 +145,15 @@ fn read_lone(tokens: &[Token<'_>], at: &mut usize) -> Option<SettingName>
     ensures on { IfSome result (λ _. at.old < at.new) }
     ensures step { IfSome result (λ name. words_at tokens.now at.old ≡ setting_word name ∷ words_at tokens.now at.new) }
     ensures stays { IfNone result (at.new ≡ at.old) }
+    ensures none { IfNone result (IsNoNameOf (λ name. not (is_long name)) setting_word (first_word (words_at tokens.now at.old))) }
 {
-    let name = lone_setting(word_at(tokens, *at))?;
-    advance(tokens, at);
-    Some(name)
+    match lone_setting(word_at(tokens, *at)) {
+        Some(name) => {
+            advance(tokens, at);
+            Some(name)
+        }
+        None => None,
+    }
 }
 
 /// The name of an option with words.
@@ -159,10 +164,15 @@ fn read_long(tokens: &[Token<'_>], at: &mut usize) -> Option<SettingName>
     ensures step { IfSome result (λ name. words_at tokens.now at.old ≡ setting_word name ∷ words_at tokens.now at.new) }
     ensures long { IfSome result (λ name. is_long name ≡ true) }
     ensures stays { IfNone result (at.new ≡ at.old) }
+    ensures none { IfNone result (IsNoNameOf is_long setting_word (first_word (words_at tokens.now at.old))) }
 {
-    let name = long_setting(word_at(tokens, *at))?;
-    advance(tokens, at);
-    Some(name)
+    match long_setting(word_at(tokens, *at)) {
+        Some(name) => {
+            advance(tokens, at);
+            Some(name)
+        }
+        None => None,
+    }
 }
 
 /// An option that isn't a rule.
@@ -172,7 +182,7 @@ fn read_setting(alloc: Global, tokens: &[Token<'_>], at: &mut usize) -> Result<E
     ensures inside { at.new ≤ length tokens.now }
     ensures on { OnOk result (at.old < at.new) }
     ensures step { IfOk result (Reads IsEntryOf is_entry entry_words tokens.now at.old at.new) }
-    ensures halt { IfErr result (HaltsBefore tokens.now at.old at.new) }
+    ensures halt { begins_rule (first_word (words_at tokens.now at.old)) ≡ false → IfErr result (HaltsBefore tokens.now at.old at.new) }
 {
     if let Some(name) = read_lone(tokens, at) {
         let words = Vec::new(alloc);
@@ -205,10 +215,15 @@ fn read_keep_kind(tokens: &[Token<'_>], at: &mut usize) -> Option<KeepKind>
     ensures on { IfSome result (λ _. at.old < at.new) }
     ensures step { IfSome result (λ kind. words_at tokens.now at.old ≡ keep_word kind ∷ words_at tokens.now at.new) }
     ensures stays { IfNone result (at.new ≡ at.old) }
+    ensures none { IfNone result (IsNoNameOf (λ _. true) keep_word (first_word (words_at tokens.now at.old))) }
 {
-    let kind = keep_kind(word_at(tokens, *at))?;
-    advance(tokens, at);
-    Some(kind)
+    match keep_kind(word_at(tokens, *at)) {
+        Some(kind) => {
+            advance(tokens, at);
+            Some(kind)
+        }
+        None => None,
+    }
 }
 
 /// A rule or an option.

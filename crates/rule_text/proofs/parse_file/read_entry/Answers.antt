@@ -1,6 +1,8 @@
-use Rattle.std.proofs.Common.{◌≡◌, ◌∷◌, subst, rules}
-use Rattle.rule_text.specs.Spelling.{keep_word}
-use Rattle.rule_text.specs.Steps.{words_at}
+use Rattle.std.proofs.Common.{◌≡◌, ◌∷◌, true, false, IfErr, codes, sym, subst, ◌∙◌, rules}
+use Rattle.rule_text.specs.Spelling.{keep_word, begins_rule}
+use Rattle.rule_text.specs.Steps.{words_at, first_word, BeginOtherwise}
+use Rattle.rule_text.specs.Halts.{IsNoNameOf, HaltsBefore}
+use Rattle.rule_text.proofs.HaltLemmas.{no_rule_begins}
 use Rattle.rule_text.proofs.EntryLemmas.{keep_entry, assume_entry}
 use Rattle.rule_text.proofs.parse_file.read_entry.Goals as goal
 
@@ -12,3 +14,15 @@ returns-in-Some-clause-step c =
     let same : c.accept.new.at ≡ c.args.at.now = search rules in
     let is : words_at c.args.tokens.now c.accept.new.at ≡ keep_word c.in-Some.kind ∷ words_at c.args.tokens.now c.read_keep_kind.new.at = search rules in
     keep_entry c.in-Some.kind c.args.tokens.now c.args.at.now c.read_keep_kind.new.at c.read_keep.new.at c.in_ok-rule-2.rule (subst (λ at. words_at c.args.tokens.now at ≡ keep_word c.in-Some.kind ∷ words_at c.args.tokens.now c.read_keep_kind.new.at) same is) (search rules)
+
+pub returns-clause-halt : goal.returns-clause-halt
+returns-clause-halt c =
+    let same : c.accept.new.at ≡ c.args.at.now = search rules in
+    let stays : c.read_keep_kind.new.at ≡ c.accept.new.at = search rules in
+    let other : BeginOtherwise (codes "-assumenosideeffects") (words_at c.args.tokens.now c.args.at.now) = c.accept.ensures.otherwise (search rules) in
+    let none : IsNoNameOf (λ _. true) keep_word (first_word (words_at c.args.tokens.now c.accept.new.at)) = search rules in
+    let rule : begins_rule (first_word (words_at c.args.tokens.now c.args.at.now)) ≡ false =
+    no_rule_begins (words_at c.args.tokens.now c.args.at.now) other (subst (λ k. IsNoNameOf (λ _. true) keep_word (first_word (words_at c.args.tokens.now k))) same none) in
+    let here : c.read_keep_kind.new.at ≡ c.args.at.now = stays ∙ same in
+    subst (λ k. IfErr c.read_setting.result (HaltsBefore c.args.tokens.now k c.read_setting.new.at)) here
+    (c.read_setting.ensures.halt (subst (λ k. begins_rule (first_word (words_at c.args.tokens.now k)) ≡ false) (sym here) rule))

@@ -1,31 +1,24 @@
 -- A typing by names is one by numbers: each position that has as many registers as the code has the numbers of its kinds.
-use Rattle.std.proofs.Common.{◌≡◌, ℕ, zero, suc, ◌+◌, ◌<◌, Bool, true, false, true≢false, nat_eq, List, [], ◌∷◌, ◌++◌, map, length, Option, Some, None, inl, inr, refl, sym, ap, ◌∙◌, subst, arith}
-use Rattle.std.specs.Prelude.{not, slice_get, slice_index_or, find, All, if◌then◌else◌}
+use Rattle.std.proofs.Common.{◌≡◌, ℕ, zero, suc, ◌<◌, Bool, true, false, true≢false, nat_eq, List, [], ◌∷◌, map, length, Option, Some, None, inl, inr, refl, sym, ap, ◌∙◌, subst, arith}
+use Rattle.std.specs.Prelude.{not, slice_get, slice_index_or, All, if◌then◌else◌}
 use Rattle.std.specs.List.{list_all}
 use Rattle.std.specs.Option.{option_map}
 use Rattle.std.proofs.lemmas.Bool.{cases_lt}
-use Rattle.std.proofs.lemmas.List.Elements.{All-nil, All-cons, All-append}
 use Rattle.std.proofs.lemmas.Option.{slice_get-map}
 use Rattle.class_defs.proofs.Positions.{number_of, number_test}
 use Rattle.class_defs.proofs.WellFormed.{and_left, and_right}
-use Rattle.insn_set.specs.Flow.{throws, goes_on, targets_of}
 use Rattle.insn_set.specs.declared.form.Insn.{Insn}
 use Rattle.program_model.specs.OperandRules.{numbers_fit}
 use Rattle.program_model.specs.declared.body.Body.{Body}
-use Rattle.program_model.specs.declared.body.Handler.{Handler}
-use Rattle.program_model.specs.declared.body.Region.{Region}
 use Rattle.program_model.specs.declared.program.Class.{Class}
 use Rattle.program_model.specs.declared.program.Method.{Method}
 use Rattle.program_model.specs.declared.program.Program.{Program}
-use Rattle.dalvik_defs.specs.Naming.{type_at, form_of, handler_of, region_of, body_of, named_class, named_method, named}
+use Rattle.dalvik_defs.specs.Naming.{type_at, form_of, body_of, named_class, named_method, named}
 use Rattle.dalvik_defs.specs.declared.forms.Form.{Form}
-use Rattle.dalvik_defs.specs.declared.program.NamedHandler.{NamedHandler}
-use Rattle.pass_defs.specs.Bare.{continues, targets}
 use Rattle.pass_defs.specs.Kinds as name
 use Rattle.pass_defs.specs.Demands as asked
 use Rattle.pass_defs.specs.Registers as by_name
 use Rattle.pass_defs.specs.Typed as typed
-use Rattle.pass_defs.specs.Walks as walks
 use Rattle.verify.specs.declared.kinds.Kind as number
 use Rattle.verify.specs.declared.kinds.Kind.TheVariants as kind
 use Rattle.verify.specs.declared.setting.Setting.{Setting}
@@ -37,8 +30,7 @@ use Rattle.verify.specs.Methods.{constructs, receiver_of}
 use Rattle.verify.specs.Names.{parameters_of}
 use Rattle.verify.specs.Reads.{found_at, refused}
 use Rattle.verify.specs.Supers.{Finds, super_search}
-use Rattle.verify.specs.Types.{kind_of}
-use Rattle.verify.specs.Typings.{IsBelow, AtMost, Table, next_if, onward, covers, place_covering, catch_rest, catches_in, region_at, catches, Arrives, IsTyping}
+use Rattle.verify.specs.Typings.{IsBelow, AtMost, Table, onward, catches, Arrives, IsTyping}
 use Rattle.verify.specs.Wrong.{is_wrong}
 use Rattle.verify.proofs.Entries.{begun_long}
 use Rattle.verify.proofs.Wide.{form_after_long}
@@ -47,14 +39,14 @@ use Rattle.type_bridge.specs.Views.{kind_named, receiver_named, kinds_named}
 use Rattle.type_bridge.proofs.Back.{numbered}
 use Rattle.type_bridge.proofs.BackAfter.{leaves_back}
 use Rattle.type_bridge.proofs.BackAllowed.{reads_back}
-use Rattle.type_bridge.proofs.BackFits.{named_back, type_of_back}
+use Rattle.type_bridge.proofs.BackEdges.{goes_back, caught_back}
+use Rattle.type_bridge.proofs.BackFits.{named_back}
 use Rattle.type_bridge.proofs.BackFrames.{kinds_numbered, kinds_back}
-use Rattle.type_bridge.proofs.BackReads.{all_first, all_last}
 use Rattle.type_bridge.proofs.BackWrong.{right_back}
 use Rattle.type_bridge.proofs.Bodies.{IsCode, got_short}
 use Rattle.type_bridge.proofs.Entries.{begun_named, begun_numbered}
 use Rattle.type_bridge.proofs.Grounds.{IsSet}
-use Rattle.type_bridge.proofs.Judged.{goes_same, targets_same, throws_same, map_long, regions_behind, region_found}
+use Rattle.type_bridge.proofs.Judged.{map_long}
 
 -- ---- tables
 
@@ -83,11 +75,11 @@ abbrev pub kept : Program → ℕ → Option by_name.Kinds → Option Kinds
 kept p m None = None
 kept p m (Some a) = kept_if p (nat_eq (length a.registers) m) a
 
-record Kept (p : Program) (m : ℕ) (o : Option by_name.Kinds) (k : Kinds) : Type 0 where
-  kinds : by_name.Kinds
-  is : o ≡ Some kinds
-  long : length kinds.registers ≡ m
-  same : kinds_numbered p kinds ≡ k
+pub record Kept (p : Program) (m : ℕ) (o : Option by_name.Kinds) (k : Kinds) : Type 0 where
+  pub kinds : by_name.Kinds
+  pub is : o ≡ Some kinds
+  pub long : length kinds.registers ≡ m
+  pub same : kinds_numbered p kinds ≡ k
 
 kept_is : (p : Program) (m : ℕ) (o : Option by_name.Kinds) (k : Kinds) → kept p m o ≡ Some k → Kept p m o k
 kept_is p m None k e = absurd (cc)
@@ -137,49 +129,45 @@ module _ (s : Setting) (c : Class) (m : Method) (i : IsSet s c m) (b : Body) (co
       by true = refl
       by false = refl
 
-  module _ (h : typed.IsTyping (named p) (named_class p c) (named_method p m) (body_of p b) x) where
-    -- what arrives at a position by name arrives there by number
-    arrived : (q : ℕ) (k : Kinds) (e : by_name.Kinds) → length k.registers ≡ b.registers → typed.arrives (named p) x (q, e) ≡ true
-        → ((z : by_name.Kinds) → by_name.kinds_below (named p) e z ≡ true → IsBelow s.tables.now k (kinds_numbered p z)) → Arrives s.tables.now table_numbered q k
-    arrived q k e l f g w = subst (AtMost s.tables.now (Some k)) (sym (place_is q)) (by (typed.state_at x q) f)
-      where
-        by : (o : Option by_name.Kinds) → by_name.state_below (named p) (Some e) o ≡ true → AtMost s.tables.now (Some k) (kept p b.registers o)
-        by None f = absurd (true≢false (sym f))
-        by (Some z) f =
-            let r = g z f in
-            let long : length z.registers ≡ b.registers = sym (map_long (numbered p) z.registers) ∙ sym r.long ∙ l in
-            subst (AtMost s.tables.now (Some k)) (sym (kept_long p b.registers z long)) r
+  -- what arrives at a position by name arrives there by number
+  pub arrived : (q : ℕ) (k : Kinds) (e : by_name.Kinds) → length k.registers ≡ b.registers → typed.arrives (named p) x (q, e) ≡ true
+      → ((z : by_name.Kinds) → by_name.kinds_below (named p) e z ≡ true → IsBelow s.tables.now k (kinds_numbered p z)) → Arrives s.tables.now table_numbered q k
+  arrived q k e l f g w = subst (AtMost s.tables.now (Some k)) (sym (place_is q)) (by (typed.state_at x q) f)
+    where
+      by : (o : Option by_name.Kinds) → by_name.state_below (named p) (Some e) o ≡ true → AtMost s.tables.now (Some k) (kept p b.registers o)
+      by None f = absurd (true≢false (sym f))
+      by (Some z) f =
+          let r = g z f in
+          let long : length z.registers ≡ b.registers = sym (map_long (numbered p) z.registers) ∙ sym r.long ∙ l in
+          subst (AtMost s.tables.now (Some k)) (sym (kept_long p b.registers z long)) r
 
-    -- a test of the position
-    tested : (test : ℕ → Form → by_name.Kinds → Bool) (n : ℕ) (y : Insn) (a : by_name.Kinds) → slice_get b.insns n ≡ Some y → typed.state_at x n ≡ Some a
-        → typed.each (length (body_of p b).forms) (λ n. typed.at_state (body_of p b) x (test n) n) ≡ true → test n (form_of p y) a ≡ true
-    tested test n y a is at e =
-        sym (ap (λ (o : Option Form). elim o as (λ o. Bool) [ Some f ↦ elim (typed.state_at x n) as (λ o. Bool) [ Some a ↦ test n f a | None ↦ true ] | None ↦ true ]) (slice_get-map (form_of p) b.insns n ∙ ap (option_map (form_of p)) is)
-        ∙ ap (λ (z : Option by_name.Kinds). elim z as (λ o. Bool) [ Some a ↦ test n (form_of p y) a | None ↦ true ]) at)
-        ∙ each_at (length (body_of p b).forms) n (λ n. typed.at_state (body_of p b) x (test n) n) (subst (λ z. n < z) (sym (map_long (form_of p) b.insns)) (got_short b.insns n y is)) e
+  -- a test of the position
+  pub tested : (test : ℕ → Form → by_name.Kinds → Bool) (n : ℕ) (y : Insn) (a : by_name.Kinds) → slice_get b.insns n ≡ Some y → typed.state_at x n ≡ Some a
+      → typed.each (length (body_of p b).forms) (λ n. typed.at_state (body_of p b) x (test n) n) ≡ true → test n (form_of p y) a ≡ true
+  tested test n y a is at e =
+      sym (ap (λ (o : Option Form). elim o as (λ o. Bool) [ Some f ↦ elim (typed.state_at x n) as (λ o. Bool) [ Some a ↦ test n f a | None ↦ true ] | None ↦ true ]) (slice_get-map (form_of p) b.insns n ∙ ap (option_map (form_of p)) is)
+      ∙ ap (λ (z : Option by_name.Kinds). elim z as (λ o. Bool) [ Some a ↦ test n (form_of p y) a | None ↦ true ]) at)
+      ∙ each_at (length (body_of p b).forms) n (λ n. typed.at_state (body_of p b) x (test n) n) (subst (λ z. n < z) (sym (map_long (form_of p) b.insns)) (got_short b.insns n y is)) e
 
-    module _ (n : ℕ) (y : Insn) (a : by_name.Kinds) (is : slice_get b.insns n ≡ Some y) (at : typed.state_at x n ≡ Some a) (wide : length a.registers ≡ b.registers) where
-      abbrev left : by_name.Kinds
-      left = typed.after (named p) (named_class p c) n (form_of p y) a
+  pub truth_of_tests : (test : ℕ → Form → by_name.Kinds → Bool) (n : ℕ) (y : Insn) (a : by_name.Kinds) → slice_get b.insns n ≡ Some y → typed.state_at x n ≡ Some a
+      → typed.each (length (body_of p b).forms) (λ n. typed.at_state (body_of p b) x (λ f a. not (test n f a)) n) ≡ true → test n (form_of p y) a ≡ false
+  truth_of_tests test n y a is at e = truth_of (test n (form_of p y) a) (tested (λ n f a. not (test n f a)) n y a is at e)
 
-      abbrev gone : ℕ → ℕ × by_name.Kinds
-      gone q = (q, left)
+  module _ (n : ℕ) (y : Insn) (a : by_name.Kinds) (is : slice_get b.insns n ≡ Some y) (wide : length a.registers ≡ b.registers) where
+    abbrev pub left : by_name.Kinds
+    left = typed.after (named p) (named_class p c) n (form_of p y) a
 
-      fits : numbers_fit y p ≡ true
-      fits = code.numbers n y is
+    fits : numbers_fit y p ≡ true
+    fits = code.numbers n y is
 
-      found : found_at s n ≡ super_search p s.class y
-      found = finds n y is
+    found : found_at s n ≡ super_search p s.class y
+    found = finds n y is
 
-      reads : asked.is_allowed (named p) (named_class p c) (named_method p m) a (form_of p y) ≡ true
-      reads = tested (λ n f a. asked.is_allowed (named p) (named_class p c) (named_method p m) a f) n y a is at h.reads
+    pub caught_one : (q : ℕ) (k : name.Kind) (l : number.Kind) → numbered p k ≡ l → typed.arrives (named p) x (q, record a { caught = k }) ≡ true → Arrives s.tables.now table_numbered q (record (kinds_numbered p a) { caught = l })
+    caught_one q k l e f = arrived q (record (kinds_numbered p a) { caught = l }) (record a { caught = k }) (map_long (numbered p) a.registers ∙ wide) f
+        (λ z g. subst (λ l. IsBelow s.tables.now (record (kinds_numbered p a) { caught = l }) (kinds_numbered p z)) e (kinds_back p s.tables.now i.told (record a { caught = k }) z g))
 
-      right : typed.is_wrong (named p) (named_class p c) (named_method p m) a (form_of p y) ≡ false
-      right = truth_of _ (tested (λ n f a. not (typed.is_wrong (named p) (named_class p c) (named_method p m) a f)) n y a is at h.right)
-
-      edges : list_all (typed.arrives (named p) x) (typed.edges (named p) (named_class p c) (body_of p b) n (form_of p y) a) ≡ true
-      edges = tested (λ n f a. list_all (typed.arrives (named p) x) (typed.edges (named p) (named_class p c) (body_of p b) n f a)) n y a is at h.edges
-
+    module _ (reads : asked.is_allowed (named p) (named_class p c) (named_method p m) a (form_of p y) ≡ true) (right : typed.is_wrong (named p) (named_class p c) (named_method p m) a (form_of p y) ≡ false) where
       right_number : is_wrong s n (kinds_numbered p a) y ≡ false
       right_number = right_back s c m i n a y fits found right
 
@@ -189,111 +177,57 @@ module _ (s : Setting) (c : Class) (m : Method) (i : IsSet s c m) (b : Body) (co
       pub no_fault : fault_of s n (kinds_numbered p a) y ≡ None
       no_fault = ap (λ z. if z then Some 0 else refused s n (kinds_numbered p a) y) right_number ∙ reads_number
 
-      -- ---- onward
-
-      abbrev Goes : ℕ → Type 0
-      Goes q = Arrives s.tables.now table_numbered q (form_after s n y (kinds_numbered p a))
-
-      goes : (q : ℕ) → typed.arrives (named p) x (q, left) ≡ true → Goes q
+      pub goes : (q : ℕ) → typed.arrives (named p) x (q, left) ≡ true → Arrives s.tables.now table_numbered q (form_after s n y (kinds_numbered p a))
       goes q e = arrived q (form_after s n y (kinds_numbered p a)) left (form_after_long s n y (kinds_numbered p a) ∙ map_long (numbered p) a.registers ∙ wide) e
           (λ z. leaves_back s c m i n a y z fits reads right_number reads_number)
 
-      branches : (qs : List ℕ) → list_all (typed.arrives (named p) x) (map gone qs) ≡ true → All Goes qs
-      branches [] e = All-nil Goes
-      branches (q ∷ qs) e = All-cons Goes q qs (goes q (and_left _ (list_all (typed.arrives (named p) x) (map gone qs)) e)) (branches qs (and_right (typed.arrives (named p) x (q, left)) (list_all (typed.arrives (named p) x) (map gone qs)) e))
+  -- ---- the table
 
-      map_append : (xs ys : List ℕ) → map gone (xs ++ ys) ≡ map gone xs ++ map gone ys
-      map_append [] ys = refl
-      map_append (z ∷ xs) ys = ap (λ zs. gone z ∷ zs) (map_append xs ys)
+  pub at_place : (n : ℕ) (k : Kinds) → place_at table_numbered n ≡ Some k → Kept p b.registers (typed.state_at x n) k
+  at_place n k e = kept_is p b.registers (typed.state_at x n) k (sym (place_is n) ∙ e)
 
-      next : (g : Bool) → list_all (typed.arrives (named p) x) (map gone (walks.next_position g n)) ≡ true → All Goes (next_if g (n + 1))
-      next true e = branches ((n + 1) ∷ []) e
-      next false e = All-nil Goes
+  pub wide_at : (n : ℕ) (k : Kinds) → place_at table_numbered n ≡ Some k → length k.registers ≡ b.registers
+  wide_at n k e = let r = at_place n k e in ap (λ k. length k.registers) (sym r.same) ∙ map_long (numbered p) r.kinds.registers ∙ r.long
 
-      forward : list_all (typed.arrives (named p) x) (map gone (walks.next_position (goes_on y) n) ++ map gone (targets_of y)) ≡ true
-      forward =
-          sym (ap (λ l. list_all (typed.arrives (named p) x) l) (map_append (walks.next_position (continues (form_of p y)) n) (targets (form_of p y)))
-          ∙ ap (λ g. list_all (typed.arrives (named p) x) (map gone (walks.next_position g n) ++ map gone (targets (form_of p y)))) (goes_same p y)
-          ∙ ap (λ l. list_all (typed.arrives (named p) x) (map gone (walks.next_position (goes_on y) n) ++ map gone l)) (targets_same p y))
-          ∙ all_first (typed.arrives (named p) x) (map gone (walks.onward (form_of p y) n)) (map (λ (z : ℕ × name.Kind). (z.0, record a { caught = z.1 })) (typed.catches (named p) (body_of p b) n (form_of p y))) edges
+  pub entered_number : by_name.state_below (named p) (Some entry_named) (typed.state_at x 0) ≡ true → Arrives s.tables.now table_numbered 0 entry
+  entered_number f = arrived 0 entry entry_named (begun_long s b (receiver_of c s.class m (constructs s.tables.now m)) (parameters_of p m.name)) f
+      (λ z e. subst (λ k. IsBelow s.tables.now k (kinds_numbered p z)) entry_same (kinds_back p s.tables.now i.told entry_named z e))
 
-      pub goes_all : All Goes (onward y n)
-      goes_all = All-append Goes (targets_of y) (next_if (goes_on y) (n + 1))
-          (branches (targets_of y) (all_last (typed.arrives (named p) x) (map gone (walks.next_position (goes_on y) n)) (map gone (targets_of y)) forward))
-          (next (goes_on y) (all_first (typed.arrives (named p) x) (map gone (walks.next_position (goes_on y) n)) (map gone (targets_of y)) forward))
+  module _ (h : typed.IsTyping (named p) (named_class p c) (named_method p m) (body_of p b) x) where
+    module _ (n : ℕ) (y : Insn) (a : by_name.Kinds) (is : slice_get b.insns n ≡ Some y) (at : typed.state_at x n ≡ Some a) (wide : length a.registers ≡ b.registers) where
+      abbrev before : Kinds
+      before = kinds_numbered p a
 
-      -- ---- handlers
+      reads_at : asked.is_allowed (named p) (named_class p c) (named_method p m) a (form_of p y) ≡ true
+      reads_at = tested (λ n f a. asked.is_allowed (named p) (named_class p c) (named_method p m) a f) n y a is at h.reads
+
+      right_at : typed.is_wrong (named p) (named_class p c) (named_method p m) a (form_of p y) ≡ false
+      right_at = truth_of_tests (λ n f a. typed.is_wrong (named p) (named_class p c) (named_method p m) a f) n y a is at h.right
+
+      edges_at : list_all (typed.arrives (named p) x) (typed.edges (named p) (named_class p c) (body_of p b) n (form_of p y) a) ≡ true
+      edges_at = tested (λ n f a. list_all (typed.arrives (named p) x) (typed.edges (named p) (named_class p c) (body_of p b) n f a)) n y a is at h.edges
+
+      abbrev Goes : ℕ → Type 0
+      Goes q = Arrives s.tables.now table_numbered q (form_after s n y before)
 
       abbrev Caught : ℕ × number.Kind → Type 0
-      Caught k = Arrives s.tables.now table_numbered k.0 (record (kinds_numbered p a) { caught = k.1 })
+      Caught k = Arrives s.tables.now table_numbered k.0 (record before { caught = k.1 })
 
-      abbrev caught_as : ℕ × name.Kind → ℕ × by_name.Kinds
-      caught_as z = (z.0, record a { caught = z.1 })
+      fault_at : fault_of s n before y ≡ None
+      fault_at = no_fault n y a is wide reads_at right_at
 
-      caught_one : (q : ℕ) (k : name.Kind) (l : number.Kind) → numbered p k ≡ l → typed.arrives (named p) x (caught_as (q, k)) ≡ true → Caught (q, l)
-      caught_one q k l e f = arrived q (record (kinds_numbered p a) { caught = l }) (record a { caught = k }) (map_long (numbered p) a.registers ∙ wide) f
-          (λ z g. subst (λ l. IsBelow s.tables.now (record (kinds_numbered p a) { caught = l }) (kinds_numbered p z)) e (kinds_back p s.tables.now i.told (record a { caught = k }) z g))
+      goes_at : All Goes (onward y n)
+      goes_at = goes_back s c m i b n y a (left n y a is wide) (typed.arrives (named p) x) Goes Caught (goes n y a is wide reads_at right_at) (caught_one n y a is wide) edges_at
 
-      abbrev handler_named : NamedHandler → ℕ × name.Kind
-      handler_named z = (z.position, name.kind_of (named p) z.kind)
-
-      abbrev handler_numbered : Handler → ℕ × number.Kind
-      handler_numbered z = (z.position, kind_of s.tables.now z.kind)
-
-      abbrev all_caught : List (ℕ × name.Kind) → Bool
-      all_caught zs = list_all (typed.arrives (named p) x) (map caught_as zs)
-
-      handlers_all : (hs : List Handler) → all_caught (map handler_named (map (handler_of p) hs)) ≡ true → All Caught (map handler_numbered hs)
-      handlers_all [] e = All-nil Caught
-      handlers_all (z ∷ zs) e = All-cons Caught (handler_numbered z) (map handler_numbered zs)
-          (caught_one z.position (name.kind_of (named p) (type_at p z.kind)) (kind_of s.tables.now z.kind) (type_of_back p s.tables.now i.told z.kind) (and_left _ (all_caught (map handler_named (map (handler_of p) zs))) e))
-          (handlers_all zs (and_right (typed.arrives (named p) x (caught_as (handler_named (handler_of p z)))) (all_caught (map handler_named (map (handler_of p) zs))) e))
-
-      rest_all : (o : Option ℕ) → all_caught (typed.catch_all o) ≡ true → All Caught (catch_rest o)
-      rest_all None e = All-nil Caught
-      rest_all (Some q) e = All-cons Caught (q, kind.Reference) [] (caught_one q name.Reference kind.Reference refl (and_left _ true e)) (All-nil Caught)
-
-      caught_append : (xs ys : List (ℕ × name.Kind)) → map caught_as (xs ++ ys) ≡ map caught_as xs ++ map caught_as ys
-      caught_append [] ys = refl
-      caught_append (z ∷ xs) ys = ap (λ zs. caught_as z ∷ zs) (caught_append xs ys)
-
-      region_all : (o : Option Region) → all_caught (typed.catches_in (named p) (option_map (region_of p) o)) ≡ true → All Caught (catches_in s.tables.now o)
-      region_all None e = All-nil Caught
-      region_all (Some r) e =
-          let hs = map handler_named (map (handler_of p) r.handlers) in
-          let f : list_all (typed.arrives (named p) x) (map caught_as hs ++ map caught_as (typed.catch_all r.rest)) ≡ true = sym (ap (list_all (typed.arrives (named p) x)) (caught_append hs (typed.catch_all r.rest))) ∙ e in
-          All-append Caught (map handler_numbered r.handlers) (catch_rest r.rest)
-          (handlers_all r.handlers (all_first (typed.arrives (named p) x) (map caught_as hs) (map caught_as (typed.catch_all r.rest)) f))
-          (rest_all r.rest (all_last (typed.arrives (named p) x) (map caught_as hs) (map caught_as (typed.catch_all r.rest)) f))
-
-      caught_by : (g : Bool) → all_caught (if g then typed.catches_in (named p) (walks.region_at (body_of p b) n) else []) ≡ true → All Caught (if g then catches_in s.tables.now (region_at b (place_covering b n)) else [])
-      caught_by false e = All-nil Caught
-      caught_by true e = subst (λ o. All Caught (catches_in s.tables.now o)) (sym (regions_behind n [] b.regions 0 refl))
-          (region_all (find (covers n) b.regions) (sym (ap (λ o. all_caught (typed.catches_in (named p) o)) (region_found p n b.regions)) ∙ e))
-
-      pub caught_all : All Caught (catches s.tables.now b y n)
-      caught_all = caught_by (throws y)
-          (sym (ap (λ g. all_caught (if g then typed.catches_in (named p) (walks.region_at (body_of p b) n) else [])) (throws_same p y))
-          ∙ all_last (typed.arrives (named p) x) (map gone (walks.onward (form_of p y) n)) (map caught_as (typed.catches (named p) (body_of p b) n (form_of p y))) edges)
-
-    -- ---- the table
-
-    at_place : (n : ℕ) (k : Kinds) → place_at table_numbered n ≡ Some k → Kept p b.registers (typed.state_at x n) k
-    at_place n k e = kept_is p b.registers (typed.state_at x n) k (sym (place_is n) ∙ e)
-
-    wide_at : (n : ℕ) (k : Kinds) → place_at table_numbered n ≡ Some k → length k.registers ≡ b.registers
-    wide_at n k e = let r = at_place n k e in ap (λ k. length k.registers) (sym r.same) ∙ map_long (numbered p) r.kinds.registers ∙ r.long
-
-    begins : Arrives s.tables.now table_numbered 0 entry
-    begins = arrived 0 entry entry_named (begun_long s b (receiver_of c s.class m (constructs s.tables.now m)) (parameters_of p m.name)) h.entry
-        (λ z e. subst (λ k. IsBelow s.tables.now k (kinds_numbered p z)) entry_same (kinds_back p s.tables.now i.told entry_named z e))
+      caught_at : All Caught (catches s.tables.now b y n)
+      caught_at = caught_back s c m i b n y a (left n y a is wide) (typed.arrives (named p) x) Goes Caught (goes n y a is wide reads_at right_at) (caught_one n y a is wide) edges_at
 
     pub typing_numbered : IsTyping s b entry table_numbered
     typing_numbered = record {
       long = map_long (kept p b.registers) x ∙ h.long ∙ map_long (form_of p) b.insns;
       wide = wide_at;
-      begins = begins;
-      onward = λ n y k is at. let r = at_place n k at in subst (λ k. All (λ q. Arrives s.tables.now table_numbered q (form_after s n y k)) (onward y n)) r.same (goes_all n y r.kinds is r.is r.long);
-      caught = λ n y k is at. let r = at_place n k at in subst (λ k. All (λ z. Arrives s.tables.now table_numbered z.0 (record k { caught = z.1 })) (catches s.tables.now b y n)) r.same (caught_all n y r.kinds is r.is r.long);
-      reads = λ n y k is at. let r = at_place n k at in subst (λ k. fault_of s n k y ≡ None) r.same (no_fault n y r.kinds is r.is r.long);
+      begins = entered_number h.entry;
+      onward = λ n y k is at. let r = at_place n k at in subst (λ k. All (λ q. Arrives s.tables.now table_numbered q (form_after s n y k)) (onward y n)) r.same (goes_at n y r.kinds is r.is r.long);
+      caught = λ n y k is at. let r = at_place n k at in subst (λ k. All (λ z. Arrives s.tables.now table_numbered z.0 (record k { caught = z.1 })) (catches s.tables.now b y n)) r.same (caught_at n y r.kinds is r.is r.long);
+      reads = λ n y k is at. let r = at_place n k at in subst (λ k. fault_of s n k y ≡ None) r.same (fault_at n y r.kinds is r.is r.long);
     }

@@ -134,6 +134,13 @@ pub all_same : (q : NamedProgram) (ks : List name.Kind) → by_name.all_below q 
 all_same q [] = refl
 all_same q (k ∷ ks) = both (is_below q k k) (by_name.all_below q ks ks) (itself_below q k) (all_same q ks)
 
+-- as many registers, each at or below the other one's
+pub all_at : (q : NamedProgram) (ks ls : List name.Kind) → length ks ≡ length ls → ((r : ℕ) → is_below q (by_name.kind_at ks r) (by_name.kind_at ls r) ≡ true) → by_name.all_below q ks ls ≡ true
+all_at q [] [] e h = refl
+all_at q [] (l ∷ ls) e h = absurd (omega (arith, e))
+all_at q (k ∷ ks) [] e h = absurd (omega (arith, e))
+all_at q (k ∷ ks) (l ∷ ls) e h = both (is_below q k l) (by_name.all_below q ks ls) (h 0) (all_at q ks ls (omega (arith, e)) (λ r. h (suc r)))
+
 -- a lower kind at one register
 pub set_below : (q : NamedProgram) (ks : List name.Kind) (r : ℕ) (k l : name.Kind) → is_below q k l ≡ true → by_name.all_below q (slice_set ks r k) (slice_set ks r l) ≡ true
 set_below q [] r k l e = refl

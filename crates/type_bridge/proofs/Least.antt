@@ -35,7 +35,7 @@ use Rattle.verify.specs.Methods.{constructs, receiver_of, IsFor, HasTyping, Type
 use Rattle.verify.specs.Names.{parameters_of}
 use Rattle.verify.specs.Supers.{Finds}
 use Rattle.verify.specs.Types.{shape_of, kind_of, kind_of_shape, kind_of_class}
-use Rattle.verify.specs.Typings.{Below, IsBelow, AtMost, Table, IsLeastTyping}
+use Rattle.verify.specs.Typings.{Below, IsBelow, AtMost, Table, IsUnder, IsLeastTyping}
 use Rattle.verify.proofs.Lattice.{joins, alike, numbers, objects, apart}
 use Rattle.verify.proofs.Orders.{Under, itself, unknown, word, empty, any, classes, items, deep, under, bare_below, is_null}
 use Rattle.verify.proofs.Raises.{below_itself, below_on}
@@ -48,7 +48,7 @@ use Rattle.type_bridge.proofs.BackFits.{named_back, type_numbered}
 use Rattle.type_bridge.proofs.BackFrames.{kinds_numbered, at_back}
 use Rattle.type_bridge.proofs.BackTypings.{kept_if, kept, table_numbered, typing_numbered, place_map}
 use Rattle.type_bridge.proofs.Bodies.{IsCode}
-use Rattle.type_bridge.proofs.Frames.{at_named, close}
+use Rattle.type_bridge.proofs.Frames.{at_named, all_at, close}
 use Rattle.type_bridge.proofs.Grounds.{IsSet}
 use Rattle.type_bridge.proofs.Judged.{typing_named, state_is, map_long}
 use Rattle.type_bridge.proofs.Numbers.{type_named}
@@ -59,15 +59,8 @@ use Rattle.type_bridge.proofs.Told.{Told}
 
 -- ---- lists
 
--- as many registers, each at or below the other one's
-all_at : (q : NamedProgram) (ks ls : List Kind) → length ks ≡ length ls → ((r : ℕ) → is_below q (by_name.kind_at ks r) (by_name.kind_at ls r) ≡ true) → by_name.all_below q ks ls ≡ true
-all_at q [] [] e h = refl
-all_at q [] (l ∷ ls) e h = absurd (omega (arith, e))
-all_at q (k ∷ ks) [] e h = absurd (omega (arith, e))
-all_at q (k ∷ ks) (l ∷ ls) e h = both (is_below q k l) (by_name.all_below q ks ls) (h 0) (all_at q ks ls (omega (arith, e)) (λ r. h (suc r)))
-
 -- as many positions, each at or below the other one's
-tables_at : (q : NamedProgram) (xs ys : typed.Table) → length xs ≡ length ys → ((n : ℕ) → by_name.state_below q (typed.state_at xs n) (typed.state_at ys n) ≡ true) → by_name.tables_below q xs ys ≡ true
+pub tables_at : (q : NamedProgram) (xs ys : typed.Table) → length xs ≡ length ys → ((n : ℕ) → by_name.state_below q (typed.state_at xs n) (typed.state_at ys n) ≡ true) → by_name.tables_below q xs ys ≡ true
 tables_at q [] [] e h = refl
 tables_at q [] (y ∷ ys) e h = absurd (omega (arith, e))
 tables_at q (x ∷ xs) [] e h = absurd (omega (arith, e))
@@ -231,45 +224,49 @@ module _ (s : Setting) (c : Class) (m : Method) (i : IsSet s c m) where
     abbrev here : typed.Table
     here = table_named p own x
 
-    begins : Holds t class entry.receiver
+    pub begins : Holds t class entry.receiver
     begins = by s.constructs
       where
         by : (g : Bool) → Holds t class (if g then kind.FreshThis else kind.Undefined)
         by true = this refl
         by false = over (below_undefined t (lattice_of t i.told.meets) class)
 
-    module _ (h : IsLeastTyping s b entry x) where
-      here_named : IsNamed here
-      here_named = typing_named s c m i b code finds x h.typing
-
-      over_at : (u : typed.Table) → IsNamed u → (n : ℕ) (a : Kinds) → place_at x n ≡ Some a → IsOver (typed.state_at u n) a
+    -- Tables by name of which this one is one, where its numbers are under those of each.
+    module _ (Is : typed.Table → Type 0) (here_is : Is here) (below_each : (u : typed.Table) → Is u → IsUnder t x (table_numbered s c m i b code finds u)) where
+      over_at : (u : typed.Table) → Is u → (n : ℕ) (a : Kinds) → place_at x n ≡ Some a → IsOver (typed.state_at u n) a
       over_at u y n a e =
-          let l : AtMost t (place_at x n) (place_at (table_numbered s c m i b code finds u) n) = h.least (table_numbered s c m i b code finds u) (typing_numbered s c m i b code finds u y) n in
           over_of b.registers (typed.state_at u n) a
-          (subst (λ o. AtMost t o (kept p b.registers (typed.state_at u n))) e (subst (AtMost t (place_at x n)) (place_map (kept p b.registers) refl u n) l))
+          (subst (λ o. AtMost t o (kept p b.registers (typed.state_at u n))) e (subst (AtMost t (place_at x n)) (place_map (kept p b.registers) refl u n) (below_each u y n)))
 
       -- the number of the name
-      round : (n : ℕ) (a : Kinds) → place_at x n ≡ Some a → IsBelow t a (kinds_numbered p (kinds_named p own a))
+      pub round : (n : ℕ) (a : Kinds) → place_at x n ≡ Some a → IsBelow t a (kinds_numbered p (kinds_named p own a))
       round n a e =
-          let r = over_at here here_named n a e in
+          let r = over_at here here_is n a e in
           let f : Some (kinds_named p own a) ≡ Some r.frame = sym (state_is p own x n ∙ ap (option_map (kinds_named p own)) e) ∙ r.is in
           let g : kinds_named p own a ≡ r.frame = cc in
           subst (λ k. IsBelow t a (kinds_numbered p k)) (sym g) r.below
 
-      state_under : (u : typed.Table) → IsNamed u → (n : ℕ) → by_name.state_below (named p) (typed.state_at here n) (typed.state_at u n) ≡ true
-      state_under u y n = ap (λ o. by_name.state_below (named p) o (typed.state_at u n)) (state_is p own x n) ∙ by (place_at x n) refl
+      pub state_under : ((n : ℕ) (a : Kinds) → place_at x n ≡ Some a → Holds t class a.receiver) → (u : typed.Table) → Is u → (n : ℕ) → by_name.state_below (named p) (typed.state_at here n) (typed.state_at u n) ≡ true
+      state_under held u y n = ap (λ o. by_name.state_below (named p) o (typed.state_at u n)) (state_is p own x n) ∙ by (place_at x n) refl
         where
           by : (o : Option Kinds) → place_at x n ≡ o → by_name.state_below (named p) (option_map (kinds_named p own) o) (typed.state_at u n) ≡ true
           by None e = refl
           by (Some a) e =
               let r = over_at u y n a e in
               ap (by_name.state_below (named p) (Some (kinds_named p own a))) r.is
-              ∙ frame_under a r.frame (round n a e) r.below (least_holds s i.told.meets b entry begins x h n a e)
+              ∙ frame_under a r.frame (round n a e) r.below (held n a e)
+
+    module _ (h : IsLeastTyping s b entry x) where
+      here_named : IsNamed here
+      here_named = typing_named s c m i b code finds x h.typing
+
+      below_typing : (u : typed.Table) → IsNamed u → IsUnder t x (table_numbered s c m i b code finds u)
+      below_typing u y = h.least (table_numbered s c m i b code finds u) (typing_numbered s c m i b code finds u y)
 
       pub least_named : typed.IsLeastTyping (named p) (named_class p c) (named_method p m) (body_of p b) here
       least_named = record {
         typing = here_named;
-        least = λ u y. tables_at (named p) here u (here_named.long ∙ sym y.long) (state_under u y);
+        least = λ u y. tables_at (named p) here u (here_named.long ∙ sym y.long) (state_under IsNamed here_named below_typing (least_holds s i.told.meets b entry begins x h) u y);
       }
 
 -- ---- methods

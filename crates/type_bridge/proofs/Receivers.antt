@@ -1,5 +1,5 @@
--- What the least typing by numbers holds in the place of a constructor's receiver: the receiver itself, or what is at or above
--- the kind of its class. For a typing without the positions that hold something else is a typing too.
+-- What the least typing by numbers, and the least flow, hold in the place of a constructor's receiver: the receiver itself, or what
+-- is at or above the kind of its class. For a typing without the positions that hold something else is a typing too.
 use Rattle.std.proofs.Common.{◌≡◌, ℕ, ◌<◌, Bool, true, false, List, map, Option, Some, None, refl, sym, ap, ◌∙◌, subst}
 use Rattle.std.specs.Prelude.{◌||◌, All, slice_get, if◌then◌else◌}
 use Rattle.std.proofs.lemmas.List.Elements.{All-weaker}
@@ -22,7 +22,8 @@ use Rattle.verify.specs.Joins.{joined}
 use Rattle.verify.specs.Kinds.{same_kind, replaced}
 use Rattle.verify.specs.Meeting.{IsMeeting}
 use Rattle.verify.specs.Types.{kind_of, kind_of_shape, kind_of_class, is_constructor, shape_of}
-use Rattle.verify.specs.Typings.{Below, AtMost, Table, Arrives, IsTyping, IsLeastTyping, onward, catches}
+use Rattle.verify.specs.Faults.{fault_of}
+use Rattle.verify.specs.Typings.{Below, AtMost, Table, IsUnder, Arrives, IsTyping, IsLeastTyping, unless_fault, carried, carried_to, IsFlow, IsLeastFlow, onward, catches}
 use Rattle.verify.proofs.Lattice.{same_is}
 use Rattle.verify.proofs.Orders.{bare_below}
 use Rattle.verify.proofs.Raises.{kind_itself, below_itself, below_on}
@@ -187,11 +188,41 @@ module _ (s : Setting) (m : IsMeeting s.tables.now) (b : Body) (entry : Kinds) (
       reads = λ n i a is at. y.reads n i a is (at_place n a at).is;
     }
 
-  -- the least typing has no others
-  pub least_holds : IsLeastTyping s b entry x → (n : ℕ) (a : Kinds) → place_at x n ≡ Some a → Holds s.tables.now class a.receiver
-  least_holds y n a e = by (holds s.tables.now class a.receiver) refl
-      (subst (λ o. AtMost s.tables.now o (kept o)) e (subst (AtMost s.tables.now (place_at x n)) (place_is n) (y.least rest (rest_typing y.typing) n)))
+  -- a table that is under the rest has no others
+  under_holds : IsUnder s.tables.now x rest → (n : ℕ) (a : Kinds) → place_at x n ≡ Some a → Holds s.tables.now class a.receiver
+  under_holds y n a e = by (holds s.tables.now class a.receiver) refl
+      (subst (λ o. AtMost s.tables.now o (kept o)) e (subst (AtMost s.tables.now (place_at x n)) (place_is n) (y n)))
     where
       by : (g : Bool) → holds s.tables.now class a.receiver ≡ g → AtMost s.tables.now (Some a) (kept_if g a) → Holds s.tables.now class a.receiver
       by true f l = held s.tables.now class a.receiver f
       by false f l = absurd l
+
+  pub least_holds : IsLeastTyping s b entry x → (n : ℕ) (a : Kinds) → place_at x n ≡ Some a → Holds s.tables.now class a.receiver
+  least_holds y n a e = under_holds (y.least rest (rest_typing y.typing)) n a e
+
+  -- ---- flows
+
+  unless_holds : (o : Option ℕ) (k : Kinds) → Holds s.tables.now class k.receiver → Holds s.tables.now class (unless_fault o b k).receiver
+  unless_holds None k h = h
+  unless_holds (Some r) k h = over (below_undefined s.tables.now (lattice_of s.tables.now m) class)
+
+  module _ (y : IsFlow s b entry x) where
+    onward_flows : (n : ℕ) (i : Insn) (a : Kinds) → slice_get b.insns n ≡ Some i → IsKept (place_at x n) a → All (λ q. Arrives s.tables.now rest q (carried s b n i a)) (onward i n)
+    onward_flows n i a is h = All-weaker (λ q. Arrives s.tables.now x q (carried s b n i a)) (λ q. Arrives s.tables.now rest q (carried s b n i a))
+        (still (carried s b n i a) (unless_holds (fault_of s n a i) (form_after s n i a) (after_holds s.program.now s.tables.now s.kind n i a h.holds))) (onward i n) (y.onward n i a is h.is)
+
+    caught_flows : (n : ℕ) (i : Insn) (a : Kinds) → slice_get b.insns n ≡ Some i → IsKept (place_at x n) a → All (λ k. Arrives s.tables.now rest k.0 (carried_to s b n i a k.1)) (catches s.tables.now b i n)
+    caught_flows n i a is h = All-weaker (λ (k : ℕ × Kind). Arrives s.tables.now x k.0 (carried_to s b n i a k.1)) (λ (k : ℕ × Kind). Arrives s.tables.now rest k.0 (carried_to s b n i a k.1))
+        (λ k. still (carried_to s b n i a k.1) (unless_holds (fault_of s n a i) (record a { caught = k.1 }) h.holds) k.0) (catches s.tables.now b i n) (y.caught n i a is h.is)
+
+    rest_flow : IsFlow s b entry rest
+    rest_flow = record {
+      long = map_long kept x ∙ y.long;
+      wide = λ n a e. y.wide n a (at_place n a e).is;
+      begins = still entry begins 0 y.begins;
+      onward = λ n i a is at. onward_flows n i a is (at_place n a at);
+      caught = λ n i a is at. caught_flows n i a is (at_place n a at);
+    }
+
+  pub least_flow_holds : IsLeastFlow s b entry x → (n : ℕ) (a : Kinds) → place_at x n ≡ Some a → Holds s.tables.now class a.receiver
+  least_flow_holds y n a e = under_holds (y.least rest (rest_flow y.flow)) n a e

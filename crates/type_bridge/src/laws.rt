@@ -3,7 +3,7 @@
 ghost use Rattle.std.specs.Prelude.{◌≡◌, ℕ, true, Some, slice_get};
 ghost use Rattle.dalvik_defs.specs.Naming.{type_at, body_of, named_class, named_method, named};
 ghost use Rattle.pass_defs.specs.Kinds as name;
-ghost use Rattle.pass_defs.specs.Typed.{IsTyped, IsTyping, IsLeastTyping, Table};
+ghost use Rattle.pass_defs.specs.Typed.{IsTyped, IsTyping, IsIllTyped, IsLeastTyping, Table};
 ghost use Rattle.program_model.specs.declared.body.Body.{Body};
 ghost use Rattle.program_model.specs.declared.program.Class.{Class};
 ghost use Rattle.program_model.specs.declared.program.Method.{Method};
@@ -72,4 +72,10 @@ pub fn ill_typed_law()
 /// for, and those that have another number of registers where the least one has no kinds.
 pub fn least_law()
     ensures { (p : Program) (h : Hierarchy) → is_well_formed p ≡ true → IsResolved p h → (at : MethodAt) (x : by_number.Table) → TypesFor p h at x → (c : Class) (m : Method) (b : Body) → slice_get p.classes at.class ≡ Some c → method_at p at ≡ Some m → m.body ≡ Some b → IsLeastTyping (named p) (named_class p c) (named_method p m) (body_of p b) (method_table p c x) }
+{}
+
+/// Where the verifier finds a method of a well-formed program ill typed, it is so by names at the same place: in the least
+/// flow by names the read of this register at this position is refused, or the position is wrong and the register is 0.
+pub fn place_law()
+    ensures { (p : Program) (h : Hierarchy) → is_well_formed p ≡ true → IsResolved p h → (at : MethodAt) (k n r : ℕ) → RefusesFor p h at (fault.IllTyped k n r) → (c : Class) (m : Method) (b : Body) → slice_get p.classes at.class ≡ Some c → method_at p at ≡ Some m → m.body ≡ Some b → IsIllTyped (named p) (named_class p c) (named_method p m) (body_of p b) n r }
 {}

@@ -3,9 +3,14 @@ pub mod Answered
 pub mod Comes
 pub mod Created
 pub mod Entered
+pub mod FieldMoves
 pub mod Framed
+pub mod ItemMoves
+pub mod KeptFields
+pub mod Laid
 pub mod Moved
 pub mod Played
+pub mod Shuffled
 pub mod Taken
 pub mod Thrown
 pub mod Touched

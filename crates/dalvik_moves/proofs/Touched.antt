@@ -1,5 +1,5 @@
 -- What is shown of fields and arrays that the framework reads.
-use Rattle.std.proofs.Common.{◌≡◌, ℕ, zero, suc, ◌+◌, ◌<◌, ◌≤◌, ◌⊎◌, inl, inr, Bool, true, false, List, [], ◌∷◌, length, map, min, arith, ap, refl, sym, subst, ◌∙◌, length-append}
+use Rattle.std.proofs.Common.{◌≡◌, ℕ, zero, suc, ◌+◌, ◌<◌, ◌≤◌, ◌⊎◌, inl, inr, Bool, true, false, List, [], ◌∷◌, length, map, min, arith, ap, refl, sym, subst, ◌∙◌, length-append, lt-ltb, ltb-true}
 use Rattle.std.specs.Prelude.{◌^◌, nat_lt, slice_get, Option, Some, None}
 use Rattle.std.specs.Option.{option_map}
 use Rattle.program_model.specs.declared.pass.Outside.{Outside}
@@ -35,10 +35,13 @@ use Rattle.dalvik_state.specs.Runs.{classes_in, stack_in, IsEvent, IsUndone}
 use Rattle.dalvik_state.specs.Frames.{cell}
 use Rattle.dalvik_state.specs.States.{IsRunning, IsSound}
 use Rattle.dalvik_state.specs.Views.{exposed_of, names_in, thing_of, value_of, values_of, world_of, AreFine, IsFine, IsFineShape, Names}
-use Rattle.dalvik_state.specs.Worlds.{new_spot, shape_at, spots_of, Array, IsSameWorld, IsShort, IsShortShape, Plain, Shape, Spot}
+use Rattle.dalvik_state.specs.Worlds.{new_spot, shape_at, spots_of, Array, IsShort, IsShortShape, Plain, Shape, Spot}
 use Rattle.dalvik_lookups.proofs.Descriptors.{known_at}
+use Rattle.dalvik_lookups.proofs.Interned.{got_short}
+use Rattle.dalvik_state.proofs.Places.{none_past, seen_long}
 use Rattle.dalvik_state.proofs.Things.{thing_named}
 use Rattle.dalvik_steps.specs.Entries.{AreGivenFine, ShowsGiven}
+use Rattle.dalvik_steps.specs.Turns.{IsAsItWas}
 use Rattle.dalvik_steps.proofs.Undone.{undone_world}
 use Rattle.dalvik_moves.specs.Moving.{counted, exposed_in, item_in, length_in, IsMoving}
 use Rattle.dalvik_moves.proofs.Moved.{event_as, world_done}
@@ -97,14 +100,14 @@ abbrev pub Exposes : Names → OwnWorld → Given → Datum → Type 0
 Exposes n w g d = IsExposedAt n w g d ⊎ ((is_exposed (world_of n w) g ≡ false) × (d ≡ datum.Word 0))
 
 none_at : (es : List OwnExposed) (i : ℕ) → slice_get es i ≡ None → nat_lt i (length (map exposed_of es)) ≡ false
-none_at [] i e = grind arith
-none_at (x ∷ es) zero e = absurd (cc)
-none_at (x ∷ es) (suc i) e = none_at es i e
+none_at es i e = by (nat_lt i (length (map exposed_of es))) refl
+  where
+    by : (b : Bool) → nat_lt i (length (map exposed_of es)) ≡ b → b ≡ false
+    by true h = absurd (let low = ltb-true i (length (map exposed_of es)) h in let size = seen_long es in let past = none_past es i e in omega (arith, low, size, past))
+    by false h = refl
 
 some_at : (es : List OwnExposed) (i : ℕ) (x : OwnExposed) → slice_get es i ≡ Some x → nat_lt i (length (map exposed_of es)) ≡ true
-some_at [] i x e = absurd (cc)
-some_at (y ∷ es) zero x e = refl
-some_at (y ∷ es) (suc i) x e = some_at es i x e
+some_at es i x e = lt-ltb i (length (map exposed_of es)) (let low = got_short es i x e in let size = seen_long es in omega (arith, low, size))
 
 exposed_by : (n : Names) (w : OwnWorld) (i : ℕ) (o : Option OwnExposed) → slice_get w.exposed.items i ≡ o → Exposes n w (given.Exposed i) (elim o as (λ o. Datum) [ Some e ↦ datum.Object e.number | None ↦ datum.Word 0 ])
 exposed_by n w i None e = inr (none_at w.exposed.items i e, refl)
@@ -205,7 +208,7 @@ module _ (l : Lookups) (w : OwnWorld) (classes : Classes) (g : Given) (place : �
 
 -- ---- want of memory
 
-pub world_undone : (l : Lookups) (steps : ℕ) (s : State) (w : OwnWorld) → IsRunning l steps s → s.ended ≡ false → IsSameWorld s.world w → IsUndone l steps s (record s { world = w })
+pub world_undone : (l : Lookups) (steps : ℕ) (s : State) (w : OwnWorld) → IsRunning l steps s → s.ended ≡ false → IsAsItWas s.world w → IsUndone l steps s (record s { world = w })
 world_undone l steps s w r e h = undone_world l steps s w h r e
 
 -- the type of a length
@@ -219,6 +222,10 @@ cell_is [] r d e = absurd (cc)
 cell_is (x ∷ xs) zero d e = cc
 cell_is (x ∷ xs) (suc r) d e = cell_is xs r d e
 
+abbrev item_among : Option (Kind × Option Datum) → Option Datum
+item_among None = None
+item_among (Some x) = x.1
+
 pub item_fine : (l : Lookups) (w : OwnWorld) (g : Gifts) (place : ℕ) (array : Datum) (kind : Kind) (v : Option Datum) → IsSound l w → g.things.items ≡ [] → Some (kind, v) ≡ item_in place (shape_at (spots_of w) array) → AreGivenFine l w g v
 item_fine l w g place (datum.Object i) kind v s none e = by_spot (slice_get (spots_of w) i) refl e
   where
@@ -228,7 +235,7 @@ item_fine l w g place (datum.Object i) kind v s none e = by_spot (slice_get (spo
 
     by_shape : (x : Shape) → IsFineShape (names_in l) (length (spots_of w)) x → Some (kind, v) ≡ item_in place (Some x) → AreGivenFine l w g v
     by_shape (Plain k) a e = absurd (cc)
-    by_shape (Array k items) a e = (let same : v ≡ slice_get items place = cc in subst (AreGivenFine l w g) (sym same) (by_item items (slice_get items place) refl a))
+    by_shape (Array k items) a e = (let same : v ≡ slice_get items place = ap item_among e in subst (AreGivenFine l w g) (sym same) (by_item items (slice_get items place) refl a))
 
     by_spot : (o : Option Spot) → slice_get (spots_of w) i ≡ o → Some (kind, v) ≡ item_in place (option_map (λ (x : Spot). x.shape) o) → AreGivenFine l w g v
     by_spot None f e = absurd (cc)

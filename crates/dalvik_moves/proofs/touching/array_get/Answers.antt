@@ -26,7 +26,7 @@ returns-in-Some-clause-ok c = λ o memo script steps owes first rest g h is.
     let start = none_given l w c.new.result h.run.state.world c.new.ensures in
     let read = array_read l w (classes_in l old) g c.args.place (stack_in l old) rest c.args.on is (Some (c.in-Some.kind, c.in-Some.value)) e in
     IfOk-weaker c.shows_value.result _ _ (λ x event. event_as l steps script c.shows_value.new.state x _ _
-        (ap (λ (v : World). shows_value v (classes_in l old) (type_text l.types c.in-Some.kind) (option_map (value_of n) c.in-Some.value) (stack_in l old) rest) (nothing_given l w c.new.result c.new.ensures) ∙ sym read) event)
+    (ap (λ (v : World). shows_value v (classes_in l old) (type_text l.types c.in-Some.kind) (option_map (value_of n) c.in-Some.value) (stack_in l old) rest) (nothing_given l w c.new.result c.new.ensures) ∙ sym read) event)
     (c.shows_value.ensures.ok o memo script steps owes first rest h start (item_fine l w c.new.result c.args.place c.exposed-array.result c.in-Some.kind c.in-Some.value h.run.state.world c.new.ensures c.in-Some.ensures))
 
 pub returns-in-None-clause-ok : goal.returns-in-None-clause-ok

@@ -27,6 +27,6 @@ returns-clause-ok c = λ o memo script steps owes first rest g h is.
     let read = array_measured l w (classes_in l old) g 0 (stack_in l old) rest c.args.on is h.run.state.world.short d e in
     let text = ap (type_text l.types) c.plain-kind.ensures ∙ int_text l h.run.right.tabled.named.types in
     IfOk-weaker c.shows_value.result _ _ (λ x event. event_as l steps script c.shows_value.new.state x _ _
-        (ap (λ (v : World). shows_value v (classes_in l old) (type_text l.types c.plain-kind.result) (option_map (value_of n) d) (stack_in l old) rest) (nothing_given l w c.new.result c.new.ensures)
-        ∙ ap (λ (t : Text). shows_value (world_in l old) (classes_in l old) t (option_map (value_of n) d) (stack_in l old) rest) text ∙ sym read) event)
+    (ap (λ (v : World). shows_value v (classes_in l old) (type_text l.types c.plain-kind.result) (option_map (value_of n) d) (stack_in l old) rest) (nothing_given l w c.new.result c.new.ensures)
+    ∙ ap (λ (t : Text). shows_value (world_in l old) (classes_in l old) t (option_map (value_of n) d) (stack_in l old) rest) text ∙ sym read) event)
     (c.shows_value.ensures.ok o memo script steps owes first rest h start (length_fine l w c.new.result (shape_at (spots_of w) c.exposed.result) d c.length_of-length.ensures))

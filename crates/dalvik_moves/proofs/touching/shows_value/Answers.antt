@@ -1,5 +1,5 @@
 use Rattle.std.proofs.Common.{sym, subst}
-use Rattle.std.specs.Prelude.{IfOk, None, Option, Some}
+use Rattle.std.specs.Prelude.{IfOk, None, Option}
 use Rattle.std.specs.Option.{option_map}
 use Rattle.dalvik_defs.specs.Moves.{shows_value}
 use Rattle.dalvik_lookups.specs.Views.{type_text}

@@ -5,14 +5,15 @@ use Rattle.redex_outside.specs.Held.{Held, AllSame, OthersSame, OldOrPrefix}
 use Rattle.program_model.specs.declared.limits.Counted.{Counted}
 use Rattle.program_model.specs.declared.limits.Counted.TheVariants.{RuleBytes, FileBytes, ScriptBytes}
 use Rattle.command_line.specs.declared.command.CommandWords.{CommandWords}
-use Rattle.command_line.specs.declared.command.CommandWords.TheVariants.{Optimise, Live, Trace}
+use Rattle.command_line.specs.declared.command.CommandWords.TheVariants.{Optimise, Check, Live, Trace}
 use Rattle.command_line.specs.declared.command.OptimiseWords.{OptimiseWords}
 use Rattle.redex_cli.specs.Commands.{Fetch, is_built, fetches, output_of, file_alone, library_file, rules_and_file, trace_files}
 use Rattle.redex_cli.specs.Fetching.{Failures, AllWithin, FirstTooLong, FetchRefused, PutRefused}
 use Rattle.redex_cli.specs.Files.{AllRead, FileCause, FileRefused, HoldsRead, HoldsRefused, IsRead}
-use Rattle.redex_cli.specs.Finished.{Checks, Finished, IsChecked, IsResult, IsSummary, IsTraced}
+use Rattle.redex_cli.specs.Finished.{Checks, Finished, IsChecked, IsResult, IsSummary}
 use Rattle.redex_cli.specs.Refusals.{Cause, EndsTooLong, Gives, HoldsSummed, Refuses, TraceRefused, WorkRefused}
 use Rattle.redex_cli.specs.Stays.{OutputHolds, HoldsPart, Stays}
+use Rattle.redex_cli.specs.Traces.{IsTraced, TracesFile}
 use Rattle.redex_cli.specs.declared.status.Status.{Status}
 use Rattle.redex_cli.specs.declared.status.Status.TheVariants.{Done, Usage, BadRules, BadDex, Limit, ReadFault, WriteFault, NoMemory, BadScript}
 use Rattle.redex_cli.proofs.FetchLemmas.{KeepsAll, passes_ends, rose_since, stays_same, within_or_long}
@@ -159,6 +160,7 @@ holds_read : (held : Held) (name bytes : List ℕ) (counted : Counted) → held 
 holds_read held name bytes counted there read = record {
   program = read.program;
   holds = record { bytes = bytes; there = there; reads = read.reads };
+  accepted = read.accepted;
 }
 
 rules_no_file : RuleBytes ≡ FileBytes → ⊥
@@ -200,20 +202,38 @@ pub pair_gives : (rules input bytes : List ℕ) (IsAnswer : List ℕ → Type 0)
 pair_gives rules input bytes IsAnswer tells old new text read within there answer same =
     keeps_gives (rules_and_file rules input) IsAnswer tells old new text within (λ told. pair_read old rules input bytes (there told) read) answer same
 
-pub three_give : (rules input script bytes : List ℕ) (IsAnswer : List ℕ → Type 0) (tells : Bool) (old new : Held) (text : List ℕ)
-    → IsRead bytes → (IsTrue tells → AllWithin old (trace_files rules input script)) → (IsTrue tells → old input ≡ Some bytes)
-    → IsAnswer text → (IsTrue tells → AllSame old new)
-    → Gives (trace_files rules input script) None IsAnswer tells old new text
-three_give rules input script bytes IsAnswer tells old new text read within there answer same =
-    keeps_gives (trace_files rules input script) IsAnswer tells old new text within (λ told. trace_read old rules input script bytes (there told) read) answer same
-
 pub check_gives : (input bytes : List ℕ) (tells : Bool) (old new : Held) (text : List ℕ)
     → Checks bytes text → (IsTrue tells → AllWithin old (file_alone input)) → (IsTrue tells → old input ≡ Some bytes) → (IsTrue tells → AllSame old new)
     → Gives (file_alone input) None (IsChecked tells old input) tells old new text
 check_gives input bytes tells old new text checks within there same =
     keeps_gives (file_alone input) (IsChecked tells old input) tells old new text within
-    (λ told. (λ _. holds_read old input bytes FileBytes (there told) (record { program = checks.program; reads = checks.reads }), tt))
-    (record { program = checks.program; holds = λ told. record { bytes = bytes; there = there told; reads = checks.reads }; says = checks.says }) same
+    (λ told. (λ _. holds_read old input bytes FileBytes (there told) (record { program = checks.program; reads = checks.reads; accepted = checks.accepted }), tt))
+    (record {
+      program = checks.program;
+      holds = λ told. record { bytes = bytes; there = there told; reads = checks.reads };
+      accepted = checks.accepted;
+      says = checks.says;
+    }) same
+
+is_traced : (input script bytes play : List ℕ) (steps : ℕ) (tells : Bool) (old : Held) (text : List ℕ) → TracesFile bytes play steps text
+    → (IsTrue tells → old input ≡ Some bytes) → (IsTrue tells → old script ≡ Some play) → IsTraced tells old input script steps text
+is_traced input script bytes play steps tells old text traces file there = record {
+  program = traces.program;
+  holds = λ told. record { bytes = bytes; there = file told; reads = traces.reads };
+  accepted = traces.accepted;
+  play = traces.play;
+  plays = λ told. record { script = play; there = there told; plays = traces.plays };
+  traces = traces.traces;
+}
+
+pub three_give : (rules input script bytes play : List ℕ) (steps : ℕ) (tells : Bool) (old new : Held) (text : List ℕ)
+    → IsRead bytes → TracesFile bytes play steps text → (IsTrue tells → AllWithin old (trace_files rules input script))
+    → (IsTrue tells → old input ≡ Some bytes) → (IsTrue tells → old script ≡ Some play) → (IsTrue tells → AllSame old new)
+    → Gives (trace_files rules input script) None (IsTraced tells old input script steps) tells old new text
+three_give rules input script bytes play steps tells old new text read traces within file there same =
+    keeps_gives (trace_files rules input script) (IsTraced tells old input script steps) tells old new text within
+    (λ told. trace_read old rules input script bytes (file told) read)
+    (is_traced input script bytes play steps tells old text traces file there) same
 
 -- ---- the put
 
@@ -266,6 +286,19 @@ put_refuses names name tells tells' old mid new f g p m q bytes summary status w
   too_long = λ counted told long. absurd (within_or_long old names counted (within told) long);
   stays = λ told. put_stays name tells' old mid new p m q bytes summary status finished fell (e ∙ told) (same told) (others (e ∙ told)) r;
 }
+
+-- the same of names and bytes that are found to be these
+pub output_refuses : (rules input name rules' input' name' : List ℕ) (tells tells' : Bool) (old mid new : Held) (f g p m q : Failures) (bytes content summary : List ℕ) (status : Status)
+    → rules' ≡ rules → input' ≡ input → name' ≡ name → content ≡ bytes
+    → (IsTrue tells → AllWithin old (rules_and_file rules' input')) → Finished bytes summary → tells' ≡ tells → (IsTrue tells → AllSame old mid) → NoneFell p m
+    → PutRefused tells' (m name') (q name') (mid name') (new name') content status → (IsTrue tells' → OthersSame name' mid new)
+    → Refuses (rules_and_file rules input) (Some name) tells old new f g p q status
+output_refuses rules input name rules' input' name' tells tells' old mid new f g p m q bytes content summary status is_rules is_input is_name is_bytes within finished e same fell r others =
+    subst (λ (n : List ℕ). Refuses (rules_and_file n input) (Some name) tells old new f g p q status) is_rules
+    (subst (λ (n : List ℕ). Refuses (rules_and_file rules' n) (Some name) tells old new f g p q status) is_input
+    (subst (λ (n : List ℕ). Refuses (rules_and_file rules' input') (Some n) tells old new f g p q status) is_name
+    (put_refuses (rules_and_file rules' input') name' tells tells' old mid new f g p m q bytes summary status within finished e same fell
+    (subst (λ (bs : List ℕ). PutRefused tells' (m name') (q name') (mid name') (new name') bs status) is_bytes r) others)))
 
 pub put_gives : (rules input file name : List ℕ) (tells tells' : Bool) (old mid new : Held) (bytes summary : List ℕ)
     → IsRead file → (IsTrue tells → AllWithin old (rules_and_file rules input)) → (IsTrue tells → old input ≡ Some file)
@@ -332,10 +365,10 @@ trace_fetches rules input script steps None built = refl
 trace_fetches rules input script steps (Some name) built = cc
 
 pub trace_gives : (rules input script : List ℕ) (steps : ℕ) (library : Option (List ℕ)) (tells : Bool) (old new : Held) (text : List ℕ) → IsTrue (is_built (Trace rules input script steps library))
-    → Gives (trace_files rules input script) None (IsTraced steps) tells old new text
+    → Gives (trace_files rules input script) None (IsTraced tells old input script steps) tells old new text
     → Gives (fetches (Trace rules input script steps library)) (output_of (Trace rules input script steps library)) (IsResult tells old (Trace rules input script steps library)) tells old new text
 trace_gives rules input script steps library tells old new text built gives =
-    subst (λ (names : List Fetch). Gives names None (IsTraced steps) tells old new text) (trace_fetches rules input script steps library built) gives
+    subst (λ (names : List Fetch). Gives names None (IsTraced tells old input script steps) tells old new text) (trace_fetches rules input script steps library built) gives
 
 pub trace_is_refused : (rules input script : List ℕ) (steps : ℕ) (library : Option (List ℕ)) (tells : Bool) (old new : Held) (f g p q : Failures) (status : Status) → IsTrue (is_built (Trace rules input script steps library))
     → Refuses (trace_files rules input script) None tells old new f g p q status
@@ -351,3 +384,10 @@ pub found_optimise_gives : (command : CommandWords) (words : OptimiseWords) (tel
 found_optimise_gives command words tells old new text e built gives =
     subst (λ (c : CommandWords). Gives (fetches c) (output_of c) (IsResult tells old c) tells old new text) (sym e)
     (optimise_gives words tells old new text (subst (λ (c : CommandWords). IsTrue (is_built c)) e built) gives)
+
+pub found_check_gives : (command : CommandWords) (input input' : List ℕ) (tells : Bool) (old new : Held) (text : List ℕ)
+    → command ≡ Check input → input' ≡ input → Gives (file_alone input') None (IsChecked tells old input') tells old new text
+    → Gives (fetches command) (output_of command) (IsResult tells old command) tells old new text
+found_check_gives command input input' tells old new text e same gives =
+    subst (λ (c : CommandWords). Gives (fetches c) (output_of c) (IsResult tells old c) tells old new text) (sym e)
+    (subst (λ (name : List ℕ). Gives (file_alone name) None (IsChecked tells old name) tells old new text) same gives)

@@ -1,7 +1,9 @@
+pub mod AcceptedLemmas
 pub mod CommandLemmas
 pub mod FetchLemmas
 pub mod FinishedLemmas
 pub mod RunLemmas
 pub mod SaidLemmas
 pub mod ScriptLemmas
+pub mod Traced
 pub mod WordsLemmas

@@ -8,15 +8,18 @@ use Rattle.program_model.specs.ProgramRules.{is_well_formed}
 use Rattle.program_model.specs.declared.limits.Counted.TheVariants.{FileBytes}
 use Rattle.program_model.specs.declared.program.Program.{Program}
 use Rattle.redex_outside.specs.Held.{Held}
+use Rattle.verify.specs.declared.fault.TypeFault.{TypeFault}
+use Rattle.redex_cli.specs.Accepted.{IsAccepted, IsTypeCause}
 use Rattle.redex_cli.specs.Commands.{Fetch}
 use Rattle.redex_cli.specs.declared.status.InputFault.TheVariants as input
 use Rattle.redex_cli.specs.declared.status.Status.{Status}
 use Rattle.redex_cli.specs.declared.status.Status.TheVariants.{BadDex, Limit}
 
--- The bytes spell a program.
+-- The bytes spell a program that is accepted.
 pub record IsRead (bytes : List ℕ) : Type 0 where
   pub program : Program
   pub reads : program_at bytes ≡ Ok program
+  pub accepted : IsAccepted program
 
 -- The bytes spell a program in whose class graph this fault stands.
 pub record HasGraphFault (bytes : List ℕ) (fault : HierarchyFault) : Type 0 where
@@ -24,12 +27,18 @@ pub record HasGraphFault (bytes : List ℕ) (fault : HierarchyFault) : Type 0 wh
   pub reads : program_at bytes ≡ Ok program
   pub cause : is_well_formed program ≡ true → IsCause program fault
 
+-- The bytes spell a program in whose bodies this fault stands.
+pub record HasTypeFault (bytes : List ℕ) (fault : TypeFault) : Type 0 where
+  pub program : Program
+  pub reads : program_at bytes ≡ Ok program
+  pub cause : IsTypeCause program fault
+
 -- What a file of these bytes is refused with: a fault of its reading, or a passed limit, is the one that the bytes give;
--- a fault of classes or types is one of the program that they spell.
+-- a fault of classes or types stands in the program that they spell.
 abbrev pub FileRefused : List ℕ → Status → Type 0
 FileRefused bytes (BadDex (input.Dex fault)) = program_at bytes ≡ Err fault
 FileRefused bytes (BadDex (input.Hierarchy fault)) = HasGraphFault bytes fault
-FileRefused bytes (BadDex (input.Typing fault)) = IsRead bytes
+FileRefused bytes (BadDex (input.Typing fault)) = HasTypeFault bytes fault
 FileRefused bytes (BadDex (input.Library fault)) = ⊥
 FileRefused bytes (Limit fault) = program_at bytes ≡ Err (dex.Limit fault)
 FileRefused bytes _ = Unit {0}
@@ -57,11 +66,13 @@ pub record HoldsProgram (held : Held) (name : List ℕ) (program : Program) : Ty
   pub there : held name ≡ Some bytes
   pub reads : program_at bytes ≡ Ok program
 
--- The name holds bytes that spell a program, where it is fetched as a file.
+-- The name holds bytes that spell a program that is accepted.
 pub record HoldsRead (held : Held) (fetch : Fetch) : Type 0 where
   pub program : Program
   pub holds : HoldsProgram held fetch.name program
+  pub accepted : IsAccepted program
 
+-- Each of these names that is fetched as a file does so.
 abbrev pub AllRead : Held → List Fetch → Type 0
 AllRead held [] = Unit {0}
 AllRead held (fetch ∷ later) = (fetch.counted ≡ FileBytes → HoldsRead held fetch) × AllRead held later

@@ -11,8 +11,8 @@ use Rattle.redex_cli.specs.Files.{HoldsProgram}
 use Rattle.program_model.specs.declared.program.Program.{Program}
 use Rattle.program_model.specs.Cells.{capped}
 use Rattle.pipeline.specs.Counts.{insns_of}
-use Rattle.dalvik_defs.specs.declared.events.Event.{Event}
-use Rattle.text_defs.specs.EventLines.{event_lines}
+use Rattle.redex_cli.specs.Accepted.{IsAccepted}
+use Rattle.redex_cli.specs.Traces.{IsTraced}
 use Rattle.redex_cli.specs.declared.summary.Sizes.{Sizes}
 
 -- A line of the summary: `WHAT A -> B`.
@@ -61,23 +61,19 @@ methods_of program = sum_by (λ class. length class.methods) program.classes
 abbrev pub program_text : Program → List ℕ
 program_text program = checked_text (length program.classes) (capped (methods_of program)) (capped (insns_of program))
 
--- The text says how many classes, methods and instructions the program has that these bytes spell.
+-- The text says how many classes, methods and instructions the program has that these bytes spell, which is accepted.
 pub record Checks (bytes text : List ℕ) : Type 0 where
   pub program : Program
   pub reads : program_at bytes ≡ Ok program
+  pub accepted : IsAccepted program
   pub says : text ≡ program_text program
 
 -- The text says so of the program that the name holds, where the shelf tells what it holds.
 pub record IsChecked (tells : Bool) (held : Held) (name text : List ℕ) : Type 0 where
   pub program : Program
   pub holds : IsTrue tells → HoldsProgram held name program
+  pub accepted : IsAccepted program
   pub says : text ≡ program_text program
-
--- The text is the lines of events, one for a step at most. What is known of them today: their number and their lines.
-pub record IsTraced (steps : ℕ) (text : List ℕ) : Type 0 where
-  pub events : List Event
-  pub few : length events ≤ steps
-  pub says : text ≡ event_lines events
 
 -- The text is the command's result on what the names hold. Of the list of `live` nothing is said yet.
 abbrev pub IsResult : Bool → Held → CommandWords → List ℕ → Type 0
@@ -85,7 +81,7 @@ IsResult tells held Nothing text = text ≡ usage_text
 IsResult tells held (Optimise words) text = IsSummary text
 IsResult tells held (Check input) text = IsChecked tells held input text
 IsResult tells held (Live rules input library) text = Unit {0}
-IsResult tells held (Trace rules input script steps library) text = IsTraced steps text
+IsResult tells held (Trace rules input script steps library) text = IsTraced tells held input script steps text
 IsResult tells held (Workload count) text = IsSummary text
 
 -- The text is the result of the command that the words spell.

@@ -1,8 +1,10 @@
 pub mod Status
+pub mod Accepted
 pub mod Commands
 pub mod FaultLines
 pub mod Fetching
 pub mod Files
+pub mod Traces
 pub mod Finished
 pub mod Stays
 pub mod Said

@@ -160,7 +160,7 @@ pub record HasFileFault (words : List (List ℕ)) (tells : Bool) (held : Held) (
   pub commands : Commands words command
   pub cause : FileFault tells held (fetches command) fault
 
--- The files that the words have fetched spell programs.
+-- The files that the words have fetched spell programs that are accepted.
 abbrev pub ReadsAll : List (List ℕ) → Held → Type 0
 ReadsAll words held = (command : CommandWords) → Commands words command → AllRead held (fetches command)
 

@@ -7,8 +7,9 @@ ghost use Rattle.redex_outside.specs.Held.{OthersSame};
 ghost use Rattle.redex_cli.specs.Commands.{is_built, CountsWithin, fetches, file_alone, output_of, rules_and_file, trace_files};
 ghost use Rattle.redex_cli.specs.FaultLines.{usage_text};
 ghost use Rattle.redex_cli.specs.Fetching.{AllWithin, FetchRefused, OnlyFetched, PutRefused};
-ghost use Rattle.redex_cli.specs.Finished.{IsResult, IsChecked, IsSummary, IsTraced};
+ghost use Rattle.redex_cli.specs.Finished.{IsResult, IsChecked, IsSummary};
 ghost use Rattle.redex_cli.specs.Refusals.{Refuses, Gives, WorkRefused};
+ghost use Rattle.redex_cli.specs.Traces.{IsTraced};
 
 use crate::status::Status;
 use crate::work::{check_file, list_live, optimise_file, optimise_workload, trace_file};
@@ -123,7 +124,7 @@ fn run_trace<H: Shelf>(
     steps: u32,
     shelf: &mut H,
 ) -> Result<Vec<u8>, Status>
-    ensures given { IfOk result (λ text. Gives (trace_files rules.now input.now script.now) None (IsTraced steps) (H.tells shelf.old) (H.held shelf.old) (H.held shelf.new) text.items) }
+    ensures given { IfOk result (λ text. Gives (trace_files rules.now input.now script.now) None (IsTraced (H.tells shelf.old) (H.held shelf.old) input.now script.now steps) (H.tells shelf.old) (H.held shelf.old) (H.held shelf.new) text.items) }
     ensures refused { IfErr result (λ status. Refuses (trace_files rules.now input.now script.now) None (H.tells shelf.old) (H.held shelf.old) (H.held shelf.new) (H.fetch_faults shelf.old) (H.fetch_faults shelf.new) (H.put_faults shelf.old) (H.put_faults shelf.new) status) }
 {
     let inputs = match fetch_trace(alloc, shelf, rules, input, script) {

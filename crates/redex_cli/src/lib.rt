@@ -4,7 +4,8 @@
 //! spell no command that is built, `ReadFault` and `WriteFault` only where a count of the outside rose, and changes no
 //! name of the shelf but the output's. `specs/Ends.antt` says it whole: why a run ends as it does, what the names hold
 //! then (`specs/Stays.antt`) and what was said (`specs/Said.antt`, with the lines of `specs/FaultLines.antt`). Which
-//! commands are built stands in `specs/Commands.antt`.
+//! programs a run goes on with stands in `specs/Accepted.antt`, what each command's result is in `specs/Finished.antt`,
+//! that of `trace` in `specs/Traces.antt`, and which commands are built in `specs/Commands.antt`.
 #![tactic(auto)]
 
 mod check_line;

@@ -137,17 +137,19 @@ pub fn run<H: Shelf, N: Notes>(
 ) -> Status
     // Each status has its cause: `Usage` in the words, `ReadFault` and `WriteFault` in a count that rose, `Limit` of
     // bytes in what the first name holds that holds too much, every other `Limit` and each `BadDex` of the reading in
-    // what the file's bytes give, `BadDex` of the classes in the program that they spell.
+    // what the file's bytes give, `BadDex` of the classes or of the types in the program that they spell.
     ensures cause { Caused (map string_bytes words.now) (H.tells shelf.old) (H.held shelf.old) (H.fetch_faults shelf.old) (H.fetch_faults shelf.new) (H.put_faults shelf.old) (H.put_faults shelf.new) (N.faults notes.old) (N.faults notes.new) result }
 
     // Words that spell no command that is built are `Usage`, and a name that holds too much is its limit.
     ensures unspelled { CommandsNothing (map string_bytes words.now) → EndsUnspelled result }
     ensures too_long { (counted : Counted) → IsTrue (H.tells shelf.old) → TooLong (map string_bytes words.now) (H.held shelf.old) counted → EndsTooLong counted result }
 
-    // Where the run is done, each file that was fetched spells a program.
+    // Where the run is done, each file that was fetched spells a program whose class graph has no fault and whose bodies
+    // are well typed.
     ensures read { result ≡ Status.Done → IsTrue (H.tells shelf.old) → ReadsAll (map string_bytes words.now) (H.held shelf.old) }
 
-    // What the names hold, and what was said.
+    // What the names hold, and what was said: of `check` the counts of the program that the file spells, of `trace` the
+    // lines of what that program shows in so many steps of the play that the script spells (`specs/Finished.antt`).
     ensures stays { IsTrue (H.tells shelf.old) → Stays (Puts (map string_bytes words.now)) result (H.put_faults shelf.old) (H.put_faults shelf.new) (H.held shelf.old) (H.held shelf.new) }
     ensures said { IsTrue (N.tells notes.old) → Said (Results (map string_bytes words.now) (H.tells shelf.old) (H.held shelf.old)) result (N.faults notes.old) (N.faults notes.new) (N.said notes.old) (N.said notes.new) }
     ensures done { result ≡ Status.Done → IsTrue (H.tells shelf.old) → IsTrue (N.tells notes.old) → Delivers (map string_bytes words.now) (H.tells shelf.old) (H.held shelf.old) (H.held shelf.new) (N.said notes.old) (N.said notes.new) }

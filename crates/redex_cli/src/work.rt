@@ -1,6 +1,9 @@
 //! What the commands do between fetching and putting: values in, a value or a status out.
 
 ghost use Rattle.std.specs.Prelude.{◌≡◌, ◌<◌, ◌≤◌, ◌^◌, ℕ, List, true, Ok, length, vec_len, string_bytes, IfOk, IfErr, OnOk};
+ghost use Rattle.dalvik_defs.specs.Naming.{named};
+ghost use Rattle.dalvik_defs.specs.Outer.{outer_of};
+ghost use Rattle.dalvik_defs.specs.Step.{shows};
 ghost use Rattle.dex_base.specs.Reading.{FailsIf};
 ghost use Rattle.dex_read.specs.Counts.{CountsInFile};
 ghost use Rattle.dex_read.specs.Faults.{is_free};
@@ -8,9 +11,12 @@ ghost use Rattle.dex_read.specs.File.{program_at};
 ghost use Rattle.dex_read.specs.Kept.{KeepsLimits};
 ghost use Rattle.hierarchy.specs.Shapes.{IsCause};
 ghost use Rattle.program_model.specs.ProgramRules.{is_well_formed};
-ghost use Rattle.redex_cli.specs.Files.{FileRefused, HasGraphFault, IsRead};
-ghost use Rattle.redex_cli.specs.Finished.{Checks, Finished, IsSummary, IsTraced, program_text};
+ghost use Rattle.text_defs.specs.Plays.{play_of};
+ghost use Rattle.redex_cli.specs.Accepted.{IsAccepted};
+ghost use Rattle.redex_cli.specs.Files.{FileRefused, HasGraphFault, HasTypeFault, IsRead};
+ghost use Rattle.redex_cli.specs.Finished.{Checks, Finished, IsSummary, program_text};
 ghost use Rattle.redex_cli.specs.Refusals.{TraceRefused, WorkRefused};
+ghost use Rattle.redex_cli.specs.Traces.{IsTableFor, Traces, TracesFile};
 
 use crate::check_line::check_line;
 use crate::live_list::live_list;
@@ -18,7 +24,7 @@ use crate::status::{InputFault, Status};
 use crate::summary::{Sizes, sizes_of, summary};
 use call_graph::live_members;
 use command_line::Tell;
-use dalvik_model::run;
+use dalvik_model::{Event, run};
 use dex_read::{DexFault, read_dex};
 use dex_write::write_dex;
 use hierarchy::{Hierarchy, HierarchyFault};
@@ -86,7 +92,7 @@ fn hierarchy_status(fault: HierarchyFault) -> Status
 /// A fault of a method's types as a status.
 fn typing_status(fault: TypeFault) -> Status
     ensures refused { WorkRefused result }
-    ensures file { (bytes : List ℕ) → IsRead bytes → FileRefused bytes result }
+    ensures file { (bytes : List ℕ) → HasTypeFault bytes fault → FileRefused bytes result }
 {
     match fault {
         TypeFault::NoMemory => Status::NoMemory,
@@ -102,10 +108,11 @@ struct Classes {
 }
 
 /// The file, its class graph and its types, in this order. The bytes are let go as soon as they are read.
-#[tactic(auto, using(crate::proofs::FinishedLemmas::graph_fault, crate::proofs::FinishedLemmas::read))]
+#[tactic(auto, using(crate::proofs::FinishedLemmas::graph_fault))]
 fn read_classes(alloc: Global, file: Vec<u8>) -> Result<Classes, Status>
     ensures limits { IfOk result (λ classes. KeepsLimits classes.program) }
     ensures read { IfOk result (λ classes. program_at file.items ≡ Ok classes.program) }
+    ensures accepted { IfOk result (λ classes. IsAccepted classes.program) }
     ensures refused { IfErr result WorkRefused }
     ensures file { IfErr result (FileRefused file.items) }
 {
@@ -133,6 +140,7 @@ struct Input {
 }
 
 /// What the rules keep of a program, closed.
+#[tactic(auto, using(crate::proofs::Traced::table_for))]
 fn closed_outside(
     alloc: Global,
     rules: &Rules,
@@ -140,16 +148,18 @@ fn closed_outside(
     hierarchy: &Hierarchy,
 ) -> Result<Outside, AllocError>
     requires { KeepsLimits program.now }
+    ensures { IfOk result (IsTableFor program.now) }
 {
     let open = outside_of(alloc, rules, program, hierarchy)?;
     close(alloc, program, hierarchy, &open)
 }
 
 /// The rules, the file, its class graph and its types, in this order. The bytes are let go as soon as they are read.
-#[tactic(auto, using(crate::proofs::FinishedLemmas::read))]
 fn read_input(alloc: Global, rules: Vec<u8>, file: Vec<u8>) -> Result<Input, Status>
     requires { vec_len rules < 2 ^ 32 }
-    ensures read { OnOk result (IsRead file.items) }
+    ensures read { IfOk result (λ input. program_at file.items ≡ Ok input.program) }
+    ensures accepted { IfOk result (λ input. IsAccepted input.program) }
+    ensures table { IfOk result (λ input. IsTableFor input.program input.outside) }
     ensures refused { IfErr result WorkRefused }
     ensures file { IfErr result (FileRefused file.items) }
 {
@@ -234,6 +244,7 @@ fn optimise_input(
 }
 
 /// Optimises a file by its rules.
+#[tactic(auto, using(crate::proofs::FinishedLemmas::read))]
 pub fn optimise_file(
     alloc: Global,
     rules: Vec<u8>,
@@ -316,6 +327,7 @@ fn live_of(alloc: Global, input: &Input) -> Result<Vec<u8>, Status>
 }
 
 /// The live classes and members of a file by its rules, as they are said.
+#[tactic(auto, using(crate::proofs::FinishedLemmas::read))]
 pub fn list_live(alloc: Global, rules: Vec<u8>, file: Vec<u8>) -> Result<Vec<u8>, Status>
     requires { vec_len rules < 2 ^ 32 }
     ensures read { OnOk result (IsRead file.items) }
@@ -359,6 +371,7 @@ pub fn check_file(alloc: Global, file: Vec<u8>) -> Result<Vec<u8>, Status>
 #[tactic(auto, using(crate::proofs::ScriptLemmas::line_refuses))]
 fn read_play(alloc: Global, script: &[u8]) -> Result<Play, Status>
     requires { length script.now < 2 ^ 32 }
+    ensures plays { IfOk result (λ play. play_of script.now ≡ Ok play) }
     ensures refused { IfErr result (TraceRefused script.now) }
     ensures file { (bytes : List ℕ) → IfErr result (FileRefused bytes) }
 {
@@ -369,12 +382,18 @@ fn read_play(alloc: Global, script: &[u8]) -> Result<Play, Status>
     }
 }
 
-/// The lines of the events of so many steps.
-#[tactic(auto, using(crate::proofs::FinishedLemmas::traced))]
-fn trace_play(alloc: Global, input: &Input, play: &Play, steps: u32) -> Result<Vec<u8>, AllocError>
-    ensures { IfOk result (λ text. IsTraced steps text.items) }
+/// The events of so many steps of an input under a play.
+fn events_of(
+    alloc: Global,
+    input: &Input,
+    play: &Play,
+    steps: u32,
+) -> Result<Vec<Event>, AllocError>
+    requires { IsAccepted input.now.program }
+    ensures few { IfOk result (λ events. vec_len events ≤ steps) }
+    ensures shown { IfOk result (λ events. is_well_formed input.now.program ≡ true → events.items ≡ shows (named input.now.program) (outer_of input.now.program input.now.outside) play.now.framework play.now.floats play.now.moves steps) }
 {
-    let events = run(
+    run(
         alloc,
         &input.program,
         &input.outside,
@@ -382,14 +401,27 @@ fn trace_play(alloc: Global, input: &Input, play: &Play, steps: u32) -> Result<V
         &play.floats,
         play.moves.as_slice(),
         steps,
-    )?;
+    )
+}
+
+/// The lines of these events.
+#[tactic(auto, using(crate::proofs::Traced::traces))]
+fn trace_play(alloc: Global, input: &Input, play: &Play, steps: u32) -> Result<Vec<u8>, AllocError>
+    requires accepted { IsAccepted input.now.program }
+    requires table { IsTableFor input.now.program input.now.outside }
+    ensures { IfOk result (λ text. Traces input.now.program play.now steps text.items) }
+{
+    let events = events_of(alloc, input, play, steps)?;
     write_events(alloc, events.as_slice())
 }
 
 /// The events of so many steps of an input under a script, as they are said.
+#[tactic(auto, using(crate::proofs::Traced::traces_file))]
 fn trace_input(alloc: Global, input: &Input, script: &[u8], steps: u32) -> Result<Vec<u8>, Status>
-    requires { length script.now < 2 ^ 32 }
-    ensures traced { IfOk result (λ text. IsTraced steps text.items) }
+    requires script { length script.now < 2 ^ 32 }
+    requires accepted { IsAccepted input.now.program }
+    requires table { IsTableFor input.now.program input.now.outside }
+    ensures traced { (bytes : List ℕ) → program_at bytes ≡ Ok input.now.program → IfOk result (λ text. TracesFile bytes script.now steps text.items) }
     ensures refused { IfErr result (TraceRefused script.now) }
     ensures file { (bytes : List ℕ) → IfErr result (FileRefused bytes) }
 {
@@ -404,7 +436,7 @@ fn trace_input(alloc: Global, input: &Input, script: &[u8], steps: u32) -> Resul
 }
 
 /// The events of so many steps of a file under a script, as they are said.
-#[tactic(auto, using(crate::proofs::CommandLemmas::work_traces))]
+#[tactic(auto, using(crate::proofs::CommandLemmas::work_traces, crate::proofs::FinishedLemmas::read))]
 pub fn trace_file(
     alloc: Global,
     rules: Vec<u8>,
@@ -414,7 +446,7 @@ pub fn trace_file(
 ) -> Result<Vec<u8>, Status>
     requires rules { vec_len rules < 2 ^ 32 }
     requires script { length script.now < 2 ^ 32 }
-    ensures traced { IfOk result (λ text. IsTraced steps text.items) }
+    ensures traced { IfOk result (λ text. TracesFile file.items script.now steps text.items) }
     ensures read { OnOk result (IsRead file.items) }
     ensures refused { IfErr result (TraceRefused script.now) }
     ensures file { IfErr result (FileRefused file.items) }

@@ -1,0 +1,78 @@
+-- What `trace` says, from what the machine says of a run.
+use Rattle.std.proofs.Common.{◌≡◌, ◌≤◌, ℕ, List, true, length, subst, Result, Ok, Err}
+use Rattle.std.specs.Prelude.{IfOk}
+use Rattle.array_law.proofs.Runs.{make_arrays}
+use Rattle.dalvik_defs.specs.Naming.{named}
+use Rattle.dalvik_defs.specs.Outer.{outer_of}
+use Rattle.dalvik_defs.specs.Step.{shows}
+use Rattle.dalvik_defs.specs.declared.events.Event.{Event}
+use Rattle.dalvik_defs.specs.declared.script.Move.{Move}
+use Rattle.dalvik_defs.specs.declared.tables.Floats.{Floats}
+use Rattle.dalvik_defs.specs.declared.tables.Framework.{Framework}
+use Rattle.dalvik_model.specs.Standing.{IsSubject, MakesOnlyArrays, shown_by, subject_of}
+use Rattle.dex_read.specs.File.{program_at}
+use Rattle.keep_rules.specs.Outside.{IsWithin}
+use Rattle.program_model.specs.ProgramRules.{is_well_formed}
+use Rattle.program_model.specs.declared.pass.Outside.{Outside}
+use Rattle.program_model.specs.declared.program.Program.{Program}
+use Rattle.reach.specs.Kept.{Closes}
+use Rattle.text_defs.specs.EventLines.{event_lines}
+use Rattle.text_defs.specs.Plays.{play_of}
+use Rattle.text_defs.specs.declared.play.Play.{Play}
+use Rattle.redex_cli.specs.Accepted.{IsAccepted}
+use Rattle.redex_cli.specs.Traces.{IsTableFor, Traces, TracesFile}
+
+-- ---- a run
+
+makes_arrays : (p : Program) (o : Outside) (f : Framework) (a : Floats) (script : List Move) (n : ℕ)
+    → is_well_formed p ≡ true → IsAccepted p → MakesOnlyArrays (subject_of p o f a script) n
+makes_arrays p o f a script n well accepted = make_arrays (named p) (accepted.typed well) (outer_of p o) f a script n
+
+subject : (p : Program) (o : Outside) (f : Framework) (a : Floats) (script : List Move)
+    → is_well_formed p ≡ true → IsAccepted p → IsSubject (subject_of p o f a script)
+subject p o f a script well accepted =
+    let graph = accepted.graph well in
+    record { well = well; accepted = record { once = graph.once; acyclic = graph.acyclic; unsplit = graph.unsplit } }
+
+-- what the table of the rules is
+pub table_for : (p : Program) (ruled outside : Outside) → IsWithin p ruled → ruled.shut ≡ [] → Closes ruled outside → IsTableFor p outside
+table_for p ruled outside within unshut closes = record { ruled = ruled; within = within; unshut = unshut; closes = closes }
+
+-- a premise of an answer that a call may give
+premised : {T E : Type 0} (r : Result T E) (W : Type 0) (P : T → Type 0) → (W → IfOk r P) → IfOk r (λ x. W → P x)
+premised (Ok x) W P says = says
+premised (Err e) W P says = tt
+
+-- what the machine answers of a run of an accepted program, where the script that it was given is this one
+pub shown : {T E : Type 0} (r : Result T E) (items : T → List Event) (p : Program) (o : Outside) (f : Framework) (a : Floats) (given script : List Move) (n : ℕ)
+    → given ≡ script → IsAccepted p
+    → (IsSubject (subject_of p o f a given) → MakesOnlyArrays (subject_of p o f a given) n → IfOk r (λ x. items x ≡ shown_by (subject_of p o f a given) n))
+    → IfOk r (λ x. is_well_formed p ≡ true → items x ≡ shows (named p) (outer_of p o) f a script n)
+shown r items p o f a given script n same accepted says =
+    subst (λ (moves : List Move). IfOk r (λ x. is_well_formed p ≡ true → items x ≡ shows (named p) (outer_of p o) f a moves n)) same
+    (premised r (is_well_formed p ≡ true) (λ x. items x ≡ shows (named p) (outer_of p o) f a given n)
+    (λ well. says (subject p o f a given well accepted) (makes_arrays p o f a given n well accepted)))
+
+pub traces : (p : Program) (play : Play) (outside : Outside) (steps : ℕ) (events : List Event) (text : List ℕ)
+    → IsTableFor p outside → length events ≤ steps
+    → (is_well_formed p ≡ true → events ≡ shows (named p) (outer_of p outside) play.framework play.floats play.moves steps)
+    → text ≡ event_lines events → Traces p play steps text
+traces p play outside steps events text table few shown says = record {
+  outside = outside;
+  table = table;
+  events = events;
+  says = says;
+  few = few;
+  shown = shown;
+}
+
+pub traces_file : (p : Program) (play : Play) (bytes script : List ℕ) (steps : ℕ) (text : List ℕ)
+    → program_at bytes ≡ Ok p → IsAccepted p → play_of script ≡ Ok play → Traces p play steps text → TracesFile bytes script steps text
+traces_file p play bytes script steps text reads accepted plays traces = record {
+  program = p;
+  reads = reads;
+  accepted = accepted;
+  play = play;
+  plays = plays;
+  traces = traces;
+}

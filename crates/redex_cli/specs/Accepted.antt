@@ -1,0 +1,42 @@
+-- The programs that a run goes on with, and those that it refuses for their types. What is said of the class graph and by
+-- names is said of a well-formed program, as the crates below say it; that what bytes spell is one is not said here.
+use Rattle.std.specs.Prelude.{◌≡◌, ℕ, true}
+use Rattle.class_defs.specs.ClassGraph.{IsTwice}
+use Rattle.dalvik_defs.specs.Naming.{named}
+use Rattle.hierarchy.specs.Shapes.{IsAcyclic, IsResolved}
+use Rattle.hierarchy.specs.Splitting.{NoSplit}
+use Rattle.hierarchy.specs.declared.build.Hierarchy.{Hierarchy}
+use Rattle.pass_defs.specs.Typed.{IsTyped}
+use Rattle.program_model.specs.ProgramRules.{is_well_formed}
+use Rattle.program_model.specs.declared.program.Program.{Program}
+use Rattle.verify.specs.Methods.{RefusesOne, TypesAll}
+use Rattle.verify.specs.declared.fault.TypeFault.{TypeFault}
+use Rattle.verify.specs.declared.fault.TypeFault.TheVariants as typing
+
+-- The class graph of the program has none of the three faults: no class is defined twice or is its own ancestor, and
+-- none has a split override. The hierarchy's tables are those of the program.
+pub record IsGraphOf (program : Program) (hierarchy : Hierarchy) : Type 0 where
+  pub resolved : IsResolved program hierarchy
+  pub once : (class : ℕ) → IsTwice program class → ⊥
+  pub acyclic : IsAcyclic program
+  pub unsplit : NoSplit program
+
+-- The program's class graph is accepted, and each of its bodies is well typed: by the verifier's numbers, and by names.
+pub record IsAccepted (program : Program) : Type 0 where
+  pub hierarchy : Hierarchy
+  pub graph : is_well_formed program ≡ true → IsGraphOf program hierarchy
+  pub types : TypesAll program hierarchy
+  pub typed : is_well_formed program ≡ true → IsTyped (named program)
+
+-- The program's class graph is accepted, and this is its first ill typed method, in class and method order: the least flow
+-- of its code breaks first at this position, and there at this register. By names the program isn't typed.
+pub record IsIllTyped (program : Program) (method position register : ℕ) : Type 0 where
+  pub hierarchy : Hierarchy
+  pub graph : is_well_formed program ≡ true → IsGraphOf program hierarchy
+  pub refuses : RefusesOne program hierarchy (typing.IllTyped method position register)
+  pub untyped : is_well_formed program ≡ true → IsTyped (named program) → ⊥
+
+-- the cause of a refusal by the verifier
+abbrev pub IsTypeCause : Program → TypeFault → Type 0
+IsTypeCause program typing.NoMemory = Unit {0}
+IsTypeCause program (typing.IllTyped method position register) = IsIllTyped program method position register

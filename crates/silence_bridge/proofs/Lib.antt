@@ -1,0 +1,5 @@
+pub mod Listed
+pub mod Sought
+pub mod Silenced
+pub mod Unfaulted
+pub mod Optimised

@@ -1,0 +1,51 @@
+-- What is left of a program for all rules shows what the program without its silent calls shows.
+use Rattle.std.proofs.Common.{◌≡◌, inl, inr, ℕ, Bool, true, List, [], sym, ap, ◌∙◌, subst}
+use Rattle.program_model.specs.declared.program.Program.{Program}
+use Rattle.program_model.specs.declared.pass.Outside.{Outside}
+use Rattle.program_model.specs.ProgramRules.{is_well_formed}
+use Rattle.dalvik_defs.specs.Naming.{named}
+use Rattle.dalvik_defs.specs.Outer.{outer_of}
+use Rattle.dalvik_defs.specs.Silence as by_name
+use Rattle.dalvik_defs.specs.Shown.{SameShown}
+use Rattle.pass_defs.specs.Typed.{IsTyped}
+use Rattle.hierarchy.specs.Shapes.{IsAcyclic, IsResolved}
+use Rattle.hierarchy.specs.Splitting.{NoSplit}
+use Rattle.hierarchy.specs.declared.build.Hierarchy.{Hierarchy}
+use Rattle.verify.specs.Methods.{TypesAll}
+use Rattle.type_bridge.proofs.Programs.{typed_program}
+use Rattle.pipeline.specs.Silence.{is_quiet, silenced, IsSilent}
+use Rattle.pipeline.specs.Rounds.{IsOptimised}
+use Rattle.reach_bridge.proofs.Repeated.{rounds_show, rounds_typed}
+use Rattle.silence_law.proofs.Silenced.{silenced_typed}
+use Rattle.silence_law.proofs.WellFormed.{well_placed}
+use Rattle.silence_bridge.specs.Admitted.{admitted_in}
+use Rattle.silence_bridge.proofs.Silenced.{silenced_named}
+use Rattle.silence_bridge.proofs.Unfaulted.{unfaulted}
+
+module _ (p : Program) (h : Hierarchy) (formed : is_well_formed p ≡ true) (resolved : IsResolved p h) (acyclic : IsAcyclic p) (whole : NoSplit p) (o : Outside) where
+  -- what is left is the program without its silent calls, since its class graph has no fault
+  is_silenced : (admitted : List Bool) (q : Program) → IsSilent o.silent admitted p q → q ≡ silenced (is_quiet p o.silent) admitted p
+  is_silenced admitted q (inl is) = is
+  is_silenced admitted q (inr same) = absurd (unfaulted p h resolved.of acyclic whole same.1)
+
+  pub silent_named : (admitted : List Bool) (q : Program) → IsSilent o.silent admitted p q → named q ≡ by_name.silenced (named p) (outer_of p o) (admitted_in p admitted)
+  silent_named admitted q silent = ap named (is_silenced admitted q silent) ∙ silenced_named p o admitted formed
+
+  -- its tables are the program's, so that what the outside names is the same
+  silent_outer : (admitted : List Bool) (q : Program) → IsSilent o.silent admitted p q → outer_of q o ≡ outer_of p o
+  silent_outer admitted q silent = ap (λ x. outer_of x o) (is_silenced admitted q silent)
+
+  module _ (types : TypesAll p h) where
+    silent_typed : (admitted : List Bool) (q : Program) → IsSilent o.silent admitted p q → IsTyped (named q)
+    silent_typed admitted q silent = subst IsTyped (sym (silent_named admitted q silent))
+        (silenced_typed (named p) (outer_of p o) (admitted_in p admitted) (well_placed p formed) (typed_program p h formed resolved types))
+
+    module _ (r : Program) (advisers spared n : ℕ) (before after : List Bool) (done : IsOptimised o p advisers before after spared r n) where
+      pub optimised_shows : o.shut ≡ [] → SameShown (by_name.silenced (named p) (outer_of p o) (admitted_in p done.admitted)) (named r) (outer_of p o)
+      optimised_shows none =
+          subst (λ x. SameShown x (named r) (outer_of p o)) (silent_named done.admitted done.silenced done.silent)
+          (subst (λ x. SameShown (named done.silenced) (named r) x) (silent_outer done.admitted done.silenced done.silent)
+          (rounds_show o done.ran.removals done.silenced r done.ran.rounds (silent_typed done.admitted done.silenced done.silent) none))
+
+      pub optimised_typed : IsTyped (named r)
+      optimised_typed = rounds_typed o done.ran.removals done.silenced r done.ran.rounds (silent_typed done.admitted done.silenced done.silent)

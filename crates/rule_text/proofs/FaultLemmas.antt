@@ -1,17 +1,18 @@
 -- The lines of faults, and the part of a text that can be read.
-use Rattle.std.proofs.Common.{◌≡◌, inl, inr, ◌<◌, ◌≤◌, ℕ, suc, Bool, true, false, List, [], ◌∷◌, map, length, take, drop, filter, nat_eq, slice_index_or, Option, Some, None, MatchOption, Contains, refl, sym, ap, subst, ◌∙◌, eqb-true, eq-or-lt_of_le, cond, arith}
+use Rattle.std.proofs.Common.{◌≡◌, inl, inr, ◌<◌, ◌≤◌, ℕ, suc, Bool, true, false, List, [], ◌∷◌, map, length, take, drop, filter, nat_eq, slice_index_or, Option, Some, None, MatchOption, refl, sym, ap, subst, ◌∙◌, eqb-true, eq-or-lt_of_le, cond, arith}
 use Rattle.std.specs.Str.{IsUtf8, IsValidUpTo}
-use Rattle.std.proofs.lemmas.List.{take-append-drop, length-map, get_or-map}
-use Rattle.std.proofs.lemmas.Simd.{map-map}
-use Rattle.rule_text.specs.Tokens.{tokens_from, tokens_of, last_line}
-use Rattle.rule_text.specs.Faults.{IsReadable, Whole, Front}
+use Rattle.std.proofs.lemmas.List.{take-append-drop}
+use Rattle.rule_text.specs.Tokens.{tokens_from, last_line}
+use Rattle.rule_text.specs.Faults.{IsReadable, Whole, Front, HasRuleFault}
 use Rattle.rule_text.specs.Fronts.{line_ends, token_view, AreTokensOf, IsWholeLen}
-use Rattle.rule_text.specs.Fault.{IsTokenLine, IsFault, IsFaultBy}
+use Rattle.rule_text.specs.Fault.{IsWordBy, IsFault, IsFaultBy}
+use Rattle.rule_text.specs.Halts.{IsRefusedBehind}
 use Rattle.rule_text.specs.declared.fault.RuleFault.{RuleFault}
 use Rattle.rule_text.specs.declared.fault.RuleFault.TheVariants as fault
 use Rattle.rule_text.specs.declared.token.Token.{Token as Lexed}
 use Rattle.rule_text.specs.declared.token.Tokens.{Tokens}
-use Rattle.rule_text.proofs.HaltLemmas.{option_fault, rule_fault}
+use Rattle.rule_text.proofs.HaltLemmas.{line_at, option_fault, rule_fault}
+use Rattle.rule_text.proofs.SyntaxLemmas.{word_fault, end_fault, byte_fault}
 
 pub front_readable : (text : List ℕ) (bad : Option ℕ) (at n : ℕ) → MatchOption bad (IsUtf8 text) (IsValidUpTo text) → bad ≡ Some at → IsWholeLen (take at text) n → IsReadable text (take n (take at text))
 front_readable text bad at n known is whole =
@@ -21,10 +22,8 @@ front_readable text bad at n known is whole =
 pub all_readable : (text : List ℕ) (bad : Option ℕ) → MatchOption bad (IsUtf8 text) (IsValidUpTo text) → bad ≡ None → IsReadable text text
 all_readable text bad known is = Whole text (subst (λ o. MatchOption o (IsUtf8 text) (IsValidUpTo text)) is known)
 
-pub contains_line : (xs : List Lexed) (k : ℕ) (t : Lexed) → k < length xs → slice_index_or xs k t ≡ t → Contains (map (λ t. t.line) xs) t.line
-contains_line xs k t below is =
-    let many : length (map (λ t. t.line) xs) ≡ length xs = length-map xs (λ t. t.line) in
-    (k, rw many below, get_or-map (λ t. t.line) xs k t t.line below ∙ ap (λ t. t.line) is)
+pub word_by : (xs : List Lexed) (k : ℕ) (t : Lexed) → k < length xs → slice_index_or xs k t ≡ t → IsRefusedBehind xs 0 k → IsWordBy xs t.line
+word_by xs k t inside is refused = record { place = k; refused = refused; inside = inside; tells = line_at xs k t inside is }
 
 -- ---- a text with a token has a byte that ends no line
 
@@ -63,31 +62,20 @@ few_ends text tokens are some =
     let less : line_ends text < length text = elim (eq-or-lt_of_le most) [ inl all ↦ absurd (other all) | inr l ↦ l ] in
     rw ends less
 
-line_of : (text : List ℕ) (tokens : Tokens) (line : ℕ) → AreTokensOf text tokens → Contains (map (λ t. t.line) tokens.items.items) line → IsTokenLine text line
-line_of text tokens line are has =
-    let views : map (λ t. t.line) (map token_view tokens.items.items) ≡ map (λ t. t.line) tokens.items.items = map-map (λ t. t.line) token_view tokens.items.items in
-    let lines : map (λ t. t.line) (tokens_of text) ≡ map (λ t. t.line) tokens.items.items = ap (λ ts. map (λ t. t.line) ts) (sym are.items) ∙ views in
-    subst (λ ls. Contains ls line) (sym lines) has
-
 -- what the tokens and the bad bytes tell of the fault is what the text tells
 pub faults : (text front : List ℕ) (bad : Option ℕ) (tokens : Tokens) (found : RuleFault)
     → MatchOption bad (IsUtf8 text) (IsValidUpTo text) → IsReadable text front → (bad ≡ None → front ≡ text) → AreTokensOf front tokens
     → IsFaultBy tokens bad found → IsFault text found
-faults text front bad tokens fault.NoMemory known readable all are by = record { front = front; readable = readable; stands = tt }
-faults text front bad tokens (fault.Syntax line) known readable all are (inl has) = record { front = front; readable = readable; stands = inl (line_of front tokens line are has) }
-faults text front bad tokens (fault.Syntax line) known readable all are (inr ends) = record {
-  front = front;
-  readable = readable;
-  stands = inr (subst (λ o. MatchOption o (IsUtf8 text) (IsValidUpTo text)) ends.0 known, ends.1 ∙ ap suc are.ends ∙ ap last_line (all ends.0));
-}
-faults text front bad tokens (fault.Option line) known readable all are by = record { front = front; readable = readable; stands = option_fault text front tokens line readable are by }
-faults text front bad tokens (fault.NotUtf8 at) known readable all are is = record {
-  front = front;
-  readable = readable;
-  stands = subst (λ o. MatchOption o (IsUtf8 text) (IsValidUpTo text)) is known;
-}
-faults text front bad tokens (fault.TooMany count) known readable all are by = record { front = front; readable = readable; stands = rule_fault text front tokens count readable are by }
+faults text front bad tokens fault.NoMemory known readable all are by = tt
+faults text front bad tokens (fault.Syntax line) known readable all are (inl by) = word_fault text front tokens line readable are by
+faults text front bad tokens (fault.Syntax line) known readable all are (inr ends) =
+    let characters : IsUtf8 text = subst (λ o. MatchOption o (IsUtf8 text) (IsValidUpTo text)) ends.0 known in
+    let last : line ≡ last_line text = ends.1 ∙ ap suc are.ends ∙ ap last_line (all ends.0) in
+    subst (λ l. HasRuleFault text (fault.Syntax l)) (sym last) (end_fault text front tokens (all ends.0) characters are ends.2)
+faults text front bad tokens (fault.Option line) known readable all are by = option_fault text front tokens line readable are by
+faults text front bad tokens (fault.NotUtf8 at) known readable all are by = byte_fault text front tokens at readable (subst (λ o. MatchOption o (IsUtf8 text) (IsValidUpTo text)) by.0 known) are by.1
+faults text front bad tokens (fault.TooMany count) known readable all are by = rule_fault text front tokens count readable are by
 
 -- no token has to be read where memory runs out
-pub no_memory : (text front : List ℕ) (found : RuleFault) → IsReadable text front → found ≡ fault.NoMemory → IsFault text found
-no_memory text front found readable is = subst (IsFault text) (sym is) (record { front = front; readable = readable; stands = tt })
+pub no_memory : (text : List ℕ) (found : RuleFault) → found ≡ fault.NoMemory → IsFault text found
+no_memory text found is = subst (IsFault text) (sym is) tt

@@ -1,5 +1,5 @@
 -- Where reading a text halts at an option that isn't known or at a rule too many.
-use Rattle.std.proofs.Common.{◌≡◌, ◌<◌, ◌≤◌, ◌+◌, ◌-◌, ℕ, zero, suc, Bool, true, false, not, codes, List, [], ◌∷◌, ◌++◌, map, take, drop, length, slice_index_or, slice_get, Option, Some, None, option_map, refl, sym, ap, subst, ◌∙◌, arith, length-append, length-drop}
+use Rattle.std.proofs.Common.{◌≡◌, ◌<◌, ◌≤◌, ◌+◌, ◌-◌, ℕ, zero, suc, Bool, true, false, not, if◌then◌else◌, codes, List, [], ◌∷◌, ◌++◌, map, take, drop, length, slice_index_or, slice_get, Option, Some, None, option_map, refl, sym, ap, subst, ◌∙◌, arith, length-append, length-drop}
 use Rattle.std.specs.List.{list_all}
 use Rattle.std.proofs.lemmas.List.{append-nil, length-map}
 use Rattle.std.proofs.lemmas.Option.{slice_get-map}
@@ -18,6 +18,9 @@ use Rattle.rule_text.specs.declared.rules.KeepKind.TheVariants as keep
 use Rattle.rule_text.specs.declared.rules.SettingName.{SettingName}
 use Rattle.rule_text.specs.declared.rules.SettingName.TheVariants as setting
 use Rattle.rule_text.specs.ReadEntries.{ReadsCounted}
+use Rattle.rule_text.specs.Places.{Between}
+use Rattle.rule_text.specs.Refusals.{EndsWhole}
+use Rattle.rule_text.specs.declared.stop.Stop.TheVariants as stop
 use Rattle.rule_text.specs.declared.stop.Halt.{Halt}
 use Rattle.rule_text.specs.declared.stop.Halt.TheVariants as halt
 use Rattle.rule_text.specs.declared.rules.Entry.{Entry as ReadEntry}
@@ -39,15 +42,20 @@ too_many tokens at next reads rules w h counted inside first is begins full = su
   rule = ap begins_rule (sym first) ∙ begins;
 })
 
-pub halted : (tokens : List Lexed) (at mid next : ℕ) (reads : List ReadEntry) (rules : ℕ) (h : Halt) → ReadsCounted tokens at mid reads rules → rules ≤ 4096 → mid < length tokens → HaltsBefore tokens mid next h → HaltsAt tokens at next h
-halted tokens at mid next reads rules (halt.Inside s) counted few inside before = tt
-halted tokens at mid next reads rules halt.Option counted few inside before = subst (λ k. IsOptionBehind tokens at k) (sym before.0) (record {
+pub halted : (tokens : List Lexed) (at mid next : ℕ) (reads : List ReadEntry) (rules count : ℕ) (w : Word) (h : Halt) → ReadsCounted tokens at mid reads rules → EndsWhole Between tokens at mid → rules ≤ 4096 → mid < length tokens
+    → w ≡ first_word (words_at tokens mid) → count ≡ rules + (if begins_rule w then 1 else 0) → count ≤ 4096 → HaltsBefore tokens mid next h → HaltsAt tokens at next h
+halted tokens at mid next reads rules count w (halt.Inside stop.NoMemory) counted whole few inside first is most before = tt
+halted tokens at mid next reads rules count w (halt.Inside stop.Syntax) counted whole few inside first is most before =
+    let same : count_rules counted.each.thing + (if begins_rule (first_word (words_at tokens mid)) then 1 else 0) ≡ count =
+    ap (λ n. n + (if begins_rule (first_word (words_at tokens mid)) then 1 else 0)) counted.count ∙ ap (λ v. rules + (if begins_rule v then 1 else 0)) (sym first) ∙ sym is in
+    record { begin = mid; front = front_of tokens at mid reads rules counted inside; whole = whole; few = subst (λ n. n ≤ 4096) (sym same) most; entry = before }
+halted tokens at mid next reads rules count w halt.Option counted whole few inside first is most before = subst (λ k. IsOptionBehind tokens at k) (sym before.0) (record {
   front = front_of tokens at mid reads rules counted inside;
   few = subst (λ n. n ≤ 4096) (sym counted.count) few;
   option = before.1;
   unknown = before.2;
 })
-halted tokens at mid next reads rules halt.TooMany counted few inside before = absurd before
+halted tokens at mid next reads rules count w halt.TooMany counted whole few inside first is most before = absurd before
 
 -- ---- options that aren't known
 
@@ -77,7 +85,7 @@ no_setting_by : (w : Word) (name : SettingName) (long : Bool) → is_long name �
 no_setting_by w name true e lone long is = long.none name e is
 no_setting_by w name false e lone long is = lone.none name (ap not e) is
 
-no_setting : (w : Word) → IsNoNameOf (λ name. not (is_long name)) setting_word w → IsNoNameOf is_long setting_word w → (name : SettingName) → word_eq w (setting_word name) ≡ false
+pub no_setting : (w : Word) → IsNoNameOf (λ name. not (is_long name)) setting_word w → IsNoNameOf is_long setting_word w → (name : SettingName) → word_eq w (setting_word name) ≡ false
 no_setting w lone long name = other_word w (setting_word name) (word_eq w (setting_word name)) refl (λ e. no_setting_by w name (is_long name) refl lone long (sym e))
 
 pub unknown : (w : Word) → begins_rule w ≡ false → IsNoNameOf (λ name. not (is_long name)) setting_word w → IsNoNameOf is_long setting_word w → is_known w ≡ false
@@ -123,7 +131,7 @@ abbrev line_or : Option Token → ℕ
 line_or (Some t) = t.line
 line_or None = 0
 
-line_at : (xs : List Lexed) (k : ℕ) (t : Lexed) → k < length xs → slice_index_or xs k t ≡ t → IsLineOf (map token_view xs) k t.line
+pub line_at : (xs : List Lexed) (k : ℕ) (t : Lexed) → k < length xs → slice_index_or xs k t ≡ t → IsLineOf (map token_view xs) k t.line
 line_at xs k t inside is u found =
     let same : Some u ≡ Some (token_view t) = sym found ∙ slice_get-map token_view xs k ∙ ap (option_map token_view) (got xs k t inside is) in
     ap line_or same
@@ -137,7 +145,7 @@ taken : (A B : List Word) → take (length A) (A ++ B) ≡ A
 taken [] B = refl
 taken (w ∷ ws) B = ap (λ xs. w ∷ xs) (taken ws B)
 
-take_front : (A ws : List Word) (k : ℕ) → ws ≡ A ++ drop k ws → k < length ws → A ≡ take k ws
+pub take_front : (A ws : List Word) (k : ℕ) → ws ≡ A ++ drop k ws → k < length ws → A ≡ take k ws
 take_front A ws k is inside =
     let many : length ws ≡ length A + length (drop k ws) = ap length is ∙ length-append A (drop k ws) in
     let behind : length (drop k ws) ≡ length ws - k = length-drop k ws in
@@ -148,12 +156,12 @@ abbrev word_or : Option Word → Word
 word_or (Some w) = w
 word_or None = []
 
-first_drop : (ws : List Word) (k : ℕ) (w : Word) → slice_get ws k ≡ Some w → first_word (drop k ws) ≡ w
+pub first_drop : (ws : List Word) (k : ℕ) (w : Word) → slice_get ws k ≡ Some w → first_word (drop k ws) ≡ w
 first_drop [] k w is = cc
 first_drop (x ∷ xs) zero w is = ap word_or is
 first_drop (x ∷ xs) (suc k) w is = first_drop xs k w is
 
-got_first : (ws : List Word) (k : ℕ) → k < length ws → slice_get ws k ≡ Some (first_word (drop k ws))
+pub got_first : (ws : List Word) (k : ℕ) → k < length ws → slice_get ws k ≡ Some (first_word (drop k ws))
 got_first [] k inside =
     let no : ⊥ = omega arith in
     absurd no
@@ -176,7 +184,7 @@ none_behind ws k w found option other begins =
     let all : list_all fits (take (suc k) ws ++ begins.rest) ≡ true = subst (λ xs. list_all fits xs ≡ true) begins.words.words (spelled_fit begins.entries begins.words.written) in
     unfit w option other (fit_at (take (suc k) ws ++ begins.rest) k w all (got_taken ws k w begins.rest found))
 
-few_before : (ws : List Word) (k : ℕ) → rules_in (take k ws) ≤ 4096 → AreFewBefore ws k
+pub few_before : (ws : List Word) (k : ℕ) → rules_in (take k ws) ≤ 4096 → AreFewBefore ws k
 few_before ws k few j less crowded =
     let count : rules_in (spelled crowded.entries) ≡ count_rules crowded.entries = spelled_rules crowded.entries crowded.words.written in
     let there : rules_in (take j ws) ≡ 4096 = ap rules_in (sym crowded.words.words) ∙ count ∙ crowded.full in

@@ -47,14 +47,14 @@ joined true true ea eb = refl
 joined true false ea eb = eb
 joined false b ea eb = ea
 
-more_plain : (w : Word) (ws : List Word) → plain w ≡ true → ArePlain ws → ArePlain (w ∷ ws)
+pub more_plain : (w : Word) (ws : List Word) → plain w ≡ true → ArePlain ws → ArePlain (w ∷ ws)
 more_plain w ws one all = joined (plain w) (list_all plain ws) one all
 
-both_plain : (a b : List Word) → ArePlain a → ArePlain b → ArePlain (a ++ b)
+pub both_plain : (a b : List Word) → ArePlain a → ArePlain b → ArePlain (a ++ b)
 both_plain [] b ea eb = eb
 both_plain (w ∷ ws) b ea eb = more_plain w (ws ++ b) (first_true (plain w) (list_all plain ws) ea) (both_plain ws b (second_true (plain w) (list_all plain ws) ea) eb)
 
-each_plain : {S : Type 0} (words : S → List Word) (is : S → Bool) → ((s : S) → is s ≡ true → ArePlain (words s)) → (ss : List S) → list_all is ss ≡ true → ArePlain (flat_map words ss)
+pub each_plain : {S : Type 0} (words : S → List Word) (is : S → Bool) → ((s : S) → is s ≡ true → ArePlain (words s)) → (ss : List S) → list_all is ss ≡ true → ArePlain (flat_map words ss)
 each_plain words is one [] e = refl
 each_plain words is one (s ∷ ss) e = both_plain (words s) (flat_map words ss) (one s (first_true (is s) (list_all is ss) e)) (each_plain words is one ss (second_true (is s) (list_all is ss) e))
 
@@ -64,14 +64,14 @@ name_by c cs true e named =
     absurd (clash no)
 name_by c cs false e named = refl
 
-name_plain : (w : Word) → is_name w ≡ true → plain w ≡ true
+pub name_plain : (w : Word) → is_name w ≡ true → plain w ≡ true
 name_plain [] named = refl
 name_plain (c ∷ cs) named = name_by c cs (nat_eq c 45) refl named
 
-argument_plain : (w : Word) → is_argument w ≡ true → plain w ≡ true
+pub argument_plain : (w : Word) → is_argument w ≡ true → plain w ≡ true
 argument_plain w e = name_plain w (first_true (is_name w) (is_other w (codes "..." ∷ [])) e)
 
-separated_plain : (is : Word → Bool) → ((w : Word) → is w ≡ true → plain w ≡ true) → (ws : List Word) → list_all is ws ≡ true → ArePlain (separated ws)
+pub separated_plain : (is : Word → Bool) → ((w : Word) → is w ≡ true → plain w ≡ true) → (ws : List Word) → list_all is ws ≡ true → ArePlain (separated ws)
 separated_plain is one [] e = refl
 separated_plain is one (w ∷ []) e = more_plain w [] (one w (first_true (is w) true e)) refl
 separated_plain is one (w ∷ v ∷ vs) e = more_plain w (codes "," ∷ separated (v ∷ vs)) (one w (first_true (is w) (list_all is (v ∷ vs)) e)) (separated_plain is one (v ∷ vs) (second_true (is w) (list_all is (v ∷ vs)) e))
@@ -110,12 +110,12 @@ condition_plain : (c : Condition) → ArePlain (condition_words c)
 condition_plain (Mark name) = refl
 condition_plain (Has negated a) = access_plain negated a
 
-conditions_plain : (is : Condition → Bool) (cs : List Condition) → list_all is cs ≡ true → ArePlain (flat_map condition_words cs)
+pub conditions_plain : (is : Condition → Bool) (cs : List Condition) → list_all is cs ≡ true → ArePlain (flat_map condition_words cs)
 conditions_plain is cs e = each_plain condition_words is (λ c _. condition_plain c) cs e
 
 -- ---- lines of members
 
-arguments_plain : (a : Arguments) → are_arguments a ≡ true → ArePlain (argument_words a)
+pub arguments_plain : (a : Arguments) → are_arguments a ≡ true → ArePlain (argument_words a)
 arguments_plain Any e = refl
 arguments_plain (These ws) e = both_plain (separated ws) (codes ")" ∷ []) (separated_plain is_argument argument_plain ws e) refl
 
@@ -139,20 +139,20 @@ assumed_plain (Init a) e = absurd (clash e)
 assumed_plain (Field kind name) e = absurd (clash e)
 assumed_plain (Method result name a) e = what_plain (Method result name a) e
 
-line_plain : (m : MemberRule) → is_member_rule m ≡ true → ArePlain (member_rule_words m)
+pub line_plain : (m : MemberRule) → is_member_rule m ≡ true → ArePlain (member_rule_words m)
 line_plain m e = both_plain (flat_map condition_words m.conditions) (what_words m.what ++ codes ";" ∷ []) (conditions_plain is_member_condition m.conditions (first_true (list_all is_member_condition m.conditions) (is_what m.what) e))
     (both_plain (what_words m.what) (codes ";" ∷ []) (what_plain m.what (second_true (list_all is_member_condition m.conditions) (is_what m.what) e)) refl)
 
-assumed_line_plain : (m : MemberRule) → is_assumed_rule m ≡ true → ArePlain (member_rule_words m)
+pub assumed_line_plain : (m : MemberRule) → is_assumed_rule m ≡ true → ArePlain (member_rule_words m)
 assumed_line_plain m e = both_plain (flat_map condition_words m.conditions) (what_words m.what ++ codes ";" ∷ []) (conditions_plain is_plain_condition m.conditions (first_true (list_all is_plain_condition m.conditions) (is_assumed_what m.what) e))
     (both_plain (what_words m.what) (codes ";" ∷ []) (assumed_plain m.what (second_true (list_all is_plain_condition m.conditions) (is_assumed_what m.what) e)) refl)
 
-braces_plain : (is : MemberRule → Bool) → ((m : MemberRule) → is m ≡ true → ArePlain (member_rule_words m)) → (ms : List MemberRule) → list_all is ms ≡ true → ArePlain (braces ms)
+pub braces_plain : (is : MemberRule → Bool) → ((m : MemberRule) → is m ≡ true → ArePlain (member_rule_words m)) → (ms : List MemberRule) → list_all is ms ≡ true → ArePlain (braces ms)
 braces_plain is one ms e = both_plain (flat_map member_rule_words ms) (codes "}" ∷ []) (each_plain member_rule_words is one ms e) refl
 
 -- ---- classes
 
-kind_plain : (negated : Bool) (kind : ClassKind) (ws : List Word) → ArePlain ws → ArePlain (bang negated ++ (kind_word kind ∷ ws))
+pub kind_plain : (negated : Bool) (kind : ClassKind) (ws : List Word) → ArePlain ws → ArePlain (bang negated ++ (kind_word kind ∷ ws))
 kind_plain true class.Class ws e = e
 kind_plain true class.Interface ws e = e
 kind_plain true class.Enum ws e = e
@@ -162,7 +162,7 @@ kind_plain false class.Interface ws e = e
 kind_plain false class.Enum ws e = e
 kind_plain false class.Annotation ws e = e
 
-names_plain : (ws : List Word) → are_names ws ≡ true → ArePlain (separated ws)
+pub names_plain : (ws : List Word) → are_names ws ≡ true → ArePlain (separated ws)
 names_plain [] e = refl
 names_plain (w ∷ ws) e = separated_plain is_name name_plain (w ∷ ws) e
 
@@ -172,15 +172,15 @@ above_by true None name e = more_plain name [] (name_plain name (first_true (is_
 above_by false (Some m) name e = more_plain name [] (name_plain name (first_true (is_name name) (is_name m) e)) refl
 above_by false None name e = more_plain name [] (name_plain name (first_true (is_name name) true e)) refl
 
-above_plain : (above : Option Above) → is_above above ≡ true → ArePlain (above_words above)
+pub above_plain : (above : Option Above) → is_above above ≡ true → ArePlain (above_words above)
 above_plain (Some a) e = above_by a.extends a.mark a.name e
 above_plain None e = refl
 
-members_plain : (members : Option (List MemberRule)) → are_members members ≡ true → ArePlain (braces_words members)
+pub members_plain : (members : Option (List MemberRule)) → are_members members ≡ true → ArePlain (braces_words members)
 members_plain (Some ms) e = braces_plain is_member_rule line_plain ms e
 members_plain None e = refl
 
-class_plain : (c : ClassRule) → is_class_rule c ≡ true → ArePlain (class_rule_words c)
+pub class_plain : (c : ClassRule) → is_class_rule c ≡ true → ArePlain (class_rule_words c)
 class_plain c e =
     let r1 : (list_all is_class_condition c.conditions && are_names c.names && is_above c.above) ≡ true = first_true (list_all is_class_condition c.conditions && are_names c.names && is_above c.above) (are_members c.members) e in
     let r2 : (list_all is_class_condition c.conditions && are_names c.names) ≡ true = first_true (list_all is_class_condition c.conditions && are_names c.names) (is_above c.above) r1 in
@@ -197,7 +197,7 @@ modifier_plain modifier.AllowOptimization = refl
 modifier_plain modifier.AllowObfuscation = refl
 modifier_plain modifier.IncludeDescriptorClasses = refl
 
-modifiers_plain : (ms : List Modifier) → ArePlain (modifier_words ms)
+pub modifiers_plain : (ms : List Modifier) → ArePlain (modifier_words ms)
 modifiers_plain [] = refl
 modifiers_plain (m ∷ ms) = both_plain (codes "," ∷ modifier_word m ∷ []) (modifier_words ms) (modifier_plain m) (modifiers_plain ms)
 
@@ -304,7 +304,7 @@ no_rule (c ∷ cs) e =
     let dash : nat_eq c 45 ≡ false = not_true (nat_eq c 45) e in
     rw dash refl
 
-plain_rules : (ws : List Word) → ArePlain ws → rules_in ws ≡ 0
+pub plain_rules : (ws : List Word) → ArePlain ws → rules_in ws ≡ 0
 plain_rules [] e = refl
 plain_rules (w ∷ ws) e =
     let more : rules_in ws ≡ 0 = plain_rules ws (second_true (plain w) (list_all plain ws) e) in

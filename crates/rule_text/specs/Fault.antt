@@ -1,33 +1,20 @@
 -- The faults of a text of rules.
-use Rattle.std.specs.Prelude.{◌≡◌, ◌⊎◌, ℕ, suc, List, map, Option, Some, None, Contains}
-use Rattle.std.specs.Str.{IsUtf8, IsValidUpTo}
-use Rattle.rule_text.specs.Tokens.{tokens_of, last_line}
-use Rattle.rule_text.specs.Faults.{IsReadable, IsLineOf, HasRuleFault}
+use Rattle.std.specs.Prelude.{◌≡◌, ◌⊎◌, ◌<◌, ◌≤◌, ℕ, suc, List, map, length, Option, Some, None}
+use Rattle.rule_text.specs.Faults.{IsLineOf, HasRuleFault}
 use Rattle.rule_text.specs.Fronts.{token_view}
-use Rattle.rule_text.specs.Halts.{IsOptionBehind, IsRuleBehind}
+use Rattle.rule_text.specs.Halts.{IsOptionBehind, IsRuleBehind, IsRefusedBehind}
 use Rattle.rule_text.specs.declared.fault.RuleFault.{RuleFault}
 use Rattle.rule_text.specs.declared.fault.RuleFault.TheVariants as fault
 use Rattle.rule_text.specs.declared.token.Token.{Token as Lexed}
 use Rattle.rule_text.specs.declared.token.Tokens.{Tokens}
 
--- a token of the text stands in this line
-abbrev pub IsTokenLine : List ℕ → ℕ → Type 0
-IsTokenLine text line = Contains (map (λ t. t.line) (tokens_of text)) line
-
--- What a fault carries, where the front is the part of the text that can be read: the line of a token, or that in which a
--- text without bad bytes ends; the number of bytes before those that are not UTF-8, which is the longest front that is. An
--- option that isn't known and a rule too many stand in the text as its faults.
-abbrev pub StandsIn : List ℕ → List ℕ → RuleFault → Type 0
-StandsIn text front fault.NoMemory = Unit {0}
-StandsIn text front (fault.Syntax line) = IsTokenLine front line ⊎ (IsUtf8 text × (line ≡ last_line text))
-StandsIn text front (fault.Option line) = HasRuleFault text (fault.Option line)
-StandsIn text front (fault.NotUtf8 at) = IsValidUpTo text at
-StandsIn text front (fault.TooMany count) = HasRuleFault text (fault.TooMany count)
-
-pub record IsFault (text : List ℕ) (fault : RuleFault) : Type 0 where
-  pub front : List ℕ
-  pub readable : IsReadable text front
-  pub stands : StandsIn text front fault
+-- the fault stands in the text; of want of memory nothing is known
+abbrev pub IsFault : List ℕ → RuleFault → Type 0
+IsFault text fault.NoMemory = Unit {0}
+IsFault text (fault.Syntax line) = HasRuleFault text (fault.Syntax line)
+IsFault text (fault.Option line) = HasRuleFault text (fault.Option line)
+IsFault text (fault.NotUtf8 at) = HasRuleFault text (fault.NotUtf8 at)
+IsFault text (fault.TooMany count) = HasRuleFault text (fault.TooMany count)
 
 pub record IsOptionBy (tokens : List Lexed) (line : ℕ) : Type 0 where
   pub place : ℕ
@@ -39,10 +26,21 @@ pub record IsRuleBy (tokens : List Lexed) (count : ℕ) : Type 0 where
   pub place : ℕ
   pub behind : IsRuleBehind tokens 0 place
 
--- the same, where the tokens are known and which bytes are not UTF-8
+pub record IsWordBy (tokens : List Lexed) (line : ℕ) : Type 0 where
+  pub place : ℕ
+  pub refused : IsRefusedBehind tokens 0 place
+  pub inside : place < length tokens
+  pub tells : IsLineOf (map token_view tokens) place line
+
+pub record IsEndBy (tokens : List Lexed) : Type 0 where
+  pub place : ℕ
+  pub refused : IsRefusedBehind tokens 0 place
+  pub end : length tokens ≤ place
+
+-- what tells the fault, where the tokens are known and which bytes are not UTF-8
 abbrev pub IsFaultBy : Tokens → Option ℕ → RuleFault → Type 0
 IsFaultBy tokens bad fault.NoMemory = Unit {0}
-IsFaultBy tokens bad (fault.Syntax line) = Contains (map (λ t. t.line) tokens.items.items) line ⊎ ((bad ≡ None) × (line ≡ suc tokens.ends))
+IsFaultBy tokens bad (fault.Syntax line) = IsWordBy tokens.items.items line ⊎ ((bad ≡ None) × (line ≡ suc tokens.ends) × IsEndBy tokens.items.items)
 IsFaultBy tokens bad (fault.Option line) = IsOptionBy tokens.items.items line
-IsFaultBy tokens bad (fault.NotUtf8 at) = bad ≡ Some at
+IsFaultBy tokens bad (fault.NotUtf8 at) = (bad ≡ Some at) × IsEndBy tokens.items.items
 IsFaultBy tokens bad (fault.TooMany count) = IsRuleBy tokens.items.items count

@@ -5,8 +5,10 @@ pub mod Fronts
 pub mod Glob
 pub mod Halts
 pub mod Pieces
+pub mod Places
 pub mod ReadEntries
 pub mod Reads
+pub mod Refusals
 pub mod Related
 pub mod Rules
 pub mod Spelling

@@ -1,11 +1,14 @@
 //! Reading of which classes a rule names.
 
-ghost use Rattle.std.specs.Prelude.{◌≡◌, ◌+◌, ◌<◌, ◌≤◌, ◌∷◌, ◌++◌, true, length, IsTrue, IsErr, IfOk, IfSome, IfNone, OnOk};
+ghost use Rattle.std.specs.Prelude.{◌≡◌, ◌+◌, ◌<◌, ◌≤◌, ◌∷◌, ◌++◌, Bool, true, false, List, length, codes, IsTrue, IsErr, IfOk, IfErr, IfSome, IfNone, OnOk};
 ghost use Rattle.rule_text.specs.Reads.{Reads, ReadsEach, IsHead};
 ghost use Rattle.rule_text.specs.Related.{AreEach, AreBoth, IsPatternOf, IsConditionOf, IsAboveOf, AreMembersOf, IsClassOf};
 ghost use Rattle.rule_text.specs.Spelling.{are_names, separated, is_class_condition, condition_words, access_word, kind_word, bang, is_above, above_words, are_members, braces_words, is_class_rule, class_rule_words};
 ghost use Rattle.rule_text.specs.Words.{above_word, is_of_class};
-ghost use Rattle.rule_text.specs.Steps.{words_at, BeginWithNone};
+ghost use Rattle.rule_text.specs.Steps.{AtSyntax, BeginOtherwise, BeginWithNone, first_word, words_at};
+ghost use Rattle.rule_text.specs.Tokens.{Word};
+ghost use Rattle.rule_text.specs.Places.{InHead, BeforeName, BehindName, BeforeBrace, is_class_access};
+ghost use Rattle.rule_text.specs.Refusals.{IsRefused, EndsWhole, IsNoCondition, IsNoAbove};
 
 use crate::cursor::{accept, advance, word_at};
 use crate::parse_member::{read_mark, read_members, read_name};
@@ -27,6 +30,8 @@ pub fn read_names(
     ensures inside { at.new ≤ length tokens.now }
     ensures on { OnOk result (at.old < at.new) }
     ensures step { IfOk result (λ names. Reads (AreEach IsPatternOf) are_names separated tokens.now at.old at.new names.items) }
+    ensures halt { (assumed : Bool) → IfErr result (AtSyntax (IsRefused (BeforeName assumed) tokens.now at.old at.new)) }
+    ensures last { OnOk result (BeginOtherwise (codes ",") (words_at tokens.now at.new)) }
 {
     let mut names = Vec::new(alloc);
     names.push(read_name(alloc, tokens, at)?)?;
@@ -43,7 +48,10 @@ fn read_access(tokens: &[Token<'_>], at: &mut usize) -> Option<(bool, Access)>
     ensures inside { at.new ≤ length tokens.now }
     ensures step { IfSome result (λ found. words_at tokens.now at.old ≡ bang found.0 ++ (access_word found.1 ∷ words_at tokens.now at.new)) }
     ensures class { IfSome result (λ found. is_of_class found.1 ≡ true) }
+    ensures on { IfSome result (λ _. at.old < at.new) }
     ensures stays { IfNone result (at.new ≡ at.old) }
+    ensures none { IfNone result (is_class_access (first_word (words_at tokens.now at.old)) ≡ false) }
+    ensures behind { IfNone result ((rest : List Word) → words_at tokens.now at.old ≡ codes "!" ∷ rest → is_class_access (first_word rest) ≡ false) }
 {
     let start = *at;
     let negated = accept(tokens, at, b"!");
@@ -65,7 +73,10 @@ fn read_condition(
     ensures moves { at.old ≤ at.new }
     ensures inside { at.new ≤ length tokens.now }
     ensures step { IfOk result (λ read. IfSome read (Reads IsConditionOf is_class_condition condition_words tokens.now at.old at.new)) }
+    ensures on { IfOk result (λ read. IfSome read (λ _. at.old < at.new)) }
     ensures stays { IfOk result (λ read. IfNone read (at.new ≡ at.old)) }
+    ensures none { IfOk result (λ read. IfNone read (IsNoCondition (words_at tokens.now at.old))) }
+    ensures halt { IfErr result (AtSyntax (IsRefused InHead tokens.now at.old at.new)) }
 {
     if class_kind(word_at(tokens, *at)).is_some() {
         return Ok(None);
@@ -89,13 +100,12 @@ fn read_conditions(
     ensures moves { at.old ≤ at.new }
     ensures inside { at.new ≤ length tokens.now }
     ensures step { IfOk result (λ conditions. ReadsEach IsConditionOf is_class_condition condition_words tokens.now at.old at.new conditions.items) }
+    ensures none { OnOk result (IsNoCondition (words_at tokens.now at.new)) }
+    ensures halt { IfErr result (AtSyntax (IsRefused InHead tokens.now at.old at.new)) }
 {
     let mut conditions = Vec::new(alloc);
-    for _ in 0..tokens.len() {
-        match read_condition(alloc, tokens, at)? {
-            Some(condition) => conditions.push(condition)?,
-            None => break,
-        }
+    while let Some(condition) = read_condition(alloc, tokens, at)? {
+        conditions.push(condition)?;
     }
     Ok(conditions)
 }
@@ -124,6 +134,7 @@ fn read_above_word(tokens: &[Token<'_>], at: &mut usize) -> Option<AboveWord>
     ensures inside { at.new ≤ length tokens.now }
     ensures step { IfSome result (λ word. words_at tokens.now at.old ≡ above_word word ∷ words_at tokens.now at.new) }
     ensures stays { IfNone result (at.new ≡ at.old) }
+    ensures none { IfNone result (IsNoAbove (words_at tokens.now at.new)) }
 {
     if accept(tokens, at, b"extends") {
         Some(AboveWord::Extends)
@@ -140,6 +151,9 @@ fn read_above(alloc: Global, tokens: &[Token<'_>], at: &mut usize) -> Result<Opt
     ensures moves { at.old ≤ at.new }
     ensures inside { at.new ≤ length tokens.now }
     ensures step { IfOk result (Reads (AreBoth IsAboveOf) is_above above_words tokens.now at.old at.new) }
+    ensures stays { IfOk result (λ above. IfNone above (at.new ≡ at.old)) }
+    ensures none { IfOk result (λ above. IfNone above (IsNoAbove (words_at tokens.now at.new))) }
+    ensures halt { IfErr result (AtSyntax (IsRefused (BehindName false) tokens.now at.old at.new)) }
 {
     let Some(word) = read_above_word(tokens, at) else {
         return Ok(None);
@@ -159,6 +173,10 @@ fn read_braces(
     ensures moves { at.old ≤ at.new }
     ensures inside { at.new ≤ length tokens.now }
     ensures step { IfOk result (Reads (AreBoth AreMembersOf) are_members braces_words tokens.now at.old at.new) }
+    ensures stays { IfOk result (λ members. IfNone members (at.new ≡ at.old)) }
+    ensures none { IfOk result (λ members. IfNone members (BeginOtherwise (codes "{") (words_at tokens.now at.new))) }
+    ensures opens { IsErr result → first_word (words_at tokens.now at.old) ≡ codes "{" }
+    ensures halt { IfErr result (AtSyntax (IsRefused (BeforeBrace false) tokens.now at.old at.new)) }
 {
     if word_at(tokens, *at) != b"{".as_slice() {
         return Ok(None);
@@ -177,6 +195,7 @@ fn read_head(
     ensures moves { at.old ≤ at.new }
     ensures inside { at.new ≤ length tokens.now }
     ensures step { IfOk result (λ head. IsHead tokens.now at.old at.new head.0.items head.1 head.2) }
+    ensures halt { IfErr result (AtSyntax (IsRefused InHead tokens.now at.old at.new)) }
 {
     let conditions = read_conditions(alloc, tokens, at)?;
     let negated = accept(tokens, at, b"!");
@@ -190,6 +209,8 @@ pub fn read_class(alloc: Global, tokens: &[Token<'_>], at: &mut usize) -> Result
     ensures moves { at.old ≤ at.new }
     ensures inside { at.new ≤ length tokens.now }
     ensures step { IfOk result (Reads IsClassOf is_class_rule class_rule_words tokens.now at.old at.new) }
+    ensures whole { OnOk result (EndsWhole InHead tokens.now at.old at.new) }
+    ensures halt { IfErr result (AtSyntax (IsRefused InHead tokens.now at.old at.new)) }
 {
     let (conditions, negated, kind) = read_head(alloc, tokens, at)?;
     let names = read_names(alloc, tokens, at)?;

@@ -1,17 +1,19 @@
 //! Reading of a whole text.
 
-ghost use Rattle.std.specs.Prelude.{◌≡◌, ◌+◌, ◌<◌, ◌≤◌, ◌^◌, ◌∷◌, ◌++◌, true, false, not, if◌then◌else◌, None, length, IsErr, OnOk, IfOk, IfErr, IfSome, IfNone, MatchOption};
+ghost use Rattle.std.specs.Prelude.{◌≡◌, ◌+◌, ◌<◌, ◌≤◌, ◌^◌, ◌∷◌, ◌++◌, true, false, not, if◌then◌else◌, None, length, codes, IsErr, OnOk, IfOk, IfErr, IfSome, IfNone, MatchOption};
 ghost use Rattle.std.specs.Str.{IsUtf8, IsValidUpTo};
 ghost use Rattle.rule_text.specs.Fault.{IsFault, IsFaultBy};
 ghost use Rattle.rule_text.specs.Faults.{IsReadable};
 ghost use Rattle.rule_text.specs.Fronts.{AreTokensOf};
 ghost use Rattle.rule_text.specs.Reads.{Reads};
-ghost use Rattle.rule_text.specs.Halts.{IsNoNameOf, IsOptionBehind, HaltsAt, HaltsBefore};
+ghost use Rattle.rule_text.specs.Halts.{IsNoNameOf, IsOptionBehind, IsRefusedBehind, HaltsAt, HaltsBefore};
 ghost use Rattle.rule_text.specs.declared.stop.Halt.TheVariants.{TooMany};
 ghost use Rattle.rule_text.specs.ReadEntries.{IsKeepBehind, IsAssumeBehind, AreWordsBehind, ReadsFew, IsReading};
 ghost use Rattle.rule_text.specs.Related.{IsEntryOf};
 ghost use Rattle.rule_text.specs.Spelling.{modifier_word, modifier_words, setting_word, keep_word, is_long, is_entry, entry_words, begins_option, begins_rule};
-ghost use Rattle.rule_text.specs.Steps.{words_at, first_word, BeginWithNone};
+ghost use Rattle.rule_text.specs.Steps.{AtSyntax, BeginOtherwise, BeginWithNone, first_word, words_at};
+ghost use Rattle.rule_text.specs.Places.{Between, BehindKeep, BeforeClass};
+ghost use Rattle.rule_text.specs.Refusals.{IsRefused, EndsWhole};
 
 use crate::cursor::{accept, advance, expect_word, word_at};
 use crate::fault::RuleFault;
@@ -54,6 +56,8 @@ fn read_modifiers(
     ensures moves { at.old ≤ at.new }
     ensures inside { at.new ≤ length tokens.now }
     ensures step { IfOk result (λ modifiers. words_at tokens.now at.old ≡ modifier_words modifiers.items ++ words_at tokens.now at.new) }
+    ensures last { OnOk result (BeginOtherwise (codes ",") (words_at tokens.now at.new)) }
+    ensures refused { IfErr result (AtSyntax (IsRefused BehindKeep tokens.now at.old at.new)) }
 {
     let mut modifiers = Vec::new(alloc);
     while accept(tokens, at, b",") {
@@ -73,6 +77,8 @@ fn read_keep(
     ensures moves { at.old ≤ at.new }
     ensures inside { at.new ≤ length tokens.now }
     ensures step { IfOk result (IsKeepBehind kind tokens.now at.old at.new) }
+    ensures whole { OnOk result (EndsWhole BehindKeep tokens.now at.old at.new) }
+    ensures refused { IfErr result (AtSyntax (IsRefused BehindKeep tokens.now at.old at.new)) }
 {
     let modifiers = read_modifiers(alloc, tokens, at)?;
     let class = read_class(alloc, tokens, at)?;
@@ -89,6 +95,8 @@ fn read_assume(alloc: Global, tokens: &[Token<'_>], at: &mut usize) -> Result<As
     ensures moves { at.old ≤ at.new }
     ensures inside { at.new ≤ length tokens.now }
     ensures step { IfOk result (IsAssumeBehind tokens.now at.old at.new) }
+    ensures whole { OnOk result (EndsWhole BeforeClass tokens.now at.old at.new) }
+    ensures refused { IfErr result (AtSyntax (IsRefused BeforeClass tokens.now at.old at.new)) }
 {
     expect_word(tokens, at, b"class")?;
     let names = read_names(alloc, tokens, at)?;
@@ -112,6 +120,7 @@ fn option_word<'a>(tokens: &[Token<'a>], at: &mut usize) -> Option<&'a [u8]>
     ensures step { IfSome result (λ word. words_at tokens.now at.old ≡ word.now ∷ words_at tokens.now at.new) }
     ensures plain { IfSome result (λ word. begins_option word.now ≡ false) }
     ensures stays { IfNone result (at.new ≡ at.old) }
+    ensures next { IfNone result (at.new < length tokens.now → begins_option (first_word (words_at tokens.now at.new)) ≡ true) }
 {
     let Some(token) = tokens.get(*at) else {
         return None;
@@ -129,6 +138,7 @@ fn read_words(alloc: Global, tokens: &[Token<'_>], at: &mut usize) -> Result<Vec
     ensures moves { at.old ≤ at.new }
     ensures inside { at.new ≤ length tokens.now }
     ensures step { IfOk result (λ words. AreWordsBehind tokens.now at.old at.new words.items) }
+    ensures next { OnOk result (at.new < length tokens.now → begins_option (first_word (words_at tokens.now at.new)) ≡ true) }
 {
     let mut words = Vec::new(alloc);
     while let Some(word) = option_word(tokens, at) {
@@ -144,6 +154,7 @@ fn read_lone(tokens: &[Token<'_>], at: &mut usize) -> Option<SettingName>
     ensures inside { at.new ≤ length tokens.now }
     ensures on { IfSome result (λ _. at.old < at.new) }
     ensures step { IfSome result (λ name. words_at tokens.now at.old ≡ setting_word name ∷ words_at tokens.now at.new) }
+    ensures lone { IfSome result (λ name. is_long name ≡ false) }
     ensures stays { IfNone result (at.new ≡ at.old) }
     ensures none { IfNone result (IsNoNameOf (λ name. not (is_long name)) setting_word (first_word (words_at tokens.now at.old))) }
 {
@@ -182,6 +193,7 @@ fn read_setting(alloc: Global, tokens: &[Token<'_>], at: &mut usize) -> Result<E
     ensures inside { at.new ≤ length tokens.now }
     ensures on { OnOk result (at.old < at.new) }
     ensures step { IfOk result (Reads IsEntryOf is_entry entry_words tokens.now at.old at.new) }
+    ensures whole { OnOk result (EndsWhole Between tokens.now at.old at.new) }
     ensures halt { begins_rule (first_word (words_at tokens.now at.old)) ≡ false → IfErr result (HaltsBefore tokens.now at.old at.new) }
 {
     if let Some(name) = read_lone(tokens, at) {
@@ -233,6 +245,7 @@ fn read_entry(alloc: Global, tokens: &[Token<'_>], at: &mut usize) -> Result<Ent
     ensures inside { at.new ≤ length tokens.now }
     ensures on { OnOk result (at.old < at.new) }
     ensures step { IfOk result (Reads IsEntryOf is_entry entry_words tokens.now at.old at.new) }
+    ensures whole { OnOk result (EndsWhole Between tokens.now at.old at.new) }
     ensures halt { IfErr result (HaltsBefore tokens.now at.old at.new) }
 {
     if accept(tokens, at, b"-assumenosideeffects") {
@@ -310,7 +323,8 @@ fn readable(text: &[u8], bad: Option<usize>) -> &[u8]
 /// The fault of a token that fits nothing, or of a text that ends too early: by bytes that are not UTF-8, if there are
 /// any.
 fn syntax_fault(tokens: &Tokens<'_>, at: usize, bad: Option<usize>) -> RuleFault
-    requires { tokens.now.ends + 1 < 2 ^ 32 }
+    requires lines { tokens.now.ends + 1 < 2 ^ 32 }
+    requires refused { IsRefusedBehind tokens.now.items.items 0 at }
     ensures { IsFaultBy tokens.now bad result }
 {
     match tokens.items.get(at) {

@@ -1,13 +1,16 @@
 //! Reading of names, types and member lines.
 
-ghost use Rattle.std.specs.Prelude.{◌≡◌, ◌+◌, ◌<◌, ◌≤◌, ◌∷◌, ◌++◌, [], false, length, codes, IsTrue, IsFalse, IfOk, IfErr, IfSome, IfNone, OnOk};
+ghost use Rattle.std.specs.Prelude.{◌≡◌, ◌+◌, ◌<◌, ◌≤◌, ◌∷◌, ◌++◌, [], Bool, true, false, List, length, codes, IsTrue, IsFalse, IfOk, IfErr, IfSome, IfNone, OnOk};
 ghost use Rattle.std.specs.List.{list_all};
 ghost use Rattle.rule_text.specs.Pieces.{ends_in_brackets};
 ghost use Rattle.rule_text.specs.Reads.{Reads, ReadsEach, alone};
 ghost use Rattle.rule_text.specs.Related.{AreEach, IsPatternOf, IsItemOf, IsTypeOf, AreArgumentsOf, IsWhatOf, IsConditionOf, IsMemberOf};
 ghost use Rattle.rule_text.specs.Spelling.{is_name, is_argument, are_some, are_arguments, separated, argument_words, is_what, is_assumed_what, what_words, is_member_condition, is_plain_condition, condition_words, is_member_rule, is_assumed_rule, member_rule_words, braces, access_word, bang, marked};
 ghost use Rattle.rule_text.specs.Stops.{IsNoMark, IsBareBang, IsNoArgument};
-ghost use Rattle.rule_text.specs.Steps.{AtSyntax, BeginWithNone, IsNoName, first_word, words_at};
+ghost use Rattle.rule_text.specs.Tokens.{Word};
+ghost use Rattle.rule_text.specs.Steps.{AtSyntax, BeginOtherwise, BeginWithNone, IsNoName, first_word, words_at};
+ghost use Rattle.rule_text.specs.Places.{BeforeArgument, BeforeArguments, BeforeBrace, InLine};
+ghost use Rattle.rule_text.specs.Refusals.{IsRefused, EndsAt, IsBare, IsNamed, IsTyped, IsTypedLine, begins_mark};
 
 use crate::cursor::{accept, advance, expect_word, word_at};
 use crate::pattern::NamePattern;
@@ -50,6 +53,7 @@ pub fn read_mark(
     ensures on { IfOk result (λ read. IfSome read (λ _. at.old < at.new)) }
     ensures step { IfOk result (λ read. IfSome read (Reads IsPatternOf is_name (λ name. marked name ∷ []) tokens.now at.old at.new)) }
     ensures stays { IfOk result (λ read. IfNone read (at.new ≡ at.old)) }
+    ensures none { IfOk result (λ read. IfNone read (begins_mark (first_word (words_at tokens.now at.old)) ≡ false)) }
     ensures stop { IfErr result (AtSyntax (IsNoMark tokens.now at.old at.new)) }
 {
     match tokens.get(*at) {
@@ -156,6 +160,8 @@ fn read_argument_types(
     ensures moves { at.old ≤ at.new }
     ensures inside { at.new ≤ length tokens.now }
     ensures step { IfOk result (λ types. Reads (AreEach IsTypeOf) (are_some is_argument) separated tokens.now at.old at.new types.items) }
+    ensures halt { (assumed : Bool) → IfErr result (AtSyntax (IsRefused (BeforeArgument assumed) tokens.now at.old at.new)) }
+    ensures last { OnOk result (BeginOtherwise (codes ",") (words_at tokens.now at.new)) }
 {
     let mut types = Vec::new(alloc);
     types.push(read_argument(alloc, tokens, at)?)?;
@@ -172,6 +178,7 @@ fn read_arguments(alloc: Global, tokens: &[Token<'_>], at: &mut usize) -> Result
     ensures inside { at.new ≤ length tokens.now }
     ensures on { OnOk result (at.old < at.new) }
     ensures step { IfOk result (Reads AreArgumentsOf are_arguments argument_words tokens.now at.old at.new) }
+    ensures halt { (assumed : Bool) → IfErr result (AtSyntax (IsRefused (BeforeArguments assumed) tokens.now at.old at.new)) }
 {
     expect_word(tokens, at, b"(")?;
     if accept(tokens, at, b")") {
@@ -193,6 +200,8 @@ fn read_typed(alloc: Global, tokens: &[Token<'_>], at: &mut usize) -> Result<Wha
     ensures inside { at.new ≤ length tokens.now }
     ensures on { OnOk result (at.old < at.new) }
     ensures step { BeginWithNone access_word (words_at tokens.now at.old) → IfOk result (Reads IsWhatOf is_what what_words tokens.now at.old at.new) }
+    ensures last { IsTypedLine (words_at tokens.now at.old) → OnOk result (EndsAt (codes ";") (InLine false) tokens.now at.old at.new) }
+    ensures halt { IsTypedLine (words_at tokens.now at.old) → IfErr result (AtSyntax (IsRefused (InLine false) tokens.now at.old at.new)) }
 {
     let kind = read_type(alloc, tokens, at)?;
     let name = read_name(alloc, tokens, at)?;
@@ -215,6 +224,7 @@ fn accept_all(tokens: &[Token<'_>], at: &mut usize) -> bool
     ensures step { IsTrue result → words_at tokens.now at.old ≡ codes "*" ∷ words_at tokens.now at.new }
     ensures last { IsTrue result → first_word (words_at tokens.now at.new) ≡ codes ";" }
     ensures stays { IsFalse result → at.new ≡ at.old }
+    ensures none { IsFalse result → (rest : List Word) → words_at tokens.now at.old ≡ codes "*" ∷ rest → BeginOtherwise (codes ";") rest }
 {
     let start = *at;
     if accept(tokens, at, b"*") && word_at(tokens, *at) == b";".as_slice() {
@@ -230,6 +240,8 @@ fn read_what(alloc: Global, tokens: &[Token<'_>], at: &mut usize) -> Result<What
     ensures moves { at.old ≤ at.new }
     ensures inside { at.new ≤ length tokens.now }
     ensures step { BeginWithNone access_word (words_at tokens.now at.old) → IfOk result (Reads IsWhatOf is_what what_words tokens.now at.old at.new) }
+    ensures last { IsNamed (words_at tokens.now at.old) → OnOk result (EndsAt (codes ";") (InLine false) tokens.now at.old at.new) }
+    ensures halt { IsNamed (words_at tokens.now at.old) → IfErr result (AtSyntax (IsRefused (InLine false) tokens.now at.old at.new)) }
 {
     if accept_all(tokens, at) {
         return Ok(What::All);
@@ -255,6 +267,7 @@ fn read_access(tokens: &[Token<'_>], at: &mut usize) -> Result<Option<(bool, Acc
     ensures step { IfOk result (λ read. IfSome read (λ found. words_at tokens.now at.old ≡ bang found.0 ++ (access_word found.1 ∷ words_at tokens.now at.new))) }
     ensures stays { IfOk result (λ read. IfNone read (at.new ≡ at.old)) }
     ensures none { IfOk result (λ read. IfNone read (BeginWithNone access_word (words_at tokens.now at.new))) }
+    ensures bang { IfOk result (λ read. IfNone read (BeginOtherwise (codes "!") (words_at tokens.now at.new))) }
     ensures stop { IfErr result (AtSyntax (IsBareBang tokens.now at.old at.new)) }
 {
     let negated = accept(tokens, at, b"!");
@@ -281,6 +294,8 @@ fn read_condition(
     ensures step { IfOk result (λ read. IfSome read (Reads IsConditionOf is_member_condition condition_words tokens.now at.old at.new)) }
     ensures stays { IfOk result (λ read. IfNone read (at.new ≡ at.old)) }
     ensures none { IfOk result (λ read. IfNone read (BeginWithNone access_word (words_at tokens.now at.new))) }
+    ensures named { IfOk result (λ read. IfNone read (IsNamed (words_at tokens.now at.new))) }
+    ensures halt { IfErr result (AtSyntax (IsRefused (InLine false) tokens.now at.old at.new)) }
 {
     if let Some(mark) = read_mark(alloc, tokens, at)? {
         return Ok(Some(Condition::Mark(mark)));
@@ -302,6 +317,8 @@ fn read_conditions(
     ensures inside { at.new ≤ length tokens.now }
     ensures step { IfOk result (λ conditions. ReadsEach IsConditionOf is_member_condition condition_words tokens.now at.old at.new conditions.items) }
     ensures none { OnOk result (BeginWithNone access_word (words_at tokens.now at.new)) }
+    ensures named { OnOk result (IsNamed (words_at tokens.now at.new)) }
+    ensures halt { IfErr result (AtSyntax (IsRefused (InLine false) tokens.now at.old at.new)) }
 {
     let mut conditions = Vec::new(alloc);
     while let Some(condition) = read_condition(alloc, tokens, at)? {
@@ -317,6 +334,7 @@ fn read_member(alloc: Global, tokens: &[Token<'_>], at: &mut usize) -> Result<Me
     ensures inside { at.new ≤ length tokens.now }
     ensures on { OnOk result (at.old < at.new) }
     ensures step { IfOk result (Reads IsMemberOf is_member_rule member_rule_words tokens.now at.old at.new) }
+    ensures halt { IfErr result (AtSyntax (IsRefused (InLine false) tokens.now at.old at.new)) }
 {
     let conditions = read_conditions(alloc, tokens, at)?;
     let what = read_what(alloc, tokens, at)?;
@@ -335,6 +353,7 @@ pub fn read_members(
     ensures inside { at.new ≤ length tokens.now }
     ensures on { OnOk result (at.old < at.new) }
     ensures step { IfOk result (λ members. Reads (AreEach IsMemberOf) (list_all is_member_rule) braces tokens.now at.old at.new members.items) }
+    ensures halt { IfErr result (AtSyntax (IsRefused (BeforeBrace false) tokens.now at.old at.new)) }
 {
     let mut members = Vec::new(alloc);
     expect_word(tokens, at, b"{")?;
@@ -350,6 +369,8 @@ fn read_method(alloc: Global, tokens: &[Token<'_>], at: &mut usize) -> Result<Wh
     ensures moves { at.old ≤ at.new }
     ensures inside { at.new ≤ length tokens.now }
     ensures step { BeginWithNone access_word (words_at tokens.now at.old) → IfOk result (Reads IsWhatOf is_assumed_what what_words tokens.now at.old at.new) }
+    ensures last { IsTyped (words_at tokens.now at.old) → OnOk result (EndsAt (codes ";") (InLine true) tokens.now at.old at.new) }
+    ensures halt { IsTyped (words_at tokens.now at.old) → IfErr result (AtSyntax (IsRefused (InLine true) tokens.now at.old at.new)) }
 {
     let kind = read_type(alloc, tokens, at)?;
     let name = read_name(alloc, tokens, at)?;
@@ -367,6 +388,8 @@ fn read_assumed_what(alloc: Global, tokens: &[Token<'_>], at: &mut usize) -> Res
     ensures moves { at.old ≤ at.new }
     ensures inside { at.new ≤ length tokens.now }
     ensures step { BeginWithNone access_word (words_at tokens.now at.old) → IfOk result (Reads IsWhatOf is_assumed_what what_words tokens.now at.old at.new) }
+    ensures last { IsBare (words_at tokens.now at.old) → OnOk result (EndsAt (codes ";") (InLine true) tokens.now at.old at.new) }
+    ensures halt { IsBare (words_at tokens.now at.old) → IfErr result (AtSyntax (IsRefused (InLine true) tokens.now at.old at.new)) }
 {
     if accept_all(tokens, at) {
         return Ok(What::All);
@@ -388,6 +411,8 @@ fn read_accesses(
     ensures inside { at.new ≤ length tokens.now }
     ensures step { IfOk result (λ conditions. ReadsEach IsConditionOf is_plain_condition condition_words tokens.now at.old at.new conditions.items) }
     ensures none { OnOk result (BeginWithNone access_word (words_at tokens.now at.new)) }
+    ensures bare { OnOk result (IsBare (words_at tokens.now at.new)) }
+    ensures halt { IfErr result (AtSyntax (IsRefused (InLine true) tokens.now at.old at.new)) }
 {
     let mut conditions = Vec::new(alloc);
     while let Some((negated, access)) = read_access(tokens, at)? {
@@ -403,6 +428,7 @@ fn read_assumed(alloc: Global, tokens: &[Token<'_>], at: &mut usize) -> Result<M
     ensures inside { at.new ≤ length tokens.now }
     ensures on { OnOk result (at.old < at.new) }
     ensures step { IfOk result (Reads IsMemberOf is_assumed_rule member_rule_words tokens.now at.old at.new) }
+    ensures halt { IfErr result (AtSyntax (IsRefused (InLine true) tokens.now at.old at.new)) }
 {
     let conditions = read_accesses(alloc, tokens, at)?;
     let what = read_assumed_what(alloc, tokens, at)?;
@@ -421,6 +447,7 @@ pub fn read_assumed_members(
     ensures inside { at.new ≤ length tokens.now }
     ensures on { OnOk result (at.old < at.new) }
     ensures step { IfOk result (λ members. Reads (AreEach IsMemberOf) (list_all is_assumed_rule) braces tokens.now at.old at.new members.items) }
+    ensures halt { IfErr result (AtSyntax (IsRefused (BeforeBrace true) tokens.now at.old at.new)) }
 {
     let mut members = Vec::new(alloc);
     expect_word(tokens, at, b"{")?;

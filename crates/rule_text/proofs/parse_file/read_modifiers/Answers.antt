@@ -1,7 +1,9 @@
-use Rattle.std.proofs.Common.{◌≡◌, [], ◌∷◌, ◌++◌, sym, ap, ◌∙◌, codes, rules}
+use Rattle.std.proofs.Common.{◌≡◌, [], ◌∷◌, ◌++◌, sym, ap, ◌∙◌, codes, rules, refl}
 use Rattle.rule_text.specs.Spelling.{modifier_word, modifier_words}
 use Rattle.rule_text.specs.Steps.{words_at}
 use Rattle.rule_text.proofs.EntryLemmas.{more_modifiers}
+use Rattle.rule_text.proofs.RefusalLemmas.{anyway}
+use Rattle.rule_text.proofs.EntryRefusals.{no_modifier}
 use Rattle.rule_text.proofs.parse_file.read_modifiers.Goals as goal
 
 pub loop-modifiers-preserved : goal.loop-modifiers-preserved
@@ -14,3 +16,7 @@ loop-modifiers-preserved c =
       c.loop-modifiers.invariant.2 ∙ more_modifiers c.loop-modifiers.modifiers.items c.in_ok-read_modifier.field-0 (words_at c.args.tokens.now c.loop-modifiers.at) (words_at c.args.tokens.now c.read_modifier.new.at) (comma ∙ ap (λ ws. codes "," ∷ ws) one)
           ∙ ap (λ ms. modifier_words ms ++ words_at c.args.tokens.now c.read_modifier.new.at) (sym is),
     )
+
+pub returns-in_err-read_modifier-clause-refused : goal.returns-in_err-read_modifier-clause-refused
+returns-in_err-read_modifier-clause-refused c =
+    anyway c.from_residual.result (no_modifier c.args.tokens.now c.args.at.now c.loop-modifiers.at c.accept.new.at c.read_modifier.new.at c.loop-modifiers.modifiers.items c.loop-modifiers.invariant.2 (search rules) (c.in_err-read_modifier.ensures.stays refl).0 (c.in_err-read_modifier.ensures.stays refl).1)

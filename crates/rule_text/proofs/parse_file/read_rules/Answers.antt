@@ -5,6 +5,7 @@ use Rattle.rule_text.specs.Halts.{HaltsAt}
 use Rattle.rule_text.specs.ReadEntries.{ReadsFew}
 use Rattle.rule_text.proofs.EntryLemmas.{whole_read}
 use Rattle.rule_text.proofs.FaultLemmas.{few_ends, faults}
+use Rattle.rule_text.proofs.SyntaxLemmas.{byte_behind}
 use Rattle.rule_text.proofs.parse_file.read_rules.Goals as goal
 
 pub fault_of-requires-clause-halt : goal.fault_of-requires-clause-halt
@@ -33,3 +34,13 @@ pub returns-clause-fault : goal.returns-clause-fault
 returns-clause-fault c =
     faults c.args.text.now c.readable.result.now c.bad_byte-bad.result c.in_ok-tokens.tokens c.fault_of.result
     c.bad_byte-bad.ensures c.readable.ensures.readable c.readable.ensures.all (search rules) c.fault_of.ensures
+
+pub returns-in-Ok-clause-fault : goal.returns-in-Ok-clause-fault
+returns-in-Ok-clause-fault c =
+    let valid : IsValidUpTo c.args.text.now c.in-Some.at = subst (λ o. MatchOption o (IsUtf8 c.args.text.now) (IsValidUpTo c.args.text.now)) c.in-Some.is c.bad_byte-bad.ensures in
+    let are : AreTokensOf c.readable.result.now c.in_ok-tokens.tokens = search rules in
+    let items : c.as_slice.result.now ≡ c.in_ok-tokens.tokens.items.items = search rules in
+    let few : ReadsFew c.as_slice.result.now 0 c.read_entries.new.at c.in-Ok.entries.items = search rules in
+    let all : c.read_entries.new.at ≡ length c.as_slice.result.now = search rules in
+    byte_behind c.args.text.now c.readable.result.now c.in_ok-tokens.tokens c.in-Some.at c.read_entries.new.at c.in-Ok.entries.items c.readable.ensures.readable valid are
+    (subst (λ xs. ReadsFew xs 0 c.read_entries.new.at c.in-Ok.entries.items) items few) (all ∙ ap length items)

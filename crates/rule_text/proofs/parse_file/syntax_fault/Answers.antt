@@ -1,6 +1,6 @@
 use Rattle.std.proofs.Common.{rules, inl}
-use Rattle.rule_text.proofs.FaultLemmas.{contains_line}
+use Rattle.rule_text.proofs.FaultLemmas.{word_by}
 use Rattle.rule_text.proofs.parse_file.syntax_fault.Goals as goal
 
 pub returns-in-Some : goal.returns-in-Some
-returns-in-Some c = inl (contains_line c.args.tokens.now.items.items c.args.at c.in-Some.token.now (search rules) (search rules))
+returns-in-Some c = inl (word_by c.args.tokens.now.items.items c.args.at c.in-Some.token.now (search rules) (search rules) c.requires.refused)

@@ -1,8 +1,10 @@
-use Rattle.std.proofs.Common.{◌≡◌, [], ◌∷◌, ◌++◌, subst, rules}
+use Rattle.std.proofs.Common.{◌≡◌, [], ◌∷◌, ◌++◌, subst, rules, false}
 use Rattle.rule_text.specs.Reads.{Reads}
 use Rattle.rule_text.specs.Related.{IsMemberOf}
 use Rattle.rule_text.specs.Spelling.{is_member_rule, member_rule_words}
 use Rattle.rule_text.proofs.MemberLemmas.{no_lines, more_lines, closed}
+use Rattle.rule_text.proofs.RefusalLemmas.{passed, anyway}
+use Rattle.rule_text.proofs.LineRefusals.{no_brace, in_line}
 use Rattle.rule_text.proofs.parse_member.read_members.Goals as goal
 
 pub loop-alloc-init : goal.loop-alloc-init
@@ -21,3 +23,11 @@ loop-alloc-preserved c =
 
 pub returns-clause-step : goal.returns-clause-step
 returns-clause-step c = closed is_member_rule c.args.tokens.now c.args.at.now c.loop-alloc.at c.accept.new.at c.loop-alloc.members.items c.loop-alloc.invariant.2 (search rules)
+
+pub returns-in_err-expect_word-clause-halt : goal.returns-in_err-expect_word-clause-halt
+returns-in_err-expect_word-clause-halt c =
+    anyway c.from_residual.result (no_brace false c.args.tokens.now c.args.at.now c.expect_word.new.at (search rules) (search rules))
+
+pub returns-in_err-read_member-clause-halt : goal.returns-in_err-read_member-clause-halt
+returns-in_err-read_member-clause-halt c =
+    passed c.from_residual-in_err-read_member.result c.in_err-read_member.field-0.0 c.from_residual-in_err-read_member.ensures.1 (in_line false c.args.tokens.now c.args.at.now c.loop-alloc.at c.accept.new.at c.read_member.new.at c.loop-alloc.members.items c.loop-alloc.invariant.2 (search rules) (search rules)) c.in_err-read_member.ensures.halt

@@ -3,5 +3,7 @@
 //! are the laws.
 #![tactic(auto)]
 
+pub mod bodies;
 pub mod cells;
+pub mod members;
 pub mod tables;

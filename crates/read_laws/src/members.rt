@@ -1,0 +1,45 @@
+//! Classes and their members that are read fit the rules.
+
+ghost use Rattle.std.specs.Prelude.{◌≡◌, Bool, true, List, ℕ, Ok};
+ghost use Rattle.program_model.specs.declared.program.Class.{Class};
+ghost use Rattle.program_model.specs.declared.program.Program.{Program};
+ghost use Rattle.program_model.specs.MemberRules.{types_of_class_fit, source_fits, fields_fit, methods_fit};
+ghost use Rattle.program_model.specs.ValueRules.{value_fits, marks_fit};
+ghost use Rattle.program_model.specs.declared.value.EncValue.{EncValue};
+ghost use Rattle.program_model.specs.declared.value.Mark.{Mark};
+ghost use Rattle.std.specs.List.{list_all};
+ghost use Rattle.dex_pools.specs.Value.{value_at};
+ghost use Rattle.dex_read.specs.Directory.{set_at, sets_at};
+ghost use Rattle.dex_read.specs.Tables.{sizes_in};
+ghost use Rattle.dex_read.specs.declared.members.Budget.{Budget};
+ghost use Rattle.dex_read.specs.Classes.{class_at};
+ghost use Rattle.read_laws.specs.Bodies.{body_and_lines_fit};
+
+/// A class that is read is no root, it, its superclass and its interfaces are class types, and its source is a string.
+pub fn class_types_law()
+    ensures types { (bytes : List ℕ) (p : Program) (at place : ℕ) (left : Budget) (r : Class × Budget) → class_at bytes p at place left ≡ Ok r → types_of_class_fit p r.0 ≡ true }
+    ensures source { (bytes : List ℕ) (p : Program) (at place : ℕ) (left : Budget) (r : Class × Budget) → class_at bytes p at place left ≡ Ok r → source_fits p r.0.source ≡ true }
+{}
+
+/// Values that are read name entries of the tables and nest as deep as they may; sets of annotations that are read, of a class, a
+/// member or its parameters, fit and ascend by type.
+pub fn marks_law()
+    ensures values { (depth : ℕ) (bytes : List ℕ) (p : Program) (s : ℕ × ℕ) (r : EncValue × (ℕ × ℕ)) → value_at depth bytes (sizes_in p) s ≡ Ok r → value_fits depth p r.0 ≡ true }
+    ensures sets { (bytes : List ℕ) (p : Program) (offset left : ℕ) (r : List Mark × ℕ) → set_at bytes p offset left ≡ Ok r → marks_fit p r.0 ≡ true }
+    ensures parameters { (bytes : List ℕ) (p : Program) (offset left : ℕ) (r : List (List Mark) × ℕ) → sets_at bytes p offset left ≡ Ok r → list_all (marks_fit p) r.0 ≡ true }
+{}
+
+/// The fields of a class that is read are its own, static ones first, ascend by number and are none twice; only static ones have
+/// first values, each of its field's type and none of them zero; and the annotations of the fields and of the class fit.
+pub fn fields_law()
+    ensures marks { (bytes : List ℕ) (p : Program) (at place : ℕ) (left : Budget) (r : Class × Budget) → class_at bytes p at place left ≡ Ok r → marks_fit p r.0.marks ≡ true }
+    ensures fields { (bytes : List ℕ) (p : Program) (at place : ℕ) (left : Budget) (r : Class × Budget) → class_at bytes p at place left ≡ Ok r → fields_fit p r.0.name r.0.fields ≡ true }
+{}
+
+/// The methods of a class that is read are its own, direct ones first, ascend by number and are none twice; they have code where they
+/// are neither abstract nor native, in a frame of their receiver and parameters, and their annotations fit. So they fit where their
+/// bodies and lines do.
+pub fn methods_law()
+    ensures { (bytes : List ℕ) (p : Program) (at place : ℕ) (left : Budget) (r : Class × Budget) → class_at bytes p at place left ≡ Ok r
+        → list_all (λ m. body_and_lines_fit p m.body m.lines) r.0.methods ≡ true → methods_fit p r.0.name r.0.methods ≡ true }
+{}

@@ -1,13 +1,12 @@
 -- Fields with their annotations and first values, as they are read.
-use Rattle.std.proofs.Common.{◌≡◌, ◌<◌, ℕ, zero, suc, ◌+◌, ◌*◌, Bool, true, false, cond, not, ltb, eqb, List, [], ◌∷◌, ◌++◌, map, length, Option, Some, None, Result, Ok, Err, refl, sym, ap, subst, ◌∙◌, arith}
-use Rattle.std.specs.Prelude.{◌&&◌, slice_get, pos}
+use Rattle.std.proofs.Common.{◌≡◌, ◌<◌, ℕ, zero, suc, Bool, true, false, cond, not, List, [], ◌∷◌, ◌++◌, map, length, Option, Some, None, Ok, refl, sym, ap, subst, ◌∙◌, arith}
+use Rattle.std.specs.Prelude.{slice_get}
 use Rattle.std.specs.List.{list_all}
-use Rattle.std.proofs.lemmas.Bool.{ltb-true, lt-ltb}
-use Rattle.dex_base.specs.Reading.{◌>>=◌, raise}
-use Rattle.program_model.specs.MemberRules.{is_static, field_letter, first_value_fits, fields_fit}
+use Rattle.std.proofs.lemmas.Bool.{ltb-true}
+use Rattle.dex_base.specs.Reading.{raise}
+use Rattle.program_model.specs.MemberRules.{is_static, field_letter, first_value_fits}
 use Rattle.program_model.specs.ValueRules.{marks_fit, names_fit, value_fits, layer_fits}
 use Rattle.program_model.specs.declared.limits.Counted.TheVariants.{Items}
-use Rattle.program_model.specs.declared.program.Class.{Class}
 use Rattle.program_model.specs.declared.program.Field.{Field}
 use Rattle.program_model.specs.declared.program.Program.{Program}
 use Rattle.program_model.specs.declared.value.EncValue.{EncValue, EncValue-F, out-EncValue}
@@ -16,21 +15,21 @@ use Rattle.program_model.specs.declared.value.Element.{Element}
 use Rattle.program_model.specs.declared.value.Mark.{Mark}
 use Rattle.program_model.specs.declared.value.Note.{Note}
 use Rattle.dex_pools.specs.Items.{spend}
-use Rattle.dex_pools.specs.Value.{value_at, whole_value_at}
-use Rattle.dex_read.specs.Classes.{begun_at, class_with}
+use Rattle.dex_pools.specs.Value.{whole_value_at}
+use Rattle.dex_read.specs.Classes.{begun_at}
 use Rattle.dex_read.specs.ClassData.{agree, field_suits}
-use Rattle.dex_read.specs.Directory.{with_marks, named_at, set_at, mark_field}
+use Rattle.dex_read.specs.Directory.{with_marks, named_at, mark_field}
 use Rattle.dex_read.specs.Faults.{of_pool}
 use Rattle.dex_read.specs.FirstValues.{layer_is_of, is_of, layer_is_zero, first_of, with_first, takes, give_first, firsts_at}
-use Rattle.dex_read.specs.Steps.{change_at, steps}
+use Rattle.dex_read.specs.Steps.{change_at}
 use Rattle.dex_read.specs.Tables.{sizes_in}
 use Rattle.dex_read.specs.Word.{number_at}
 use Rattle.dex_read.specs.declared.class_data.Listed.{Listed}
 use Rattle.dex_read.specs.declared.class_data.Members.{Members}
-use Rattle.read_laws.proofs.FieldReading.{FieldsAre, AreListed, static_own, own_field, change_keeps, change_all, reads_steps, all_more}
+use Rattle.read_laws.proofs.FieldReading.{FieldsAre, AreListed, own_field, change_keeps, change_all, reads_steps, all_more}
 use Rattle.read_laws.proofs.MarkReading.{reads_set, reads_value}
 use Rattle.read_laws.proofs.MemberOrder.{Own, own}
-use Rattle.read_laws.proofs.Readings.{Reads, anything, itself, weaker, done, failed, when, either, next, lifted, both, and}
+use Rattle.read_laws.proofs.Readings.{Reads, anything, weaker, done, when, either, next, lifted, both, and}
 
 -- ---- annotations
 

@@ -1,24 +1,27 @@
 -- The rules of a body, one by one, of a body that was read.
-use Rattle.std.proofs.Common.{◌≡◌, ℕ, ◌<◌, ◌-◌, Bool, true, false, List, [], ◌∷◌, length, refl, sym, subst}
-use Rattle.std.specs.Prelude.{◌&&◌, slice_get, Option, Some, None}
+use Rattle.std.proofs.Common.{◌≡◌, ℕ, ◌<◌, ◌≤◌, ◌-◌, arith, true, false, List, [], ◌∷◌, length, refl, sym, subst}
+use Rattle.std.specs.Prelude.{◌&&◌, ◌^◌, slice_get, Option, Some, None, Ok}
 use Rattle.std.specs.List.{list_all, enumerate_from}
 use Rattle.insn_set.specs.declared.form.Insn.{Insn}
 use Rattle.program_model.specs.Neighbours.{neighbours}
 use Rattle.program_model.specs.BodyRules as rule
 use Rattle.program_model.specs.RegionRules as region
 use Rattle.program_model.specs.declared.body.Body.{Body}
-use Rattle.code_read.specs.Checks.{operands_inside}
+use Rattle.code_read.specs.Checks.{operands_inside, targets_inside}
+use Rattle.code_read.specs.Positions.{nowhere}
 use Rattle.code_read.specs.Order as read
 use Rattle.code_read.specs.declared.sizes.Sizes.{Sizes}
-use Rattle.code_read.specs.Sweep.{Places}
+use Rattle.code_read.specs.Sweep.{Places, sweep_of}
 use Rattle.program_model.specs.OperandRules.{registers_fit, numbers_fit}
 use Rattle.program_model.specs.declared.program.Program.{Program}
 use Rattle.read_laws.specs.Tables.{AreSizes}
-use Rattle.read_laws.proofs.BodyLists.{clash, all_each, all_items, all_by}
+use Rattle.read_laws.proofs.BodyLists.{clash, all_each, all_items, all_by, item_of}
 use Rattle.read_laws.proofs.BodyParts.{Parts}
 use Rattle.read_laws.proofs.Caught.{all_right}
+use Rattle.read_laws.proofs.Fewer.{few_starts}
+use Rattle.read_laws.proofs.Leaving.{insn_leaves}
 use Rattle.read_laws.proofs.Covering.{regions_fit}
-use Rattle.read_laws.proofs.Operands.{are_read, as_many, operands_fit, each_inside}
+use Rattle.read_laws.proofs.Operands.{are_read, as_many, start_of, operands_fit, each_inside}
 use Rattle.read_laws.proofs.Standing.{first_begins, all_follow, targets_enter, all_caught}
 
 -- there is a first instruction where there is a last one
@@ -53,3 +56,11 @@ module _ {tries : List ℕ} {sizes : Sizes} {places : Places} {b : Body} (parts 
   pub body_regions : (p : Program) → AreSizes p sizes → region.regions_fit p b.insns b.regions ≡ true
   body_regions p is = regions_fit p sizes is b.insns b.regions places.starts
       (as_many places sizes places.starts b.insns ((are_read places sizes places.starts).found b.insns parts.insns)) parts.placed (all_right tries sizes places b.regions parts.regions)
+
+  leave_all : length b.insns ≤ nowhere → list_all (λ (at : ℕ × Insn). rule.leaves at.0 at.1) (enumerate_from 0 b.insns) ≡ true
+  leave_all few = all_each (λ (at : ℕ × Insn). rule.leaves at.0 at.1) b.insns (λ k i e.
+      let s = start_of places sizes places.starts b.insns ((are_read places sizes places.starts).found b.insns parts.insns) k i e in
+      insn_leaves places s.0 k (length b.insns) i s.1 few s.2 (item_of (targets_inside (length b.insns)) b.insns parts.inside k i e))
+
+  pub body_leaves : (units : List ℕ) → sweep_of units ≡ Ok places → length units < 2 ^ 32 → list_all (λ (at : ℕ × Insn). rule.leaves at.0 at.1) (enumerate_from 0 b.insns) ≡ true
+  body_leaves units swept few = leave_all (omega (arith, few, few_starts units places swept, as_many places sizes places.starts b.insns ((are_read places sizes places.starts).found b.insns parts.insns)))

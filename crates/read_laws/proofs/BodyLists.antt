@@ -1,6 +1,6 @@
 -- Tests of each item of a list with its place, and of each two items side by side; and readings one behind another.
 use Rattle.std.proofs.Common.{◌≡◌, ℕ, zero, suc, ◌+◌, ◌<◌, length, Bool, true, false, true≢false, List, [], ◌∷◌, refl, sym, ap, subst, ◌∙◌, arith}
-use Rattle.std.specs.Prelude.{◌&&◌, cond, slice_get, Option, Some, None, Result, Ok, Err}
+use Rattle.std.specs.Prelude.{◌&&◌, cond, slice_get, Some, None, Result, Ok, Err}
 use Rattle.std.specs.List.{list_all, enumerate_from}
 use Rattle.dex_base.specs.Reading.{◌>>=◌}
 use Rattle.program_model.specs.Neighbours.{neighbours}

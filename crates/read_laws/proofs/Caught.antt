@@ -1,12 +1,9 @@
 -- The regions that were read cover positions, lie one behind another and go on at positions where a handler may begin.
-use Rattle.std.proofs.Common.{◌≡◌, ℕ, zero, suc, ◌≤◌, ◌<◌, ◌+◌, ◌-◌, ◌*◌, Bool, true, false, cond, ltb, leb, eqb, List, [], ◌∷◌, length, drop, refl, sym, ap, subst, ◌∙◌, arith}
-use Rattle.std.specs.Prelude.{◌&&◌, ◌||◌, not, nat_eq, nat_lt, nat_le, is_some, ℤ, pos, negsuc, unsigned_abs, Option, Some, None, slice_get, position, Result, Ok, Err}
-use Rattle.std.specs.List.{list_all, list_any}
-use Rattle.std.specs.Int.Signed.{le_z}
+use Rattle.std.proofs.Common.{◌≡◌, ℕ, zero, suc, ◌≤◌, ◌<◌, ◌+◌, ◌-◌, ◌*◌, Bool, true, false, cond, ltb, eqb, List, [], ◌∷◌, length, drop, refl, ap, subst, ◌∙◌, arith}
+use Rattle.std.specs.Prelude.{◌&&◌, ◌||◌, not, nat_eq, nat_lt, nat_le, is_some, ℤ, pos, negsuc, unsigned_abs, Option, Some, None, slice_get, Result, Ok, Err}
+use Rattle.std.specs.List.{list_all}
 use Rattle.std.proofs.lemmas.Bool.{ltb-true, lt-ltb, leb-true, ne_eqb}
 use Rattle.std.proofs.lemmas.List.Quantifiers.{position-Some}
-use Rattle.insn_set.specs.declared.form.Insn.{Insn}
-use Rattle.program_model.specs.Neighbours.{neighbours}
 use Rattle.program_model.specs.RegionRules as rule
 use Rattle.program_model.specs.declared.body.Handler.{Handler}
 use Rattle.program_model.specs.declared.body.Region.{Region}
@@ -19,7 +16,7 @@ use Rattle.std.specs.Result.{result_ok}
 use Rattle.dex_base.specs.Word.{u16_at, u32_at}
 use Rattle.code_read.specs.declared.sizes.Sizes.{Sizes}
 use Rattle.code_read.specs.Sweep.{Places}
-use Rattle.read_laws.proofs.BodyLists.{clash, and_left, and_right, and_both, some_same, none_some, Found, weaker, done, failed, as_read, when, either, next}
+use Rattle.read_laws.proofs.BodyLists.{and_right, and_both, some_same, none_some, Found, weaker, done, failed, when, either, next}
 
 -- ---- look-ups that find something
 

@@ -1,10 +1,10 @@
 -- A class that is read: its parts, and its types and its source.
-use Rattle.std.proofs.Common.{◌≡◌, ◌≤◌, ◌<◌, ℕ, zero, suc, ◌+◌, ◌*◌, Bool, true, false, true≢false, cond, not, ltb, eqb, List, [], ◌∷◌, ◌++◌, map, length, min, Option, Some, None, Result, Ok, Err, refl, sym, ap, subst, ◌∙◌, arith}
+use Rattle.std.proofs.Common.{◌≡◌, ℕ, suc, ◌+◌, ◌*◌, Bool, true, false, cond, not, ltb, eqb, List, [], ◌∷◌, ◌++◌, map, length, min, Some, None, Ok, refl, sym, ap, subst, arith}
 use Rattle.std.specs.Prelude.{◌&&◌, ◌||◌}
 use Rattle.std.specs.List.{list_all}
 use Rattle.std.proofs.Math.Nat.{min-le_left}
 use Rattle.std.proofs.lemmas.Bool.{ltb-true, lt-ltb}
-use Rattle.program_model.specs.Texts.{has_string, has_type, letter_of, type_text, is_class}
+use Rattle.program_model.specs.Texts.{letter_of, type_text, is_class}
 use Rattle.program_model.specs.MemberRules.{is_class_type, is_object, types_of_class_fit, source_fits}
 use Rattle.program_model.specs.declared.program.Class.{Class}
 use Rattle.program_model.specs.declared.program.Field.{Field}
@@ -23,7 +23,7 @@ use Rattle.dex_read.specs.Faults.{of_pool}
 use Rattle.dex_read.specs.Tables.{sizes_in}
 use Rattle.dex_pools.specs.Word.{half_at, half_index_at}
 use Rattle.dex_read.specs.Word.{word_at}
-use Rattle.read_laws.proofs.Readings.{Reads, anything, itself, weaker, done, failed, when, either, next, lifted, reads_run, both, and}
+use Rattle.read_laws.proofs.Readings.{Reads, anything, itself, weaker, done, when, either, next, lifted, reads_run, both, and}
 
 -- ---- the parts of a class that is read
 

@@ -1,25 +1,17 @@
 -- The members of class data as they are read, and fields with their annotations and first values.
-use Rattle.std.proofs.Common.{◌≡◌, ◌≤◌, ◌<◌, ℕ, zero, suc, ◌+◌, ◌*◌, Bool, true, false, cond, not, ltb, eqb, List, [], ◌∷◌, ◌++◌, map, length, Option, Some, None, is_none, Result, Ok, Err, refl, sym, ap, subst, ◌∙◌, arith}
-use Rattle.std.specs.Prelude.{◌&&◌, slice_get, pos}
+use Rattle.std.proofs.Common.{◌≡◌, ℕ, zero, suc, Bool, true, false, List, [], ◌∷◌, ◌++◌, map, Some, is_none, Result, Ok, refl, sym, ap, subst, ◌∙◌}
+use Rattle.std.specs.Prelude.{slice_get}
 use Rattle.std.specs.List.{list_all}
-use Rattle.std.specs.Ordering.{int_eq}
-use Rattle.std.proofs.lemmas.Bool.{ltb-true}
 use Rattle.std.proofs.lemmas.List.Folds.{list_all-map, list_all-append}
-use Rattle.dex_base.specs.Reading.{◌>>=◌, raise}
 use Rattle.program_model.specs.Neighbours.{neighbours}
 use Rattle.program_model.specs.Distinct.{own_field_key, all_differ, differ_from}
-use Rattle.program_model.specs.MemberRules.{is_static, class_of_field, is_class_number, field_letter, first_value_fits, field_fits, fields_in_order, fields_fit}
-use Rattle.program_model.specs.ValueRules.{marks_fit, first_fits}
+use Rattle.program_model.specs.MemberRules.{is_static, class_of_field, is_class_number, first_value_fits, field_fits, fields_in_order, fields_fit}
+use Rattle.program_model.specs.ValueRules.{marks_fit}
 use Rattle.program_model.specs.declared.program.Field.{Field}
-use Rattle.program_model.specs.declared.program.Method.{Method}
 use Rattle.program_model.specs.declared.program.Program.{Program}
-use Rattle.program_model.specs.declared.value.Mark.{Mark}
-use Rattle.dex_pools.specs.Finds.{RunOf}
-use Rattle.dex_pools.specs.Run.{run}
 use Rattle.dex_read.proofs.Rising.{fields_ascend, methods_ascend, none_ascends}
-use Rattle.dex_read.proofs.Changes.{map_both}
 use Rattle.dex_read.specs.Ascending.{Ascends}
-use Rattle.dex_read.specs.ClassData.{agree, place_in, field_entry_at, method_entry_at, field_suits, method_suits, is_direct_entry, suits, field_at, method_at, fields_at, methods_at, members_at}
+use Rattle.dex_read.specs.ClassData.{agree, place_in, field_entry_at, method_entry_at, field_suits, method_suits, field_at, method_at, fields_at, methods_at, members_at}
 use Rattle.dex_read.specs.Classes.{field_with, no_members}
 use Rattle.dex_read.specs.Classes as classes
 use Rattle.dex_read.specs.Steps.{change_at, steps}
@@ -27,11 +19,10 @@ use Rattle.dex_read.specs.Tables.{sizes_in}
 use Rattle.dex_read.specs.Word.{number_at}
 use Rattle.dex_read.specs.declared.class_data.Listed.{Listed}
 use Rattle.dex_read.specs.declared.class_data.Members.{Members}
-use Rattle.dex_read.specs.declared.fault.DexFault.{DexFault}
 use Rattle.dex_read.specs.declared.members.Owner.{Owner}
 use Rattle.read_laws.proofs.ClassReading.{all_of}
 use Rattle.read_laws.proofs.MemberOrder.{Own, own, key, grouped, Group, Apart, two_groups, lists_differ, map_neighbours, map_differ}
-use Rattle.read_laws.proofs.Readings.{Reads, anything, itself, weaker, done, failed, when, either, next, lifted, reads_run, both, and}
+use Rattle.read_laws.proofs.Readings.{Reads, anything, weaker, done, when, either, next, reads_run, both, and}
 
 -- ---- entries
 

@@ -10,8 +10,10 @@ pub mod Conjuncts
 pub mod Counting
 pub mod Covering
 pub mod Differing
+pub mod Fewer
 pub mod FieldReading
 pub mod Fitting
+pub mod Leaving
 pub mod MarkReading
 pub mod MemberOrder
 pub mod MemberReading

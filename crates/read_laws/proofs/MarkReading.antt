@@ -1,10 +1,10 @@
 -- Values and annotations that are read fit.
-use Rattle.std.proofs.Common.{◌≡◌, ℕ, zero, suc, ◌+◌, ◌*◌, ◌/◌, ◌%◌, Bool, true, false, cond, ltb, eqb, List, [], ◌∷◌, length, min, Result, Ok, Err, refl, sym, ap, subst, ◌∙◌}
-use Rattle.std.specs.Prelude.{◌&&◌, ◌==◌, Option, Some, None}
+use Rattle.std.proofs.Common.{◌≡◌, ℕ, zero, suc, ◌+◌, ◌*◌, ◌/◌, ◌%◌, Bool, true, false, cond, ltb, List, [], ◌∷◌, length, Result, Ok, Err, refl, sym, ap, subst}
+use Rattle.std.specs.Prelude.{◌&&◌, ◌==◌, Some}
 use Rattle.std.specs.Int.{w32}
 use Rattle.std.specs.List.{list_all}
 use Rattle.std.proofs.lemmas.Bool.{eqb-true}
-use Rattle.dex_base.specs.Reading.{◌>>=◌, raise}
+use Rattle.dex_base.specs.Reading.{◌>>=◌}
 use Rattle.program_model.specs.Neighbours.{neighbours}
 use Rattle.program_model.specs.ValueRules.{element_fits, named_in_order, note_fits, names_fit, value_fits, mark_fits, typed_in_order, marks_fit}
 use Rattle.program_model.specs.declared.limits.Counted.TheVariants.{Items}
@@ -13,14 +13,12 @@ use Rattle.program_model.specs.declared.value.EncValue.{EncValue, EncValue-F, ou
 use Rattle.program_model.specs.declared.value.EncValue.TheOpen as layer
 use Rattle.program_model.specs.declared.value.EncValue.TheVariants as value
 use Rattle.program_model.specs.declared.value.Element.{Element}
-use Rattle.program_model.specs.declared.value.Note.{Note, Note-F, out-Note, roll-Note, out-roll-Note}
+use Rattle.program_model.specs.declared.value.Note.{Note, Note-F, roll-Note, out-roll-Note}
 use Rattle.program_model.specs.declared.value.Mark.{Mark}
-use Rattle.dex_pools.specs.Finds.{RunOf}
 use Rattle.dex_pools.specs.Items.{spend, count_at}
 use Rattle.dex_pools.specs.Marks.{mark_below, mark_at, marked_at, marks_at, parameter_at, parameters_marks_at}
-use Rattle.dex_pools.specs.Order.{is_above, ascends_from, ascends_in}
-use Rattle.dex_pools.specs.Run.{run}
-use Rattle.dex_pools.specs.Value.{byte_at, few_at, number_index_at, numeric, naming, size_for, named_at, scalar_at, zero_extended, counted, array_in, element_below, element_in, note_in, of_kind, is_within, most_argument, value_in, value_at, whole_value_at, whole_note_at}
+use Rattle.dex_pools.specs.Order.{ascends_from, ascends_in}
+use Rattle.dex_pools.specs.Value.{byte_at, few_at, number_index_at, numeric, naming, size_for, named_at, scalar_at, zero_extended, counted, array_in, element_below, element_in, note_in, of_kind, value_in, value_at, whole_note_at}
 use Rattle.dex_pools.specs.Word.{word_at, number_at}
 use Rattle.dex_pools.specs.declared.fault.PoolFault.{PoolFault}
 use Rattle.dex_pools.specs.declared.fault.Table.{Table}
@@ -29,7 +27,7 @@ use Rattle.dex_read.specs.Directory.{set_at, sets_at}
 use Rattle.dex_read.specs.Faults.{of_pool}
 use Rattle.dex_read.specs.Tables.{sizes_in}
 use Rattle.read_laws.proofs.ClassReading.{in_table, all_of}
-use Rattle.read_laws.proofs.Readings.{Reads, anything, itself, weaker, done, failed, when, either, next, lifted, reads_run, both, and}
+use Rattle.read_laws.proofs.Readings.{Reads, anything, itself, weaker, done, failed, when, either, next, lifted, reads_run, and}
 
 -- ---- lists that ascend
 

@@ -1,29 +1,26 @@
 -- The members of a class that is read fit the rules.
-use Rattle.std.proofs.Common.{◌≡◌, ℕ, ◌+◌, ◌*◌, Bool, true, List, [], ◌++◌, map, length, Result, Ok, Err, refl, sym, ap, subst}
+use Rattle.std.proofs.Common.{◌≡◌, ℕ, ◌+◌, ◌*◌, true, List, [], ◌++◌, map, Ok, sym, subst}
 use Rattle.std.specs.List.{list_all}
-use Rattle.dex_base.specs.Reading.{◌>>=◌}
-use Rattle.program_model.specs.MemberRules.{fields_fit, methods_fit}
+use Rattle.program_model.specs.MemberRules.{fields_fit, methods_fit, class_fits}
 use Rattle.program_model.specs.ValueRules.{marks_fit}
 use Rattle.program_model.specs.declared.program.Class.{Class}
 use Rattle.program_model.specs.declared.program.Field.{Field}
 use Rattle.program_model.specs.declared.program.Method.{Method}
 use Rattle.program_model.specs.declared.program.Program.{Program}
 use Rattle.dex_read.specs.Classes.{field_with, marked_at, class_at}
-use Rattle.dex_read.specs.Directory.{Marked, marked, set_at, mark_field, mark_method, mark_parameters, directory_at}
+use Rattle.dex_read.specs.Directory.{Marked, marked, mark_field, mark_method, mark_parameters, directory_at}
 use Rattle.dex_read.specs.Header.{need_at}
-use Rattle.dex_read.specs.Steps.{steps}
 use Rattle.dex_read.specs.Word.{word_at}
-use Rattle.dex_read.specs.declared.class_data.Listed.{Listed}
 use Rattle.dex_read.specs.declared.class_data.Members.{Members}
 use Rattle.dex_read.specs.declared.members.Budget.{Budget}
 use Rattle.read_laws.specs.Bodies.{body_and_lines_fit}
 use Rattle.read_laws.proofs.Beginning.{reads_mark_field, reads_begun}
-use Rattle.read_laws.proofs.ClassReading.{IsRead, class_read}
+use Rattle.read_laws.proofs.ClassReading.{IsRead, class_read, types_fit, source_is}
 use Rattle.read_laws.proofs.FieldReading.{AreListed, FieldsAre, no_marks, own_fields, plain_fields, fields_that_are, reads_listed, reads_steps}
 use Rattle.read_laws.proofs.MarkReading.{reads_set}
 use Rattle.read_laws.proofs.MemberOrder.{Own, own}
 use Rattle.read_laws.proofs.MethodReading.{MethodsAre, reads_mark_method, reads_mark_parameters, reads_methods_of, methods_that_are}
-use Rattle.read_laws.proofs.Readings.{Reads, anything, itself, weaker, done, failed, when, either, next}
+use Rattle.read_laws.proofs.Readings.{Reads, anything, weaker, done, either, next, and}
 
 record IsMarked (p : Program) (xs ys : List Own) (m : Marked) : Type 0 where
   marks : marks_fit p m.marks ≡ true
@@ -88,3 +85,11 @@ fields_are bytes p at place left r h = (members_are bytes p at place left r ((cl
 pub methods_are : (bytes : List ℕ) (p : Program) (at place : ℕ) (left : Budget) (r : Class × Budget) → class_at bytes p at place left ≡ Ok r
     → list_all (λ m. body_and_lines_fit p m.body m.lines) r.0.methods ≡ true → methods_fit p r.0.name r.0.methods ≡ true
 methods_are bytes p at place left r h = (members_are bytes p at place left r ((class_read bytes p at place left).found r h)).methods
+
+pub class_is : (bytes : List ℕ) (p : Program) (at place : ℕ) (left : Budget) (r : Class × Budget) → class_at bytes p at place left ≡ Ok r
+    → list_all (λ m. body_and_lines_fit p m.body m.lines) r.0.methods ≡ true → class_fits p r.0 ≡ true
+unfolding class_fits
+class_is bytes p at place left r h bodies =
+    let q : IsRead bytes p at place left r = (class_read bytes p at place left).found r h in
+    let m : Fit p r.0 = members_are bytes p at place left r q in
+    and _ _ (and _ _ (types_fit bytes p at place left r q) (and _ _ (source_is bytes p at place left r q) m.marks)) (and _ _ m.fields (m.methods bodies))

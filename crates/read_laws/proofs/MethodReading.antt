@@ -1,19 +1,15 @@
 -- Methods as they are read, and the directory of annotations.
-use Rattle.std.proofs.Common.{◌≡◌, ℕ, zero, suc, ◌+◌, ◌*◌, Bool, true, false, cond, not, ltb, leb, eqb, List, [], ◌∷◌, ◌++◌, map, length, drop, Option, Some, None, is_none, Result, Ok, Err, refl, sym, ap, subst, ◌∙◌}
+use Rattle.std.proofs.Common.{◌≡◌, ℕ, Bool, true, false, not, leb, List, [], ◌∷◌, ◌++◌, map, drop, Option, Some, None, is_none, Ok, refl, sym, ap, subst, ◌∙◌}
 use Rattle.std.specs.Prelude.{◌&&◌, ◌||◌, ◌==◌, slice_get}
 use Rattle.std.specs.List.{list_all}
 use Rattle.std.proofs.lemmas.List.Folds.{list_all-map, list_all-append}
-use Rattle.dex_base.specs.Reading.{◌>>=◌, raise}
 use Rattle.program_model.specs.Neighbours.{neighbours}
 use Rattle.program_model.specs.Distinct.{own_method_key, all_differ, differ_from}
 use Rattle.program_model.specs.LineRules.{lines_fit}
 use Rattle.program_model.specs.Texts.{first_unit}
-use Rattle.program_model.specs.Items.{body_items}
-use Rattle.program_model.specs.BodyRules.{body_fits}
 use Rattle.program_model.specs.MemberRules.{is_static, is_private, lacks_code, class_of_method, is_class_number, name_of_method, is_direct, proto_of, takes_words, frame_fits, code_fits, method_fits, methods_in_order, methods_fit}
 use Rattle.program_model.specs.ValueRules.{marks_fit}
 use Rattle.program_model.specs.declared.body.Body.{Body}
-use Rattle.program_model.specs.declared.program.Field.{Field}
 use Rattle.program_model.specs.declared.program.Method.{Method}
 use Rattle.program_model.specs.declared.program.Program.{Program}
 use Rattle.program_model.specs.declared.value.Mark.{Mark}
@@ -26,8 +22,8 @@ use Rattle.code_read.specs.declared.sizes.Sizes.{Sizes}
 use Rattle.dex_read.specs.ClassData.{agree, method_suits, is_direct_entry, place_in}
 use Rattle.dex_read.specs.Classes.{methods_of}
 use Rattle.dex_read.specs.Code.{item_at, frame_at, units_at, body_at, sizes_for, of_code, lined_at, cells_with, method_with, coded_at, method_at}
-use Rattle.dex_read.specs.Directory.{with_own_marks, with_parameter_marks, named_at, set_at, sets_at, mark_method, mark_parameters}
-use Rattle.dex_read.specs.Steps.{change_at, steps, for_each}
+use Rattle.dex_read.specs.Directory.{with_own_marks, with_parameter_marks, named_at, mark_method, mark_parameters}
+use Rattle.dex_read.specs.Steps.{change_at, for_each}
 use Rattle.dex_read.specs.Tables.{sizes_in}
 use Rattle.dex_read.specs.declared.class_data.Listed.{Listed}
 use Rattle.dex_read.specs.declared.class_data.Members.{Members}
@@ -37,7 +33,7 @@ use Rattle.read_laws.specs.Bodies.{body_and_lines_fit}
 use Rattle.read_laws.proofs.FieldReading.{AreListed, change_keeps, change_all, all_more, no_marks}
 use Rattle.read_laws.proofs.MarkReading.{reads_set, reads_sets}
 use Rattle.read_laws.proofs.MemberOrder.{Own, own, key, grouped, Group, Apart, two_groups, lists_differ, map_neighbours, map_differ}
-use Rattle.read_laws.proofs.Readings.{Reads, anything, itself, weaker, done, failed, when, either, next, lifted, both, and}
+use Rattle.read_laws.proofs.Readings.{Reads, anything, weaker, done, when, either, next, lifted, both, and}
 
 abbrev pub own_method : Method → Own
 own_method m = (m.name, m.flags)

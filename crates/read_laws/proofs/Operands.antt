@@ -1,19 +1,18 @@
 -- The registers and the numbers of the instructions that were read are in range.
-use Rattle.std.proofs.Common.{◌≡◌, ℕ, zero, suc, Bool, true, false, cond, List, [], ◌∷◌, length, refl, sym, ap, subst, ◌∙◌}
-use Rattle.std.specs.Prelude.{◌&&◌, nat_lt, slice_get, Option, Some, None, Result, Ok, Err}
+use Rattle.std.proofs.Common.{◌≡◌, ℕ, zero, suc, Bool, true, false, List, [], ◌∷◌, length, refl, sym, ap, subst, ◌∙◌}
+use Rattle.std.specs.Prelude.{◌&&◌, nat_lt, slice_get, Some, Ok}
 use Rattle.std.specs.List.{list_all}
 use Rattle.insn_set.specs.declared.form.Insn.{Insn}
-use Rattle.insn_set.specs.declared.form.Insn.TheVariants.{Move, MoveResult, MoveException, Return, Const, ConstWide, ConstString, ConstClass, MonitorEnter, MonitorExit, CheckCast, InstanceOf, ArrayLength, NewInstance, NewArray, FilledNewArray, FillArray, Throw, PackedSwitch, SparseSwitch, Cmp, If, IfZero, ArrayGet, ArrayPut, InstanceGet, InstancePut, StaticGet, StaticPut, Invoke, Unary, Binary, Literal}
+use Rattle.insn_set.specs.declared.form.Insn.TheVariants.{Move, MoveResult, Return, ConstWide, ConstString, ConstClass, CheckCast, InstanceOf, NewInstance, NewArray, FilledNewArray, Cmp, ArrayGet, ArrayPut, InstanceGet, InstancePut, StaticGet, StaticPut, Invoke, Unary, Binary}
 use Rattle.insn_set.specs.Widths.{is_wide_slot, is_wide_item, compares_wide, unary_reads_wide, unary_writes_wide, binary_is_wide, second_is_wide}
 use Rattle.program_model.specs.OperandRules as rule
 use Rattle.program_model.specs.declared.program.Program.{Program}
-use Rattle.code_read.specs.declared.fault.CodeFault.{CodeFault}
 use Rattle.code_read.specs.declared.sizes.Sizes.{Sizes}
 use Rattle.code_read.specs.Checks as read
 use Rattle.code_read.specs.Decoded.{insn_at, checked_at, insns_from, insns_of}
 use Rattle.code_read.specs.Sweep.{Places}
 use Rattle.read_laws.specs.Tables.{AreSizes}
-use Rattle.read_laws.proofs.BodyLists.{and_left, and_right, and_both, some_same, none_some, Found, weaker, done, as_read, when, next}
+use Rattle.read_laws.proofs.BodyLists.{and_both, some_same, none_some, Found, weaker, done, as_read, when, next}
 
 -- ---- the checks of the reader are the rules
 

@@ -1,7 +1,6 @@
 -- How readings are put together of whose results something is known.
-use Rattle.std.proofs.Common.{◌≡◌, ℕ, zero, suc, Bool, true, false, cond, List, [], ◌∷◌, Result, Ok, Err, refl, sym, ap, subst}
+use Rattle.std.proofs.Common.{◌≡◌, ℕ, zero, suc, Bool, true, false, cond, List, [], ◌∷◌, Result, Ok, Err, refl, sym, subst}
 use Rattle.std.specs.Prelude.{◌&&◌}
-use Rattle.std.specs.List.{AllByRecursion}
 use Rattle.dex_base.specs.Reading.{◌>>=◌, raise}
 use Rattle.dex_base.proofs.Decides.{ok_is, not_both}
 use Rattle.dex_pools.specs.Finds.{RunOf}

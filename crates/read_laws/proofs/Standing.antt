@@ -1,10 +1,10 @@
 -- What moves of results and exceptions stand where they may gives of the rules of a body.
 use Rattle.std.proofs.Common.{◌≡◌, ℕ, zero, suc, ◌<◌, ◌-◌, Bool, true, false, cond, List, [], ◌∷◌, length, refl, sym, ap, subst, ◌∙◌, arith}
-use Rattle.std.specs.Prelude.{◌&&◌, ◌||◌, not, nat_eq, nat_lt, replicate, slice_get, Option, Some, None}
-use Rattle.std.specs.List.{list_all, list_any, enumerate_from}
+use Rattle.std.specs.Prelude.{◌||◌, not, nat_eq, nat_lt, replicate, slice_get, Option, Some, None}
+use Rattle.std.specs.List.{list_all, list_any}
 use Rattle.std.proofs.lemmas.Option.{slice_get_within}
 use Rattle.std.proofs.lemmas.Bool.{ltb-true, eq-eqb, ne_eqb}
-use Rattle.insn_set.specs.Flow.{goes_on, targets_of}
+use Rattle.insn_set.specs.Flow.{targets_of}
 use Rattle.insn_set.specs.declared.form.Insn.{Insn}
 use Rattle.insn_set.specs.declared.form.Insn.TheVariants.{MoveResult, MoveException}
 use Rattle.program_model.specs.Neighbours.{neighbours}
@@ -16,7 +16,7 @@ use Rattle.code_read.specs.Checks.{targets_inside}
 use Rattle.code_read.specs.Marks.{set_targets, set_regions, is_marked, goes_to, is_target, is_rest, catches_at, is_handler}
 use Rattle.code_read.specs.Order as read
 use Rattle.code_read.proofs.MarkLaws.{targets_say, handlers_say}
-use Rattle.read_laws.proofs.BodyLists.{clash, and_left, and_right, and_both, some_same, none_some, none_there, each, all_each, item_of, all_items, pairs_of}
+use Rattle.read_laws.proofs.BodyLists.{clash, and_left, and_right, some_same, none_some, none_there, each, item_of, all_items, pairs_of}
 
 not_true : (b : Bool) → not b ≡ true → b ≡ false
 not_true true e = sym e

@@ -1,8 +1,8 @@
 //! Laws of the bodies that the reader of code gives: each of them is one that a program may have.
 
-ghost use Rattle.std.specs.Prelude.{◌≡◌, ◌-◌, ◌&&◌, List, ℕ, length, true, slice_get, Ok};
+ghost use Rattle.std.specs.Prelude.{◌≡◌, ◌-◌, ◌&&◌, ◌<◌, ◌^◌, List, ℕ, length, true, slice_get, Ok};
 ghost use Rattle.std.specs.List.{list_all, enumerate_from};
-ghost use Rattle.program_model.specs.BodyRules.{ends, follows, targets_fit, is_caught};
+ghost use Rattle.program_model.specs.BodyRules.{ends, follows, targets_fit, leaves, is_caught};
 ghost use Rattle.program_model.specs.Neighbours.{neighbours};
 ghost use Rattle.program_model.specs.RegionRules.{may_begin, regions_fit};
 ghost use Rattle.program_model.specs.OperandRules.{registers_fit, numbers_fit};
@@ -51,4 +51,10 @@ pub fn operands_law()
 pub fn regions_law()
     ensures { (p : program.Program) (units tries starts : List ℕ) (sizes : sizes.Sizes) (body : body.Body) → AreSizes p sizes → code_of units tries sizes ≡ Ok (body, starts)
         → regions_fit p body.insns body.regions ≡ true }
+{}
+
+/// No conditional branch of a body that is read goes to its own position.
+pub fn leaves_law()
+    ensures { (units tries starts : List ℕ) (sizes : sizes.Sizes) (body : body.Body) → length units < 2 ^ 32 → code_of units tries sizes ≡ Ok (body, starts)
+        → list_all (λ at. leaves at.0 at.1) (enumerate_from 0 body.insns) ≡ true }
 {}

@@ -3,7 +3,7 @@
 ghost use Rattle.std.specs.Prelude.{◌≡◌, Bool, true, List, ℕ, Ok};
 ghost use Rattle.program_model.specs.declared.program.Class.{Class};
 ghost use Rattle.program_model.specs.declared.program.Program.{Program};
-ghost use Rattle.program_model.specs.MemberRules.{types_of_class_fit, source_fits, fields_fit, methods_fit};
+ghost use Rattle.program_model.specs.MemberRules.{types_of_class_fit, source_fits, fields_fit, methods_fit, class_fits};
 ghost use Rattle.program_model.specs.ValueRules.{value_fits, marks_fit};
 ghost use Rattle.program_model.specs.declared.value.EncValue.{EncValue};
 ghost use Rattle.program_model.specs.declared.value.Mark.{Mark};
@@ -42,4 +42,10 @@ pub fn fields_law()
 pub fn methods_law()
     ensures { (bytes : List ℕ) (p : Program) (at place : ℕ) (left : Budget) (r : Class × Budget) → class_at bytes p at place left ≡ Ok r
         → list_all (λ m. body_and_lines_fit p m.body m.lines) r.0.methods ≡ true → methods_fit p r.0.name r.0.methods ≡ true }
+{}
+
+/// A class that is read fits where the bodies and the lines of its methods do.
+pub fn class_law()
+    ensures { (bytes : List ℕ) (p : Program) (at place : ℕ) (left : Budget) (r : Class × Budget) → class_at bytes p at place left ≡ Ok r
+        → list_all (λ m. body_and_lines_fit p m.body m.lines) r.0.methods ≡ true → class_fits p r.0 ≡ true }
 {}

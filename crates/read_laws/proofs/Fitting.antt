@@ -1,34 +1,123 @@
--- A body that was read is one that a program may have, where its instructions have spellings.
-use Rattle.std.proofs.Common.{◌≡◌, ℕ, ◌<◌, ◌-◌, true, List, length}
-use Rattle.std.specs.Prelude.{◌&&◌, ◌^◌, slice_get, Some, Ok}
-use Rattle.std.specs.List.{list_all, enumerate_from}
-use Rattle.insn_set.specs.Spelling.{is_encodable}
-use Rattle.insn_set.specs.declared.form.Insn.{Insn}
-use Rattle.program_model.specs.Neighbours.{neighbours}
-use Rattle.program_model.specs.OperandRules.{registers_fit, numbers_fit}
-use Rattle.program_model.specs.RegionRules.{may_begin, regions_fit}
-use Rattle.program_model.specs.BodyRules.{ends, follows, targets_fit, leaves, is_caught, insn_fits, body_fits}
-use Rattle.program_model.specs.declared.body.Body.{Body}
+-- Entries of the tables that are read fit.
+use Rattle.std.proofs.Common.{◌≡◌, ℕ, zero, suc, ◌+◌, ◌*◌, ◌<◌, List, [], ◌∷◌, length, map, get_or, slice_get, Bool, true, false, Result, refl, sym, ap, ◌∙◌, nat_eq, true≢false, if◌then◌else◌, arith}
+use Rattle.std.specs.Prelude.{◌&&◌, not, nat_lt, slice_index, is_ok}
+use Rattle.std.specs.List.{list_all, zip}
+use Rattle.std.proofs.lemmas.Bool.{eqb-true, eq-eqb, lt-ltb}
+use Rattle.dex_base.specs.declared.descriptor.Descriptor.{Descriptor}
+use Rattle.dex_base.specs.declared.fault.BaseFault.{BaseFault}
+use Rattle.dex_base.specs.Descriptor.{descriptor_of}
+use Rattle.dex_base.proofs.DescriptorReading.{is_descriptor}
+use Rattle.program_model.specs.Texts.{has_string, has_type, has_proto, string_text, first_unit, text_or_none, type_text, letter_of, is_void}
+use Rattle.program_model.specs.TableRules.{type_fits, stands_for, stands_for_parameter, is_shorty, proto_fits, field_id_fits, method_id_fits}
+use Rattle.program_model.specs.declared.pools.Proto.{Proto}
+use Rattle.program_model.specs.declared.pools.FieldName.{FieldName}
+use Rattle.program_model.specs.declared.pools.MethodName.{MethodName}
 use Rattle.program_model.specs.declared.program.Program.{Program}
-use Rattle.code_read.specs.declared.sizes.Sizes.{Sizes}
-use Rattle.code_read.specs.Sweep.{Places, sweep_of}
-use Rattle.read_laws.specs.Tables.{AreSizes}
-use Rattle.read_laws.proofs.BodyLists.{and_both, each, item_of, all_each}
-use Rattle.read_laws.proofs.BodyParts.{Parts}
-use Rattle.read_laws.proofs.BodyLaws.{body_ends, body_begins, body_follows, body_targets, body_catches, body_operands, body_regions, body_leaves}
+use Rattle.dex_pools.specs.declared.header.Extents.{Extents}
+use Rattle.dex_pools.specs.Tables.{text_of, letters_of, spells_one, spells_all, spells_shorty}
+use Rattle.dex_pools.specs.Tables as pool
+use Rattle.dex_pools.specs.Spelled.{IsHalfIndex, IsType, AreParameters, IsProto, IsField, IsMethod}
+use Rattle.read_laws.proofs.Booleans.{parts, both, denied, each_passes}
 
-pub fits : {tries : List ℕ} {sizes : Sizes} {places : Places} {b : Body} (parts : Parts tries sizes places b) (p : Program) → AreSizes p sizes → (units : List ℕ) → sweep_of units ≡ Ok places → length units < 2 ^ 32
-    → list_all is_encodable b.insns ≡ true → body_fits p b ≡ true
-unfolding body_fits insn_fits
-fits {b = b} parts p is units swept few spelled =
-    let one : (k : ℕ) (i : Insn) → slice_get b.insns k ≡ Some i → insn_fits p b (k, i) ≡ true = λ k i e.
-    and_both (is_encodable i && (registers_fit i b.registers && numbers_fit i p)) (targets_fit b.insns i && (leaves k i && is_caught b.regions k i))
-    (and_both (is_encodable i) (registers_fit i b.registers && numbers_fit i p) (item_of is_encodable b.insns spelled k i e)
-    (item_of (λ (insn : Insn). registers_fit insn b.registers && numbers_fit insn p) b.insns (body_operands parts p is) k i e))
-    (and_both (targets_fit b.insns i) (leaves k i && is_caught b.regions k i) (item_of (targets_fit b.insns) b.insns (body_targets parts) k i e)
-    (and_both (leaves k i) (is_caught b.regions k i) (each (λ (at : ℕ × Insn). leaves at.0 at.1) b.insns (body_leaves parts units swept few) k i e)
-    (each (λ (at : ℕ × Insn). is_caught b.regions at.0 at.1) b.insns (body_catches parts) k i e))) in
-    and_both (may_begin (slice_get b.insns 0) && ends (slice_get b.insns (length b.insns - 1))) (list_all follows (neighbours b.insns) && (list_all (insn_fits p b) (enumerate_from 0 b.insns) && regions_fit p b.insns b.regions))
-    (and_both (may_begin (slice_get b.insns 0)) (ends (slice_get b.insns (length b.insns - 1))) (body_begins parts) (body_ends parts))
-    (and_both (list_all follows (neighbours b.insns)) (list_all (insn_fits p b) (enumerate_from 0 b.insns) && regions_fit p b.insns b.regions) (body_follows parts)
-    (and_both (list_all (insn_fits p b) (enumerate_from 0 b.insns)) (regions_fit p b.insns b.regions) (all_each (insn_fits p b) b.insns one) (body_regions parts p is)))
+-- ---- letters
+
+-- how a shorty spells a type with this first letter
+abbrev spelled : ℕ → ℕ
+spelled letter = if nat_eq letter 91 then 76 else letter
+
+spelled_text : (text : List ℕ) → pool.letter_of text ≡ spelled (first_unit text)
+spelled_text [] = refl
+spelled_text (unit ∷ units) = refl
+
+spelled_in : (p : Program) (types : List ℕ) (kind : ℕ) → get_or (map (λ i. pool.letter_of (text_of p.strings i)) types) kind 0 ≡ spelled (first_unit (text_or_none p (slice_get types kind)))
+spelled_in p [] kind = refl
+spelled_in p (t ∷ types) zero = spelled_text (string_text p t)
+spelled_in p (t ∷ types) (suc kind) = spelled_in p types kind
+
+spelled_is : (p : Program) (kind : ℕ) → slice_index (letters_of p.strings p.types) kind ≡ spelled (letter_of p kind)
+unfolding letter_of type_text
+spelled_is p kind = spelled_in p p.types kind
+
+-- ---- shorties
+
+stands_by : (array : Bool) (unit letter : ℕ) → nat_eq unit (if array then 76 else letter) ≡ true → (if array then nat_eq unit 76 else nat_eq unit letter) ≡ true
+stands_by true unit letter h = h
+stands_by false unit letter h = h
+
+stands : (unit letter : ℕ) → nat_eq unit (spelled letter) ≡ true → stands_for unit letter ≡ true
+stands unit letter h = stands_by (nat_eq letter 91) unit letter h
+
+unless : (b : Bool) → (if b then false else true) ≡ true → b ≡ false
+unless true h = absurd (true≢false (sym h))
+unless false h = refl
+
+parameter_stands : (p : Program) (unit kind : ℕ) → spells_one (letters_of p.strings p.types) unit kind ≡ true → stands_for_parameter p (unit, kind) ≡ true
+parameter_stands p unit kind h =
+    let letter = letter_of p kind in
+    let q = parts (nat_eq unit (slice_index (letters_of p.strings p.types) kind)) (if nat_eq unit 86 then false else true) h in
+    let is : unit ≡ spelled letter = eqb-true unit (slice_index (letters_of p.strings p.types) kind) q.0 ∙ spelled_is p kind in
+    both (stands_for unit letter) (not (is_void letter)) (stands unit letter (eq-eqb unit (spelled letter) is))
+    (denied (is_void letter) (λ v. true≢false (sym (eq-eqb unit 86 (is ∙ ap spelled (eqb-true letter 86 v))) ∙ unless (nat_eq unit 86) q.1)))
+
+all_stand : (p : Program) (units kinds : List ℕ) → spells_all (letters_of p.strings p.types) units kinds ≡ true → (nat_eq (length units) (length kinds) && list_all (stands_for_parameter p) (zip units kinds)) ≡ true
+all_stand p [] [] h = refl
+all_stand p (unit ∷ units) (kind ∷ kinds) h =
+    let q = parts (spells_one (letters_of p.strings p.types) unit kind) (spells_all (letters_of p.strings p.types) units kinds) h in
+    let r = parts (nat_eq (length units) (length kinds)) (list_all (stands_for_parameter p) (zip units kinds)) (all_stand p units kinds q.1) in
+    both (nat_eq (suc (length units)) (suc (length kinds))) (stands_for_parameter p (unit, kind) && list_all (stands_for_parameter p) (zip units kinds))
+    (eq-eqb (suc (length units)) (suc (length kinds)) (ap suc (eqb-true (length units) (length kinds) r.0)))
+    (both (stands_for_parameter p (unit, kind)) (list_all (stands_for_parameter p) (zip units kinds)) (parameter_stands p unit kind q.0) r.1)
+all_stand p [] (kind ∷ kinds) h = absurd (true≢false (sym h))
+all_stand p (unit ∷ units) [] h = absurd (true≢false (sym h))
+
+shorty_is : (p : Program) (units : List ℕ) (outcome : ℕ) (parameters : List ℕ) → spells_shorty (letters_of p.strings p.types) units outcome parameters ≡ true → is_shorty p units outcome parameters ≡ true
+shorty_is p [] outcome parameters h = h
+shorty_is p (unit ∷ units) outcome parameters h =
+    let letters = letters_of p.strings p.types in
+    let q = parts (nat_eq unit (slice_index letters outcome)) (spells_all letters units parameters) h in
+    both (stands_for unit (letter_of p outcome)) (nat_eq (length units) (length parameters) && list_all (stands_for_parameter p) (zip units parameters))
+    (stands unit (letter_of p outcome) (eq-eqb unit (spelled (letter_of p outcome)) (eqb-true unit (slice_index letters outcome) q.0 ∙ spelled_is p outcome)))
+    (all_stand p units parameters q.1)
+
+-- ---- entries
+
+inside : (n size count : ℕ) → count ≡ size → n < size → nat_lt n count ≡ true
+inside n size count e lt = lt-ltb n count (omega (arith, e, lt))
+
+-- the tables have as many entries as they are said to have
+pub record Sized (t : Extents) (p : Program) : Type 0 where
+  pub strings : length p.strings ≡ t.strings.size
+  pub types : length p.types ≡ t.types.size
+  pub protos : length p.protos ≡ t.protos.size
+
+module _ (bytes : List ℕ) (t : Extents) (p : Program) (sized : Sized t p) where
+  pub type_of : (i n : ℕ) → IsType bytes t p.strings i n → type_fits p n ≡ true
+  type_of i n y =
+      let text = string_text p n in
+      both (has_string p n) (is_ok (descriptor_of text)) (inside n t.strings.size (length p.strings) sized.strings y.string.below)
+      (ap (λ (r : Result Descriptor BaseFault). is_ok r) ((is_descriptor text).again y.kind y.describes))
+
+  parameters_of : (offset : ℕ) (parameters : List ℕ) → AreParameters bytes t.types.size offset parameters → list_all (has_type p) parameters ≡ true
+  parameters_of zero parameters h = ap (λ (xs : List ℕ). list_all (has_type p) xs) h
+  parameters_of (suc k) parameters h =
+      each_passes (λ i n. IsHalfIndex bytes (suc k + 4 + 2 * i) t.types.size n) (has_type p) (λ i n y. inside n t.types.size (length p.types) sized.types y.below) 0 parameters h.entries.1
+
+  pub proto_of : (i : ℕ) (proto : Proto) → IsProto bytes t p.strings (letters_of p.strings p.types) i proto → proto_fits p proto ≡ true
+  proto_of i proto y =
+      let shorty = is_shorty p (string_text p proto.shorty) proto.result proto.parameters in
+      both (has_string p proto.shorty && has_type p proto.result) (list_all (has_type p) proto.parameters && shorty)
+      (both (has_string p proto.shorty) (has_type p proto.result) (inside proto.shorty t.strings.size (length p.strings) sized.strings y.shorty.below) (inside proto.result t.types.size (length p.types) sized.types y.outcome.below))
+      (both (list_all (has_type p) proto.parameters) shorty (parameters_of y.offset proto.parameters y.parameters) (shorty_is p (string_text p proto.shorty) proto.result proto.parameters y.spelled))
+
+  pub field_of : (i : ℕ) (field : FieldName) → IsField bytes t (letters_of p.strings p.types) i field → field_id_fits p field ≡ true
+  field_of i field y =
+      let letter = letter_of p field.kind in
+      both (has_type p field.class && has_type p field.kind) (has_string p field.name && not (is_void letter))
+      (both (has_type p field.class) (has_type p field.kind) (inside field.class t.types.size (length p.types) sized.types y.class.below) (inside field.kind t.types.size (length p.types) sized.types y.kind.below))
+      (both (has_string p field.name) (not (is_void letter)) (inside field.name t.strings.size (length p.strings) sized.strings y.name.below)
+      (denied (is_void letter) (λ v. y.some (spelled_is p field.kind ∙ ap spelled (eqb-true letter 86 v)))))
+
+  pub method_of : (i : ℕ) (method : MethodName) → IsMethod bytes t i method → method_id_fits p method ≡ true
+  method_of i method y =
+      both (has_type p method.class) (has_proto p method.proto && has_string p method.name) (inside method.class t.types.size (length p.types) sized.types y.class.below)
+      (both (has_proto p method.proto) (has_string p method.name) (inside method.proto t.protos.size (length p.protos) sized.protos y.proto.below) (inside method.name t.strings.size (length p.strings) sized.strings y.name.below))

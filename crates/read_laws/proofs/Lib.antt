@@ -1,4 +1,5 @@
 pub mod Beginning
+pub mod BodyFits
 pub mod BodyLaws
 pub mod BodyLists
 pub mod BodyParts

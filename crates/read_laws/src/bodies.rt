@@ -2,7 +2,8 @@
 
 ghost use Rattle.std.specs.Prelude.{◌≡◌, ◌-◌, ◌&&◌, ◌<◌, ◌^◌, List, ℕ, length, true, slice_get, Ok};
 ghost use Rattle.std.specs.List.{list_all, enumerate_from};
-ghost use Rattle.program_model.specs.BodyRules.{ends, follows, targets_fit, leaves, is_caught};
+ghost use Rattle.program_model.specs.BodyRules.{ends, follows, targets_fit, leaves, is_caught, body_fits};
+ghost use Rattle.insn_set.specs.Spelling.{is_encodable};
 ghost use Rattle.program_model.specs.Neighbours.{neighbours};
 ghost use Rattle.program_model.specs.RegionRules.{may_begin, regions_fit};
 ghost use Rattle.program_model.specs.OperandRules.{registers_fit, numbers_fit};
@@ -57,4 +58,11 @@ pub fn regions_law()
 pub fn leaves_law()
     ensures { (units tries starts : List ℕ) (sizes : sizes.Sizes) (body : body.Body) → length units < 2 ^ 32 → code_of units tries sizes ≡ Ok (body, starts)
         → list_all (λ at. leaves at.0 at.1) (enumerate_from 0 body.insns) ≡ true }
+{}
+
+/// So a body that is read, of fewer than 2 ^ 32 units, fits the program with which it is read where each of its
+/// instructions has a spelling.
+pub fn bodies_law()
+    ensures { (p : program.Program) (units tries starts : List ℕ) (sizes : sizes.Sizes) (body : body.Body) → AreSizes p sizes → length units < 2 ^ 32 → code_of units tries sizes ≡ Ok (body, starts)
+        → list_all is_encodable body.insns ≡ true → body_fits p body ≡ true }
 {}

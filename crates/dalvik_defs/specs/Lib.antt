@@ -28,5 +28,7 @@ pub mod Step
 pub mod Shown
 pub mod Silence
 pub mod Examples
+pub mod FormExamples
+pub mod CallExamples
 pub mod Shut
 pub mod Quiet

@@ -12,7 +12,7 @@ use Rattle.dalvik_defs.specs.declared.forms.Form.{Form}
 use Rattle.dalvik_defs.specs.declared.forms.Form.TheVariants as form
 use Rattle.dalvik_defs.specs.declared.program.NamedBody.{NamedBody}
 use Rattle.dalvik_defs.specs.declared.program.NamedProgram.{NamedProgram}
-use Rattle.pass_defs.specs.Bare.{bare}
+use Rattle.pass_defs.specs.Bare.{bare, writes}
 use Rattle.pass_defs.specs.Walks.{form_at}
 use Rattle.pass_defs.specs.Flat.{Flat, Bottom, KnownWord, KnownWide, Any}
 use Rattle.pass_defs.specs.Facts.{after, form_before}
@@ -58,7 +58,8 @@ is_choice (form.PackedSwitch on first targets) = true
 is_choice (form.SparseSwitch on keys targets) = true
 is_choice f = false
 
--- A pure form, other than a nop or a number, whose result some solution knows, and a constant is no longer.
+-- A pure form, other than a nop or a number, whose result some solution knows. The constant writes just the registers that
+-- the form writes, so that of a wide place is wide and that of one register isn't, and is no longer than the form.
 pub record FoldsToNumber (p : NamedProgram) (o : Outer) (k : MethodKey) (b : NamedBody) (n : ℕ) (f : Form) : Type 0 where
   pub pure : IsPure p o k n f
   pub to : ℕ
@@ -69,6 +70,7 @@ pub record FoldsToNumber (p : NamedProgram) (o : Outer) (k : MethodKey) (b : Nam
   pub there : table.registers k n ≡ Some registers
   pub constant : Form
   pub known : constant_of to (after flat p table k.class (form_before b n) f registers to) ≡ Some constant
+  pub same : (r : ℕ) → writes constant r ≡ writes f r
   pub encodable : is_encodable (bare constant) ≡ true
   pub short : units constant ≤ units f
 

@@ -1,9 +1,9 @@
 -- The families and tables that say everything are closed.
-use Rattle.std.proofs.Common.{◌≡◌, ℕ, true, refl, sym, ap, subst}
+use Rattle.std.proofs.Common.{◌≡◌, ℕ, refl, ap, subst}
 use Rattle.std.specs.Prelude.{Some, None}
 use Rattle.dalvik_defs.specs.Outer.{Outer}
 use Rattle.dalvik_defs.specs.declared.program.NamedProgram.{NamedProgram}
-use Rattle.pass_defs.specs.Live.{IsClosedFamily, Conditions, HasTypes, HasMethods, HasFields, HasResolved, HasMentions, everything}
+use Rattle.pass_defs.specs.Live.{IsClosedFamily, Conditions, HasMentions, everything}
 use Rattle.pass_defs.specs.Mentions.{Mentions}
 use Rattle.pass_defs.specs.Flat.{Flat, Bottom, KnownWord, KnownWide, Any, FlatBelow}
 use Rattle.pass_defs.specs.Facts.{Arrives}

@@ -1,13 +1,11 @@
 -- A read of a copy is stale, unless the original was written since.
-use Rattle.std.proofs.Common.{◌≡◌, ℕ, zero, suc, ◌<◌, ◌≤◌, Bool, true, false, true≢false, List, [], ◌∷◌, Option, Some, None, refl, sym, ap, ◌∙◌, subst, arith}
-use Rattle.std.specs.Prelude.{◌&&◌, pos, nat_eq, slice_get, Contains}
+use Rattle.std.proofs.Common.{◌≡◌, ℕ, zero, suc, Bool, true, false, true≢false, Some, refl, sym, ap, ◌∙◌, subst, arith}
+use Rattle.std.specs.Prelude.{◌&&◌, pos, nat_eq, Contains}
 use Rattle.insn_set.specs.declared.ops.Slot.{Slot}
 use Rattle.insn_set.specs.declared.ops.Slot.TheVariants as slot
 use Rattle.dalvik_defs.specs.declared.forms.Form.{Form}
 use Rattle.dalvik_defs.specs.declared.forms.Form.TheVariants as form
-use Rattle.dalvik_defs.specs.declared.program.NamedBody.{NamedBody}
-use Rattle.pass_defs.specs.Bare.{writes}
-use Rattle.pass_defs.specs.Walks.{Walk, Stays, Goes, form_at, onward, successors, IsReached}
+use Rattle.pass_defs.specs.Walks.{Stays, Goes, form_at, onward, successors, IsReached}
 use Rattle.pass_defs.specs.Stale as stale
 use Rattle.pass_defs.specs.Stale.{IsSpoilt, IsStale, StandsFor, Lower, in_either, casts}
 use Rattle.pass_defs.specs.PassExamples.{reads_copy, copy_is_old}

@@ -1,6 +1,6 @@
 -- A method that only adds is plainly quiet, so a call of it can be dropped.
-use Rattle.std.proofs.Common.{◌≡◌, ℕ, zero, suc, ◌+◌, ◌<◌, ◌≤◌, Bool, true, false, List, [], ◌∷◌, Option, Some, None, refl, sym, ap, ◌∙◌, subst, arith}
-use Rattle.std.specs.Prelude.{pos, slice_get, Contains}
+use Rattle.std.proofs.Common.{◌≡◌, ℕ, zero, suc, ◌≤◌, true, [], ◌∷◌, Some, refl, sym, subst, arith}
+use Rattle.std.specs.Prelude.{pos, Contains}
 use Rattle.insn_set.specs.declared.ops.Slot.TheVariants as slot
 use Rattle.insn_set.specs.declared.ops.LiteralOp.TheVariants as literal
 use Rattle.insn_set.specs.declared.ops.InvokeKind.TheVariants as call

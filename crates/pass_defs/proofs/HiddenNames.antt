@@ -1,5 +1,5 @@
 -- A call that names a private method doesn't let the public one above it be made static.
-use Rattle.std.proofs.Common.{◌≡◌, ℕ, true, false, true≢false, [], ◌∷◌, Some, refl, sym}
+use Rattle.std.proofs.Common.{true, true≢false, [], ◌∷◌, refl, sym}
 use Rattle.insn_set.specs.declared.ops.InvokeKind.TheVariants as call
 use Rattle.dalvik_defs.specs.Names.{void}
 use Rattle.dalvik_defs.specs.Examples.{a_type, b_type, m_key}

@@ -1,17 +1,14 @@
 -- A body whose registers are needed at once is packed; one that skips a register isn't.
-use Rattle.std.proofs.Common.{◌≡◌, ℕ, zero, suc, ◌<◌, Bool, true, false, true≢false, List, [], ◌∷◌, Option, Some, None, refl, sym, ap, ◌∙◌, subst, arith}
-use Rattle.std.specs.Prelude.{◌&&◌, pos, slice_get, Contains}
-use Rattle.insn_set.specs.declared.ops.Slot.TheVariants as slot
+use Rattle.std.proofs.Common.{◌≡◌, ℕ, zero, suc, ◌<◌, Bool, true, false, true≢false, Some, refl, sym, ap, ◌∙◌, subst, arith}
+use Rattle.std.specs.Prelude.{◌&&◌, pos}
 use Rattle.insn_set.specs.declared.ops.BinaryOp.TheVariants as binary
 use Rattle.dalvik_defs.specs.declared.forms.Form.{Form}
 use Rattle.dalvik_defs.specs.declared.forms.Form.TheVariants as form
-use Rattle.dalvik_defs.specs.declared.program.NamedBody.{NamedBody}
 use Rattle.pass_defs.specs.Bare.{reads, writes}
-use Rattle.pass_defs.specs.Walks.{form_at, onward, caught, IsReadAt, IsRead, Here, Onward, Caught}
-use Rattle.pass_defs.specs.Packed.{IsPacked, is_used, Conflict, First, Second, Both, Clobbers}
+use Rattle.pass_defs.specs.Walks.{form_at, IsReadAt, Here, Onward, Caught}
+use Rattle.pass_defs.specs.Packed.{IsPacked, is_used, Conflict, First, Second, Both}
 use Rattle.pass_defs.specs.PassExamples.{needs_both, skips_one}
 use Rattle.pass_defs.proofs.Spins.{some_one, none_some}
-use Rattle.pass_defs.proofs.Sums.{none_in, only_in}
 
 conflict : Conflict needs_both 1 0
 conflict = First (record {

@@ -1,16 +1,15 @@
 -- The wide result of a method that never comes back isn't foldable.
-use Rattle.std.proofs.Common.{◌≡◌, ℕ, ℤ, ◌≤◌, Bool, true, false, true≢false, List, [], ◌∷◌, Option, Some, None, refl, sym, ap, ◌∙◌, subst, arith}
-use Rattle.std.specs.Prelude.{if◌then◌else◌, pos, slice_get}
+use Rattle.std.proofs.Common.{◌≡◌, ℕ, ℤ, ◌≤◌, Bool, true, false, true≢false, Some, None, sym, ap, ◌∙◌, subst, arith}
+use Rattle.std.specs.Prelude.{if◌then◌else◌, slice_get}
 use Rattle.std.specs.Int.{w64, cast_signed}
 use Rattle.insn_set.specs.declared.ops.Slot.TheVariants as slot
 use Rattle.insn_set.specs.Formats.{format_units}
 use Rattle.insn_set.specs.declared.format.Format.TheVariants.{F21s, F21h, F31i, F51l}
-use Rattle.insn_set.specs.Spelling.{shortest_wide, fits_short, is_multiple, fits_int}
+use Rattle.insn_set.specs.Spelling.{fits_short, is_multiple, fits_int}
 use Rattle.dalvik_defs.specs.Names.{void}
 use Rattle.dalvik_defs.specs.Examples.{a_type, m_key, keeps_m}
 use Rattle.dalvik_defs.specs.declared.forms.Form.{Form}
 use Rattle.dalvik_defs.specs.declared.forms.Form.TheVariants as form
-use Rattle.dalvik_defs.specs.declared.program.NamedBody.{NamedBody}
 use Rattle.pass_defs.specs.Bare.{writes}
 use Rattle.pass_defs.specs.Flat.{Flat, Bottom, KnownWord, KnownWide, Any}
 use Rattle.pass_defs.specs.Facts.{after, call_result, form_before}

@@ -1,9 +1,7 @@
 -- A solution knows the sum of two numbers, so the addition is foldable; and it holds of a state.
-use Rattle.std.proofs.Common.{◌≡◌, ℕ, zero, suc, ◌+◌, ◌<◌, ◌≤◌, Bool, true, false, true≢false, List, [], ◌∷◌, Option, Some, None, refl, sym, ap, ◌∙◌, subst, arith}
-use Rattle.std.specs.Prelude.{if◌then◌else◌, pos, is_some, slice_get, Contains}
+use Rattle.std.proofs.Common.{◌≡◌, ℕ, zero, suc, Bool, true, false, true≢false, List, [], ◌∷◌, Option, Some, None, refl, sym, subst, arith}
+use Rattle.std.specs.Prelude.{if◌then◌else◌, pos, is_some, Contains}
 use Rattle.std.specs.Option.{option_and_then}
-use Rattle.insn_set.specs.declared.ops.Slot.{Slot}
-use Rattle.insn_set.specs.declared.ops.Slot.TheVariants as slot
 use Rattle.insn_set.specs.declared.ops.LiteralOp.TheVariants as literal
 use Rattle.dalvik_defs.specs.Names.{text_eq, same_name}
 use Rattle.dalvik_defs.specs.Find.{method_in}
@@ -18,8 +16,8 @@ use Rattle.dalvik_defs.specs.declared.program.NamedClass.{NamedClass}
 use Rattle.pass_defs.specs.Bare.{may_throw}
 use Rattle.pass_defs.specs.Walks.{form_at, caught}
 use Rattle.pass_defs.specs.Flat.{Flat, KnownWord, Any, FlatBelow}
-use Rattle.pass_defs.specs.Facts.{Facts, At, Arrives, nexts, after, form_before}
-use Rattle.pass_defs.specs.Constants.{flat, Solution, IsSolution, IsAlwaysReached, Itself}
+use Rattle.pass_defs.specs.Facts.{Arrives, nexts, after, form_before}
+use Rattle.pass_defs.specs.Constants.{flat, IsSolution, IsAlwaysReached, Itself}
 use Rattle.pass_defs.specs.Foldable.{IsFoldable, ToNumber}
 use Rattle.pass_defs.specs.PassExamples.{adds, adds_three, m_of, knows_sum, adds_registers, first_two}
 use Rattle.pass_defs.proofs.Anything.{below_any, any_at}
@@ -79,7 +77,7 @@ onward (suc zero) q f a k h e i =
         here : (r : ℕ) → FlatBelow (after flat adds knows_sum k.class (form_before adds_three 1) sum (first_two (KnownWord 2) Any) r) (first_two (KnownWord 2) (KnownWord 5) r)
         here zero = refl
         here (suc zero) = refl
-        here (suc (suc r)) = tt
+        here (suc (suc r)) = below_any _
 
     to : (q : ℕ) → 2 ≡ q → Arrives flat (after flat adds knows_sum k.class (form_before adds_three 1) sum a) (adds_registers q)
     to q d = subst (λ q. Arrives flat (after flat adds knows_sum k.class (form_before adds_three 1) sum a) (adds_registers q)) d (from a (some_one _ a e))

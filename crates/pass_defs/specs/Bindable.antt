@@ -8,7 +8,6 @@ use Rattle.dalvik_defs.specs.Flags.{has_bit}
 use Rattle.dalvik_defs.specs.Under.{class_named, is_own_under}
 use Rattle.dalvik_defs.specs.Find.{Found, Search, Nothing, Finds, finds_at, resolves_method, interface_named}
 use Rattle.dalvik_defs.specs.declared.names.MethodKey.{MethodKey}
-use Rattle.dalvik_defs.specs.declared.forms.Form.{Form}
 use Rattle.dalvik_defs.specs.declared.forms.Form.TheVariants as form
 use Rattle.dalvik_defs.specs.declared.program.NamedBody.{NamedBody}
 use Rattle.dalvik_defs.specs.declared.program.NamedMethod.{NamedMethod}
@@ -16,7 +15,7 @@ use Rattle.dalvik_defs.specs.declared.program.NamedClass.{NamedClass}
 use Rattle.dalvik_defs.specs.declared.program.NamedProgram.{NamedProgram}
 use Rattle.pass_defs.specs.Calls.{is_within}
 use Rattle.pass_defs.specs.Walks.{form_at}
-use Rattle.pass_defs.specs.Kinds.{Kind, Class}
+use Rattle.pass_defs.specs.Kinds.{Class}
 use Rattle.pass_defs.specs.Registers.{Kinds, kind_at}
 use Rattle.pass_defs.specs.Typed.{Table, state_at, IsLeastTyping}
 

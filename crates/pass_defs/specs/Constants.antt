@@ -1,5 +1,5 @@
 -- Constants solutions: closed tables of flat values (this project's profile).
-use Rattle.std.specs.Prelude.{◌≡◌, ℕ, ◌%◌, ◌^◌, Bool, true, false, ◌&&◌, not, nat_eq, Option, Some, None, is_some, Contains, slice_get}
+use Rattle.std.specs.Prelude.{◌≡◌, ℕ, ◌%◌, ◌^◌, Bool, true, false, not, nat_eq, Some, is_some}
 use Rattle.insn_set.specs.Flow.{divides}
 use Rattle.insn_set.specs.declared.ops.BinaryOp.{BinaryOp}
 use Rattle.dalvik_defs.specs.Outer.{Outer}

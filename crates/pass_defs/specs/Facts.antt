@@ -16,10 +16,10 @@ use Rattle.insn_set.specs.declared.ops.InvokeKind.{InvokeKind}
 use Rattle.insn_set.specs.declared.ops.InvokeKind.TheVariants as call
 use Rattle.insn_set.specs.Widths.{is_wide_item, unary_writes_wide, binary_is_wide}
 use Rattle.insn_set.specs.Flow.{divides, divides_by_literal}
-use Rattle.dalvik_defs.specs.Names.{Text, text_eq, method_eq, is_reference, is_wide, is_common, initialiser_name, signature_eq, void}
+use Rattle.dalvik_defs.specs.Names.{Text, text_eq, method_eq, is_reference, is_common, initialiser_name, signature_eq, void}
 use Rattle.dalvik_defs.specs.Flags.{is_static, is_native}
 use Rattle.dalvik_defs.specs.Under.{class_named, is_own_under, is_outward}
-use Rattle.dalvik_defs.specs.Find.{Found, Search, Nothing, Clash, Finds, finds_at, finds_field, finds_statically, method_in, defined_method, defined_field, is_virtual_method}
+use Rattle.dalvik_defs.specs.Find.{Found, Search, Finds, finds_at, finds_field, finds_statically, method_in, defined_method, defined_field, is_virtual_method}
 use Rattle.dalvik_defs.specs.Initialised.{initialiser_of, initialised_first}
 use Rattle.dalvik_defs.specs.Face.{bodies_of, place_of}
 use Rattle.dalvik_defs.specs.Outer.{Outer}

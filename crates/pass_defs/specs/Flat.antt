@@ -1,5 +1,5 @@
 -- Flat values, and what forms make of them (Dalvik bytecode, "Summary of bytecode set").
-use Rattle.std.specs.Prelude.{◌≡◌, ℕ, ◌%◌, ◌^◌, ℤ, Bool, true, false, if◌then◌else◌, nat_eq, List, [], Option, Some, None}
+use Rattle.std.specs.Prelude.{◌≡◌, ℕ, ◌%◌, ◌^◌, ℤ, Bool, true, false, if◌then◌else◌, nat_eq, [], Option, Some, None}
 use Rattle.std.specs.Int.{w32, cast_unsigned}
 use Rattle.insn_set.specs.declared.ops.Test.{Test}
 use Rattle.insn_set.specs.declared.ops.CmpOp.{CmpOp}
@@ -9,7 +9,7 @@ use Rattle.insn_set.specs.declared.ops.UnaryOp.TheVariants as unary
 use Rattle.insn_set.specs.declared.ops.BinaryOp.{BinaryOp}
 use Rattle.insn_set.specs.declared.ops.LiteralOp.{LiteralOp}
 use Rattle.insn_set.specs.declared.ops.Item.{Item}
-use Rattle.dalvik_defs.specs.Arith.{Kind, answer, literal_answer, compared, signed, passes}
+use Rattle.dalvik_defs.specs.Arith.{answer, literal_answer, compared, signed, passes}
 use Rattle.dalvik_defs.specs.Operators.{Sort, OnWord, OnWide, Shifts, OnFloat, OnDouble, sort_of, Number, OneWord, OneWide, unary_answer}
 use Rattle.dalvik_defs.specs.Items.{stored}
 use Rattle.dalvik_defs.specs.declared.state.Value.{Value}

@@ -1,9 +1,7 @@
 -- Instructions whose result or outcome is known (this project's profile).
-use Rattle.std.specs.Prelude.{◌≡◌, ℕ, ◌+◌, ◌≤◌, ℤ, pos, Bool, true, false, ◌&&◌, not, List, [], ◌∷◌, Option, Some, None}
+use Rattle.std.specs.Prelude.{◌≡◌, ℕ, ◌≤◌, pos, Bool, true, false, List, [], ◌∷◌, Option, Some, None}
 use Rattle.std.specs.Int.{w32, w64, cast_signed}
 use Rattle.std.specs.List.{list_all}
-use Rattle.insn_set.specs.declared.form.Insn.{Insn}
-use Rattle.insn_set.specs.declared.form.Insn.TheVariants as insn
 use Rattle.insn_set.specs.Spelling.{units_of, is_encodable}
 use Rattle.dalvik_defs.specs.Face.{bodies_of}
 use Rattle.dalvik_defs.specs.Outer.{Outer}
@@ -14,7 +12,7 @@ use Rattle.dalvik_defs.specs.declared.program.NamedBody.{NamedBody}
 use Rattle.dalvik_defs.specs.declared.program.NamedProgram.{NamedProgram}
 use Rattle.pass_defs.specs.Bare.{bare, writes}
 use Rattle.pass_defs.specs.Walks.{form_at}
-use Rattle.pass_defs.specs.Flat.{Flat, Bottom, KnownWord, KnownWide, Any}
+use Rattle.pass_defs.specs.Flat.{Flat, KnownWord, KnownWide}
 use Rattle.pass_defs.specs.Facts.{after, form_before}
 use Rattle.pass_defs.specs.Constants.{flat, Solution, IsSolution, IsAlwaysReached, Knows, IsPure, is_known}
 

@@ -1,7 +1,6 @@
 -- What constant propagation may write (this project's profile). What the facts say is asked of the pass: `gives n g` where
 -- the form at position n does no more than the constant g does, and `takes n q` where the branch there goes to q alone.
-use Rattle.std.specs.Prelude.{◌≡◌, ℕ, ◌+◌, ◌≤◌, Bool, true, false, ◌||◌, length, Some, Contains}
-use Rattle.insn_set.specs.Flow.{divides, divides_by_literal}
+use Rattle.std.specs.Prelude.{◌≡◌, ℕ, ◌+◌, ◌≤◌, Bool, true, false, length, Some, Contains}
 use Rattle.insn_set.specs.Spelling.{is_encodable}
 use Rattle.dalvik_defs.specs.declared.forms.Form.{Form}
 use Rattle.dalvik_defs.specs.declared.forms.Form.TheVariants as form

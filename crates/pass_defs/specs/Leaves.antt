@@ -1,5 +1,5 @@
 -- Which calls may find a method of the framework, a native one or an abstract one (this project's profile).
-use Rattle.std.specs.Prelude.{Bool, true, false, ◌||◌, not}
+use Rattle.std.specs.Prelude.{Bool, true, ◌||◌, not}
 use Rattle.std.specs.List.{list_any}
 use Rattle.insn_set.specs.declared.ops.InvokeKind.{InvokeKind}
 use Rattle.insn_set.specs.declared.ops.InvokeKind.TheVariants as call

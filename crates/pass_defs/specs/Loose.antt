@@ -1,6 +1,6 @@
 -- Methods that don't need their receiver, and the program in which they are static (Dalvik executable format, "access_flags
 -- Definitions"; this project's profile).
-use Rattle.std.specs.Prelude.{◌≡◌, ℕ, ◌+◌, ◌<◌, ◌⊎◌, Bool, true, false, ◌&&◌, ◌||◌, not, if◌then◌else◌, List, [], ◌∷◌, ◌++◌, map, filter, flat_map, length, Option, Some, None, is_some, Contains}
+use Rattle.std.specs.Prelude.{◌≡◌, ℕ, ◌+◌, ◌<◌, ◌⊎◌, Bool, true, false, ◌&&◌, ◌||◌, not, if◌then◌else◌, List, [], ◌∷◌, ◌++◌, map, filter, flat_map, length, Option, Some, None, is_some}
 use Rattle.std.specs.List.{list_any, list_all}
 use Rattle.std.specs.Option.{option_map}
 use Rattle.insn_set.specs.declared.ops.InvokeKind.{InvokeKind}
@@ -8,7 +8,7 @@ use Rattle.insn_set.specs.declared.ops.InvokeKind.TheVariants as call
 use Rattle.program_model.specs.declared.program.Program.{Program}
 use Rattle.dalvik_defs.specs.Names.{Text, text_eq, signature_eq, method_eq, same_name, is_common, is_reference}
 use Rattle.dalvik_defs.specs.Naming.{named}
-use Rattle.dalvik_defs.specs.Flags.{is_static, is_interface, is_virtual}
+use Rattle.dalvik_defs.specs.Flags.{is_static, is_interface}
 use Rattle.dalvik_defs.specs.Under.{class_named, is_own_under, is_outward}
 use Rattle.dalvik_defs.specs.Find.{Found, method_in, defined_method, resolves_method, chain_of, is_virtual_method}
 use Rattle.dalvik_defs.specs.Initialised.{is_trivial}

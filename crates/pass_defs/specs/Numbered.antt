@@ -1,5 +1,5 @@
 -- Programs by number over the tables of another one: what limits and layouts count, a named program doesn't show.
-use Rattle.std.specs.Prelude.{◌≡◌, ℕ, List, map, Option, Some, None, find}
+use Rattle.std.specs.Prelude.{◌≡◌, List, map, Option, find}
 use Rattle.std.specs.Option.{option_and_then}
 use Rattle.program_model.specs.declared.pools.Proto.{Proto}
 use Rattle.program_model.specs.declared.pools.MethodName.{MethodName}

@@ -1,34 +1,28 @@
 -- Small programs for the examples of `passes.rt`: what each pass looks for, and what it leaves alone.
-use Rattle.std.specs.Prelude.{ℕ, zero, suc, pos, Bool, true, false, List, [], ◌∷◌, map, length, Option, Some, None, codes}
+use Rattle.std.specs.Prelude.{ℕ, zero, suc, pos, true, List, [], ◌∷◌, map, length, Option, Some, None, codes}
 use Rattle.insn_set.specs.declared.ops.Slot.TheVariants as slot
-use Rattle.insn_set.specs.declared.ops.Item.TheVariants as item
 use Rattle.insn_set.specs.declared.ops.Test.TheVariants as test
 use Rattle.insn_set.specs.declared.ops.BinaryOp.TheVariants as binary
 use Rattle.insn_set.specs.declared.ops.LiteralOp.TheVariants as literal
 use Rattle.insn_set.specs.declared.ops.InvokeKind.TheVariants as call
 use Rattle.insn_set.specs.declared.form.Insn.TheVariants as insn
 use Rattle.program_model.specs.declared.body.Body.{Body}
-use Rattle.program_model.specs.declared.body.Region.{Region}
 use Rattle.program_model.specs.declared.pass.Origin.{Origin}
 use Rattle.program_model.specs.declared.program.Version.TheVariants.{V035, V037}
-use Rattle.dalvik_defs.specs.Names.{Text, object_type, void}
+use Rattle.dalvik_defs.specs.Names.{Text, void}
 use Rattle.dalvik_defs.specs.Find.{Found}
-use Rattle.dalvik_defs.specs.Examples.{a_type, b_type, i_type, j_type, int_type, to_int, code, method, class, program, constructor, constructor_key, one_class, m_key, r_key, r_method, log_code, logs}
-use Rattle.dalvik_defs.specs.State.{State, On, World, opening_world}
-use Rattle.dalvik_defs.specs.declared.state.Value.{Value}
+use Rattle.dalvik_defs.specs.Examples.{a_type, b_type, i_type, j_type, to_int, code, method, class, program, constructor, constructor_key, one_class, m_key, r_key, r_method, log_code}
 use Rattle.dalvik_defs.specs.declared.state.Value.TheVariants.{Word}
 use Rattle.dalvik_defs.specs.declared.state.Frame.{Frame}
 use Rattle.dalvik_defs.specs.declared.names.Signature.{Signature}
 use Rattle.dalvik_defs.specs.declared.names.MethodKey.{MethodKey}
-use Rattle.dalvik_defs.specs.declared.forms.Form.{Form}
 use Rattle.dalvik_defs.specs.declared.forms.Form.TheVariants as form
 use Rattle.dalvik_defs.specs.declared.program.NamedBody.{NamedBody}
 use Rattle.dalvik_defs.specs.declared.program.NamedMethod.{NamedMethod}
 use Rattle.dalvik_defs.specs.declared.program.NamedClass.{NamedClass}
 use Rattle.dalvik_defs.specs.declared.program.NamedProgram.{NamedProgram}
-use Rattle.pass_defs.specs.Flat.{Flat, KnownWord, KnownWide, Any}
+use Rattle.pass_defs.specs.Flat.{Flat, KnownWord, Any}
 use Rattle.pass_defs.specs.Facts.{Facts}
-use Rattle.pass_defs.specs.Inlined.{inlined}
 use Rattle.pass_defs.specs.Site.{Caller}
 use Rattle.pass_defs.specs.Examples.{q_signature, adds_two}
 

@@ -1,15 +1,15 @@
 -- Calls that are inlined (this project's profile). The program is read without its silent calls. How long a body's least
 -- layout is, and whether a program lays out and keeps its limits, are asked of programs by number; these and what analysis
 -- knows as not null have definitions of their own.
-use Rattle.std.specs.Prelude.{◌≡◌, ℕ, ◌+◌, ◌≤◌, Bool, true, false, ◌&&◌, ◌||◌, not, nat_eq, nat_lt, if◌then◌else◌, List, [], ◌∷◌, ◌++◌, map, length, Option, Some, None}
+use Rattle.std.specs.Prelude.{◌≡◌, ℕ, ◌+◌, ◌≤◌, Bool, true, false, ◌&&◌, nat_eq, nat_lt, if◌then◌else◌, List, [], ◌∷◌, ◌++◌, map, length, Option, Some, None}
 use Rattle.std.specs.List.{list_any, list_all}
 use Rattle.program_model.specs.declared.body.Body.{Body}
 use Rattle.program_model.specs.declared.program.Program.{Program}
-use Rattle.dalvik_defs.specs.Names.{Text, text_eq, method_eq}
+use Rattle.dalvik_defs.specs.Names.{text_eq, method_eq}
 use Rattle.dalvik_defs.specs.Flags.{is_static}
 use Rattle.dalvik_defs.specs.Initialised.{is_trivial}
 use Rattle.dalvik_defs.specs.Outer.{Outer}
-use Rattle.dalvik_defs.specs.Silence.{calls_silent, silenced, key_in}
+use Rattle.dalvik_defs.specs.Silence.{calls_silent, key_in}
 use Rattle.dalvik_defs.specs.declared.names.MethodKey.{MethodKey}
 use Rattle.dalvik_defs.specs.declared.forms.Form.{Form}
 use Rattle.dalvik_defs.specs.declared.program.NamedRegion.{NamedRegion}
@@ -21,7 +21,7 @@ use Rattle.pass_defs.specs.Demands.{is_constructor_name}
 use Rattle.pass_defs.specs.Typed.{IsTyped}
 use Rattle.pass_defs.specs.Walks.{form_at}
 use Rattle.pass_defs.specs.Numbered.{IsNumbered, numbered_body}
-use Rattle.pass_defs.specs.Inlined.{Callee, callee_of, inlined, inlined_lines, Taken, taken_by, is_taken}
+use Rattle.pass_defs.specs.Inlined.{Callee, callee_of, inlined, inlined_lines, taken_by, is_taken}
 
 -- the receiver of a call
 abbrev pub receiver_of : Callee → ℕ

@@ -1,11 +1,11 @@
 -- Which methods a call may find (this project's profile).
-use Rattle.std.specs.Prelude.{Bool, true, false, ◌&&◌, ◌||◌, not, List, [], ◌∷◌, ◌++◌, map, filter, flat_map, Option, is_some}
+use Rattle.std.specs.Prelude.{ℕ, Bool, true, false, ◌&&◌, ◌||◌, not, List, [], ◌∷◌, ◌++◌, map, filter, flat_map, Option, Some, None, is_some}
 use Rattle.std.specs.List.{list_any}
 use Rattle.insn_set.specs.declared.ops.InvokeKind.{InvokeKind}
 use Rattle.insn_set.specs.declared.ops.InvokeKind.TheVariants as call
-use Rattle.dalvik_defs.specs.Names.{Text, text_eq, object_type}
+use Rattle.dalvik_defs.specs.Names.{Text, text_eq, signature_eq, object_type}
 use Rattle.dalvik_defs.specs.Under.{defines, is_own_under}
-use Rattle.dalvik_defs.specs.Find.{Found, Search, Nothing, Finds, is_virtual_method, first_method, chain_of, candidates, finds_at, finds_statically, finds_super, interface_named, is_037}
+use Rattle.dalvik_defs.specs.Find.{Found, Search, Nothing, Clash, Finds, is_virtual_method, first_method, chain_of, candidates, finds_at, finds_statically, finds_super, interface_named, is_037}
 use Rattle.dalvik_defs.specs.declared.names.Signature.{Signature}
 use Rattle.dalvik_defs.specs.declared.names.MethodKey.{MethodKey}
 use Rattle.dalvik_defs.specs.declared.program.NamedProgram.{NamedProgram}

@@ -13,3 +13,4 @@ pub mod Packing
 pub mod Drops
 pub mod FlatSound
 pub mod Thinned
+pub mod Covering

@@ -12,7 +12,10 @@ use Rattle.program_model.specs.declared.program.Version.TheVariants.{V035, V037}
 use Rattle.dalvik_defs.specs.Names.{Text, void}
 use Rattle.dalvik_defs.specs.Find.{Found}
 use Rattle.dalvik_defs.specs.Examples.{a_type, b_type, i_type, j_type, to_int, code, method, class, program, constructor, constructor_key, one_class, m_key, r_key, r_method, log_code}
+use Rattle.dalvik_defs.specs.State.{State, On, New, opening_world}
+use Rattle.dalvik_defs.specs.declared.state.Value.{Value}
 use Rattle.dalvik_defs.specs.declared.state.Value.TheVariants.{Word}
+use Rattle.dalvik_defs.specs.declared.state.Waiting.TheVariants.{Method}
 use Rattle.dalvik_defs.specs.declared.state.Frame.{Frame}
 use Rattle.dalvik_defs.specs.declared.names.Signature.{Signature}
 use Rattle.dalvik_defs.specs.declared.names.MethodKey.{MethodKey}
@@ -23,6 +26,7 @@ use Rattle.dalvik_defs.specs.declared.program.NamedClass.{NamedClass}
 use Rattle.dalvik_defs.specs.declared.program.NamedProgram.{NamedProgram}
 use Rattle.pass_defs.specs.Flat.{Flat, KnownWord, Any}
 use Rattle.pass_defs.specs.Facts.{Facts}
+use Rattle.pass_defs.specs.FlatAnalysis.{flat_holds}
 use Rattle.pass_defs.specs.Site.{Caller}
 use Rattle.pass_defs.specs.Examples.{q_signature, adds_two}
 
@@ -83,6 +87,12 @@ knows_sum = record { parameters = λ k i. Any; results = λ k. Any; registers = 
 -- a state of m, in front of the addition
 abbrev pub frame_with : ℕ → Frame
 frame_with n = record { method = m_key to_int; position = 1; registers = Word n ∷ Word 0 ∷ []; result = Word 0; caught = Word 0 }
+
+abbrev pub state_with : ℕ → State
+state_with n = On opening_world (λ t. New) (Method (frame_with n) ∷ []) []
+
+abbrev pub says : Flat → Value → Type 0
+says x v = flat_holds x [] v
 
 -- ---- copies
 

@@ -1,6 +1,7 @@
 //! Examples of what the passes look for and write, on the programs of `specs/PassExamples.antt`.
 
-ghost use Rattle.std.specs.Prelude.{◌≡◌, ◌≤◌, ℕ, pos, true, false, Some, None, [], ◌∷◌, codes};
+ghost use Rattle.std.specs.Prelude.{◌≡◌, pos, map, true, false, [], ◌∷◌, codes};
+ghost use Rattle.insn_set.specs.declared.ops.Test.TheVariants as test;
 ghost use Rattle.insn_set.specs.declared.ops.Slot.TheVariants as slot;
 ghost use Rattle.insn_set.specs.declared.ops.Item.TheVariants as item;
 ghost use Rattle.insn_set.specs.declared.ops.LiteralOp.TheVariants as literal;
@@ -14,16 +15,20 @@ ghost use Rattle.pass_defs.specs.Bare.{writes};
 ghost use Rattle.pass_defs.specs.Flat.{Any, KnownWord, KnownWide, flat_literal, flat_binary, flat_stored};
 ghost use Rattle.pass_defs.specs.Leaves.{may_leave};
 ghost use Rattle.pass_defs.specs.Foldable.{IsFoldable, constant_of};
-ghost use Rattle.pass_defs.specs.Constants.{IsSolution};
+ghost use Rattle.pass_defs.specs.Constants.{IsSolution, flat};
 ghost use Rattle.pass_defs.specs.Stale.{IsStale};
 ghost use Rattle.pass_defs.specs.Packed.{IsPacked};
 ghost use Rattle.pass_defs.specs.Quiet.{IsPlainlyQuiet, IsDroppable};
+ghost use Rattle.pass_defs.specs.Covers.{Covers};
+ghost use Rattle.pass_defs.specs.Closed.{edges};
+ghost use Rattle.pass_defs.specs.FlatAnalysis.{flat_analysis};
+ghost use Rattle.pass_defs.specs.Examples.{two_and_three};
 ghost use Rattle.pass_defs.specs.Thinned.{Stays, Empties, Goes, body_thinned, origins_from};
 ghost use Rattle.pass_defs.specs.Origins.{composed};
 ghost use Rattle.pass_defs.specs.Loose.{KnowsCalls, is_alone, concerns, is_plain_call, new_key, shorty};
 ghost use Rattle.pass_defs.specs.Bindable.{package_of, may_access, may_rebind};
 ghost use Rattle.pass_defs.specs.Site.{all_inlined};
-ghost use Rattle.pass_defs.specs.PassExamples.{spins, spin_key, hides_q, inherits_q, nothing_key, app_type, lib_type, in_library, found_in, extends_interface, both_call_q, caller_m, caller_n, sizes_of, branches_over, branches_next, at, q_key, adds, knows_sum, reads_copy, copy_is_old, needs_both, skips_one, drops_q};
+ghost use Rattle.pass_defs.specs.PassExamples.{spins, spin_key, hides_q, inherits_q, nothing_key, app_type, lib_type, in_library, found_in, extends_interface, both_call_q, caller_m, caller_n, sizes_of, branches_over, branches_next, at, q_key, adds, knows_sum, reads_copy, copy_is_old, needs_both, skips_one, drops_q, state_with, says};
 
 /// Operations on int take the low 32 bits of what a register holds, and a boolean field keeps the low byte of a wide.
 pub fn known_numbers_are_words()
@@ -128,4 +133,18 @@ pub fn a_body_is_packed()
 pub fn a_quiet_call_is_dropped()
     ensures quiet { IsPlainlyQuiet drops_q (keeps_m void) q_key }
     ensures droppable { IsDroppable drops_q (keeps_m void) (m_key void) 1 }
+{}
+
+/// Facts hold of a state whose registers hold what they say there, and not of one with another number.
+pub fn facts_cover_a_state()
+    ensures covers { Covers flat says adds knows_sum (state_with 2) }
+    ensures not_another { Covers flat says adds knows_sum (state_with 3) → ⊥ }
+{}
+
+/// A branch on known numbers goes one way, and a division by a known 0 goes nowhere.
+pub fn known_branches_go_one_way()
+    ensures taken { map (λ e. e.0) (edges flat_analysis adds knows_sum 3 (form.If test.Lt 0 1 7) two_and_three) ≡ 7 ∷ [] }
+    ensures not_taken { map (λ e. e.0) (edges flat_analysis adds knows_sum 3 (form.IfZero test.Eq 0 7) two_and_three) ≡ 4 ∷ [] }
+    ensures unknown { map (λ e. e.0) (edges flat_analysis adds knows_sum 3 (form.IfZero test.Eq 2 7) two_and_three) ≡ 4 ∷ 7 ∷ [] }
+    ensures division { map (λ e. e.0) (edges flat_analysis adds knows_sum 3 (form.Binary binary.DivInt 2 0 1) (λ r. KnownWord 0)) ≡ [] }
 {}

@@ -3,11 +3,12 @@
 ghost use Rattle.std.specs.Prelude.{◌≡◌, ◌++◌, flat_map, slice_get, Some, OnOk, IfOk};
 ghost use Rattle.std.specs.Option.{option_copied};
 ghost use Rattle.hierarchy.specs.Shapes.{IsResolved};
-ghost use Rattle.call_graph.specs.Follows.{made_of, made_facts, kept_class, kept_field, kept_method, kind_facts, proto_facts, method_types, field_types, field_fact, resolved_field, found_facts, call_facts, method_facts, named_facts, all_named, coded, start_facts, above_facts, class_facts, field_facts, body_facts};
+ghost use Rattle.call_graph.specs.Follows.{made_of, made_facts, kept_class, kept_field, kept_method, kept_method_of, constructed_of, entered_of, kind_facts, proto_facts, method_types, field_types, field_fact, resolved_field, found_facts, call_facts, method_facts, named_facts, all_named, coded, start_facts, above_facts, class_facts, field_facts, body_facts};
 ghost use Rattle.call_graph.specs.Follows as follow;
 
 use crate::at::At;
-use crate::bases::NONE;
+use crate::bases::{NONE, units_of};
+use crate::common::is_constructor;
 use crate::facts::Fact;
 use crate::named::{Named, add_first, add_marks, add_method};
 use crate::tables::can_be_made;
@@ -77,14 +78,60 @@ pub fn keep_fields(at: &At<'_>, numbers: &[u32], out: &mut Vec<Fact>) -> Result<
     Ok(())
 }
 
+/// Adds that the class of a kept method is made, where that is a constructor and there can be objects of it.
+fn add_constructed(at: &At<'_>, number: u32, out: &mut Vec<Fact>) -> Result<(), AllocError>
+    ensures { IsResolved at.now.program.now at.now.hierarchy.now → OnOk result (out.new.items ≡ out.old.items ++ constructed_of at.now.program.now (slice_get at.now.program.now.methods number)) }
+{
+    match at.method_name(number) {
+        Some(name) => {
+            if is_constructor(units_of(at.program, name.name)) {
+                add_made(at, name.class, out)
+            } else {
+                Ok(())
+            }
+        }
+        None => Ok(()),
+    }
+}
+
+/// Adds that a kept method is called on objects, where it is virtual.
+fn add_entered(
+    at: &At<'_>,
+    number: u32,
+    method: &Method,
+    out: &mut Vec<Fact>,
+) -> Result<(), AllocError>
+    ensures { IsResolved at.now.program.now at.now.hierarchy.now → OnOk result (out.new.items ≡ out.old.items ++ entered_of at.now.program.now number method.now) }
+{
+    if at.hierarchy.is_virtual(method) {
+        out.push(Fact::Called(number))?;
+    }
+    Ok(())
+}
+
+/// Adds a kept method that the program defines: it is live, its class is made where it is a constructor, and it is
+/// called on objects where it is virtual.
+fn add_kept(
+    at: &At<'_>,
+    number: u32,
+    method: &Method,
+    out: &mut Vec<Fact>,
+) -> Result<(), AllocError>
+    ensures { IsResolved at.now.program.now at.now.hierarchy.now → OnOk result (out.new.items ≡ out.old.items ++ kept_method_of at.now.program.now number (Some method.now)) }
+{
+    out.push(Fact::Method(number))?;
+    add_constructed(at, number, out)?;
+    add_entered(at, number, method, out)
+}
+
 /// Adds a kept method if the program defines it.
 fn keep_method(at: &At<'_>, number: u32, out: &mut Vec<Fact>) -> Result<(), AllocError>
     ensures { IsResolved at.now.program.now at.now.hierarchy.now → OnOk result (out.new.items ≡ out.old.items ++ kept_method at.now.program.now number) }
 {
-    if at.own_method(number).is_some() {
-        out.push(Fact::Method(number))?;
+    match at.own_method(number) {
+        Some(method) => add_kept(at, number, method, out),
+        None => Ok(()),
     }
-    Ok(())
 }
 
 /// Adds the kept ones of these methods that the program defines.

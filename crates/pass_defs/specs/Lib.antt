@@ -24,3 +24,4 @@ pub mod Loose
 pub mod Origins
 pub mod Covers
 pub mod Examples
+pub mod KeptExamples

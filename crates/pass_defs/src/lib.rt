@@ -5,4 +5,5 @@
 #![tactic(auto)]
 
 pub mod examples;
+pub mod kept_examples;
 pub mod laws;

@@ -420,7 +420,7 @@ module _ (s : Setting) (find : Bodies) (calm : Text → Bool) where
 
     alike_by : (kind : InvokeKind) (k : MethodKey) (vs : List Value) (w : World) (f : Frame) (x : Search) (c c' : Classes) → Agree c c' → AlikeBy (λ n. calls_by n kind k vs w f x) c c'
     alike_by kind k vs w f Nothing c c' a = alike_same (calls_unfound kind k vs w f) c c'
-        (calm_bool (method_eq k object_constructor) (Stays w (next f) None) (calls_out kind (takes_no_receiver kind) k vs w) tt tt)
+        (calm_bool (method_eq k object_constructor) (Stays w (next (record f { result = Word 0 })) None) (calls_out kind (takes_no_receiver kind) k vs w) tt tt)
     alike_by kind k vs w f Clash c c' a = alike_same (faults w class_change) c c' tt
     alike_by kind k vs w f (Finds g) c c' a = alike_bool (is_static g.flags) (λ n. when_ready (n g.key.class) w g.key.class (calls_found kind g vs w)) (λ n. calls_found kind g vs w) c c'
         (alike_ready w g.key.class (calls_found kind g vs w) c c' (calm_found kind g vs w) a) (alike_same (calls_found kind g vs w) c c' (calm_found kind g vs w))

@@ -3,7 +3,7 @@
 -- where related frames go on alike: after some steps in the frames that show nothing, the frames are related again, or
 -- both begin, end, throw or show the same.
 use Rattle.std.proofs.Common.{◌≡◌, ℕ, suc, Bool, true, false, List, [], ◌∷◌, ◌++◌, Option, Some, None, refl, sym, ap, ◌∙◌, subst}
-use Rattle.dalvik_defs.specs.Names.{Text}
+use Rattle.dalvik_defs.specs.Names.{Text, is_void}
 use Rattle.dalvik_defs.specs.Flags.{is_static}
 use Rattle.dalvik_defs.specs.Known.{no_class}
 use Rattle.dalvik_defs.specs.Find.{Found}
@@ -39,9 +39,28 @@ pub record Glides (s : Setting) (find : Bodies) (w : World) (c : Classes) (f : F
 abbrev pub now : Setting → Bodies → World → Classes → Frame → Outcome
 now s find w c f = outcome_at s find (need_of s.face c) w f
 
+-- ---- what a frame waits for
+
+-- the result of a call, the answer of the framework, which owes a value of a type, or the end of a class
+pub data Above : Type 0 where
+  Calls : Above
+  Asks : (owes : Text) → Above
+  Begins : Above
+
+-- what may come back: of the framework none only where it owes nothing
+abbrev pub Comes : Above → Option Value → Type 0
+Comes Calls v = Unit {0}
+Comes (Asks owes) (Some v) = Unit {0}
+Comes (Asks owes) None = is_void owes ≡ true
+Comes Begins v = ⊥
+
+abbrev pub asked : Option Text → Above
+asked None = Begins
+asked (Some owes) = Asks owes
+
 -- ---- the law's premises
 
-module _ (s : Setting) (find other : Bodies) (F : World → Classes → Frame → Frame → Type 0) (W : Frame → Frame → Type 0) (I J : State → Type 0) where
+module _ (s : Setting) (find other : Bodies) (F : World → Classes → Frame → Frame → Type 0) (W : Above → Frame → Frame → Type 0) (I J : State → Type 0) where
   -- both catch a thrown object, in related frames, or neither does
   abbrev pub Landed : World → Classes → List Waiting → List Waiting → List Move → Option Frame → Option Frame → Type 0
   Landed w c rest rest' script None o = o ≡ None
@@ -50,9 +69,9 @@ module _ (s : Setting) (find other : Bodies) (F : World → Classes → Frame �
   -- what comes of the second frame where the outcome of the first is this
   abbrev pub Leads : World → Classes → Frame → Outcome → Frame → Outcome → Type 0
   Leads w c f (Stays w1 f1 e) f' o = (f1' : Frame) × ((o ≡ Stays w1 f1' e) × F w1 c f1 f1')
-  Leads w c f (Starts t) f' o = (o ≡ Starts t) × W f f'
-  Leads w c f (Enters k vs) f' o = (o ≡ Enters k vs) × W f f'
-  Leads w c f (Leaves w1 owes e) f' o = (o ≡ Leaves w1 owes e) × W f f'
+  Leads w c f (Starts t) f' o = (o ≡ Starts t) × W Begins f f'
+  Leads w c f (Enters k vs) f' o = (o ≡ Enters k vs) × W Calls f f'
+  Leads w c f (Leaves w1 owes e) f' o = (o ≡ Leaves w1 owes e) × W (Asks owes) f f'
   Leads w c f (Ends v) f' o = (o ≡ Ends v) × (f'.method.signature.result ≡ f.method.signature.result)
   Leads w c f (Raises w1 v) f' o = (o ≡ Raises w1 v) × ((rest rest' : List Waiting) (script : List Move) → Landed w1 c rest rest' script (lands s.face find w1 f v) (lands s.face other w1 f' v))
   Leads w c f Halts f' o = o ≡ Halts
@@ -76,11 +95,11 @@ module _ (s : Setting) (find other : Bodies) (F : World → Classes → Frame �
         → I (On w c (Method f ∷ rest) script) → J (On w c (Method f' ∷ rest') script) → Matches w c f f'
     pub entries : (w : World) (c : Classes) (rest rest' : List Waiting) (script : List Move) (k : MethodKey) (vs : List Value) → Entered w c rest rest' script k vs (find k) (other k)
     -- waiting frames are related once the same has come back: a result, the end of a class, or a thrown object
-    pub returns : (w : World) (c : Classes) (f f' : Frame) (rest rest' : List Waiting) (script : List Move) (v : Option Value) → W f f'
+    pub returns : (w : World) (c : Classes) (f f' : Frame) (rest rest' : List Waiting) (script : List Move) (a : Above) (v : Option Value) → Comes a v → W a f f'
         → I (On w c (Method (back find f v) ∷ rest) script) → J (On w c (Method (back other f' v) ∷ rest') script) → F w c (back find f v) (back other f' v)
-    pub retries : (w : World) (c : Classes) (f f' : Frame) (rest rest' : List Waiting) (script : List Move) → W f f'
+    pub retries : (w : World) (c : Classes) (f f' : Frame) (rest rest' : List Waiting) (script : List Move) → W Begins f f'
         → I (On w c (Method f ∷ rest) script) → J (On w c (Method f' ∷ rest') script) → F w c f f'
-    pub throws : (w : World) (c : Classes) (f f' : Frame) (rest rest' : List Waiting) (script : List Move) (v : Value) → W f f'
+    pub throws : (w : World) (c : Classes) (f f' : Frame) (rest rest' : List Waiting) (script : List Move) (a : Above) (v : Value) → W a f f'
         → Landed w c rest rest' script (lands s.face find w f v) (lands s.face other w f' v)
     -- what a run reaches
     pub keeps : (t : State) → I t → I (step s find t).0
@@ -88,19 +107,19 @@ module _ (s : Setting) (find other : Bodies) (F : World → Classes → Frame �
 
   -- ---- related states
 
-  abbrev pub Waits : List Waiting → List Waiting → Type 0
-  Waits [] u = u ≡ []
-  Waits (Method f ∷ r) u = (f' : Frame) × ((r' : List Waiting) × ((u ≡ Method f' ∷ r') × (W f f' × Waits r r')))
-  Waits (Initialiser t a ∷ r) u = (r' : List Waiting) × ((u ≡ Initialiser t a ∷ r') × Waits r r')
-  Waits (Ending t ∷ r) u = (r' : List Waiting) × ((u ≡ Ending t ∷ r') × Waits r r')
-  Waits (Outside owes ∷ r) u = (r' : List Waiting) × ((u ≡ Outside owes ∷ r') × Waits r r')
+  abbrev pub Waits : Above → List Waiting → List Waiting → Type 0
+  Waits b [] u = u ≡ []
+  Waits b (Method f ∷ r) u = (f' : Frame) × ((r' : List Waiting) × ((u ≡ Method f' ∷ r') × (W b f f' × Waits Calls r r')))
+  Waits b (Initialiser t a ∷ r) u = (r' : List Waiting) × ((u ≡ Initialiser t a ∷ r') × Waits Begins r r')
+  Waits b (Ending t ∷ r) u = (r' : List Waiting) × ((u ≡ Ending t ∷ r') × Waits Begins r r')
+  Waits b (Outside owes ∷ r) u = (r' : List Waiting) × ((u ≡ Outside owes ∷ r') × Waits (asked owes) r r')
 
   abbrev pub Stacks : World → Classes → List Waiting → List Waiting → Type 0
   Stacks w c [] u = u ≡ []
-  Stacks w c (Method f ∷ r) u = (f' : Frame) × ((r' : List Waiting) × ((u ≡ Method f' ∷ r') × (F w c f f' × Waits r r')))
-  Stacks w c (Initialiser t a ∷ r) u = Waits (Initialiser t a ∷ r) u
-  Stacks w c (Ending t ∷ r) u = Waits (Ending t ∷ r) u
-  Stacks w c (Outside owes ∷ r) u = Waits (Outside owes ∷ r) u
+  Stacks w c (Method f ∷ r) u = (f' : Frame) × ((r' : List Waiting) × ((u ≡ Method f' ∷ r') × (F w c f f' × Waits Calls r r')))
+  Stacks w c (Initialiser t a ∷ r) u = Waits Begins (Initialiser t a ∷ r) u
+  Stacks w c (Ending t ∷ r) u = Waits Begins (Ending t ∷ r) u
+  Stacks w c (Outside owes ∷ r) u = Waits Begins (Outside owes ∷ r) u
 
   abbrev pub Core : State → State → Type 0
   Core Ended u = u ≡ Ended
@@ -118,32 +137,32 @@ module _ (s : Setting) (find other : Bodies) (F : World → Classes → Frame �
 
   module _ (follow : FramesFollow) where
     good_enters : (w : World) (c : Classes) (k : MethodKey) (vs : List Value) (stack stack' : List Waiting) (script : List Move) (o o' : Option NamedBody)
-        → Entered w c stack stack' script k vs o o' → Waits stack stack' → Good (quiet (enters_body o w c k vs stack script)) (quiet (enters_body o' w c k vs stack' script))
+        → Entered w c stack stack' script k vs o o' → Waits Calls stack stack' → Good (quiet (enters_body o w c k vs stack script)) (quiet (enters_body o' w c k vs stack' script))
     good_enters w c k vs stack stack' script None o' h ws = subst (λ x. Good (quiet Ended) (quiet (enters_body x w c k vs stack' script))) (sym h) good_end
     good_enters w c k vs stack stack' script (Some b) o' h ws = subst (λ x. Good (quiet (enters_body (Some b) w c k vs stack script)) (quiet (enters_body x w c k vs stack' script))) (sym h.1.0)
         (record { holds = λ i j. (refl, (Method (entry_frame k vs h.0) ∷ stack', (refl, (entry_frame k vs h.0, (stack', (refl, (h.1.1 i j, ws))))))) })
 
     -- ---- entries, classes, results, thrown objects
 
-    good_calls : (w : World) (c : Classes) (k : MethodKey) (vs : List Value) (stack stack' : List Waiting) (script : List Move) → Waits stack stack'
+    good_calls : (w : World) (c : Classes) (k : MethodKey) (vs : List Value) (stack stack' : List Waiting) (script : List Move) → Waits Calls stack stack'
         → Good (quiet (enters find w c k vs stack script)) (quiet (enters other w c k vs stack' script))
     good_calls w c k vs stack stack' script ws = good_enters w c k vs stack stack' script (find k) (other k) (follow.entries w c stack stack' script k vs) ws
 
-    good_runs : (w : World) (c : Classes) (t : Text) (o : Option MethodKey) (stack stack' : List Waiting) (script : List Move) → Waits stack stack'
+    good_runs : (w : World) (c : Classes) (t : Text) (o : Option MethodKey) (stack stack' : List Waiting) (script : List Move) → Waits Begins stack stack'
         → Good (quiet (runs find w c t o stack script)) (quiet (runs other w c t o stack' script))
     good_runs w c t None stack stack' script ws = record { holds = λ i j. (refl, (Ending t ∷ stack', (refl, (stack', (refl, ws))))) }
     good_runs w c t (Some k) stack stack' script ws = good_calls w c k [] (Ending t ∷ stack) (Ending t ∷ stack') script (stack', (refl, ws))
 
-    good_goes_on : (w : World) (c : Classes) (t : Text) (l : List Text) (stack stack' : List Waiting) (script : List Move) → Waits stack stack'
+    good_goes_on : (w : World) (c : Classes) (t : Text) (l : List Text) (stack stack' : List Waiting) (script : List Move) → Waits Begins stack stack'
         → Good (quiet (goes_on s.face find w c t l stack script)) (quiet (goes_on s.face other w c t l stack' script))
     good_goes_on w c t [] stack stack' script ws = good_runs w c t (s.face.initialiser t) stack stack' script ws
     good_goes_on w c t (d ∷ ds) stack stack' script ws = record { holds = λ i j. (refl, (Initialiser t (d ∷ ds) ∷ stack', (refl, (stack', (refl, ws))))) }
 
-    good_starts : (w : World) (c : Classes) (t : Text) (stack stack' : List Waiting) (script : List Move) → Waits stack stack'
+    good_starts : (w : World) (c : Classes) (t : Text) (stack stack' : List Waiting) (script : List Move) → Waits Begins stack stack'
         → Good (quiet (starts s.face find w c t stack script)) (quiet (starts s.face other w c t stack' script))
     good_starts w c t stack stack' script ws = good_goes_on w (put_status t Running c) t (left_of (put_status t Running c) (s.face.first t)) stack stack' script ws
 
-    good_resumes : (w : World) (c : Classes) (stack stack' : List Waiting) (script : List Move) → Waits stack stack'
+    good_resumes : (w : World) (c : Classes) (stack stack' : List Waiting) (script : List Move) → Waits Begins stack stack'
         → Good (quiet (resumes s.face find w c stack script)) (quiet (resumes s.face other w c stack' script))
     good_resumes w c [] stack' script h = subst (λ x. Good (quiet (On w c [] script)) (quiet (resumes s.face other w c x script))) (sym h) (record { holds = λ i j. (refl, ([], (refl, refl))) })
     good_resumes w c (Method f ∷ r) stack' script h = subst (λ x. Good (quiet (On w c (Method f ∷ r) script)) (quiet (resumes s.face other w c x script))) (sym h.1.1.0)
@@ -155,25 +174,25 @@ module _ (s : Setting) (find other : Bodies) (F : World → Classes → Frame �
     good_resumes w c (Outside owes ∷ r) stack' script h = subst (λ x. Good (quiet (On w c (Outside owes ∷ r) script)) (quiet (resumes s.face other w c x script))) (sym h.1.0)
         (record { holds = λ i j. (refl, (Outside owes ∷ h.0, (refl, (h.0, (refl, h.1.1))))) })
 
-    good_gives : (kind : Text) (w : World) (c : Classes) (v : Option Value) (stack stack' : List Waiting) (script : List Move) → Waits stack stack'
+    good_gives : (a : Above) (kind : Text) (w : World) (c : Classes) (v : Option Value) (stack stack' : List Waiting) (script : List Move) → Comes a v → Waits a stack stack'
         → Good (gives find kind w c v stack script) (gives other kind w c v stack' script)
-    good_gives kind w c v [] stack' script h = subst (λ x. Good (quiet Ended) (gives other kind w c v x script)) (sym h) good_end
-    good_gives kind w c v (Method f ∷ r) stack' script h = subst (λ x. Good (gives find kind w c v (Method f ∷ r) script) (gives other kind w c v x script)) (sym h.1.1.0)
-        (record { holds = λ i j. (refl, (Method (back other h.0 v) ∷ h.1.0, (refl, (back other h.0 v, (h.1.0, (refl, (follow.returns w c f h.0 r h.1.0 script v h.1.1.1.0 i j, h.1.1.1.1))))))) })
-    good_gives kind w c v (Initialiser t a ∷ r) stack' script h = subst (λ x. Good (quiet Ended) (gives other kind w c v x script)) (sym h.1.0) good_end
-    good_gives kind w c v (Ending t ∷ r) stack' script h = subst (λ x. Good (gives find kind w c v (Ending t ∷ r) script) (gives other kind w c v x script)) (sym h.1.0)
+    good_gives a kind w c v [] stack' script m h = subst (λ x. Good (quiet Ended) (gives other kind w c v x script)) (sym h) good_end
+    good_gives a kind w c v (Method f ∷ r) stack' script m h = subst (λ x. Good (gives find kind w c v (Method f ∷ r) script) (gives other kind w c v x script)) (sym h.1.1.0)
+        (record { holds = λ i j. (refl, (Method (back other h.0 v) ∷ h.1.0, (refl, (back other h.0 v, (h.1.0, (refl, (follow.returns w c f h.0 r h.1.0 script a v m h.1.1.1.0 i j, h.1.1.1.1))))))) })
+    good_gives a kind w c v (Initialiser t ts ∷ r) stack' script m h = subst (λ x. Good (quiet Ended) (gives other kind w c v x script)) (sym h.1.0) good_end
+    good_gives a kind w c v (Ending t ∷ r) stack' script m h = subst (λ x. Good (gives find kind w c v (Ending t ∷ r) script) (gives other kind w c v x script)) (sym h.1.0)
         (record { holds = λ i j. (refl, (Ending t ∷ h.0, (refl, (h.0, (refl, h.1.1))))) })
-    good_gives kind w c v (Outside owes ∷ r) stack' script h = subst (λ x. Good (gives find kind w c v (Outside owes ∷ r) script) (gives other kind w c v x script)) (sym h.1.0)
+    good_gives a kind w c v (Outside owes ∷ r) stack' script m h = subst (λ x. Good (gives find kind w c v (Outside owes ∷ r) script) (gives other kind w c v x script)) (sym h.1.0)
         (record { holds = λ i j. (refl, (Outside owes ∷ h.0, (refl, (h.0, (refl, h.1.1))))) })
 
-    same_given_up : (r r' : List Waiting) (script : List Move) → Waits r r' → given_up r' script ≡ given_up r script
-    same_given_up [] r' script h = ap (λ x. given_up x script) h
-    same_given_up (Method f ∷ r) r' script h = ap (λ x. given_up x script) h.1.1.0
-    same_given_up (Initialiser t a ∷ r) r' script h = ap (λ x. given_up x script) h.1.0
-    same_given_up (Ending t ∷ r) r' script h = ap (λ x. given_up x script) h.1.0
-    same_given_up (Outside owes ∷ r) r' script h = ap (λ x. given_up x script) h.1.0
+    same_given_up : (b : Above) (r r' : List Waiting) (script : List Move) → Waits b r r' → given_up r' script ≡ given_up r script
+    same_given_up b [] r' script h = ap (λ x. given_up x script) h
+    same_given_up b (Method f ∷ r) r' script h = ap (λ x. given_up x script) h.1.1.0
+    same_given_up b (Initialiser t a ∷ r) r' script h = ap (λ x. given_up x script) h.1.0
+    same_given_up b (Ending t ∷ r) r' script h = ap (λ x. given_up x script) h.1.0
+    same_given_up b (Outside owes ∷ r) r' script h = ap (λ x. given_up x script) h.1.0
 
-    good_lands : (w : World) (c : Classes) (v : Value) (r r' : List Waiting) (script : List Move) (o o' : Option Frame) → Landed w c r r' script o o' → Waits r r'
+    good_lands : (w : World) (c : Classes) (v : Value) (r r' : List Waiting) (script : List Move) (o o' : Option Frame) → Landed w c r r' script o o' → Waits Calls r r'
         → Good (unwinds s.face find w c v r script) (unwinds s.face other w c v r' script)
         → Good (lands_or w c r script o (unwinds s.face find w c v r script))
         (lands_or w c r' script o' (unwinds s.face other w c v r' script))
@@ -183,39 +202,39 @@ module _ (s : Setting) (find other : Bodies) (F : World → Classes → Frame �
         subst (λ x. Good (quiet (On w c (Method f ∷ r) script)) (lands_or w c r' script x (unwinds s.face other w c v r' script))) (sym h.1.0)
         (record { holds = λ i j. (refl, (Method h.0 ∷ r', (refl, (h.0, (r', (refl, (h.1.1 i j, ws))))))) })
 
-    good_unwinds : (stack stack' : List Waiting) (w : World) (c : Classes) (v : Value) (script : List Move) → Waits stack stack'
+    good_unwinds : (b : Above) (stack stack' : List Waiting) (w : World) (c : Classes) (v : Value) (script : List Move) → Waits b stack stack'
         → Good (unwinds s.face find w c v stack script) (unwinds s.face other w c v stack' script)
-    good_unwinds [] stack' w c v script h = subst (λ x. Good (quiet Ended) (unwinds s.face other w c v x script)) (sym h) good_end
-    good_unwinds (Method f ∷ r) stack' w c v script h = subst (λ x. Good (unwinds s.face find w c v (Method f ∷ r) script) (unwinds s.face other w c v x script)) (sym h.1.1.0)
-        (good_lands w c v r h.1.0 script (lands s.face find w f v) (lands s.face other w h.0 v) (follow.throws w c f h.0 r h.1.0 script v h.1.1.1.0) h.1.1.1.1 (good_unwinds r h.1.0 w c v script h.1.1.1.1))
-    good_unwinds (Initialiser t a ∷ r) stack' w c v script h = subst (λ x. Good (unwinds s.face find w c v (Initialiser t a ∷ r) script) (unwinds s.face other w c v x script)) (sym h.1.0)
-        (subst (λ x. Good (unwinds s.face find w (put_status t Failed c) v r (given_up r script)) (unwinds s.face other w (put_status t Failed c) v h.0 x)) (sym (same_given_up r h.0 script h.1.1))
-        (good_unwinds r h.0 w (put_status t Failed c) v (given_up r script) h.1.1))
-    good_unwinds (Ending t ∷ r) stack' w c v script h = subst (λ x. Good (unwinds s.face find w c v (Ending t ∷ r) script) (unwinds s.face other w c v x script)) (sym h.1.0)
-        (subst (λ x. Good (unwinds s.face find (wrapped s.face w v).0 (put_status t Failed c) (wrapped s.face w v).1 r (given_up r script)) (unwinds s.face other (wrapped s.face w v).0 (put_status t Failed c) (wrapped s.face w v).1 h.0 x)) (sym (same_given_up r h.0 script h.1.1))
-        (good_unwinds r h.0 (wrapped s.face w v).0 (put_status t Failed c) (wrapped s.face w v).1 (given_up r script) h.1.1))
-    good_unwinds (Outside owes ∷ r) stack' w c v script h = subst (λ x. Good (unwinds s.face find w c v (Outside owes ∷ r) script) (unwinds s.face other w c v x script)) (sym h.1.0)
+    good_unwinds b [] stack' w c v script h = subst (λ x. Good (quiet Ended) (unwinds s.face other w c v x script)) (sym h) good_end
+    good_unwinds b (Method f ∷ r) stack' w c v script h = subst (λ x. Good (unwinds s.face find w c v (Method f ∷ r) script) (unwinds s.face other w c v x script)) (sym h.1.1.0)
+        (good_lands w c v r h.1.0 script (lands s.face find w f v) (lands s.face other w h.0 v) (follow.throws w c f h.0 r h.1.0 script b v h.1.1.1.0) h.1.1.1.1 (good_unwinds Calls r h.1.0 w c v script h.1.1.1.1))
+    good_unwinds b (Initialiser t a ∷ r) stack' w c v script h = subst (λ x. Good (unwinds s.face find w c v (Initialiser t a ∷ r) script) (unwinds s.face other w c v x script)) (sym h.1.0)
+        (subst (λ x. Good (unwinds s.face find w (put_status t Failed c) v r (given_up r script)) (unwinds s.face other w (put_status t Failed c) v h.0 x)) (sym (same_given_up Begins r h.0 script h.1.1))
+        (good_unwinds Begins r h.0 w (put_status t Failed c) v (given_up r script) h.1.1))
+    good_unwinds b (Ending t ∷ r) stack' w c v script h = subst (λ x. Good (unwinds s.face find w c v (Ending t ∷ r) script) (unwinds s.face other w c v x script)) (sym h.1.0)
+        (subst (λ x. Good (unwinds s.face find (wrapped s.face w v).0 (put_status t Failed c) (wrapped s.face w v).1 r (given_up r script)) (unwinds s.face other (wrapped s.face w v).0 (put_status t Failed c) (wrapped s.face w v).1 h.0 x)) (sym (same_given_up Begins r h.0 script h.1.1))
+        (good_unwinds Begins r h.0 (wrapped s.face w v).0 (put_status t Failed c) (wrapped s.face w v).1 (given_up r script) h.1.1))
+    good_unwinds b (Outside owes ∷ r) stack' w c v script h = subst (λ x. Good (unwinds s.face find w c v (Outside owes ∷ r) script) (unwinds s.face other w c v x script)) (sym h.1.0)
         (record { holds = λ i j. (refl, (Outside owes ∷ h.0, (refl, (h.0, (refl, h.1.1))))) })
 
-    good_throws_new : (stack stack' : List Waiting) (w : World) (c : Classes) (t : Text) (script : List Move) → Waits stack stack'
+    good_throws_new : (b : Above) (stack stack' : List Waiting) (w : World) (c : Classes) (t : Text) (script : List Move) → Waits b stack stack'
         → Good (throws_new s.face find w c t stack script) (throws_new s.face other w c t stack' script)
-    good_throws_new stack stack' w c t script ws = good_unwinds stack stack' (with_thing w (fresh t)) c (next_object w) script ws
+    good_throws_new b stack stack' w c t script ws = good_unwinds b stack stack' (with_thing w (fresh t)) c (next_object w) script ws
 
-    good_first_needed : (w : World) (c : Classes) (t d : Text) (ds : List Text) (st : Status) (r r' : List Waiting) (script : List Move) → Waits r r'
+    good_first_needed : (w : World) (c : Classes) (t d : Text) (ds : List Text) (st : Status) (r r' : List Waiting) (script : List Move) → Waits Begins r r'
         → Good (first_needed s find w c t d ds st r script) (first_needed s other w c t d ds st r' script)
     good_first_needed w c t d ds New r r' script ws = good_starts w c d (Initialiser t (d ∷ ds) ∷ r) (Initialiser t (d ∷ ds) ∷ r') script (r', (refl, ws))
     good_first_needed w c t d ds Running r r' script ws = good_goes_on w c t (left_of c ds) r r' script ws
     good_first_needed w c t d ds Done r r' script ws = good_goes_on w c t (left_of c ds) r r' script ws
-    good_first_needed w c t d ds Failed r r' script ws = good_throws_new (Initialiser t (d ∷ ds) ∷ r) (Initialiser t (d ∷ ds) ∷ r') w c no_class script (r', (refl, ws))
+    good_first_needed w c t d ds Failed r r' script ws = good_throws_new Begins (Initialiser t (d ∷ ds) ∷ r) (Initialiser t (d ∷ ds) ∷ r') w c no_class script (r', (refl, ws))
 
-    good_initialises : (w : World) (c : Classes) (t : Text) (a : List Text) (r r' : List Waiting) (script : List Move) → Waits r r'
+    good_initialises : (w : World) (c : Classes) (t : Text) (a : List Text) (r r' : List Waiting) (script : List Move) → Waits Begins r r'
         → Good (initialises s find w c t a r script) (initialises s other w c t a r' script)
     good_initialises w c t [] r r' script ws = good_goes_on w c t [] r r' script ws
     good_initialises w c t (d ∷ ds) r r' script ws = good_first_needed w c t d ds (c d) r r' script ws
 
     -- ---- outcomes
 
-    good_happens : (w : World) (c : Classes) (f f' : Frame) (o o' : Outcome) (r r' : List Waiting) (script : List Move) → Leads w c f o f' o' → Waits r r'
+    good_happens : (w : World) (c : Classes) (f f' : Frame) (o o' : Outcome) (r r' : List Waiting) (script : List Move) → Leads w c f o f' o' → Waits Calls r r'
         → Good (happens s find o w c f r script) (happens s other o' w c f' r' script)
     good_happens w c f f' (Stays w1 f1 e) o' r r' script h ws = subst (λ x. Good (happens s find (Stays w1 f1 e) w c f r script) (happens s other x w c f' r' script)) (sym h.1.0)
         (record { holds = λ i j. (refl, (Method h.0 ∷ r', (refl, (h.0, (r', (refl, (h.1.1, ws))))))) })
@@ -226,9 +245,9 @@ module _ (s : Setting) (find other : Bodies) (F : World → Classes → Frame �
     good_happens w c f f' (Leaves w1 owes e) o' r r' script h ws = subst (λ x. Good (happens s find (Leaves w1 owes e) w c f r script) (happens s other x w c f' r' script)) (sym h.0)
         (record { holds = λ i j. (refl, (Outside (Some owes) ∷ Method f' ∷ r', (refl, (Method f' ∷ r', (refl, (f', (r', (refl, (h.1, ws))))))))) })
     good_happens w c f f' (Ends v) o' r r' script h ws = subst (λ x. Good (happens s find (Ends v) w c f r script) (happens s other x w c f' r' script)) (sym h.0)
-        (subst (λ k. Good (gives find f.method.signature.result w c v r script) (gives other k w c v r' script)) (sym h.1) (good_gives f.method.signature.result w c v r r' script ws))
+        (subst (λ k. Good (gives find f.method.signature.result w c v r script) (gives other k w c v r' script)) (sym h.1) (good_gives Calls f.method.signature.result w c v r r' script tt ws))
     good_happens w c f f' (Raises w1 v) o' r r' script h ws = subst (λ x. Good (happens s find (Raises w1 v) w c f r script) (happens s other x w c f' r' script)) (sym h.0)
-        (good_lands w1 c v r r' script (lands s.face find w1 f v) (lands s.face other w1 f' v) (h.1 r r' script) ws (good_unwinds r r' w1 c v script ws))
+        (good_lands w1 c v r r' script (lands s.face find w1 f v) (lands s.face other w1 f' v) (h.1 r r' script) ws (good_unwinds Calls r r' w1 c v script ws))
     good_happens w c f f' Halts o' r r' script h ws = subst (λ x. Good (quiet Ended) (happens s other x w c f' r' script)) (sym h) good_end
 
     -- ---- moves of the framework
@@ -240,7 +259,7 @@ module _ (s : Setting) (find other : Bodies) (F : World → Classes → Frame �
     good_if : (b : Bool) (x x' : Next) → Good x x' → Good (elim b [ true ↦ x | false ↦ quiet Ended ]) (elim b [ true ↦ x' | false ↦ quiet Ended ])
     good_if b x x' g = good_bool b x (quiet Ended) x' (quiet Ended) g good_end
 
-    module _ (owes : Option Text) (below below' : List Waiting) (ws : Waits below below') where
+    module _ (owes : Option Text) (below below' : List Waiting) (ws : Waits (asked owes) below below') where
       good_here : (w : World) (c : Classes) (rest : List Move) (e : Option Event) → Good (On w c (Outside owes ∷ below) rest, e) (On w c (Outside owes ∷ below') rest, e)
       good_here w c rest e = record { holds = λ i j. (refl, (Outside owes ∷ below', (refl, (below', (refl, ws))))) }
 
@@ -248,7 +267,7 @@ module _ (s : Setting) (find other : Bodies) (F : World → Classes → Frame �
           → Good (needs s find n w c t (Outside owes ∷ below) script rest x) (needs s other n w c t (Outside owes ∷ below') script rest x')
       good_needs Ready w c t script rest x x' g = g
       good_needs Fresh w c t script rest x x' g = good_starts w c t (Outside owes ∷ below) (Outside owes ∷ below') script (below', (refl, ws))
-      good_needs Broken w c t script rest x x' g = good_throws_new (Outside owes ∷ below) (Outside owes ∷ below') w c no_class rest (below', (refl, ws))
+      good_needs Broken w c t script rest x x' g = good_throws_new Begins (Outside owes ∷ below) (Outside owes ∷ below') w c no_class rest (below', (refl, ws))
 
       good_calls_here : (w : World) (c : Classes) (k : MethodKey) (vs : List Value) (rest : List Move)
           → Good (quiet (enters find w c k vs (Outside owes ∷ below) rest)) (quiet (enters other w c k vs (Outside owes ∷ below') rest))
@@ -280,17 +299,25 @@ module _ (s : Setting) (find other : Bodies) (F : World → Classes → Frame �
           (good_needs (need_of s.face c t) w c t script rest (made w c t (Outside owes ∷ below) rest) (made w c t (Outside owes ∷ below') rest)
           (good_here (show (with_thing w (fresh t)) t (next_object w)).0 c rest (Some (event.Make (show (with_thing w (fresh t)) t (next_object w)).1))))
 
-      good_answers : (w : World) (c : Classes) (o : Option Text) (g : Option Given) (rest : List Move) → Good (answers s find w c o g below rest) (answers s other w c o g below' rest)
-      good_answers w c None g rest = good_end
-      good_answers w c (Some kind) g rest = good_if (may_answer s.face s.outer w kind g)
+      answered : (w : World) (kind : Text) (g : Option Given) → may_answer s.face s.outer w kind g ≡ true → Comes (Asks kind) (got w g).1
+      answered w kind None e = e
+      answered w kind (Some g) e = tt
+
+      good_when : (b : Bool) (x x' : Next) → (b ≡ true → Good x x') → Good (elim b [ true ↦ x | false ↦ quiet Ended ]) (elim b [ true ↦ x' | false ↦ quiet Ended ])
+      good_when true x x' g = g refl
+      good_when false x x' g = good_end
+
+      good_answers : (w : World) (c : Classes) (o : Option Text) (g : Option Given) (rest : List Move) → Waits (asked o) below below' → Good (answers s find w c o g below rest) (answers s other w c o g below' rest)
+      good_answers w c None g rest h = good_end
+      good_answers w c (Some kind) g rest h = good_when (may_answer s.face s.outer w kind g)
           (gives find kind (got w g).0 c (got w g).1 below rest) (gives other kind (got w g).0 c (got w g).1 below' rest)
-          (good_gives kind (got w g).0 c (got w g).1 below below' rest ws)
+          (λ e. good_gives (Asks kind) kind (got w g).0 c (got w g).1 below below' rest (answered w kind g e) h)
 
       good_throws : (w : World) (c : Classes) (o : Option Text) (g : Given) (rest : List Move) → Good (throws s find w c o g below rest) (throws s other w c o g below' rest)
       good_throws w c None g rest = good_end
       good_throws w c (Some kind) g rest = good_if (may_throw s.face s.outer w (gets w g).0 g (gets w g).1)
           (unwinds s.face find (gets w g).0 c (gets w g).1 below rest) (unwinds s.face other (gets w g).0 c (gets w g).1 below' rest)
-          (good_unwinds below below' (gets w g).0 c (gets w g).1 rest ws)
+          (good_unwinds (asked owes) below below' (gets w g).0 c (gets w g).1 rest ws)
 
       good_shows_value : (w : World) (c : Classes) (kind : Text) (o : Option Value) (rest : List Move)
           → Good (shows_value w c kind o (Outside owes ∷ below) rest) (shows_value w c kind o (Outside owes ∷ below') rest)
@@ -361,7 +388,7 @@ module _ (s : Setting) (find other : Bodies) (F : World → Classes → Frame �
       good_moves w c [] = good_end
       good_moves w c (move.Enter t n q gs ∷ rest) = good_enter w c (s.face.declared t n q) gs (move.Enter t n q gs ∷ rest) rest
       good_moves w c (move.Make t ∷ rest) = good_make w c t (move.Make t ∷ rest) rest
-      good_moves w c (move.Return g ∷ rest) = good_answers w c owes g rest
+      good_moves w c (move.Return g ∷ rest) = good_answers w c owes g rest ws
       good_moves w c (move.Throw g ∷ rest) = good_throws w c owes g rest
       good_moves w c (move.Get t n k on ∷ rest) = good_reads w c (key_of t n k) (s.face.own_field (key_of t n k)) on rest
       good_moves w c (move.Put t n k on g ∷ rest) = good_writes w c (key_of t n k) (s.face.own_field (key_of t n k)) on g rest
@@ -379,7 +406,7 @@ module _ (s : Setting) (find other : Bodies) (F : World → Classes → Frame �
         let i' = follow.keeps t i in let j' = follow.keeps_other u j in let h = g.holds i' j' in
         (0, (1, (ap (λ e. events_of e ++ []) h.0, (h.1, (i', j')))))
 
-    on_frame : (w : World) (c : Classes) (f f' : Frame) (r r' : List Waiting) (script : List Move) → Matches w c f f' → Waits r r'
+    on_frame : (w : World) (c : Classes) (f f' : Frame) (r r' : List Waiting) (script : List Move) → Matches w c f f' → Waits Calls r r'
         → I (On w c (Method f ∷ r) script) → J (On w c (Method f' ∷ r') script) → Goal (On w c (Method f ∷ r) script) (On w c (Method f' ∷ r') script)
     on_frame w c f f' r r' script (Stay k j w1 c1 f1 f1' g g' h) ws i i' =
         let t = On w c (Method f ∷ r) script in let u = On w c (Method f' ∷ r') script in

@@ -15,10 +15,10 @@ use Rattle.dalvik_defs.specs.declared.tables.Floats.{Floats}
 use Rattle.dalvik_defs.proofs.Simulation.{Shows, follows_shows, shows_on, same_by_runs}
 use Rattle.dalvik_defs.specs.Quiet.{calm_opening}
 use Rattle.dalvik_defs.proofs.Calm.{IsCalm, calm_shows, calm_shown}
-use Rattle.dalvik_defs.proofs.Frames.{FramesFollow, Related, frames_follow}
+use Rattle.dalvik_defs.proofs.Frames.{Above, FramesFollow, Related, frames_follow}
 
 -- one way, for one framework, float table and script
-pub frames_shows : (s : Setting) (find other : Bodies) (calm : Text → Bool) (F : World → Classes → Frame → Frame → Type 0) (W : Frame → Frame → Type 0) (I J : State → Type 0) (script : List Move)
+pub frames_shows : (s : Setting) (find other : Bodies) (calm : Text → Bool) (F : World → Classes → Frame → Frame → Type 0) (W : Above → Frame → Frame → Type 0) (I J : State → Type 0) (script : List Move)
     → IsCalm s calm → FramesFollow s find other F W I J → I (calm_opening calm script) → J (calm_opening calm script) → Shows s find s other (opening script) (opening script)
 frames_shows s find other calm F W I J script is follow i j =
     let middle : Shows s find s other (calm_opening calm script) (calm_opening calm script) =
@@ -29,7 +29,7 @@ frames_shows s find other calm F W I J script is follow i j =
     (calm_shown s other calm is script)
 
 pub frames_shown : (p q : NamedProgram) (o : Outer) (calm : Framework → Text → Bool)
-    (F G : Framework → Floats → List Move → World → Classes → Frame → Frame → Type 0) (V W : Framework → Floats → List Move → Frame → Frame → Type 0) (I J : Framework → Floats → List Move → State → Type 0)
+    (F G : Framework → Floats → List Move → World → Classes → Frame → Frame → Type 0) (V W : Framework → Floats → List Move → Above → Frame → Frame → Type 0) (I J : Framework → Floats → List Move → State → Type 0)
     → ((f : Framework) → face_of p f ≡ face_of q f)
     → ((f : Framework) (a : Floats) → IsCalm (setting_of p o f a) (calm f))
     → ((f : Framework) (a : Floats) (script : List Move) → Fit p o f script → FramesFollow (setting_of p o f a) (bodies_of p) (bodies_of q) (F f a script) (V f a script) (I f a script) (J f a script))

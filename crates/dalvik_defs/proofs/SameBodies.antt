@@ -17,15 +17,15 @@ use Rattle.dalvik_defs.specs.declared.script.Move.{Move}
 use Rattle.dalvik_defs.specs.declared.program.NamedProgram.{NamedProgram}
 use Rattle.dalvik_defs.specs.declared.tables.Framework.{Framework}
 use Rattle.dalvik_defs.proofs.Calm.{IsCalm}
-use Rattle.dalvik_defs.proofs.Frames.{now, Landed, Leads, Matches, Meet, Entered, FramesFollow}
+use Rattle.dalvik_defs.proofs.Frames.{Above, now, Landed, Leads, Matches, Meet, Entered, FramesFollow}
 use Rattle.dalvik_defs.proofs.Glides.{glide_none}
 use Rattle.dalvik_defs.proofs.Programs.{frames_shown}
 
 abbrev Equal : World → Classes → Frame → Frame → Type 0
 Equal w c f g = f ≡ g
 
-abbrev EqualFrames : Frame → Frame → Type 0
-EqualFrames f g = f ≡ g
+abbrev EqualFrames : Above → Frame → Frame → Type 0
+EqualFrames a f g = f ≡ g
 
 abbrev Any : State → Type 0
 Any t = Unit {0}
@@ -67,9 +67,9 @@ module _ (s : Setting) (find other : Bodies) (same : (k : MethodKey) → find k 
   follow = record {
     steps = λ w c f g rest rest' script h i j. matches w c f g h;
     entries = λ w c rest rest' script k vs. entered w c rest rest' script k vs (find k) (other k) (sym (same k));
-    returns = λ w c f g rest rest' script v h i j. same_back f v ∙ ap (λ x. back other x v) h;
+    returns = λ w c f g rest rest' script a v m h i j. same_back f v ∙ ap (λ x. back other x v) h;
     retries = λ w c f g rest rest' script h i j. h;
-    throws = λ w c f g rest rest' script v h. subst (λ x. Landed s find other Equal EqualFrames Any Any w c rest rest' script (lands s.face find w f v) (lands s.face other w x v)) h
+    throws = λ w c f g rest rest' script a v h. subst (λ x. Landed s find other Equal EqualFrames Any Any w c rest rest' script (lands s.face find w f v) (lands s.face other w x v)) h
         (landed w c rest rest' script (lands s.face find w f v) (lands s.face other w f v) (same_lands w f v));
     keeps = λ t i. tt;
     keeps_other = λ t j. tt;

@@ -69,6 +69,17 @@ class name flags interfaces fields methods = record {
 abbrev pub program : Version → List NamedClass → NamedProgram
 program version classes = record { version = version; classes = classes }
 
+abbrev pub keeps_nothing : Outer
+keeps_nothing = record {
+  classes = λ t. false;
+  methods = λ k. false;
+  constructed = λ t. false;
+  keepers = λ n q. [];
+  fields = λ k. false;
+  silent = λ k. false;
+  shut = λ k. false;
+}
+
 -- class LA; with its static method m, which the framework may enter
 abbrev pub m_key : Signature → MethodKey
 m_key signature = record { class = a_type; name = codes "m"; signature = signature }
@@ -77,7 +88,7 @@ abbrev pub with_m : Signature → NamedBody → NamedClass
 with_m signature body = class a_type 1 [] [] (method (codes "m") signature 9 (Some body) ∷ [])
 
 abbrev pub keeps_m : Signature → Outer
-keeps_m signature = record { classes = λ t. false; methods = method_eq (m_key signature); fields = λ k. false; silent = λ k. false; shut = λ k. false }
+keeps_m signature = record (keeps_nothing) { methods = method_eq (m_key signature) }
 
 abbrev pub enter_m : Text → List Given → Move
 enter_m proto values = move.Enter a_type (codes "m") proto values
@@ -283,7 +294,7 @@ abbrev pub called_back : Text → NamedProgram
 called_back superclass = program V035 (record (class b_type 1 [] [] (r_method 1 (Some (log_code 1)) ∷ [])) { superclass = superclass } ∷ [])
 
 abbrev pub keeps_b : Outer
-keeps_b = record { classes = text_eq b_type; methods = λ k. false; fields = λ k. false; silent = λ k. false; shut = λ k. false }
+keeps_b = record (keeps_nothing) { classes = text_eq b_type }
 
 abbrev pub make_and_call : List Move
 make_and_call = move.Make b_type ∷ move.Enter b_type (codes "r") (codes "()V") (given.Exposed 0 ∷ []) ∷ move.Return None ∷ []
@@ -298,3 +309,49 @@ switches = one_class to_int (code 1 0
     ∷ form.Const 0 (pos 2)
     ∷ form.Return slot.Word 0
     ∷ []))
+
+-- LA;'s initialiser logs and then puts 5 into its x, which m answers
+abbrev pub own_x_key : FieldKey
+own_x_key = record { class = a_type; name = codes "x"; kind = int_type }
+
+abbrev pub initialised_before_entry : NamedProgram
+initialised_before_entry = program V035
+    (class a_type 1 []
+        (record { name = codes "x"; kind = int_type; flags = 9; first = None; marks = [] } ∷ [])
+        (method (codes "<clinit>") void 65544 (Some (code 1 0 (logs ∷ form.Const 0 (pos 5) ∷ form.StaticPut item.Plain 0 own_x_key ∷ form.ReturnVoid ∷ [])))
+        ∷ method (codes "m") to_int 9 (Some (code 1 0 (form.StaticGet item.Plain 0 own_x_key ∷ form.Return slot.Word 0 ∷ [])))
+        ∷ [])
+    ∷ [])
+
+-- LC;'s initialiser logs and then throws; LD;'s m answers 2
+abbrev pub d_type : Text
+d_type = codes "LD;"
+
+abbrev pub fails_before_making : NamedProgram
+fails_before_making = program V035
+    (class c_type 1 [] [] (method (codes "<clinit>") void 65544 (Some (code 1 0 (logs ∷ form.Const 0 (pos 0) ∷ form.Throw 0 ∷ []))) ∷ [])
+    ∷ class d_type 1 [] [] (method (codes "m") to_int 9 (Some (code 1 0 (form.Const 0 (pos 2) ∷ form.Return slot.Word 0 ∷ []))) ∷ [])
+    ∷ [])
+
+abbrev pub keeps_c_and_m : Outer
+keeps_c_and_m = record (keeps_nothing) { classes = text_eq c_type; methods = method_eq (record { class = d_type; name = codes "m"; signature = to_int }) }
+
+abbrev pub make_then_enter : List Move
+make_then_enter = move.Make c_type ∷ move.Return None ∷ move.Enter d_type (codes "m") (codes "()I") [] ∷ []
+
+-- LB; has a constructor, which is kept
+abbrev pub constructor_lets_make : NamedProgram
+constructor_lets_make = program V035 (class b_type 1 [] [] (constructor ∷ []) ∷ [])
+
+abbrev pub keeps_b_constructor : Outer
+keeps_b_constructor = record (keeps_nothing) { methods = method_eq (constructor_key b_type); constructed = text_eq b_type }
+
+-- LB; under LC; overrides its method r, and r of LC; is kept
+abbrev pub override_is_entered : NamedProgram
+override_is_entered = program V035
+    (class c_type 1 [] [] (r_method 1 (Some (code 1 1 (form.ReturnVoid ∷ []))) ∷ [])
+    ∷ record (class b_type 1 [] [] (r_method 1 (Some (log_code 1)) ∷ [])) { superclass = c_type }
+    ∷ [])
+
+abbrev pub keeps_r_of_c : Outer
+keeps_r_of_c = record (keeps_nothing) { classes = text_eq b_type; methods = method_eq (r_key c_type); keepers = λ n q. c_type ∷ [] }

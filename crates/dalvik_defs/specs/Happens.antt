@@ -32,7 +32,7 @@ abbrev pub happens : Setting → Bodies → Outcome → World → Classes → Fr
 happens s find (Stays w' f' shown) w classes f rest script = (On w' classes (Method f' ∷ rest) script, shown)
 happens s find (Starts c) w classes f rest script = quiet (starts s.face find w classes c (Method f ∷ rest) script)
 happens s find (Enters k values) w classes f rest script = quiet (enters find w classes k values (Method f ∷ rest) script)
-happens s find (Leaves w' owes shown) w classes f rest script = (On w' classes (Outside (Some owes) ∷ Method f ∷ rest) script, Some shown)
+happens s find (Leaves w' owes shown) w classes f rest script = (On w' classes (Outside (Some owes) None ∷ Method f ∷ rest) script, Some shown)
 happens s find (Ends v) w classes f rest script = gives find f.method.signature.result w classes v rest script
 happens s find (Raises w' v) w classes f rest script = unwinds s.face find w' classes v (Method f ∷ rest) script
 happens s find Halts w classes f rest script = quiet Ended

@@ -1,5 +1,6 @@
 -- What the framework's moves do. A move that isn't legal, or the want of one, ends the run. A move that needs a class
--- stays in the script until the class is initialised, and is tried again (this project's profile).
+-- waits with the framework's frame that makes it until the class is initialised, and is made again then. Meanwhile the
+-- moves behind it answer what the initialiser asks (this project's profile).
 use Rattle.std.specs.Prelude.{ℕ, true, false, ◌&&◌, List, [], ◌∷◌, length, Option, Some, None, slice_get, slice_set, nat_lt}
 use Rattle.dalvik_defs.specs.Names.{Text}
 use Rattle.dalvik_defs.specs.Flags.{is_static}
@@ -21,33 +22,33 @@ use Rattle.dalvik_defs.specs.declared.script.Move.{Move}
 use Rattle.dalvik_defs.specs.declared.script.Move.TheVariants as move
 use Rattle.dalvik_defs.specs.declared.events.Event.TheVariants as event
 
--- a move that needs a class: `stack` has the framework on top, `script` begins with the move
-abbrev pub needs : Setting → Bodies → Need → World → Classes → Text → List Waiting → List Move → List Move → Next → Next
-needs s find Ready w classes c stack script rest now = now
-needs s find Fresh w classes c stack script rest now = quiet (starts s.face find w classes c stack script)
-needs s find Broken w classes c stack script rest now = throws_new s.face find w classes no_class stack rest
+-- A move that needs a class: `stack` has the framework on top, `waiting` the same framework with the move that waits.
+abbrev pub needs : Setting → Bodies → Need → World → Classes → Text → List Waiting → List Waiting → List Move → Next → Next
+needs s find Ready w classes c waiting stack rest now = now
+needs s find Fresh w classes c waiting stack rest now = quiet (starts s.face find w classes c waiting rest)
+needs s find Broken w classes c waiting stack rest now = throws_new s.face find w classes no_class stack rest
 
 -- ---- entering, making
 
-abbrev pub entered : Setting → Bodies → World → Classes → Found → List Value → List Waiting → List Move → List Move → World → Next
-entered s find w classes f vs stack script rest w' = elim (is_static f.flags) [
-  | true ↦ needs s find (need_of s.face classes f.key.class) w classes f.key.class stack script rest (quiet (enters find w' classes f.key (spread vs) stack rest))
+abbrev pub entered : Setting → Bodies → World → Classes → Found → List Value → List Waiting → List Waiting → List Move → World → Next
+entered s find w classes f vs waiting stack rest w' = elim (is_static f.flags) [
+  | true ↦ needs s find (need_of s.face classes f.key.class) w classes f.key.class waiting stack rest (quiet (enters find w' classes f.key (spread vs) stack rest))
   | false ↦ quiet (enters find w' classes f.key (spread vs) stack rest)
 ]
 
-abbrev pub enter : Setting → Bodies → World → Classes → Option Found → List Given → List Waiting → List Move → List Move → Next
-enter s find w classes None gs stack script rest = quiet Ended
-enter s find w classes (Some f) gs stack script rest = let a = gets_all w gs in elim (may_enter s.face s.outer w a.0 f gs a.1) [
-  | true ↦ entered s find w classes f a.1 stack script rest a.0
+abbrev pub enter : Setting → Bodies → World → Classes → Option Found → List Given → List Waiting → List Waiting → List Move → Next
+enter s find w classes None gs waiting stack rest = quiet Ended
+enter s find w classes (Some f) gs waiting stack rest = let a = gets_all w gs in elim (may_enter s.face s.outer w a.0 f gs a.1) [
+  | true ↦ entered s find w classes f a.1 waiting stack rest a.0
   | false ↦ quiet Ended
 ]
 
 abbrev pub made : World → Classes → Text → List Waiting → List Move → Next
 made w classes c stack rest = let a = show (with_thing w (fresh c)) c (next_object w) in (On a.0 classes stack rest, Some (event.Make a.1))
 
-abbrev pub make : Setting → Bodies → World → Classes → Text → List Waiting → List Move → List Move → Next
-make s find w classes c stack script rest = elim (may_make s.face s.outer c) [
-  | true ↦ needs s find (need_of s.face classes c) w classes c stack script rest (made w classes c stack rest)
+abbrev pub make : Setting → Bodies → World → Classes → Text → List Waiting → List Waiting → List Move → Next
+make s find w classes c waiting stack rest = elim (may_make s.face s.outer c) [
+  | true ↦ needs s find (need_of s.face classes c) w classes c waiting stack rest (made w classes c stack rest)
   | false ↦ quiet Ended
 ]
 
@@ -151,16 +152,21 @@ array_length w classes g stack rest = elim (is_exposed w g) [
 abbrev pub key_of : Text → Text → Text → FieldKey
 key_of c n k = record { class = c; name = n; kind = k }
 
--- `owes` is what the framework frame on top owes, `below` the stack below it
-abbrev pub moves : Setting → Bodies → World → Classes → Option Text → List Waiting → List Move → Next
-moves s find w classes owes below [] = quiet Ended
-moves s find w classes owes below (move.Enter c n q gs ∷ rest) =
-    enter s find w classes (s.face.declared c n q) gs (Outside owes ∷ below) (move.Enter c n q gs ∷ rest) rest
-moves s find w classes owes below (move.Make c ∷ rest) = make s find w classes c (Outside owes ∷ below) (move.Make c ∷ rest) rest
-moves s find w classes owes below (move.Return g ∷ rest) = answers s find w classes owes g below rest
-moves s find w classes owes below (move.Throw g ∷ rest) = throws s find w classes owes g below rest
-moves s find w classes owes below (move.Get c n k on ∷ rest) = reads s w classes (key_of c n k) (s.face.own_field (key_of c n k)) on (Outside owes ∷ below) rest
-moves s find w classes owes below (move.Put c n k on g ∷ rest) = writes s w classes (key_of c n k) (s.face.own_field (key_of c n k)) on g (Outside owes ∷ below) rest
-moves s find w classes owes below (move.ArrayGet g n ∷ rest) = array_get w classes g n (Outside owes ∷ below) rest
-moves s find w classes owes below (move.ArrayPut on n g ∷ rest) = array_put s w classes on n g (Outside owes ∷ below) rest
-moves s find w classes owes below (move.ArrayLength g ∷ rest) = array_length w classes g (Outside owes ∷ below) rest
+-- `owes` is what the framework's frame on top owes, `below` the stack below it, `rest` the script behind the move
+abbrev pub moves : Setting → Bodies → World → Classes → Option Text → Move → List Waiting → List Move → Next
+moves s find w classes owes (move.Enter c n q gs) below rest =
+    enter s find w classes (s.face.declared c n q) gs (Outside owes (Some (move.Enter c n q gs)) ∷ below) (Outside owes None ∷ below) rest
+moves s find w classes owes (move.Make c) below rest = make s find w classes c (Outside owes (Some (move.Make c)) ∷ below) (Outside owes None ∷ below) rest
+moves s find w classes owes (move.Return g) below rest = answers s find w classes owes g below rest
+moves s find w classes owes (move.Throw g) below rest = throws s find w classes owes g below rest
+moves s find w classes owes (move.Get c n k on) below rest = reads s w classes (key_of c n k) (s.face.own_field (key_of c n k)) on (Outside owes None ∷ below) rest
+moves s find w classes owes (move.Put c n k on g) below rest = writes s w classes (key_of c n k) (s.face.own_field (key_of c n k)) on g (Outside owes None ∷ below) rest
+moves s find w classes owes (move.ArrayGet g n) below rest = array_get w classes g n (Outside owes None ∷ below) rest
+moves s find w classes owes (move.ArrayPut on n g) below rest = array_put s w classes on n g (Outside owes None ∷ below) rest
+moves s find w classes owes (move.ArrayLength g) below rest = array_length w classes g (Outside owes None ∷ below) rest
+
+-- the move that waits with the framework's frame, else the next one of the script
+abbrev pub framework_turn : Setting → Bodies → World → Classes → Option Text → Option Move → List Waiting → List Move → Next
+framework_turn s find w classes owes (Some m) below script = moves s find w classes owes m below script
+framework_turn s find w classes owes None below [] = quiet Ended
+framework_turn s find w classes owes None below (m ∷ rest) = moves s find w classes owes m below rest

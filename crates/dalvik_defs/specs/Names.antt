@@ -97,9 +97,12 @@ void = no_parameters (codes "V")
 abbrev pub initialiser_name : Text
 initialiser_name = codes "<clinit>"
 
+abbrev pub constructor_name : Text
+constructor_name = codes "<init>"
+
 -- the constructor of Object, which does nothing
 abbrev pub object_constructor : MethodKey
-object_constructor = record { class = object_type; name = codes "<init>"; signature = void }
+object_constructor = record { class = object_type; name = constructor_name; signature = void }
 
 -- the methods that every object answers to, also where its classes are all the program's
 abbrev pub is_common : Text → Signature → Bool

@@ -1,7 +1,7 @@
 -- What comes of an effect by what the program and its classes answer: the frame goes on or tries again, or something
 -- begins or ends. It doesn't depend on the stack below (Dalvik bytecode, "invoke-kind", "new-instance", "sget", "iget";
 -- this project's profile).
-use Rattle.std.specs.Prelude.{ℕ, ◌+◌, ◌-◌, Bool, true, false, List, [], ◌∷◌, Option, Some, None}
+use Rattle.std.specs.Prelude.{ℕ, ◌+◌, ◌-◌, Bool, true, false, ◌&&◌, List, [], ◌∷◌, Option, Some, None}
 use Rattle.insn_set.specs.declared.ops.Item.{Item}
 use Rattle.insn_set.specs.declared.ops.InvokeKind.{InvokeKind}
 use Rattle.insn_set.specs.declared.ops.InvokeKind.TheVariants as call
@@ -100,10 +100,14 @@ calls_ready need kind g values w = elim (is_static g.flags) [
   | false ↦ calls_found kind g values w
 ]
 
--- what isn't found belongs to the framework; the constructor of Object does nothing
+abbrev pub is_direct : InvokeKind → Bool
+is_direct call.Direct = true
+is_direct kind = false
+
+-- what isn't found belongs to the framework; a direct call of the constructor of Object does nothing
 abbrev pub calls_unfound : InvokeKind → MethodKey → List Value → World → Frame → Outcome
-calls_unfound kind k values w f = elim (method_eq k object_constructor) [
-  | true ↦ Stays w (next f) None
+calls_unfound kind k values w f = elim (is_direct kind && method_eq k object_constructor) [
+  | true ↦ Stays w (next (record f { result = Word 0 })) None
   | false ↦ calls_out kind (takes_no_receiver kind) k values w
 ]
 

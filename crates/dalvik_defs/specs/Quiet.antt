@@ -28,4 +28,4 @@ abbrev pub calm_classes : (Text → Bool) → Classes
 calm_classes calm t = status_if (calm t)
 
 abbrev pub calm_opening : (Text → Bool) → List Move → State
-calm_opening calm script = On opening_world (calm_classes calm) (Outside None ∷ []) script
+calm_opening calm script = On opening_world (calm_classes calm) (Outside None None ∷ []) script

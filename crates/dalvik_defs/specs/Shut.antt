@@ -60,16 +60,24 @@ called_outside p n q = list_any (λ c. list_any (λ m. elim m.body [ Some b ↦ 
 abbrev pub is_other : Text → NamedMethod → NamedClass → NamedMethod → Bool
 is_other class m e x = same_name x.name x.signature m.name m.signature && is_virtual_method x && is_some x.body && not (text_eq e.name class)
 
--- A virtual method that isn't kept, that not every object answers to, in version 037 of no interface; no class that finds
--- it has a framework type above it that may declare it, no call names it on the framework, and every other method of its
--- name with code above such a class is kept or shut.
+-- whether the framework may call the method of a class by a kept virtual one of its name and signature there
+abbrev pub keeps_name : Outer → NamedMethod → NamedClass → Bool
+keeps_name o m e = list_any (λ x. same_name x.name x.signature m.name m.signature && is_virtual_method x && o.methods (key_of e x)) e.methods
+
+abbrev pub keeper_over : NamedProgram → Outer → NamedMethod → Text → Bool
+keeper_over p o m t = list_any (λ e. is_own_under p t e.name && keeps_name o m e) p.classes
+
+-- A virtual method that isn't kept, that not every object answers to, in version 037 of no interface. No class that finds
+-- it stands under one with a kept virtual method of its name, or has a framework type above it that may declare it; no
+-- call names it on the framework, and every other method of its name with code above such a class is kept or shut.
 abbrev pub is_shut : ℕ → NamedProgram → Outer → Library → NamedClass → NamedMethod → Bool
 is_shut zero p o l c m = false
 is_shut (suc k) p o l c m =
     is_virtual_method m && not (o.methods (key_of c m)) && not (is_common m.name m.signature) && not (is_037 p.version && is_interface c.flags)
     && not (called_outside p m.name m.signature)
     && list_all (λ d. not (finds_it p (key_of c m) d)
-    || (types_clear p l m.name m.signature d.name
+    || (not (keeper_over p o m d.name)
+    && types_clear p l m.name m.signature d.name
     && list_all (λ e. not (is_own_under p d.name e.name) || list_all (λ x. not (is_other c.name m e x) || o.methods (key_of e x) || is_shut k p o l e x) e.methods) p.classes)) p.classes
 
 -- of a method that the program defines: the definition looks upwards alone

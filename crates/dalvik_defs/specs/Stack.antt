@@ -1,6 +1,6 @@
 -- What goes up and down the stack: entries, results, thrown objects, and classes that are initialised (Dalvik bytecode,
 -- "invoke-kind", "return", "throw"; Dalvik executable format, "try_item"; this project's profile).
-use Rattle.std.specs.Prelude.{ℕ, ◌-◌, Bool, true, false, ◌&&◌, List, [], ◌∷◌, ◌++◌, drop, replicate, Option, Some, None, find, slice_get, nat_le, nat_lt}
+use Rattle.std.specs.Prelude.{ℕ, ◌-◌, Bool, true, false, ◌&&◌, List, [], ◌∷◌, ◌++◌, length, replicate, Option, Some, None, find, slice_get, nat_eq, nat_le, nat_lt}
 use Rattle.std.specs.Option.{option_map, option_and_then}
 use Rattle.dalvik_defs.specs.Names.{Text, throwable_type, error_type}
 use Rattle.dalvik_defs.specs.Known.{initialiser_error}
@@ -25,8 +25,12 @@ entry_registers b values = replicate (b.registers - b.ins) (Word 0) ++ values
 abbrev pub entry_frame : MethodKey → List Value → NamedBody → Frame
 entry_frame k values b = record { method = k; position = 0; registers = entry_registers b values; result = Word 0; caught = Word 0 }
 
+-- a body is entered with as many values as it takes
 abbrev pub enters_body : Option NamedBody → World → Classes → MethodKey → List Value → List Waiting → List Move → State
-enters_body (Some b) w classes k values stack script = On w classes (Method (entry_frame k values b) ∷ stack) script
+enters_body (Some b) w classes k values stack script = elim (nat_eq (length values) b.ins) [
+  | true ↦ On w classes (Method (entry_frame k values b) ∷ stack) script
+  | false ↦ Ended
+]
 enters_body None w classes k values stack script = Ended
 
 abbrev pub enters : Bodies → World → Classes → MethodKey → List Value → List Waiting → List Move → State
@@ -37,7 +41,7 @@ enters find w classes k values stack script = enters_body (find k) w classes k v
 abbrev pub form_at : Bodies → Frame → Option Form
 form_at find f = option_and_then (λ b. slice_get b.forms f.position) (find f.method)
 
--- a value comes back to the position that asked for it
+-- A value comes back to the position that asked for it; where none comes, nothing is left of an earlier result.
 abbrev pub receives : Option Form → Frame → Value → Frame
 receives (Some (form.InstanceGet item to on field)) f v = next (write_item item f to v)
 receives (Some (form.StaticGet item to field)) f v = next (write_item item f to v)
@@ -45,7 +49,7 @@ receives form f v = next (record f { result = v })
 
 abbrev pub back : Bodies → Frame → Option Value → Frame
 back find f (Some v) = receives (form_at find f) f v
-back find f None = next f
+back find f None = next (record f { result = Word 0 })
 
 -- what a method gives to whatever waits for it; its result is of this type
 abbrev pub gives : Bodies → Text → World → Classes → Option Value → List Waiting → List Move → Next
@@ -53,7 +57,8 @@ gives find kind w classes v [] script = quiet Ended
 gives find kind w classes v (Method f ∷ rest) script = quiet (On w classes (Method (back find f v) ∷ rest) script)
 gives find kind w classes v (Initialiser c above ∷ rest) script = quiet Ended
 gives find kind w classes v (Ending c ∷ rest) script = quiet (On w classes (Ending c ∷ rest) script)
-gives find kind w classes v (Outside owes ∷ rest) script = let s = show_option w kind v in (On s.0 classes (Outside owes ∷ rest) script, Some (event.Result s.1))
+gives find kind w classes v (Outside owes pending ∷ rest) script =
+    let s = show_option w kind v in (On s.0 classes (Outside owes pending ∷ rest) script, Some (event.Result s.1))
 
 -- ---- thrown objects
 
@@ -75,24 +80,20 @@ lands face find w f v = option_map (λ at. record (go f at) { caught = v }) (opt
 abbrev pub wrapped : Face → World → Value → World × Value
 wrapped face w v = elim (face.under (kind_of w v) error_type) [ true ↦ (w, v) | false ↦ (with_thing w (fresh initialiser_error), next_object w) ]
 
--- a move that needed a class which failed is over
-abbrev pub given_up : List Waiting → List Move → List Move
-given_up (Outside owes ∷ rest) script = drop 1 script
-given_up stack script = script
-
 -- the frame goes on at its handler, or else the other comes
 abbrev pub lands_or : World → Classes → List Waiting → List Move → Option Frame → Next → Next
 lands_or w classes rest script (Some g) otherwise = quiet (On w classes (Method g ∷ rest) script)
 lands_or w classes rest script None otherwise = otherwise
 
+-- Without a handler the object goes on to what waits below. At the framework it is uncaught, and a move that waits there
+-- for a class is over.
 abbrev pub unwinds : Face → Bodies → World → Classes → Value → List Waiting → List Move → Next
 unwinds face find w classes v [] script = quiet Ended
 unwinds face find w classes v (Method f ∷ rest) script = lands_or w classes rest script (lands face find w f v) (unwinds face find w classes v rest script)
-unwinds face find w classes v (Initialiser c above ∷ rest) script = unwinds face find w (put_status c Failed classes) v rest (given_up rest script)
-unwinds face find w classes v (Ending c ∷ rest) script =
-    unwinds face find (wrapped face w v).0 (put_status c Failed classes) (wrapped face w v).1 rest (given_up rest script)
-unwinds face find w classes v (Outside owes ∷ rest) script = let s = show w throwable_type v in
-    (On s.0 classes (Outside owes ∷ rest) script, Some (event.Uncaught s.1))
+unwinds face find w classes v (Initialiser c above ∷ rest) script = unwinds face find w (put_status c Failed classes) v rest script
+unwinds face find w classes v (Ending c ∷ rest) script = unwinds face find (wrapped face w v).0 (put_status c Failed classes) (wrapped face w v).1 rest script
+unwinds face find w classes v (Outside owes pending ∷ rest) script = let s = show w throwable_type v in
+    (On s.0 classes (Outside owes None ∷ rest) script, Some (event.Uncaught s.1))
 
 -- a new object of a class is thrown
 abbrev pub throws_new : Face → Bodies → World → Classes → Text → List Waiting → List Move → Next

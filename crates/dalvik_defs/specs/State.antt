@@ -54,7 +54,7 @@ abbrev pub opening_world : World
 opening_world = record { heap = []; locks = λ v. 0; statics = λ k. None; exposed = [] }
 
 abbrev pub opening : List Move → State
-opening script = On opening_world (λ t. New) (Outside None ∷ []) script
+opening script = On opening_world (λ t. New) (Outside None None ∷ []) script
 
 -- ---- values
 

@@ -7,7 +7,7 @@ use Rattle.dalvik_defs.specs.State.{Method, Initialiser, Ending, Outside, State,
 use Rattle.dalvik_defs.specs.Outcome.{need_of}
 use Rattle.dalvik_defs.specs.Stack.{ends}
 use Rattle.dalvik_defs.specs.Happens.{Setting, outcome_at, happens, initialises}
-use Rattle.dalvik_defs.specs.Moves.{moves}
+use Rattle.dalvik_defs.specs.Moves.{framework_turn}
 use Rattle.dalvik_defs.specs.declared.script.Move.{Move}
 use Rattle.dalvik_defs.specs.declared.events.Event.{Event}
 use Rattle.dalvik_defs.specs.declared.program.NamedProgram.{NamedProgram}
@@ -21,7 +21,7 @@ step s find (On w classes [] script) = quiet Ended
 step s find (On w classes (Method f ∷ rest) script) = happens s find (outcome_at s find (need_of s.face classes) w f) w classes f rest script
 step s find (On w classes (Initialiser c above ∷ rest) script) = initialises s find w classes c above rest script
 step s find (On w classes (Ending c ∷ rest) script) = quiet (ends s.face find w classes c rest script)
-step s find (On w classes (Outside owes ∷ rest) script) = moves s find w classes owes rest script
+step s find (On w classes (Outside owes pending ∷ rest) script) = framework_turn s find w classes owes pending rest script
 
 abbrev pub events_of : Option Event → List Event
 events_of None = []

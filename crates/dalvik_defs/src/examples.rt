@@ -5,7 +5,7 @@ ghost use Rattle.std.specs.Prelude.{◌≡◌, Some, None, [], ◌∷◌, codes}
 ghost use Rattle.insn_set.specs.declared.ops.InvokeKind.TheVariants as call;
 ghost use Rattle.program_model.specs.declared.program.Version.TheVariants.{V035, V037};
 ghost use Rattle.dalvik_defs.specs.Names.{void};
-ghost use Rattle.dalvik_defs.specs.Examples.{trace, to_int, int_to_int, takes_array, enter_m, throws_runtime, logged, i_type, b_type, answers_two, divides_by_zero, divides_least, catches, puts_item, initialiser_logs, initialiser_fails, class_has_r, interface_has_r, keeps_m, long_to_long, adds_long, float_to_float, negates, negates_one, reads_framework, superclass_fails, interface_starts, tests_array, stores_badly, leaves_twice, called_back, keeps_b, make_and_call, switches, a_type, interfaces_clash, only_logs, without_logs};
+ghost use Rattle.dalvik_defs.specs.Examples.{trace, to_int, int_to_int, takes_array, enter_m, throws_runtime, logged, i_type, b_type, answers_two, divides_by_zero, divides_least, catches, puts_item, initialiser_logs, initialiser_fails, class_has_r, interface_has_r, keeps_m, long_to_long, adds_long, float_to_float, negates, negates_one, reads_framework, superclass_fails, interface_starts, tests_array, stores_badly, leaves_twice, called_back, keeps_b, make_and_call, switches, a_type, interfaces_clash, only_logs, without_logs, initialised_before_entry, fails_before_making, keeps_c_and_m, make_then_enter, c_type, constructor_lets_make, keeps_b_constructor, override_is_entered, keeps_r_of_c};
 ghost use Rattle.dalvik_defs.specs.Known.{arithmetic_exception, out_of_bounds, initialiser_error, no_class, class_change, bad_store, bad_monitor};
 ghost use Rattle.dalvik_defs.specs.Names.{object_type};
 ghost use Rattle.dalvik_defs.specs.Step.{shows};
@@ -159,4 +159,29 @@ pub fn the_framework_calls_back()
 pub fn the_keys_of_a_switch_wrap()
     ensures { trace switches to_int (enter_m (codes "()I") [] ∷ []) 9
         ≡ event.Result (Some (shown.Word 2)) ∷ [] }
+{}
+
+/// A class is initialised before its static method is entered. Meanwhile the framework answers what the initialiser
+/// asks, and the entry comes after it.
+pub fn an_entry_waits_for_its_class()
+    ensures { trace initialised_before_entry to_int (enter_m (codes "()I") [] ∷ move.Return None ∷ []) 14
+        ≡ logged ∷ event.Result (Some (shown.Word 5)) ∷ [] }
+{}
+
+/// Where the initialiser fails, the move that needed the class is over, and the moves behind it are made.
+pub fn a_move_is_over_where_its_class_fails()
+    ensures { shows fails_before_making keeps_c_and_m (record { rows = [] }) (record { rows = [] }) make_then_enter 14
+        ≡ logged ∷ event.Uncaught (shown.First 0 initialiser_error) ∷ event.Result (Some (shown.Word 2)) ∷ [] }
+{}
+
+/// A class with a kept constructor may be made.
+pub fn a_kept_constructor_lets_make()
+    ensures { shows constructor_lets_make keeps_b_constructor (record { rows = [] }) (record { rows = [] }) (move.Make b_type ∷ []) 4
+        ≡ event.Make (shown.First 0 b_type) ∷ [] }
+{}
+
+/// What overrides a kept method is entered in its place.
+pub fn an_override_of_a_kept_method_is_entered()
+    ensures { shows override_is_entered keeps_r_of_c (record { rows = [] }) (record { rows = [] }) make_and_call 11
+        ≡ event.Make (shown.First 0 b_type) ∷ logged ∷ event.Result None ∷ [] }
 {}

@@ -1,6 +1,7 @@
 //! Values of registers, and the frames of the stack.
 
 use crate::names::MethodKey;
+use crate::script::Move;
 use dex_base::Text;
 use seq::Seq;
 
@@ -30,11 +31,11 @@ pub struct Frame {
 
 /// What stands on the stack: a method; a class that is being initialised, with the classes that come before it; a class
 /// whose initialiser has run, or that has none; or the framework, with the type of the answer that it owes, none where
-/// nothing is open.
+/// nothing is open, and with the move that it makes again once the class that the move needs is initialised.
 #[derive(Drop)]
 pub enum Waiting {
     Method { frame: Frame },
     Initialiser { class: Text, above: Seq<Text> },
     Ending { class: Text },
-    Outside { owes: Option<Text> },
+    Outside { owes: Option<Text>, pending: Option<Move> },
 }

@@ -79,23 +79,22 @@ kept_class p kind = kept_of kind (class_of p kind)
 abbrev pub kept_field : Program → ℕ → List Fact
 kept_field p number = cond (is_some (own_field p number)) (fact.Field number ∷ []) []
 
--- a class whose constructor is kept is made, if that can be
+-- a class whose constructor is kept is live, and made if that can be
 abbrev pub constructed_of : Program → Option MethodName → List Fact
 constructed_of p None = []
-constructed_of p (Some q) = cond (string_is p q.name (codes "<init>")) (made_facts p q.class) []
+constructed_of p (Some q) = cond (string_is p q.name (codes "<init>")) (kept_class p q.class) []
 
 -- the framework calls a kept virtual method on objects
 abbrev pub entered_of : Program → ℕ → Method → List Fact
 entered_of p number m = cond (is_direct p m) [] (fact.Called number ∷ [])
 
-abbrev pub kept_method_of : Program → ℕ → Option Method → List Fact
-kept_method_of p number None = []
-kept_method_of p number (Some m) = fact.Method number ∷ (constructed_of p (slice_get p.methods number) ++ entered_of p number m)
+-- a kept method that the program defines is live, and called on objects where it is virtual
+abbrev pub own_kept_of : Program → ℕ → Option Method → List Fact
+own_kept_of p number None = []
+own_kept_of p number (Some m) = fact.Method number ∷ entered_of p number m
 
--- a kept method of the program is live; its class is made where it is a constructor, and it is called on objects where it
--- is virtual
 abbrev pub kept_method : Program → ℕ → List Fact
-kept_method p number = kept_method_of p number (own_method p number)
+kept_method p number = constructed_of p (slice_get p.methods number) ++ own_kept_of p number (own_method p number)
 
 -- the program class that a type is or is an array of, by the table of these
 abbrev pub base_facts : Option ℕ → List Fact

@@ -12,7 +12,7 @@ named_is_live : IsLiveClass names_view (keeps_m void) keeps_constructor b_type
 named_is_live s h = h.types.bodies (m_key void) _ (h.kept.methods (m_key void) refl refl, refl) b_type (0, omega arith, refl) refl
 
 pub constructed_is_made : IsMade names_view (keeps_m void) keeps_constructor b_type
-constructed_is_made s h = h.made.constructed (constructor_key b_type) refl refl (named_is_live s h) refl
+constructed_is_made s h = h.made.constructed (constructor_key b_type) refl refl (named_is_live s h)
 
 pub called_is_live : IsLiveMethod names_view (keeps_m void) keeps_constructor (r_key b_type)
 called_is_live s h = h.called_back b_type (codes "r") void (constructed_is_made s h) refl _ (0, omega arith, refl) refl

@@ -5,7 +5,7 @@ use Rattle.program_model.specs.declared.program.Version.{Version}
 use Rattle.program_model.specs.declared.program.Version.TheVariants.{V035}
 use Rattle.dalvik_defs.specs.Names.{Text, text_eq, method_eq, void}
 use Rattle.dalvik_defs.specs.Outer.{Outer}
-use Rattle.dalvik_defs.specs.Examples.{b_type, c_type, i_type, code, class, program, constructor, constructor_key, with_m, interface, r_key, r_method, log_code}
+use Rattle.dalvik_defs.specs.Examples.{b_type, c_type, i_type, code, class, program, keeps_nothing, constructor, constructor_key, with_m, interface, r_key, r_method, log_code}
 use Rattle.dalvik_defs.specs.declared.forms.Form.TheVariants as form
 use Rattle.dalvik_defs.specs.declared.program.NamedClass.{NamedClass}
 use Rattle.dalvik_defs.specs.declared.program.NamedProgram.{NamedProgram}
@@ -38,4 +38,4 @@ implements_r version = program version
 
 -- the rules keep the r of one type, and another class with its constructor alone
 abbrev pub keeps_r : Text → Text → Outer
-keeps_r owner made = record { classes = text_eq made; methods = method_eq (r_key owner); fields = λ k. false; silent = λ k. false; shut = λ k. false }
+keeps_r owner made = record (keeps_nothing) { classes = text_eq made; methods = method_eq (r_key owner) }

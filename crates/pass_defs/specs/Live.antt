@@ -1,13 +1,13 @@
 -- What a program and its rules keep live (ProGuard manual, "Keep Options"; this project's profile): the least sets of
 -- classes, made classes, fields and methods with ten rules. A set is a test; a member is live where every closed family
 -- of sets has it.
-use Rattle.std.specs.Prelude.{◌≡◌, ◌↔◌, ℕ, Bool, true, false, ◌&&◌, ◌||◌, not, List, [], ◌∷◌, ◌++◌, map, Option, Some, None, is_some, codes, Contains}
+use Rattle.std.specs.Prelude.{◌≡◌, ◌↔◌, ℕ, Bool, true, false, ◌&&◌, ◌||◌, not, List, [], ◌∷◌, ◌++◌, map, Option, Some, None, is_some, Contains}
 use Rattle.std.specs.List.{list_any}
 use Rattle.insn_set.specs.declared.ops.InvokeKind.{InvokeKind}
 use Rattle.insn_set.specs.declared.ops.InvokeKind.TheVariants as call
 use Rattle.program_model.specs.declared.program.Program.{Program}
 use Rattle.program_model.specs.declared.pass.Outside.{Outside}
-use Rattle.dalvik_defs.specs.Names.{Text, text_eq, field_eq, is_common, base_of}
+use Rattle.dalvik_defs.specs.Names.{Text, text_eq, field_eq, is_common, base_of, constructor_name}
 use Rattle.dalvik_defs.specs.Naming.{type_at, field_at}
 use Rattle.dalvik_defs.specs.Flags.{is_interface, is_abstract}
 use Rattle.dalvik_defs.specs.Under.{class_named, defines, is_outward}
@@ -65,7 +65,7 @@ abbrev pub is_kept_method : Outer → Conditions → Family → MethodKey → Bo
 is_kept_method o k s m = o.methods m || (k.methods m && s.classes m.class)
 
 abbrev pub is_constructor : MethodKey → Bool
-is_constructor m = text_eq m.name (codes "<init>")
+is_constructor m = text_eq m.name constructor_name
 
 -- a program class that can have objects
 abbrev pub is_concrete : NamedProgram → Text → Bool
@@ -94,11 +94,13 @@ pub record HasMentions (p : NamedProgram) (s : Family) (m : Mentions) : Type 0 w
 abbrev pub HasBody : NamedProgram → Family → MethodKey → NamedBody → Type 0
 HasBody p s k b = (s.methods k ≡ true) × (bodies_of p k ≡ Some b)
 
--- Kept classes and members are live, and conditional members of a live class. The class of a live member is live.
+-- Kept classes and members are live, and conditional members of a live class. The class of a live member is live, and so
+-- is one of which a constructor is kept.
 pub record KeepsKept (p : NamedProgram) (o : Outer) (k : Conditions) (s : Family) : Type 0 where
   pub classes : (t : Text) → defines p t ≡ true → is_kept p o k s t ≡ true → s.classes t ≡ true
   pub fields : (f : FieldKey) → is_some (defined_field p f) ≡ true → (o.fields f || (k.fields f && s.classes f.class)) ≡ true → s.fields f ≡ true
   pub methods : (m : MethodKey) → is_some (defined_method p m) ≡ true → is_kept_method o k s m ≡ true → s.methods m ≡ true
+  pub constructors : (m : MethodKey) → defines p m.class ≡ true → is_constructor m ≡ true → is_kept_method o k s m ≡ true → s.classes m.class ≡ true
   pub field_classes : (f : FieldKey) → s.fields f ≡ true → s.classes f.class ≡ true
   pub method_classes : (m : MethodKey) → s.methods m ≡ true → s.classes m.class ≡ true
 
@@ -125,7 +127,7 @@ pub record KeepsMentions (p : NamedProgram) (s : Family) : Type 0 where
 -- makes objects too, or if live code makes an object of it.
 pub record KeepsMade (p : NamedProgram) (o : Outer) (k : Conditions) (s : Family) : Type 0 where
   pub kept : (t : Text) → is_concrete p t ≡ true → is_kept p o k s t ≡ true → s.made t ≡ true
-  pub constructed : (m : MethodKey) → is_some (defined_method p m) ≡ true → is_constructor m ≡ true → is_kept_method o k s m ≡ true → is_concrete p m.class ≡ true → s.made m.class ≡ true
+  pub constructed : (m : MethodKey) → is_concrete p m.class ≡ true → is_constructor m ≡ true → is_kept_method o k s m ≡ true → s.made m.class ≡ true
   pub news : (m : MethodKey) (b : NamedBody) (to : ℕ) (t : Text) → HasBody p s m b → Contains b.forms (form.NewInstance to t) → is_concrete p t ≡ true → s.made t ≡ true
 
 -- The members to which names in live code resolve.

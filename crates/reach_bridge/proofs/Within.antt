@@ -30,6 +30,7 @@ use Rattle.pass_defs.specs.Mentions.{Mentions}
 use Rattle.pass_defs.specs.Typed.{IsTyped}
 use Rattle.removal_law.specs.Left.{field_key, left_in, left_of}
 use Rattle.removal_law.specs.Reach.{IsRegular, ShutsHold}
+use Rattle.removal_law.proofs.OuterTables.{tables_agree}
 use Rattle.removal_law.proofs.Lists.{In, here, there, clash, and_left, and_behind, in_either}
 use Rattle.removal_law.proofs.Walks.{text_same}
 use Rattle.removal_law.proofs.Declared.{none_there}
@@ -296,7 +297,7 @@ module _ (p : Program) (o : Outside) (s : LiveSet) (g : IsMarked p o s) where
 
   pub shows_the_same : IsTyped (named p) → ShutsHold (named p) (outer_of p o) → SameShown (named p) (named (kept_of s p)) (outer_of p o)
   shows_the_same typed shuts = subst (λ q. SameShown (named p) q (outer_of p o)) (left_same ∙ sym (kept_named p s g.formed))
-      (removed_program p g.formed g.once g.grounded typed (outer_of p o) (conditions_of p o) W closed shuts)
+      (removed_program p g.formed g.once g.grounded typed (outer_of p o) (conditions_of p o) W closed (record { inside = tables_agree p o; shuts = shuts }))
 
   -- what is left is typed
   pub keeps_typing : IsTyped (named p) → IsTyped (named (kept_of s p))

@@ -24,7 +24,8 @@ use Rattle.dalvik_defs.specs.declared.program.NamedProgram.{NamedProgram}
 use Rattle.dalvik_defs.proofs.Calm.{text_sound}
 use Rattle.pass_defs.specs.Bare.{may_throw}
 use Rattle.pass_defs.specs.Walks.{form_at, onward, caught, handlers_at, successors, Walk, Stays, Goes, IsReached}
-use Rattle.pass_defs.specs.Live.{Family, Conditions, IsClosedFamily, KeepsAbove}
+use Rattle.pass_defs.specs.Live.{Family, Conditions, IsClosedFamily, KeepsAbove, is_kept_method, is_constructor}
+use Rattle.pass_defs.specs.Live as live
 use Rattle.pass_defs.specs.Mentions.{types_in, types_of, fields_in, fields_in_body}
 use Rattle.removal_law.specs.Left.{left_in, left_of, NamesNone}
 use Rattle.removal_law.specs.Agree.{Each, AgreeOnField, sieved}
@@ -189,12 +190,12 @@ module _ (p : NamedProgram) (o : Outer) (kept : Conditions) (s : Family) (f : Fr
       by true i j = kept_class t d i
       by false i j = let w = constructor_kept t j in ap s.classes (sym w.1.0) ∙ closed.kept.constructors w.0 (ap (defines p) w.1.0 ∙ d) w.1.1.0 w.1.1.1
 
-  reached_made : (t : Text) → can_have p t ≡ true → (o.classes t || o.constructed t) ≡ true → s.made t ≡ true
+  reached_made : (t : Text) → live.is_concrete p t ≡ true → (o.classes t || o.constructed t) ≡ true → s.made t ≡ true
   reached_made t d e = by (o.classes t) refl e
     where
       by : (b : Bool) → o.classes t ≡ b → (b || o.constructed t) ≡ true → s.made t ≡ true
       by true i j = closed.made.kept t d (ap (λ b. b || list_any (λ c. kept.classes t c.name && s.classes c.name) p.classes) i)
-      by false i j = let w = constructor_kept t j in ap s.made (sym w.1.0) ∙ closed.made.constructed w.0 (ap (can_have p) w.1.0 ∙ d) w.1.1.0 w.1.1.1
+      by false i j = let w = constructor_kept t j in ap s.made (sym w.1.0) ∙ closed.made.constructed w.0 (ap (live.is_concrete p) w.1.0 ∙ d) w.1.1.0 w.1.1.1
 
   given_type : (t : Text) → (not (defines p (base_of t)) || o.classes (base_of t)) ≡ true → OkType p s t
   given_type t e = λ d. kept_class (base_of t) d (or_second (defines p (base_of t)) (o.classes (base_of t)) e d)

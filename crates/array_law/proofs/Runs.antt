@@ -157,7 +157,7 @@ module _ (p : NamedProgram) (typed : IsTyped p) (o : Outer) (f : Framework) (flo
   Standing = StateOk AnyType AnyType AnyMethod AnyForm Stands never (emptied p) o F (sieved never F) (bodies_of p) (bodies_of p) agrees
 
   begins : (script : List Move) → Standing (opening script)
-  begins script = (record { kinds = tt; mades = tt }, ((tt, tt), (never_calm (λ t. New), script_fits p o script)))
+  begins script = (record { kinds = tt; mades = tt }, (((tt, tt), tt), (never_calm (λ t. New), script_fits p o script)))
 
   stays : (k : ℕ) (t : State) → Standing t → Standing (after (setting_of p o f floats) (bodies_of p) t k)
   stays zero t h = h
@@ -186,7 +186,7 @@ module _ (p : NamedProgram) (typed : IsTyped p) (o : Outer) (f : Framework) (flo
   makes_array (On w c (Method g ∷ rest) script) h = named_at g h.1.0.0.1
   makes_array (On w c (Initialiser t above ∷ rest) script) h = tt
   makes_array (On w c (Ending t ∷ rest) script) h = tt
-  makes_array (On w c (Outside owes ∷ rest) script) h = tt
+  makes_array (On w c (Outside owes pending ∷ rest) script) h = tt
 
   makes_arrays : (script : List Move) (n : ℕ) → MakesArrays (setting_of p o f floats) (bodies_of p) (opening script) n
   makes_arrays script n = record { at = λ k lt. makes_array (after (setting_of p o f floats) (bodies_of p) (opening script) k) (stays k (opening script) (begins script)) }

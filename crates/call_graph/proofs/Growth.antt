@@ -342,10 +342,14 @@ closed_set p o t f s a b c d are sized k = record {
     known : (x : Fact) → is_live s x ≡ true → has f x ≡ true
     known = set_has f s a b c d
 
-    answers : (number kind class : ℕ) (q : MethodName) (y : Fact) → IsCalled p t s number → number < length p.methods → slice_get p.methods number ≡ Some q → q.class < length p.types → is_live s (fact.Made kind) ≡ true
+    call_reached : (number : ℕ) → IsCalled p o t s number → reached f (fact.Called number) ≡ true
+    call_reached number (inl kept) = k.begins (fact.Called number) kept
+    call_reached number (inr by) = (k.goes by.from (known by.from by.live)).forces (fact.Called number) (inl by.calls)
+
+    answers : (number kind class : ℕ) (q : MethodName) (y : Fact) → IsCalled p o t s number → number < length p.methods → slice_get p.methods number ≡ Some q → q.class < length p.types → is_live s (fact.Made kind) ≡ true
         → class_place p kind ≡ Some class → IsOver p t.object kind q.class → Contains (answer_facts p number class) y → is_met s y ≡ true
     answers number kind class q y called lt e l made place over i =
-        let call : has f (fact.Called number) ≡ true = marked_so f.called.marks.items number (let z = sized.4 in omega (arith, lt, z)) ((k.goes called.from (known called.from called.live)).forces (fact.Called number) (inl called.calls)) in
+        let call : has f (fact.Called number) ≡ true = marked_so f.called.marks.items number (let z = sized.4 in omega (arith, lt, z)) (call_reached number called) in
         met y (k.meets number class (record {
           kind = q.class;
           called = (k.goes (fact.Called number) call).noted q e l;

@@ -196,11 +196,15 @@ is_met s (fact.Field n) = slice_index_or s.fields.items n true
 is_met s (fact.Method n) = slice_index_or s.methods.items n true
 is_met s (fact.Called n) = true
 
--- a live thing has code that calls a method number on objects
-pub record IsCalled (p : Program) (t : Tables) (s : LiveSet) (number : ℕ) : Type 0 where
+-- a live thing forces that a method number is called on objects: its code calls it, or it is a class where that is kept
+pub record IsCalledBy (p : Program) (t : Tables) (s : LiveSet) (number : ℕ) : Type 0 where
   pub from : Fact
   pub live : is_live s from ≡ true
   pub calls : Contains (forced p t from) (fact.Called number)
+
+-- a method number is called on objects: by a live thing, or because the outside keeps it
+abbrev pub IsCalled : Program → Outside → Tables → LiveSet → ℕ → Type 0
+IsCalled p o t s number = Contains (kept_facts p o) (fact.Called number) ⊎ IsCalledBy p t s number
 
 -- What the outside keeps is live, and what each live thing entails by itself. What objects of made classes find for what is called
 -- on types above them is live too: in version 037 all candidates of their interfaces where the superclasses have no method, so also
@@ -210,10 +214,10 @@ pub record IsClosedSet (p : Program) (o : Outside) (s : LiveSet) : Type 0 where
   pub are : AreTables p o tables
   pub begins : (x : Fact) → Contains (kept_facts p o) x → is_met s x ≡ true
   pub entails : (x y : Fact) → is_live s x ≡ true → Entails p tables x y → is_met s y ≡ true
-  pub answers : (number kind class : ℕ) (q : MethodName) (y : Fact) → IsCalled p tables s number → number < length p.methods → slice_get p.methods number ≡ Some q → q.class < length p.types → is_live s (fact.Made kind) ≡ true
+  pub answers : (number kind class : ℕ) (q : MethodName) (y : Fact) → IsCalled p o tables s number → number < length p.methods → slice_get p.methods number ≡ Some q → q.class < length p.types → is_live s (fact.Made kind) ≡ true
       → class_place p kind ≡ Some class → IsOver p tables.object kind q.class → Contains (answer_facts p number class) y → is_met s y ≡ true
-  pub finds : (number kind class : ℕ) (q : MethodName) (at : MethodAt) (y : Fact) → IsCalled p tables s number → number < length p.methods → slice_get p.methods number ≡ Some q → q.class < length p.types → is_live s (fact.Made kind) ≡ true
+  pub finds : (number kind class : ℕ) (q : MethodName) (at : MethodAt) (y : Fact) → IsCalled p o tables s number → number < length p.methods → slice_get p.methods number ≡ Some q → q.class < length p.types → is_live s (fact.Made kind) ≡ true
       → class_place p kind ≡ Some class → IsOver p tables.object kind q.class → finds_at p class q.name q.proto ≡ Finds at → Contains (found_facts p (Some at)) y → is_met s y ≡ true
   pub goes : (x y : Fact) → is_live s x ≡ true → Forces p tables x y → is_met s y ≡ true
-  pub called : IsOld p → (number kind class : ℕ) (q : MethodName) (y : Fact) → IsCalled p tables s number → number < length p.methods → slice_get p.methods number ≡ Some q → q.class < length p.types → is_live s (fact.Made kind) ≡ true
+  pub called : IsOld p → (number kind class : ℕ) (q : MethodName) (y : Fact) → IsCalled p o tables s number → number < length p.methods → slice_get p.methods number ≡ Some q → q.class < length p.types → is_live s (fact.Made kind) ≡ true
       → class_place p kind ≡ Some class → IsOver p tables.object kind q.class → Contains (answer_facts p number class) y → is_met s y ≡ true

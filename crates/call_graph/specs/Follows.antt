@@ -1,6 +1,6 @@
 -- What follows from what is live, by number, as far as one thing alone forces it (this project's profile: ProGuard manual,
 -- "Keep Options").
-use Rattle.std.specs.Prelude.{ℕ, Bool, not, ◌&&◌, List, [], ◌∷◌, ◌++◌, flat_map, Option, Some, None, is_some, nat_eq, cond, slice_get, option_and_then}
+use Rattle.std.specs.Prelude.{ℕ, Bool, not, ◌&&◌, List, [], ◌∷◌, ◌++◌, flat_map, Option, Some, None, is_some, nat_eq, cond, codes, slice_get, option_and_then}
 use Rattle.insn_set.specs.declared.ops.InvokeKind.{InvokeKind}
 use Rattle.insn_set.specs.declared.ops.InvokeKind.TheVariants as call
 use Rattle.program_model.specs.declared.pools.Proto.{Proto}
@@ -14,6 +14,7 @@ use Rattle.program_model.specs.declared.program.Program.{Program}
 use Rattle.program_model.specs.Lookups.{class_place, method_at}
 use Rattle.program_model.specs.MemberRules.{has_flag, is_direct}
 use Rattle.class_defs.specs.Finding.{finds_static, resolves_method, resolves_field, is_037}
+use Rattle.class_defs.specs.Members.{string_is}
 use Rattle.class_defs.specs.Starts.{initialiser_place}
 use Rattle.call_graph.specs.declared.facts.Fact.{Fact}
 use Rattle.call_graph.specs.declared.facts.Fact.TheVariants as fact
@@ -78,8 +79,22 @@ kept_class p kind = kept_of kind (class_of p kind)
 abbrev pub kept_field : Program → ℕ → List Fact
 kept_field p number = cond (is_some (own_field p number)) (fact.Field number ∷ []) []
 
+-- a class whose constructor is kept is live, and made if that can be
+abbrev pub constructed_of : Program → Option MethodName → List Fact
+constructed_of p None = []
+constructed_of p (Some q) = cond (string_is p q.name (codes "<init>")) (kept_class p q.class) []
+
+-- the framework calls a kept virtual method on objects
+abbrev pub entered_of : Program → ℕ → Method → List Fact
+entered_of p number m = cond (is_direct p m) [] (fact.Called number ∷ [])
+
+-- a kept method that the program defines is live, and called on objects where it is virtual
+abbrev pub own_kept_of : Program → ℕ → Option Method → List Fact
+own_kept_of p number None = []
+own_kept_of p number (Some m) = fact.Method number ∷ entered_of p number m
+
 abbrev pub kept_method : Program → ℕ → List Fact
-kept_method p number = cond (is_some (own_method p number)) (fact.Method number ∷ []) []
+kept_method p number = constructed_of p (slice_get p.methods number) ++ own_kept_of p number (own_method p number)
 
 -- the program class that a type is or is an array of, by the table of these
 abbrev pub base_facts : Option ℕ → List Fact

@@ -1,5 +1,5 @@
-//! The methods that every object answers to: `equals`, `hashCode`, `toString`, `clone` and `finalize` of
-//! `java.lang.Object`.
+//! Methods that their names tell: constructors, and those that every object answers to, `equals`, `hashCode`, `toString`,
+//! `clone` and `finalize` of `java.lang.Object`.
 
 ghost use Rattle.std.specs.Prelude.{◌≡◌, ◌∷◌, [], Some, codes};
 ghost use Rattle.class_defs.specs.Members.{is_common, types_are, proto_is};
@@ -8,6 +8,14 @@ ghost use Rattle.call_graph.specs.Common.{common_of};
 
 use crate::bases::{descriptor_of, is_object_text, units_of};
 use program_model::{MethodName, Program, Proto};
+
+/// Whether a method of this name is a constructor.
+pub fn is_constructor(units: &[u16]) -> bool
+    ensures { result ≡ same_text units.now (codes "<init>") }
+{
+    let name: [u16; 6] = [60, 105, 110, 105, 116, 62];
+    units == name.as_slice()
+}
 
 fn is_equals(units: &[u16]) -> bool
     ensures { result ≡ same_text units.now (codes "equals") }

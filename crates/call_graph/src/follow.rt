@@ -3,11 +3,12 @@
 ghost use Rattle.std.specs.Prelude.{◌≡◌, ◌++◌, flat_map, slice_get, Some, OnOk, IfOk};
 ghost use Rattle.std.specs.Option.{option_copied};
 ghost use Rattle.hierarchy.specs.Shapes.{IsResolved};
-ghost use Rattle.call_graph.specs.Follows.{made_of, made_facts, kept_class, kept_field, kept_method, kind_facts, proto_facts, method_types, field_types, field_fact, resolved_field, found_facts, call_facts, method_facts, named_facts, all_named, coded, start_facts, above_facts, class_facts, field_facts, body_facts};
+ghost use Rattle.call_graph.specs.Follows.{made_of, made_facts, kept_class, kept_field, kept_method, own_method, own_kept_of, constructed_of, entered_of, kind_facts, proto_facts, method_types, field_types, field_fact, resolved_field, found_facts, call_facts, method_facts, named_facts, all_named, coded, start_facts, above_facts, class_facts, field_facts, body_facts};
 ghost use Rattle.call_graph.specs.Follows as follow;
 
 use crate::at::At;
-use crate::bases::NONE;
+use crate::bases::{NONE, units_of};
+use crate::common::is_constructor;
 use crate::facts::Fact;
 use crate::named::{Named, add_first, add_marks, add_method};
 use crate::tables::can_be_made;
@@ -77,17 +78,59 @@ pub fn keep_fields(at: &At<'_>, numbers: &[u32], out: &mut Vec<Fact>) -> Result<
     Ok(())
 }
 
-/// Adds a kept method if the program defines it.
-fn keep_method(at: &At<'_>, number: u32, out: &mut Vec<Fact>) -> Result<(), AllocError>
-    ensures { IsResolved at.now.program.now at.now.hierarchy.now → OnOk result (out.new.items ≡ out.old.items ++ kept_method at.now.program.now number) }
+/// Adds the class of a kept method, where that is a constructor: the class is live, and made if that can be.
+fn add_constructed(at: &At<'_>, number: u32, out: &mut Vec<Fact>) -> Result<(), AllocError>
+    ensures { IsResolved at.now.program.now at.now.hierarchy.now → OnOk result (out.new.items ≡ out.old.items ++ constructed_of at.now.program.now (slice_get at.now.program.now.methods number)) }
 {
-    if at.own_method(number).is_some() {
-        out.push(Fact::Method(number))?;
+    match at.method_name(number) {
+        Some(name) => {
+            if is_constructor(units_of(at.program, name.name)) {
+                keep_class(at, name.class, out)
+            } else {
+                Ok(())
+            }
+        }
+        None => Ok(()),
+    }
+}
+
+/// Adds that a kept method is called on objects, where it is virtual.
+fn add_entered(
+    at: &At<'_>,
+    number: u32,
+    method: &Method,
+    out: &mut Vec<Fact>,
+) -> Result<(), AllocError>
+    ensures { IsResolved at.now.program.now at.now.hierarchy.now → OnOk result (out.new.items ≡ out.old.items ++ entered_of at.now.program.now number method.now) }
+{
+    if at.hierarchy.is_virtual(method) {
+        out.push(Fact::Called(number))?;
     }
     Ok(())
 }
 
-/// Adds the kept ones of these methods that the program defines.
+/// Adds a kept method that the program defines: it is live, and called on objects where it is virtual.
+fn add_own_kept(at: &At<'_>, number: u32, out: &mut Vec<Fact>) -> Result<(), AllocError>
+    ensures { IsResolved at.now.program.now at.now.hierarchy.now → OnOk result (out.new.items ≡ out.old.items ++ own_kept_of at.now.program.now number (own_method at.now.program.now number)) }
+{
+    match at.own_method(number) {
+        Some(method) => {
+            out.push(Fact::Method(number))?;
+            add_entered(at, number, method, out)
+        }
+        None => Ok(()),
+    }
+}
+
+/// Adds what follows from a kept method.
+fn keep_method(at: &At<'_>, number: u32, out: &mut Vec<Fact>) -> Result<(), AllocError>
+    ensures { IsResolved at.now.program.now at.now.hierarchy.now → OnOk result (out.new.items ≡ out.old.items ++ kept_method at.now.program.now number) }
+{
+    add_constructed(at, number, out)?;
+    add_own_kept(at, number, out)
+}
+
+/// Adds what follows from these kept methods.
 pub fn keep_methods(at: &At<'_>, numbers: &[u32], out: &mut Vec<Fact>) -> Result<(), AllocError>
     ensures { IsResolved at.now.program.now at.now.hierarchy.now → OnOk result (out.new.items ≡ out.old.items ++ flat_map (kept_method at.now.program.now) numbers.now) }
 {

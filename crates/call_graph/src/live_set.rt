@@ -77,10 +77,11 @@ fn search(
 ///   is. The class of a live member is live, and so are the program superclass, the interfaces and the `<clinit>` of a
 ///   live class; in version 037 also the virtual methods with code of a live interface that has a `<clinit>`.
 /// - What the descriptors, annotations and first values of live members name is live, and what live bodies name.
-/// - A kept class that is neither abstract nor an interface is made, and so is one that a NewInstance of a live body
-///   names.
+/// - A class that is neither abstract nor an interface is made where it is kept, where a constructor of it is, and where
+///   a NewInstance of a live body names it.
 /// - What a live static, direct or super call finds is live, and what each made class under the class that a virtual or
-///   interface call names finds for it.
+///   interface call names finds for it. A kept virtual method counts as called: the framework that calls it on an object
+///   enters what the object's class finds.
 /// - The framework may call on a made class the methods that each object has, and where the class has a framework
 ///   ancestor other than `Ljava/lang/Object;`, all its virtual methods, unless they are shut.
 ///

@@ -10,6 +10,7 @@
 mod declared;
 mod finds;
 mod graph;
+mod keepers;
 pub mod known;
 mod listing;
 mod lookups;

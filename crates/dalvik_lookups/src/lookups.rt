@@ -15,7 +15,7 @@ ghost use Rattle.hierarchy.specs.Shapes.{IsCause, IsOf, IsResolved};
 ghost use Rattle.dalvik_lookups.specs.Accepting.{IsAccepted};
 ghost use Rattle.dalvik_lookups.specs.Facing.{IsFace};
 ghost use Rattle.dalvik_lookups.specs.Playing.{ArePlays};
-ghost use Rattle.dalvik_lookups.specs.Reached.{AreTypeMarks, IsOuter};
+ghost use Rattle.dalvik_lookups.specs.Reached.{constructed_kinds, AreTypeMarks, IsOuter};
 ghost use Rattle.dalvik_lookups.specs.Starting.{class_default};
 ghost use Rattle.dalvik_defs.specs.Naming.{text_at, type_at, method_at, named};
 ghost use Rattle.dalvik_defs.specs.Under.{class_under, is_under};
@@ -335,6 +335,7 @@ fn marks_of(
     ensures slots { IfOk result (λ made. made.slots.items ≡ slots_from 0 program.now.classes) }
     ensures outer { IfOk result (λ made. IsOuter program.now outside.now made.outer) }
     ensures classes { HasNames program.now names.now → IfOk result (λ made. AreTypeMarks program.now names.now.types outside.now.classes made.outer.classes.items) }
+    ensures constructed { HasNames program.now names.now → IfOk result (λ made. AreTypeMarks program.now names.now.types (constructed_kinds program.now outside.now.methods) made.outer.constructed.items) }
     ensures constructors { IfOk result (λ made. made.constructors.items ≡ map (is_constructor program.now) program.now.methods) }
     ensures defaults { IsOf program.now hierarchy.now → IfOk result (λ made. made.defaults.items ≡ map (class_default program.now) program.now.classes) }
 {
@@ -401,6 +402,7 @@ fn both_of<'a>(
     ensures framework { IfOk result (λ both. both.0.framework.now ≡ framework.now) }
     ensures outer { IfOk result (λ both. IsOuter program.now outside.now both.0.outer) }
     ensures classes { is_well_formed program.now ≡ true → IfOk result (λ both. AreTypeMarks program.now both.0.types outside.now.classes both.0.outer.classes.items) }
+    ensures constructed { is_well_formed program.now ≡ true → IfOk result (λ both. AreTypeMarks program.now both.0.types (constructed_kinds program.now outside.now.methods) both.0.outer.constructed.items) }
     ensures tables { is_well_formed program.now ≡ true → IsResolved program.now hierarchy → IfOk result (λ both. IsRight both.0) }
     ensures plays { is_well_formed program.now ≡ true → IfOk result (λ both. ArePlays program.now both.0.types both.0.texts script.now both.1.items) }
 {
@@ -453,6 +455,7 @@ impl<'a> Lookups<'a> {
         ensures framework { IfOk result (λ made. IfSome made (λ both. both.0.framework.now ≡ framework.now)) }
         ensures outer { IfOk result (λ made. IfSome made (λ both. IsOuter program.now outside.now both.0.outer)) }
         ensures classes { is_well_formed program.now ≡ true → IfOk result (λ made. IfSome made (λ both. AreTypeMarks program.now both.0.types outside.now.classes both.0.outer.classes.items)) }
+        ensures constructed { is_well_formed program.now ≡ true → IfOk result (λ made. IfSome made (λ both. AreTypeMarks program.now both.0.types (constructed_kinds program.now outside.now.methods) both.0.outer.constructed.items)) }
         ensures tables { is_well_formed program.now ≡ true → IfOk result (λ made. IfSome made (λ both. IsRight both.0)) }
         ensures face { is_well_formed program.now ≡ true → IfOk result (λ made. IfSome made (λ both. IsFace both.0)) }
         ensures plays { is_well_formed program.now ≡ true → IfOk result (λ made. IfSome made (λ both. ArePlays program.now both.0.types both.0.texts script.now both.1.items)) }

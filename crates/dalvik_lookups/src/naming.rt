@@ -3,7 +3,7 @@
 ghost use Rattle.std.specs.Prelude.{◌≡◌, ◌++◌, ◌<◌, [], Some, length, map, codes, slice_get, IfOk, OnOk};
 ghost use Rattle.program_model.specs.declared.pools.MethodName.{MethodName};
 ghost use Rattle.std.specs.List.{concat};
-ghost use Rattle.dalvik_defs.specs.Names.{proto_text, text_eq, texts_eq, signature_eq, object_type, void};
+ghost use Rattle.dalvik_defs.specs.Names.{constructor_name, proto_text, text_eq, texts_eq, signature_eq, object_type, void};
 ghost use Rattle.dalvik_defs.specs.Naming.{text_at, type_at, signature_at, method_at, field_at};
 ghost use Rattle.dalvik_lookups.specs.Tables.{IsRight};
 ghost use Rattle.dalvik_lookups.specs.Views.{type_text, text_of};
@@ -59,6 +59,13 @@ fn is_init(units: &[u16]) -> bool
 {
     let name: [u16; 6] = [60, 105, 110, 105, 116, 62];
     units == name.as_slice()
+}
+
+/// Whether a method is a constructor.
+pub(crate) fn is_constructor(program: &Program, method: &MethodName) -> bool
+    ensures { result ≡ text_eq (text_at program.now method.now.name) constructor_name }
+{
+    is_init(text_at(program, method.name))
 }
 
 /// Whether the units are `V`.

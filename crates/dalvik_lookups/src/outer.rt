@@ -1,6 +1,6 @@
 //! What the framework may reach.
 
-ghost use Rattle.std.specs.Prelude.{◌≡◌, ◌<◌, ◌&&◌, not, ℕ, true, false, length, map, nat_eq, nat_lt, cond, replicate, Some, slice_get, slice_index_or, slice_set, IfOk};
+ghost use Rattle.std.specs.Prelude.{◌≡◌, ◌<◌, ◌++◌, ◌&&◌, not, ℕ, true, false, length, map, nat_eq, nat_lt, cond, replicate, Some, slice_get, slice_index_or, slice_set, IfOk, OnOk};
 ghost use Rattle.std.specs.List.{list_any, list_all};
 ghost use Rattle.program_model.specs.declared.pass.Outside.{Outside};
 ghost use Rattle.program_model.specs.declared.program.Class.{Class};
@@ -14,21 +14,23 @@ ghost use Rattle.dalvik_lookups.specs.Views.{type_text, IsKind};
 ghost use Rattle.dalvik_lookups.specs.Tables.{kind_in, HasNames, IsRight};
 ghost use Rattle.dalvik_lookups.specs.Listing.{Climbs};
 ghost use Rattle.dalvik_lookups.specs.Walks.{IsKept};
-ghost use Rattle.dalvik_lookups.specs.Reached.{is_among, has_descriptor, is_framework_type, touches_at, reaches_framework, AreMarks, AreBaseMarks, AreTypeMarks, MarksMore, IsOuter};
+ghost use Rattle.dalvik_lookups.specs.Reached.{is_among, has_descriptor, constructed_kind, constructed_kinds, is_framework_type, touches_at, reaches_framework, AreMarks, AreBaseMarks, AreTypeMarks, MarksMore, IsOuter};
 
 use crate::listing::{enter, enter_above};
 use crate::lookups::{Lookups, Names, kind_at};
 use crate::memo::Memo;
+use crate::naming::is_constructor;
 use crate::types::{Kind, Types};
 use hierarchy::Walk;
 use program_model::{Class, Outside, Program};
 use std::alloc::{AllocError, Global};
 
-/// Marks for kept classes by the number of their type, kept methods and fields by their numbers, and the methods that
-/// no type of the framework declares.
+/// Marks for kept classes and those of which a constructor is kept by the number of their type, kept methods and fields
+/// by their numbers, and the methods that no type of the framework declares.
 #[derive(Drop)]
 pub struct Outer {
     classes: Vec<bool>,
+    constructed: Vec<bool>,
     methods: Vec<bool>,
     fields: Vec<bool>,
     shut: Vec<bool>,
@@ -115,6 +117,50 @@ fn type_marks(
     Ok(marks)
 }
 
+/// Adds the type of a method number, where that is a constructor.
+fn add_constructed(program: &Program, method: u32, kinds: &mut Vec<u32>) -> Result<(), AllocError>
+    ensures { OnOk result (kinds.new.items ≡ kinds.old.items ++ constructed_kind program.now (slice_get program.now.methods method)) }
+{
+    match program.methods.as_slice().get(method as usize) {
+        Some(name) => {
+            if is_constructor(program, name) {
+                kinds.push(name.class)?;
+            }
+            Ok(())
+        }
+        None => Ok(()),
+    }
+}
+
+/// Adds the types of which these methods are constructors.
+fn add_all_constructed(
+    program: &Program,
+    methods: &[u32],
+    kinds: &mut Vec<u32>,
+) -> Result<(), AllocError>
+    ensures { OnOk result (kinds.new.items ≡ kinds.old.items ++ constructed_kinds program.now methods.now) }
+{
+    for method in methods {
+        add_constructed(program, *method, kinds)?;
+    }
+    Ok(())
+}
+
+/// Marks for the types of which these methods are constructors.
+fn constructed_marks(
+    alloc: Global,
+    program: &Program,
+    names: &Names<'_>,
+    methods: &[u32],
+) -> Result<Vec<bool>, AllocError>
+    ensures { HasNames program.now names.now → IfOk result (λ marks. AreTypeMarks program.now names.now.types (constructed_kinds program.now methods.now) marks.items) }
+{
+    let mut kinds = Vec::new(alloc);
+    add_all_constructed(program, methods, &mut kinds)?;
+    let marks = type_marks(alloc, program, names, kinds.as_slice())?;
+    Ok(marks)
+}
+
 /// What the framework may reach of a program with these names.
 pub(crate) fn outer_of(
     alloc: Global,
@@ -124,13 +170,16 @@ pub(crate) fn outer_of(
 ) -> Result<Outer, AllocError>
     ensures members { IfOk result (IsOuter program.now outside.now) }
     ensures classes { HasNames program.now names.now → IfOk result (λ outer. AreTypeMarks program.now names.now.types outside.now.classes outer.classes.items) }
+    ensures constructed { HasNames program.now names.now → IfOk result (λ outer. AreTypeMarks program.now names.now.types (constructed_kinds program.now outside.now.methods) outer.constructed.items) }
 {
     let classes = type_marks(alloc, program, names, outside.classes.as_slice())?;
+    let constructed = constructed_marks(alloc, program, names, outside.methods.as_slice())?;
     let methods = marks(alloc, program.methods.len(), outside.methods.as_slice())?;
     let fields = marks(alloc, program.fields.len(), outside.fields.as_slice())?;
     let shut = marks(alloc, program.methods.len(), outside.shut.as_slice())?;
     Ok(Outer {
         classes,
+        constructed,
         methods,
         fields,
         shut,
@@ -153,6 +202,14 @@ impl Outer {
         ensures { (p : Program) (o : Outside) (t : Types) → AreTypeMarks p t o.classes self.now.classes.items → IsKind t kind → result ≡ (not (is_array (type_text t kind)) && list_any (has_descriptor p (type_text t kind)) o.classes) }
     {
         !kind.is_array() && is_on(self.classes.as_slice(), kind.base)
+    }
+
+    /// Whether a constructor of a class is kept. An array is no class.
+    pub fn keeps_constructor_of(&self, kind: Kind) -> bool
+        ensures { (p : Program) (o : Outside) (t : Types) → AreTypeMarks p t (constructed_kinds p o.methods) self.now.constructed.items → IsKind t kind
+            → result ≡ (not (is_array (type_text t kind)) && list_any (has_descriptor p (type_text t kind)) (constructed_kinds p o.methods)) }
+    {
+        !kind.is_array() && is_on(self.constructed.as_slice(), kind.base)
     }
 
     /// Whether a method is kept.

@@ -14,14 +14,15 @@ mentions_all p m = record { types = λ t h d. refl; fields = λ k f h d. refl; m
 
 pub everything_closed : (p : NamedProgram) (o : Outer) (k : Conditions) → IsClosedFamily p o k everything
 everything_closed p o k = record {
-  kept = record { classes = λ t d h. refl; fields = λ f d h. refl; methods = λ m d h. refl; field_classes = λ f h. refl; method_classes = λ m h. refl };
+  kept = record { classes = λ t d h. refl; fields = λ f d h. refl; methods = λ m d h. refl; constructors = λ m d e h. refl; field_classes = λ f h. refl; method_classes = λ m h. refl };
   above = record { above = λ t c d h u g e. refl; initialisers = λ t i h d. refl; defaults = λ t c m v d h i j g e. refl };
   types = record { fields = λ f h t g d. refl; methods = λ m h t g d. refl; bodies = λ m b h t g d. refl };
   mentions = record { classes = λ t c d h. mentions_all p _; fields = λ f d g h. mentions_all p _; methods = λ f d g h. mentions_all p _ };
-  made = record { kept = λ t d h. refl; news = λ m b to t h g d. refl };
+  made = record { kept = λ t d h. refl; constructed = λ m d e h. refl; news = λ m b to t h g d. refl };
   resolved = record { fields = λ m b h f g i d. refl; methods = λ m b kind f args h g i j l d. refl };
   bound = λ m b kind f args h g e i l. refl;
   virtual = λ m b kind f args h g e t i j l q. refl;
+  entered = λ m x d e h t i j l q. refl;
   called_back = λ t n g h e f i j. refl;
 }
 

@@ -32,3 +32,4 @@ pub mod Closed
 pub mod FlatAnalysis
 pub mod Examples
 pub mod PassExamples
+pub mod KeptExamples

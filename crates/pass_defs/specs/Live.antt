@@ -1,5 +1,5 @@
 -- What a program and its rules keep live (ProGuard manual, "Keep Options"; this project's profile): the least sets of
--- classes, made classes, fields and methods with nine rules. A set is a test; a member is live where every closed family
+-- classes, made classes, fields and methods with ten rules. A set is a test; a member is live where every closed family
 -- of sets has it.
 use Rattle.std.specs.Prelude.{◌≡◌, ◌↔◌, ℕ, Bool, true, false, ◌&&◌, ◌||◌, not, List, [], ◌∷◌, ◌++◌, map, Option, Some, None, is_some, Contains}
 use Rattle.std.specs.List.{list_any}
@@ -7,7 +7,7 @@ use Rattle.insn_set.specs.declared.ops.InvokeKind.{InvokeKind}
 use Rattle.insn_set.specs.declared.ops.InvokeKind.TheVariants as call
 use Rattle.program_model.specs.declared.program.Program.{Program}
 use Rattle.program_model.specs.declared.pass.Outside.{Outside}
-use Rattle.dalvik_defs.specs.Names.{Text, text_eq, field_eq, is_common, base_of}
+use Rattle.dalvik_defs.specs.Names.{Text, text_eq, field_eq, is_common, base_of, constructor_name}
 use Rattle.dalvik_defs.specs.Naming.{type_at, field_at}
 use Rattle.dalvik_defs.specs.Flags.{is_interface, is_abstract}
 use Rattle.dalvik_defs.specs.Under.{class_named, defines, is_outward}
@@ -60,6 +60,13 @@ everything = record { classes = λ t. true; made = λ t. true; fields = λ k. tr
 abbrev pub is_kept : NamedProgram → Outer → Conditions → Family → Text → Bool
 is_kept p o k s t = o.classes t || list_any (λ c. k.classes t c.name && s.classes c.name) p.classes
 
+-- a method that the rules keep, also where it is kept because its class is live
+abbrev pub is_kept_method : Outer → Conditions → Family → MethodKey → Bool
+is_kept_method o k s m = o.methods m || (k.methods m && s.classes m.class)
+
+abbrev pub is_constructor : MethodKey → Bool
+is_constructor m = text_eq m.name constructor_name
+
 -- a program class that can have objects
 abbrev pub is_concrete : NamedProgram → Text → Bool
 is_concrete p t = elim (class_named p t) [ Some c ↦ not (is_interface c.flags) && not (is_abstract c.flags) | None ↦ false ]
@@ -87,11 +94,13 @@ pub record HasMentions (p : NamedProgram) (s : Family) (m : Mentions) : Type 0 w
 abbrev pub HasBody : NamedProgram → Family → MethodKey → NamedBody → Type 0
 HasBody p s k b = (s.methods k ≡ true) × (bodies_of p k ≡ Some b)
 
--- Kept classes and members are live, and conditional members of a live class. The class of a live member is live.
+-- Kept classes and members are live, and conditional members of a live class. The class of a live member is live, and so
+-- is one of which a constructor is kept.
 pub record KeepsKept (p : NamedProgram) (o : Outer) (k : Conditions) (s : Family) : Type 0 where
   pub classes : (t : Text) → defines p t ≡ true → is_kept p o k s t ≡ true → s.classes t ≡ true
   pub fields : (f : FieldKey) → is_some (defined_field p f) ≡ true → (o.fields f || (k.fields f && s.classes f.class)) ≡ true → s.fields f ≡ true
-  pub methods : (m : MethodKey) → is_some (defined_method p m) ≡ true → (o.methods m || (k.methods m && s.classes m.class)) ≡ true → s.methods m ≡ true
+  pub methods : (m : MethodKey) → is_some (defined_method p m) ≡ true → is_kept_method o k s m ≡ true → s.methods m ≡ true
+  pub constructors : (m : MethodKey) → defines p m.class ≡ true → is_constructor m ≡ true → is_kept_method o k s m ≡ true → s.classes m.class ≡ true
   pub field_classes : (f : FieldKey) → s.fields f ≡ true → s.classes f.class ≡ true
   pub method_classes : (m : MethodKey) → s.methods m ≡ true → s.classes m.class ≡ true
 
@@ -114,9 +123,11 @@ pub record KeepsMentions (p : NamedProgram) (s : Family) : Type 0 where
   pub fields : (k : FieldKey) (f : NamedField) → defined_field p k ≡ Some f → s.fields k ≡ true → HasMentions p s (in_field f)
   pub methods : (k : MethodKey) (m : NamedMethod) → defined_method p k ≡ Some m → s.methods k ≡ true → HasMentions p s (in_method m)
 
--- A class that can have objects is made, if it is kept or live code makes an object of it.
+-- A class that can have objects is made, if it is kept, if the rules keep one of its constructors, by which the framework
+-- makes objects too, or if live code makes an object of it.
 pub record KeepsMade (p : NamedProgram) (o : Outer) (k : Conditions) (s : Family) : Type 0 where
   pub kept : (t : Text) → is_concrete p t ≡ true → is_kept p o k s t ≡ true → s.made t ≡ true
+  pub constructed : (m : MethodKey) → is_concrete p m.class ≡ true → is_constructor m ≡ true → is_kept_method o k s m ≡ true → s.made m.class ≡ true
   pub news : (m : MethodKey) (b : NamedBody) (to : ℕ) (t : Text) → HasBody p s m b → Contains b.forms (form.NewInstance to t) → is_concrete p t ≡ true → s.made t ≡ true
 
 -- The members to which names in live code resolve.
@@ -144,6 +155,12 @@ abbrev pub KeepsVirtual : NamedProgram → Family → Type 0
 KeepsVirtual p s = (m : MethodKey) (b : NamedBody) (kind : InvokeKind) (k : MethodKey) (args : List ℕ) → HasBody p s m b → Contains b.forms (form.Invoke kind k args) → is_bound kind ≡ false →
     (t : Text) → s.made t ≡ true → is_within p t k.class ≡ true → HasMethods s (answers_to p t k.name k.signature)
 
+-- A kept virtual method, at each made class under its own by the program's own lists: the framework that calls it on an
+-- object enters what the object's class finds.
+abbrev pub KeepsEntered : NamedProgram → Outer → Conditions → Family → Type 0
+KeepsEntered p o k s = (m : MethodKey) (x : NamedMethod) → defined_method p m ≡ Some x → is_virtual_method x ≡ true → is_kept_method o k s m ≡ true →
+    (t : Text) → s.made t ≡ true → is_within p t m.class ≡ true → HasMethods s (answers_to p t m.name m.signature)
+
 -- What the framework may call on a made class that has a framework ancestor other than Object, and the methods that every
 -- object answers to; methods that are shut stay out.
 abbrev pub KeepsCalledBack : NamedProgram → Outer → Family → Type 0
@@ -159,6 +176,7 @@ pub record IsClosedFamily (p : NamedProgram) (o : Outer) (k : Conditions) (s : F
   pub resolved : KeepsResolved p s
   pub bound : KeepsBound p s
   pub virtual : KeepsVirtual p s
+  pub entered : KeepsEntered p o k s
   pub called_back : KeepsCalledBack p o s
 
 abbrev pub IsLiveClass : NamedProgram → Outer → Conditions → Text → Type 0

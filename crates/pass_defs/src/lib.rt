@@ -5,5 +5,6 @@
 #![tactic(auto)]
 
 pub mod examples;
+pub mod kept_examples;
 pub mod laws;
 pub mod passes;

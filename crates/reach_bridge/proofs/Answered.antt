@@ -1,6 +1,6 @@
 -- What made objects answer to: calls of marked code, and calls of the framework.
 use Rattle.std.proofs.Common.{◌≡◌, ℕ, ◌<◌, inl, inr, Bool, true, false, nat_eq, List, [], ◌∷◌, length, Some, refl, sym, ap, ◌∙◌, subst, arith}
-use Rattle.std.specs.Prelude.{◌||◌, cond, slice_get, slice_index_or}
+use Rattle.std.specs.Prelude.{◌||◌, not, cond, slice_get, slice_index_or}
 use Rattle.std.specs.List.{list_any}
 use Rattle.insn_set.specs.declared.form.Insn.{Insn}
 use Rattle.insn_set.specs.declared.ops.InvokeKind.{InvokeKind}
@@ -18,12 +18,13 @@ use Rattle.call_graph.specs.Follows as follow
 use Rattle.call_graph.specs.Follows.{method_types, names_of_method, named_facts, all_named, method_facts, call_facts, found_facts}
 use Rattle.call_graph.specs.Objects as object
 use Rattle.call_graph.specs.Objects.{answers_by, answer_facts, open_of, open_facts, IsOver, MayCall}
-use Rattle.call_graph.specs.Closed.{forced, IsCalled}
+use Rattle.call_graph.specs.Closed.{kept_facts, forced, IsCalled}
+use Rattle.program_model.specs.MemberRules.{is_direct}
 use Rattle.dalvik_defs.specs.Names as spelled
 use Rattle.dalvik_defs.specs.Names.{Text, text_eq, method_eq, object_type}
 use Rattle.dalvik_defs.specs.Naming.{text_at, type_at, signature_at, method_at, named_method, named_class, named}
 use Rattle.dalvik_defs.specs.Under.{is_own_under, is_outward}
-use Rattle.dalvik_defs.specs.Find.{Found}
+use Rattle.dalvik_defs.specs.Find.{Found, is_virtual_method}
 use Rattle.dalvik_defs.specs.Outer.{methods_in, outer_of}
 use Rattle.dalvik_defs.specs.Silence.{key_in}
 use Rattle.dalvik_defs.specs.declared.names.Signature.{Signature}
@@ -33,9 +34,9 @@ use Rattle.dalvik_defs.specs.declared.program.NamedMethod.{NamedMethod}
 use Rattle.dalvik_defs.specs.declared.program.NamedClass.{NamedClass}
 use Rattle.dalvik_defs.proofs.Calm.{text_sound}
 use Rattle.pass_defs.specs.Calls.{is_within}
-use Rattle.pass_defs.specs.Live.{is_bound, answers_to, KeepsVirtual, KeepsCalledBack}
+use Rattle.pass_defs.specs.Live.{is_bound, answers_to, KeepsVirtual, KeepsEntered, KeepsCalledBack}
 use Rattle.name_bridge.proofs.Tables.{method_is, method_class, method_name, method_proto}
-use Rattle.name_bridge.proofs.Found.{looked_up, found_parts}
+use Rattle.name_bridge.proofs.Found.{looked_up, found_parts, virtual_test}
 use Rattle.name_bridge.proofs.Candidates.{common_test}
 use Rattle.removal_law.proofs.Lists.{In, here, clash, contained, in_back}
 use Rattle.removal_law.proofs.Finds.{in_flat}
@@ -54,24 +55,50 @@ use Rattle.reach_bridge.proofs.Coded.{LiveCode, IsCall, live_code, call_from}
 use Rattle.reach_bridge.proofs.Upward.{keeps_above}
 use Rattle.reach_bridge.proofs.Answering.{answers_named}
 use Rattle.reach_bridge.proofs.Calls.{short, names}
+use Rattle.reach_bridge.proofs.Keeping.{Begins, kept_own}
 use Rattle.reach_bridge.proofs.Climbing.{climbs, object_found, object_is, outward}
 
 module _ (p : Program) (o : Outside) (s : LiveSet) (g : IsMarked p o s) where
+  -- ---- what is called on objects
+
+  module _ (number : ℕ) (below : number < length p.methods) (k : MethodKey) (is : method_at p number ≡ k) (called : IsCalled p o g.closed.tables s number) where
+    over : (n : ℕ) (q : MethodName) → n < length p.types → slice_get p.methods number ≡ Some q → is_within (named p) (type_at p n) k.class ≡ true → IsOver p g.closed.tables.object n q.class
+    over n q lt at e = by (text_eq k.class object_type) refl e
+      where
+        class_is : k.class ≡ type_at p q.class
+        class_is = ap (λ z. z.class) (sym is ∙ method_is p (S p o s g) number q at)
+
+        by : (b : Bool) → text_eq k.class object_type ≡ b → (b || is_own_under (named p) (type_at p n) k.class) ≡ true → IsOver p g.closed.tables.object n q.class
+        by true h e = inr (sym (object_is p o s g ∙ object_found p o s g q.class (method_class p (S p o s g) number q at) (sym class_is ∙ text_sound k.class object_type h)))
+        by false h e = inl (climbs p o s g (length (named p).classes) n q.class lt (method_class p (S p o s g) number q at) (subst (λ z. is_own_under (named p) (type_at p n) z ≡ true) class_is e))
+
+    answered : (t : Text) → (family_of p s).made t ≡ true → is_within (named p) t k.class ≡ true → (f : Found) → In f (answers_to (named p) t k.name k.signature) → (family_of p s).methods f.key ≡ true
+    answered t made within f j =
+        let n = made_number p s t made in
+        let q = entry_at p.methods number below in
+        let key = sym is ∙ method_is p (S p o s g) number q.0 q.1 in
+        let from : In f (answers_to (named p) (type_at p n.number) (text_at p q.0.name) (signature_at p q.0.proto)) =
+        subst (λ z. In f (answers_to (named p) z (text_at p q.0.name) (signature_at p q.0.proto))) (sym n.is) (subst (λ z. In f (answers_to (named p) t z.name z.signature)) key j) in
+        let w = answers_named p (S p o s g) g.once q.0.name q.0.proto (method_name p (S p o s g) number q.0 q.1) (method_proto p (S p o s g) number q.0 q.1) n.number n.short f from in
+        place_held p o s g w.at f w.found (λ y i'. g.closed.answers number n.number w.class q.0 y called below q.1 (method_class p (S p o s g) number q.0 q.1) n.marked w.is_class
+        (over n.number q.0 n.short q.1 (subst (λ z. is_within (named p) z k.class ≡ true) (sym n.is) within))
+        (contained y (answer_facts p number w.class) (subst (In y) (sym (ap (answers_by p w.class) q.1)) (in_flat (λ a. found_facts p (Some a)) w.at y (object.answers_to p w.class q.0.name q.0.proto) w.answers i'))))
+
   -- ---- calls of marked code
 
   module _ (m : MethodKey) (b : NamedBody) (l : LiveCode p s m b) (i : Insn) (at : In i l.body.insns) (kind : InvokeKind) (k : MethodKey) (r : IsCall p i kind k) where
     abbrev bases : List ℕ
     bases = g.closed.tables.bases.items
 
-    is_called : is_bound kind ≡ false → IsCalled p g.closed.tables s r.number
-    is_called e = record {
+    is_called : is_bound kind ≡ false → IsCalled p o g.closed.tables s r.number
+    is_called e = inr (record {
       from = fact.Method l.number.number;
       live = l.number.marked;
       calls = contained (fact.Called r.number) (forced p g.closed.tables (fact.Method l.number.number))
           (in_back (fact.Called r.number) (method_types p bases l.number.number) (all_named p bases (names_of_method (follow.own_method p l.number.number)))
           (in_flat (named_facts p bases) (item.Call kind r.number) (fact.Called r.number) (names_of_method (follow.own_method p l.number.number)) (names p o s g m b l i at kind k r)
           (in_back (fact.Called r.number) (method_facts p bases r.number) (call_facts p kind r.number) (by kind e))));
-    }
+    })
       where
         by : (z : InvokeKind) → is_bound z ≡ false → In (fact.Called r.number) (call_facts p z r.number)
         by call.Virtual e = here []
@@ -80,33 +107,28 @@ module _ (p : Program) (o : Outside) (s : LiveSet) (g : IsMarked p o s) where
         by call.Direct e = clash true refl e
         by call.Super e = clash true refl e
 
-    over : (n : ℕ) (q : MethodName) → n < length p.types → slice_get p.methods r.number ≡ Some q → is_within (named p) (type_at p n) k.class ≡ true → IsOver p g.closed.tables.object n q.class
-    over n q lt is e = by (text_eq k.class object_type) refl e
-      where
-        class_is : k.class ≡ type_at p q.class
-        class_is = ap (λ z. z.class) (sym r.is ∙ method_is p (S p o s g) r.number q is)
-
-        by : (b : Bool) → text_eq k.class object_type ≡ b → (b || is_own_under (named p) (type_at p n) k.class) ≡ true → IsOver p g.closed.tables.object n q.class
-        by true h e = inr (sym (object_is p o s g ∙ object_found p o s g q.class (method_class p (S p o s g) r.number q is) (sym class_is ∙ text_sound k.class object_type h)))
-        by false h e = inl (climbs p o s g (length (named p).classes) n q.class lt (method_class p (S p o s g) r.number q is) (subst (λ z. is_own_under (named p) (type_at p n) z ≡ true) class_is e))
-
-    virtual_held : is_bound kind ≡ false → (t : Text) → (family_of p s).made t ≡ true → is_within (named p) t k.class ≡ true → (f : Found) → In f (answers_to (named p) t k.name k.signature) → (family_of p s).methods f.key ≡ true
-    virtual_held bound t made within f j =
-        let n = made_number p s t made in
-        let q = entry_at p.methods r.number (short p o s g m b l i at kind k r) in
-        let key = sym r.is ∙ method_is p (S p o s g) r.number q.0 q.1 in
-        let from : In f (answers_to (named p) (type_at p n.number) (text_at p q.0.name) (signature_at p q.0.proto)) =
-        subst (λ z. In f (answers_to (named p) z (text_at p q.0.name) (signature_at p q.0.proto))) (sym n.is) (subst (λ z. In f (answers_to (named p) t z.name z.signature)) key j) in
-        let w = answers_named p (S p o s g) g.once q.0.name q.0.proto (method_name p (S p o s g) r.number q.0 q.1) (method_proto p (S p o s g) r.number q.0 q.1) n.number n.short f from in
-        place_held p o s g w.at f w.found (λ y i'. g.closed.answers r.number n.number w.class q.0 y (is_called bound) (short p o s g m b l i at kind k r) q.1 (method_class p (S p o s g) r.number q.0 q.1) n.marked w.is_class
-        (over n.number q.0 n.short q.1 (subst (λ z. is_within (named p) z k.class ≡ true) (sym n.is) within))
-        (contained y (answer_facts p r.number w.class) (subst (In y) (sym (ap (answers_by p w.class) q.1)) (in_flat (λ a. found_facts p (Some a)) w.at y (object.answers_to p w.class q.0.name q.0.proto) w.answers i'))))
-
   pub keeps_virtual : KeepsVirtual (named p) (family_of p s)
   keeps_virtual m b kind k args h c bound t made within f i =
       let l = live_code p o s g m b h in
       let r = call_from p o s g m b l kind k args c in
-      virtual_held m b l r.0 r.1.0 kind k r.1.1 bound t made within f (stands (answers_to (named p) t k.name k.signature) f i)
+      answered r.1.1.number (short p o s g m b l r.0 r.1.0 kind k r.1.1) k r.1.1.is (is_called m b l r.0 r.1.0 kind k r.1.1 bound) t made within f (stands (answers_to (named p) t k.name k.signature) f i)
+
+  -- ---- kept virtual methods
+
+  begun_call : (number : ℕ) → Begins p o s g (fact.Called number) → IsCalled p o g.closed.tables s number
+  begun_call number (inl i) = inl (contained (fact.Called number) (kept_facts p o) i)
+  begun_call number (inr b) = inr (record { from = b.0; live = b.1.0; calls = contained (fact.Called number) (forced p g.closed.tables b.0) b.1.1 })
+
+  not_direct : (b : Bool) → not b ≡ true → b ≡ false
+  not_direct true e = sym e
+  not_direct false e = refl
+
+  pub keeps_entered : KeepsEntered (named p) (outer_of p o) (conditions_of p o) (family_of p s)
+  keeps_entered m x d virtual kept t made within f i =
+      let w = kept_own p o s g m x d kept in
+      let test : is_direct p w.own.method ≡ false = not_direct (is_direct p w.own.method) (sym (virtual_test p w.own.method) ∙ ap is_virtual_method w.own.is ∙ virtual) in
+      let calls = w.entered (fact.Called w.kept.number) (subst (In (fact.Called w.kept.number)) (sym (ap (λ b. cond b [] (fact.Called w.kept.number ∷ [])) test)) (here [])) in
+      answered w.kept.number w.kept.short m w.kept.is (begun_call w.kept.number calls) t made within f (stands (answers_to (named p) t m.name m.signature) f i)
 
   -- ---- calls of the framework
 

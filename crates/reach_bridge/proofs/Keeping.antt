@@ -21,9 +21,10 @@ use Rattle.call_graph.specs.declared.live_set.LiveSet.{LiveSet}
 use Rattle.call_graph.specs.Lists.{row_of}
 use Rattle.call_graph.specs.Tables.{field_in, method_in, field_if, method_if, class_if}
 use Rattle.call_graph.specs.Follows as follow
-use Rattle.call_graph.specs.Follows.{class_of, can_be_made, made_of, made_facts, kind_facts, kept_class, kept_field, kept_method, field_types, method_types, field_names, names_of_method, named_facts, all_named}
-use Rattle.call_graph.specs.Closed.{kept_facts}
-use Rattle.dalvik_defs.specs.Names.{Text, text_eq, method_eq, field_eq}
+use Rattle.call_graph.specs.Follows.{class_of, can_be_made, made_of, made_facts, kind_facts, kept_class, kept_field, kept_method, own_kept_of, constructed_of, entered_of, class_facts, field_types, method_types, field_names, names_of_method, named_facts, all_named}
+use Rattle.call_graph.specs.Closed.{kept_facts, conditional, forced, is_live, is_met}
+use Rattle.class_defs.specs.Members.{string_is}
+use Rattle.dalvik_defs.specs.Names.{Text, text_eq, method_eq, field_eq, constructor_name}
 use Rattle.dalvik_defs.specs.Naming.{text_at, type_at, signature_at, field_at, method_at, named_class, named}
 use Rattle.dalvik_defs.specs.Flags.{is_interface, is_abstract}
 use Rattle.dalvik_defs.specs.Under.{class_named, defines}
@@ -36,13 +37,14 @@ use Rattle.dalvik_defs.specs.declared.program.NamedField.{NamedField}
 use Rattle.dalvik_defs.specs.declared.program.NamedMethod.{NamedMethod}
 use Rattle.dalvik_defs.specs.declared.program.NamedClass.{NamedClass}
 use Rattle.dalvik_defs.proofs.Calm.{text_sound}
-use Rattle.pass_defs.specs.Live.{conditions_of, is_kept, is_concrete, KeepsKept}
+use Rattle.pass_defs.specs.Live.{conditions_of, is_kept, is_kept_method, is_constructor, is_concrete, KeepsKept}
 use Rattle.pass_defs.specs.Mentions.{types_of}
 use Rattle.name_bridge.specs.Named.{class_at}
 use Rattle.name_bridge.proofs.Flags.{interface_flag, abstract_flag}
+use Rattle.name_bridge.proofs.Found.{text_same}
 use Rattle.name_bridge.proofs.Tables.{type_once, field_is, field_class, method_is, method_class}
 use Rattle.name_bridge.proofs.Classes.{class_by_number}
-use Rattle.removal_law.proofs.Lists.{In, here, there, clash, contained, and_left, and_behind}
+use Rattle.removal_law.proofs.Lists.{In, here, there, clash, contained, in_front, in_back, and_left, and_behind}
 use Rattle.removal_law.proofs.Finds.{in_flat}
 use Rattle.removal_law.proofs.Walks as walk
 use Rattle.removal_law.proofs.Outward.{any_where}
@@ -55,7 +57,7 @@ use Rattle.reach_bridge.proofs.Kept.{field_sound}
 use Rattle.reach_bridge.proofs.Held.{ByNumber, class_number, field_number, method_number, class_met, made_met, field_met, method_met}
 use Rattle.reach_bridge.proofs.Based.{Met, S, empty_undefined}
 use Rattle.reach_bridge.proofs.Mentioned.{empty_class, met_front, met_back, met_one, field_types_held, method_types_held}
-use Rattle.reach_bridge.proofs.Owned.{own_method, own_field}
+use Rattle.reach_bridge.proofs.Owned.{OwnMethod, own_method, own_field}
 use Rattle.reach_bridge.proofs.Coded.{field_facts_met, body_facts_met, conditional_met}
 use Rattle.reach_bridge.proofs.Upward.{OwnClass, own_class, class_held}
 
@@ -244,6 +246,7 @@ module _ (p : Program) (o : Outside) (s : LiveSet) (g : IsMarked p o s) where
 
   -- ---- methods
 
+  -- a number of a listed method
   record MethodNumber (f : MethodKey) (ns : List ℕ) : Type 0 where
     number : ℕ
     is_in : In number ns
@@ -251,9 +254,8 @@ module _ (p : Program) (o : Outside) (s : LiveSet) (g : IsMarked p o s) where
     entry : MethodName
     is_entry : slice_get p.methods number ≡ Some entry
     is : method_at p number ≡ f
-    kept : kept_method p number ≡ fact.Method number ∷ []
 
-  method_listed : (f : MethodKey) (ns : List ℕ) → is_some (defined_method (named p) f) ≡ true → methods_in p ns f ≡ true → MethodNumber f ns
+  method_listed : (f : MethodKey) (ns : List ℕ) → defines (named p) f.class ≡ true → methods_in p ns f ≡ true → MethodNumber f ns
   method_listed f ns d e = by (cases_lt r.0 (length p.methods))
     where
       r : (n : ℕ) × (In n ns × (method_eq (method_at p n) f ≡ true))
@@ -262,45 +264,128 @@ module _ (p : Program) (o : Outside) (s : LiveSet) (g : IsMarked p o s) where
       is : method_at p r.0 ≡ f
       is = method_sound (method_at p r.0) f r.1.1
 
-      nowhere : (x : Option NamedClass) → x ≡ None → is_some (elim x as (λ x. Option NamedMethod) [ Some c ↦ find.method_in c f.name f.signature | None ↦ None ]) ≡ true → ⊥
-      nowhere None e h = clash false h refl
-      nowhere (Some c) e h = none_some c (sym e)
-
       by : (r.0 < length p.methods) ⊎ (length p.methods ≤ r.0) → MethodNumber f ns
-      by (inl lt) =
-          let nm = some_defined (defined_method (named p) f) d in
-          let w = own_method p o s g r.0 lt nm.0 (ap (defined_method (named p)) is ∙ nm.1) in
-          record { number = r.0; is_in = r.1.0; short = lt; entry = w.entry; is_entry = w.is_entry; is = is; kept = ap (λ x. cond (is_some x) (fact.Method r.0 ∷ []) []) w.own }
+      by (inl lt) = let q = entry_at p.methods r.0 lt in record { number = r.0; is_in = r.1.0; short = lt; entry = q.0; is_entry = q.1; is = is }
       by (inr le) =
           let empty : f.class ≡ [] = ap (λ k. k.class) (sym is) ∙ ap (λ x. (elim x as (λ x. MethodKey) [ Some m ↦ record { class = type_at p m.class; name = text_at p m.name; signature = signature_at p m.proto } | None ↦ record { class = []; name = []; signature = record { parameters = []; result = [] } } ]).class) (slice_get_past p.methods r.0 le) in
-          absurd (nowhere (class_named (named p) f.class) (ap (class_named (named p)) empty ∙ empty_class p o s g) d)
+          empty_undefined p o s g (ap (defines (named p)) (sym empty) ∙ d)
 
   method_row : (k n : ℕ) (q : MethodName) → k < length p.types → In n o.methods_if → slice_get p.methods n ≡ Some q → q.class ≡ k → In n (row_of g.closed.tables.methods_if k)
   method_row k n q lt i is same = subst (In n) (sym (g.closed.are.methods k lt))
       (in_flat (method_if p k) n n o.methods_if i (subst (In n) (sym (ap (method_in k n) is ∙ ap (λ b. cond b (n ∷ []) []) (number_test k q.class (sym same)))) (here [])))
 
-  method_live : (f : MethodKey) (ns : List ℕ) (w : MethodNumber f ns) → Met s (kept_method p w.number) → (family_of p s).methods f ≡ true
-  method_live f ns w met = ap (family_of p s).methods (sym w.is) ∙ method_met p s g.sized w.number w.short (met (fact.Method w.number) (subst (In (fact.Method w.number)) (sym w.kept) (here [])))
+  -- the outside keeps it, or a live thing brings it along
+  abbrev pub Begins : Fact → Type 0
+  Begins y = In y (kept_facts p o) ⊎ ((x : Fact) × ((is_live s x ≡ true) × In y (forced p g.closed.tables x)))
 
-  pub method_kept : (f : MethodKey) → is_some (defined_method (named p) f) ≡ true → ((outer_of p o).methods f || ((conditions_of p o).methods f && (family_of p s).classes f.class)) ≡ true → (family_of p s).methods f ≡ true
-  method_kept f d e = by (or_cases ((outer_of p o).methods f) ((conditions_of p o).methods f && (family_of p s).classes f.class) e)
+  begins_live : (y : Fact) → Begins y → is_met s y ≡ true
+  begins_live y (inl i) = begins_met y i
+  begins_live y (inr b) = g.closed.entails b.0 y b.1.0 (inl (contained y (forced p g.closed.tables b.0) b.1.1))
+
+  -- a number of a kept method, from which all begins that follows from its being kept
+  pub record KeptMethod (f : MethodKey) : Type 0 where
+    pub number : ℕ
+    pub short : number < length p.methods
+    pub entry : MethodName
+    pub is_entry : slice_get p.methods number ≡ Some entry
+    pub is : method_at p number ≡ f
+    pub begins : (y : Fact) → In y (kept_method p number) → Begins y
+
+  abbrev pub IsKeptMethod : MethodKey → Type 0
+  IsKeptMethod f = is_kept_method (outer_of p o) (conditions_of p o) (family_of p s) f ≡ true
+
+  kept_outside_method : (f : MethodKey) → MethodNumber f o.methods → KeptMethod f
+  kept_outside_method f w = record {
+    number = w.number;
+    short = w.short;
+    entry = w.entry;
+    is_entry = w.is_entry;
+    is = w.is;
+    begins = λ y i. inl (in_back y kept_classes (kept_fields ++ kept_methods) (in_back y kept_fields kept_methods (in_flat (kept_method p) w.number y o.methods w.is_in i)));
+  }
+
+  kept_by_class : (f : MethodKey) → MethodNumber f o.methods_if → ByNumber s.classes.items (length p.types) (type_at p) f.class → KeptMethod f
+  kept_by_class f w live =
+      let name : type_at p w.entry.class ≡ f.class = ap (λ k. k.class) (sym (method_is p (S p o s g) w.number w.entry w.is_entry) ∙ w.is) in
+      let same = type_once p (S p o s g) w.entry.class live.number (method_class p (S p o s g) w.number w.entry w.is_entry) live.short (name ∙ sym live.is) in
+      let row = method_row live.number w.number w.entry live.short w.is_in w.is_entry same in
+      record {
+        number = w.number;
+        short = w.short;
+        entry = w.entry;
+        is_entry = w.is_entry;
+        is = w.is;
+        begins = λ y i. inr (fact.Class live.number, (live.marked,
+            in_back y (class_facts p g.closed.tables.bases.items live.number) (conditional p g.closed.tables live.number)
+            (in_back y (flat_map (kept_field p) (row_of g.closed.tables.fields_if live.number)) (flat_map (kept_method p) (row_of g.closed.tables.methods_if live.number) ++ flat_map (kept_class p) (row_of g.closed.tables.classes_if live.number))
+            (in_front y (flat_map (kept_method p) (row_of g.closed.tables.methods_if live.number)) (flat_map (kept_class p) (row_of g.closed.tables.classes_if live.number))
+            (in_flat (kept_method p) w.number y (row_of g.closed.tables.methods_if live.number) row i)))));
+      }
+
+  pub kept_by_number : (f : MethodKey) → defines (named p) f.class ≡ true → IsKeptMethod f → KeptMethod f
+  kept_by_number f d e = by (or_cases ((outer_of p o).methods f) ((conditions_of p o).methods f && (family_of p s).classes f.class) e)
     where
-      by_class : MethodNumber f o.methods_if → ByNumber s.classes.items (length p.types) (type_at p) f.class → (family_of p s).methods f ≡ true
-      by_class w live =
-          let name : type_at p w.entry.class ≡ f.class = ap (λ k. k.class) (sym (method_is p (S p o s g) w.number w.entry w.is_entry) ∙ w.is) in
-          let same = type_once p (S p o s g) w.entry.class live.number (method_class p (S p o s g) w.number w.entry w.is_entry) live.short (name ∙ sym live.is) in
-          method_live f o.methods_if w (met_one p o s g (kept_method p) (row_of g.closed.tables.methods_if live.number) w.number
-          (met_front p o s g (flat_map (kept_method p) (row_of g.closed.tables.methods_if live.number)) (flat_map (kept_class p) (row_of g.closed.tables.classes_if live.number))
-          (met_back p o s g (flat_map (kept_field p) (row_of g.closed.tables.fields_if live.number)) (flat_map (kept_method p) (row_of g.closed.tables.methods_if live.number) ++ flat_map (kept_class p) (row_of g.closed.tables.classes_if live.number))
-          (conditional_met p o s g live.number live.marked)))
-          (method_row live.number w.number w.entry live.short w.is_in w.is_entry same))
-
-      by : ((outer_of p o).methods f ≡ true) ⊎ (((conditions_of p o).methods f && (family_of p s).classes f.class) ≡ true) → (family_of p s).methods f ≡ true
-      by (inl h) =
-          let w = method_listed f o.methods d h in
-          method_live f o.methods w (met_one p o s g (kept_method p) o.methods w.number (met_back p o s g kept_fields kept_methods (met_back p o s g kept_classes (kept_fields ++ kept_methods) begins_met)) w.is_in)
-      by (inr h) = by_class (method_listed f o.methods_if d (and_left ((conditions_of p o).methods f) ((family_of p s).classes f.class) h))
+      by : ((outer_of p o).methods f ≡ true) ⊎ (((conditions_of p o).methods f && (family_of p s).classes f.class) ≡ true) → KeptMethod f
+      by (inl h) = kept_outside_method f (method_listed f o.methods d h)
+      by (inr h) = kept_by_class f (method_listed f o.methods_if d (and_left ((conditions_of p o).methods f) ((family_of p s).classes f.class) h))
           (class_number p s f.class (and_behind ((conditions_of p o).methods f) ((family_of p s).classes f.class) h))
+
+  method_class_defined : (f : MethodKey) → is_some (defined_method (named p) f) ≡ true → defines (named p) f.class ≡ true
+  method_class_defined f d = by (class_named (named p) f.class) refl d
+    where
+      by : (x : Option NamedClass) → class_named (named p) f.class ≡ x → is_some (elim x as (λ x. Option NamedMethod) [ Some c ↦ find.method_in c f.name f.signature | None ↦ None ]) ≡ true → defines (named p) f.class ≡ true
+      by None i h = clash false h refl
+      by (Some c) i h = defined (named p) f.class c i
+
+  -- a kept method that the program defines
+  pub record KeptOwn (f : MethodKey) (x : NamedMethod) : Type 0 where
+    pub kept : KeptMethod f
+    pub own : OwnMethod p kept.number x
+    pub live : Begins (fact.Method kept.number)
+    pub entered : (y : Fact) → In y (entered_of p kept.number own.method) → Begins y
+
+  pub kept_own : (f : MethodKey) (x : NamedMethod) → defined_method (named p) f ≡ Some x → IsKeptMethod f → KeptOwn f x
+  kept_own f x d e =
+      let w = kept_by_number f (method_class_defined f (ap is_some d)) e in
+      let own = own_method p o s g w.number w.short x (ap (defined_method (named p)) w.is ∙ d) in
+      let all : (y : Fact) → In y (fact.Method w.number ∷ entered_of p w.number own.method) → Begins y =
+      λ y i. w.begins y (in_back y (constructed_of p (slice_get p.methods w.number)) (own_kept_of p w.number (follow.own_method p w.number)) (subst (λ z. In y (own_kept_of p w.number z)) (sym own.own) i)) in
+      record {
+        kept = w;
+        own = own;
+        live = all (fact.Method w.number) (here (entered_of p w.number own.method));
+        entered = λ y i. all y (there (fact.Method w.number) (entered_of p w.number own.method) i);
+      }
+
+  pub method_kept : (f : MethodKey) → is_some (defined_method (named p) f) ≡ true → IsKeptMethod f → (family_of p s).methods f ≡ true
+  method_kept f d e =
+      let x = some_defined (defined_method (named p) f) d in
+      let w = kept_own f x.0 x.1 e in
+      ap (family_of p s).methods (sym w.kept.is) ∙ method_met p s g.sized w.kept.number w.kept.short (begins_live (fact.Method w.kept.number) w.live)
+
+  -- ---- kept constructors
+
+  constructor_number : (f : MethodKey) → defines (named p) f.class ≡ true → is_constructor f ≡ true → IsKeptMethod f → KeptNumber f.class
+  constructor_number f d c e =
+      let w = kept_by_number f d e in
+      let key = sym (method_is p (S p o s g) w.number w.entry w.is_entry) ∙ w.is in
+      let test : string_is p w.entry.name constructor_name ≡ true = ap (λ z. text_eq z constructor_name) (sym (text_same p w.entry.name)) ∙ ap is_constructor key ∙ c in
+      let facts : constructed_of p (slice_get p.methods w.number) ≡ kept_class p w.entry.class = ap (constructed_of p) w.is_entry ∙ ap (λ b. cond b (kept_class p w.entry.class) []) test in
+      record {
+        number = w.entry.class;
+        is = ap (λ k. k.class) key;
+        met = λ y i. begins_live y (w.begins y (in_front y (constructed_of p (slice_get p.methods w.number)) (own_kept_of p w.number (follow.own_method p w.number)) (subst (In y) (sym facts) i)));
+      }
+
+  pub constructed_live : (f : MethodKey) → defines (named p) f.class ≡ true → is_constructor f ≡ true → IsKeptMethod f → (family_of p s).classes f.class ≡ true
+  constructed_live f d c e = let k = defines_class (named p) f.class d in kept_live f.class k.0 k.1 (constructor_number f d c e)
+
+  pub constructed_made : (f : MethodKey) → is_concrete (named p) f.class ≡ true → is_constructor f ≡ true → IsKeptMethod f → (family_of p s).made f.class ≡ true
+  constructed_made f d c e = by (class_named (named p) f.class) refl d
+    where
+      by : (x : Option NamedClass) → class_named (named p) f.class ≡ x → elim x as (λ x. Bool) [ Some k ↦ not (is_interface k.flags) && not (is_abstract k.flags) | None ↦ false ] ≡ true → (family_of p s).made f.class ≡ true
+      by None is h = clash false h refl
+      by (Some k) is h = kept_made f.class k is (constructor_number f (defined (named p) f.class k is) c e) h
 
   -- ---- the classes of live members
 
@@ -334,6 +419,7 @@ module _ (p : Program) (o : Outside) (s : LiveSet) (g : IsMarked p o s) where
     classes = class_kept;
     fields = field_kept;
     methods = method_kept;
+    constructors = constructed_live;
     field_classes = λ f live.
         let n = field_number p s f live in
         let q = entry_at p.fields n.number n.short in

@@ -21,7 +21,7 @@ use Rattle.class_defs.specs.ClassGraph.{IsTwice, IsAncestor}
 use Rattle.dalvik_defs.specs.Outer.{Outer}
 use Rattle.dalvik_defs.specs.Shown.{SameShown}
 use Rattle.pass_defs.specs.Typed.{IsTyped}
-use Rattle.removal_law.specs.Reach.{ShutsHold}
+use Rattle.removal_law.specs.Reach.{IsSoundTable}
 use Rattle.pass_defs.specs.Live.{Family, Conditions, IsClosedFamily}
 use Rattle.removal_law.specs.Left.{field_key, left_in, left_of}
 use Rattle.removal_law.proofs.Lists.{clash, and_left, and_behind}
@@ -172,6 +172,6 @@ pub kept_named : (p : Program) (s : LiveSet) → is_well_formed p ≡ true → n
 kept_named p s fits = ap (λ cs. record { version = p.version; classes = cs }) (kept_classes p s fits)
 
 pub removed_by_number : (p : Program) (s : LiveSet) → is_well_formed p ≡ true → ((class : ℕ) → IsTwice p class → ⊥) → ((class : ℕ) → IsAncestor p class class → ⊥) → IsTyped (named p)
-    → (o : Outer) (k : Conditions) → IsClosedFamily (named p) o k (family_of p s) → ShutsHold (named p) o → SameShown (named p) (named (kept_of s p)) o
-removed_by_number p s fits twice ancestor typed o k closed shuts =
-    subst (λ q. SameShown (named p) q o) (sym (kept_named p s fits)) (removed_program p fits twice ancestor typed o k (family_of p s) closed shuts)
+    → (o : Outer) (k : Conditions) → IsClosedFamily (named p) o k (family_of p s) → IsSoundTable (named p) o → SameShown (named p) (named (kept_of s p)) o
+removed_by_number p s fits twice ancestor typed o k closed table =
+    subst (λ q. SameShown (named p) q o) (sym (kept_named p s fits)) (removed_program p fits twice ancestor typed o k (family_of p s) closed table)

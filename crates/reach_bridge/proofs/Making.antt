@@ -30,7 +30,7 @@ use Rattle.reach_bridge.proofs.Based.{Met}
 use Rattle.reach_bridge.proofs.Mentioned.{met_back, met_one}
 use Rattle.reach_bridge.proofs.Coded.{LiveCode, IsNew, live_code, named_met, body_named, insn_named, form_from, insn_new}
 use Rattle.reach_bridge.proofs.Upward.{OwnClass, own_class}
-use Rattle.reach_bridge.proofs.Keeping.{named_short, made_kept, concrete_can}
+use Rattle.reach_bridge.proofs.Keeping.{named_short, made_kept, constructed_made, concrete_can}
 
 module _ (p : Program) (o : Outside) (s : LiveSet) (g : IsMarked p o s) where
   -- a class of a new object is made, if it can be
@@ -60,4 +60,4 @@ module _ (p : Program) (o : Outside) (s : LiveSet) (g : IsMarked p o s) where
       by l i at r (Some c) is e = new_made m b l i at t r c (ap (class_named (named p)) r.is ∙ is) (λ own class_is there. concrete_can p own.class c own.is e)
 
   pub keeps_made : KeepsMade (named p) (outer_of p o) (conditions_of p o) (family_of p s)
-  keeps_made = record { kept = λ t d e. made_kept p o s g t d e; news = makes_new }
+  keeps_made = record { kept = made_kept p o s g; constructed = constructed_made p o s g; news = makes_new }

@@ -30,6 +30,7 @@ use Rattle.pass_defs.specs.Mentions.{Mentions}
 use Rattle.pass_defs.specs.Typed.{IsTyped}
 use Rattle.removal_law.specs.Left.{field_key, left_in, left_of}
 use Rattle.removal_law.specs.Reach.{IsRegular, ShutsHold}
+use Rattle.removal_law.proofs.OuterTables.{tables_agree}
 use Rattle.removal_law.proofs.Lists.{In, here, there, clash, and_left, and_behind, in_either}
 use Rattle.removal_law.proofs.Walks.{text_same}
 use Rattle.removal_law.proofs.Declared.{none_there}
@@ -47,8 +48,8 @@ use Rattle.reach_bridge.proofs.Mentioned.{nothing_in, only}
 use Rattle.reach_bridge.proofs.Coded.{keeps_types, keeps_resolved}
 use Rattle.reach_bridge.proofs.Upward.{keeps_above}
 use Rattle.reach_bridge.proofs.Calls.{keeps_bound}
-use Rattle.reach_bridge.proofs.Answered.{keeps_virtual, keeps_called_back}
-use Rattle.reach_bridge.proofs.Keeping.{class_kept, field_kept, method_kept, keeps_owners}
+use Rattle.reach_bridge.proofs.Answered.{keeps_virtual, keeps_entered, keeps_called_back}
+use Rattle.reach_bridge.proofs.Keeping.{class_kept, field_kept, method_kept, constructed_live, keeps_owners}
 use Rattle.reach_bridge.proofs.Making.{keeps_made}
 use Rattle.reach_bridge.proofs.Annotated.{keeps_mentions}
 
@@ -230,6 +231,7 @@ module _ (p : Program) (o : Outside) (s : LiveSet) (g : IsMarked p o s) where
       classes = class_kept p o s g;
       fields = λ f d e. field_in f (field_kept p o s g f d e) (field_defined f d);
       methods = λ m d e. method_in m (method_kept p o s g m d e) (method_defined m d);
+      constructors = constructed_live p o s g;
       field_classes = λ f e. (keeps_owners p o s g).fields f (field_out f e) (and_behind (F.fields f) (defines (named p) f.class) e);
       method_classes = λ m e. (keeps_owners p o s g).methods m (method_out m e) (and_behind (F.methods m) (defines (named p) m.class) e);
     };
@@ -250,6 +252,7 @@ module _ (p : Program) (o : Outside) (s : LiveSet) (g : IsMarked p o s) where
     };
     made = record {
       kept = (keeps_made p o s g).kept;
+      constructed = (keeps_made p o s g).constructed;
       news = λ m b to t h c d. (keeps_made p o s g).news m b to t (method_out m h.0, h.1) c d;
     };
     resolved = record {
@@ -260,6 +263,8 @@ module _ (p : Program) (o : Outside) (s : LiveSet) (g : IsMarked p o s) where
         (bound_defined (named p) R m.class kind k f e (stands (may_find (named p) m.class kind k) f c));
     virtual = λ m b kind k args h i e t made under f c. method_in f.key (keeps_virtual p o s g m b kind k args (method_out m h.0, h.1) i e t made under f c)
         (answer_defined (named p) R t k.name k.signature f (stands (answers_to (named p) t k.name k.signature) f c));
+    entered = λ m x d v kept t made under f c. method_in f.key (keeps_entered p o s g m x d v kept t made under f c)
+        (answer_defined (named p) R t m.name m.signature f (stands (answers_to (named p) t m.name m.signature) f c));
     called_back = λ t n q made may f c away. method_in f.key (keeps_called_back p o s g t n q made may f c away) (answer_defined (named p) R t n q f (stands (answers_to (named p) t n q) f c));
   }
 
@@ -292,7 +297,7 @@ module _ (p : Program) (o : Outside) (s : LiveSet) (g : IsMarked p o s) where
 
   pub shows_the_same : IsTyped (named p) → ShutsHold (named p) (outer_of p o) → SameShown (named p) (named (kept_of s p)) (outer_of p o)
   shows_the_same typed shuts = subst (λ q. SameShown (named p) q (outer_of p o)) (left_same ∙ sym (kept_named p s g.formed))
-      (removed_program p g.formed g.once g.grounded typed (outer_of p o) (conditions_of p o) W closed shuts)
+      (removed_program p g.formed g.once g.grounded typed (outer_of p o) (conditions_of p o) W closed (record { inside = tables_agree p o; shuts = shuts }))
 
   -- what is left is typed
   pub keeps_typing : IsTyped (named p) → IsTyped (named (kept_of s p))

@@ -6,7 +6,7 @@ ghost use Rattle.program_model.specs.declared.pass.Outside.{Outside};
 ghost use Rattle.call_graph.specs.declared.live_set.LiveSet.{LiveSet};
 ghost use Rattle.dalvik_defs.specs.Naming.{named};
 ghost use Rattle.dalvik_defs.specs.Outer.{outer_of};
-ghost use Rattle.pass_defs.specs.Live.{conditions_of, IsClosedFamily, KeepsKept, KeepsMade, KeepsTypes, KeepsMentions, KeepsResolved, KeepsAbove, KeepsBound, KeepsVirtual, KeepsCalledBack};
+ghost use Rattle.pass_defs.specs.Live.{conditions_of, IsClosedFamily, KeepsKept, KeepsMade, KeepsTypes, KeepsMentions, KeepsResolved, KeepsAbove, KeepsBound, KeepsVirtual, KeepsEntered, KeepsCalledBack};
 ghost use Rattle.dalvik_defs.specs.Shown.{SameShown};
 ghost use Rattle.pass_defs.specs.Typed.{IsTyped};
 ghost use Rattle.reach.specs.Kept.{kept_of};
@@ -43,6 +43,12 @@ pub fn virtual_law()
     ensures { (p : Program) (o : Outside) (s : LiveSet) → IsMarked p o s → KeepsVirtual (named p) (family_of p s) }
 {}
 
+/// What each made class under that of a kept virtual method finds for its name is live: the framework that calls it on an
+/// object enters that.
+pub fn entered_law()
+    ensures { (p : Program) (o : Outside) (s : LiveSet) → IsMarked p o s → KeepsEntered (named p) (outer_of p o) (conditions_of p o) (family_of p s) }
+{}
+
 /// What the framework may call on objects of made classes is live, unless it is shut.
 pub fn called_back_law()
     ensures { (p : Program) (o : Outside) (s : LiveSet) → IsMarked p o s → KeepsCalledBack (named p) (outer_of p o) (family_of p s) }
@@ -59,7 +65,8 @@ pub fn kept_law()
     ensures { (p : Program) (o : Outside) (s : LiveSet) → IsMarked p o s → AreDefined p s → KeepsKept (named p) (outer_of p o) (conditions_of p o) (family_of p s) }
 {}
 
-/// Classes that can have objects are made, if they are kept or live code makes objects of them.
+/// Classes that can have objects are made, if they are kept, if one of their constructors is, or if live code makes
+/// objects of them.
 pub fn made_law()
     ensures { (p : Program) (o : Outside) (s : LiveSet) → IsMarked p o s → KeepsMade (named p) (outer_of p o) (conditions_of p o) (family_of p s) }
 {}

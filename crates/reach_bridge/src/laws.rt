@@ -6,7 +6,7 @@ ghost use Rattle.dalvik_defs.specs.Outer.{Outer};
 ghost use Rattle.dalvik_defs.specs.Shown.{SameShown};
 ghost use Rattle.pass_defs.specs.Live.{Conditions, IsClosedFamily};
 ghost use Rattle.pass_defs.specs.Typed.{IsTyped};
-ghost use Rattle.removal_law.specs.Reach.{ShutsHold};
+ghost use Rattle.removal_law.specs.Reach.{IsSoundTable};
 ghost use Rattle.program_model.specs.declared.program.Program.{Program};
 ghost use Rattle.program_model.specs.ProgramRules.{is_well_formed};
 ghost use Rattle.call_graph.specs.declared.live_set.LiveSet.{LiveSet};
@@ -22,8 +22,9 @@ pub fn left_by_number_law()
 {}
 
 /// What marks leave of a well-formed, typed program, of which no class is defined twice or is its own ancestor, shows the
-/// same, where the names of the marked numbers are a closed family, and its table of shut methods holds what it says.
+/// same, where the names of the marked numbers are a closed family, the parts of its table of what the framework may reach
+/// agree, and its shut methods hold what it says.
 pub fn removal_by_number_law()
     ensures { (p : Program) (s : LiveSet) → is_well_formed p ≡ true → ((class : ℕ) → IsTwice p class → ⊥) → ((class : ℕ) → IsAncestor p class class → ⊥) → IsTyped (named p)
-        → (o : Outer) (k : Conditions) → IsClosedFamily (named p) o k (family_of p s) → ShutsHold (named p) o → SameShown (named p) (named (kept_of s p)) o }
+        → (o : Outer) (k : Conditions) → IsClosedFamily (named p) o k (family_of p s) → IsSoundTable (named p) o → SameShown (named p) (named (kept_of s p)) o }
 {}

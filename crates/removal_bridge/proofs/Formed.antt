@@ -34,7 +34,7 @@ use Rattle.pass_defs.specs.Typed.{IsTyped}
 use Rattle.removal_law.proofs.Removal.{removal}
 use Rattle.removal_law.proofs.TypedCode.{typed_code}
 use Rattle.removal_law.specs.Left.{In, here, there, left_of}
-use Rattle.removal_law.specs.Reach.{ShutsHold, IsRegular, IsAcyclic, TellsApart, IsDescribed, DefinesOnce, NamesOnce}
+use Rattle.removal_law.specs.Reach.{IsSoundTable, IsRegular, IsAcyclic, TellsApart, TellsProtos, IsDescribed, DefinesOnce, NamesOnce}
 use Rattle.removal_law.proofs.Lists.{clash}
 use Rattle.removal_law.proofs.Walks.{choice, text_same as text_itself}
 use Rattle.removal_law.proofs.Declared.{none_there, not_false}
@@ -42,7 +42,7 @@ use Rattle.removal_law.proofs.LeftTyped.{typed_left}
 use Rattle.removal_law.proofs.Outward.{any_where}
 use Rattle.removal_law.proofs.Trees.{class_name, class_in, defines_class, some_same, none_some}
 use Rattle.removal_law.proofs.Acyclic.{regular}
-use Rattle.removal_law.proofs.Protos.{told_apart}
+use Rattle.removal_law.proofs.Protos.{told_apart, protos_told}
 
 -- ---- lists
 
@@ -336,10 +336,13 @@ regular_program p fits twice ancestor = regular (named p) (acyclic p fits twice 
 pub apart_program : (p : Program) → is_well_formed p ≡ true → TellsApart (named p)
 apart_program p fits = told_apart (named p) (is_described p fits) (once p fits)
 
+pub protos_program : (p : Program) → is_well_formed p ≡ true → TellsProtos (named p)
+protos_program p fits = protos_told (named p) (is_described p fits)
+
 pub removed_program : (p : Program) → is_well_formed p ≡ true → ((class : ℕ) → IsTwice p class → ⊥) → ((class : ℕ) → IsAncestor p class class → ⊥) → IsTyped (named p)
-    → (o : Outer) (k : Conditions) (s : Family) → IsClosedFamily (named p) o k s → ShutsHold (named p) o → SameShown (named p) (left_of s (named p)) o
-removed_program p fits twice ancestor typed o k s closed shuts =
-    removal (named p) o k s closed (regular_program p fits twice ancestor) (typed_code (named p) typed (apart_program p fits)) shuts
+    → (o : Outer) (k : Conditions) (s : Family) → IsClosedFamily (named p) o k s → IsSoundTable (named p) o → SameShown (named p) (left_of s (named p)) o
+removed_program p fits twice ancestor typed o k s closed table =
+    removal (named p) o k s closed (regular_program p fits twice ancestor) (typed_code (named p) typed (apart_program p fits) (protos_program p fits)) table
 
 -- what is left of its named program is typed
 pub typed_program : (p : Program) → IsTyped (named p) → is_well_formed p ≡ true → ((class : ℕ) → IsTwice p class → ⊥) → ((class : ℕ) → IsAncestor p class class → ⊥)

@@ -25,7 +25,7 @@ use Rattle.pass_defs.specs.Calls.{is_within, found_by, super_candidates, may_fin
 use Rattle.pass_defs.specs.Mentions.{types_in, types_in_body}
 use Rattle.removal_law.specs.Left.{left_of, NamesNone}
 use Rattle.removal_law.specs.Agree.{searched, AgreeOnCall, sieved}
-use Rattle.removal_law.specs.Reach.{OkType, MadeType, LiveMethod, Says, IsRegular, IsSoundCode, ShutsHold, is_idle}
+use Rattle.removal_law.specs.Reach.{OkType, MadeType, LiveMethod, Says, IsRegular, IsSoundCode, IsSoundTable, is_idle}
 use Rattle.removal_law.proofs.Lists.{clash, In, here, contained, in_front, in_back, found_in}
 use Rattle.removal_law.proofs.Classes.{Kept}
 use Rattle.removal_law.proofs.Under.{under_same}
@@ -70,7 +70,7 @@ is_called_outside p n g k b x e i t = let w = body_in p k b e in
     in_body : NamedMethod → Bool
     in_body m = with_body m.body
 
-module _ (p : NamedProgram) (o : Outer) (kept : Conditions) (s : Family) (f : Framework) (closed : IsClosedFamily p o kept s) (regular : IsRegular p) (code : IsSoundCode p) (shuts : ShutsHold p o)
+module _ (p : NamedProgram) (o : Outer) (kept : Conditions) (s : Family) (f : Framework) (closed : IsClosedFamily p o kept s) (regular : IsRegular p) (code : IsSoundCode p) (table : IsSoundTable p o)
     (none : NamesNone p f) where
   abbrev q : NamedProgram
   q = left_of s p
@@ -85,10 +85,10 @@ module _ (p : NamedProgram) (o : Outer) (kept : Conditions) (s : Family) (f : Fr
   above = closed.above
 
   kept_of : (t : Text) → OkType p s t → Kept s p t
-  kept_of = ok_kept p o kept s f closed regular code shuts none
+  kept_of = ok_kept p o kept s f closed regular code table none
 
   found_kept : (g : Found) → s.methods g.key ≡ true → Kept s p g.key.class
-  found_kept = method_kept p o kept s f closed regular code shuts none
+  found_kept = method_kept p o kept s f closed regular code table none
 
   -- a type that a live form names
   pub says_type : (m : MethodKey) (x : Form) → Says p s m x → (t : Text) → In t (types_in x) → OkType p s t
@@ -153,7 +153,7 @@ module _ (p : NamedProgram) (o : Outer) (kept : Conditions) (s : Family) (f : Fr
             outside = is_called_outside p k.name k.signature m a.body (form.Invoke kind k args) a.has.1 a.stands (names away strange)
 
             by : (b : Bool) → o.shut h.key ≡ b → s.methods h.key ≡ true
-            by true e = clash (called_outside p k.name k.signature) outside (ap (λ z. called_outside p z.name z.signature) (sym x.key_is) ∙ shuts.uncalled h.key e)
+            by true e = clash (called_outside p k.name k.signature) outside (ap (λ z. called_outside p z.name z.signature) (sym x.key_is) ∙ table.shuts.uncalled h.key e)
             by false e = closed.called_back t k.name k.signature (made d) (ap (λ b. b || is_common k.name k.signature) out) h (contained h (answers_to p t k.name k.signature) i) e
 
         or_true : (b c : Bool) → c ≡ true → (b || c) ≡ true

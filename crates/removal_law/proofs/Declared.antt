@@ -1,14 +1,14 @@
 -- What the framework may enter is the same in what is left of a program.
-use Rattle.std.proofs.Common.{◌≡◌, ℕ, Bool, true, false, List, [], ◌∷◌, refl, sym, ap, ◌∙◌, subst, inl, inr}
+use Rattle.std.proofs.Common.{◌≡◌, ℕ, Bool, true, false, List, [], ◌∷◌, length, refl, sym, ap, ◌∙◌, subst, inl, inr}
 use Rattle.std.specs.Prelude.{◌⊎◌, ◌&&◌, ◌||◌, not, cond, Option, Some, None, is_some, filter, find, flat_map}
 use Rattle.std.specs.Option.{option_map}
-use Rattle.dalvik_defs.specs.Names.{Text, text_eq, texts_eq, signature_eq, method_eq, same_name, is_common, base_of, proto_text}
+use Rattle.dalvik_defs.specs.Names.{Text, text_eq, texts_eq, signature_eq, method_eq, same_name, is_common, base_of, proto_text, object_type}
 use Rattle.dalvik_defs.specs.Flags.{is_interface, is_virtual}
 use Rattle.dalvik_defs.specs.Under.{class_named, defines, is_under, is_outward, is_own_under}
 use Rattle.dalvik_defs.specs.Find.{Found, found_in as found_of, method_in, defined_method, chain_of, Search, Nothing, Clash, Finds, is_virtual_method, finds_at}
-use Rattle.dalvik_defs.specs.Face.{Face, face_of, finds_virtually}
+use Rattle.dalvik_defs.specs.Face.{Face, face_of, finds_virtually, declared_in}
 use Rattle.dalvik_defs.specs.Outer.{Outer}
-use Rattle.dalvik_defs.specs.Legal.{is_found, calls_back}
+use Rattle.dalvik_defs.specs.Legal.{is_found, is_found_virtual, calls_back, keeper_above, answers_kept}
 use Rattle.dalvik_defs.specs.Shut.{finds_it, is_found_as, is_other}
 use Rattle.dalvik_defs.specs.Silence.{key_in}
 use Rattle.dalvik_defs.specs.declared.names.Signature.{Signature}
@@ -18,18 +18,20 @@ use Rattle.dalvik_defs.specs.declared.program.NamedMethod.{NamedMethod}
 use Rattle.dalvik_defs.specs.declared.program.NamedClass.{NamedClass}
 use Rattle.dalvik_defs.specs.declared.program.NamedProgram.{NamedProgram}
 use Rattle.dalvik_defs.proofs.Calm.{text_sound}
-use Rattle.pass_defs.specs.Live.{Family, Conditions, IsClosedFamily, KeepsAbove, everything, answers_to}
-use Rattle.pass_defs.specs.Calls.{inherits, candidates_of}
+use Rattle.pass_defs.specs.Live.{Family, Conditions, IsClosedFamily, KeepsAbove, everything, is_kept_method, answers_to}
+use Rattle.pass_defs.specs.Calls.{is_within, inherits, candidates_of}
 use Rattle.removal_law.specs.Left.{left_in, left_of, NamesNone}
 use Rattle.removal_law.specs.Agree.{IsBarred}
-use Rattle.removal_law.specs.Reach.{OkType, MadeType, LiveMethod, ends, IsRegular, IsSoundCode, ShutsHold}
-use Rattle.removal_law.proofs.Lists.{clash, In, here, there, contained, and_left, and_behind}
+use Rattle.removal_law.specs.Reach.{OkType, MadeType, LiveMethod, ends, IsRegular, IsSoundCode, IsSoundTable}
+use Rattle.removal_law.proofs.Lists.{clash, In, here, there, contained, and_left, and_behind, any_same, FoundIn, found_in, not_found}
 use Rattle.removal_law.proofs.Walks.{text_same}
-use Rattle.removal_law.proofs.Classes.{Kept, class_left, dead_found}
-use Rattle.removal_law.proofs.Members.{key, signature_sound}
+use Rattle.removal_law.proofs.Classes.{Kept, class_left, left_less, dead_found}
+use Rattle.removal_law.proofs.Under.{under_same}
+use Rattle.removal_law.proofs.Members.{key, key_sound, signature_sound}
+use Rattle.removal_law.proofs.Outward.{any_where, Up, inside, through, object, under_up}
 use Rattle.removal_law.proofs.Levels.{undefined_ends}
-use Rattle.removal_law.proofs.Trees.{some_same, none_some, class_name, class_in, defined, undefined, defines_class, ends_same, own_under_left}
-use Rattle.removal_law.proofs.Finds.{in_unfiltered}
+use Rattle.removal_law.proofs.Trees.{some_same, none_some, class_name, class_in, class_kept, defined, undefined, defines_class, ends_same, own_under_left}
+use Rattle.removal_law.proofs.Finds.{in_filter, in_unfiltered}
 use Rattle.removal_law.proofs.Searches.{nothing_finds, at_left, at_some, at_in}
 use Rattle.removal_law.proofs.Virtuals.{IsMethodOf, inherited, answer, candidate_interface, candidate_version}
 use Rattle.removal_law.proofs.Climbs.{answer_climbs, climb_under}
@@ -114,7 +116,7 @@ found_it k Nothing e = clash false e refl
 found_it k Clash e = clash false e refl
 found_it k (Finds g) e = (g, (refl, method_sound g.key k e))
 
-module _ (p : NamedProgram) (o : Outer) (kept : Conditions) (s : Family) (f : Framework) (closed : IsClosedFamily p o kept s) (regular : IsRegular p) (code : IsSoundCode p) (shuts : ShutsHold p o)
+module _ (p : NamedProgram) (o : Outer) (kept : Conditions) (s : Family) (f : Framework) (closed : IsClosedFamily p o kept s) (regular : IsRegular p) (code : IsSoundCode p) (table : IsSoundTable p o)
     (none : NamesNone p f) where
   abbrev pub q : NamedProgram
   q = left_of s p
@@ -168,6 +170,129 @@ module _ (p : NamedProgram) (o : Outer) (kept : Conditions) (s : Family) (f : Fr
       by t true l = let g = regular.grounded t in (g.0, ends_same p s above g.0 t (λ d. l) ∙ g.1)
       by t false l = (0, undefined_ends q t (undefined q t (dead_found s t l p.classes)) 0)
 
+  -- ---- what a class declares, in what is left
+
+  module _ (t n proto : Text) where
+    abbrev test : NamedMethod → Bool
+    test m = text_eq m.name n && text_eq (proto_text m.signature) proto
+
+    abbrev keeps : NamedClass → NamedMethod → Bool
+    keeps c m = s.methods (key_in c m)
+
+    abbrev declared_of : Option NamedClass → Option Found
+    declared_of x = elim x as (λ x. Option Found) [ Some c ↦ option_map (found_of c) (find test c.methods) | None ↦ None ]
+
+    pub declared_undefined : class_named p t ≡ None → declared_in q t n proto ≡ None
+    declared_undefined e = ap declared_of (left_less s p t e)
+
+    -- a class that goes declares nothing more
+    none_left : s.classes t ≡ false → declared_in q t n proto ≡ None
+    none_left e = ap declared_of (dead_found s t e p.classes)
+
+    module _ (c : NamedClass) (e : class_named p t ≡ Some c) where
+      left_c : s.classes t ≡ true → declared_in q t n proto ≡ option_map (found_of (left_in s c)) (find test (filter (keeps c) c.methods))
+      left_c l = ap declared_of (class_kept p s above t c e (λ d. l))
+
+      no_other : (m : NamedMethod) → find test c.methods ≡ Some m → s.methods (key_in c m) ≡ false → find test (filter (keeps c) c.methods) ≡ None
+      no_other m i dead = not_found test (filter (keeps c) c.methods) (λ x j. by x j (test x) refl)
+        where
+          h : FoundIn test c.methods m
+          h = found_in test c.methods m i
+
+          by : (x : NamedMethod) → In x (filter (keeps c) c.methods) → (b : Bool) → test x ≡ b → test x ≡ false
+          by x j false a = a
+          by x j true a =
+              let same : x ≡ m = code.methods t c x m e (in_unfiltered (keeps c) x c.methods j) h.is_in
+              (text_sound x.name n (and_left (text_eq x.name n) (text_eq (proto_text x.signature) proto) a) ∙ sym (text_sound m.name n (and_left (text_eq m.name n) (text_eq (proto_text m.signature) proto) h.passes)))
+              (text_sound (proto_text x.signature) proto (and_behind (text_eq x.name n) (text_eq (proto_text x.signature) proto) a)
+              ∙ sym (text_sound (proto_text m.signature) proto (and_behind (text_eq m.name n) (text_eq (proto_text m.signature) proto) h.passes))) in
+              clash (s.methods (key_in c x)) (in_filter (keeps c) x c.methods j) (ap (λ y. s.methods (key_in c y)) same ∙ dead)
+
+      live_c : (m : NamedMethod) → s.methods (key_in c m) ≡ true → s.classes t ≡ true
+      live_c m l = ap s.classes (sym (class_name p t c e)) ∙ closed.kept.method_classes (key_in c m) l
+
+      pub declared_live : (m : NamedMethod) → find test c.methods ≡ Some m → s.methods (key_in c m) ≡ true → declared_in q t n proto ≡ Some (found_of c m)
+      declared_live m i l = left_c (live_c m l) ∙ ap (option_map (found_of (left_in s c))) (find_kept test (keeps c) c.methods m i l)
+
+      pub declared_dead : (m : NamedMethod) → find test c.methods ≡ Some m → s.methods (key_in c m) ≡ false → declared_in q t n proto ≡ None
+      declared_dead m i l = by (s.classes t) refl
+        where
+          by : (b : Bool) → s.classes t ≡ b → declared_in q t n proto ≡ None
+          by true a = left_c a ∙ ap (option_map (found_of (left_in s c))) (no_other m i l)
+          by false a = none_left a
+
+      pub declared_none : find test c.methods ≡ None → declared_in q t n proto ≡ None
+      declared_none i = by (s.classes t) refl
+        where
+          by : (b : Bool) → s.classes t ≡ b → declared_in q t n proto ≡ None
+          by true a = left_c a ∙ ap (option_map (found_of (left_in s c))) (not_found test (filter (keeps c) c.methods) (λ x j. none_there test c.methods i x (in_unfiltered (keeps c) x c.methods j)))
+          by false a = none_left a
+
+  -- a class declares a virtual method of a name and a text of its proto
+  pub record Declares (t n proto : Text) : Type 0 where
+    pub class : NamedClass
+    pub named : class_named p t ≡ Some class
+    pub method : NamedMethod
+    pub stands : In method class.methods
+    pub name : method.name ≡ n
+    pub proto_is : proto_text method.signature ≡ proto
+    pub virtual : is_virtual_method method ≡ true
+
+  module _ (t n proto : Text) where
+    declares_it : (c : NamedClass) → class_named p t ≡ Some c → (m : NamedMethod) → find (test t n proto) c.methods ≡ Some m → is_virtual_method m ≡ true → Declares t n proto
+    declares_it c e m i v = let h = found_in (test t n proto) c.methods m i in record {
+      class = c;
+      named = e;
+      method = m;
+      stands = h.is_in;
+      name = text_sound m.name n (and_left (text_eq m.name n) (text_eq (proto_text m.signature) proto) h.passes);
+      proto_is = text_sound (proto_text m.signature) proto (and_behind (text_eq m.name n) (text_eq (proto_text m.signature) proto) h.passes);
+      virtual = v;
+    }
+
+    declares : is_found_virtual (declared_in p t n proto) ≡ true → Declares t n proto
+    declares v = by (class_named p t) refl v
+      where
+        at : (c : NamedClass) → class_named p t ≡ Some c → (x : Option NamedMethod) → find (test t n proto) c.methods ≡ x → is_found_virtual (option_map (found_of c) x) ≡ true → Declares t n proto
+        at c e None i a = clash false a refl
+        at c e (Some m) i a = declares_it c e m i a
+
+        by : (x : Option NamedClass) → class_named p t ≡ x → is_found_virtual (declared_of t n proto x) ≡ true → Declares t n proto
+        by None e a = clash false a refl
+        by (Some c) e a = at c e (find (test t n proto) c.methods) refl a
+
+    -- where each virtual method that is declared so is live, one is declared in what is left just where one was
+    virtual_left : ((w : Declares t n proto) → s.methods (key_in w.class w.method) ≡ true) → is_found_virtual (declared_in p t n proto) ≡ is_found_virtual (declared_in q t n proto)
+    virtual_left lives = by (class_named p t) refl
+      where
+        dead : (c : NamedClass) → class_named p t ≡ Some c → (m : NamedMethod) → find (test t n proto) c.methods ≡ Some m → s.methods (key_in c m) ≡ false → (b : Bool) → is_virtual_method m ≡ b → is_virtual_method m ≡ false
+        dead c e m i l true v = clash (s.methods (key_in c m)) (lives (declares_it c e m i v)) l
+        dead c e m i l false v = v
+
+        one : (c : NamedClass) → class_named p t ≡ Some c → (m : NamedMethod) → find (test t n proto) c.methods ≡ Some m → (b : Bool) → s.methods (key_in c m) ≡ b → is_virtual_method m ≡ is_found_virtual (declared_in q t n proto)
+        one c e m i true l = sym (ap is_found_virtual (declared_live t n proto c e m i l))
+        one c e m i false l = dead c e m i l (is_virtual_method m) refl ∙ sym (ap is_found_virtual (declared_dead t n proto c e m i l))
+
+        at : (c : NamedClass) → class_named p t ≡ Some c → (x : Option NamedMethod) → find (test t n proto) c.methods ≡ x → is_found_virtual (option_map (found_of c) x) ≡ is_found_virtual (declared_in q t n proto)
+        at c e None i = sym (ap is_found_virtual (declared_none t n proto c e i))
+        at c e (Some m) i = one c e m i (s.methods (key_in c m)) refl
+
+        by : (x : Option NamedClass) → class_named p t ≡ x → is_found_virtual (declared_of t n proto x) ≡ is_found_virtual (declared_in q t n proto)
+        by None e = sym (ap is_found_virtual (declared_undefined t n proto e))
+        by (Some c) e = at c e (find (test t n proto) c.methods) refl
+
+  within_of : (t u : Text) → defines p t ≡ true → defines p u ≡ true → is_under p f t u ≡ true → is_within p t u ≡ true
+  within_of t u d v e = by (under_up p f none regular t u d e)
+    where
+      behind : (b c : Bool) → c ≡ true → (b || c) ≡ true
+      behind true c i = refl
+      behind false c i = i
+
+      by : Up p f none regular (length p.classes) t u → is_within p t u ≡ true
+      by (inside i) = behind (text_eq u object_type) (is_own_under p t u) i
+      by (through i away) = clash (defines p u) v away
+      by (object i) = ap (λ b. b || is_own_under p t u) i
+
   -- ---- one method of a class
 
   module _ (c : NamedClass) (m : NamedMethod) (named : class_named p c.name ≡ Some c) (stands : In m c.methods) where
@@ -187,6 +312,57 @@ module _ (p : NamedProgram) (o : Outer) (kept : Conditions) (s : Family) (f : Fr
         by : (b : Bool) → o.methods K ≡ b → o.methods K ≡ false
         by true e = clash (s.methods K) (closed.kept.methods K defined_method_there (ap (λ b. b || (kept.methods K && s.classes c.name)) e)) dead
         by false e = e
+
+    -- ---- kept virtual methods of this name and signature above a class
+
+    module _ (u : Text) (w : Declares u m.name (proto_text m.signature)) where
+      signature_is : w.method.signature ≡ m.signature
+      signature_is = code.protos u c.name w.class c w.method m w.named named w.stands stands w.proto_is
+
+      key_is : key_in w.class w.method ≡ key u m.name m.signature
+      key_is = ap (λ x. key x w.method.name w.method.signature) (class_name p u w.class w.named) ∙ ap (λ x. key u x w.method.signature) w.name ∙ ap (key u m.name) signature_is
+
+      abbrev same : NamedMethod → Bool
+      same x = same_name x.name x.signature m.name m.signature
+
+      same_there : same w.method ≡ true
+      same_there = ap (λ x. same_name x w.method.signature m.name m.signature) w.name ∙ ap (λ x. same_name m.name x m.name m.signature) signature_is ∙ name_same m.name m.signature
+
+      defined_keeper : (y : NamedMethod) × ((defined_method p (key u m.name m.signature) ≡ Some y) × (is_virtual_method y ≡ true))
+      defined_keeper = by (find same w.class.methods) refl
+        where
+          by : (x : Option NamedMethod) → find same w.class.methods ≡ x → (y : NamedMethod) × ((defined_method p (key u m.name m.signature) ≡ Some y) × (is_virtual_method y ≡ true))
+          by None i = clash (same w.method) same_there (none_there same w.class.methods i w.method w.stands)
+          by (Some y) i =
+              let h = found_in same w.class.methods y i in
+              let k : key_in w.class y ≡ key w.class.name m.name m.signature = key_sound w.class y m.name m.signature h.passes in
+              let one : y ≡ w.method = code.methods u w.class y w.method w.named h.is_in w.stands (ap (λ x. x.name) k ∙ sym w.name) (ap (λ x. proto_text x.signature) k ∙ sym w.proto_is) in
+              (y, (ap (λ x. elim x as (λ x. Option NamedMethod) [ Some c ↦ method_in c m.name m.signature | None ↦ None ]) w.named ∙ i, ap is_virtual_method one ∙ w.virtual))
+
+      module _ (i : In u (o.keepers m.name m.signature)) where
+        keeper_kept : is_kept_method o kept s (key u m.name m.signature) ≡ true
+        keeper_kept = ap (λ b. b || (kept.methods (key u m.name m.signature) && s.classes u)) (table.inside.keepers u m.name m.signature i)
+
+        keeper_live : s.methods (key_in w.class w.method) ≡ true
+        keeper_live = ap s.methods key_is ∙ closed.kept.methods (key u m.name m.signature) (ap is_some defined_keeper.1.0) keeper_kept
+
+        keeper_answers : (t : Text) → defines p t ≡ true → MadeType p s t → is_under p f t u ≡ true → (h : Found) → In h (answers_to p t m.name m.signature) → s.methods h.key ≡ true
+        keeper_answers t d mt e h j = closed.entered (key u m.name m.signature) defined_keeper.0 defined_keeper.1.0 defined_keeper.1.1 keeper_kept t (mt d)
+            (within_of t u d (defined p u w.class w.named) e) h (contained h (answers_to p t m.name m.signature) j)
+
+    -- what the framework enters by one is live
+    pub keepers_live : (t : Text) → defines p t ≡ true → MadeType p s t → keeper_above F o t m.name m.signature ≡ true → (h : Found) → In h (answers_to p t m.name m.signature) → s.methods h.key ≡ true
+    keepers_live t d mt e =
+        let r = any_where (λ u. is_under p f t u && is_found_virtual (declared_in p u m.name (proto_text m.signature))) (o.keepers m.name m.signature) e in
+        keeper_answers r.0 (declares r.0 m.name (proto_text m.signature) (and_behind (is_under p f t r.0) (is_found_virtual (declared_in p r.0 m.name (proto_text m.signature))) r.1.1)) r.1.0 t d mt
+        (and_left (is_under p f t r.0) (is_found_virtual (declared_in p r.0 m.name (proto_text m.signature))) r.1.1)
+
+    -- and what is left has the same ones
+    pub keepers_same : (t : Text) → OkType p s t → keeper_above F o t m.name m.signature ≡ keeper_above G o t m.name m.signature
+    keepers_same t k = any_same (λ u. is_under p f t u && is_found_virtual (declared_in p u m.name (proto_text m.signature))) (λ u. is_under q f t u && is_found_virtual (declared_in q u m.name (proto_text m.signature)))
+        (o.keepers m.name m.signature)
+        (λ u i. ap (λ b. b && is_found_virtual (declared_in p u m.name (proto_text m.signature))) (under_same p f none s above t u k)
+        ∙ ap (λ b. is_under q f t u && b) (virtual_left u m.name (proto_text m.signature) (λ w. keeper_live u w i)))
 
     abbrev pub may : Text → Bool
     may t = is_outward p t || is_common m.name m.signature
@@ -214,19 +390,33 @@ module _ (p : NamedProgram) (o : Outer) (kept : Conditions) (s : Family) (f : Fr
     abbrev pub virtual_test : Bool
     virtual_test = is_virtual m.flags m.name
 
-    -- a method that isn't live is neither kept nor called back
+    -- a method that isn't live is neither kept, nor entered by a kept one, nor called back
+    module _ (dead : s.methods K ≡ false) (t : Text) (mt : MadeType p s t) where
+      unanswered : (b : Bool) → answers_kept F o t f0 ≡ b → answers_kept F o t f0 ≡ false
+      unanswered false e = e
+      unanswered true e =
+          let x : (virtual_test && is_found K (F.virtually t K)) ≡ true = and_left (virtual_test && is_found K (F.virtually t K)) (keeper_above F o t m.name m.signature) e in
+          let r = found_it K (F.virtually t K) (and_behind virtual_test (is_found K (F.virtually t K)) x) in
+          let a = virtual_at t r.0 r.1.0 in
+          clash (s.methods K) (ap s.methods (sym r.1.1) ∙ keepers_live t a.0 mt (and_behind (virtual_test && is_found K (F.virtually t K)) (keeper_above F o t m.name m.signature) e) r.0
+          (at_in p s above regular t K r.0 a.1)) dead
+
+      uncalled : (b : Bool) → calls_back F o t f0 ≡ b → calls_back F o t f0 ≡ false
+      uncalled false e = e
+      uncalled true e =
+          let x : (virtual_test && not (o.shut K) && is_found K (F.virtually t K)) ≡ true = and_left (virtual_test && not (o.shut K) && is_found K (F.virtually t K)) (may t) e in
+          let r = found_it K (F.virtually t K) (and_behind (virtual_test && not (o.shut K)) (is_found K (F.virtually t K)) x) in
+          let shut : o.shut K ≡ false = not_false (o.shut K) (and_behind virtual_test (not (o.shut K)) (and_left (virtual_test && not (o.shut K)) (is_found K (F.virtually t K)) x)) in
+          let a = virtual_at t r.0 r.1.0 in
+          clash (s.methods K) (ap s.methods (sym r.1.1) ∙ called_live t a.0 mt (and_behind (virtual_test && not (o.shut K) && is_found K (F.virtually t K)) (may t) e) r.0
+          (at_in p s above regular t K r.0 a.1) (ap o.shut r.1.1 ∙ shut)) dead
+
     pub barred : s.methods K ≡ false → IsBarred (OkType p s) (MadeType p s) (LiveMethod p s) o F f0
-    barred dead = record { kept = not_kept dead; called = λ t k mt. by t mt (calls_back F o t f0) refl }
-      where
-        by : (t : Text) → MadeType p s t → (b : Bool) → calls_back F o t f0 ≡ b → calls_back F o t f0 ≡ false
-        by t mt false e = e
-        by t mt true e =
-            let x : (virtual_test && not (o.shut K) && is_found K (F.virtually t K)) ≡ true = and_left (virtual_test && not (o.shut K) && is_found K (F.virtually t K)) (may t) e in
-            let r = found_it K (F.virtually t K) (and_behind (virtual_test && not (o.shut K)) (is_found K (F.virtually t K)) x) in
-            let shut : o.shut K ≡ false = not_false (o.shut K) (and_behind virtual_test (not (o.shut K)) (and_left (virtual_test && not (o.shut K)) (is_found K (F.virtually t K)) x)) in
-            let a = virtual_at t r.0 r.1.0 in
-            clash (s.methods K) (ap s.methods (sym r.1.1) ∙ called_live t a.0 mt (and_behind (virtual_test && not (o.shut K) && is_found K (F.virtually t K)) (may t) e) r.0
-            (at_in p s above regular t K r.0 a.1) (ap o.shut r.1.1 ∙ shut)) dead
+    barred dead = record {
+      kept = not_kept dead;
+      called = λ t k mt. ap (λ b. b || answers_kept F o t f0 || calls_back F o t f0) (not_kept dead) ∙ ap (λ b. b || calls_back F o t f0) (unanswered dead t mt (answers_kept F o t f0) refl)
+          ∙ uncalled dead t mt (calls_back F o t f0) refl;
+    }
 
     -- ---- a live method
 
@@ -243,7 +433,7 @@ module _ (p : NamedProgram) (o : Outer) (kept : Conditions) (s : Family) (f : Fr
         where
           by : (b : Bool) → o.shut h.key ≡ b → s.methods h.key ≡ true
           by true e = let x = candidate_interface p s above regular m.name m.signature (flat_map (λ c. c.interfaces) (chain_of p t)) h i in
-              clash (is_interface x.class.flags) x.is_interface (shuts.plain h.key x.class (candidate_version p s above regular m.name m.signature (flat_map (λ c. c.interfaces) (chain_of p t)) h i) e x.named)
+              clash (is_interface x.class.flags) x.is_interface (table.shuts.plain h.key x.class (candidate_version p s above regular m.name m.signature (flat_map (λ c. c.interfaces) (chain_of p t)) h i) e x.named)
           by false e = called_live t d made open_to h j e
 
       -- what another class finds there isn't this method
@@ -275,7 +465,7 @@ module _ (p : NamedProgram) (o : Outer) (kept : Conditions) (s : Family) (f : Fr
 
         conflict : (h : Found) → finds_at q t K ≡ Finds h → h.key ≡ K → true ≡ false
         conflict h e i = or_none (o.methods K) (o.shut K) free unshut
-            (shuts.others g.key gm.method there_d.0 c m shut_g (ap (λ x. x.key.name) gm.is) (ap (λ x. x.key.signature) gm.is) (class_in p t there_d.0 there_d.1) finds_g (class_in p c.name c named) under_c stands other)
+            (table.shuts.others g.key gm.method there_d.0 c m shut_g (ap (λ x. x.key.name) gm.is) (ap (λ x. x.key.signature) gm.is) (class_in p t there_d.0 there_d.1) finds_g (class_in p c.name c named) under_c stands other)
           where
             inside : In h (answers_to q t m.name m.signature)
             inside = at_in q everything left_above left_regular t K h e

@@ -24,11 +24,12 @@ use Rattle.dalvik_defs.specs.declared.program.NamedProgram.{NamedProgram}
 use Rattle.dalvik_defs.proofs.Calm.{text_sound}
 use Rattle.pass_defs.specs.Bare.{may_throw}
 use Rattle.pass_defs.specs.Walks.{form_at, onward, caught, handlers_at, successors, Walk, Stays, Goes, IsReached}
-use Rattle.pass_defs.specs.Live.{Family, Conditions, IsClosedFamily, KeepsAbove}
+use Rattle.pass_defs.specs.Live.{Family, Conditions, IsClosedFamily, KeepsAbove, is_kept_method, is_constructor}
+use Rattle.pass_defs.specs.Live as live
 use Rattle.pass_defs.specs.Mentions.{types_in, types_of, fields_in, fields_in_body}
 use Rattle.removal_law.specs.Left.{left_in, left_of, NamesNone}
 use Rattle.removal_law.specs.Agree.{Each, AgreeOnField, sieved}
-use Rattle.removal_law.specs.Reach.{OkType, MadeType, LiveMethod, Says, LeftAgrees, IsRegular, IsSoundCode, ShutsHold, is_idle, ReachedAt}
+use Rattle.removal_law.specs.Reach.{OkType, MadeType, LiveMethod, Says, LeftAgrees, IsRegular, IsSoundCode, IsSoundTable, is_idle, ReachedAt}
 use Rattle.removal_law.proofs.Lists.{clash, In, here, there, contained, none_in, all_in, and_left, and_behind, in_front, in_back}
 use Rattle.removal_law.proofs.Classes.{Kept, class_left, dead_found}
 use Rattle.removal_law.proofs.Fits.{in_by_test}
@@ -125,7 +126,7 @@ or_second : (a b : Bool) → (not a || b) ≡ true → a ≡ true → b ≡ true
 or_second true b e i = e
 or_second false b e i = clash false i refl
 
-module _ (p : NamedProgram) (o : Outer) (kept : Conditions) (s : Family) (f : Framework) (closed : IsClosedFamily p o kept s) (regular : IsRegular p) (code : IsSoundCode p) (shuts : ShutsHold p o)
+module _ (p : NamedProgram) (o : Outer) (kept : Conditions) (s : Family) (f : Framework) (closed : IsClosedFamily p o kept s) (regular : IsRegular p) (code : IsSoundCode p) (table : IsSoundTable p o)
     (none : NamesNone p f) (unreserved : list_any (defines p) reserved ≡ false) where
   abbrev q : NamedProgram
   q = left_of s p
@@ -140,13 +141,13 @@ module _ (p : NamedProgram) (o : Outer) (kept : Conditions) (s : Family) (f : Fr
   above = closed.above
 
   kept_of : (t : Text) → OkType p s t → Kept s p t
-  kept_of = ok_kept p o kept s f closed regular code shuts none
+  kept_of = ok_kept p o kept s f closed regular code table none
 
   live_of : (t : Text) → defines p t ≡ true → s.classes t ≡ true → OkType p s t
-  live_of = live_ok p o kept s f closed regular code shuts none
+  live_of = live_ok p o kept s f closed regular code table none
 
   says_of : (m : MethodKey) (x : Form) → Says p s m x → (t : Text) → In t (types_in x) → OkType p s t
-  says_of = says_type p o kept s f closed regular code shuts none
+  says_of = says_type p o kept s f closed regular code table none
 
   -- ---- types
 
@@ -174,6 +175,27 @@ module _ (p : NamedProgram) (o : Outer) (kept : Conditions) (s : Family) (f : Fr
 
   kept_class : (t : Text) → defines p t ≡ true → o.classes t ≡ true → s.classes t ≡ true
   kept_class t d e = closed.kept.classes t d (ap (λ b. b || list_any (λ c. kept.classes t c.name && s.classes c.name) p.classes) e)
+
+  -- a class of which a constructor is kept
+  constructor_kept : (t : Text) → o.constructed t ≡ true → (k : MethodKey) × ((k.class ≡ t) × ((is_constructor k ≡ true) × (is_kept_method o kept s k ≡ true)))
+  constructor_kept t e =
+      let w = table.inside.constructed t e in
+      (w.0, (text_sound w.0.class t (and_left (text_eq w.0.class t) (is_constructor w.0) w.1.1),
+      (and_behind (text_eq w.0.class t) (is_constructor w.0) w.1.1, ap (λ b. b || (kept.methods w.0 && s.classes w.0.class)) w.1.0)))
+
+  reached_class : (t : Text) → defines p t ≡ true → (o.classes t || o.constructed t) ≡ true → s.classes t ≡ true
+  reached_class t d e = by (o.classes t) refl e
+    where
+      by : (b : Bool) → o.classes t ≡ b → (b || o.constructed t) ≡ true → s.classes t ≡ true
+      by true i j = kept_class t d i
+      by false i j = let w = constructor_kept t j in ap s.classes (sym w.1.0) ∙ closed.kept.constructors w.0 (ap (defines p) w.1.0 ∙ d) w.1.1.0 w.1.1.1
+
+  reached_made : (t : Text) → live.is_concrete p t ≡ true → (o.classes t || o.constructed t) ≡ true → s.made t ≡ true
+  reached_made t d e = by (o.classes t) refl e
+    where
+      by : (b : Bool) → o.classes t ≡ b → (b || o.constructed t) ≡ true → s.made t ≡ true
+      by true i j = closed.made.kept t d (ap (λ b. b || list_any (λ c. kept.classes t c.name && s.classes c.name) p.classes) i)
+      by false i j = let w = constructor_kept t j in ap s.made (sym w.1.0) ∙ closed.made.constructed w.0 (ap (live.is_concrete p) w.1.0 ∙ d) w.1.1.0 w.1.1.1
 
   given_type : (t : Text) → (not (defines p (base_of t)) || o.classes (base_of t)) ≡ true → OkType p s t
   given_type t e = λ d. kept_class (base_of t) d (or_second (defines p (base_of t)) (o.classes (base_of t)) e d)
@@ -264,21 +286,20 @@ module _ (p : NamedProgram) (o : Outer) (kept : Conditions) (s : Family) (f : Fr
   concrete_of : Option ℕ → Bool
   concrete_of x = elim x as (λ x. Bool) [ Some n ↦ not (is_interface n) && not (is_abstract n) | None ↦ false ]
 
-  concrete_same : (t : Text) → o.classes t ≡ true → is_concrete F t ≡ is_concrete G t
-  concrete_same t e = ap (λ x. elim x as (λ x. Bool) [ Some n ↦ not (is_interface n) && not (is_abstract n) | None ↦ false ]) (flags_kept t (λ d. kept_class t d e))
+  concrete_same : (t : Text) → (o.classes t || o.constructed t) ≡ true → is_concrete F t ≡ is_concrete G t
+  concrete_same t e = ap (λ x. elim x as (λ x. Bool) [ Some n ↦ not (is_interface n) && not (is_abstract n) | None ↦ false ]) (flags_kept t (λ d. reached_class t d e))
 
   made_type : (t : Text) → may_make F o t ≡ true → OkType p s t × MadeType p s t
-  made_type t e = by (class_named p t) refl (and_behind (o.classes t) (is_concrete F t) e)
+  made_type t e = by (class_named p t) refl (and_behind (o.classes t || o.constructed t) (is_concrete F t) e)
     where
-      k : o.classes t ≡ true
-      k = and_left (o.classes t) (is_concrete F t) e
+      k : (o.classes t || o.constructed t) ≡ true
+      k = and_left (o.classes t || o.constructed t) (is_concrete F t) e
 
       by : (x : Option NamedClass) → class_named p t ≡ x → (elim (option_map (λ c. c.flags) x) as (λ x. Bool) [ Some n ↦ not (is_interface n) && not (is_abstract n) | None ↦ false ]) ≡ true → OkType p s t × MadeType p s t
       by None i a = clash false a refl
       by (Some c) i a = (
-        live_of t (defined p t c i) (kept_class t (defined p t c i) k),
-        λ d. closed.made.kept t (ap (λ x. elim x as (λ x. Bool) [ Some c ↦ not (is_interface c.flags) && not (is_abstract c.flags) | None ↦ false ]) i ∙ a)
-            (ap (λ b. b || list_any (λ c. kept.classes t c.name && s.classes c.name) p.classes) k),
+        live_of t (defined p t c i) (reached_class t (defined p t c i) k),
+        λ d. reached_made t (ap (λ x. elim x as (λ x. Bool) [ Some c ↦ not (is_interface c.flags) && not (is_abstract c.flags) | None ↦ false ]) i ∙ a) k,
       )
 
   -- ---- all of it
@@ -307,13 +328,13 @@ module _ (p : NamedProgram) (o : Outer) (kept : Conditions) (s : Family) (f : Fr
     arrays = λ m to size t a. item_type t (code.arrays m a.body a.place to size t a.has.1 a.reached a.at_place) (says_of m (form.NewArray to size t) a t (here []));
     filled = λ m args t a. item_type t (code.filled m a.body a.place t args a.has.1 a.reached a.at_place) (says_of m (form.FilledNewArray t args) a t (here []));
     fields = field_agrees;
-    calls = λ m kind k args t a ok made. called_agrees p o kept s f closed regular code shuts none m k args kind t a ok made;
+    calls = λ m kind k args t a ok made. called_agrees p o kept s f closed regular code table none m k args kind t a ok made;
     answers = λ m kind k args a. says_of m (form.Invoke kind k args) a k.signature.result (there k.class (k.signature.result ∷ k.signature.parameters) (here k.signature.parameters));
     initialiser = λ t h. sym (initialiser_left p s above regular t (kept_of t h));
     initialiser_live = λ t k h e. record { live = initialiser_lives p s above regular t k (kept_of t h) e; defined = let r = initialiser_class p s above regular t k e in ap (defines p) r.0 ∙ r.1 };
     first = λ t h. sym (first_left p s above regular t (kept_of t h));
     first_ok = λ t h. each_in (OkType p s) (initialised_first p t) (λ u i. let r = first_stands p s above regular t (kept_of t h) u i in live_of u r.0 r.1);
-    declared = λ c n proto. declared_agrees p o kept s f closed regular code shuts none c n proto;
+    declared = λ c n proto. declared_agrees p o kept s f closed regular code table none c n proto;
     makes = concrete_same;
     made_ok = made_type;
     own_field = λ k e. ap (option_map (place_of k.class)) (sym (own_same k e));

@@ -12,7 +12,7 @@ use Rattle.dalvik_defs.specs.State.{World, fresh, is_null, kind_of}
 use Rattle.dalvik_defs.specs.declared.state.Value.{Value}
 use Rattle.dalvik_defs.specs.ActArray.{zeros}
 use Rattle.dalvik_defs.specs.Gives.{gets, gets_all, may_give, reference_fits, value_fits, fits, all_fit, is_on, may_throw}
-use Rattle.dalvik_defs.specs.Legal.{is_class_initialiser, calls_back, receiver_ok, may_enter_found, may_enter, may_make, may_answer, on_fits}
+use Rattle.dalvik_defs.specs.Legal.{is_class_initialiser, may_reach, receiver_ok, may_enter_found, may_enter, may_make, may_answer, on_fits}
 use Rattle.dalvik_defs.specs.Moves.{got}
 use Rattle.dalvik_defs.specs.declared.names.MethodKey.{MethodKey}
 use Rattle.dalvik_defs.specs.declared.names.FieldKey.{FieldKey}
@@ -149,7 +149,7 @@ module _ (ok made : Text → Type 0) (live : MethodKey → Type 0) (says : Metho
 
   receiver_same : (w : World) (f : Found) (vs : List Value) → IsOpen ok made live o F G f → f.coded ≡ true → Fine w → receiver_ok F o w f vs ≡ receiver_ok G o w f vs
   receiver_same w f [] l e h = refl
-  receiver_same w f (v ∷ vs) l e h = and_same (is_on F w v f.key.class) (is_on G w v f.key.class) (o.methods f.key || calls_back F o (kind_of w v) f) (o.methods f.key || calls_back G o (kind_of w v) f)
+  receiver_same w f (v ∷ vs) l e h = and_same (is_on F w v f.key.class) (is_on G w v f.key.class) (may_reach F o (kind_of w v) f) (may_reach G o (kind_of w v) f)
       (on_same w v f.key.class h.kinds)
       (λ i. l.called (kind_of w v) e (kind_ok ok made live says stands calm p o F G find other agree w v h.kinds) (kind_made ok made live says stands calm p o F G find other agree w v h.mades))
 
@@ -190,8 +190,8 @@ module _ (ok made : Text → Type 0) (live : MethodKey → Type 0) (says : Metho
     module _ (bar : IsBarred ok made live o F f) where
       receiver_barred : (us : List Value) → Fine u → receiver_ok F o u f us ≡ false
       receiver_barred [] k = refl
-      receiver_barred (v ∷ us) k = and_false (is_on F u v f.key.class) (o.methods f.key || calls_back F o (kind_of u v) f) (λ i.
-          ap (λ b. b || calls_back F o (kind_of u v) f) bar.kept ∙ bar.called (kind_of u v) (kind_ok ok made live says stands calm p o F G find other agree u v k.kinds) (kind_made ok made live says stands calm p o F G find other agree u v k.mades))
+      receiver_barred (v ∷ us) k = and_false (is_on F u v f.key.class) (may_reach F o (kind_of u v) f) (λ i.
+          bar.called (kind_of u v) (kind_ok ok made live says stands calm p o F G find other agree u v k.kinds) (kind_made ok made live says stands calm p o F G find other agree u v k.mades))
 
       found_barred : (b : Bool)
           → (elim b as (λ b. Bool) [ true ↦ o.methods f.key && all_fit F o w u gs vs f.key.signature.parameters | false ↦ all_fit F o w u gs vs (f.key.class ∷ f.key.signature.parameters) && receiver_ok F o u f vs ]) ≡ false
@@ -205,7 +205,7 @@ module _ (ok made : Text → Type 0) (live : MethodKey → Type 0) (says : Metho
   -- ---- making, answering, throwing, and receivers of fields
 
   pub make_same : (t : Text) → may_make F o t ≡ may_make G o t
-  make_same t = and_same (o.classes t) (o.classes t) _ _ refl (λ i. agree.makes t i)
+  make_same t = and_same (o.classes t || o.constructed t) (o.classes t || o.constructed t) _ _ refl (λ i. agree.makes t i)
 
   abbrev pub OptionFits : Option Given → Type 0
   OptionFits g = fit_option p o g ≡ true

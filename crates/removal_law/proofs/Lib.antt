@@ -20,6 +20,7 @@ pub mod Climbs
 pub mod Fields
 pub mod Firsts
 pub mod Declared
+pub mod OuterTables
 pub mod Entered
 pub mod Supers
 pub mod CallsLeft

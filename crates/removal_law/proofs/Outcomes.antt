@@ -1,6 +1,6 @@
 -- What comes of an effect is the same for two faces that agree, and keeps to what is live.
 use Rattle.std.proofs.Common.{◌≡◌, ℕ, ◌+◌, ◌-◌, Bool, true, false, List, [], refl, sym, ap, ◌∙◌, subst}
-use Rattle.std.specs.Prelude.{Option, Some, None, is_some}
+use Rattle.std.specs.Prelude.{◌&&◌, Option, Some, None, is_some}
 use Rattle.insn_set.specs.declared.ops.Item.{Item}
 use Rattle.insn_set.specs.declared.ops.InvokeKind.{InvokeKind}
 use Rattle.insn_set.specs.declared.ops.InvokeKind.TheVariants as call
@@ -16,7 +16,8 @@ use Rattle.dalvik_defs.specs.declared.state.Frame.{Frame}
 use Rattle.dalvik_defs.specs.Fields.{key_at, static_value, instance_value, with_static, with_instance}
 use Rattle.dalvik_defs.specs.Effect.{Effect, Goes, Faults, Throws, Gives, Calls, Makes, Reads, Writes, Locks, Unlocks, Stuck, write, write_item, next}
 use Rattle.dalvik_defs.specs.Show.{show, show_all, show_option}
-use Rattle.dalvik_defs.specs.Outcome.{Outcome, Stays, Starts, Enters, Leaves, Ends, Raises, Halts, Need, Ready, Fresh, Broken, need_if, need_of, faults, when_ready, passed_types, calls_out, native_kind, takes_no_receiver, calls_uncoded, calls_found, calls_ready, calls_unfound, calls_by, receiver, on_receiver, calls, makes, reads_value, reads_out, reads_static, reads_instance, reads, writes_out, written, writes_static, writes_instance, writes, with_lock, locks, unlocks, outcome}
+use Rattle.dalvik_defs.specs.Outcome.{Outcome, Stays, Starts, Enters, Leaves, Ends, Raises, Halts, Need, Ready, Fresh, Broken, need_if, need_of, faults, when_ready, passed_types, calls_out, native_kind, takes_no_receiver, calls_uncoded, calls_found, calls_ready, is_direct, calls_unfound, calls_by, receiver, on_receiver, calls, makes, reads_value, reads_out, reads_static, reads_instance, reads, writes_out, written, writes_static, writes_instance, writes, with_lock, locks, unlocks, outcome}
+use Rattle.dalvik_defs.specs.declared.state.Value.TheVariants.{Word}
 use Rattle.dalvik_defs.specs.declared.names.MethodKey.{MethodKey}
 use Rattle.dalvik_defs.specs.declared.names.FieldKey.{FieldKey}
 use Rattle.dalvik_defs.specs.declared.forms.Form.{Form}
@@ -128,7 +129,7 @@ module _ (ok made : Text → Type 0) (live : MethodKey → Type 0) (says : Metho
       found_ready kind g vs l = come_if (is_static g.flags) _ _ _ _ (needed g.key.class (calls_found kind g vs w) (calls_found kind g vs w) (agree.class_ok g.key l) (found kind g vs l)) (found kind g vs l)
 
       unfound : (kind : InvokeKind) (k : MethodKey) (vs : List Value) → ok k.signature.result → Come (calls_unfound kind k vs w f) (calls_unfound kind k vs w f)
-      unfound kind k vs r = come_if (method_eq k object_constructor) _ _ _ _ (one (Stays w (next f) None) (h, (refl, next_in y.0))) (out kind (takes_no_receiver kind) k vs r)
+      unfound kind k vs r = come_if (is_direct kind && method_eq k object_constructor) _ _ _ _ (one (Stays w (next (record f { result = Word 0 })) None) (h, (refl, next_in y.0))) (out kind (takes_no_receiver kind) k vs r)
 
       by_search : (kind : InvokeKind) (k : MethodKey) (vs : List Value) (a : Search) → ok k.signature.result → ((g : Found) → a ≡ Finds g → live g.key)
           → Come (calls_by (need_of F c) kind k vs w f a) (calls_by (need_of G c) kind k vs w f a)

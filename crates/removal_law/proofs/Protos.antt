@@ -13,7 +13,7 @@ use Rattle.dalvik_defs.specs.Names.{Text, proto_text}
 use Rattle.dalvik_defs.specs.declared.names.Signature.{Signature}
 use Rattle.dalvik_defs.specs.declared.program.NamedProgram.{NamedProgram}
 use Rattle.removal_law.specs.Left.{In, here, there}
-use Rattle.removal_law.specs.Reach.{TellsApart, IsDescribed, DefinesOnce}
+use Rattle.removal_law.specs.Reach.{TellsApart, TellsProtos, IsDescribed, DefinesOnce}
 use Rattle.removal_law.proofs.Lists.{clash}
 
 head_same : (u v : ℕ) (us vs : Text) → u ∷ us ≡ v ∷ vs → u ≡ v
@@ -107,6 +107,9 @@ proto_same : (a b : Signature) → AllDescribed a.parameters → AllDescribed b.
 proto_same a b h k e =
     let d = parameters_same a.parameters b.parameters a.result b.result h k (tail_same 40 40 (concat a.parameters ++ 41 ∷ a.result) (concat b.parameters ++ 41 ∷ b.result) e) in
     ap (λ x. record { parameters = x; result = a.result }) d.0 ∙ ap (λ x. record { parameters = b.parameters; result = x }) d.1
+
+pub protos_told : (p : NamedProgram) → IsDescribed p → TellsProtos p
+protos_told p described t u c d m x e i j k s = proto_same m.signature x.signature (λ v a. described t c m v e j a) (λ v a. described u d x v i k a) s
 
 pub told_apart : (p : NamedProgram) → IsDescribed p → DefinesOnce p → TellsApart p
 told_apart p described once t c m x e i j n s = once t c m x e i j n (proto_same m.signature x.signature (λ u a. described t c m u e i a) (λ u a. described t c x u e j a) s)

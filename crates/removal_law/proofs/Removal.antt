@@ -15,16 +15,16 @@ use Rattle.dalvik_defs.proofs.Simulation.{Shows, shows_on, same_by_runs}
 use Rattle.dalvik_defs.proofs.Calm.{Each as EachCalm, IsDeep, IsCalm, calm_shows, calm_shown}
 use Rattle.pass_defs.specs.Live.{Family, Conditions, IsClosedFamily}
 use Rattle.removal_law.specs.Left.{left_of}
-use Rattle.removal_law.specs.Reach.{OkType, MadeType, LiveMethod, Says, is_idle, LeftAgrees, IsRegular, IsSoundCode, ShutsHold, ReachedAt}
+use Rattle.removal_law.specs.Reach.{OkType, MadeType, LiveMethod, Says, is_idle, LeftAgrees, IsRegular, IsSoundCode, IsSoundTable, ReachedAt}
 use Rattle.removal_law.proofs.Fits.{fit_names_none}
 use Rattle.removal_law.proofs.Firsts.{idle_interface, idle_first, idle_left}
 use Rattle.removal_law.proofs.Steps.{calm_alike}
 use Rattle.removal_law.proofs.Faces.{agrees}
 use Rattle.removal_law.proofs.Trivial.{AnyType, AnyMethod, AnyForm, AnyPlace, itself}
 
-pub faces_agree : (p : NamedProgram) (o : Outer) (k : Conditions) (s : Family) → IsClosedFamily p o k s → IsRegular p → IsSoundCode p → ShutsHold p o
+pub faces_agree : (p : NamedProgram) (o : Outer) (k : Conditions) (s : Family) → IsClosedFamily p o k s → IsRegular p → IsSoundCode p → IsSoundTable p o
     → (f : Framework) (script : List Move) → Fit p o f script → LeftAgrees p o s f
-faces_agree p o k s closed regular code shuts f script fit = agrees p o k s f closed regular code shuts (fit_names_none p o f script fit) fit.classes
+faces_agree p o k s closed regular code table f script fit = agrees p o k s f closed regular code table (fit_names_none p o f script fit) fit.classes
 
 -- equal steps, where the idle interfaces are done
 pub equal_events : (p : NamedProgram) (o : Outer) (s : Family) (f : Framework) → LeftAgrees p o s f → (a : Floats) (script : List Move) (n : ℕ) → list_all (fit_move p o) script ≡ true
@@ -51,8 +51,8 @@ module _ (p : NamedProgram) (o : Outer) (k : Conditions) (s : Family) (closed : 
     grounded = λ t e. (1, subst (EachCalm (λ u. (is_idle p u ≡ true) × IsDeep (setting_of q o f a) (is_idle p) 0 u)) (sym (idle_left p s closed.above regular t e).1) tt);
   }
 
-pub removal : (p : NamedProgram) (o : Outer) (k : Conditions) (s : Family) → IsClosedFamily p o k s → IsRegular p → IsSoundCode p → ShutsHold p o → SameShown p (left_of s p) o
-removal p o k s closed regular code shuts = same_by_runs p (left_of s p) o
+pub removal : (p : NamedProgram) (o : Outer) (k : Conditions) (s : Family) → IsClosedFamily p o k s → IsRegular p → IsSoundCode p → IsSoundTable p o → SameShown p (left_of s p) o
+removal p o k s closed regular code table = same_by_runs p (left_of s p) o
     (λ f a script fit. shows_on _ _ _ _ _ _ _ _ _ (calm_shows (setting_of p o f a) (bodies_of p) (is_idle p) (calm_before p o k s closed regular f a) script)
     (shows_on _ _ _ _ _ _ _ _ _ (there f a script fit) (calm_shown (setting_of (left_of s p) o f a) (bodies_of (left_of s p)) (is_idle p) (calm_behind p o k s closed regular f a) script)))
     (λ f a script fit. shows_on _ _ _ _ _ _ _ _ _ (calm_shows (setting_of (left_of s p) o f a) (bodies_of (left_of s p)) (is_idle p) (calm_behind p o k s closed regular f a) script)
@@ -60,7 +60,7 @@ removal p o k s closed regular code shuts = same_by_runs p (left_of s p) o
   where
     equal : (f : Framework) (a : Floats) (script : List Move) → Fit p o f script → (n : ℕ)
         → shows_from (setting_of p o f a) (bodies_of p) (calm_opening (is_idle p) script) n ≡ shows_from (setting_of (left_of s p) o f a) (bodies_of (left_of s p)) (calm_opening (is_idle p) script) n
-    equal f a script fit n = equal_events p o s f (faces_agree p o k s closed regular code shuts f script fit) a script n fit.values
+    equal f a script fit n = equal_events p o s f (faces_agree p o k s closed regular code table f script fit) a script n fit.values
 
     there : (f : Framework) (a : Floats) (script : List Move) → Fit p o f script
         → Shows (setting_of p o f a) (bodies_of p) (setting_of (left_of s p) o f a) (bodies_of (left_of s p)) (calm_opening (is_idle p) script) (calm_opening (is_idle p) script)

@@ -7,7 +7,7 @@ use Rattle.dalvik_defs.specs.Flags.{is_interface}
 use Rattle.dalvik_defs.specs.Under.{class_named, is_own_under}
 use Rattle.dalvik_defs.specs.Find.{is_virtual_method, is_037}
 use Rattle.dalvik_defs.specs.Outer.{Outer}
-use Rattle.dalvik_defs.specs.Shut.{Library, types_clear, key_of, finds_it, called_outside, is_other, is_shut}
+use Rattle.dalvik_defs.specs.Shut.{Library, types_clear, key_of, keeper_over, finds_it, called_outside, is_other, is_shut}
 use Rattle.dalvik_defs.specs.declared.names.MethodKey.{MethodKey}
 use Rattle.dalvik_defs.specs.declared.program.NamedMethod.{NamedMethod}
 use Rattle.dalvik_defs.specs.declared.program.NamedClass.{NamedClass}
@@ -46,8 +46,11 @@ module _ (p : NamedProgram) (o : Outer) (l : Library) where
   abbrev at_upper : ℕ → NamedClass → NamedMethod → NamedClass → NamedClass → Bool
   at_upper k c m d e = not (is_own_under p d.name e.name) || list_all (at_member k c m e) e.methods
 
+  abbrev clear : NamedMethod → NamedClass → Bool
+  clear m d = not (keeper_over p o m d.name) && types_clear p l m.name m.signature d.name
+
   abbrev at_class : ℕ → NamedClass → NamedMethod → NamedClass → Bool
-  at_class k c m d = not (finds_it p (key_of c m) d) || (types_clear p l m.name m.signature d.name && list_all (at_upper k c m d) p.classes)
+  at_class k c m d = not (finds_it p (key_of c m) d) || (clear m d && list_all (at_upper k c m d) p.classes)
 
   abbrev basic : NamedClass → NamedMethod → Bool
   basic c m = is_virtual_method m && not (o.methods (key_of c m)) && not (is_common m.name m.signature) && not (is_037 p.version && is_interface c.flags) && not (called_outside p m.name m.signature)
@@ -56,9 +59,9 @@ module _ (p : NamedProgram) (o : Outer) (l : Library) where
   more : (k : ℕ) (c : NamedClass) (m : NamedMethod) → is_shut k p o l c m ≡ true → is_shut (suc k) p o l c m ≡ true
   more zero c m e = clash false e refl
   more (suc k) c m e = and_more (basic c m) (list_all (at_class k c m) p.classes) (basic c m) (list_all (at_class (suc k) c m) p.classes) (λ i. i)
-      (all_more (at_class k c m) (at_class (suc k) c m) (λ d. or_more (not (finds_it p (key_of c m) d)) (types_clear p l m.name m.signature d.name && list_all (at_upper k c m d) p.classes)
-      (not (finds_it p (key_of c m) d)) (types_clear p l m.name m.signature d.name && list_all (at_upper (suc k) c m d) p.classes) (λ i. i)
-      (and_more (types_clear p l m.name m.signature d.name) (list_all (at_upper k c m d) p.classes) (types_clear p l m.name m.signature d.name) (list_all (at_upper (suc k) c m d) p.classes) (λ i. i)
+      (all_more (at_class k c m) (at_class (suc k) c m) (λ d. or_more (not (finds_it p (key_of c m) d)) (clear m d && list_all (at_upper k c m d) p.classes)
+      (not (finds_it p (key_of c m) d)) (clear m d && list_all (at_upper (suc k) c m d) p.classes) (λ i. i)
+      (and_more (clear m d) (list_all (at_upper k c m d) p.classes) (clear m d) (list_all (at_upper (suc k) c m d) p.classes) (λ i. i)
       (all_more (at_upper k c m d) (at_upper (suc k) c m d) (λ u. or_more (not (is_own_under p d.name u.name)) (list_all (at_member k c m u) u.methods) (not (is_own_under p d.name u.name)) (list_all (at_member (suc k) c m u) u.methods) (λ i. i)
       (all_more (at_member k c m u) (at_member (suc k) c m u) (λ x. or_more (not (is_other c.name m u x) || o.methods (key_of u x)) (is_shut k p o l u x) (not (is_other c.name m u x) || o.methods (key_of u x)) (is_shut (suc k) p o l u x) (λ i. i)
       (more k u x)) u.methods)) p.classes))) p.classes) e
@@ -86,10 +89,10 @@ module _ (p : NamedProgram) (o : Outer) (l : Library) where
         let same : key_of c y ≡ k = n.1.1.1.0 in
         let s : is_shut (suc (length p.classes)) p o l c y ≡ true = n.1.1.1.1 in
         let t : at_class (length p.classes) c y d ≡ true = all_in (at_class (length p.classes) c y) p.classes (and_behind (basic c y) (list_all (at_class (length p.classes) c y) p.classes) s) d j in
-        let r : (types_clear p l y.name y.signature d.name && list_all (at_upper (length p.classes) c y d) p.classes) ≡ true =
-        or_rest (finds_it p (key_of c y) d) (types_clear p l y.name y.signature d.name && list_all (at_upper (length p.classes) c y d) p.classes) t (ap (λ q. finds_it p q d) same ∙ g) in
+        let r : (clear y d && list_all (at_upper (length p.classes) c y d) p.classes) ≡ true =
+        or_rest (finds_it p (key_of c y) d) (clear y d && list_all (at_upper (length p.classes) c y d) p.classes) t (ap (λ q. finds_it p q d) same ∙ g) in
         let f : at_upper (length p.classes) c y d e ≡ true =
-        all_in (at_upper (length p.classes) c y d) p.classes (and_behind (types_clear p l y.name y.signature d.name) (list_all (at_upper (length p.classes) c y d) p.classes) r) e u in
+        all_in (at_upper (length p.classes) c y d) p.classes (and_behind (clear y d) (list_all (at_upper (length p.classes) c y d) p.classes) r) e u in
         let h : at_member (length p.classes) c y e x ≡ true =
         all_in (at_member (length p.classes) c y e) e.methods (or_rest (is_own_under p d.name e.name) (list_all (at_member (length p.classes) c y e) e.methods) f v) x w in
         let q : is_other c.name y e x ≡ true = ap (λ z. same_name x.name x.signature z.name z.signature && is_virtual_method x && is_some x.body && not (text_eq e.name z.class)) same

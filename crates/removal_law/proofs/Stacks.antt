@@ -1,7 +1,7 @@
 -- What goes up and down the stack is the same for two faces that agree, and keeps to what is live.
 use Rattle.std.proofs.Common.{◌≡◌, ℕ, ◌+◌, Bool, true, false, List, [], ◌∷◌, refl, sym, ap, ◌∙◌, subst}
 use std.Path.{fun_ext}
-use Rattle.std.specs.Prelude.{map, find as seek, not, cond, Option, Some, None, drop, slice_get}
+use Rattle.std.specs.Prelude.{map, find as seek, not, cond, Option, Some, None, length, nat_eq, slice_get}
 use Rattle.std.specs.List.{list_all}
 use Rattle.std.specs.Option.{option_map, option_and_then}
 use Rattle.dalvik_defs.specs.Names.{Text, text_eq, throwable_type, error_type}
@@ -16,7 +16,7 @@ use Rattle.dalvik_defs.specs.declared.state.Waiting.{Waiting}
 use Rattle.dalvik_defs.specs.declared.state.Waiting.TheVariants.{Method, Initialiser, Ending, Outside}
 use Rattle.dalvik_defs.specs.Effect.{go}
 use Rattle.dalvik_defs.specs.Show.{show, show_option}
-use Rattle.dalvik_defs.specs.Stack.{enters_body, enters, form_at, receives, back, gives, handler_at, lands, wrapped, given_up, lands_or, unwinds, throws_new, left_at, left_of, runs, goes_on, starts, resumes, ends, covers, handler_in}
+use Rattle.dalvik_defs.specs.Stack.{enters_body, enters, form_at, receives, back, gives, handler_at, lands, wrapped, lands_or, entry_frame, unwinds, throws_new, left_at, left_of, runs, goes_on, starts, resumes, ends, covers, handler_in}
 use Rattle.dalvik_defs.specs.declared.names.MethodKey.{MethodKey}
 use Rattle.dalvik_defs.specs.declared.forms.Form.{Form}
 use Rattle.dalvik_defs.specs.declared.forms.Form.TheVariants as form
@@ -51,6 +51,10 @@ module _ (ok made : Text → Type 0) (live : MethodKey → Type 0) (says : Metho
   OwesOk None = Unit {0}
   OwesOk (Some t) = ok t
 
+  abbrev pub PendingOk : Option Move → Type 0
+  PendingOk None = Unit {0}
+  PendingOk (Some m) = fit_move p o m ≡ true
+
   -- a class that another one waits for isn't calm
   abbrev pub HeadOk : List Text → Type 0
   HeadOk [] = Unit {0}
@@ -73,21 +77,21 @@ module _ (ok made : Text → Type 0) (live : MethodKey → Type 0) (says : Metho
   WaitOk (Method f ∷ r) = (FrameOk f × WaitsAt f) × WaitOk r
   WaitOk (Initialiser c above ∷ r) = (ok c × (calm c ≡ false)) × ((Each ok above × HeadOk above) × WaitOk r)
   WaitOk (Ending c ∷ r) = (calm c ≡ false) × WaitOk r
-  WaitOk (Outside owes ∷ r) = OwesOk owes × WaitOk r
+  WaitOk (Outside owes pending ∷ r) = (OwesOk owes × PendingOk pending) × WaitOk r
 
   abbrev pub StackOk : List Waiting → Type 0
   StackOk [] = Unit {0}
   StackOk (Method f ∷ r) = FrameOk f × WaitOk r
   StackOk (Initialiser c above ∷ r) = WaitOk (Initialiser c above ∷ r)
   StackOk (Ending c ∷ r) = WaitOk (Ending c ∷ r)
-  StackOk (Outside owes ∷ r) = WaitOk (Outside owes ∷ r)
+  StackOk (Outside owes pending ∷ r) = WaitOk (Outside owes pending ∷ r)
 
   pub top_ok : (stack : List Waiting) → WaitOk stack → StackOk stack
   top_ok [] s = tt
   top_ok (Method f ∷ r) s = (s.0.0, s.1)
   top_ok (Initialiser c above ∷ r) s = s
   top_ok (Ending c ∷ r) s = s
-  top_ok (Outside owes ∷ r) s = s
+  top_ok (Outside owes pending ∷ r) s = s
 
   -- the calm classes are done, and the script fits
   abbrev pub Fits : Classes → List Move → Type 0
@@ -103,7 +107,7 @@ module _ (ok made : Text → Type 0) (live : MethodKey → Type 0) (says : Metho
   sifted (Method f ∷ r) = Method f ∷ sifted r
   sifted (Initialiser c above ∷ r) = Initialiser c (sieve calm above) ∷ sifted r
   sifted (Ending c ∷ r) = Ending c ∷ sifted r
-  sifted (Outside owes ∷ r) = Outside owes ∷ sifted r
+  sifted (Outside owes pending ∷ r) = Outside owes pending ∷ sifted r
 
   abbrev pub sift : State → State
   sift Ended = Ended
@@ -139,12 +143,22 @@ module _ (ok made : Text → Type 0) (live : MethodKey → Type 0) (says : Metho
 
   body_enters : (w : World) (c : Classes) (k : MethodKey) (vs : List Value) (stack : List Waiting) (script : List Move) (b : Option NamedBody) → find k ≡ b → Fine w → live k → WaitOk stack → Fits c script
       → StateOk (enters_body b w c k vs stack script)
-  body_enters w c k vs stack script (Some b) e h l s m = (h, (((l, agree.entry k b l e), s), m))
+  body_enters w c k vs stack script (Some b) e h l s m = by (nat_eq (length vs) b.ins)
+    where
+      by : (x : Bool) → StateOk (elim x as (λ x. State) [ true ↦ On w c (Method (entry_frame k vs b) ∷ stack) script | false ↦ Ended ])
+      by true = (h, (((l, agree.entry k b l e), s), m))
+      by false = tt
   body_enters w c k vs stack script None e h l s m = tt
 
   body_sifted : (b : Option NamedBody) (w : World) (c : Classes) (k : MethodKey) (vs : List Value) (stack : List Waiting) (script : List Move)
       → sift (enters_body b w c k vs stack script) ≡ enters_body b w c k vs (sifted stack) script
-  body_sifted (Some b) w c k vs stack script = refl
+  body_sifted (Some b) w c k vs stack script = by (nat_eq (length vs) b.ins)
+    where
+      by : (x : Bool) → sift (elim x as (λ x. State) [ true ↦ On w c (Method (entry_frame k vs b) ∷ stack) script | false ↦ Ended ])
+          ≡ elim x as (λ x. State) [ true ↦ On w c (Method (entry_frame k vs b) ∷ sifted stack) script | false ↦ Ended ]
+      by true = refl
+      by false = refl
+
   body_sifted None w c k vs stack script = refl
 
   pub entering : (w : World) (c : Classes) (k : MethodKey) (vs : List Value) (stack : List Waiting) (script : List Move)
@@ -271,7 +285,7 @@ module _ (ok made : Text → Type 0) (live : MethodKey → Type 0) (says : Metho
   }
   giving kind w c v (Initialiser t above ∷ rest) script h s m = good_one (quiet Ended) tt
   giving kind w c v (Ending t ∷ rest) script h s m = good_one (quiet (On w c (Ending t ∷ rest) script)) (h, (s, m))
-  giving kind w c v (Outside owes ∷ rest) script h s m = good_one (gives find kind w c v (Outside owes ∷ rest) script)
+  giving kind w c v (Outside owes pending ∷ rest) script h s m = good_one (gives find kind w c v (Outside owes pending ∷ rest) script)
       (fine_heap w (show_option w kind v).0 (option_heap w kind v) h, (s, m))
 
   -- ---- thrown objects
@@ -299,26 +313,8 @@ module _ (ok made : Text → Type 0) (live : MethodKey → Type 0) (says : Metho
   wrap_same w v h = ap (λ b. elim b as (λ b. World × Value) [ true ↦ (w, v) | false ↦ (with_thing w (fresh initialiser_error), next_object w) ])
       (agree.under (kind_of w v) error_type (kind_ok ok made live says stands calm p o F G find other agree w v h.kinds))
 
-  drop_fits : (c : Classes) (script : List Move) → Fits c script → Fits c (drop 1 script)
-  drop_fits c [] m = m
-  drop_fits c (x ∷ script) m = (m.0, and_behind (fit_move p o x) (list_all (fit_move p o) script) m.1)
-
-  given_up_fits : (c : Classes) (stack : List Waiting) (script : List Move) → Fits c script → Fits c (given_up stack script)
-  given_up_fits c [] script m = m
-  given_up_fits c (Method f ∷ rest) script m = m
-  given_up_fits c (Initialiser t above ∷ rest) script m = m
-  given_up_fits c (Ending t ∷ rest) script m = m
-  given_up_fits c (Outside owes ∷ rest) script m = drop_fits c script m
-
-  given_up_sifted : (stack : List Waiting) (script : List Move) → given_up stack script ≡ given_up (sifted stack) script
-  given_up_sifted [] script = refl
-  given_up_sifted (Method f ∷ rest) script = refl
-  given_up_sifted (Initialiser t above ∷ rest) script = refl
-  given_up_sifted (Ending t ∷ rest) script = refl
-  given_up_sifted (Outside owes ∷ rest) script = refl
-
-  failed : (c : Classes) (t : Text) (rest : List Waiting) (script : List Move) → calm t ≡ false → Fits c script → Fits (put_status t Failed c) (given_up rest script)
-  failed c t rest script n m = given_up_fits (put_status t Failed c) rest script (put_done c t Failed n m.0, m.1)
+  failed : (c : Classes) (t : Text) (script : List Move) → calm t ≡ false → Fits c script → Fits (put_status t Failed c) script
+  failed c t script n m = (put_done c t Failed n m.0, m.1)
 
   -- a handler of the region that covers the position
   handler_found : (above : Text → Bool) (g : NamedRegion) (t : ℕ) → handler_in above g ≡ Some t → In t (handlers_of (Some g))
@@ -364,15 +360,12 @@ module _ (ok made : Text → Type 0) (live : MethodKey → Type 0) (says : Metho
       → Fine w → WaitOk stack → Fits c script → Good (unwinds F find w c v stack script) (unwinds G other w c v (sifted stack) script)
   unwinding w c v [] script h s m = good_one (quiet Ended) tt
   unwinding w c v (Method f ∷ rest) script h s m = throws_at w c v f rest script h s.0.0 (s.0.1.0, (s.0.1.1.0, s.0.1.1.1.1)) s.1 m (unwinding w c v rest script h s.1 m)
-  unwinding w c v (Initialiser t above ∷ rest) script h s m =
-      subst (λ x. Good (unwinds F find w c v (Initialiser t above ∷ rest) script) (unwinds G other w (put_status t Failed c) v (sifted rest) x)) (given_up_sifted rest script)
-      (unwinding w (put_status t Failed c) v rest (given_up rest script) h s.1.1 (failed c t rest script s.0.1 m))
+  unwinding w c v (Initialiser t above ∷ rest) script h s m = unwinding w (put_status t Failed c) v rest script h s.1.1 (failed c t script s.0.1 m)
   unwinding w c v (Ending t ∷ rest) script h s m =
-      subst (λ x. Good (unwinds F find w c v (Ending t ∷ rest) script) (unwinds G other x.0 (put_status t Failed c) x.1 (sifted rest) (given_up (sifted rest) script))) (wrap_same w v h)
-      (subst (λ x. Good (unwinds F find w c v (Ending t ∷ rest) script) (unwinds G other (wrapped F w v).0 (put_status t Failed c) (wrapped F w v).1 (sifted rest) x)) (given_up_sifted rest script)
-      (unwinding (wrapped F w v).0 (put_status t Failed c) (wrapped F w v).1 rest (given_up rest script) (wrap_fine w v h) s.1 (failed c t rest script s.0 m)))
-  unwinding w c v (Outside owes ∷ rest) script h s m = good_one (unwinds F find w c v (Outside owes ∷ rest) script)
-      (fine_heap w (show w throwable_type v).0 (show_heap w throwable_type v) h, (s, m))
+      subst (λ x. Good (unwinds F find w c v (Ending t ∷ rest) script) (unwinds G other x.0 (put_status t Failed c) x.1 (sifted rest) script)) (wrap_same w v h)
+      (unwinding (wrapped F w v).0 (put_status t Failed c) (wrapped F w v).1 rest script (wrap_fine w v h) s.1 (failed c t script s.0 m))
+  unwinding w c v (Outside owes pending ∷ rest) script h s m = good_one (unwinds F find w c v (Outside owes pending ∷ rest) script)
+      (fine_heap w (show w throwable_type v).0 (show_heap w throwable_type v) h, (((s.0.0, tt), s.1), m))
 
   pub throwing : (w : World) (c : Classes) (t : Text) (stack : List Waiting) (script : List Move) → ok t × made t
       → Fine w → WaitOk stack → Fits c script → Good (throws_new F find w c t stack script) (throws_new G other w c t (sifted stack) script)
@@ -466,7 +459,7 @@ module _ (ok made : Text → Type 0) (live : MethodKey → Type 0) (says : Metho
   resuming w c (Initialiser t above ∷ rest) script h s m = subst (λ x. GoodState (resumes F find w c (Initialiser t above ∷ rest) script) (goes_on G other w c t x (sifted rest) script)) (left_sieved c above m.0)
       (going_on w c t (left_of c above) rest script s.0.0 s.0.1 (left_ok c above s.1.0.0) (left_head c above m.0) h s.1.1 m)
   resuming w c (Ending t ∷ rest) script h s m = state_one (On w c (Ending t ∷ rest) script) (h, (s, m))
-  resuming w c (Outside owes ∷ rest) script h s m = state_one (On w c (Outside owes ∷ rest) script) (h, (s, m))
+  resuming w c (Outside owes pending ∷ rest) script h s m = state_one (On w c (Outside owes pending ∷ rest) script) (h, (s, m))
 
   pub ending : (w : World) (c : Classes) (t : Text) (rest : List Waiting) (script : List Move) → calm t ≡ false
       → Fine w → WaitOk rest → Fits c script → GoodState (ends F find w c t rest script) (ends G other w c t (sifted rest) script)

@@ -24,7 +24,7 @@ use Rattle.dalvik_defs.specs.Stack.{enters, form_at, throws_new, left_of, goes_o
 use Rattle.dalvik_defs.specs.Gives.{gets, gets_all, spread, fits, may_throw}
 use Rattle.dalvik_defs.specs.Legal.{may_enter, may_make, may_answer, on_fits, is_exposed}
 use Rattle.dalvik_defs.specs.Happens.{Setting, effect_of, outcome_at, happens, first_needed, initialises}
-use Rattle.dalvik_defs.specs.Moves.{needs, entered, enter, made as makes_now, make, got, answers, throws, shows_value, goes, field_value, with_field, reads, writes, reads_item, array_get, with_item, writes_item, array_put, measures_thing, array_length, key_of, moves}
+use Rattle.dalvik_defs.specs.Moves.{needs, entered, enter, made as makes_now, make, got, answers, throws, shows_value, goes, field_value, with_field, reads, writes, reads_item, array_get, with_item, writes_item, array_put, measures_thing, array_length, key_of, moves, framework_turn}
 use Rattle.dalvik_defs.specs.Quiet.{status_if, calm_classes, calm_opening}
 use Rattle.dalvik_defs.specs.Step.{step, events_of, shows_from}
 use Rattle.dalvik_defs.specs.declared.names.MethodKey.{MethodKey}
@@ -115,7 +115,7 @@ module _ (ok made : Text → Type 0) (live : MethodKey → Type 0) (says : Metho
     happening f x (Stays w' f' e) l i g = one (On w' c (Method f' ∷ rest) script, e) (g.0, ((onward_ok ok made live says stands calm p o F G find other agree f x f' l i g.1.0 g.1.1, s), m))
     happening f x (Starts t) l i g = silent _ _ (starting ok made live says stands calm p o F G find other agree w c t (Method f ∷ rest) script g.0.0 g.0.1 h ((l, (x, (i, g.1))), s) m)
     happening f x (Enters k vs) l i g = silent _ _ (entering ok made live says stands calm p o F G find other agree w c k vs (Method f ∷ rest) script h g.0 ((l, (x, (i, g.1))), s) m)
-    happening f x (Leaves w' owes e) l i g = one (On w' c (Outside (Some owes) ∷ Method f ∷ rest) script, Some e) (g.0.0, ((g.0.1, ((l, (x, (i, g.1))), s)), m))
+    happening f x (Leaves w' owes e) l i g = one (On w' c (Outside (Some owes) None ∷ Method f ∷ rest) script, Some e) (g.0.0, (((g.0.1, tt), ((l, (x, (i, g.1))), s)), m))
     happening f x (Ends v) l i g = giving ok made live says stands calm p o F G find other agree f.method.signature.result w c v rest script h s m
     happening f x (Raises w' v) l i g = throws_at ok made live says stands calm p o F G find other agree w' c v f rest script g.0 l (x, (i, g.1)) s m
         (unwinding ok made live says stands calm p o F G find other agree w' c v rest script g.0 s m)
@@ -169,38 +169,38 @@ module _ (ok made : Text → Type 0) (live : MethodKey → Type 0) (says : Metho
   over : Fair (quiet Ended) (quiet Ended)
   over = one (quiet Ended) tt
 
-  -- `stack` has the framework on top, `script` begins with the move, `rest` is behind it
-  module _ (w : World) (c : Classes) (stack : List Waiting) (script rest : List Move) (h : Fine w) (s : Stacked stack) (m : Scripted c script) (n : Scripted c rest) where
-    need_cases : (x : Need) (t : Text) (a b : Next) → (x ≡ Fresh → calm t ≡ false) → ok t → Fair a b → Fair (needs S find x w c t stack script rest a) (needs Z other x w c t (down stack) script rest b)
+  -- `stack` has the framework on top, `waiting` the same framework with the move that waits, `rest` is the script behind it
+  module _ (w : World) (c : Classes) (waiting stack : List Waiting) (rest : List Move) (h : Fine w) (q : Stacked waiting) (s : Stacked stack) (n : Scripted c rest) where
+    need_cases : (x : Need) (t : Text) (a b : Next) → (x ≡ Fresh → calm t ≡ false) → ok t → Fair a b → Fair (needs S find x w c t waiting stack rest a) (needs Z other x w c t (down waiting) (down stack) rest b)
     need_cases Ready t a b e k g = g
-    need_cases Fresh t a b e k g = silent _ _ (starting ok made live says stands calm p o F G find other agree w c t stack script k (e refl) h s m)
+    need_cases Fresh t a b e k g = silent _ _ (starting ok made live says stands calm p o F G find other agree w c t waiting rest k (e refl) h q n)
     need_cases Broken t a b e k g = throwing ok made live says stands calm p o F G find other agree w c no_class stack rest (agree.known no_class refl) h s n
 
-    needed : (t : Text) (a b : Next) → ok t → Fair a b → Fair (needs S find (need_of F c t) w c t stack script rest a) (needs Z other (need_of G c t) w c t (down stack) script rest b)
-    needed t a b k g = subst (λ x. Fair (needs S find (need_of F c t) w c t stack script rest a) (needs Z other x w c t (down stack) script rest b))
-        (need_same ok made live says stands calm p o F G find other agree c t k) (need_cases (need_of F c t) t a b (fresh_calm ok made live says stands calm p o F G find other agree c t m.0) k g)
+    needed : (t : Text) (a b : Next) → ok t → Fair a b → Fair (needs S find (need_of F c t) w c t waiting stack rest a) (needs Z other (need_of G c t) w c t (down waiting) (down stack) rest b)
+    needed t a b k g = subst (λ x. Fair (needs S find (need_of F c t) w c t waiting stack rest a) (needs Z other x w c t (down waiting) (down stack) rest b))
+        (need_same ok made live says stands calm p o F G find other agree c t k) (need_cases (need_of F c t) t a b (fresh_calm ok made live says stands calm p o F G find other agree c t n.0) k g)
 
-    entry : (f : Found) (vs : List Value) (u : World) → live f.key → Fine u → Fair (entered S find w c f vs stack script rest u) (entered Z other w c f vs (down stack) script rest u)
+    entry : (f : Found) (vs : List Value) (u : World) → live f.key → Fine u → Fair (entered S find w c f vs waiting stack rest u) (entered Z other w c f vs (down waiting) (down stack) rest u)
     entry f vs u l k = fair_if (is_static f.flags) (is_static f.flags) _ _ _ _ refl (λ i. needed f.key.class _ _ (agree.class_ok f.key l) here) (λ i. here)
       where
         here : Fair (quiet (enters find u c f.key (spread vs) stack rest)) (quiet (enters other u c f.key (spread vs) (down stack) rest))
         here = silent _ _ (entering ok made live says stands calm p o F G find other agree u c f.key (spread vs) stack rest k l s n)
 
     enter_live : (f : Found) (gs : List Given) → AllFit ok made live says stands calm p o F G find other agree gs → IsOpen ok made live o F G f
-        → Fair (enter S find w c (Some f) gs stack script rest) (enter Z other w c (Some f) gs (down stack) script rest)
+        → Fair (enter S find w c (Some f) gs waiting stack rest) (enter Z other w c (Some f) gs (down waiting) (down stack) rest)
     enter_live f gs e l = fair_if (may_enter F o w (gets_all w gs).0 f gs (gets_all w gs).1) (may_enter G o w (gets_all w gs).0 f gs (gets_all w gs).1) _ _ _ _
         (enter_same ok made live says stands calm p o F G find other agree w h f gs e l)
         (λ i. entry f (gets_all w gs).1 (gets_all w gs).0 l.lives (enter_fine ok made live says stands calm p o F G find other agree w h f gs e i)) (λ i. over)
 
     enter_cases : (a b : Option Found) (gs : List Given) → AllFit ok made live says stands calm p o F G find other agree gs → AgreeOnDeclared ok made live o F G a b
-        → Fair (enter S find w c a gs stack script rest) (enter Z other w c b gs (down stack) script rest)
-    enter_cases None b gs e g = subst (λ x. Fair (quiet Ended) (enter Z other w c x gs (down stack) script rest)) (sym g) over
-    enter_cases (Some f) b gs e (inl g) = subst (λ x. Fair (enter S find w c (Some f) gs stack script rest) (enter Z other w c x gs (down stack) script rest)) (sym g.1) (enter_live f gs e g.0)
-    enter_cases (Some f) b gs e (inr g) = subst (λ x. Fair (enter S find w c (Some f) gs stack script rest) (enter Z other w c x gs (down stack) script rest)) (sym g.1)
-        (subst (λ x. Fair (elim x as (λ b. Next) [ true ↦ entered S find w c f (gets_all w gs).1 stack script rest (gets_all w gs).0 | false ↦ quiet Ended ]) (quiet Ended))
+        → Fair (enter S find w c a gs waiting stack rest) (enter Z other w c b gs (down waiting) (down stack) rest)
+    enter_cases None b gs e g = subst (λ x. Fair (quiet Ended) (enter Z other w c x gs (down waiting) (down stack) rest)) (sym g) over
+    enter_cases (Some f) b gs e (inl g) = subst (λ x. Fair (enter S find w c (Some f) gs waiting stack rest) (enter Z other w c x gs (down waiting) (down stack) rest)) (sym g.1) (enter_live f gs e g.0)
+    enter_cases (Some f) b gs e (inr g) = subst (λ x. Fair (enter S find w c (Some f) gs waiting stack rest) (enter Z other w c x gs (down waiting) (down stack) rest)) (sym g.1)
+        (subst (λ x. Fair (elim x as (λ b. Next) [ true ↦ entered S find w c f (gets_all w gs).1 waiting stack rest (gets_all w gs).0 | false ↦ quiet Ended ]) (quiet Ended))
         (sym (enter_barred ok made live says stands calm p o F G find other agree w h f gs e g.0)) over)
 
-    making : (t : Text) → Fair (make S find w c t stack script rest) (make Z other w c t (down stack) script rest)
+    making : (t : Text) → Fair (make S find w c t waiting stack rest) (make Z other w c t (down waiting) (down stack) rest)
     making t = fair_if (may_make F o t) (may_make G o t) _ _ _ _ (make_same ok made live says stands calm p o F G find other agree t)
         (λ i. let k = agree.made_ok t i in needed t _ _ k.0 (one (makes_now w c t stack rest) (
           fine_heap (with_thing w (fresh t)) (show (with_thing w (fresh t)) t (next_object w)).0 (show_heap (with_thing w (fresh t)) t (next_object w))
@@ -353,24 +353,28 @@ module _ (ok made : Text → Type 0) (live : MethodKey → Type 0) (says : Metho
 
   -- ---- a move
 
-  moving : (w : World) (c : Classes) (owes : Option Text) (below : List Waiting) (script : List Move) → Fine w → Stacked (Outside owes ∷ below) → Scripted c script
-      → Fair (moves S find w c owes below script) (moves Z other w c owes (down below) script)
-  moving w c owes below [] h s m = over
-  moving w c owes below (x ∷ rest) h s m = by x (and_left (fit_move p o x) (list_all (fit_move p o) rest) m.1) m
-    where
-      n : Scripted c rest
-      n = (m.0, and_behind (fit_move p o x) (list_all (fit_move p o) rest) m.1)
+  -- `owes` is what the framework's frame on top owes, `rest` the script behind the move
+  moving : (w : World) (c : Classes) (owes : Option Text) (x : Move) (below : List Waiting) (rest : List Move) → Fine w → OwesOk ok made live says stands calm p o F G find other agree owes → Stacked below
+      → Scripted c rest → fit_move p o x ≡ true → Fair (moves S find w c owes x below rest) (moves Z other w c owes x (down below) rest)
+  moving w c owes (move.Enter t k q gs) below rest h a s n e =
+      enter_cases w c (Outside owes (Some (move.Enter t k q gs)) ∷ below) (Outside owes None ∷ below) rest h ((a, e), s) ((a, tt), s) n (F.declared t k q) (G.declared t k q) gs e (agree.declared t k q)
+  moving w c owes (move.Make t) below rest h a s n e = making w c (Outside owes (Some (move.Make t)) ∷ below) (Outside owes None ∷ below) rest h ((a, e), s) ((a, tt), s) n t
+  moving w c owes (move.Return g) below rest h a s n e = answering w c below rest h s n owes g a e
+  moving w c owes (move.Throw g) below rest h a s n e = throws_given w c below rest h s n owes g e
+  moving w c owes (move.Get t k q on) below rest h a s n e = read_field c (Outside owes None ∷ below) rest ((a, tt), s) n w h (key_of t k q) on (o.fields (key_of t k q)) refl e
+  moving w c owes (move.Put t k q on g) below rest h a s n e = write_field c (Outside owes None ∷ below) rest ((a, tt), s) n w h (key_of t k q) on g (o.fields (key_of t k q)) refl
+      (and_left (fit_option p o on) (fit_given p o g) e) (and_behind (fit_option p o on) (fit_given p o g) e)
+  moving w c owes (move.ArrayGet g i) below rest h a s n e = getting c (Outside owes None ∷ below) rest ((a, tt), s) n w h g i
+  moving w c owes (move.ArrayPut on i g) below rest h a s n e = putting c (Outside owes None ∷ below) rest ((a, tt), s) n w h on i g (and_behind (fit_given p o on) (fit_given p o g) e)
+  moving w c owes (move.ArrayLength g) below rest h a s n e = measuring c (Outside owes None ∷ below) rest ((a, tt), s) n w h g
 
-      by : (x : Move) → fit_move p o x ≡ true → Scripted c (x ∷ rest) → Fair (moves S find w c owes below (x ∷ rest)) (moves Z other w c owes (down below) (x ∷ rest))
-      by (move.Enter t k q gs) e m = enter_cases w c (Outside owes ∷ below) (move.Enter t k q gs ∷ rest) rest h s m n (F.declared t k q) (G.declared t k q) gs e (agree.declared t k q)
-      by (move.Make t) e m = making w c (Outside owes ∷ below) (move.Make t ∷ rest) rest h s m n t
-      by (move.Return g) e m = answering w c below rest h s.1 n owes g s.0 e
-      by (move.Throw g) e m = throws_given w c below rest h s.1 n owes g e
-      by (move.Get t k q on) e m = read_field c (Outside owes ∷ below) rest s n w h (key_of t k q) on (o.fields (key_of t k q)) refl e
-      by (move.Put t k q on g) e m = write_field c (Outside owes ∷ below) rest s n w h (key_of t k q) on g (o.fields (key_of t k q)) refl (and_left (fit_option p o on) (fit_given p o g) e) (and_behind (fit_option p o on) (fit_given p o g) e)
-      by (move.ArrayGet g i) e m = getting c (Outside owes ∷ below) rest s n w h g i
-      by (move.ArrayPut on i g) e m = putting c (Outside owes ∷ below) rest s n w h on i g (and_behind (fit_given p o on) (fit_given p o g) e)
-      by (move.ArrayLength g) e m = measuring c (Outside owes ∷ below) rest s n w h g
+  -- the move that waits, else the next one of the script
+  turning : (w : World) (c : Classes) (owes : Option Text) (pending : Option Move) (below : List Waiting) (script : List Move) → Fine w → Stacked (Outside owes pending ∷ below) → Scripted c script
+      → Fair (framework_turn S find w c owes pending below script) (framework_turn Z other w c owes pending (down below) script)
+  turning w c owes (Some x) below script h s m = moving w c owes x below script h s.0.0 s.1 m s.0.1
+  turning w c owes None below [] h s m = over
+  turning w c owes None below (x ∷ rest) h s m = moving w c owes x below rest h s.0.0 s.1 (m.0, and_behind (fit_move p o x) (list_all (fit_move p o) rest) m.1)
+      (and_left (fit_move p o x) (list_all (fit_move p o) rest) m.1)
 
   -- ---- a step
 
@@ -380,7 +384,7 @@ module _ (ok made : Text → Type 0) (live : MethodKey → Type 0) (says : Metho
   stepping (On w c (Method f ∷ rest) script) h = running w c rest script h.0 h.1.0.1 h.1.1 f h.1.0.0
   stepping (On w c (Initialiser t above ∷ rest) script) h = initialising w c rest script h.0 h.1.0.1.1 h.1.1 t above h.1.0.0.0 h.1.0.0.1 h.1.0.1.0.0 h.1.0.1.0.1
   stepping (On w c (Ending t ∷ rest) script) h = silent _ _ (ending ok made live says stands calm p o F G find other agree w c t rest script h.1.0.0 h.0 h.1.0.1 h.1.1)
-  stepping (On w c (Outside owes ∷ rest) script) h = moving w c owes rest script h.0 h.1.0 h.1.1
+  stepping (On w c (Outside owes pending ∷ rest) script) h = turning w c owes pending rest script h.0 h.1.0 h.1.1
 
   -- within each number of steps both show the same
   shows_alike : (n : ℕ) (t : State) → Reached t → shows_from S find t n ≡ shows_from Z other (sift ok made live says stands calm p o F G find other agree t) n
@@ -392,4 +396,4 @@ module _ (ok made : Text → Type 0) (live : MethodKey → Type 0) (says : Metho
   calm_done t e = ap status_if e
 
   pub calm_alike : (script : List Move) (n : ℕ) → list_all (fit_move p o) script ≡ true → shows_from S find (calm_opening calm script) n ≡ shows_from Z other (calm_opening calm script) n
-  calm_alike script n m = shows_alike n (calm_opening calm script) (record { kinds = tt; mades = tt }, ((tt, tt), (calm_done, m)))
+  calm_alike script n m = shows_alike n (calm_opening calm script) (record { kinds = tt; mades = tt }, (((tt, tt), tt), (calm_done, m)))

@@ -22,7 +22,7 @@ use Rattle.pass_defs.specs.Registers.{Kinds, state_below}
 use Rattle.pass_defs.specs.Live.{is_concrete}
 use Rattle.pass_defs.specs.Typed.{Table, state_at, each, at_state, arrives, after, catch_all, catches_in, catches, edges, is_wrong, wrong_instance, wrong_filled, begun, IsTyping, IsTyped}
 use Rattle.removal_law.specs.Left.{In, here, there}
-use Rattle.removal_law.specs.Reach.{TellsApart, IsSoundCode}
+use Rattle.removal_law.specs.Reach.{TellsApart, TellsProtos, IsSoundCode}
 use Rattle.removal_law.proofs.Lists.{clash, and_left, and_behind, all_in, in_front, in_back, in_either, in_map, contained}
 use Rattle.removal_law.proofs.Trees.{none_some}
 use Rattle.removal_law.proofs.CallsLeft.{body_in}
@@ -150,12 +150,13 @@ pub not_not : (b : Bool) → not (not b) ≡ true → b ≡ true
 not_not true e = refl
 not_not false e = e
 
-pub typed_code : (p : NamedProgram) → IsTyped p → TellsApart p → IsSoundCode p
-typed_code p typed apart = record {
+pub typed_code : (p : NamedProgram) → IsTyped p → TellsApart p → TellsProtos p → IsSoundCode p
+typed_code p typed apart protos = record {
   arrays = λ k b n to size t e w i. let d = right_at k b n (form.NewArray to size t) e w i in not_not (is_array t) d.1.1.1;
   filled = λ k b n t args e w i. let d = right_at k b n (form.FilledNewArray t args) e w i in filled_array t d.1.1.1;
   objects = λ k b n to t e w i d. let r = right_at k b n (form.NewInstance to t) e w i in concrete t r.1.1.1 d;
   methods = apart;
+  protos = protos;
 }
   where
     right_at : (k : MethodKey) (b : NamedBody) (n : ℕ) (f : Form) → bodies_of p k ≡ Some b → IsReached b n → form_at b n ≡ Some f

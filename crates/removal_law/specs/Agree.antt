@@ -8,7 +8,7 @@ use Rattle.dalvik_defs.specs.Names.{Text, text_eq, array_of, base_of, item_of}
 use Rattle.dalvik_defs.specs.Find.{Found, Search, Finds}
 use Rattle.dalvik_defs.specs.Face.{Face, Place, Bodies, is_defined, is_concrete}
 use Rattle.dalvik_defs.specs.State.{Classes, Done}
-use Rattle.dalvik_defs.specs.Legal.{calls_back, may_make}
+use Rattle.dalvik_defs.specs.Legal.{may_reach, may_make}
 use Rattle.dalvik_defs.specs.Outer.{Outer}
 use Rattle.dalvik_defs.specs.Shown.{reserved, fit_given}
 use Rattle.dalvik_defs.specs.declared.names.MethodKey.{MethodKey}
@@ -64,12 +64,12 @@ module _ (ok made : Text → Type 0) (live : MethodKey → Type 0) where
   -- a method that the framework may not enter
   pub record IsBarred (o : Outer) (face : Face) (f : Found) : Type 0 where
     pub kept : o.methods f.key ≡ false
-    pub called : (t : Text) → ok t → made t → calls_back face o t f ≡ false
+    pub called : (t : Text) → ok t → made t → may_reach face o t f ≡ false
 
   -- a live method that the framework enters on the same objects
   pub record IsOpen (o : Outer) (F G : Face) (f : Found) : Type 0 where
     pub lives : live f.key
-    pub called : (t : Text) → f.coded ≡ true → ok t → made t → (o.methods f.key || calls_back F o t f) ≡ (o.methods f.key || calls_back G o t f)
+    pub called : (t : Text) → f.coded ≡ true → ok t → made t → may_reach F o t f ≡ may_reach G o t f
 
   -- both define such a method, or the first alone one that the framework may not enter
   abbrev pub AgreeOnDeclared : Outer → Face → Face → Option Found → Option Found → Type 0
@@ -114,7 +114,7 @@ module _ (ok made : Text → Type 0) (live : MethodKey → Type 0) where
     pub first_ok : (t : Text) → ok t → Each ok (F.first t)
     -- what the framework may do
     pub declared : (c n q : Text) → AgreeOnDeclared o F G (F.declared c n q) (G.declared c n q)
-    pub makes : (t : Text) → o.classes t ≡ true → is_concrete F t ≡ is_concrete G t
+    pub makes : (t : Text) → (o.classes t || o.constructed t) ≡ true → is_concrete F t ≡ is_concrete G t
     pub made_ok : (t : Text) → may_make F o t ≡ true → ok t × made t
     pub own_field : (k : FieldKey) → o.fields k ≡ true → F.own_field k ≡ G.own_field k
     pub own_kind : (k : FieldKey) (x : Place) → o.fields k ≡ true → F.own_field k ≡ Some x → ok k.kind

@@ -8,7 +8,8 @@ use Rattle.dalvik_defs.specs.Under.{class_named, defines, own_above, is_own_unde
 use Rattle.dalvik_defs.specs.Find.{interface_named, is_037}
 use Rattle.dalvik_defs.specs.Initialised.{initialiser_of}
 use Rattle.dalvik_defs.specs.Face.{face_of, bodies_of}
-use Rattle.dalvik_defs.specs.Outer.{Outer}
+use Rattle.dalvik_defs.specs.Outer.{Outer, is_constructor_of}
+use Rattle.dalvik_defs.specs.declared.names.Signature.{Signature}
 use Rattle.dalvik_defs.specs.Shut.{Library, called_outside, finds_it, is_other, key_of, shut}
 use Rattle.dalvik_defs.specs.declared.names.MethodKey.{MethodKey}
 use Rattle.dalvik_defs.specs.declared.forms.Form.{Form}
@@ -76,12 +77,19 @@ abbrev pub TellsApart : NamedProgram → Type 0
 TellsApart p = (t : Text) (c : NamedClass) (m x : NamedMethod) → class_named p t ≡ Some c → In m c.methods → In x c.methods → m.name ≡ x.name
     → proto_text m.signature ≡ proto_text x.signature → m ≡ x
 
--- Where a walk comes, new arrays are of array types and new objects of classes that can have some; and methods are told apart.
+-- Protos of methods are told apart by their texts.
+abbrev pub TellsProtos : NamedProgram → Type 0
+TellsProtos p = (t u : Text) (c d : NamedClass) (m x : NamedMethod) → class_named p t ≡ Some c → class_named p u ≡ Some d → In m c.methods → In x d.methods
+    → proto_text m.signature ≡ proto_text x.signature → m.signature ≡ x.signature
+
+-- Where a walk comes, new arrays are of array types and new objects of classes that can have some; and methods and protos
+-- are told apart.
 pub record IsSoundCode (p : NamedProgram) : Type 0 where
   pub arrays : (k : MethodKey) (b : NamedBody) (n to size : ℕ) (t : Text) → bodies_of p k ≡ Some b → IsReached b n → form_at b n ≡ Some (form.NewArray to size t) → is_array t ≡ true
   pub filled : (k : MethodKey) (b : NamedBody) (n : ℕ) (t : Text) (args : List ℕ) → bodies_of p k ≡ Some b → IsReached b n → form_at b n ≡ Some (form.FilledNewArray t args) → is_array t ≡ true
   pub objects : (k : MethodKey) (b : NamedBody) (n to : ℕ) (t : Text) → bodies_of p k ≡ Some b → IsReached b n → form_at b n ≡ Some (form.NewInstance to t) → defines p t ≡ true → is_concrete p t ≡ true
   pub methods : TellsApart p
+  pub protos : TellsProtos p
 
 -- What a table of shut methods owes: no call names one on the framework, every other method of its name with code above a
 -- class that finds it is kept or shut, and in version 037 none is of an interface.
@@ -90,6 +98,17 @@ pub record ShutsHold (p : NamedProgram) (o : Outer) : Type 0 where
   pub others : (k : MethodKey) (m : NamedMethod) (d e : NamedClass) (x : NamedMethod) → o.shut k ≡ true → m.name ≡ k.name → m.signature ≡ k.signature → In d p.classes → finds_it p k d ≡ true
       → In e p.classes → is_own_under p d.name e.name ≡ true → In x e.methods → is_other k.class m e x ≡ true → (o.methods (key_of e x) || o.shut (key_of e x)) ≡ true
   pub plain : (k : MethodKey) (c : NamedClass) → is_037 p.version ≡ true → o.shut k ≡ true → class_named p k.class ≡ Some c → is_interface c.flags ≡ false
+
+-- The parts of a table agree: a class of which a constructor is kept has one among the kept methods, and the classes of the
+-- kept methods of a name and signature have such ones.
+pub record AgreesInside (o : Outer) : Type 0 where
+  pub constructed : (t : Text) → o.constructed t ≡ true → (k : MethodKey) × ((o.methods k ≡ true) × (is_constructor_of t k ≡ true))
+  pub keepers : (t n : Text) (g : Signature) → In t (o.keepers n g) → o.methods (record { class = t; name = n; signature = g }) ≡ true
+
+-- What a table of what the framework may reach owes.
+pub record IsSoundTable (p : NamedProgram) (o : Outer) : Type 0 where
+  pub inside : AgreesInside o
+  pub shuts : ShutsHold p o
 
 -- The shut methods of a table are those that the definition of shut methods gives for a library.
 pub record IsNarrowed (p : NamedProgram) (o : Outer) (l : Library) : Type 0 where

@@ -6,7 +6,9 @@ ghost use Rattle.std.specs.Option.{option_map};
 ghost use Rattle.dalvik_defs.specs.Names.{Text, base_of, is_class_type, object_type};
 ghost use Rattle.dalvik_defs.specs.Face.{bodies_of};
 ghost use Rattle.dalvik_defs.specs.declared.names.MethodKey.{MethodKey};
-ghost use Rattle.dalvik_defs.specs.Outer.{Outer};
+ghost use Rattle.dalvik_defs.specs.Outer.{Outer, outer_of};
+ghost use Rattle.program_model.specs.declared.pass.Outside.{Outside};
+ghost use Rattle.program_model.specs.declared.program.Program.{Program};
 ghost use Rattle.dalvik_defs.specs.Shut.{Library};
 ghost use Rattle.pass_defs.specs.Typed.{IsTyped};
 ghost use Rattle.dalvik_defs.specs.Shown.{fit_move, Fit, SameShown};
@@ -19,7 +21,7 @@ ghost use Rattle.dalvik_defs.specs.declared.tables.Framework.{Framework};
 ghost use Rattle.dalvik_defs.specs.declared.tables.Floats.{Floats};
 ghost use Rattle.pass_defs.specs.Live.{Conditions, Family, IsClosedFamily, KeepsAbove};
 ghost use Rattle.removal_law.specs.Left.{left_in, left_of, NamesNone};
-ghost use Rattle.removal_law.specs.Reach.{DefinesOnce, IsAcyclic, IsDescribed, IsNarrowed, IsRegular, IsSoundCode, LeftAgrees, NamesOnce, ShutsHold, TellsApart, is_idle};
+ghost use Rattle.removal_law.specs.Reach.{DefinesOnce, IsAcyclic, IsDescribed, AgreesInside, IsNarrowed, IsRegular, IsSoundCode, IsSoundTable, LeftAgrees, NamesOnce, ShutsHold, TellsApart, TellsProtos, is_idle};
 
 /// A class that is live is left with its live members, and no other class is left.
 pub fn classes_left_law()
@@ -46,7 +48,7 @@ pub fn bodies_left_law()
 /// is under what, what static, direct, super, virtual and interface calls in live code find, fields, initialisers and the
 /// classes that come first, bodies, and what the framework may enter, make and read (`specs/Agree.antt` says it all).
 pub fn faces_agree_law()
-    ensures { (p : NamedProgram) (o : Outer) (k : Conditions) (s : Family) → IsClosedFamily p o k s → IsRegular p → IsSoundCode p → ShutsHold p o
+    ensures { (p : NamedProgram) (o : Outer) (k : Conditions) (s : Family) → IsClosedFamily p o k s → IsRegular p → IsSoundCode p → IsSoundTable p o
         → (f : Framework) (script : List Move) → Fit p o f script → LeftAgrees p o s f }
 {}
 
@@ -59,13 +61,13 @@ pub fn steps_are_equal_law()
 
 /// The law of removal: what is left of a program by a closed family of live sets shows the same.
 pub fn removal_shows_the_same_law()
-    ensures { (p : NamedProgram) (o : Outer) (k : Conditions) (s : Family) → IsClosedFamily p o k s → IsRegular p → IsSoundCode p → ShutsHold p o
+    ensures { (p : NamedProgram) (o : Outer) (k : Conditions) (s : Family) → IsClosedFamily p o k s → IsRegular p → IsSoundCode p → IsSoundTable p o
         → SameShown p (left_of s p) o }
 {}
 
 /// In a typed program new arrays are of array types wherever a walk comes.
 pub fn typed_code_is_sound_law()
-    ensures { (p : NamedProgram) → IsTyped p → TellsApart p → IsSoundCode p }
+    ensures { (p : NamedProgram) → IsTyped p → TellsApart p → TellsProtos p → IsSoundCode p }
 {}
 
 /// What is left of a typed program by a closed family is typed, where classes and methods stand once by their names and
@@ -81,9 +83,15 @@ pub fn shut_tables_law()
     ensures narrowed { (p : NamedProgram) (o : Outer) (l : Library) → IsNarrowed p o l → ShutsHold p o }
 {}
 
+/// The parts of the table that numbers of a program make agree.
+pub fn tables_by_number_law()
+    ensures { (p : Program) (o : Outside) → AgreesInside (outer_of p o) }
+{}
+
 /// A program whose classes have class names and of which none stands above itself is regular, and methods are told apart
 /// where their parameters are descriptors and no class defines two of one name and signature.
 pub fn regular_programs_law()
     ensures regular { (p : NamedProgram) → IsAcyclic p → ((t : Text) → defines p t ≡ true → is_class_type t ≡ true) → IsRegular p }
     ensures apart { (p : NamedProgram) → IsDescribed p → DefinesOnce p → TellsApart p }
+    ensures protos { (p : NamedProgram) → IsDescribed p → TellsProtos p }
 {}

@@ -3,7 +3,7 @@ use Rattle.program_model.specs.ProgramRules.{is_well_formed}
 use Rattle.hierarchy.specs.Shapes.{IsResolved}
 use Rattle.dalvik_lookups.specs.Spelling.{is_constructor}
 use Rattle.dalvik_lookups.specs.Starting.{class_default}
-use Rattle.dalvik_lookups.specs.Reached.{AreTypeMarks, IsOuter}
+use Rattle.dalvik_lookups.specs.Reached.{constructed_kinds, AreTypeMarks, IsOuter}
 use Rattle.dalvik_lookups.specs.Playing.{ArePlays}
 use Rattle.dalvik_lookups.specs.Slots.{slots_from, slots_after}
 use Rattle.dalvik_lookups.proofs.Making.{tabled, grows_same}
@@ -23,6 +23,11 @@ pub returns-clause-classes : goal.returns-clause-classes
 returns-clause-classes c = λ w.
     subst (λ t. AreTypeMarks c.args.program.now t c.args.outside.now.classes c.tables_of-tables.result.outer.classes.items) (sym c.tables_of-tables.ensures.over.types)
     (subst (λ x. AreTypeMarks c.args.program.now c.in_ok-made.made.names.types c.args.outside.now.classes x.classes.items) (sym c.tables_of-tables.ensures.outer) (c.in_ok-marked.ensures.classes (c.in_ok-made.ensures.names w)))
+
+pub returns-clause-constructed : goal.returns-clause-constructed
+returns-clause-constructed c = λ w.
+    subst (λ t. AreTypeMarks c.args.program.now t (constructed_kinds c.args.program.now c.args.outside.now.methods) c.tables_of-tables.result.outer.constructed.items) (sym c.tables_of-tables.ensures.over.types)
+    (subst (λ x. AreTypeMarks c.args.program.now c.in_ok-made.made.names.types (constructed_kinds c.args.program.now c.args.outside.now.methods) x.constructed.items) (sym c.tables_of-tables.ensures.outer) (c.in_ok-marked.ensures.constructed (c.in_ok-made.ensures.names w)))
 
 pub returns-clause-tables : goal.returns-clause-tables
 returns-clause-tables c = λ w r.

@@ -24,6 +24,7 @@ pub mod Happens
 pub mod Gives
 pub mod Legal
 pub mod Moves
+pub mod MayGo
 pub mod Step
 pub mod Shown
 pub mod Silence

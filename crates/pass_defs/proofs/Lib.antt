@@ -14,3 +14,5 @@ pub mod Drops
 pub mod FlatSound
 pub mod Thinned
 pub mod Covering
+pub mod Sites
+pub mod Loosely

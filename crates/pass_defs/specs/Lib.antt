@@ -32,3 +32,5 @@ pub mod Closed
 pub mod FlatAnalysis
 pub mod Examples
 pub mod PassExamples
+pub mod SiteExamples
+pub mod LooseExamples

@@ -16,3 +16,4 @@ pub mod Thinned
 pub mod Covering
 pub mod Sites
 pub mod Loosely
+pub mod Rebinding

@@ -27,9 +27,9 @@ ghost use Rattle.pass_defs.specs.Examples.{two_and_three};
 ghost use Rattle.pass_defs.specs.Thinned.{Stays, Empties, Goes, body_thinned, origins_from};
 ghost use Rattle.pass_defs.specs.Origins.{composed};
 ghost use Rattle.pass_defs.specs.Loose.{KnowsCalls, AreLoose, is_alone, concerns, is_plain_call, new_key, shorty};
-ghost use Rattle.pass_defs.specs.Bindable.{package_of, may_access, may_rebind};
+ghost use Rattle.pass_defs.specs.Bindable.{IsBindable, package_of, may_access, may_rebind};
 ghost use Rattle.pass_defs.specs.Site.{all_inlined, IsSite};
-ghost use Rattle.pass_defs.specs.PassExamples.{spins, spin_key, hides_q, inherits_q, nothing_key, app_type, lib_type, in_library, found_in, extends_interface, both_call_q, n_of, gives_q, caller_m, caller_n, sizes_of, branches_over, branches_next, at, q_key, adds, knows_sum, reads_copy, copy_is_old, needs_both, skips_one, drops_q, state_with, says};
+ghost use Rattle.pass_defs.specs.PassExamples.{spins, spin_key, hides_q, inherits_q, nothing_key, app_type, lib_type, in_library, found_in, extends_interface, rebinds, rebinds_caller, rebinds_method, both_call_q, n_of, gives_q, caller_m, caller_n, sizes_of, branches_over, branches_next, at, q_key, adds, knows_sum, reads_copy, copy_is_old, needs_both, skips_one, drops_q, state_with, says};
 ghost use Rattle.pass_defs.specs.SiteExamples.{by_number, gives_by_number, m_inlined};
 ghost use Rattle.pass_defs.specs.LooseExamples.{needs_no_receiver, loose_program, is_q};
 
@@ -162,4 +162,11 @@ pub fn a_second_site_sees_the_first()
 /// A public method that one call names, on an object that isn't null, is loose.
 pub fn a_method_without_need_of_its_receiver_is_loose()
     ensures { AreLoose needs_no_receiver loose_program (keeps_m void) true (λ x. Unit {0}) (λ k. true) (λ k n r. Unit {0}) is_q }
+{}
+
+/// A call of an interface's method on an object of a known class can name that class's method, unless the class is hidden
+/// in another package.
+pub fn a_known_receiver_is_bindable()
+    ensures bindable { IsBindable (rebinds a_type b_type 1) (rebinds_caller a_type b_type) (rebinds_method b_type) 0 (found_in b_type 1) }
+    ensures hidden { IsBindable (rebinds app_type lib_type 0) (rebinds_caller app_type lib_type) (rebinds_method lib_type) 0 (found_in lib_type 1) → ⊥ }
 {}

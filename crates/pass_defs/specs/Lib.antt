@@ -26,11 +26,11 @@ pub mod Site
 pub mod Loose
 pub mod Thinned
 pub mod Origins
-pub mod Covers
 pub mod Analysis
 pub mod Closed
 pub mod FlatAnalysis
-pub mod Examples
 pub mod PassExamples
 pub mod SiteExamples
 pub mod LooseExamples
+pub mod Covers
+pub mod Examples

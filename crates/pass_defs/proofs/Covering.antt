@@ -1,7 +1,6 @@
 -- Facts hold of a state whose registers hold what they say.
 use Rattle.std.proofs.Common.{◌≡◌, ℕ, zero, suc, Bool, true, false, true≢false, [], ◌∷◌, Option, Some, None, refl, sym, ap, ◌∙◌, subst, arith}
 use Rattle.std.specs.Prelude.{if◌then◌else◌, slice_get}
-use Rattle.insn_set.specs.declared.ops.Slot.{Slot}
 use Rattle.dalvik_defs.specs.Names.{text_eq}
 use Rattle.dalvik_defs.specs.Find.{field_in, defined_field}
 use Rattle.dalvik_defs.specs.Face.{bodies_of}
@@ -14,9 +13,8 @@ use Rattle.dalvik_defs.specs.declared.forms.Form.{Form}
 use Rattle.dalvik_defs.specs.declared.forms.Form.TheVariants as form
 use Rattle.dalvik_defs.specs.declared.program.NamedBody.{NamedBody}
 use Rattle.dalvik_defs.specs.declared.program.NamedField.{NamedField}
-use Rattle.dalvik_defs.specs.declared.program.NamedClass.{NamedClass}
 use Rattle.pass_defs.specs.Walks.{form_at}
-use Rattle.pass_defs.specs.Flat.{Flat, KnownWord, Any}
+use Rattle.pass_defs.specs.Flat.{KnownWord, Any}
 use Rattle.pass_defs.specs.Constants.{flat}
 use Rattle.pass_defs.specs.Covers.{Covers, CoversFrame}
 use Rattle.pass_defs.specs.PassExamples.{adds, adds_three, knows_sum, first_two, frame_with, state_with, says}

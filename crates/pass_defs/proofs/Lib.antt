@@ -15,3 +15,6 @@ pub mod Drops
 pub mod FlatSound
 pub mod Thinned
 pub mod Covering
+pub mod Sites
+pub mod Loosely
+pub mod Rebinding

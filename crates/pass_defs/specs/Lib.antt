@@ -26,10 +26,12 @@ pub mod Site
 pub mod Loose
 pub mod Thinned
 pub mod Origins
-pub mod Covers
 pub mod Analysis
 pub mod Closed
 pub mod FlatAnalysis
-pub mod Examples
 pub mod PassExamples
 pub mod KeptExamples
+pub mod SiteExamples
+pub mod LooseExamples
+pub mod Covers
+pub mod Examples

@@ -181,6 +181,22 @@ extends_interface = program V037
     ∷ class (codes "LL;") 1537 [] [] (r_method 1 (Some (log_code 1)) ∷ [])
     ∷ [])
 
+-- the caller's m takes an object of the holder, and calls r of the interface LI; on it
+abbrev pub calls_interface : NamedBody
+calls_interface = code 1 1 (form.Invoke call.Interface (r_key i_type) (0 ∷ []) ∷ form.ReturnVoid ∷ [])
+
+abbrev pub rebinds_method : Text → NamedMethod
+rebinds_method holder = m_of (record { parameters = holder ∷ []; result = codes "V" }) calls_interface
+
+abbrev pub rebinds_caller : Text → Text → NamedClass
+rebinds_caller caller holder = class caller 1 [] [] (rebinds_method holder ∷ [])
+
+abbrev pub rebinds_holder : Text → ℕ → NamedClass
+rebinds_holder holder flags = class holder flags (i_type ∷ []) [] (r_method 1 (Some (log_code 1)) ∷ [])
+
+abbrev pub rebinds : Text → Text → ℕ → NamedProgram
+rebinds caller holder flags = program V035 (class i_type 1537 [] [] (r_method 1025 None ∷ []) ∷ rebinds_caller caller holder ∷ rebinds_holder holder flags ∷ [])
+
 -- ---- inlining
 
 -- LA;'s m and n both call q with 1 and give its result

@@ -1,13 +1,14 @@
 //! Examples of what the passes look for and write, on the programs of `specs/PassExamples.antt`.
 
-ghost use Rattle.std.specs.Prelude.{◌≡◌, pos, map, true, false, [], ◌∷◌, codes};
+ghost use Rattle.std.specs.Prelude.{◌≡◌, pos, map, length, true, false, [], ◌∷◌, codes};
 ghost use Rattle.insn_set.specs.declared.ops.Test.TheVariants as test;
 ghost use Rattle.insn_set.specs.declared.ops.Slot.TheVariants as slot;
 ghost use Rattle.insn_set.specs.declared.ops.Item.TheVariants as item;
 ghost use Rattle.insn_set.specs.declared.ops.LiteralOp.TheVariants as literal;
 ghost use Rattle.insn_set.specs.declared.ops.BinaryOp.TheVariants as binary;
 ghost use Rattle.insn_set.specs.declared.ops.InvokeKind.TheVariants as call;
-ghost use Rattle.dalvik_defs.specs.Names.{object_type, void};
+ghost use Rattle.dalvik_defs.specs.Names.{void};
+ghost use Rattle.dalvik_defs.specs.Naming.{named};
 ghost use Rattle.dalvik_defs.specs.Examples.{a_type, b_type, i_type, j_type, m_key, keeps_m, r_key, to_int};
 ghost use Rattle.dalvik_defs.specs.declared.names.MethodKey.{MethodKey};
 ghost use Rattle.dalvik_defs.specs.declared.forms.Form.TheVariants as form;
@@ -25,10 +26,12 @@ ghost use Rattle.pass_defs.specs.FlatAnalysis.{flat_analysis};
 ghost use Rattle.pass_defs.specs.Examples.{two_and_three};
 ghost use Rattle.pass_defs.specs.Thinned.{Stays, Empties, Goes, body_thinned, origins_from};
 ghost use Rattle.pass_defs.specs.Origins.{composed};
-ghost use Rattle.pass_defs.specs.Loose.{KnowsCalls, is_alone, concerns, is_plain_call, new_key, shorty};
-ghost use Rattle.pass_defs.specs.Bindable.{package_of, may_access, may_rebind};
-ghost use Rattle.pass_defs.specs.Site.{all_inlined};
-ghost use Rattle.pass_defs.specs.PassExamples.{spins, spin_key, hides_q, inherits_q, nothing_key, app_type, lib_type, in_library, found_in, extends_interface, both_call_q, caller_m, caller_n, sizes_of, branches_over, branches_next, at, q_key, adds, knows_sum, reads_copy, copy_is_old, needs_both, skips_one, drops_q, state_with, says};
+ghost use Rattle.pass_defs.specs.Loose.{KnowsCalls, AreLoose, is_alone, concerns, is_plain_call, new_key, shorty};
+ghost use Rattle.pass_defs.specs.Bindable.{IsBindable, package_of, may_access, may_rebind};
+ghost use Rattle.pass_defs.specs.Site.{all_inlined, IsSite};
+ghost use Rattle.pass_defs.specs.PassExamples.{spins, spin_key, hides_q, inherits_q, nothing_key, app_type, lib_type, in_library, found_in, extends_interface, rebinds, rebinds_caller, rebinds_method, both_call_q, n_of, gives_q, caller_m, caller_n, sizes_of, branches_over, branches_next, at, q_key, adds, knows_sum, reads_copy, copy_is_old, needs_both, skips_one, drops_q, state_with, says};
+ghost use Rattle.pass_defs.specs.SiteExamples.{by_number, gives_by_number, m_inlined};
+ghost use Rattle.pass_defs.specs.LooseExamples.{needs_no_receiver, loose_program, is_q};
 
 /// Operations on int take the low 32 bits of what a register holds, and a boolean field keeps the low byte of a wide.
 pub fn known_numbers_are_words()
@@ -147,4 +150,23 @@ pub fn known_branches_go_one_way()
     ensures not_taken { map (λ e. e.0) (edges flat_analysis adds knows_sum 3 (form.IfZero test.Eq 0 7) two_and_three) ≡ 4 ∷ [] }
     ensures unknown { map (λ e. e.0) (edges flat_analysis adds knows_sum 3 (form.IfZero test.Eq 2 7) two_and_three) ≡ 4 ∷ 7 ∷ [] }
     ensures division { map (λ e. e.0) (edges flat_analysis adds knows_sum 3 (form.Binary binary.DivInt 2 0 1) (λ r. KnownWord 0)) ≡ [] }
+{}
+
+/// The call in a second caller is a site, judged by the program in which the first caller's is inlined: its limits see both.
+pub fn a_second_site_sees_the_first()
+    ensures names { named (by_number gives_by_number gives_by_number) ≡ both_call_q }
+    ensures site { IsSite (by_number gives_by_number gives_by_number) both_call_q m_inlined (keeps_m void) (λ b. length b.insns) (λ x. sizes_of (named x) ≡ (6 ∷ 6 ∷ 2 ∷ []) ∷ []) (λ k n r. ⊥)
+        caller_n.key n_of gives_q [] 1 }
+{}
+
+/// A public method that one call names, on an object that isn't null, is loose.
+pub fn a_method_without_need_of_its_receiver_is_loose()
+    ensures { AreLoose needs_no_receiver loose_program (keeps_m void) true (λ x. Unit {0}) (λ k. true) (λ k n r. Unit {0}) is_q }
+{}
+
+/// A call of an interface's method on an object of a known class can name that class's method, unless the class is hidden
+/// in another package.
+pub fn a_known_receiver_is_bindable()
+    ensures bindable { IsBindable (rebinds a_type b_type 1) (rebinds_caller a_type b_type) (rebinds_method b_type) 0 (found_in b_type 1) }
+    ensures hidden { IsBindable (rebinds app_type lib_type 0) (rebinds_caller app_type lib_type) (rebinds_method lib_type) 0 (found_in lib_type 1) → ⊥ }
 {}

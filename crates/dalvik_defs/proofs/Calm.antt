@@ -2,7 +2,7 @@
 -- that are initialised before one of them are calm too. A run that begins with all classes new shows the same as one that
 -- begins with the calm classes done.
 use Rattle.std.proofs.Common.{◌≡◌, ℕ, zero, suc, Bool, true, false, true≢false, ◌&&◌, List, [], ◌∷◌, ◌++◌, Option, Some, None, refl, sym, ap, ◌∙◌, subst}
-use Rattle.std.specs.Prelude.{length, slice_get}
+use Rattle.std.specs.Prelude.{length, slice_get, nat_eq}
 use Rattle.std.specs.Cmp.Lexicographic.{bytes_decides}
 use Rattle.insn_set.specs.declared.ops.Item.{Item}
 use Rattle.insn_set.specs.declared.ops.InvokeKind.{InvokeKind}
@@ -15,8 +15,8 @@ use Rattle.dalvik_defs.specs.Face.{Bodies, Place, is_defined}
 use Rattle.dalvik_defs.specs.State.{World, Classes, Status, New, Running, Done, Failed, Value, Word, Frame, Thing, Instance, Items, Waiting, Method, Initialiser, Ending, Outside, State, On, Ended, Next, quiet, with_thing, next_object, fresh, put_status, thing_at, is_null, kind_of, opening}
 use Rattle.dalvik_defs.specs.Effect.{Effect, Goes, Faults, Throws, Gives, Calls, Makes, Reads, Writes, Locks, Unlocks, Stuck, write, next}
 use Rattle.dalvik_defs.specs.Fields.{key_at, static_value, instance_value, with_static, with_instance}
-use Rattle.dalvik_defs.specs.Outcome.{Outcome, Stays, Starts, Enters, Leaves, Ends, Raises, Halts, Need, Ready, Fresh, Broken, need_if, need_of, faults, when_ready, calls_out, native_kind, takes_no_receiver, calls_uncoded, calls_found, calls_unfound, calls_by, receiver, on_receiver, calls, makes, reads_value, reads_static, reads_instance, reads_out, writes_static, writes_instance, written, writes_out, locks, unlocks, outcome}
-use Rattle.dalvik_defs.specs.Stack.{form_at, entry_frame, enters_body, enters, gives, lands, wrapped, given_up, back, lands_or, unwinds, left_at, left_of, runs, goes_on, starts, resumes, ends}
+use Rattle.dalvik_defs.specs.Outcome.{Outcome, Stays, Starts, Enters, Leaves, Ends, Raises, Halts, Need, Ready, Fresh, Broken, need_if, need_of, faults, when_ready, calls_out, native_kind, takes_no_receiver, calls_uncoded, calls_found, is_direct, calls_unfound, calls_by, receiver, on_receiver, calls, makes, reads_value, reads_static, reads_instance, reads_out, writes_static, writes_instance, written, writes_out, locks, unlocks, outcome}
+use Rattle.dalvik_defs.specs.Stack.{form_at, entry_frame, enters_body, enters, gives, lands, wrapped, back, lands_or, unwinds, left_at, left_of, runs, goes_on, starts, resumes, ends}
 use Rattle.dalvik_defs.specs.Quiet.{status_if, calm_classes, calm_opening}
 use Rattle.dalvik_defs.specs.Happens.{Setting, effect_of, outcome_at, happens, first_needed, initialises}
 use Rattle.dalvik_defs.specs.Show.{show, show_option}
@@ -25,7 +25,7 @@ use Rattle.dalvik_defs.specs.declared.events.Event.TheVariants as event
 use Rattle.dalvik_defs.specs.Items.{stored, item_of_type}
 use Rattle.dalvik_defs.specs.Gives.{gets, gets_all, spread, fits, may_throw}
 use Rattle.dalvik_defs.specs.Legal.{may_enter, may_make, may_answer, on_fits, is_exposed}
-use Rattle.dalvik_defs.specs.Moves.{needs, entered, enter, made, make, got, answers, throws, shows_value, goes, field_value, with_field, reads, writes, reads_item, array_get, with_item, writes_item, array_put, measures_thing, array_length, key_of, moves}
+use Rattle.dalvik_defs.specs.Moves.{needs, entered, enter, made, make, got, answers, throws, shows_value, goes, field_value, with_field, reads, writes, reads_item, array_get, with_item, writes_item, array_put, measures_thing, array_length, key_of, moves, framework_turn}
 use Rattle.dalvik_defs.specs.declared.script.Given.{Given}
 use Rattle.dalvik_defs.specs.declared.script.Move.TheVariants as move
 use Rattle.dalvik_defs.specs.Step.{step, events_of, after, shows_from}
@@ -249,7 +249,7 @@ module _ (s : Setting) (find : Bodies) (calm : Text → Bool) where
     Busy (Method f ∷ r) = Busy r
     Busy (Initialiser t a ∷ r) = (calm t ≡ false) × Busy r
     Busy (Ending t ∷ r) = (calm t ≡ false) × Busy r
-    Busy (Outside owes ∷ r) = Busy r
+    Busy (Outside owes pending ∷ r) = Busy r
 
     abbrev pub Core : State → State → Type 0
     Core Ended u = u ≡ Ended
@@ -274,7 +274,11 @@ module _ (s : Setting) (find : Bodies) (calm : Text → Bool) where
     good_body : (o : Option NamedBody) (w : World) (c c' : Classes) (k : MethodKey) (vs : List Value) (stack : List Waiting) (script : List Move) → Agree c c' → Busy stack
         → Good (quiet (enters_body o w c k vs stack script)) (quiet (enters_body o w c' k vs stack script))
     good_body None w c c' k vs stack script a b = good_end
-    good_body (Some x) w c c' k vs stack script a b = good_state w c c' (Method (entry_frame k vs x) ∷ stack) script None a b
+    good_body (Some x) w c c' k vs stack script a b = by (nat_eq (length vs) x.ins) where
+      by : (q : Bool) → Good (quiet (elim q as (λ b. State) [ true ↦ On w c (Method (entry_frame k vs x) ∷ stack) script | false ↦ Ended ]))
+          (quiet (elim q as (λ b. State) [ true ↦ On w c' (Method (entry_frame k vs x) ∷ stack) script | false ↦ Ended ]))
+      by true = good_state w c c' (Method (entry_frame k vs x) ∷ stack) script None a b
+      by false = good_end
 
     good_runs : (o : Option MethodKey) (w : World) (c c' : Classes) (t : Text) (stack : List Waiting) (script : List Move) → Agree c c' → calm t ≡ false → Busy stack
         → Good (quiet (runs find w c t o stack script)) (quiet (runs find w c' t o stack script))
@@ -303,7 +307,7 @@ module _ (s : Setting) (find : Bodies) (calm : Text → Bool) where
     good_resumes (Method f ∷ r) w c c' script a b = good_state w c c' (Method f ∷ r) script None a b
     good_resumes (Initialiser t l ∷ r) w c c' script a b = good_goes_on l w c c' t r script a b.0 b.1
     good_resumes (Ending t ∷ r) w c c' script a b = good_state w c c' (Ending t ∷ r) script None a b
-    good_resumes (Outside owes ∷ r) w c c' script a b = good_state w c c' (Outside owes ∷ r) script None a b
+    good_resumes (Outside owes pending ∷ r) w c c' script a b = good_state w c c' (Outside owes pending ∷ r) script None a b
 
     good_gives : (stack : List Waiting) (kind : Text) (w : World) (c c' : Classes) (v : Option Value) (script : List Move) → Agree c c' → Busy stack
         → Good (gives find kind w c v stack script) (gives find kind w c' v stack script)
@@ -311,8 +315,8 @@ module _ (s : Setting) (find : Bodies) (calm : Text → Bool) where
     good_gives (Method f ∷ r) kind w c c' v script a b = good_state w c c' (Method (back find f v) ∷ r) script None a b
     good_gives (Initialiser t l ∷ r) kind w c c' v script a b = good_end
     good_gives (Ending t ∷ r) kind w c c' v script a b = good_state w c c' (Ending t ∷ r) script None a b
-    good_gives (Outside owes ∷ r) kind w c c' v script a b =
-        good_state (show_option w kind v).0 c c' (Outside owes ∷ r) script (Some (event.Result (show_option w kind v).1)) a b
+    good_gives (Outside owes pending ∷ r) kind w c c' v script a b =
+        good_state (show_option w kind v).0 c c' (Outside owes pending ∷ r) script (Some (event.Result (show_option w kind v).1)) a b
 
     good_lands : (o : Option Frame) (r : List Waiting) (w : World) (c c' : Classes) (script : List Move) (x x' : Next) → Agree c c' → Busy r → Good x x'
         → Good (lands_or w c r script o x) (lands_or w c' r script o x')
@@ -323,11 +327,11 @@ module _ (s : Setting) (find : Bodies) (calm : Text → Bool) where
         → Good (unwinds s.face find w c v stack script) (unwinds s.face find w c' v stack script)
     good_unwinds [] w c c' v script a b = good_end
     good_unwinds (Method f ∷ r) w c c' v script a b = good_lands (lands s.face find w f v) r w c c' script (unwinds s.face find w c v r script) (unwinds s.face find w c' v r script) a b (good_unwinds r w c c' v script a b)
-    good_unwinds (Initialiser t l ∷ r) w c c' v script a b = good_unwinds r w (put_status t Failed c) (put_status t Failed c') v (given_up r script) (put_busy c c' t Failed b.0 a) b.1
+    good_unwinds (Initialiser t l ∷ r) w c c' v script a b = good_unwinds r w (put_status t Failed c) (put_status t Failed c') v script (put_busy c c' t Failed b.0 a) b.1
     good_unwinds (Ending t ∷ r) w c c' v script a b =
-        good_unwinds r (wrapped s.face w v).0 (put_status t Failed c) (put_status t Failed c') (wrapped s.face w v).1 (given_up r script) (put_busy c c' t Failed b.0 a) b.1
-    good_unwinds (Outside owes ∷ r) w c c' v script a b =
-        good_state (show w throwable_type v).0 c c' (Outside owes ∷ r) script (Some (event.Uncaught (show w throwable_type v).1)) a b
+        good_unwinds r (wrapped s.face w v).0 (put_status t Failed c) (put_status t Failed c') (wrapped s.face w v).1 script (put_busy c c' t Failed b.0 a) b.1
+    good_unwinds (Outside owes pending ∷ r) w c c' v script a b =
+        good_state (show w throwable_type v).0 c c' (Outside owes None ∷ r) script (Some (event.Uncaught (show w throwable_type v).1)) a b
 
     -- ---- a class that is being initialised
 
@@ -420,7 +424,7 @@ module _ (s : Setting) (find : Bodies) (calm : Text → Bool) where
 
     alike_by : (kind : InvokeKind) (k : MethodKey) (vs : List Value) (w : World) (f : Frame) (x : Search) (c c' : Classes) → Agree c c' → AlikeBy (λ n. calls_by n kind k vs w f x) c c'
     alike_by kind k vs w f Nothing c c' a = alike_same (calls_unfound kind k vs w f) c c'
-        (calm_bool (method_eq k object_constructor) (Stays w (next (record f { result = Word 0 })) None) (calls_out kind (takes_no_receiver kind) k vs w) tt tt)
+        (calm_bool (is_direct kind && method_eq k object_constructor) (Stays w (next (record f { result = Word 0 })) None) (calls_out kind (takes_no_receiver kind) k vs w) tt tt)
     alike_by kind k vs w f Clash c c' a = alike_same (faults w class_change) c c' tt
     alike_by kind k vs w f (Finds g) c c' a = alike_bool (is_static g.flags) (λ n. when_ready (n g.key.class) w g.key.class (calls_found kind g vs w)) (λ n. calls_found kind g vs w) c c'
         (alike_ready w g.key.class (calls_found kind g vs w) c c' (calm_found kind g vs w) a) (alike_same (calls_found kind g vs w) c c' (calm_found kind g vs w))
@@ -489,7 +493,7 @@ module _ (s : Setting) (find : Bodies) (calm : Text → Bool) where
     good_happens (Stays w1 f1 e) h w c c' f r script a b = good_state w1 c c' (Method f1 ∷ r) script e a b
     good_happens (Starts t) h w c c' f r script a b = good_starts w c c' t (Method f ∷ r) script a h b
     good_happens (Enters k vs) h w c c' f r script a b = good_body (find k) w c c' k vs (Method f ∷ r) script a b
-    good_happens (Leaves w1 owes e) h w c c' f r script a b = good_state w1 c c' (Outside (Some owes) ∷ Method f ∷ r) script (Some e) a b
+    good_happens (Leaves w1 owes e) h w c c' f r script a b = good_state w1 c c' (Outside (Some owes) None ∷ Method f ∷ r) script (Some e) a b
     good_happens (Ends v) h w c c' f r script a b = good_gives r f.method.signature.result w c c' v script a b
     good_happens (Raises w1 v) h w c c' f r script a b = good_unwinds (Method f ∷ r) w1 c c' v script a b
     good_happens Halts h w c c' f r script a b = good_end
@@ -499,7 +503,7 @@ module _ (s : Setting) (find : Bodies) (calm : Text → Bool) where
     data Prepared (t u : State) : Type 0 where
       Now : Good (step s find t) (step s find u) → Prepared t u
       -- after some steps in silence
-      Later : (t0 t1 : State) → step s find t ≡ quiet t0 → Silent t0 t1 → Good (step s find t1) (step s find u) → Core t1 u → Prepared t u
+      Later : (t0 t1 : State) → step s find t ≡ quiet t0 → Silent t0 t1 → Good (step s find t1) (step s find u) → Prepared t u
 
     prepared_frame : (w : World) (c c' : Classes) (f : Frame) (r : List Waiting) (script : List Move) → Agree c c' → Busy r
         → AlikeBy (λ n. outcome_at s find n w f) c c' → Prepared (On w c (Method f ∷ r) script) (On w c' (Method f ∷ r) script)
@@ -509,7 +513,7 @@ module _ (s : Setting) (find : Bodies) (calm : Text → Bool) where
         let p = passed t k w c c' (Method f ∷ r) script a in
         Later (starts s.face find w c t (Method f ∷ r) script) (On w p.classes (Method f ∷ r) script) (ap (λ o. happens s find o w c f r script) e) p.silent
         (subst (λ o. Good (happens s find o w p.classes f r script) (step s find (On w c' (Method f ∷ r) script))) (sym (later p.classes p.done))
-        (good_happens (outcome_at s find (need_of s.face c') w f) h w p.classes c' f r script p.agree b)) (c', (refl, (p.agree, b)))
+        (good_happens (outcome_at s find (need_of s.face c') w f) h w p.classes c' f r script p.agree b))
 
     -- ---- moves
 
@@ -520,34 +524,34 @@ module _ (s : Setting) (find : Bodies) (calm : Text → Bool) where
     good_if : (b : Bool) (x x' : Next) → Good x x' → Good (elim b [ true ↦ x | false ↦ quiet Ended ]) (elim b [ true ↦ x' | false ↦ quiet Ended ])
     good_if b x x' g = good_bool b x (quiet Ended) x' (quiet Ended) g good_end
 
-    -- the framework's frame is on top, and `script` begins with the move
-    module _ (w : World) (owes : Option Text) (below : List Waiting) (script : List Move) (busy : Busy below) where
-      data PreparedMove (m : Classes → Next) (c c' : Classes) : Type 0 where
-        Once : Good (m c) (m c') → PreparedMove m c c'
-        Behind : (t : Text) → calm t ≡ true → m c ≡ quiet (starts s.face find w c t (Outside owes ∷ below) script)
-            → ((x : Classes) → x t ≡ Done → Agree x c' → Good (m x) (m c')) → PreparedMove m c c'
+    -- the framework's frame is on top and makes the move
+    module _ (w : World) (owes : Option Text) (below : List Waiting) (now : Move) (busy : Busy below) where
+      data PreparedMove (rest : List Move) (m : Classes → Next) (c c' : Classes) : Type 0 where
+        Once : Good (m c) (m c') → PreparedMove rest m c c'
+        Behind : (t : Text) → calm t ≡ true → m c ≡ quiet (starts s.face find w c t (Outside owes (Some now) ∷ below) rest)
+            → ((x : Classes) → x t ≡ Done → Agree x c' → Good (m x) (m c')) → PreparedMove rest m c c'
 
-      move_bool : (b : Bool) (m m' : Classes → Next) (c c' : Classes) → PreparedMove m c c' → PreparedMove m' c c' → PreparedMove (λ x. elim b as (λ b. Next) [ true ↦ m x | false ↦ m' x ]) c c'
-      move_bool true m m' c c' p q = p
-      move_bool false m m' c c' p q = q
+      move_bool : (b : Bool) (rest : List Move) (m m' : Classes → Next) (c c' : Classes) → PreparedMove rest m c c' → PreparedMove rest m' c c' → PreparedMove rest (λ x. elim b as (λ b. Next) [ true ↦ m x | false ↦ m' x ]) c c'
+      move_bool true rest m m' c c' p q = p
+      move_bool false rest m m' c c' p q = q
 
-      move_end : (c c' : Classes) → PreparedMove (λ x. quiet Ended) c c'
-      move_end c c' = Once good_end
+      move_end : (rest : List Move) (c c' : Classes) → PreparedMove rest (λ x. quiet Ended) c c'
+      move_end rest c c' = Once good_end
 
       -- the move needs a class
       module _ (t : Text) (rest : List Move) (m : Classes → Next) (c c' : Classes) (agree : Agree c c') (h : (x : Classes) → Agree x c' → Good (m x) (m c')) where
         abbrev needing : Need → Classes → Next
-        needing n x = needs s find n w x t (Outside owes ∷ below) script rest (m x)
+        needing n x = needs s find n w x t (Outside owes (Some now) ∷ below) (Outside owes None ∷ below) rest (m x)
 
         good_needing : (n : Need) → calm t ≡ false → Good (needing n c) (needing n c')
         good_needing Ready f = h c agree
-        good_needing Fresh f = good_starts w c c' t (Outside owes ∷ below) script agree f busy
-        good_needing Broken f = good_unwinds (Outside owes ∷ below) (with_thing w (fresh no_class)) c c' (next_object w) rest agree busy
+        good_needing Fresh f = good_starts w c c' t (Outside owes (Some now) ∷ below) rest agree f busy
+        good_needing Broken f = good_unwinds (Outside owes None ∷ below) (with_thing w (fresh no_class)) c c' (next_object w) rest agree busy
 
-        both_ready : need_of s.face c t ≡ Ready → need_of s.face c' t ≡ Ready → PreparedMove (λ x. needing (need_of s.face x t) x) c c'
+        both_ready : need_of s.face c t ≡ Ready → need_of s.face c' t ≡ Ready → PreparedMove rest (λ x. needing (need_of s.face x t) x) c c'
         both_ready e e' = Once (subst (λ n. Good (needing n c) (needing (need_of s.face c' t) c')) (sym e) (subst (λ n. Good (m c) (needing n c')) (sym e') (h c agree)))
 
-        move_at : (b : Bool) → is_defined s.face t ≡ b → (k : Bool) → calm t ≡ k → (y : Status) → c t ≡ y → PreparedMove (λ x. needing (need_of s.face x t) x) c c'
+        move_at : (b : Bool) → is_defined s.face t ≡ b → (k : Bool) → calm t ≡ k → (y : Status) → c t ≡ y → PreparedMove rest (λ x. needing (need_of s.face x t) x) c c'
         move_at false e k f y g = both_ready (need_known c t false y e g) (need_known c' t false (c' t) e refl)
         move_at true e true f New g =
             let r = need_known c' t true Done e (agree.done t f) in
@@ -558,31 +562,31 @@ module _ (s : Setting) (find : Bodies) (calm : Text → Bool) where
         move_at true e true f Failed g = absurd (subst IsSound g (agree.sound t f))
         move_at true e false f y g = Once (subst (λ n. Good (needing (need_of s.face c t) c) (needing n c')) (ap (λ z. need_if (is_defined s.face t) z) (agree.busy t f)) (good_needing (need_of s.face c t) f))
 
-        move_needs : PreparedMove (λ x. needing (need_of s.face x t) x) c c'
+        move_needs : PreparedMove rest (λ x. needing (need_of s.face x t) x) c c'
         move_needs = move_at (is_defined s.face t) refl (calm t) refl (c t) refl
 
-      good_here : (w' : World) (c c' : Classes) (rest : List Move) (e : Option Event) → Agree c c' → Good (On w' c (Outside owes ∷ below) rest, e) (On w' c' (Outside owes ∷ below) rest, e)
-      good_here w' c c' rest e a = good_state w' c c' (Outside owes ∷ below) rest e a busy
+      good_here : (w' : World) (c c' : Classes) (rest : List Move) (e : Option Event) → Agree c c' → Good (On w' c (Outside owes None ∷ below) rest, e) (On w' c' (Outside owes None ∷ below) rest, e)
+      good_here w' c c' rest e a = good_state w' c c' (Outside owes None ∷ below) rest e a busy
 
-      move_entered : (f : Found) (vs : List Value) (rest : List Move) (w' : World) (c c' : Classes) → Agree c c' → PreparedMove (λ x. entered s find w x f vs (Outside owes ∷ below) script rest w') c c'
+      move_entered : (f : Found) (vs : List Value) (rest : List Move) (w' : World) (c c' : Classes) → Agree c c' → PreparedMove rest (λ x. entered s find w x f vs (Outside owes (Some now) ∷ below) (Outside owes None ∷ below) rest w') c c'
       move_entered f vs rest w' c c' a =
-          let m : Classes → Next = (λ x. quiet (enters find w' x f.key (spread vs) (Outside owes ∷ below) rest)) in
-          let h : (x : Classes) → Agree x c' → Good (m x) (m c') = (λ x d. good_body (find f.key) w' x c' f.key (spread vs) (Outside owes ∷ below) rest d busy) in
-          move_bool (is_static f.flags) (λ x. needs s find (need_of s.face x f.key.class) w x f.key.class (Outside owes ∷ below) script rest (m x)) m c c'
+          let m : Classes → Next = (λ x. quiet (enters find w' x f.key (spread vs) (Outside owes None ∷ below) rest)) in
+          let h : (x : Classes) → Agree x c' → Good (m x) (m c') = (λ x d. good_body (find f.key) w' x c' f.key (spread vs) (Outside owes None ∷ below) rest d busy) in
+          move_bool (is_static f.flags) rest (λ x. needs s find (need_of s.face x f.key.class) w x f.key.class (Outside owes (Some now) ∷ below) (Outside owes None ∷ below) rest (m x)) m c c'
           (move_needs f.key.class rest m c c' a h) (Once (h c a))
 
-      move_enter : (o : Option Found) (gs : List Given) (rest : List Move) (c c' : Classes) → Agree c c' → PreparedMove (λ x. enter s find w x o gs (Outside owes ∷ below) script rest) c c'
-      move_enter None gs rest c c' a = move_end c c'
-      move_enter (Some f) gs rest c c' a = move_bool (may_enter s.face s.outer w (gets_all w gs).0 f gs (gets_all w gs).1)
-          (λ x. entered s find w x f (gets_all w gs).1 (Outside owes ∷ below) script rest (gets_all w gs).0) (λ x. quiet Ended) c c'
-          (move_entered f (gets_all w gs).1 rest (gets_all w gs).0 c c' a) (move_end c c')
+      move_enter : (o : Option Found) (gs : List Given) (rest : List Move) (c c' : Classes) → Agree c c' → PreparedMove rest (λ x. enter s find w x o gs (Outside owes (Some now) ∷ below) (Outside owes None ∷ below) rest) c c'
+      move_enter None gs rest c c' a = move_end rest c c'
+      move_enter (Some f) gs rest c c' a = move_bool (may_enter s.face s.outer w (gets_all w gs).0 f gs (gets_all w gs).1) rest
+          (λ x. entered s find w x f (gets_all w gs).1 (Outside owes (Some now) ∷ below) (Outside owes None ∷ below) rest (gets_all w gs).0) (λ x. quiet Ended) c c'
+          (move_entered f (gets_all w gs).1 rest (gets_all w gs).0 c c' a) (move_end rest c c')
 
-      move_make : (t : Text) (rest : List Move) (c c' : Classes) → Agree c c' → PreparedMove (λ x. make s find w x t (Outside owes ∷ below) script rest) c c'
+      move_make : (t : Text) (rest : List Move) (c c' : Classes) → Agree c c' → PreparedMove rest (λ x. make s find w x t (Outside owes (Some now) ∷ below) (Outside owes None ∷ below) rest) c c'
       move_make t rest c c' a =
           let z = show (with_thing w (fresh t)) t (next_object w) in
-          let m : Classes → Next = (λ x. made w x t (Outside owes ∷ below) rest) in
-          move_bool (may_make s.face s.outer t) (λ x. needs s find (need_of s.face x t) w x t (Outside owes ∷ below) script rest (m x)) (λ x. quiet Ended) c c'
-          (move_needs t rest m c c' a (λ x d. good_here z.0 x c' rest (Some (event.Make z.1)) d)) (move_end c c')
+          let m : Classes → Next = (λ x. made w x t (Outside owes None ∷ below) rest) in
+          move_bool (may_make s.face s.outer t) rest (λ x. needs s find (need_of s.face x t) w x t (Outside owes (Some now) ∷ below) (Outside owes None ∷ below) rest (m x)) (λ x. quiet Ended) c c'
+          (move_needs t rest m c c' a (λ x d. good_here z.0 x c' rest (Some (event.Make z.1)) d)) (move_end rest c c')
 
       good_answers : (o : Option Text) (g : Option Given) (rest : List Move) (c c' : Classes) → Agree c c' → Good (answers s find w c o g below rest) (answers s find w c' o g below rest)
       good_answers None g rest c c' a = good_end
@@ -597,93 +601,102 @@ module _ (s : Setting) (find : Bodies) (calm : Text → Bool) where
           (good_unwinds below (gets w g).0 c c' (gets w g).1 rest a busy)
 
       good_shows_value : (o : Option Value) (w' : World) (kind : Text) (rest : List Move) (c c' : Classes) → Agree c c'
-          → Good (shows_value w' c kind o (Outside owes ∷ below) rest) (shows_value w' c' kind o (Outside owes ∷ below) rest)
+          → Good (shows_value w' c kind o (Outside owes None ∷ below) rest) (shows_value w' c' kind o (Outside owes None ∷ below) rest)
       good_shows_value None w' kind rest c c' a = good_end
       good_shows_value (Some v) w' kind rest c c' a = good_here (show w' kind v).0 c c' rest (Some (event.Answer (show w' kind v).1)) a
 
-      good_goes : (o : Option World) (rest : List Move) (c c' : Classes) → Agree c c' → Good (goes o c (Outside owes ∷ below) rest) (goes o c' (Outside owes ∷ below) rest)
+      good_goes : (o : Option World) (rest : List Move) (c c' : Classes) → Agree c c' → Good (goes o c (Outside owes None ∷ below) rest) (goes o c' (Outside owes None ∷ below) rest)
       good_goes None rest c c' a = good_end
       good_goes (Some w') rest c c' a = good_here w' c c' rest None a
 
       good_reads : (k : FieldKey) (o : Option Place) (on : Option Given) (rest : List Move) (c c' : Classes) → Agree c c'
-          → Good (reads s w c k o on (Outside owes ∷ below) rest) (reads s w c' k o on (Outside owes ∷ below) rest)
+          → Good (reads s w c k o on (Outside owes None ∷ below) rest) (reads s w c' k o on (Outside owes None ∷ below) rest)
       good_reads k None on rest c c' a = good_end
       good_reads k (Some place) on rest c c' a = let z = got w on in good_if (s.outer.fields k && on_fits s.face s.outer w z.0 k place on z.1)
-          (shows_value z.0 c k.kind (field_value z.0 k place z.1) (Outside owes ∷ below) rest) (shows_value z.0 c' k.kind (field_value z.0 k place z.1) (Outside owes ∷ below) rest)
+          (shows_value z.0 c k.kind (field_value z.0 k place z.1) (Outside owes None ∷ below) rest) (shows_value z.0 c' k.kind (field_value z.0 k place z.1) (Outside owes None ∷ below) rest)
           (good_shows_value (field_value z.0 k place z.1) z.0 k.kind rest c c' a)
 
       good_writes : (k : FieldKey) (o : Option Place) (on : Option Given) (g : Given) (rest : List Move) (c c' : Classes) → Agree c c'
-          → Good (writes s w c k o on g (Outside owes ∷ below) rest) (writes s w c' k o on g (Outside owes ∷ below) rest)
+          → Good (writes s w c k o on g (Outside owes None ∷ below) rest) (writes s w c' k o on g (Outside owes None ∷ below) rest)
       good_writes k None on g rest c c' a = good_end
       good_writes k (Some place) on g rest c c' a =
           let z = got w on in let b = gets z.0 g in
           good_if (s.outer.fields k && on_fits s.face s.outer w z.0 k place on z.1 && fits s.face s.outer z.0 b.0 g b.1 k.kind)
-          (goes (with_field b.0 k z.1 (stored (item_of_type k.kind) b.1)) c (Outside owes ∷ below) rest)
-          (goes (with_field b.0 k z.1 (stored (item_of_type k.kind) b.1)) c' (Outside owes ∷ below) rest)
+          (goes (with_field b.0 k z.1 (stored (item_of_type k.kind) b.1)) c (Outside owes None ∷ below) rest)
+          (goes (with_field b.0 k z.1 (stored (item_of_type k.kind) b.1)) c' (Outside owes None ∷ below) rest)
           (good_goes (with_field b.0 k z.1 (stored (item_of_type k.kind) b.1)) rest c c' a)
 
       good_reads_item : (o : Option Thing) (n : ℕ) (rest : List Move) (c c' : Classes) → Agree c c'
-          → Good (reads_item w c o n (Outside owes ∷ below) rest) (reads_item w c' o n (Outside owes ∷ below) rest)
+          → Good (reads_item w c o n (Outside owes None ∷ below) rest) (reads_item w c' o n (Outside owes None ∷ below) rest)
       good_reads_item None n rest c c' a = good_end
       good_reads_item (Some (Instance t fields)) n rest c c' a = good_end
       good_reads_item (Some (Items kind vs)) n rest c c' a = good_shows_value (slice_get vs n) w kind rest c c' a
 
       good_array_get : (g : Given) (n : ℕ) (rest : List Move) (c c' : Classes) → Agree c c'
-          → Good (array_get w c g n (Outside owes ∷ below) rest) (array_get w c' g n (Outside owes ∷ below) rest)
+          → Good (array_get w c g n (Outside owes None ∷ below) rest) (array_get w c' g n (Outside owes None ∷ below) rest)
       good_array_get g n rest c c' a = good_if (is_exposed w g)
-          (reads_item w c (thing_at w (gets w g).1) n (Outside owes ∷ below) rest) (reads_item w c' (thing_at w (gets w g).1) n (Outside owes ∷ below) rest)
+          (reads_item w c (thing_at w (gets w g).1) n (Outside owes None ∷ below) rest) (reads_item w c' (thing_at w (gets w g).1) n (Outside owes None ∷ below) rest)
           (good_reads_item (thing_at w (gets w g).1) n rest c c' a)
 
       good_writes_item : (on : Value) (o : Option Thing) (n : ℕ) (g : Given) (rest : List Move) (c c' : Classes) → Agree c c'
-          → Good (writes_item s w c on o n g (Outside owes ∷ below) rest) (writes_item s w c' on o n g (Outside owes ∷ below) rest)
+          → Good (writes_item s w c on o n g (Outside owes None ∷ below) rest) (writes_item s w c' on o n g (Outside owes None ∷ below) rest)
       good_writes_item on None n g rest c c' a = good_end
       good_writes_item on (Some (Instance t fields)) n g rest c c' a = good_end
       good_writes_item on (Some (Items kind vs)) n g rest c c' a = good_if (fits s.face s.outer w (gets w g).0 g (gets w g).1 kind)
-          (goes (with_item (gets w g).0 on kind vs n (gets w g).1) c (Outside owes ∷ below) rest) (goes (with_item (gets w g).0 on kind vs n (gets w g).1) c' (Outside owes ∷ below) rest)
+          (goes (with_item (gets w g).0 on kind vs n (gets w g).1) c (Outside owes None ∷ below) rest) (goes (with_item (gets w g).0 on kind vs n (gets w g).1) c' (Outside owes None ∷ below) rest)
           (good_goes (with_item (gets w g).0 on kind vs n (gets w g).1) rest c c' a)
 
       good_array_put : (on : Given) (n : ℕ) (g : Given) (rest : List Move) (c c' : Classes) → Agree c c'
-          → Good (array_put s w c on n g (Outside owes ∷ below) rest) (array_put s w c' on n g (Outside owes ∷ below) rest)
+          → Good (array_put s w c on n g (Outside owes None ∷ below) rest) (array_put s w c' on n g (Outside owes None ∷ below) rest)
       good_array_put on n g rest c c' a = good_if (is_exposed w on)
-          (writes_item s w c (gets w on).1 (thing_at w (gets w on).1) n g (Outside owes ∷ below) rest) (writes_item s w c' (gets w on).1 (thing_at w (gets w on).1) n g (Outside owes ∷ below) rest)
+          (writes_item s w c (gets w on).1 (thing_at w (gets w on).1) n g (Outside owes None ∷ below) rest) (writes_item s w c' (gets w on).1 (thing_at w (gets w on).1) n g (Outside owes None ∷ below) rest)
           (good_writes_item (gets w on).1 (thing_at w (gets w on).1) n g rest c c' a)
 
       good_measures : (o : Option Thing) (rest : List Move) (c c' : Classes) → Agree c c'
-          → Good (measures_thing w c o (Outside owes ∷ below) rest) (measures_thing w c' o (Outside owes ∷ below) rest)
+          → Good (measures_thing w c o (Outside owes None ∷ below) rest) (measures_thing w c' o (Outside owes None ∷ below) rest)
       good_measures None rest c c' a = good_end
       good_measures (Some (Instance t fields)) rest c c' a = good_end
       good_measures (Some (Items kind vs)) rest c c' a = good_shows_value (Some (Word (length vs))) w (73 ∷ []) rest c c' a
 
       good_array_length : (g : Given) (rest : List Move) (c c' : Classes) → Agree c c'
-          → Good (array_length w c g (Outside owes ∷ below) rest) (array_length w c' g (Outside owes ∷ below) rest)
+          → Good (array_length w c g (Outside owes None ∷ below) rest) (array_length w c' g (Outside owes None ∷ below) rest)
       good_array_length g rest c c' a = good_if (is_exposed w g)
-          (measures_thing w c (thing_at w (gets w g).1) (Outside owes ∷ below) rest) (measures_thing w c' (thing_at w (gets w g).1) (Outside owes ∷ below) rest)
+          (measures_thing w c (thing_at w (gets w g).1) (Outside owes None ∷ below) rest) (measures_thing w c' (thing_at w (gets w g).1) (Outside owes None ∷ below) rest)
           (good_measures (thing_at w (gets w g).1) rest c c' a)
 
-      prepared_move : (c c' : Classes) → Agree c c' → PreparedMove (λ x. moves s find w x owes below script) c c' → Prepared (On w c (Outside owes ∷ below) script) (On w c' (Outside owes ∷ below) script)
-      prepared_move c c' a (Once g) = Now g
-      prepared_move c c' a (Behind t k e h) =
-          let p = passed t k w c c' (Outside owes ∷ below) script a in
-          Later (starts s.face find w c t (Outside owes ∷ below) script) (On w p.classes (Outside owes ∷ below) script) e p.silent (h p.classes p.done p.agree) (c', (refl, (p.agree, busy)))
+      move_after : (script rest : List Move) (pending : Option Move) (c c' : Classes) → Agree c c'
+          → ((x : Classes) → framework_turn s find w x owes pending below script ≡ moves s find w x owes now below rest) → PreparedMove rest (λ x. moves s find w x owes now below rest) c c'
+          → Prepared (On w c (Outside owes pending ∷ below) script) (On w c' (Outside owes pending ∷ below) script)
+      move_after script rest pending c c' a e (Once g) = Now (subst (λ x. Good x (framework_turn s find w c' owes pending below script)) (sym (e c)) (subst (λ x. Good (moves s find w c owes now below rest) x) (sym (e c')) g))
+      move_after script rest pending c c' a e (Behind t k z h) =
+          let p = passed t k w c c' (Outside owes (Some now) ∷ below) rest a in
+          Later (starts s.face find w c t (Outside owes (Some now) ∷ below) rest) (On w p.classes (Outside owes (Some now) ∷ below) rest) (e c ∙ z) p.silent
+          (subst (λ x. Good (moves s find w p.classes owes now below rest) x) (sym (e c')) (h p.classes p.done p.agree))
 
-    prepared_moves : (w : World) (owes : Option Text) (below : List Waiting) → Busy below → (script : List Move) (c c' : Classes) → Agree c c' → Prepared (On w c (Outside owes ∷ below) script) (On w c' (Outside owes ∷ below) script)
-    prepared_moves w owes below b [] c c' a = Now good_end
-    prepared_moves w owes below b (move.Enter t n q gs ∷ rest) c c' a = prepared_move w owes below (move.Enter t n q gs ∷ rest) b c c' a (move_enter w owes below (move.Enter t n q gs ∷ rest) b (s.face.declared t n q) gs rest c c' a)
-    prepared_moves w owes below b (move.Make t ∷ rest) c c' a = prepared_move w owes below (move.Make t ∷ rest) b c c' a (move_make w owes below (move.Make t ∷ rest) b t rest c c' a)
-    prepared_moves w owes below b (move.Return g ∷ rest) c c' a = Now (good_answers w owes below (move.Return g ∷ rest) b owes g rest c c' a)
-    prepared_moves w owes below b (move.Throw g ∷ rest) c c' a = Now (good_throws w owes below (move.Throw g ∷ rest) b owes g rest c c' a)
-    prepared_moves w owes below b (move.Get t n k on ∷ rest) c c' a = Now (good_reads w owes below (move.Get t n k on ∷ rest) b (key_of t n k) (s.face.own_field (key_of t n k)) on rest c c' a)
-    prepared_moves w owes below b (move.Put t n k on g ∷ rest) c c' a = Now (good_writes w owes below (move.Put t n k on g ∷ rest) b (key_of t n k) (s.face.own_field (key_of t n k)) on g rest c c' a)
-    prepared_moves w owes below b (move.ArrayGet g n ∷ rest) c c' a = Now (good_array_get w owes below (move.ArrayGet g n ∷ rest) b g n rest c c' a)
-    prepared_moves w owes below b (move.ArrayPut on n g ∷ rest) c c' a = Now (good_array_put w owes below (move.ArrayPut on n g ∷ rest) b on n g rest c c' a)
-    prepared_moves w owes below b (move.ArrayLength g ∷ rest) c c' a = Now (good_array_length w owes below (move.ArrayLength g ∷ rest) b g rest c c' a)
+    prepared_move : (w : World) (owes : Option Text) (below : List Waiting) → (b : Busy below) → (m : Move) (rest : List Move) (c c' : Classes) → Agree c c'
+        → PreparedMove w owes below m b rest (λ x. moves s find w x owes m below rest) c c'
+    prepared_move w owes below b (move.Enter t n q gs) rest c c' a = move_enter w owes below (move.Enter t n q gs) b (s.face.declared t n q) gs rest c c' a
+    prepared_move w owes below b (move.Make t) rest c c' a = move_make w owes below (move.Make t) b t rest c c' a
+    prepared_move w owes below b (move.Return g) rest c c' a = Once (good_answers w owes below (move.Return g) b owes g rest c c' a)
+    prepared_move w owes below b (move.Throw g) rest c c' a = Once (good_throws w owes below (move.Throw g) b owes g rest c c' a)
+    prepared_move w owes below b (move.Get t n k on) rest c c' a = Once (good_reads w owes below (move.Get t n k on) b (key_of t n k) (s.face.own_field (key_of t n k)) on rest c c' a)
+    prepared_move w owes below b (move.Put t n k on g) rest c c' a = Once (good_writes w owes below (move.Put t n k on g) b (key_of t n k) (s.face.own_field (key_of t n k)) on g rest c c' a)
+    prepared_move w owes below b (move.ArrayGet g n) rest c c' a = Once (good_array_get w owes below (move.ArrayGet g n) b g n rest c c' a)
+    prepared_move w owes below b (move.ArrayPut on n g) rest c c' a = Once (good_array_put w owes below (move.ArrayPut on n g) b on n g rest c c' a)
+    prepared_move w owes below b (move.ArrayLength g) rest c c' a = Once (good_array_length w owes below (move.ArrayLength g) b g rest c c' a)
+
+    prepared_turn : (w : World) (owes : Option Text) (pending : Option Move) (below : List Waiting) → Busy below → (script : List Move) (c c' : Classes) → Agree c c'
+        → Prepared (On w c (Outside owes pending ∷ below) script) (On w c' (Outside owes pending ∷ below) script)
+    prepared_turn w owes (Some m) below b script c c' a = move_after w owes below m b script script (Some m) c c' a (λ x. refl) (prepared_move w owes below b m script c c' a)
+    prepared_turn w owes None below b [] c c' a = Now good_end
+    prepared_turn w owes None below b (m ∷ rest) c c' a = move_after w owes below m b (m ∷ rest) rest None c c' a (λ x. refl) (prepared_move w owes below b m rest c c' a)
 
     prepared_stack : (stack : List Waiting) (w : World) (c c' : Classes) (script : List Move) → Agree c c' → Busy stack → Prepared (On w c stack script) (On w c' stack script)
     prepared_stack [] w c c' script a b = Now good_end
     prepared_stack (Method f ∷ r) w c c' script a b = prepared_frame w c c' f r script a b (alike (effect_of s (form_at find f) w f) w f c c' a)
     prepared_stack (Initialiser t l ∷ r) w c c' script a b = Now (good_initialises l w c c' t r script a b.0 b.1)
     prepared_stack (Ending t ∷ r) w c c' script a b = Now (good_resumes r w (put_status t Done c) (put_status t Done c') script (put_busy c c' t Done b.0 a) b.1)
-    prepared_stack (Outside owes ∷ r) w c c' script a b = prepared_moves w owes r b script c c' a
+    prepared_stack (Outside owes pending ∷ r) w c c' script a b = prepared_turn w owes pending r b script c c' a
 
     prepared : (t u : State) → Core t u → Prepared t u
     prepared Ended u h = subst (λ x. Prepared Ended x) (sym h) (Now good_end)
@@ -693,6 +706,18 @@ module _ (s : Setting) (find : Bodies) (calm : Text → Bool) where
 
     abbrev Back : State → State → Type 0
     Back u t = Core t u
+
+    -- steps in silence, and then what one step of the other comes to
+    later_ends : (t t0 t1 u : State) (e : step s find t ≡ quiet t0) (q : Silent t0 t1) (g : Good (step s find t1) (step s find u)) → after s find t (suc (joined q.steps (suc g.silent.steps))) ≡ g.to
+    later_ends t t0 t1 u e q g = ap (λ x. after s find x.0 (joined q.steps (suc g.silent.steps))) e ∙ after_joined s find q.steps (suc g.silent.steps) t0
+        ∙ ap (λ x. after s find x (suc g.silent.steps)) q.ends ∙ g.silent.ends
+
+    later_shown : (t t0 t1 u : State) (e : step s find t ≡ quiet t0) (q : Silent t0 t1) (g : Good (step s find t1) (step s find u)) → shows_from s find t (suc (joined q.steps (suc g.silent.steps))) ≡ shows_from s find u 1
+    later_shown t t0 t1 u e q g =
+        let n = joined q.steps (suc g.silent.steps) in
+        ap (λ x. events_of x.1 ++ shows_from s find x.0 n) e ∙ shows_joined s find q.steps (suc g.silent.steps) t0
+        ∙ ap (λ l. l ++ shows_from s find (after s find t0 q.steps) (suc g.silent.steps)) q.silent ∙ ap (λ x. shows_from s find x (suc g.silent.steps)) q.ends
+        ∙ ap (λ l. events_of (step s find t1).1 ++ l) g.silent.silent ∙ sym (ap (λ y. events_of y ++ []) g.shown)
 
     there : (t u : State) → Core t u → Prepared t u → (k : ℕ) × ((j : ℕ) × ((shows_from s find u j ≡ shows_from s find t (suc k)) × Core (after s find t (suc k)) (after s find u j)))
     there t u h (Now g) = (
@@ -705,16 +730,7 @@ module _ (s : Setting) (find : Bodies) (calm : Text → Bool) where
         ),
       ),
     )
-    there t u h (Later t0 t1 e q g k) = (
-      q.steps,
-      (
-        0,
-        (
-          sym (ap (λ x. events_of x.1 ++ shows_from s find x.0 q.steps) e ∙ q.silent),
-          subst (λ x. Core x u) (sym (ap (λ x. after s find x.0 q.steps) e ∙ q.ends)) k,
-        ),
-      ),
-    )
+    there t u h (Later t0 t1 e q g) = (joined q.steps (suc g.silent.steps), (1, (sym (later_shown t t0 t1 u e q g), subst (λ x. Core x (step s find u).0) (sym (later_ends t t0 t1 u e q g)) g.core)))
 
     back_again : (t u : State) → Core t u → Prepared t u → (k : ℕ) × ((j : ℕ) × ((shows_from s find t j ≡ shows_from s find u (suc k)) × Back (after s find u (suc k)) (after s find t j)))
     back_again t u h (Now g) = (
@@ -727,15 +743,8 @@ module _ (s : Setting) (find : Bodies) (calm : Text → Bool) where
         ),
       ),
     )
-    back_again t u h (Later t0 t1 e q g k) =
-        let z = silent_on (step s find t1).0 g.to g.to g.silent (silent_none g.to) in
-        let n = joined q.steps (suc g.silent.steps) in
-        let ends : after s find t (suc n) ≡ g.to = ap (λ x. after s find x.0 n) e ∙ after_joined s find q.steps (suc g.silent.steps) t0 ∙ ap (λ x. after s find x (suc g.silent.steps)) q.ends ∙ g.silent.ends in
-        let shown : shows_from s find t (suc n) ≡ shows_from s find u 1 =
-        ap (λ x. events_of x.1 ++ shows_from s find x.0 n) e ∙ shows_joined s find q.steps (suc g.silent.steps) t0
-        ∙ ap (λ l. l ++ shows_from s find (after s find t0 q.steps) (suc g.silent.steps)) q.silent ∙ ap (λ x. shows_from s find x (suc g.silent.steps)) q.ends
-        ∙ ap (λ l. events_of (step s find t1).1 ++ l) g.silent.silent ∙ sym (ap (λ y. events_of y ++ []) g.shown) in
-        (0, (suc n, (shown, subst (λ x. Core x (step s find u).0) (sym ends) g.core)))
+    back_again t u h (Later t0 t1 e q g) =
+        (0, (suc (joined q.steps (suc g.silent.steps)), (later_shown t t0 t1 u e q g, subst (λ x. Core x (step s find u).0) (sym (later_ends t t0 t1 u e q g)) g.core)))
 
     pub calm_follows : Follows s find s find Core
     calm_follows = record { on = λ t u h. there t u h (prepared t u h) }
@@ -764,7 +773,7 @@ module _ (s : Setting) (find : Bodies) (calm : Text → Bool) where
 
     next_calm : (t u : State) → Prepared t u → CalmState (step s find u).0
     next_calm t u (Now g) = record { from = g.to; core = g.core }
-    next_calm t u (Later t0 t1 e q g k) = record { from = g.to; core = g.core }
+    next_calm t u (Later t0 t1 e q g) = record { from = g.to; core = g.core }
 
     pub calm_keeps : (u : State) → CalmState u → CalmState (step s find u).0
     calm_keeps u h = next_calm h.from u (prepared h.from u h.core)

@@ -1,7 +1,7 @@
 -- Steps in a frame that show nothing: none, one that stays, one that is caught, some and then some, and a whole call.
-use Rattle.std.proofs.Common.{◌≡◌, ℕ, suc, List, [], ◌∷◌, ◌++◌, Option, Some, None, refl, ap, ◌∙◌}
+use Rattle.std.proofs.Common.{◌≡◌, ℕ, suc, Bool, true, false, List, [], ◌∷◌, ◌++◌, length, Option, Some, None, refl, ap, ◌∙◌, eq-eqb}
 use Rattle.dalvik_defs.specs.Face.{Bodies}
-use Rattle.dalvik_defs.specs.State.{World, Classes, Value, Frame, Waiting, Method, On, quiet}
+use Rattle.dalvik_defs.specs.State.{World, Classes, Value, Frame, Waiting, Method, State, On, Ended, quiet}
 use Rattle.dalvik_defs.specs.Outcome.{Stays, Enters, Ends, Raises}
 use Rattle.dalvik_defs.specs.Stack.{entry_frame, enters_body, back, lands, lands_or, unwinds}
 use Rattle.dalvik_defs.specs.Happens.{Setting, happens}
@@ -41,13 +41,19 @@ module _ (s : Setting) (find : Bodies) where
         ∙ ap (λ t. shows_from s find t m) (a.ends rest script) ∙ b.silent rest script;
   }
 
+  -- a body that takes as many values is entered
+  enters_taken : (w : World) (c : Classes) (k : MethodKey) (vs : List Value) (b : NamedBody) (rest : List Waiting) (script : List Move) → length vs ≡ b.ins
+      → enters_body (Some b) w c k vs rest script ≡ On w c (Method (entry_frame k vs b) ∷ rest) script
+  enters_taken w c k vs b rest script e = ap (λ q. elim q as (λ q. State) [ true ↦ On w c (Method (entry_frame k vs b) ∷ rest) script | false ↦ Ended ]) (eq-eqb (length vs) b.ins e)
+
   -- a whole call that shows nothing and ends with a result
   pub glide_call : (w : World) (c : Classes) (f : Frame) (k : MethodKey) (vs : List Value) (b : NamedBody) (n : ℕ) (w1 : World) (c1 : Classes) (g : Frame) (v : Option Value)
-      → now s find w c f ≡ Enters k vs → find k ≡ Some b → Glides s find w c (entry_frame k vs b) n w1 c1 g → now s find w1 c1 g ≡ Ends v
+      → now s find w c f ≡ Enters k vs → find k ≡ Some b → length vs ≡ b.ins → Glides s find w c (entry_frame k vs b) n w1 c1 g → now s find w1 c1 g ≡ Ends v
       → Glides s find w c f (suc (joined n 1)) w1 c1 (back find f v)
-  glide_call w c f k vs b n w1 c1 g v h e a z =
+  glide_call w c f k vs b n w1 c1 g v h e l a z =
       let first : (rest : List Waiting) (script : List Move) → (step s find (On w c (Method f ∷ rest) script)) ≡ quiet (On w c (Method (entry_frame k vs b) ∷ Method f ∷ rest) script) =
-      (λ rest script. ap (λ o. happens s find o w c f rest script) h ∙ ap (λ o. quiet (enters_body o w c k vs (Method f ∷ rest) script)) e) in
+      (λ rest script. ap (λ o. happens s find o w c f rest script) h ∙ ap (λ o. quiet (enters_body o w c k vs (Method f ∷ rest) script)) e
+      ∙ ap quiet (enters_taken w c k vs b (Method f ∷ rest) script l)) in
       let last : (rest : List Waiting) (script : List Move) → (step s find (On w1 c1 (Method g ∷ Method f ∷ rest) script)) ≡ quiet (On w1 c1 (Method (back find f v) ∷ rest) script) =
       (λ rest script. ap (λ o. happens s find o w1 c1 g (Method f ∷ rest) script) z) in
       record {

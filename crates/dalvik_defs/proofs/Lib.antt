@@ -2,9 +2,12 @@ pub mod Same
 pub mod Simulation
 pub mod LookUps
 pub mod Frames
+pub mod Blocks
+pub mod Singles
 pub mod Glides
 pub mod Calm
 pub mod Firsts
 pub mod Quiet
+pub mod BlockPrograms
 pub mod Programs
 pub mod SameBodies

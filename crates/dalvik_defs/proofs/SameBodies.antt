@@ -61,7 +61,7 @@ module _ (s : Setting) (find other : Bodies) (same : (k : MethodKey) → find k 
   entered : (w : World) (c : Classes) (rest rest' : List Waiting) (script : List Move) (k : MethodKey) (vs : List Value) (o o' : Option NamedBody) → o' ≡ o
       → Entered s find other Equal EqualFrames Any Any w c rest rest' script k vs o o'
   entered w c rest rest' script k vs None o' e = e
-  entered w c rest rest' script k vs (Some b) o' e = (b, (e, λ i j. refl))
+  entered w c rest rest' script k vs (Some b) o' e = (b, (e, (refl, λ l i j. refl)))
 
   follow : FramesFollow s find other Equal EqualFrames Any Any
   follow = record {

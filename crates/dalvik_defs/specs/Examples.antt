@@ -317,10 +317,10 @@ own_x_key = record { class = a_type; name = codes "x"; kind = int_type }
 abbrev pub initialised_before_entry : NamedProgram
 initialised_before_entry = program V035
     (class a_type 1 []
-        (record { name = codes "x"; kind = int_type; flags = 9; first = None; marks = [] } ∷ [])
-        (method (codes "<clinit>") void 65544 (Some (code 1 0 (logs ∷ form.Const 0 (pos 5) ∷ form.StaticPut item.Plain 0 own_x_key ∷ form.ReturnVoid ∷ [])))
-        ∷ method (codes "m") to_int 9 (Some (code 1 0 (form.StaticGet item.Plain 0 own_x_key ∷ form.Return slot.Word 0 ∷ [])))
-        ∷ [])
+    (record { name = codes "x"; kind = int_type; flags = 9; first = None; marks = [] } ∷ [])
+    (method (codes "<clinit>") void 65544 (Some (code 1 0 (logs ∷ form.Const 0 (pos 5) ∷ form.StaticPut item.Plain 0 own_x_key ∷ form.ReturnVoid ∷ [])))
+    ∷ method (codes "m") to_int 9 (Some (code 1 0 (form.StaticGet item.Plain 0 own_x_key ∷ form.Return slot.Word 0 ∷ [])))
+    ∷ [])
     ∷ [])
 
 -- LC;'s initialiser logs and then throws; LD;'s m answers 2

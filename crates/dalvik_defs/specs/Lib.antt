@@ -24,9 +24,12 @@ pub mod Happens
 pub mod Gives
 pub mod Legal
 pub mod Moves
+pub mod MayGo
 pub mod Step
 pub mod Shown
 pub mod Silence
 pub mod Examples
+pub mod FormExamples
+pub mod CallExamples
 pub mod Shut
 pub mod Quiet

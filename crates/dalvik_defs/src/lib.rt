@@ -5,9 +5,11 @@
 //! and laws of the machine.
 #![tactic(auto)]
 
+pub mod call_examples;
 mod encoded;
 mod events;
 pub mod examples;
+pub mod form_examples;
 mod forms;
 pub mod laws;
 mod names;

@@ -34,8 +34,18 @@ pub struct Frame {
 /// nothing is open, and with the move that it makes again once the class that the move needs is initialised.
 #[derive(Drop)]
 pub enum Waiting {
-    Method { frame: Frame },
-    Initialiser { class: Text, above: Seq<Text> },
-    Ending { class: Text },
-    Outside { owes: Option<Text>, pending: Option<Move> },
+    Method {
+        frame: Frame,
+    },
+    Initialiser {
+        class: Text,
+        above: Seq<Text>,
+    },
+    Ending {
+        class: Text,
+    },
+    Outside {
+        owes: Option<Text>,
+        pending: Option<Move>,
+    },
 }

@@ -86,7 +86,7 @@ constructed_of p (Some q) = cond (string_is p q.name (codes "<init>")) (kept_cla
 
 -- the framework calls a kept virtual method on objects
 abbrev pub entered_of : Program → ℕ → Method → List Fact
-entered_of p number m = cond (is_direct p m) [] (fact.Called number ∷ [])
+entered_of p number m = cond (not (is_direct p m)) (fact.Called number ∷ []) []
 
 -- a kept method that the program defines is live, and called on objects where it is virtual
 abbrev pub own_kept_of : Program → ℕ → Option Method → List Fact

@@ -127,7 +127,7 @@ module _ (p : Program) (o : Outside) (s : LiveSet) (g : IsMarked p o s) where
   keeps_entered m x d virtual kept t made within f i =
       let w = kept_own p o s g m x d kept in
       let test : is_direct p w.own.method ≡ false = not_direct (is_direct p w.own.method) (sym (virtual_test p w.own.method) ∙ ap is_virtual_method w.own.is ∙ virtual) in
-      let calls = w.entered (fact.Called w.kept.number) (subst (In (fact.Called w.kept.number)) (sym (ap (λ b. cond b [] (fact.Called w.kept.number ∷ [])) test)) (here [])) in
+      let calls = w.entered (fact.Called w.kept.number) (subst (In (fact.Called w.kept.number)) (sym (ap (λ b. cond (not b) (fact.Called w.kept.number ∷ []) []) test)) (here [])) in
       answered w.kept.number w.kept.short m w.kept.is (begun_call w.kept.number calls) t made within f (stands (answers_to (named p) t m.name m.signature) f i)
 
   -- ---- calls of the framework

@@ -183,7 +183,7 @@ module _ (p : NamedProgram) (o : Outer) (kept : Conditions) (s : Family) (f : Fr
     declared_of x = elim x as (λ x. Option Found) [ Some c ↦ option_map (found_of c) (find test c.methods) | None ↦ None ]
 
     pub declared_undefined : class_named p t ≡ None → declared_in q t n proto ≡ None
-    declared_undefined e = ap declared_of (left_less s p t e)
+    declared_undefined e = ap declared_of (left_less s p t (undefined p t e))
 
     -- a class that goes declares nothing more
     none_left : s.classes t ≡ false → declared_in q t n proto ≡ None
@@ -239,7 +239,7 @@ module _ (p : NamedProgram) (o : Outer) (kept : Conditions) (s : Family) (f : Fr
     pub virtual : is_virtual_method method ≡ true
 
   module _ (t n proto : Text) where
-    declares_it : (c : NamedClass) → class_named p t ≡ Some c → (m : NamedMethod) → find (test t n proto) c.methods ≡ Some m → is_virtual_method m ≡ true → Declares t n proto
+    abbrev declares_it : (c : NamedClass) → class_named p t ≡ Some c → (m : NamedMethod) → find (test t n proto) c.methods ≡ Some m → is_virtual_method m ≡ true → Declares t n proto
     declares_it c e m i v = let h = found_in (test t n proto) c.methods m i in record {
       class = c;
       named = e;

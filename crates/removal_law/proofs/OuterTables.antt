@@ -31,16 +31,17 @@ named_key k n g e =
     ap (λ x. key k.class x k.signature) (text_sound k.name n (and_left (text_eq k.name n) (signature_eq k.signature g) e))
     ∙ ap (key k.class n) (signature_sound k.signature g (and_behind (text_eq k.name n) (signature_eq k.signature g) e))
 
+-- the keys of a name and a signature among those of some numbers
+abbrev named_among : Program → List ℕ → Text → Signature → List MethodKey
+named_among p ns n g = filter (λ k. same_name k.name k.signature n g) (map (method_at p) ns)
+
 keeper_kept : (p : Program) (t n : Text) (g : Signature) (ns : List ℕ) → In t (keepers_in p ns n g) → list_any (λ i. method_eq (method_at p i) (key t n g)) ns ≡ true
 keeper_kept p t n g [] i = elim i [ ]
 keeper_kept p t n g (x ∷ ns) i = by (same_name (method_at p x).name (method_at p x).signature n g) refl i (keeper_kept p t n g ns)
   where
-    abbrev rest : List MethodKey
-    rest = filter (λ k. same_name k.name k.signature n g) (map (method_at p) ns)
-
-    by : (b : Bool) → same_name (method_at p x).name (method_at p x).signature n g ≡ b → In t (map (λ k. k.class) (cond b (method_at p x ∷ rest) rest))
+    by : (b : Bool) → same_name (method_at p x).name (method_at p x).signature n g ≡ b → In t (map (λ k. k.class) (cond b (method_at p x ∷ named_among p ns n g) (named_among p ns n g)))
         → (In t (keepers_in p ns n g) → list_any (λ i. method_eq (method_at p i) (key t n g)) ns ≡ true) → list_any (λ i. method_eq (method_at p i) (key t n g)) (x ∷ ns) ≡ true
-    by true e j ih = elim (first_or_rest t (method_at p x).class (map (λ k. k.class) rest) j) [
+    by true e j ih = elim (first_or_rest t (method_at p x).class (map (λ k. k.class) (named_among p ns n g)) j) [
       | inl h ↦ ap (λ b. b || list_any (λ i. method_eq (method_at p i) (key t n g)) ns)
           (subst (λ z. method_eq (method_at p x) z ≡ true) (named_key (method_at p x) n g e ∙ ap (λ z. key z n g) (sym h)) (method_same (method_at p x)))
       | inr h ↦ either (method_eq (method_at p x) (key t n g)) (list_any (λ i. method_eq (method_at p i) (key t n g)) ns) (ih h)

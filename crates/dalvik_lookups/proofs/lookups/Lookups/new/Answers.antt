@@ -20,6 +20,9 @@ returns-clause-outer c = c.in_ok-both.ensures.outer
 pub returns-clause-classes : goal.returns-clause-classes
 returns-clause-classes c = c.in_ok-both.ensures.classes
 
+pub returns-clause-constructed : goal.returns-clause-constructed
+returns-clause-constructed c = c.in_ok-both.ensures.constructed
+
 pub returns-clause-tables : goal.returns-clause-tables
 returns-clause-tables c = λ w. c.in_ok-both.ensures.tables w (there c.in_ok-hierarchy.field-0 (IsResolved c.args.program.now) c.in-Some.hierarchy c.in-Some.is (c.in_ok-hierarchy.ensures.resolved w))
 

@@ -22,10 +22,15 @@ pub(crate) fn told_body(program: &Program) -> Result<&Body, Unread> {
 /// The edges of these numbers, two for each.
 fn edges(alloc: Global, numbers: &[u32]) -> Result<Vec<(u32, u32)>, AllocError> {
     let mut found = Vec::new(alloc);
-    let mut left = numbers;
-    while let [from, to, rest @ ..] = left {
-        found.push((*from, *to))?;
-        left = rest;
+    let mut source: Option<u32> = None;
+    for number in numbers {
+        source = match source {
+            Some(from) => {
+                found.push((from, *number))?;
+                None
+            }
+            None => Some(*number),
+        };
     }
     Ok(found)
 }

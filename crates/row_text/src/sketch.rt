@@ -12,8 +12,8 @@ use std::alloc::{AllocError, Global};
 
 /// A program with empty tables and no class, of version 035.
 pub fn empty_program(alloc: Global) -> Program
-    ensures classes { result.classes.items ≡ [] }
-    ensures strings { result.strings.items ≡ [] }
+    ensures classes { result.classes ≡ [] }
+    ensures strings { result.strings ≡ [] }
 {
     Program {
         strings: Seq::new(alloc),

@@ -31,7 +31,7 @@ pub(crate) fn answer(alloc: Global, name: &str, rest: &str) -> Result<String, Un
         return Err(Unread::Word);
     };
     if name == "literal" && op == "rsub-int" {
-        let found = literal(LiteralOp::RsubInt, *a, *b);
+        let found = literal(LiteralOp::RsubInt, *a, (*b % 32768) as i16);
         return Ok(format!(in alloc; "{found:?}")?);
     }
     let op = match op {

@@ -34,6 +34,16 @@ fn notes_of(alloc: Global, program: &Program, bytes: &[u8]) -> Result<Vec<Mark>,
     }
 }
 
+/// Bytes as two digits each.
+fn hex(alloc: Global, bytes: &[u8]) -> Result<String, AllocError> {
+    let mut out = String::new(alloc);
+    for byte in bytes {
+        let space = if out.is_empty() { "" } else { " " };
+        out.push_str(format!(in alloc; "{space}{byte:02x}")?.as_str())?;
+    }
+    Ok(out)
+}
+
 /// `put` BYTES: a value that is read of these bytes, as it is written where the numbers 0 to 3 become 3, 2, 1 and 300.
 /// `put-note` BYTES: the annotations of a set, so.
 pub(crate) fn answer(
@@ -53,7 +63,7 @@ pub(crate) fn answer(
             write_annotation(&mut out, note, &other)?;
         }
     }
-    Ok(format!(in alloc; "{out:02x?}")?)
+    Ok(hex(alloc, out.as_slice())?)
 }
 
 /// `used`: the new numbers of the strings and types of the program, and its types in their new order.

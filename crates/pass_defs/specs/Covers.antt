@@ -50,7 +50,7 @@ module _ {V : Type 0} (values : Values V) (holds : V → Value → Type 0) (p : 
   CoversStack called (Method f ∷ ws) = CoversFrame f × CoversAbove called f × CoversStack (Some f.method) ws
   CoversStack called (Initialiser class above ∷ ws) = CoversStack None ws
   CoversStack called (Ending class ∷ ws) = CoversStack None ws
-  CoversStack called (Outside owes ∷ ws) = CoversStack None ws
+  CoversStack called (Outside owes pending ∷ ws) = CoversStack None ws
 
   pub record CoversFields (w : World) : Type 0 where
     pub statics : (k : FieldKey) (f : NamedField) → defined_field p k ≡ Some f → is_static f.flags ≡ true → holds (t.fields k) (written_or (w.statics k) (first_of k (place_of k.class f)))

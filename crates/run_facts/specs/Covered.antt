@@ -27,7 +27,7 @@ use Rattle.dalvik_defs.specs.Effect.{register}
 use Rattle.pass_defs.specs.Typed.{receiver_register}
 use Rattle.pass_defs.specs.Live.{IsMade, unconditional}
 use Rattle.pass_defs.specs.Facts.{Facts, Initialises, needs, IsEnteredOn}
-use Rattle.run_facts.specs.Invariant.{Above, Callee, Begun, Owing, Invariant, Grows}
+use Rattle.invariant_law.specs.Invariant.{Above, Callee, Begun, Owing, Invariant, Grows}
 use Rattle.pass_defs.specs.Analysis.{Analysis, IsReference}
 use Rattle.pass_defs.specs.Closed.{At, MayCall, MayLeave, Results, IsNeeded}
 

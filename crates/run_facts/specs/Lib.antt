@@ -1,4 +1,3 @@
-pub mod Invariant
 pub mod TypedStates
 pub mod Covered
 pub mod ValueAnalysis

@@ -17,3 +17,4 @@ pub mod Covering
 pub mod Sites
 pub mod Loosely
 pub mod Rebinding
+pub mod Folds

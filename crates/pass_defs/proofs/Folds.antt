@@ -1,5 +1,5 @@
 -- The addition of two known numbers may become a constant.
-use Rattle.std.proofs.Common.{◌≡◌, ℕ, zero, suc, true, List, [], ◌∷◌, Some, refl, subst, arith}
+use Rattle.std.proofs.Common.{◌≡◌, ℕ, zero, suc, true, [], ◌∷◌, Some, refl, subst, arith}
 use Rattle.std.specs.Prelude.{pos}
 use Rattle.insn_set.specs.declared.ops.LiteralOp.TheVariants as literal
 use Rattle.dalvik_defs.specs.Examples.{to_int, with_m}
@@ -8,9 +8,9 @@ use Rattle.dalvik_defs.specs.declared.forms.Form.TheVariants as form
 use Rattle.dalvik_defs.specs.declared.program.NamedClass.{NamedClass}
 use Rattle.pass_defs.specs.Walks.{form_at}
 use Rattle.pass_defs.specs.Kinds.{Undefined, Word, is_below}
-use Rattle.pass_defs.specs.Registers.{Kinds, kind_at}
-use Rattle.pass_defs.specs.Typed.{Table, state_at, after}
-use Rattle.pass_defs.specs.Folded.{IsFolded, MayBecome, IsConstantFor, Itself, Constant, kind_written}
+use Rattle.pass_defs.specs.Registers.{kind_at}
+use Rattle.pass_defs.specs.Typed.{after}
+use Rattle.pass_defs.specs.Folded.{IsFolded, MayBecome, IsConstantFor, Itself, Constant}
 use Rattle.pass_defs.specs.Examples.{kinds}
 use Rattle.pass_defs.specs.PassExamples.{adds, adds_three, knows_five, five_given, sum_typed}
 use Rattle.pass_defs.proofs.Spins.{some_one, none_some}

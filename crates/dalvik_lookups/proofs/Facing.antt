@@ -139,7 +139,7 @@ virtually_named l r t m q h = by_place (place_named p t) refl
 abbrev method_within : Text → Text → Option NamedClass → Option name.Found
 method_within n q o = elim o [ Some c ↦ option_map (name.found_in c) (find (λ m. text_eq m.name n && text_eq (proto_text m.signature) q) c.methods) | None ↦ None ]
 
-pub declared_named : (p : Program) (t n q : Text) → declared_in (named p) t n q ≡ option_and_then (bridge.found_at p) (declared_method p t n q)
+declared_named : (p : Program) (t n q : Text) → declared_in (named p) t n q ≡ option_and_then (bridge.found_at p) (declared_method p t n q)
 declared_named p t n q = by_place (place_named p t) refl
   where
     at : (c : ℕ) (k : Class) → slice_get p.classes c ≡ Some k → (o : Option ℕ) → option_map (name.found_in (named_class p k)) (option_map (named_method p) (option_and_then (slice_get k.methods) o)) ≡ option_and_then (bridge.found_at p) (option_map (method_of c) o)

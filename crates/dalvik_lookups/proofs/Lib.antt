@@ -20,7 +20,5 @@ pub mod Rising
 pub mod Indexed
 pub mod Short
 pub mod Declaring
-pub mod Protos
-pub mod Keepers
 pub mod Playing
 mod Accepted

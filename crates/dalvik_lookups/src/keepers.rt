@@ -4,11 +4,6 @@ ghost use Rattle.std.specs.Prelude.{◌≡◌, Some, slice_get, IfOk};
 ghost use Rattle.std.specs.List.{list_any};
 ghost use Rattle.program_model.specs.declared.pass.Outside.{Outside};
 ghost use Rattle.program_model.specs.declared.pools.MethodName.{MethodName};
-ghost use Rattle.program_model.specs.declared.program.Class.{Class};
-ghost use Rattle.dalvik_defs.specs.Legal.{keeper_above};
-ghost use Rattle.dalvik_defs.specs.Naming.{text_at, type_at, signature_at};
-ghost use Rattle.dalvik_defs.specs.Outer.{outer_of};
-ghost use Rattle.dalvik_lookups.specs.Facing.{run_face};
 ghost use Rattle.dalvik_lookups.specs.Tables.{IsRight};
 ghost use Rattle.dalvik_lookups.specs.Views.{type_text, IsKind};
 ghost use Rattle.dalvik_lookups.specs.Walks.{IsKept};
@@ -80,18 +75,19 @@ impl<'a> Lookups<'a> {
         Ok(false)
     }
 
-    /// Whether the class at a place stands under a class with a kept virtual method of the name and the proto of a method
-    /// number.
-    pub fn has_keeper(&self, memo: &mut Memo, class: u32, method: u32) -> Result<bool, AllocError>
-        ensures kept { (o : Outside) (c : Class) (q : MethodName) → IsRight self.now → IsOuter self.now.program.now o self.now.outer → IsKept self.now memo.old → slice_get self.now.program.now.classes class ≡ Some c
+    /// Whether a type stands under a class with a kept virtual method of the name and the proto of a method number.
+    pub fn has_keeper(
+        &self,
+        memo: &mut Memo,
+        lower: Kind,
+        method: u32,
+    ) -> Result<bool, AllocError>
+        ensures kept { (o : Outside) (q : MethodName) → IsRight self.now → IsOuter self.now.program.now o self.now.outer → IsKept self.now memo.old → IsKind self.now.types lower
             → slice_get self.now.program.now.methods method ≡ Some q → IsKept self.now memo.new }
-        ensures is { (o : Outside) (c : Class) (q : MethodName) → IsRight self.now → IsOuter self.now.program.now o self.now.outer → IsKept self.now memo.old → slice_get self.now.program.now.classes class ≡ Some c
-            → slice_get self.now.program.now.methods method ≡ Some q → IfOk result (λ b. b ≡ has_keeper self.now.program.now self.now.framework.now o q.name q.proto (type_at self.now.program.now c.name)) }
-        ensures named { (o : Outside) (c : Class) (q : MethodName) → IsRight self.now → IsOuter self.now.program.now o self.now.outer → IsKept self.now memo.old → slice_get self.now.program.now.classes class ≡ Some c
-            → slice_get self.now.program.now.methods method ≡ Some q → IfOk result (λ b. b ≡ keeper_above (run_face self.now) (outer_of self.now.program.now o) (type_at self.now.program.now c.name) (text_at self.now.program.now q.name) (signature_at self.now.program.now q.proto)) }
+        ensures is { (o : Outside) (q : MethodName) → IsRight self.now → IsOuter self.now.program.now o self.now.outer → IsKept self.now memo.old → IsKind self.now.types lower
+            → slice_get self.now.program.now.methods method ≡ Some q → IfOk result (λ b. b ≡ has_keeper self.now.program.now self.now.framework.now o q.name q.proto (type_text self.now.types lower)) }
     {
         let key = self.hierarchy.key_of_method(method);
-        let lower = self.kind_of_class(class);
         let found = self.keeps_over_any(memo, lower, self.hierarchy.definers_of(key), key)?;
         Ok(found)
     }

@@ -2,7 +2,7 @@
 -- above it, and of all that lies outside the frames. Where each step of a frame, each entry, each answer and each move of
 -- the framework keeps it, it holds of every state that a run reaches. Where an end is no such state, a run ends only at
 -- the end of its script or at a move that isn't legal.
-use Rattle.std.proofs.Common.{◌≡◌, ℕ, zero, suc, Bool, true, false, List, [], ◌∷◌, Option, Some, None, ◌⊎◌, inl, inr, refl, sym, ap, ◌∙◌, subst, eqb-true, eqb-false}
+use Rattle.std.proofs.Common.{◌≡◌, ℕ, zero, suc, Bool, true, false, List, [], ◌∷◌, Option, Some, None, ◌⊎◌, inl, inr, refl, sym, ap, ◌∙◌, subst, eqb-true, eq-eqb, true≢false}
 use Rattle.std.specs.Prelude.{◌&&◌, length, slice_get, slice_set, is_some, nat_lt, nat_eq}
 use Rattle.std.specs.Option.{option_map, option_and_then}
 use Rattle.dalvik_defs.specs.Names.{Text, throwable_type, error_type}
@@ -182,7 +182,7 @@ module _ (s : Setting) (find : Bodies) (i : Invariant) where
       where
         by : (q : Bool) → nat_eq (length vs) b.ins ≡ q → Holds (elim q as (λ q. State) [ true ↦ On w c (Method (entry_frame k vs b) ∷ r) script | false ↦ Ended ])
         by true j = (g, (e.0 (eqb-true (length vs) b.ins j), ws), m)
-        by false j = e.1 (eqb-false (length vs) b.ins j)
+        by false j = e.1 (λ z. true≢false (sym (eq-eqb (length vs) b.ins z) ∙ j))
 
     on_enters : (w : World) (c : Classes) (k : MethodKey) (vs : List Value) (r : List Waiting) (script : List Move)
         → i.outside w c → Entered w c k vs (find k) → Waits w (Callee k) r → Each i.move script → Holds (enters find w c k vs r script)
@@ -315,7 +315,7 @@ module _ (s : Setting) (find : Bodies) (i : Invariant) where
     on_happens w c f (Stays w1 f1 e) r script g l ws m = (l.0.1, goes_on_top w1 c f f1 r l.1 l.2 (later_waits w w1 l.0.0 (Callee f.method) r ws), m)
     on_happens w c f (Starts t) r script g l ws m = on_starts w c t (Method f ∷ r) script g l.0 (l.1, ws) m
     on_happens w c f (Enters k vs) r script g l ws m = on_enters w c k vs (Method f ∷ r) script g l.1 (l.0, ws) m
-    on_happens w c f (Leaves w1 owes e) r script g l ws m = (l.0.1, (tt, l.1, later_waits w w1 l.0.0 (Callee f.method) r ws), m)
+    on_happens w c f (Leaves w1 owes e) r script g l ws m = (l.0.1, (tt, (l.1, later_waits w w1 l.0.0 (Callee f.method) r ws)), m)
     on_happens w c f (Ends v) r script g l ws m = on_gives w c f.method v r script g l ws m
     on_happens w c f (Raises w1 v) r script g l ws m =
         let ws1 = later_waits w w1 l.0.0 (Callee f.method) r ws in

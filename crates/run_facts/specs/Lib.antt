@@ -1,0 +1,4 @@
+pub mod TypedStates
+pub mod Covered
+pub mod ValueAnalysis
+pub mod Examples

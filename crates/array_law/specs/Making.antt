@@ -27,7 +27,7 @@ MakesArray find (On w classes [] script) = Unit {0}
 MakesArray find (On w classes (Method f ∷ rest) script) = NamesMaybe (form_at find f)
 MakesArray find (On w classes (Initialiser c above ∷ rest) script) = Unit {0}
 MakesArray find (On w classes (Ending c ∷ rest) script) = Unit {0}
-MakesArray find (On w classes (Outside owes ∷ rest) script) = Unit {0}
+MakesArray find (On w classes (Outside owes pending ∷ rest) script) = Unit {0}
 
 -- at each of the next n steps
 pub record MakesArrays (s : Setting) (find : Bodies) (t : State) (n : ℕ) : Type 0 where

@@ -34,7 +34,7 @@ use Rattle.dalvik_defs.specs.declared.program.NamedMethod.{NamedMethod}
 use Rattle.dalvik_defs.specs.declared.program.NamedClass.{NamedClass}
 use Rattle.dalvik_defs.proofs.Calm.{text_sound}
 use Rattle.pass_defs.specs.Calls.{is_within}
-use Rattle.pass_defs.specs.Live.{is_bound, answers_to, KeepsVirtual, KeepsEntered, KeepsCalledBack}
+use Rattle.pass_defs.specs.Live.{conditions_of, is_bound, answers_to, KeepsVirtual, KeepsEntered, KeepsCalledBack}
 use Rattle.name_bridge.proofs.Tables.{method_is, method_class, method_name, method_proto}
 use Rattle.name_bridge.proofs.Found.{looked_up, found_parts, virtual_test}
 use Rattle.name_bridge.proofs.Candidates.{common_test}

@@ -7,7 +7,7 @@ use Rattle.insn_set.specs.declared.ops.Item.TheVariants as item
 use Rattle.dalvik_defs.specs.Names.{Text, throwable_type}
 use Rattle.dalvik_defs.specs.Face.{Bodies, Place}
 use Rattle.dalvik_defs.specs.Fields.{first_of, with_instance, key_at, written_or, instance_value}
-use Rattle.dalvik_defs.specs.State.{World, Classes, Ended, Exposed, Thing, Instance, Items, kind_of, with_thing, next_object, fresh, put_thing, put_field, thing_at, zero_of, word_of, opening}
+use Rattle.dalvik_defs.specs.State.{World, Classes, Ended, Exposed, Thing, Instance, Items, kind_of, with_thing, next_object, fresh, put_thing, put_field, thing_at, zero_of, word_of, opening_world, opening}
 use Rattle.dalvik_defs.specs.ActArray.{zeros}
 use Rattle.dalvik_defs.specs.Effect.{next, go, write_item}
 use Rattle.dalvik_defs.specs.Outcome.{Outcome, Stays, Starts, Enters, Leaves, Ends, Raises, Halts, need_of}
@@ -108,6 +108,10 @@ back_fine : (find : Bodies) (w : World) (f : Frame) (v : Option Value) → FineF
 back_fine find w f (Some v) h k = receives_fine w (form_at find f) f v h k
 back_fine find w f None h k = record { registers = h.registers; result = tt; caught = h.caught }
 
+-- nothing is referred to at the opening
+pub fine_opening : FineWorld opening_world
+fine_opening = record { statics = λ k v e. none_some v e; things = tt; exposed = tt }
+
 module _ (s : Setting) (find : Bodies) (firsts : (w : World) (k : FieldKey) (place : Place) → IsThere w (first_of k place)) where
   entered : (w : World) (c : Classes) (k : MethodKey) (vs : List Value) (o : Option NamedBody) → Each (IsThere w) vs → Entered s find (grown s find fine_states) w c k vs o
   entered w c k vs None h = tt
@@ -198,7 +202,7 @@ module _ (s : Setting) (find : Bodies) (firsts : (w : World) (k : FieldKey) (pla
   pub always_fine : (script : List Move) (n : ℕ) → (after s find (opening script) n ≡ Ended) ⊎ Holds fine_states (after s find (opening script) n)
   always_fine script n = let keep = keeps_plainly s find fine_states fine_kept in
       holds_after s find (grown s find fine_states) keep n (opening script)
-      (opens_with s find (grown s find fine_states) keep script (record { statics = λ k v e. none_some v e; things = tt; exposed = tt }) (each_move script))
+      (opens_with s find (grown s find fine_states) keep script fine_opening (each_move script))
 
 -- Whatever the setting, the bodies and the script: each state that a run reaches has ended, or refers to what there is alone.
 pub every_run_is_fine : (s : Setting) (find : Bodies) (script : List Move) (n : ℕ) → (after s find (opening script) n ≡ Ended) ⊎ Holds fine_states (after s find (opening script) n)

@@ -32,7 +32,7 @@ use Rattle.dalvik_defs.specs.ActNumber.{number, word, gives_word, gives_wide, se
 use Rattle.dalvik_defs.specs.Act.{act}
 use Rattle.dalvik_defs.specs.Outcome.{Outcome, Stays, Enters, Leaves, Raises, Need, Ready, Fresh, Broken, faults, when_ready, passed_types, calls_out, native_kind, takes_no_receiver, calls_uncoded, calls_found, is_direct, calls_by, receiver, on_receiver, calls, makes, reads_value, reads_static, reads_instance, reads, writes_out, written, writes_static, writes_instance, writes, with_lock, outcome}
 use Rattle.dalvik_defs.specs.Happens.{Setting, effect_of, outcome_at}
-use Rattle.dalvik_defs.specs.Stack.{form_at}
+use Rattle.dalvik_defs.specs.Stack.{form_at, receives, back}
 use Rattle.dalvik_defs.specs.declared.names.MethodKey.{MethodKey}
 use Rattle.dalvik_defs.specs.declared.names.FieldKey.{FieldKey}
 use Rattle.dalvik_defs.specs.declared.forms.Form.{Form}
@@ -130,6 +130,21 @@ pub all_heap : (ks : List Text) (w : World) (vs : List Value) → (show_all w ks
 all_heap [] w vs = refl
 all_heap (k ∷ ks) w [] = refl
 all_heap (k ∷ ks) w (v ∷ vs) = all_heap ks (show w k v).0 (skip k vs) ∙ show_heap w k v
+
+-- ---- a frame that a value comes back to is of the same method
+
+written_method : (i : Item) (f : Frame) (to : ℕ) (v : Value) → (write_item i f to v).method ≡ f.method
+written_method item.Wide f to v = refl
+written_method i f to v = refl
+
+receives_method : (o : Option Form) (f : Frame) (v : Value) → (receives o f v).method ≡ f.method
+receives_method (Some (form.InstanceGet i to on field)) f v = written_method i f to v
+receives_method (Some (form.StaticGet i to field)) f v = written_method i f to v
+receives_method o f v = refl
+
+pub back_method : (find : Bodies) (f : Frame) (v : Option Value) → (back find f v).method ≡ f.method
+back_method find f (Some v) = receives_method (form_at find f) f v
+back_method find f None = refl
 
 -- ---- effects
 

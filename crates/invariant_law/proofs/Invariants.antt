@@ -38,6 +38,7 @@ use Rattle.dalvik_defs.specs.declared.script.Move.{Move}
 use Rattle.dalvik_defs.specs.declared.script.Move.TheVariants as move
 use Rattle.invariant_law.specs.Invariant.{Above, Callee, Begun, Owing, Invariant}
 use Rattle.invariant_law.specs.Holds.{Each, IsCall, IsBegun, IsInner, Pends as PendsBy, Waits as WaitsBy, Stacks as StacksBy, Holds as HoldsBy}
+use Rattle.invariant_law.proofs.Growing.{back_method}
 
 module _ (s : Setting) (find : Bodies) (i : Invariant) where
   abbrev pub Pends : Option Move → Type 0
@@ -228,19 +229,6 @@ module _ (s : Setting) (find : Bodies) (i : Invariant) where
 
     -- ---- results
 
-    item_method : (f : Frame) (i : Item) (to : ℕ) (v : Value) → (write_item i f to v).method ≡ f.method
-    item_method f item.Wide to v = refl
-    item_method f i to v = refl
-
-    receives_method : (o : Option Form) (f : Frame) (v : Value) → (receives o f v).method ≡ f.method
-    receives_method (Some (form.InstanceGet item to on field)) f v = item_method f item to v
-    receives_method (Some (form.StaticGet item to field)) f v = item_method f item to v
-    receives_method o f v = refl
-
-    back_method : (f : Frame) (v : Option Value) → (back find f v).method ≡ f.method
-    back_method f (Some v) = receives_method (form_at find f) f v
-    back_method f None = refl
-
     goes_on_top : (w : World) (c : Classes) (f g : Frame) (r : List Waiting) → g.method ≡ f.method → i.top w c g → Waits w (Callee f.method) r → Stacks w c (Method g ∷ r)
     goes_on_top w c f g r e t ws = (t, subst (λ k. Waits w (Callee k) r) (sym e) ws)
 
@@ -251,7 +239,7 @@ module _ (s : Setting) (find : Bodies) (i : Invariant) where
     on_gives : (w : World) (c : Classes) (k : MethodKey) (v : Option Value) (r : List Waiting) (script : List Move)
         → i.outside w c → i.result w k v → Waits w (Callee k) r → Each i.move script → Holds (gives find k.signature.result w c v r script).0
     on_gives w c k v [] script g x ws m = absurd ws
-    on_gives w c k v (Method f ∷ r) script g x ws m = (g, goes_on_top w c f (back find f v) r (back_method f v) (keep.returns w c k f v g ws.0 x) ws.1, m)
+    on_gives w c k v (Method f ∷ r) script g x ws m = (g, goes_on_top w c f (back find f v) r (back_method find f v) (keep.returns w c k f v g ws.0 x) ws.1, m)
     on_gives w c k v (Initialiser t ts ∷ r) script g x ws m = absurd ws.0
     on_gives w c k v (Ending t ∷ r) script g x ws m = (g, (ws.1, ws.2), m)
     on_gives w c k v (Outside owes pending ∷ r) script g x ws m = on_outside w (show_option w k.signature.result v).0 c (Callee k) owes pending r script (keep.shows_result w c k v g x) ws m
@@ -452,7 +440,7 @@ module _ (s : Setting) (find : Bodies) (i : Invariant) where
     on_answers w c kind x [] rest y g ws p m = absurd ws
     on_answers w c kind x (Method f ∷ r) rest y g ws p m =
         let k = keep.framework.answers w c kind x f g p ws.0 y in
-        (k.0.1, goes_on_top (got w x).0 c f (back find f (got w x).1) r (back_method f (got w x).1) k.1 (later_waits w (got w x).0 k.0.0 (Callee f.method) r ws.1), m)
+        (k.0.1, goes_on_top (got w x).0 c f (back find f (got w x).1) r (back_method find f (got w x).1) k.1 (later_waits w (got w x).0 k.0.0 (Callee f.method) r ws.1), m)
     on_answers w c kind x (Initialiser t ts ∷ r) rest y g ws p m = absurd ws.0
     on_answers w c kind x (Ending t ∷ r) rest y g ws p m = absurd ws.0
     on_answers w c kind x (Outside None pending ∷ r) rest y g ws p m = absurd ws.0

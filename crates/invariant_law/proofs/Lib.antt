@@ -1,8 +1,10 @@
-pub mod Invariants
 pub mod Growing
+pub mod Invariants
 pub mod Plain
 pub mod Stacked
 pub mod Fine
 pub mod FineFirsts
 pub mod FineSteps
 pub mod FineRuns
+pub mod Sizes
+pub mod SizedRuns

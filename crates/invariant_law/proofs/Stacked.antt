@@ -21,26 +21,15 @@ use Rattle.dalvik_defs.specs.declared.names.MethodKey.{MethodKey}
 use Rattle.dalvik_defs.specs.declared.program.NamedBody.{NamedBody}
 use Rattle.dalvik_defs.specs.declared.script.Given.{Given}
 use Rattle.dalvik_defs.specs.declared.script.Move.TheVariants as move
-use Rattle.invariant_law.specs.Invariant.{Above, Callee, Begun, Owing, Invariant, Grows}
+use Rattle.invariant_law.specs.Invariant.{Above, Callee, Begun, Owing, Invariant, Grows, both as both_of}
 use Rattle.dalvik_defs.specs.MayGo.{legal_write}
 use Rattle.invariant_law.specs.Holds.{Each}
 use Rattle.invariant_law.proofs.Invariants.{Entered, Landed}
 use Rattle.invariant_law.proofs.Plain.{LeadsPlainly, ShownPlainly, WrittenPlainly, KeptPlainly}
 
 module _ (s : Setting) (find : Bodies) (i j : Invariant) where
-  -- both at once; a run ends where the first says
-  abbrev pub both : Invariant
-  both = record {
-    outside = λ w c. i.outside w c × j.outside w c;
-    top = λ w c f. i.top w c f × j.top w c f;
-    waits = λ w a f. i.waits w a f × j.waits w a f;
-    result = λ w k v. i.result w k v × j.result w k v;
-    thrown = λ w v. i.thrown w v × j.thrown w v;
-    class = λ t. i.class t × j.class t;
-    move = λ x. i.move x × j.move x;
-    later = Grows;
-    ended = i.ended;
-  }
+  abbrev both : Invariant
+  both = both_of i j
 
   abbrev pub EnteredOver : World → Classes → MethodKey → List Value → Option NamedBody → Type 0
   EnteredOver w c k vs None = Unit {0}

@@ -45,3 +45,17 @@ Longer xs ys = (n : ℕ) (k : Text) → HasKind k (slice_get xs n) → HasKind k
 
 pub record Grows (w w1 : World) : Type 0 where
   pub things : Longer w.heap w1.heap
+
+-- two invariants at once, where what waits keeps as things keep their kinds; a run ends where the first says
+abbrev pub both : Invariant → Invariant → Invariant
+both i j = record {
+  outside = λ w c. i.outside w c × j.outside w c;
+  top = λ w c f. i.top w c f × j.top w c f;
+  waits = λ w a f. i.waits w a f × j.waits w a f;
+  result = λ w k v. i.result w k v × j.result w k v;
+  thrown = λ w v. i.thrown w v × j.thrown w v;
+  class = λ t. i.class t × j.class t;
+  move = λ x. i.move x × j.move x;
+  later = Grows;
+  ended = i.ended;
+}

@@ -1,3 +1,4 @@
 pub mod Invariant
 pub mod Holds
 pub mod Fine
+pub mod Sized

@@ -1,5 +1,7 @@
 //! What rules match and keep.
 
+ghost use Rattle.std.specs.Prelude.{◌≡◌, ◌&&◌, nat_lt, length};
+
 use hierarchy::{Hierarchy, HierarchyFault};
 use keep_rules::{outside_of, read_rules};
 use program_model::{Outside, Program};
@@ -8,7 +10,9 @@ use rule_text::{RuleFault, Rules};
 use std::alloc::Global;
 
 /// Whether each table of numbers, and the list of classes, has fewer than a hundred entries.
-fn is_small(program: &Program) -> bool {
+fn is_small(program: &Program) -> bool
+    ensures { result ≡ (nat_lt (length program.now.types) 100 && nat_lt (length program.now.fields) 100 && nat_lt (length program.now.methods) 100 && nat_lt (length program.now.classes) 100) }
+{
     program.types.len() < 100
         && program.fields.len() < 100
         && program.methods.len() < 100
@@ -30,12 +34,12 @@ fn rules_of(alloc: Global, text: &str) -> Result<Rules, RuleFault> {
 
 /// What the rules of a text keep of a program.
 fn outside(alloc: Global, program: &Program, text: &str) -> Result<Outside, Unread> {
-    let (Ok(graph), Ok(rules)) = (graph_of(alloc, program), rules_of(alloc, text)) else {
-        return Err(Unread::Word);
-    };
     if !is_small(program) {
         return Err(Unread::Word);
     }
+    let (Ok(graph), Ok(rules)) = (graph_of(alloc, program), rules_of(alloc, text)) else {
+        return Err(Unread::Word);
+    };
     Ok(outside_of(alloc, &rules, program, &graph)?)
 }
 

@@ -7,7 +7,7 @@ use Rattle.dalvik_defs.specs.declared.forms.Form.{Form}
 use Rattle.dalvik_defs.specs.declared.forms.Form.TheVariants as form
 use Rattle.pass_defs.specs.Walks.{Stays, Goes, form_at, onward, successors, IsReached}
 use Rattle.pass_defs.specs.Stale as stale
-use Rattle.pass_defs.specs.Stale.{IsSpoilt, IsStale, StandsFor, Lower, in_either, casts}
+use Rattle.pass_defs.specs.Stale.{IsSpoilt, IsStale, Lower, in_either, casts}
 use Rattle.pass_defs.specs.PassExamples.{reads_copy, copy_is_old}
 use Rattle.pass_defs.proofs.Spins.{some_one, none_some}
 use Rattle.pass_defs.proofs.Sums.{none_in, only_in}

@@ -18,3 +18,4 @@ pub mod Covering
 pub mod Sites
 pub mod Loosely
 pub mod Rebinding
+pub mod Folds

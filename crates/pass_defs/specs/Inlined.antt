@@ -40,7 +40,8 @@ callee_of p (Some (form.Invoke call.Static k args)) = callee_found p args (finds
 callee_of p (Some (form.Invoke call.Direct k args)) = callee_found p args (finds_statically p k)
 callee_of p f = None
 
--- the accepted positions of a caller are a list
+-- The accepted positions of a caller are a list. Each is a site: behind another call that was listed, the MoveResult would be
+-- dropped and nothing put in its place.
 abbrev pub is_among : List ℕ → ℕ → Bool
 is_among accepted n = list_any (nat_eq n) accepted
 

@@ -1,5 +1,5 @@
 -- Small programs for the examples of `passes.rt`: what each pass looks for, and what it leaves alone.
-use Rattle.std.specs.Prelude.{ℕ, zero, suc, pos, true, List, [], ◌∷◌, map, length, Option, Some, None, codes}
+use Rattle.std.specs.Prelude.{◌≡◌, ℕ, zero, suc, pos, true, List, [], ◌∷◌, map, length, Option, Some, None, codes}
 use Rattle.insn_set.specs.declared.ops.Slot.TheVariants as slot
 use Rattle.insn_set.specs.declared.ops.Test.TheVariants as test
 use Rattle.insn_set.specs.declared.ops.BinaryOp.TheVariants as binary
@@ -14,21 +14,24 @@ use Rattle.dalvik_defs.specs.Find.{Found}
 use Rattle.dalvik_defs.specs.Examples.{a_type, b_type, i_type, j_type, to_int, code, method, class, program, constructor, constructor_key, one_class, m_key, r_key, r_method, log_code}
 use Rattle.dalvik_defs.specs.State.{State, On, New, opening_world}
 use Rattle.dalvik_defs.specs.declared.state.Value.{Value}
-use Rattle.dalvik_defs.specs.declared.state.Value.TheVariants.{Word}
+use Rattle.dalvik_defs.specs.declared.state.Value.TheVariants as value
 use Rattle.dalvik_defs.specs.declared.state.Waiting.TheVariants.{Method}
 use Rattle.dalvik_defs.specs.declared.state.Frame.{Frame}
 use Rattle.dalvik_defs.specs.declared.names.Signature.{Signature}
 use Rattle.dalvik_defs.specs.declared.names.MethodKey.{MethodKey}
+use Rattle.dalvik_defs.specs.declared.forms.Form.{Form}
 use Rattle.dalvik_defs.specs.declared.forms.Form.TheVariants as form
 use Rattle.dalvik_defs.specs.declared.program.NamedBody.{NamedBody}
 use Rattle.dalvik_defs.specs.declared.program.NamedMethod.{NamedMethod}
 use Rattle.dalvik_defs.specs.declared.program.NamedClass.{NamedClass}
 use Rattle.dalvik_defs.specs.declared.program.NamedProgram.{NamedProgram}
+use Rattle.pass_defs.specs.Kinds.{Undefined, Word}
+use Rattle.pass_defs.specs.Typed.{Table}
 use Rattle.pass_defs.specs.Flat.{Flat, KnownWord, Any}
 use Rattle.pass_defs.specs.Facts.{Facts}
 use Rattle.pass_defs.specs.FlatAnalysis.{flat_holds}
 use Rattle.pass_defs.specs.Site.{Caller}
-use Rattle.pass_defs.specs.Examples.{q_signature, adds_two}
+use Rattle.pass_defs.specs.Examples.{kinds, q_signature, adds_two}
 
 abbrev pub key_of : Text → Text → Signature → MethodKey
 key_of t name signature = record { class = t; name = name; signature = signature }
@@ -86,13 +89,23 @@ knows_sum = record { parameters = λ k i. Any; results = λ k. Any; registers = 
 
 -- a state of m, in front of the addition
 abbrev pub frame_with : ℕ → Frame
-frame_with n = record { method = m_key to_int; position = 1; registers = Word n ∷ Word 0 ∷ []; result = Word 0; caught = Word 0 }
+frame_with n = record { method = m_key to_int; position = 1; registers = value.Word n ∷ value.Word 0 ∷ []; result = value.Word 0; caught = value.Word 0 }
 
 abbrev pub state_with : ℕ → State
 state_with n = On opening_world (λ t. New) (Method (frame_with n) ∷ []) []
 
 abbrev pub says : Flat → Value → Type 0
 says x v = flat_holds x [] v
+
+-- what m may become, where its facts say that the form at each place gives 5, and its typing
+abbrev pub knows_five : NamedBody
+knows_five = code 2 0 (form.Const 0 (pos 2) ∷ form.Const 1 (pos 5) ∷ form.Return slot.Word 1 ∷ [])
+
+abbrev pub five_given : ℕ → Form → Type 0
+five_given n g = g ≡ form.Const 1 (pos 5)
+
+abbrev pub sum_typed : Table
+sum_typed = Some (kinds (Undefined ∷ Undefined ∷ [])) ∷ Some (kinds (Word ∷ Undefined ∷ [])) ∷ Some (kinds (Word ∷ Word ∷ [])) ∷ []
 
 -- ---- copies
 

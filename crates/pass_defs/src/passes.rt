@@ -9,13 +9,14 @@ ghost use Rattle.insn_set.specs.declared.ops.BinaryOp.TheVariants as binary;
 ghost use Rattle.insn_set.specs.declared.ops.InvokeKind.TheVariants as call;
 ghost use Rattle.dalvik_defs.specs.Names.{void};
 ghost use Rattle.dalvik_defs.specs.Naming.{named};
-ghost use Rattle.dalvik_defs.specs.Examples.{a_type, b_type, i_type, j_type, m_key, keeps_m, r_key, to_int};
-ghost use Rattle.dalvik_defs.specs.declared.names.MethodKey.{MethodKey};
+ghost use Rattle.dalvik_defs.specs.Examples.{a_type, b_type, i_type, j_type, m_key, keeps_m, r_key, to_int, with_m};
 ghost use Rattle.dalvik_defs.specs.declared.forms.Form.TheVariants as form;
 ghost use Rattle.pass_defs.specs.Bare.{writes};
-ghost use Rattle.pass_defs.specs.Flat.{Any, KnownWord, KnownWide, flat_literal, flat_binary, flat_stored};
+ghost use Rattle.pass_defs.specs.Flat.{KnownWord, KnownWide, flat_literal, flat_binary, flat_stored};
 ghost use Rattle.pass_defs.specs.Leaves.{may_leave};
-ghost use Rattle.pass_defs.specs.Foldable.{IsFoldable, constant_of};
+ghost use Rattle.pass_defs.specs.Foldable.{IsFoldable};
+ghost use Rattle.pass_defs.specs.Kinds.{Low, Reference, Fresh, is_below};
+ghost use Rattle.pass_defs.specs.Folded.{IsFolded, kind_written};
 ghost use Rattle.pass_defs.specs.Constants.{IsSolution, flat};
 ghost use Rattle.pass_defs.specs.Stale.{IsStale};
 ghost use Rattle.pass_defs.specs.Packed.{IsPacked};
@@ -29,7 +30,7 @@ ghost use Rattle.pass_defs.specs.Origins.{composed};
 ghost use Rattle.pass_defs.specs.Loose.{KnowsCalls, AreLoose, is_alone, concerns, is_plain_call, new_key, shorty};
 ghost use Rattle.pass_defs.specs.Bindable.{IsBindable, package_of, may_access, may_rebind};
 ghost use Rattle.pass_defs.specs.Site.{all_inlined, IsSite};
-ghost use Rattle.pass_defs.specs.PassExamples.{spins, spin_key, hides_q, inherits_q, nothing_key, app_type, lib_type, in_library, found_in, extends_interface, rebinds, rebinds_caller, rebinds_method, both_call_q, n_of, gives_q, caller_m, caller_n, sizes_of, branches_over, branches_next, at, q_key, adds, knows_sum, reads_copy, copy_is_old, needs_both, skips_one, drops_q, state_with, says};
+ghost use Rattle.pass_defs.specs.PassExamples.{spins, hides_q, inherits_q, nothing_key, app_type, lib_type, in_library, found_in, extends_interface, rebinds, rebinds_caller, rebinds_method, both_call_q, n_of, gives_q, caller_m, caller_n, sizes_of, branches_over, branches_next, at, q_key, adds, adds_three, knows_five, five_given, sum_typed, knows_sum, reads_copy, copy_is_old, needs_both, skips_one, drops_q, state_with, says};
 ghost use Rattle.pass_defs.specs.SiteExamples.{by_number, gives_by_number, m_inlined};
 ghost use Rattle.pass_defs.specs.LooseExamples.{needs_no_receiver, loose_program, is_q};
 
@@ -118,6 +119,21 @@ pub fn origins_are_composed()
 pub fn a_sum_is_foldable()
     ensures closed { IsSolution adds (keeps_m to_int) knows_sum }
     ensures foldable { IsFoldable adds (keeps_m to_int) (m_key to_int) 1 }
+{}
+
+/// The sum may become a constant in place.
+pub fn a_sum_may_become_a_constant()
+    ensures { IsFolded adds (with_m to_int adds_three) sum_typed five_given (λ n q. ⊥) adds_three knows_five }
+{}
+
+/// A constant's kind is at or below what the form writes: 0 alone among references, a wide one of wides, and none of an
+/// object that no constructor was called on.
+pub fn a_constant_keeps_the_kind()
+    ensures null { is_below adds (kind_written (form.Const 0 (pos 0))) Reference ≡ true }
+    ensures not_null { is_below adds (kind_written (form.Const 0 (pos 5))) Reference ≡ false }
+    ensures wide { is_below adds (kind_written (form.ConstWide 0 (pos 0))) Low ≡ true }
+    ensures narrow { is_below adds (kind_written (form.Const 0 (pos 0))) Low ≡ false }
+    ensures fresh { is_below adds (kind_written (form.Const 0 (pos 0))) (Fresh a_type 3) ≡ false }
 {}
 
 /// A read of a copy is stale where the original has the lower number; once the original was written it stays.

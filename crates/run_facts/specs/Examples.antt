@@ -1,5 +1,5 @@
 -- What the examples of `examples.rt` say of: a program without code, and an analysis that knows nothing of sums.
-use Rattle.std.specs.Prelude.{ℕ, ℤ, List, [], ◌∷◌, map, Option, Some, None}
+use Rattle.std.specs.Prelude.{ℕ, List, [], ◌∷◌, map, Some, None}
 use Rattle.program_model.specs.declared.program.Version.TheVariants.{V035}
 use Rattle.dalvik_defs.specs.Examples.{a_type, b_type, class, program}
 use Rattle.dalvik_defs.specs.declared.forms.Form.{Form}

@@ -35,7 +35,7 @@ image g (x ∷ xs) y (suc k) lt e =
 module _ (new : Change) (keeps : KeepsCode new) (p : NamedProgram) where
   -- each new body has a typing
   abbrev pub NewTyped : Type 0
-  NewTyped = (c : NamedClass) (m : NamedMethod) (b : NamedBody) → Contains p.classes c → Contains c.methods m → new c m ≡ Some b → (t : Table) × IsTyping p c m b t
+  NewTyped = (c : NamedClass) (m : NamedMethod) (b : NamedBody) → Contains p.classes c → Contains c.methods m → (new c m).body ≡ Some b → (t : Table) × IsTyping p c m b t
 
   typing_in : NewTyped → (c : NamedClass) (m : NamedMethod) (b : NamedBody) → Contains (map (class_changed new) p.classes) c → Contains c.methods m → m.body ≡ Some b → (t : Table) × IsTyping (changed new p) c m b t
   typing_in typed c m b i j e =
@@ -48,7 +48,7 @@ module _ (new : Change) (keeps : KeepsCode new) (p : NamedProgram) where
           let h = typed c r.0 b i r.1.0 (ap (λ x. x.body) r.1.1 ∙ e) in (
             h.0,
             subst (λ x. IsTyping (changed new p) (class_changed new c) x b h.0) r.1.1
-                (typing_moved p (changed new p) (others_alike new keeps p) c (map (method_changed new c) c.methods) r.0 (new c r.0) b h.0 h.1),
+                (typing_moved p (changed new p) (others_alike new keeps p) c (map (method_changed new c) c.methods) r.0 (new c r.0).body b h.0 h.1),
           )
 
   pub moved_typed : NewTyped → IsTyped (changed new p)

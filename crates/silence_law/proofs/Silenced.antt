@@ -13,7 +13,7 @@ use Rattle.dalvik_defs.specs.declared.program.NamedClass.{NamedClass}
 use Rattle.dalvik_defs.specs.declared.program.NamedProgram.{NamedProgram}
 use Rattle.dalvik_defs.specs.declared.tables.Framework.{Framework}
 use Rattle.pass_defs.specs.Typed.{Table, IsTyping, IsTyped}
-use Rattle.silence_law.specs.Bodies.{Change, method_changed, changed, KeepsCode}
+use Rattle.silence_law.specs.Bodies.{Change, same_lines, method_changed, changed, KeepsCode}
 use Rattle.silence_law.specs.Results.{AllTakeInPlace}
 use Rattle.silence_law.proofs.Faces.{face_same}
 use Rattle.silence_law.proofs.Moved.{moved_typed}
@@ -24,7 +24,7 @@ module _ (p : NamedProgram) (o : Outer) (admitted : MethodKey → Bool) where
   silent_if b x = elim b as (λ b. Option NamedBody) [ true ↦ option_map (silenced_body p o) x | false ↦ x ]
 
   abbrev silent : Change
-  silent c m = silent_if (admitted (key_in c m)) m.body
+  silent c m = same_lines m (silent_if (admitted (key_in c m)) m.body)
 
   still_coded : KeepsCode silent
   still_coded c m = by (admitted (key_in c m)) m.body

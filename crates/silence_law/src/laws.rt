@@ -17,12 +17,12 @@ ghost use Rattle.pass_defs.specs.Typed.{IsTyped, IsTyping, Table};
 ghost use Rattle.silence_law.specs.Bodies.{Change, changed, KeepsCode};
 ghost use Rattle.silence_law.specs.Results.{AllTakeInPlace};
 
-/// Where each method has code exactly if it had, a program with other bodies has the face that it had, and is typed where
+/// Where each method has code exactly if it had, a program with other bodies and source lines has the face that it had, and is typed where
 /// each new body has a typing in the program before.
 pub fn other_bodies_law()
     ensures face { (new : Change) → KeepsCode new → (p : NamedProgram) (f : Framework) → face_of (changed new p) f ≡ face_of p f }
     ensures typed { (new : Change) → KeepsCode new → (p : NamedProgram)
-        → ((c : NamedClass) (m : NamedMethod) (b : NamedBody) → Contains p.classes c → Contains c.methods m → new c m ≡ Some b → (t : Table) × IsTyping p c m b t)
+        → ((c : NamedClass) (m : NamedMethod) (b : NamedBody) → Contains p.classes c → Contains c.methods m → (new c m).body ≡ Some b → (t : Table) × IsTyping p c m b t)
         → IsTyped (changed new p) }
 {}
 

@@ -1,72 +1,92 @@
-//! Line tables.
-
-ghost use Rattle.std.specs.Prelude.{◌≡◌, ◌<◌, ◌^◌, true};
-ghost use Rattle.std.specs.List.{AllByRecursion};
-ghost use Rattle.line_tables.specs.Text.{AscendsFrom};
-
-use crate::texts::{bytes, halves, hex};
 use line_tables::{read_lines, write_lines};
-use row_text::{Unread, numbers};
-use std::alloc::Global;
+use std::alloc::{AllocError, Global};
+use std::test::*;
 
-/// Whether starts ascend strictly from this one, below 2 ^ 31.
-fn ascends(low: u32, starts: &[u32]) -> bool
-    ensures { result ≡ true → AscendsFrom low starts.now }
-{
-    match starts {
-        [] => true,
-        [first, rest @ ..] => {
-            low <= *first && *first < 0x8000_0000 && ascends(first.saturating_add(1), rest)
-        }
-    }
+#[test]
+fn an_entry_stands_where_the_line_changes(rt: HostRuntime) -> Result<(), Fail> {
+    let mut out = Vec::new(rt.alloc());
+    write_lines(&mut out, &[5, 5, 7], &[0, 1, 2], 0)?;
+    assert_eq!(rt; out.as_slice(), [0x05, 0x00, 0x0e, 0x2e, 0x00].as_slice());
+    let read = read_lines(rt.alloc(), &out, 0, &[0, 1, 2], 100)?;
+    assert_eq!(rt; read.opcodes, 3);
+    let lines = read.lines.ok_or("it is an item")?;
+    assert_eq!(rt; lines.as_slice(), [5, 5, 7].as_slice());
+    Ok(())
 }
 
-/// Whether all lines are below 2 ^ 31.
-fn are_low(lines: &[u32]) -> bool
-    ensures { result ≡ true → AllByRecursion (λ x. x < 2 ^ 31) lines.now }
-{
-    match lines {
-        [] => true,
-        [first, rest @ ..] => *first < 0x8000_0000 && are_low(rest),
-    }
+#[test]
+fn large_steps_have_opcodes_of_their_own(rt: HostRuntime) -> Result<(), Fail> {
+    let mut out = Vec::new(rt.alloc());
+    write_lines(&mut out, &[5, 100], &[0, 20], 0)?;
+    assert_eq!(rt;
+        out.as_slice(),
+        [0x05, 0x00, 0x0e, 0x02, 0xdf, 0x00, 0x01, 0x14, 0x0e, 0x00].as_slice()
+    );
+    let read = read_lines(rt.alloc(), &out, 0, &[0, 20], 5)?;
+    let lines = read.lines.ok_or("it is an item")?;
+    assert_eq!(rt; lines.as_slice(), [5, 100].as_slice());
+    Ok(())
 }
 
-/// The bytes of an item, behind a byte 0xff.
-fn written(
-    alloc: Global,
-    lines: &[u32],
-    starts: &[u32],
-    parameters: u32,
-) -> Result<String, Unread> {
-    if lines.len() != starts.len() || !ascends(0, starts) || !are_low(lines) {
-        return Err(Unread::Word);
-    }
-    let mut out = vec![in alloc; 0xff]?;
-    write_lines(&mut out, lines, starts, parameters)?;
-    Ok(hex(alloc, out.as_slice())?)
+#[test]
+fn parameters_have_no_names(rt: HostRuntime) -> Result<(), Fail> {
+    let mut out = vec![in rt.alloc(); 0xff]?;
+    write_lines(&mut out, &[0, 0, 300], &[0, 2, 3], 2)?;
+    assert_eq!(rt;
+        out.as_slice(),
+        [0xff, 0xac, 0x02, 0x02, 0x00, 0x00, 0x3b, 0x00].as_slice()
+    );
+    let read = read_lines(rt.alloc(), &out, 1, &[0, 2, 3], 100)?;
+    let lines = read.lines.ok_or("it is an item")?;
+    assert_eq!(rt; lines.as_slice(), [0, 0, 300].as_slice());
+    Ok(())
 }
 
-/// What is read of an item.
-fn read(alloc: Global, first: &[u32], bytes: &[u8], starts: &[u32]) -> Result<String, Unread> {
-    let [at, most] = first else {
-        return Err(Unread::Word);
-    };
-    let found = read_lines(alloc, bytes, *at as usize, starts, *most)?;
-    Ok(format!(in alloc; "{} {:?}", found.opcodes, found.lines)?)
+/// The opcodes that are read of an item that gives no lines.
+fn broken(alloc: Global, bytes: &[u8], most: u32) -> Result<Option<u64>, AllocError> {
+    let read = read_lines(alloc, bytes, 0, &[0, 1], most)?;
+    Ok(if read.lines.is_none() {
+        Some(read.opcodes)
+    } else {
+        None
+    })
 }
 
-/// `put-lines` PARAMETERS ; LINES ; STARTS, and `read-lines` PLACE MOST ; BYTES ; STARTS: how many opcodes are read, and
-/// the lines.
-pub(crate) fn answer(alloc: Global, name: &str, rest: &str) -> Result<String, Unread> {
-    let (first, rest) = halves(rest)?;
-    let (second, third) = halves(rest)?;
-    let first = numbers(alloc, first)?;
-    let starts = numbers(alloc, third)?;
-    if name == "read-lines" {
-        let bytes = bytes(alloc, second)?;
-        return read(alloc, first.as_slice(), bytes.as_slice(), starts.as_slice());
-    }
-    let lines = numbers(alloc, second)?;
-    let parameters = first.first().copied().unwrap_or(0);
-    written(alloc, lines.as_slice(), starts.as_slice(), parameters)
+#[test]
+fn what_breaks_an_item_leaves_no_lines(rt: HostRuntime) -> Result<(), Fail> {
+    assert_eq!(rt; broken(rt.alloc(), &[5, 0], 9)?, Some(0));
+    assert_eq!(rt; broken(rt.alloc(), &[5, 2, 0], 9)?, Some(0));
+    assert_eq!(rt; broken(rt.alloc(), &[5, 0, 7, 8, 9, 0], 3)?, Some(3));
+    assert_eq!(rt; broken(rt.alloc(), &[5, 0, 7, 8, 9, 0, 0], 3)?, Some(4));
+    assert_eq!(rt;
+        broken(
+            rt.alloc(),
+            &[5, 0, 7, 1, 0xff, 0xff, 0xff, 0xff, 0xff, 0, 0],
+            9
+        )?,
+        Some(2)
+    );
+    assert_eq!(rt;
+        broken(rt.alloc(), &[5, 0, 1, 0xff, 0xff, 0xff, 0xff, 0x0f, 0], 9)?,
+        Some(1)
+    );
+    assert_eq!(rt; broken(rt.alloc(), &[5, 0, 2, 0x7a, 0], 9)?, Some(1));
+    assert_eq!(rt; broken(rt.alloc(), &[4, 0, 10, 0], 9)?, Some(1));
+    assert_eq!(rt;
+        broken(rt.alloc(), &[0x80, 0x80, 0x80, 0x80, 0x08, 0, 0], 9)?,
+        Some(0)
+    );
+    Ok(())
+}
+
+#[test]
+fn reading_ends_behind_the_last_start(rt: HostRuntime) -> Result<(), Fail> {
+    let read = read_lines(rt.alloc(), &[5, 0, 0x0e, 0x2d, 0x01], 0, &[0], 9)?;
+    assert_eq!(rt; read.opcodes, 2);
+    let lines = read.lines.ok_or("the rest isn't read")?;
+    assert_eq!(rt; lines.as_slice(), [5].as_slice());
+    let read = read_lines(rt.alloc(), &[5, 0, 0x0e, 0x01], 0, &[], 9)?;
+    assert_eq!(rt; read.opcodes, 1);
+    assert!(rt; read.lines.is_some());
+    Ok(())
 }

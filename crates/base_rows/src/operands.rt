@@ -1,47 +1,74 @@
-//! What instructions say of themselves.
+use insn_set::{BinaryOp, Insn, InvokeKind};
+use seq::{Seq, Words};
+use std::test::*;
 
-use crate::flows::told_body;
-use program_model::{Insn, Program};
-use row_text::{Unread, numbers};
-use std::alloc::Global;
-
-/// The first instruction of the code that was told of.
-fn first_insn(program: &Program) -> Result<&Insn, Unread> {
-    match told_body(program)?.insns.items.first() {
-        Some(insn) => Ok(insn),
-        None => Err(Unread::Word),
+#[test]
+fn gotos_grow_with_their_distance(rt: HostRuntime) {
+    let goto = Insn::Goto { target: 0 };
+    for (distance, units) in [
+        (0, 3),
+        (127, 1),
+        (128, 2),
+        (-128, 1),
+        (-129, 2),
+        (32_767, 2),
+        (32_768, 3),
+    ] {
+        assert_eq!(rt; goto.units(distance), units);
     }
 }
 
-/// A distance, which may be below 0.
-fn distance(word: &str) -> Result<i64, Unread> {
-    match word.parse::<i64>() {
-        Ok(number) => Ok(number),
-        Err(_) => Err(Unread::Word),
+#[test]
+fn constants_take_the_first_spelling_with_room(rt: HostRuntime) {
+    for (to, value, units) in [
+        (15, 7, 1),
+        (16, 7, 2),
+        (0, 8, 2),
+        (0, 0x7fff_0000, 2),
+        (0, 0x1_0001, 3),
+    ] {
+        let insn = Insn::Const { to, value };
+        assert_eq!(rt; insn.units(0), units);
+        assert!(rt; insn.encodable());
     }
+    assert!(rt; !Insn::Const { to: 256, value: 0 }.encodable());
 }
 
-/// Of the first instruction: `units` DISTANCE, `encodable`, `reads` and `writes` REGISTER, `throws`, `continues`, and
-/// `copied`: whether a copy equals it.
-pub(crate) fn answer(
-    alloc: Global,
-    program: &Program,
-    name: &str,
-    rest: &str,
-) -> Result<String, Unread> {
-    let insn = first_insn(program)?;
-    if name == "units" {
-        return Ok(format!(in alloc; "{}", insn.units(distance(rest)?))?);
+#[test]
+fn calls_take_five_nibbles_or_a_range(rt: HostRuntime) -> Result<(), Fail> {
+    for (words, encodable) in [
+        ([1, 15].as_slice(), true),
+        ([1, 16].as_slice(), false),
+        ([15, 16].as_slice(), true),
+        ([0, 1, 2, 3, 4, 5].as_slice(), true),
+        ([0, 1, 2, 3, 4, 6].as_slice(), false),
+    ] {
+        let call = Insn::Invoke {
+            kind: InvokeKind::Static,
+            method: 0,
+            args: Words::of_slice(rt.alloc(), words)?,
+        };
+        assert_eq!(rt; call.encodable(), encodable);
+        assert_eq!(rt; call.units(0), 3);
     }
-    let register = numbers(alloc, rest)?.first().copied().unwrap_or(0);
-    let answer = match name {
-        "encodable" => insn.encodable(),
-        "reads" => insn.reads(register),
-        "writes" => insn.writes(register),
-        "throws" => insn.may_throw(),
-        "continues" => insn.continues(),
-        "copied" => insn.clone()? == *insn,
-        _ => return Err(Unread::Word),
+    Ok(())
+}
+
+#[test]
+fn a_long_shift_reads_a_word(rt: HostRuntime) -> Result<(), Fail> {
+    let shift = Insn::Binary {
+        op: BinaryOp::ShlLong,
+        to: 0,
+        a: 2,
+        b: 4,
     };
-    Ok(format!(in alloc; "{answer}")?)
+    assert!(rt; shift.reads(3) && shift.reads(4) && !shift.reads(5));
+    assert!(rt; shift.writes(1) && !shift.may_throw() && shift.continues());
+    let switch = Insn::PackedSwitch {
+        on: 0,
+        first: 0,
+        targets: Seq::of_vec(Vec::from_slice(rt.alloc(), &[7, 9])?),
+    };
+    assert_eq!(rt; switch.clone()?, switch);
+    Ok(())
 }

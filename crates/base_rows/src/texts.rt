@@ -1,128 +1,246 @@
-//! Numbers and texts of a file.
-
 use dex_base::{
-    Text, adler, compare_units, read_sleb, read_text, read_u16, read_u32, read_uleb, write_sleb,
-    write_text, write_u16, write_u32, write_uleb,
+    BaseFault, Descriptor, Text, adler, compare_units, read_sleb, read_text, read_u16, read_u32,
+    read_uleb, split_descriptor, write_sleb, write_text, write_u16, write_u32, write_uleb,
 };
-use row_text::{Unread, numbers, short};
-use std::alloc::{AllocError, Global};
+use std::cmp::Ordering;
+use std::test::*;
 
-/// The two parts of a row's input.
-pub(crate) fn halves(rest: &str) -> Result<(&str, &str), Unread> {
-    match rest.split_once(" ; ") {
-        Some(parts) => Ok(parts),
-        None => Ok((rest, "")),
-    }
+#[test]
+fn numbers_of_up_to_five_bytes_are_read(rt: HostRuntime) {
+    assert!(rt; matches!(read_uleb(&[0x80, 0x7f], 0), Ok((16256, 2))));
+    assert!(rt; matches!(read_uleb(&[0x80, 0x00], 0), Ok((0, 2))));
+    assert!(rt;
+        matches!(
+            read_uleb(&[7, 0xff, 0xff, 0xff, 0xff, 0x0f], 1),
+            Ok((0xffff_ffff, 6))
+        )
+    );
+    assert!(rt;
+        matches!(
+            read_uleb(&[0xff, 0xff, 0xff, 0xff, 0x7f], 0),
+            Ok((0xffff_ffff, 5))
+        )
+    );
+    assert!(rt; matches!(read_sleb(&[0x80, 0x7f], 0), Ok((-128, 2))));
+    assert!(rt; matches!(read_sleb(&[0x7f], 0), Ok((-1, 1))));
+    assert!(rt;
+        matches!(
+            read_sleb(&[0x80, 0x80, 0x80, 0x80, 0x78], 0),
+            Ok((-0x8000_0000, 5))
+        )
+    );
 }
 
-/// A place in bytes.
-pub(crate) fn place(word: &str) -> Result<usize, Unread> {
-    match word.parse::<usize>() {
-        Ok(place) => Ok(place),
-        Err(_) => Err(Unread::Word),
-    }
+#[test]
+fn a_number_that_ends_nowhere_is_refused(rt: HostRuntime) {
+    assert!(rt;
+        matches!(
+            read_uleb(&[0xff, 0xff, 0xff, 0xff, 0xff], 0),
+            Err(BaseFault::LongLeb { at: 4 })
+        )
+    );
+    assert!(rt;
+        matches!(
+            read_sleb(&[0, 0xff, 0xff, 0xff, 0xff, 0xff], 1),
+            Err(BaseFault::LongLeb { at: 5 })
+        )
+    );
+    assert!(rt; matches!(read_uleb(&[0x80, 0x80], 0), Err(BaseFault::Short { at: 0 })));
+    assert!(rt; matches!(read_uleb(&[0], 1), Err(BaseFault::Short { at: 1 })));
+    assert!(rt;
+        matches!(
+            read_sleb(&[0], usize::MAX),
+            Err(BaseFault::Short { at: usize::MAX })
+        )
+    );
 }
 
-/// The bytes of these numbers.
-pub(crate) fn bytes(alloc: Global, words: &str) -> Result<Vec<u8>, Unread> {
-    let mut found = Vec::new(alloc);
-    for number in &numbers(alloc, words)? {
-        found.push((*number % 256) as u8)?;
-    }
-    Ok(found)
+#[test]
+fn numbers_are_written_with_few_bytes(rt: HostRuntime) -> Result<(), Fail> {
+    let mut out = Vec::new(rt.alloc());
+    write_uleb(&mut out, 16256)?;
+    write_uleb(&mut out, 0)?;
+    write_uleb(&mut out, 0xffff_ffff)?;
+    write_sleb(&mut out, -128)?;
+    write_sleb(&mut out, 64)?;
+    write_sleb(&mut out, -0x8000_0000)?;
+    assert_eq!(rt;
+        out.as_slice(),
+        [
+            0x80, 0x7f, 0, 0xff, 0xff, 0xff, 0xff, 0x0f, 0x80, 0x7f, 0xc0, 0, 0x80, 0x80, 0x80,
+            0x80, 0x78
+        ]
+        .as_slice()
+    );
+    Ok(())
 }
 
-/// The units of these numbers.
-pub(crate) fn units(alloc: Global, words: &str) -> Result<Vec<u16>, Unread> {
-    let mut found = Vec::new(alloc);
-    for number in &numbers(alloc, words)? {
-        found.push(short(*number))?;
-    }
-    Ok(found)
+#[test]
+fn words_are_little_endian(rt: HostRuntime) -> Result<(), Fail> {
+    let mut out = Vec::new(rt.alloc());
+    write_u16(&mut out, 0x1234)?;
+    write_u32(&mut out, 0x89ab_cdef)?;
+    assert_eq!(rt;
+        out.as_slice(),
+        [0x34, 0x12, 0xef, 0xcd, 0xab, 0x89].as_slice()
+    );
+    assert!(rt; matches!(read_u16(&out, 0), Ok(0x1234)));
+    assert!(rt; matches!(read_u32(&out, 2), Ok(0x89ab_cdef)));
+    assert!(rt; matches!(read_u32(&out, 3), Err(BaseFault::Short { at: 3 })));
+    assert!(rt;
+        matches!(
+            read_u16(&out, usize::MAX),
+            Err(BaseFault::Short { at: usize::MAX })
+        )
+    );
+    Ok(())
 }
 
-/// Bytes as two digits each.
-pub(crate) fn hex(alloc: Global, bytes: &[u8]) -> Result<String, AllocError> {
-    let mut out = String::new(alloc);
-    for byte in bytes {
-        let space = if out.is_empty() { "" } else { " " };
-        out.push_str(format!(in alloc; "{space}{byte:02x}")?.as_str())?;
-    }
-    Ok(out)
+#[test]
+fn the_checksum_is_adlers(rt: HostRuntime) {
+    assert_eq!(rt; adler(b"abc"), 0x024d_0127);
+    assert_eq!(rt; adler(b"Wikipedia"), 0x11e6_0398);
+    assert_eq!(rt; adler(b""), 1);
 }
 
-/// `uleb`, `sleb`, `word-16` and `word-32`: PLACE ; BYTES.
-pub(crate) fn read_number(alloc: Global, name: &str, rest: &str) -> Result<String, Unread> {
-    let (at, words) = halves(rest)?;
-    let at = place(at)?;
-    let bytes = bytes(alloc, words)?;
-    let bytes = bytes.as_slice();
-    match name {
-        "uleb" => Ok(format!(in alloc; "{:?}", read_uleb(bytes, at))?),
-        "sleb" => Ok(format!(in alloc; "{:?}", read_sleb(bytes, at))?),
-        "word-16" => Ok(format!(in alloc; "{:?}", read_u16(bytes, at))?),
-        _ => Ok(format!(in alloc; "{:?}", read_u32(bytes, at))?),
-    }
+/// `A`, zero, `é` and a surrogate pair, with the zero byte behind them.
+const SPELLED: [u8; 13] = [
+    0xff, 0x41, 0xc0, 0x80, 0xc3, 0xa9, 0xed, 0xa0, 0xbd, 0xed, 0xb8, 0x80, 0,
+];
+
+#[test]
+fn texts_are_written_and_read(rt: HostRuntime) -> Result<(), Fail> {
+    let short = Text::from_units(rt.alloc(), &[0x61, 0])?;
+    let mut out = Vec::new(rt.alloc());
+    write_text(&mut out, &short)?;
+    assert_eq!(rt; out.as_slice(), [0x61, 0xc0, 0x80, 0].as_slice());
+    let text = Text::from_units(rt.alloc(), &[0x41, 0, 0xe9, 0xd83d, 0xde00])?;
+    let mut out = vec![in rt.alloc(); 0xff]?;
+    write_text(&mut out, &text)?;
+    assert_eq!(rt; out.as_slice(), SPELLED.as_slice());
+    let (read, next) = read_text(rt.alloc(), &SPELLED, 1, 5)
+        .ok()
+        .ok_or("five units stand there")?;
+    assert_eq!(rt; next, 13);
+    assert_eq!(rt; compare_units(&read, &text), Ordering::Equal);
+    assert_eq!(rt; compare_units(&short, &text), Ordering::Greater);
+    Ok(())
 }
 
-/// A number that may have a sign, as 32 bits.
-fn signed(word: &str) -> Result<i32, Unread> {
-    match word.parse::<i32>() {
-        Ok(number) => Ok(number),
-        Err(_) => Err(Unread::Word),
-    }
+#[test]
+fn texts_that_cannot_continue_are_refused(rt: HostRuntime) {
+    assert!(rt;
+        matches!(
+            read_text(rt.alloc(), &SPELLED, 1, 4),
+            Err(BaseFault::BadText { at: 9 })
+        )
+    );
+    assert!(rt;
+        matches!(
+            read_text(rt.alloc(), &SPELLED, 1, 6),
+            Err(BaseFault::BadText { at: 12 })
+        )
+    );
+    assert!(rt;
+        matches!(
+            read_text(rt.alloc(), &SPELLED[..12], 1, 5),
+            Err(BaseFault::Short { at: 1 })
+        )
+    );
+    assert!(rt;
+        matches!(
+            read_text(rt.alloc(), &[0xc1, 0x81, 0], 0, 1),
+            Err(BaseFault::BadText { at: 0 })
+        )
+    );
+    assert!(rt;
+        matches!(
+            read_text(rt.alloc(), &[0xe0, 0x9f, 0], 0, 1),
+            Err(BaseFault::BadText { at: 1 })
+        )
+    );
+    assert!(rt;
+        matches!(
+            read_text(rt.alloc(), &[], 7, 0),
+            Err(BaseFault::Short { at: 7 })
+        )
+    );
 }
 
-/// `put-uleb`, `put-16` and `put-32` NUMBER, `put-sleb` NUMBER with a sign: the bytes that are written.
-pub(crate) fn written_number(alloc: Global, name: &str, rest: &str) -> Result<String, Unread> {
-    let mut out = Vec::new(alloc);
-    if name == "put-sleb" {
-        write_sleb(&mut out, signed(rest)?)?;
-        return Ok(hex(alloc, out.as_slice())?);
-    }
-    for number in &numbers(alloc, rest)? {
-        match name {
-            "put-uleb" => write_uleb(&mut out, *number)?,
-            "put-16" => write_u16(&mut out, short(*number))?,
-            _ => write_u32(&mut out, *number)?,
-        }
-    }
-    Ok(hex(alloc, out.as_slice())?)
+fn kind_of(rt: &HostRuntime, units: &[u16]) -> Result<Result<Descriptor, BaseFault>, Fail> {
+    let text = Text::from_units(rt.alloc(), units)?;
+    Ok(split_descriptor(&text))
 }
 
-/// The order of two texts.
-fn compared(alloc: Global, rest: &str) -> Result<String, Unread> {
-    let (a, b) = halves(rest)?;
-    let a = Text::from_vec(units(alloc, a)?);
-    let b = Text::from_vec(units(alloc, b)?);
-    Ok(format!(in alloc; "{:?}", compare_units(&a, &b))?)
+#[test]
+fn descriptors_say_their_type(rt: HostRuntime) -> Result<(), Fail> {
+    assert!(rt; matches!(kind_of(&rt, &[0x56])?, Ok(Descriptor::Void)));
+    assert!(rt; matches!(kind_of(&rt, &[0x49])?, Ok(Descriptor::Primitive(0x49))));
+    assert!(rt;
+        matches!(
+            kind_of(&rt, &[0x4c, 0x61, 0x2f, 0x24, 0x3b])?,
+            Ok(Descriptor::Class)
+        )
+    );
+    assert!(rt;
+        matches!(
+            kind_of(&rt, &[0x5b, 0x5b, 0x4a])?,
+            Ok(Descriptor::Array { depth: 2 })
+        )
+    );
+    assert!(rt;
+        matches!(
+            kind_of(&rt, &[0x4c, 0xd83d, 0xde00, 0x3b])?,
+            Ok(Descriptor::Class)
+        )
+    );
+    Ok(())
 }
 
-/// The text of so many units at a place: PLACE COUNT ; BYTES.
-fn text_at(alloc: Global, rest: &str) -> Result<String, Unread> {
-    let (at, words) = halves(rest)?;
-    let bytes = bytes(alloc, words)?;
-    match numbers(alloc, at)?.as_slice() {
-        [at, count] => {
-            let found = read_text(alloc, bytes.as_slice(), *at as usize, *count);
-            Ok(format!(in alloc; "{found:?}")?)
-        }
-        _ => Err(Unread::Word),
-    }
-}
-
-/// `adler` TEXT, in hexadecimal digits; `text` PLACE COUNT ; BYTES; `put-text` UNITS, behind a byte 0xff; `compare` UNITS ;
-/// UNITS.
-pub(crate) fn answer(alloc: Global, name: &str, rest: &str) -> Result<String, Unread> {
-    match name {
-        "adler" => Ok(format!(in alloc; "{:08x}", adler(rest.as_bytes()))?),
-        "text" => text_at(alloc, rest),
-        "compare" => compared(alloc, rest),
-        _ => {
-            let text = Text::from_vec(units(alloc, rest)?);
-            let mut out = vec![in alloc; 0xff]?;
-            write_text(&mut out, &text)?;
-            Ok(hex(alloc, out.as_slice())?)
-        }
-    }
+#[test]
+fn the_first_unit_that_cannot_continue_is_named(rt: HostRuntime) -> Result<(), Fail> {
+    assert!(rt; matches!(kind_of(&rt, &[])?, Err(BaseFault::BadDescriptor { at: 0 })));
+    assert!(rt;
+        matches!(
+            kind_of(&rt, &[0x5b, 0x56])?,
+            Err(BaseFault::BadDescriptor { at: 1 })
+        )
+    );
+    assert!(rt;
+        matches!(
+            kind_of(&rt, &[0x4c, 0x3b])?,
+            Err(BaseFault::BadDescriptor { at: 1 })
+        )
+    );
+    assert!(rt;
+        matches!(
+            kind_of(&rt, &[0x4c, 0x61])?,
+            Err(BaseFault::BadDescriptor { at: 2 })
+        )
+    );
+    assert!(rt;
+        matches!(
+            kind_of(&rt, &[0x4c, 0x61, 0x2f, 0x2f])?,
+            Err(BaseFault::BadDescriptor { at: 3 })
+        )
+    );
+    assert!(rt;
+        matches!(
+            kind_of(&rt, &[0x4c, 0xd83d, 0x3b])?,
+            Err(BaseFault::BadDescriptor { at: 2 })
+        )
+    );
+    assert!(rt;
+        matches!(
+            kind_of(&rt, &[0x49, 0x49])?,
+            Err(BaseFault::BadDescriptor { at: 1 })
+        )
+    );
+    assert!(rt;
+        matches!(
+            kind_of(&rt, &[0x5b; 256])?,
+            Err(BaseFault::BadDescriptor { at: 255 })
+        )
+    );
+    Ok(())
 }

@@ -1,7 +1,8 @@
 -- Where a class has a kept virtual method there is a class, and tests along a list of classes.
-use Rattle.std.proofs.Common.{◌≡◌, ℕ, zero, suc, ◌+◌, ◌<◌, Bool, true, false, true≢false, List, [], ◌∷◌, take, get_or, length, Option, Some, None, refl, sym, ap, subst, ◌∙◌, arith}
+use Rattle.std.proofs.Common.{◌≡◌, ℕ, zero, suc, ◌+◌, ◌<◌, ◌≤◌, Bool, true, false, true≢false, List, [], ◌∷◌, take, get_or, length, Option, Some, None, refl, sym, ap, subst, ◌∙◌, arith}
 use Rattle.std.specs.Prelude.{◌&&◌, ◌||◌, slice_get}
 use Rattle.std.specs.List.{list_any}
+use Rattle.std.proofs.lemmas.List.{take_all}
 use Rattle.program_model.specs.declared.program.Class.{Class}
 use Rattle.program_model.specs.declared.program.Program.{Program}
 use Rattle.program_model.specs.declared.pass.Outside.{Outside}
@@ -45,3 +46,6 @@ any_before t (x ∷ xs) (suc i) lt h e =
     by_test : (list_any t (take i xs) ≡ false → list_any t (take (i + 1) xs) ≡ false) → (b : Bool) → t x ≡ b → (b || list_any t (take i xs)) ≡ false → (t x || list_any t (take (i + 1) xs)) ≡ false
     by_test more true g k = absurd (true≢false k)
     by_test more false g k = ap (λ b. b || list_any t (take (i + 1) xs)) g ∙ more k
+
+pub any_none : (t : ℕ → Bool) (xs : List ℕ) (i : ℕ) → length xs ≤ i → list_any t (take i xs) ≡ false → false ≡ list_any t xs
+any_none t xs i le h = sym (ap (list_any t) (sym (take_all i xs le)) ∙ h)

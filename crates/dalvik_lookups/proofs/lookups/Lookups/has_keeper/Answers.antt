@@ -4,12 +4,12 @@ use Rattle.dalvik_lookups.specs.Views.{type_text}
 use Rattle.dalvik_lookups.specs.Reached.{keeps_over}
 use Rattle.dalvik_lookups.proofs.lookups.Lookups.has_keeper.Goals as goal
 
-pub returns-in_ok-found-clause-kept : goal.returns-in_ok-found-clause-kept
-returns-in_ok-found-clause-kept c = λ o q r u m h e.
+pub returns-clause-kept : goal.returns-clause-kept
+returns-clause-kept c = λ o q r u m h e.
     c.keeps_over_any.ensures.kept o q.name q.proto (record { right = r; outer = u; key_is = c.key_of_method-key.ensures.is c.args.self.now.program.now q e }) m h
 
-pub returns-in_ok-found-clause-is : goal.returns-in_ok-found-clause-is
-returns-in_ok-found-clause-is c = λ o q r u m h e.
+pub returns-clause-is : goal.returns-clause-is
+returns-clause-is c = λ o q r u m h e.
     let key = c.key_of_method-key.ensures.is c.args.self.now.program.now q e in
     c.in_ok-found.ensures.is o q.name q.proto (record { right = r; outer = u; key_is = key }) m h
     ∙ ap (list_any (keeps_over c.args.self.now.program.now c.args.self.now.framework.now o q.name q.proto (type_text c.args.self.now.types c.args.lower)))

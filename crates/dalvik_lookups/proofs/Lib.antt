@@ -14,6 +14,7 @@ pub mod Spelled
 pub mod Marked
 pub mod Empty
 pub mod Outward
+pub mod Keeping
 pub mod Facing
 pub mod Firsting
 pub mod Rising

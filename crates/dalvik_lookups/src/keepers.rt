@@ -1,6 +1,6 @@
 //! Kept virtual methods above a class: the framework that calls one on an object enters what the object's class finds.
 
-ghost use Rattle.std.specs.Prelude.{◌≡◌, Some, slice_get, IfOk};
+ghost use Rattle.std.specs.Prelude.{ℕ, ◌≡◌, Some, slice_get, IfOk};
 ghost use Rattle.std.specs.List.{list_any};
 ghost use Rattle.program_model.specs.declared.pass.Outside.{Outside};
 ghost use Rattle.program_model.specs.declared.pools.MethodName.{MethodName};

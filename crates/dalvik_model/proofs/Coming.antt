@@ -46,10 +46,10 @@ step_of l m steps s f e h r = record { right = h.right; state = r; early = h.ear
 
 -- a state that goes on, by its parts
 going : (n : Names) (script : List Move) (s : State) (f : Frame) → s.ended ≡ false → top_frame s.stack.items ≡ Some f
-    → state_of n script s ≡ On (world_of n s.world) (classes_of n.program s.statuses.items) (InMethod (frame_of n f) ∷ stack_of n (below_top s.stack.items)) (drop s.next script)
+    → state_of n script s ≡ On (world_of n s.world) (classes_of n.program s.statuses.items) (InMethod (frame_of n f) ∷ stack_of n script (below_top s.stack.items)) (drop s.next script)
 going n script s f on top =
-    ap (λ (b : Bool). elim b as (λ b. NamedState) [ true ↦ Ended | false ↦ On (world_of n s.world) (classes_of n.program s.statuses.items) (stack_of n s.stack.items) (drop s.next script) ]) on
-    ∙ ap (λ (ws : List Waiting). On (world_of n s.world) (classes_of n.program s.statuses.items) ws (drop s.next script)) (top_named n s.stack.items f top)
+    ap (λ (b : Bool). elim b as (λ b. NamedState) [ true ↦ Ended | false ↦ On (world_of n s.world) (classes_of n.program s.statuses.items) (stack_of n script s.stack.items) (drop s.next script) ]) on
+    ∙ ap (λ (ws : List Waiting). On (world_of n s.world) (classes_of n.program s.statuses.items) ws (drop s.next script)) (top_named n script s.stack.items f top)
 
 -- the frame has gone on already
 pub goes_next : (l : Lookups) (o : Outside) (floats : Floats) (script : List Move) (m : Memo) (steps : ℕ) (s : State) (f : Frame) → IsAhead l m steps s f effect.Goes → IsNext l steps script m s None (comes_of l o floats script s f (effect_outcome l s f effect.Goes))
@@ -91,12 +91,12 @@ lost_event l steps m old new e (Err x) b k h = record { beyond = b; undone = rec
 
 -- what is thrown goes down the stack from the frame on top
 pub came_new : (l : Lookups) (steps : ℕ) (s : State) (f : Frame) (o : Outside) (floats : Floats) (script : List Move) (m : Memo) (new : State) (class : ℕ) (r : Result (Option Event) AllocError) → top_frame s.stack.items ≡ Some f
-    → IfOk r (λ (e : Option Event). IsNext l steps script m new e (thrown_by l (thrown.New class) (world_in l s) (classes_in l s) (stack_in l s) (script_in script s))) → Came l steps s f o floats script m new (effect.Faults class) r
-came_new l steps s f o floats script m new class r top h = subst (λ (ws : List Waiting). IfOk r (λ (e : Option Event). IsNext l steps script m new e (thrown_by l (thrown.New class) (world_in l s) (classes_in l s) ws (script_in script s)))) (top_named (names_in l) s.stack.items f top) h
+    → IfOk r (λ (e : Option Event). IsNext l steps script m new e (thrown_by l (thrown.New class) (world_in l s) (classes_in l s) (stack_in l script s) (script_in script s))) → Came l steps s f o floats script m new (effect.Faults class) r
+came_new l steps s f o floats script m new class r top h = subst (λ (ws : List Waiting). IfOk r (λ (e : Option Event). IsNext l steps script m new e (thrown_by l (thrown.New class) (world_in l s) (classes_in l s) ws (script_in script s)))) (top_named (names_in l) script s.stack.items f top) h
 
 pub came_value : (l : Lookups) (steps : ℕ) (s : State) (f : Frame) (o : Outside) (floats : Floats) (script : List Move) (m : Memo) (new : State) (d : Datum) (r : Result (Option Event) AllocError) → top_frame s.stack.items ≡ Some f
-    → IfOk r (λ (e : Option Event). IsNext l steps script m new e (thrown_by l (thrown.Value d) (world_in l s) (classes_in l s) (stack_in l s) (script_in script s))) → Came l steps s f o floats script m new (effect.Throws d) r
-came_value l steps s f o floats script m new d r top h = subst (λ (ws : List Waiting). IfOk r (λ (e : Option Event). IsNext l steps script m new e (thrown_by l (thrown.Value d) (world_in l s) (classes_in l s) ws (script_in script s)))) (top_named (names_in l) s.stack.items f top) h
+    → IfOk r (λ (e : Option Event). IsNext l steps script m new e (thrown_by l (thrown.Value d) (world_in l s) (classes_in l s) (stack_in l script s) (script_in script s))) → Came l steps s f o floats script m new (effect.Throws d) r
+came_value l steps s f o floats script m new d r top h = subst (λ (ws : List Waiting). IfOk r (λ (e : Option Event). IsNext l steps script m new e (thrown_by l (thrown.Value d) (world_in l s) (classes_in l s) ws (script_in script s)))) (top_named (names_in l) script s.stack.items f top) h
 
 on_fine : (l : Lookups) (size : ℕ) (on : Option Datum) → IsOn l size on → FineMaybe (names_in l) size on
 on_fine l size None h = h
@@ -125,30 +125,30 @@ module _ (l : Lookups) (o : Outside) (floats : Floats) (script : List Move) (old
   n = names_in l
 
   -- an effect that lies ahead
-  comes_still : (e : Effect) (new : State) (g : Frame) → IsStill l old new f g → effect_of n e (world_in l new) (frame_of n g) ≡ form_effect l o floats old.world f → below_in l new ≡ below_in l old → new.statuses ≡ old.statuses → new.next ≡ old.next
+  comes_still : (e : Effect) (new : State) (g : Frame) → IsStill l old new f g → effect_of n e (world_in l new) (frame_of n g) ≡ form_effect l o floats old.world f → below_in l script new ≡ below_in l script old → new.statuses ≡ old.statuses → new.next ≡ old.next
       → comes_of l o floats script new g (effect_outcome l new g e) ≡ comes_of l o floats script old f (form_outcome l o floats old f)
   comes_still e new g still same below statuses next = λ i.
       comes_at l o floats script old (same i) (still.world i) (still.frame i) (below i) (classes_of l.program.now (statuses i).items) (drop (next i) script)
 
   -- a frame that has gone on
-  comes_goes : (new : State) (g : Frame) → effect_of n effect.Goes (world_in l new) (frame_of n g) ≡ form_effect l o floats old.world f → below_in l new ≡ below_in l old → new.statuses ≡ old.statuses → new.next ≡ old.next
+  comes_goes : (new : State) (g : Frame) → effect_of n effect.Goes (world_in l new) (frame_of n g) ≡ form_effect l o floats old.world f → below_in l script new ≡ below_in l script old → new.statuses ≡ old.statuses → new.next ≡ old.next
       → comes_of l o floats script new g (effect_outcome l new g effect.Goes) ≡ comes_of l o floats script old f (form_outcome l o floats old f)
   comes_goes new g same below statuses next =
       (λ i. (On (world_in l new) (classes_of l.program.now (statuses i).items) (InMethod (frame_of n g) ∷ below i) (drop (next i) script), None))
-      ∙ ap (λ (e : NamedEffect). comes_at l o floats script old e (world_in l old) (frame_of n f) (below_in l old) (classes_in l old) (script_in script old)) same
+      ∙ ap (λ (e : NamedEffect). comes_at l o floats script old e (world_in l old) (frame_of n f) (below_in l script old) (classes_in l old) (script_in script old)) same
 
   pub comes_reached : (steps : ℕ) (m : Memo) (e : Effect) (new : State) → (h : IsReached l floats steps m old new f e) → comes_of l o floats script new h.frame (effect_outcome l new h.frame e) ≡ comes_of l o floats script old f (form_outcome l o floats old f)
-  comes_reached steps m effect.Goes new h = comes_goes new h.frame (h.effect o) h.below h.statuses h.next
-  comes_reached steps m (effect.Faults class) new h = comes_still (effect.Faults class) new h.frame h.still (h.effect o) h.below h.statuses h.next
-  comes_reached steps m (effect.Throws d) new h = comes_still (effect.Throws d) new h.frame h.still (h.effect o) h.below h.statuses h.next
-  comes_reached steps m (effect.Gives value) new h = comes_still (effect.Gives value) new h.frame h.still (h.effect o) h.below h.statuses h.next
-  comes_reached steps m (effect.Calls kind method args) new h = comes_still (effect.Calls kind method args) new h.frame h.still (h.effect o) h.below h.statuses h.next
-  comes_reached steps m (effect.Makes to kind) new h = comes_still (effect.Makes to kind) new h.frame h.still (h.effect o) h.below h.statuses h.next
-  comes_reached steps m (effect.Reads item to field on) new h = comes_still (effect.Reads item to field on) new h.frame h.still (h.effect o) h.below h.statuses h.next
-  comes_reached steps m (effect.Writes field on value) new h = comes_still (effect.Writes field on value) new h.frame h.still (h.effect o) h.below h.statuses h.next
-  comes_reached steps m (effect.Locks d) new h = comes_still (effect.Locks d) new h.frame h.still (h.effect o) h.below h.statuses h.next
-  comes_reached steps m (effect.Unlocks d) new h = comes_still (effect.Unlocks d) new h.frame h.still (h.effect o) h.below h.statuses h.next
-  comes_reached steps m effect.Stuck new h = comes_still effect.Stuck new h.frame h.still (h.effect o) h.below h.statuses h.next
+  comes_reached steps m effect.Goes new h = comes_goes new h.frame (h.effect o) (h.below script) h.statuses h.next
+  comes_reached steps m (effect.Faults class) new h = comes_still (effect.Faults class) new h.frame h.still (h.effect o) (h.below script) h.statuses h.next
+  comes_reached steps m (effect.Throws d) new h = comes_still (effect.Throws d) new h.frame h.still (h.effect o) (h.below script) h.statuses h.next
+  comes_reached steps m (effect.Gives value) new h = comes_still (effect.Gives value) new h.frame h.still (h.effect o) (h.below script) h.statuses h.next
+  comes_reached steps m (effect.Calls kind method args) new h = comes_still (effect.Calls kind method args) new h.frame h.still (h.effect o) (h.below script) h.statuses h.next
+  comes_reached steps m (effect.Makes to kind) new h = comes_still (effect.Makes to kind) new h.frame h.still (h.effect o) (h.below script) h.statuses h.next
+  comes_reached steps m (effect.Reads item to field on) new h = comes_still (effect.Reads item to field on) new h.frame h.still (h.effect o) (h.below script) h.statuses h.next
+  comes_reached steps m (effect.Writes field on value) new h = comes_still (effect.Writes field on value) new h.frame h.still (h.effect o) (h.below script) h.statuses h.next
+  comes_reached steps m (effect.Locks d) new h = comes_still (effect.Locks d) new h.frame h.still (h.effect o) (h.below script) h.statuses h.next
+  comes_reached steps m (effect.Unlocks d) new h = comes_still (effect.Unlocks d) new h.frame h.still (h.effect o) (h.below script) h.statuses h.next
+  comes_reached steps m effect.Stuck new h = comes_still effect.Stuck new h.frame h.still (h.effect o) (h.below script) h.statuses h.next
 
 -- ---- where memory runs out
 
@@ -156,7 +156,7 @@ still_state : (l : Lookups) (floats : Floats) (steps : ℕ) (m : Memo) (old mid 
     → state_of (names_in l) script mid ≡ state_of (names_in l) script old
 still_state l floats steps m old mid f e script on top h still =
     going (names_in l) script mid h.frame h.ahead.on h.ahead.top
-    ∙ (λ i. On (still.world i) (classes_of l.program.now (h.statuses i).items) (InMethod (still.frame i) ∷ h.below i) (drop (h.next i) script))
+    ∙ (λ i. On (still.world i) (classes_of l.program.now (h.statuses i).items) (InMethod (still.frame i) ∷ h.below script i) (drop (h.next i) script))
     ∙ sym (going (names_in l) script old f on top)
 
 fruitless_by : (l : Lookups) (floats : Floats) (steps : ℕ) (m m' : Memo) (old mid new : State) (f : Frame) (e : Effect) → old.ended ≡ false → top_frame old.stack.items ≡ Some f → (h : IsReached l floats steps m old mid f e) → IsStill l old mid f h.frame → IsUndoneWith l steps m' mid new

@@ -135,7 +135,7 @@ reached l floats steps m m' old new f e r top kept t statuses next ended =
             running_acted l steps steps old new f g r.state (omega arith) a.sound a.more a.locks statuses t.stack a.frame (let position = same.position in omega (arith, low, position)));
       };
       effect = a.effect;
-      below = ap (λ (xs : List OwnWaiting). stack_of n (below_top xs)) t.stack ∙ ap (stack_of n) (below_changed old.stack.items f g top);
+      below = λ script. ap (λ (xs : List OwnWaiting). stack_of n script (below_top xs)) t.stack ∙ ap (stack_of n script) (below_changed old.stack.items f g top);
       statuses = statuses;
       next = next;
       still = unless e (IsStill l old new f g) f g old.world new.world a.left a.world (λ same world. record { world = world_same n old.world new.world (as_it_was old.world new.world world); frame = frame_same n f g same });
@@ -154,11 +154,11 @@ fine_same n size f g h c = record {
 same_state : (n : Names) (script : List Move) (old new : State) (f g : Frame) → IsSameWorld old.world new.world → frame_of n g ≡ frame_of n f → top_frame old.stack.items ≡ Some f → new.stack.items ≡ slice_set old.stack.items (length old.stack.items - 1) (waiting.Method g)
     → new.statuses ≡ old.statuses → new.next ≡ old.next → new.ended ≡ old.ended → state_of n script new ≡ state_of n script old
 same_state n script old new f g world frame top stack statuses next ended =
-    let entries : stack_of n new.stack.items ≡ stack_of n old.stack.items =
-    ap (stack_of n) stack ∙ topped_by n old.stack.items (waiting.Method f) (waiting.Method g) (top_there old.stack.items f top)
-    ∙ ap (λ (x : NamedFrame). InMethod x ∷ stack_of n (below_top old.stack.items)) frame
-    ∙ sym (top_named n old.stack.items f top) in
-    ap (λ (b : Bool). elim b as (λ b. NamedState) [ true ↦ Ended | false ↦ On (world_of n new.world) (classes_of n.program new.statuses.items) (stack_of n new.stack.items) (drop new.next script) ]) ended
+    let entries : stack_of n script new.stack.items ≡ stack_of n script old.stack.items =
+    ap (stack_of n script) stack ∙ topped_by n script old.stack.items (waiting.Method f) (waiting.Method g) (top_there old.stack.items f top)
+    ∙ ap (λ (x : NamedFrame). InMethod x ∷ stack_of n script (below_top old.stack.items)) frame
+    ∙ sym (top_named n script old.stack.items f top) in
+    ap (λ (b : Bool). elim b as (λ b. NamedState) [ true ↦ Ended | false ↦ On (world_of n new.world) (classes_of n.program new.statuses.items) (stack_of n script new.stack.items) (drop new.next script) ]) ended
     ∙ ap (λ (s : NamedState). elim old.ended as (λ b. NamedState) [ true ↦ Ended | false ↦ s ]) (λ i. On (world_same n old.world new.world (as_it_was old.world new.world world) i) (classes_of n.program (statuses i).items) (entries i) (drop (next i) script))
 
 pub unreached : (l : Lookups) (steps : ℕ) (m m' : Memo) (old new : State) (f : Frame) → IsRun l m steps old → top_frame old.stack.items ≡ Some f → IsKept l m' → IsTopped (IsUndoneIn old.world new.world f) old.stack.items new.stack.items

@@ -60,7 +60,7 @@ back_fine l w g None e h = tt
 back_fine l w g (Some d) e h = subst (λ (spots : List Spot). IsFine (names_in l) (length spots) d) (sym (spots_none w g e)) h
 
 pub returned : (l : Lookups) (o : Outside) (floats : Floats) (script : List Move) (steps : ℕ) (s new : State) (f : Frame) (kind : Kind) (g : Gifts) (value : Option Datum) (r : Result (Option Event) AllocError) → type_text l.types kind ≡ (method_at l.program.now f.method).signature.result → g.things.items ≡ []
-    → IfOk r (λ (e : Option Event). IsEvent l steps script new e (gives (bodies_in l) (type_text l.types kind) (given_world (names_in l) s.world g) (classes_in l s) (option_map (value_of (names_in l)) value) (below_in l s) (script_in script s)))
+    → IfOk r (λ (e : Option Event). IsEvent l steps script new e (gives (bodies_in l) (type_text l.types kind) (given_world (names_in l) s.world g) (classes_in l s) (option_map (value_of (names_in l)) value) (below_in l script s) (script_in script s)))
     → IfOk r (λ (e : Option Event). IsEvent l steps script new e (comes_of l o floats script s f (Ends (option_map (value_of (names_in l)) value))))
 returned l o floats script steps s new f kind g value r result none h = subst (λ (to : Next). IfOk r (λ (e : Option Event). IsEvent l steps script new e to))
-    (λ i. gives (bodies_in l) (result i) (given_none (names_in l) s.world g none i) (classes_in l s) (option_map (value_of (names_in l)) value) (below_in l s) (script_in script s)) h
+    (λ i. gives (bodies_in l) (result i) (given_none (names_in l) s.world g none i) (classes_in l s) (option_map (value_of (names_in l)) value) (below_in l script s) (script_in script s)) h

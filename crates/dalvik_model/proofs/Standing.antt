@@ -71,7 +71,7 @@ method_top s e = by s.ended refl (last_of s.stack.items) refl e
     by false on (Some (waiting.Method f)) there e = record { frame = f; stands = record { on = on; there = there } }
     by false on (Some (waiting.Initialiser class above next)) there e = absurd (cc)
     by false on (Some (waiting.Ending class)) there e = absurd (cc)
-    by false on (Some (waiting.Outside owes)) there e = absurd (cc)
+    by false on (Some (waiting.Outside owes pending)) there e = absurd (cc)
 
 pub initialiser_top : (s : State) → top_in s ≡ tops.Initialiser → IsInitialiserTop s
 initialiser_top s e = by s.ended refl (last_of s.stack.items) refl e
@@ -82,7 +82,7 @@ initialiser_top s e = by s.ended refl (last_of s.stack.items) refl e
     by false on (Some (waiting.Method f)) there e = absurd (cc)
     by false on (Some (waiting.Initialiser class above next)) there e = record { class = class; above = above; next = next; stands = record { on = on; there = there } }
     by false on (Some (waiting.Ending class)) there e = absurd (cc)
-    by false on (Some (waiting.Outside owes)) there e = absurd (cc)
+    by false on (Some (waiting.Outside owes pending)) there e = absurd (cc)
 
 pub ending_top : (s : State) (class : ℕ) → top_in s ≡ tops.Ending class → IsTop s (waiting.Ending class)
 ending_top s class e = by s.ended refl (last_of s.stack.items) refl e
@@ -93,18 +93,18 @@ ending_top s class e = by s.ended refl (last_of s.stack.items) refl e
     by false on (Some (waiting.Method f)) there e = absurd (cc)
     by false on (Some (waiting.Initialiser other above next)) there e = absurd (cc)
     by false on (Some (waiting.Ending other)) there e = (let same : other ≡ class = cc in record { on = on; there = there ∙ ap (λ (c : ℕ). Some (waiting.Ending c)) same })
-    by false on (Some (waiting.Outside owes)) there e = absurd (cc)
+    by false on (Some (waiting.Outside owes pending)) there e = absurd (cc)
 
-pub outside_top : (s : State) (owes : Option Kind) → top_in s ≡ tops.Outside owes → IsTop s (waiting.Outside owes)
-outside_top s owes e = by s.ended refl (last_of s.stack.items) refl e
+pub outside_top : (s : State) (owes : Option Kind) (pending : Option ℕ) → top_in s ≡ tops.Outside owes pending → IsTop s (waiting.Outside owes pending)
+outside_top s owes pending e = by s.ended refl (last_of s.stack.items) refl e
   where
-    by : (b : Bool) → s.ended ≡ b → (o : Option OwnWaiting) → last_of s.stack.items ≡ o → top_by b o ≡ tops.Outside owes → IsTop s (waiting.Outside owes)
+    by : (b : Bool) → s.ended ≡ b → (o : Option OwnWaiting) → last_of s.stack.items ≡ o → top_by b o ≡ tops.Outside owes pending → IsTop s (waiting.Outside owes pending)
     by true on o there e = absurd (cc)
     by false on None there e = absurd (cc)
     by false on (Some (waiting.Method f)) there e = absurd (cc)
     by false on (Some (waiting.Initialiser class above next)) there e = absurd (cc)
     by false on (Some (waiting.Ending class)) there e = absurd (cc)
-    by false on (Some (waiting.Outside other)) there e = (let same : other ≡ owes = cc in record { on = on; there = there ∙ ap (λ (k : Option Kind). Some (waiting.Outside k)) same })
+    by false on (Some (waiting.Outside other place)) there e = (let same : other ≡ owes = cc in let at : place ≡ pending = cc in record { on = on; there = there ∙ (λ i. Some (waiting.Outside (same i) (at i))) })
 
 -- nothing is on top where the run has ended or the stack is empty
 got_there : (xs : List OwnWaiting) (i : ℕ) → i < length xs → slice_get xs i ≡ None → ⊥
@@ -123,19 +123,19 @@ pub nothing_top : (to : Setting) (find : Bodies) (n : Names) (script : List Move
 nothing_top to find n script s e = by s.ended refl (last_of s.stack.items) refl e
   where
     by : (b : Bool) → s.ended ≡ b → (o : Option OwnWaiting) → last_of s.stack.items ≡ o → top_by b o ≡ tops.Nothing → step to find (state_of n script s) ≡ quiet Ended
-    by true on o there e = ap (λ (b : Bool). step to find (state_by n script s b (stack_of n s.stack.items))) on
-    by false on None there e = (let none = no_last s.stack.items there in λ i. step to find (state_by n script s (on i) (stack_of n (none i))))
+    by true on o there e = ap (λ (b : Bool). step to find (state_by n script s b (stack_of n script s.stack.items))) on
+    by false on None there e = (let none = no_last s.stack.items there in λ i. step to find (state_by n script s (on i) (stack_of n script (none i))))
     by false on (Some (waiting.Method f)) there e = absurd (cc)
     by false on (Some (waiting.Initialiser class above next)) there e = absurd (cc)
     by false on (Some (waiting.Ending class)) there e = absurd (cc)
-    by false on (Some (waiting.Outside owes)) there e = absurd (cc)
+    by false on (Some (waiting.Outside owes pending)) there e = absurd (cc)
 
 -- a state that goes on, by its last entry
 on_top : (n : Names) (script : List Move) (s : State) (w : OwnWaiting) → s.ended ≡ false → last_of s.stack.items ≡ Some w
-    → state_of n script s ≡ On (world_of n s.world) (classes_of n.program s.statuses.items) (waiting_of n w ∷ stack_of n (below_top s.stack.items)) (drop s.next script)
+    → state_of n script s ≡ On (world_of n s.world) (classes_of n.program s.statuses.items) (waiting_of n script w ∷ stack_of n script (below_top s.stack.items)) (drop s.next script)
 on_top n script s w on top =
-    ap (λ (b : Bool). elim b as (λ b. NamedState) [ true ↦ Ended | false ↦ On (world_of n s.world) (classes_of n.program s.statuses.items) (stack_of n s.stack.items) (drop s.next script) ]) on
-    ∙ ap (λ (ws : List Waiting). On (world_of n s.world) (classes_of n.program s.statuses.items) ws (drop s.next script)) (popped_named n s.stack.items w top)
+    ap (λ (b : Bool). elim b as (λ b. NamedState) [ true ↦ Ended | false ↦ On (world_of n s.world) (classes_of n.program s.statuses.items) (stack_of n script s.stack.items) (drop s.next script) ]) on
+    ∙ ap (λ (ws : List Waiting). On (world_of n s.world) (classes_of n.program s.statuses.items) ws (drop s.next script)) (popped_named n script s.stack.items w top)
 
 module _ (s : Subject) (steps : ℕ) (p : Parts) (from : NamedState) (h : IsRunOf s steps p from) where
   abbrev l : Lookups
@@ -164,7 +164,7 @@ module _ (s : Subject) (steps : ℕ) (p : Parts) (from : NamedState) (h : IsRunO
 
   -- of what is on top
   pub stepped_on : (w : OwnWaiting) → p.state.ended ≡ false → last_of p.state.stack.items ≡ Some w → (m : Memo) (new : State) (r : Result (Option Event) AllocError)
-      → IfOk r (λ (e : Option Event). Steps m new e (On (world_in l p.state) (classes_in l p.state) (waiting_of (names_in l) w ∷ below_in l p.state) (script_in s.script p.state)))
+      → IfOk r (λ (e : Option Event). Steps m new e (On (world_in l p.state) (classes_in l p.state) (waiting_of (names_in l) s.script w ∷ below_in l s.script p.state) (script_in s.script p.state)))
       → IfOk r (λ (e : Option Event). IsStepped s steps (record p { memo = m; state = new }) e from)
   stepped_on w on top m new (Ok e) next = stepped m new e (subst (Steps m new e) (sym (on_top (names_in l) s.script p.state w on top)) next)
   stepped_on w on top m new (Err x) next = next
@@ -177,8 +177,8 @@ module _ (s : Subject) (steps : ℕ) (p : Parts) (from : NamedState) (h : IsRunO
   -- the frame on top names the type of an array where it makes one
   pub next_of : (f : Frame) → p.state.ended ≡ false → last_of p.state.stack.items ≡ Some (waiting.Method f) → MakesArray (bodies_for s) from → NamesNext l.program.now f
   next_of f on top makes =
-      let there : from ≡ On (world_in l p.state) (classes_in l p.state) (waiting_of (names_in l) (waiting.Method f) ∷ below_in l p.state) (script_in s.script p.state) = sym h.state ∙ on_top (names_in l) s.script p.state (waiting.Method f) on top in
-      let form = subst (λ (find : Bodies). MakesArray find (On (world_in l p.state) (classes_in l p.state) (waiting_of (names_in l) (waiting.Method f) ∷ below_in l p.state) (script_in s.script p.state))) (sym (same_bodies s p.tables h.tables)) (subst (MakesArray (bodies_for s)) there makes) in
+      let there : from ≡ On (world_in l p.state) (classes_in l p.state) (waiting_of (names_in l) s.script (waiting.Method f) ∷ below_in l s.script p.state) (script_in s.script p.state) = sym h.state ∙ on_top (names_in l) s.script p.state (waiting.Method f) on top in
+      let form = subst (λ (find : Bodies). MakesArray find (On (world_in l p.state) (classes_in l p.state) (waiting_of (names_in l) s.script (waiting.Method f) ∷ below_in l s.script p.state) (script_in s.script p.state))) (sym (same_bodies s p.tables h.tables)) (subst (MakesArray (bodies_for s)) there makes) in
       names_next l h.tables.right (length (spots_of p.state.world)) f (top_sound l steps p.state f (h.running on) (ap (option_and_then frame_in) top)) form
 
   -- nothing is on top: the run ends
@@ -196,7 +196,7 @@ module _ (s : Subject) (steps : ℕ) (p : Parts) (from : NamedState) (h : IsRunO
   class_low class t = let r = h.running t.on in (r.stack (length p.state.stack.items - 1) (waiting.Ending class) t.there).at 0 class refl
 
   -- a class ends
-  pub stepped_end : (class : ℕ) (new : State) → IsTop p.state (waiting.Ending class) → IsLeft l steps s.script new (ends (run_face l) (bodies_in l) (world_in l p.state) (classes_in l p.state) (class_text l.program.now class) (below_in l p.state) (script_in s.script p.state))
+  pub stepped_end : (class : ℕ) (new : State) → IsTop p.state (waiting.Ending class) → IsLeft l steps s.script new (ends (run_face l) (bodies_in l) (world_in l p.state) (classes_in l p.state) (class_text l.program.now class) (below_in l s.script p.state) (script_in s.script p.state))
       → IsStepped s steps (record p { state = new }) None from
   stepped_end class new t left = stepped_on (waiting.Ending class) t.on t.there p.memo new (Ok None) (record { event = record { left = left; shown = refl }; kept = h.kept })
 

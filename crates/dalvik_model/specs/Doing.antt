@@ -1,5 +1,5 @@
 -- What the instruction of the frame on top does, before its effect reaches the stack.
-use Rattle.std.specs.Prelude.{ℕ, ◌≡◌, ◌+◌, ◌<◌, ◌≤◌, ◌^◌, false, length, Some}
+use Rattle.std.specs.Prelude.{ℕ, ◌≡◌, ◌+◌, ◌<◌, ◌≤◌, ◌^◌, false, List, length, Some}
 use Rattle.insn_set.specs.declared.form.Insn.{Insn}
 use Rattle.program_model.specs.declared.pass.Outside.{Outside}
 use Rattle.program_model.specs.declared.program.Program.{Program}
@@ -7,6 +7,7 @@ use Rattle.dalvik_defs.specs.Effect.{Effect as NamedEffect}
 use Rattle.dalvik_defs.specs.Happens as name
 use Rattle.dalvik_defs.specs.Outcome.{Outcome, outcome}
 use Rattle.dalvik_defs.specs.Stack.{form_at}
+use Rattle.dalvik_defs.specs.declared.script.Move.{Move}
 use Rattle.dalvik_defs.specs.declared.tables.Floats.{Floats}
 use Rattle.dalvik_lookups.specs.Facing.{run_face}
 use Rattle.dalvik_lookups.specs.Tables.{IsRight}
@@ -104,7 +105,7 @@ pub record IsReached (l : Lookups) (floats : Floats) (steps : ℕ) (m : Memo) (o
   pub frame : Frame
   pub ahead : IsAhead l m steps new frame e
   pub effect : (o : Outside) → effect_of (names_in l) e (world_in l new) (frame_of (names_in l) frame) ≡ form_effect l o floats old.world f
-  pub below : below_in l new ≡ below_in l old
+  pub below : (script : List Move) → below_in l script new ≡ below_in l script old
   pub statuses : new.statuses ≡ old.statuses
   pub next : new.next ≡ old.next
   pub still : UnlessGoes e (IsStill l old new f frame)

@@ -1,5 +1,5 @@
 -- The state of a machine by names, after so many steps.
-use Rattle.std.specs.Prelude.{ℕ, ◌≡◌, ◌+◌, ◌<◌, ◌^◌, Bool, true, false, List, [], length, Option, Some, None}
+use Rattle.std.specs.Prelude.{ℕ, ◌≡◌, ◌+◌, ◌<◌, Bool, true, false, List, [], Option, Some, None}
 use Rattle.program_model.specs.declared.pass.Outside.{Outside}
 use Rattle.program_model.specs.declared.program.Program.{Program}
 use Rattle.program_model.specs.ProgramRules.{is_well_formed}
@@ -57,7 +57,6 @@ pub record AreTablesOf (s : Subject) (t : Tables) : Type 0 where
   pub reach : IsReach t.lookups s.outside
   pub floats : IsTable t.floats s.floats
   pub plays : ArePlays t.lookups.program.now t.lookups.types t.lookups.texts s.script t.plays.items
-  pub short : length s.script < 2 ^ 64
 
 -- a run that has made so many steps is at a state by names
 pub record IsRunOf (s : Subject) (steps : ℕ) (p : Parts) (to : NamedState) : Type 0 where
@@ -78,7 +77,7 @@ top_as None = top.Nothing
 top_as (Some (waiting.Method f)) = top.Method
 top_as (Some (waiting.Initialiser class above next)) = top.Initialiser
 top_as (Some (waiting.Ending class)) = top.Ending class
-top_as (Some (waiting.Outside owes)) = top.Outside owes
+top_as (Some (waiting.Outside owes pending)) = top.Outside owes pending
 
 -- of a run that hasn't ended
 abbrev pub top_by : Bool → Option Waiting → Top

@@ -1,6 +1,6 @@
 //! What comes of an instruction: what an effect does to the stack and the framework.
 
-ghost use Rattle.std.specs.Prelude.{ℕ, ◌≡◌, ◌<◌, ◌^◌, List, length, Some, IfOk, OnErr};
+ghost use Rattle.std.specs.Prelude.{ℕ, ◌≡◌, List, length, Some, IfOk, OnErr};
 ghost use Rattle.std.specs.Option.{option_map};
 ghost use Rattle.program_model.specs.declared.pass.Outside.{Outside};
 ghost use Rattle.dalvik_defs.specs.Outcome.{Ends};
@@ -137,7 +137,7 @@ fn comes<'a>(
     state: &mut State<'a>,
     effect: Effect<'a>,
 ) -> Result<Option<Event>, AllocError>
-    ensures ok { (o : Outside) (floats : Floats) (script : List Move) (steps : ℕ) (f : OwnFrame) → length script < 2 ^ 64 → IsAhead tables.now.lookups memo.old steps state.old f effect.entry
+    ensures ok { (o : Outside) (floats : Floats) (script : List Move) (steps : ℕ) (f : OwnFrame) → IsAhead tables.now.lookups memo.old steps state.old f effect.entry
         → IfOk result (λ e. IsNext tables.now.lookups steps script memo.new state.new e (comes_of tables.now.lookups o floats script state.old f (effect_outcome tables.now.lookups state.old f effect.entry))) }
     ensures err { (steps : ℕ) (f : OwnFrame) → IsAhead tables.now.lookups memo.old steps state.old f effect.entry → OnErr result (IsFruitless tables.now.lookups steps memo.new state.old state.new effect.entry) }
 {
@@ -183,7 +183,7 @@ pub fn happens<'a>(
     memo: &mut Memo,
     state: &mut State<'a>,
 ) -> Result<Option<Event>, AllocError>
-    ensures ok { (o : Outside) (floats : Floats) (script : List Move) (steps : ℕ) (f : OwnFrame) → length script < 2 ^ 64 → IsRun tables.now.lookups memo.old steps state.old → IsTable tables.now.floats floats → top_frame state.old.stack.items ≡ Some f → NamesNext tables.now.lookups.program.now f
+    ensures ok { (o : Outside) (floats : Floats) (script : List Move) (steps : ℕ) (f : OwnFrame) → IsRun tables.now.lookups memo.old steps state.old → IsTable tables.now.floats floats → top_frame state.old.stack.items ≡ Some f → NamesNext tables.now.lookups.program.now f
         → IfOk result (λ e. IsNext tables.now.lookups steps script memo.new state.new e (comes_of tables.now.lookups o floats script state.old f (form_outcome tables.now.lookups o floats state.old f))) }
     ensures err { (floats : Floats) (steps : ℕ) (f : OwnFrame) → IsRun tables.now.lookups memo.old steps state.old → IsTable tables.now.floats floats → top_frame state.old.stack.items ≡ Some f → NamesNext tables.now.lookups.program.now f
         → OnErr result (IsUndoneWith tables.now.lookups steps memo.new state.old state.new) }

@@ -44,7 +44,7 @@ enum Top {
     Method,
     Initialiser,
     Ending(u32),
-    Outside(Option<Kind>),
+    Outside(Option<Kind>, Option<usize>),
 }
 
 /// What stands on top of the stack of a run that hasn't ended.
@@ -58,7 +58,7 @@ fn top_of(state: &State<'_>) -> Top
         Some(Waiting::Method(_)) => Top::Method,
         Some(Waiting::Initialiser { .. }) => Top::Initialiser,
         Some(Waiting::Ending { class }) => Top::Ending(*class),
-        Some(Waiting::Outside { owes }) => Top::Outside(*owes),
+        Some(Waiting::Outside { owes, pending }) => Top::Outside(*owes, *pending),
         None => Top::Nothing,
     }
 }
@@ -74,7 +74,6 @@ fn tables_of<'a>(
 ) -> Result<Option<Tables<'a>>, AllocError>
     ensures { is_well_formed program.now ≡ true → IfOk result (AreTables (subject_of program.now outside.now framework.now floats.now script.now)) }
 {
-    let _count = script.len();
     let floats = FloatTable::new(alloc, floats)?;
     let made = Lookups::new(alloc, program, outside, framework, script)?;
     match made {
@@ -136,9 +135,14 @@ impl<'a> Parts<'a> {
                 ends(alloc, &self.tables, &mut self.state, class)?;
                 Ok(None)
             }
-            Top::Outside(owes) => {
-                moves(alloc, &self.tables, &mut self.memo, &mut self.state, owes)
-            }
+            Top::Outside(owes, pending) => moves(
+                alloc,
+                &self.tables,
+                &mut self.memo,
+                &mut self.state,
+                owes,
+                pending,
+            ),
         }
     }
 }

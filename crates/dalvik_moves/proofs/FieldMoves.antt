@@ -42,14 +42,14 @@ use Rattle.dalvik_state.specs.declared.world.World.{World as OwnWorld}
 use Rattle.dalvik_state.specs.Drafts.{gift_spots, given_world}
 use Rattle.dalvik_state.specs.Frames.{zero_in}
 use Rattle.dalvik_state.specs.Giving.{AreGiven, IsGiven, TakesMaybe}
-use Rattle.dalvik_state.specs.Runs.{classes_in, stack_in, IsEvent, IsNext}
+use Rattle.dalvik_state.specs.Runs.{classes_in, IsEvent, IsNext}
 use Rattle.dalvik_state.specs.States.{IsSound}
 use Rattle.dalvik_state.specs.Views.{Names, names_in, value_of, world_of, IsFine}
 use Rattle.dalvik_state.specs.Worlds.{spot_of, spots_of}
 use Rattle.dalvik_state.proofs.Fine.{fine_more, fine_zero}
 use Rattle.dalvik_steps.specs.Entries.{AreGivenFine}
 use Rattle.dalvik_steps.specs.Reaching.{FineMaybe, IsPut, Rewrites}
-use Rattle.dalvik_moves.specs.Moving.{counted, IsKeptField, IsMoving}
+use Rattle.dalvik_moves.specs.Moving.{freed_in, IsDone, IsKeptField, IsMoving}
 use Rattle.dalvik_moves.specs.Touching.{is_new, IsGot}
 use Rattle.dalvik_moves.proofs.KeptFields.{key_kept}
 use Rattle.dalvik_moves.proofs.Moved.{event_as, over_event, world_done}
@@ -234,18 +234,18 @@ instance_put l o k at field h old new on d b p = subst (λ (x : FieldKey). IsPut
 
 module _ (l : Lookups) (o : Outside) (m : Memo) (script : List Move) (steps : ℕ) (s : State) (owes : Option Kind) (first : Move) (rest : List Move) (h : IsMoving l o m script steps s owes first rest) (g : Gifts) (mid new : OwnWorld) (a : AreGiven l g s.world mid) where
   -- it is written, and the move is done
-  pub put_done : (to : Option World) → IsPut l mid new true to → IsEvent l steps script (counted (record s { world = new })) None (goes to (classes_in l s) (stack_in l s) rest)
-  put_done None p = absurd p
-  put_done (Some u) p =
+  pub put_done : (to : Option World) → IsPut l mid new true to → (left : State) → IsDone (record s { world = new }) left → IsEvent l steps script left None (goes to (classes_in l s) (freed_in l script s) rest)
+  put_done None p left done = absurd p
+  put_done (Some u) p left done =
       let more = gifts_more s.world g in
       let count = a.spots in
       let size : length (spots_of new) ≡ length (spots_of mid) = ap (λ x. length (map spot_of x.items)) p.heap in
-      event_as l steps script (counted (record s { world = new })) None (quiet (On (world_of (names_in l) new) (classes_in l s) (stack_in l s) rest)) (goes (Some u) (classes_in l s) (stack_in l s) rest)
-      (ap (λ (v : World). quiet (On v (classes_in l s) (stack_in l s) rest)) p.named)
-      (world_done l o m script steps s owes first rest new None h p.sound (omega (arith, more, count, size)) (p.locks ∙ a.locks))
+      event_as l steps script left None (quiet (On (world_of (names_in l) new) (classes_in l s) (freed_in l script s) rest)) (goes (Some u) (classes_in l s) (freed_in l script s) rest)
+      (ap (λ (v : World). quiet (On v (classes_in l s) (freed_in l script s) rest)) p.named)
+      (world_done l o m script steps s owes first rest new left None h p.sound (omega (arith, more, count, size)) (p.locks ∙ a.locks) done)
 
   -- there is no such field, and the run ends
-  pub put_over : (to : Option World) → IsPut l mid new false to → IsEvent l steps script (record (record s { world = new }) { ended = true }) None (goes to (classes_in l s) (stack_in l s) rest)
+  pub put_over : (to : Option World) → IsPut l mid new false to → IsEvent l steps script (record (record s { world = new }) { ended = true }) None (goes to (classes_in l s) (freed_in l script s) rest)
   put_over None p = over_event l steps script (record s { world = new })
   put_over (Some u) p = absurd p
 
@@ -255,9 +255,10 @@ pub moving_memo : (l : Lookups) (o : Outside) (m new : Memo) (script : List Move
 moving_memo l o m new script steps s owes first rest k h = record {
   run = record { right = h.run.right; kept = k; state = h.run.state; early = h.run.early; on = h.run.on };
   reach = h.reach;
+  place = h.place;
   top = h.top;
+  waits = h.waits;
   left = h.left;
-  short = h.short;
 }
 
 -- a state that is none other

@@ -48,15 +48,16 @@ use Rattle.dalvik_state.specs.declared.world.World.{World}
 use Rattle.dalvik_state.specs.Drafts.{give_all, gift_spots, given_things, given_world}
 use Rattle.dalvik_state.specs.Giving.{AreGiven, IsGiven}
 use Rattle.dalvik_state.specs.Runs.{below_in, bodies_in, classes_in, need_in, script_in, setting_in, stack_in, world_in, IsEvent, IsLeft, IsNext}
-use Rattle.dalvik_state.specs.States.{class_text, classes_of, stack_of, AreKinds, IsRunning, IsSoundFrame}
+use Rattle.dalvik_state.specs.States.{class_text, classes_of, pending_top, stack_of, AreKinds, IsRunning, IsSoundFrame}
 use Rattle.dalvik_state.specs.Views.{frame_of, names_in}
 use Rattle.dalvik_state.specs.Worlds.{new_spot, spots_of, IsShort, Spot}
-use Rattle.dalvik_state.proofs.Running.{one_paced, paced_pushed, pushed_named, running_held, running_more, running_of, running_paced, running_stack, sound_pushed, stack_more, AreHeld, ArePaced, AreSoundWaiting}
-use Rattle.dalvik_steps.specs.Entries.{HasFailed, IsStarted}
+use Rattle.dalvik_state.proofs.Running.{one_paced, paced_pushed, pending_paced, pending_sound, pushed_named, running_held, running_more, running_of, running_paced, running_stack, sound_pushed, stack_more, AreHeld, ArePaced, AreSoundWaiting}
+use Rattle.dalvik_steps.specs.Entries.{takes, HasFailed, IsStarted}
 use Rattle.dalvik_steps.specs.Turns.{IsAsItWas}
+use Rattle.dalvik_steps.proofs.Taking.{entered_by, not_entered}
 use Rattle.dalvik_steps.proofs.Undone.{sound_same, world_same}
-use Rattle.dalvik_moves.specs.Moving.{counted, IsMember, IsMoving, MemberMaybe}
-use Rattle.dalvik_moves.proofs.Moved.{counted_left, state_on, top_owes}
+use Rattle.dalvik_moves.specs.Moving.{freed_in, IsMember, IsMoving, MemberMaybe}
+use Rattle.dalvik_moves.proofs.Moved.{freed_named, freed_owes, state_on, top_owes}
 
 -- ---- look-ups that were kept
 
@@ -65,9 +66,10 @@ pub moves_with : (l : Lookups) (o : OwnOutside) (m k : Memo) (script : List Move
 moves_with l o m k script steps s owes first rest h kept = record {
   run = record { right = h.run.right; kept = kept; state = h.run.state; early = h.run.early; on = h.run.on };
   reach = h.reach;
+  place = h.place;
   top = h.top;
+  waits = h.waits;
   left = h.left;
-  short = h.short;
 }
 
 -- ---- the objects of a move, where only room was made
@@ -87,12 +89,12 @@ gifts_from l g old mid new same h = record {
 
 -- ---- a frame on top
 
--- the objects are given, the frame stands on the others, and the move is counted
+-- the objects are given, the move is done, and the frame stands on the others
 pub record IsFrameOn (l : Lookups) (g : Gifts) (f : Frame) (old new : State) : Type 0 where
   pub given : AreGiven l g old.world new.world
-  pub stack : new.stack.items ≡ old.stack.items ++ waiting.Method f ∷ []
+  pub stack : new.stack.items ≡ pending_top None old.stack.items ++ waiting.Method f ∷ []
   pub statuses : new.statuses ≡ old.statuses
-  pub next : new.next ≡ min (old.next + 1) 18446744073709551615
+  pub next : new.next ≡ old.next
   pub ended : new.ended ≡ old.ended
 
 module _ (l : Lookups) (o : OwnOutside) (m : Memo) (script : List Move) (steps : ℕ) (old : State) (owes : Option Kind) (first : Move) (rest : List Move) (h : IsMoving l o m script steps old owes first rest) where
@@ -105,24 +107,25 @@ module _ (l : Lookups) (o : OwnOutside) (m : Memo) (script : List Move) (steps :
       let run = running_more l steps old h.run.state in
       running_of l (steps + 1) new r.given.sound (ap (λ v. length v.items) r.statuses ∙ h.run.state.classes)
       (subst (AreSoundWaiting l size) (sym r.stack)
-      (sound_pushed l size old.stack.items (waiting.Method f) (stack_more l (length (spots_of old.world)) size old.stack.items low (running_stack l (steps + 1) old run)) (subst (λ (k : ℕ). IsSoundFrame l k f) (sym r.given.spots) sound)))
+      (sound_pushed l size (pending_top None old.stack.items) (waiting.Method f) (pending_sound l size None old.stack.items (stack_more l (length (spots_of old.world)) size old.stack.items low (running_stack l (steps + 1) old run))) (subst (λ (k : ℕ). IsSoundFrame l k f) (sym r.given.spots) sound)))
       (subst (ArePaced (2 ^ 32 + (steps + 1))) (sym r.stack)
-      (paced_pushed (2 ^ 32 + (steps + 1)) old.stack.items (waiting.Method f) (running_paced l (steps + 1) old run) (one_paced (2 ^ 32 + (steps + 1)) f (omega (arith, start)))))
+      (paced_pushed (2 ^ 32 + (steps + 1)) (pending_top None old.stack.items) (waiting.Method f) (pending_paced (2 ^ 32 + (steps + 1)) None old.stack.items (running_paced l (steps + 1) old run)) (one_paced (2 ^ 32 + (steps + 1)) f (omega (arith, start)))))
       (subst (λ x. AreHeld (steps + 1) x.entries) (sym r.given.locks) (running_held l (steps + 1) old run))
 
   pub frame_on : (g : Gifts) (f : Frame) (new : State) → IsSoundFrame l (length (gift_spots old.world g)) f → f.position ≡ 0 → IsFrameOn l g f old new
-      → IsEvent l steps script new None (quiet (On (given_world (names_in l) old.world g) (classes_in l old) (InMethod (frame_of (names_in l) f) ∷ stack_in l old) rest))
+      → IsEvent l steps script new None (quiet (On (given_world (names_in l) old.world g) (classes_in l old) (InMethod (frame_of (names_in l) f) ∷ freed_in l script old) rest))
   frame_on g f new sound start r =
       let n = names_in l in
       let w = given_world n old.world g in
       record {
         left = record {
           state = state_on l script new (r.ended ∙ h.run.on)
-              ∙ ap (λ (v : NamedWorld). On v (classes_in l new) (stack_in l new) (script_in script new)) r.given.world
-              ∙ ap (λ v. On w (classes_of l.program.now v.items) (stack_in l new) (script_in script new)) r.statuses
-              ∙ ap (λ (ws : List Waiting). On w (classes_in l old) (stack_of n ws) (script_in script new)) r.stack
-              ∙ ap (λ (ws : List NamedWaiting). On w (classes_in l old) ws (script_in script new)) (pushed_named n old.stack.items (waiting.Method f))
-              ∙ ap (λ (ms : List Move). On w (classes_in l old) (InMethod (frame_of n f) ∷ stack_in l old) ms) (ap (λ (k : ℕ). drop k script) r.next ∙ counted_left script old.next first rest h.short h.left);
+              ∙ ap (λ (v : NamedWorld). On v (classes_in l new) (stack_in l script new) (script_in script new)) r.given.world
+              ∙ ap (λ v. On w (classes_of l.program.now v.items) (stack_in l script new) (script_in script new)) r.statuses
+              ∙ ap (λ (ws : List Waiting). On w (classes_in l old) (stack_of n script ws) (script_in script new)) r.stack
+              ∙ ap (λ (ws : List NamedWaiting). On w (classes_in l old) ws (script_in script new)) (pushed_named n script (pending_top None old.stack.items) (waiting.Method f))
+              ∙ ap (λ (ws : List NamedWaiting). On w (classes_in l old) (InMethod (frame_of n f) ∷ ws) (script_in script new)) (freed_named l o m script steps old owes first rest h (pending_top None old.stack.items) refl)
+              ∙ ap (λ (ms : List Move). On w (classes_in l old) (InMethod (frame_of n f) ∷ freed_in l script old) ms) (ap (λ (k : ℕ). drop k script) r.next ∙ h.left);
           running = λ e. frame_runs g f new sound start r;
         };
         shown = refl;
@@ -134,43 +137,44 @@ module _ (l : Lookups) (w : NamedWorld) (classes : Classes) (key own : MethodKey
   by_own : enters (bodies_in l) w classes own registers stack rest ≡ enters (bodies_in l) w classes key vs stack rest
   by_own = λ i. enters (bodies_in l) w classes (sym same i) (sym all i) stack rest
 
-  pub enters_named : (f : NamedFrame) (b : NamedBody) → bodies_in l own ≡ Some b → f ≡ entry_frame own registers b → quiet (On w classes (InMethod f ∷ stack) rest) ≡ quiet (enters (bodies_in l) w classes key vs stack rest)
-  enters_named f b found is =
+  pub enters_named : (f : NamedFrame) (b : NamedBody) → bodies_in l own ≡ Some b → takes (Some b) registers ≡ true → f ≡ entry_frame own registers b → quiet (On w classes (InMethod f ∷ stack) rest) ≡ quiet (enters (bodies_in l) w classes key vs stack rest)
+  enters_named f b found fits is =
       ap (λ (g : NamedFrame). quiet (On w classes (InMethod g ∷ stack) rest)) is
+      ∙ ap (λ (s : NamedState). quiet s) (sym (entered_by b w classes own registers stack rest fits))
       ∙ ap (λ (c : Option NamedBody). quiet (enters_body c w classes own registers stack rest)) (sym found)
       ∙ ap (λ (s : NamedState). quiet s) by_own
 
-  pub enters_none : bodies_in l own ≡ None → quiet (enters (bodies_in l) w classes key vs stack rest) ≡ quiet Ended
-  enters_none none = ap (λ (s : NamedState). quiet s) (sym by_own) ∙ ap (λ (c : Option NamedBody). quiet (enters_body c w classes own registers stack rest)) none
+  pub enters_none : takes (bodies_in l own) registers ≡ false → quiet (enters (bodies_in l) w classes key vs stack rest) ≡ quiet Ended
+  enters_none none = ap (λ (s : NamedState). quiet s) (sym by_own ∙ not_entered (bodies_in l own) w classes own registers stack rest none)
 
 -- ---- what a move that enters one does, by names
 
-module _ (s : Setting) (find : Bodies) (w v : NamedWorld) (classes : Classes) (f : Found) (gs : List Given) (vs : List Value) (stack : List NamedWaiting) (script rest : List Move) where
+module _ (s : Setting) (find : Bodies) (w v : NamedWorld) (classes : Classes) (f : Found) (gs : List Given) (vs : List Value) (waiting stack : List NamedWaiting) (rest : List Move) where
   abbrev now : Next
   now = quiet (enters find v classes f.key (spread vs) stack rest)
 
-  abbrev entered_by : Bool → Next
-  entered_by b = elim b as (λ b. Next) [
-    | true ↦ needs s find (need_of s.face classes f.key.class) w classes f.key.class stack script rest now
+  abbrev once_static : Bool → Next
+  once_static b = elim b as (λ b. Next) [
+    | true ↦ needs s find (need_of s.face classes f.key.class) w classes f.key.class waiting stack rest now
     | false ↦ now
   ]
 
-  pub entered_static : true ≡ is_static f.flags → needs s find (need_of s.face classes f.key.class) w classes f.key.class stack script rest now ≡ entered s find w classes f vs stack script rest v
-  entered_static e = ap entered_by e
+  pub entered_static : true ≡ is_static f.flags → needs s find (need_of s.face classes f.key.class) w classes f.key.class waiting stack rest now ≡ entered s find w classes f vs waiting stack rest v
+  entered_static e = ap once_static e
 
-  pub entered_plain : false ≡ is_static f.flags → now ≡ entered s find w classes f vs stack script rest v
-  entered_plain e = ap entered_by e
+  pub entered_plain : false ≡ is_static f.flags → now ≡ entered s find w classes f vs waiting stack rest v
+  entered_plain e = ap once_static e
 
   abbrev enter_by : NamedWorld × List Value → Bool → Next
-  enter_by a b = elim b as (λ b. Next) [ true ↦ entered s find w classes f a.1 stack script rest a.0 | false ↦ quiet Ended ]
+  enter_by a b = elim b as (λ b. Next) [ true ↦ entered s find w classes f a.1 waiting stack rest a.0 | false ↦ quiet Ended ]
 
-  enter_with : (b : Bool) → gets_all w gs ≡ (v, vs) → b ≡ may_enter s.face s.outer w v f gs vs → enter_by (v, vs) b ≡ enter s find w classes (Some f) gs stack script rest
+  enter_with : (b : Bool) → gets_all w gs ≡ (v, vs) → b ≡ may_enter s.face s.outer w v f gs vs → enter_by (v, vs) b ≡ enter s find w classes (Some f) gs waiting stack rest
   enter_with b got e = ap (enter_by (v, vs)) e ∙ ap (λ (a : NamedWorld × List Value). enter_by a (may_enter s.face s.outer w a.0 f gs a.1)) (sym got)
 
-  pub enter_legal : gets_all w gs ≡ (v, vs) → true ≡ may_enter s.face s.outer w v f gs vs → entered s find w classes f vs stack script rest v ≡ enter s find w classes (Some f) gs stack script rest
+  pub enter_legal : gets_all w gs ≡ (v, vs) → true ≡ may_enter s.face s.outer w v f gs vs → entered s find w classes f vs waiting stack rest v ≡ enter s find w classes (Some f) gs waiting stack rest
   enter_legal got e = enter_with true got e
 
-  pub enter_illegal : gets_all w gs ≡ (v, vs) → false ≡ may_enter s.face s.outer w v f gs vs → enter s find w classes (Some f) gs stack script rest ≡ quiet Ended
+  pub enter_illegal : gets_all w gs ≡ (v, vs) → false ≡ may_enter s.face s.outer w v f gs vs → enter s find w classes (Some f) gs waiting stack rest ≡ quiet Ended
   enter_illegal got e = sym (enter_with false got e)
 
 -- the method of a member that may be none
@@ -202,39 +206,10 @@ member_lacks l a at e there = by (slice_get l.program.now.classes at.class) refl
 
 -- ---- a class that is needed
 
--- a state that goes on, by its parts
-record GoesOnAs (b : Bool) (w v : NamedWorld) (c d : Classes) (k j : List NamedWaiting) (ms ns : List Move) : Type 0 where
-  pub on : b ≡ false
-  pub world : w ≡ v
-  pub classes : c ≡ d
-  pub stack : k ≡ j
-  pub left : ms ≡ ns
-
-goes_on_as : (b : Bool) (w v : NamedWorld) (c d : Classes) (k j : List NamedWaiting) (ms ns : List Move) → elim b as (λ b. NamedState) [ true ↦ Ended | false ↦ On w c k ms ] ≡ On v d j ns → GoesOnAs b w v c d k j ms ns
-goes_on_as true w v c d k j ms ns e = absurd (cc)
-goes_on_as false w v c d k j ms ns e = record { on = refl; world = cc; classes = cc; stack = cc; left = cc }
-
--- the next move is counted behind what was left
-pub event_counted_on : (l : Lookups) (steps : ℕ) (script : List Move) (s : State) (w : NamedWorld) (classes : Classes) (stack : List NamedWaiting) (first : Move) (rest : List Move) (e shown : Option Event)
-    → length script < 2 ^ 64 → IsEvent l steps script s e (On w classes stack (first ∷ rest), shown) → IsEvent l steps script (counted s) e (On w classes stack rest, shown)
-event_counted_on l steps script s w classes stack first rest e shown short h =
-    let p = goes_on_as s.ended (world_in l s) w (classes_in l s) classes (stack_in l s) stack (script_in script s) (first ∷ rest) h.left.state in
-    let left = counted_left script s.next first rest short p.left in
-    record {
-      left = record {
-        state = state_on l script (counted s) p.on ∙ (λ i. On (p.world i) (p.classes i) (p.stack i) (left i));
-        running = λ x. more (h.left.running x);
-      };
-      shown = h.shown;
-    }
-  where
-    more : IsRunning l (steps + 1) s → IsRunning l (steps + 1) (counted s)
-    more r = record { world = r.world; classes = r.classes; stack = r.stack; paced = r.paced; held = r.held }
-
 module _ (l : Lookups) (o : OwnOutside) (floats : Floats) (m k : Memo) (script : List Move) (steps : ℕ) (old new : State) (owes : Option Kind) (first : Move) (rest : List Move) (class : ℕ) (c : Text) (now : Next)
     (h : IsMoving l o m script steps old owes first rest) (same : class_text l.program.now class ≡ c) (kept : IsKept l k) where
   abbrev needs_by : Text → Need → Next
-  needs_by t need = needs (setting_in l o floats) (bodies_in l) need (world_in l old) (classes_in l old) t (stack_in l old) (first ∷ rest) rest now
+  needs_by t need = needs (setting_in l o floats) (bodies_in l) need (world_in l old) (classes_in l old) t (stack_in l script old) (freed_in l script old) rest now
 
   -- it is ready
   pub ready_needs : (s : State) (e : Option Event) → need_in l old (class_text l.program.now class) ≡ Ready → IsEvent l steps script s e now → IsNext l steps script k s e (needs_by c (need_in l old c))
@@ -242,37 +217,31 @@ module _ (l : Lookups) (o : OwnOutside) (floats : Floats) (m k : Memo) (script :
       subst (λ (t : Text). IsNext l steps script k s e (needs_by t (need_in l old t))) same
       (subst (λ (x : Need). IsNext l steps script k s e (needs_by (class_text l.program.now class) x)) (sym need) (record { event = event; kept = kept }))
 
-  -- it is new, and has been started: the move is tried again
+  -- it is new, and has been started: the move waits
   pub started_needs : IsStarted l steps script k old new class → IsNext l steps script k new None (needs_by c (need_in l old c))
   started_needs started =
       subst (λ (t : Text). IsNext l steps script k new None (needs_by t (need_in l old t))) same
       (subst (λ (x : Need). IsNext l steps script k new None (needs_by (class_text l.program.now class) x)) (sym started.need) (record {
         event = record {
-          left = subst (λ (ms : List Move). IsLeft l steps script new (starts (run_face l) (bodies_in l) (world_in l old) (classes_in l old) (class_text l.program.now class) (stack_in l old) ms)) h.left started.left;
+          left = subst (λ (ms : List Move). IsLeft l steps script new (starts (run_face l) (bodies_in l) (world_in l old) (classes_in l old) (class_text l.program.now class) (stack_in l script old) ms)) h.left started.left;
           shown = refl;
         };
         kept = kept;
       }))
 
   -- what is thrown comes to the framework, and the move is over
-  thrown_needs : (e : Option Event) → IsEvent l steps script new e (throws_new (run_face l) (bodies_in l) (world_in l old) (classes_in l old) no_class (stack_in l old) (script_in script old))
-      → IsEvent l steps script (counted new) e (throws_new (run_face l) (bodies_in l) (world_in l old) (classes_in l old) no_class (stack_in l old) rest)
-  thrown_needs e thrown =
-      let top = top_owes l o m script steps old owes first rest h in
+  thrown_freed : throws_new (run_face l) (bodies_in l) (world_in l old) (classes_in l old) no_class (stack_in l script old) (script_in script old) ≡ throws_new (run_face l) (bodies_in l) (world_in l old) (classes_in l old) no_class (freed_in l script old) rest
+  thrown_freed =
       let by : List NamedWaiting → List Move → Next = λ ws ms. throws_new (run_face l) (bodies_in l) (world_in l old) (classes_in l old) no_class ws ms in
-      let w : NamedWorld = with_thing (world_in l old) (fresh no_class) in
-      let s = show w throwable_type (next_object (world_in l old)) in
-      let stack : List NamedWaiting = Outside (option_map (type_text l.types) owes) ∷ below_in l old in
-      subst (λ (ws : List NamedWaiting). IsEvent l steps script (counted new) e (by ws rest)) (sym top)
-      (event_counted_on l steps script new s.0 (classes_in l old) stack first rest e (Some (event.Uncaught s.1)) h.short
-      (subst (λ (ws : List NamedWaiting). IsEvent l steps script new e (by ws (first ∷ rest))) top
-      (subst (λ (ms : List Move). IsEvent l steps script new e (by (stack_in l old) ms)) h.left thrown)))
+      ap (by (stack_in l script old)) h.left
+      ∙ ap (λ (ws : List NamedWaiting). by ws rest) (top_owes l o m script steps old owes first rest h)
+      ∙ ap (λ (ws : List NamedWaiting). by ws rest) (sym (freed_owes l o m script steps old owes first rest h))
 
   -- it has failed
-  pub failed_needs : (s : State) (e : Option Event) → s ≡ counted new → HasFailed l steps script k old new class e → IsNext l steps script k s e (needs_by c (need_in l old c))
-  failed_needs s e is failed =
+  pub failed_needs : (s : State) (e : Option Event) → HasFailed l steps script k old s class e → IsNext l steps script k s e (needs_by c (need_in l old c))
+  failed_needs s e failed =
       subst (λ (t : Text). IsNext l steps script k s e (needs_by t (need_in l old t))) same
       (subst (λ (x : Need). IsNext l steps script k s e (needs_by (class_text l.program.now class) x)) (sym failed.need) (record {
-        event = subst (λ (x : State). IsEvent l steps script x e (throws_new (run_face l) (bodies_in l) (world_in l old) (classes_in l old) no_class (stack_in l old) rest)) (sym is) (thrown_needs e failed.next.event);
+        event = subst (IsEvent l steps script s e) thrown_freed failed.next.event;
         kept = kept;
       }))

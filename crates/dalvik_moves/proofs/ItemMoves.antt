@@ -29,7 +29,7 @@ use Rattle.dalvik_state.specs.declared.state.State.{State}
 use Rattle.dalvik_state.specs.declared.world.World.{World as OwnWorld}
 use Rattle.dalvik_state.specs.Drafts.{give_all, given_things, given_world}
 use Rattle.dalvik_state.specs.Giving.{AreGiven, IsGivenFine}
-use Rattle.dalvik_state.specs.Runs.{classes_in, stack_in, IsEvent, IsNext}
+use Rattle.dalvik_state.specs.Runs.{classes_in, IsEvent, IsNext}
 use Rattle.dalvik_state.specs.States.{kind_within, IsFineKind, IsSound}
 use Rattle.dalvik_state.specs.Views.{Names, names_in, thing_of, value_of, values_of, world_of, IsFine}
 use Rattle.dalvik_state.specs.Worlds.{new_spot, shape_at, spots_of, put_shape, reshape_at, Array, Plain, Shape, Spot, IsHeap}
@@ -39,7 +39,7 @@ use Rattle.dalvik_state.proofs.Grown.{sound_put}
 use Rattle.dalvik_state.proofs.Things.{changed_named}
 use Rattle.dalvik_steps.specs.Turns.{IsAsItWas}
 use Rattle.dalvik_steps.proofs.Undone.{reserved_world, running_same, world_same}
-use Rattle.dalvik_moves.specs.Moving.{counted, exposed_in, item_in, IsMoving}
+use Rattle.dalvik_moves.specs.Moving.{exposed_in, freed_in, item_in, IsDone, IsMoving}
 use Rattle.dalvik_moves.specs.Touching.{kind_there}
 use Rattle.dalvik_moves.proofs.Moved.{event_as, world_done}
 use Rattle.dalvik_moves.proofs.Touched.{exposes, gifts_more, number_of, thing_here, Exposes, IsExposedAt}
@@ -92,9 +92,10 @@ pub moving_same : (l : Lookups) (steps : ℕ) (s : State) (w : OwnWorld) → IsA
 moving_same l steps s w h o m script owes first rest b = record {
   run = record { right = b.run.right; kept = b.run.kept; state = running_same l steps s (record s { world = w }) b.run.state (reserved_world s w h); early = b.run.early; on = b.run.on };
   reach = b.reach;
+  place = b.place;
   top = b.top;
+  waits = b.waits;
   left = b.left;
-  short = b.short;
 }
 
 pub next_same : (l : Lookups) (steps : ℕ) (script : List Move) (m : Memo) (s : State) (e : Option Event) (a b : Next) → a ≡ b → IsNext l steps script m s e a → IsNext l steps script m s e b
@@ -130,8 +131,8 @@ shape_same w place d kind e = by (shape_at (spots_of w) d) refl e
 
 module _ (l : Lookups) (o : Outside) (m : Memo) (script : List Move) (steps : ℕ) (s : State) (owes : Option Kind) (first : Move) (rest : List Move) (h : IsMoving l o m script steps s owes first rest) (g : Gifts) (mid new : OwnWorld) (a : AreGiven l g s.world mid) where
   pub item_put : (array : Datum) (place : ℕ) (d : Datum) (kind : Kind) (items : List Datum) → shape_at (spots_of s.world) array ≡ Some (Array kind items) → IsGivenFine l s.world g d → IsHeap mid new (reshape_at (put_shape place d) (spots_of mid) array)
-      → IsEvent l steps script (counted (record s { world = new })) None (quiet (On (put_thing (given_world (names_in l) s.world g) (value_of (names_in l) array) (Items (type_text l.types kind) (slice_set (values_of (names_in l) items) place (value_of (names_in l) d)))) (classes_in l s) (stack_in l s) rest))
-  item_put array place d kind items there fine e =
+      → (left : State) → IsDone (record s { world = new }) left → IsEvent l steps script left None (quiet (On (put_thing (given_world (names_in l) s.world g) (value_of (names_in l) array) (Items (type_text l.types kind) (slice_set (values_of (names_in l) items) place (value_of (names_in l) d)))) (classes_in l s) (freed_in l script s) rest))
+  item_put array place d kind items there fine e left done =
       let n = names_in l in
       let more = gifts_more s.world g in
       let count = a.spots in
@@ -143,9 +144,9 @@ module _ (l : Lookups) (o : Outside) (m : Memo) (script : List Move) (steps : �
       ∙ ap (λ (vs : List Value). put_thing (given_world n s.world g) (value_of n array) (Items (n.kind kind) vs)) (map-set (value_of n) found.items place d)
       ∙ ap (λ (vs : List Value). put_thing (given_world n s.world g) (value_of n array) (Items (n.kind kind) (slice_set vs place (value_of n d)))) found.values in
       let fine_now : IsFine n (length (spots_of mid)) d = subst (λ (k : ℕ). IsFine n k d) (sym a.spots) fine in
-      event_as l steps script (counted (record s { world = new })) None (quiet (On (world_of n new) (classes_in l s) (stack_in l s) rest)) _
-      (ap (λ (v : World). quiet (On v (classes_in l s) (stack_in l s) rest)) named)
-      (world_done l o m script steps s owes first rest new None h (sound_put l mid new array place d fine_now e a.sound) (omega (arith, more, count, size)) (e.locks ∙ a.locks))
+      event_as l steps script left None (quiet (On (world_of n new) (classes_in l s) (freed_in l script s) rest)) _
+      (ap (λ (v : World). quiet (On v (classes_in l s) (freed_in l script s) rest)) named)
+      (world_done l o m script steps s owes first rest new left None h (sound_put l mid new array place d fine_now e a.sound) (omega (arith, more, count, size)) (e.locks ∙ a.locks) done)
 
 -- ---- a value that fits an item, or not
 

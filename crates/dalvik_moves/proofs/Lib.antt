@@ -14,3 +14,4 @@ pub mod Shuffled
 pub mod Taken
 pub mod Thrown
 pub mod Touched
+pub mod Turned

@@ -135,7 +135,7 @@ module _ (l : Lookups) (steps : ℕ) (s : State) (w : OwnWorld) (h : IsShuffled 
 
   pub undone_shuffled : IsRunning l steps s → s.ended ≡ false → IsUndone l steps s (record s { world = w })
   undone_shuffled r on = record {
-    state = λ script. ap (λ (u : World). elim s.ended as (λ b. NamedState) [ true ↦ Ended | false ↦ On u (classes_in l s) (stack_in l s) (script_in script s) ]) (world_shuffled (names_in l) s.world w h);
+    state = λ script. ap (λ (u : World). elim s.ended as (λ b. NamedState) [ true ↦ Ended | false ↦ On u (classes_in l s) (stack_in l script s) (script_in script s) ]) (world_shuffled (names_in l) s.world w h);
     running = running_shuffled r;
     on = on;
   }
@@ -144,7 +144,8 @@ module _ (l : Lookups) (steps : ℕ) (s : State) (w : OwnWorld) (h : IsShuffled 
   moving_shuffled o m script owes first rest b = record {
     run = record { right = b.run.right; kept = b.run.kept; state = running_shuffled b.run.state; early = b.run.early; on = b.run.on };
     reach = b.reach;
+    place = b.place;
     top = b.top;
+    waits = b.waits;
     left = b.left;
-    short = b.short;
   }

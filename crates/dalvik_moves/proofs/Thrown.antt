@@ -1,5 +1,5 @@
 -- What is thrown goes down the stack below the framework's frame.
-use Rattle.std.proofs.Common.{◌≡◌, ℕ, ◌+◌, ◌-◌, ◌≤◌, false, List, ◌++◌, length, map, min, take, arith, ap, sym, subst, ◌∙◌, length-append}
+use Rattle.std.proofs.Common.{◌≡◌, ℕ, ◌+◌, ◌-◌, ◌≤◌, false, List, ◌++◌, length, map, take, arith, ap, sym, subst, ◌∙◌, length-append}
 use Rattle.std.specs.Prelude.{◌^◌, drop, Option}
 use Rattle.program_model.specs.declared.pass.Outside.{Outside}
 use Rattle.dalvik_defs.specs.Stack.{unwinds}
@@ -32,18 +32,17 @@ use Rattle.dalvik_steps.proofs.Undone.{running_same, sound_same, undone, world_s
 use Rattle.dalvik_steps.specs.declared.throwing.Flight.{Flight}
 use Rattle.dalvik_steps.specs.declared.throwing.Thrown.TheVariants as thrown
 use Rattle.dalvik_moves.specs.Moving.{IsMoving}
-use Rattle.dalvik_moves.proofs.Moved.{counted_left}
 
 -- the objects of a move come on top of those that there are
 gifts_more : (w : OwnWorld) (g : Gifts) → length (spots_of w) ≤ length (gift_spots w g)
 gifts_more w g = let e = length-append (spots_of w) (map new_spot g.things.items) in omega (arith, e)
 
--- before it lands: the objects are given, the framework's frame is gone, and the move is counted
+-- before it lands: the objects are given, and the framework's frame is gone
 pub record IsReadyToLand (l : Lookups) (g : Gifts) (old mid : State) : Type 0 where
   pub given : AreGiven l g old.world mid.world
   pub stack : mid.stack.items ≡ below_top old.stack.items
   pub statuses : mid.statuses ≡ old.statuses
-  pub next : mid.next ≡ min (old.next + 1) 18446744073709551615
+  pub next : mid.next ≡ old.next
   pub ended : mid.ended ≡ old.ended
 
 module _ (l : Lookups) (o : Outside) (m : Memo) (script : List Move) (steps : ℕ) (old mid : State) (owes : Option Kind) (first : Move) (rest : List Move) (g : Gifts) (h : IsMoving l o m script steps old owes first rest) (r : IsReadyToLand l g old mid) where
@@ -69,16 +68,16 @@ module _ (l : Lookups) (o : Outside) (m : Memo) (script : List Move) (steps : �
       (subst (λ (w : World). IsFlight l w mid.stack.items (thrown.Value d) f) (sym r.given.world)
       (subst (λ (ws : List Waiting). IsFlight l (given_world (names_in l) old.world g) ws (thrown.Value d) f) (sym r.stack) fl))
 
-  pub landed : (d : Datum) (f : Flight) (new : State) (e : Option Event) → f.thrown ≡ thrown.Value d → IsEvent l steps script new e (thrown_by l f.thrown (world_in l mid) (classes_in l mid) (stack_in l mid) (script_in script mid))
-      → IsEvent l steps script new e (unwinds (run_face l) (bodies_in l) (given_world (names_in l) old.world g) (classes_in l old) (value_of (names_in l) d) (below_in l old) rest)
+  pub landed : (d : Datum) (f : Flight) (new : State) (e : Option Event) → f.thrown ≡ thrown.Value d → IsEvent l steps script new e (thrown_by l f.thrown (world_in l mid) (classes_in l mid) (stack_in l script mid) (script_in script mid))
+      → IsEvent l steps script new e (unwinds (run_face l) (bodies_in l) (given_world (names_in l) old.world g) (classes_in l old) (value_of (names_in l) d) (below_in l script old) rest)
   landed d f new e is event =
       let to : World → Classes → List NamedWaiting → List Move → Next = λ w classes ws ms. unwinds (run_face l) (bodies_in l) w classes (value_of (names_in l) d) ws ms in
       subst (IsEvent l steps script new e)
-      (ap (λ t. thrown_by l t (world_in l mid) (classes_in l mid) (stack_in l mid) (script_in script mid)) is
-      ∙ ap (λ (w : World). to w (classes_in l mid) (stack_in l mid) (script_in script mid)) r.given.world
-      ∙ ap (λ v. to (given_world (names_in l) old.world g) (classes_of l.program.now v.items) (stack_in l mid) (script_in script mid)) r.statuses
-      ∙ ap (λ (ws : List Waiting). to (given_world (names_in l) old.world g) (classes_in l old) (stack_of (names_in l) ws) (script_in script mid)) r.stack
-      ∙ ap (λ (ms : List Move). to (given_world (names_in l) old.world g) (classes_in l old) (below_in l old) ms) (ap (λ (k : ℕ). drop k script) r.next ∙ counted_left script old.next first rest h.short h.left))
+      (ap (λ t. thrown_by l t (world_in l mid) (classes_in l mid) (stack_in l script mid) (script_in script mid)) is
+      ∙ ap (λ (w : World). to w (classes_in l mid) (stack_in l script mid) (script_in script mid)) r.given.world
+      ∙ ap (λ v. to (given_world (names_in l) old.world g) (classes_of l.program.now v.items) (stack_in l script mid) (script_in script mid)) r.statuses
+      ∙ ap (λ (ws : List Waiting). to (given_world (names_in l) old.world g) (classes_in l old) (stack_of (names_in l) script ws) (script_in script mid)) r.stack
+      ∙ ap (λ (ms : List Move). to (given_world (names_in l) old.world g) (classes_in l old) (below_in l script old) ms) (ap (λ (k : ℕ). drop k script) r.next ∙ h.left))
       event
 
 -- the run as it stands when look-ups have been kept
@@ -87,7 +86,7 @@ run_kept l steps m k s r kept = record { right = r.right; kept = kept; state = r
 
 -- the same move, where other look-ups have been kept
 pub moving_kept : (l : Lookups) (o : Outside) (m k : Memo) (script : List Move) (steps : ℕ) (s : State) (owes : Option Kind) (first : Move) (rest : List Move) → IsMoving l o m script steps s owes first rest → IsKept l k → IsMoving l o k script steps s owes first rest
-moving_kept l o m k script steps s owes first rest h kept = record { run = run_kept l steps m k s h.run kept; reach = h.reach; top = h.top; left = h.left; short = h.short }
+moving_kept l o m k script steps s owes first rest h kept = record { run = run_kept l steps m k s h.run kept; reach = h.reach; place = h.place; top = h.top; waits = h.waits; left = h.left }
 
 -- ---- room
 
@@ -127,17 +126,18 @@ pub moving_same : (l : Lookups) (o : Outside) (m : Memo) (script : List Move) (s
 moving_same l o m script steps old new owes first rest same h = record {
   run = record { right = h.run.right; kept = h.run.kept; state = running_same l steps old new h.run.state same; early = h.run.early; on = same.ended ∙ h.run.on };
   reach = h.reach;
+  place = h.place;
   top = ap last_of same.stack ∙ h.top;
+  waits = h.waits;
   left = ap (λ (k : ℕ). drop k script) same.next ∙ h.left;
-  short = h.short;
 }
 
 pub planned_event : (l : Lookups) (o : Outside) (m k : Memo) (script : List Move) (steps : ℕ) (old mid new : State) (owes : Option Kind) (first : Move) (rest : List Move) (g : Gifts) (d : Datum) (f : Flight) (e : Option Event) (top : ℕ)
     → IsMoving l o m script steps old owes first rest → IsGiven l old.world g → IsGivenFine l old.world g d → IsReserved old mid → IsKept l k → top ≡ length old.stack.items - 1
     → IsFlight l (given_world (names_in l) old.world g) (take top old.stack.items) (thrown.Value d) f → HasFlightRoom mid.world (length g.things.items) f
     → (IsMoving l o k script steps mid owes first rest → IsGiven l mid.world g → IsGivenFine l mid.world g d → IsFlight l (given_world (names_in l) mid.world g) (below_top mid.stack.items) (thrown.Value d) f → HasFlightRoom mid.world (length g.things.items) f
-    → IsEvent l steps script new e (unwinds (run_face l) (bodies_in l) (given_world (names_in l) mid.world g) (classes_in l mid) (value_of (names_in l) d) (below_in l mid) rest))
-    → IsNext l steps script k new e (unwinds (run_face l) (bodies_in l) (given_world (names_in l) old.world g) (classes_in l old) (value_of (names_in l) d) (below_in l old) rest)
+    → IsEvent l steps script new e (unwinds (run_face l) (bodies_in l) (given_world (names_in l) mid.world g) (classes_in l mid) (value_of (names_in l) d) (below_in l script mid) rest))
+    → IsNext l steps script k new e (unwinds (run_face l) (bodies_in l) (given_world (names_in l) old.world g) (classes_in l old) (value_of (names_in l) d) (below_in l script old) rest)
 planned_event l o m k script steps old mid new owes first rest g d f e top h given fine same kept is flight room ends =
     let n = names_in l in
     let world : given_world n mid.world g ≡ given_world n old.world g = ap (λ (w : World). give_all w (given_things n g.things.items)) (world_same n old.world mid.world same.world) in
@@ -149,9 +149,9 @@ planned_event l o m k script steps old mid new owes first rest g d f e top h giv
     let to : World → Classes → List NamedWaiting → Next = λ w classes ws. unwinds (run_face l) (bodies_in l) w classes (value_of n d) ws rest in
     record {
       event = subst (IsEvent l steps script new e)
-          (ap (λ (w : World). to w (classes_in l mid) (below_in l mid)) world
-          ∙ ap (λ xs. to (given_world n old.world g) (classes_of l.program.now xs) (below_in l mid)) same.statuses
-          ∙ ap (λ (ws : List Waiting). to (given_world n old.world g) (classes_in l old) (stack_of n ws)) below) event;
+          (ap (λ (w : World). to w (classes_in l mid) (below_in l script mid)) world
+          ∙ ap (λ xs. to (given_world n old.world g) (classes_of l.program.now xs) (below_in l script mid)) same.statuses
+          ∙ ap (λ (ws : List Waiting). to (given_world n old.world g) (classes_in l old) (stack_of n script ws)) below) event;
       kept = kept;
     }
 

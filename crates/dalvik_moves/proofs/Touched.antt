@@ -31,7 +31,7 @@ use Rattle.dalvik_state.specs.declared.world.Exposed.{Exposed as OwnExposed}
 use Rattle.dalvik_state.specs.declared.world.World.{World as OwnWorld}
 use Rattle.dalvik_state.specs.Drafts.{gift_spots, given_world}
 use Rattle.dalvik_state.specs.Effects.{plain}
-use Rattle.dalvik_state.specs.Runs.{classes_in, stack_in, IsEvent, IsUndone}
+use Rattle.dalvik_state.specs.Runs.{classes_in, IsEvent, IsUndone}
 use Rattle.dalvik_state.specs.Frames.{cell}
 use Rattle.dalvik_state.specs.States.{IsRunning, IsSound}
 use Rattle.dalvik_state.specs.Views.{exposed_of, names_in, thing_of, value_of, values_of, world_of, AreFine, IsFine, IsFineShape, Names}
@@ -43,7 +43,7 @@ use Rattle.dalvik_state.proofs.Things.{thing_named}
 use Rattle.dalvik_steps.specs.Entries.{AreGivenFine, ShowsGiven}
 use Rattle.dalvik_steps.specs.Turns.{IsAsItWas}
 use Rattle.dalvik_steps.proofs.Undone.{undone_world}
-use Rattle.dalvik_moves.specs.Moving.{counted, exposed_in, item_in, length_in, IsMoving}
+use Rattle.dalvik_moves.specs.Moving.{exposed_in, freed_in, item_in, length_in, IsDone, IsMoving}
 use Rattle.dalvik_moves.proofs.Moved.{event_as, world_done}
 use Rattle.dalvik_moves.proofs.Taken.{nothing_spots}
 
@@ -53,17 +53,17 @@ pub gifts_more : (w : OwnWorld) (g : Gifts) → length (spots_of w) ≤ length (
 gifts_more w g = let e = length-append (spots_of w) (map new_spot g.things.items) in omega (arith, e)
 
 -- a value is shown as an answer, and the move is done
-pub answer_shown : (l : Lookups) (o : Outside) (m : Memo) (script : List Move) (steps : ℕ) (s : State) (owes : Option Kind) (first : Move) (rest : List Move) (g : Gifts) (kind : Text) (d : Datum) (w : OwnWorld) (shown : Option Shown)
-    → IsMoving l o m script steps s owes first rest → ShowsGiven l g kind (Some d) s.world w shown
-    → IsEvent l steps script (counted (record s { world = w })) (option_map (λ (x : Shown). event.Answer x) shown) (shows_value (given_world (names_in l) s.world g) (classes_in l s) kind (Some (value_of (names_in l) d)) (stack_in l s) rest)
-answer_shown l o m script steps s owes first rest g kind d w shown h shows =
+pub answer_shown : (l : Lookups) (o : Outside) (m : Memo) (script : List Move) (steps : ℕ) (s : State) (owes : Option Kind) (first : Move) (rest : List Move) (g : Gifts) (kind : Text) (d : Datum) (w : OwnWorld) (new : State) (shown : Option Shown)
+    → IsMoving l o m script steps s owes first rest → ShowsGiven l g kind (Some d) s.world w shown → IsDone (record s { world = w }) new
+    → IsEvent l steps script new (option_map (λ (x : Shown). event.Answer x) shown) (shows_value (given_world (names_in l) s.world g) (classes_in l s) kind (Some (value_of (names_in l) d)) (freed_in l script s) rest)
+answer_shown l o m script steps s owes first rest g kind d w new shown h shows done =
     let more = gifts_more s.world g in
     let count = shows.spots in
-    event_as l steps script (counted (record s { world = w })) (option_map (λ (x : Shown). event.Answer x) shown)
-    (On (world_of (names_in l) w) (classes_in l s) (stack_in l s) rest, option_map (λ (x : Shown). event.Answer x) shown)
-    (shows_value (given_world (names_in l) s.world g) (classes_in l s) kind (Some (value_of (names_in l) d)) (stack_in l s) rest)
-    (ap (λ (p : World × Option Shown). (On p.0 (classes_in l s) (stack_in l s) rest, option_map (λ (x : Shown). event.Answer x) p.1)) (sym shows.shown))
-    (world_done l o m script steps s owes first rest w (option_map (λ (x : Shown). event.Answer x) shown) h shows.sound (omega (arith, more, count)) shows.locks)
+    event_as l steps script new (option_map (λ (x : Shown). event.Answer x) shown)
+    (On (world_of (names_in l) w) (classes_in l s) (freed_in l script s) rest, option_map (λ (x : Shown). event.Answer x) shown)
+    (shows_value (given_world (names_in l) s.world g) (classes_in l s) kind (Some (value_of (names_in l) d)) (freed_in l script s) rest)
+    (ap (λ (p : World × Option Shown). (On p.0 (classes_in l s) (freed_in l script s) rest, option_map (λ (x : Shown). event.Answer x) p.1)) (sym shows.shown))
+    (world_done l o m script steps s owes first rest w new (option_map (λ (x : Shown). event.Answer x) shown) h shows.sound (omega (arith, more, count)) shows.locks done)
 
 -- ---- arrays
 

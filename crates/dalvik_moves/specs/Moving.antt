@@ -1,5 +1,6 @@
 -- What a move of the framework begins with, and what has been taken for it.
-use Rattle.std.specs.Prelude.{ℕ, Bool, ◌≡◌, ◌<◌, ◌^◌, true, false, List, [], ◌∷◌, ◌+◌, length, map, min, slice_get, Option, Some, None}
+use Rattle.std.specs.Prelude.{ℕ, Bool, ◌≡◌, ◌<◌, ◌^◌, true, false, List, [], ◌∷◌, ◌+◌, drop, length, map, min, slice_get, Option, Some, None}
+use Rattle.std.specs.Option.{option_and_then}
 use Rattle.program_model.specs.declared.pass.Outside.{Outside}
 use Rattle.program_model.specs.declared.program.Field.{Field}
 use Rattle.program_model.specs.declared.program.Method.{Method}
@@ -14,6 +15,8 @@ use Rattle.dalvik_defs.specs.Outer.{outer_of}
 use Rattle.dalvik_defs.specs.declared.names.FieldKey.{FieldKey}
 use Rattle.dalvik_defs.specs.declared.script.Given.{Given}
 use Rattle.dalvik_defs.specs.declared.script.Move.{Move}
+use Rattle.dalvik_defs.specs.declared.state.Waiting.{Waiting}
+use Rattle.dalvik_defs.specs.declared.state.Waiting.TheVariants.{Outside as InFramework}
 use Rattle.dalvik_lookups.specs.Facing.{place_at, run_face}
 use Rattle.dalvik_lookups.specs.Playing.{IsGift}
 use Rattle.dalvik_lookups.specs.Views.{type_text, IsKind}
@@ -34,25 +37,57 @@ use Rattle.dalvik_state.specs.declared.state.Waiting.TheVariants as waiting
 use Rattle.dalvik_state.specs.declared.world.World.{World as OwnWorld}
 use Rattle.dalvik_state.specs.Drafts.{given_world}
 use Rattle.dalvik_state.specs.Giving.{AreTakenFrom, IsFieldAt, IsGiven, IsGivenFine}
-use Rattle.dalvik_state.specs.Runs.{script_in, IsReach, IsRun}
+use Rattle.dalvik_state.specs.Runs.{script_in, stack_in, IsReach, IsRun}
+use Rattle.dalvik_state.specs.States.{pending_top}
 use Rattle.dalvik_state.specs.Views.{names_in, value_of, world_of}
 use Rattle.dalvik_state.specs.Worlds.{Shape, Plain, Array}
 use Rattle.dalvik_steps.specs.Backs.{last_of}
 use Rattle.dalvik_steps.specs.Reaching.{IsFieldOf}
 use Rattle.dalvik_moves.specs.declared.entering.Values.{Values}
 
--- A move of a run: the framework's frame is on top and owes this, and the script goes on with this move and those behind
--- it.
+-- A move of a run: it waits with the framework's frame, which is on top and owes this, and these moves of the script are
+-- left.
 pub record IsMoving (l : Lookups) (o : Outside) (m : Memo) (script : List Move) (steps : ℕ) (s : State) (owes : Option Kind) (first : Move) (rest : List Move) : Type 0 where
   pub run : IsRun l m steps s
   pub reach : IsReach l o
-  pub top : last_of s.stack.items ≡ Some (waiting.Outside owes)
-  pub left : script_in script s ≡ first ∷ rest
+  pub place : ℕ
+  pub top : last_of s.stack.items ≡ Some (waiting.Outside owes (Some place))
+  pub waits : slice_get script place ≡ Some first
+  pub left : script_in script s ≡ rest
+
+-- The next move of the script before it is taken: none waits with the framework's frame, whatever its place is.
+pub record IsTaking (l : Lookups) (o : Outside) (m : Memo) (script : List Move) (steps : ℕ) (s : State) (owes : Option Kind) (pending : Option ℕ) (first : Move) (rest : List Move) : Type 0 where
+  pub run : IsRun l m steps s
+  pub reach : IsReach l o
+  pub top : last_of s.stack.items ≡ Some (waiting.Outside owes pending)
+  pub next : slice_get script s.next ≡ Some first
+  pub left : drop (s.next + 1) script ≡ rest
   pub short : length script < 2 ^ 64
 
--- the next move is counted
-abbrev pub counted : State → State
-counted s = record s { next = min (s.next + 1) 18446744073709551615 }
+-- the framework's frame on top waits with this move, or with none
+abbrev pub waits_with : Option Move → List Waiting → List Waiting
+waits_with m (InFramework owes pending ∷ below) = InFramework owes m ∷ below
+waits_with m stack = stack
+
+-- the stack of a move that is done
+abbrev pub freed_in : Lookups → List Move → State → List Waiting
+freed_in l script s = waits_with None (stack_in l script s)
+
+-- The framework's frame on top waits with the move at this place of the script, or with none, and this one comes next.
+pub record IsTurned (pending : Option ℕ) (at : ℕ) (old new : State) : Type 0 where
+  pub world : new.world ≡ old.world
+  pub statuses : new.statuses ≡ old.statuses
+  pub stack : new.stack.items ≡ pending_top pending old.stack.items
+  pub next : new.next ≡ at
+  pub ended : new.ended ≡ old.ended
+
+-- the move is done
+abbrev pub IsDone : State → State → Type 0
+IsDone old new = IsTurned None old.next old new
+
+-- the play at a place of the script
+abbrev pub play_of : List Play → Option ℕ → Option Play
+play_of plays pending = option_and_then (λ (place : ℕ). slice_get plays place) pending
 
 -- ---- what is taken
 

@@ -29,7 +29,6 @@ ghost use Rattle.dalvik_moves.specs.Moving.{FirstMaybe, IsMoving};
 ghost use Rattle.dalvik_steps.specs.Entries.{AreGivenFine};
 ghost use Rattle.dalvik_steps.specs.Flights.{HasFlightRoom, IsFlight};
 
-use crate::counting::done;
 use dalvik_defs::Event;
 use dalvik_lookups::{Gift, Kind, Memo};
 use dalvik_state::{Datum, Gifts, State, Tables, Taken, fits, may_throw};
@@ -79,7 +78,7 @@ fn datum_of(answer: Option<(Gift, Taken)>) -> Option<Datum>
     }
 }
 
-/// A legal answer is given to what waits for it, and the move is done.
+/// A legal answer is given to what waits for it.
 fn answers_legally<'a>(
     alloc: Global,
     tables: &Tables<'a>,
@@ -89,12 +88,10 @@ fn answers_legally<'a>(
     value: Option<Datum>,
 ) -> Result<Option<Event>, AllocError>
     ensures ok { (o : Outside) (memo : OwnMemo) (script : List Move) (steps : ℕ) (owes : Option Kind) (first : Move) (rest : List Move) → IsMoving tables.now.lookups o memo script steps state.old owes first rest → IsGiven tables.now.lookups state.old.world gifts → AreGivenFine tables.now.lookups state.old.world gifts value
-        → IfOk result (λ e. IsEvent tables.now.lookups steps script state.new e (gives (bodies_in tables.now.lookups) (type_text tables.now.lookups.types kind) (given_world (names_in tables.now.lookups) state.old.world gifts) (classes_in tables.now.lookups state.old) (option_map (value_of (names_in tables.now.lookups)) value) (below_in tables.now.lookups state.old) rest)) }
+        → IfOk result (λ e. IsEvent tables.now.lookups steps script state.new e (gives (bodies_in tables.now.lookups) (type_text tables.now.lookups.types kind) (given_world (names_in tables.now.lookups) state.old.world gifts) (classes_in tables.now.lookups state.old) (option_map (value_of (names_in tables.now.lookups)) value) (below_in tables.now.lookups script state.old) rest)) }
     ensures err { (o : Outside) (memo : OwnMemo) (script : List Move) (steps : ℕ) (owes : Option Kind) (first : Move) (rest : List Move) → IsMoving tables.now.lookups o memo script steps state.old owes first rest → OnErr result (IsUndone tables.now.lookups steps state.old state.new) }
 {
-    let event = gives(alloc, tables, state, gifts, kind, value)?;
-    done(state);
-    Ok(event)
+    gives(alloc, tables, state, gifts, kind, value)
 }
 
 /// The framework returns from what it owes, which is of a type.
@@ -107,7 +104,7 @@ fn answers_owed<'a>(
     gift: Option<Gift>,
 ) -> Result<Option<Event>, AllocError>
     ensures ok { (o : Outside) (floats : Floats) (script : List Move) (steps : ℕ) (first : Move) (rest : List Move) (g : Option Given) → IsMoving tables.now.lookups o memo.old script steps state.old (Some kind) first rest → AreBoth (IsGift tables.now.lookups.types tables.now.lookups.texts) g gift
-        → IfOk result (λ e. IsNext tables.now.lookups steps script memo.new state.new e (answers (setting_in tables.now.lookups o floats) (bodies_in tables.now.lookups) (world_in tables.now.lookups state.old) (classes_in tables.now.lookups state.old) (Some (type_text tables.now.lookups.types kind)) g (below_in tables.now.lookups state.old) rest)) }
+        → IfOk result (λ e. IsNext tables.now.lookups steps script memo.new state.new e (answers (setting_in tables.now.lookups o floats) (bodies_in tables.now.lookups) (world_in tables.now.lookups state.old) (classes_in tables.now.lookups state.old) (Some (type_text tables.now.lookups.types kind)) g (below_in tables.now.lookups script state.old) rest)) }
     ensures err { (o : Outside) (script : List Move) (steps : ℕ) (first : Move) (rest : List Move) (g : Option Given) → IsMoving tables.now.lookups o memo.old script steps state.old (Some kind) first rest → AreBoth (IsGift tables.now.lookups.types tables.now.lookups.texts) g gift → OnErr result (IsUndoneWith tables.now.lookups steps memo.new state.old state.new) }
 {
     let mut gifts = Gifts::new(alloc);
@@ -135,7 +132,7 @@ pub fn answers<'a>(
     ensures silent { owes ≡ None → result ≡ Ok None }
     ensures ended { owes ≡ None → state.new.ended ≡ true }
     ensures ok { (o : Outside) (floats : Floats) (script : List Move) (steps : ℕ) (first : Move) (rest : List Move) (g : Option Given) → IsMoving tables.now.lookups o memo.old script steps state.old owes first rest → AreBoth (IsGift tables.now.lookups.types tables.now.lookups.texts) g gift
-        → IfOk result (λ e. IsNext tables.now.lookups steps script memo.new state.new e (answers (setting_in tables.now.lookups o floats) (bodies_in tables.now.lookups) (world_in tables.now.lookups state.old) (classes_in tables.now.lookups state.old) (option_map (type_text tables.now.lookups.types) owes) g (below_in tables.now.lookups state.old) rest)) }
+        → IfOk result (λ e. IsNext tables.now.lookups steps script memo.new state.new e (answers (setting_in tables.now.lookups o floats) (bodies_in tables.now.lookups) (world_in tables.now.lookups state.old) (classes_in tables.now.lookups state.old) (option_map (type_text tables.now.lookups.types) owes) g (below_in tables.now.lookups script state.old) rest)) }
     ensures err { (o : Outside) (script : List Move) (steps : ℕ) (first : Move) (rest : List Move) (g : Option Given) → IsMoving tables.now.lookups o memo.old script steps state.old owes first rest → AreBoth (IsGift tables.now.lookups.types tables.now.lookups.texts) g gift → OnErr result (IsUndoneWith tables.now.lookups steps memo.new state.old state.new) }
 {
     match owes {
@@ -147,15 +144,14 @@ pub fn answers<'a>(
     }
 }
 
-/// What is thrown goes down the stack below the framework's frame, as planned, and the move is done.
+/// What is thrown goes down the stack below the framework's frame, as planned.
 fn throws_planned(state: &mut State<'_>, gifts: Gifts, flight: Flight) -> Option<Event>
     ensures { (l : Lookups) (o : Outside) (memo : OwnMemo) (script : List Move) (steps : ℕ) (owes : Option Kind) (first : Move) (rest : List Move) (d : Datum) → IsMoving l o memo script steps state.old owes first rest → IsGiven l state.old.world gifts → IsGivenFine l state.old.world gifts d
         → IsFlight l (given_world (names_in l) state.old.world gifts) (below_top state.old.stack.items) (Thrown.Value d) flight → HasFlightRoom state.old.world (length gifts.things.items) flight
-        → IsEvent l steps script state.new result (unwinds (run_face l) (bodies_in l) (given_world (names_in l) state.old.world gifts) (classes_in l state.old) (value_of (names_in l) d) (below_in l state.old) rest) }
+        → IsEvent l steps script state.new result (unwinds (run_face l) (bodies_in l) (given_world (names_in l) state.old.world gifts) (classes_in l state.old) (value_of (names_in l) d) (below_in l script state.old) rest) }
 {
     gifts.give(&mut state.world);
     state.stack.pop();
-    done(state);
     land(state, flight)
 }
 
@@ -169,7 +165,7 @@ fn throws_legally(
     datum: Datum,
 ) -> Result<Option<Event>, AllocError>
     ensures ok { (o : Outside) (script : List Move) (steps : ℕ) (owes : Option Kind) (first : Move) (rest : List Move) → IsMoving tables.now.lookups o memo.old script steps state.old owes first rest → IsGiven tables.now.lookups state.old.world gifts → IsGivenFine tables.now.lookups state.old.world gifts datum
-        → IfOk result (λ e. IsNext tables.now.lookups steps script memo.new state.new e (unwinds (run_face tables.now.lookups) (bodies_in tables.now.lookups) (given_world (names_in tables.now.lookups) state.old.world gifts) (classes_in tables.now.lookups state.old) (value_of (names_in tables.now.lookups) datum) (below_in tables.now.lookups state.old) rest)) }
+        → IfOk result (λ e. IsNext tables.now.lookups steps script memo.new state.new e (unwinds (run_face tables.now.lookups) (bodies_in tables.now.lookups) (given_world (names_in tables.now.lookups) state.old.world gifts) (classes_in tables.now.lookups state.old) (value_of (names_in tables.now.lookups) datum) (below_in tables.now.lookups script state.old) rest)) }
     ensures err { (o : Outside) (script : List Move) (steps : ℕ) (owes : Option Kind) (first : Move) (rest : List Move) → IsMoving tables.now.lookups o memo.old script steps state.old owes first rest → IsGiven tables.now.lookups state.old.world gifts → IsGivenFine tables.now.lookups state.old.world gifts datum → OnErr result (IsUndoneWith tables.now.lookups steps memo.new state.old state.new) }
 {
     let below = state.stack.len().saturating_sub(1);
@@ -187,7 +183,7 @@ fn throws_owed(
     gift: Gift,
 ) -> Result<Option<Event>, AllocError>
     ensures ok { (o : Outside) (floats : Floats) (script : List Move) (steps : ℕ) (owes : Option Kind) (first : Move) (rest : List Move) (kind : Text) (g : Given) → IsMoving tables.now.lookups o memo.old script steps state.old owes first rest → IsGift tables.now.lookups.types tables.now.lookups.texts g gift
-        → IfOk result (λ e. IsNext tables.now.lookups steps script memo.new state.new e (throws (setting_in tables.now.lookups o floats) (bodies_in tables.now.lookups) (world_in tables.now.lookups state.old) (classes_in tables.now.lookups state.old) (Some kind) g (below_in tables.now.lookups state.old) rest)) }
+        → IfOk result (λ e. IsNext tables.now.lookups steps script memo.new state.new e (throws (setting_in tables.now.lookups o floats) (bodies_in tables.now.lookups) (world_in tables.now.lookups state.old) (classes_in tables.now.lookups state.old) (Some kind) g (below_in tables.now.lookups script state.old) rest)) }
     ensures err { (o : Outside) (script : List Move) (steps : ℕ) (owes : Option Kind) (first : Move) (rest : List Move) (g : Given) → IsMoving tables.now.lookups o memo.old script steps state.old owes first rest → IsGift tables.now.lookups.types tables.now.lookups.texts g gift → OnErr result (IsUndoneWith tables.now.lookups steps memo.new state.old state.new) }
 {
     let mut gifts = Gifts::new(alloc);
@@ -213,7 +209,7 @@ pub fn answers_by_throwing(
     ensures silent { owes ≡ None → result ≡ Ok None }
     ensures ended { owes ≡ None → state.new.ended ≡ true }
     ensures ok { (o : Outside) (floats : Floats) (script : List Move) (steps : ℕ) (first : Move) (rest : List Move) (g : Given) → IsMoving tables.now.lookups o memo.old script steps state.old owes first rest → IsGift tables.now.lookups.types tables.now.lookups.texts g gift
-        → IfOk result (λ e. IsNext tables.now.lookups steps script memo.new state.new e (throws (setting_in tables.now.lookups o floats) (bodies_in tables.now.lookups) (world_in tables.now.lookups state.old) (classes_in tables.now.lookups state.old) (option_map (type_text tables.now.lookups.types) owes) g (below_in tables.now.lookups state.old) rest)) }
+        → IfOk result (λ e. IsNext tables.now.lookups steps script memo.new state.new e (throws (setting_in tables.now.lookups o floats) (bodies_in tables.now.lookups) (world_in tables.now.lookups state.old) (classes_in tables.now.lookups state.old) (option_map (type_text tables.now.lookups.types) owes) g (below_in tables.now.lookups script state.old) rest)) }
     ensures err { (o : Outside) (script : List Move) (steps : ℕ) (first : Move) (rest : List Move) (g : Given) → IsMoving tables.now.lookups o memo.old script steps state.old owes first rest → IsGift tables.now.lookups.types tables.now.lookups.texts g gift → OnErr result (IsUndoneWith tables.now.lookups steps memo.new state.old state.new) }
 {
     match owes {

@@ -1,6 +1,6 @@
 //! The framework enters methods and makes objects.
 
-ghost use Rattle.std.specs.Prelude.{◌≡◌, ◌<◌, ◌∷◌, ◌++◌, ◌&&◌, [], ℕ, List, Option, None, Some, false, is_some, length, map, slice_get, IfOk, OnErr, OnOk};
+ghost use Rattle.std.specs.Prelude.{◌≡◌, ◌+◌, ◌<◌, ◌≤◌, ◌∷◌, ◌++◌, ◌&&◌, ◌||◌, [], ℕ, List, Option, None, Some, false, is_some, length, map, slice_get, vec_capacity, vec_len, IfOk, OnErr, OnOk};
 ghost use Rattle.std.specs.Option.{option_map};
 ghost use Rattle.program_model.specs.declared.pass.Outside.{Outside};
 ghost use Rattle.program_model.specs.Lookups as look;
@@ -32,9 +32,10 @@ ghost use Rattle.dalvik_state.specs.Giving.{finds_at, IsGiven};
 ghost use Rattle.dalvik_state.specs.Runs.{bodies_in, classes_in, setting_in, stack_in, world_in, IsEvent, IsNext, IsReach, IsUndone, IsUndoneWith};
 ghost use Rattle.dalvik_state.specs.States.{class_text, IsRunning, IsSound, IsSoundFrame};
 ghost use Rattle.dalvik_state.specs.Views.{frame_of, names_in, value_of};
-ghost use Rattle.dalvik_moves.specs.Moving.{counted, datums_of, spread_in, AreAllTaken, IsMember, IsMoving, MemberMaybe};
+ghost use Rattle.dalvik_state.specs.declared.state.Waiting.TheVariants as stands;
+ghost use Rattle.dalvik_moves.specs.Moving.{datums_of, freed_in, spread_in, AreAllTaken, IsMember, IsMoving, MemberMaybe};
 
-use crate::counting::done;
+use crate::finishing::done;
 use dalvik_defs::Event;
 use dalvik_lookups::{Gift, Memo};
 use dalvik_state::{Datum, Frame, Gifts, State, Tables, Taken, Waiting, all_fit, receiver_ok};
@@ -111,7 +112,7 @@ fn is_on_receiver(
     values: &Values,
     found: (MethodAt, &Method),
 ) -> Result<bool, AllocError>
-    ensures kept { IsRight tables.now.lookups → IsKept tables.now.lookups memo.old → IsGiven tables.now.lookups state.now.world values.now.gifts → look.method_at tables.now.lookups.program.now found.entry.0 ≡ Some found.entry.1.now → IsKept tables.now.lookups memo.new }
+    ensures kept { (o : Outside) → IsRight tables.now.lookups → IsReach tables.now.lookups o → IsKept tables.now.lookups memo.old → IsGiven tables.now.lookups state.now.world values.now.gifts → look.method_at tables.now.lookups.program.now found.entry.0 ≡ Some found.entry.1.now → IsKept tables.now.lookups memo.new }
     ensures is { (o : Outside) (f : Found) (gs : List Given) → IsRight tables.now.lookups → IsReach tables.now.lookups o → IsKept tables.now.lookups memo.old → AreAllTaken tables.now.lookups o state.now.world gs values.now → IsMember tables.now.lookups found.entry.0 found.entry.1.now f
         → IfOk result (λ b. b ≡ receiver_ok (run_face tables.now.lookups) (outer_of tables.now.lookups.program.now o) (given_world (names_in tables.now.lookups) state.now.world values.now.gifts) f (map (value_of (names_in tables.now.lookups)) (datums_of values.now.taken.items))) }
 {
@@ -148,8 +149,8 @@ fn values_fit(
     )
 }
 
-/// Whether a method with code may be entered with these values: a static one that is kept, or one that is kept or called
-/// back on its receiver.
+/// Whether a method with code may be entered with these values: a static one that is kept, or one that the framework
+/// reaches on its receiver.
 fn may_enter_found(
     alloc: Global,
     tables: &Tables<'_>,
@@ -223,20 +224,29 @@ fn may_enter(
     may_enter_found(alloc, tables, memo, state, values, found)
 }
 
+/// A frame comes to stand on a stack that has room for it.
+fn stands_on<'a>(stack: &mut Vec<Waiting<'a>>, frame: Frame<'a>)
+    ensures { vec_len stack.old + 1 ≤ vec_capacity stack.old → stack.new.items ≡ stack.old.items ++ stands.Method frame.entry ∷ [] }
+{
+    let _ = stack.push(Waiting::Method(frame));
+}
+
 /// A frame comes to stand on top of the framework's, with the objects of the move on the heap, and the move is done.
 fn enters_frame<'a>(state: &mut State<'a>, gifts: Gifts, frame: Frame<'a>) -> Result<(), AllocError>
     ensures ok { (l : OwnLookups) (o : Outside) (memo : OwnMemo) (script : List Move) (steps : ℕ) (owes : Option Kind) (first : Move) (rest : List Move) → IsMoving l o memo script steps state.old owes first rest → IsGiven l state.old.world gifts → IsSoundFrame l (length (gift_spots state.old.world gifts)) frame.entry → frame.entry.position ≡ 0
-        → OnOk result (IsEvent l steps script state.new None (quiet (On (given_world (names_in l) state.old.world gifts) (classes_in l state.old) (InMethod (frame_of (names_in l) frame.entry) ∷ stack_in l state.old) rest))) }
+        → OnOk result (IsEvent l steps script state.new None (quiet (On (given_world (names_in l) state.old.world gifts) (classes_in l state.old) (InMethod (frame_of (names_in l) frame.entry) ∷ freed_in l script state.old) rest))) }
     ensures err { (l : OwnLookups) (steps : ℕ) → IsRunning l steps state.old → state.old.ended ≡ false → OnErr result (IsUndone l steps state.old state.new) }
 {
     gifts.reserve(&mut state.world, 0)?;
-    state.stack.push(Waiting::Method(frame))?;
+    state.stack.reserve(1)?;
     gifts.give(&mut state.world);
     done(state);
+    stands_on(&mut state.stack, frame);
     Ok(())
 }
 
-/// The framework's frame stays below the method's, and the move is done.
+/// The framework's frame stays below the method's, and the move is done. Where the method doesn't take so many values, the
+/// run ends.
 fn enters_now<'a>(
     alloc: Global,
     tables: &Tables<'a>,
@@ -245,7 +255,7 @@ fn enters_now<'a>(
     at: MethodAt,
 ) -> Result<(), AllocError>
     ensures ok { (o : Outside) (memo : OwnMemo) (script : List Move) (steps : ℕ) (owes : Option Kind) (first : Move) (rest : List Move) (own : Method) (f : Found) (gs : List Given) → IsMoving tables.now.lookups o memo script steps state.old owes first rest → AreAllTaken tables.now.lookups o state.old.world gs values → IsMember tables.now.lookups at own f
-        → OnOk result (IsEvent tables.now.lookups steps script state.new None (quiet (enters (bodies_in tables.now.lookups) (given_world (names_in tables.now.lookups) state.old.world values.gifts) (classes_in tables.now.lookups state.old) f.key (spread (map (value_of (names_in tables.now.lookups)) (datums_of values.taken.items))) (stack_in tables.now.lookups state.old) rest))) }
+        → OnOk result (IsEvent tables.now.lookups steps script state.new None (quiet (enters (bodies_in tables.now.lookups) (given_world (names_in tables.now.lookups) state.old.world values.gifts) (classes_in tables.now.lookups state.old) f.key (spread (map (value_of (names_in tables.now.lookups)) (datums_of values.taken.items))) (freed_in tables.now.lookups script state.old) rest))) }
     ensures err { (steps : ℕ) → IsRunning tables.now.lookups steps state.old → state.old.ended ≡ false → OnErr result (IsUndone tables.now.lookups steps state.old state.new) }
 {
     let Values { gifts, taken } = values;
@@ -260,15 +270,6 @@ fn enters_now<'a>(
     }
 }
 
-/// A move that needed a class which failed is over.
-fn gives_up(state: &mut State<'_>, event: Option<Event>) -> Option<Event>
-    ensures event { result ≡ event }
-    ensures state { state.new ≡ counted state.old }
-{
-    done(state);
-    event
-}
-
 /// Enters a static method, once its class is initialised.
 fn enters_static<'a>(
     alloc: Global,
@@ -279,7 +280,7 @@ fn enters_static<'a>(
     at: MethodAt,
 ) -> Result<Option<Event>, AllocError>
     ensures ok { (o : Outside) (floats : Floats) (script : List Move) (steps : ℕ) (owes : Option Kind) (first : Move) (rest : List Move) (own : Method) (f : Found) (gs : List Given) → IsMoving tables.now.lookups o memo.old script steps state.old owes first rest → AreAllTaken tables.now.lookups o state.old.world gs values → IsMember tables.now.lookups at own f
-        → IfOk result (λ e. IsNext tables.now.lookups steps script memo.new state.new e (needs (setting_in tables.now.lookups o floats) (bodies_in tables.now.lookups) (need_of (run_face tables.now.lookups) (classes_in tables.now.lookups state.old) f.key.class) (world_in tables.now.lookups state.old) (classes_in tables.now.lookups state.old) f.key.class (stack_in tables.now.lookups state.old) (first ∷ rest) rest (quiet (enters (bodies_in tables.now.lookups) (given_world (names_in tables.now.lookups) state.old.world values.gifts) (classes_in tables.now.lookups state.old) f.key (spread (map (value_of (names_in tables.now.lookups)) (datums_of values.taken.items))) (stack_in tables.now.lookups state.old) rest)))) }
+        → IfOk result (λ e. IsNext tables.now.lookups steps script memo.new state.new e (needs (setting_in tables.now.lookups o floats) (bodies_in tables.now.lookups) (need_of (run_face tables.now.lookups) (classes_in tables.now.lookups state.old) f.key.class) (world_in tables.now.lookups state.old) (classes_in tables.now.lookups state.old) f.key.class (stack_in tables.now.lookups script state.old) (freed_in tables.now.lookups script state.old) rest (quiet (enters (bodies_in tables.now.lookups) (given_world (names_in tables.now.lookups) state.old.world values.gifts) (classes_in tables.now.lookups state.old) f.key (spread (map (value_of (names_in tables.now.lookups)) (datums_of values.taken.items))) (freed_in tables.now.lookups script state.old) rest)))) }
     ensures err { (o : Outside) (script : List Move) (steps : ℕ) (owes : Option Kind) (first : Move) (rest : List Move) (own : Method) (f : Found) → IsMoving tables.now.lookups o memo.old script steps state.old owes first rest → IsMember tables.now.lookups at own f → OnErr result (IsUndoneWith tables.now.lookups steps memo.new state.old state.new) }
 {
     match readies(alloc, tables, memo, state, at.class)? {
@@ -288,7 +289,7 @@ fn enters_static<'a>(
             Ok(None)
         }
         Readied::Started => Ok(None),
-        Readied::Failed(event) => Ok(gives_up(state, event)),
+        Readied::Failed(event) => Ok(event),
     }
 }
 
@@ -302,7 +303,7 @@ fn entered<'a>(
     found: (MethodAt, &Method),
 ) -> Result<Option<Event>, AllocError>
     ensures ok { (o : Outside) (floats : Floats) (script : List Move) (steps : ℕ) (owes : Option Kind) (first : Move) (rest : List Move) (f : Found) (gs : List Given) → IsMoving tables.now.lookups o memo.old script steps state.old owes first rest → AreAllTaken tables.now.lookups o state.old.world gs values → IsMember tables.now.lookups found.entry.0 found.entry.1.now f
-        → IfOk result (λ e. IsNext tables.now.lookups steps script memo.new state.new e (entered (setting_in tables.now.lookups o floats) (bodies_in tables.now.lookups) (world_in tables.now.lookups state.old) (classes_in tables.now.lookups state.old) f (map (value_of (names_in tables.now.lookups)) (datums_of values.taken.items)) (stack_in tables.now.lookups state.old) (first ∷ rest) rest (given_world (names_in tables.now.lookups) state.old.world values.gifts))) }
+        → IfOk result (λ e. IsNext tables.now.lookups steps script memo.new state.new e (entered (setting_in tables.now.lookups o floats) (bodies_in tables.now.lookups) (world_in tables.now.lookups state.old) (classes_in tables.now.lookups state.old) f (map (value_of (names_in tables.now.lookups)) (datums_of values.taken.items)) (stack_in tables.now.lookups script state.old) (freed_in tables.now.lookups script state.old) rest (given_world (names_in tables.now.lookups) state.old.world values.gifts))) }
     ensures err { (o : Outside) (script : List Move) (steps : ℕ) (owes : Option Kind) (first : Move) (rest : List Move) (f : Found) → IsMoving tables.now.lookups o memo.old script steps state.old owes first rest → IsMember tables.now.lookups found.entry.0 found.entry.1.now f → OnErr result (IsUndoneWith tables.now.lookups steps memo.new state.old state.new) }
 {
     let (at, method) = found;
@@ -323,7 +324,7 @@ fn enter_found<'a>(
     values: &[Gift],
 ) -> Result<Option<Event>, AllocError>
     ensures ok { (o : Outside) (floats : Floats) (script : List Move) (steps : ℕ) (owes : Option Kind) (first : Move) (rest : List Move) (f : Found) (gs : List Given) → IsMoving tables.now.lookups o memo.old script steps state.old owes first rest → AreEach (IsGift tables.now.lookups.types tables.now.lookups.texts) gs values.now → IsMember tables.now.lookups found.entry.0 found.entry.1.now f
-        → IfOk result (λ e. IsNext tables.now.lookups steps script memo.new state.new e (enter (setting_in tables.now.lookups o floats) (bodies_in tables.now.lookups) (world_in tables.now.lookups state.old) (classes_in tables.now.lookups state.old) (Some f) gs (stack_in tables.now.lookups state.old) (first ∷ rest) rest)) }
+        → IfOk result (λ e. IsNext tables.now.lookups steps script memo.new state.new e (enter (setting_in tables.now.lookups o floats) (bodies_in tables.now.lookups) (world_in tables.now.lookups state.old) (classes_in tables.now.lookups state.old) (Some f) gs (stack_in tables.now.lookups script state.old) (freed_in tables.now.lookups script state.old) rest)) }
     ensures err { (o : Outside) (script : List Move) (steps : ℕ) (owes : Option Kind) (first : Move) (rest : List Move) (f : Found) (gs : List Given) → IsMoving tables.now.lookups o memo.old script steps state.old owes first rest → AreEach (IsGift tables.now.lookups.types tables.now.lookups.texts) gs values.now → IsMember tables.now.lookups found.entry.0 found.entry.1.now f → OnErr result (IsUndoneWith tables.now.lookups steps memo.new state.old state.new) }
 {
     let values = take_all(alloc, tables, state, values)?;
@@ -366,7 +367,7 @@ pub fn enter<'a>(
     values: &[Gift],
 ) -> Result<Option<Event>, AllocError>
     ensures ok { (o : Outside) (floats : Floats) (script : List Move) (steps : ℕ) (owes : Option Kind) (first : Move) (rest : List Move) (class name proto : NameText) (gs : List Given) → IsMoving tables.now.lookups o memo.old script steps state.old owes first rest → AreEach (IsGift tables.now.lookups.types tables.now.lookups.texts) gs values.now → found ≡ declared_method tables.now.lookups.program.now class name proto
-        → IfOk result (λ e. IsNext tables.now.lookups steps script memo.new state.new e (enter (setting_in tables.now.lookups o floats) (bodies_in tables.now.lookups) (world_in tables.now.lookups state.old) (classes_in tables.now.lookups state.old) ((run_face tables.now.lookups).declared class name proto) gs (stack_in tables.now.lookups state.old) (first ∷ rest) rest)) }
+        → IfOk result (λ e. IsNext tables.now.lookups steps script memo.new state.new e (enter (setting_in tables.now.lookups o floats) (bodies_in tables.now.lookups) (world_in tables.now.lookups state.old) (classes_in tables.now.lookups state.old) ((run_face tables.now.lookups).declared class name proto) gs (stack_in tables.now.lookups script state.old) (freed_in tables.now.lookups script state.old) rest)) }
     ensures err { (o : Outside) (script : List Move) (steps : ℕ) (owes : Option Kind) (first : Move) (rest : List Move) (class name proto : NameText) (gs : List Given) → IsMoving tables.now.lookups o memo.old script steps state.old owes first rest → AreEach (IsGift tables.now.lookups.types tables.now.lookups.texts) gs values.now → found ≡ declared_method tables.now.lookups.program.now class name proto → OnErr result (IsUndoneWith tables.now.lookups steps memo.new state.old state.new) }
 {
     match method_of(tables, found) {
@@ -386,7 +387,7 @@ fn made(
     class: u32,
 ) -> Result<Option<Event>, AllocError>
     ensures ok { (o : Outside) (memo : OwnMemo) (script : List Move) (steps : ℕ) (owes : Option Kind) (first : Move) (rest : List Move) → IsMoving tables.now.lookups o memo script steps state.old owes first rest → class < length tables.now.lookups.program.now.classes
-        → IfOk result (λ e. IsEvent tables.now.lookups steps script state.new e (made (world_in tables.now.lookups state.old) (classes_in tables.now.lookups state.old) (class_text tables.now.lookups.program.now class) (stack_in tables.now.lookups state.old) rest)) }
+        → IfOk result (λ e. IsEvent tables.now.lookups steps script state.new e (made (world_in tables.now.lookups state.old) (classes_in tables.now.lookups state.old) (class_text tables.now.lookups.program.now class) (freed_in tables.now.lookups script state.old) rest)) }
     ensures err { (steps : ℕ) → IsRunning tables.now.lookups steps state.old → state.old.ended ≡ false → OnErr result (IsUndone tables.now.lookups steps state.old state.new) }
 {
     let kind = tables.lookups.kind_of_class(class);
@@ -395,13 +396,24 @@ fn made(
     Ok(Some(event))
 }
 
-/// Whether the framework may make an object of a class: it is kept, and neither abstract nor an interface.
+/// Whether a class is kept, or a constructor of it.
+fn is_constructed(tables: &Tables<'_>, class: u32) -> bool
+    ensures { (o : Outside) (c : NameText) → IsRight tables.now.lookups → IsReach tables.now.lookups o → place_named tables.now.lookups.program.now c ≡ Some class
+        → result ≡ ((outer_of tables.now.lookups.program.now o).classes c || (outer_of tables.now.lookups.program.now o).constructed c) }
+{
+    let kind = tables.lookups.kind_of_class(class);
+    if tables.lookups.outer.keeps_class(kind) {
+        return true;
+    }
+    tables.lookups.outer.keeps_constructor_of(kind)
+}
+
+/// Whether the framework may make an object of a class: the class is kept, or a constructor of it, and it is neither
+/// abstract nor an interface.
 fn may_make(tables: &Tables<'_>, class: u32) -> bool
     ensures { (o : Outside) (c : NameText) → IsRight tables.now.lookups → IsReach tables.now.lookups o → place_named tables.now.lookups.program.now c ≡ Some class → result ≡ may_make (run_face tables.now.lookups) (outer_of tables.now.lookups.program.now o) c }
 {
-    let kind = tables.lookups.kind_of_class(class);
-    let kept = tables.lookups.outer.keeps_class(kind);
-    if !kept {
+    if !is_constructed(tables, class) {
         return false;
     }
     tables.is_concrete(class)
@@ -416,13 +428,13 @@ fn makes_ready<'a>(
     class: u32,
 ) -> Result<Option<Event>, AllocError>
     ensures ok { (o : Outside) (floats : Floats) (script : List Move) (steps : ℕ) (owes : Option Kind) (first : Move) (rest : List Move) (c : NameText) → IsMoving tables.now.lookups o memo.old script steps state.old owes first rest → place_named tables.now.lookups.program.now c ≡ Some class
-        → IfOk result (λ e. IsNext tables.now.lookups steps script memo.new state.new e (needs (setting_in tables.now.lookups o floats) (bodies_in tables.now.lookups) (need_of (run_face tables.now.lookups) (classes_in tables.now.lookups state.old) c) (world_in tables.now.lookups state.old) (classes_in tables.now.lookups state.old) c (stack_in tables.now.lookups state.old) (first ∷ rest) rest (made (world_in tables.now.lookups state.old) (classes_in tables.now.lookups state.old) c (stack_in tables.now.lookups state.old) rest))) }
+        → IfOk result (λ e. IsNext tables.now.lookups steps script memo.new state.new e (needs (setting_in tables.now.lookups o floats) (bodies_in tables.now.lookups) (need_of (run_face tables.now.lookups) (classes_in tables.now.lookups state.old) c) (world_in tables.now.lookups state.old) (classes_in tables.now.lookups state.old) c (stack_in tables.now.lookups script state.old) (freed_in tables.now.lookups script state.old) rest (made (world_in tables.now.lookups state.old) (classes_in tables.now.lookups state.old) c (freed_in tables.now.lookups script state.old) rest))) }
     ensures err { (o : Outside) (script : List Move) (steps : ℕ) (owes : Option Kind) (first : Move) (rest : List Move) (c : NameText) → IsMoving tables.now.lookups o memo.old script steps state.old owes first rest → place_named tables.now.lookups.program.now c ≡ Some class → OnErr result (IsUndoneWith tables.now.lookups steps memo.new state.old state.new) }
 {
     match readies(alloc, tables, memo, state, class)? {
         Readied::Ready => made(alloc, tables, state, class),
         Readied::Started => Ok(None),
-        Readied::Failed(event) => Ok(gives_up(state, event)),
+        Readied::Failed(event) => Ok(event),
     }
 }
 
@@ -435,7 +447,7 @@ fn make_found<'a>(
     class: u32,
 ) -> Result<Option<Event>, AllocError>
     ensures ok { (o : Outside) (floats : Floats) (script : List Move) (steps : ℕ) (owes : Option Kind) (first : Move) (rest : List Move) (c : NameText) → IsMoving tables.now.lookups o memo.old script steps state.old owes first rest → place_named tables.now.lookups.program.now c ≡ Some class
-        → IfOk result (λ e. IsNext tables.now.lookups steps script memo.new state.new e (make (setting_in tables.now.lookups o floats) (bodies_in tables.now.lookups) (world_in tables.now.lookups state.old) (classes_in tables.now.lookups state.old) c (stack_in tables.now.lookups state.old) (first ∷ rest) rest)) }
+        → IfOk result (λ e. IsNext tables.now.lookups steps script memo.new state.new e (make (setting_in tables.now.lookups o floats) (bodies_in tables.now.lookups) (world_in tables.now.lookups state.old) (classes_in tables.now.lookups state.old) c (stack_in tables.now.lookups script state.old) (freed_in tables.now.lookups script state.old) rest)) }
     ensures err { (o : Outside) (script : List Move) (steps : ℕ) (owes : Option Kind) (first : Move) (rest : List Move) (c : NameText) → IsMoving tables.now.lookups o memo.old script steps state.old owes first rest → place_named tables.now.lookups.program.now c ≡ Some class → OnErr result (IsUndoneWith tables.now.lookups steps memo.new state.old state.new) }
 {
     let legal = may_make(tables, class);
@@ -447,7 +459,8 @@ fn make_found<'a>(
     }
 }
 
-/// The framework makes an object of a kept class that is neither abstract nor an interface.
+/// The framework makes an object of a class that is kept, or of which a constructor is kept, and that is neither abstract
+/// nor an interface.
 pub fn make<'a>(
     alloc: Global,
     tables: &Tables<'a>,
@@ -456,7 +469,7 @@ pub fn make<'a>(
     class: Option<u32>,
 ) -> Result<Option<Event>, AllocError>
     ensures ok { (o : Outside) (floats : Floats) (script : List Move) (steps : ℕ) (owes : Option Kind) (first : Move) (rest : List Move) (c : NameText) → IsMoving tables.now.lookups o memo.old script steps state.old owes first rest → class ≡ place_named tables.now.lookups.program.now c
-        → IfOk result (λ e. IsNext tables.now.lookups steps script memo.new state.new e (make (setting_in tables.now.lookups o floats) (bodies_in tables.now.lookups) (world_in tables.now.lookups state.old) (classes_in tables.now.lookups state.old) c (stack_in tables.now.lookups state.old) (first ∷ rest) rest)) }
+        → IfOk result (λ e. IsNext tables.now.lookups steps script memo.new state.new e (make (setting_in tables.now.lookups o floats) (bodies_in tables.now.lookups) (world_in tables.now.lookups state.old) (classes_in tables.now.lookups state.old) c (stack_in tables.now.lookups script state.old) (freed_in tables.now.lookups script state.old) rest)) }
     ensures err { (o : Outside) (script : List Move) (steps : ℕ) (owes : Option Kind) (first : Move) (rest : List Move) (c : NameText) → IsMoving tables.now.lookups o memo.old script steps state.old owes first rest → class ≡ place_named tables.now.lookups.program.now c → OnErr result (IsUndoneWith tables.now.lookups steps memo.new state.old state.new) }
 {
     match class {

@@ -5,8 +5,8 @@
 #![tactic(auto)]
 
 mod answering;
-mod counting;
 mod entering;
+mod finishing;
 mod framework;
 mod touching;
 

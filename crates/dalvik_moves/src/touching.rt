@@ -21,7 +21,7 @@ ghost use Rattle.dalvik_lookups.specs.declared.lookups.Lookups.{Lookups as OwnLo
 ghost use Rattle.dalvik_lookups.specs.declared.memo.Memo.{Memo as OwnMemo};
 ghost use Rattle.dalvik_state.specs.Drafts.{given_world};
 ghost use Rattle.dalvik_state.specs.Giving.{AreGiven, IsGiven, IsGivenFine};
-ghost use Rattle.dalvik_state.specs.Runs.{classes_in, setting_in, stack_in, world_in, IsEvent, IsNext, IsReach, IsUndone, IsUndoneWith};
+ghost use Rattle.dalvik_state.specs.Runs.{classes_in, setting_in, world_in, IsEvent, IsNext, IsReach, IsUndone, IsUndoneWith};
 ghost use Rattle.dalvik_state.specs.States.{HasRoom, HasSpace, IsSound};
 ghost use Rattle.dalvik_state.specs.Views.{names_in, value_of, values_of, world_of, IsFine};
 ghost use Rattle.dalvik_state.specs.Worlds.{Array, shape_at, spots_of};
@@ -29,9 +29,9 @@ ghost use Rattle.dalvik_steps.specs.Entries.{AreGivenFine};
 ghost use Rattle.dalvik_steps.specs.Reaching.{FineMaybe, HasFieldRoom, IsPut, IsShuffled};
 ghost use Rattle.program_model.specs.declared.program.Field.{Field as OwnField};
 ghost use Rattle.dalvik_moves.specs.Touching.{is_new, kind_there, HasRoomFor, IsGot};
-ghost use Rattle.dalvik_moves.specs.Moving.{exposed_in, item_in, length_in, IsKeptField, IsMoving, KeptMaybe};
+ghost use Rattle.dalvik_moves.specs.Moving.{exposed_in, freed_in, item_in, length_in, IsKeptField, IsMoving, KeptMaybe};
 
-use crate::counting::done;
+use crate::finishing::done;
 use dalvik_defs::{Event, Shown};
 use dalvik_lookups::{FieldAt, Gift, Kind, Memo, known};
 use dalvik_state::{
@@ -63,7 +63,7 @@ fn shows_answer(
     datum: Datum,
 ) -> Result<Option<Event>, AllocError>
     ensures ok { (o : Outside) (memo : OwnMemo) (script : List Move) (steps : ℕ) (owes : Option Kind) (first : Move) (rest : List Move) → IsMoving tables.now.lookups o memo script steps state.old owes first rest → IsGiven tables.now.lookups state.old.world gifts → IsGivenFine tables.now.lookups state.old.world gifts datum
-        → IfOk result (λ e. IsEvent tables.now.lookups steps script state.new e (shows_value (given_world (names_in tables.now.lookups) state.old.world gifts) (classes_in tables.now.lookups state.old) (type_text tables.now.lookups.types kind) (Some (value_of (names_in tables.now.lookups) datum)) (stack_in tables.now.lookups state.old) rest)) }
+        → IfOk result (λ e. IsEvent tables.now.lookups steps script state.new e (shows_value (given_world (names_in tables.now.lookups) state.old.world gifts) (classes_in tables.now.lookups state.old) (type_text tables.now.lookups.types kind) (Some (value_of (names_in tables.now.lookups) datum)) (freed_in tables.now.lookups script state.old) rest)) }
     ensures err { (o : Outside) (memo : OwnMemo) (script : List Move) (steps : ℕ) (owes : Option Kind) (first : Move) (rest : List Move) → IsMoving tables.now.lookups o memo script steps state.old owes first rest → OnErr result (IsUndone tables.now.lookups steps state.old state.new) }
 {
     let shown = shows_given(alloc, tables, &mut state.world, gifts, kind, Some(datum))?;
@@ -81,7 +81,7 @@ fn shows_value(
     value: Option<Datum>,
 ) -> Result<Option<Event>, AllocError>
     ensures ok { (o : Outside) (memo : OwnMemo) (script : List Move) (steps : ℕ) (owes : Option Kind) (first : Move) (rest : List Move) → IsMoving tables.now.lookups o memo script steps state.old owes first rest → IsGiven tables.now.lookups state.old.world gifts → AreGivenFine tables.now.lookups state.old.world gifts value
-        → IfOk result (λ e. IsEvent tables.now.lookups steps script state.new e (shows_value (given_world (names_in tables.now.lookups) state.old.world gifts) (classes_in tables.now.lookups state.old) (type_text tables.now.lookups.types kind) (option_map (value_of (names_in tables.now.lookups)) value) (stack_in tables.now.lookups state.old) rest)) }
+        → IfOk result (λ e. IsEvent tables.now.lookups steps script state.new e (shows_value (given_world (names_in tables.now.lookups) state.old.world gifts) (classes_in tables.now.lookups state.old) (type_text tables.now.lookups.types kind) (option_map (value_of (names_in tables.now.lookups)) value) (freed_in tables.now.lookups script state.old) rest)) }
     ensures err { (o : Outside) (memo : OwnMemo) (script : List Move) (steps : ℕ) (owes : Option Kind) (first : Move) (rest : List Move) → IsMoving tables.now.lookups o memo script steps state.old owes first rest → OnErr result (IsUndone tables.now.lookups steps state.old state.new) }
 {
     match value {
@@ -172,7 +172,7 @@ fn reads_kept(
     on: Option<Gift>,
 ) -> Result<Option<Event>, AllocError>
     ensures ok { (o : Outside) (floats : Floats) (script : List Move) (steps : ℕ) (owes : Option Kind) (first : Move) (rest : List Move) (k : FieldKey) (g : Option Given) → IsMoving tables.now.lookups o memo.old script steps state.old owes first rest → IsKeptField tables.now.lookups o k found.entry.0 found.entry.1.now → AreBoth (IsGift tables.now.lookups.types tables.now.lookups.texts) g on
-        → IfOk result (λ e. IsNext tables.now.lookups steps script memo.new state.new e (reads (setting_in tables.now.lookups o floats) (world_in tables.now.lookups state.old) (classes_in tables.now.lookups state.old) k ((run_face tables.now.lookups).own_field k) g (stack_in tables.now.lookups state.old) rest)) }
+        → IfOk result (λ e. IsNext tables.now.lookups steps script memo.new state.new e (reads (setting_in tables.now.lookups o floats) (world_in tables.now.lookups state.old) (classes_in tables.now.lookups state.old) k ((run_face tables.now.lookups).own_field k) g (freed_in tables.now.lookups script state.old) rest)) }
     ensures err { (o : Outside) (script : List Move) (steps : ℕ) (owes : Option Kind) (first : Move) (rest : List Move) (k : FieldKey) (g : Option Given) → IsMoving tables.now.lookups o memo.old script steps state.old owes first rest → IsKeptField tables.now.lookups o k found.entry.0 found.entry.1.now → AreBoth (IsGift tables.now.lookups.types tables.now.lookups.texts) g on
         → OnErr result (IsUndoneWith tables.now.lookups steps memo.new state.old state.new) }
 {
@@ -198,7 +198,7 @@ pub fn reads(
     on: Option<Gift>,
 ) -> Result<Option<Event>, AllocError>
     ensures ok { (o : Outside) (floats : Floats) (script : List Move) (steps : ℕ) (owes : Option Kind) (first : Move) (rest : List Move) (class name kind : Text) (g : Option Given) → IsMoving tables.now.lookups o memo.old script steps state.old owes first rest → IsField tables.now.lookups.program.now tables.now.lookups.types class name kind at → AreBoth (IsGift tables.now.lookups.types tables.now.lookups.texts) g on
-        → IfOk result (λ e. IsNext tables.now.lookups steps script memo.new state.new e (reads (setting_in tables.now.lookups o floats) (world_in tables.now.lookups state.old) (classes_in tables.now.lookups state.old) (key_of class name kind) ((run_face tables.now.lookups).own_field (key_of class name kind)) g (stack_in tables.now.lookups state.old) rest)) }
+        → IfOk result (λ e. IsNext tables.now.lookups steps script memo.new state.new e (reads (setting_in tables.now.lookups o floats) (world_in tables.now.lookups state.old) (classes_in tables.now.lookups state.old) (key_of class name kind) ((run_face tables.now.lookups).own_field (key_of class name kind)) g (freed_in tables.now.lookups script state.old) rest)) }
     ensures err { (o : Outside) (script : List Move) (steps : ℕ) (owes : Option Kind) (first : Move) (rest : List Move) (class name kind : Text) (g : Option Given) → IsMoving tables.now.lookups o memo.old script steps state.old owes first rest → IsField tables.now.lookups.program.now tables.now.lookups.types class name kind at → AreBoth (IsGift tables.now.lookups.types tables.now.lookups.texts) g on
         → OnErr result (IsUndoneWith tables.now.lookups steps memo.new state.old state.new) }
 {
@@ -264,7 +264,7 @@ fn writes_ready(
     datum: Datum,
 )
     ensures { (o : Outside) (memo : OwnMemo) (script : List Move) (steps : ℕ) (owes : Option Kind) (first : Move) (rest : List Move) (k : FieldKey) (field : OwnField) → IsMoving tables.now.lookups o memo script steps state.old owes first rest → IsKeptField tables.now.lookups o k to.0 field → HasRoomFor state.old.world gifts → IsGiven tables.now.lookups state.old.world gifts → IsGivenFine tables.now.lookups state.old.world gifts datum
-        → IsEvent tables.now.lookups steps script state.new None (goes (with_field (given_world (names_in tables.now.lookups) state.old.world gifts) k (option_map (λ t. value_of (names_in tables.now.lookups) t.datum) to.1) (value_of (names_in tables.now.lookups) datum)) (classes_in tables.now.lookups state.old) (stack_in tables.now.lookups state.old) rest) }
+        → IsEvent tables.now.lookups steps script state.new None (goes (with_field (given_world (names_in tables.now.lookups) state.old.world gifts) k (option_map (λ t. value_of (names_in tables.now.lookups) t.datum) to.1) (value_of (names_in tables.now.lookups) datum)) (classes_in tables.now.lookups state.old) (freed_in tables.now.lookups script state.old) rest) }
 {
     gives(alloc, &mut state.world, gifts);
     if put_field(tables, &mut state.world, to.0, to.1, datum) {
@@ -284,7 +284,7 @@ fn writes_field(
     datum: Datum,
 ) -> Result<(), AllocError>
     ensures ok { (o : Outside) (memo : OwnMemo) (script : List Move) (steps : ℕ) (owes : Option Kind) (first : Move) (rest : List Move) (k : FieldKey) (field : OwnField) → IsMoving tables.now.lookups o memo script steps state.old owes first rest → IsKeptField tables.now.lookups o k to.0 field → IsGiven tables.now.lookups state.old.world gifts → IsGivenFine tables.now.lookups state.old.world gifts datum
-        → OnOk result (IsEvent tables.now.lookups steps script state.new None (goes (with_field (given_world (names_in tables.now.lookups) state.old.world gifts) k (option_map (λ t. value_of (names_in tables.now.lookups) t.datum) to.1) (stored (item_of_type k.kind) (value_of (names_in tables.now.lookups) datum))) (classes_in tables.now.lookups state.old) (stack_in tables.now.lookups state.old) rest)) }
+        → OnOk result (IsEvent tables.now.lookups steps script state.new None (goes (with_field (given_world (names_in tables.now.lookups) state.old.world gifts) k (option_map (λ t. value_of (names_in tables.now.lookups) t.datum) to.1) (stored (item_of_type k.kind) (value_of (names_in tables.now.lookups) datum))) (classes_in tables.now.lookups state.old) (freed_in tables.now.lookups script state.old) rest)) }
     ensures err { (o : Outside) (memo : OwnMemo) (script : List Move) (steps : ℕ) (owes : Option Kind) (first : Move) (rest : List Move) → IsMoving tables.now.lookups o memo script steps state.old owes first rest → OnErr result (IsUndone tables.now.lookups steps state.old state.new) }
 {
     let cut = stored(tables.lookups.types.item(to.0.kind), datum);
@@ -305,7 +305,7 @@ fn writes_on(
 ) -> Result<Option<Event>, AllocError>
     ensures ok { (o : Outside) (floats : Floats) (script : List Move) (steps : ℕ) (owes : Option Kind) (first : Move) (rest : List Move) (k : FieldKey) (field : OwnField) (g : Option Given) (what : Given) → IsMoving tables.now.lookups o memo.old script steps state.old owes first rest → (kept : IsKeptField tables.now.lookups o k to.0 field) → IsGot tables.now.lookups o state.old.world g gifts to.1 → IsGift tables.now.lookups.types tables.now.lookups.texts what value
         → on_fits (run_face tables.now.lookups) (outer_of tables.now.lookups.program.now o) (world_in tables.now.lookups state.old) (given_world (names_in tables.now.lookups) state.old.world gifts) k kept.place g (option_map (λ t. value_of (names_in tables.now.lookups) t.datum) to.1) ≡ true
-        → IfOk result (λ e. IsNext tables.now.lookups steps script memo.new state.new e (writes (setting_in tables.now.lookups o floats) (world_in tables.now.lookups state.old) (classes_in tables.now.lookups state.old) k ((run_face tables.now.lookups).own_field k) g what (stack_in tables.now.lookups state.old) rest)) }
+        → IfOk result (λ e. IsNext tables.now.lookups steps script memo.new state.new e (writes (setting_in tables.now.lookups o floats) (world_in tables.now.lookups state.old) (classes_in tables.now.lookups state.old) k ((run_face tables.now.lookups).own_field k) g what (freed_in tables.now.lookups script state.old) rest)) }
     ensures err { (o : Outside) (script : List Move) (steps : ℕ) (owes : Option Kind) (first : Move) (rest : List Move) (k : FieldKey) (field : OwnField) (g : Option Given) (what : Given) → IsMoving tables.now.lookups o memo.old script steps state.old owes first rest → IsKeptField tables.now.lookups o k to.0 field → IsGot tables.now.lookups o state.old.world g gifts to.1 → IsGift tables.now.lookups.types tables.now.lookups.texts what value
         → OnErr result (IsUndoneWith tables.now.lookups steps memo.new state.old state.new) }
 {
@@ -339,7 +339,7 @@ fn writes_kept(
     value: Gift,
 ) -> Result<Option<Event>, AllocError>
     ensures ok { (o : Outside) (floats : Floats) (script : List Move) (steps : ℕ) (owes : Option Kind) (first : Move) (rest : List Move) (k : FieldKey) (g : Option Given) (what : Given) → IsMoving tables.now.lookups o memo.old script steps state.old owes first rest → IsKeptField tables.now.lookups o k found.entry.0 found.entry.1.now → AreBoth (IsGift tables.now.lookups.types tables.now.lookups.texts) g on → IsGift tables.now.lookups.types tables.now.lookups.texts what value
-        → IfOk result (λ e. IsNext tables.now.lookups steps script memo.new state.new e (writes (setting_in tables.now.lookups o floats) (world_in tables.now.lookups state.old) (classes_in tables.now.lookups state.old) k ((run_face tables.now.lookups).own_field k) g what (stack_in tables.now.lookups state.old) rest)) }
+        → IfOk result (λ e. IsNext tables.now.lookups steps script memo.new state.new e (writes (setting_in tables.now.lookups o floats) (world_in tables.now.lookups state.old) (classes_in tables.now.lookups state.old) k ((run_face tables.now.lookups).own_field k) g what (freed_in tables.now.lookups script state.old) rest)) }
     ensures err { (o : Outside) (script : List Move) (steps : ℕ) (owes : Option Kind) (first : Move) (rest : List Move) (k : FieldKey) (g : Option Given) (what : Given) → IsMoving tables.now.lookups o memo.old script steps state.old owes first rest → IsKeptField tables.now.lookups o k found.entry.0 found.entry.1.now → AreBoth (IsGift tables.now.lookups.types tables.now.lookups.texts) g on → IsGift tables.now.lookups.types tables.now.lookups.texts what value
         → OnErr result (IsUndoneWith tables.now.lookups steps memo.new state.old state.new) }
 {
@@ -365,7 +365,7 @@ pub fn writes(
     value: Gift,
 ) -> Result<Option<Event>, AllocError>
     ensures ok { (o : Outside) (floats : Floats) (script : List Move) (steps : ℕ) (owes : Option Kind) (first : Move) (rest : List Move) (class name kind : Text) (g : Option Given) (what : Given) → IsMoving tables.now.lookups o memo.old script steps state.old owes first rest → IsField tables.now.lookups.program.now tables.now.lookups.types class name kind at → AreBoth (IsGift tables.now.lookups.types tables.now.lookups.texts) g on → IsGift tables.now.lookups.types tables.now.lookups.texts what value
-        → IfOk result (λ e. IsNext tables.now.lookups steps script memo.new state.new e (writes (setting_in tables.now.lookups o floats) (world_in tables.now.lookups state.old) (classes_in tables.now.lookups state.old) (key_of class name kind) ((run_face tables.now.lookups).own_field (key_of class name kind)) g what (stack_in tables.now.lookups state.old) rest)) }
+        → IfOk result (λ e. IsNext tables.now.lookups steps script memo.new state.new e (writes (setting_in tables.now.lookups o floats) (world_in tables.now.lookups state.old) (classes_in tables.now.lookups state.old) (key_of class name kind) ((run_face tables.now.lookups).own_field (key_of class name kind)) g what (freed_in tables.now.lookups script state.old) rest)) }
     ensures err { (o : Outside) (script : List Move) (steps : ℕ) (owes : Option Kind) (first : Move) (rest : List Move) (class name kind : Text) (g : Option Given) (what : Given) → IsMoving tables.now.lookups o memo.old script steps state.old owes first rest → IsField tables.now.lookups.program.now tables.now.lookups.types class name kind at → AreBoth (IsGift tables.now.lookups.types tables.now.lookups.texts) g on → IsGift tables.now.lookups.types tables.now.lookups.texts what value
         → OnErr result (IsUndoneWith tables.now.lookups steps memo.new state.old state.new) }
 {
@@ -412,7 +412,7 @@ pub fn array_get(
     place: u32,
 ) -> Result<Option<Event>, AllocError>
     ensures ok { (o : Outside) (memo : OwnMemo) (script : List Move) (steps : ℕ) (owes : Option Kind) (first : Move) (rest : List Move) (g : Given) → IsMoving tables.now.lookups o memo script steps state.old owes first rest → IsGift tables.now.lookups.types tables.now.lookups.texts g on
-        → IfOk result (λ e. IsEvent tables.now.lookups steps script state.new e (array_get (world_in tables.now.lookups state.old) (classes_in tables.now.lookups state.old) g place (stack_in tables.now.lookups state.old) rest)) }
+        → IfOk result (λ e. IsEvent tables.now.lookups steps script state.new e (array_get (world_in tables.now.lookups state.old) (classes_in tables.now.lookups state.old) g place (freed_in tables.now.lookups script state.old) rest)) }
     ensures err { (o : Outside) (memo : OwnMemo) (script : List Move) (steps : ℕ) (owes : Option Kind) (first : Move) (rest : List Move) → IsMoving tables.now.lookups o memo script steps state.old owes first rest → OnErr result (IsUndone tables.now.lookups steps state.old state.new) }
 {
     let array = exposed(state, on);
@@ -428,7 +428,7 @@ pub fn array_get(
 /// Puts the objects of a move on the heap and writes an item that is there; the move is done. There is room for them.
 fn put_item(state: &mut State<'_>, gifts: Gifts, array: Datum, place: u32, datum: Datum)
     ensures { (l : OwnLookups) (o : Outside) (memo : OwnMemo) (script : List Move) (steps : ℕ) (owes : Option Kind) (first : Move) (rest : List Move) (kind : Kind) (items : List Datum) → IsMoving l o memo script steps state.old owes first rest → HasRoom state.old.world (length gifts.things.items) → HasSpace state.old.world (length gifts.things.items) → IsGiven l state.old.world gifts → IsGivenFine l state.old.world gifts datum → shape_at (spots_of state.old.world) array ≡ Some (Array kind items)
-        → IsEvent l steps script state.new None (quiet (On (put_thing (given_world (names_in l) state.old.world gifts) (value_of (names_in l) array) (Items (type_text l.types kind) (slice_set (values_of (names_in l) items) place (value_of (names_in l) datum)))) (classes_in l state.old) (stack_in l state.old) rest)) }
+        → IsEvent l steps script state.new None (quiet (On (put_thing (given_world (names_in l) state.old.world gifts) (value_of (names_in l) array) (Items (type_text l.types kind) (slice_set (values_of (names_in l) items) place (value_of (names_in l) datum)))) (classes_in l state.old) (freed_in l script state.old) rest)) }
 {
     gifts.give(&mut state.world);
     state.world.put_item(array, place as usize, datum);
@@ -444,7 +444,7 @@ fn puts_item(
     datum: Datum,
 ) -> Result<(), AllocError>
     ensures ok { (o : Outside) (memo : OwnMemo) (script : List Move) (steps : ℕ) (owes : Option Kind) (first : Move) (rest : List Move) (items : List Datum) → IsMoving tables.now.lookups o memo script steps state.old owes first rest → IsGiven tables.now.lookups state.old.world gifts → IsGivenFine tables.now.lookups state.old.world gifts datum → shape_at (spots_of state.old.world) at.0 ≡ Some (Array at.2 items)
-        → OnOk result (IsEvent tables.now.lookups steps script state.new None (quiet (On (put_thing (given_world (names_in tables.now.lookups) state.old.world gifts) (value_of (names_in tables.now.lookups) at.0) (Items (type_text tables.now.lookups.types at.2) (slice_set (values_of (names_in tables.now.lookups) items) at.1 (stored (item_of_type (type_text tables.now.lookups.types at.2)) (value_of (names_in tables.now.lookups) datum))))) (classes_in tables.now.lookups state.old) (stack_in tables.now.lookups state.old) rest))) }
+        → OnOk result (IsEvent tables.now.lookups steps script state.new None (quiet (On (put_thing (given_world (names_in tables.now.lookups) state.old.world gifts) (value_of (names_in tables.now.lookups) at.0) (Items (type_text tables.now.lookups.types at.2) (slice_set (values_of (names_in tables.now.lookups) items) at.1 (stored (item_of_type (type_text tables.now.lookups.types at.2)) (value_of (names_in tables.now.lookups) datum))))) (classes_in tables.now.lookups state.old) (freed_in tables.now.lookups script state.old) rest))) }
     ensures err { (o : Outside) (memo : OwnMemo) (script : List Move) (steps : ℕ) (owes : Option Kind) (first : Move) (rest : List Move) → IsMoving tables.now.lookups o memo script steps state.old owes first rest → OnErr result (IsUndone tables.now.lookups steps state.old state.new) }
 {
     let (array, place, kind) = at;
@@ -464,7 +464,7 @@ fn puts_fitting(
     value: Gift,
 ) -> Result<Option<Event>, AllocError>
     ensures ok { (o : Outside) (floats : Floats) (script : List Move) (steps : ℕ) (owes : Option Kind) (first : Move) (rest : List Move) (what : Given) (items : List Datum) → IsMoving tables.now.lookups o memo.old script steps state.old owes first rest → IsGift tables.now.lookups.types tables.now.lookups.texts what value → shape_at (spots_of state.old.world) at.0 ≡ Some (Array at.2 items) → at.1 < length items
-        → IfOk result (λ e. IsNext tables.now.lookups steps script memo.new state.new e (writes_item (setting_in tables.now.lookups o floats) (world_in tables.now.lookups state.old) (classes_in tables.now.lookups state.old) (value_of (names_in tables.now.lookups) at.0) (Some (Items (type_text tables.now.lookups.types at.2) (values_of (names_in tables.now.lookups) items))) at.1 what (stack_in tables.now.lookups state.old) rest)) }
+        → IfOk result (λ e. IsNext tables.now.lookups steps script memo.new state.new e (writes_item (setting_in tables.now.lookups o floats) (world_in tables.now.lookups state.old) (classes_in tables.now.lookups state.old) (value_of (names_in tables.now.lookups) at.0) (Some (Items (type_text tables.now.lookups.types at.2) (values_of (names_in tables.now.lookups) items))) at.1 what (freed_in tables.now.lookups script state.old) rest)) }
     ensures err { (o : Outside) (script : List Move) (steps : ℕ) (owes : Option Kind) (first : Move) (rest : List Move) (what : Given) (items : List Datum) → IsMoving tables.now.lookups o memo.old script steps state.old owes first rest → IsGift tables.now.lookups.types tables.now.lookups.texts what value → shape_at (spots_of state.old.world) at.0 ≡ Some (Array at.2 items) → OnErr result (IsUndoneWith tables.now.lookups steps memo.new state.old state.new) }
 {
     let mut gifts = Gifts::new(alloc);
@@ -500,7 +500,7 @@ pub fn array_put(
     value: Gift,
 ) -> Result<Option<Event>, AllocError>
     ensures ok { (o : Outside) (floats : Floats) (script : List Move) (steps : ℕ) (owes : Option Kind) (first : Move) (rest : List Move) (g what : Given) → IsMoving tables.now.lookups o memo.old script steps state.old owes first rest → IsGift tables.now.lookups.types tables.now.lookups.texts g on → IsGift tables.now.lookups.types tables.now.lookups.texts what value
-        → IfOk result (λ e. IsNext tables.now.lookups steps script memo.new state.new e (array_put (setting_in tables.now.lookups o floats) (world_in tables.now.lookups state.old) (classes_in tables.now.lookups state.old) g place what (stack_in tables.now.lookups state.old) rest)) }
+        → IfOk result (λ e. IsNext tables.now.lookups steps script memo.new state.new e (array_put (setting_in tables.now.lookups o floats) (world_in tables.now.lookups state.old) (classes_in tables.now.lookups state.old) g place what (freed_in tables.now.lookups script state.old) rest)) }
     ensures err { (o : Outside) (script : List Move) (steps : ℕ) (owes : Option Kind) (first : Move) (rest : List Move) (g what : Given) → IsMoving tables.now.lookups o memo.old script steps state.old owes first rest → IsGift tables.now.lookups.types tables.now.lookups.texts g on → IsGift tables.now.lookups.types tables.now.lookups.texts what value → OnErr result (IsUndoneWith tables.now.lookups steps memo.new state.old state.new) }
 {
     let array = exposed(state, on);
@@ -531,7 +531,7 @@ pub fn array_length(
     on: Gift,
 ) -> Result<Option<Event>, AllocError>
     ensures ok { (o : Outside) (memo : OwnMemo) (script : List Move) (steps : ℕ) (owes : Option Kind) (first : Move) (rest : List Move) (g : Given) → IsMoving tables.now.lookups o memo script steps state.old owes first rest → IsGift tables.now.lookups.types tables.now.lookups.texts g on
-        → IfOk result (λ e. IsEvent tables.now.lookups steps script state.new e (array_length (world_in tables.now.lookups state.old) (classes_in tables.now.lookups state.old) g (stack_in tables.now.lookups state.old) rest)) }
+        → IfOk result (λ e. IsEvent tables.now.lookups steps script state.new e (array_length (world_in tables.now.lookups state.old) (classes_in tables.now.lookups state.old) g (freed_in tables.now.lookups script state.old) rest)) }
     ensures err { (o : Outside) (memo : OwnMemo) (script : List Move) (steps : ℕ) (owes : Option Kind) (first : Move) (rest : List Move) → IsMoving tables.now.lookups o memo script steps state.old owes first rest → OnErr result (IsUndone tables.now.lookups steps state.old state.new) }
 {
     let length = length_of(&state.world, exposed(state, on));

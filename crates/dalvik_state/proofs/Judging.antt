@@ -26,15 +26,15 @@ use Rattle.name_bridge.proofs.Flags.{static_flag}
 use Rattle.name_bridge.proofs.Above.{own_place}
 use Rattle.name_bridge.proofs.Candidates.{common_test}
 use Rattle.name_bridge.proofs.Found.{found_parts, looked_up, virtual_test}
-use Rattle.name_bridge.proofs.Tables.{Sound, all_at, and_left, and_right, entry_at, field_is, method_class, method_is, method_once, method_proto, proto_parameters, proto_result, same_number, sound}
+use Rattle.name_bridge.proofs.Tables.{Sound, all_at, and_left, and_right, entry_at, field_is, method_class, method_is, method_name, method_once, method_proto, proto_parameters, proto_result, same_number, sound}
 use Rattle.dalvik_defs.specs.Face.{Place, place_of}
 use Rattle.dalvik_defs.specs.Gives.{is_on}
 use Rattle.dalvik_defs.specs.Find.{Found, found_in}
 use Rattle.dalvik_defs.specs.Flags.{is_static, is_virtual}
-use Rattle.dalvik_defs.specs.Legal.{calls_back, is_found, on_fits, receiver_ok}
+use Rattle.dalvik_defs.specs.Legal.{answers_kept, calls_back, is_found, keeper_above, may_reach, on_fits, receiver_ok}
 use Rattle.dalvik_defs.specs.Names as spelled
 use Rattle.dalvik_defs.specs.Names.{Text, method_eq}
-use Rattle.dalvik_defs.specs.Naming.{field_at, method_at, named, named_class, named_field, named_method, type_at}
+use Rattle.dalvik_defs.specs.Naming.{field_at, method_at, named, named_class, named_field, named_method, signature_at, text_at, type_at}
 use Rattle.dalvik_defs.specs.Outcome.{passed_types}
 use Rattle.dalvik_defs.specs.Outer.{methods_in, outer_of}
 use Rattle.dalvik_defs.specs.State.{World, kind_of}
@@ -51,6 +51,7 @@ use Rattle.dalvik_lookups.specs.declared.lookups.Lookups.{Lookups}
 use Rattle.dalvik_lookups.specs.declared.plays.FieldAt.{FieldAt}
 use Rattle.dalvik_lookups.specs.declared.types.Kind.{Kind}
 use Rattle.dalvik_lookups.specs.Facing.{named_search, place_at, run_face}
+use Rattle.dalvik_lookups.specs.Reached.{has_keeper}
 use Rattle.dalvik_lookups.specs.Tables.{kind_in, place_named, IsRight}
 use Rattle.dalvik_lookups.specs.Views.{type_text}
 use Rattle.dalvik_lookups.specs.Walks.{found_of}
@@ -64,6 +65,7 @@ use Rattle.dalvik_state.specs.Giving.{finds_at, passed_numbers, IsFieldAt, IsGiv
 use Rattle.dalvik_state.specs.States.{AreFineKinds, IsFineKind}
 use Rattle.dalvik_state.specs.Views.{names_in, value_of}
 use Rattle.dalvik_state.proofs.Deep.{fine_type}
+use Rattle.dalvik_state.proofs.Keepers.{keeper_named}
 use Rattle.dalvik_state.proofs.Marked.{method_same, method_sound}
 
 pub or_true : (b : Bool) → true ≡ (b || true)
@@ -257,6 +259,36 @@ module _ (l : Lookups) (r : IsRight l) where
     pub back_found : (x : Search) (b : Bool) → true ≡ may_call → x ≡ sought → true ≡ finds_at at x → b ≡ out → b ≡ calls_back (run_face l) (outer_of l.program.now o) t f
     back_found x b c g d q = (λ i. (c i && (d ∙ ap (finds_at at) g) i) && q i) ∙ back_named o t at m f e h
 
+  -- ---- kept virtual methods above the class
+
+  pub answers_named : (o : Outside) (t : Text) (at : MethodAt) (m : Method) (f : Found) → found_at l.program.now at ≡ Some f → (h : IsMethod at m f)
+      → ((not (is_direct l.program.now m) && finds_at at (found_of l (place_named l.program.now t) h.name)) && keeper_above (run_face l) (outer_of l.program.now o) t (text_at l.program.now h.name.name) (signature_at l.program.now h.name.proto))
+      ≡ answers_kept (run_face l) (outer_of l.program.now o) t f
+  answers_named o t at m f e h =
+      let virtual : not (is_direct l.program.now m) ≡ is_virtual f.flags f.key.name = sym (virtual_test l.program.now m) ∙ ap (λ (x : Found). is_virtual x.flags x.key.name) (sym h.found) in
+      let search = finds_named at m f e h (found_of l (place_named l.program.now t) h.name) ∙ ap (is_found f.key) (sym ((right_face l r).virtually t m.name h.name h.is_name) ∙ ap ((run_face l).virtually t) (sym h.key)) in
+      let names = sym (h.key ∙ method_is l.program.now s m.name h.name h.is_name) in
+      λ i. (virtual i && search i) && keeper_above (run_face l) (outer_of l.program.now o) t (ap (λ (k : MethodKey). k.name) names i) (ap (λ (k : MethodKey). k.signature) names i)
+
+  module _ (o : Outside) (t : Text) (at : MethodAt) (m : Method) (f : Found) (e : found_at l.program.now at ≡ Some f) (h : IsMethod at m f) where
+    abbrev looked : Search
+    looked = found_of l (place_named l.program.now t) h.name
+
+    abbrev keeps : Bool
+    keeps = keeper_above (run_face l) (outer_of l.program.now o) t (text_at l.program.now h.name.name) (signature_at l.program.now h.name.proto)
+
+    pub answers_direct : false ≡ not (is_direct l.program.now m) → false ≡ answers_kept (run_face l) (outer_of l.program.now o) t f
+    answers_direct c = ap (λ (b : Bool). (b && finds_at at looked) && keeps) c ∙ answers_named o t at m f e h
+
+    pub answers_unfound : (x : Search) → true ≡ not (is_direct l.program.now m) → x ≡ looked → false ≡ finds_at at x → false ≡ answers_kept (run_face l) (outer_of l.program.now o) t f
+    answers_unfound x c g d = (λ i. (c i && (d ∙ ap (finds_at at) g) i) && keeps) ∙ answers_named o t at m f e h
+
+    pub answers_found : (x : Search) (b : Bool) → true ≡ not (is_direct l.program.now m) → x ≡ looked → true ≡ finds_at at x → b ≡ has_keeper l.program.now l.framework.now o h.name.name h.name.proto t → b ≡ answers_kept (run_face l) (outer_of l.program.now o) t f
+    answers_found x b c g d q =
+        (λ i. (c i && (d ∙ ap (finds_at at) g) i)
+        && (q ∙ keeper_named l r o h.name.name h.name.proto (method_name l.program.now s m.name h.name h.is_name) (method_proto l.program.now s m.name h.name h.is_name) t) i)
+        ∙ answers_named o t at m f e h
+
   abbrev outward_by : ℕ → Text → Option NamedClass → Bool
   outward_by n t o = elim o as (λ o. Bool) [ Some c ↦ touches_framework (named l.program.now) c || list_any (reaches_framework n (named l.program.now)) (c.superclass ∷ c.interfaces) | None ↦ false ]
 
@@ -277,7 +309,7 @@ module _ (l : Lookups) (r : IsRight l) where
   -- ---- a receiver
 
   pub receiver_named : (o : Outside) (w : World) (v : Value) (vs : List Value) (f : Found) (on reached : Bool) → on ≡ is_on (run_face l) w v f.key.class
-      → reached ≡ (methods_in l.program.now o.methods f.key || calls_back (run_face l) (outer_of l.program.now o) (kind_of w v) f) → (on && reached) ≡ receiver_ok (run_face l) (outer_of l.program.now o) w f (v ∷ vs)
+      → reached ≡ may_reach (run_face l) (outer_of l.program.now o) (kind_of w v) f → (on && reached) ≡ receiver_ok (run_face l) (outer_of l.program.now o) w f (v ∷ vs)
   receiver_named o w v vs f on reached e h = λ i. e i && h i
 
   pub found_class : (at : MethodAt) (m : Method) (f : Found) (h : IsMethod at m f) → type_at l.program.now h.class.name ≡ f.key.class

@@ -1,19 +1,19 @@
 -- What the framework may reach, by marks and by names.
-use Rattle.std.proofs.Common.{◌≡◌, ℕ, zero, suc, ◌<◌, Bool, true, false, true≢false, List, [], ◌∷◌, length, nat_eq, nat_lt, arith, ap, refl, sym, ◌∙◌, lt-ltb, ltb-true, eqb-true, eq-eqb}
-use Rattle.std.specs.Prelude.{◌&&◌, ◌||◌, slice_get, Option, Some, None}
+use Rattle.std.proofs.Common.{◌≡◌, ℕ, zero, suc, ◌<◌, Bool, true, false, true≢false, List, [], ◌∷◌, ◌++◌, length, nat_eq, nat_lt, arith, ap, refl, sym, ◌∙◌, lt-ltb, ltb-true, eqb-true, eq-eqb}
+use Rattle.std.specs.Prelude.{◌&&◌, ◌||◌, cond, slice_get, Option, Some, None}
 use Rattle.std.specs.List.{list_any}
 use Rattle.program_model.specs.declared.pools.MethodName.{MethodName}
 use Rattle.program_model.specs.declared.pools.FieldName.{FieldName}
 use Rattle.program_model.specs.declared.program.Program.{Program}
 use Rattle.class_defs.proofs.Positions.{both, same_test}
 use Rattle.name_bridge.proofs.Tables.{Sound, and_left, and_right, entry_at, field_class, field_is, field_once, method_class, method_is, method_once}
-use Rattle.dalvik_defs.specs.Names.{Text, field_eq, method_eq, signature_eq, text_eq, texts_eq}
+use Rattle.dalvik_defs.specs.Names.{Text, constructor_name, field_eq, method_eq, signature_eq, text_eq, texts_eq}
 use Rattle.dalvik_defs.specs.Naming.{field_at, method_at, signature_at, text_at, type_at}
-use Rattle.dalvik_defs.specs.Outer.{methods_in}
+use Rattle.dalvik_defs.specs.Outer.{is_constructor_of, methods_in}
 use Rattle.dalvik_defs.specs.declared.names.FieldKey.{FieldKey}
 use Rattle.dalvik_defs.specs.declared.names.MethodKey.{MethodKey}
 use Rattle.dalvik_defs.specs.declared.names.Signature.{Signature}
-use Rattle.dalvik_lookups.specs.Reached.{is_among}
+use Rattle.dalvik_lookups.specs.Reached.{constructed_kind, constructed_kinds, has_descriptor, is_among}
 use Rattle.dalvik_lookups.proofs.Interned.{text_same, text_sound}
 use Rattle.dalvik_state.proofs.Deep.{never_empty}
 
@@ -29,13 +29,13 @@ texts_sound [] (u ∷ us) e = absurd (true≢false (sym e))
 texts_sound (t ∷ ts) [] e = absurd (true≢false (sym e))
 texts_sound (t ∷ ts) (u ∷ us) e = λ i. text_sound t u (and_left (text_eq t u) (texts_eq ts us) e) i ∷ texts_sound ts us (and_right (text_eq t u) (texts_eq ts us) e) i
 
-signature_sound : (a b : Signature) → signature_eq a b ≡ true → a ≡ b
+pub signature_sound : (a b : Signature) → signature_eq a b ≡ true → a ≡ b
 signature_sound a b e = λ i. record {
   parameters = texts_sound a.parameters b.parameters (and_right (text_eq a.result b.result) (texts_eq a.parameters b.parameters) e) i;
   result = text_sound a.result b.result (and_left (text_eq a.result b.result) (texts_eq a.parameters b.parameters) e) i;
 }
 
-signature_same : (g : Signature) → signature_eq g g ≡ true
+pub signature_same : (g : Signature) → signature_eq g g ≡ true
 signature_same g = both (text_eq g.result g.result) (texts_eq g.parameters g.parameters) (text_same g.result) (texts_same g.parameters)
 
 pub method_same : (k : MethodKey) → method_eq k k ≡ true
@@ -95,7 +95,7 @@ module _ (p : Program) (s : Sound p) where
   abbrev field_key_of : Option FieldName → FieldKey
   field_key_of o = elim o as (λ o. FieldKey) [ Some f ↦ record { class = type_at p f.class; name = text_at p f.name; kind = type_at p f.kind } | None ↦ record { class = []; name = []; kind = [] } ]
 
-  method_number : (m : ℕ) → m < length p.methods → (n : ℕ) → method_eq (method_at p n) (method_at p m) ≡ true → m ≡ n
+  pub method_number : (m : ℕ) → m < length p.methods → (n : ℕ) → method_eq (method_at p n) (method_at p m) ≡ true → m ≡ n
   method_number m low n e = by (nat_lt n (length p.methods)) refl
     where
       same : method_at p n ≡ method_at p m
@@ -129,3 +129,39 @@ module _ (p : Program) (s : Sound p) where
 
   pub field_marked : (ns : List ℕ) (m : ℕ) → m < length p.fields → is_among (length p.fields) ns m ≡ list_any (λ (n : ℕ). field_eq (field_at p n) (field_at p m)) ns
   field_marked ns m low = among_named field_eq (field_at p) (length p.fields) m low (field_number m low) (field_same (field_at p m)) ns
+
+-- ---- classes of which a constructor is kept
+
+any_both : (t : ℕ → Bool) (xs ys : List ℕ) → list_any t (xs ++ ys) ≡ (list_any t xs || list_any t ys)
+any_both t [] ys = refl
+any_both t (x ∷ xs) ys = by (t x) (any_both t xs ys)
+  where
+    by : (b : Bool) → list_any t (xs ++ ys) ≡ (list_any t xs || list_any t ys) → (b || list_any t (xs ++ ys)) ≡ ((b || list_any t xs) || list_any t ys)
+    by true more = refl
+    by false more = more
+
+module _ (p : Program) (s : Sound p) (t : Text) where
+  constructed_one : (n : ℕ) → list_any (has_descriptor p t) (constructed_kind p (slice_get p.methods n)) ≡ is_constructor_of t (method_at p n)
+  constructed_one n = by (slice_get p.methods n) refl
+    where
+      nothing : (b : Bool) → false ≡ (b && false)
+      nothing true = refl
+      nothing false = refl
+
+      one : (q : MethodName) → slice_get p.methods n ≡ Some q → (c : Bool) → list_any (has_descriptor p t) (cond c (q.class ∷ []) []) ≡ (text_eq (type_at p q.class) t && c)
+      one q e true = ap (λ (b : Bool). (b && text_eq (type_at p q.class) t) || false) (lt-ltb q.class (length p.types) (method_class p s n q e)) ∙ last (text_eq (type_at p q.class) t)
+        where
+          last : (b : Bool) → (b || false) ≡ (b && true)
+          last true = refl
+          last false = refl
+      one q e false = nothing (text_eq (type_at p q.class) t)
+
+      by : (o : Option MethodName) → slice_get p.methods n ≡ o → list_any (has_descriptor p t) (constructed_kind p o) ≡ is_constructor_of t (key_of p s o)
+      by None e = nothing (text_eq [] t)
+      by (Some q) e = one q e (text_eq (text_at p q.name) constructor_name)
+
+  pub constructed_marked : (ns : List ℕ) → list_any (has_descriptor p t) (constructed_kinds p ns) ≡ list_any (λ (n : ℕ). is_constructor_of t (method_at p n)) ns
+  constructed_marked [] = refl
+  constructed_marked (n ∷ ns) =
+      any_both (has_descriptor p t) (constructed_kind p (slice_get p.methods n)) (constructed_kinds p ns)
+      ∙ (λ i. constructed_one n i || constructed_marked ns i)

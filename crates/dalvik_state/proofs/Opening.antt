@@ -82,8 +82,8 @@ status_named p statuses c s own low = λ i t. set_at p statuses c s own low t (t
 
 pub opening_named : (l : Lookups) (s : OwnState) (script : List Move) → IsOpening l s → state_of (names_in l) script s ≡ opening script
 opening_named l s script h =
-    ap (λ (b : Bool). elim b as (λ b. State) [ true ↦ Ended | false ↦ On (world_of (names_in l) s.world) (classes_of l.program.now s.statuses.items) (stack_of (names_in l) s.stack.items) (drop s.next script) ]) h.ended
-    ∙ (λ i. On (world i) ((ap (classes_of l.program.now) h.statuses ∙ all_new l.program.now) i) (stack_of (names_in l) (h.stack i)) (drop (h.next i) script))
+    ap (λ (b : Bool). elim b as (λ b. State) [ true ↦ Ended | false ↦ On (world_of (names_in l) s.world) (classes_of l.program.now s.statuses.items) (stack_of (names_in l) script s.stack.items) (drop s.next script) ]) h.ended
+    ∙ (λ i. On (world i) ((ap (classes_of l.program.now) h.statuses ∙ all_new l.program.now) i) (stack_of (names_in l) script (h.stack i)) (drop (h.next i) script))
   where
     world : world_of (names_in l) s.world ≡ opening_world
     world = λ i. record {
@@ -103,11 +103,11 @@ none_there zero i d e = absurd (cc)
 none_there (suc size) zero d e = absurd (cc)
 none_there (suc size) (suc i) d e = none_there size i d e
 
-first_fine : (l : Lookups) (size i : ℕ) (x : Waiting) → slice_get (waiting.Outside None ∷ []) i ≡ Some x → IsSoundWaiting l size x
-first_fine l size zero x e = let same : waiting.Outside None ≡ x = cc in subst (IsSoundWaiting l size) same tt
+first_fine : (l : Lookups) (size i : ℕ) (x : Waiting) → slice_get (waiting.Outside None None ∷ []) i ≡ Some x → IsSoundWaiting l size x
+first_fine l size zero x e = let same : waiting.Outside None None ≡ x = cc in subst (IsSoundWaiting l size) same tt
 first_fine l size (suc i) x e = absurd (cc)
 
-no_frame_first : (i : ℕ) (f : Frame) → slice_get (waiting.Outside None ∷ []) i ≡ Some (waiting.Method f) → ⊥
+no_frame_first : (i : ℕ) (f : Frame) → slice_get (waiting.Outside None None ∷ []) i ≡ Some (waiting.Method f) → ⊥
 no_frame_first zero f e = absurd (cc)
 no_frame_first (suc i) f e = absurd (cc)
 

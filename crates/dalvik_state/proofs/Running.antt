@@ -1,12 +1,16 @@
 -- What a run keeps stays so: as steps are made, as objects are made, and as entries of the stack come and go.
-use Rattle.std.proofs.Common.{◌≡◌, ℕ, zero, suc, ◌+◌, ◌-◌, ◌<◌, ◌≤◌, ◌⊎◌, inl, inr, List, [], ◌∷◌, ◌++◌, length, take, arith, ap, sym, subst, ◌∙◌}
-use Rattle.std.specs.Prelude.{◌^◌, Some, slice_get, slice_set}
+use Rattle.std.proofs.Common.{◌≡◌, ℕ, zero, suc, ◌+◌, ◌-◌, ◌<◌, ◌≤◌, ◌⊎◌, inl, inr, List, [], ◌∷◌, ◌++◌, length, take, arith, ap, refl, sym, subst, ◌∙◌}
+use Rattle.std.specs.Prelude.{◌^◌, Option, Some, None, slice_get, slice_set}
+use Rattle.std.specs.Option.{option_map}
 use Rattle.insn_set.specs.declared.ops.Item.{Item}
 use Rattle.program_model.specs.declared.program.MethodAt.{MethodAt}
 use Rattle.program_model.specs.Lookups as look
 use Rattle.dalvik_lookups.proofs.Interned.{got_last}
 use Rattle.dalvik_lookups.specs.declared.lookups.Lookups.{Lookups}
+use Rattle.dalvik_lookups.specs.declared.types.Kind.{Kind}
 use Rattle.dalvik_defs.specs.Naming.{method_at}
+use Rattle.dalvik_defs.specs.declared.script.Move.{Move}
+use Rattle.dalvik_defs.specs.declared.state.Waiting.TheVariants.{Outside}
 use Rattle.dalvik_state.specs.declared.datum.Datum.{Datum}
 use Rattle.dalvik_state.specs.declared.frame.Frame.{Frame}
 use Rattle.dalvik_state.specs.declared.state.State.{State}
@@ -14,7 +18,7 @@ use Rattle.dalvik_state.specs.declared.state.Waiting.{Waiting as OwnWaiting}
 use Rattle.dalvik_state.specs.declared.state.Waiting.TheVariants as waiting
 use Rattle.dalvik_state.specs.declared.world.World.{World}
 use Rattle.dalvik_state.specs.Frames.{cell, with_item, GoesOn, Handles, IsSameCode}
-use Rattle.dalvik_state.specs.States.{below_top, stack_of, top_frame, waiting_of, ChangesTop, IsRunning, IsSound, IsSoundFrame, IsSoundWaiting, KeepsRest}
+use Rattle.dalvik_state.specs.States.{below_top, move_of, pending_top, stack_of, top_frame, waiting_of, with_pending, ChangesTop, IsRunning, IsSound, IsSoundFrame, IsSoundWaiting, KeepsRest}
 use Rattle.dalvik_state.specs.Views.{AreFine, IsFine, IsFineFrame, Names, names_in}
 use Rattle.dalvik_state.specs.Worlds.{spots_of}
 use Rattle.dalvik_state.proofs.Fine.{fine_cells, fine_frame, fine_item}
@@ -48,7 +52,7 @@ pub sound_waiting_more : (l : Lookups) (size more : ℕ) (w : OwnWaiting) → si
 sound_waiting_more l size more (waiting.Method f) h s = sound_frame_more l size more f h s
 sound_waiting_more l size more (waiting.Initialiser class above next) h s = s
 sound_waiting_more l size more (waiting.Ending class) h s = s
-sound_waiting_more l size more (waiting.Outside owes) h s = s
+sound_waiting_more l size more (waiting.Outside owes pending) h s = s
 
 -- the entries of a stack are right where there are so many objects
 pub record AreSoundWaiting (l : Lookups) (size : ℕ) (stack : List OwnWaiting) : Type 0 where
@@ -96,16 +100,16 @@ running_world l steps old new r sound more locks statuses stack = running_of l s
 -- ---- entries that come and go
 
 -- an entry is pushed
-pub pushed_named : (n : Names) (xs : List OwnWaiting) (w : OwnWaiting) → stack_of n (xs ++ w ∷ []) ≡ waiting_of n w ∷ stack_of n xs
-pushed_named n xs w = last_named n xs w
+pub pushed_named : (n : Names) (script : List Move) (xs : List OwnWaiting) (w : OwnWaiting) → stack_of n script (xs ++ w ∷ []) ≡ waiting_of n script w ∷ stack_of n script xs
+pushed_named n script xs w = last_named n script xs w
 
 -- the last entry, and what stands below it
-pub popped_named : (n : Names) (xs : List OwnWaiting) (w : OwnWaiting) → slice_get xs (length xs - 1) ≡ Some w → stack_of n xs ≡ waiting_of n w ∷ stack_of n (below_top xs)
-popped_named n xs w e = ap (stack_of n) (sym (set_own xs (length xs - 1) w e) ∙ split_last xs w e w) ∙ last_named n (below_top xs) w
+pub popped_named : (n : Names) (script : List Move) (xs : List OwnWaiting) (w : OwnWaiting) → slice_get xs (length xs - 1) ≡ Some w → stack_of n script xs ≡ waiting_of n script w ∷ stack_of n script (below_top xs)
+popped_named n script xs w e = ap (stack_of n script) (sym (set_own xs (length xs - 1) w e) ∙ split_last xs w e w) ∙ last_named n script (below_top xs) w
 
 -- the last entry is another one
-pub topped_by : (n : Names) (xs : List OwnWaiting) (w v : OwnWaiting) → slice_get xs (length xs - 1) ≡ Some w → stack_of n (slice_set xs (length xs - 1) v) ≡ waiting_of n v ∷ stack_of n (below_top xs)
-topped_by n xs w v e = ap (stack_of n) (split_last xs w e v) ∙ last_named n (below_top xs) v
+pub topped_by : (n : Names) (script : List Move) (xs : List OwnWaiting) (w v : OwnWaiting) → slice_get xs (length xs - 1) ≡ Some w → stack_of n script (slice_set xs (length xs - 1) v) ≡ waiting_of n script v ∷ stack_of n script (below_top xs)
+topped_by n script xs w v e = ap (stack_of n script) (split_last xs w e v) ∙ last_named n script (below_top xs) v
 
 pub sound_pushed : (l : Lookups) (size : ℕ) (xs : List OwnWaiting) (w : OwnWaiting) → AreSoundWaiting l size xs → IsSoundWaiting l size w → AreSoundWaiting l size (xs ++ w ∷ [])
 sound_pushed l size xs w s h = record { at = λ i v e. elim (got_last xs w v i e) [ inl old ↦ s.at i v old | inr new ↦ subst (IsSoundWaiting l size) (sym new.1) h ] }
@@ -146,6 +150,62 @@ sound_set l size k xs v s h = record { at = λ i w e. elim (set_at xs k i v w e)
 
 pub paced_set : (most k : ℕ) (xs : List OwnWaiting) (v : OwnWaiting) → ArePaced most xs → ArePaced most (v ∷ []) → ArePaced most (slice_set xs k v)
 paced_set most k xs v s h = record { at = λ i f e. elim (set_at xs k i v (waiting.Method f) e) [ inl old ↦ s.at i f old | inr new ↦ h.at 0 f (ap (λ (u : OwnWaiting). Some u) (sym new)) ] }
+
+-- ---- the framework's frame on top, with the move that waits there
+
+pub pending_there : (place : Option ℕ) (xs : List OwnWaiting) (w : OwnWaiting) → slice_get xs (length xs - 1) ≡ Some w → pending_top place xs ≡ slice_set xs (length xs - 1) (with_pending place w)
+pending_there place xs w e = ap (λ (o : Option OwnWaiting). elim o as (λ o. List OwnWaiting) [ Some v ↦ slice_set xs (length xs - 1) (with_pending place v) | None ↦ xs ]) e
+
+pub pending_named : (n : Names) (script : List Move) (place : Option ℕ) (xs : List OwnWaiting) (owes : Option Kind) (before : Option ℕ) → slice_get xs (length xs - 1) ≡ Some (waiting.Outside owes before)
+    → stack_of n script (pending_top place xs) ≡ Outside (option_map n.kind owes) (move_of script place) ∷ stack_of n script (below_top xs)
+pending_named n script place xs owes before e = ap (stack_of n script) (pending_there place xs (waiting.Outside owes before) e) ∙ topped_by n script xs (waiting.Outside owes before) (waiting.Outside owes place) e
+
+pending_sound_in : (l : Lookups) (size : ℕ) (place : Option ℕ) (w : OwnWaiting) → IsSoundWaiting l size w → IsSoundWaiting l size (with_pending place w)
+pending_sound_in l size place (waiting.Method f) s = s
+pending_sound_in l size place (waiting.Initialiser class above next) s = s
+pending_sound_in l size place (waiting.Ending class) s = s
+pending_sound_in l size place (waiting.Outside owes before) s = s
+
+pending_paced_in : (most : ℕ) (place : Option ℕ) (w : OwnWaiting) → ArePaced most (w ∷ []) → ArePaced most (with_pending place w ∷ [])
+pending_paced_in most place (waiting.Method f) s = s
+pending_paced_in most place (waiting.Initialiser class above next) s = s
+pending_paced_in most place (waiting.Ending class) s = s
+pending_paced_in most place (waiting.Outside owes before) s = record { at = λ i f e. by i f e }
+  where
+    by : (i : ℕ) (f : Frame) → slice_get (waiting.Outside owes place ∷ []) i ≡ Some (waiting.Method f) → f.position ≤ most
+    by zero f e = absurd (cc)
+    by (suc i) f e = absurd (cc)
+
+-- one entry of a stack whose frames are paced
+paced_alone : (most k : ℕ) (xs : List OwnWaiting) (w : OwnWaiting) → slice_get xs k ≡ Some w → ArePaced most xs → ArePaced most (w ∷ [])
+paced_alone most k xs w e s = record { at = λ i f g. by i f g }
+  where
+    by : (i : ℕ) (f : Frame) → slice_get (w ∷ []) i ≡ Some (waiting.Method f) → f.position ≤ most
+    by zero f g = s.at k f (e ∙ g)
+    by (suc i) f g = absurd (cc)
+
+pub pending_sound : (l : Lookups) (size : ℕ) (place : Option ℕ) (xs : List OwnWaiting) → AreSoundWaiting l size xs → AreSoundWaiting l size (pending_top place xs)
+pending_sound l size place xs s = by (slice_get xs (length xs - 1)) refl
+  where
+    by : (o : Option OwnWaiting) → slice_get xs (length xs - 1) ≡ o → AreSoundWaiting l size (elim o as (λ o. List OwnWaiting) [ Some w ↦ slice_set xs (length xs - 1) (with_pending place w) | None ↦ xs ])
+    by None e = s
+    by (Some w) e = sound_set l size (length xs - 1) xs (with_pending place w) s (pending_sound_in l size place w (s.at (length xs - 1) w e))
+
+pub pending_paced : (most : ℕ) (place : Option ℕ) (xs : List OwnWaiting) → ArePaced most xs → ArePaced most (pending_top place xs)
+pending_paced most place xs s = by (slice_get xs (length xs - 1)) refl
+  where
+    by : (o : Option OwnWaiting) → slice_get xs (length xs - 1) ≡ o → ArePaced most (elim o as (λ o. List OwnWaiting) [ Some w ↦ slice_set xs (length xs - 1) (with_pending place w) | None ↦ xs ])
+    by None e = s
+    by (Some w) e = paced_set most (length xs - 1) xs (with_pending place w) s (pending_paced_in most place w (paced_alone most (length xs - 1) xs w e s))
+
+-- a run whose framework's frame on top waits with another move, or with none
+pub running_pending : (l : Lookups) (steps : ℕ) (old new : State) (place : Option ℕ) → IsRunning l steps old → KeepsRest old new → new.stack.items ≡ pending_top place old.stack.items → IsRunning l steps new
+running_pending l steps old new place r k e =
+    let size = length (spots_of old.world) in
+    running_of l steps new (subst (IsSound l) (sym k.world) r.world) (ap (λ v. length v.items) k.statuses ∙ r.classes)
+    (subst (λ (w : World). AreSoundWaiting l (length (spots_of w)) new.stack.items) (sym k.world) (subst (AreSoundWaiting l size) (sym e) (pending_sound l size place old.stack.items (running_stack l steps old r))))
+    (subst (ArePaced (2 ^ 32 + steps)) (sym e) (pending_paced (2 ^ 32 + steps) place old.stack.items (running_paced l steps old r)))
+    (subst (λ (w : World). AreHeld steps w.locks.entries) (sym k.world) (running_held l steps old r))
 
 -- ---- the frame on top
 

@@ -6,6 +6,7 @@ use Rattle.std.proofs.lemmas.List.{reverse-append}
 use Rattle.insn_set.specs.declared.ops.Item.{Item}
 use Rattle.dalvik_defs.specs.Effect.{go, next, write_item}
 use Rattle.dalvik_defs.specs.Naming.{method_at}
+use Rattle.dalvik_defs.specs.declared.script.Move.{Move}
 use Rattle.dalvik_defs.specs.declared.state.Frame.{Frame as NamedFrame}
 use Rattle.dalvik_defs.specs.declared.state.Waiting.TheVariants.{Method as InMethod}
 use Rattle.dalvik_state.specs.declared.datum.Datum.{Datum}
@@ -50,9 +51,9 @@ changes_top changes xs (waiting.Ending class) v e h = record {
   top = λ g t. absurd (let no : None ≡ Some g = top_is xs (waiting.Ending class) (Some g) e t in cc);
   other = λ t. stayed xs (waiting.Ending class) v e h;
 }
-changes_top changes xs (waiting.Outside owes) v e h = record {
-  top = λ g t. absurd (let no : None ≡ Some g = top_is xs (waiting.Outside owes) (Some g) e t in cc);
-  other = λ t. stayed xs (waiting.Outside owes) v e h;
+changes_top changes xs (waiting.Outside owes pending) v e h = record {
+  top = λ g t. absurd (let no : None ≡ Some g = top_is xs (waiting.Outside owes pending) (Some g) e t in cc);
+  other = λ t. stayed xs (waiting.Outside owes pending) v e h;
 }
 
 -- by its place
@@ -76,8 +77,8 @@ pub split_last : (xs : List OwnWaiting) (w : OwnWaiting) → slice_get xs (lengt
 split_last [] w e v = absurd (cc)
 split_last (x ∷ xs) w e v = set_last (x ∷ xs) (length (x ∷ xs) - 1) v (omega arith)
 
-pub last_named : (n : Names) (below : List OwnWaiting) (v : OwnWaiting) → stack_of n (below ++ v ∷ []) ≡ waiting_of n v ∷ stack_of n below
-last_named n below v = ap (map (waiting_of n)) (reverse-append below (v ∷ []))
+pub last_named : (n : Names) (script : List Move) (below : List OwnWaiting) (v : OwnWaiting) → stack_of n script (below ++ v ∷ []) ≡ waiting_of n script v ∷ stack_of n script below
+last_named n script below v = ap (map (waiting_of n script)) (reverse-append below (v ∷ []))
 
 pub top_there : (xs : List OwnWaiting) (f : Frame) → top_frame xs ≡ Some f → slice_get xs (length xs - 1) ≡ Some (waiting.Method f)
 top_there xs f e = by (slice_get xs (length xs - 1)) e
@@ -87,20 +88,20 @@ top_there xs f e = by (slice_get xs (length xs - 1)) e
     by (Some (waiting.Method g)) h = (let same : g ≡ f = cc in ap (λ (x : Frame). Some (waiting.Method x)) same)
     by (Some (waiting.Initialiser class above next)) h = absurd (cc)
     by (Some (waiting.Ending class)) h = absurd (cc)
-    by (Some (waiting.Outside owes)) h = absurd (cc)
+    by (Some (waiting.Outside owes pending)) h = absurd (cc)
 
 -- a frame on top stands on top by names
-pub top_named : (n : Names) (xs : List OwnWaiting) (f : Frame) → top_frame xs ≡ Some f → stack_of n xs ≡ InMethod (frame_of n f) ∷ stack_of n (below_top xs)
-top_named n xs f e =
+pub top_named : (n : Names) (script : List Move) (xs : List OwnWaiting) (f : Frame) → top_frame xs ≡ Some f → stack_of n script xs ≡ InMethod (frame_of n f) ∷ stack_of n script (below_top xs)
+top_named n script xs f e =
     let there = top_there xs f e in
-    ap (stack_of n) (sym (set_own xs (length xs - 1) (waiting.Method f) there) ∙ split_last xs (waiting.Method f) there (waiting.Method f))
-    ∙ last_named n (below_top xs) (waiting.Method f)
+    ap (stack_of n script) (sym (set_own xs (length xs - 1) (waiting.Method f) there) ∙ split_last xs (waiting.Method f) there (waiting.Method f))
+    ∙ last_named n script (below_top xs) (waiting.Method f)
 
 -- a frame that has changed stands there, and all below it stays
-pub topped_named : (n : Names) (is_so : Frame → Type 0) (xs ys : List OwnWaiting) (f : Frame) → top_frame xs ≡ Some f → (h : IsTopped is_so xs ys) → stack_of n ys ≡ InMethod (frame_of n h.frame) ∷ stack_of n (below_top xs)
-topped_named n is_so xs ys f e h =
-    ap (stack_of n) (h.stack ∙ split_last xs (waiting.Method f) (top_there xs f e) (waiting.Method h.frame))
-    ∙ last_named n (below_top xs) (waiting.Method h.frame)
+pub topped_named : (n : Names) (script : List Move) (is_so : Frame → Type 0) (xs ys : List OwnWaiting) (f : Frame) → top_frame xs ≡ Some f → (h : IsTopped is_so xs ys) → stack_of n script ys ≡ InMethod (frame_of n h.frame) ∷ stack_of n script (below_top xs)
+topped_named n script is_so xs ys f e h =
+    ap (stack_of n script) (h.stack ∙ split_last xs (waiting.Method f) (top_there xs f e) (waiting.Method h.frame))
+    ∙ last_named n script (below_top xs) (waiting.Method h.frame)
 
 -- a frame that goes on
 pub goes_on_named : (n : Names) (f g : Frame) (cells : List Datum) → f.position < 2 ^ 63 → GoesOn f g cells → frame_of n g ≡ next (with_cells n f cells)
@@ -128,23 +129,23 @@ handles_named n f g at d h = λ i. record {
 
 -- ---- what is on top
 
-replaced : (n : Names) (is_so : Frame → Type 0) (xs ys : List OwnWaiting) (f : Frame) (b : NamedFrame) → top_frame xs ≡ Some f → (h : IsTopped is_so xs ys) → frame_of n h.frame ≡ b → IsReplaced n xs ys (frame_of n f) b
-replaced n is_so xs ys f b e h same = record {
-  was = top_named n xs f e;
-  is = topped_named n is_so xs ys f e h ∙ ap (λ (g : NamedFrame). InMethod g ∷ stack_of n (below_top xs)) same;
+replaced : (n : Names) (script : List Move) (is_so : Frame → Type 0) (xs ys : List OwnWaiting) (f : Frame) (b : NamedFrame) → top_frame xs ≡ Some f → (h : IsTopped is_so xs ys) → frame_of n h.frame ≡ b → IsReplaced n script xs ys (frame_of n f) b
+replaced n script is_so xs ys f b e h same = record {
+  was = top_named n script xs f e;
+  is = topped_named n script is_so xs ys f e h ∙ ap (λ (g : NamedFrame). InMethod g ∷ stack_of n script (below_top xs)) same;
 }
 
-pub stack_goes_on : (n : Names) (xs ys : List OwnWaiting) (f : Frame) → top_frame xs ≡ Some f → f.position < 2 ^ 63 → ChangesTop (λ (f g : Frame). GoesOn f g f.registers.items) xs ys → IsReplaced n xs ys (frame_of n f) (next (frame_of n f))
-stack_goes_on n xs ys f e low h =
+pub stack_goes_on : (n : Names) (script : List Move) (xs ys : List OwnWaiting) (f : Frame) → top_frame xs ≡ Some f → f.position < 2 ^ 63 → ChangesTop (λ (f g : Frame). GoesOn f g f.registers.items) xs ys → IsReplaced n script xs ys (frame_of n f) (next (frame_of n f))
+stack_goes_on n script xs ys f e low h =
     let t = h.top f e in
-    replaced n (λ (g : Frame). GoesOn f g f.registers.items) xs ys f (next (frame_of n f)) e t (goes_on_named n f t.frame f.registers.items low t.so)
+    replaced n script (λ (g : Frame). GoesOn f g f.registers.items) xs ys f (next (frame_of n f)) e t (goes_on_named n f t.frame f.registers.items low t.so)
 
-pub stack_goes_on_with : (n : Names) (xs ys : List OwnWaiting) (f : Frame) (item : Item) (register : ℕ) (d : Datum) → top_frame xs ≡ Some f → f.position < 2 ^ 63 → ChangesTop (λ (f g : Frame). GoesOn f g (with_item item f.registers.items register d)) xs ys → IsReplaced n xs ys (frame_of n f) (next (write_item item (frame_of n f) register (value_of n d)))
-stack_goes_on_with n xs ys f item register d e low h =
+pub stack_goes_on_with : (n : Names) (script : List Move) (xs ys : List OwnWaiting) (f : Frame) (item : Item) (register : ℕ) (d : Datum) → top_frame xs ≡ Some f → f.position < 2 ^ 63 → ChangesTop (λ (f g : Frame). GoesOn f g (with_item item f.registers.items register d)) xs ys → IsReplaced n script xs ys (frame_of n f) (next (write_item item (frame_of n f) register (value_of n d)))
+stack_goes_on_with n script xs ys f item register d e low h =
     let t = h.top f e in
-    replaced n (λ (g : Frame). GoesOn f g (with_item item f.registers.items register d)) xs ys f (next (write_item item (frame_of n f) register (value_of n d))) e t (goes_on_with_named n f t.frame item register d low t.so)
+    replaced n script (λ (g : Frame). GoesOn f g (with_item item f.registers.items register d)) xs ys f (next (write_item item (frame_of n f) register (value_of n d))) e t (goes_on_with_named n f t.frame item register d low t.so)
 
-pub stack_handles : (n : Names) (xs ys : List OwnWaiting) (f : Frame) (at : ℕ) (d : Datum) → top_frame xs ≡ Some f → ChangesTop (λ (f g : Frame). Handles f g at d) xs ys → IsReplaced n xs ys (frame_of n f) (record (go (frame_of n f) at) { caught = value_of n d })
-stack_handles n xs ys f at d e h =
+pub stack_handles : (n : Names) (script : List Move) (xs ys : List OwnWaiting) (f : Frame) (at : ℕ) (d : Datum) → top_frame xs ≡ Some f → ChangesTop (λ (f g : Frame). Handles f g at d) xs ys → IsReplaced n script xs ys (frame_of n f) (record (go (frame_of n f) at) { caught = value_of n d })
+stack_handles n script xs ys f at d e h =
     let t = h.top f e in
-    replaced n (λ (g : Frame). Handles f g at d) xs ys f (record (go (frame_of n f) at) { caught = value_of n d }) e t (handles_named n f t.frame at d t.so)
+    replaced n script (λ (g : Frame). Handles f g at d) xs ys f (record (go (frame_of n f) at) { caught = value_of n d }) e t (handles_named n f t.frame at d t.so)

@@ -2,7 +2,7 @@
 use Rattle.std.specs.Prelude.{ℕ, ◌≡◌, ◌+◌, ◌<◌, ◌^◌, false, List, drop, Option}
 use Rattle.program_model.specs.declared.pass.Outside.{Outside as OwnOutside}
 use Rattle.dalvik_lookups.specs.Facing.{run_face}
-use Rattle.dalvik_lookups.specs.Reached.{IsOuter, AreTypeMarks}
+use Rattle.dalvik_lookups.specs.Reached.{constructed_kinds, IsOuter, AreTypeMarks}
 use Rattle.dalvik_lookups.specs.Tables.{IsRight}
 use Rattle.dalvik_lookups.specs.Walks.{IsKept}
 use Rattle.dalvik_lookups.specs.declared.lookups.Lookups.{Lookups}
@@ -29,6 +29,7 @@ use Rattle.dalvik_state.specs.declared.state.State.{State}
 pub record IsReach (l : Lookups) (o : OwnOutside) : Type 0 where
   pub members : IsOuter l.program.now o l.outer
   pub classes : AreTypeMarks l.program.now l.types o.classes l.outer.classes.items
+  pub constructed : AreTypeMarks l.program.now l.types (constructed_kinds l.program.now o.methods) l.outer.constructed.items
 
 -- all that a run depends on beside the bodies, which are these
 abbrev pub setting_in : Lookups → OwnOutside → Floats → Setting
@@ -47,11 +48,11 @@ abbrev pub need_in : Lookups → State → Text → Need
 need_in l s = need_of (run_face l) (classes_in l s)
 
 -- the stack, what stands below its top, and what is left of the script
-abbrev pub stack_in : Lookups → State → List Waiting
-stack_in l s = stack_of (names_in l) s.stack.items
+abbrev pub stack_in : Lookups → List Move → State → List Waiting
+stack_in l script s = stack_of (names_in l) script s.stack.items
 
-abbrev pub below_in : Lookups → State → List Waiting
-below_in l s = stack_of (names_in l) (below_top s.stack.items)
+abbrev pub below_in : Lookups → List Move → State → List Waiting
+below_in l script s = stack_of (names_in l) script (below_top s.stack.items)
 
 abbrev pub script_in : List Move → State → List Move
 script_in script s = drop s.next script
@@ -59,7 +60,7 @@ script_in script s = drop s.next script
 -- what an outcome does, where this frame is on top
 abbrev pub comes_of : Lookups → OwnOutside → Floats → List Move → State → Frame → Outcome → Next
 comes_of l o floats script s f outcome =
-    happens (setting_in l o floats) (bodies_in l) outcome (world_in l s) (classes_in l s) (frame_of (names_in l) f) (below_in l s) (script_in script s)
+    happens (setting_in l o floats) (bodies_in l) outcome (world_in l s) (classes_in l s) (frame_of (names_in l) f) (below_in l script s) (script_in script s)
 
 -- ---- a step
 

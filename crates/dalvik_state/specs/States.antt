@@ -50,15 +50,19 @@ status_at statuses c = slice_index_or statuses c status.Done
 abbrev pub classes_of : Program → List OwnStatus → Classes
 classes_of p statuses t = elim (place_named p t) [ Some c ↦ status_of (status_at statuses c) | None ↦ New ]
 
-abbrev pub waiting_of : Names → OwnWaiting → Waiting
-waiting_of n (waiting.Method f) = InMethod (frame_of n f)
-waiting_of n (waiting.Initialiser class above next) = Initialiser (class_text n.program class) (map (class_text n.program) (drop next above.items))
-waiting_of n (waiting.Ending class) = Ending (class_text n.program class)
-waiting_of n (waiting.Outside owes) = Outside (option_map n.kind owes)
+-- the move at a place of the script, where a move waits there
+abbrev pub move_of : List Move → Option ℕ → Option Move
+move_of script pending = option_and_then (λ (place : ℕ). slice_get script place) pending
 
--- the stack by numbers has its top last
-abbrev pub stack_of : Names → List OwnWaiting → List Waiting
-stack_of n stack = map (waiting_of n) (reverse stack)
+abbrev pub waiting_of : Names → List Move → OwnWaiting → Waiting
+waiting_of n script (waiting.Method f) = InMethod (frame_of n f)
+waiting_of n script (waiting.Initialiser class above next) = Initialiser (class_text n.program class) (map (class_text n.program) (drop next above.items))
+waiting_of n script (waiting.Ending class) = Ending (class_text n.program class)
+waiting_of n script (waiting.Outside owes pending) = Outside (option_map n.kind owes) (move_of script pending)
+
+-- the stack by numbers has its top last, in a run of these moves
+abbrev pub stack_of : Names → List Move → List OwnWaiting → List Waiting
+stack_of n script stack = map (waiting_of n script) (reverse stack)
 
 -- the frame on top
 abbrev pub frame_in : OwnWaiting → Option Frame
@@ -97,9 +101,18 @@ abbrev pub below_top : List OwnWaiting → List OwnWaiting
 below_top stack = take (length stack - 1) stack
 
 -- by names a frame was on top, another one is, and all below it stays
-pub record IsReplaced (n : Names) (old new : List OwnWaiting) (f g : NamedFrame) : Type 0 where
-  pub was : stack_of n old ≡ InMethod f ∷ stack_of n (below_top old)
-  pub is : stack_of n new ≡ InMethod g ∷ stack_of n (below_top old)
+pub record IsReplaced (n : Names) (script : List Move) (old new : List OwnWaiting) (f g : NamedFrame) : Type 0 where
+  pub was : stack_of n script old ≡ InMethod f ∷ stack_of n script (below_top old)
+  pub is : stack_of n script new ≡ InMethod g ∷ stack_of n script (below_top old)
+
+-- the framework's frame waits with the move at a place of the script, or with none; any other entry stays
+abbrev pub with_pending : Option ℕ → OwnWaiting → OwnWaiting
+with_pending pending (waiting.Outside owes before) = waiting.Outside owes pending
+with_pending pending w = w
+
+-- so on top of a stack, and all below it stays
+abbrev pub pending_top : Option ℕ → List OwnWaiting → List OwnWaiting
+pending_top pending stack = elim (slice_get stack (length stack - 1)) [ Some w ↦ slice_set stack (length stack - 1) (with_pending pending w) | None ↦ stack ]
 
 -- only the stack may change
 pub record KeepsRest (old new : OwnState) : Type 0 where
@@ -114,7 +127,7 @@ pub record KeepsRest (old new : OwnState) : Type 0 where
 abbrev pub state_of : Names → List Move → OwnState → State
 state_of n script s = elim s.ended [
   | true ↦ Ended
-  | false ↦ On (world_of n s.world) (classes_of n.program s.statuses.items) (stack_of n s.stack.items) (drop s.next script)
+  | false ↦ On (world_of n s.world) (classes_of n.program s.statuses.items) (stack_of n script s.stack.items) (drop s.next script)
 ]
 
 -- ---- what a run keeps
@@ -178,7 +191,7 @@ abbrev pub IsSoundWaiting : Lookups → ℕ → OwnWaiting → Type 0
 IsSoundWaiting l size (waiting.Method f) = IsSoundFrame l size f
 IsSoundWaiting l size (waiting.Initialiser class above next) = AreClasses l (class ∷ above.items)
 IsSoundWaiting l size (waiting.Ending class) = AreClasses l (class ∷ [])
-IsSoundWaiting l size (waiting.Outside owes) = IsOwed l owes
+IsSoundWaiting l size (waiting.Outside owes pending) = IsOwed l owes
 
 -- a state of a run after so many steps: no position and no lock has grown more than once in a step
 pub record IsRunning (l : Lookups) (steps : ℕ) (s : OwnState) : Type 0 where
@@ -196,7 +209,7 @@ pub record IsOpening (l : Lookups) (s : OwnState) : Type 0 where
   pub locks : s.world.locks.entries ≡ []
   pub exposed : s.world.exposed.items ≡ []
   pub statuses : s.statuses.items ≡ replicate (length l.program.now.classes) status.New
-  pub stack : s.stack.items ≡ waiting.Outside None ∷ []
+  pub stack : s.stack.items ≡ waiting.Outside None None ∷ []
   pub next : s.next ≡ 0
   pub ended : s.ended ≡ false
 

@@ -5,7 +5,7 @@ ghost use Rattle.std.specs.Option.{option_and_then, option_copied, option_map};
 ghost use Rattle.dalvik_defs.specs.Face.{is_concrete, is_plain_class, Place};
 ghost use Rattle.dalvik_defs.specs.Find.{Found};
 ghost use Rattle.dalvik_defs.specs.Gives.{all_fit, fits};
-ghost use Rattle.dalvik_defs.specs.Legal.{calls_back, on_fits, receiver_ok};
+ghost use Rattle.dalvik_defs.specs.Legal.{answers_kept, calls_back, may_reach, on_fits, receiver_ok};
 ghost use Rattle.dalvik_defs.specs.Naming.{field_at, method_at};
 ghost use Rattle.dalvik_defs.specs.Outcome.{passed_types};
 ghost use Rattle.dalvik_defs.specs.Outer.{methods_in, outer_of};
@@ -336,19 +336,46 @@ fn calls_back(
     reaches_out(tables, memo, receiver, method.name)
 }
 
-/// Whether a method is kept, or called back on an object of a class.
-fn kept_or_called(
+/// Whether the framework calls a method on an object of a class by a kept virtual one: it is virtual, the class finds it, and
+/// the class stands under one with a kept virtual method of its name and signature.
+fn answers_kept(
     tables: &Tables<'_>,
     memo: &mut Memo,
     receiver: Kind,
     at: MethodAt,
     method: &Method,
 ) -> Result<bool, AllocError>
-    ensures kept { IsRight tables.now.lookups → IsKept tables.now.lookups memo.old → IsKind tables.now.lookups.types receiver → look.method_at tables.now.lookups.program.now at ≡ Some method.now → IsKept tables.now.lookups memo.new }
+    ensures kept { (o : Outside) → IsRight tables.now.lookups → IsReach tables.now.lookups o → IsKept tables.now.lookups memo.old → IsKind tables.now.lookups.types receiver → look.method_at tables.now.lookups.program.now at ≡ Some method.now → IsKept tables.now.lookups memo.new }
     ensures is { (o : Outside) (f : Found) → IsRight tables.now.lookups → IsReach tables.now.lookups o → IsKept tables.now.lookups memo.old → IsKind tables.now.lookups.types receiver → look.method_at tables.now.lookups.program.now at ≡ Some method.now → found_at tables.now.lookups.program.now at ≡ Some f
-        → IfOk result (λ b. b ≡ (methods_in tables.now.lookups.program.now o.methods f.key || calls_back (run_face tables.now.lookups) (outer_of tables.now.lookups.program.now o) (type_text tables.now.lookups.types receiver) f)) }
+        → IfOk result (λ b. b ≡ answers_kept (run_face tables.now.lookups) (outer_of tables.now.lookups.program.now o) (type_text tables.now.lookups.types receiver) f) }
+{
+    if !tables.lookups.is_virtual(method) {
+        return Ok(false);
+    }
+    let found = tables.lookups.virtually(memo, receiver, method.name)?;
+    if !finds(found, at) {
+        return Ok(false);
+    }
+    tables.lookups.has_keeper(memo, receiver, method.name)
+}
+
+/// Whether the framework reaches a method on an object of a class: it is kept, called by a kept virtual one, or called back.
+fn may_reach(
+    tables: &Tables<'_>,
+    memo: &mut Memo,
+    receiver: Kind,
+    at: MethodAt,
+    method: &Method,
+) -> Result<bool, AllocError>
+    ensures kept { (o : Outside) → IsRight tables.now.lookups → IsReach tables.now.lookups o → IsKept tables.now.lookups memo.old → IsKind tables.now.lookups.types receiver → look.method_at tables.now.lookups.program.now at ≡ Some method.now → IsKept tables.now.lookups memo.new }
+    ensures is { (o : Outside) (f : Found) → IsRight tables.now.lookups → IsReach tables.now.lookups o → IsKept tables.now.lookups memo.old → IsKind tables.now.lookups.types receiver → look.method_at tables.now.lookups.program.now at ≡ Some method.now → found_at tables.now.lookups.program.now at ≡ Some f
+        → IfOk result (λ b. b ≡ may_reach (run_face tables.now.lookups) (outer_of tables.now.lookups.program.now o) (type_text tables.now.lookups.types receiver) f) }
 {
     if tables.lookups.outer.keeps_method(method.name) {
+        return Ok(true);
+    }
+    let answers = answers_kept(tables, memo, receiver, at, method)?;
+    if answers {
         return Ok(true);
     }
     calls_back(tables, memo, receiver, at, method)
@@ -363,7 +390,7 @@ pub fn receiver_ok(
     receiver: Datum,
     found: (MethodAt, &Method),
 ) -> Result<bool, AllocError>
-    ensures kept { IsRight tables.now.lookups → IsKept tables.now.lookups memo.old → IsGiven tables.now.lookups world.now gifts.now → look.method_at tables.now.lookups.program.now found.entry.0 ≡ Some found.entry.1.now → IsKept tables.now.lookups memo.new }
+    ensures kept { (o : Outside) → IsRight tables.now.lookups → IsReach tables.now.lookups o → IsKept tables.now.lookups memo.old → IsGiven tables.now.lookups world.now gifts.now → look.method_at tables.now.lookups.program.now found.entry.0 ≡ Some found.entry.1.now → IsKept tables.now.lookups memo.new }
     ensures is { (o : Outside) (f : Found) (vs : List Value) → IsRight tables.now.lookups → IsReach tables.now.lookups o → IsKept tables.now.lookups memo.old → IsGiven tables.now.lookups world.now gifts.now → IsGivenFine tables.now.lookups world.now gifts.now receiver → look.method_at tables.now.lookups.program.now found.entry.0 ≡ Some found.entry.1.now → found_at tables.now.lookups.program.now found.entry.0 ≡ Some f
         → IfOk result (λ b. b ≡ receiver_ok (run_face tables.now.lookups) (outer_of tables.now.lookups.program.now o) (given_world (names_in tables.now.lookups) world.now gifts.now) f (value_of (names_in tables.now.lookups) receiver ∷ vs)) }
 {
@@ -375,7 +402,7 @@ pub fn receiver_ok(
     let class = tables.lookups.kind_of_class(at.class);
     let under = tables.lookups.is_under(memo, own, class)?;
     if under {
-        kept_or_called(tables, memo, own, at, method)
+        may_reach(tables, memo, own, at, method)
     } else {
         Ok(false)
     }

@@ -47,7 +47,8 @@ pub enum Status {
 
 /// What stands on the stack: a method; a class that is being initialised, with the classes that come before it, of which
 /// those from place `next` on are left; a class whose initialiser has run, or that has none; or the framework, with the
-/// type of the answer that it owes, none where nothing is open.
+/// type of the answer that it owes, none where nothing is open, and with the place in the script of the move that it makes
+/// again once the class that the move needs is initialised.
 #[derive(Drop)]
 pub enum Waiting<'a> {
     Method(Frame<'a>),
@@ -61,6 +62,7 @@ pub enum Waiting<'a> {
     },
     Outside {
         owes: Option<Kind>,
+        pending: Option<usize>,
     },
 }
 
@@ -82,7 +84,10 @@ fn begin<'a>(alloc: Global, tables: &Tables<'a>) -> Result<State<'a>, AllocError
     let classes = tables.lookups.program.classes.len();
     let statuses = vec![in alloc; Status::New; classes]?;
     let mut stack = Vec::new(alloc);
-    stack.push(Waiting::Outside { owes: None })?;
+    stack.push(Waiting::Outside {
+        owes: None,
+        pending: None,
+    })?;
     Ok(State {
         world,
         statuses,

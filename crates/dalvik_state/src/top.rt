@@ -1,8 +1,8 @@
 //! What changes in the frame on top of the stack.
 
-ghost use Rattle.std.specs.Prelude.{◌≡◌};
+ghost use Rattle.std.specs.Prelude.{◌≡◌, vec_capacity, vec_len};
 ghost use Rattle.dalvik_state.specs.Frames.{with_item, GoesOn, Handles};
-ghost use Rattle.dalvik_state.specs.States.{ChangesIn, ChangesTop, KeepsRest};
+ghost use Rattle.dalvik_state.specs.States.{pending_top, with_pending, ChangesIn, ChangesTop, KeepsRest};
 
 use crate::datum::Datum;
 use crate::state::{State, Waiting};
@@ -65,7 +65,38 @@ fn handle_on(stack: &mut Vec<Waiting<'_>>, position: u32, caught: Datum)
     }
 }
 
+/// The framework's frame waits with the move at a place of the script, or with none.
+fn set_pending_in(waiting: &mut Waiting<'_>, place: Option<usize>)
+    ensures { waiting.new ≡ with_pending place waiting.old }
+{
+    if let Waiting::Outside { pending, .. } = waiting {
+        *pending = place;
+    }
+}
+
+/// So does the framework's frame on top of a stack.
+fn set_pending_on(stack: &mut Vec<Waiting<'_>>, place: Option<usize>)
+    ensures entries { stack.new.items ≡ pending_top place stack.old.items }
+    ensures len { vec_len stack.new ≡ vec_len stack.old }
+    ensures capacity { vec_capacity stack.new ≡ vec_capacity stack.old }
+{
+    let count = stack.len();
+    if count > 0 {
+        set_pending_in(&mut stack[count - 1], place);
+    }
+}
+
 impl<'a> State<'a> {
+    /// The framework's frame on top waits with the move at a place of the script, or with none. Any other stays.
+    pub fn set_pending(&mut self, place: Option<usize>)
+        ensures stack { self.new.stack.items ≡ pending_top place self.old.stack.items }
+        ensures len { vec_len self.new.stack ≡ vec_len self.old.stack }
+        ensures capacity { vec_capacity self.new.stack ≡ vec_capacity self.old.stack }
+        ensures rest { KeepsRest self.old self.new }
+    {
+        set_pending_on(&mut self.stack, place);
+    }
+
     /// The frame on top goes on.
     pub fn go_on(&mut self)
         ensures stack { ChangesTop (λ f g. GoesOn f g f.registers.items) self.old.stack.items self.new.stack.items }

@@ -12,6 +12,7 @@ use Rattle.dalvik_defs.specs.declared.state.Frame.{Frame as NamedFrame}
 use Rattle.dalvik_lookups.specs.Tables.{IsRight}
 use Rattle.dalvik_lookups.specs.declared.lookups.Lookups.{Lookups}
 use Rattle.dalvik_state.specs.declared.datum.Datum.{Datum}
+use Rattle.dalvik_state.specs.declared.datum.Datum.TheVariants as datum
 use Rattle.dalvik_state.specs.declared.frame.Frame.{Frame}
 use Rattle.dalvik_state.specs.Frames.{cell}
 use Rattle.dalvik_state.specs.Runs.{bodies_in}
@@ -20,7 +21,7 @@ use Rattle.dalvik_state.specs.Views.{Names, frame_of, names_in, value_of, values
 use Rattle.dalvik_state.proofs.Bodies.{frame_form}
 use Rattle.dalvik_state.proofs.Fine.{fine_cells, fine_item}
 use Rattle.dalvik_state.proofs.Running.{sound_goes_on, sound_same_code}
-use Rattle.dalvik_state.proofs.Tops.{goes_on_named, goes_on_with_named}
+use Rattle.dalvik_state.proofs.Tops.{goes_on_with_named}
 use Rattle.dalvik_steps.specs.Backs.{asked_by, Backs, BacksBy, TakesResult}
 
 -- ---- by names
@@ -42,7 +43,7 @@ received n f g d (Some other) low h = takes_named n f g d low h
 
 pub backs_named : (l : Lookups) → IsRight l → (size : ℕ) (f g : Frame) (value : Option Datum) → IsSoundFrame l size f → f.position < 2 ^ 63 → Backs value f g
     → frame_of (names_in l) g ≡ back (bodies_in l) (frame_of (names_in l) f) (option_map (value_of (names_in l)) value)
-backs_named l r size f g None s low h = goes_on_named (names_in l) f g f.registers.items low h.backs
+backs_named l r size f g None s low h = takes_named (names_in l) f g (datum.Word 0) low h.backs
 backs_named l r size f g (Some d) s low h =
     received (names_in l) f g d (slice_get f.body.now.insns f.position) low h.backs
     ∙ sym (ap (λ (o : Option Form). receives o (frame_of (names_in l) f) (value_of (names_in l) d)) (frame_form l r size f s))
@@ -68,7 +69,7 @@ sound_received l size f g d None s fine h = sound_takes l size f g d s fine h
 sound_received l size f g d (Some other) s fine h = sound_takes l size f g d s fine h
 
 pub backs_sound : (l : Lookups) (size : ℕ) (f g : Frame) (value : Option Datum) → IsSoundFrame l size f → FineMaybe (names_in l) size value → Backs value f g → IsSoundFrame l size g
-backs_sound l size f g None s fine h = sound_goes_on l size f g f.registers.items s h.backs (fine_cells (names_in l) size f s.fine)
+backs_sound l size f g None s fine h = sound_takes l size f g (datum.Word 0) s tt h.backs
 backs_sound l size f g (Some d) s fine h = sound_received l size f g d (slice_get f.body.now.insns f.position) s fine h.backs
 
 paced_received : (f g : Frame) (d : Datum) (o : Option Insn) → f.position < 2 ^ 63 → BacksBy (Some d) (asked_by o) f g → g.position ≡ f.position + 1

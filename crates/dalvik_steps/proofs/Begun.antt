@@ -110,14 +110,14 @@ thrown_is l (thrown.New class) w classes stack script = refl
 
 -- it begins to fall
 pub falling_of : (l : Lookups) (steps : ℕ) (script : List Move) (old : State) (w : OwnWorld) (f : Flight) (d : Datum) → IsRunning l steps old → old.ended ≡ false → IsThrownInto l f.thrown (length f.wraps.items) old.world w d → IsFlight l (world_in l old) old.stack.items f.thrown f
-    → IsFalling l steps script (thrown_by l f.thrown (world_in l old) (classes_in l old) (stack_in l old) (script_in script old)) f.landing (record old { world = w }) f.wraps.items d
+    → IsFalling l steps script (thrown_by l f.thrown (world_in l old) (classes_in l old) (stack_in l script old) (script_in script old)) f.landing (record old { world = w }) f.wraps.items d
 falling_of l steps script old w f d run on t h = record {
   running = running_world l steps old (record old { world = w }) run t.sound t.more t.locks refl refl;
   on = on;
   fine = t.fine;
   flies = subst (λ (u : World). Flies l u (value_of (names_in l) d) (reverse old.stack.items) f.wraps.items f.landing) (sym t.world)
       (subst (λ (v : Value). Flies l (thrown_world l (world_in l old) f.thrown) v (reverse old.stack.items) f.wraps.items f.landing) (sym t.value) h.flies);
-  whole = (λ i. unwinds (run_face l) (bodies_in l) (t.world i) (classes_in l old) (t.value i) (stack_in l old) (script_in script old)) ∙ thrown_is l f.thrown (world_in l old) (classes_in l old) (stack_in l old) (script_in script old);
+  whole = (λ i. unwinds (run_face l) (bodies_in l) (t.world i) (classes_in l old) (t.value i) (stack_in l script old) (script_in script old)) ∙ thrown_is l f.thrown (world_in l old) (classes_in l old) (stack_in l script old) (script_in script old);
   space = t.space;
   room = t.room;
 }
@@ -126,8 +126,8 @@ falling_of l steps script old w f d run on t h = record {
 
 -- it goes its way from the state that it was planned in
 pub thrown_same : (l : Lookups) (script : List Move) (old new : State) (t : Thrown) → IsReserved old new
-    → thrown_by l t (world_in l new) (classes_in l new) (stack_in l new) (script_in script new) ≡ thrown_by l t (world_in l old) (classes_in l old) (stack_in l old) (script_in script old)
-thrown_same l script old new t h = λ i. thrown_by l t (world_same (names_in l) old.world new.world h.world i) (classes_of l.program.now (h.statuses i)) (stack_of (names_in l) (h.stack i)) (drop (h.next i) script)
+    → thrown_by l t (world_in l new) (classes_in l new) (stack_in l script new) (script_in script new) ≡ thrown_by l t (world_in l old) (classes_in l old) (stack_in l script old) (script_in script old)
+thrown_same l script old new t h = λ i. thrown_by l t (world_same (names_in l) old.world new.world h.world i) (classes_of l.program.now (h.statuses i)) (stack_of (names_in l) script (h.stack i)) (drop (h.next i) script)
 
 pub still_thrown : (l : Lookups) (old new : State) (t u : Thrown) → IsReserved old new → u ≡ t → IsThrown l (length (spots_of old.world)) t → IsThrown l (length (spots_of new.world)) u
 still_thrown l old new t u h e is = subst (IsThrown l (length (spots_of new.world))) (sym e) (subst (λ (ss : List Spot). IsThrown l (length ss) t) (sym h.world.heap) is)

@@ -1,6 +1,6 @@
 -- What becomes of a call, by what it finds.
-use Rattle.std.proofs.Common.{◌≡◌, ℕ, ◌<◌, Bool, true, false, List, length, ap, refl, sym, subst, ◌∙◌, Ok, Err, Result}
-use Rattle.std.specs.Prelude.{◌==◌, ◌^◌, IfOk, OnErr, Option, Some, None, slice_get}
+use Rattle.std.proofs.Common.{◌≡◌, ℕ, ◌<◌, Bool, true, false, List, [], length, ap, refl, sym, subst, ◌∙◌, Ok, Err, Result}
+use Rattle.std.specs.Prelude.{◌==◌, ◌&&◌, ◌^◌, IfOk, OnErr, Option, Some, None, slice_get}
 use Rattle.std.specs.Int.RustNames.{bit_and}
 use Rattle.std.specs.declared.alloc.AllocError.{AllocError}
 use Rattle.insn_set.specs.declared.ops.InvokeKind.{InvokeKind}
@@ -12,10 +12,11 @@ use Rattle.dalvik_defs.specs.Find.{Found}
 use Rattle.dalvik_defs.specs.Flags.{is_native, is_static}
 use Rattle.dalvik_defs.specs.Known.{abstract_method}
 use Rattle.dalvik_defs.specs.Names.{Text, method_eq, object_constructor}
-use Rattle.dalvik_defs.specs.Outcome.{calls_found, calls_out, calls_ready, calls_uncoded, calls_unfound, faults, native_kind, takes_no_receiver, when_ready, Enters, Need, Outcome, Stays}
+use Rattle.dalvik_defs.specs.Outcome.{calls_found, calls_out, calls_ready, calls_uncoded, calls_unfound, faults, is_direct, native_kind, takes_no_receiver, when_ready, Enters, Need, Outcome, Stays}
 use Rattle.dalvik_defs.specs.State.{World as NamedWorld}
 use Rattle.dalvik_defs.specs.declared.state.Frame.{Frame as NamedFrame}
 use Rattle.dalvik_defs.specs.declared.state.Value.{Value}
+use Rattle.dalvik_defs.specs.declared.state.Value.TheVariants.{Word}
 use Rattle.dalvik_defs.specs.declared.events.Event.{Event}
 use Rattle.dalvik_defs.specs.declared.names.MethodKey.{MethodKey}
 use Rattle.dalvik_defs.specs.declared.script.Move.{Move}
@@ -25,7 +26,6 @@ use Rattle.dalvik_lookups.specs.Views.{known_names}
 use Rattle.dalvik_lookups.specs.Walks.{IsKept}
 use Rattle.dalvik_lookups.specs.declared.lookups.Lookups.{Lookups}
 use Rattle.dalvik_lookups.specs.declared.memo.Memo.{Memo}
-use Rattle.dalvik_state.specs.Frames.{GoesOn}
 use Rattle.dalvik_state.specs.Runs.{classes_in, comes_of, script_in, stack_in, world_in, IsEvent, IsNext, IsRun}
 use Rattle.dalvik_state.specs.States.{top_frame, ChangesTop, KeepsRest}
 use Rattle.dalvik_state.specs.Views.{frame_of, names_in, AreFine}
@@ -33,12 +33,13 @@ use Rattle.dalvik_state.specs.Worlds.{spots_of}
 use Rattle.dalvik_state.specs.declared.datum.Datum.{Datum}
 use Rattle.dalvik_state.specs.declared.frame.Frame.{Frame}
 use Rattle.dalvik_state.specs.declared.state.State.{State}
+use Rattle.dalvik_state.proofs.Tops.{top_named, top_there}
+use Rattle.dalvik_steps.specs.Backs.{Backs}
 use Rattle.dalvik_steps.specs.Entries.{thrown_by}
 use Rattle.dalvik_steps.specs.Invoking.{IsFound}
 use Rattle.dalvik_steps.specs.Reaching.{IsStep}
 use Rattle.dalvik_steps.specs.declared.throwing.Thrown.TheVariants as thrown
-use Rattle.dalvik_steps.proofs.FieldReads.{turns_same}
-use Rattle.dalvik_steps.proofs.Leaving.{goes_on_left}
+use Rattle.dalvik_steps.proofs.Handing.{given, goes_back}
 use Rattle.dalvik_steps.proofs.Outcomes.{faulted, ready_next}
 
 -- ---- flags
@@ -67,14 +68,14 @@ module _ (kind : InvokeKind) (g : Found) (values : List Value) (w : NamedWorld) 
   pub ready_by : (need : Text → Need) (b : Bool) → is_static g.flags ≡ b → calls_ready need kind g values w ≡ elim b as (λ b. Outcome) [ true ↦ when_ready (need g.key.class) w g.key.class (calls_found kind g values w) | false ↦ calls_found kind g values w ]
   ready_by need b e = ap (λ (x : Bool). elim x as (λ x. Outcome) [ true ↦ when_ready (need g.key.class) w g.key.class (calls_found kind g values w) | false ↦ calls_found kind g values w ]) e
 
-pub unfound_by : (kind : InvokeKind) (k : MethodKey) (values : List Value) (w : NamedWorld) (f : NamedFrame) (b : Bool) → method_eq k object_constructor ≡ b
-    → calls_unfound kind k values w f ≡ elim b as (λ b. Outcome) [ true ↦ Stays w (next f) None | false ↦ calls_out kind (takes_no_receiver kind) k values w ]
-unfound_by kind k values w f b e = ap (λ (x : Bool). elim x as (λ x. Outcome) [ true ↦ Stays w (next f) None | false ↦ calls_out kind (takes_no_receiver kind) k values w ]) e
+pub unfound_by : (kind : InvokeKind) (k : MethodKey) (values : List Value) (w : NamedWorld) (f : NamedFrame) (b : Bool) → (is_direct kind && method_eq k object_constructor) ≡ b
+    → calls_unfound kind k values w f ≡ elim b as (λ b. Outcome) [ true ↦ Stays w (next (record f { result = Word 0 })) None | false ↦ calls_out kind (takes_no_receiver kind) k values w ]
+unfound_by kind k values w f b e = ap (λ (x : Bool). elim x as (λ x. Outcome) [ true ↦ Stays w (next (record f { result = Word 0 })) None | false ↦ calls_out kind (takes_no_receiver kind) k values w ]) e
 
 -- ---- a new object of a known class is thrown
 
 pub faulted_of : (l : Lookups) (o : Outside) (floats : Floats) (script : List Move) (steps : ℕ) (old : State) (f : Frame) → top_frame old.stack.items ≡ Some f → IsRight l → (m : Memo) (new : State) (number : ℕ) (c : Text) → slice_get known_names number ≡ Some c
-    → (r : Result (Option Event) AllocError) → IfOk r (λ (e : Option Event). IsNext l steps script m new e (thrown_by l (thrown.New number) (world_in l old) (classes_in l old) (stack_in l old) (script_in script old)))
+    → (r : Result (Option Event) AllocError) → IfOk r (λ (e : Option Event). IsNext l steps script m new e (thrown_by l (thrown.New number) (world_in l old) (classes_in l old) (stack_in l script old) (script_in script old)))
     → IfOk r (λ (e : Option Event). IsNext l steps script m new e (comes_of l o floats script old f (faults (world_in l old) c)))
 faulted_of l o floats script steps old f top right m new number c known (Ok e) h = faulted l o floats script steps old f top right m new e number c known h
 faulted_of l o floats script steps old f top right m new number c known (Err x) h = h
@@ -89,13 +90,12 @@ ready_of l o floats script steps old f top m new need c now is (Err x) h = h
 
 -- ---- the constructor of Object does nothing
 
-pub went_on : (l : Lookups) (o : Outside) (floats : Floats) (script : List Move) (steps : ℕ) (f : Frame) (old new : State) → IsStep l steps old f → ChangesTop (λ (f g : Frame). GoesOn f g f.registers.items) old.stack.items new.stack.items → KeepsRest old new
-    → (kind : InvokeKind) (k : MethodKey) (values : List Value) → method_eq k object_constructor ≡ true
+pub went_on : (l : Lookups) (o : Outside) (floats : Floats) (script : List Move) (steps : ℕ) (f : Frame) (old new : State) → IsStep l steps old f → ChangesTop (Backs None) old.stack.items new.stack.items → KeepsRest old new
+    → (kind : InvokeKind) (k : MethodKey) (values : List Value) → (is_direct kind && method_eq k object_constructor) ≡ true
     → IsEvent l steps script new None (comes_of l o floats script old f (calls_unfound kind k values (world_in l old) (frame_of (names_in l) f)))
-went_on l o floats script steps f old new h changes k kind key values is = subst (λ (x : Outcome). IsEvent l steps script new None (comes_of l o floats script old f x)) (sym (unfound_by kind key values (world_in l old) (frame_of (names_in l) f) true is)) (record {
-  left = goes_on_left l steps script old old new (world_in l old) h.state h.early h.on (turns_same l steps old h.state) f h.top changes k;
-  shown = refl;
-})
+went_on l o floats script steps f old new h changes k kind key values is = subst (λ (x : Outcome). IsEvent l steps script new None (comes_of l o floats script old f x)) (sym (unfound_by kind key values (world_in l old) (frame_of (names_in l) f) true is))
+    (subst (IsEvent l steps script new None) (ap (given l h.right steps h.early script old new h.state h.on None []) (top_named (names_in l) script old.stack.items f h.top))
+    (goes_back l h.right steps h.early script old new h.state h.on None [] tt f (top_there old.stack.items f h.top) (record { stack = changes; rest = k })))
 
 pub ready_run : (l : Lookups) (steps : ℕ) (m n : Memo) (old new : State) → new ≡ old → IsKept l n → IsRun l m steps old → IsRun l n steps new
 ready_run l steps m n old new same k r = subst (IsRun l n steps) (sym same) (record { right = r.right; kept = k; state = r.state; early = r.early; on = r.on })

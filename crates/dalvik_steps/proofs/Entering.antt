@@ -37,9 +37,10 @@ use Rattle.dalvik_state.specs.Views.{frame_of, names_in, value_of, values_of, Ar
 use Rattle.dalvik_state.specs.Worlds.{spots_of}
 use Rattle.dalvik_state.proofs.Bodies.{defined_named}
 use Rattle.dalvik_state.proofs.Running.{ArePaced, AreSoundWaiting, one_paced, paced_pushed, pushed_named, running_paced, running_stack, sound_pushed}
-use Rattle.dalvik_steps.specs.Entries.{IsAtEntry, IsEntered, IsEntry, IsFirst}
+use Rattle.dalvik_steps.specs.Entries.{takes, takes_in, IsEntered, IsEntry, IsFirst, IsWithinOf}
 use Rattle.dalvik_steps.proofs.Handing.{no_running, state_over}
 use Rattle.dalvik_steps.proofs.Stacked.{stack_left}
+use Rattle.dalvik_steps.proofs.Taking.{counted, entered_by, not_entered, takes_named}
 
 -- the class in which a method stands
 pub record StandsIn (p : Program) (at : MethodAt) (own : Method) : Type 0 where
@@ -81,15 +82,17 @@ fine_at_entry n size (suc k) values h (suc r) = fine_at_entry n size k values h 
 
 -- ---- the frame
 
-pub entered : (l : Lookups) → IsRight l → (size : ℕ) (at : MethodAt) (own : Method) (values : List Datum) (body : Body) (f : Frame) → look.method_at l.program.now at ≡ Some own → own.body ≡ Some body → AreFine (names_in l) size values → IsAtEntry at own.name body values f
+pub entered : (l : Lookups) → IsRight l → (size : ℕ) (at : MethodAt) (own : Method) (values : List Datum) (body : Body) (f : Frame) → look.method_at l.program.now at ≡ Some own → own.body ≡ Some body → AreFine (names_in l) size values → IsWithinOf at own.name body values f
     → IsEntered l size own values f
-entered l r size at own values body f e coded fine h =
+entered l r size at own values body f e coded fine within =
     let p = l.program.now in
     let n = names_in l in
     let k = stands_in p at own e in
+    let h = within.entry in
     record {
       body = body_of p body;
       found = own_body l r at own e ∙ ap (option_map (body_of p)) coded;
+      fits = counted n values body.ins ∙ within.fits;
       frame = λ i. record {
         method = method_at p (h.method i);
         position = h.position i;
@@ -114,24 +117,24 @@ entered l r size at own values body f e coded fine h =
       start = h.position;
     }
 
-pub uncoded : (l : Lookups) → IsRight l → (size : ℕ) (at : MethodAt) (own : Method) (values : List Datum) → look.method_at l.program.now at ≡ Some own → own.body ≡ None → IsEntry l size own values None
-uncoded l r size at own values e coded = own_body l r at own e ∙ ap (option_map (body_of l.program.now)) coded
+pub uncoded : (l : Lookups) → IsRight l → (size : ℕ) (at : MethodAt) (own : Method) (values : List Datum) → look.method_at l.program.now at ≡ Some own → takes_in own.body values ≡ false → IsEntry l size own values None
+uncoded l r size at own values e not = ap (λ (o : Option NamedBody). takes o (values_of (names_in l) values)) (own_body l r at own e) ∙ takes_named (names_in l) l.program.now values own.body ∙ not
 
 pub entry_of : (l : Lookups) → IsRight l → (size : ℕ) (at : MethodAt) (own m : Method) (values : List Datum) (o : Option Frame) → look.method_at l.program.now at ≡ Some own → look.method_at l.program.now at ≡ Some m → AreFine (names_in l) size values → IsFirst at m values o → IsEntry l size own values o
 entry_of l r size at own m values None e f fine h =
     let both : Some m ≡ Some own = sym f ∙ e in
     let same : m ≡ own = cc in
-    uncoded l r size at own values e (ap (λ (x : Method). x.body) (sym same) ∙ h)
+    uncoded l r size at own values e (ap (λ (x : Method). takes_in x.body values) (sym same) ∙ h)
 entry_of l r size at own m values (Some g) e f fine h =
     let both : Some m ≡ Some own = sym f ∙ e in
     let same : m ≡ own = cc in
-    entered l r size at own values h.code g e (ap (λ (x : Method). x.body) (sym same) ∙ h.coded) fine (subst (λ (x : Method). IsAtEntry at x.name h.code values g) same h.entry)
+    entered l r size at own values h.code g e (ap (λ (x : Method). x.body) (sym same) ∙ h.coded) fine (subst (λ (x : Method). IsWithinOf at x.name h.code values g) same h.within)
 
 -- ---- a method that is entered
 
 module _ (l : Lookups) (r : IsRight l) (steps : ℕ) (script : List Move) (old new : State) (run : IsRunning l steps old) (on : old.ended ≡ false) (own : Method) (values : List Datum) where
   abbrev enters_by : Option NamedBody → NamedState
-  enters_by b = enters_body b (world_in l old) (classes_in l old) (method_at l.program.now own.name) (values_of (names_in l) values) (stack_in l old) (script_in script old)
+  enters_by b = enters_body b (world_in l old) (classes_in l old) (method_at l.program.now own.name) (values_of (names_in l) values) (stack_in l script old) (script_in script old)
 
   pub enters_coded : (f : Frame) → IsEntered l (length (spots_of old.world)) own values f → KeepsRest old new → new.stack.items ≡ old.stack.items ++ waiting.Method f ∷ []
       → IsLeft l steps script new (enters_by (bodies_in l (method_at l.program.now own.name)))
@@ -139,13 +142,16 @@ module _ (l : Lookups) (r : IsRight l) (steps : ℕ) (script : List Move) (old n
       let size = length (spots_of old.world) in
       let start = h.start in
       subst (IsLeft l steps script new)
-      (ap (λ (xs : List Waiting). On (world_in l old) (classes_in l old) (stack_of (names_in l) xs) (script_in script old)) e
-      ∙ ap (λ (ws : List NamedWaiting). On (world_in l old) (classes_in l old) ws (script_in script old)) (pushed_named (names_in l) old.stack.items (waiting.Method f))
-      ∙ ap (λ (g : NamedFrame). On (world_in l old) (classes_in l old) (InMethod g ∷ stack_in l old) (script_in script old)) h.frame
-      ∙ sym (ap enters_by h.found))
+      (ap (λ (xs : List Waiting). On (world_in l old) (classes_in l old) (stack_of (names_in l) script xs) (script_in script old)) e
+      ∙ ap (λ (ws : List NamedWaiting). On (world_in l old) (classes_in l old) ws (script_in script old)) (pushed_named (names_in l) script old.stack.items (waiting.Method f))
+      ∙ ap (λ (g : NamedFrame). On (world_in l old) (classes_in l old) (InMethod g ∷ stack_in l script old) (script_in script old)) h.frame
+      ∙ sym (ap enters_by h.found ∙ entered_by h.body (world_in l old) (classes_in l old) (method_at l.program.now own.name) (values_of (names_in l) values) (stack_in l script old) (script_in script old) h.fits))
       (stack_left l r steps script old run on new keeps
       (subst (AreSoundWaiting l size) (sym e) (sound_pushed l size old.stack.items (waiting.Method f) (running_stack l steps old run) h.sound))
       (subst (ArePaced (2 ^ 32 + steps)) (sym e) (paced_pushed (2 ^ 32 + steps) old.stack.items (waiting.Method f) (running_paced l steps old run) (one_paced (2 ^ 32 + steps) f (omega (arith, start))))))
 
-  pub enters_uncoded : bodies_in l (method_at l.program.now own.name) ≡ None → new.ended ≡ true → IsLeft l steps script new (enters_by (bodies_in l (method_at l.program.now own.name)))
-  enters_uncoded e ended = record { state = state_over l script new ended ∙ sym (ap enters_by e); running = no_running l (steps + 1) new ended }
+  pub enters_uncoded : takes (bodies_in l (method_at l.program.now own.name)) (values_of (names_in l) values) ≡ false → new.ended ≡ true → IsLeft l steps script new (enters_by (bodies_in l (method_at l.program.now own.name)))
+  enters_uncoded e ended = record {
+    state = state_over l script new ended ∙ sym (not_entered (bodies_in l (method_at l.program.now own.name)) (world_in l old) (classes_in l old) (method_at l.program.now own.name) (values_of (names_in l) values) (stack_in l script old) (script_in script old) e);
+    running = no_running l (steps + 1) new ended;
+  }

@@ -1,14 +1,13 @@
 -- What a thrown object does to the stack on its way, by numbers and by names.
-use Rattle.std.proofs.Common.{◌≡◌, ℕ, zero, suc, ◌+◌, ◌-◌, ◌<◌, ◌≤◌, ◌⊎◌, inl, inr, Bool, true, false, true≢false, List, [], ◌∷◌, ◌++◌, length, map, take, drop, min, arith, ap, refl, sym, subst, ◌∙◌, length-append, eqb-true, eq-eqb}
+use Rattle.std.proofs.Common.{◌≡◌, ℕ, zero, suc, ◌+◌, ◌-◌, ◌<◌, ◌≤◌, ◌⊎◌, inl, inr, Bool, true, false, true≢false, List, [], ◌∷◌, ◌++◌, length, map, take, drop, arith, ap, refl, sym, subst, ◌∙◌, length-append, eqb-true, eq-eqb}
 use Rattle.std.specs.Prelude.{◌^◌, Option, Some, None, reverse, slice_get, slice_set}
 use Rattle.std.specs.Option.{option_and_then, option_map}
-use Rattle.std.proofs.lemmas.Bool.{cases_lt}
 use Rattle.std.proofs.lemmas.List.{length-reverse, reverse-append}
 use Rattle.class_defs.proofs.Positions.{entry_at}
 use Rattle.dalvik_defs.specs.Effect.{go}
 use Rattle.dalvik_defs.specs.Known.{initialiser_error}
 use Rattle.dalvik_defs.specs.Names.{Text, error_type}
-use Rattle.dalvik_defs.specs.Stack.{given_up, handler_at, lands, lands_or, unwinds}
+use Rattle.dalvik_defs.specs.Stack.{handler_at, lands, lands_or, unwinds}
 use Rattle.dalvik_defs.specs.State.{Classes, World, Failed, Next, Ended, fresh, kind_of, next_object, put_status, quiet, with_thing}
 use Rattle.dalvik_defs.specs.declared.program.NamedBody.{NamedBody}
 use Rattle.dalvik_defs.specs.declared.script.Move.{Move}
@@ -46,7 +45,7 @@ use Rattle.dalvik_steps.specs.declared.throwing.Exhibit.{Exhibit}
 use Rattle.dalvik_steps.specs.declared.throwing.Landing.{Landing}
 use Rattle.dalvik_steps.specs.declared.throwing.Landing.TheVariants as landing
 use Rattle.dalvik_steps.specs.Backs.{last_of}
-use Rattle.dalvik_steps.specs.Falls.{failing, given_up_at, noted, DropsTop, IsFailed, IsFalling, IsPopped, LandsThere}
+use Rattle.dalvik_steps.specs.Falls.{failing, noted, DropsTop, IsFailed, IsFalling, IsPopped, LandsThere}
 use Rattle.dalvik_steps.specs.Flights.{lands_at, Exhibits, Flies, IfUnder, LandsOr, Reaches}
 use Rattle.dalvik_steps.proofs.Flying.{plain_kind}
 use Rattle.dalvik_steps.proofs.Handing.{nothing_last}
@@ -75,7 +74,7 @@ module _ (l : Lookups) where
           → (b : Bool) → IfUnder b (Flies l w v rest wraps to) ((more : List ℕ) × ((wraps ≡ length rest ∷ more) × Flies l (with_thing w (fresh initialiser_error)) (next_object w) rest more to)) → place < suc (length rest)
       by same new true g = let low = same g t in omega (arith, low)
       by same new false g = let low = new g.0 g.1.1 t in omega (arith, low)
-  flies_low w v (waiting.Outside owes ∷ rest) wraps to place h t = let same : length rest ≡ place = there to (landing.Framework (length rest) h.1.0) place h.1.1.0 t in omega (arith, same)
+  flies_low w v (waiting.Outside owes pending ∷ rest) wraps to place h t = let same : length rest ≡ place = there to (landing.Framework (length rest) h.1.0) place h.1.1.0 t in omega (arith, same)
 
   -- it is replaced below the top
   pub wraps_low : (w : World) (v : Value) (ws : List Waiting) (wraps : List ℕ) (to : Landing) (k : ℕ) (more : List ℕ) → Flies l w v ws wraps to → wraps ≡ k ∷ more → k < length ws
@@ -92,32 +91,32 @@ module _ (l : Lookups) where
           → (b : Bool) → IfUnder b (Flies l w v rest wraps to) ((others : List ℕ) × ((wraps ≡ length rest ∷ others) × Flies l (with_thing w (fresh initialiser_error)) (next_object w) rest others to)) → k < suc (length rest)
       by on true g = let low = on g e in omega (arith, low)
       by on false g = let both : length rest ∷ g.0 ≡ k ∷ more = sym g.1.0 ∙ e in let same : length rest ≡ k = cc in omega (arith, same)
-  wraps_low w v (waiting.Outside owes ∷ rest) wraps to k more h e = absurd (let no : [] ≡ k ∷ more = sym h.0 ∙ e in cc)
+  wraps_low w v (waiting.Outside owes pending ∷ rest) wraps to k more h e = absurd (let no : [] ≡ k ∷ more = sym h.0 ∙ e in cc)
 
   -- what lands nowhere ends the run
-  pub flies_nowhere : (w : World) (v : Value) (classes : Classes) (ws : List Waiting) (wraps : List ℕ) (to : Landing) (script : List Move) → IsRight l → ((i : ℕ) (x : Waiting) → slice_get ws i ≡ Some x → (size : ℕ) × IsSoundWaiting l size x) → Flies l w v ws wraps to → to ≡ landing.Nowhere
-      → unwinds (run_face l) (bodies_in l) w classes v (map (waiting_of (names_in l)) ws) script ≡ quiet Ended
-  flies_nowhere w v classes [] wraps to script r s h e = refl
-  flies_nowhere w v classes (waiting.Method f ∷ rest) wraps to script r s h e = by (flies_nowhere w v classes rest wraps to script r (λ i x g. s (suc i) x g)) (lands_at l w v f) refl h
+  pub flies_nowhere : (w : World) (v : Value) (classes : Classes) (ws : List Waiting) (wraps : List ℕ) (to : Landing) (moves script : List Move) → IsRight l → ((i : ℕ) (x : Waiting) → slice_get ws i ≡ Some x → (size : ℕ) × IsSoundWaiting l size x) → Flies l w v ws wraps to → to ≡ landing.Nowhere
+      → unwinds (run_face l) (bodies_in l) w classes v (map (waiting_of (names_in l) moves) ws) script ≡ quiet Ended
+  flies_nowhere w v classes [] wraps to moves script r s h e = refl
+  flies_nowhere w v classes (waiting.Method f ∷ rest) wraps to moves script r s h e = by (flies_nowhere w v classes rest wraps to moves script r (λ i x g. s (suc i) x g)) (lands_at l w v f) refl h
     where
-      by : (Flies l w v rest wraps to → to ≡ landing.Nowhere → unwinds (run_face l) (bodies_in l) w classes v (map (waiting_of (names_in l)) rest) script ≡ quiet Ended)
-          → (o : Option ℕ) → lands_at l w v f ≡ o → LandsOr (length rest) wraps to o (Flies l w v rest wraps to) → unwinds (run_face l) (bodies_in l) w classes v (map (waiting_of (names_in l)) (waiting.Method f ∷ rest)) script ≡ quiet Ended
+      by : (Flies l w v rest wraps to → to ≡ landing.Nowhere → unwinds (run_face l) (bodies_in l) w classes v (map (waiting_of (names_in l) moves) rest) script ≡ quiet Ended)
+          → (o : Option ℕ) → lands_at l w v f ≡ o → LandsOr (length rest) wraps to o (Flies l w v rest wraps to) → unwinds (run_face l) (bodies_in l) w classes v (map (waiting_of (names_in l) moves) (waiting.Method f ∷ rest)) script ≡ quiet Ended
       by more (Some at) g k = absurd (let no : landing.Handler (length rest) at ≡ landing.Nowhere = sym k.1 ∙ e in cc)
       by more None g k =
           let sound = s 0 (waiting.Method f) refl in
-          ap (λ (o : Option NamedFrame). lands_or w classes (map (waiting_of (names_in l)) rest) script o (unwinds (run_face l) (bodies_in l) w classes v (map (waiting_of (names_in l)) rest) script))
+          ap (λ (o : Option NamedFrame). lands_or w classes (map (waiting_of (names_in l) moves) rest) script o (unwinds (run_face l) (bodies_in l) w classes v (map (waiting_of (names_in l) moves) rest) script))
           (ap (λ (b : Option NamedBody). option_map (λ (at : ℕ). record (go (frame_of (names_in l) f) at) { caught = v }) (option_and_then (handler_at ((run_face l).under (kind_of w v)) f.position) b)) (frame_body l r sound.0 f sound.1)
           ∙ ap (option_map (λ (at : ℕ). record (go (frame_of (names_in l) f) at) { caught = v })) g)
           ∙ more k e
-  flies_nowhere w v classes (waiting.Initialiser class above next ∷ rest) wraps to script r s h e =
-      flies_nowhere w v (put_status (class_text l.program.now class) Failed classes) rest wraps to (given_up (map (waiting_of (names_in l)) rest) script) r (λ i x g. s (suc i) x g) h e
-  flies_nowhere w v classes (waiting.Ending class ∷ rest) wraps to script r s h e =
-      by (flies_nowhere w v (put_status (class_text l.program.now class) Failed classes) rest wraps to (given_up (map (waiting_of (names_in l)) rest) script) r (λ i x g. s (suc i) x g))
-      (λ (more : List ℕ). flies_nowhere (with_thing w (fresh initialiser_error)) (next_object w) (put_status (class_text l.program.now class) Failed classes) rest more to (given_up (map (waiting_of (names_in l)) rest) script) r (λ i x g. s (suc i) x g))
+  flies_nowhere w v classes (waiting.Initialiser class above next ∷ rest) wraps to moves script r s h e =
+      flies_nowhere w v (put_status (class_text l.program.now class) Failed classes) rest wraps to moves script r (λ i x g. s (suc i) x g) h e
+  flies_nowhere w v classes (waiting.Ending class ∷ rest) wraps to moves script r s h e =
+      by (flies_nowhere w v (put_status (class_text l.program.now class) Failed classes) rest wraps to moves script r (λ i x g. s (suc i) x g))
+      (λ (more : List ℕ). flies_nowhere (with_thing w (fresh initialiser_error)) (next_object w) (put_status (class_text l.program.now class) Failed classes) rest more to moves script r (λ i x g. s (suc i) x g))
       ((run_face l).under (kind_of w v) error_type) h
     where
       goes_on : World × Value → Next
-      goes_on p = unwinds (run_face l) (bodies_in l) p.0 (put_status (class_text l.program.now class) Failed classes) p.1 (map (waiting_of (names_in l)) rest) (given_up (map (waiting_of (names_in l)) rest) script)
+      goes_on p = unwinds (run_face l) (bodies_in l) p.0 (put_status (class_text l.program.now class) Failed classes) p.1 (map (waiting_of (names_in l) moves) rest) script
 
       wrapped_by : Bool → World × Value
       wrapped_by b = elim b as (λ b. World × Value) [ true ↦ (w, v) | false ↦ (with_thing w (fresh initialiser_error), next_object w) ]
@@ -126,7 +125,7 @@ module _ (l : Lookups) where
           → (b : Bool) → IfUnder b (Flies l w v rest wraps to) ((more : List ℕ) × ((wraps ≡ length rest ∷ more) × Flies l (with_thing w (fresh initialiser_error)) (next_object w) rest more to)) → goes_on (wrapped_by b) ≡ quiet Ended
       by same new true g = same g e
       by same new false g = new g.0 g.1.1 e
-  flies_nowhere w v classes (waiting.Outside owes ∷ rest) wraps to script r s h e = absurd (let no : landing.Framework (length rest) h.1.0 ≡ landing.Nowhere = sym h.1.1.0 ∙ e in cc)
+  flies_nowhere w v classes (waiting.Outside owes pending ∷ rest) wraps to moves script r s h e = absurd (let no : landing.Framework (length rest) h.1.0 ≡ landing.Nowhere = sym h.1.1.0 ∙ e in cc)
 
 -- ---- one entry is passed
 
@@ -134,23 +133,19 @@ abbrev pub classes_after : Lookups → Option ℕ → Classes → Classes
 classes_after l None classes = classes
 classes_after l (Some c) classes = put_status (class_text l.program.now c) Failed classes
 
-abbrev pub script_after : Option ℕ → List NamedWaiting → List Move → List Move
-script_after None rest script = script
-script_after (Some c) rest script = given_up rest script
-
 -- it passes and stays the same
 pub record PassesOn (l : Lookups) (w : World) (v : Value) (x : Waiting) (rest : List Waiting) (wraps : List ℕ) (to : Landing) : Type 0 where
   pub apart : (more : List ℕ) → wraps ≡ length rest ∷ more → ⊥
   pub flies : Flies l w v rest wraps to
-  pub same : (classes : Classes) (stack : List NamedWaiting) (script : List Move) → unwinds (run_face l) (bodies_in l) w classes v (waiting_of (names_in l) x ∷ stack) script ≡ unwinds (run_face l) (bodies_in l) w (classes_after l (failing x) classes) v stack (script_after (failing x) stack script)
+  pub same : (classes : Classes) (stack : List NamedWaiting) (moves script : List Move) → unwinds (run_face l) (bodies_in l) w classes v (waiting_of (names_in l) moves x ∷ stack) script ≡ unwinds (run_face l) (bodies_in l) w (classes_after l (failing x) classes) v stack script
 
 -- it is replaced by a new object
 pub record IsReplacedAt (l : Lookups) (w : World) (v : Value) (x : Waiting) (rest : List Waiting) (wraps : List ℕ) (to : Landing) : Type 0 where
   pub more : List ℕ
   pub is : wraps ≡ length rest ∷ more
   pub flies : Flies l (with_thing w (fresh initialiser_error)) (next_object w) rest more to
-  pub same : (classes : Classes) (stack : List NamedWaiting) (script : List Move) → unwinds (run_face l) (bodies_in l) w classes v (waiting_of (names_in l) x ∷ stack) script
-      ≡ unwinds (run_face l) (bodies_in l) (with_thing w (fresh initialiser_error)) (classes_after l (failing x) classes) (next_object w) stack (script_after (failing x) stack script)
+  pub same : (classes : Classes) (stack : List NamedWaiting) (moves script : List Move) → unwinds (run_face l) (bodies_in l) w classes v (waiting_of (names_in l) moves x ∷ stack) script
+      ≡ unwinds (run_face l) (bodies_in l) (with_thing w (fresh initialiser_error)) (classes_after l (failing x) classes) (next_object w) stack script
 
 module _ (l : Lookups) (r : IsRight l) where
   -- the handler of a frame, by names
@@ -166,13 +161,13 @@ module _ (l : Lookups) (r : IsRight l) where
       by None e g = inl (record {
         apart = λ more is. absurd (let below = wraps_low l w v rest wraps to (length rest) more g is in omega (arith, below));
         flies = g;
-        same = λ classes stack script. ap (λ (o : Option NamedFrame). lands_or w classes stack script o (unwinds (run_face l) (bodies_in l) w classes v stack script))
+        same = λ classes stack moves script. ap (λ (o : Option NamedFrame). lands_or w classes stack script o (unwinds (run_face l) (bodies_in l) w classes v stack script))
             (lands_named size f w v s ∙ ap (option_map (λ (at : ℕ). record (go (frame_of (names_in l) f) at) { caught = v })) e);
       })
   falls size w v (waiting.Initialiser class above next) rest wraps to place s h t low = inl (record {
     apart = λ more is. absurd (let below = wraps_low l w v rest wraps to (length rest) more h is in omega (arith, below));
     flies = h;
-    same = λ classes stack script. refl;
+    same = λ classes stack moves script. refl;
   })
   falls size w v (waiting.Ending class) rest wraps to place s h t low = by ((run_face l).under (kind_of w v) error_type) refl h
     where
@@ -180,22 +175,22 @@ module _ (l : Lookups) (r : IsRight l) where
       wrapped_by b = elim b as (λ b. World × Value) [ true ↦ (w, v) | false ↦ (with_thing w (fresh initialiser_error), next_object w) ]
 
       goes_on : Classes → List NamedWaiting → List Move → World × Value → Next
-      goes_on classes stack script p = unwinds (run_face l) (bodies_in l) p.0 (put_status (class_text l.program.now class) Failed classes) p.1 stack (given_up stack script)
+      goes_on classes stack script p = unwinds (run_face l) (bodies_in l) p.0 (put_status (class_text l.program.now class) Failed classes) p.1 stack script
 
       by : (b : Bool) → (run_face l).under (kind_of w v) error_type ≡ b → IfUnder b (Flies l w v rest wraps to) ((more : List ℕ) × ((wraps ≡ length rest ∷ more) × Flies l (with_thing w (fresh initialiser_error)) (next_object w) rest more to))
           → PassesOn l w v (waiting.Ending class) rest wraps to ⊎ IsReplacedAt l w v (waiting.Ending class) rest wraps to
       by true e g = inl (record {
         apart = λ more is. absurd (let below = wraps_low l w v rest wraps to (length rest) more g is in omega (arith, below));
         flies = g;
-        same = λ classes stack script. ap (λ (b : Bool). goes_on classes stack script (wrapped_by b)) e;
+        same = λ classes stack moves script. ap (λ (b : Bool). goes_on classes stack script (wrapped_by b)) e;
       })
       by false e g = inr (record {
         more = g.0;
         is = g.1.0;
         flies = g.1.1;
-        same = λ classes stack script. ap (λ (b : Bool). goes_on classes stack script (wrapped_by b)) e;
+        same = λ classes stack moves script. ap (λ (b : Bool). goes_on classes stack script (wrapped_by b)) e;
       })
-  falls size w v (waiting.Outside owes) rest wraps to place s h t low = absurd (let same : length rest ≡ place = there to (landing.Framework (length rest) h.1.0) place h.1.1.0 t in omega (arith, same, low))
+  falls size w v (waiting.Outside owes pending) rest wraps to place s h t low = absurd (let same : length rest ≡ place = there to (landing.Framework (length rest) h.1.0) place h.1.1.0 t in omega (arith, same, low))
 
 -- ---- the top is gone
 
@@ -204,37 +199,8 @@ pub record IsDropped (l : Lookups) (x : Waiting) (old new : State) : Type 0 wher
   pub classes : classes_in l new ≡ classes_after l (failing x) (classes_in l old)
   pub count : length new.statuses.items ≡ length old.statuses.items
   pub stack : new.stack.items ≡ below_top old.stack.items
-  pub script : (script : List Move) → length script < 2 ^ 64 → script_in script new ≡ script_after (failing x) (stack_of (names_in l) (below_top old.stack.items)) (script_in script old)
+  pub next : new.next ≡ old.next
   pub ended : new.ended ≡ old.ended
-
-no_moves : (xs : List Move) (n : ℕ) → length xs ≤ n → drop n xs ≡ []
-no_moves [] zero h = refl
-no_moves [] (suc n) h = refl
-no_moves (x ∷ xs) zero h = absurd (omega arith)
-no_moves (x ∷ xs) (suc n) h = no_moves xs n (omega arith)
-
-drop_one : (xs : List Move) (n : ℕ) → drop 1 (drop n xs) ≡ drop (suc n) xs
-drop_one [] zero = refl
-drop_one [] (suc n) = refl
-drop_one (x ∷ xs) zero = refl
-drop_one (x ∷ xs) (suc n) = drop_one xs n
-
-drop_capped : (xs : List Move) (n : ℕ) → length xs < 2 ^ 64 → drop (min (n + 1) 18446744073709551615) xs ≡ drop (suc n) xs
-drop_capped xs n h = elim (cases_lt n 18446744073709551615) [
-  | inl low ↦ (let e : min (n + 1) 18446744073709551615 ≡ suc n = omega (arith, low) in ap (λ (k : ℕ). drop k xs) e)
-  | inr high ↦ (let a : length xs ≤ min (n + 1) 18446744073709551615 = omega (arith, high, h) in let b : length xs ≤ suc n = omega (arith, high, h) in no_moves xs (min (n + 1) 18446744073709551615) a ∙ sym (no_moves xs (suc n) b))
-]
-
--- a move that needed a class which failed is over
-given_up_named : (n : Names) (xs : List Waiting) (next : ℕ) (script : List Move) → length script < 2 ^ 64 → drop (given_up_at (last_of xs) next) script ≡ given_up (stack_of n xs) (drop next script)
-given_up_named n xs next script h = by (last_of xs) refl
-  where
-    by : (o : Option Waiting) → last_of xs ≡ o → drop (given_up_at o next) script ≡ given_up (stack_of n xs) (drop next script)
-    by None e = sym (ap (λ (ys : List Waiting). given_up (stack_of n ys) (drop next script)) (nothing_last xs e))
-    by (Some (waiting.Method f)) e = sym (ap (λ (ys : List NamedWaiting). given_up ys (drop next script)) (popped_named n xs (waiting.Method f) e))
-    by (Some (waiting.Initialiser class above from)) e = sym (ap (λ (ys : List NamedWaiting). given_up ys (drop next script)) (popped_named n xs (waiting.Initialiser class above from) e))
-    by (Some (waiting.Ending class)) e = sym (ap (λ (ys : List NamedWaiting). given_up ys (drop next script)) (popped_named n xs (waiting.Ending class) e))
-    by (Some (waiting.Outside owes)) e = drop_capped script next h ∙ sym (drop_one script next) ∙ sym (ap (λ (ys : List NamedWaiting). given_up ys (drop next script)) (popped_named n xs (waiting.Outside owes) e))
 
 set_long : (xs : List OwnStatus) (i : ℕ) (s : OwnStatus) → length (slice_set xs i s) ≡ length xs
 set_long [] i s = refl
@@ -250,9 +216,7 @@ module _ (l : Lookups) (r : IsRight l) (steps : ℕ) (old new : State) (run : Is
         ∙ sym (ap (λ (o : Option ℕ). classes_after l o (classes_in l old)) e);
     count = ap length h.statuses ∙ set_long old.statuses.items class status.Failed;
     stack = h.stack;
-    script = λ script few. ap (λ (n : ℕ). drop n script) h.next
-        ∙ given_up_named (names_in l) (below_top old.stack.items) old.next script few
-        ∙ sym (ap (λ (o : Option ℕ). script_after o (stack_of (names_in l) (below_top old.stack.items)) (script_in script old)) e);
+    next = h.next;
     ended = h.ended;
   }
 
@@ -262,7 +226,7 @@ module _ (l : Lookups) (r : IsRight l) (steps : ℕ) (old new : State) (run : Is
     classes = ap (λ v. classes_of l.program.now v.items) h.statuses ∙ sym (ap (λ (o : Option ℕ). classes_after l o (classes_in l old)) e);
     count = ap (λ v. length v.items) h.statuses;
     stack = h.stack;
-    script = λ script few. ap (λ (n : ℕ). drop n script) h.next ∙ sym (ap (λ (o : Option ℕ). script_after o (stack_of (names_in l) (below_top old.stack.items)) (script_in script old)) e);
+    next = h.next;
     ended = h.ended;
   }
 
@@ -270,7 +234,7 @@ module _ (l : Lookups) (r : IsRight l) (steps : ℕ) (old new : State) (run : Is
   dropped_of (waiting.Method f) s h = popped (waiting.Method f) refl h
   dropped_of (waiting.Initialiser class above next) s h = failed (waiting.Initialiser class above next) class (s.at 0 class refl) refl h
   dropped_of (waiting.Ending class) s h = failed (waiting.Ending class) class (s.at 0 class refl) refl h
-  dropped_of (waiting.Outside owes) s h = popped (waiting.Outside owes) refl h
+  dropped_of (waiting.Outside owes pending) s h = popped (waiting.Outside owes pending) refl h
 
   pub dropped : (x : Waiting) → last_of old.stack.items ≡ Some x → DropsTop (last_of old.stack.items) old new → IsDropped l x old new
   dropped x e h = dropped_of x (run.stack (length old.stack.items - 1) x e) (subst (λ (o : Option Waiting). DropsTop o old new) e h)
@@ -289,7 +253,7 @@ below_long (x ∷ xs) (suc k) h = ap suc (below_long xs k (omega arith))
 pub below_count : (xs : List Waiting) → length (reverse (below_top xs)) ≡ length xs - 1
 below_count xs = length-reverse (below_top xs) ∙ below_long xs (length xs - 1) (omega arith)
 
-module _ (l : Lookups) (r : IsRight l) (steps : ℕ) (script : List Move) (few : length script < 2 ^ 64) (all : Next) (to : Landing) (place : ℕ) (t : LandsThere to place) where
+module _ (l : Lookups) (r : IsRight l) (steps : ℕ) (script : List Move) (all : Next) (to : Landing) (place : ℕ) (t : LandsThere to place) where
   -- a run whose top is gone
   pub running_dropped : (x : Waiting) (old new : State) → IsRunning l steps old → IsDropped l x old new → IsRunning l steps new
   running_dropped x old new run d = running_of l steps new (subst (IsSound l) (sym d.world) run.world) (d.count ∙ run.classes)
@@ -313,9 +277,9 @@ module _ (l : Lookups) (r : IsRight l) (steps : ℕ) (script : List Move) (few :
           fine = subst (λ (w : OwnWorld). IsFine (names_in l) (length (spots_of w)) d) (sym dr.world) h.fine;
           flies = subst (λ (w : OwnWorld). Flies l (world_of (names_in l) w) v (reverse new.stack.items) more to) (sym dr.world) (subst (λ (ws : List Waiting). Flies l (world_in l old) v (reverse ws) more to) (sym dr.stack) p.flies);
           whole =
-              (λ i. unwinds (run_face l) (bodies_in l) (world_of (names_in l) (dr.world i)) (dr.classes i) v (stack_of (names_in l) (dr.stack i)) (dr.script script few i))
-              ∙ sym (p.same (classes_in l old) (stack_of (names_in l) (below_top old.stack.items)) (script_in script old))
-              ∙ ap (λ (ws : List NamedWaiting). unwinds (run_face l) (bodies_in l) (world_in l old) (classes_in l old) v ws (script_in script old)) (sym (popped_named (names_in l) old.stack.items x e))
+              (λ i. unwinds (run_face l) (bodies_in l) (world_of (names_in l) (dr.world i)) (dr.classes i) v (stack_of (names_in l) script (dr.stack i)) (drop (dr.next i) script))
+              ∙ sym (p.same (classes_in l old) (stack_of (names_in l) script (below_top old.stack.items)) script (script_in script old))
+              ∙ ap (λ (ws : List NamedWaiting). unwinds (run_face l) (bodies_in l) (world_in l old) (classes_in l old) v ws (script_in script old)) (sym (popped_named (names_in l) script old.stack.items x e))
               ∙ h.whole;
           space = subst (λ (w : OwnWorld). HasSpace w (length more)) (sym dr.world) h.space;
           room = subst (λ (w : OwnWorld). HasRoom w 1) (sym dr.world) h.room;
@@ -358,10 +322,10 @@ module _ (l : Lookups) (r : IsRight l) (steps : ℕ) (script : List Move) (few :
                   (subst (λ (y : Value). Flies l (with_thing (world_in l old) (fresh initialiser_error)) y rest others to) value
                   (subst (λ (ms : List ℕ). Flies l (with_thing (world_in l old) (fresh initialiser_error)) (next_object (world_in l old)) rest ms to) same q.flies))));
               whole =
-                  (λ i. unwinds (run_face l) (bodies_in l) (world_of (names_in l) (dr.world i)) (dr.classes i) (value_of (names_in l) made) (stack_of (names_in l) (dr.stack i)) (dr.script script few i))
-                  ∙ (λ i. unwinds (run_face l) (bodies_in l) (named i) (classes_after l (failing x) (classes_in l old)) (sym value i) (stack_of (names_in l) (below_top old.stack.items)) (script_after (failing x) (stack_of (names_in l) (below_top old.stack.items)) (script_in script old)))
-                  ∙ sym (q.same (classes_in l old) (stack_of (names_in l) (below_top old.stack.items)) (script_in script old))
-                  ∙ ap (λ (ws : List NamedWaiting). unwinds (run_face l) (bodies_in l) (world_in l old) (classes_in l old) v ws (script_in script old)) (sym (popped_named (names_in l) old.stack.items x e))
+                  (λ i. unwinds (run_face l) (bodies_in l) (world_of (names_in l) (dr.world i)) (dr.classes i) (value_of (names_in l) made) (stack_of (names_in l) script (dr.stack i)) (drop (dr.next i) script))
+                  ∙ (λ i. unwinds (run_face l) (bodies_in l) (named i) (classes_after l (failing x) (classes_in l old)) (sym value i) (stack_of (names_in l) script (below_top old.stack.items)) (script_in script old))
+                  ∙ sym (q.same (classes_in l old) (stack_of (names_in l) script (below_top old.stack.items)) script (script_in script old))
+                  ∙ ap (λ (ws : List NamedWaiting). unwinds (run_face l) (bodies_in l) (world_in l old) (classes_in l old) v ws (script_in script old)) (sym (popped_named (names_in l) script old.stack.items x e))
                   ∙ h.whole;
               space = subst (λ (u : OwnWorld). HasSpace u (length others)) (sym dr.world) space;
               room = subst (λ (u : OwnWorld). HasRoom u 1) (sym dr.world) room;
@@ -411,7 +375,8 @@ pub record HandlesAt (l : Lookups) (w : World) (v : Value) (x : Waiting) (at : �
 
 pub record ReachesAt (l : Lookups) (w : World) (v : Value) (x : Waiting) (shown : Exhibit) : Type 0 where
   pub owes : Option Kind
-  pub is : x ≡ waiting.Outside owes
+  pub pending : Option ℕ
+  pub is : x ≡ waiting.Outside owes pending
   pub shows : Exhibits w v shown
 
 module _ (l : Lookups) (rest : List Waiting) (wraps : List ℕ) (place : ℕ) (low : length rest ≤ place) where
@@ -430,7 +395,7 @@ module _ (l : Lookups) (rest : List Waiting) (wraps : List ℕ) (place : ℕ) (l
       by : (b : Bool) → IfUnder b (Flies l w v rest wraps (landing.Handler place at)) ((more : List ℕ) × ((wraps ≡ length rest ∷ more) × Flies l (with_thing w (fresh initialiser_error)) (next_object w) rest more (landing.Handler place at))) → HandlesAt l w v (waiting.Ending class) at
       by true g = absurd (not_below w v wraps (landing.Handler place at) g refl)
       by false g = absurd (not_below (with_thing w (fresh initialiser_error)) (next_object w) g.0 (landing.Handler place at) g.1.1 refl)
-  handled w v (waiting.Outside owes) at h = absurd (let no : landing.Handler place at ≡ landing.Framework (length rest) h.1.0 = h.1.1.0 in cc)
+  handled w v (waiting.Outside owes pending) at h = absurd (let no : landing.Handler place at ≡ landing.Framework (length rest) h.1.0 = h.1.1.0 in cc)
 
   pub reached : (w : World) (v : Value) (x : Waiting) (shown : Exhibit) → Flies l w v (x ∷ rest) wraps (landing.Framework place shown) → ReachesAt l w v x shown
   reached w v (waiting.Method f) shown h = by (lands_at l w v f) h
@@ -444,10 +409,10 @@ module _ (l : Lookups) (rest : List Waiting) (wraps : List ℕ) (place : ℕ) (l
       by : (b : Bool) → IfUnder b (Flies l w v rest wraps (landing.Framework place shown)) ((more : List ℕ) × ((wraps ≡ length rest ∷ more) × Flies l (with_thing w (fresh initialiser_error)) (next_object w) rest more (landing.Framework place shown))) → ReachesAt l w v (waiting.Ending class) shown
       by true g = absurd (not_below w v wraps (landing.Framework place shown) g refl)
       by false g = absurd (not_below (with_thing w (fresh initialiser_error)) (next_object w) g.0 (landing.Framework place shown) g.1.1 refl)
-  reached w v (waiting.Outside owes) shown h =
+  reached w v (waiting.Outside owes pending) shown h =
       let both : landing.Framework place shown ≡ landing.Framework (length rest) h.1.0 = h.1.1.0 in
       let same : h.1.0 ≡ shown = cc in
-      record { owes = owes; is = refl; shows = subst (Exhibits w v) same h.1.1.1 }
+      record { owes = owes; pending = pending; is = refl; shows = subst (Exhibits w v) same h.1.1.1 }
 
 -- the entries of a stack, top first
 pub reversed_sound : (l : Lookups) (size : ℕ) (xs : List Waiting) → AreSoundWaiting l size xs → (i : ℕ) (x : Waiting) → slice_get (reverse xs) i ≡ Some x → IsSoundWaiting l size x

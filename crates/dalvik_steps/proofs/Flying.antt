@@ -131,8 +131,8 @@ pub meets_other : (l : Lookups) (w : World) (v : Value) (class place : ℕ) → 
 meets_other l w v class place h = λ rest more to e fl.
     subst (λ (b : Bool). IfUnder b (Flies l w v rest (place ∷ more) to) (Wraps l w rest (place ∷ more) to)) (sym h) (more, (ap (λ (k : ℕ). k ∷ more) (sym e), fl))
 
-pub meets_framework : (l : Lookups) (w : World) (v : Value) (owes : Option Kind) (place : ℕ) (shown : Exhibit) → Exhibits w v shown → Meets l w v (waiting.Outside owes) place (met.Lands (landing.Framework place shown))
-meets_framework l w v owes place shown x = λ rest e. (refl, (shown, (ap (λ (k : ℕ). landing.Framework k shown) (sym e), x)))
+pub meets_framework : (l : Lookups) (w : World) (v : Value) (owes : Option Kind) (pending : Option ℕ) (place : ℕ) (shown : Exhibit) → Exhibits w v shown → Meets l w v (waiting.Outside owes pending) place (met.Lands (landing.Framework place shown))
+meets_framework l w v owes pending place shown x = λ rest e. (refl, (shown, (ap (λ (k : ℕ). landing.Framework k shown) (sym e), x)))
 
 -- what is drafted of a value that flies is shown in the world that comes after
 pub exhibits_old : (l : Lookups) → IsRight l → (base : OwnWorld) (g : Gifts) (w : World) (v : Value) (d : Datum) (kind : Kind) (draft : Draft) → v ≡ value_of (names_in l) d → IsLater (given_world (names_in l) base g) w → kind ≡ plain 3

@@ -39,11 +39,11 @@ use Rattle.dalvik_steps.proofs.Backing.{backs_named, backs_paced, backs_sound, F
 use Rattle.dalvik_steps.proofs.Undone.{sound_same, world_same}
 
 -- a state that goes on, by its parts
-pub state_on : (l : Lookups) (script : List Move) (s : State) → s.ended ≡ false → state_of (names_in l) script s ≡ On (world_in l s) (classes_in l s) (stack_in l s) (script_in script s)
-state_on l script s e = ap (λ (b : Bool). elim b as (λ b. NamedState) [ true ↦ Ended | false ↦ On (world_in l s) (classes_in l s) (stack_in l s) (script_in script s) ]) e
+pub state_on : (l : Lookups) (script : List Move) (s : State) → s.ended ≡ false → state_of (names_in l) script s ≡ On (world_in l s) (classes_in l s) (stack_in l script s) (script_in script s)
+state_on l script s e = ap (λ (b : Bool). elim b as (λ b. NamedState) [ true ↦ Ended | false ↦ On (world_in l s) (classes_in l s) (stack_in l script s) (script_in script s) ]) e
 
 pub state_over : (l : Lookups) (script : List Move) (s : State) → s.ended ≡ true → state_of (names_in l) script s ≡ Ended
-state_over l script s e = ap (λ (b : Bool). elim b as (λ b. NamedState) [ true ↦ Ended | false ↦ On (world_in l s) (classes_in l s) (stack_in l s) (script_in script s) ]) e
+state_over l script s e = ap (λ (b : Bool). elim b as (λ b. NamedState) [ true ↦ Ended | false ↦ On (world_in l s) (classes_in l s) (stack_in l script s) (script_in script s) ]) e
 
 -- a run that is over makes no step
 pub no_running : (l : Lookups) (steps : ℕ) (s : State) → s.ended ≡ true → s.ended ≡ false → IsRunning l steps s
@@ -63,7 +63,7 @@ nothing_last xs e = by xs e
     by (y ∷ ys) f = absurd (none_at (y ∷ ys) (length (y ∷ ys) - 1) (omega arith) f)
 
 module _ (l : Lookups) (r : IsRight l) (steps : ℕ) (early : steps < 2 ^ 32) (script : List Move) (old new : State) (run : IsRunning l steps old) (on : old.ended ≡ false) (value : Option Datum) (kind : Text) where
-  abbrev given : List NamedWaiting → Next
+  abbrev pub given : List NamedWaiting → Next
   given stack = gives (bodies_in l) kind (world_in l old) (classes_in l old) (option_map (value_of (names_in l)) value) stack (script_in script old)
 
   over : new ≡ record old { ended = true } → (to : Next) → to ≡ (Ended, None) → IsEvent l steps script new None to
@@ -75,7 +75,7 @@ module _ (l : Lookups) (r : IsRight l) (steps : ℕ) (early : steps < 2 ^ 32) (s
       })
 
   -- the frame below goes on
-  goes_back : FineMaybe (names_in l) (length (spots_of old.world)) value → (f : Frame) → last_of old.stack.items ≡ Some (waiting.Method f) → TakesBack value old new → IsEvent l steps script new None (given (stack_in l old))
+  pub goes_back : FineMaybe (names_in l) (length (spots_of old.world)) value → (f : Frame) → last_of old.stack.items ≡ Some (waiting.Method f) → TakesBack value old new → IsEvent l steps script new None (given (stack_in l script old))
   goes_back fine f e h =
       let top : top_frame old.stack.items ≡ Some f = ap (option_and_then frame_in) e in
       let t = h.stack.top f top in
@@ -85,25 +85,25 @@ module _ (l : Lookups) (r : IsRight l) (steps : ℕ) (early : steps < 2 ^ 32) (s
       let next = backs_paced f t.frame value low t.so in
       let named = backs_named l r (length (spots_of old.world)) f t.frame value s low t.so in
       let is_on : new.ended ≡ false = h.rest.ended ∙ on in
-      subst (IsEvent l steps script new None) (sym (ap given (popped_named (names_in l) old.stack.items (waiting.Method f) e))) (record {
+      subst (IsEvent l steps script new None) (sym (ap given (popped_named (names_in l) script old.stack.items (waiting.Method f) e))) (record {
         left = record {
           state = state_on l script new is_on ∙ (λ i. On (world_of (names_in l) (h.rest.world i)) (classes_of l.program.now (h.rest.statuses i).items)
-              ((topped_named (names_in l) (Backs value f) old.stack.items new.stack.items f top t ∙ ap (λ (g : NamedFrame). InMethod g ∷ stack_of (names_in l) (below_top old.stack.items)) named) i) (drop (h.rest.next i) script));
+              ((topped_named (names_in l) script (Backs value f) old.stack.items new.stack.items f top t ∙ ap (λ (g : NamedFrame). InMethod g ∷ stack_of (names_in l) script (below_top old.stack.items)) named) i) (drop (h.rest.next i) script));
           running = λ go. running_topped l steps old new t.frame run h.rest t.stack (backs_sound l (length (spots_of old.world)) f t.frame value s fine t.so) (omega (arith, next, paced));
         };
         shown = refl;
       })
 
   -- what is given to anything but the framework
-  pub handed : FineMaybe (names_in l) (length (spots_of old.world)) value → IsHanded value old new → is_outside (last_of old.stack.items) ≡ false → IsEvent l steps script new None (given (stack_in l old))
+  pub handed : FineMaybe (names_in l) (length (spots_of old.world)) value → IsHanded value old new → is_outside (last_of old.stack.items) ≡ false → IsEvent l steps script new None (given (stack_in l script old))
   handed fine h outside = by (last_of old.stack.items) refl h.handed
     where
-      by : (o : Option Waiting) → last_of old.stack.items ≡ o → HandedTo o value old new → IsEvent l steps script new None (given (stack_in l old))
-      by None e g = over g (given (stack_in l old)) (ap (λ (xs : List Waiting). given (stack_of (names_in l) xs)) (nothing_last old.stack.items e))
+      by : (o : Option Waiting) → last_of old.stack.items ≡ o → HandedTo o value old new → IsEvent l steps script new None (given (stack_in l script old))
+      by None e g = over g (given (stack_in l script old)) (ap (λ (xs : List Waiting). given (stack_of (names_in l) script xs)) (nothing_last old.stack.items e))
       by (Some (waiting.Method f)) e g = goes_back fine f e g
-      by (Some (waiting.Initialiser class above next)) e g = over g (given (stack_in l old)) (ap given (popped_named (names_in l) old.stack.items (waiting.Initialiser class above next) e))
+      by (Some (waiting.Initialiser class above next)) e g = over g (given (stack_in l script old)) (ap given (popped_named (names_in l) script old.stack.items (waiting.Initialiser class above next) e))
       by (Some (waiting.Ending class)) e g =
-          let stack = popped_named (names_in l) old.stack.items (waiting.Ending class) e in
+          let stack = popped_named (names_in l) script old.stack.items (waiting.Ending class) e in
           let is_on : new.ended ≡ false = ap (λ (s : State). s.ended) g ∙ on in
           subst (IsEvent l steps script new None) (sym (ap given stack)) (record {
             left = record {
@@ -112,7 +112,7 @@ module _ (l : Lookups) (r : IsRight l) (steps : ℕ) (early : steps < 2 ^ 32) (s
             };
             shown = refl;
           })
-      by (Some (waiting.Outside owes)) e g = absurd (true≢false (sym (ap is_outside e) ∙ outside))
+      by (Some (waiting.Outside owes pending)) e g = absurd (true≢false (sym (ap is_outside e) ∙ outside))
 
 -- ---- the top is gone, and the world has changed
 
@@ -134,7 +134,7 @@ gifts_more w g = let long = length-append (spots_of w) (map new_spot g.things.it
 -- a value with the objects of a move is given to what stands below in the program
 pub given_within : (l : Lookups) → IsRight l → (steps : ℕ) → steps < 2 ^ 32 → (script : List Move) (old mid new : State) (g : Gifts) (value : Option Datum) (kind : Text) → IsRunning l steps old → old.ended ≡ false → is_outside (last_of (below_top old.stack.items)) ≡ false
     → AreGivenFine l old.world g value → AreGiven l g old.world mid.world → mid.statuses ≡ old.statuses → mid.stack.items ≡ below_top old.stack.items → mid.next ≡ old.next → mid.ended ≡ old.ended → IsHanded value mid new
-    → IsEvent l steps script new None (gives (bodies_in l) kind (given_world (names_in l) old.world g) (classes_in l old) (option_map (value_of (names_in l)) value) (stack_of (names_in l) (below_top old.stack.items)) (script_in script old))
+    → IsEvent l steps script new None (gives (bodies_in l) kind (given_world (names_in l) old.world g) (classes_in l old) (option_map (value_of (names_in l)) value) (stack_of (names_in l) script (below_top old.stack.items)) (script_in script old))
 given_within l r steps early script old mid new g value kind run on outside fine a statuses stack next ended h =
     let n = names_in l in
     let size = a.spots in
@@ -143,10 +143,10 @@ given_within l r steps early script old mid new g value kind run on outside fine
     let outer : is_outside (last_of mid.stack.items) ≡ false = ap (λ (xs : List Waiting). is_outside (last_of xs)) stack ∙ outside in
     let all = handed l r steps early script mid new run_mid (ended ∙ on) value kind (fine_given l old.world g (length (spots_of mid.world)) value size fine) h outer in
     subst (IsEvent l steps script new None)
-    (λ i. gives (bodies_in l) kind (a.world i) (classes_of l.program.now (statuses i).items) (option_map (value_of n) value) (stack_of n (stack i)) (drop (next i) script)) all
+    (λ i. gives (bodies_in l) kind (a.world i) (classes_of l.program.now (statuses i).items) (option_map (value_of n) value) (stack_of n script (stack i)) (drop (next i) script)) all
 
-outside_there : (o : Option Waiting) → is_outside o ≡ true → (owes : Option Kind) × (o ≡ Some (waiting.Outside owes))
-outside_there (Some (waiting.Outside owes)) e = (owes, refl)
+outside_there : (o : Option Waiting) → is_outside o ≡ true → (owes : Option Kind) × ((pending : Option ℕ) × (o ≡ Some (waiting.Outside owes pending)))
+outside_there (Some (waiting.Outside owes pending)) e = (owes, (pending, refl))
 outside_there None e = absurd (true≢false (sym e))
 outside_there (Some (waiting.Method f)) e = absurd (true≢false (sym e))
 outside_there (Some (waiting.Initialiser class above next)) e = absurd (true≢false (sym e))
@@ -155,23 +155,23 @@ outside_there (Some (waiting.Ending class)) e = absurd (true≢false (sym e))
 -- or it is shown to the framework
 pub given_out : (l : Lookups) (steps : ℕ) (script : List Move) (old new : State) (g : Gifts) (value : Option Datum) (kind : Text) (s : Option Shown) → IsRunning l steps old → old.ended ≡ false → is_outside (last_of (below_top old.stack.items)) ≡ true
     → ShowsGiven l g kind value old.world new.world s → new.statuses ≡ old.statuses → new.stack.items ≡ below_top old.stack.items → new.next ≡ old.next → new.ended ≡ old.ended
-    → IsEvent l steps script new (Some (event.Result s)) (gives (bodies_in l) kind (given_world (names_in l) old.world g) (classes_in l old) (option_map (value_of (names_in l)) value) (stack_of (names_in l) (below_top old.stack.items)) (script_in script old))
+    → IsEvent l steps script new (Some (event.Result s)) (gives (bodies_in l) kind (given_world (names_in l) old.world g) (classes_in l old) (option_map (value_of (names_in l)) value) (stack_of (names_in l) script (below_top old.stack.items)) (script_in script old))
 given_out l steps script old new g value kind s run on outside a statuses stack next ended =
     let n = names_in l in
     let below = below_top old.stack.items in
     let framework = outside_there (last_of below) outside in
-    let names = popped_named n below (waiting.Outside framework.0) framework.1 in
+    let names = popped_named n script below (waiting.Outside framework.0 framework.1.0) framework.1.1 in
     let size = a.spots in
     let more = gifts_more old.world g in
     let run_new = running_cut l steps (length old.stack.items - 1) old new run a.sound (omega (arith, size, more)) a.locks statuses stack in
     let shows : World × Option Shown → List NamedWaiting → Next = λ p ws. (On p.0 (classes_in l old) ws (script_in script old), Some (event.Result p.1)) in
-    let is : gives (bodies_in l) kind (given_world n old.world g) (classes_in l old) (option_map (value_of n) value) (stack_of n below) (script_in script old) ≡ shows (world_of n new.world, s) (stack_of n below) =
+    let is : gives (bodies_in l) kind (given_world n old.world g) (classes_in l old) (option_map (value_of n) value) (stack_of n script below) (script_in script old) ≡ shows (world_of n new.world, s) (stack_of n script below) =
     ap (λ (ws : List NamedWaiting). gives (bodies_in l) kind (given_world n old.world g) (classes_in l old) (option_map (value_of n) value) ws (script_in script old)) names
-    ∙ ap (λ (p : World × Option Shown). shows p (waiting_of n (waiting.Outside framework.0) ∷ stack_of n (below_top below))) a.shown
+    ∙ ap (λ (p : World × Option Shown). shows p (waiting_of n script (waiting.Outside framework.0 framework.1.0) ∷ stack_of n script (below_top below))) a.shown
     ∙ ap (shows (world_of n new.world, s)) (sym names) in
     subst (IsEvent l steps script new (Some (event.Result s))) (sym is) (record {
       left = record {
-        state = state_on l script new (ended ∙ on) ∙ (λ i. On (world_of n new.world) (classes_of l.program.now (statuses i).items) (stack_of n (stack i)) (drop (next i) script));
+        state = state_on l script new (ended ∙ on) ∙ (λ i. On (world_of n new.world) (classes_of l.program.now (statuses i).items) (stack_of n script (stack i)) (drop (next i) script));
         running = λ go. running_more l steps new run_new;
       };
       shown = refl;

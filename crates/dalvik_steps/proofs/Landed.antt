@@ -15,7 +15,7 @@ use Rattle.dalvik_defs.specs.declared.events.Shown.{Shown}
 use Rattle.dalvik_defs.specs.declared.script.Move.{Move}
 use Rattle.dalvik_defs.specs.declared.state.Frame.{Frame as NamedFrame}
 use Rattle.dalvik_defs.specs.declared.state.Waiting.{Waiting as NamedWaiting}
-use Rattle.dalvik_defs.specs.declared.state.Waiting.TheVariants.{Method as InMethod}
+use Rattle.dalvik_defs.specs.declared.state.Waiting.TheVariants.{Method as InMethod, Outside}
 use Rattle.dalvik_lookups.specs.Facing.{run_face}
 use Rattle.dalvik_lookups.specs.Tables.{IsRight}
 use Rattle.dalvik_lookups.specs.declared.lookups.Lookups.{Lookups}
@@ -28,10 +28,10 @@ use Rattle.dalvik_state.specs.declared.world.World.{World as OwnWorld}
 use Rattle.dalvik_state.specs.Drafts.{IsShown}
 use Rattle.dalvik_state.specs.Frames.{Handles}
 use Rattle.dalvik_state.specs.Runs.{bodies_in, classes_in, script_in, stack_in, world_in, IsEvent}
-use Rattle.dalvik_state.specs.States.{below_top, classes_of, frame_in, stack_of, top_frame, waiting_of, ChangesTop, IsRunning, IsSoundWaiting, KeepsRest}
+use Rattle.dalvik_state.specs.States.{below_top, classes_of, frame_in, pending_top, stack_of, top_frame, ChangesTop, IsRunning, IsSoundWaiting, KeepsRest}
 use Rattle.dalvik_state.specs.Views.{frame_of, names_in, value_of, world_of}
 use Rattle.dalvik_state.specs.Worlds.{spots_of}
-use Rattle.dalvik_state.proofs.Running.{popped_named, running_handles, running_more, running_stack, running_world, top_sound}
+use Rattle.dalvik_state.proofs.Running.{pending_named, popped_named, running_handles, running_more, running_pending, running_stack, running_world, top_sound}
 use Rattle.dalvik_state.proofs.Tops.{stack_handles}
 use Rattle.dalvik_steps.specs.declared.throwing.Exhibit.{Exhibit}
 use Rattle.dalvik_steps.specs.declared.throwing.Landing.{Landing}
@@ -75,9 +75,9 @@ module _ (l : Lookups) (r : IsRight l) (steps : ℕ) (script : List Move) (all :
       let last : last_of old.stack.items ≡ Some (waiting.Method f) = on.is ∙ ap (λ (x : Waiting). Some x) handler.is in
       let top : top_frame old.stack.items ≡ Some f = ap (option_and_then frame_in) last in
       let sound = top_sound l steps old f h.running top in
-      let replaced = stack_handles n old.stack.items new.stack.items f at d top changes in
+      let replaced = stack_handles n script old.stack.items new.stack.items f at d top changes in
       let caught : NamedFrame = record (go (frame_of n f) at) { caught = v } in
-      let rest = stack_of n (below_top old.stack.items) in
+      let rest = stack_of n script (below_top old.stack.items) in
       let is : all ≡ quiet (On w (classes_in l old) (InMethod caught ∷ rest) (script_in script old)) =
       sym h.whole ∙ ap (λ (ws : List NamedWaiting). unwinds (run_face l) (bodies_in l) w (classes_in l old) v ws (script_in script old)) replaced.was
       ∙ ap (λ (o : Option NamedFrame). lands_or w (classes_in l old) rest (script_in script old) o (unwinds (run_face l) (bodies_in l) w (classes_in l old) v rest (script_in script old)))
@@ -96,25 +96,29 @@ module _ (l : Lookups) (r : IsRight l) (steps : ℕ) (script : List Move) (all :
       let on = lands_on (landing.Framework place shown) place h refl low in
       (reached l (reverse (below_top old.stack.items)) more place on.low (world_in l old) (value_of (names_in l) d) on.top shown on.flies).shows
 
-  pub lands_framework : (w : OwnWorld) (place : ℕ) (shown : Exhibit) (s : Shown) → IsFalling l steps script all (landing.Framework place shown) old more d → length old.stack.items ≤ place + 1
-      → IsShown l throwable_type (value_of (names_in l) d) old.world w s → IsEvent l steps script (record old { world = w }) (Some (event.Uncaught s)) all
-  lands_framework w place shown s h low x =
+  pub lands_framework : (w : OwnWorld) (new : State) (place : ℕ) (shown : Exhibit) (s : Shown) → IsFalling l steps script all (landing.Framework place shown) old more d → length old.stack.items ≤ place + 1
+      → IsShown l throwable_type (value_of (names_in l) d) old.world w s → KeepsRest (record old { world = w }) new → new.stack.items ≡ pending_top None old.stack.items → IsEvent l steps script new (Some (event.Uncaught s)) all
+  lands_framework w new place shown s h low x keeps entries =
       let n = names_in l in
       let v = value_of n d in
-      let new = record old { world = w } in
+      let mid = record old { world = w } in
       let on = lands_on (landing.Framework place shown) place h refl low in
       let framework = reached l (reverse (below_top old.stack.items)) more place on.low (world_in l old) v on.top shown on.flies in
-      let last : last_of old.stack.items ≡ Some (waiting.Outside framework.owes) = on.is ∙ ap (λ (y : Waiting). Some y) framework.is in
-      let stack = popped_named n old.stack.items (waiting.Outside framework.owes) last in
+      let last : last_of old.stack.items ≡ Some (waiting.Outside framework.owes framework.pending) = on.is ∙ ap (λ (y : Waiting). Some y) framework.is in
+      let stack = popped_named n script old.stack.items (waiting.Outside framework.owes framework.pending) last in
+      let left : List NamedWaiting = Outside (option_map n.kind framework.owes) None ∷ stack_of n script (below_top old.stack.items) in
+      let named : stack_in l script new ≡ left = ap (stack_of n script) entries ∙ pending_named n script None old.stack.items framework.owes framework.pending last in
       let shows : World × Shown → List NamedWaiting → Next = λ p ws. (On p.0 (classes_in l old) ws (script_in script old), Some (event.Uncaught p.1)) in
-      let is : all ≡ shows (world_of n w, s) (stack_in l old) =
+      let is : all ≡ shows (world_of n w, s) left =
       sym h.whole ∙ ap (λ (ws : List NamedWaiting). unwinds (run_face l) (bodies_in l) (world_in l old) (classes_in l old) v ws (script_in script old)) stack
-      ∙ ap (λ (p : World × Shown). shows p (waiting_of n (waiting.Outside framework.owes) ∷ stack_of n (below_top old.stack.items))) x.shown
-      ∙ ap (shows (world_of n w, s)) (sym stack) in
+      ∙ ap (λ (p : World × Shown). shows p left) x.shown in
       let size = x.stands.size in
-      let run = running_world l steps old new h.running x.sound (omega (arith, size)) x.stands.locks refl refl in
+      let run = running_world l steps old mid h.running x.sound (omega (arith, size)) x.stands.locks refl refl in
       subst (IsEvent l steps script new (Some (event.Uncaught s))) (sym is) (record {
-        left = record { state = state_on l script new h.on; running = λ go. running_more l steps new run };
+        left = record {
+          state = state_on l script new (keeps.ended ∙ h.on) ∙ (λ i. On (world_of n (keeps.world i)) (classes_of l.program.now (keeps.statuses i).items) (named i) (drop (keeps.next i) script));
+          running = λ go. running_pending l (steps + 1) mid new None (running_more l steps mid run) keeps entries;
+        };
         shown = refl;
       })
 
@@ -124,7 +128,7 @@ module _ (l : Lookups) (r : IsRight l) (steps : ℕ) (script : List Move) (all :
       let ended : new.ended ≡ true = ap (λ (s : State). s.ended) e in
       let size = length (spots_of old.world) in
       let is : all ≡ quiet Ended =
-      sym h.whole ∙ flies_nowhere l (world_in l old) (value_of n d) (classes_in l old) (reverse old.stack.items) more landing.Nowhere (script_in script old) r
+      sym h.whole ∙ flies_nowhere l (world_in l old) (value_of n d) (classes_in l old) (reverse old.stack.items) more landing.Nowhere script (script_in script old) r
       (λ i x g. (size, reversed_sound l size old.stack.items (running_stack l steps old h.running) i x g)) h.flies refl in
       subst (IsEvent l steps script new None) (sym is) (record {
         left = record { state = state_over l script new ended; running = no_running l (steps + 1) new ended };

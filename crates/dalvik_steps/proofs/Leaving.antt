@@ -32,10 +32,10 @@ use Rattle.dalvik_steps.specs.Reaching.{Turns, IsAsked}
 
 -- ---- the state by names
 
-pub state_on : (l : Lookups) (script : List Move) (old new : State) (w : NamedWorld) (stack : List Waiting) → new.ended ≡ false → world_in l new ≡ w → new.statuses ≡ old.statuses → stack_in l new ≡ stack → new.next ≡ old.next
+pub state_on : (l : Lookups) (script : List Move) (old new : State) (w : NamedWorld) (stack : List Waiting) → new.ended ≡ false → world_in l new ≡ w → new.statuses ≡ old.statuses → stack_in l script new ≡ stack → new.next ≡ old.next
     → state_of (names_in l) script new ≡ On w (classes_in l old) stack (script_in script old)
 state_on l script old new w stack on world statuses stacked next =
-    ap (λ (b : Bool). elim b as (λ b. NamedState) [ true ↦ Ended | false ↦ On (world_of (names_in l) new.world) (classes_of l.program.now new.statuses.items) (stack_of (names_in l) new.stack.items) (drop new.next script) ]) on
+    ap (λ (b : Bool). elim b as (λ b. NamedState) [ true ↦ Ended | false ↦ On (world_of (names_in l) new.world) (classes_of l.program.now new.statuses.items) (stack_of (names_in l) script new.stack.items) (drop new.next script) ]) on
     ∙ (λ i. On (world i) (classes_of l.program.now (statuses i).items) (stacked i) (drop (next i) script))
 
 -- ---- the frame on top goes on
@@ -80,7 +80,7 @@ module _ (l : Lookups) (steps : ℕ) (script : List Move) (old mid new : State) 
       paced
       (subst (λ (v : World). AreHeld (steps + 1) v.locks.entries) (sym k.world) (record { at = t.held }))
 
-  left_with : KeepsRest mid new → (stack : List Waiting) → stack_in l new ≡ stack → IsRunning l (steps + 1) new → IsLeft l steps script new (On w (classes_in l old) stack (script_in script old))
+  left_with : KeepsRest mid new → (stack : List Waiting) → stack_in l script new ≡ stack → IsRunning l (steps + 1) new → IsLeft l steps script new (On w (classes_in l old) stack (script_in script old))
   left_with k stack e run = record {
     state = state_on l script old new w stack (k.ended ∙ t.ended ∙ on) (ap (world_of (names_in l)) k.world ∙ t.named) (k.statuses ∙ t.statuses) e (k.next ∙ t.next);
     running = λ g. run;
@@ -89,7 +89,7 @@ module _ (l : Lookups) (steps : ℕ) (script : List Move) (old mid new : State) 
   module _ (f : Frame) (top : top_frame old.stack.items ≡ Some f) where
     goes_left : (cells : Frame → List Datum) (b : NamedFrame) → AreFine (names_in l) (length (spots_of mid.world)) (cells f) → next (with_cells (names_in l) f (cells f)) ≡ b
         → ChangesTop (λ (f g : Frame). GoesOn f g (cells f)) mid.stack.items new.stack.items → KeepsRest mid new
-        → IsLeft l steps script new (On w (classes_in l old) (InMethod b ∷ below_in l old) (script_in script old))
+        → IsLeft l steps script new (On w (classes_in l old) (InMethod b ∷ below_in l script old) (script_in script old))
     goes_left cells b fine same changes k =
         let n = names_in l in
         let on_top : top_frame mid.stack.items ≡ Some f = ap top_frame t.stack ∙ top in
@@ -99,9 +99,9 @@ module _ (l : Lookups) (steps : ℕ) (script : List Move) (old mid new : State) 
         let low : f.position < 2 ^ 63 = omega (arith, pace, early) in
         let moved : h.frame.position ≡ f.position + 1 = so.position low in
         let sound = goes_sound l (length (spots_of mid.world)) f h.frame (cells f) (entries.at (length mid.stack.items - 1) (waiting.Method f) (top_there mid.stack.items f on_top)) fine so in
-        left_with k (InMethod b ∷ below_in l old)
-        (topped_named n (λ (g : Frame). GoesOn f g (cells f)) mid.stack.items new.stack.items f on_top h
-        ∙ (λ i. InMethod ((goes_on_named n f h.frame (cells f) low so ∙ same) i) ∷ stack_of n (below_top (t.stack i))))
+        left_with k (InMethod b ∷ below_in l script old)
+        (topped_named n script (λ (g : Frame). GoesOn f g (cells f)) mid.stack.items new.stack.items f on_top h
+        ∙ (λ i. InMethod ((goes_on_named n f h.frame (cells f) low so ∙ same) i) ∷ stack_of n script (below_top (t.stack i))))
         (on_stack k
         (subst (AreSoundWaiting l (length (spots_of mid.world))) (sym h.stack) (sound_set l (length (spots_of mid.world)) (length mid.stack.items - 1) mid.stack.items (waiting.Method h.frame) entries sound))
         (subst (ArePaced (2 ^ 32 + (steps + 1))) (sym h.stack) (paced_set (2 ^ 32 + (steps + 1)) (length mid.stack.items - 1) mid.stack.items (waiting.Method h.frame) paces (record { at = one h.frame (omega (arith, moved, pace)) }))))
@@ -111,14 +111,14 @@ module _ (l : Lookups) (steps : ℕ) (script : List Move) (old mid new : State) 
         one g h (suc i) x e = absurd (cc)
 
     pub goes_on_left : ChangesTop (λ (f g : Frame). GoesOn f g f.registers.items) mid.stack.items new.stack.items → KeepsRest mid new
-        → IsLeft l steps script new (On w (classes_in l old) (InMethod (next (frame_of (names_in l) f)) ∷ below_in l old) (script_in script old))
+        → IsLeft l steps script new (On w (classes_in l old) (InMethod (next (frame_of (names_in l) f)) ∷ below_in l script old) (script_in script old))
     goes_on_left changes k =
         let fine = fine_cells (names_in l) (length (spots_of mid.world)) f (fine_frame (names_in l) (length (spots_of old.world)) (length (spots_of mid.world)) f t.more (top_sound l steps old f r top).fine) in
         goes_left (λ (g : Frame). g.registers.items) (next (frame_of (names_in l) f)) fine refl changes k
 
     pub goes_with_left : (item : Item) (register : ℕ) (d : Datum) → IsFine (names_in l) (length (spots_of mid.world)) d
         → ChangesTop (λ (f g : Frame). GoesOn f g (with_item item f.registers.items register d)) mid.stack.items new.stack.items → KeepsRest mid new
-        → IsLeft l steps script new (On w (classes_in l old) (InMethod (next (write_item item (frame_of (names_in l) f) register (value_of (names_in l) d))) ∷ below_in l old) (script_in script old))
+        → IsLeft l steps script new (On w (classes_in l old) (InMethod (next (write_item item (frame_of (names_in l) f) register (value_of (names_in l) d))) ∷ below_in l script old) (script_in script old))
     goes_with_left item register d fine changes k =
         let cells = fine_cells (names_in l) (length (spots_of mid.world)) f (fine_frame (names_in l) (length (spots_of old.world)) (length (spots_of mid.world)) f t.more (top_sound l steps old f r top).fine) in
         goes_left (λ (g : Frame). with_item item g.registers.items register d) (next (write_item item (frame_of (names_in l) f) register (value_of (names_in l) d)))
@@ -126,16 +126,16 @@ module _ (l : Lookups) (steps : ℕ) (script : List Move) (old mid new : State) 
 
     -- the framework is asked for a value of a type
     pub asked_left : (kind : Kind) → IsFineKind l kind → IsAsked mid new kind
-        → IsLeft l steps script new (On w (classes_in l old) (Outside (Some (type_text l.types kind)) ∷ InMethod (frame_of (names_in l) f) ∷ below_in l old) (script_in script old))
+        → IsLeft l steps script new (On w (classes_in l old) (Outside (Some (type_text l.types kind)) None ∷ InMethod (frame_of (names_in l) f) ∷ below_in l script old) (script_in script old))
     asked_left kind fine a =
         let n = names_in l in
-        left_with a.rest (Outside (Some (type_text l.types kind)) ∷ InMethod (frame_of n f) ∷ below_in l old)
-        (ap (stack_of n) a.stack ∙ pushed_named n mid.stack.items (waiting.Outside (Some kind)) ∙ ap (λ (ws : List Waiting). Outside (Some (type_text l.types kind)) ∷ ws) (ap (stack_of n) t.stack ∙ top_named n old.stack.items f top))
+        left_with a.rest (Outside (Some (type_text l.types kind)) None ∷ InMethod (frame_of n f) ∷ below_in l script old)
+        (ap (stack_of n script) a.stack ∙ pushed_named n script mid.stack.items (waiting.Outside (Some kind) None) ∙ ap (λ (ws : List Waiting). Outside (Some (type_text l.types kind)) None ∷ ws) (ap (stack_of n script) t.stack ∙ top_named n script old.stack.items f top))
         (on_stack a.rest
-        (subst (AreSoundWaiting l (length (spots_of mid.world))) (sym a.stack) (sound_pushed l (length (spots_of mid.world)) mid.stack.items (waiting.Outside (Some kind)) entries fine))
-        (subst (ArePaced (2 ^ 32 + (steps + 1))) (sym a.stack) (paced_pushed (2 ^ 32 + (steps + 1)) mid.stack.items (waiting.Outside (Some kind)) paces (record { at = none }))))
+        (subst (AreSoundWaiting l (length (spots_of mid.world))) (sym a.stack) (sound_pushed l (length (spots_of mid.world)) mid.stack.items (waiting.Outside (Some kind) None) entries fine))
+        (subst (ArePaced (2 ^ 32 + (steps + 1))) (sym a.stack) (paced_pushed (2 ^ 32 + (steps + 1)) mid.stack.items (waiting.Outside (Some kind) None) paces (record { at = none }))))
       where
-        none : (i : ℕ) (x : Frame) → slice_get (waiting.Outside (Some kind) ∷ []) i ≡ Some (waiting.Method x) → x.position ≤ 2 ^ 32 + (steps + 1)
+        none : (i : ℕ) (x : Frame) → slice_get (waiting.Outside (Some kind) None ∷ []) i ≡ Some (waiting.Method x) → x.position ≤ 2 ^ 32 + (steps + 1)
         none zero x e = absurd (cc)
         none (suc i) x e = absurd (cc)
 

@@ -36,6 +36,7 @@ pub mod Sought
 pub mod Stacked
 pub mod Started
 pub mod Starters
+pub mod Taking
 pub mod Telling
 pub mod Turning
 pub mod Undone

@@ -14,7 +14,7 @@ looks_none statuses more None e = refl
 looks_none statuses more (Some (waiting.Method f)) e = refl
 looks_none statuses more (Some (waiting.Initialiser class above next)) e = absurd (true≢false e)
 looks_none statuses more (Some (waiting.Ending class)) e = refl
-looks_none statuses more (Some (waiting.Outside owes)) e = refl
+looks_none statuses more (Some (waiting.Outside owes pending)) e = refl
 
 -- the place where what is left begins
 pub left_place : (above left : List ℕ) (at count : ℕ) (rest : Option ℕ) → drop at above ≡ left → count ≡ length above → rest ≡ cond (nat_lt at count) (Some at) None → LeftAt above left rest

@@ -33,19 +33,19 @@ use Rattle.dalvik_steps.specs.declared.throwing.Thrown.TheVariants as thrown
 
 module _ (l : Lookups) (o : Outside) (floats : Floats) (script : List Move) (steps : ℕ) (old : State) (f : Frame) (top : top_frame old.stack.items ≡ Some f) where
   -- the stack with the frame on top
-  stacked : stack_in l old ≡ InMethod (frame_of (names_in l) f) ∷ below_in l old
-  stacked = top_named (names_in l) old.stack.items f top
+  stacked : stack_in l script old ≡ InMethod (frame_of (names_in l) f) ∷ below_in l script old
+  stacked = top_named (names_in l) script old.stack.items f top
 
   -- what goes down a stack that is known
-  at_stack : {X : Type 0} (P : X → Type 0) (step : List Waiting → X) → P (step (stack_in l old)) → P (step (InMethod (frame_of (names_in l) f) ∷ below_in l old))
+  at_stack : {X : Type 0} (P : X → Type 0) (step : List Waiting → X) → P (step (stack_in l script old)) → P (step (InMethod (frame_of (names_in l) f) ∷ below_in l script old))
   at_stack P step h = subst (λ (ws : List Waiting). P (step ws)) stacked h
 
   -- a new object of a known class is thrown
   pub faulted : IsRight l → (m : Memo) (new : State) (e : Option Event) (number : ℕ) (c : Text) → slice_get known_names number ≡ Some c
-      → IsNext l steps script m new e (thrown_by l (thrown.New number) (world_in l old) (classes_in l old) (stack_in l old) (script_in script old)) → IsNext l steps script m new e (comes_of l o floats script old f (faults (world_in l old) c))
+      → IsNext l steps script m new e (thrown_by l (thrown.New number) (world_in l old) (classes_in l old) (stack_in l script old) (script_in script old)) → IsNext l steps script m new e (comes_of l o floats script old f (faults (world_in l old) c))
   faulted r m new e number c known h =
       at_stack (IsNext l steps script m new e) (λ (ws : List Waiting). throws_new (run_face l) (bodies_in l) (world_in l old) (classes_in l old) c ws (script_in script old))
-      (subst (λ (t : Text). IsNext l steps script m new e (throws_new (run_face l) (bodies_in l) (world_in l old) (classes_in l old) t (stack_in l old) (script_in script old))) (known_at l.types r.tabled.named.types number c known) h)
+      (subst (λ (t : Text). IsNext l steps script m new e (throws_new (run_face l) (bodies_in l) (world_in l old) (classes_in l old) t (stack_in l script old) (script_in script old))) (known_at l.types r.tabled.named.types number c known) h)
 
   abbrev Comes : Memo → State → Option Event → Outcome → Type 0
   Comes m new e outcome = IsNext l steps script m new e (comes_of l o floats script old f outcome)
@@ -76,7 +76,7 @@ module _ (l : Lookups) (o : Outside) (floats : Floats) (script : List Move) (ste
       (at_stack (IsNext l steps script m new e) (λ (ws : List Waiting). throws_new (run_face l) (bodies_in l) (world_in l old) (classes_in l old) no_class ws (script_in script old)) h.next))
 
   -- a method is entered
-  pub entered_next : (m : Memo) (new : State) (k : MethodKey) (values : List Value) → IsLeft l steps script new (enters (bodies_in l) (world_in l old) (classes_in l old) k values (stack_in l old) (script_in script old)) → IsKept l m
+  pub entered_next : (m : Memo) (new : State) (k : MethodKey) (values : List Value) → IsLeft l steps script new (enters (bodies_in l) (world_in l old) (classes_in l old) k values (stack_in l script old) (script_in script old)) → IsKept l m
       → Comes m new None (Enters k values)
   entered_next m new k values h kept = record {
     event = record {

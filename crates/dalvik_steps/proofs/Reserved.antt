@@ -85,8 +85,8 @@ reserved_running l steps old new h r = running_of l steps new
 
 reserved_named : (n : Names) (script : List Move) (old new : State) → IsReserved old new → state_of n script new ≡ state_of n script old
 reserved_named n script old new h =
-    ap (λ (b : Bool). elim b as (λ b. NamedState) [ true ↦ Ended | false ↦ On (world_of n new.world) (classes_of n.program new.statuses.items) (stack_of n new.stack.items) (drop new.next script) ]) h.ended
-    ∙ ap (λ (s : NamedState). elim old.ended as (λ b. NamedState) [ true ↦ Ended | false ↦ s ]) (λ i. On (items_named n old.world new.world h.world i) (classes_of n.program (h.statuses i).items) (stack_of n (h.stack i)) (drop (h.next i) script))
+    ap (λ (b : Bool). elim b as (λ b. NamedState) [ true ↦ Ended | false ↦ On (world_of n new.world) (classes_of n.program new.statuses.items) (stack_of n script new.stack.items) (drop new.next script) ]) h.ended
+    ∙ ap (λ (s : NamedState). elim old.ended as (λ b. NamedState) [ true ↦ Ended | false ↦ s ]) (λ i. On (items_named n old.world new.world h.world i) (classes_of n.program (h.statuses i).items) (stack_of n script (h.stack i)) (drop (h.next i) script))
 
 pub undone : (l : Lookups) (steps : ℕ) (old new : State) → IsReserved old new → IsRunning l steps old → old.ended ≡ false → IsUndone l steps old new
 undone l steps old new h r on = record {
@@ -111,7 +111,7 @@ pub reserved_comes : (l : Lookups) (o : Outside) (floats : Floats) (script : Lis
 reserved_comes l o floats script old new f h g =
     let n = names_in l in
     let w = items_named n old.world new.world h.world in
-    λ i. happens (setting_in l o floats) (bodies_in l) (g (w i)) (w i) (classes_of l.program.now (h.statuses i).items) (frame_of n f) (stack_of n (below_top (h.stack i))) (drop (h.next i) script)
+    λ i. happens (setting_in l o floats) (bodies_in l) (g (w i)) (w i) (classes_of l.program.now (h.statuses i).items) (frame_of n f) (stack_of n script (below_top (h.stack i))) (drop (h.next i) script)
 
 pub reserved_heap : (s : State) (w : World) → IsHeap s.world w (spots_of s.world) → IsReserved s (record s { world = w })
 reserved_heap s w h = reserved_world s w (items_heap s.world w h)

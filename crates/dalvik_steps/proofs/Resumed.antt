@@ -38,27 +38,27 @@ module _ (l : Lookups) (steps : ℕ) (script rest : List Move) (new : State) {X 
   Left s = OnOk res (IsLeft l steps script new s)
 
   pub resumes_left :
-      ((class : ℕ) (above : Vec ℕ Global) (next : ℕ) → slice_get xs place ≡ Some (waiting.Initialiser class above next) → Left (goes_on (run_face l) (bodies_in l) w classes (class_text l.program.now class) (left_of classes (texts l (drop (next + 0) above.items))) (stack_of (names_in l) (take place xs)) rest))
-      → (place < length xs → is_initialiser (slice_get xs place) ≡ false → Left (On w classes (stack_of (names_in l) (take (place + 1) xs)) rest))
-      → Left (resumes (run_face l) (bodies_in l) w classes (stack_of (names_in l) (below_top xs)) rest)
+      ((class : ℕ) (above : Vec ℕ Global) (next : ℕ) → slice_get xs place ≡ Some (waiting.Initialiser class above next) → Left (goes_on (run_face l) (bodies_in l) w classes (class_text l.program.now class) (left_of classes (texts l (drop (next + 0) above.items))) (stack_of (names_in l) script (take place xs)) rest))
+      → (place < length xs → is_initialiser (slice_get xs place) ≡ false → Left (On w classes (stack_of (names_in l) script (take (place + 1) xs)) rest))
+      → Left (resumes (run_face l) (bodies_in l) w classes (stack_of (names_in l) script (below_top xs)) rest)
   resumes_left is other = by (slice_get xs place) refl
     where
-      passes : is_initialiser (slice_get xs place) ≡ false → Left (resumes (run_face l) (bodies_in l) w classes (stack_of (names_in l) (below_top xs)) rest)
+      passes : is_initialiser (slice_get xs place) ≡ false → Left (resumes (run_face l) (bodies_in l) w classes (stack_of (names_in l) script (below_top xs)) rest)
       passes e =
           let count : place + 1 ≡ length xs - 1 = omega (arith, long) in
-          let named = not_initialiser l w classes (below_top xs) rest (ap is_initialiser (below_at xs place long) ∙ e) in
-          subst Left (ap (λ (n : ℕ). On w classes (stack_of (names_in l) (take n xs)) rest) count ∙ sym named) (other (omega (arith, long)) e)
+          let named = not_initialiser l w classes (below_top xs) script rest (ap is_initialiser (below_at xs place long) ∙ e) in
+          subst Left (ap (λ (n : ℕ). On w classes (stack_of (names_in l) script (take n xs)) rest) count ∙ sym named) (other (omega (arith, long)) e)
 
-      by : (o : Option Waiting) → slice_get xs place ≡ o → Left (resumes (run_face l) (bodies_in l) w classes (stack_of (names_in l) (below_top xs)) rest)
+      by : (o : Option Waiting) → slice_get xs place ≡ o → Left (resumes (run_face l) (bodies_in l) w classes (stack_of (names_in l) script (below_top xs)) rest)
       by (Some (waiting.Initialiser class above next)) e =
           let n = names_in l in
-          let stack = popped_named n (below_top xs) (waiting.Initialiser class above next) (below_at xs place long ∙ e) in
+          let stack = popped_named n script (below_top xs) (waiting.Initialiser class above next) (below_at xs place long ∙ e) in
           let from : next + 0 ≡ next = omega arith in
           subst Left
-          (ap (λ (k : ℕ). goes_on (run_face l) (bodies_in l) w classes (class_text l.program.now class) (left_of classes (texts l (drop k above.items))) (stack_of n (take place xs)) rest) from
-          ∙ ap (λ (ys : List Waiting). goes_on (run_face l) (bodies_in l) w classes (class_text l.program.now class) (left_of classes (texts l (drop next above.items))) (stack_of n ys) rest) (sym (below_twice xs place long))
+          (ap (λ (k : ℕ). goes_on (run_face l) (bodies_in l) w classes (class_text l.program.now class) (left_of classes (texts l (drop k above.items))) (stack_of n script (take place xs)) rest) from
+          ∙ ap (λ (ys : List Waiting). goes_on (run_face l) (bodies_in l) w classes (class_text l.program.now class) (left_of classes (texts l (drop next above.items))) (stack_of n script ys) rest) (sym (below_twice xs place long))
           ∙ sym (ap (λ (ws : List NamedWaiting). resumes (run_face l) (bodies_in l) w classes ws rest) stack)) (is class above next e)
       by None e = passes (ap is_initialiser e)
       by (Some (waiting.Method f)) e = passes (ap is_initialiser e)
       by (Some (waiting.Ending class)) e = passes (ap is_initialiser e)
-      by (Some (waiting.Outside owes)) e = passes (ap is_initialiser e)
+      by (Some (waiting.Outside owes pending)) e = passes (ap is_initialiser e)

@@ -6,9 +6,10 @@ use Rattle.std.proofs.lemmas.Bool.{cases_lt}
 use Rattle.dalvik_defs.specs.Names.{Text}
 use Rattle.dalvik_defs.specs.Stack.{goes_on, left_of, resumes, runs}
 use Rattle.dalvik_defs.specs.State.{Classes, On, State as NamedState, World as NamedWorld}
+use Rattle.dalvik_defs.specs.declared.names.MethodKey.{MethodKey}
 use Rattle.dalvik_defs.specs.declared.script.Move.{Move}
 use Rattle.dalvik_defs.specs.declared.state.Waiting.{Waiting as NamedWaiting}
-use Rattle.dalvik_defs.specs.declared.state.Waiting.TheVariants.{Initialiser}
+use Rattle.dalvik_defs.specs.declared.state.Waiting.TheVariants.{Ending, Initialiser}
 use Rattle.dalvik_lookups.specs.Facing.{run_face}
 use Rattle.dalvik_lookups.specs.Tables.{IsRight}
 use Rattle.dalvik_lookups.specs.declared.lookups.Lookups.{Lookups}
@@ -24,17 +25,18 @@ use Rattle.dalvik_state.specs.Views.{names_in, world_of}
 use Rattle.dalvik_state.specs.Worlds.{spots_of}
 use Rattle.dalvik_state.proofs.Running.{AreHeld, ArePaced, AreSoundWaiting, paced_below, paced_more, paced_pushed, popped_named, pushed_named, running_held, running_more, running_of, running_paced, running_stack, sound_below, sound_pushed}
 use Rattle.dalvik_steps.specs.Backs.{last_of}
-use Rattle.dalvik_steps.specs.Turns.{is_initialiser, left_in, turn_entries, IsLook, IsTurn, LeftAt, Looks}
-use Rattle.dalvik_steps.proofs.Handing.{nothing_last, state_on}
+use Rattle.dalvik_steps.specs.Turns.{is_initialiser, left_in, turn_entries, HasNoTurn, IsLook, IsTurn, LeftAt, Looks}
+use Rattle.dalvik_steps.proofs.Handing.{no_running, nothing_last, state_on, state_over}
+use Rattle.dalvik_steps.proofs.Taking.{not_entered}
 use Rattle.dalvik_steps.proofs.Turning.{classes_drop, has_more, left_named, nothing_more, texts, turn_paced, turn_sound, turn_stack, waits_named}
 
 module _ (l : Lookups) (r : IsRight l) (steps : ℕ) (script : List Move) (old : State) (run : IsRunning l steps old) (on : old.ended ≡ false) where
   -- only the stack has changed
-  pub stack_left : (new : State) → KeepsRest old new → AreSoundWaiting l (length (spots_of old.world)) new.stack.items → ArePaced (2 ^ 32 + steps) new.stack.items → IsLeft l steps script new (On (world_in l old) (classes_in l old) (stack_in l new) (script_in script old))
+  pub stack_left : (new : State) → KeepsRest old new → AreSoundWaiting l (length (spots_of old.world)) new.stack.items → ArePaced (2 ^ 32 + steps) new.stack.items → IsLeft l steps script new (On (world_in l old) (classes_in l old) (stack_in l script new) (script_in script old))
   stack_left new k sound paced =
       let more = running_more l steps old run in
       record {
-        state = state_on l script new (k.ended ∙ on) ∙ (λ i. On (world_of (names_in l) (k.world i)) (classes_of l.program.now (k.statuses i).items) (stack_in l new) (drop (k.next i) script));
+        state = state_on l script new (k.ended ∙ on) ∙ (λ i. On (world_of (names_in l) (k.world i)) (classes_of l.program.now (k.statuses i).items) (stack_in l script new) (drop (k.next i) script));
         running = λ go. running_of l (steps + 1) new (subst (IsSound l) (sym k.world) run.world) (ap (λ v. length v.items) k.statuses ∙ run.classes)
             (subst (λ (w : World). AreSoundWaiting l (length (spots_of w)) new.stack.items) (sym k.world) sound)
             (paced_more (2 ^ 32 + steps) (2 ^ 32 + (steps + 1)) new.stack.items (omega arith) paced)
@@ -42,19 +44,19 @@ module _ (l : Lookups) (r : IsRight l) (steps : ℕ) (script : List Move) (old :
       }
 
   -- some entries are gone
-  pub below_left : (new : State) (k : ℕ) → KeepsRest old new → new.stack.items ≡ take k old.stack.items → IsLeft l steps script new (On (world_in l old) (classes_in l old) (stack_of (names_in l) (take k old.stack.items)) (script_in script old))
+  pub below_left : (new : State) (k : ℕ) → KeepsRest old new → new.stack.items ≡ take k old.stack.items → IsLeft l steps script new (On (world_in l old) (classes_in l old) (stack_of (names_in l) script (take k old.stack.items)) (script_in script old))
   below_left new k keeps e =
-      subst (λ (xs : List Waiting). IsLeft l steps script new (On (world_in l old) (classes_in l old) (stack_of (names_in l) xs) (script_in script old))) e
+      subst (λ (xs : List Waiting). IsLeft l steps script new (On (world_in l old) (classes_in l old) (stack_of (names_in l) script xs) (script_in script old))) e
       (stack_left new keeps (subst (AreSoundWaiting l (length (spots_of old.world))) (sym e) (sound_below l (length (spots_of old.world)) k old.stack.items (running_stack l steps old run)))
       (subst (ArePaced (2 ^ 32 + steps)) (sym e) (paced_below (2 ^ 32 + steps) k old.stack.items (running_paced l steps old run))))
 
   -- the turn of a class has come
   pub turn_left : (new : State) (k class : ℕ) (o : Option Frame) → KeepsRest old new → class < length l.program.now.classes → IsTurn l (length (spots_of old.world)) class o → new.stack.items ≡ take k old.stack.items ++ turn_entries class o
-      → IsLeft l steps script new (runs (bodies_in l) (world_in l old) (classes_in l old) (class_text l.program.now class) ((run_face l).initialiser (class_text l.program.now class)) (stack_of (names_in l) (take k old.stack.items)) (script_in script old))
+      → IsLeft l steps script new (runs (bodies_in l) (world_in l old) (classes_in l old) (class_text l.program.now class) ((run_face l).initialiser (class_text l.program.now class)) (stack_of (names_in l) script (take k old.stack.items)) (script_in script old))
   turn_left new k class o keeps low turn e =
       let size = length (spots_of old.world) in
       let below = take k old.stack.items in
-      subst (IsLeft l steps script new) (ap (λ (xs : List Waiting). On (world_in l old) (classes_in l old) (stack_of (names_in l) xs) (script_in script old)) e ∙ sym (turn_stack l below class o (world_in l old) (classes_in l old) size (script_in script old) turn))
+      subst (IsLeft l steps script new) (ap (λ (xs : List Waiting). On (world_in l old) (classes_in l old) (stack_of (names_in l) script xs) (script_in script old)) e ∙ sym (turn_stack l below class o (world_in l old) (classes_in l old) size script (script_in script old) turn))
       (stack_left new keeps
       (subst (AreSoundWaiting l size) (sym e) (turn_sound l size below class o (sound_below l size k old.stack.items (running_stack l steps old run)) low turn))
       (subst (ArePaced (2 ^ 32 + steps)) (sym e) (turn_paced l size (2 ^ 32 + steps) below class o (paced_below (2 ^ 32 + steps) k old.stack.items (running_paced l steps old run)) turn)))
@@ -69,7 +71,7 @@ module _ (l : Lookups) (r : IsRight l) (steps : ℕ) (script : List Move) (old :
 
   pub wait_left : (new : State) (below : List Waiting) (class next from : ℕ) (above : Vec ℕ Global) → KeepsRest old new → AreSoundWaiting l (length (spots_of old.world)) below → ArePaced (2 ^ 32 + steps) below → AreClasses l (class ∷ above.items)
       → new.stack.items ≡ below ++ waiting.Initialiser class above next ∷ [] → drop next above.items ≡ left_in old.statuses.items (drop from above.items) → next < length above.items
-      → IsLeft l steps script new (goes_on (run_face l) (bodies_in l) (world_in l old) (classes_in l old) (class_text l.program.now class) (left_of (classes_in l old) (texts l (drop from above.items))) (stack_of (names_in l) below) (script_in script old))
+      → IsLeft l steps script new (goes_on (run_face l) (bodies_in l) (world_in l old) (classes_in l old) (class_text l.program.now class) (left_of (classes_in l old) (texts l (drop from above.items))) (stack_of (names_in l) script below) (script_in script old))
   wait_left new below class next from above keeps sound paced classes e left low =
       let size = length (spots_of old.world) in
       let rest : AreClasses l above.items = record { at = λ i c g. classes.at (suc i) c g } in
@@ -77,10 +79,10 @@ module _ (l : Lookups) (r : IsRight l) (steps : ℕ) (script : List Move) (old :
       let names = left_named l r old.statuses.items (drop from above.items) (classes_drop l from above.items rest) in
       let named : left_of (classes_in l old) (texts l (drop from above.items)) ≡ texts l (drop next above.items) = names ∙ ap (texts l) (sym left) in
       subst (IsLeft l steps script new)
-      (ap (λ (xs : List Waiting). On (world_in l old) (classes_in l old) (stack_of (names_in l) xs) (script_in script old)) e
-      ∙ ap (λ (ws : List NamedWaiting). On (world_in l old) (classes_in l old) ws (script_in script old)) (pushed_named (names_in l) below (waiting.Initialiser class above next))
-      ∙ sym (waits_named (run_face l) l (world_in l old) (classes_in l old) (class_text l.program.now class) (drop next above.items) more.first more.behind (stack_of (names_in l) below) (script_in script old) more.is)
-      ∙ ap (λ (ts : List Text). goes_on (run_face l) (bodies_in l) (world_in l old) (classes_in l old) (class_text l.program.now class) ts (stack_of (names_in l) below) (script_in script old)) (sym named))
+      (ap (λ (xs : List Waiting). On (world_in l old) (classes_in l old) (stack_of (names_in l) script xs) (script_in script old)) e
+      ∙ ap (λ (ws : List NamedWaiting). On (world_in l old) (classes_in l old) ws (script_in script old)) (pushed_named (names_in l) script below (waiting.Initialiser class above next))
+      ∙ sym (waits_named (run_face l) l (world_in l old) (classes_in l old) (class_text l.program.now class) (drop next above.items) more.first more.behind (stack_of (names_in l) script below) (script_in script old) more.is)
+      ∙ ap (λ (ts : List Text). goes_on (run_face l) (bodies_in l) (world_in l old) (classes_in l old) (class_text l.program.now class) ts (stack_of (names_in l) script below) (script_in script old)) (sym named))
       (stack_left new keeps
       (subst (AreSoundWaiting l size) (sym e) (sound_pushed l size below (waiting.Initialiser class above next) sound classes))
       (subst (ArePaced (2 ^ 32 + steps)) (sym e) (paced_pushed (2 ^ 32 + steps) below (waiting.Initialiser class above next) paced (waiting_paced (2 ^ 32 + steps) class next above))))
@@ -93,6 +95,20 @@ module _ (l : Lookups) (r : IsRight l) (steps : ℕ) (script : List Move) (old :
       let rest : AreClasses l above.items = record { at = λ i c g. classes.at (suc i) c g } in
       let names = left_named l r old.statuses.items (drop from above.items) (classes_drop l from above.items rest) in
       subst (λ (ts : List Text). IsLeft l steps script new (goes_on (run_face l) (bodies_in l) (world_in l old) (classes_in l old) (class_text l.program.now class) ts stack (script_in script old))) (sym (names ∙ ap (texts l) left)) h
+
+-- the initialiser of a class whose turn has come can't be entered
+pub no_turn_left : (l : Lookups) (steps : ℕ) (script : List Move) (old new : State) (k class : ℕ) → new ≡ record old { ended = true } → HasNoTurn l class
+    → IsLeft l steps script new (runs (bodies_in l) (world_in l old) (classes_in l old) (class_text l.program.now class) ((run_face l).initialiser (class_text l.program.now class)) (stack_of (names_in l) script (take k old.stack.items)) (script_in script old))
+no_turn_left l steps script old new k class e h =
+    let c = class_text l.program.now class in
+    let stack = stack_of (names_in l) script (take k old.stack.items) in
+    let ended : new.ended ≡ true = ap (λ (s : State). s.ended) e in
+    record {
+      state = state_over l script new ended
+          ∙ sym (ap (λ (o : Option MethodKey). runs (bodies_in l) (world_in l old) (classes_in l old) c o stack (script_in script old)) h.is
+          ∙ not_entered (bodies_in l h.key) (world_in l old) (classes_in l old) h.key [] (Ending c ∷ stack) (script_in script old) h.not);
+      running = no_running l (steps + 1) new ended;
+    }
 
 -- ---- places
 
@@ -131,7 +147,7 @@ looks_other statuses more None found h e = h
 looks_other statuses more (Some (waiting.Method f)) found h e = h
 looks_other statuses more (Some (waiting.Initialiser class above next)) found h e = absurd (true≢false e)
 looks_other statuses more (Some (waiting.Ending class)) found h e = h
-looks_other statuses more (Some (waiting.Outside owes)) found h e = h
+looks_other statuses more (Some (waiting.Outside owes pending)) found h e = h
 
 -- what is found of a class that is being initialised, and of no other
 pub record IsFound (statuses : List Status) (class : ℕ) (above : List ℕ) (from : ℕ) (c : ℕ) (rest : Option ℕ) : Type 0 where
@@ -164,16 +180,16 @@ below_at xs k e =
     got (y ∷ ys) zero h = refl
     got (y ∷ ys) (suc n) h = got ys n (omega arith)
 
-pub not_initialiser : (l : Lookups) (w : NamedWorld) (classes : Classes) (xs : List Waiting) (script : List Move) → is_initialiser (last_of xs) ≡ false → resumes (run_face l) (bodies_in l) w classes (stack_of (names_in l) xs) script ≡ On w classes (stack_of (names_in l) xs) script
-not_initialiser l w classes xs script h = by (last_of xs) refl h
+pub not_initialiser : (l : Lookups) (w : NamedWorld) (classes : Classes) (xs : List Waiting) (moves script : List Move) → is_initialiser (last_of xs) ≡ false → resumes (run_face l) (bodies_in l) w classes (stack_of (names_in l) moves xs) script ≡ On w classes (stack_of (names_in l) moves xs) script
+not_initialiser l w classes xs moves script h = by (last_of xs) refl h
   where
-    at : (x : Waiting) → last_of xs ≡ Some x → resumes (run_face l) (bodies_in l) w classes (waiting_of (names_in l) x ∷ stack_of (names_in l) (below_top xs)) script ≡ On w classes (waiting_of (names_in l) x ∷ stack_of (names_in l) (below_top xs)) script
-        → resumes (run_face l) (bodies_in l) w classes (stack_of (names_in l) xs) script ≡ On w classes (stack_of (names_in l) xs) script
-    at x e f = subst (λ (ws : List NamedWaiting). resumes (run_face l) (bodies_in l) w classes ws script ≡ On w classes ws script) (sym (popped_named (names_in l) xs x e)) f
+    at : (x : Waiting) → last_of xs ≡ Some x → resumes (run_face l) (bodies_in l) w classes (waiting_of (names_in l) moves x ∷ stack_of (names_in l) moves (below_top xs)) script ≡ On w classes (waiting_of (names_in l) moves x ∷ stack_of (names_in l) moves (below_top xs)) script
+        → resumes (run_face l) (bodies_in l) w classes (stack_of (names_in l) moves xs) script ≡ On w classes (stack_of (names_in l) moves xs) script
+    at x e f = subst (λ (ws : List NamedWaiting). resumes (run_face l) (bodies_in l) w classes ws script ≡ On w classes ws script) (sym (popped_named (names_in l) moves xs x e)) f
 
-    by : (o : Option Waiting) → last_of xs ≡ o → is_initialiser o ≡ false → resumes (run_face l) (bodies_in l) w classes (stack_of (names_in l) xs) script ≡ On w classes (stack_of (names_in l) xs) script
-    by None e g = ap (λ (ys : List Waiting). resumes (run_face l) (bodies_in l) w classes (stack_of (names_in l) ys) script) (nothing_last xs e) ∙ sym (ap (λ (ys : List Waiting). On w classes (stack_of (names_in l) ys) script) (nothing_last xs e))
+    by : (o : Option Waiting) → last_of xs ≡ o → is_initialiser o ≡ false → resumes (run_face l) (bodies_in l) w classes (stack_of (names_in l) moves xs) script ≡ On w classes (stack_of (names_in l) moves xs) script
+    by None e g = ap (λ (ys : List Waiting). resumes (run_face l) (bodies_in l) w classes (stack_of (names_in l) moves ys) script) (nothing_last xs e) ∙ sym (ap (λ (ys : List Waiting). On w classes (stack_of (names_in l) moves ys) script) (nothing_last xs e))
     by (Some (waiting.Method f)) e g = at (waiting.Method f) e refl
     by (Some (waiting.Initialiser class above next)) e g = absurd (true≢false g)
     by (Some (waiting.Ending class)) e g = at (waiting.Ending class) e refl
-    by (Some (waiting.Outside owes)) e g = at (waiting.Outside owes) e refl
+    by (Some (waiting.Outside owes pending)) e g = at (waiting.Outside owes pending) e refl

@@ -107,37 +107,37 @@ first_there l steps s class above next first run there e =
     let are : AreClasses l (class ∷ above.items) = run.stack (length s.stack.items - 1) (waiting.Initialiser class above next) there in
     are.at (suc next) first e
 
-module _ (l : Lookups) (setting : Setting) (face : setting.face ≡ run_face l) (old : State) (class : ℕ) (above : Vec ℕ Global) (next : ℕ) (script : List Move) (there : slice_get old.stack.items (length old.stack.items - 1) ≡ Some (waiting.Initialiser class above next)) where
+module _ (l : Lookups) (setting : Setting) (face : setting.face ≡ run_face l) (old : State) (class : ℕ) (above : Vec ℕ Global) (next : ℕ) (moves script : List Move) (there : slice_get old.stack.items (length old.stack.items - 1) ≡ Some (waiting.Initialiser class above next)) where
   abbrev Looking : Next
-  Looking = initialises setting (bodies_in l) (world_in l old) (classes_in l old) (class_text l.program.now class) (texts l (drop next above.items)) (below_in l old) script
+  Looking = initialises setting (bodies_in l) (world_in l old) (classes_in l old) (class_text l.program.now class) (texts l (drop next above.items)) (below_in l moves old) script
 
-  stacked : (first : ℕ) → slice_get above.items next ≡ Some first → Initialiser (class_text l.program.now class) (texts l (first ∷ drop (suc next) above.items)) ∷ below_in l old ≡ stack_in l old
+  stacked : (first : ℕ) → slice_get above.items next ≡ Some first → Initialiser (class_text l.program.now class) (texts l (first ∷ drop (suc next) above.items)) ∷ below_in l moves old ≡ stack_in l moves old
   stacked first e =
-      ap (λ (cs : List ℕ). Initialiser (class_text l.program.now class) (texts l cs) ∷ below_in l old) (sym (next_drop above.items next first e))
-      ∙ sym (popped_named (names_in l) old.stack.items (waiting.Initialiser class above next) there)
+      ap (λ (cs : List ℕ). Initialiser (class_text l.program.now class) (texts l cs) ∷ below_in l moves old) (sym (next_drop above.items next first e))
+      ∙ sym (popped_named (names_in l) moves old.stack.items (waiting.Initialiser class above next) there)
 
   first_by : IsRight l → (first : ℕ) (s : OwnStatus) → first < length l.program.now.classes → slice_get above.items next ≡ Some first → status_at old.statuses.items first ≡ s
-      → Looking ≡ first_needed setting (bodies_in l) (world_in l old) (classes_in l old) (class_text l.program.now class) (class_text l.program.now first) (texts l (drop (suc next) above.items)) (status_of s) (below_in l old) script
+      → Looking ≡ first_needed setting (bodies_in l) (world_in l old) (classes_in l old) (class_text l.program.now class) (class_text l.program.now first) (texts l (drop (suc next) above.items)) (status_of s) (below_in l moves old) script
   first_by r first s low e is =
-      initialises_at l setting (world_in l old) (classes_in l old) (class_text l.program.now class) above.items next first (status_of s) (below_in l old) script e (status_named l r old.statuses.items first low ∙ ap status_of is)
+      initialises_at l setting (world_in l old) (classes_in l old) (class_text l.program.now class) above.items next first (status_of s) (below_in l moves old) script e (status_named l r old.statuses.items first low ∙ ap status_of is)
 
   -- it is new
   pub first_new : IsRight l → (first : ℕ) → first < length l.program.now.classes → slice_get above.items next ≡ Some first → status_at old.statuses.items first ≡ status.New
-      → quiet (starts (run_face l) (bodies_in l) (world_in l old) (classes_in l old) (class_text l.program.now first) (stack_in l old) script) ≡ Looking
+      → quiet (starts (run_face l) (bodies_in l) (world_in l old) (classes_in l old) (class_text l.program.now first) (stack_in l moves old) script) ≡ Looking
   first_new r first low e is =
       sym (first_by r first status.New low e is
       ∙ (λ i. quiet (starts (face i) (bodies_in l) (world_in l old) (classes_in l old) (class_text l.program.now first) (stacked first e i) script)))
 
   -- it has failed
   pub first_failed : IsRight l → (first : ℕ) → first < length l.program.now.classes → slice_get above.items next ≡ Some first → status_at old.statuses.items first ≡ status.Failed
-      → throws_new (run_face l) (bodies_in l) (world_in l old) (classes_in l old) no_class (stack_in l old) script ≡ Looking
+      → throws_new (run_face l) (bodies_in l) (world_in l old) (classes_in l old) no_class (stack_in l moves old) script ≡ Looking
   first_failed r first low e is =
       sym (first_by r first status.Failed low e is
       ∙ (λ i. throws_new (face i) (bodies_in l) (world_in l old) (classes_in l old) no_class (stacked first e i) script))
 
   -- what goes on from a place on
   abbrev Going : ℕ → ℕ → Next
-  Going from top = quiet (goes_on (run_face l) (bodies_in l) (world_in l old) (classes_in l old) (class_text l.program.now class) (left_of (classes_in l old) (texts l (drop from above.items))) (stack_of (names_in l) (take top old.stack.items)) script)
+  Going from top = quiet (goes_on (run_face l) (bodies_in l) (world_in l old) (classes_in l old) (class_text l.program.now class) (left_of (classes_in l old) (texts l (drop from above.items))) (stack_of (names_in l) moves (take top old.stack.items)) script)
 
   -- it is running or done
   pub first_passed : IsRight l → (first top : ℕ) → first < length l.program.now.classes → slice_get above.items next ≡ Some first → need_at (status_at old.statuses.items first) ≡ need.Ready → top ≡ length old.stack.items - 1
@@ -148,8 +148,8 @@ module _ (l : Lookups) (setting : Setting) (face : setting.face ≡ run_face l) 
     where
       by : (s : OwnStatus) → status_at old.statuses.items first ≡ s → need_at s ≡ need.Ready → Looking ≡ Going (suc next) (length old.stack.items - 1)
       by status.New h n = absurd (cc)
-      by status.Running h n = first_by r first status.Running low e h ∙ (λ i. quiet (goes_on (face i) (bodies_in l) (world_in l old) (classes_in l old) (class_text l.program.now class) (left_of (classes_in l old) (texts l (drop (suc next) above.items))) (below_in l old) script))
-      by status.Done h n = first_by r first status.Done low e h ∙ (λ i. quiet (goes_on (face i) (bodies_in l) (world_in l old) (classes_in l old) (class_text l.program.now class) (left_of (classes_in l old) (texts l (drop (suc next) above.items))) (below_in l old) script))
+      by status.Running h n = first_by r first status.Running low e h ∙ (λ i. quiet (goes_on (face i) (bodies_in l) (world_in l old) (classes_in l old) (class_text l.program.now class) (left_of (classes_in l old) (texts l (drop (suc next) above.items))) (below_in l moves old) script))
+      by status.Done h n = first_by r first status.Done low e h ∙ (λ i. quiet (goes_on (face i) (bodies_in l) (world_in l old) (classes_in l old) (class_text l.program.now class) (left_of (classes_in l old) (texts l (drop (suc next) above.items))) (below_in l moves old) script))
       by status.Failed h n = absurd (cc)
 
   -- there is none
@@ -158,6 +158,6 @@ module _ (l : Lookups) (setting : Setting) (face : setting.face ≡ run_face l) 
       let from : next + 0 ≡ next = omega arith in
       let nothing = nothing_first above.items next e in
       (λ i. Going (from i) (at i))
-      ∙ ap (λ (cs : List ℕ). quiet (goes_on (run_face l) (bodies_in l) (world_in l old) (classes_in l old) (class_text l.program.now class) (left_of (classes_in l old) (texts l cs)) (below_in l old) script)) nothing
-      ∙ (λ i. quiet (goes_on (sym face i) (bodies_in l) (world_in l old) (classes_in l old) (class_text l.program.now class) [] (below_in l old) script))
-      ∙ ap (λ (cs : List ℕ). initialises setting (bodies_in l) (world_in l old) (classes_in l old) (class_text l.program.now class) (texts l cs) (below_in l old) script) (sym nothing)
+      ∙ ap (λ (cs : List ℕ). quiet (goes_on (run_face l) (bodies_in l) (world_in l old) (classes_in l old) (class_text l.program.now class) (left_of (classes_in l old) (texts l cs)) (below_in l moves old) script)) nothing
+      ∙ (λ i. quiet (goes_on (sym face i) (bodies_in l) (world_in l old) (classes_in l old) (class_text l.program.now class) [] (below_in l moves old) script))
+      ∙ ap (λ (cs : List ℕ). initialises setting (bodies_in l) (world_in l old) (classes_in l old) (class_text l.program.now class) (texts l cs) (below_in l moves old) script) (sym nothing)

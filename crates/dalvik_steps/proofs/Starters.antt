@@ -33,7 +33,7 @@ use Rattle.dalvik_state.specs.Runs.{bodies_in}
 use Rattle.dalvik_state.specs.States.{class_text}
 use Rattle.dalvik_state.specs.Views.{names_in, AreFine}
 use Rattle.dalvik_steps.specs.Entries.{IsEntry}
-use Rattle.dalvik_steps.specs.Turns.{IsTurn}
+use Rattle.dalvik_steps.specs.Turns.{HasNoTurn, IsTurn}
 use Rattle.dalvik_steps.proofs.Entering.{own_body}
 use Rattle.dalvik_steps.proofs.Turning.{own_class, text_by}
 
@@ -120,6 +120,8 @@ module _ (l : Lookups) (r : IsRight l) (class : ℕ) (low : class < length l.pro
   pub no_values : (size : ℕ) → AreFine (names_in l) size []
   no_values size = record { at = λ q. tt }
 
-  pub turn_entry : (size : ℕ) (at : MethodAt) (h : Starts l class at) (o : Option Frame) → IsEntry l size h.own [] o → IsTurn l size class o
-  turn_entry size at h None e = absurd (let no : Some (body_of l.program.now h.code) ≡ None = sym (own_body l r at h.own h.found ∙ ap (option_map (body_of l.program.now)) h.coded) ∙ e in cc)
-  turn_entry size at h (Some f) e = record { key = method_at l.program.now h.own.name; is = h.key; body = e.body; found = e.found; frame = e.frame; sound = e.sound; start = e.start }
+  pub turn_ends : (size : ℕ) (at : MethodAt) (h : Starts l class at) → IsEntry l size h.own [] None → HasNoTurn l class
+  turn_ends size at h e = record { key = method_at l.program.now h.own.name; is = h.key; not = e }
+
+  pub turn_goes : (size : ℕ) (at : MethodAt) (h : Starts l class at) (f : Frame) → IsEntry l size h.own [] (Some f) → IsTurn l size class (Some f)
+  turn_goes size at h f e = record { key = method_at l.program.now h.own.name; is = h.key; body = e.body; found = e.found; fits = e.fits; frame = e.frame; sound = e.sound; start = e.start }

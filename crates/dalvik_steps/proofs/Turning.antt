@@ -35,6 +35,7 @@ use Rattle.dalvik_state.specs.States.{class_text, classes_of, stack_of, status_a
 use Rattle.dalvik_state.specs.Views.{frame_of, names_in}
 use Rattle.dalvik_state.proofs.Running.{one_paced, paced_pushed, pushed_named, sound_pushed, ArePaced, AreSoundWaiting}
 use Rattle.dalvik_steps.specs.Turns.{hinders, left_by, left_in, turn_entries, IsTurn}
+use Rattle.dalvik_steps.proofs.Taking.{entered_by}
 
 -- ---- the place of a class
 
@@ -154,19 +155,20 @@ first_classes l r c = record { at = places_all l (initialised_first l.program.no
 
 -- ---- the turn of a class
 
-pub turn_stack : (l : Lookups) (below : List Waiting) (class : ℕ) (o : Option Frame) (w : World) (classes : Classes) (size : ℕ) (script : List Move) → IsTurn l size class o
-    → runs (bodies_in l) w classes (class_text l.program.now class) ((run_face l).initialiser (class_text l.program.now class)) (stack_of (names_in l) below) script ≡ On w classes (stack_of (names_in l) (below ++ turn_entries class o)) script
-turn_stack l below class None w classes size script h =
-    ap (λ (k : Option MethodKey). runs (bodies_in l) w classes (class_text l.program.now class) k (stack_of (names_in l) below) script) h
-    ∙ ap (λ (s : List NamedWaiting). On w classes s script) (sym (pushed_named (names_in l) below (waiting.Ending class)))
-turn_stack l below class (Some f) w classes size script h =
+pub turn_stack : (l : Lookups) (below : List Waiting) (class : ℕ) (o : Option Frame) (w : World) (classes : Classes) (size : ℕ) (moves script : List Move) → IsTurn l size class o
+    → runs (bodies_in l) w classes (class_text l.program.now class) ((run_face l).initialiser (class_text l.program.now class)) (stack_of (names_in l) moves below) script ≡ On w classes (stack_of (names_in l) moves (below ++ turn_entries class o)) script
+turn_stack l below class None w classes size moves script h =
+    ap (λ (k : Option MethodKey). runs (bodies_in l) w classes (class_text l.program.now class) k (stack_of (names_in l) moves below) script) h
+    ∙ ap (λ (s : List NamedWaiting). On w classes s script) (sym (pushed_named (names_in l) moves below (waiting.Ending class)))
+turn_stack l below class (Some f) w classes size moves script h =
     let ended = below ++ waiting.Ending class ∷ [] in
     let entries : below ++ turn_entries class (Some f) ≡ ended ++ waiting.Method f ∷ [] = sym (append_assoc below (waiting.Ending class ∷ []) (waiting.Method f ∷ [])) in
-    ap (λ (k : Option MethodKey). runs (bodies_in l) w classes (class_text l.program.now class) k (stack_of (names_in l) below) script) h.is
-    ∙ ap (λ (b : Option NamedBody). enters_body b w classes h.key [] (Ending (class_text l.program.now class) ∷ stack_of (names_in l) below) script) h.found
-    ∙ ap (λ (g : NamedFrame). On w classes (InMethod g ∷ Ending (class_text l.program.now class) ∷ stack_of (names_in l) below) script) (sym h.frame)
+    ap (λ (k : Option MethodKey). runs (bodies_in l) w classes (class_text l.program.now class) k (stack_of (names_in l) moves below) script) h.is
+    ∙ ap (λ (b : Option NamedBody). enters_body b w classes h.key [] (Ending (class_text l.program.now class) ∷ stack_of (names_in l) moves below) script) h.found
+    ∙ entered_by h.body w classes h.key [] (Ending (class_text l.program.now class) ∷ stack_of (names_in l) moves below) script h.fits
+    ∙ ap (λ (g : NamedFrame). On w classes (InMethod g ∷ Ending (class_text l.program.now class) ∷ stack_of (names_in l) moves below) script) (sym h.frame)
     ∙ ap (λ (s : List NamedWaiting). On w classes s script)
-    (sym (ap (stack_of (names_in l)) entries ∙ pushed_named (names_in l) ended (waiting.Method f) ∙ ap (λ (s : List NamedWaiting). InMethod (frame_of (names_in l) f) ∷ s) (pushed_named (names_in l) below (waiting.Ending class))))
+    (sym (ap (stack_of (names_in l) moves) entries ∙ pushed_named (names_in l) moves ended (waiting.Method f) ∙ ap (λ (s : List NamedWaiting). InMethod (frame_of (names_in l) f) ∷ s) (pushed_named (names_in l) moves below (waiting.Ending class))))
 
 one_class : (l : Lookups) (class : ℕ) → class < length l.program.now.classes → AreClasses l (class ∷ [])
 one_class l class low = record { at = λ i c e. by i c e }

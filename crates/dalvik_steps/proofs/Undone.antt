@@ -37,8 +37,8 @@ running_same l steps old new r h =
 
 pub state_same : (n : Names) (script : List Move) (old new : State) → IsReserved old new → state_of n script new ≡ state_of n script old
 state_same n script old new h =
-    ap (λ (b : Bool). elim b as (λ b. NamedState) [ true ↦ Ended | false ↦ On (world_of n new.world) (classes_of n.program new.statuses.items) (stack_of n new.stack.items) (drop new.next script) ]) h.ended
-    ∙ ap (λ (s : NamedState). elim old.ended as (λ b. NamedState) [ true ↦ Ended | false ↦ s ]) (λ i. On (world_same n old.world new.world h.world i) (classes_of n.program (h.statuses i)) (stack_of n (h.stack i)) (drop (h.next i) script))
+    ap (λ (b : Bool). elim b as (λ b. NamedState) [ true ↦ Ended | false ↦ On (world_of n new.world) (classes_of n.program new.statuses.items) (stack_of n script new.stack.items) (drop new.next script) ]) h.ended
+    ∙ ap (λ (s : NamedState). elim old.ended as (λ b. NamedState) [ true ↦ Ended | false ↦ s ]) (λ i. On (world_same n old.world new.world h.world i) (classes_of n.program (h.statuses i)) (stack_of n script (h.stack i)) (drop (h.next i) script))
 
 pub undone : (l : Lookups) (steps : ℕ) (old new : State) → IsRunning l steps old → old.ended ≡ false → IsReserved old new → IsUndone l steps old new
 undone l steps old new r e h = record { state = λ script. state_same (names_in l) script old new h; running = running_same l steps old new r h; on = h.ended ∙ e }

@@ -4,6 +4,7 @@ use Rattle.insn_set.specs.declared.form.Insn.{Insn}
 use Rattle.insn_set.specs.declared.form.Insn.TheVariants as insn
 use Rattle.insn_set.specs.declared.ops.Item.{Item}
 use Rattle.dalvik_state.specs.declared.datum.Datum.{Datum}
+use Rattle.dalvik_state.specs.declared.datum.Datum.TheVariants as datum
 use Rattle.dalvik_state.specs.declared.frame.Frame.{Frame}
 use Rattle.dalvik_state.specs.declared.state.State.{State}
 use Rattle.dalvik_state.specs.declared.state.Waiting.{Waiting}
@@ -27,11 +28,11 @@ pub record TakesResult (old new : Frame) (d : Datum) : Type 0 where
 
 -- by the register that is asked for
 abbrev pub BacksBy : Option Datum → Option (Item × ℕ) → Frame → Frame → Type 0
-BacksBy None at f g = GoesOn f g f.registers.items
+BacksBy None at f g = TakesResult f g (datum.Word 0)
 BacksBy (Some d) (Some at) f g = GoesOn f g (with_item at.0 f.registers.items at.1 d)
 BacksBy (Some d) None f g = TakesResult f g d
 
--- the frame goes on with a value, or without one
+-- the frame goes on with a value; where none comes, nothing is left of an earlier result
 pub record Backs (value : Option Datum) (f g : Frame) : Type 0 where
   pub backs : BacksBy value (asked_by (slice_get f.body.now.insns f.position)) f g
 
@@ -42,7 +43,7 @@ abbrev pub last_of : List Waiting → Option Waiting
 last_of stack = slice_get stack (length stack - 1)
 
 abbrev pub is_outside : Option Waiting → Bool
-is_outside (Some (waiting.Outside owes)) = true
+is_outside (Some (waiting.Outside owes pending)) = true
 is_outside other = false
 
 -- the frame goes on with the value, only the stack changes

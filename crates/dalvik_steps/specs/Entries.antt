@@ -1,5 +1,5 @@
 -- What a method is entered with, what is thrown, and what becomes of a class that is needed.
-use Rattle.std.specs.Prelude.{ℕ, ◌≡◌, ◌-◌, ◌<◌, List, [], ◌∷◌, ◌++◌, length, replicate, Option, Some, None}
+use Rattle.std.specs.Prelude.{ℕ, ◌≡◌, ◌-◌, ◌<◌, Bool, true, false, List, [], ◌∷◌, ◌++◌, length, replicate, nat_eq, Option, Some, None}
 use Rattle.std.specs.Option.{option_map}
 use Rattle.program_model.specs.declared.body.Body.{Body}
 use Rattle.program_model.specs.declared.program.Method.{Method}
@@ -15,6 +15,7 @@ use Rattle.dalvik_defs.specs.Outcome as name
 use Rattle.dalvik_defs.specs.Show.{show_option}
 use Rattle.dalvik_defs.specs.Stack.{entry_frame, starts, throws_new, unwinds}
 use Rattle.dalvik_defs.specs.State.{World, Classes, Next}
+use Rattle.dalvik_defs.specs.declared.state.Value.{Value}
 use Rattle.dalvik_defs.specs.declared.state.Waiting.{Waiting}
 use Rattle.dalvik_defs.specs.declared.events.Event.{Event}
 use Rattle.dalvik_defs.specs.declared.events.Shown.{Shown}
@@ -50,27 +51,46 @@ pub record IsAtEntry (place : MethodAt) (number : ℕ) (code : Body) (values : L
   pub result : f.result ≡ Word 0
   pub caught : f.caught ≡ Word 0
 
+-- that of a body that takes so many values
+pub record IsWithinOf (place : MethodAt) (number : ℕ) (code : Body) (values : List Datum) (f : Frame) : Type 0 where
+  pub fits : nat_eq (length values) code.ins ≡ true
+  pub entry : IsAtEntry place number code values f
+
+abbrev pub IsWithin : MethodAt → ℕ → Body → List Datum → Option Frame → Type 0
+IsWithin place number code values None = nat_eq (length values) code.ins ≡ false
+IsWithin place number code values (Some f) = IsWithinOf place number code values f
+
+-- there is code, which takes so many values
+abbrev pub takes_in : Option Body → List Datum → Bool
+takes_in None values = false
+takes_in (Some code) values = nat_eq (length values) code.ins
+
+abbrev pub takes : Option NamedBody → List Value → Bool
+takes None values = false
+takes (Some body) values = nat_eq (length values) body.ins
+
 pub record IsFirstOf (place : MethodAt) (own : Method) (values : List Datum) (f : Frame) : Type 0 where
   pub code : Body
   pub coded : own.body ≡ Some code
-  pub entry : IsAtEntry place own.name code values f
+  pub within : IsWithinOf place own.name code values f
 
--- that of a method, none where it has no code
+-- that of a method, none where it has no code that takes these values
 abbrev pub IsFirst : MethodAt → Method → List Datum → Option Frame → Type 0
-IsFirst place own values None = own.body ≡ None
+IsFirst place own values None = takes_in own.body values ≡ false
 IsFirst place own values (Some f) = IsFirstOf place own values f
 
 -- the frame of a method with code at its entry
 pub record IsEntered (l : Lookups) (size : ℕ) (own : Method) (values : List Datum) (f : Frame) : Type 0 where
   pub body : NamedBody
   pub found : bodies_in l (method_at l.program.now own.name) ≡ Some body
+  pub fits : takes (Some body) (values_of (names_in l) values) ≡ true
   pub frame : frame_of (names_in l) f ≡ entry_frame (method_at l.program.now own.name) (values_of (names_in l) values) body
   pub sound : IsSoundFrame l size f
   pub start : f.position ≡ 0
 
--- there is none where it has no code
+-- there is none where it has no code that takes these values
 abbrev pub IsEntry : Lookups → ℕ → Method → List Datum → Option Frame → Type 0
-IsEntry l size own values None = bodies_in l (method_at l.program.now own.name) ≡ None
+IsEntry l size own values None = takes (bodies_in l (method_at l.program.now own.name)) (values_of (names_in l) values) ≡ false
 IsEntry l size own values (Some f) = IsEntered l size own values f
 
 -- a value that may be none, which is there with the objects of a move
@@ -110,11 +130,11 @@ pub record IsReady (l : Lookups) (old new : State) (class : ℕ) : Type 0 where
 
 pub record IsStarted (l : Lookups) (steps : ℕ) (script : List Move) (m : Memo) (old new : State) (class : ℕ) : Type 0 where
   pub need : need_in l old (class_text l.program.now class) ≡ name.Fresh
-  pub left : IsLeft l steps script new (starts (run_face l) (bodies_in l) (world_in l old) (classes_in l old) (class_text l.program.now class) (stack_in l old) (script_in script old))
+  pub left : IsLeft l steps script new (starts (run_face l) (bodies_in l) (world_in l old) (classes_in l old) (class_text l.program.now class) (stack_in l script old) (script_in script old))
 
 pub record HasFailed (l : Lookups) (steps : ℕ) (script : List Move) (m : Memo) (old new : State) (class : ℕ) (event : Option Event) : Type 0 where
   pub need : need_in l old (class_text l.program.now class) ≡ name.Broken
-  pub next : IsNext l steps script m new event (throws_new (run_face l) (bodies_in l) (world_in l old) (classes_in l old) no_class (stack_in l old) (script_in script old))
+  pub next : IsNext l steps script m new event (throws_new (run_face l) (bodies_in l) (world_in l old) (classes_in l old) no_class (stack_in l script old) (script_in script old))
 
 -- a class is ready, and nothing has changed; or it was new and has been started; or it had failed, and an error was thrown
 abbrev pub IsReadied : Lookups → ℕ → List Move → Memo → State → State → ℕ → Readied → Type 0

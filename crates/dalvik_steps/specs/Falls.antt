@@ -1,5 +1,5 @@
 -- What is thrown takes the stack down on its way.
-use Rattle.std.specs.Prelude.{ℕ, ◌≡◌, ◌+◌, ◌≤◌, Bool, false, List, length, min, nat_eq, reverse, slice_set, Option, Some, None}
+use Rattle.std.specs.Prelude.{ℕ, ◌≡◌, ◌+◌, ◌≤◌, Bool, false, List, length, nat_eq, reverse, slice_set, Option, Some, None}
 use Rattle.dalvik_lookups.specs.declared.lookups.Lookups.{Lookups}
 use Rattle.dalvik_lookups.specs.Facing.{run_face}
 use Rattle.dalvik_defs.specs.Stack.{unwinds}
@@ -17,7 +17,6 @@ use Rattle.dalvik_state.specs.Views.{names_in, value_of, world_of, IsFine}
 use Rattle.dalvik_state.specs.Worlds.{spots_of}
 use Rattle.dalvik_steps.specs.declared.throwing.Landing.{Landing}
 use Rattle.dalvik_steps.specs.declared.throwing.Landing.TheVariants as landing
-use Rattle.dalvik_steps.specs.Backs.{last_of}
 use Rattle.dalvik_steps.specs.Flights.{thrown_value, thrown_world, Flies}
 use Rattle.dalvik_steps.specs.declared.throwing.Thrown.{Thrown}
 
@@ -27,7 +26,7 @@ pub record IsFalling (l : Lookups) (steps : ℕ) (script : List Move) (all : Nex
   pub on : s.ended ≡ false
   pub fine : IsFine (names_in l) (length (spots_of s.world)) d
   pub flies : Flies l (world_in l s) (value_of (names_in l) d) (reverse s.stack.items) more to
-  pub whole : unwinds (run_face l) (bodies_in l) (world_in l s) (classes_in l s) (value_of (names_in l) d) (stack_in l s) (script_in script s) ≡ all
+  pub whole : unwinds (run_face l) (bodies_in l) (world_in l s) (classes_in l s) (value_of (names_in l) d) (stack_in l script s) (script_in script s) ≡ all
   pub space : HasSpace s.world (length more)
   pub room : HasRoom s.world 1
 
@@ -56,19 +55,6 @@ pub record IsThrownInto (l : Lookups) (t : Thrown) (count : ℕ) (old new : OwnW
 
 -- ---- what is taken off the stack
 
--- the next move is over where the framework stands on top
-abbrev pub given_up_at : Option Waiting → ℕ → ℕ
-given_up_at (Some (waiting.Outside owes)) next = min (next + 1) 18446744073709551615
-given_up_at other next = next
-
--- a class has failed, and so has the move that needed it
-pub record Fails (class : ℕ) (old new : State) : Type 0 where
-  pub world : new.world ≡ old.world
-  pub statuses : new.statuses.items ≡ slice_set old.statuses.items class status.Failed
-  pub stack : new.stack ≡ old.stack
-  pub next : new.next ≡ given_up_at (last_of old.stack.items) old.next
-  pub ended : new.ended ≡ old.ended
-
 -- the top of the stack is gone
 pub record IsPopped (old new : State) : Type 0 where
   pub world : new.world ≡ old.world
@@ -82,7 +68,7 @@ pub record IsFailed (class : ℕ) (old new : State) : Type 0 where
   pub world : new.world ≡ old.world
   pub statuses : new.statuses.items ≡ slice_set old.statuses.items class status.Failed
   pub stack : new.stack.items ≡ below_top old.stack.items
-  pub next : new.next ≡ given_up_at (last_of (below_top old.stack.items)) old.next
+  pub next : new.next ≡ old.next
   pub ended : new.ended ≡ old.ended
 
 -- the class that fails where an entry is passed
@@ -90,7 +76,7 @@ abbrev pub failing : Waiting → Option ℕ
 failing (waiting.Method f) = None
 failing (waiting.Initialiser class above next) = Some class
 failing (waiting.Ending class) = Some class
-failing (waiting.Outside owes) = None
+failing (waiting.Outside owes pending) = None
 
 abbrev pub failing_of : Option Waiting → Option ℕ
 failing_of (Some x) = failing x

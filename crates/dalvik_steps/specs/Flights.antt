@@ -72,7 +72,7 @@ Flies l w v (waiting.Method f ∷ rest) wraps to = LandsOr (length rest) wraps t
 Flies l w v (waiting.Initialiser class above next ∷ rest) wraps to = Flies l w v rest wraps to
 Flies l w v (waiting.Ending class ∷ rest) wraps to = IfUnder ((run_face l).under (kind_of w v) error_type) (Flies l w v rest wraps to)
     ((more : List ℕ) × ((wraps ≡ length rest ∷ more) × Flies l (with_thing w (fresh initialiser_error)) (next_object w) rest more to))
-Flies l w v (waiting.Outside owes ∷ rest) wraps to = (wraps ≡ []) × Reaches w v (length rest) to
+Flies l w v (waiting.Outside owes pending ∷ rest) wraps to = (wraps ≡ []) × Reaches w v (length rest) to
 
 -- what is thrown, and the world with it
 abbrev pub thrown_world : Lookups → World → Thrown → World

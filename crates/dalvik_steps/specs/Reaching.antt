@@ -128,7 +128,7 @@ pub record Turns (l : Lookups) (steps : ℕ) (old new : State) (w : NamedWorld) 
 
 -- the framework is asked for a value of a type
 pub record IsAsked (old new : State) (kind : Kind) : Type 0 where
-  pub stack : new.stack.items ≡ old.stack.items ++ waiting.Outside (Some kind) ∷ []
+  pub stack : new.stack.items ≡ old.stack.items ++ waiting.Outside (Some kind) None ∷ []
   pub rest : KeepsRest old new
 
 -- nothing but room was taken

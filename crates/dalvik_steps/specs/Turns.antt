@@ -16,6 +16,9 @@ use Rattle.dalvik_state.specs.States.{class_text, IsSoundFrame}
 use Rattle.dalvik_state.specs.Views.{frame_of, names_in}
 use Rattle.dalvik_state.specs.Worlds.{spots_of, IsExposed}
 use Rattle.dalvik_state.specs.declared.world.World.{World}
+use Rattle.dalvik_steps.specs.declared.starting.Turn.{Turn}
+use Rattle.dalvik_steps.specs.declared.starting.Turn.TheVariants as turn
+use Rattle.dalvik_steps.specs.Entries.{takes}
 use Rattle.dalvik_steps.specs.Needs.{status_at}
 
 -- ---- what is left
@@ -75,6 +78,7 @@ pub record IsTurnOf (l : Lookups) (size : ℕ) (class : ℕ) (f : Frame) : Type 
   pub is : (run_face l).initialiser (class_text l.program.now class) ≡ Some key
   pub body : NamedBody
   pub found : bodies_in l key ≡ Some body
+  pub fits : takes (Some body) [] ≡ true
   pub frame : frame_of (names_in l) f ≡ entry_frame key [] body
   pub sound : IsSoundFrame l size f
   pub start : f.position ≡ 0
@@ -83,6 +87,16 @@ pub record IsTurnOf (l : Lookups) (size : ℕ) (class : ℕ) (f : Frame) : Type 
 abbrev pub IsTurn : Lookups → ℕ → ℕ → Option Frame → Type 0
 IsTurn l size class None = (run_face l).initialiser (class_text l.program.now class) ≡ None
 IsTurn l size class (Some f) = IsTurnOf l size class f
+
+-- an initialiser that can't be entered
+pub record HasNoTurn (l : Lookups) (class : ℕ) : Type 0 where
+  pub key : MethodKey
+  pub is : (run_face l).initialiser (class_text l.program.now class) ≡ Some key
+  pub not : takes (bodies_in l key) [] ≡ false
+
+abbrev pub ComesTurn : Lookups → ℕ → ℕ → Turn → Type 0
+ComesTurn l size class (turn.Goes o) = IsTurn l size class o
+ComesTurn l size class turn.Ends = HasNoTurn l class
 
 -- ---- nothing has changed
 

@@ -41,5 +41,8 @@ pub(crate) fn reserve(state: &mut State<'_>, count: usize) -> Result<(), AllocEr
 pub(crate) fn asks(state: &mut State<'_>, kind: Kind)
     ensures { HasPlaces state.old 1 → IsAsked state.old state.new kind }
 {
-    let _ = state.stack.push(Waiting::Outside { owes: Some(kind) });
+    let _ = state.stack.push(Waiting::Outside {
+        owes: Some(kind),
+        pending: None,
+    });
 }

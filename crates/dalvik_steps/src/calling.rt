@@ -1,12 +1,13 @@
 //! Calls (Dalvik bytecode, "invoke-kind").
 
-ghost use Rattle.std.specs.Prelude.{◌≡◌, ◌<◌, ◌^◌, ℕ, List, Option, Some, None, length, map, false, IfOk, OnErr};
+ghost use Rattle.std.specs.Prelude.{◌≡◌, ◌&&◌, ◌<◌, ◌^◌, ℕ, List, Option, Some, None, length, map, false, IfOk, OnErr};
 ghost use Rattle.program_model.specs.Lookups as look;
 ghost use Rattle.program_model.specs.declared.pass.Outside.{Outside};
 ghost use Rattle.dalvik_defs.specs.Effect.{register};
 ghost use Rattle.dalvik_defs.specs.Find.{Found};
+ghost use Rattle.dalvik_defs.specs.Names.{method_eq, object_constructor};
 ghost use Rattle.dalvik_defs.specs.Naming.{method_at};
-ghost use Rattle.dalvik_defs.specs.Outcome.{calls, calls_by, calls_found, calls_out, calls_ready, calls_uncoded, calls_unfound, native_kind, passed_types, takes_no_receiver};
+ghost use Rattle.dalvik_defs.specs.Outcome.{calls, calls_by, calls_found, calls_out, calls_ready, calls_uncoded, calls_unfound, is_direct, native_kind, passed_types, takes_no_receiver};
 ghost use Rattle.dalvik_defs.specs.State.{kind_of};
 ghost use Rattle.dalvik_defs.specs.declared.state.Value.{Value};
 ghost use Rattle.dalvik_defs.specs.declared.script.Move.{Move};
@@ -26,7 +27,7 @@ ghost use Rattle.dalvik_steps.specs.Invoking.{calls_on, receiver_in, searched, A
 ghost use Rattle.dalvik_steps.specs.Reaching.{IsReserved, IsStep};
 
 use crate::asking::{asks, reserve};
-use crate::stack::enters;
+use crate::stack::{back_on, enters};
 use crate::starting::{Readied, readies};
 use crate::throwing::{Thrown, throws};
 use dalvik_defs::{Event, Shown};
@@ -157,7 +158,7 @@ fn calls_uncoded<'a>(
     call: &Call,
     method: &Method,
 ) -> Result<Option<Event>, AllocError>
-    ensures ok { (o : Outside) (floats : Floats) (script : List Move) (steps : ℕ) (f : Frame) (g : Found) → length script < 2 ^ 64 → IsRun tables.now.lookups memo.old steps state.old → top_frame state.old.stack.items ≡ Some f → IsFound tables.now.lookups g method.now → AreFine (names_in tables.now.lookups) (length (spots_of state.old.world)) call.now.values.items
+    ensures ok { (o : Outside) (floats : Floats) (script : List Move) (steps : ℕ) (f : Frame) (g : Found) → IsRun tables.now.lookups memo.old steps state.old → top_frame state.old.stack.items ≡ Some f → IsFound tables.now.lookups g method.now → AreFine (names_in tables.now.lookups) (length (spots_of state.old.world)) call.now.values.items
         → IfOk result (λ e. IsNext tables.now.lookups steps script memo.new state.new e (comes_of tables.now.lookups o floats script state.old f (calls_uncoded call.now.kind g (values_of (names_in tables.now.lookups) call.now.values.items) (world_in tables.now.lookups state.old)))) }
     ensures err { (steps : ℕ) (f : Frame) (g : Found) → IsRun tables.now.lookups memo.old steps state.old → top_frame state.old.stack.items ≡ Some f → IsFound tables.now.lookups g method.now → OnErr result (IsUndoneWith tables.now.lookups steps memo.new state.old state.new) }
 {
@@ -188,7 +189,7 @@ fn calls_found<'a>(
     call: &Call,
     found: (MethodAt, &Method),
 ) -> Result<Option<Event>, AllocError>
-    ensures ok { (o : Outside) (floats : Floats) (script : List Move) (steps : ℕ) (f : Frame) (g : Found) → length script < 2 ^ 64 → IsRun tables.now.lookups memo.old steps state.old → top_frame state.old.stack.items ≡ Some f → IsFound tables.now.lookups g found.entry.1.now → look.method_at tables.now.lookups.program.now found.entry.0 ≡ Some found.entry.1.now → AreFine (names_in tables.now.lookups) (length (spots_of state.old.world)) call.now.values.items
+    ensures ok { (o : Outside) (floats : Floats) (script : List Move) (steps : ℕ) (f : Frame) (g : Found) → IsRun tables.now.lookups memo.old steps state.old → top_frame state.old.stack.items ≡ Some f → IsFound tables.now.lookups g found.entry.1.now → look.method_at tables.now.lookups.program.now found.entry.0 ≡ Some found.entry.1.now → AreFine (names_in tables.now.lookups) (length (spots_of state.old.world)) call.now.values.items
         → IfOk result (λ e. IsNext tables.now.lookups steps script memo.new state.new e (comes_of tables.now.lookups o floats script state.old f (calls_found call.now.kind g (values_of (names_in tables.now.lookups) call.now.values.items) (world_in tables.now.lookups state.old)))) }
     ensures err { (steps : ℕ) (f : Frame) (g : Found) → IsRun tables.now.lookups memo.old steps state.old → top_frame state.old.stack.items ≡ Some f → IsFound tables.now.lookups g found.entry.1.now → OnErr result (IsUndoneWith tables.now.lookups steps memo.new state.old state.new) }
 {
@@ -210,7 +211,7 @@ fn calls_ready<'a>(
     call: &Call,
     found: (MethodAt, &Method),
 ) -> Result<Option<Event>, AllocError>
-    ensures ok { (o : Outside) (floats : Floats) (script : List Move) (steps : ℕ) (f : Frame) (g : Found) → length script < 2 ^ 64 → IsRun tables.now.lookups memo.old steps state.old → top_frame state.old.stack.items ≡ Some f → IsFound tables.now.lookups g found.entry.1.now → look.method_at tables.now.lookups.program.now found.entry.0 ≡ Some found.entry.1.now → g.key.class ≡ class_text tables.now.lookups.program.now found.entry.0.class → AreFine (names_in tables.now.lookups) (length (spots_of state.old.world)) call.now.values.items
+    ensures ok { (o : Outside) (floats : Floats) (script : List Move) (steps : ℕ) (f : Frame) (g : Found) → IsRun tables.now.lookups memo.old steps state.old → top_frame state.old.stack.items ≡ Some f → IsFound tables.now.lookups g found.entry.1.now → look.method_at tables.now.lookups.program.now found.entry.0 ≡ Some found.entry.1.now → g.key.class ≡ class_text tables.now.lookups.program.now found.entry.0.class → AreFine (names_in tables.now.lookups) (length (spots_of state.old.world)) call.now.values.items
         → IfOk result (λ e. IsNext tables.now.lookups steps script memo.new state.new e (comes_of tables.now.lookups o floats script state.old f (calls_ready (need_in tables.now.lookups state.old) call.now.kind g (values_of (names_in tables.now.lookups) call.now.values.items) (world_in tables.now.lookups state.old)))) }
     ensures err { (steps : ℕ) (f : Frame) (g : Found) → IsRun tables.now.lookups memo.old steps state.old → top_frame state.old.stack.items ≡ Some f → IsFound tables.now.lookups g found.entry.1.now → look.method_at tables.now.lookups.program.now found.entry.0 ≡ Some found.entry.1.now → OnErr result (IsUndoneWith tables.now.lookups steps memo.new state.old state.new) }
 {
@@ -224,7 +225,25 @@ fn calls_ready<'a>(
     }
 }
 
-/// Calls what isn't found, which belongs to the framework; the constructor of `Ljava/lang/Object;` does nothing.
+/// Whether a call is direct.
+fn is_direct(kind: InvokeKind) -> bool
+    ensures { result ≡ is_direct kind }
+{
+    match kind {
+        InvokeKind::Direct => true,
+        _ => false,
+    }
+}
+
+/// Whether a call that isn't found does nothing: it is a direct one of the constructor of `Ljava/lang/Object;`.
+fn does_nothing(tables: &Tables<'_>, call: &Call) -> bool
+    ensures { IsRight tables.now.lookups → result ≡ (is_direct call.now.kind && method_eq (method_at tables.now.lookups.program.now call.now.method) object_constructor) }
+{
+    is_direct(call.kind) && tables.lookups.is_object_constructor(call.method)
+}
+
+/// Calls what isn't found, which belongs to the framework. A direct call of the constructor of `Ljava/lang/Object;` does
+/// nothing, and nothing is left of an earlier result.
 fn calls_unfound<'a>(
     alloc: Global,
     tables: &Tables<'a>,
@@ -235,8 +254,8 @@ fn calls_unfound<'a>(
         → IfOk result (λ e. IsEvent tables.now.lookups steps script state.new e (comes_of tables.now.lookups o floats script state.old f (calls_unfound call.now.kind (method_at tables.now.lookups.program.now call.now.method) (values_of (names_in tables.now.lookups) call.now.values.items) (world_in tables.now.lookups state.old) (frame_of (names_in tables.now.lookups) f)))) }
     ensures err { OnErr result (IsReserved state.old state.new) }
 {
-    if tables.lookups.is_object_constructor(call.method) {
-        state.go_on();
+    if does_nothing(tables, call) {
+        back_on(&mut state.stack, None);
         return Ok(None);
     }
     let outward = Outward {
@@ -300,7 +319,7 @@ fn calls_by<'a>(
     call: &Call,
     search: Search,
 ) -> Result<Option<Event>, AllocError>
-    ensures ok { (o : Outside) (floats : Floats) (script : List Move) (steps : ℕ) (f : Frame) → length script < 2 ^ 64 → IsRun tables.now.lookups memo.old steps state.old → top_frame state.old.stack.items ≡ Some f → call.now.method < length tables.now.lookups.program.now.methods → AreFine (names_in tables.now.lookups) (length (spots_of state.old.world)) call.now.values.items
+    ensures ok { (o : Outside) (floats : Floats) (script : List Move) (steps : ℕ) (f : Frame) → IsRun tables.now.lookups memo.old steps state.old → top_frame state.old.stack.items ≡ Some f → call.now.method < length tables.now.lookups.program.now.methods → AreFine (names_in tables.now.lookups) (length (spots_of state.old.world)) call.now.values.items
         → IfOk result (λ e. IsNext tables.now.lookups steps script memo.new state.new e (comes_of tables.now.lookups o floats script state.old f (calls_by (need_in tables.now.lookups state.old) call.now.kind (method_at tables.now.lookups.program.now call.now.method) (values_of (names_in tables.now.lookups) call.now.values.items) (world_in tables.now.lookups state.old) (frame_of (names_in tables.now.lookups) f) (named_search tables.now.lookups.program.now search)))) }
     ensures err { (steps : ℕ) (f : Frame) → IsRun tables.now.lookups memo.old steps state.old → top_frame state.old.stack.items ≡ Some f → OnErr result (IsUndoneWith tables.now.lookups steps memo.new state.old state.new) }
 {
@@ -323,7 +342,7 @@ fn calls_on<'a>(
     call: &Call,
     own: u32,
 ) -> Result<Option<Event>, AllocError>
-    ensures ok { (o : Outside) (floats : Floats) (script : List Move) (steps : ℕ) (f : Frame) → length script < 2 ^ 64 → IsRun tables.now.lookups memo.old steps state.old → top_frame state.old.stack.items ≡ Some f → call.now.method < length tables.now.lookups.program.now.methods → f.at.class ≡ own → AreFine (names_in tables.now.lookups) (length (spots_of state.old.world)) call.now.values.items
+    ensures ok { (o : Outside) (floats : Floats) (script : List Move) (steps : ℕ) (f : Frame) → IsRun tables.now.lookups memo.old steps state.old → top_frame state.old.stack.items ≡ Some f → call.now.method < length tables.now.lookups.program.now.methods → f.at.class ≡ own → AreFine (names_in tables.now.lookups) (length (spots_of state.old.world)) call.now.values.items
         → IfOk result (λ e. IsNext tables.now.lookups steps script memo.new state.new e (comes_of tables.now.lookups o floats script state.old f (calls_on (run_face tables.now.lookups) (need_in tables.now.lookups state.old) call.now.kind (method_at tables.now.lookups.program.now call.now.method) (values_of (names_in tables.now.lookups) call.now.values.items) (world_in tables.now.lookups state.old) (frame_of (names_in tables.now.lookups) f)))) }
     ensures err { (steps : ℕ) (f : Frame) → IsRun tables.now.lookups memo.old steps state.old → top_frame state.old.stack.items ≡ Some f → call.now.method < length tables.now.lookups.program.now.methods → f.at.class ≡ own → OnErr result (IsUndoneWith tables.now.lookups steps memo.new state.old state.new) }
 {
@@ -359,7 +378,7 @@ pub fn calls<'a>(
     method: u32,
     args: &[u16],
 ) -> Result<Option<Event>, AllocError>
-    ensures ok { (o : Outside) (floats : Floats) (script : List Move) (steps : ℕ) (f : Frame) → length script < 2 ^ 64 → IsRun tables.now.lookups memo.old steps state.old → top_frame state.old.stack.items ≡ Some f → method < length tables.now.lookups.program.now.methods
+    ensures ok { (o : Outside) (floats : Floats) (script : List Move) (steps : ℕ) (f : Frame) → IsRun tables.now.lookups memo.old steps state.old → top_frame state.old.stack.items ≡ Some f → method < length tables.now.lookups.program.now.methods
         → IfOk result (λ e. IsNext tables.now.lookups steps script memo.new state.new e (comes_of tables.now.lookups o floats script state.old f (calls (run_face tables.now.lookups) (need_in tables.now.lookups state.old) kind (method_at tables.now.lookups.program.now method) (map (register (frame_of (names_in tables.now.lookups) f)) args.now) (world_in tables.now.lookups state.old) (frame_of (names_in tables.now.lookups) f)))) }
     ensures err { (steps : ℕ) (f : Frame) → IsRun tables.now.lookups memo.old steps state.old → top_frame state.old.stack.items ≡ Some f → method < length tables.now.lookups.program.now.methods → OnErr result (IsUndoneWith tables.now.lookups steps memo.new state.old state.new) }
 {

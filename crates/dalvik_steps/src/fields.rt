@@ -390,7 +390,7 @@ fn reads_static<'a>(
     reading: Reading,
     at: (u32, u32),
 ) -> Result<Option<Event>, AllocError>
-    ensures ok { (o : Outside) (floats : Floats) (script : List Move) (steps : ℕ) (f : Frame) (place : Place) → length script < 2 ^ 64 → IsRun tables.now.lookups memo.old steps state.old → top_frame state.old.stack.items ≡ Some f → IsReading tables.now.lookups state.old reading → IsFieldOf tables.now.lookups (field_at tables.now.lookups.program.now reading.field) place at.0 at.1
+    ensures ok { (o : Outside) (floats : Floats) (script : List Move) (steps : ℕ) (f : Frame) (place : Place) → IsRun tables.now.lookups memo.old steps state.old → top_frame state.old.stack.items ≡ Some f → IsReading tables.now.lookups state.old reading → IsFieldOf tables.now.lookups (field_at tables.now.lookups.program.now reading.field) place at.0 at.1
         → IfOk result (λ e. IsNext tables.now.lookups steps script memo.new state.new e (comes_of tables.now.lookups o floats script state.old f (reads_static (need_in tables.now.lookups state.old) reading.item reading.to (field_at tables.now.lookups.program.now reading.field) (world_in tables.now.lookups state.old) (frame_of (names_in tables.now.lookups) f) (Some place)))) }
     ensures err { (steps : ℕ) (place : Place) → IsRun tables.now.lookups memo.old steps state.old → IsFieldOf tables.now.lookups (field_at tables.now.lookups.program.now reading.field) place at.0 at.1 → OnErr result (IsUndoneWith tables.now.lookups steps memo.new state.old state.new) }
 {
@@ -434,7 +434,7 @@ fn reads_found<'a>(
     reading: Reading,
     at: (u32, u32),
 ) -> Result<Option<Event>, AllocError>
-    ensures ok { (o : Outside) (floats : Floats) (script : List Move) (steps : ℕ) (f : Frame) (place : Place) → length script < 2 ^ 64 → IsRun tables.now.lookups memo.old steps state.old → top_frame state.old.stack.items ≡ Some f → IsReading tables.now.lookups state.old reading → IsFieldOf tables.now.lookups (field_at tables.now.lookups.program.now reading.field) place at.0 at.1 → (run_face tables.now.lookups).field (field_at tables.now.lookups.program.now reading.field) ≡ Some place
+    ensures ok { (o : Outside) (floats : Floats) (script : List Move) (steps : ℕ) (f : Frame) (place : Place) → IsRun tables.now.lookups memo.old steps state.old → top_frame state.old.stack.items ≡ Some f → IsReading tables.now.lookups state.old reading → IsFieldOf tables.now.lookups (field_at tables.now.lookups.program.now reading.field) place at.0 at.1 → (run_face tables.now.lookups).field (field_at tables.now.lookups.program.now reading.field) ≡ Some place
         → IfOk result (λ e. IsNext tables.now.lookups steps script memo.new state.new e (comes_of tables.now.lookups o floats script state.old f (reads (run_face tables.now.lookups) (need_in tables.now.lookups state.old) reading.item reading.to (field_at tables.now.lookups.program.now reading.field) (option_map (value_of (names_in tables.now.lookups)) reading.on) (world_in tables.now.lookups state.old) (frame_of (names_in tables.now.lookups) f)))) }
     ensures err { (steps : ℕ) (f : Frame) (place : Place) → IsRun tables.now.lookups memo.old steps state.old → top_frame state.old.stack.items ≡ Some f → IsFieldOf tables.now.lookups (field_at tables.now.lookups.program.now reading.field) place at.0 at.1 → OnErr result (IsUndoneWith tables.now.lookups steps memo.new state.old state.new) }
 {
@@ -455,7 +455,7 @@ pub fn reads<'a>(
     state: &mut State<'a>,
     reading: Reading,
 ) -> Result<Option<Event>, AllocError>
-    ensures ok { (o : Outside) (floats : Floats) (script : List Move) (steps : ℕ) (f : Frame) → length script < 2 ^ 64 → IsRun tables.now.lookups memo.old steps state.old → top_frame state.old.stack.items ≡ Some f → IsReading tables.now.lookups state.old reading
+    ensures ok { (o : Outside) (floats : Floats) (script : List Move) (steps : ℕ) (f : Frame) → IsRun tables.now.lookups memo.old steps state.old → top_frame state.old.stack.items ≡ Some f → IsReading tables.now.lookups state.old reading
         → IfOk result (λ e. IsNext tables.now.lookups steps script memo.new state.new e (comes_of tables.now.lookups o floats script state.old f (reads (run_face tables.now.lookups) (need_in tables.now.lookups state.old) reading.item reading.to (field_at tables.now.lookups.program.now reading.field) (option_map (value_of (names_in tables.now.lookups)) reading.on) (world_in tables.now.lookups state.old) (frame_of (names_in tables.now.lookups) f)))) }
     ensures err { (steps : ℕ) (f : Frame) → IsRun tables.now.lookups memo.old steps state.old → top_frame state.old.stack.items ≡ Some f → IsReading tables.now.lookups state.old reading → OnErr result (IsUndoneWith tables.now.lookups steps memo.new state.old state.new) }
 {
@@ -533,7 +533,7 @@ fn writes_static<'a>(
     writing: Writing,
     at: (u32, u32),
 ) -> Result<Option<Event>, AllocError>
-    ensures ok { (o : Outside) (floats : Floats) (script : List Move) (steps : ℕ) (f : Frame) (place : Place) → length script < 2 ^ 64 → IsRun tables.now.lookups memo.old steps state.old → top_frame state.old.stack.items ≡ Some f → IsWriting tables.now.lookups state.old writing → IsFieldOf tables.now.lookups (field_at tables.now.lookups.program.now writing.field) place at.0 at.1
+    ensures ok { (o : Outside) (floats : Floats) (script : List Move) (steps : ℕ) (f : Frame) (place : Place) → IsRun tables.now.lookups memo.old steps state.old → top_frame state.old.stack.items ≡ Some f → IsWriting tables.now.lookups state.old writing → IsFieldOf tables.now.lookups (field_at tables.now.lookups.program.now writing.field) place at.0 at.1
         → IfOk result (λ e. IsNext tables.now.lookups steps script memo.new state.new e (comes_of tables.now.lookups o floats script state.old f (writes_static (need_in tables.now.lookups state.old) (field_at tables.now.lookups.program.now writing.field) (value_of (names_in tables.now.lookups) writing.value) (world_in tables.now.lookups state.old) (frame_of (names_in tables.now.lookups) f) (Some place)))) }
     ensures err { (steps : ℕ) (place : Place) → IsRun tables.now.lookups memo.old steps state.old → IsFieldOf tables.now.lookups (field_at tables.now.lookups.program.now writing.field) place at.0 at.1 → OnErr result (IsUndoneWith tables.now.lookups steps memo.new state.old state.new) }
 {
@@ -578,7 +578,7 @@ fn writes_found<'a>(
     writing: Writing,
     at: (u32, u32),
 ) -> Result<Option<Event>, AllocError>
-    ensures ok { (o : Outside) (floats : Floats) (script : List Move) (steps : ℕ) (f : Frame) (place : Place) → length script < 2 ^ 64 → IsRun tables.now.lookups memo.old steps state.old → top_frame state.old.stack.items ≡ Some f → IsWriting tables.now.lookups state.old writing → IsFieldOf tables.now.lookups (field_at tables.now.lookups.program.now writing.field) place at.0 at.1 → (run_face tables.now.lookups).field (field_at tables.now.lookups.program.now writing.field) ≡ Some place
+    ensures ok { (o : Outside) (floats : Floats) (script : List Move) (steps : ℕ) (f : Frame) (place : Place) → IsRun tables.now.lookups memo.old steps state.old → top_frame state.old.stack.items ≡ Some f → IsWriting tables.now.lookups state.old writing → IsFieldOf tables.now.lookups (field_at tables.now.lookups.program.now writing.field) place at.0 at.1 → (run_face tables.now.lookups).field (field_at tables.now.lookups.program.now writing.field) ≡ Some place
         → IfOk result (λ e. IsNext tables.now.lookups steps script memo.new state.new e (comes_of tables.now.lookups o floats script state.old f (writes (run_face tables.now.lookups) (need_in tables.now.lookups state.old) (field_at tables.now.lookups.program.now writing.field) (option_map (value_of (names_in tables.now.lookups)) writing.on) (value_of (names_in tables.now.lookups) writing.value) (world_in tables.now.lookups state.old) (frame_of (names_in tables.now.lookups) f)))) }
     ensures err { (steps : ℕ) (f : Frame) (place : Place) → IsRun tables.now.lookups memo.old steps state.old → top_frame state.old.stack.items ≡ Some f → IsFieldOf tables.now.lookups (field_at tables.now.lookups.program.now writing.field) place at.0 at.1 → OnErr result (IsUndoneWith tables.now.lookups steps memo.new state.old state.new) }
 {
@@ -599,7 +599,7 @@ pub fn writes<'a>(
     state: &mut State<'a>,
     writing: Writing,
 ) -> Result<Option<Event>, AllocError>
-    ensures ok { (o : Outside) (floats : Floats) (script : List Move) (steps : ℕ) (f : Frame) → length script < 2 ^ 64 → IsRun tables.now.lookups memo.old steps state.old → top_frame state.old.stack.items ≡ Some f → IsWriting tables.now.lookups state.old writing
+    ensures ok { (o : Outside) (floats : Floats) (script : List Move) (steps : ℕ) (f : Frame) → IsRun tables.now.lookups memo.old steps state.old → top_frame state.old.stack.items ≡ Some f → IsWriting tables.now.lookups state.old writing
         → IfOk result (λ e. IsNext tables.now.lookups steps script memo.new state.new e (comes_of tables.now.lookups o floats script state.old f (writes (run_face tables.now.lookups) (need_in tables.now.lookups state.old) (field_at tables.now.lookups.program.now writing.field) (option_map (value_of (names_in tables.now.lookups)) writing.on) (value_of (names_in tables.now.lookups) writing.value) (world_in tables.now.lookups state.old) (frame_of (names_in tables.now.lookups) f)))) }
     ensures err { (steps : ℕ) (f : Frame) → IsRun tables.now.lookups memo.old steps state.old → top_frame state.old.stack.items ≡ Some f → IsWriting tables.now.lookups state.old writing → OnErr result (IsUndoneWith tables.now.lookups steps memo.new state.old state.new) }
 {

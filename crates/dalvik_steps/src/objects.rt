@@ -100,7 +100,7 @@ fn makes_ready<'a>(
     kind: Kind,
     class: u32,
 ) -> Result<Option<Event>, AllocError>
-    ensures ok { (o : Outside) (floats : Floats) (script : List Move) (steps : ℕ) (f : Frame) → length script < 2 ^ 64 → IsRun tables.now.lookups memo.old steps state.old → top_frame state.old.stack.items ≡ Some f → IsFineKind tables.now.lookups kind → place_named tables.now.lookups.program.now (type_text tables.now.lookups.types kind) ≡ Some class
+    ensures ok { (o : Outside) (floats : Floats) (script : List Move) (steps : ℕ) (f : Frame) → IsRun tables.now.lookups memo.old steps state.old → top_frame state.old.stack.items ≡ Some f → IsFineKind tables.now.lookups kind → place_named tables.now.lookups.program.now (type_text tables.now.lookups.types kind) ≡ Some class
         → IfOk result (λ e. IsNext tables.now.lookups steps script memo.new state.new e (comes_of tables.now.lookups o floats script state.old f (when_ready (need_in tables.now.lookups state.old (type_text tables.now.lookups.types kind)) (world_in tables.now.lookups state.old) (type_text tables.now.lookups.types kind) (Stays (with_thing (world_in tables.now.lookups state.old) (fresh (type_text tables.now.lookups.types kind))) (next (write (frame_of (names_in tables.now.lookups) f) to (next_object (world_in tables.now.lookups state.old)))) None)))) }
     ensures err { (steps : ℕ) → IsRun tables.now.lookups memo.old steps state.old → place_named tables.now.lookups.program.now (type_text tables.now.lookups.types kind) ≡ Some class → OnErr result (IsUndoneWith tables.now.lookups steps memo.new state.old state.new) }
 {
@@ -123,7 +123,7 @@ pub fn makes<'a>(
     to: u16,
     kind: u32,
 ) -> Result<Option<Event>, AllocError>
-    ensures ok { (o : Outside) (floats : Floats) (script : List Move) (steps : ℕ) (f : Frame) → length script < 2 ^ 64 → IsRun tables.now.lookups memo.old steps state.old → top_frame state.old.stack.items ≡ Some f → kind < length tables.now.lookups.program.now.types
+    ensures ok { (o : Outside) (floats : Floats) (script : List Move) (steps : ℕ) (f : Frame) → IsRun tables.now.lookups memo.old steps state.old → top_frame state.old.stack.items ≡ Some f → kind < length tables.now.lookups.program.now.types
         → IfOk result (λ e. IsNext tables.now.lookups steps script memo.new state.new e (comes_of tables.now.lookups o floats script state.old f (makes (run_face tables.now.lookups) (need_in tables.now.lookups state.old) to (type_at tables.now.lookups.program.now kind) (world_in tables.now.lookups state.old) (frame_of (names_in tables.now.lookups) f)))) }
     ensures err { (steps : ℕ) (f : Frame) → IsRun tables.now.lookups memo.old steps state.old → top_frame state.old.stack.items ≡ Some f → kind < length tables.now.lookups.program.now.types → OnErr result (IsUndoneWith tables.now.lookups steps memo.new state.old state.new) }
 {

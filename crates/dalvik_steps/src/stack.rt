@@ -1,6 +1,6 @@
 //! Entries and results (Dalvik bytecode, "invoke-kind", "return").
 
-ghost use Rattle.std.specs.Prelude.{◌≡◌, ◌-◌, ◌++◌, ◌<◌, ◌^◌, true, ℕ, List, None, Some, IfOk, OnErr, OnOk, false, replicate, length, slice_get};
+ghost use Rattle.std.specs.Prelude.{◌≡◌, ◌-◌, ◌++◌, ◌<◌, ◌^◌, true, ℕ, List, None, Some, IfOk, OnErr, OnOk, false, nat_eq, replicate, length, slice_get};
 ghost use Rattle.std.specs.Option.{option_map};
 ghost use Rattle.program_model.specs.Lookups as look;
 ghost use Rattle.program_model.specs.declared.program.Method.{Method as OwnMethod};
@@ -19,7 +19,7 @@ ghost use Rattle.dalvik_state.specs.Views.{names_in, value_of, values_of, AreFin
 ghost use Rattle.dalvik_state.specs.Worlds.{spots_of};
 ghost use Rattle.dalvik_steps.specs.Turns.{IsAsItWas};
 ghost use Rattle.dalvik_steps.specs.Backs.{asked_by, is_outside, last_of, Backs, IsHanded, TakesResult};
-ghost use Rattle.dalvik_steps.specs.Entries.{first_cell, AreGivenFine, IsAtEntry, IsEntry, IsFirst, ShowsGiven};
+ghost use Rattle.dalvik_steps.specs.Entries.{first_cell, AreGivenFine, IsAtEntry, IsEntry, IsFirst, IsWithin, ShowsGiven};
 
 use dalvik_defs::{Event, Shown};
 use dalvik_lookups::Kind;
@@ -61,7 +61,31 @@ fn frame_of<'a>(
     })
 }
 
-/// The frame of a method at its entry, none where it has no code.
+/// Whether a body takes so many values.
+fn takes(body: &Body, values: &[Datum]) -> bool
+    ensures { result ≡ nat_eq (length values.now) body.now.ins }
+{
+    values.len() == body.ins as usize
+}
+
+/// The frame of a body that takes these values, none of one that takes another number of them.
+fn frame_within<'a>(
+    alloc: Global,
+    at: MethodAt,
+    method: u32,
+    body: &'a Body,
+    values: &[Datum],
+) -> Result<Option<Frame<'a>>, AllocError>
+    ensures { IfOk result (IsWithin at method body.now values.now) }
+{
+    if !takes(body, values) {
+        return Ok(None);
+    }
+    let frame = frame_of(alloc, at, method, body, values)?;
+    Ok(Some(frame))
+}
+
+/// The frame of a method at its entry, none where it has no code, or code that takes another number of values.
 fn first_frame<'a>(
     alloc: Global,
     at: MethodAt,
@@ -71,15 +95,12 @@ fn first_frame<'a>(
     ensures { IfOk result (IsFirst at method.now values.now) }
 {
     match &method.body {
-        Some(body) => {
-            let frame = frame_of(alloc, at, method.name, body, values)?;
-            Ok(Some(frame))
-        }
+        Some(body) => frame_within(alloc, at, method.name, body, values),
         None => Ok(None),
     }
 }
 
-/// The frame of a method that is entered, none where it has no code.
+/// The frame of a method that is entered, none where it has no code, or code that takes another number of values.
 pub fn entry_frame<'a>(
     alloc: Global,
     tables: &Tables<'a>,
@@ -94,7 +115,7 @@ pub fn entry_frame<'a>(
     }
 }
 
-/// Enters a method on top of the stack; without code the run ends.
+/// Enters a method on top of the stack. Without code, or where that takes another number of values, the run ends.
 pub fn enters<'a>(
     alloc: Global,
     tables: &Tables<'a>,
@@ -103,7 +124,7 @@ pub fn enters<'a>(
     values: &[Datum],
 ) -> Result<(), AllocError>
     ensures ok { (steps : ℕ) (script : List Move) (own : OwnMethod) → IsRight tables.now.lookups → IsRunning tables.now.lookups steps state.old → state.old.ended ≡ false → look.method_at tables.now.lookups.program.now at ≡ Some own → AreFine (names_in tables.now.lookups) (length (spots_of state.old.world)) values.now
-        → OnOk result (IsLeft tables.now.lookups steps script state.new (enters (bodies_in tables.now.lookups) (world_in tables.now.lookups state.old) (classes_in tables.now.lookups state.old) (method_at tables.now.lookups.program.now own.name) (values_of (names_in tables.now.lookups) values.now) (stack_in tables.now.lookups state.old) (script_in script state.old))) }
+        → OnOk result (IsLeft tables.now.lookups steps script state.new (enters (bodies_in tables.now.lookups) (world_in tables.now.lookups state.old) (classes_in tables.now.lookups state.old) (method_at tables.now.lookups.program.now own.name) (values_of (names_in tables.now.lookups) values.now) (stack_in tables.now.lookups script state.old) (script_in script state.old))) }
     ensures err { (steps : ℕ) → IsRight tables.now.lookups → IsRunning tables.now.lookups steps state.old → state.old.ended ≡ false → OnErr result (IsUndone tables.now.lookups steps state.old state.new) }
 {
     match entry_frame(alloc, tables, at, values)? {
@@ -138,7 +159,7 @@ fn take_result(frame: &mut Frame<'_>, datum: Datum)
     frame.position = frame.position.saturating_add(1);
 }
 
-/// A value comes back to the position that asked for it.
+/// A value comes back to the position that asked for it. Where none comes, nothing is left of an earlier result.
 fn back(frame: &mut Frame<'_>, value: Option<Datum>)
     ensures { Backs value frame.old frame.new }
 {
@@ -146,7 +167,7 @@ fn back(frame: &mut Frame<'_>, value: Option<Datum>)
     match (value, register) {
         (Some(datum), Some((item, to))) => frame.next_with(item, to, datum),
         (Some(datum), None) => take_result(frame, datum),
-        (None, _) => frame.next_alone(),
+        (None, _) => take_result(frame, Datum::NULL),
     }
 }
 
@@ -160,7 +181,7 @@ fn back_in(waiting: &mut Waiting<'_>, value: Option<Datum>)
 }
 
 /// A value comes back to the method on top of a stack.
-fn back_on(stack: &mut Vec<Waiting<'_>>, value: Option<Datum>)
+pub(crate) fn back_on(stack: &mut Vec<Waiting<'_>>, value: Option<Datum>)
     ensures { ChangesTop (Backs value) stack.old.items stack.new.items }
 {
     let count = stack.len();
@@ -232,7 +253,7 @@ fn gives_out(
     value: Option<Datum>,
 ) -> Result<Option<Event>, AllocError>
     ensures ok { (steps : ℕ) (script : List Move) → steps < 2 ^ 32 → IsRight tables.now.lookups → IsRunning tables.now.lookups steps state.old → state.old.ended ≡ false → is_outside (last_of (below_top state.old.stack.items)) ≡ true → IsGiven tables.now.lookups state.old.world gifts → AreGivenFine tables.now.lookups state.old.world gifts value
-        → IfOk result (λ e. IsEvent tables.now.lookups steps script state.new e (gives (bodies_in tables.now.lookups) (type_text tables.now.lookups.types kind) (given_world (names_in tables.now.lookups) state.old.world gifts) (classes_in tables.now.lookups state.old) (option_map (value_of (names_in tables.now.lookups)) value) (below_in tables.now.lookups state.old) (script_in script state.old))) }
+        → IfOk result (λ e. IsEvent tables.now.lookups steps script state.new e (gives (bodies_in tables.now.lookups) (type_text tables.now.lookups.types kind) (given_world (names_in tables.now.lookups) state.old.world gifts) (classes_in tables.now.lookups state.old) (option_map (value_of (names_in tables.now.lookups)) value) (below_in tables.now.lookups script state.old) (script_in script state.old))) }
     ensures next { OnOk result (state.new.next ≡ state.old.next) }
     ensures err { (steps : ℕ) → IsRight tables.now.lookups → IsRunning tables.now.lookups steps state.old → state.old.ended ≡ false → OnErr result (IsUndone tables.now.lookups steps state.old state.new) }
 {
@@ -249,7 +270,7 @@ fn gives_within(
     value: Option<Datum>,
 ) -> Result<(), AllocError>
     ensures ok { (steps : ℕ) (script : List Move) → steps < 2 ^ 32 → IsRight tables.now.lookups → IsRunning tables.now.lookups steps state.old → state.old.ended ≡ false → is_outside (last_of (below_top state.old.stack.items)) ≡ false → IsGiven tables.now.lookups state.old.world gifts → AreGivenFine tables.now.lookups state.old.world gifts value
-        → (kind : Text) → OnOk result (IsEvent tables.now.lookups steps script state.new None (gives (bodies_in tables.now.lookups) kind (given_world (names_in tables.now.lookups) state.old.world gifts) (classes_in tables.now.lookups state.old) (option_map (value_of (names_in tables.now.lookups)) value) (below_in tables.now.lookups state.old) (script_in script state.old))) }
+        → (kind : Text) → OnOk result (IsEvent tables.now.lookups steps script state.new None (gives (bodies_in tables.now.lookups) kind (given_world (names_in tables.now.lookups) state.old.world gifts) (classes_in tables.now.lookups state.old) (option_map (value_of (names_in tables.now.lookups)) value) (below_in tables.now.lookups script state.old) (script_in script state.old))) }
     ensures next { OnOk result (state.new.next ≡ state.old.next) }
     ensures err { (steps : ℕ) → IsRight tables.now.lookups → IsRunning tables.now.lookups steps state.old → state.old.ended ≡ false → OnErr result (IsUndone tables.now.lookups steps state.old state.new) }
 {
@@ -270,7 +291,7 @@ pub fn gives<'a>(
     value: Option<Datum>,
 ) -> Result<Option<Event>, AllocError>
     ensures ok { (steps : ℕ) (script : List Move) → steps < 2 ^ 32 → IsRight tables.now.lookups → IsRunning tables.now.lookups steps state.old → state.old.ended ≡ false → IsGiven tables.now.lookups state.old.world gifts → AreGivenFine tables.now.lookups state.old.world gifts value
-        → IfOk result (λ e. IsEvent tables.now.lookups steps script state.new e (gives (bodies_in tables.now.lookups) (type_text tables.now.lookups.types kind) (given_world (names_in tables.now.lookups) state.old.world gifts) (classes_in tables.now.lookups state.old) (option_map (value_of (names_in tables.now.lookups)) value) (below_in tables.now.lookups state.old) (script_in script state.old))) }
+        → IfOk result (λ e. IsEvent tables.now.lookups steps script state.new e (gives (bodies_in tables.now.lookups) (type_text tables.now.lookups.types kind) (given_world (names_in tables.now.lookups) state.old.world gifts) (classes_in tables.now.lookups state.old) (option_map (value_of (names_in tables.now.lookups)) value) (below_in tables.now.lookups script state.old) (script_in script state.old))) }
     ensures next { OnOk result (state.new.next ≡ state.old.next) }
     ensures err { (steps : ℕ) → IsRight tables.now.lookups → IsRunning tables.now.lookups steps state.old → state.old.ended ≡ false → OnErr result (IsUndone tables.now.lookups steps state.old state.new) }
 {

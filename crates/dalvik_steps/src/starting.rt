@@ -9,13 +9,15 @@ ghost use Rattle.dalvik_defs.specs.declared.script.Move.{Move};
 ghost use Rattle.dalvik_lookups.specs.Facing.{run_face};
 ghost use Rattle.dalvik_lookups.specs.Tables.{IsRight as AreRight};
 ghost use Rattle.dalvik_lookups.specs.Walks.{IsKept};
+ghost use Rattle.dalvik_lookups.specs.declared.lookups.Lookups.{Lookups};
 ghost use Rattle.dalvik_state.specs.Runs.{below_in, bodies_in, classes_in, script_in, stack_in, world_in, IsLeft, IsNext, IsRun, IsUndone, IsUndoneWith};
 ghost use Rattle.dalvik_state.specs.States.{class_text, stack_of, AreClasses, IsRunning};
 ghost use Rattle.dalvik_state.specs.Views.{names_in};
+ghost use Rattle.dalvik_state.specs.Worlds.{spots_of};
 ghost use Rattle.dalvik_state.specs.declared.state.Waiting.TheVariants as waiting;
 ghost use Rattle.dalvik_steps.specs.Entries.{IsReadied};
 ghost use Rattle.dalvik_steps.specs.Needs.{IsRight, need_at, status_at};
-ghost use Rattle.dalvik_steps.specs.Turns.{hinders, is_initialiser, left_in, turn_entries, waits_at, IsReserved, IsTurn, Looks};
+ghost use Rattle.dalvik_steps.specs.Turns.{hinders, is_initialiser, left_in, turn_entries, waits_at, ComesTurn, IsReserved, IsTurn, Looks};
 
 use crate::stack::entry_frame;
 use crate::throwing::{Thrown, throws};
@@ -62,7 +64,7 @@ pub fn readies<'a>(
     class: u32,
 ) -> Result<Readied, AllocError>
     ensures standing { IfOk result (λ readied. IsRight readied (status_at state.old.statuses.items class)) }
-    ensures readied { (steps : ℕ) (script : List Move) → length script < 2 ^ 64 → IsRun tables.now.lookups memo.old steps state.old → class < length tables.now.lookups.program.now.classes → IfOk result (IsReadied tables.now.lookups steps script memo.new state.old state.new class) }
+    ensures readied { (steps : ℕ) (script : List Move) → IsRun tables.now.lookups memo.old steps state.old → class < length tables.now.lookups.program.now.classes → IfOk result (IsReadied tables.now.lookups steps script memo.new state.old state.new class) }
     ensures kept { (steps : ℕ) → IsRun tables.now.lookups memo.old steps state.old → class < length tables.now.lookups.program.now.classes → IsKept tables.now.lookups memo.new }
     ensures err { (steps : ℕ) → IsRun tables.now.lookups memo.old steps state.old → class < length tables.now.lookups.program.now.classes → OnErr result (IsUndoneWith tables.now.lookups steps memo.new state.old state.new) }
 {
@@ -101,17 +103,24 @@ fn left_of(state: &State<'_>, above: &[u32], next: usize) -> usize
     above.len()
 }
 
-/// The frame of the initialiser of a class, none where it has none.
-fn turn_of<'a>(
-    alloc: Global,
-    tables: &Tables<'a>,
-    class: u32,
-) -> Result<Option<Frame<'a>>, AllocError>
-    ensures { (size : ℕ) → AreRight tables.now.lookups → class < length tables.now.lookups.program.now.classes → IfOk result (IsTurn tables.now.lookups size class) }
+/// What comes of a class whose turn has come: it ends once its initialiser has run, of which this is the frame, or at once
+/// where it has none; or the run ends, since its initialiser can't be entered.
+#[derive(Drop)]
+enum Turn<'a> {
+    Goes(Option<Frame<'a>>),
+    Ends,
+}
+
+/// What comes of a class whose turn has come.
+fn turn_of<'a>(alloc: Global, tables: &Tables<'a>, class: u32) -> Result<Turn<'a>, AllocError>
+    ensures { (size : ℕ) → AreRight tables.now.lookups → class < length tables.now.lookups.program.now.classes → IfOk result (ComesTurn tables.now.lookups size class) }
 {
     match tables.lookups.initialiser(class) {
-        Some(at) => entry_frame(alloc, tables, at, &[]),
-        None => Ok(None),
+        Some(at) => match entry_frame(alloc, tables, at, &[])? {
+            Some(frame) => Ok(Turn::Goes(Some(frame))),
+            None => Ok(Turn::Ends),
+        },
+        None => Ok(Turn::Goes(None)),
     }
 }
 
@@ -125,6 +134,22 @@ fn runs<'a>(stack: &mut Vec<Waiting<'a>>, class: u32, frame: Option<Frame<'a>>)
     }
 }
 
+/// A class and the frame of its initialiser stand on what is left of the stack, so many entries.
+fn stands<'a>(
+    state: &mut State<'a>,
+    class: u32,
+    count: usize,
+    frame: Option<Frame<'a>>,
+) -> Result<(), AllocError>
+    ensures ok { (l : Lookups) (steps : ℕ) (script : List Move) → AreRight l → IsRunning l steps state.old → state.old.ended ≡ false → class < length l.program.now.classes → IsTurn l (length (spots_of state.old.world)) class frame.entry → OnOk result (IsLeft l steps script state.new (runs (bodies_in l) (world_in l state.old) (classes_in l state.old) (class_text l.program.now class) ((run_face l).initialiser (class_text l.program.now class)) (stack_of (names_in l) script (take count state.old.stack.items)) (script_in script state.old))) }
+    ensures err { OnErr result (IsReserved state.old state.new) }
+{
+    state.stack.reserve(2)?;
+    state.stack.truncate(count);
+    runs(&mut state.stack, class, frame);
+    Ok(())
+}
+
 /// The turn of a class has come: it stands on what is left of the stack, so many entries.
 fn turns<'a>(
     alloc: Global,
@@ -133,14 +158,16 @@ fn turns<'a>(
     class: u32,
     count: usize,
 ) -> Result<(), AllocError>
-    ensures ok { (steps : ℕ) (script : List Move) → AreRight tables.now.lookups → IsRunning tables.now.lookups steps state.old → state.old.ended ≡ false → class < length tables.now.lookups.program.now.classes → OnOk result (IsLeft tables.now.lookups steps script state.new (runs (bodies_in tables.now.lookups) (world_in tables.now.lookups state.old) (classes_in tables.now.lookups state.old) (class_text tables.now.lookups.program.now class) ((run_face tables.now.lookups).initialiser (class_text tables.now.lookups.program.now class)) (stack_of (names_in tables.now.lookups) (take count state.old.stack.items)) (script_in script state.old))) }
+    ensures ok { (steps : ℕ) (script : List Move) → AreRight tables.now.lookups → IsRunning tables.now.lookups steps state.old → state.old.ended ≡ false → class < length tables.now.lookups.program.now.classes → OnOk result (IsLeft tables.now.lookups steps script state.new (runs (bodies_in tables.now.lookups) (world_in tables.now.lookups state.old) (classes_in tables.now.lookups state.old) (class_text tables.now.lookups.program.now class) ((run_face tables.now.lookups).initialiser (class_text tables.now.lookups.program.now class)) (stack_of (names_in tables.now.lookups) script (take count state.old.stack.items)) (script_in script state.old))) }
     ensures err { OnErr result (IsReserved state.old state.new) }
 {
-    let frame = turn_of(alloc, tables, class)?;
-    state.stack.reserve(2)?;
-    state.stack.truncate(count);
-    runs(&mut state.stack, class, frame);
-    Ok(())
+    match turn_of(alloc, tables, class)? {
+        Turn::Goes(frame) => stands(state, class, count, frame),
+        Turn::Ends => {
+            state.end();
+            Ok(())
+        }
+    }
 }
 
 /// A class is initialised from what comes before it on: the first of those that hinder it is looked at, or its own turn
@@ -152,7 +179,7 @@ fn begins<'a>(
     class: u32,
     above: Vec<u32>,
 ) -> Result<(), AllocError>
-    ensures ok { (steps : ℕ) (script : List Move) → AreRight tables.now.lookups → IsRunning tables.now.lookups steps state.old → state.old.ended ≡ false → class < length tables.now.lookups.program.now.classes → AreClasses tables.now.lookups above.items → OnOk result (IsLeft tables.now.lookups steps script state.new (goes_on (run_face tables.now.lookups) (bodies_in tables.now.lookups) (world_in tables.now.lookups state.old) (classes_in tables.now.lookups state.old) (class_text tables.now.lookups.program.now class) (left_of (classes_in tables.now.lookups state.old) (map (class_text tables.now.lookups.program.now) above.items)) (stack_in tables.now.lookups state.old) (script_in script state.old))) }
+    ensures ok { (steps : ℕ) (script : List Move) → AreRight tables.now.lookups → IsRunning tables.now.lookups steps state.old → state.old.ended ≡ false → class < length tables.now.lookups.program.now.classes → AreClasses tables.now.lookups above.items → OnOk result (IsLeft tables.now.lookups steps script state.new (goes_on (run_face tables.now.lookups) (bodies_in tables.now.lookups) (world_in tables.now.lookups state.old) (classes_in tables.now.lookups state.old) (class_text tables.now.lookups.program.now class) (left_of (classes_in tables.now.lookups state.old) (map (class_text tables.now.lookups.program.now) above.items)) (stack_in tables.now.lookups script state.old) (script_in script state.old))) }
     ensures err { OnErr result (IsReserved state.old state.new) }
 {
     let next = left_of(state, above.as_slice(), 0);
@@ -175,7 +202,7 @@ pub fn starts<'a>(
     state: &mut State<'a>,
     class: u32,
 ) -> Result<(), AllocError>
-    ensures ok { (steps : ℕ) (script : List Move) → IsRun tables.now.lookups memo.old steps state.old → class < length tables.now.lookups.program.now.classes → OnOk result (IsLeft tables.now.lookups steps script state.new (starts (run_face tables.now.lookups) (bodies_in tables.now.lookups) (world_in tables.now.lookups state.old) (classes_in tables.now.lookups state.old) (class_text tables.now.lookups.program.now class) (stack_in tables.now.lookups state.old) (script_in script state.old))) }
+    ensures ok { (steps : ℕ) (script : List Move) → IsRun tables.now.lookups memo.old steps state.old → class < length tables.now.lookups.program.now.classes → OnOk result (IsLeft tables.now.lookups steps script state.new (starts (run_face tables.now.lookups) (bodies_in tables.now.lookups) (world_in tables.now.lookups state.old) (classes_in tables.now.lookups state.old) (class_text tables.now.lookups.program.now class) (stack_in tables.now.lookups script state.old) (script_in script state.old))) }
     ensures kept { (steps : ℕ) → IsRun tables.now.lookups memo.old steps state.old → class < length tables.now.lookups.program.now.classes → IsKept tables.now.lookups memo.new }
     ensures err { (steps : ℕ) → IsRun tables.now.lookups memo.old steps state.old → class < length tables.now.lookups.program.now.classes → OnErr result (IsUndoneWith tables.now.lookups steps memo.new state.old state.new) }
 {
@@ -244,9 +271,9 @@ fn goes_on<'a>(
     more: usize,
 ) -> Result<(), AllocError>
     ensures class { (steps : ℕ) (script : List Move) (class : ℕ) (above : Vec ℕ OwnGlobal) (next : ℕ) → AreRight tables.now.lookups → IsRunning tables.now.lookups steps state.old → state.old.ended ≡ false → slice_get state.old.stack.items place ≡ Some (waiting.Initialiser class above next)
-        → OnOk result (IsLeft tables.now.lookups steps script state.new (goes_on (run_face tables.now.lookups) (bodies_in tables.now.lookups) (world_in tables.now.lookups state.old) (classes_in tables.now.lookups state.old) (class_text tables.now.lookups.program.now class) (left_of (classes_in tables.now.lookups state.old) (map (class_text tables.now.lookups.program.now) (drop (next + more) above.items))) (stack_of (names_in tables.now.lookups) (take place state.old.stack.items)) (script_in script state.old))) }
+        → OnOk result (IsLeft tables.now.lookups steps script state.new (goes_on (run_face tables.now.lookups) (bodies_in tables.now.lookups) (world_in tables.now.lookups state.old) (classes_in tables.now.lookups state.old) (class_text tables.now.lookups.program.now class) (left_of (classes_in tables.now.lookups state.old) (map (class_text tables.now.lookups.program.now) (drop (next + more) above.items))) (stack_of (names_in tables.now.lookups) script (take place state.old.stack.items)) (script_in script state.old))) }
     ensures other { (steps : ℕ) (script : List Move) → AreRight tables.now.lookups → IsRunning tables.now.lookups steps state.old → state.old.ended ≡ false → place < length state.old.stack.items → is_initialiser (slice_get state.old.stack.items place) ≡ false
-        → OnOk result (IsLeft tables.now.lookups steps script state.new (On (world_in tables.now.lookups state.old) (classes_in tables.now.lookups state.old) (stack_of (names_in tables.now.lookups) (take (place + 1) state.old.stack.items)) (script_in script state.old))) }
+        → OnOk result (IsLeft tables.now.lookups steps script state.new (On (world_in tables.now.lookups state.old) (classes_in tables.now.lookups state.old) (stack_of (names_in tables.now.lookups) script (take (place + 1) state.old.stack.items)) (script_in script state.old))) }
     ensures err { OnErr result (IsReserved state.old state.new) }
 {
     match left_at(state, place, more) {
@@ -280,7 +307,7 @@ fn looks_at<'a>(
     state: &mut State<'a>,
     first: u32,
 ) -> Result<Option<Event>, AllocError>
-    ensures ok { (steps : ℕ) (script : List Move) (setting : Setting) (class : ℕ) (above : Vec ℕ OwnGlobal) (next : ℕ) → length script < 2 ^ 64 → setting.face ≡ run_face tables.now.lookups → IsRun tables.now.lookups memo.old steps state.old → slice_get state.old.stack.items (length state.old.stack.items - 1) ≡ Some (waiting.Initialiser class above next) → slice_get above.items next ≡ Some first → IfOk result (λ e. IsNext tables.now.lookups steps script memo.new state.new e (initialises setting (bodies_in tables.now.lookups) (world_in tables.now.lookups state.old) (classes_in tables.now.lookups state.old) (class_text tables.now.lookups.program.now class) (map (class_text tables.now.lookups.program.now) (drop next above.items)) (below_in tables.now.lookups state.old) (script_in script state.old))) }
+    ensures ok { (steps : ℕ) (script : List Move) (setting : Setting) (class : ℕ) (above : Vec ℕ OwnGlobal) (next : ℕ) → setting.face ≡ run_face tables.now.lookups → IsRun tables.now.lookups memo.old steps state.old → slice_get state.old.stack.items (length state.old.stack.items - 1) ≡ Some (waiting.Initialiser class above next) → slice_get above.items next ≡ Some first → IfOk result (λ e. IsNext tables.now.lookups steps script memo.new state.new e (initialises setting (bodies_in tables.now.lookups) (world_in tables.now.lookups state.old) (classes_in tables.now.lookups state.old) (class_text tables.now.lookups.program.now class) (map (class_text tables.now.lookups.program.now) (drop next above.items)) (below_in tables.now.lookups script state.old) (script_in script state.old))) }
     ensures kept { (steps : ℕ) (class : ℕ) (above : Vec ℕ OwnGlobal) (next : ℕ) → IsRun tables.now.lookups memo.old steps state.old → slice_get state.old.stack.items (length state.old.stack.items - 1) ≡ Some (waiting.Initialiser class above next) → slice_get above.items next ≡ Some first → IsKept tables.now.lookups memo.new }
     ensures err { (steps : ℕ) (class : ℕ) (above : Vec ℕ OwnGlobal) (next : ℕ) → IsRun tables.now.lookups memo.old steps state.old → slice_get state.old.stack.items (length state.old.stack.items - 1) ≡ Some (waiting.Initialiser class above next) → slice_get above.items next ≡ Some first → OnErr result (IsUndoneWith tables.now.lookups steps memo.new state.old state.new) }
 {
@@ -306,7 +333,7 @@ pub fn initialises<'a>(
     memo: &mut Memo,
     state: &mut State<'a>,
 ) -> Result<Option<Event>, AllocError>
-    ensures ok { (steps : ℕ) (script : List Move) (setting : Setting) (class : ℕ) (above : Vec ℕ OwnGlobal) (next : ℕ) → length script < 2 ^ 64 → setting.face ≡ run_face tables.now.lookups → IsRun tables.now.lookups memo.old steps state.old → slice_get state.old.stack.items (length state.old.stack.items - 1) ≡ Some (waiting.Initialiser class above next) → IfOk result (λ e. IsNext tables.now.lookups steps script memo.new state.new e (initialises setting (bodies_in tables.now.lookups) (world_in tables.now.lookups state.old) (classes_in tables.now.lookups state.old) (class_text tables.now.lookups.program.now class) (map (class_text tables.now.lookups.program.now) (drop next above.items)) (below_in tables.now.lookups state.old) (script_in script state.old))) }
+    ensures ok { (steps : ℕ) (script : List Move) (setting : Setting) (class : ℕ) (above : Vec ℕ OwnGlobal) (next : ℕ) → setting.face ≡ run_face tables.now.lookups → IsRun tables.now.lookups memo.old steps state.old → slice_get state.old.stack.items (length state.old.stack.items - 1) ≡ Some (waiting.Initialiser class above next) → IfOk result (λ e. IsNext tables.now.lookups steps script memo.new state.new e (initialises setting (bodies_in tables.now.lookups) (world_in tables.now.lookups state.old) (classes_in tables.now.lookups state.old) (class_text tables.now.lookups.program.now class) (map (class_text tables.now.lookups.program.now) (drop next above.items)) (below_in tables.now.lookups script state.old) (script_in script state.old))) }
     ensures kept { (steps : ℕ) (class : ℕ) (above : Vec ℕ OwnGlobal) (next : ℕ) → IsRun tables.now.lookups memo.old steps state.old → slice_get state.old.stack.items (length state.old.stack.items - 1) ≡ Some (waiting.Initialiser class above next) → IsKept tables.now.lookups memo.new }
     ensures err { (steps : ℕ) (class : ℕ) (above : Vec ℕ OwnGlobal) (next : ℕ) → IsRun tables.now.lookups memo.old steps state.old → slice_get state.old.stack.items (length state.old.stack.items - 1) ≡ Some (waiting.Initialiser class above next) → OnErr result (IsUndoneWith tables.now.lookups steps memo.new state.old state.new) }
 {
@@ -322,7 +349,7 @@ pub fn initialises<'a>(
 
 /// What waits below a class that has ended goes on.
 fn resumes<'a>(alloc: Global, tables: &Tables<'a>, state: &mut State<'a>) -> Result<(), AllocError>
-    ensures ok { (steps : ℕ) (script : List Move) → AreRight tables.now.lookups → IsRunning tables.now.lookups steps state.old → state.old.ended ≡ false → OnOk result (IsLeft tables.now.lookups steps script state.new (resumes (run_face tables.now.lookups) (bodies_in tables.now.lookups) (world_in tables.now.lookups state.old) (classes_in tables.now.lookups state.old) (below_in tables.now.lookups state.old) (script_in script state.old))) }
+    ensures ok { (steps : ℕ) (script : List Move) → AreRight tables.now.lookups → IsRunning tables.now.lookups steps state.old → state.old.ended ≡ false → OnOk result (IsLeft tables.now.lookups steps script state.new (resumes (run_face tables.now.lookups) (bodies_in tables.now.lookups) (world_in tables.now.lookups state.old) (classes_in tables.now.lookups state.old) (below_in tables.now.lookups script state.old) (script_in script state.old))) }
     ensures err { OnErr result (IsReserved state.old state.new) }
 {
     match state.stack.len().checked_sub(2) {
@@ -341,7 +368,7 @@ pub fn ends<'a>(
     state: &mut State<'a>,
     class: u32,
 ) -> Result<(), AllocError>
-    ensures ok { (steps : ℕ) (script : List Move) → AreRight tables.now.lookups → IsRunning tables.now.lookups steps state.old → state.old.ended ≡ false → class < length tables.now.lookups.program.now.classes → OnOk result (IsLeft tables.now.lookups steps script state.new (ends (run_face tables.now.lookups) (bodies_in tables.now.lookups) (world_in tables.now.lookups state.old) (classes_in tables.now.lookups state.old) (class_text tables.now.lookups.program.now class) (below_in tables.now.lookups state.old) (script_in script state.old))) }
+    ensures ok { (steps : ℕ) (script : List Move) → AreRight tables.now.lookups → IsRunning tables.now.lookups steps state.old → state.old.ended ≡ false → class < length tables.now.lookups.program.now.classes → OnOk result (IsLeft tables.now.lookups steps script state.new (ends (run_face tables.now.lookups) (bodies_in tables.now.lookups) (world_in tables.now.lookups state.old) (classes_in tables.now.lookups state.old) (class_text tables.now.lookups.program.now class) (below_in tables.now.lookups script state.old) (script_in script state.old))) }
     ensures err { (steps : ℕ) → AreRight tables.now.lookups → IsRunning tables.now.lookups steps state.old → state.old.ended ≡ false → class < length tables.now.lookups.program.now.classes → OnErr result (IsUndone tables.now.lookups steps state.old state.new) }
 {
     let before = state.status(class);

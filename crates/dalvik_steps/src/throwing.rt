@@ -24,7 +24,7 @@ ghost use Rattle.dalvik_state.specs.Worlds.{spots_of, IsHeap, Plain};
 ghost use Rattle.dalvik_state.specs.declared.state.Waiting.{Waiting as OwnWaiting};
 ghost use Rattle.dalvik_steps.specs.Backs.{last_of};
 ghost use Rattle.dalvik_steps.specs.Entries.{thrown_by, IsThrown};
-ghost use Rattle.dalvik_steps.specs.Falls.{failing_of, given_up_at, noted, DropsTop, Fails, HasFallen, IsFalling, IsThrownInto, LandsThere};
+ghost use Rattle.dalvik_steps.specs.Falls.{failing_of, noted, DropsTop, HasFallen, IsFalling, IsThrownInto, LandsThere};
 ghost use Rattle.dalvik_steps.specs.Flights.{covers_in, thrown_value, thrown_world, AreHandlers, Exhibits, Flies, GoesPast, HasFlightRoom, IsCourse, IsFlight, IsFlying, IsKindMaybe, IsThrownWith, Meets};
 ghost use Rattle.dalvik_steps.specs.Turns.{IsReserved};
 
@@ -349,23 +349,6 @@ fn make_new(world: &mut World, class: usize) -> Datum
     Datum::Object(number)
 }
 
-/// A move of the framework that needed a class which failed is over.
-fn give_up(state: &mut State<'_>)
-    ensures { state.new ≡ record state.old { next = given_up_at (last_of state.old.stack.items) state.old.next } }
-{
-    if let Some(Waiting::Outside { .. }) = state.stack.as_slice().last() {
-        state.next = state.next.saturating_add(1);
-    }
-}
-
-/// A class that was being initialised fails.
-fn fail(state: &mut State<'_>, class: u32)
-    ensures { Fails class state.old state.new }
-{
-    state.set_status(class, Status::Failed);
-    give_up(state);
-}
-
 /// The class on top of the stack that fails where a thrown object passes.
 fn failing(state: &State<'_>) -> Option<u32>
     ensures { result ≡ failing_of (last_of state.now.stack.items) }
@@ -385,7 +368,7 @@ fn drop_top(state: &mut State<'_>)
     let class = failing(state);
     state.stack.pop();
     if let Some(class) = class {
-        fail(state, class);
+        state.set_status(class, Status::Failed);
     }
 }
 
@@ -403,7 +386,7 @@ fn is_noted(wraps: &[usize], wrapped: usize, top: usize) -> bool
 /// the object.
 fn fall(state: &mut State<'_>, wraps: &[usize], wrapped: usize, datum: Datum) -> (usize, Datum)
     ensures stack { state.new.stack.items ≡ below_top state.old.stack.items }
-    ensures falls { (l : Lookups) (steps : ℕ) (script : List Move) (whole : Next) (to : Landing) (place : ℕ) → length script < 2 ^ 64 → IsRight l → LandsThere to place → place + 1 < length state.old.stack.items → IsFalling l steps script whole to state.old (drop wrapped wraps.now) datum → IsFalling l steps script whole to state.new (drop result.0 wraps.now) result.1 }
+    ensures falls { (l : Lookups) (steps : ℕ) (script : List Move) (whole : Next) (to : Landing) (place : ℕ) → IsRight l → LandsThere to place → place + 1 < length state.old.stack.items → IsFalling l steps script whole to state.old (drop wrapped wraps.now) datum → IsFalling l steps script whole to state.new (drop result.0 wraps.now) result.1 }
 {
     let _count = wraps.len();
     let top = state.stack.len().saturating_sub(1);
@@ -419,7 +402,7 @@ fn fall(state: &mut State<'_>, wraps: &[usize], wrapped: usize, datum: Datum) ->
 
 /// Takes off the stack what stands above a place. Answers the object, which is replaced where it is noted.
 fn unwind(state: &mut State<'_>, place: usize, wraps: &[usize], datum: Datum) -> Datum
-    ensures { (l : Lookups) (steps : ℕ) (script : List Move) (whole : Next) (to : Landing) → length script < 2 ^ 64 → IsRight l → LandsThere to place → IsFalling l steps script whole to state.old wraps.now datum → HasFallen l steps script whole to place state.new result }
+    ensures { (l : Lookups) (steps : ℕ) (script : List Move) (whole : Next) (to : Landing) → IsRight l → LandsThere to place → IsFalling l steps script whole to state.old wraps.now datum → HasFallen l steps script whole to place state.new result }
 {
     let mut flown = (0, datum);
     while place < state.stack.len().saturating_sub(1) {
@@ -452,9 +435,9 @@ fn draft_of(shown: Exhibit, datum: Datum) -> Draft
     }
 }
 
-/// A thrown object goes down the stack to where it lands.
+/// A thrown object goes down the stack to where it lands. At the framework a move that waits there for a class is over.
 fn descend(state: &mut State<'_>, wraps: &[usize], landing: Landing, datum: Datum) -> Option<Event>
-    ensures { (l : Lookups) (steps : ℕ) (script : List Move) (whole : Next) → length script < 2 ^ 64 → IsRight l → IsFalling l steps script whole landing state.old wraps.now datum → IsEvent l steps script state.new result whole }
+    ensures { (l : Lookups) (steps : ℕ) (script : List Move) (whole : Next) → IsRight l → IsFalling l steps script whole landing state.old wraps.now datum → IsEvent l steps script state.new result whole }
 {
     match landing {
         Landing::Handler { place, position } => {
@@ -464,9 +447,9 @@ fn descend(state: &mut State<'_>, wraps: &[usize], landing: Landing, datum: Datu
         }
         Landing::Framework { place, shown } => {
             let uncaught = unwind(state, place, wraps, datum);
-            Some(Event::Uncaught {
-                value: show(&mut state.world, draft_of(shown, uncaught)),
-            })
+            let value = show(&mut state.world, draft_of(shown, uncaught));
+            state.set_pending(None);
+            Some(Event::Uncaught { value })
         }
         Landing::Nowhere => {
             state.end();
@@ -477,8 +460,8 @@ fn descend(state: &mut State<'_>, wraps: &[usize], landing: Landing, datum: Datu
 
 /// Lets a thrown object go its way, for which there is room.
 pub fn land(state: &mut State<'_>, flight: Flight) -> Option<Event>
-    ensures { (l : Lookups) (steps : ℕ) (script : List Move) → length script < 2 ^ 64 → IsRight l → IsRunning l steps state.old → state.old.ended ≡ false → IsThrown l (length (spots_of state.old.world)) flight.thrown → IsFlight l (world_in l state.old) state.old.stack.items flight.thrown flight → HasFlightRoom state.old.world 0 flight
-        → IsEvent l steps script state.new result (thrown_by l flight.thrown (world_in l state.old) (classes_in l state.old) (stack_in l state.old) (script_in script state.old)) }
+    ensures { (l : Lookups) (steps : ℕ) (script : List Move) → IsRight l → IsRunning l steps state.old → state.old.ended ≡ false → IsThrown l (length (spots_of state.old.world)) flight.thrown → IsFlight l (world_in l state.old) state.old.stack.items flight.thrown flight → HasFlightRoom state.old.world 0 flight
+        → IsEvent l steps script state.new result (thrown_by l flight.thrown (world_in l state.old) (classes_in l state.old) (stack_in l script state.old) (script_in script state.old)) }
 {
     let Flight {
         thrown,
@@ -497,8 +480,8 @@ pub fn throws(
     state: &mut State<'_>,
     thrown: Thrown,
 ) -> Result<Option<Event>, AllocError>
-    ensures ok { (steps : ℕ) (script : List Move) → length script < 2 ^ 64 → IsRun tables.now.lookups memo.old steps state.old → IsThrown tables.now.lookups (length (spots_of state.old.world)) thrown
-        → IfOk result (λ e. IsNext tables.now.lookups steps script memo.new state.new e (thrown_by tables.now.lookups thrown (world_in tables.now.lookups state.old) (classes_in tables.now.lookups state.old) (stack_in tables.now.lookups state.old) (script_in script state.old))) }
+    ensures ok { (steps : ℕ) (script : List Move) → IsRun tables.now.lookups memo.old steps state.old → IsThrown tables.now.lookups (length (spots_of state.old.world)) thrown
+        → IfOk result (λ e. IsNext tables.now.lookups steps script memo.new state.new e (thrown_by tables.now.lookups thrown (world_in tables.now.lookups state.old) (classes_in tables.now.lookups state.old) (stack_in tables.now.lookups script state.old) (script_in script state.old))) }
     ensures kept { (steps : ℕ) → IsRun tables.now.lookups memo.old steps state.old → IsThrown tables.now.lookups (length (spots_of state.old.world)) thrown → IsKept tables.now.lookups memo.new }
     ensures err { (steps : ℕ) → IsRun tables.now.lookups memo.old steps state.old → IsThrown tables.now.lookups (length (spots_of state.old.world)) thrown → OnErr result (IsUndoneWith tables.now.lookups steps memo.new state.old state.new) }
 {

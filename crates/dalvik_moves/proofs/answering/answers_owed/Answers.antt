@@ -49,7 +49,7 @@ returns-then-legal-clause-ok c = λ o floats script steps first rest g h are.
     let got = got_first l o old.world all g c.beside-answer.result one ∙ ap (λ (d : Option Datum). (given_world n old.world all, option_map (value_of n) d)) (sym same) in
     let fine = subst (AreGivenFine l old.world all) (sym same) (first_fine l o old.world all g c.beside-answer.result one) in
     IfOk-weaker c.answers_legally.result _ _ (λ e event. next_as l steps script c.may_answer.new.memo c.answers_legally.new.state e _ _ kept
-    (answers_given (setting_in l o floats) (bodies_in l) (world_in l old) (given_world n old.world all) (classes_in l old) (type_text l.types c.args.kind) g (option_map (value_of n) c.datum_of-value.result) (below_in l old) rest legal got) event)
+    (answers_given (setting_in l o floats) (bodies_in l) (world_in l old) (given_world n old.world all) (classes_in l old) (type_text l.types c.args.kind) g (option_map (value_of n) c.datum_of-value.result) (below_in l script old) rest legal got) event)
     (c.answers_legally.ensures.ok o c.args.memo.now script steps (Some c.args.kind) first rest h given fine)
 
 pub returns-then-legal-clause-err : goal.returns-then-legal-clause-err
@@ -75,6 +75,6 @@ returns-else-legal-clause-ok c = λ o floats script steps first rest g h are.
     let kind = owed_kind l o c.args.memo.now script steps old c.args.kind first rest h in
     let kept = c.may_answer.ensures.kept h.run.right h.run.kept (first_given l o old.world c.take_option.new.self g c.beside-answer.result one) kind in
     let legal = sym c.if-legal.false ∙ c.in_ok-legal.ensures.is o g h.run.right h.run.kept kind one in
-    let to = answers (setting_in l o floats) (bodies_in l) (world_in l old) (classes_in l old) (Some (type_text l.types c.args.kind)) g (below_in l old) rest in
+    let to = answers (setting_in l o floats) (bodies_in l) (world_in l old) (classes_in l old) (Some (type_text l.types c.args.kind)) g (below_in l script old) rest in
     subst (λ (s : State). IsNext l steps script c.may_answer.new.memo s None to) (sym c.end.ensures)
-    (over_as l steps script c.may_answer.new.memo old to kept (answers_over (setting_in l o floats) (bodies_in l) (world_in l old) (classes_in l old) (type_text l.types c.args.kind) g (below_in l old) rest legal))
+    (over_as l steps script c.may_answer.new.memo old to kept (answers_over (setting_in l o floats) (bodies_in l) (world_in l old) (classes_in l old) (type_text l.types c.args.kind) g (below_in l script old) rest legal))

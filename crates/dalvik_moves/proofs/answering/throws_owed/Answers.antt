@@ -35,7 +35,7 @@ returns-then-legal-clause-ok c = λ o floats script steps owes first rest kind g
     let kept = c.may_throw.ensures.kept h.run.right h.run.kept one.given in
     let legal = sym c.if-legal.true ∙ c.in_ok-legal.ensures.is o (world_in l old) g h.run.right h.run.kept one.given one.fine one.gift one.allowed in
     IfOk-weaker c.throws_legally.result _ _ (λ e next. next_same l steps script c.throws_legally.new.memo c.throws_legally.new.state e _ _
-    (throws_given (setting_in l o floats) (bodies_in l) (world_in l old) (given_world n old.world all) (classes_in l old) kind g (value_of n c.in_ok-taken.taken.datum) (below_in l old) rest legal one.got) next)
+    (throws_given (setting_in l o floats) (bodies_in l) (world_in l old) (given_world n old.world all) (classes_in l old) kind g (value_of n c.in_ok-taken.taken.datum) (below_in l script old) rest legal one.got) next)
     (c.throws_legally.ensures.ok o script steps owes first rest (moving_kept l o c.args.memo.now c.may_throw.new.memo script steps old owes first rest h kept) one.given one.fine)
 
 pub returns-then-legal-clause-err : goal.returns-then-legal-clause-err
@@ -57,6 +57,6 @@ returns-else-legal-clause-ok c = λ o floats script steps owes first rest kind g
     let one = first_taken l o old.world c.new-gifts.result all g c.args.gift c.in_ok-taken.taken c.new-gifts.ensures is (c.in_ok-taken.ensures o g h.run.right h.reach start is) in
     let kept = c.may_throw.ensures.kept h.run.right h.run.kept one.given in
     let legal = sym c.if-legal.false ∙ c.in_ok-legal.ensures.is o (world_in l old) g h.run.right h.run.kept one.given one.fine one.gift one.allowed in
-    let to = throws (setting_in l o floats) (bodies_in l) (world_in l old) (classes_in l old) (Some kind) g (below_in l old) rest in
+    let to = throws (setting_in l o floats) (bodies_in l) (world_in l old) (classes_in l old) (Some kind) g (below_in l script old) rest in
     subst (λ (s : State). IsNext l steps script c.may_throw.new.memo s None to) (sym c.end.ensures)
-    (over_as l steps script c.may_throw.new.memo old to kept (throws_over (setting_in l o floats) (bodies_in l) (world_in l old) (given_world n old.world all) (classes_in l old) kind g (value_of n c.in_ok-taken.taken.datum) (below_in l old) rest legal one.got))
+    (over_as l steps script c.may_throw.new.memo old to kept (throws_over (setting_in l o floats) (bodies_in l) (world_in l old) (given_world n old.world all) (classes_in l old) kind g (value_of n c.in_ok-taken.taken.datum) (below_in l script old) rest legal one.got))

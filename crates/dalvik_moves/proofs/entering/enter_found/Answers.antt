@@ -7,7 +7,7 @@ use Rattle.dalvik_state.specs.Drafts.{given_world}
 use Rattle.dalvik_state.specs.Runs.{bodies_in, classes_in, setting_in, stack_in, world_in, IsNext}
 use Rattle.dalvik_state.specs.Views.{names_in, value_of}
 use Rattle.dalvik_state.specs.declared.state.State.{State}
-use Rattle.dalvik_moves.specs.Moving.{datums_of}
+use Rattle.dalvik_moves.specs.Moving.{freed_in, datums_of}
 use Rattle.dalvik_moves.proofs.Entered.{values_named}
 use Rattle.dalvik_moves.proofs.Framed.{enter_illegal, enter_legal, moves_with}
 use Rattle.dalvik_moves.proofs.Moved.{on_err, over_as, undone_itself}
@@ -34,7 +34,7 @@ returns-then-legal-clause-ok c = λ o floats script steps owes first rest f gs h
     let legal = sym c.if-legal.true ∙ c.in_ok-legal.ensures.is o f gs h.run.right h.reach h.run.kept all m in
     let got = all.got ∙ ap (λ xs. (given_world n old.world v.gifts, xs)) (values_named n v.taken.items) in
     subst (λ (to : Next). IfOk c.entered.result (λ (e : Option Event). IsNext l steps script c.entered.new.memo c.entered.new.state e to))
-    (enter_legal (setting_in l o floats) (bodies_in l) (world_in l old) (given_world n old.world v.gifts) (classes_in l old) f gs vs (stack_in l old) (first ∷ rest) rest got legal)
+    (enter_legal (setting_in l o floats) (bodies_in l) (world_in l old) (given_world n old.world v.gifts) (classes_in l old) f gs vs (stack_in l script old) (freed_in l script old) rest got legal)
     (c.entered.ensures.ok o floats script steps owes first rest f gs (moves_with l o c.args.memo.now c.may_enter.new.memo script steps old owes first rest h kept) all m)
 
 pub returns-then-legal-clause-err : goal.returns-then-legal-clause-err
@@ -56,6 +56,6 @@ returns-else-legal-clause-ok c = λ o floats script steps owes first rest f gs h
     let kept = c.may_enter.ensures.kept o f gs h.run.right h.reach h.run.kept all m in
     let legal = sym c.if-legal.false ∙ c.in_ok-legal.ensures.is o f gs h.run.right h.reach h.run.kept all m in
     let got = all.got ∙ ap (λ xs. (given_world n old.world v.gifts, xs)) (values_named n v.taken.items) in
-    let to = enter (setting_in l o floats) (bodies_in l) (world_in l old) (classes_in l old) (Some f) gs (stack_in l old) (first ∷ rest) rest in
+    let to = enter (setting_in l o floats) (bodies_in l) (world_in l old) (classes_in l old) (Some f) gs (stack_in l script old) (freed_in l script old) rest in
     subst (λ (s : State). IsNext l steps script c.may_enter.new.memo s None to) (sym c.end.ensures)
-    (over_as l steps script c.may_enter.new.memo old to kept (enter_illegal (setting_in l o floats) (bodies_in l) (world_in l old) (given_world n old.world v.gifts) (classes_in l old) f gs vs (stack_in l old) (first ∷ rest) rest got legal))
+    (over_as l steps script c.may_enter.new.memo old to kept (enter_illegal (setting_in l o floats) (bodies_in l) (world_in l old) (given_world n old.world v.gifts) (classes_in l old) f gs vs (stack_in l script old) (freed_in l script old) rest got legal))

@@ -17,5 +17,5 @@ returns-clause-ok c = λ o memo script steps owes first rest h low.
     let is = c.kind_of_class-kind.ensures h.run.right k.0 k.1 in
     let kind = c.kind_of_class-kind.result in
     let fine = class_kind l h.run.right c.args.class k.0 kind k.1 is in
-    made_event l o memo script steps c.args.state.now c.makes_shown.new.state owes first rest kind c.in_ok-_reference._reference c.in_ok-_reference.event h (c.in_ok-_reference.ensures.made h.run.state.world fine)
-    (class_text p c.args.class) c.done.new.state (is.text ∙ sym (class_named p c.args.class k.0 k.1)) c.done.ensures
+    made_event l o memo script steps c.args.state.now c.makes_shown.new.state c.done.new.state owes first rest kind c.in_ok-_reference._reference c.in_ok-_reference.event h (c.in_ok-_reference.ensures.made h.run.state.world fine) c.done.ensures.done
+    (class_text p c.args.class) (is.text ∙ sym (class_named p c.args.class k.0 k.1))

@@ -44,7 +44,7 @@ returns-then-has-clause-is c = λ o f gs r reach k all m.
 
 pub returns-clause-kept : goal.returns-clause-kept
 returns-clause-kept c = λ o f gs r reach k all m.
-    c.is_on_receiver.ensures.kept r (c.values_fit.ensures.kept o c.args.found.0 f gs r k all m) all.given m.there
+    c.is_on_receiver.ensures.kept o r reach (c.values_fit.ensures.kept o c.args.found.0 f gs r k all m) all.given m.there
 
 pub returns-clause-is : goal.returns-clause-is
 returns-clause-is c = λ o f gs r reach k all m.

@@ -20,7 +20,7 @@ returns-in-Enter-clause-ok c = λ o floats script steps first rest h is.
     let given = subst (λ (gs : List Gift). AreEach (IsGift l.types l.texts) e.values gs) (sym c.as_slice.ensures.value) e.given in
     let top = top_owes l o c.args.memo.now script steps old c.args.owes first rest h in
     IfOk-weaker c.enter.result _ _ (λ x next. next_same l steps script c.enter.new.memo c.enter.new.state x _ _
-    (enter_moves (setting_in l o floats) (bodies_in l) (world_in l old) (classes_in l old) (option_map (type_text l.types) c.args.owes) (below_in l old) (stack_in l old) first rest top e.class e.name e.proto e.values e.is) next)
+    (enter_moves (setting_in l o floats) (bodies_in l) (world_in l old) (classes_in l old) (option_map (type_text l.types) c.args.owes) (below_in l script old) (stack_in l script old) first rest top e.class e.name e.proto e.values e.is) next)
     (c.enter.ensures.ok o floats script steps c.args.owes first rest e.class e.name e.proto e.values h given e.found)
 
 pub returns-in-Enter-clause-err : goal.returns-in-Enter-clause-err
@@ -37,7 +37,7 @@ returns-in-Make-clause-ok c = λ o floats script steps first rest h is.
     let e = subst (λ (y : Play). IsPlay l.program.now l.types l.texts first y) c.in-Make.is is in
     let top = top_owes l o c.args.memo.now script steps old c.args.owes first rest h in
     IfOk-weaker c.make.result _ _ (λ x next. next_same l steps script c.make.new.memo c.make.new.state x _ _
-    (make_moves (setting_in l o floats) (bodies_in l) (world_in l old) (classes_in l old) (option_map (type_text l.types) c.args.owes) (below_in l old) (stack_in l old) first rest top e.class e.is) next)
+    (make_moves (setting_in l o floats) (bodies_in l) (world_in l old) (classes_in l old) (option_map (type_text l.types) c.args.owes) (below_in l script old) (stack_in l script old) first rest top e.class e.is) next)
     (c.make.ensures.ok o floats script steps c.args.owes first rest e.class h e.found)
 
 pub returns-in-Make-clause-err : goal.returns-in-Make-clause-err
@@ -53,7 +53,7 @@ returns-in-Return-clause-ok c = λ o floats script steps first rest h is.
     let e = subst (λ (y : Play). IsPlay l.program.now l.types l.texts first y) c.in-Return.is is in
     let top = top_owes l o c.args.memo.now script steps old c.args.owes first rest h in
     IfOk-weaker c.answers.result _ _ (λ x next. next_same l steps script c.answers.new.memo c.answers.new.state x _ _
-    (answers_moves (setting_in l o floats) (bodies_in l) (world_in l old) (classes_in l old) (option_map (type_text l.types) c.args.owes) (below_in l old) (stack_in l old) first rest top e.value e.is) next)
+    (answers_moves (setting_in l o floats) (bodies_in l) (world_in l old) (classes_in l old) (option_map (type_text l.types) c.args.owes) (below_in l script old) (stack_in l script old) first rest top e.value e.is) next)
     (c.answers.ensures.ok o floats script steps first rest e.value h e.given)
 
 pub returns-in-Return-clause-err : goal.returns-in-Return-clause-err
@@ -69,7 +69,7 @@ returns-in-Throw-clause-ok c = λ o floats script steps first rest h is.
     let e = subst (λ (y : Play). IsPlay l.program.now l.types l.texts first y) c.in-Throw.is is in
     let top = top_owes l o c.args.memo.now script steps old c.args.owes first rest h in
     IfOk-weaker c.answers_by_throwing.result _ _ (λ x next. next_same l steps script c.answers_by_throwing.new.memo c.answers_by_throwing.new.state x _ _
-    (throws_moves (setting_in l o floats) (bodies_in l) (world_in l old) (classes_in l old) (option_map (type_text l.types) c.args.owes) (below_in l old) (stack_in l old) first rest top e.value e.is) next)
+    (throws_moves (setting_in l o floats) (bodies_in l) (world_in l old) (classes_in l old) (option_map (type_text l.types) c.args.owes) (below_in l script old) (stack_in l script old) first rest top e.value e.is) next)
     (c.answers_by_throwing.ensures.ok o floats script steps first rest e.value h e.given)
 
 pub returns-in-Throw-clause-err : goal.returns-in-Throw-clause-err
@@ -85,7 +85,7 @@ returns-in-Get-clause-ok c = λ o floats script steps first rest h is.
     let e = subst (λ (y : Play). IsPlay l.program.now l.types l.texts first y) c.in-Get.is is in
     let top = top_owes l o c.args.memo.now script steps old c.args.owes first rest h in
     IfOk-weaker c.reads.result _ _ (λ x next. next_same l steps script c.reads.new.memo c.reads.new.state x _ _
-    (reads_moves (setting_in l o floats) (bodies_in l) (world_in l old) (classes_in l old) (option_map (type_text l.types) c.args.owes) (below_in l old) (stack_in l old) first rest top e.class e.name e.kind e.on e.is) next)
+    (reads_moves (setting_in l o floats) (bodies_in l) (world_in l old) (classes_in l old) (option_map (type_text l.types) c.args.owes) (below_in l script old) (stack_in l script old) first rest top e.class e.name e.kind e.on e.is) next)
     (c.reads.ensures.ok o floats script steps c.args.owes first rest e.class e.name e.kind e.on h e.found e.held)
 
 pub returns-in-Get-clause-err : goal.returns-in-Get-clause-err
@@ -101,7 +101,7 @@ returns-in-Put-clause-ok c = λ o floats script steps first rest h is.
     let e = subst (λ (y : Play). IsPlay l.program.now l.types l.texts first y) c.in-Put.is is in
     let top = top_owes l o c.args.memo.now script steps old c.args.owes first rest h in
     IfOk-weaker c.writes.result _ _ (λ x next. next_same l steps script c.writes.new.memo c.writes.new.state x _ _
-    (writes_moves (setting_in l o floats) (bodies_in l) (world_in l old) (classes_in l old) (option_map (type_text l.types) c.args.owes) (below_in l old) (stack_in l old) first rest top e.class e.name e.kind e.on e.value e.is) next)
+    (writes_moves (setting_in l o floats) (bodies_in l) (world_in l old) (classes_in l old) (option_map (type_text l.types) c.args.owes) (below_in l script old) (stack_in l script old) first rest top e.class e.name e.kind e.on e.value e.is) next)
     (c.writes.ensures.ok o floats script steps c.args.owes first rest e.class e.name e.kind e.on e.value h e.found e.held e.given)
 
 pub returns-in-Put-clause-err : goal.returns-in-Put-clause-err

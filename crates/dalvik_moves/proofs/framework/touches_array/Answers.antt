@@ -17,7 +17,7 @@ returns-in-ArrayGet-clause-ok c = λ o floats script steps owes first rest h is 
     let e = subst (λ (y : Play). IsPlay l.program.now l.types l.texts first y) c.in-ArrayGet.is is in
     let top = top_owes l o c.args.memo.now script steps old owes first rest h in
     IfOk-weaker c.array_get.result _ _ (λ x event. next_as l steps script c.args.memo.now c.array_get.new.state x _ _ h.run.kept
-    (gets_moves (setting_in l o floats) (bodies_in l) (world_in l old) (classes_in l old) (option_map (type_text l.types) owes) (below_in l old) (stack_in l old) first rest top e.on c.in-ArrayGet.place e.is) event)
+    (gets_moves (setting_in l o floats) (bodies_in l) (world_in l old) (classes_in l old) (option_map (type_text l.types) owes) (below_in l script old) (stack_in l script old) first rest top e.on c.in-ArrayGet.place e.is) event)
     (c.array_get.ensures.ok o c.args.memo.now script steps owes first rest e.on h e.held)
 
 pub returns-in-ArrayGet-clause-err : goal.returns-in-ArrayGet-clause-err
@@ -32,7 +32,7 @@ returns-in-ArrayPut-clause-ok c = λ o floats script steps owes first rest h is 
     let e = subst (λ (y : Play). IsPlay l.program.now l.types l.texts first y) c.in-ArrayPut.is is in
     let top = top_owes l o c.args.memo.now script steps old owes first rest h in
     IfOk-weaker c.array_put.result _ _ (λ x next. next_same l steps script c.array_put.new.memo c.array_put.new.state x _ _
-    (puts_moves (setting_in l o floats) (bodies_in l) (world_in l old) (classes_in l old) (option_map (type_text l.types) owes) (below_in l old) (stack_in l old) first rest top e.on e.value c.in-ArrayPut.place e.is) next)
+    (puts_moves (setting_in l o floats) (bodies_in l) (world_in l old) (classes_in l old) (option_map (type_text l.types) owes) (below_in l script old) (stack_in l script old) first rest top e.on e.value c.in-ArrayPut.place e.is) next)
     (c.array_put.ensures.ok o floats script steps owes first rest e.on e.value h e.held e.given)
 
 pub returns-in-ArrayPut-clause-err : goal.returns-in-ArrayPut-clause-err
@@ -48,7 +48,7 @@ returns-in-ArrayLength-clause-ok c = λ o floats script steps owes first rest h 
     let e = subst (λ (y : Play). IsPlay l.program.now l.types l.texts first y) c.in-ArrayLength.is is in
     let top = top_owes l o c.args.memo.now script steps old owes first rest h in
     IfOk-weaker c.array_length.result _ _ (λ x event. next_as l steps script c.args.memo.now c.array_length.new.state x _ _ h.run.kept
-    (lengths_moves (setting_in l o floats) (bodies_in l) (world_in l old) (classes_in l old) (option_map (type_text l.types) owes) (below_in l old) (stack_in l old) first rest top e.on e.is) event)
+    (lengths_moves (setting_in l o floats) (bodies_in l) (world_in l old) (classes_in l old) (option_map (type_text l.types) owes) (below_in l script old) (stack_in l script old) first rest top e.on e.is) event)
     (c.array_length.ensures.ok o c.args.memo.now script steps owes first rest e.on h e.held)
 
 pub returns-in-ArrayLength-clause-err : goal.returns-in-ArrayLength-clause-err

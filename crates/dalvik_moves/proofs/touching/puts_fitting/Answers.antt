@@ -4,8 +4,9 @@ use Rattle.dalvik_defs.specs.Moves.{writes_item}
 use Rattle.dalvik_defs.specs.State.{Items}
 use Rattle.dalvik_lookups.specs.Views.{type_text}
 use Rattle.dalvik_state.specs.Drafts.{given_world}
-use Rattle.dalvik_state.specs.Runs.{classes_in, setting_in, stack_in, world_in}
+use Rattle.dalvik_state.specs.Runs.{classes_in, setting_in, world_in}
 use Rattle.dalvik_state.specs.Views.{names_in, value_of, values_of}
+use Rattle.dalvik_moves.specs.Moving.{freed_in}
 use Rattle.dalvik_moves.proofs.FieldMoves.{next_at}
 use Rattle.dalvik_moves.proofs.ItemMoves.{array_kind, item_over, item_then, many}
 use Rattle.dalvik_moves.proofs.Moved.{next_as, on_err, over_as, undone_itself, undone_kept}
@@ -51,8 +52,8 @@ returns-in_ok-puts_item-clause-ok c = λ o floats script steps owes first rest w
     let legal = c.in_ok-legal.ensures.is o (world_in l old) what h.run.right h.run.kept one.given one.fine one.gift one.allowed kind in
     let size = many n items in
     let below : c.args.at.1 < length (values_of n items) = omega (arith, low, size) in
-    next_as l steps script c.fits.new.memo c.puts_item.new.state None _ (writes_item s (world_in l old) (classes_in l old) (value_of n c.args.at.0) (Some (Items text (values_of n items))) c.args.at.1 what (stack_in l old) rest) looked
-    (item_then s (world_in l old) (given_world n w all) (classes_in l old) (value_of n c.args.at.0) text (values_of n items) c.args.at.1 what (value_of n given.datum) (stack_in l old) rest one.got c.in_ok-legal.legal legal c.if-legal.true below)
+    next_as l steps script c.fits.new.memo c.puts_item.new.state None _ (writes_item s (world_in l old) (classes_in l old) (value_of n c.args.at.0) (Some (Items text (values_of n items))) c.args.at.1 what (freed_in l script old) rest) looked
+    (item_then s (world_in l old) (given_world n w all) (classes_in l old) (value_of n c.args.at.0) text (values_of n items) c.args.at.1 what (value_of n given.datum) (freed_in l script old) rest one.got c.in_ok-legal.legal legal c.if-legal.true below)
     (c.in_ok-puts_item.ensures.ok o c.args.memo.now script steps owes first rest items h one.given one.fine there)
 
 pub returns-else-legal-clause-ok : goal.returns-else-legal-clause-ok
@@ -71,5 +72,5 @@ returns-else-legal-clause-ok c = λ o floats script steps owes first rest what i
     let looked = c.fits.ensures.kept h.run.right h.run.kept one.given kind in
     let legal = c.in_ok-legal.ensures.is o (world_in l old) what h.run.right h.run.kept one.given one.fine one.gift one.allowed kind in
     next_at l steps script c.fits.new.memo _ c.end.new.self None _ c.end.ensures
-    (over_as l steps script c.fits.new.memo old (writes_item s (world_in l old) (classes_in l old) (value_of n c.args.at.0) (Some (Items text (values_of n items))) c.args.at.1 what (stack_in l old) rest) looked
-    (item_over s (world_in l old) (given_world n w all) (classes_in l old) (value_of n c.args.at.0) text (values_of n items) c.args.at.1 what (value_of n given.datum) (stack_in l old) rest one.got c.in_ok-legal.legal legal c.if-legal.false))
+    (over_as l steps script c.fits.new.memo old (writes_item s (world_in l old) (classes_in l old) (value_of n c.args.at.0) (Some (Items text (values_of n items))) c.args.at.1 what (freed_in l script old) rest) looked
+    (item_over s (world_in l old) (given_world n w all) (classes_in l old) (value_of n c.args.at.0) text (values_of n items) c.args.at.1 what (value_of n given.datum) (freed_in l script old) rest one.got c.in_ok-legal.legal legal c.if-legal.false))

@@ -1,7 +1,8 @@
 use Rattle.std.specs.Prelude.{None}
 use Rattle.dalvik_defs.specs.Moves.{key_of, reads}
 use Rattle.dalvik_lookups.specs.Facing.{run_face}
-use Rattle.dalvik_state.specs.Runs.{classes_in, setting_in, stack_in, world_in}
+use Rattle.dalvik_state.specs.Runs.{classes_in, setting_in, world_in}
+use Rattle.dalvik_moves.specs.Moving.{freed_in}
 use Rattle.dalvik_moves.proofs.FieldMoves.{next_at, read_none}
 use Rattle.dalvik_moves.proofs.Moved.{over_as}
 use Rattle.dalvik_moves.proofs.touching.reads.Goals as goal
@@ -20,6 +21,6 @@ returns-in-None-clause-ok c = λ o floats script steps owes first rest class nam
     let old = c.args.state.now in
     let s = setting_in l o floats in
     let k = key_of class name kind in
-    let to = reads s (world_in l old) (classes_in l old) k ((run_face l).own_field k) g (stack_in l old) rest in
+    let to = reads s (world_in l old) (classes_in l old) k ((run_face l).own_field k) g (freed_in l script old) rest in
     next_at l steps script c.args.memo.now _ c.end.new.self None to c.end.ensures
-    (over_as l steps script c.args.memo.now old to h.run.kept (read_none s (world_in l old) (classes_in l old) k ((run_face l).own_field k) g (stack_in l old) rest (c.in-None.ensures o class name kind h.run.right h.reach f)))
+    (over_as l steps script c.args.memo.now old to h.run.kept (read_none s (world_in l old) (classes_in l old) k ((run_face l).own_field k) g (freed_in l script old) rest (c.in-None.ensures o class name kind h.run.right h.reach f)))

@@ -11,9 +11,10 @@ use Rattle.dalvik_defs.specs.declared.names.FieldKey.{FieldKey}
 use Rattle.dalvik_defs.specs.declared.state.Value.{Value}
 use Rattle.dalvik_lookups.specs.Facing.{run_face}
 use Rattle.dalvik_state.specs.Drafts.{given_world}
-use Rattle.dalvik_state.specs.Runs.{classes_in, setting_in, stack_in, world_in, IsNext}
+use Rattle.dalvik_state.specs.Runs.{classes_in, setting_in, world_in, IsNext}
 use Rattle.dalvik_state.specs.Views.{names_in, value_of}
 use Rattle.dalvik_state.specs.declared.gifts.Taken.{Taken}
+use Rattle.dalvik_moves.specs.Moving.{freed_in}
 use Rattle.dalvik_moves.proofs.FieldMoves.{got_taken, next_at, read_over, read_then}
 use Rattle.dalvik_moves.proofs.Moved.{next_as, on_err, over_as, undone_itself, undone_kept}
 use Rattle.dalvik_moves.proofs.Taken.{none_given}
@@ -47,10 +48,10 @@ returns-then-legal-clause-ok c = λ o floats script steps owes first rest k g h 
     let legal = c.in_ok-legal.ensures.is o (world_in l old) g kept.place h.run.right h.run.kept got.given got.on kept.within kept.stands
     ∙ ap (λ (y : FieldKey). on_fits (run_face l) (outer_of l.program.now o) (world_in l old) (given_world n w all) y kept.place g x) kept.named in
     let named = c.held_value-value.ensures.named o k field g all h.run.right kept are got in
-    let read = ap (λ (t : Text). shows_value (given_world n w all) (classes_in l old) t (option_map (value_of n) c.held_value-value.result) (stack_in l old) rest) kept.text
-    ∙ ap (λ (v : Option Value). shows_value (given_world n w all) (classes_in l old) k.kind v (stack_in l old) rest) named
-    ∙ read_then s (world_in l old) (given_world n w all) (classes_in l old) k kept.place g x (stack_in l old) rest kept.kept got.got c.in_ok-legal.legal legal c.if-legal.true in
-    subst (λ (p : Option Place). IfOk c.shows_value.result (λ e. IsNext l steps script c.on_fits.new.memo c.shows_value.new.state e (reads s (world_in l old) (classes_in l old) k p g (stack_in l old) rest))) (sym kept.own)
+    let read = ap (λ (t : Text). shows_value (given_world n w all) (classes_in l old) t (option_map (value_of n) c.held_value-value.result) (freed_in l script old) rest) kept.text
+    ∙ ap (λ (v : Option Value). shows_value (given_world n w all) (classes_in l old) k.kind v (freed_in l script old) rest) named
+    ∙ read_then s (world_in l old) (given_world n w all) (classes_in l old) k kept.place g x (freed_in l script old) rest kept.kept got.got c.in_ok-legal.legal legal c.if-legal.true in
+    subst (λ (p : Option Place). IfOk c.shows_value.result (λ e. IsNext l steps script c.on_fits.new.memo c.shows_value.new.state e (reads s (world_in l old) (classes_in l old) k p g (freed_in l script old) rest))) (sym kept.own)
     (IfOk-weaker c.shows_value.result _ _ (λ e event. next_as l steps script c.on_fits.new.memo c.shows_value.new.state e _ _ looked read event)
     (c.shows_value.ensures.ok o c.args.memo.now script steps owes first rest h got.given (c.held_value-value.ensures.fine o k field all h.run.right h.run.state.world kept)))
 
@@ -78,7 +79,7 @@ returns-else-legal-clause-ok c = λ o floats script steps owes first rest k g h 
     let x = option_map (λ (t : Taken). value_of n t.datum) c.in_ok-taken.taken in
     let legal = c.in_ok-legal.ensures.is o (world_in l old) g kept.place h.run.right h.run.kept got.given got.on kept.within kept.stands
     ∙ ap (λ (y : FieldKey). on_fits (run_face l) (outer_of l.program.now o) (world_in l old) (given_world n w all) y kept.place g x) kept.named in
-    subst (λ (p : Option Place). IsNext l steps script c.on_fits.new.memo c.end.new.self None (reads s (world_in l old) (classes_in l old) k p g (stack_in l old) rest)) (sym kept.own)
+    subst (λ (p : Option Place). IsNext l steps script c.on_fits.new.memo c.end.new.self None (reads s (world_in l old) (classes_in l old) k p g (freed_in l script old) rest)) (sym kept.own)
     (next_at l steps script c.on_fits.new.memo _ c.end.new.self None _ c.end.ensures
-    (over_as l steps script c.on_fits.new.memo old (reads s (world_in l old) (classes_in l old) k (Some kept.place) g (stack_in l old) rest) looked
-    (read_over s (world_in l old) (given_world n w all) (classes_in l old) k kept.place g x (stack_in l old) rest kept.kept got.got c.in_ok-legal.legal legal c.if-legal.false)))
+    (over_as l steps script c.on_fits.new.memo old (reads s (world_in l old) (classes_in l old) k (Some kept.place) g (freed_in l script old) rest) looked
+    (read_over s (world_in l old) (given_world n w all) (classes_in l old) k kept.place g x (freed_in l script old) rest kept.kept got.got c.in_ok-legal.legal legal c.if-legal.false)))

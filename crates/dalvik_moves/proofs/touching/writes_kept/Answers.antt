@@ -8,9 +8,10 @@ use Rattle.dalvik_defs.specs.Outer.{outer_of}
 use Rattle.dalvik_defs.specs.declared.names.FieldKey.{FieldKey}
 use Rattle.dalvik_lookups.specs.Facing.{run_face}
 use Rattle.dalvik_state.specs.Drafts.{given_world}
-use Rattle.dalvik_state.specs.Runs.{classes_in, setting_in, stack_in, world_in, IsNext}
+use Rattle.dalvik_state.specs.Runs.{classes_in, setting_in, world_in, IsNext}
 use Rattle.dalvik_state.specs.Views.{names_in, value_of}
 use Rattle.dalvik_state.specs.declared.gifts.Taken.{Taken}
+use Rattle.dalvik_moves.specs.Moving.{freed_in}
 use Rattle.dalvik_moves.proofs.FieldMoves.{got_taken, moving_memo, next_at, write_unfit}
 use Rattle.dalvik_moves.proofs.Moved.{on_err, over_as, undone_itself}
 use Rattle.dalvik_moves.proofs.Taken.{none_given}
@@ -66,7 +67,7 @@ returns-else-legal-clause-ok c = λ o floats script steps owes first rest k g wh
     let x = option_map (λ (t : Taken). value_of n t.datum) c.in_ok-taken.taken in
     let legal = c.in_ok-legal.ensures.is o (world_in l old) g kept.place h.run.right h.run.kept got.given got.on kept.within kept.stands
     ∙ ap (λ (y : FieldKey). on_fits (run_face l) (outer_of l.program.now o) (world_in l old) (given_world n w all) y kept.place g x) kept.named in
-    subst (λ (p : Option Place). IsNext l steps script c.on_fits.new.memo c.end.new.self None (writes s (world_in l old) (classes_in l old) k p g what (stack_in l old) rest)) (sym kept.own)
+    subst (λ (p : Option Place). IsNext l steps script c.on_fits.new.memo c.end.new.self None (writes s (world_in l old) (classes_in l old) k p g what (freed_in l script old) rest)) (sym kept.own)
     (next_at l steps script c.on_fits.new.memo _ c.end.new.self None _ c.end.ensures
-    (over_as l steps script c.on_fits.new.memo old (writes s (world_in l old) (classes_in l old) k (Some kept.place) g what (stack_in l old) rest) looked
-    (write_unfit s (world_in l old) (given_world n w all) (classes_in l old) k kept.place g x (stack_in l old) rest kept.kept got.got what c.in_ok-legal.legal legal c.if-legal.false)))
+    (over_as l steps script c.on_fits.new.memo old (writes s (world_in l old) (classes_in l old) k (Some kept.place) g what (freed_in l script old) rest) looked
+    (write_unfit s (world_in l old) (given_world n w all) (classes_in l old) k kept.place g x (freed_in l script old) rest kept.kept got.got what c.in_ok-legal.legal legal c.if-legal.false)))

@@ -3,7 +3,7 @@ use Rattle.dalvik_state.proofs.laws.top_law.Goals as goal
 
 pub returns : goal.returns
 returns c = record {
-  goes_on = λ n old new f e low h. stack_goes_on n old new f e low h;
-  goes_on_with = λ n old new f item register d e low h. stack_goes_on_with n old new f item register d e low h;
-  handles = λ n old new f at d e h. stack_handles n old new f at d e h;
+  goes_on = λ n script old new f e low h. stack_goes_on n script old new f e low h;
+  goes_on_with = λ n script old new f item register d e low h. stack_goes_on_with n script old new f item register d e low h;
+  handles = λ n script old new f at d e h. stack_handles n script old new f at d e h;
 }

@@ -1,4 +1,4 @@
-use Rattle.std.proofs.Common.{Bool, List, length, subst, sym, ◌∙◌}
+use Rattle.std.proofs.Common.{Bool, List, length, refl, subst, sym, ◌∙◌}
 use Rattle.std.specs.Prelude.{IfOk, Option}
 use Rattle.dalvik_defs.specs.Naming.{method_at}
 use Rattle.dalvik_defs.specs.Outcome.{calls_out, Outcome}
@@ -10,11 +10,11 @@ use Rattle.dalvik_state.specs.declared.datum.Datum.{Datum}
 use Rattle.dalvik_steps.proofs.Called.{unfound_by, went_on}
 use Rattle.dalvik_steps.proofs.calling.calls_unfound.Goals as goal
 
-pub returns-then-is_object_constructor-clause-ok : goal.returns-then-is_object_constructor-clause-ok
-returns-then-is_object_constructor-clause-ok c = λ o floats script steps f h low fine.
+pub returns-then-does_nothing-clause-ok : goal.returns-then-does_nothing-clause-ok
+returns-then-does_nothing-clause-ok c = λ o floats script steps f h low fine.
     let l = c.args.tables.now.lookups in
-    went_on l o floats script steps f c.args.state.now c.go_on.new.self h c.go_on.ensures.stack c.go_on.ensures.rest c.args.call.now.kind (method_at l.program.now c.args.call.now.method) (values_of (names_in l) c.args.call.now.values.items)
-    (sym (c.is_object_constructor.ensures h.right) ∙ c.if-is_object_constructor.true)
+    went_on l o floats script steps f c.args.state.now (record c.args.state.now { stack = c.back_on.new.stack }) h c.back_on.ensures (record { world = refl; statuses = refl; next = refl; ended = refl }) c.args.call.now.kind (method_at l.program.now c.args.call.now.method) (values_of (names_in l) c.args.call.now.values.items)
+    (sym (c.does_nothing.ensures h.right) ∙ c.if-does_nothing.true)
 
 pub returns-clause-ok : goal.returns-clause-ok
 returns-clause-ok c = λ o floats script steps f h low fine.
@@ -27,6 +27,6 @@ returns-clause-ok c = λ o floats script steps f h low fine.
     let kind = c.args.call.now.kind in
     let done = c.calls_out.ensures.ok o floats script steps f h low (subst (AreFine n (length (spots_of old.world))) (sym c.as_slice.ensures.value) fine) in
     subst (λ (x : Outcome). IfOk c.calls_out.result (λ (e : Option Event). IsEvent l steps script c.calls_out.new.state e (comes_of l o floats script old f x)))
-    (sym (unfound_by kind key vs w (frame_of n f) _ (sym (c.is_object_constructor.ensures h.right) ∙ c.if-is_object_constructor.false)))
+    (sym (unfound_by kind key vs w (frame_of n f) _ (sym (c.does_nothing.ensures h.right) ∙ c.if-does_nothing.false)))
     (subst (λ (b : Bool). IfOk c.calls_out.result (λ (e : Option Event). IsEvent l steps script c.calls_out.new.state e (comes_of l o floats script old f (calls_out kind b key vs w)))) c.takes_no_receiver.ensures
     (subst (λ (ds : List Datum). IfOk c.calls_out.result (λ (e : Option Event). IsEvent l steps script c.calls_out.new.state e (comes_of l o floats script old f (calls_out kind c.takes_no_receiver.result key (values_of n ds) w)))) c.as_slice.ensures.value done))

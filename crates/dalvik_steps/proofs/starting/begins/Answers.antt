@@ -37,6 +37,6 @@ returns-else-next-len-clause-ok c = λ steps script r run on low are.
     let left = ap (drop next) (sym v) ∙ c.left_of-next.ensures ∙ ap (left_in old.statuses.items) v in
     let none : length above.items ≤ next = omega arith in
     let count : c.len-count.result ≡ length old.stack.items = omega arith in
-    let all = ap (stack_of (names_in l)) (take_all old.stack.items c.len-count.result count) in
-    IfOk-weaker c.turns.result _ _ (λ x h. nothing_left l r steps script old run on _ c.args.class 0 above (stack_of (names_in l) old.stack.items) (classes_with l c.args.class above.items low are) (sym left ∙ nothing_more next above.items none)
+    let all = ap (stack_of (names_in l) script) (take_all old.stack.items c.len-count.result count) in
+    IfOk-weaker c.turns.result _ _ (λ x h. nothing_left l r steps script old run on _ c.args.class 0 above (stack_of (names_in l) script old.stack.items) (classes_with l c.args.class above.items low are) (sym left ∙ nothing_more next above.items none)
     (subst (λ (ws : List NamedWaiting). IsLeft l steps script c.turns.new.state (runs (bodies_in l) (world_in l old) (classes_in l old) (class_text l.program.now c.args.class) ((run_face l).initialiser (class_text l.program.now c.args.class)) ws (script_in script old))) all h)) (c.turns.ensures.ok steps script r run on low)

@@ -24,7 +24,7 @@ returns-in-Ok-clause-ok c = λ steps script r run on low.
     let classes = e.named p (own_class l r class low) count in
     let begun = c.in-Ok.ensures.ok steps script r (running_set l steps class status.Done old set run e.world e.stack e.statuses) (e.ended ∙ on) in
     subst (IsLeft l steps script c.resumes.new.state)
-    (λ i. resumes (run_face l) (bodies_in l) (world_of (names_in l) (e.world i)) (classes i) (stack_of (names_in l) (below_top (e.stack i).items)) (drop (e.next i) script)) begun
+    (λ i. resumes (run_face l) (bodies_in l) (world_of (names_in l) (e.world i)) (classes i) (stack_of (names_in l) script (below_top (e.stack i).items)) (drop (e.next i) script)) begun
 
 pub returns-in-Err-clause-err : goal.returns-in-Err-clause-err
 returns-in-Err-clause-err c = λ steps r run on low.

@@ -25,8 +25,8 @@ returns-in-Some-default-None-clause-class c = λ steps script class above next r
     let are : AreClasses l (class ∷ above.items) = run.stack place (waiting.Initialiser class above next) there in
     let low : own < length l.program.now.classes = subst (λ (k : ℕ). k < length l.program.now.classes) (sym found.same) (are.at 0 class refl) in
     let left = subst (LeftAt above.items (left_in old.statuses.items (drop from above.items))) c.in-Some-default-None.field-0-1-is found.left in
-    IfOk-weaker c.turns.result _ _ (λ x h. nothing_left l r steps script old run on c.turns.new.state class from above (stack_of (names_in l) (take place old.stack.items)) are left
-    (subst (λ (k : ℕ). IsLeft l steps script c.turns.new.state (runs (bodies_in l) (world_in l old) (classes_in l old) (class_text l.program.now k) ((run_face l).initialiser (class_text l.program.now k)) (stack_of (names_in l) (take place old.stack.items)) (script_in script old))) found.same h)) (c.turns.ensures.ok steps script r run on low)
+    IfOk-weaker c.turns.result _ _ (λ x h. nothing_left l r steps script old run on c.turns.new.state class from above (stack_of (names_in l) script (take place old.stack.items)) are left
+    (subst (λ (k : ℕ). IsLeft l steps script c.turns.new.state (runs (bodies_in l) (world_in l old) (classes_in l old) (class_text l.program.now k) ((run_face l).initialiser (class_text l.program.now k)) (stack_of (names_in l) script (take place old.stack.items)) (script_in script old))) found.same h)) (c.turns.ensures.ok steps script r run on low)
 
 pub returns-in-Some-default-Some-clause-class : goal.returns-in-Some-default-Some-clause-class
 returns-in-Some-default-Some-clause-class c = λ steps script class above next r run on there.

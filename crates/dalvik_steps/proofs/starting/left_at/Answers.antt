@@ -26,7 +26,7 @@ returns-in-Some-Outside c =
     let look = c.in-Some-Outside.ensures.lookup in
     let items = c.args.state.now.stack.items in
     looks_none c.args.state.now.statuses.items c.args.more (slice_get items c.args.place)
-    (ap is_initialiser (looked_at items c.as_slice.result.now c.args.place c.in-Some-Outside.field-0.now (waiting.Outside c.in-Some-Outside.field-0-0) c.as_slice.ensures.value look.1 look.3.0 c.in-Some-Outside.field-0-is))
+    (ap is_initialiser (looked_at items c.as_slice.result.now c.args.place c.in-Some-Outside.field-0.now (waiting.Outside c.in-Some-Outside.field-0-0 c.in-Some-Outside.field-0-1) c.as_slice.ensures.value look.1 look.3.0 c.in-Some-Outside.field-0-is))
 
 pub returns-in-None : goal.returns-in-None
 returns-in-None c =

@@ -36,7 +36,7 @@ returns-in-Ok-clause-ok c = λ steps script run low.
     let named : texts l above.items ≡ (run_face l).first (class_text p class) = ap (texts l) first ∙ sym (first_is l run.right class low) in
     let begun = c.in-Ok.ensures.ok steps script run.right (running_set l steps class status.Running old set run.state e.world e.stack e.statuses) (e.ended ∙ run.on) low are in
     subst (IsLeft l steps script c.begins.new.state)
-    (λ i. goes_on (run_face l) (bodies_in l) (world_of (names_in l) (e.world i)) (classes i) (class_text p class) (left_of (classes i) (named i)) (stack_of (names_in l) (e.stack i).items) (drop (e.next i) script)) begun
+    (λ i. goes_on (run_face l) (bodies_in l) (world_of (names_in l) (e.world i)) (classes i) (class_text p class) (left_of (classes i) (named i)) (stack_of (names_in l) script (e.stack i).items) (drop (e.next i) script)) begun
 
 pub returns-in-Err-clause-err : goal.returns-in-Err-clause-err
 returns-in-Err-clause-err c = λ steps run low.

@@ -1,20 +1,18 @@
-use Rattle.std.proofs.Common.{◌≡◌, ◌∙◌, ◌+◌, ◌≤◌, ◌++◌, List, length, take, ap, refl, arith}
-use Rattle.std.specs.Prelude.{vec_capacity, vec_len}
+use Rattle.std.proofs.Common.{length, subst, sym}
 use Rattle.dalvik_state.specs.Worlds.{spots_of}
-use Rattle.dalvik_state.specs.declared.state.Waiting.{Waiting}
-use Rattle.dalvik_steps.specs.Turns.{turn_entries}
-use Rattle.dalvik_steps.proofs.Stacked.{turn_left}
+use Rattle.dalvik_steps.specs.Turns.{ComesTurn}
+use Rattle.dalvik_steps.specs.declared.starting.Turn.{Turn}
+use Rattle.dalvik_steps.proofs.Stacked.{no_turn_left}
 use Rattle.dalvik_steps.proofs.starting.turns.Goals as goal
 
-pub returns-clause-ok : goal.returns-clause-ok
-returns-clause-ok c = λ steps script r run on low.
+pub returns-in-Goes-clause-ok : goal.returns-in-Goes-clause-ok
+returns-in-Goes-clause-ok c = λ steps script r run on low.
     let l = c.args.tables.now.lookups in
-    let old = c.args.state.now in
-    let o = c.in_ok-frame.frame in
-    let cut = c.truncate.new.self in
-    let h = c.in_ok-reserve.ensures.ok in
-    let a = c.truncate.ensures.len in
-    let b = c.truncate.ensures.capacity in
-    let room : vec_len cut + 2 ≤ vec_capacity cut = omega (arith, h, a, b) in
-    let e : c.runs.new.stack.items ≡ take c.args.count old.stack.items ++ turn_entries c.args.class o = c.runs.ensures room ∙ ap (λ (xs : List Waiting). xs ++ turn_entries c.args.class o) (c.truncate.ensures.items ∙ ap (take c.args.count) c.reserve.ensures.items) in
-    turn_left l r steps script old run on _ c.args.count c.args.class o (record { world = refl; statuses = refl; next = refl; ended = refl }) low (c.in_ok-frame.ensures (length (spots_of old.world)) r low) e
+    let size = length (spots_of c.args.state.now.world) in
+    c.stands.ensures.ok l steps script r run on low (subst (ComesTurn l size c.args.class) c.in-Goes.is (c.in_ok-frame.ensures size r low))
+
+pub returns-in-Ends-clause-ok : goal.returns-in-Ends-clause-ok
+returns-in-Ends-clause-ok c = λ steps script r run on low.
+    let l = c.args.tables.now.lookups in
+    let size = length (spots_of c.args.state.now.world) in
+    no_turn_left l steps script c.args.state.now _ c.args.count c.args.class c.end.ensures (subst (ComesTurn l size c.args.class) c.in-Ends.is (c.in_ok-frame.ensures size r low))

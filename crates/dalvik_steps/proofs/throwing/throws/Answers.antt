@@ -39,7 +39,7 @@ returns-clause-kept c = λ steps run thrown.
     c.plan.ensures.kept steps run (nothing_given l old.world g e run.state.world) (thrown_with l old.world g c.args.thrown e thrown) low
 
 pub returns-clause-ok : goal.returns-clause-ok
-returns-clause-ok c = λ steps script few run thrown.
+returns-clause-ok c = λ steps script run thrown.
     let l = c.args.tables.now.lookups in
     let old = c.args.state.now in
     let mid = c.plan.new.state in
@@ -54,9 +54,9 @@ returns-clause-ok c = λ steps script few run thrown.
     let with = thrown_with l old.world g t e thrown in
     let way = c.in_ok-flight.ensures.flies steps run given with low in
     let none : length g.things.items ≡ 0 = ap length e in
-    let event = c.land.ensures l steps script few run.right (running_same l steps old mid run.state same) (same.ended ∙ run.on) (still_thrown l old mid t f.thrown same way.thrown thrown)
+    let event = c.land.ensures l steps script run.right (running_same l steps old mid run.state same) (same.ended ∙ run.on) (still_thrown l old mid t f.thrown same way.thrown thrown)
     (flight_begins l old mid g t c.len-top.result f e same top way) (subst (λ (k : ℕ). HasFlightRoom mid.world k f) none c.in_ok-flight.ensures.room) in
     record {
-      event = subst (IsEvent l steps script c.land.new.state c.land.result) (ap (λ (u : Thrown). thrown_by l u (world_in l mid) (classes_in l mid) (stack_in l mid) (script_in script mid)) way.thrown ∙ thrown_same l script old mid t same) event;
+      event = subst (IsEvent l steps script c.land.new.state c.land.result) (ap (λ (u : Thrown). thrown_by l u (world_in l mid) (classes_in l mid) (stack_in l script mid) (script_in script mid)) way.thrown ∙ thrown_same l script old mid t same) event;
       kept = c.plan.ensures.kept steps run given with low;
     }

@@ -14,7 +14,7 @@ returns-in-Method-clause-ok c = λ s steps from early run makes.
     let t = method_top p.state (sym c.top_of.ensures ∙ c.in-Method.is) in
     let f = t.frame in
     stepped_on s steps p from run (Method f) t.stands.on t.stands.there c.happens.new.memo c.happens.new.state c.happens.result
-    (c.happens.ensures.ok s.outside s.floats s.script steps f run.tables.short (is_run s steps p from run t.stands.on early) run.tables.floats (frame_top s steps p from run f t.stands) (next_of s steps p from run f t.stands.on t.stands.there makes))
+    (c.happens.ensures.ok s.outside s.floats s.script steps f (is_run s steps p from run t.stands.on early) run.tables.floats (frame_top s steps p from run f t.stands) (next_of s steps p from run f t.stands.on t.stands.there makes))
 
 pub returns-in-Method-clause-err : goal.returns-in-Method-clause-err
 returns-in-Method-clause-err c = λ s steps from early run makes.
@@ -29,7 +29,7 @@ returns-in-Initialiser-clause-ok c = λ s steps from early run makes.
     let p = c.args.self.now in
     let t = initialiser_top p.state (sym c.top_of.ensures ∙ c.in-Initialiser.is) in
     stepped_on s steps p from run (Initialiser t.class t.above t.next) t.stands.on t.stands.there c.initialises.new.memo c.initialises.new.state c.initialises.result
-    (c.initialises.ensures.ok steps s.script (setting_in p.tables.lookups s.outside s.floats) t.class t.above t.next run.tables.short refl (is_run s steps p from run t.stands.on early) t.stands.there)
+    (c.initialises.ensures.ok steps s.script (setting_in p.tables.lookups s.outside s.floats) t.class t.above t.next refl (is_run s steps p from run t.stands.on early) t.stands.there)
 
 pub returns-in-Initialiser-clause-err : goal.returns-in-Initialiser-clause-err
 returns-in-Initialiser-clause-err c = λ s steps from early run makes.
@@ -58,14 +58,16 @@ pub returns-in-Outside-clause-ok : goal.returns-in-Outside-clause-ok
 returns-in-Outside-clause-ok c = λ s steps from early run makes.
     let p = c.args.self.now in
     let owes = c.in-Outside.owes in
-    let t = outside_top p.state owes (sym c.top_of.ensures ∙ c.in-Outside.is) in
-    stepped_on s steps p from run (Outside owes) t.on t.there c.moves.new.memo c.moves.new.state c.moves.result
+    let pending = c.in-Outside.pending in
+    let t = outside_top p.state owes pending (sym c.top_of.ensures ∙ c.in-Outside.is) in
+    stepped_on s steps p from run (Outside owes pending) t.on t.there c.moves.new.memo c.moves.new.state c.moves.result
     (c.moves.ensures.ok s.outside s.floats s.script steps (is_run s steps p from run t.on early) run.tables.reach run.tables.plays t.there)
 
 pub returns-in-Outside-clause-err : goal.returns-in-Outside-clause-err
 returns-in-Outside-clause-err c = λ s steps from early run makes.
     let p = c.args.self.now in
     let owes = c.in-Outside.owes in
-    let t = outside_top p.state owes (sym c.top_of.ensures ∙ c.in-Outside.is) in
+    let pending = c.in-Outside.pending in
+    let t = outside_top p.state owes pending (sym c.top_of.ensures ∙ c.in-Outside.is) in
     unstepped s steps p from run c.moves.new.memo c.moves.new.state c.moves.result
     (c.moves.ensures.err s.outside s.script steps (is_run s steps p from run t.on early) run.tables.reach run.tables.plays t.there)

@@ -1,10 +1,9 @@
 -- Which methods a call may find (this project's profile).
 use Rattle.std.specs.Prelude.{ℕ, Bool, true, false, ◌&&◌, ◌||◌, not, List, [], ◌∷◌, ◌++◌, map, filter, flat_map, Option, Some, None, is_some}
-use Rattle.std.specs.List.{list_any}
 use Rattle.insn_set.specs.declared.ops.InvokeKind.{InvokeKind}
 use Rattle.insn_set.specs.declared.ops.InvokeKind.TheVariants as call
 use Rattle.dalvik_defs.specs.Names.{Text, text_eq, signature_eq, object_type}
-use Rattle.dalvik_defs.specs.Under.{defines, is_own_under}
+use Rattle.dalvik_defs.specs.Under.{is_own_under}
 use Rattle.dalvik_defs.specs.Find.{Found, Search, Nothing, Clash, Finds, is_virtual_method, first_method, chain_of, candidates, finds_at, finds_statically, finds_super, interface_named, is_037}
 use Rattle.dalvik_defs.specs.declared.names.Signature.{Signature}
 use Rattle.dalvik_defs.specs.declared.names.MethodKey.{MethodKey}
@@ -49,16 +48,3 @@ may_find p class call.Static k = found_by (finds_statically p k)
 may_find p class call.Direct k = found_by (finds_statically p k)
 may_find p class call.Super k = found_by (finds_super p class k) ++ super_candidates p k
 may_find p class kind k = flat_map (λ t. found_by (finds_at p t k) ++ candidates_of p t k.name k.signature) (receivers p k.class)
-
--- whether a call may find none, or is an interface call, or names a class that the program doesn't define: then it may
--- find a method of the framework
-abbrev pub finds_none : NamedProgram → Text → InvokeKind → MethodKey → Bool
-finds_none p class call.Static k = is_nothing (finds_statically p k)
-finds_none p class call.Direct k = is_nothing (finds_statically p k)
-finds_none p class call.Super k = is_nothing (finds_super p class k)
-finds_none p class call.Interface k = true
-finds_none p class call.Virtual k = not (defines p k.class) || list_any (λ t. is_nothing (finds_at p t k)) (receivers p k.class)
-
--- a framework method, a native one or an abstract one
-abbrev pub may_leave : NamedProgram → Text → InvokeKind → MethodKey → Bool
-may_leave p class kind k = finds_none p class kind k || list_any (λ g. not g.coded) (may_find p class kind k)

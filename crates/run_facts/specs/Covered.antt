@@ -13,7 +13,6 @@ use Rattle.dalvik_defs.specs.Shown.{fit_move}
 use Rattle.dalvik_defs.specs.State.{World, Instance, Items, kind_of, is_null}
 use Rattle.dalvik_defs.specs.Gives.{exposed_at}
 use Rattle.dalvik_defs.specs.declared.state.Value.{Value}
-use Rattle.dalvik_defs.specs.declared.state.Value.TheVariants.{Object}
 use Rattle.dalvik_defs.specs.declared.state.Frame.{Frame}
 use Rattle.dalvik_defs.specs.declared.names.MethodKey.{MethodKey}
 use Rattle.dalvik_defs.specs.declared.names.FieldKey.{FieldKey}
@@ -27,14 +26,10 @@ use Rattle.dalvik_defs.specs.Effect.{register}
 use Rattle.pass_defs.specs.Typed.{receiver_register}
 use Rattle.pass_defs.specs.Live.{IsMade, unconditional}
 use Rattle.pass_defs.specs.Facts.{Facts, Initialises, needs, IsEnteredOn}
+use Rattle.invariant_law.specs.Fine.{IsThere}
 use Rattle.invariant_law.specs.Invariant.{Above, Callee, Begun, Owing, Invariant, Grows}
 use Rattle.pass_defs.specs.Analysis.{Analysis, IsReference}
 use Rattle.pass_defs.specs.Closed.{At, MayCall, MayLeave, Results, IsNeeded}
-
--- a reference to an object that there is
-abbrev pub IsThere : World → Value → Type 0
-IsThere w (Object n) = is_some (slice_get w.heap n) ≡ true
-IsThere w v = Unit {0}
 
 module _ {V : Type 0} (a : Analysis V) (p : NamedProgram) (o : Outer) (t : Facts V) where
   abbrev pub Sees : V → World → Value → Type 0

@@ -25,13 +25,9 @@ use Rattle.pass_defs.specs.Kinds.{Kind}
 use Rattle.pass_defs.specs.Kinds as kind
 use Rattle.pass_defs.specs.Registers.{Kinds}
 use Rattle.pass_defs.specs.Typed.{Table, state_at, IsTyping}
-use Rattle.run_facts.specs.Covered.{IsThere}
+use Rattle.invariant_law.specs.Fine.{IsThere}
 use Rattle.invariant_law.specs.Invariant.{Above, Callee, Begun, Owing, Invariant, Grows}
-
--- each entry of a list
-abbrev pub Each : {A : Type 0} → (A → Type 0) → List A → Type 0
-Each P [] = Unit {0}
-Each P (x ∷ xs) = P x × Each P xs
+use Rattle.invariant_law.specs.Holds.{Each}
 
 -- a reference that isn't null, to what there is
 abbrev pub IsObject : World → Value → Type 0

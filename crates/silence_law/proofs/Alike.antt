@@ -20,6 +20,7 @@ use Rattle.dalvik_defs.specs.declared.program.NamedBody.{NamedBody}
 use Rattle.dalvik_defs.specs.declared.program.NamedMethod.{NamedMethod}
 use Rattle.dalvik_defs.specs.declared.program.NamedClass.{NamedClass}
 use Rattle.dalvik_defs.specs.declared.program.NamedProgram.{NamedProgram}
+use Rattle.silence_law.specs.Bodies.{Code}
 use Rattle.pass_defs.specs.Bare.{may_throw}
 use Rattle.pass_defs.specs.Walks.{region_at, onward}
 use Rattle.pass_defs.specs.Kinds.{Kind, Undefined, Zero, Word, Low, Null, Class, Array, Reference, Fresh, FreshThis, kind_eq, is_number, is_initialised, depth, is_plain, kind_of_reference, kind_of, nearest, joined_items, joined_deep, class_or_reference, joined_references, is_below, item_fits, array_fits, fits_array, fits}
@@ -103,12 +104,12 @@ module _ (p q : NamedProgram) (alike : Alike p q) where
 
   -- ---- a class with other methods
 
-  module _ (c : NamedClass) (ms : List NamedMethod) (m : NamedMethod) (body : Option NamedBody) where
+  module _ (c : NamedClass) (ms : List NamedMethod) (m : NamedMethod) (code : Code) where
     abbrev d : NamedClass
     d = record c { methods = ms }
 
     abbrev n : NamedMethod
-    n = record m { body = body }
+    n = record m { body = code.body; lines = code.lines }
 
     -- ---- demands
 

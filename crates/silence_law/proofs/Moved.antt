@@ -48,7 +48,7 @@ module _ (new : Change) (keeps : KeepsCode new) (p : NamedProgram) where
           let h = typed c r.0 b i r.1.0 (ap (λ x. x.body) r.1.1 ∙ e) in (
             h.0,
             subst (λ x. IsTyping (changed new p) (class_changed new c) x b h.0) r.1.1
-                (typing_moved p (changed new p) (others_alike new keeps p) c (map (method_changed new c) c.methods) r.0 (new c r.0).body b h.0 h.1),
+                (typing_moved p (changed new p) (others_alike new keeps p) c (map (method_changed new c) c.methods) r.0 (new c r.0) b h.0 h.1),
           )
 
   pub moved_typed : NewTyped → IsTyped (changed new p)

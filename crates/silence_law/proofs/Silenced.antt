@@ -53,7 +53,7 @@ module _ (p : NamedProgram) (o : Outer) (admitted : MethodKey → Bool) where
   none_body : (b : NamedBody) {A : Type 0} → None ≡ Some b → A
   none_body b e = absurd (true≢false (ap (λ o. elim o as (λ o. Bool) [ Some x ↦ false | None ↦ true ]) e))
 
-  typing_of : AllTakeInPlace p → IsTyped p → (c : NamedClass) (m : NamedMethod) (b : NamedBody) → Contains p.classes c → Contains c.methods m → silent c m ≡ Some b → (t : Table) × IsTyping p c m b t
+  typing_of : AllTakeInPlace p → IsTyped p → (c : NamedClass) (m : NamedMethod) (b : NamedBody) → Contains p.classes c → Contains c.methods m → (silent c m).body ≡ Some b → (t : Table) × IsTyping p c m b t
   typing_of places typed c m b i j e = by (admitted (key_in c m)) m.body refl e
     where
       by : (x : Bool) (y : Option NamedBody) → m.body ≡ y → silent_if x y ≡ Some b → (t : Table) × IsTyping p c m b t

@@ -1,6 +1,6 @@
 -- What rules keep of a program, by names (ProGuard manual, "Keep options"; this project's profile), and the closed table
 -- in which no condition is left.
-use Rattle.std.specs.Prelude.{ℕ, zero, suc, Bool, true, false, ◌&&◌, ◌||◌, not, if◌then◌else◌, List, [], ◌∷◌, ◌++◌, filter, length, Option, Some, None}
+use Rattle.std.specs.Prelude.{ℕ, zero, suc, Bool, true, false, ◌&&◌, ◌||◌, not, if◌then◌else◌, List, [], ◌∷◌, ◌++◌, map, filter, length, Option, Some, None}
 use Rattle.std.specs.List.{flat_map, list_any, list_all}
 use Rattle.rule_text.specs.declared.rules.ClassKind.{ClassKind}
 use Rattle.rule_text.specs.declared.rules.ClassKind.TheVariants as class
@@ -10,7 +10,7 @@ use Rattle.rule_text.specs.declared.rules.Modifier.{Modifier}
 use Rattle.rule_text.specs.declared.rules.Modifier.TheVariants as modifier
 use Rattle.rule_text.specs.declared.rules.SettingName.{SettingName}
 use Rattle.rule_text.specs.declared.rules.SettingName.TheVariants as setting
-use Rattle.dalvik_defs.specs.Names.{Text, text_eq, base_of, method_eq, field_eq}
+use Rattle.dalvik_defs.specs.Names.{Text, text_eq, base_of, method_eq, field_eq, constructor_name}
 use Rattle.dalvik_defs.specs.Flags.{has_bit}
 use Rattle.dalvik_defs.specs.Under.{class_named, defines, own_above}
 use Rattle.dalvik_defs.specs.Outer.{Outer}
@@ -178,10 +178,15 @@ table_of p es = let kept : List KeepRule = rules_of false es in let under : List
 }
 
 -- Each conditional class whose owner is live, and each conditional member of a live class, has become a kept one.
+abbrev pub kept_method : Table → (Text → Bool) → MethodKey → Bool
+kept_method t live k = t.methods k || (t.methods_if k && live k.class)
+
 abbrev pub closed : NamedProgram → Table → (Text → Bool) → Outer
 closed p t live = record {
   classes = λ u. t.classes u || some_class p (λ c. t.classes_if u c.name && live c.name);
-  methods = λ k. t.methods k || (t.methods_if k && live k.class);
+  methods = kept_method t live;
+  constructed = λ u. some_class p (λ c. text_eq c.name u && list_any (λ m. text_eq m.name constructor_name && kept_method t live (key_in c m)) c.methods);
+  keepers = λ n s. map (λ c. c.name) (filter (λ c. kept_method t live (record { class = c.name; name = n; signature = s })) p.classes);
   fields = λ k. t.fields k || (t.fields_if k && live k.class);
   silent = t.silent;
   shut = λ k. false;

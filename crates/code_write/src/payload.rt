@@ -10,6 +10,7 @@ ghost use Rattle.code_write.specs.Payloads.{number_bytes, length_low, length_hig
 use crate::bytes::{push_pad, push_units};
 use crate::insn::{far_of, place_at};
 use crate::units::{high, low};
+use byteorder::{ByteOrder, LittleEndian};
 use program_model::Insn;
 use relax::{Layout, payload_units};
 use std::alloc::AllocError;
@@ -51,7 +52,8 @@ fn push_keys(out: &mut Vec<u8>, keys: &[i32]) -> Result<(), AllocError>
 fn push_item(out: &mut Vec<u8>, width: u8, item: u64) -> Result<(), AllocError>
     ensures { OnOk result (out.new.items ≡ out.old.items ++ item_bytes width item) }
 {
-    let bytes = item.to_le_bytes();
+    let mut bytes = [0; 8];
+    LittleEndian::write_u64(&mut bytes, item);
     out.extend_from_slice(&bytes[..usize::from(width.min(8))])
 }
 

@@ -1,7 +1,7 @@
 -- What follows a front.
 use Rattle.std.proofs.Common.{◌≡◌, ◌==◌, ◌⊎◌, inl, inr, ℕ, Bool, true, false, cond, List, [], ◌∷◌, ◌++◌, Option, Some, None, option_map, MatchOption, Bor, refl, sym, ap, ◌∙◌, eq-eqb, eqb-true}
 use Rattle.std.specs.Str.Pattern.{FindsTextPrefix, StripsPrefix}
-use Rattle.command_line.specs.Reading.{after_front}
+use Rattle.command_line.specs.Parsing.{after_front}
 
 pub after_front-append : (front rest : List ℕ) → after_front front (front ++ rest) ≡ Some rest
 after_front-append [] rest = refl

@@ -1,28 +1,28 @@
 -- What words spell is what is made of them.
-use Rattle.std.proofs.Common.{◌≡◌, ℕ, List, [], ◌∷◌, Option, Some, None, option_and_then, IfSome, IfNone, refl, sym, ap, ◌∙◌}
+use Rattle.std.proofs.Common.{◌≡◌, ℕ, List, [], ◌∷◌, Option, Some, None, option_and_then, option_map, IfSome, IfNone, refl, sym, ap, ◌∙◌}
 use Rattle.command_line.specs.declared.command.CommandWords.{CommandWords}
 use Rattle.command_line.specs.declared.command.CommandWords.TheVariants.{Nothing}
-use Rattle.command_line.specs.declared.piece.Place.TheVariants as place
 use Rattle.command_line.specs.Spelling.{Spells, sorted_of, command_name}
 use Rattle.command_line.specs.Spelling as spelling
-use Rattle.command_line.specs.Reading.{command_of, command_from, said_from, verb_of}
-use Rattle.command_line.proofs.OptionLemmas.{chained}
+use Rattle.command_line.specs.Reading.{command_of, command_from, said, verb_of}
+use Rattle.command_line.proofs.OptionLemmas.{chained, mapped}
 use Rattle.command_line.proofs.SaidLemmas.{says-again, says-is}
 use Rattle.command_line.proofs.AskedLemmas.{verb_of_command, verb_of-name, verb_of-is, asks-again, command_from-is}
 
 pub spells-again : (words : List (List ℕ)) (c : CommandWords) → Spells words c → command_of words ≡ Some c
 spells-again _ _ spelling.silent = refl
 spells-again _ _ (spelling.command c rest ps says asks) =
-    ap (λ v. option_and_then (λ w. option_and_then (λ qs. command_from w (sorted_of qs)) (said_from place.Open rest)) v) (verb_of-name c)
-    ∙ ap (λ o. option_and_then (λ w. option_and_then (λ qs. command_from w (sorted_of qs)) o) (verb_of_command c)) (says-again rest ps says)
+    ap (λ v. option_and_then (λ w. option_and_then (command_from w) (option_map sorted_of (said rest))) v) (verb_of-name c)
+    ∙ ap (λ o. option_and_then (λ w. option_and_then (command_from w) (option_map sorted_of o)) (verb_of_command c)) (says-again rest ps says)
     ∙ asks-again (sorted_of ps) c asks
 
 pub spells-is : (words : List (List ℕ)) (c : CommandWords) → command_of words ≡ Some c → Spells words c
 spells-is [] c h = let is : Nothing ≡ c = cc in rw (← is) spelling.silent
 spells-is (name ∷ rest) c h =
-    let k = chained (λ v. option_and_then (λ ps. command_from v (sorted_of ps)) (said_from place.Open rest)) (verb_of name) c h in
-    let p = chained (λ ps. command_from k.0 (sorted_of ps)) (said_from place.Open rest) c k.2 in
-    let made = command_from-is k.0 (sorted_of p.0) c p.2 in
+    let k = chained (λ v. option_and_then (command_from v) (option_map sorted_of (said rest))) (verb_of name) c h in
+    let s = chained (command_from k.0) (option_map sorted_of (said rest)) c k.2 in
+    let p = mapped sorted_of (said rest) s.0 s.1 in
+    let made = command_from-is k.0 (sorted_of p.0) c (rw p.2 at s.2) in
     let name_is : name ≡ command_name c = verb_of-is name k.0 k.1 ∙ made.name in
     rw name_is (spelling.command c rest p.0 (says-is rest p.0 p.1) made.asks)
 

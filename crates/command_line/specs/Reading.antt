@@ -3,7 +3,8 @@ use Rattle.std.specs.Prelude.{◌==◌, ◌&&◌, ◌^◌, ℕ, List, [], ◌∷
 use Rattle.std.specs.List.{list_all}
 use Rattle.std.specs.Char.{digit_value}
 use Rattle.std.specs.Str.Parse.{digits_value}
-use Rattle.command_line.specs.Spelling.{plain_word, tell_of, library_of, is_at_most, sorted_of}
+use Rattle.command_line.specs.Spelling.{Valued, Spare, AtMost, Library, Piece, Plain, Advice, Inline, FromLibrary, is_at_most, sorted_of}
+use Rattle.command_line.specs.Parsing.{Raw, plain, given, flag, free, raws_from}
 use Rattle.command_line.specs.declared.command.CommandWords.{CommandWords}
 use Rattle.command_line.specs.declared.command.CommandWords.TheVariants.{Nothing, Optimise, Check, Live, Trace, Workload}
 use Rattle.command_line.specs.declared.command.OptimiseWords.{OptimiseWords}
@@ -11,13 +12,6 @@ use Rattle.command_line.specs.declared.sorted.Sorted.{Sorted}
 use Rattle.command_line.specs.declared.verb.Verb.{Verb}
 use Rattle.command_line.specs.declared.verb.Verb.TheVariants as verb
 use Rattle.command_line.specs.declared.command.Tell.TheVariants as tell
-use Rattle.command_line.specs.declared.piece.Valued.{Valued}
-use Rattle.command_line.specs.declared.piece.Valued.TheVariants as valued
-use Rattle.command_line.specs.declared.piece.Piece.{Piece}
-use Rattle.command_line.specs.declared.piece.Piece.TheVariants as piece
-use Rattle.command_line.specs.declared.piece.Place.{Place}
-use Rattle.command_line.specs.declared.piece.Place.TheVariants as place
-use Rattle.command_line.specs.declared.piece.Step.{Step}
 
 abbrev pub is_decimal : List ℕ → Bool
 is_decimal text = list_all (λ c. nat_lt (digit_value c) 10) text
@@ -26,21 +20,10 @@ is_decimal text = list_all (λ c. nat_lt (digit_value c) 10) text
 abbrev pub number_of : List ℕ → Option ℕ
 number_of text = if nat_lt 0 (length text) && (nat_le (length text) 10 && is_decimal text) then Some (digits_value 10 text) else None
 
--- what follows `front` in the word
-abbrev pub after_front : List ℕ → List ℕ → Option (List ℕ)
-after_front [] word = Some word
-after_front (x ∷ front) [] = None
-after_front (x ∷ front) (y ∷ word) = if x == y then after_front front word else None
-
 -- the word as a text that is not empty
 abbrev pub full_word : List ℕ → Option (List ℕ)
 full_word [] = None
 full_word (c ∷ cs) = Some (c ∷ cs)
-
--- the word as one that does not begin with `-` (45) either
-abbrev pub plain_text : List ℕ → Option (List ℕ)
-plain_text [] = None
-plain_text (c ∷ cs) = if c == 45 then None else Some (c ∷ cs)
 
 -- at most the greatest number of 32 bits
 abbrev pub small : ℕ → Option ℕ
@@ -48,74 +31,28 @@ small n = if nat_lt n (2 ^ 32) then Some n else None
 
 -- what an option with this value says
 abbrev pub piece_given : Valued → List ℕ → Option Piece
-piece_given valued.Spare value = option_map (λ word. piece.Tell (tell.Spare word)) (full_word value)
-piece_given valued.AtMost value = option_map (λ n. piece.Tell (tell.AtMost n)) (option_and_then small (number_of value))
-piece_given valued.Library value = option_map piece.Library (full_word value)
+piece_given Spare value = option_map (λ word. Advice (tell.Spare word)) (full_word value)
+piece_given AtMost value = option_map (λ n. Advice (tell.AtMost n)) (option_and_then small (number_of value))
+piece_given Library value = option_map FromLibrary (full_word value)
 
-abbrev pub says : Place → Piece → Step
-says next p = record { place = next; said = Some p }
+-- the numbers of 32 bits that the texts write
+abbrev pub numbers_of : List (List ℕ) → Option (List ℕ)
+numbers_of [] = Some []
+numbers_of (text ∷ rest) = option_and_then (λ n. option_map (λ ns. n ∷ ns) (numbers_of rest)) (option_and_then small (number_of text))
 
-abbrev pub waits : Place → Step
-waits next = record { place = next; said = None }
+-- what a raw says
+abbrev pub piece_of : Raw → Option Piece
+piece_of (plain word) = option_map Plain (full_word word)
+piece_of (given n v) = piece_given n v
+piece_of flag = Some Inline
 
--- behind an option's name: nothing, or `=` (61) and the value
-abbrev pub value_step : Valued → List ℕ → Option Step
-value_step name [] = Some (waits (place.Wants name))
-value_step name (c ∷ value) = if c == 61 then option_map (says place.Open) (piece_given name value) else None
+abbrev pub pieces_of : List Raw → Option (List Piece)
+pieces_of [] = Some []
+pieces_of (r ∷ rs) = option_and_then (λ p. option_map (λ ps. p ∷ ps) (pieces_of rs)) (piece_of r)
 
-abbrev pub or_else : Option (List ℕ) → (List ℕ → Option Step) → Option Step → Option Step
-or_else None next other = other
-or_else (Some rest) next other = next rest
-
--- a word that begins with an option's name
-abbrev pub option_step : List ℕ → Option Step
-option_step word = or_else (after_front (codes "--spare") word) (value_step valued.Spare)
-    (or_else (after_front (codes "--at-most") word) (value_step valued.AtMost)
-    (or_else (after_front (codes "--library") word) (value_step valued.Library) None))
-
--- a word that begins with `-`
-abbrev pub dash_step : List ℕ → Option Step
-dash_step word = if bytes_eq word (codes "--") then Some (waits place.Closed)
-    else (if bytes_eq word (codes "--inline") then Some (says place.Open piece.Inline) else option_step word)
-
-abbrev pub open_step : List ℕ → Option Step
-open_step [] = None
-open_step (c ∷ cs) = if c == 45 then dash_step (c ∷ cs) else Some (says place.Open (piece.Plain (c ∷ cs)))
-
--- what the next word says, and where the reading stands behind it
-abbrev pub step_of : Place → List ℕ → Option Step
-step_of place.Open word = open_step word
-step_of (place.Wants name) word = option_map (says place.Open) (option_and_then (piece_given name) (plain_text word))
-step_of place.Closed word = option_map (λ text. says place.Closed (piece.Plain text)) (full_word word)
-
--- the pieces where the words end
-abbrev pub at_end : Place → Option (List Piece)
-at_end place.Open = Some []
-at_end (place.Wants name) = None
-at_end place.Closed = Some []
-
--- these pieces and those behind them
-abbrev pub behind : List Piece → Option (List Piece) → Option (List Piece)
-behind front = option_map (λ more. front ++ more)
-
--- behind a word that may stand here, what `next` says at its place
-abbrev pub goes_on : Option Step → (Place → Option (List Piece)) → Option (List Piece)
-goes_on None next = None
-goes_on (Some s) next = behind (option_to_list s.said) (next s.place)
-
--- what the words say from here on
-abbrev pub said_from : Place → List (List ℕ) → Option (List Piece)
-said_from here [] = at_end here
-said_from here (word ∷ rest) = goes_on (step_of here word) (λ next. said_from next rest)
-
--- what was sorted, and one piece more; `inlines` is counted apart
-abbrev pub with_piece : Sorted → Piece → Sorted
-with_piece s p = record {
-  plain = s.plain ++ option_to_list (plain_word p);
-  tells = s.tells ++ option_to_list (tell_of p);
-  inlines = s.inlines;
-  libraries = s.libraries ++ option_to_list (library_of p);
-}
+-- what the words behind the command say
+abbrev pub said : List (List ℕ) → Option (List Piece)
+said words = option_and_then pieces_of (raws_from free words)
 
 -- ---- the commands
 
@@ -196,4 +133,4 @@ command_from verb.Workload s = workload_from s
 -- what the words spell
 abbrev pub command_of : List (List ℕ) → Option CommandWords
 command_of [] = Some Nothing
-command_of (name ∷ rest) = option_and_then (λ v. option_and_then (λ ps. command_from v (sorted_of ps)) (said_from place.Open rest)) (verb_of name)
+command_of (name ∷ rest) = option_and_then (λ v. option_and_then (command_from v) (option_map sorted_of (said rest))) (verb_of name)

@@ -9,10 +9,19 @@ use Rattle.command_line.specs.declared.command.OptimiseWords.{OptimiseWords}
 use Rattle.command_line.specs.declared.command.Tell.{Tell}
 use Rattle.command_line.specs.declared.command.Tell.TheVariants as tell
 use Rattle.command_line.specs.declared.sorted.Sorted.{Sorted}
-use Rattle.command_line.specs.declared.piece.Valued.{Valued}
-use Rattle.command_line.specs.declared.piece.Valued.TheVariants as valued
-use Rattle.command_line.specs.declared.piece.Piece.{Piece}
-use Rattle.command_line.specs.declared.piece.Piece.TheVariants as piece
+
+-- An option that takes a value.
+pub data Valued : Type 0 where
+  Spare : Valued
+  AtMost : Valued
+  Library : Valued
+
+-- What a plain word or an option says: a file's name or a number, `--spare PREFIX` or `--at-most N`, `--inline`, `--library FILE`.
+pub data Piece : Type 0 where
+  Plain : List ℕ → Piece
+  Advice : Tell → Piece
+  Inline : Piece
+  FromLibrary : List ℕ → Piece
 
 -- the word is not empty
 abbrev pub IsFull : List ℕ → Type 0
@@ -31,26 +40,26 @@ pub record IsNumber (text : List ℕ) (n : ℕ) : Type 0 where
 
 -- the name of an option that takes a value
 abbrev pub option_name : Valued → List ℕ
-option_name valued.Spare = codes "--spare"
-option_name valued.AtMost = codes "--at-most"
-option_name valued.Library = codes "--library"
+option_name Spare = codes "--spare"
+option_name AtMost = codes "--at-most"
+option_name Library = codes "--library"
 
 -- What the option says with this value. Where the value is in the option's own word, it may begin with `-`.
 abbrev pub Gives : Valued → List ℕ → Piece → Type 0
-Gives valued.Spare value p = IsFull value × (p ≡ piece.Tell (tell.Spare value))
-Gives valued.AtMost value p = (n : ℕ) × IsNumber value n × (n < 2 ^ 32) × (p ≡ piece.Tell (tell.AtMost n))
-Gives valued.Library value p = IsFull value × (p ≡ piece.Library value)
+Gives Spare value p = IsFull value × (p ≡ Advice (tell.Spare value))
+Gives AtMost value p = (n : ℕ) × IsNumber value n × (n < 2 ^ 32) × (p ≡ Advice (tell.AtMost n))
+Gives Library value p = IsFull value × (p ≡ FromLibrary value)
 
 -- The words behind the command say these pieces, in this order. Nothing else says anything: not `--inline=x`, not `-x`, not
 -- an empty word.
 pub data Says : List (List ℕ) → List Piece → Type 0 where
   nothing : Says [] []
   -- `--` ends the options: every later word is a plain one
-  closed : (rest : List (List ℕ)) → All IsFull rest → Says (codes "--" ∷ rest) (map piece.Plain rest)
+  closed : (rest : List (List ℕ)) → All IsFull rest → Says (codes "--" ∷ rest) (map Plain rest)
   plain : (word : List ℕ) (rest : List (List ℕ)) (more : List Piece) → IsPlain word → Says rest more
-      → Says (word ∷ rest) (piece.Plain word ∷ more)
+      → Says (word ∷ rest) (Plain word ∷ more)
   inline : (rest : List (List ℕ)) (more : List Piece) → Says rest more
-      → Says (codes "--inline" ∷ rest) (piece.Inline ∷ more)
+      → Says (codes "--inline" ∷ rest) (Inline ∷ more)
   -- `--name=value`; 61 is `=`
   joined : (name : Valued) (value : List ℕ) (p : Piece) (rest : List (List ℕ)) (more : List Piece) → Gives name value p
       → Says rest more → Says ((option_name name ++ 61 ∷ value) ∷ rest) (p ∷ more)
@@ -61,19 +70,19 @@ pub data Says : List (List ℕ) → List Piece → Type 0 where
 -- ---- what the pieces say together
 
 abbrev pub plain_word : Piece → Option (List ℕ)
-plain_word (piece.Plain word) = Some word
+plain_word (Plain word) = Some word
 plain_word _ = None
 
 abbrev pub tell_of : Piece → Option Tell
-tell_of (piece.Tell t) = Some t
+tell_of (Advice t) = Some t
 tell_of _ = None
 
 abbrev pub library_of : Piece → Option (List ℕ)
-library_of (piece.Library name) = Some name
+library_of (FromLibrary name) = Some name
 library_of _ = None
 
 abbrev pub is_inline : Piece → Bool
-is_inline piece.Inline = true
+is_inline Inline = true
 is_inline _ = false
 
 abbrev pub is_at_most : Tell → Bool

@@ -6,8 +6,8 @@ ghost use Rattle.command_line.specs.Reading.{command_of};
 ghost use Rattle.command_line.specs.declared.command.CommandWords.{CommandWords};
 
 use crate::asked::command_from;
-use crate::pieces::read_pieces;
-use crate::sorted::sort_pieces;
+use crate::parse::parse;
+use crate::told::sorted_from;
 use crate::verb::verb_of;
 use crate::word::Word;
 use seq::Seq;
@@ -74,10 +74,13 @@ fn command_of(alloc: Global, words: &[String]) -> Result<Option<CommandWords>, A
     let Some(verb) = verb_of(name.as_str()) else {
         return Ok(None);
     };
-    let Some(pieces) = read_pieces(alloc, rest)? else {
+    let Some(matches) = parse(alloc, name.as_str(), rest, words)? else {
         return Ok(None);
     };
-    Ok(command_from(verb, sort_pieces(alloc, pieces)?))
+    match sorted_from(alloc, rest, &matches)? {
+        None => Ok(None),
+        Some(sorted) => Ok(command_from(verb, sorted)),
+    }
 }
 
 /// The command that the words spell, or nothing where they spell none. The only error is want of memory.

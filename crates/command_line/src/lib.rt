@@ -8,10 +8,9 @@
 mod asked;
 mod command;
 mod number;
-mod piece;
-mod pieces;
+mod parse;
 mod sorted;
-mod step;
+mod told;
 mod verb;
 mod word;
 

@@ -1,18 +1,15 @@
-//! The pieces by what they are.
+//! What the words behind a command say, by what it is.
 
-ghost use Rattle.std.specs.Prelude.{◌≡◌, [], ◌∷◌, IfOk, OnOk, MatchOption, count_by};
+ghost use Rattle.std.specs.Prelude.{◌≡◌, [], ◌∷◌, MatchOption};
 ghost use Rattle.std.specs.Vec.Iter.{into_iter_items};
-ghost use Rattle.command_line.specs.Spelling.{is_inline, sorted_of};
-ghost use Rattle.command_line.specs.Reading.{with_piece, one_word, two_words, three_words, four_words, one_at_most};
+ghost use Rattle.command_line.specs.Reading.{one_word, two_words, three_words, four_words, one_at_most};
 
 use crate::command::Tell;
-use crate::piece::Piece;
 use crate::word::Word;
 use seq::Seq;
-use std::alloc::{AllocError, Global};
 use std::vec::IntoIter;
 
-/// What the pieces say together.
+/// What the words say together.
 #[derive(Drop)]
 pub struct Sorted {
     pub plain: Seq<Word>,
@@ -20,44 +17,6 @@ pub struct Sorted {
     /// How often `--inline` stands.
     pub inlines: usize,
     pub libraries: Seq<Word>,
-}
-
-fn count_inlines(pieces: &[Piece]) -> usize
-    ensures { result ≡ count_by is_inline pieces.now }
-{
-    pieces
-        .iter()
-        .filter(|piece| matches!(piece, Piece::Inline))
-        .count()
-}
-
-fn add_piece(sorted: &mut Sorted, piece: Piece) -> Result<(), AllocError>
-    ensures { OnOk result (sorted.new ≡ with_piece sorted.old piece) }
-{
-    match piece {
-        Piece::Plain(word) => sorted.plain.items.push(word)?,
-        Piece::Tell(tell) => sorted.tells.items.push(tell)?,
-        Piece::Inline => {}
-        Piece::Library(name) => sorted.libraries.items.push(name)?,
-    }
-    Ok(())
-}
-
-/// The pieces by what they are. The only error is want of memory.
-pub fn sort_pieces(alloc: Global, pieces: Vec<Piece>) -> Result<Sorted, AllocError>
-    ensures { IfOk result (λ sorted. sorted ≡ sorted_of pieces.items) }
-{
-    let inlines = count_inlines(pieces.as_slice());
-    let mut sorted = Sorted {
-        plain: Seq::new(alloc),
-        tells: Seq::new(alloc),
-        inlines,
-        libraries: Seq::new(alloc),
-    };
-    for piece in pieces {
-        add_piece(&mut sorted, piece)?;
-    }
-    Ok(sorted)
 }
 
 fn front_word(words: &mut IntoIter<Word>) -> Option<Word>

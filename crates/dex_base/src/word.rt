@@ -5,6 +5,7 @@ ghost use Rattle.std.specs.Int.{w16, w32, to_le_bytes};
 ghost use Rattle.dex_base.specs.Word.{u16_at, u32_at};
 
 use crate::fault::BaseFault;
+use byteorder::{ByteOrder, LittleEndian};
 use std::alloc::AllocError;
 
 /// The number in the two bytes at `at`, little-endian. The only fault is `Short` at `at`, where the bytes end
@@ -17,9 +18,7 @@ pub fn read_u16(bytes: &[u8], at: usize) -> Result<u16, BaseFault>
     if at > bytes.len() || bytes.len() - at < 2 {
         return Err(BaseFault::Short { at });
     }
-    let (_, rest) = bytes.split_at(at);
-    let (two, _) = rest.split_at(2);
-    Ok(u16::from_le_bytes([two[0], two[1]]))
+    Ok(LittleEndian::read_u16(&bytes[at..at + 2]))
 }
 
 /// The number in the four bytes at `at`, little-endian. The only fault is `Short` at `at`, where the bytes end
@@ -32,9 +31,7 @@ pub fn read_u32(bytes: &[u8], at: usize) -> Result<u32, BaseFault>
     if at > bytes.len() || bytes.len() - at < 4 {
         return Err(BaseFault::Short { at });
     }
-    let (_, rest) = bytes.split_at(at);
-    let (four, _) = rest.split_at(4);
-    Ok(u32::from_le_bytes([four[0], four[1], four[2], four[3]]))
+    Ok(LittleEndian::read_u32(&bytes[at..at + 4]))
 }
 
 /// Adds the two bytes of the number at the end, little-endian. The only error is want of memory.
@@ -42,7 +39,9 @@ pub fn write_u16(out: &mut Vec<u8>, v: u16) -> Result<(), AllocError>
     ensures ok { OnOk result (out.new.items ≡ out.old.items ++ to_le_bytes w16 v) }
     ensures err { OnErr result (out.new.items ≡ out.old.items) }
 {
-    out.extend_from_slice(&v.to_le_bytes())
+    let mut two = [0; 2];
+    LittleEndian::write_u16(&mut two, v);
+    out.extend_from_slice(&two)
 }
 
 /// Adds the four bytes of the number at the end, little-endian. The only error is want of memory.
@@ -50,5 +49,7 @@ pub fn write_u32(out: &mut Vec<u8>, v: u32) -> Result<(), AllocError>
     ensures ok { OnOk result (out.new.items ≡ out.old.items ++ to_le_bytes w32 v) }
     ensures err { OnErr result (out.new.items ≡ out.old.items) }
 {
-    out.extend_from_slice(&v.to_le_bytes())
+    let mut four = [0; 4];
+    LittleEndian::write_u32(&mut four, v);
+    out.extend_from_slice(&four)
 }

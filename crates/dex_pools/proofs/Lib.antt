@@ -10,3 +10,4 @@ pub mod Finding
 pub mod Fields
 pub mod TableReading
 pub mod PoolReading
+pub mod Extended

@@ -1,6 +1,7 @@
 -- Values and annotations, as they are read.
 use Rattle.std.specs.Prelude.{ℕ, zero, suc, ◌+◌, ◌-◌, ◌/◌, ◌%◌, ℤ, List, ◌++◌, length, take, drop, replicate, slice_index, Bool, false, Result, Ok, Err, Option, Some, None, nat_lt, nat_le, ◌==◌, ◌&&◌, ◌||◌, if◌then◌else◌}
-use Rattle.std.specs.Int.{Width, w8, w16, w32, w64, byte_len, cast_signed, from_le_bytes}
+use Rattle.std.specs.Int.{Width, w16, w32, w64, byte_len, from_le_bytes}
+use Rattle.byteorder.specs.Endian.{little_number, twos_complement}
 use Rattle.dex_base.specs.Reading.{◌>>=◌}
 use Rattle.program_model.specs.declared.limits.Counted.TheVariants.{Items}
 use Rattle.program_model.specs.declared.value.EncValue.{EncValue}
@@ -42,12 +43,9 @@ abbrev pub is_within : ℕ → Option ℕ → Bool
 is_within argument (Some most) = nat_le argument most
 is_within argument None = false
 
--- the number in a few bytes, the lowest first, whose last one says the sign of the bytes behind it
-abbrev pub sign_of : List ℕ → ℕ
-sign_of few = if nat_lt (slice_index few (length few - 1)) 128 then 0 else 255
-
-unfoldable pub sign_extended : Width → List ℕ → ℤ
-sign_extended w few = cast_signed w (from_le_bytes w (few ++ replicate (byte_len w - length few) (sign_of few)))
+-- the number in a few bytes, the lowest first, in two's complement
+unfoldable pub sign_extended : List ℕ → ℤ
+sign_extended few = twos_complement (length few) (little_number (length few) few)
 
 -- the number with zeros behind the bytes, and in front of them
 abbrev pub zero_extended : Width → List ℕ → ℕ
@@ -62,11 +60,11 @@ widest kind = if kind == 0 then 1 else if kind == 2 || kind == 3 then 2 else if 
 
 -- a number, a character or a float
 abbrev pub numeric : ℕ → List ℕ → EncValue
-numeric kind few = if kind == 0 then value.Byte (sign_extended w8 few)
-    else if kind == 2 then value.Short (sign_extended w16 few)
+numeric kind few = if kind == 0 then value.Byte (sign_extended few)
+    else if kind == 2 then value.Short (sign_extended few)
     else if kind == 3 then value.Char (zero_extended w16 few)
-    else if kind == 4 then value.Int (sign_extended w32 few)
-    else if kind == 6 then value.Long (sign_extended w64 few)
+    else if kind == 4 then value.Int (sign_extended few)
+    else if kind == 6 then value.Long (sign_extended few)
     else if kind == 16 then value.Float (right_extended w32 few)
     else value.Double (right_extended w64 few)
 

@@ -3,6 +3,7 @@
 ghost use Rattle.std.specs.Prelude.{◌≡◌, ◌+◌, ◌<◌, ◌≤◌, ◌^◌, ◌++◌, ◌-◌, ◌*◌, length, take, OnOk, OnErr};
 ghost use Rattle.dex_pools.specs.Written.{renumbered, tagged, unsigned_len, unsigned_few, magnitude, signed_len, signed_few, float_zeros, float_few, double_zeros, double_few};
 
+use byteorder::{ByteOrder, LittleEndian};
 use std::alloc::AllocError;
 
 /// The new number of an entry; the greatest number where the list has none.
@@ -51,7 +52,8 @@ pub fn push_unsigned(out: &mut Vec<u8>, kind: u8, number: u32) -> Result<(), All
     ensures ok { OnOk result (out.new.items ≡ out.old.items ++ tagged kind (unsigned_few number)) }
     ensures front { take (length out.old.items) out.new.items ≡ out.old.items }
 {
-    let bytes = number.to_le_bytes();
+    let mut bytes = [0; 4];
+    LittleEndian::write_u32(&mut bytes, number);
     push_tagged(out, kind, &bytes[..unsigned_len(number)])
 }
 
@@ -98,7 +100,8 @@ pub fn push_signed(out: &mut Vec<u8>, kind: u8, number: i64) -> Result<(), Alloc
     ensures ok { OnOk result (out.new.items ≡ out.old.items ++ tagged kind (signed_few number)) }
     ensures front { take (length out.old.items) out.new.items ≡ out.old.items }
 {
-    let bytes = number.to_le_bytes();
+    let mut bytes = [0; 8];
+    LittleEndian::write_i64(&mut bytes, number);
     push_tagged(out, kind, &bytes[..signed_len(magnitude(number))])
 }
 
@@ -124,7 +127,8 @@ pub fn push_float(out: &mut Vec<u8>, bits: u32) -> Result<(), AllocError>
     ensures ok { OnOk result (out.new.items ≡ out.old.items ++ tagged 16 (float_few bits)) }
     ensures front { take (length out.old.items) out.new.items ≡ out.old.items }
 {
-    let bytes = bits.to_le_bytes();
+    let mut bytes = [0; 4];
+    LittleEndian::write_u32(&mut bytes, bits);
     push_tagged(out, 0x10, &bytes[float_zeros(bits)..])
 }
 
@@ -158,6 +162,7 @@ pub fn push_double(out: &mut Vec<u8>, bits: u64) -> Result<(), AllocError>
     ensures ok { OnOk result (out.new.items ≡ out.old.items ++ tagged 17 (double_few bits)) }
     ensures front { take (length out.old.items) out.new.items ≡ out.old.items }
 {
-    let bytes = bits.to_le_bytes();
+    let mut bytes = [0; 8];
+    LittleEndian::write_u64(&mut bytes, bits);
     push_tagged(out, 0x11, &bytes[double_zeros(bits)..])
 }

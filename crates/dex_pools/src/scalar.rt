@@ -1,7 +1,7 @@
 //! Values without values in them.
 
-ghost use Rattle.std.specs.Prelude.{◌≡◌, ◌+◌, ◌<◌, ◌≤◌, ◌^◌, length, IfOk, OnOk, nat_lt, if◌then◌else◌};
-ghost use Rattle.std.specs.Int.{w8, w16, w32, w64};
+ghost use Rattle.std.specs.Prelude.{◌≡◌, ◌+◌, ◌-◌, ◌<◌, ◌≤◌, ◌^◌, ◌++◌, length, replicate, IfOk, OnOk};
+ghost use Rattle.std.specs.Int.{w16, w32, w64};
 ghost use Rattle.dex_base.specs.Reading.{Gives};
 ghost use Rattle.dex_pools.specs.Fault.{is_free};
 ghost use Rattle.dex_pools.specs.declared.scalar.TableSizes as s;
@@ -10,6 +10,7 @@ ghost use Rattle.dex_pools.specs.Value.{byte_at, few_at, number_index_at, most_a
 
 use crate::fault::PoolFault;
 use crate::word::number_of;
+use byteorder::{ByteOrder, LittleEndian};
 use program_model::EncValue;
 
 /// How many entries the tables have that a value may name.
@@ -87,78 +88,60 @@ pub fn is_within(kind: u8, argument: u8) -> bool
     }
 }
 
-/// What stands behind a number whose last byte is this.
-fn sign(last: u8) -> u8
-    ensures { result ≡ (if nat_lt last 128 then 0 else 255) }
+/// The number of a few bytes, in two's complement.
+#[tactic(auto, unfolding(crate::specs::Value::sign_extended))]
+fn signed_in(few: &[u8]) -> i64
+    requires some { 1 ≤ length few.now }
+    requires most { length few.now ≤ 8 }
+    ensures { result ≡ sign_extended few.now }
 {
-    if last < 128 { 0 } else { 255 }
+    LittleEndian::read_int(few, few.len())
 }
 
 /// The number of one byte.
-#[tactic(auto, unfolding(crate::specs::Value::sign_extended))]
 fn byte_in(few: &[u8]) -> i8
     requires { length few.now ≡ 1 }
-    ensures { result ≡ sign_extended w8 few.now }
+    ensures { result ≡ sign_extended few.now }
 {
-    i8::from_le_bytes([few[0]])
+    signed_in(few) as i8
 }
 
 /// The number of one or two bytes.
-#[tactic(auto, unfolding(crate::specs::Value::sign_extended))]
 fn short_in(few: &[u8]) -> i16
     requires some { 1 ≤ length few.now }
     requires most { length few.now ≤ 2 }
-    ensures { result ≡ sign_extended w16 few.now }
+    ensures { result ≡ sign_extended few.now }
 {
-    match few {
-        [a] => i16::from_le_bytes([*a, sign(*a)]),
-        [a, b] => i16::from_le_bytes([*a, *b]),
-        _ => 0,
-    }
+    signed_in(few) as i16
 }
 
 /// The number of one to four bytes.
-#[tactic(auto, unfolding(crate::specs::Value::sign_extended))]
 fn int_in(few: &[u8]) -> i32
     requires some { 1 ≤ length few.now }
     requires most { length few.now ≤ 4 }
-    ensures { result ≡ sign_extended w32 few.now }
+    ensures { result ≡ sign_extended few.now }
 {
-    match few {
-        [a] => i32::from_le_bytes([*a, sign(*a), sign(*a), sign(*a)]),
-        [a, b] => i32::from_le_bytes([*a, *b, sign(*b), sign(*b)]),
-        [a, b, c] => i32::from_le_bytes([*a, *b, *c, sign(*c)]),
-        [a, b, c, d] => i32::from_le_bytes([*a, *b, *c, *d]),
-        _ => 0,
-    }
+    signed_in(few) as i32
 }
 
 /// The character of one or two bytes.
+#[tactic(auto, using(crate::proofs::Extended::zero_16))]
 fn char_in(few: &[u8]) -> u16
     requires some { 1 ≤ length few.now }
     requires most { length few.now ≤ 2 }
     ensures { result ≡ zero_extended w16 few.now }
 {
-    match few {
-        [a] => u16::from_le_bytes([*a, 0]),
-        [a, b] => u16::from_le_bytes([*a, *b]),
-        _ => 0,
-    }
+    LittleEndian::read_uint(few, few.len()) as u16
 }
 
 /// The index of one to four bytes.
+#[tactic(auto, using(crate::proofs::Extended::zero_32))]
 fn index_in(few: &[u8]) -> u32
     requires some { 1 ≤ length few.now }
     requires most { length few.now ≤ 4 }
     ensures { result ≡ zero_extended w32 few.now }
 {
-    match few {
-        [a] => u32::from_le_bytes([*a, 0, 0, 0]),
-        [a, b] => u32::from_le_bytes([*a, *b, 0, 0]),
-        [a, b, c] => u32::from_le_bytes([*a, *b, *c, 0]),
-        [a, b, c, d] => u32::from_le_bytes([*a, *b, *c, *d]),
-        _ => 0,
-    }
+    LittleEndian::read_uint(few, few.len()) as u32
 }
 
 /// The bits of a float of one to four bytes, the highest ones.
@@ -168,95 +151,29 @@ fn float_in(few: &[u8]) -> u32
     requires most { length few.now ≤ 4 }
     ensures { result ≡ right_extended w32 few.now }
 {
-    match few {
-        [a] => u32::from_le_bytes([0, 0, 0, *a]),
-        [a, b] => u32::from_le_bytes([0, 0, *a, *b]),
-        [a, b, c] => u32::from_le_bytes([0, *a, *b, *c]),
-        [a, b, c, d] => u32::from_le_bytes([*a, *b, *c, *d]),
-        _ => 0,
-    }
+    let mut all = [0; 4];
+    all[4 - few.len()..].copy_from_slice(few);
+    LittleEndian::read_u32(&all)
 }
 
-/// The number of one to four bytes.
-#[tactic(auto, unfolding(crate::specs::Value::sign_extended))]
-fn short_long_in(few: &[u8]) -> i64
-    requires some { 1 ≤ length few.now }
-    requires most { length few.now ≤ 4 }
-    ensures { result ≡ sign_extended w64 few.now }
+/// A few bytes behind zeros.
+fn behind_zeros(few: &[u8]) -> [u8; 8]
+    requires { length few.now ≤ 8 }
+    ensures { result ≡ replicate (8 - length few.now) 0 ++ few.now }
 {
-    match few {
-        [a] => {
-            let s = sign(*a);
-            i64::from_le_bytes([*a, s, s, s, s, s, s, s])
-        }
-        [a, b] => {
-            let s = sign(*b);
-            i64::from_le_bytes([*a, *b, s, s, s, s, s, s])
-        }
-        [a, b, c] => {
-            let s = sign(*c);
-            i64::from_le_bytes([*a, *b, *c, s, s, s, s, s])
-        }
-        [a, b, c, d] => {
-            let s = sign(*d);
-            i64::from_le_bytes([*a, *b, *c, *d, s, s, s, s])
-        }
-        _ => 0,
-    }
-}
-
-/// The number of one to eight bytes.
-#[tactic(auto, unfolding(crate::specs::Value::sign_extended))]
-fn long_in(few: &[u8]) -> i64
-    requires some { 1 ≤ length few.now }
-    requires most { length few.now ≤ 8 }
-    ensures { result ≡ sign_extended w64 few.now }
-{
-    match few {
-        [a, b, c, d, e] => {
-            let s = sign(*e);
-            i64::from_le_bytes([*a, *b, *c, *d, *e, s, s, s])
-        }
-        [a, b, c, d, e, f] => {
-            let s = sign(*f);
-            i64::from_le_bytes([*a, *b, *c, *d, *e, *f, s, s])
-        }
-        [a, b, c, d, e, f, g] => i64::from_le_bytes([*a, *b, *c, *d, *e, *f, *g, sign(*g)]),
-        [a, b, c, d, e, f, g, h] => i64::from_le_bytes([*a, *b, *c, *d, *e, *f, *g, *h]),
-        _ => short_long_in(few),
-    }
-}
-
-/// The bits of a double of one to four bytes, the highest ones.
-#[tactic(auto, unfolding(crate::specs::Value::right_extended))]
-fn short_double_in(few: &[u8]) -> u64
-    requires some { 1 ≤ length few.now }
-    requires most { length few.now ≤ 4 }
-    ensures { result ≡ right_extended w64 few.now }
-{
-    match few {
-        [a] => u64::from_le_bytes([0, 0, 0, 0, 0, 0, 0, *a]),
-        [a, b] => u64::from_le_bytes([0, 0, 0, 0, 0, 0, *a, *b]),
-        [a, b, c] => u64::from_le_bytes([0, 0, 0, 0, 0, *a, *b, *c]),
-        [a, b, c, d] => u64::from_le_bytes([0, 0, 0, 0, *a, *b, *c, *d]),
-        _ => 0,
-    }
+    let mut all = [0; 8];
+    all[8 - few.len()..].copy_from_slice(few);
+    all
 }
 
 /// The bits of a double of one to eight bytes, the highest ones.
-#[tactic(auto, unfolding(crate::specs::Value::right_extended))]
+#[tactic(auto, using(crate::proofs::Extended::eight), unfolding(crate::specs::Value::right_extended))]
 fn double_in(few: &[u8]) -> u64
     requires some { 1 ≤ length few.now }
     requires most { length few.now ≤ 8 }
     ensures { result ≡ right_extended w64 few.now }
 {
-    match few {
-        [a, b, c, d, e] => u64::from_le_bytes([0, 0, 0, *a, *b, *c, *d, *e]),
-        [a, b, c, d, e, f] => u64::from_le_bytes([0, 0, *a, *b, *c, *d, *e, *f]),
-        [a, b, c, d, e, f, g] => u64::from_le_bytes([0, *a, *b, *c, *d, *e, *f, *g]),
-        [a, b, c, d, e, f, g, h] => u64::from_le_bytes([*a, *b, *c, *d, *e, *f, *g, *h]),
-        _ => short_double_in(few),
-    }
+    LittleEndian::read_u64(&behind_zeros(few))
 }
 
 /// How many bytes a number of this type may have.
@@ -283,7 +200,7 @@ fn numeric(kind: u8, few: &[u8]) -> EncValue
         0x02 => EncValue::Short(short_in(few)),
         0x03 => EncValue::Char(char_in(few)),
         0x04 => EncValue::Int(int_in(few)),
-        0x06 => EncValue::Long(long_in(few)),
+        0x06 => EncValue::Long(signed_in(few)),
         0x10 => EncValue::Float(float_in(few)),
         _ => EncValue::Double(double_in(few)),
     }

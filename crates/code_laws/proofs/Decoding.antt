@@ -1,15 +1,14 @@
 -- What is read of the units of a method are the instructions that stand there.
-use Rattle.std.proofs.Common.{◌≡◌, ◌≤◌, ◌⊎◌, inl, inr, ℕ, suc, ◌-◌, Bool, true, false, true≢false, cond, ltb, leb, eqb, List, [], ◌∷◌, length, Result, Ok, Err, refl, sym, ap, subst, ◌∙◌, arith}
-use Rattle.std.specs.Prelude.{◌&&◌, ◌||◌}
+use Rattle.std.proofs.Common.{◌≡◌, ◌≤◌, ◌⊎◌, inl, inr, ℕ, suc, ◌-◌, Bool, true, false, true≢false, cond, ltb, eqb, List, [], ◌∷◌, length, Result, Ok, Err, refl, sym, ap, subst, ◌∙◌}
+use Rattle.std.specs.Prelude.{◌||◌}
 use Rattle.std.specs.List.{AllByRecursion, list_all}
-use Rattle.std.proofs.lemmas.Bool.{eqb-true, leb-true, eq-eqb}
+use Rattle.std.proofs.lemmas.Bool.{eqb-true}
 use Rattle.class_defs.proofs.WellFormed.{and_left, and_right}
 use Rattle.insn_set.specs.declared.form.Insn.{Insn}
 use Rattle.code_read.specs.declared.fields.Fields.{Fields}
 use Rattle.code_read.specs.declared.sizes.Sizes.{Sizes}
 use Rattle.code_read.specs.Branches as c
 use Rattle.code_read.specs.Checks.{targets_inside}
-use Rattle.code_read.specs.Opcodes.{from_to}
 use Rattle.code_read.specs.Payloads.{has_payload, is_right, size_of, table_form}
 use Rattle.code_read.specs.Positions.{target_from, nowhere}
 use Rattle.code_read.specs.Decoded.{opcode_at, fields_at, payload_of, entries_of, entries_at, check_payloads, insn_at, checked_at, insns_from}
@@ -18,7 +17,7 @@ use Rattle.dex_defs.specs.Instructions as d
 use Rattle.code_laws.specs.Founds.{Founds}
 use Rattle.code_laws.proofs.Founding.{weaker, done, failed, when, either, next}
 use Rattle.code_laws.proofs.Sweeping.{Instructed}
-use Rattle.code_laws.proofs.Insns.{IsKind, ACall, ABranch, ATable, APlain, founds_kind, call_same, is_branch}
+use Rattle.code_laws.proofs.Insns.{IsKind, ACall, ABranch, ATable, APlain, founds_kind, is_branch}
 use Rattle.code_laws.proofs.Payloads.{is_packed, is_sparse}
 use Rattle.code_laws.proofs.Fills.{is_fill}
 
@@ -77,27 +76,6 @@ founds_read places sizes (p ∷ ps) = weaker (insns_from places sizes (starts_of
 
 -- ---- they stand there
 
-no_pair : (a b : Bool) → (a ≡ true → b ≡ true → ⊥) → (a && b) ≡ false
-no_pair true true h = absurd (h refl refl)
-no_pair true false h = refl
-no_pair false b h = refl
-
-not_same : (a b : ℕ) → eqb a b ≡ false → a ≡ b → ⊥
-not_same a b h e = true≢false (sym (eq-eqb a b e) ∙ h)
-
-between : (op : ℕ) → 43 ≤ op → op ≤ 44 → (op ≡ 43) ⊎ (op ≡ 44)
-between op low high = grind (arith, low, high)
-
-by_parts : (op : ℕ) (a b c : Bool) → a ≡ eqb op 0x26 → b ≡ eqb op 0x2b → c ≡ eqb op 0x2c → (a || (b || c)) ≡ false → d.has_payload op ≡ false
-by_parts op true b c ea eb ec h = absurd cc
-by_parts op false true c ea eb ec h = absurd cc
-by_parts op false false true ea eb ec h = absurd cc
-by_parts op false false false ea eb ec h = ap (λ (x : Bool). x || from_to op 0x2b 0x2c) (sym ea) ∙ no_pair (leb 0x2b op) (leb op 0x2c) (λ low high.
-    elim (between op (leb-true _ _ low) (leb-true _ _ high)) [ inl e ↦ not_same op 0x2b (sym eb) e | inr e ↦ not_same op 0x2c (sym ec) e ])
-
-no_payload : (op : ℕ) → has_payload op ≡ false → d.has_payload op ≡ false
-no_payload op h = by_parts op (eqb op 0x26) (eqb op 0x2b) (eqb op 0x2c) refl refl refl h
-
 either_true : (a b : Bool) {A B : Type 0} → (a || b) ≡ true → (a ≡ true → A) → (b ≡ true → B) → A ⊎ B
 either_true true b h f g = inl (f refl)
 either_true false b h f g = inr (g h)
@@ -128,10 +106,10 @@ none_of false true c ea eb ec = absurd cc
 none_of false false true ea eb ec = absurd cc
 
 by_kind : (places : Places) (p : Piece) (f : Fields) (insn : Insn) (n : ℕ) → n ≤ nowhere → d.HasFields p f → IsRight places p.start (d.opcode p) f → targets_inside n insn ≡ true → IsKind places p.start (d.opcode p) f insn → d.IsInsn places p insn
-by_kind places p f insn n few has right inside (ACall is most e) = d.Call f has is most (e ∙ call_same (d.opcode p) f)
+by_kind places p f insn n few has right inside (ACall is most e) = d.Call f has is most e
 by_kind places p f insn n few has right inside (ABranch is e) = d.Branch f has is (is_branch places p f insn n few e inside)
 by_kind places p f insn n few has right inside (ATable is e) = by_table places p f insn n few has (right is) e inside (is_table (d.opcode p) is)
-by_kind places p f insn n few has right inside (APlain a b t e) = d.Plain f has (none_of (c.is_branch (d.opcode p)) (c.is_call (d.opcode p)) (d.has_payload (d.opcode p)) b a (no_payload (d.opcode p) t)) e
+by_kind places p f insn n few has right inside (APlain a b t e) = d.Plain f has (none_of (c.is_branch (d.opcode p)) (c.is_call (d.opcode p)) (d.has_payload (d.opcode p)) b a t) e
 
 is_insn : (places : Places) (p : Piece) (insn : Insn) (n : ℕ) → n ≤ nowhere → Instructed places.units p → RightAt places p → ReadAt places p insn → targets_inside n insn ≡ true → d.IsInsn places p insn
 is_insn places p insn n few i right read inside =

@@ -1,5 +1,5 @@
 -- What is read of an instruction stands there: instructions with neither a branch nor a payload, branches and calls.
-use Rattle.std.proofs.Common.{◌≡◌, ◌≤◌, ◌<◌, ℕ, zero, suc, ◌-◌, Bool, true, false, cond, ltb, eqb, List, [], ◌∷◌, Option, Some, None, Ok, refl, sym, ap, subst, ◌∙◌, arith}
+use Rattle.std.proofs.Common.{◌≡◌, ◌≤◌, ◌<◌, ℕ, ◌-◌, Bool, true, false, cond, ltb, eqb, List, [], ◌∷◌, Option, Some, None, Ok, refl, sym, ap, subst, ◌∙◌, arith}
 use Rattle.std.specs.Prelude.{◌&&◌, not, ℤ, pos, negsuc, ◌+ℤ◌, slice_get, unwrap_or}
 use Rattle.std.specs.Ordering.{int_eq}
 use Rattle.std.specs.List.{list_all}
@@ -10,10 +10,10 @@ use Rattle.std.proofs.lemmas.Option.{slice_get-get_or}
 use Rattle.class_defs.proofs.WellFormed.{and_left}
 use Rattle.insn_set.specs.Flow.{targets_of}
 use Rattle.insn_set.specs.declared.form.Insn.{Insn}
-use Rattle.insn_set.specs.declared.form.Insn.TheVariants.{Goto, If, IfZero, FilledNewArray, Invoke}
+use Rattle.insn_set.specs.declared.form.Insn.TheVariants.{Goto, If, IfZero}
 use Rattle.insn_set.specs.declared.ops.Test.{Test}
 use Rattle.code_read.specs.declared.fields.Fields.{Fields}
-use Rattle.code_read.specs.Opcodes.{from_to, kind_at, test_at}
+use Rattle.code_read.specs.Opcodes.{from_to, test_at}
 use Rattle.code_read.specs.Branches as c
 use Rattle.code_read.specs.Checks.{targets_inside}
 use Rattle.code_read.specs.Forms.{plain}
@@ -41,18 +41,6 @@ founds_kind places start op f = either
     (λ no_branch. either
     (λ is. weaker (Ok (table_form op f.a (target_from places.starts start) (payload_of places start f))) (done _) (λ y p. ATable is p))
     (λ no_table. weaker (Ok (plain op f)) (done (plain op f)) (λ y p. APlain no_call no_branch no_table p))))
-
--- ---- calls
-
-registers_same : (register n : ℕ) → c.registers_from register n ≡ d.registers_from register n
-registers_same register zero = refl
-registers_same register (suc n) = ap (λ (rs : List ℕ). register ∷ rs) (registers_same (suc register) n)
-
-words_same : (op : ℕ) (f : Fields) → c.words_form op f ≡ d.words_form op f
-words_same op f = ap (λ (rs : List ℕ). cond (c.is_range op) rs (c.nibbles_form f)) (registers_same f.c f.a)
-
-pub call_same : (op : ℕ) (f : Fields) → c.call_form op f ≡ d.call_form op f
-call_same op f = ap (λ (ws : List ℕ). cond (from_to op 0x24 0x25) (FilledNewArray f.b ws) (cond (c.is_range op) (Invoke (kind_at (op - 0x74)) f.b ws) (Invoke (kind_at (op - 0x6e)) f.b ws))) (words_same op f)
 
 -- ---- targets
 

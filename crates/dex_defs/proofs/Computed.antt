@@ -1,17 +1,15 @@
 -- The examples: what computes is refl, and bounds are decided.
-use Rattle.std.proofs.Common.{◌≡◌, ◌≤◌, ◌<◌, ◌+◌, ℕ, List, [], ◌∷◌, length, take, drop, refl, arith}
-use Rattle.std.specs.Int.{w32, from_le_bytes}
-use Rattle.std.proofs.lemmas.Bool.{leb-true}
+use Rattle.std.proofs.Common.{◌≡◌, ◌≤◌, ◌<◌, ◌+◌, ℕ, List, [], ◌∷◌, take, drop, refl, arith}
 use Rattle.std.proofs.lemmas.List.Elements.{All-nil}
-use Rattle.std.proofs.Math.Dec.{leb}
-use Rattle.std.specs.Prelude.{true, map}
+use Rattle.std.specs.Prelude.{map}
 use Rattle.dex_base.specs.Word.{Is32}
 use Rattle.dex_base.specs.Adler.{adler_of}
 use Rattle.insn_set.specs.declared.format.Format.TheVariants.{F31t, F10x}
 use Rattle.code_read.specs.Opcodes.{format_at}
 use Rattle.code_read.specs.Forms.{plain}
-use Rattle.relax.specs.Sizes.{start, HasRoom, Below}
+use Rattle.relax.specs.Sizes.{HasRoom, Below}
 use Rattle.dex_pools.specs.Spelled.{SpellsPools, IsExtent}
+use Rattle.dex_defs.proofs.Computing.{at_most, is_32}
 use Rattle.dex_defs.specs.Header.{IsHeader}
 use Rattle.dex_defs.specs.Spells.{Spells, pools_of}
 use Rattle.dex_defs.specs.Parts.{Short, Bytes}
@@ -22,12 +20,6 @@ use Rattle.dex_defs.specs.Instructions.{AreInsns, Packed, Plain}
 use Rattle.dex_defs.specs.LaysOut.{AreSizes, IsNear, step_of, LaysOutBody}
 use Rattle.dex_defs.specs.Examples.{empty_program, unsigned_file, switch_body, switch_insns, switch_units, switch_sizes}
 
-at_most : (a b : ℕ) → leb a b ≡ true → a ≤ b
-at_most a b e = leb-true a b e
-
-is_32 : (at n : ℕ) → leb (at + 4) (length unsigned_file) ≡ true → n ≡ from_le_bytes w32 (take 4 (drop at unsigned_file)) → Is32 unsigned_file at n
-is_32 at n inside spelled = record { inside = at_most (at + 4) (length unsigned_file) inside; spelled = spelled }
-
 sum : adler_of (drop 12 unsigned_file) ≡ 0x0f2f0391
 unfolding adler_of
 sum = refl
@@ -37,11 +29,11 @@ unfolding adler_of
 header = record {
   whole = at_most 112 140 refl;
   magic = refl;
-  checksum = is_32 8 0x0f2f0391 refl refl;
-  file_size = is_32 32 140 refl refl;
-  header_size = is_32 36 112 refl refl;
-  endian_tag = is_32 40 0x12345678 refl refl;
-  link_size = is_32 44 0 refl refl;
+  checksum = is_32 unsigned_file 8 0x0f2f0391 refl refl;
+  file_size = is_32 unsigned_file 32 140 refl refl;
+  header_size = is_32 unsigned_file 36 112 refl refl;
+  endian_tag = is_32 unsigned_file 40 0x12345678 refl refl;
+  link_size = is_32 unsigned_file 44 0 refl refl;
 }
 
 none_stands : (at width : ℕ) → Is32 unsigned_file at 0 → Is32 unsigned_file (at + 4) 0 → IsExtent unsigned_file at width (record { size = 0; offset = 0 })
@@ -54,11 +46,11 @@ pools : SpellsPools unsigned_file 16777216 (pools_of empty_program)
 pools = record {
   tables = record { strings = record { size = 0; offset = 0 }; types = record { size = 0; offset = 0 }; protos = record { size = 0; offset = 0 }; fields = record { size = 0; offset = 0 }; methods = record { size = 0; offset = 0 } };
   stand = record {
-    strings = none_stands 56 4 (is_32 56 0 refl refl) (is_32 60 0 refl refl);
-    types = none_stands 64 4 (is_32 64 0 refl refl) (is_32 68 0 refl refl);
-    protos = none_stands 72 12 (is_32 72 0 refl refl) (is_32 76 0 refl refl);
-    fields = none_stands 80 8 (is_32 80 0 refl refl) (is_32 84 0 refl refl);
-    methods = none_stands 88 8 (is_32 88 0 refl refl) (is_32 92 0 refl refl);
+    strings = none_stands 56 4 (is_32 unsigned_file 56 0 refl refl) (is_32 unsigned_file 60 0 refl refl);
+    types = none_stands 64 4 (is_32 unsigned_file 64 0 refl refl) (is_32 unsigned_file 68 0 refl refl);
+    protos = none_stands 72 12 (is_32 unsigned_file 72 0 refl refl) (is_32 unsigned_file 76 0 refl refl);
+    fields = none_stands 80 8 (is_32 unsigned_file 80 0 refl refl) (is_32 unsigned_file 84 0 refl refl);
+    methods = none_stands 88 8 (is_32 unsigned_file 88 0 refl refl) (is_32 unsigned_file 92 0 refl refl);
   };
   strings = (refl, tt);
   strings_ascend = tt;
@@ -79,7 +71,7 @@ spelled = record {
   header = header;
   pools = pools;
   table = record { size = 0; offset = 0 };
-  stands = none_stands 96 32 (is_32 96 0 refl refl) (is_32 100 0 refl refl);
+  stands = none_stands 96 32 (is_32 unsigned_file 96 0 refl refl) (is_32 unsigned_file 100 0 refl refl);
   classes = (refl, tt);
 }
 

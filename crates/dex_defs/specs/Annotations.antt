@@ -1,28 +1,51 @@
 -- Annotations (Dalvik executable format, "annotations_directory_item", "annotation_set_item", "annotation_set_ref_list").
-use Rattle.std.specs.Prelude.{◌≡◌, ◌+◌, ◌*◌, ℕ, zero, suc, List, [], ◌∷◌, length, Ok, if◌then◌else◌, Bool, nat_lt, nat_eq}
+use Rattle.std.specs.Prelude.{◌≡◌, ◌+◌, ◌*◌, ◌<◌, ℕ, zero, suc, List, [], ◌∷◌, length, slice_index, if◌then◌else◌, Bool, nat_lt, nat_eq}
 use Rattle.dex_base.specs.Word.{Is32}
 use Rattle.dex_base.specs.Decides.{Each}
 use Rattle.program_model.specs.declared.value.Mark.{Mark}
 use Rattle.dex_pools.specs.declared.scalar.TableSizes.{TableSizes}
-use Rattle.dex_pools.specs.Marks.{marks_at, parameters_marks_at}
+use Rattle.dex_pools.specs.Marks.{mark_below}
 use Rattle.dex_pools.specs.Finds.{Ascends}
+use Rattle.dex_defs.specs.Values.{IsValue, IsNote}
 
--- the set at this place
+-- the annotation at this place: its visibility, its type and its elements, in which values nest 64 deep at most
+pub record IsMark (bytes : List ℕ) (sizes : TableSizes) (at : ℕ) (mark : Mark) : Type 0 where
+  pub inside : at < length bytes
+  pub visibility : mark.visibility ≡ slice_index bytes at
+  pub stop : ℕ
+  pub note : IsNote bytes sizes (IsValue bytes sizes 64) (at + 1) (mark.note, stop)
+
+-- the offset of this number of the set or the list at this place
+abbrev pub IsOffset : List ℕ → ℕ → ℕ → ℕ → Type 0
+IsOffset bytes at i offset = Is32 bytes (at + 4 + 4 * i) offset
+
+-- the annotation that the offset of this number names
+pub record IsMarkOf (bytes : List ℕ) (sizes : TableSizes) (at i : ℕ) (mark : Mark) : Type 0 where
+  pub offset : ℕ
+  pub is : IsOffset bytes at i offset
+  pub is_mark : IsMark bytes sizes offset mark
+
+-- the set at this place: its annotations in the order of their types
 pub record AreMarks (bytes : List ℕ) (sizes : TableSizes) (at : ℕ) (marks : List Mark) : Type 0 where
-  pub left : ℕ
-  pub spare : ℕ
-  pub are : marks_at bytes sizes at left ≡ Ok (marks, spare)
-
--- the sets of the parameters, by the list at this place
-pub record AreParameterMarks (bytes : List ℕ) (sizes : TableSizes) (at : ℕ) (marks : List (List Mark)) : Type 0 where
-  pub left : ℕ
-  pub spare : ℕ
-  pub are : parameters_marks_at bytes sizes at left ≡ Ok (marks, spare)
+  pub count : Is32 bytes at (length marks)
+  pub are : Each (IsMarkOf bytes sizes at) 0 marks
+  pub ascend : Ascends mark_below marks
 
 -- the offset 0 stands for none
 abbrev pub AreMarksOf : List ℕ → TableSizes → ℕ → List Mark → Type 0
 AreMarksOf bytes sizes zero marks = marks ≡ []
 AreMarksOf bytes sizes (suc k) marks = AreMarks bytes sizes (suc k) marks
+
+-- the set of the parameter of this number
+pub record IsSetOf (bytes : List ℕ) (sizes : TableSizes) (at i : ℕ) (marks : List Mark) : Type 0 where
+  pub offset : ℕ
+  pub is : IsOffset bytes at i offset
+  pub are : AreMarksOf bytes sizes offset marks
+
+-- the sets of the parameters, by the list at this place
+pub record AreParameterMarks (bytes : List ℕ) (sizes : TableSizes) (at : ℕ) (marks : List (List Mark)) : Type 0 where
+  pub count : Is32 bytes at (length marks)
+  pub are : Each (IsSetOf bytes sizes at) 0 marks
 
 abbrev pub AreParameterMarksOf : List ℕ → TableSizes → ℕ → List (List Mark) → Type 0
 AreParameterMarksOf bytes sizes zero marks = marks ≡ []

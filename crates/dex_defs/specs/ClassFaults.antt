@@ -6,7 +6,7 @@ use Rattle.program_model.specs.Texts.{first_unit, is_wide}
 use Rattle.program_model.specs.declared.program.Program.{Program}
 use Rattle.code_read.specs.declared.fault.CodeFault.{CodeFault}
 use Rattle.code_read.specs.declared.sizes.Sizes.{Sizes}
-use Rattle.dex_defs.specs.Parts.{Fault, Index, Code, Member, Root, FrameSize, Cycle, Twice, SplitOverride, Part, IsBad}
+use Rattle.dex_defs.specs.Parts.{Fault, Index, Code, Member, Root, FrameSize, Cycle, Twice, SplitOverride, IllTyped, Part, IsBad}
 use Rattle.dex_defs.specs.Places.{IsEntryAt, HasDef, Leads, EntryStands, HasEntry, HasFrame, PairStands}
 use Rattle.dex_defs.specs.Placed.{HasSize, IsPlaced}
 use Rattle.dex_defs.specs.Faults.{InHeader, InPools, OutOfOrder, InValues, HasText, HasTypeText, HasLetter, HasProto, IsPairOf}
@@ -123,3 +123,9 @@ pub data HasFault (bytes : List ℕ) (f : Fault) : Type 0 where
   BadRoot : InRoots bytes f → HasFault bytes f
   BadCode : InCode bytes f → HasFault bytes f
   BadGraph : (p : Program) → Spells bytes p → InGraph p f → HasFault bytes f
+
+-- These and the ill typed methods, by a definition of typing that stands above this crate: of which programs, methods, positions and
+-- registers that flow breaks.
+pub data HasFaultBy (Breaks : Program → ℕ → ℕ → ℕ → Type 0) (bytes : List ℕ) (f : Fault) : Type 0 where
+  OfFile : HasFault bytes f → HasFaultBy Breaks bytes f
+  OfTypes : (p : Program) (method position register : ℕ) → Spells bytes p → Breaks p method position register → f ≡ IllTyped method position register → HasFaultBy Breaks bytes f

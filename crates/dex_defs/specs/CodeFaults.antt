@@ -1,9 +1,8 @@
 -- What is wrong with the code of a method (Dalvik bytecode, and Dalvik executable format, "code_item"). Units, instructions and
 -- try items are judged one by one; a fault stands whatever else is wrong.
-use Rattle.std.specs.Prelude.{◌≡◌, ◌+◌, ◌*◌, ◌<◌, ◌≤◌, ◌%◌, ℕ, suc, pos, List, [], ◌∷◌, ◌++◌, length, drop, take, replicate, slice_index, slice_get, Bool, true, false, not, ◌||◌, ◌==◌, Some, None}
+use Rattle.std.specs.Prelude.{◌≡◌, ◌+◌, ◌*◌, ◌<◌, ◌≤◌, ◌%◌, ℕ, suc, pos, List, [], ◌∷◌, ◌++◌, length, drop, take, slice_index, slice_get, Bool, true, false, not, ◌||◌, ◌==◌, Some, None}
 use Rattle.std.specs.List.{list_any}
 use Rattle.insn_set.specs.Spelling.{is_width, keys_ascend}
-use Rattle.insn_set.specs.declared.form.Insn.{Insn}
 use Rattle.code_read.specs.declared.fault.CodeFault.{CodeFault}
 use Rattle.code_read.specs.declared.fault.CodeFault.TheVariants as code
 use Rattle.code_read.specs.declared.fields.Fields.{Fields}
@@ -12,13 +11,10 @@ use Rattle.code_read.specs.Checks.{operands_inside}
 use Rattle.code_read.specs.Forms.{plain}
 use Rattle.code_read.specs.Opcodes.{format_at, from_to}
 use Rattle.code_read.specs.Branches.{offset_form, branch_form}
-use Rattle.code_read.specs.Marks.{set_targets, set_regions}
-use Rattle.code_read.specs.Order.{stands}
-use Rattle.program_model.specs.declared.body.Region.{Region}
 use Rattle.dex_base.specs.Decides.{Entries}
 use Rattle.dex_defs.specs.Sweep.{Piece, Places, PiecesTo, IsSwept, piece_size, payload_kind, instructions, places_of}
-use Rattle.dex_defs.specs.Instructions.{HasFields, opcode, is_branch, is_call, has_payload, most_words, call_form, GoesTo, IsPayloadOf, signed_at, AreInsns}
-use Rattle.dex_defs.specs.Handlers.{Try, Catches, IsTry, covers, covering, AreCatchesAt, AreRegions}
+use Rattle.dex_defs.specs.Instructions.{HasFields, opcode, is_branch, is_call, has_payload, most_words, call_form, GoesTo, IsPayloadOf, signed_at}
+use Rattle.dex_defs.specs.Handlers.{Try, Catches, IsTry, covers, covering, AreCatchesAt}
 use Rattle.dex_defs.specs.CodeItems.{Frame, IsFrame, AreUnits, tries_at, lists_at}
 
 -- a code item whose units are there
@@ -88,8 +84,6 @@ pub data BadInsn (sizes : Sizes) (units : List ℕ) (pieces : List Piece) (fault
   Target : (k : ℕ) (p : Piece) (f : Fields) → HasInsn pieces k p f → BadTarget (places_of units pieces) p f → fault ≡ code.Target p.start → BadInsn sizes units pieces fault
   FallsOff : (k : ℕ) (p : Piece) (f : Fields) → HasInsn pieces k p f → continues (opcode p) ≡ true → NoPosition (places_of units pieces) (p.start + length p.text) → fault ≡ code.FallsOff p.start → BadInsn sizes units pieces fault
   Empty : instructions pieces ≡ [] → fault ≡ code.FallsOff 0 → BadInsn sizes units pieces fault
-  Misplaced : (insns : List Insn) (k : ℕ) (p : Piece) (insn : Insn) → AreInsns (places_of units pieces) (instructions pieces) insns → slice_get (instructions pieces) k ≡ Some p → slice_get insns k ≡ Some insn
-      → stands insns (set_targets (replicate (length insns) false) insns) [] false (k, insn) ≡ false → fault ≡ code.Misplaced p.start → BadInsn sizes units pieces fault
 
 -- ---- faults of regions
 
@@ -116,25 +110,49 @@ pub data BadTry (bytes : List ℕ) (at types : ℕ) (f : Frame) (places : Places
   Missing : (tries : List Try) (place : ℕ) (t : Try) → HasTries bytes at f tries → slice_get tries place ≡ Some t → covers places t ≡ true → ((c : Catches) → AreCatchesAt bytes (lists_at at f) t.offset c → ⊥) → fault ≡ code.Handler place → BadTry bytes at types f places fault
   Catch : (tries : List Try) (place : ℕ) (t : Try) (c : Catches) → HasTries bytes at f tries → slice_get tries place ≡ Some t → covers places t ≡ true → AreCatchesAt bytes (lists_at at f) t.offset c → BadCatches places types c → fault ≡ code.Handler place → BadTry bytes at types f places fault
 
--- a move-result or a move-exception stands wrong by where handlers begin
-pub record IsHandledWrong (bytes : List ℕ) (at types : ℕ) (f : Frame) (units : List ℕ) (pieces : List Piece) (fault : CodeFault) : Type 0 where
-  pub insns : List Insn
-  pub are : AreInsns (places_of units pieces) (instructions pieces) insns
+-- ---- moves of results and of caught objects
+
+-- a branch or a switch of the code goes to this position
+pub data IsGoneTo (units : List ℕ) (pieces : List Piece) (position : ℕ) : Type 0 where
+  ByBranch : (k : ℕ) (p : Piece) (f : Fields) → HasInsn pieces k p f → is_branch (opcode p) ≡ true → GoesTo (places_of units pieces) p.start (offset_form (opcode p) f) position → IsGoneTo units pieces position
+  BySwitch : (k unit i : ℕ) (p : Piece) (f : Fields) → HasInsn pieces k p f → from_to (opcode p) 0x2b 0x2c ≡ true → IsPayloadOf (places_of units pieces) p.start f (kind_for (opcode p)) unit → i < slice_index units (unit + 1)
+      → GoesTo (places_of units pieces) p.start (signed_at units (offsets_at (places_of units pieces) p unit + 2 * i)) position → IsGoneTo units pieces position
+
+-- the handler list of a region that the body keeps
+pub record HasCatches (bytes : List ℕ) (at : ℕ) (f : Frame) (places : Places) (catches : Catches) : Type 0 where
   pub tries : List Try
   pub has : HasTries bytes at f tries
-  pub regions : List Region
-  pub are_regions : AreRegions bytes (places_of units pieces) (lists_at at f) types (covering (places_of units pieces) tries) regions
-  pub k : ℕ
-  pub insn : Insn
-  pub p : Piece
-  pub is_insn : slice_get insns k ≡ Some insn
-  pub is_piece : slice_get (instructions pieces) k ≡ Some p
-  pub wrong : stands insns (set_targets (replicate (length insns) false) insns) (set_regions (replicate (length insns) false) regions) true (k, insn) ≡ false
-  pub is : fault ≡ code.Misplaced p.start
+  pub place : ℕ
+  pub t : Try
+  pub is : slice_get tries place ≡ Some t
+  pub covers : covers places t ≡ true
+  pub are : AreCatchesAt bytes (lists_at at f) t.offset catches
+
+-- a handler of a kept region begins at this unit
+pub data IsHandlerAt (bytes : List ℕ) (at : ℕ) (f : Frame) (places : Places) (unit : ℕ) : Type 0 where
+  OfType : (c : Catches) (i kind : ℕ) → HasCatches bytes at f places c → slice_get c.pairs i ≡ Some (kind, unit) → IsHandlerAt bytes at f places unit
+  OfAll : (c : Catches) → HasCatches bytes at f places c → c.rest ≡ Some unit → IsHandlerAt bytes at f places unit
+
+abbrev pub moves_result : ℕ → Bool
+moves_result op = from_to op 0x0a 0x0c
+
+abbrev pub moves_caught : ℕ → Bool
+moves_caught op = op == 0x0d
+
+-- A move-result stands directly behind a call or a filled-new-array, and neither a branch nor a handler goes to it. A move-exception is
+-- where a handler begins, no branch goes to it, and nothing continues into it. Here one of these is not so.
+pub data BadMove (bytes : List ℕ) (at : ℕ) (f : Frame) (units : List ℕ) (pieces : List Piece) (k : ℕ) (p : Piece) : Type 0 where
+  GoneTo : (moves_result (opcode p) || moves_caught (opcode p)) ≡ true → IsGoneTo units pieces k → BadMove bytes at f units pieces k p
+  First : moves_result (opcode p) ≡ true → k ≡ 0 → BadMove bytes at f units pieces k p
+  BehindNone : (before : ℕ) (q : Piece) → moves_result (opcode p) ≡ true → k ≡ suc before → slice_get (instructions pieces) before ≡ Some q → is_call (opcode q) ≡ false → BadMove bytes at f units pieces k p
+  Handled : moves_result (opcode p) ≡ true → IsHandlerAt bytes at f (places_of units pieces) p.start → BadMove bytes at f units pieces k p
+  Continued : (before : ℕ) (q : Piece) → moves_caught (opcode p) ≡ true → k ≡ suc before → slice_get (instructions pieces) before ≡ Some q → continues (opcode q) ≡ true → BadMove bytes at f units pieces k p
+  Unhandled : moves_caught (opcode p) ≡ true → (IsHandlerAt bytes at f (places_of units pieces) p.start → ⊥) → BadMove bytes at f units pieces k p
 
 -- ---- all of them: the code item at this place, with the sizes of the tables
 pub data BadCode (bytes : List ℕ) (sizes : Sizes) (at : ℕ) (fault : CodeFault) : Type 0 where
   InSweep : (f : Frame) (units : List ℕ) → HasUnits bytes at f units → BadSweep units fault → BadCode bytes sizes at fault
   AtInsn : (f : Frame) (units : List ℕ) (pieces : List Piece) → HasUnits bytes at f units → IsSwept units pieces → BadInsn sizes units pieces fault → BadCode bytes sizes at fault
   InTries : (f : Frame) (units : List ℕ) (pieces : List Piece) → HasUnits bytes at f units → IsSwept units pieces → BadTry bytes at sizes.types f (places_of units pieces) fault → BadCode bytes sizes at fault
-  InHandlers : (f : Frame) (units : List ℕ) (pieces : List Piece) → HasUnits bytes at f units → IsSwept units pieces → IsHandledWrong bytes at sizes.types f units pieces fault → BadCode bytes sizes at fault
+  AtMove : (f : Frame) (units : List ℕ) (pieces : List Piece) (k : ℕ) (p : Piece) → HasUnits bytes at f units → IsSwept units pieces → slice_get (instructions pieces) k ≡ Some p → BadMove bytes at f units pieces k p
+      → fault ≡ code.Misplaced p.start → BadCode bytes sizes at fault

@@ -1,6 +1,6 @@
 -- Which faults stand in the bytes of a file. A part or an item is judged where it is placed, whatever else is wrong; several faults
 -- may stand in one file.
-use Rattle.std.specs.Prelude.{◌≡◌, ◌+◌, ◌*◌, ◌<◌, ◌≤◌, ℕ, zero, suc, List, [], ◌∷◌, length, take, drop, map, slice_get, Bool, false, ◌||◌, ◌==◌, Some, if◌then◌else◌}
+use Rattle.std.specs.Prelude.{◌≡◌, ◌+◌, ◌*◌, ◌<◌, ◌≤◌, ℕ, zero, suc, List, [], ◌∷◌, length, take, drop, map, slice_get, false, ◌==◌, Some, if◌then◌else◌}
 use Rattle.std.specs.Int.{w32, from_le_bytes}
 use Rattle.std.specs.List.{flat_map}
 use Rattle.dex_base.specs.declared.fault.BaseFault.TheVariants as base
@@ -9,7 +9,7 @@ use Rattle.dex_base.specs.Word.{Is16, Is32}
 use Rattle.dex_base.specs.Leb.{IsUlebAt}
 use Rattle.dex_base.specs.Mutf8.{IsTextAt, unit_bytes}
 use Rattle.dex_base.specs.Grammar.{BadDescriptorIn}
-use Rattle.program_model.specs.Texts.{first_unit, is_reference}
+use Rattle.program_model.specs.Texts.{first_unit}
 use Rattle.program_model.specs.declared.program.Version.{Version}
 use Rattle.dex_pools.specs.declared.fault.Table.TheVariants as table
 use Rattle.dex_pools.specs.Order.{list_below, three_below}
@@ -17,8 +17,9 @@ use Rattle.dex_pools.specs.Spelled.{AreParameters}
 use Rattle.dex_pools.specs.Value.{most_argument, is_within}
 use Rattle.dex_defs.specs.Header.{magic_of}
 use Rattle.dex_defs.specs.Parts.{Fault, Magic, Header, Checksum, BadDescriptor, Index, Order, BadValue, Deep, Shorty}
-use Rattle.dex_defs.specs.Places.{IsEntryAt, HasDef, Leads, EntryStands, HasEntry, HasDirectory, DirectoryCounts, PairStands, ListedAt, HasSet, HasArray, HasValue, HasTag, tag_at, argument_at, IsItemOf, ElementStands}
+use Rattle.dex_defs.specs.Places.{IsEntryAt, HasDef, Leads, EntryStands, HasEntry, HasDirectory, DirectoryCounts, PairStands, ListedAt, HasSet, HasArray, HasValue, IsItemOf, ElementStands}
 use Rattle.dex_defs.specs.Placed.{HasSize, HasNote}
+use Rattle.dex_defs.specs.Values.{HasTag, tag_at, argument_at, suits}
 use Rattle.dex_defs.specs.ClassDefs.{Def}
 use Rattle.dex_defs.specs.ClassData.{Entry}
 
@@ -132,19 +133,6 @@ pub data OutOfOrder (bytes : List ℕ) (f : Fault) : Type 0 where
   Elements : (note place a b x y p q : ℕ) → HasNote bytes note → ElementStands bytes note place a → ElementStands bytes note (suc place) b → IsUlebAt bytes a (x, p) → IsUlebAt bytes b (y, q) → y ≤ x → f ≡ Order table.Members (suc place) → OutOfOrder bytes f
 
 -- ---- values
-
--- a value of this type suits a field whose type has this letter
-abbrev pub suits : ℕ → ℕ → Bool
-suits letter tag = if tag == 0 then letter == 66
-    else if tag == 2 then letter == 83
-    else if tag == 3 then letter == 67
-    else if tag == 4 then letter == 73
-    else if tag == 6 then letter == 74
-    else if tag == 16 then letter == 70
-    else if tag == 17 then letter == 68
-    else if tag == 31 then letter == 90
-    else if tag == 23 || (tag == 24 || tag == 30) then is_reference letter
-    else false
 
 -- the letter of the type of the field of this number
 pub record HasFieldLetter (bytes : List ℕ) (field letter : ℕ) : Type 0 where

@@ -1,17 +1,20 @@
--- Which instruction a piece is (Dalvik bytecode, "Summary of bytecode set", "Instruction formats" and the payloads).
-use Rattle.std.specs.Prelude.{◌≡◌, ◌+◌, ◌-◌, ◌*◌, ◌/◌, ◌%◌, ◌≤◌, ℕ, zero, suc, ℤ, pos, ◌+ℤ◌, List, [], ◌∷◌, length, take, drop, slice_index, slice_get, Bool, true, false, ◌||◌, ◌==◌, Some, if◌then◌else◌}
+-- Which instruction a piece is (Dalvik bytecode, "Summary of bytecode set", "Instruction formats" and the payloads). The tables of opcodes,
+-- formats and forms are code_read's.
+use Rattle.std.specs.Prelude.{◌≡◌, ◌+◌, ◌*◌, ◌/◌, ◌%◌, ◌≤◌, ℕ, ℤ, pos, ◌+ℤ◌, List, [], ◌∷◌, length, take, drop, slice_index, slice_get, true, false, ◌||◌, ◌==◌, Some}
 use Rattle.std.specs.Int.{w32, w64, cast_signed, from_le_bytes}
 use Rattle.std.specs.List.{flat_map, list_any}
 use Rattle.dex_base.specs.Decides.{Each}
 use Rattle.insn_set.specs.Spelling.{is_width, keys_ascend}
 use Rattle.insn_set.specs.declared.format.Format.{Format}
 use Rattle.insn_set.specs.declared.form.Insn.{Insn}
-use Rattle.insn_set.specs.declared.form.Insn.TheVariants.{FilledNewArray, FillArray, PackedSwitch, SparseSwitch, Invoke}
+use Rattle.insn_set.specs.declared.form.Insn.TheVariants.{FillArray, PackedSwitch, SparseSwitch}
 use Rattle.code_read.specs.declared.fields.Fields.{Fields}
-use Rattle.code_read.specs.Opcodes.{format_at, from_to, kind_at}
+use Rattle.code_read.specs.Opcodes.{format_at}
 use Rattle.code_read.specs.Fields.{fields_in}
 use Rattle.code_read.specs.Forms.{word, plain}
-use Rattle.code_read.specs.Branches.{offset_form, branch_form, nibbles_form}
+use Rattle.code_read.specs.Branches.{offset_form, branch_form}
+pub use Rattle.code_read.specs.Branches.{is_branch, is_call, registers_from, is_range, words_form, most_words, call_form}
+pub use Rattle.code_read.specs.Payloads.{has_payload}
 use Rattle.dex_defs.specs.Sweep.{Piece, Places, first_unit}
 
 abbrev pub opcode : Piece → ℕ
@@ -22,16 +25,6 @@ pub record HasFields (p : Piece) (f : Fields) : Type 0 where
   pub format : Format
   pub row : format_at (opcode p) ≡ Some format
   pub fields : fields_in format p.text ≡ Some f
-
--- opcodes of branches, of calls and filled arrays, and of what names a payload
-abbrev pub is_branch : ℕ → Bool
-is_branch op = from_to op 0x28 0x2a || from_to op 0x32 0x3d
-
-abbrev pub is_call : ℕ → Bool
-is_call op = from_to op 0x24 0x25 || (from_to op 0x6e 0x72 || from_to op 0x74 0x78)
-
-abbrev pub has_payload : ℕ → Bool
-has_payload op = op == 0x26 || from_to op 0x2b 0x2c
 
 -- an offset in units from the instruction leads to a position
 pub record GoesTo (places : Places) (from : ℕ) (offset : ℤ) (target : ℕ) : Type 0 where
@@ -45,27 +38,6 @@ pub record IsBranch (places : Places) (p : Piece) (f : Fields) (insn : Insn) : T
   pub goes : GoesTo places p.start (offset_form (opcode p) f) target
   pub moves : offset_form (opcode p) f ≡ pos 0 → opcode p ≡ 0x2a
   pub is : insn ≡ branch_form (opcode p) f target
-
--- so many registers from this one on
-abbrev pub registers_from : ℕ → ℕ → List ℕ
-registers_from register zero = []
-registers_from register (suc n) = register ∷ registers_from (suc register) n
-
--- calls by range have opcodes of their own
-abbrev pub is_range : ℕ → Bool
-is_range op = op == 0x25 || from_to op 0x74 0x78
-
-abbrev pub words_form : ℕ → Fields → List ℕ
-words_form op f = if is_range op then registers_from f.c f.a else nibbles_form f
-
--- at most five registers by nibbles, and a range that ends among the registers
-abbrev pub most_words : ℕ → Fields → ℕ
-most_words op f = if is_range op then 65536 - f.c else 5
-
-abbrev pub call_form : ℕ → Fields → Insn
-call_form op f = if from_to op 0x24 0x25 then FilledNewArray f.b (words_form op f)
-    else if is_range op then Invoke (kind_at (op - 0x74)) f.b (words_form op f)
-    else Invoke (kind_at (op - 0x6e)) f.b (words_form op f)
 
 -- ---- payloads
 

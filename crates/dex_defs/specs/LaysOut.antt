@@ -1,5 +1,8 @@
 -- Which bodies have a layout (Dalvik executable format, "try_item", "encoded_catch_handler_list"; Dalvik bytecode, "Instruction
--- formats"). A body's layout is the least one; numbers of strings and types are the program's own, and lower ones lengthen nothing.
+-- formats"). A body's layout is the least one; numbers of strings and types are the program's own. The writer takes new numbers, which
+-- may be higher in a program whose tables aren't sorted, and a higher number may lengthen an instruction or a list: that a program can be
+-- written, LaysOut says of its written program (see Written), not of itself. In a program that was read the tables are sorted, no new number
+-- is higher, and lower ones lengthen nothing.
 use Rattle.std.specs.Prelude.{◌≡◌, ◌+◌, ◌-◌, ◌≤◌, ℕ, zero, suc, ℤ, pos, negsuc, List, [], ◌∷◌, ◌++◌, length, map, nat_lt, nat_eq, Bool, Option, Some, None, if◌then◌else◌}
 use Rattle.std.specs.List.{All, flat_map, list_any}
 use Rattle.std.specs.Cmp.Lexicographic.{pointwise}

@@ -1,3 +1,5 @@
+pub mod Here
+pub mod Arranged
 pub mod Header
 pub mod Values
 pub mod Annotations
@@ -12,7 +14,6 @@ pub mod Spells
 pub mod ClassGraph
 pub mod WellFormed
 pub mod LaysOut
-pub mod Limits
 pub mod Written
 pub mod Parts
 pub mod Places
@@ -20,6 +21,9 @@ pub mod Placed
 pub mod CodeFaults
 pub mod Faults
 pub mod ClassFaults
+pub mod Limits
 pub mod Texts
+pub mod ValueTexts
+pub mod CodeTexts
 pub mod Valid
 pub mod Examples

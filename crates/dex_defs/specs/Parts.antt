@@ -29,6 +29,7 @@ pub data Fault : Type 0 where
   Cycle : (class : ℕ) → Fault
   Twice : (class : ℕ) → Fault
   SplitOverride : (class method : ℕ) → Fault
+  IllTyped : (method position register : ℕ) → Fault
 
 pub data Part : Type 0 where
   Bytes : (at size : ℕ) → Part  -- so many bytes

@@ -4,10 +4,11 @@ use Rattle.dex_base.specs.Word.{Is32}
 use Rattle.dex_base.specs.Leb.{IsUlebAt}
 use Rattle.dex_pools.specs.declared.header.Extent.{Extent}
 use Rattle.dex_defs.specs.Parts.{Part, Bytes, Number, Units, IndexOf, HalfIndexOf, NumberIndexOf, IndexOrNone}
+use Rattle.dex_defs.specs.Values.{HasTag, tag_at, argument_at}
 use Rattle.dex_defs.specs.ClassDefs.{Def}
 use Rattle.dex_defs.specs.ClassData.{Entry}
 use Rattle.dex_defs.specs.CodeItems.{Frame, tries_at}
-use Rattle.dex_defs.specs.Places.{IsTable, IsEntryAt, HasDef, Leads, EntryStands, HasEntry, HasFrame, HasDirectory, DirectoryCounts, PairStands, HasRefs, HasSet, HasMark, HasArray, HasValue, HasTag, tag_at, argument_at, ElementStands}
+use Rattle.dex_defs.specs.Places.{IsTable, IsEntryAt, HasDef, Leads, EntryStands, HasEntry, HasFrame, HasDirectory, DirectoryCounts, PairStands, HasRefs, HasSet, HasMark, HasArray, HasValue, ElementStands}
 
 -- where the header names a table, and how wide its entries are
 pub data IsTableAt (header width : ℕ) : Type 0 where

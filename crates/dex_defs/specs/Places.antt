@@ -1,10 +1,10 @@
 -- Where the items of a file and their parts stand, by the numbers alone that place them: nothing is asked of other items.
-use Rattle.std.specs.Prelude.{◌≡◌, ◌+◌, ◌*◌, ◌<◌, ◌≤◌, ◌/◌, ◌%◌, ℕ, zero, suc, List, [], ◌∷◌, length, slice_index, true}
+use Rattle.std.specs.Prelude.{◌≡◌, ◌+◌, ◌*◌, ◌<◌, ◌≤◌, ℕ, zero, suc, List, [], ◌∷◌, length, slice_index}
 use Rattle.dex_base.specs.Word.{Is32}
 use Rattle.dex_base.specs.Leb.{IsUlebAt}
 use Rattle.dex_base.specs.Decides.{ChainOf}
 use Rattle.dex_pools.specs.declared.header.Extent.{Extent}
-use Rattle.dex_pools.specs.Value.{most_argument, is_within}
+use Rattle.dex_defs.specs.Values.{HasTag, tag_at, argument_at}
 use Rattle.dex_defs.specs.ClassDefs.{Def, IsDef}
 use Rattle.dex_defs.specs.ClassData.{Entry, IsFieldEntry, IsMethodEntry, EntriesTo}
 use Rattle.dex_defs.specs.CodeItems.{Frame, IsFrame}
@@ -163,12 +163,6 @@ pub record HasArray (bytes : List ℕ) (class at : ℕ) : Type 0 where
 
 -- ---- values: where one ends, whatever its numbers are
 
-abbrev pub tag_at : List ℕ → ℕ → ℕ
-tag_at bytes at = slice_index bytes at % 32
-
-abbrev pub argument_at : List ℕ → ℕ → ℕ
-argument_at bytes at = slice_index bytes at / 32
-
 -- so many, one behind another
 abbrev pub Repeat : (ℕ → ℕ → Type 0) → ℕ → ℕ → ℕ → Type 0
 Repeat Ends zero at stop = stop ≡ at
@@ -187,10 +181,6 @@ pub record NoteBegins (bytes : List ℕ) (at count begin : ℕ) : Type 0 where
   pub mid : ℕ
   pub is_kind : IsUlebAt bytes at (kind, mid)
   pub is_count : IsUlebAt bytes mid (count, begin)
-
--- the value has a type and a right argument
-abbrev pub HasTag : List ℕ → ℕ → Type 0
-HasTag bytes at = (at < length bytes) × (is_within (argument_at bytes at) (most_argument (tag_at bytes at)) ≡ true)
 
 pub data EndsWith (bytes : List ℕ) (Ends : ℕ → ℕ → Type 0) (at stop : ℕ) : Type 0 where
   Scalar : HasTag bytes at → tag_at bytes at < 28 → stop ≡ at + 2 + argument_at bytes at → EndsWith bytes Ends at stop

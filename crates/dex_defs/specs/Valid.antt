@@ -1,131 +1,146 @@
--- Valid files: what is written, whole and in order (Dalvik executable format). A relation; a reader asks far less.
-use Rattle.std.specs.Prelude.{◌≡◌, ◌+◌, ◌-◌, ◌*◌, ◌%◌, ◌<◌, ◌≤◌, ℕ, zero, suc, List, [], ◌∷◌, ◌++◌, length, take, drop, slice_get, Bool, true, ◌==◌, nat_le, Ok, Some, None, Contains, if◌then◌else◌}
-use Rattle.std.specs.List.{All, list_all, flat_map}
+-- Valid files: what is written, whole and in order (Dalvik executable format). A relation; a reader asks far less. Each item that the
+-- file names stands where its kind lies, in the order in which items are named, in its shortest spelling, behind zeros alone; what has
+-- no text has the offset 0, and but for type lists nothing is named twice.
+use Rattle.std.specs.Prelude.{◌≡◌, ◌+◌, ◌-◌, ◌*◌, ◌<◌, ℕ, zero, suc, List, [], ◌∷◌, ◌++◌, length, map, Some, None, take, drop, Contains}
+use Rattle.std.specs.List.{All, flat_map, concat}
 use Rattle.sha1.specs.Sha1.{sha1}
 use Rattle.dex_base.specs.Word.{Is32}
-use Rattle.line_tables.specs.Text.{item_text}
-use Rattle.program_model.specs.declared.body.Body.{Body}
-use Rattle.program_model.specs.declared.pass.Renumber.{Renumber}
+use Rattle.dex_base.specs.Decides.{Entries}
 use Rattle.program_model.specs.declared.value.EncValue.{EncValue}
 use Rattle.program_model.specs.declared.value.Mark.{Mark}
+use Rattle.program_model.specs.declared.body.Body.{Body}
+use Rattle.program_model.specs.declared.program.Field.{Field}
 use Rattle.program_model.specs.declared.program.Method.{Method}
 use Rattle.program_model.specs.declared.program.Class.{Class}
 use Rattle.program_model.specs.declared.program.Program.{Program}
 use Rattle.program_model.specs.MemberRules.{proto_of}
-use Rattle.dex_pools.specs.declared.used.Used.{Used}
-use Rattle.dex_pools.specs.Numbering.{used_in}
-use Rattle.dex_pools.specs.Spelled.{IsTypeList}
-use Rattle.dex_pools.specs.Marks.{mark_at}
-use Rattle.dex_pools.specs.Written.{mark_text, value_text, list_text}
-use Rattle.dex_pools.specs.Finds.{Ascends}
-use Rattle.dex_defs.specs.Annotations.{Directory, IsDirectory}
-use Rattle.dex_defs.specs.ClassData.{Entry, Lists, IsClassData}
-use Rattle.dex_defs.specs.Sweep.{Piece, Places, IsSwept}
-use Rattle.dex_defs.specs.Handlers.{Try, IsTry}
-use Rattle.dex_defs.specs.CodeItems.{Frame, IsCode, tries_at}
-use Rattle.dex_defs.specs.ClassDefs.{Def}
+use Rattle.dex_pools.specs.declared.used.Named.{Named}
+use Rattle.dex_pools.specs.declared.used.Named.TheVariants as named
+use Rattle.dex_pools.specs.Used.{program_names}
+use Rattle.dex_pools.specs.Numbering.{type_entry, proto_entry, field_entry, method_entry}
+use Rattle.dex_defs.specs.Here.{Here, AreZeros}
+use Rattle.dex_defs.specs.Arranged.{IsNext, Lie, Both, LeadsTo, row_of}
+use Rattle.dex_defs.specs.Annotations.{Directory, IsDirectoryOf, offset_for, AreMarksOf}
+use Rattle.dex_defs.specs.ClassData.{Entry, Lists, IsClassDataOf}
+use Rattle.dex_defs.specs.Sweep.{Piece, Places, IsSwept, instructions}
+use Rattle.dex_defs.specs.CodeItems.{Frame, IsCode}
+use Rattle.dex_defs.specs.ClassDefs.{Def, IsDef}
 use Rattle.dex_defs.specs.Spells.{Spells, sizes_in}
 use Rattle.dex_defs.specs.ClassGraph.{IsAbove}
-use Rattle.dex_defs.specs.Values.{AreValues}
-use Rattle.dex_defs.specs.Places.{IsEntryAt, HasDef, Leads, HasFrame, HasDirectory, HasRefs, HasSet, HasMark, HasArray}
-use Rattle.dex_defs.specs.Placed.{HasTypeList}
-use Rattle.dex_defs.specs.Texts.{Here, words, string_text, class_data_text, KeepsNumbers, IsLaid}
+use Rattle.dex_defs.specs.Values.{AreValuesOf}
+use Rattle.dex_defs.specs.ValueTexts.{mark_text, array_text}
+use Rattle.dex_defs.specs.LaysOut.{AreSizes}
+use Rattle.dex_defs.specs.CodeTexts.{AreShortest, code_text}
+use Rattle.dex_defs.specs.Texts.{words, string_text, type_lists, type_list_text, offsets_text, directory_text, data_text, lines_text}
 
--- an item of the data: its code in the map, and where it begins and ends
-pub record Item : Type 0 where
-  pub code : ℕ
-  pub at : ℕ
-  pub stop : ℕ
+-- ---- unused entries
 
--- the kinds in the order of the data
-abbrev pub kinds : List ℕ
-kinds = 0x1001 ∷ 0x1002 ∷ 0x1003 ∷ 0x2001 ∷ 0x2006 ∷ 0x2000 ∷ 0x2002 ∷ 0x2003 ∷ 0x2004 ∷ 0x2005 ∷ 0x1000 ∷ []
+-- what the classes name, and what the entries of the tables name
+abbrev pub all_names : Program → List Named
+all_names p = program_names p
+    ++ (flat_map (λ string. type_entry (Some string)) p.types
+    ++ (flat_map (λ q. proto_entry (Some q)) p.protos
+    ++ (flat_map (λ f. field_entry (Some f)) p.fields ++ flat_map (λ m. method_entry (Some m)) p.methods)))
 
-abbrev pub place_in : ℕ → List ℕ → ℕ
-place_in code [] = 0
-place_in code (kind ∷ kinds) = if kind == code then 0 else suc (place_in code kinds)
+-- No entry is unused: each is named by a class or by another entry, and entries name none of their own table.
+pub record AllUsed (p : Program) : Type 0 where
+  pub strings : (n : ℕ) → n < length p.strings → Contains (all_names p) (named.Text n)
+  pub types : (n : ℕ) → n < length p.types → Contains (all_names p) (named.Kind n)
+  pub protos : (n : ℕ) → n < length p.protos → Contains (all_names p) (named.Proto n)
+  pub fields : (n : ℕ) → n < length p.fields → Contains (all_names p) (named.Field n)
+  pub methods : (n : ℕ) → n < length p.methods → Contains (all_names p) (named.Method n)
 
--- class data, strings, debug items, annotations and arrays stand anywhere, the others at multiples of four
-abbrev pub alignment : ℕ → ℕ
-alignment code = if code == 0x2000 then 1 else if nat_le 0x2002 code then (if nat_le code 0x2005 then 1 else 4) else 4
+-- ---- what the file has, found by the places that name it
 
--- ---- which items a file has
+-- the code item of a method: where it says that the debug item stands, its bytes, and those of the debug item
+pub record CodePart : Type 0 where
+  pub debug : ℕ
+  pub text : List ℕ
+  pub lines : List ℕ
 
-abbrev pub is_item : ℕ → ℕ → ℕ → Item
-is_item code at stop = record { code = code; at = at; stop = stop }
+-- of a class; refs are, for each method, the sets that its list of sets names
+pub record ClassPart : Type 0 where
+  pub def : Def
+  pub lists : Lists
+  pub directory : Directory
+  pub values : List EncValue
+  pub codes : List CodePart
+  pub refs : List (List ℕ)
 
--- the method of an entry of a class's lists
-pub record IsMember (p : Program) (class : ℕ) (e : Entry) (m : Method) : Type 0 where
-  pub c : Class
-  pub is_class : slice_get p.classes class ≡ Some c
-  pub place : ℕ
-  pub is_method : slice_get c.methods place ≡ Some m
-  pub number : m.name ≡ e.number
+-- a set: its annotations, and where each stands
+pub record SetPart : Type 0 where
+  pub marks : List Mark
+  pub offsets : List ℕ
 
--- the code item of a method, in its least layout
-pub record CodeStands (bytes : List ℕ) (p : Program) (class : ℕ) (e : Entry) (m : Method) (f : Frame) (places : Places) (at stop : ℕ) : Type 0 where
-  pub has : HasFrame bytes class e at f
-  pub member : IsMember p class e m
-  pub body : Body
-  pub is_body : m.body ≡ Some body
-  pub code : IsCode bytes (length p.types) at f places body
-  pub pieces : List Piece
-  pub swept : IsSwept places.units pieces
-  pub tries : List Try
-  pub many : length tries ≡ f.tries
-  pub are : (i : ℕ) (t : Try) → slice_get tries i ≡ Some t → IsTry bytes (tries_at at f + 8 * i) t
-  pub laid : IsLaid bytes at f places pieces tries body stop
+-- where strings stand, the type lists of protos, and each type list
+pub record Parts : Type 0 where
+  pub strings : List ℕ
+  pub parameters : List ℕ
+  pub starts : List ℕ
+  pub classes : List ClassPart
+  pub sets : List SetPart
+
+-- ---- code
 
 -- how many parameters a method has
 abbrev pub parameters_of : Program → Method → ℕ
 parameters_of p m = elim (proto_of p m.name) [ Some proto ↦ length proto.parameters | None ↦ 0 ]
 
--- the annotation at this place
-abbrev pub MarkReads : List ℕ → Program → ℕ → ℕ → Mark → ℕ → Type 0
-MarkReads bytes p at left mark spare = mark_at bytes (sizes_in p) at left ≡ Ok (mark, spare)
+abbrev pub methods_of : Lists → List Entry
+methods_of l = l.directs ++ l.virtuals
 
-pub data Stands (bytes : List ℕ) (p : Program) (r : Renumber) (item : Item) : Type 0 where
-  TypeList : (at size : ℕ) (types : List ℕ) → HasTypeList bytes at → IsTypeList bytes at size types → item ≡ is_item 0x1001 at (at + 4 + 2 * length types) → Stands bytes p r item
-  Refs : (at count : ℕ) → HasRefs bytes at → Is32 bytes at count → item ≡ is_item 0x1002 at (at + 4 + 4 * count) → Stands bytes p r item
-  Set : (at count : ℕ) → HasSet bytes at → Is32 bytes at count → item ≡ is_item 0x1003 at (at + 4 + 4 * count) → Stands bytes p r item
-  Code : (class at stop : ℕ) (e : Entry) (m : Method) (f : Frame) (places : Places) → CodeStands bytes p class e m f places at stop → item ≡ is_item 0x2001 at stop → Stands bytes p r item
-  ADirectory : (class at : ℕ) (d : Directory) → HasDirectory bytes class at → IsDirectory bytes at d → item ≡ is_item 0x2006 at (at + 16 + 8 * (length d.fields + length d.methods + length d.parameters)) → Stands bytes p r item
-  ClassData : (class at stop : ℕ) (def : Def) (lists : Lists) → HasDef bytes class def → Leads def.data_at at → IsClassData bytes at lists stop → Here bytes at (class_data_text lists) → item ≡ is_item 0x2000 at (at + length (class_data_text lists)) → Stands bytes p r item
-  AString : (i entry at : ℕ) (text : List ℕ) → IsEntryAt bytes 56 4 i entry → Is32 bytes entry at → slice_get p.strings i ≡ Some text → Here bytes at (string_text text) → item ≡ is_item 0x2002 at (at + length (string_text text)) → Stands bytes p r item
-  Debug : (class code stop at : ℕ) (e : Entry) (m : Method) (f : Frame) (places : Places) → CodeStands bytes p class e m f places code stop → Leads f.debug at → Here bytes at (item_text m.lines places.starts (parameters_of p m)) → item ≡ is_item 0x2003 at (at + length (item_text m.lines places.starts (parameters_of p m))) → Stands bytes p r item
-  AMark : (at left spare : ℕ) (mark : Mark) → HasMark bytes at → MarkReads bytes p at left mark spare → Here bytes at (mark_text r mark) → item ≡ is_item 0x2004 at (at + length (mark_text r mark)) → Stands bytes p r item
-  Array : (class at : ℕ) (values : List EncValue) → HasArray bytes class at → AreValues bytes (sizes_in p) at values → Here bytes at (list_text (value_text r) values) → item ≡ is_item 0x2005 at (at + length (list_text (value_text r) values)) → Stands bytes p r item
-  Map : (at count : ℕ) → Is32 bytes 52 at → Is32 bytes at count → item ≡ is_item 0x1000 at (at + 4 + 12 * count) → Stands bytes p r item
+abbrev pub fields_of : Lists → List Entry
+fields_of l = l.statics ++ l.instances
 
--- ---- where they lie
+-- a method without code has neither item
+pub record IsNoCode (part : CodePart) : Type 0 where
+  pub text : part.text ≡ []
+  pub lines : part.lines ≡ []
+  pub debug : part.debug ≡ 0
 
--- one behind another, from one place to another, each aligned
-abbrev pub LieIn : ℕ → List Item → ℕ → Type 0
-LieIn from [] to = from ≡ to
-LieIn from (x ∷ xs) to = (from ≤ x.at) × (x.at < from + alignment x.code) × (x.at % alignment x.code ≡ 0) × (x.at < x.stop) × LieIn x.stop xs to
+-- a method with code has a code item in the least layout, and a debug item where it has lines
+pub record IsSomeCode (bytes : List ℕ) (p : Program) (at : ℕ) (m : Method) (part : CodePart) : Type 0 where
+  pub body : Body
+  pub is_body : m.body ≡ Some body
+  pub frame : Frame
+  pub places : Places
+  pub code : IsCode bytes (length p.types) at frame places body
+  pub pieces : List Piece
+  pub swept : IsSwept places.units pieces
+  pub shortest : AreShortest places (instructions pieces) body.insns
+  pub sizes : List ℕ
+  pub least : AreSizes body sizes
+  pub debug : part.debug ≡ frame.debug
+  pub text : part.text ≡ code_text sizes (map (λ piece. piece.text) (instructions pieces)) part.debug body
+  pub lines : part.lines ≡ lines_text m.lines places.starts (parameters_of p m)
 
-abbrev pub kind_below : Item → Item → Bool
-kind_below x y = nat_le (place_in x.code kinds) (place_in y.code kinds)
+abbrev pub IsCodePart : List ℕ → Program → ℕ → Method → CodePart → Type 0
+IsCodePart bytes p zero m part = IsNoCode part
+IsCodePart bytes p (suc k) m part = IsSomeCode bytes p (suc k) m part
 
--- ---- the map
+abbrev pub AreCodes : List ℕ → Program → List Entry → List Method → List CodePart → Type 0
+AreCodes bytes p [] [] [] = Unit {0}
+AreCodes bytes p [] [] (x ∷ xs) = ⊥
+AreCodes bytes p [] (m ∷ ms) xs = ⊥
+AreCodes bytes p (e ∷ es) [] xs = ⊥
+AreCodes bytes p (e ∷ es) (m ∷ ms) [] = ⊥
+AreCodes bytes p (e ∷ es) (m ∷ ms) (x ∷ xs) = IsCodePart bytes p e.code m x × AreCodes bytes p es ms xs
 
-abbrev pub of_kind : ℕ → List Item → List Item
-of_kind code [] = []
-of_kind code (x ∷ xs) = if x.code == code then x ∷ of_kind code xs else of_kind code xs
+-- ---- classes
 
--- the kind, how many items it has, and where the first one begins
-abbrev pub entry_of : ℕ → List Item → List ℕ
-entry_of code [] = []
-entry_of code (x ∷ xs) = code ∷ (length (x ∷ xs) ∷ (x.at ∷ []))
+-- each pair of a directory names something
+pub record NamesAll (d : Directory) : Type 0 where
+  pub fields : All (λ pair. 0 < pair.1) d.fields
+  pub methods : All (λ pair. 0 < pair.1) d.methods
+  pub parameters : All (λ pair. 0 < pair.1) d.parameters
 
-abbrev pub data_entries : List Item → List ℕ
-data_entries items = flat_map (λ code. entry_of code (of_kind code items)) kinds
+-- the last of the first values that are written is one of the program's
+abbrev pub EndsInFirst : List EncValue → List Field → Type 0
+EndsInFirst [] fs = Unit {0}
+EndsInFirst (v ∷ vs) [] = ⊥
+EndsInFirst (v ∷ []) (f ∷ fs) = (w : EncValue) × (f.first ≡ Some w)
+EndsInFirst (v ∷ w ∷ vs) (f ∷ fs) = EndsInFirst (w ∷ vs) fs
 
-abbrev pub table_entry : ℕ → ℕ → ℕ → List ℕ
-table_entry code zero at = []
-table_entry code (suc n) at = code ∷ (suc n ∷ (at ∷ []))
-
--- where the tables begin, one behind another behind the header, and where the data begins
 abbrev pub types_at : Program → ℕ
 types_at p = 112 + 4 * length p.strings
 
@@ -141,8 +156,87 @@ methods_at p = fields_at p + 8 * length p.fields
 abbrev pub classes_at : Program → ℕ
 classes_at p = methods_at p + 8 * length p.methods
 
+-- the tables stand one behind another behind the header, and the data behind them
 abbrev pub data_at : Program → ℕ
 data_at p = classes_at p + 32 * length p.classes
+
+pub record IsClassPart (bytes : List ℕ) (p : Program) (i : ℕ) (c : Class) (x : ClassPart) : Type 0 where
+  pub def : IsDef bytes (classes_at p + 32 * i) x.def
+  pub lists : IsClassDataOf bytes x.def.data_at x.lists
+  pub directory : IsDirectoryOf bytes x.def.annotations x.directory
+  pub pairs : NamesAll x.directory
+  pub values : AreValuesOf bytes (sizes_in p) x.def.values x.values
+  pub few : EndsInFirst x.values c.fields
+  pub codes : AreCodes bytes p (methods_of x.lists) c.methods x.codes
+  pub refs : Both (λ m offsets. length offsets ≡ length m.parameter_marks) c.methods x.refs
+
+abbrev pub AreClassParts : List ℕ → Program → ℕ → List Class → List ClassPart → Type 0
+AreClassParts bytes p i [] [] = Unit {0}
+AreClassParts bytes p i [] (x ∷ xs) = ⊥
+AreClassParts bytes p i (c ∷ cs) [] = ⊥
+AreClassParts bytes p i (c ∷ cs) (x ∷ xs) = IsClassPart bytes p i c x × AreClassParts bytes p (suc i) cs xs
+
+-- ---- where items are named, kind by kind, in order
+
+abbrev pub ref_offsets : ClassPart → List ℕ
+ref_offsets x = map (λ e. offset_for e.number x.directory.parameters) (methods_of x.lists)
+
+-- a class's own set, those of its fields and its methods, and those of its methods' parameters
+abbrev pub set_offsets : ClassPart → List ℕ
+set_offsets x = x.directory.class ∷ (map (λ e. offset_for e.number x.directory.fields) (fields_of x.lists) ++ (map (λ e. offset_for e.number x.directory.methods) (methods_of x.lists) ++ concat x.refs))
+
+abbrev pub codes_of : List ClassPart → List CodePart
+codes_of xs = flat_map (λ x. x.codes) xs
+
+abbrev pub entries_of : List ClassPart → List Entry
+entries_of xs = flat_map (λ x. methods_of x.lists) xs
+
+-- the sets that are named there
+abbrev pub AreSets : List ℕ → Program → List ℕ → List SetPart → Type 0
+AreSets bytes p offsets sets = Both (λ offset s. AreMarksOf bytes (sizes_in p) offset s.marks × (length s.offsets ≡ length s.marks)) offsets sets
+
+-- where each kind ends
+pub record Stops : Type 0 where
+  pub lists : ℕ
+  pub refs : ℕ
+  pub sets : ℕ
+  pub codes : ℕ
+  pub directories : ℕ
+  pub members : ℕ
+  pub strings : ℕ
+  pub lines : ℕ
+  pub marks : ℕ
+  pub values : ℕ
+
+-- the kinds one behind another, the first five at multiples of four
+pub record LieInOrder (bytes : List ℕ) (p : Program) (x : Parts) (stops : Stops) : Type 0 where
+  pub lists : Lie bytes 4 (data_at p) x.starts (map type_list_text (type_lists p)) stops.lists
+  pub refs : Lie bytes 4 stops.lists (flat_map ref_offsets x.classes) (flat_map (λ c. map offsets_text c.refs) x.classes) stops.refs
+  pub sets : Lie bytes 4 stops.refs (flat_map set_offsets x.classes) (map (λ s. offsets_text s.offsets) x.sets) stops.sets
+  pub codes : Lie bytes 4 stops.sets (map (λ e. e.code) (entries_of x.classes)) (map (λ c. c.text) (codes_of x.classes)) stops.codes
+  pub directories : Lie bytes 4 stops.codes (map (λ c. c.def.annotations) x.classes) (map (λ c. directory_text c.directory) x.classes) stops.directories
+  pub members : Lie bytes 1 stops.directories (map (λ c. c.def.data_at) x.classes) (map (λ c. data_text c.lists) x.classes) stops.members
+  pub strings : Lie bytes 1 stops.members x.strings (map string_text p.strings) stops.strings
+  pub lines : Lie bytes 1 stops.strings (map (λ c. c.debug) (codes_of x.classes)) (map (λ c. c.lines) (codes_of x.classes)) stops.lines
+  pub marks : Lie bytes 1 stops.lines (flat_map (λ s. s.offsets) x.sets) (flat_map (λ s. map mark_text s.marks) x.sets) stops.marks
+  pub values : Lie bytes 1 stops.marks (map (λ c. c.def.values) x.classes) (map (λ c. array_text c.values) x.classes) stops.values
+
+-- ---- the map
+
+abbrev pub data_rows : Parts → List ℕ
+data_rows x = row_of 0x1001 x.starts
+    ++ (row_of 0x1002 (flat_map ref_offsets x.classes)
+    ++ (row_of 0x1003 (flat_map set_offsets x.classes)
+    ++ (row_of 0x2001 (map (λ e. e.code) (entries_of x.classes))
+    ++ (row_of 0x2006 (map (λ c. c.def.annotations) x.classes)
+    ++ (row_of 0x2000 (map (λ c. c.def.data_at) x.classes)
+    ++ (row_of 0x2002 x.strings
+    ++ (row_of 0x2003 (map (λ c. c.debug) (codes_of x.classes))
+    ++ (row_of 0x2004 (flat_map (λ s. s.offsets) x.sets) ++ row_of 0x2005 (map (λ c. c.def.values) x.classes)))))))))
+
+abbrev pub table_entry : ℕ → ℕ → ℕ → List ℕ
+table_entry code zero at = []
+table_entry code (suc n) at = code ∷ (suc n ∷ (at ∷ []))
 
 abbrev pub table_entries : Program → List ℕ
 table_entries p = (0 ∷ 1 ∷ 0 ∷ [])
@@ -152,15 +246,16 @@ table_entries p = (0 ∷ 1 ∷ 0 ∷ [])
     ++ (table_entry 4 (length p.fields) (fields_at p)
     ++ (table_entry 5 (length p.methods) (methods_at p) ++ table_entry 6 (length p.classes) (classes_at p))))))
 
--- how many entries these are, each of three words
+abbrev pub map_rows : Program → Parts → ℕ → List ℕ
+map_rows p x at = table_entries p ++ (data_rows x ++ (0x1000 ∷ 1 ∷ at ∷ []))
+
+-- how many entries these are, each of three words: its code, how many items there are, and where the first one stands
 abbrev pub thirds : List ℕ → ℕ
 thirds (a ∷ b ∷ c ∷ ns) = suc (thirds ns)
 thirds _ = 0
 
-abbrev pub map_words : Program → List Item → List ℕ
-map_words p items = let entries = table_entries p ++ data_entries items in thirds entries ∷ entries
-
--- ---- the whole
+abbrev pub map_words : Program → Parts → ℕ → List ℕ
+map_words p x at = thirds (map_rows p x at) ∷ map_rows p x at
 
 -- the offset of an empty table is 0
 abbrev pub table_offset : ℕ → ℕ → ℕ
@@ -178,29 +273,35 @@ header_words p map_at size = 0 ∷ 0 ∷ map_at
     ∷ length p.classes ∷ table_offset (length p.classes) (classes_at p)
     ∷ (size - data_at p) ∷ data_at p ∷ []
 
-abbrev pub all_used : Used → Bool
-all_used u = list_all (λ b. b) (u.strings ++ (u.types ++ (u.protos ++ (u.fields ++ u.methods))))
+-- the map is the last of all, and the header says where all stands
+pub record HasMap (bytes : List ℕ) (p : Program) (x : Parts) (from : ℕ) : Type 0 where
+  pub at : ℕ
+  pub next : IsNext 4 from at
+  pub zeros : AreZeros bytes from at
+  pub is : Here bytes at (words (map_words p x at))
+  pub last : length bytes ≡ at + length (words (map_words p x at))
+  pub header : Here bytes 44 (words (header_words p at (length bytes)))
 
--- equal type lists are one
-abbrev pub ListsDiffer : List ℕ → Type 0
-ListsDiffer bytes = (one other size : ℕ) (types : List ℕ) → HasTypeList bytes one → HasTypeList bytes other → IsTypeList bytes one size types → IsTypeList bytes other size types → one ≡ other
+-- ---- the whole
+
+-- the parts are those that the file has
+pub record AreParts (bytes : List ℕ) (p : Program) (x : Parts) : Type 0 where
+  pub strings : Entries (length p.strings) (λ i at. Is32 bytes (112 + 4 * i) at) x.strings
+  pub parameters : Entries (length p.protos) (λ i at. Is32 bytes (protos_at p + 12 * i + 8) at) x.parameters
+  pub lists : Both (λ q offset. LeadsTo (type_lists p) x.starts q.parameters offset) p.protos x.parameters
+  pub classes : AreClassParts bytes p 0 p.classes x.classes
+  pub interfaces : Both (λ c part. LeadsTo (type_lists p) x.starts c.interfaces part.def.interfaces) p.classes x.classes
+  pub sets : AreSets bytes p (flat_map set_offsets x.classes) x.sets
 
 -- all but the signature
 pub record IsValidFor (bytes : List ℕ) (p : Program) : Type 0 where
   pub spelled : Spells bytes p
-  pub used : all_used (used_in p) ≡ true
-  pub map_at : ℕ
-  pub header : Here bytes 44 (words (header_words p map_at (length bytes)))
-  pub whole : (length bytes - data_at p) % 4 ≡ 0
-  pub numbers : Renumber
-  pub keep : KeepsNumbers p numbers
-  pub items : List Item
-  pub stand : All (Stands bytes p numbers) items
-  pub all : (item : Item) → Stands bytes p numbers item → Contains items item
-  pub lie : LieIn (data_at p) items (length bytes)
-  pub in_order : Ascends kind_below items
-  pub once : ListsDiffer bytes
-  pub map : Here bytes map_at (words (map_words p items))
+  pub used : AllUsed p
+  pub parts : Parts
+  pub are : AreParts bytes p parts
+  pub stops : Stops
+  pub lie : LieInOrder bytes p parts stops
+  pub map : HasMap bytes p parts stops.values
   pub above_first : (class upper : ℕ) → IsAbove p class upper → upper < class
 
 abbrev pub IsSigned : List ℕ → Type 0

@@ -1,6 +1,7 @@
 -- The program that is written for a program: its used entries alone, renumbered in order, members in the order of the new numbers,
--- and each class behind those of its superclass and interfaces.
-use Rattle.std.specs.Prelude.{◌≡◌, ◌+◌, ℕ, zero, suc, List, [], ◌∷◌, ◌++◌, length, map, nat_lt, nat_eq, Bool, Option, Some, None, slice_get, if◌then◌else◌}
+-- and each class behind those of its superclass and interfaces. Its code has the new numbers, so for a writer it is this program,
+-- and not the one that it was made of, that has to lay out (LaysOut).
+use Rattle.std.specs.Prelude.{◌≡◌, ℕ, zero, suc, List, [], ◌∷◌, ◌++◌, length, map, nat_lt, nat_eq, Bool, Option, Some, None, slice_get, if◌then◌else◌}
 use Rattle.std.specs.List.{flat_map, list_any}
 use Rattle.std.specs.Option.{option_map}
 use Rattle.insn_set.specs.declared.form.Insn.{Insn}
@@ -209,7 +210,7 @@ written_by i p = record {
   version = p.version;
 }
 
--- the used entries in order give the numbers; a well-formed program has just one such order
+-- The used entries in order give the numbers; a well-formed program has just one such order. What a writer asks of p is LaysOut q.
 pub record IsWritten (p q : Program) : Type 0 where
   pub interner : Interner
   pub used : IsInterned p interner

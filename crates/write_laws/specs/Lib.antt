@@ -1,0 +1,4 @@
+pub mod Rising
+pub mod Placing
+pub mod Fits
+pub mod Kinds

@@ -1,9 +1,9 @@
 -- The families and tables that say everything are closed.
-use Rattle.std.proofs.Common.{◌≡◌, ℕ, true, refl, sym, ap, subst}
+use Rattle.std.proofs.Common.{◌≡◌, ℕ, refl, ap, subst}
 use Rattle.std.specs.Prelude.{Some, None}
 use Rattle.dalvik_defs.specs.Outer.{Outer}
 use Rattle.dalvik_defs.specs.declared.program.NamedProgram.{NamedProgram}
-use Rattle.pass_defs.specs.Live.{IsClosedFamily, Conditions, HasTypes, HasMethods, HasFields, HasResolved, HasMentions, everything}
+use Rattle.pass_defs.specs.Live.{IsClosedFamily, Conditions, HasMentions, everything}
 use Rattle.pass_defs.specs.Mentions.{Mentions}
 use Rattle.pass_defs.specs.Flat.{Flat, Bottom, KnownWord, KnownWide, Any, FlatBelow}
 use Rattle.pass_defs.specs.Facts.{Arrives}
@@ -25,7 +25,7 @@ everything_closed p o k = record {
   called_back = λ t n g h e f i j. refl;
 }
 
-below_any : (x : Flat) → FlatBelow x Any
+pub below_any : (x : Flat) → FlatBelow x Any
 below_any Bottom = tt
 below_any (KnownWord n) = tt
 below_any (KnownWide n) = tt
@@ -34,7 +34,7 @@ below_any Any = tt
 arrives_any : (a : ℕ → Flat) → Arrives flat a (Some (λ r. Any))
 arrives_any a r = below_any (a r)
 
-any_at : (a : ℕ → Flat) (r : ℕ) → Some (λ (q : ℕ). Any) ≡ Some a → FlatBelow Any (a r)
+pub any_at : (a : ℕ → Flat) (r : ℕ) → Some (λ (q : ℕ). Any) ≡ Some a → FlatBelow Any (a r)
 any_at a r e = subst (λ x. FlatBelow Any x) (ap (λ o. elim o [ Some f ↦ f r | None ↦ Any ]) e) tt
 
 pub anything_closed : (p : NamedProgram) (o : Outer) → IsSolution p o anything

@@ -1,9 +1,8 @@
 -- A class whose static field is read is live, and its conditional field.
-use Rattle.std.proofs.Common.{◌≡◌, ℕ, true, refl, arith}
-use Rattle.std.specs.Prelude.{Contains, Some}
+use Rattle.std.proofs.Common.{refl, arith}
 use Rattle.dalvik_defs.specs.Names.{void}
 use Rattle.dalvik_defs.specs.Examples.{b_type, m_key, keeps_m}
-use Rattle.pass_defs.specs.Live.{Family, IsClosedFamily, IsLiveClass, IsLiveField}
+use Rattle.pass_defs.specs.Live.{IsLiveClass, IsLiveField}
 use Rattle.pass_defs.specs.Examples.{names_b, keeps_x, x_of}
 
 pub b_is_live : IsLiveClass names_b (keeps_m void) keeps_x b_type

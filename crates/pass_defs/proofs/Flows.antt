@@ -1,5 +1,5 @@
 -- A typing is a flow: where a position is good its edges carry what they carry in a typing.
-use Rattle.std.proofs.Common.{◌≡◌, ℕ, zero, suc, Bool, true, false, List, [], ◌∷◌, refl, sym, ap, ◌∙◌, subst}
+use Rattle.std.proofs.Common.{◌≡◌, ℕ, zero, suc, Bool, true, false, List, [], ◌∷◌, refl, sym, ap, subst}
 use Rattle.std.specs.Prelude.{◌&&◌, not, map, Option, Some, None, length}
 use Rattle.std.specs.List.{list_all}
 use Rattle.dalvik_defs.specs.declared.forms.Form.{Form}

@@ -1,15 +1,13 @@
 -- The constant of `sets_and_returns` is idle.
-use Rattle.std.proofs.Common.{◌≡◌, ℕ, zero, suc, Bool, true, false, refl, sym, ap, ◌∙◌, subst, arith}
-use Rattle.std.specs.Prelude.{Contains, Some, None, [], ◌∷◌, pos}
+use Rattle.std.proofs.Common.{◌≡◌, ℕ, zero, suc, refl, sym, subst, arith}
+use Rattle.std.specs.Prelude.{Contains, [], ◌∷◌, pos}
 use Rattle.dalvik_defs.specs.Names.{void}
 use Rattle.dalvik_defs.specs.Examples.{m_key, keeps_m, code}
-use Rattle.dalvik_defs.specs.declared.forms.Form.{Form}
 use Rattle.dalvik_defs.specs.declared.forms.Form.TheVariants as form
 use Rattle.dalvik_defs.specs.declared.program.NamedBody.{NamedBody}
-use Rattle.pass_defs.specs.Bare.{writes}
-use Rattle.pass_defs.specs.Walks.{IsReadAt, IsReadAfter, successors}
-use Rattle.pass_defs.specs.Constants.{IsPure, Itself}
-use Rattle.pass_defs.specs.Idle.{IsIdle, IsUnread, IsIdleForm, Unread}
+use Rattle.pass_defs.specs.Walks.{IsReadAt, IsReadAfter}
+use Rattle.pass_defs.specs.Constants.{Itself}
+use Rattle.pass_defs.specs.Idle.{IsIdle, Unread}
 use Rattle.pass_defs.specs.Examples.{sets_and_returns}
 use Rattle.pass_defs.proofs.Unread.{end_reads}
 

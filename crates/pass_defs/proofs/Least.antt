@@ -1,5 +1,4 @@
 -- A closed family that every closed family has is the least one.
-use Rattle.std.proofs.Common.{◌≡◌, true}
 use Rattle.dalvik_defs.specs.Outer.{Outer}
 use Rattle.dalvik_defs.specs.declared.program.NamedProgram.{NamedProgram}
 use Rattle.pass_defs.specs.Live.{IsClosedFamily, IsForced, HasTheLive, Family, Conditions}

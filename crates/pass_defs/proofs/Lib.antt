@@ -5,3 +5,16 @@ pub mod Conditional
 pub mod Idle
 pub mod Least
 pub mod Writes
+pub mod Spins
+pub mod HiddenNames
+pub mod Sums
+pub mod Copies
+pub mod Packing
+pub mod Drops
+pub mod FlatSound
+pub mod Thinned
+pub mod Covering
+pub mod Sites
+pub mod Loosely
+pub mod Rebinding
+pub mod Folds

@@ -1,10 +1,9 @@
 -- A body's end reads nothing.
-use Rattle.std.proofs.Common.{◌≡◌, ℕ, zero, suc, Bool, true, false, refl, sym, ap, ◌∙◌, subst, arith}
-use Rattle.std.specs.Prelude.{Contains, Some, None, List, [], ◌<◌, length}
+use Rattle.std.proofs.Common.{◌≡◌, ℕ, sym, ap, ◌∙◌, subst, arith}
+use Rattle.std.specs.Prelude.{Contains, Some, None, []}
 use Rattle.dalvik_defs.specs.declared.forms.Form.{Form}
 use Rattle.dalvik_defs.specs.declared.forms.Form.TheVariants as form
 use Rattle.dalvik_defs.specs.declared.program.NamedBody.{NamedBody}
-use Rattle.pass_defs.specs.Bare.{reads, writes}
 use Rattle.pass_defs.specs.Walks.{form_at, onward, caught, IsReadAt, Here, Onward, Caught}
 
 nothing : (f : Form) → Some f ≡ Some form.ReturnVoid → f ≡ form.ReturnVoid

@@ -1,6 +1,6 @@
 -- A form without its names: what it reads, writes, throws and how it is spelled depends on no name (Dalvik bytecode,
 -- "Summary of bytecode set"). Where a name has a number, 0 stands for it.
-use Rattle.std.specs.Prelude.{ℕ, Bool, true, false, List, [], ◌∷◌, ◌++◌, map, filter}
+use Rattle.std.specs.Prelude.{ℕ, Bool, List}
 use Rattle.insn_set.specs.declared.form.Insn.{Insn}
 use Rattle.insn_set.specs.declared.form.Insn.TheVariants as insn
 use Rattle.insn_set.specs.Registers.{reads_of, writes_of}

@@ -1,12 +1,13 @@
 -- Calls that can name the one method that they find (this project's profile).
-use Rattle.std.specs.Prelude.{◌≡◌, ℕ, Bool, true, false, ◌&&◌, ◌||◌, not, List, [], ◌∷◌, Option, Some, None, is_some, Contains}
+use Rattle.std.specs.Prelude.{◌≡◌, ℕ, Bool, true, false, ◌&&◌, ◌||◌, not, if◌then◌else◌, nat_eq, List, [], ◌∷◌, Option, Some, None, is_some, Contains}
+use Rattle.std.specs.List.{list_any}
 use Rattle.insn_set.specs.declared.ops.InvokeKind.{InvokeKind}
 use Rattle.insn_set.specs.declared.ops.InvokeKind.TheVariants as call
-use Rattle.dalvik_defs.specs.Names.{Text, method_eq}
-use Rattle.dalvik_defs.specs.Under.{is_own_under}
-use Rattle.dalvik_defs.specs.Find.{Found, Search, Nothing, Finds, finds_at, defined_method, interface_named}
+use Rattle.dalvik_defs.specs.Names.{Text, text_eq, method_eq}
+use Rattle.dalvik_defs.specs.Flags.{has_bit}
+use Rattle.dalvik_defs.specs.Under.{class_named, is_own_under}
+use Rattle.dalvik_defs.specs.Find.{Found, Search, Nothing, Finds, finds_at, resolves_method, interface_named}
 use Rattle.dalvik_defs.specs.declared.names.MethodKey.{MethodKey}
-use Rattle.dalvik_defs.specs.declared.forms.Form.{Form}
 use Rattle.dalvik_defs.specs.declared.forms.Form.TheVariants as form
 use Rattle.dalvik_defs.specs.declared.program.NamedBody.{NamedBody}
 use Rattle.dalvik_defs.specs.declared.program.NamedMethod.{NamedMethod}
@@ -14,7 +15,7 @@ use Rattle.dalvik_defs.specs.declared.program.NamedClass.{NamedClass}
 use Rattle.dalvik_defs.specs.declared.program.NamedProgram.{NamedProgram}
 use Rattle.pass_defs.specs.Calls.{is_within}
 use Rattle.pass_defs.specs.Walks.{form_at}
-use Rattle.pass_defs.specs.Kinds.{Kind, Class}
+use Rattle.pass_defs.specs.Kinds.{Class}
 use Rattle.pass_defs.specs.Registers.{Kinds, kind_at}
 use Rattle.pass_defs.specs.Typed.{Table, state_at, IsLeastTyping}
 
@@ -27,13 +28,30 @@ is_virtual_call call.Virtual = true
 is_virtual_call call.Interface = true
 is_virtual_call kind = false
 
--- a method with code of an interface
-abbrev pub has_default : NamedProgram → MethodKey → Bool
-has_default p k = is_some (interface_named p k.class) && elim (defined_method p k) [ Some m ↦ is_some m.body | None ↦ false ]
+-- the interface of a method with code, where the name resolves to one
+abbrev pub default_of : NamedProgram → MethodKey → Option Text
+default_of p k = elim (resolves_method p k) [ Some g ↦ if g.coded && is_some (interface_named p g.key.class) then Some g.key.class else None | None ↦ None ]
 
 -- A call that names a method with code of an interface goes to another interface only where that one is under it.
 abbrev pub may_rebind : NamedProgram → MethodKey → MethodKey → Bool
-may_rebind p k g = not (has_default p k) || not (is_some (interface_named p g.class)) || is_own_under p g.class k.class
+may_rebind p k g = not (is_some (interface_named p g.class)) || elim (default_of p k) [ Some t ↦ is_own_under p g.class t | None ↦ true ]
+
+-- ---- what a caller may reach
+
+-- a class descriptor up to its last slash
+abbrev pub package_of : Text → Text
+package_of [] = []
+package_of (u ∷ us) = elim (list_any (nat_eq 47) (u ∷ us)) [ true ↦ u ∷ package_of us | false ↦ [] ]
+
+abbrev pub is_public : ℕ → Bool
+is_public flags = has_bit 1 flags
+
+abbrev pub is_public_class : NamedProgram → Text → Bool
+is_public_class p t = elim (class_named p t) [ Some c ↦ is_public c.flags | None ↦ false ]
+
+-- The method and its class are public, or the class lies in the caller's package.
+abbrev pub may_access : NamedProgram → Text → Found → Bool
+may_access p caller g = (is_public g.flags && is_public_class p g.key.class) || text_eq (package_of caller) (package_of g.key.class)
 
 pub record IsBindable (p : NamedProgram) (c : NamedClass) (m : NamedMethod) (n : ℕ) (found : Found) : Type 0 where
   pub body : NamedBody
@@ -54,3 +72,4 @@ pub record IsBindable (p : NamedProgram) (c : NamedClass) (m : NamedMethod) (n :
   pub has_code : found.coded ≡ true
   pub other : method_eq found.key key ≡ false
   pub rebinds : may_rebind p key found.key ≡ true
+  pub access : may_access p c.name found ≡ true

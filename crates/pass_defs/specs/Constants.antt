@@ -1,5 +1,5 @@
 -- Constants solutions: closed tables of flat values (this project's profile).
-use Rattle.std.specs.Prelude.{◌≡◌, ℕ, Bool, true, false, ◌&&◌, not, nat_eq, Option, Some, None, is_some, Contains, slice_get}
+use Rattle.std.specs.Prelude.{◌≡◌, ℕ, ◌%◌, ◌^◌, Bool, true, false, not, nat_eq, Some, is_some}
 use Rattle.insn_set.specs.Flow.{divides}
 use Rattle.insn_set.specs.declared.ops.BinaryOp.{BinaryOp}
 use Rattle.dalvik_defs.specs.Outer.{Outer}
@@ -54,8 +54,11 @@ is_known (KnownWord n) = true
 is_known (KnownWide n) = true
 is_known x = false
 
+-- as a divisor, of which a division of int takes the low 32 bits
 abbrev pub is_nonzero : Flat → Bool
-is_nonzero x = is_known x && not (flat_zero x)
+is_nonzero (KnownWord n) = not (nat_eq (n % 2 ^ 32) 0)
+is_nonzero (KnownWide n) = not (nat_eq n 0)
+is_nonzero x = false
 
 -- A division by a register that every solution reaches, and whose divisor some solution knows as other than 0.
 pub record DividesKnown (p : NamedProgram) (o : Outer) (k : MethodKey) (n : ℕ) (f : Form) : Type 0 where

@@ -1,5 +1,5 @@
 -- What a form asks of the registers that it reads (Dalvik bytecode, "Summary of bytecode set"; this project's profile).
-use Rattle.std.specs.Prelude.{ℕ, ◌+◌, Bool, true, false, ◌&&◌, ◌||◌, not, if◌then◌else◌, nat_eq, List, [], ◌∷◌, ◌++◌, map, drop, Option, Some, None, codes}
+use Rattle.std.specs.Prelude.{ℕ, ◌+◌, Bool, true, false, ◌&&◌, ◌||◌, not, if◌then◌else◌, nat_eq, List, [], ◌∷◌, ◌++◌, map, drop, Some, None, codes}
 use Rattle.std.specs.List.{list_any, list_all}
 use Rattle.insn_set.specs.declared.ops.Slot.{Slot}
 use Rattle.insn_set.specs.declared.ops.Slot.TheVariants as slot
@@ -10,8 +10,8 @@ use Rattle.insn_set.specs.declared.ops.Test.TheVariants as test
 use Rattle.insn_set.specs.declared.ops.InvokeKind.{InvokeKind}
 use Rattle.insn_set.specs.declared.ops.InvokeKind.TheVariants as call
 use Rattle.insn_set.specs.Widths.{compares_wide, unary_reads_wide, binary_is_wide, second_is_wide}
-use Rattle.dalvik_defs.specs.Names.{Text, text_eq, is_wide, is_reference, item_of}
-use Rattle.dalvik_defs.specs.Find.{Found, Search, Nothing, Clash, Finds, finds_super, finds_field}
+use Rattle.dalvik_defs.specs.Names.{Text, text_eq, is_wide, item_of}
+use Rattle.dalvik_defs.specs.Find.{Search, Finds, finds_super, finds_field}
 use Rattle.dalvik_defs.specs.Items.{item_of_type}
 use Rattle.dalvik_defs.specs.declared.names.MethodKey.{MethodKey}
 use Rattle.dalvik_defs.specs.declared.names.FieldKey.{FieldKey}
@@ -20,7 +20,7 @@ use Rattle.dalvik_defs.specs.declared.forms.Form.TheVariants as form
 use Rattle.dalvik_defs.specs.declared.program.NamedMethod.{NamedMethod}
 use Rattle.dalvik_defs.specs.declared.program.NamedClass.{NamedClass}
 use Rattle.dalvik_defs.specs.declared.program.NamedProgram.{NamedProgram}
-use Rattle.pass_defs.specs.Kinds.{Kind, Undefined, Zero, Word, Low, High, Null, Class, Array, Reference, Fresh, FreshThis, kind_eq, is_number, is_initialised, fits}
+use Rattle.pass_defs.specs.Kinds.{Kind, Undefined, Zero, Word, Low, High, Null, Array, Fresh, FreshThis, kind_eq, is_number, is_initialised, fits}
 use Rattle.pass_defs.specs.Registers.{Kinds, kind_at}
 
 pub data Demand : Type 0 where

@@ -1,15 +1,14 @@
 -- Small programs for the examples of `examples.rt`, on the parts of the machine's examples.
-use Rattle.std.specs.Prelude.{ℕ, zero, suc, pos, Bool, true, false, List, [], ◌∷◌, map, replicate, length, nat_eq, Option, Some, None, codes}
+use Rattle.std.specs.Prelude.{ℕ, zero, suc, pos, false, List, [], ◌∷◌, replicate, length, Option, Some, None, codes}
 use Rattle.insn_set.specs.declared.ops.Slot.TheVariants as slot
 use Rattle.insn_set.specs.declared.ops.Item.TheVariants as item
 use Rattle.insn_set.specs.declared.ops.Test.TheVariants as test
 use Rattle.insn_set.specs.declared.ops.BinaryOp.TheVariants as binary
 use Rattle.insn_set.specs.declared.ops.LiteralOp.TheVariants as literal
 use Rattle.insn_set.specs.declared.ops.InvokeKind.TheVariants as call
-use Rattle.program_model.specs.declared.program.Version.TheVariants.{V035, V037}
+use Rattle.program_model.specs.declared.program.Version.TheVariants.{V035}
 use Rattle.dalvik_defs.specs.Names.{Text, field_eq, object_type, void}
-use Rattle.dalvik_defs.specs.Outer.{Outer}
-use Rattle.dalvik_defs.specs.Examples.{a_type, b_type, int_type, to_int, code, method, class, program, constructor, constructor_key, with_m, one_class, m_key, keeps_m}
+use Rattle.dalvik_defs.specs.Examples.{a_type, b_type, int_type, to_int, code, method, class, program, constructor, constructor_key, with_m, one_class}
 use Rattle.dalvik_defs.specs.declared.names.Signature.{Signature}
 use Rattle.dalvik_defs.specs.declared.names.FieldKey.{FieldKey}
 use Rattle.dalvik_defs.specs.declared.forms.Form.{Form}

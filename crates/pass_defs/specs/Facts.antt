@@ -2,6 +2,7 @@
 -- rules serve every set of values.
 use Rattle.std.specs.Prelude.{◌≡◌, ℕ, zero, suc, ◌+◌, ◌-◌, ◌<◌, ℤ, pos, Bool, true, false, ◌&&◌, ◌||◌, not, if◌then◌else◌, nat_eq, List, [], ◌∷◌, ◌++◌, map, Option, Some, None, is_some, slice_get, Contains}
 use Rattle.std.specs.Int.{w32, w64, cast_unsigned}
+use Rattle.std.specs.List.{list_any}
 use Rattle.std.specs.Ordering.{int_eq}
 use Rattle.insn_set.specs.declared.ops.Slot.{Slot}
 use Rattle.insn_set.specs.declared.ops.Slot.TheVariants as slot
@@ -15,16 +16,18 @@ use Rattle.insn_set.specs.declared.ops.InvokeKind.{InvokeKind}
 use Rattle.insn_set.specs.declared.ops.InvokeKind.TheVariants as call
 use Rattle.insn_set.specs.Widths.{is_wide_item, unary_writes_wide, binary_is_wide}
 use Rattle.insn_set.specs.Flow.{divides, divides_by_literal}
-use Rattle.dalvik_defs.specs.Names.{Text, text_eq, method_eq, is_reference, is_wide, is_common, initialiser_name, signature_eq, void}
+use Rattle.dalvik_defs.specs.Names.{Text, text_eq, method_eq, is_reference, is_common, initialiser_name, signature_eq, void}
 use Rattle.dalvik_defs.specs.Flags.{is_static, is_native}
-use Rattle.dalvik_defs.specs.Under.{defines, is_own_under, is_outward}
-use Rattle.dalvik_defs.specs.Find.{Found, Search, Nothing, Clash, Finds, finds_at, finds_field, finds_statically, defined_method, defined_field, is_virtual_method}
+use Rattle.dalvik_defs.specs.Under.{class_named, is_own_under, is_outward}
+use Rattle.dalvik_defs.specs.Find.{Found, Search, Finds, finds_at, finds_field, finds_statically, method_in, defined_method, defined_field, is_virtual_method}
 use Rattle.dalvik_defs.specs.Initialised.{initialiser_of, initialised_first}
 use Rattle.dalvik_defs.specs.Face.{bodies_of, place_of}
 use Rattle.dalvik_defs.specs.Outer.{Outer}
 use Rattle.dalvik_defs.specs.ActPlain.{switch_target, packed_target}
 use Rattle.dalvik_defs.specs.Arith.{signed}
 use Rattle.dalvik_defs.specs.Fields.{first_of}
+use Rattle.dalvik_defs.specs.Silence.{key_in}
+use Rattle.dalvik_defs.specs.State.{zero_of}
 use Rattle.dalvik_defs.specs.declared.state.Value.{Value}
 use Rattle.dalvik_defs.specs.declared.state.Value.TheVariants.{Word, Low}
 use Rattle.dalvik_defs.specs.declared.names.MethodKey.{MethodKey}
@@ -34,9 +37,12 @@ use Rattle.dalvik_defs.specs.declared.forms.Form.TheVariants as form
 use Rattle.dalvik_defs.specs.declared.program.NamedBody.{NamedBody}
 use Rattle.dalvik_defs.specs.declared.program.NamedField.{NamedField}
 use Rattle.dalvik_defs.specs.declared.program.NamedMethod.{NamedMethod}
+use Rattle.dalvik_defs.specs.declared.program.NamedClass.{NamedClass}
 use Rattle.dalvik_defs.specs.declared.program.NamedProgram.{NamedProgram}
+use Rattle.pass_defs.specs.Demands.{is_constructor_name}
 use Rattle.pass_defs.specs.Walks.{form_at, onward, caught}
-use Rattle.pass_defs.specs.Calls.{may_find, may_leave}
+use Rattle.pass_defs.specs.Calls.{may_find}
+use Rattle.pass_defs.specs.Leaves.{may_leave}
 use Rattle.pass_defs.specs.Live.{IsMade, unconditional, is_concrete}
 
 -- a set of values: its order, its constants, and what the operations make of them
@@ -117,6 +123,15 @@ abbrev pub is_called_back : NamedProgram → Outer → Text → MethodKey → Na
 is_called_back p o t k m =
     is_virtual_method m && not (o.shut k) && finds_itself k (finds_at p t k) && (is_outward p t || is_common k.name k.signature)
 
+-- whether a class, or one above it, has a kept virtual method of a name and signature
+abbrev pub keeps_virtual : Outer → MethodKey → NamedClass → Bool
+keeps_virtual o k c = o.methods (record k { class = c.name }) && elim (method_in c k.name k.signature) [ Some m ↦ is_virtual_method m | None ↦ false ]
+
+-- The framework that calls a kept virtual method runs what the receiver's class finds for it.
+abbrev pub answers_kept : NamedProgram → Outer → Text → MethodKey → NamedMethod → Bool
+answers_kept p o t k m =
+    is_virtual_method m && finds_itself k (finds_at p t k) && list_any (λ c. is_own_under p t c.name && keeps_virtual o k c) p.classes
+
 -- a method that it may enter on an object of a made class
 pub record IsEnteredOn (p : NamedProgram) (o : Outer) (k : MethodKey) : Type 0 where
   pub method : NamedMethod
@@ -126,7 +141,18 @@ pub record IsEnteredOn (p : NamedProgram) (o : Outer) (k : MethodKey) : Type 0 w
   pub coded : is_some method.body ≡ true
   pub made : IsMade p o unconditional receiver
   pub under : is_own_under p receiver k.class ≡ true
-  pub opened : (o.methods k || is_called_back p o receiver k method) ≡ true
+  pub opened : (o.methods k || answers_kept p o receiver k method || is_called_back p o receiver k method) ≡ true
+
+-- a class that it may make: it is kept, or has a kept constructor
+abbrev pub keeps_constructor : NamedProgram → Outer → Text → Bool
+keeps_constructor p o t = elim (class_named p t) [ Some c ↦ list_any (λ m. is_constructor_name m.name && o.methods (key_in c m)) c.methods | None ↦ false ]
+
+abbrev pub may_be_made : NamedProgram → Outer → Text → Bool
+may_be_made p o t = (o.classes t || keeps_constructor p o t) && is_concrete p t
+
+-- what a field holds before it is written: a static one its first value, that of an object zero or null
+abbrev pub begun_with : FieldKey → NamedField → Value
+begun_with k f = elim (is_static f.flags) [ true ↦ first_of k (place_of k.class f) | false ↦ zero_of k.kind ]
 
 module _ {V : Type 0} (values : Values V) where
   -- ---- what a form leaves
@@ -237,7 +263,7 @@ module _ {V : Type 0} (values : Values V) where
 
   pub data IsNeeded (p : NamedProgram) (o : Outer) (t : Facts V) : Text → Type 0 where
     AtPosition : (k : MethodKey) (n : ℕ) (u : Text) (at : At p t k n) → Contains (needs p at.form) u → IsNeeded p o t u
-    Makes : (u : Text) → o.classes u ≡ true → is_concrete p u ≡ true → IsNeeded p o t u
+    Makes : (u : Text) → may_be_made p o u ≡ true → IsNeeded p o t u
     Enters : (k : MethodKey) → IsEnteredStatic p o k → IsNeeded p o t k.class
 
   -- the entry of a method is reached, and with any arguments
@@ -278,7 +304,7 @@ module _ {V : Type 0} (values : Values V) where
   is_open_field o k f = o.fields k || (is_reference k.kind && is_some f.first)
 
   pub record HoldsFields (p : NamedProgram) (o : Outer) (t : Facts V) : Type 0 where
-    pub firsts : (k : FieldKey) (f : NamedField) → defined_field p k ≡ Some f → values.below (first_fact (first_of k (place_of k.class f))) (t.fields k)
+    pub firsts : (k : FieldKey) (f : NamedField) → defined_field p k ≡ Some f → values.below (first_fact (begun_with k f)) (t.fields k)
     pub opened : (k : FieldKey) (f : NamedField) → defined_field p k ≡ Some f → is_open_field o k f ≡ true → values.below values.any (t.fields k)
     pub puts : (m : MethodKey) (n from : ℕ) (item : Item) (k : FieldKey) (f : Text × NamedField) (at : At p t m n) → Puts item from k at.form → finds_field p k ≡ Some f →
         values.below (values.stored item (at.registers from)) (t.fields (own_key k f))

@@ -1,5 +1,5 @@
 -- Flat values, and what forms make of them (Dalvik bytecode, "Summary of bytecode set").
-use Rattle.std.specs.Prelude.{◌≡◌, ℕ, ℤ, Bool, true, false, if◌then◌else◌, nat_eq, List, [], Option, Some, None}
+use Rattle.std.specs.Prelude.{◌≡◌, ℕ, ◌%◌, ◌^◌, ℤ, Bool, true, false, if◌then◌else◌, nat_eq, [], Option, Some, None}
 use Rattle.std.specs.Int.{w32, cast_unsigned}
 use Rattle.insn_set.specs.declared.ops.Test.{Test}
 use Rattle.insn_set.specs.declared.ops.CmpOp.{CmpOp}
@@ -9,11 +9,11 @@ use Rattle.insn_set.specs.declared.ops.UnaryOp.TheVariants as unary
 use Rattle.insn_set.specs.declared.ops.BinaryOp.{BinaryOp}
 use Rattle.insn_set.specs.declared.ops.LiteralOp.{LiteralOp}
 use Rattle.insn_set.specs.declared.ops.Item.{Item}
-use Rattle.dalvik_defs.specs.Arith.{Kind, answer, literal_answer, compared, signed, passes}
+use Rattle.dalvik_defs.specs.Arith.{answer, literal_answer, compared, signed, passes}
 use Rattle.dalvik_defs.specs.Operators.{Sort, OnWord, OnWide, Shifts, OnFloat, OnDouble, sort_of, Number, OneWord, OneWide, unary_answer}
 use Rattle.dalvik_defs.specs.Items.{stored}
-use Rattle.dalvik_defs.specs.State.{word_of}
-use Rattle.dalvik_defs.specs.declared.state.Value.TheVariants.{Word}
+use Rattle.dalvik_defs.specs.declared.state.Value.{Value}
+use Rattle.dalvik_defs.specs.declared.state.Value.TheVariants.{Word, Low}
 use Rattle.dalvik_defs.specs.declared.tables.Floats.{Floats}
 
 pub data Flat : Type 0 where
@@ -36,6 +36,12 @@ flat_joined x Bottom = x
 flat_joined (KnownWord a) (KnownWord b) = if nat_eq a b then KnownWord a else Any
 flat_joined (KnownWide a) (KnownWide b) = if nat_eq a b then KnownWide a else Any
 flat_joined x y = Any
+
+-- the flat value of what a register holds; references and high halves aren't known
+abbrev pub flat_of : Value → Flat
+flat_of (Word n) = KnownWord n
+flat_of (Low n) = KnownWide n
+flat_of v = Any
 
 -- ---- exact results of known operands; where an operand is Bottom the result is, else it is Any
 
@@ -72,8 +78,9 @@ of_number f (KnownWord n) = f n
 of_number f (KnownWide n) = f n
 of_number f Any = Any
 
+-- operations on int take the low 32 bits of what a register holds, as the machine does
 abbrev pub flat_sort : Sort → Flat → Flat → Flat
-flat_sort (OnWord k) x y = of_words (λ a b. word_or_none (answer k false a b)) x y
+flat_sort (OnWord k) x y = of_words (λ a b. word_or_none (answer k false (a % 2 ^ 32) (b % 2 ^ 32))) x y
 flat_sort (OnWide k) x y = of_wides (λ a b. wide_or_none (answer k true a b)) x y
 flat_sort (Shifts k) x y = of_shift (λ a b. wide_or_none (answer k true a b)) x y
 flat_sort (OnFloat op) x y = Any
@@ -83,7 +90,7 @@ abbrev pub flat_binary : BinaryOp → Flat → Flat → Flat
 flat_binary op x y = flat_sort (sort_of op) x y
 
 abbrev pub flat_literal : LiteralOp → Flat → ℤ → Flat
-flat_literal op x z = of_number (λ n. word_or_none (literal_answer op n (cast_unsigned w32 z))) x
+flat_literal op x z = of_number (λ n. word_or_none (literal_answer op (n % 2 ^ 32) (cast_unsigned w32 z))) x
 
 abbrev pub flat_compared : CmpOp → Flat → Flat → Flat
 flat_compared cmp.CmpLong x y = of_wides (λ a b. KnownWord (compared (signed true a) (signed true b))) x y
@@ -114,7 +121,8 @@ flat_unary op x = if is_exact op then of_number (λ n. flat_number (unary_answer
 
 -- what a field keeps
 abbrev pub flat_stored : Item → Flat → Flat
-flat_stored i (KnownWord n) = KnownWord (word_of (stored i (Word n)))
+flat_stored i (KnownWord n) = flat_of (stored i (Word n))
+flat_stored i (KnownWide n) = flat_of (stored i (Low n))
 flat_stored i x = x
 
 -- ---- branches

@@ -1,9 +1,7 @@
 -- Instructions whose result or outcome is known (this project's profile).
-use Rattle.std.specs.Prelude.{◌≡◌, ℕ, ◌+◌, ◌≤◌, ℤ, pos, Bool, true, false, ◌&&◌, not, List, [], ◌∷◌, Option, Some, None}
+use Rattle.std.specs.Prelude.{◌≡◌, ℕ, ◌≤◌, pos, Bool, true, false, List, [], ◌∷◌, Option, Some, None}
 use Rattle.std.specs.Int.{w32, w64, cast_signed}
 use Rattle.std.specs.List.{list_all}
-use Rattle.insn_set.specs.declared.form.Insn.{Insn}
-use Rattle.insn_set.specs.declared.form.Insn.TheVariants as insn
 use Rattle.insn_set.specs.Spelling.{units_of, is_encodable}
 use Rattle.dalvik_defs.specs.Face.{bodies_of}
 use Rattle.dalvik_defs.specs.Outer.{Outer}
@@ -12,9 +10,9 @@ use Rattle.dalvik_defs.specs.declared.forms.Form.{Form}
 use Rattle.dalvik_defs.specs.declared.forms.Form.TheVariants as form
 use Rattle.dalvik_defs.specs.declared.program.NamedBody.{NamedBody}
 use Rattle.dalvik_defs.specs.declared.program.NamedProgram.{NamedProgram}
-use Rattle.pass_defs.specs.Bare.{bare}
+use Rattle.pass_defs.specs.Bare.{bare, writes}
 use Rattle.pass_defs.specs.Walks.{form_at}
-use Rattle.pass_defs.specs.Flat.{Flat, Bottom, KnownWord, KnownWide, Any}
+use Rattle.pass_defs.specs.Flat.{Flat, KnownWord, KnownWide}
 use Rattle.pass_defs.specs.Facts.{after, form_before}
 use Rattle.pass_defs.specs.Constants.{flat, Solution, IsSolution, IsAlwaysReached, Knows, IsPure, is_known}
 
@@ -58,7 +56,8 @@ is_choice (form.PackedSwitch on first targets) = true
 is_choice (form.SparseSwitch on keys targets) = true
 is_choice f = false
 
--- A pure form, other than a nop or a number, whose result some solution knows, and a constant is no longer.
+-- A pure form, other than a nop or a number, whose result some solution knows. The constant writes just the registers that
+-- the form writes, so that of a wide place is wide and that of one register isn't, and is no longer than the form.
 pub record FoldsToNumber (p : NamedProgram) (o : Outer) (k : MethodKey) (b : NamedBody) (n : ℕ) (f : Form) : Type 0 where
   pub pure : IsPure p o k n f
   pub to : ℕ
@@ -69,6 +68,7 @@ pub record FoldsToNumber (p : NamedProgram) (o : Outer) (k : MethodKey) (b : Nam
   pub there : table.registers k n ≡ Some registers
   pub constant : Form
   pub known : constant_of to (after flat p table k.class (form_before b n) f registers to) ≡ Some constant
+  pub same : (r : ℕ) → writes constant r ≡ writes f r
   pub encodable : is_encodable (bare constant) ≡ true
   pub short : units constant ≤ units f
 

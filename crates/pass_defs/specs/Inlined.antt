@@ -1,15 +1,14 @@
 -- The body of a caller with the bodies of some callees in place of the calls (Dalvik bytecode, "invoke-kind"; this
 -- project's profile).
-use Rattle.std.specs.Prelude.{◌≡◌, ℕ, zero, suc, ◌+◌, ◌-◌, max, Bool, true, false, ◌&&◌, if◌then◌else◌, nat_eq, List, [], ◌∷◌, ◌++◌, map, drop, length, sum, Option, Some, None, slice_index_or}
+use Rattle.std.specs.Prelude.{ℕ, zero, suc, ◌+◌, ◌-◌, max, Bool, true, false, ◌&&◌, if◌then◌else◌, nat_eq, List, [], ◌∷◌, ◌++◌, map, drop, length, Option, Some, None, slice_index_or}
 use Rattle.std.specs.List.{list_any}
 use Rattle.std.specs.Option.{option_map}
 use Rattle.insn_set.specs.declared.ops.Slot.{Slot}
 use Rattle.insn_set.specs.declared.ops.Slot.TheVariants as slot
-use Rattle.insn_set.specs.declared.ops.InvokeKind.{InvokeKind}
 use Rattle.insn_set.specs.declared.ops.InvokeKind.TheVariants as call
 use Rattle.dalvik_defs.specs.Names.{Text, is_wide, is_reference}
 use Rattle.dalvik_defs.specs.Flags.{is_static}
-use Rattle.dalvik_defs.specs.Find.{Search, Nothing, Clash, Finds, finds_statically, defined_method}
+use Rattle.dalvik_defs.specs.Find.{Search, Finds, finds_statically, defined_method}
 use Rattle.dalvik_defs.specs.declared.names.MethodKey.{MethodKey}
 use Rattle.dalvik_defs.specs.declared.forms.Form.{Form}
 use Rattle.dalvik_defs.specs.declared.forms.Form.TheVariants as form
@@ -41,7 +40,8 @@ callee_of p (Some (form.Invoke call.Static k args)) = callee_found p args (finds
 callee_of p (Some (form.Invoke call.Direct k args)) = callee_found p args (finds_statically p k)
 callee_of p f = None
 
--- the accepted positions of a caller are a list
+-- The accepted positions of a caller are a list. Each is a site: behind another call that was listed, the MoveResult would be
+-- dropped and nothing put in its place.
 abbrev pub is_among : List ℕ → ℕ → Bool
 is_among accepted n = list_any (nat_eq n) accepted
 

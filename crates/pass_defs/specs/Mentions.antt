@@ -1,5 +1,5 @@
 -- The types, fields and methods that code, values and annotations name.
-use Rattle.std.specs.Prelude.{ℕ, List, [], ◌∷◌, ◌++◌, map, flat_map, Option, Some, None}
+use Rattle.std.specs.Prelude.{List, [], ◌∷◌, ◌++◌, map, flat_map, Option, Some, None}
 use Rattle.dalvik_defs.specs.Names.{Text}
 use Rattle.dalvik_defs.specs.declared.names.Signature.{Signature}
 use Rattle.dalvik_defs.specs.declared.names.MethodKey.{MethodKey}
@@ -9,7 +9,6 @@ use Rattle.dalvik_defs.specs.declared.forms.Form.TheVariants as form
 use Rattle.dalvik_defs.specs.declared.encoded.NamedValue.{NamedValue, NamedValue-F, fold-NamedValue}
 use Rattle.dalvik_defs.specs.declared.encoded.NamedValue.TheOpen as layer
 use Rattle.dalvik_defs.specs.declared.encoded.NamedNote.{NamedNote, NamedNote-F, fold-NamedNote}
-use Rattle.dalvik_defs.specs.declared.encoded.NamedElement.{NamedElement, NamedElement-F}
 use Rattle.dalvik_defs.specs.declared.encoded.NamedMark.{NamedMark}
 use Rattle.dalvik_defs.specs.declared.program.NamedBody.{NamedBody}
 use Rattle.dalvik_defs.specs.declared.program.NamedField.{NamedField}

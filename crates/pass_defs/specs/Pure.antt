@@ -1,5 +1,5 @@
 -- Forms that do nothing but write a register (Dalvik bytecode, "Summary of bytecode set"; this project's profile).
-use Rattle.std.specs.Prelude.{ℕ, ℤ, pos, Bool, true, false, ◌||◌, not, Option, Some, None}
+use Rattle.std.specs.Prelude.{pos, Bool, true, false, ◌||◌, not, Some, None}
 use Rattle.std.specs.Ordering.{int_eq}
 use Rattle.insn_set.specs.Flow.{divides, divides_by_literal}
 use Rattle.dalvik_defs.specs.Find.{finds_field}

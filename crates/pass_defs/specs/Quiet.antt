@@ -1,6 +1,5 @@
 -- Plainly quiet methods, whose calls can be dropped (this project's profile).
-use Rattle.std.specs.Prelude.{◌≡◌, ℕ, ◌+◌, Bool, true, false, ◌&&◌, not, List, [], ◌∷◌, Option, Some, None, Contains}
-use Rattle.insn_set.specs.declared.ops.InvokeKind.{InvokeKind}
+use Rattle.std.specs.Prelude.{◌≡◌, ℕ, ◌+◌, Bool, true, false, List, [], Option, Some, None, Contains}
 use Rattle.insn_set.specs.declared.ops.InvokeKind.TheVariants as call
 use Rattle.dalvik_defs.specs.Flags.{is_static}
 use Rattle.dalvik_defs.specs.Find.{Found, Finds, finds_statically, defined_method}

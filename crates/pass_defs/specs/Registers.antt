@@ -1,8 +1,7 @@
 -- The kinds of all registers at a position, and how a write changes them (this project's profile).
-use Rattle.std.specs.Prelude.{ℕ, zero, suc, ◌+◌, ◌-◌, Bool, true, false, ◌&&◌, if◌then◌else◌, nat_eq, nat_lt, List, [], ◌∷◌, ◌++◌, map, replicate, Option, Some, None, slice_index_or, slice_set}
-use Rattle.dalvik_defs.specs.Names.{Text}
+use Rattle.std.specs.Prelude.{ℕ, ◌+◌, ◌-◌, Bool, true, false, ◌&&◌, if◌then◌else◌, nat_eq, List, [], ◌∷◌, map, replicate, Option, Some, None, slice_index_or, slice_set}
 use Rattle.dalvik_defs.specs.declared.program.NamedProgram.{NamedProgram}
-use Rattle.pass_defs.specs.Kinds.{Kind, Undefined, Zero, Word, Low, High, Null, Class, Array, Reference, Fresh, FreshThis, kind_eq, is_below}
+use Rattle.pass_defs.specs.Kinds.{Kind, Undefined, Low, High, Fresh, kind_eq, is_below}
 
 -- A kind for each register, for the place of the last result, for that of the caught object, and in a constructor for the
 -- receiver's own place, which no form reads, writes or moves.

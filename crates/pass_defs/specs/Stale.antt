@@ -1,5 +1,5 @@
 -- Reads of a copy that could read the original (this project's profile).
-use Rattle.std.specs.Prelude.{◌≡◌, ℕ, ◌+◌, ◌<◌, ◌≤◌, Bool, true, false, ◌&&◌, ◌||◌, not, if◌then◌else◌, nat_eq, nat_lt, List, Option, Some, None, Contains}
+use Rattle.std.specs.Prelude.{◌≡◌, ℕ, ◌+◌, ◌<◌, ◌≤◌, Bool, true, false, ◌&&◌, ◌||◌, if◌then◌else◌, nat_eq, Some, Contains}
 use Rattle.insn_set.specs.Registers.{in_operand}
 use Rattle.insn_set.specs.Spelling.{is_encodable}
 use Rattle.insn_set.specs.Widths.{is_wide_slot}
@@ -9,7 +9,7 @@ use Rattle.dalvik_defs.specs.declared.forms.Form.TheVariants as form
 use Rattle.dalvik_defs.specs.declared.program.NamedBody.{NamedBody}
 use Rattle.pass_defs.specs.Bare.{bare, reads, writes}
 use Rattle.pass_defs.specs.Remade.{remade}
-use Rattle.pass_defs.specs.Walks.{form_at, onward, caught, successors, IsReached, IsReadAt}
+use Rattle.pass_defs.specs.Walks.{form_at, onward, successors, IsReached, IsReadAt}
 use Rattle.pass_defs.specs.Foldable.{units}
 
 -- a Move at a position

@@ -1,6 +1,6 @@
 -- Typings of a body, and the least flow that looks for one (this project's profile).
 use Rattle.std.specs.Prelude.{◌≡◌, ℕ, zero, suc, ◌+◌, ◌-◌, ℤ, pos, Bool, true, false, ◌&&◌, ◌||◌, not, if◌then◌else◌, nat_eq, List, [], ◌∷◌, ◌++◌, map, replicate, length, Option, Some, None, slice_index_or, Contains, codes}
-use Rattle.std.specs.List.{list_any, list_all}
+use Rattle.std.specs.List.{list_all}
 use Rattle.std.specs.Ordering.{int_eq}
 use Rattle.insn_set.specs.declared.ops.Slot.{Slot}
 use Rattle.insn_set.specs.declared.ops.Slot.TheVariants as slot
@@ -12,7 +12,7 @@ use Rattle.insn_set.specs.Widths.{is_wide_item, unary_writes_wide, binary_is_wid
 use Rattle.dalvik_defs.specs.Names.{Text, text_eq, is_word, is_wide, is_reference, is_array, is_class_type, is_void, item_of}
 use Rattle.dalvik_defs.specs.Flags.{is_static, is_interface, is_abstract}
 use Rattle.dalvik_defs.specs.Under.{class_named}
-use Rattle.dalvik_defs.specs.Find.{Found, Search, Nothing, Clash, Finds, finds_super, finds_field, resolves_method}
+use Rattle.dalvik_defs.specs.Find.{Search, Finds, finds_super, finds_field, resolves_method}
 use Rattle.dalvik_defs.specs.declared.names.MethodKey.{MethodKey}
 use Rattle.dalvik_defs.specs.declared.names.FieldKey.{FieldKey}
 use Rattle.dalvik_defs.specs.declared.forms.Form.{Form}

@@ -1,6 +1,5 @@
 pub mod Status
 pub mod Accepted
-pub mod InputFaults
 pub mod Commands
 pub mod FaultLines
 pub mod Fetching

@@ -140,13 +140,6 @@ parts_in front back = record {
 abbrev pub runs_in : Front → Back → List Run
 runs_in front back = front.lists.run ∷ back.refs ∷ back.sets ∷ back.codes ∷ front.directories.run ∷ front.data.run ∷ front.strings.run ∷ back.lines ∷ back.marks ∷ back.firsts.run ∷ []
 
--- the runs of a program that uses these entries and whose classes are these
-abbrev pub front_in : Program → Interner → List Plan → Front
-front_in p i plans = front_of p i plans (data_at (counts_of i plans))
-
-abbrev pub back_in : Program → Interner → List Plan → Back
-back_in p i plans = back_of p i.numbers plans (front_in p i plans)
-
 -- the file of a program that uses these entries and whose classes are these
 unfoldable pub file_for : Program → Interner → List Plan → List ℕ
 file_for p i plans =

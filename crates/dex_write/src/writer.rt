@@ -1,6 +1,6 @@
 //! The whole writer: which items stand where.
 
-ghost use Rattle.std.specs.Prelude.{◌≡◌, ◌<◌, ◌^◌, length, map, slice_get, option_copied, IfOk, OnOk};
+ghost use Rattle.std.specs.Prelude.{◌≡◌, length, map, slice_get, option_copied, IfOk, OnOk};
 ghost use Rattle.std.specs.List.{flat_map};
 ghost use Rattle.dex_write.specs.Plans.{plan_in};
 ghost use Rattle.dex_write.specs.Codes.{IsPlan};
@@ -113,10 +113,10 @@ fn counts_of(interner: &Interner, order: &[Ordered]) -> Result<Counts, AllocErro
 
 /// A run of items, the offset of each, 0 for one without bytes, and where the run ends.
 #[derive(Drop)]
-pub struct Placed {
-    pub run: Run,
-    pub offsets: Seq<u32>,
-    pub end: u32,
+struct Placed {
+    run: Run,
+    offsets: Seq<u32>,
+    end: u32,
 }
 
 /// The run of items that stand from `at` on, where the runs before it end at `before`.
@@ -136,11 +136,11 @@ fn place_items(kind: Kind, before: u32, at: u32, items: Items) -> Result<Placed,
 
 /// How many entries the lists of four-byte entries of one kind have, where each stands, and where they begin and end.
 #[derive(Drop)]
-pub struct Words {
-    pub counts: Seq<u32>,
-    pub offsets: Seq<u32>,
-    pub at: u32,
-    pub end: u32,
+struct Words {
+    counts: Seq<u32>,
+    offsets: Seq<u32>,
+    at: u32,
+    end: u32,
 }
 
 /// Where lists of so many entries end that stand behind runs that end at `before`.
@@ -191,10 +191,10 @@ fn words_run(
 
 /// Where the code items begin and end, how many there are, and how many debug items.
 #[derive(Drop)]
-pub struct CodePlaces {
-    pub at: u32,
-    pub end: u32,
-    pub counts: Ends,
+struct CodePlaces {
+    at: u32,
+    end: u32,
+    counts: Ends,
 }
 
 /// Where the code ends behind runs that end at `before`.
@@ -221,14 +221,14 @@ fn codes_behind(before: u32, order: &[Ordered]) -> Result<CodePlaces, AllocError
 /// The runs up to the strings. Code and sets have their places here, and their bytes once those behind them have
 /// theirs.
 #[derive(Drop)]
-pub struct Front {
-    pub lists: Lists,
-    pub refs: Words,
-    pub sets: Words,
-    pub code: CodePlaces,
-    pub directories: Placed,
-    pub data: Placed,
-    pub strings: Placed,
+struct Front {
+    lists: Lists,
+    refs: Words,
+    sets: Words,
+    code: CodePlaces,
+    directories: Placed,
+    data: Placed,
+    strings: Placed,
 }
 
 /// The lists of sets of the methods' parameters, behind runs that end at `before`.
@@ -416,13 +416,13 @@ fn lines_run(alloc: Global, order: &[Ordered], count: u32, at: u32) -> Result<Ru
 
 /// The runs behind the strings, and those before them that wait for their places.
 #[derive(Drop)]
-pub struct Back {
-    pub lines: Run,
-    pub codes: Run,
-    pub refs: Run,
-    pub sets: Run,
-    pub marks: Run,
-    pub firsts: Placed,
+struct Back {
+    lines: Run,
+    codes: Run,
+    refs: Run,
+    sets: Run,
+    marks: Run,
+    firsts: Placed,
 }
 
 /// The run of lists of sets.
@@ -436,9 +436,9 @@ fn refs_run(alloc: Global, order: &[Ordered], refs: &Words, sets: &Words) -> Res
 
 /// The run of sets, and that of annotations behind it.
 #[derive(Drop)]
-pub struct Marks {
-    pub sets: Run,
-    pub marks: Run,
+struct Marks {
+    sets: Run,
+    marks: Run,
 }
 
 /// The run of sets, and that of annotations from `at` on.
@@ -508,10 +508,10 @@ fn back_of(
 
 /// The offsets of strings, of the protos' parameters, and of what classes have.
 #[derive(Drop)]
-pub struct Parts {
-    pub strings: Seq<u32>,
-    pub parameters: Seq<u32>,
-    pub offsets: ClassOffsets,
+struct Parts {
+    strings: Seq<u32>,
+    parameters: Seq<u32>,
+    offsets: ClassOffsets,
 }
 
 /// The file of these offsets and runs.
@@ -525,7 +525,6 @@ fn file_with(
 ) -> Result<Vec<u8>, AllocError>
     ensures is { IfOk result (λ v. v.items ≡ file_with program.now interner.now (map plan_in order.now) parts.now runs.now) }
     ensures sealed { IfOk result (λ v. IsSealed program.now.version v.items) }
-    ensures few { IfOk result (λ v. length v.items < 2 ^ 32) }
 {
     let counts = counts_of(interner, order)?;
     let tables = table_words(
@@ -621,7 +620,6 @@ fn file_for(
 ) -> Result<Vec<u8>, AllocError>
     ensures is { IfOk result (λ v. v.items ≡ file_for program.now interner.now (map plan_in order.now)) }
     ensures sealed { IfOk result (λ v. IsSealed program.now.version v.items) }
-    ensures few { IfOk result (λ v. length v.items < 2 ^ 32) }
 {
     let counts = counts_of(interner, order)?;
     let front = front_of(alloc, program, interner, order, starts_of(counts)?.data)?;
@@ -639,7 +637,6 @@ fn file_for(
 pub fn write_dex(alloc: Global, program: &Program) -> Result<Vec<u8>, AllocError>
     ensures is { IfOk result (λ v. IsWritten program.now v.items) }
     ensures sealed { IfOk result (λ v. IsSealed program.now.version v.items) }
-    ensures few { IfOk result (λ v. length v.items < 2 ^ 32) }
 {
     let interner = Interner::collect(alloc, program)?;
     let places = written_order(alloc, program)?;

@@ -19,7 +19,7 @@ use Rattle.dalvik_steps.proofs.calling.calls.Goals as goal
 use Rattle.dalvik_steps.proofs.calling.calls.Goals.{else-not-takes_no_receiver-via-then-not-takes_no_receiver+else-is_null, else-not-takes_no_receiver-via-else-not-takes_no_receiver}
 
 pub returns-then-is_null-clause-ok : goal.returns-then-is_null-clause-ok
-returns-then-is_null-clause-ok c = λ o floats script steps f len run top low.
+returns-then-is_null-clause-ok c = λ o floats script steps f run top low.
     let l = c.args.tables.now.lookups in
     let n = names_in l in
     let old = c.args.state.now in
@@ -36,10 +36,10 @@ returns-then-is_null-clause-ok c = λ o floats script steps f len run top low.
     let null = null_passed n f args p.0.items p.1 p.2 c.is_null.result _ pass c.is_null.ensures c.if-is_null.true in
     let is = ap (λ (xs : List Value). calls face need c.args.kind key xs w g) (values_passed n f args p.0.items p.1 p.2 pass) ∙ calls_null face need key vs w g c.args.kind takes null in
     subst (λ (x : Outcome). IfOk c.throws.result (λ (e : Option Event). IsNext l steps script c.throws.new.memo c.throws.new.state e (comes_of l o floats script old f x))) (sym is)
-    (faulted_of l o floats script steps old f top run.right c.throws.new.memo c.throws.new.state 8 null_pointer refl c.throws.result (c.throws.ensures.ok steps script len run (omega arith)))
+    (faulted_of l o floats script steps old f top run.right c.throws.new.memo c.throws.new.state 8 null_pointer refl c.throws.result (c.throws.ensures.ok steps script run (omega arith)))
 
 pub returns-clause-ok : goal.returns-clause-ok
-returns-clause-ok c = λ o floats script steps f len run top low.
+returns-clause-ok c = λ o floats script steps f run top low.
     let l = c.args.tables.now.lookups in
     let n = names_in l in
     let old = c.args.state.now in
@@ -58,7 +58,7 @@ returns-clause-ok c = λ o floats script steps f len run top low.
     ] in
     let is = ap (λ (xs : List Value). calls face need c.args.kind key xs w g) (values_passed n f args p.0.items p.1 p.2 pass) ∙ calls_there face need key vs w g c.args.kind there in
     subst (λ (x : Outcome). IfOk c.calls_on.result (λ (e : Option Event). IsNext l steps script c.calls_on.new.memo c.calls_on.new.state e (comes_of l o floats script old f x))) (sym is)
-    (c.calls_on.ensures.ok o floats script steps f len run top low (sym pass.class) (fine_passed l steps old f args p.0.items p.1 p.2 run.state top pass))
+    (c.calls_on.ensures.ok o floats script steps f run top low (sym pass.class) (fine_passed l steps old f args p.0.items p.1 p.2 run.state top pass))
 
 pub returns-clause-err : goal.returns-clause-err
 returns-clause-err c = λ steps f run top low.

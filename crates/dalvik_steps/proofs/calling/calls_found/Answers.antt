@@ -14,7 +14,7 @@ use Rattle.dalvik_steps.proofs.Outcomes.{entered_next}
 use Rattle.dalvik_steps.proofs.calling.calls_found.Goals as goal
 
 pub returns-in_ok-enters-clause-ok : goal.returns-in_ok-enters-clause-ok
-returns-in_ok-enters-clause-ok c = λ o floats script steps f g len run top found at fine.
+returns-in_ok-enters-clause-ok c = λ o floats script steps f g run top found at fine.
     let l = c.args.tables.now.lookups in
     let own = c.args.found.1.now in
     let vs = values_of (names_in l) c.args.call.now.values.items in
@@ -32,9 +32,9 @@ returns-in_err-enters-clause-err c = λ steps f g run top found.
     err_of _ _ u
 
 pub returns-else-is_some-clause-ok : goal.returns-else-is_some-clause-ok
-returns-else-is_some-clause-ok c = λ o floats script steps f g len run top found at fine.
+returns-else-is_some-clause-ok c = λ o floats script steps f g run top found at fine.
     let l = c.args.tables.now.lookups in
     let vs = values_of (names_in l) c.args.call.now.values.items in
     let coded = found.coded ∙ sym c.is_some.ensures ∙ c.if-is_some.false in
     subst (λ (x : Outcome). IfOk c.calls_uncoded.result (λ (e : Option Event). IsNext l steps script c.calls_uncoded.new.memo c.calls_uncoded.new.state e (comes_of l o floats script c.args.state.now f x))) (sym (found_by c.args.call.now.kind g vs (world_in l c.args.state.now) _ coded))
-    (c.calls_uncoded.ensures.ok o floats script steps f g len run top found fine)
+    (c.calls_uncoded.ensures.ok o floats script steps f g run top found fine)

@@ -16,7 +16,7 @@ use Rattle.dalvik_steps.proofs.Sought.{found_named, step_low}
 use Rattle.dalvik_steps.proofs.calling.calls_on.Goals as goal
 
 pub returns-clause-ok : goal.returns-clause-ok
-returns-clause-ok c = λ o floats script steps f len run top low class fine.
+returns-clause-ok c = λ o floats script steps f run top low class fine.
     let l = c.args.tables.now.lookups in
     let n = names_in l in
     let old = c.args.state.now in
@@ -26,7 +26,7 @@ returns-clause-ok c = λ o floats script steps f len run top low class fine.
     let kept = c.finds.ensures.kept run.right run.kept run.state.world low own in
     subst (λ (x : name.Search). IfOk c.calls_by.result (λ (e : Option Event). IsNext l steps script c.calls_by.new.memo c.calls_by.new.state e (comes_of l o floats script old f (calls_by (need_in l old) c.args.call.now.kind key vs (world_in l old) (frame_of n f) x))))
     (c.in_ok-search.ensures.is run.right run.kept run.state.world low own ∙ found_named l steps old f c.args.own c.args.call.now.kind key c.args.call.now.values.items run.state top class)
-    (c.calls_by.ensures.ok o floats script steps f len (run_kept l steps c.args.memo.now c.finds.new.memo old kept run) top low fine)
+    (c.calls_by.ensures.ok o floats script steps f (run_kept l steps c.args.memo.now c.finds.new.memo old kept run) top low fine)
 
 pub returns-clause-err : goal.returns-clause-err
 returns-clause-err c = λ steps f run top low class.

@@ -14,7 +14,7 @@ use Rattle.dalvik_steps.proofs.Reserved.{step_of}
 use Rattle.dalvik_steps.proofs.calling.calls_uncoded.Goals as goal
 
 pub returns-then-has-clause-ok : goal.returns-then-has-clause-ok
-returns-then-has-clause-ok c = λ o floats script steps f g len run top found fine.
+returns-then-has-clause-ok c = λ o floats script steps f g run top found fine.
     let l = c.args.tables.now.lookups in
     let own = c.args.method.now in
     let vs = values_of (names_in l) c.args.call.now.values.items in
@@ -30,7 +30,7 @@ pub returns-then-has-clause-err : goal.returns-then-has-clause-err
 returns-then-has-clause-err c = λ steps f g run top found. undone_of c.args.tables.now.lookups c.args.memo.now steps c.args.state.now c.calls_out.new.state c.calls_out.result run c.calls_out.ensures.err
 
 pub returns-else-has-clause-ok : goal.returns-else-has-clause-ok
-returns-else-has-clause-ok c = λ o floats script steps f g len run top found fine.
+returns-else-has-clause-ok c = λ o floats script steps f g run top found fine.
     let l = c.args.tables.now.lookups in
     let own = c.args.method.now in
     let vs = values_of (names_in l) c.args.call.now.values.items in
@@ -38,7 +38,7 @@ returns-else-has-clause-ok c = λ o floats script steps f g len run top found fi
     let native = native_test l g own c.has.result _ found c.has.ensures c.if-has.false in
     subst (λ (x : Outcome). IfOk c.throws.result (λ (e : Option Event). IsNext l steps script c.throws.new.memo c.throws.new.state e (comes_of l o floats script c.args.state.now f x)))
     (sym (uncoded_by c.args.call.now.kind g vs w _ native))
-    (faulted_of l o floats script steps c.args.state.now f top run.right c.throws.new.memo c.throws.new.state 19 abstract_method refl c.throws.result (c.throws.ensures.ok steps script len run (omega arith)))
+    (faulted_of l o floats script steps c.args.state.now f top run.right c.throws.new.memo c.throws.new.state 19 abstract_method refl c.throws.result (c.throws.ensures.ok steps script run (omega arith)))
 
 pub returns-else-has-clause-err : goal.returns-else-has-clause-err
 returns-else-has-clause-err c = λ steps f g run top found. c.throws.ensures.err steps run (omega arith)

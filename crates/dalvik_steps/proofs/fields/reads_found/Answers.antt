@@ -13,15 +13,15 @@ use Rattle.dalvik_steps.proofs.Reserved.{step_of, undone_run}
 use Rattle.dalvik_steps.proofs.fields.reads_found.Goals as goal
 
 pub returns-in-None-clause-ok : goal.returns-in-None-clause-ok
-returns-in-None-clause-ok c = λ o floats script steps f place len run top h fo found.
+returns-in-None-clause-ok c = λ o floats script steps f place run top h fo found.
     let l = c.args.tables.now.lookups in
     let n = names_in l in
     subst (λ (x : Option Datum). IfOk c.reads_static.result (λ (e : Option Event). IsNext l steps script c.reads_static.new.memo c.reads_static.new.state e (comes_of l o floats script c.args.state.now f (reads (run_face l) (need_in l c.args.state.now) c.args.reading.item c.args.reading.to (field_at l.program.now c.args.reading.field) (option_map (value_of n) x) (world_in l c.args.state.now) (frame_of n f))))) (sym c.in-None.is)
     (subst (λ (x : Option Place). IfOk c.reads_static.result (λ (e : Option Event). IsNext l steps script c.reads_static.new.memo c.reads_static.new.state e (comes_of l o floats script c.args.state.now f (reads_static (need_in l c.args.state.now) c.args.reading.item c.args.reading.to (field_at l.program.now c.args.reading.field) (world_in l c.args.state.now) (frame_of n f) x)))) (sym found)
-    (c.reads_static.ensures.ok o floats script steps f place len run top h fo))
+    (c.reads_static.ensures.ok o floats script steps f place run top h fo))
 
 pub returns-in-Some-clause-ok : goal.returns-in-Some-clause-ok
-returns-in-Some-clause-ok c = λ o floats script steps f place len run top h fo found.
+returns-in-Some-clause-ok c = λ o floats script steps f place run top h fo found.
     let l = c.args.tables.now.lookups in
     let n = names_in l in
     record {

@@ -16,7 +16,7 @@ use Rattle.dalvik_steps.proofs.Nexts.{next_of, undone_of}
 use Rattle.dalvik_steps.proofs.fields.writes.Goals as goal
 
 pub returns-in-None-clause-ok : goal.returns-in-None-clause-ok
-returns-in-None-clause-ok c = λ o floats script steps f len run top h.
+returns-in-None-clause-ok c = λ o floats script steps f run top h.
     let l = c.args.tables.now.lookups in
     let n = names_in l in
     let none = field_unfound l run.right c.args.writing.field h.field (sym (c.in-None.ensures run.right)) in
@@ -27,10 +27,10 @@ pub returns-in-None-clause-err : goal.returns-in-None-clause-err
 returns-in-None-clause-err c = λ steps f run top h. undone_of c.args.tables.now.lookups c.args.memo.now steps c.args.state.now c.writes_out.new.state c.writes_out.result run c.writes_out.ensures.err
 
 pub returns-in-Some-clause-ok : goal.returns-in-Some-clause-ok
-returns-in-Some-clause-ok c = λ o floats script steps f len run top h.
+returns-in-Some-clause-ok c = λ o floats script steps f run top h.
     let l = c.args.tables.now.lookups in
     let found = field_found l run.right c.args.writing.field c.in-Some.at.0 c.in-Some.at.1 h.field (sym (c.in-Some.ensures run.right)) in
-    c.writes_found.ensures.ok o floats script steps f found.place len run top h found.of found.found
+    c.writes_found.ensures.ok o floats script steps f found.place run top h found.of found.found
 
 pub returns-in-Some-clause-err : goal.returns-in-Some-clause-err
 returns-in-Some-clause-err c = λ steps f run top h.

@@ -14,15 +14,15 @@ use Rattle.dalvik_steps.proofs.Reserved.{step_of, undone_run}
 use Rattle.dalvik_steps.proofs.fields.writes_found.Goals as goal
 
 pub returns-in-None-clause-ok : goal.returns-in-None-clause-ok
-returns-in-None-clause-ok c = λ o floats script steps f place len run top h fo found.
+returns-in-None-clause-ok c = λ o floats script steps f place run top h fo found.
     let l = c.args.tables.now.lookups in
     let n = names_in l in
     subst (λ (x : Option Datum). IfOk c.writes_static.result (λ (e : Option Event). IsNext l steps script c.writes_static.new.memo c.writes_static.new.state e (comes_of l o floats script c.args.state.now f (writes (run_face l) (need_in l c.args.state.now) (field_at l.program.now c.args.writing.field) (option_map (value_of n) x) (value_of n c.args.writing.value) (world_in l c.args.state.now) (frame_of n f))))) (sym c.in-None.is)
     (subst (λ (x : Option Place). IfOk c.writes_static.result (λ (e : Option Event). IsNext l steps script c.writes_static.new.memo c.writes_static.new.state e (comes_of l o floats script c.args.state.now f (writes_static (need_in l c.args.state.now) (field_at l.program.now c.args.writing.field) (value_of n c.args.writing.value) (world_in l c.args.state.now) (frame_of n f) x)))) (sym found)
-    (c.writes_static.ensures.ok o floats script steps f place len run top h fo))
+    (c.writes_static.ensures.ok o floats script steps f place run top h fo))
 
 pub returns-in_ok-writes_instance-in-Some-clause-ok : goal.returns-in_ok-writes_instance-in-Some-clause-ok
-returns-in_ok-writes_instance-in-Some-clause-ok c = λ o floats script steps f place len run top h fo found.
+returns-in_ok-writes_instance-in-Some-clause-ok c = λ o floats script steps f place run top h fo found.
     let l = c.args.tables.now.lookups in
     let n = names_in l in
     record {

@@ -15,7 +15,7 @@ use Rattle.dalvik_steps.proofs.Reserved.{step_of}
 use Rattle.dalvik_steps.proofs.objects.makes.Goals as goal
 
 pub returns-in-Some-clause-ok : goal.returns-in-Some-clause-ok
-returns-in-Some-clause-ok c = λ o floats script steps f len run top low.
+returns-in-Some-clause-ok c = λ o floats script steps f run top low.
     let l = c.args.tables.now.lookups in
     let n = names_in l in
     let typed = c.kind-own.ensures.is run.right.tabled.named low in
@@ -24,10 +24,10 @@ returns-in-Some-clause-ok c = λ o floats script steps f len run top low.
     let place = sym (c.in-Some.ensures run.right typed.kind) in
     subst (λ (x : Text). IfOk c.makes_ready.result (λ (e : Option Event). IsNext l steps script c.makes_ready.new.memo c.makes_ready.new.state e (comes_of l o floats script c.args.state.now f (makes (run_face l) (need_in l c.args.state.now) c.args.to x (world_in l c.args.state.now) (frame_of n f))))) typed.text
     (subst (λ (x : Outcome). IfOk c.makes_ready.result (λ (e : Option Event). IsNext l steps script c.makes_ready.new.memo c.makes_ready.new.state e (comes_of l o floats script c.args.state.now f x))) (sym (makes_some l run.right (need_in l c.args.state.now) c.args.to c.in-Some.class t (world_in l c.args.state.now) (frame_of n f) place))
-    (c.makes_ready.ensures.ok o floats script steps f len run top fine place))
+    (c.makes_ready.ensures.ok o floats script steps f run top fine place))
 
 pub returns-in-None-clause-ok : goal.returns-in-None-clause-ok
-returns-in-None-clause-ok c = λ o floats script steps f len run top low.
+returns-in-None-clause-ok c = λ o floats script steps f run top low.
     let l = c.args.tables.now.lookups in
     let n = names_in l in
     let typed = c.kind-own.ensures.is run.right.tabled.named low in

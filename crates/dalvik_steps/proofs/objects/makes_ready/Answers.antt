@@ -1,4 +1,4 @@
-use Rattle.std.proofs.Common.{[], arith, ap, subst, sym, ◌∙◌}
+use Rattle.std.proofs.Common.{[], ap, subst, sym, ◌∙◌}
 use Rattle.std.specs.Prelude.{None}
 use Rattle.dalvik_defs.specs.Effect.{next, write}
 use Rattle.dalvik_defs.specs.Outcome.{Stays}
@@ -16,12 +16,12 @@ use Rattle.dalvik_steps.proofs.Reserved.{step_of, undone}
 use Rattle.dalvik_steps.proofs.objects.makes_ready.Goals as goal
 
 pub returns-in_ok-makes_own-in-Ready-clause-ok : goal.returns-in_ok-makes_own-in-Ready-clause-ok
-returns-in_ok-makes_own-in-Ready-clause-ok c = λ o floats script steps f len run top fine e.
+returns-in_ok-makes_own-in-Ready-clause-ok c = λ o floats script steps f run top fine e.
     let l = c.args.tables.now.lookups in
     let n = names_in l in
     let t = type_text l.types c.args.kind in
     let low = named_class_low l c.args.class t e in
-    let ready = subst (IsReadied l steps script c.readies.new.memo c.args.state.now c.readies.new.state c.args.class) c.in-Ready.is (c.in_ok-readies.ensures.readied steps script len run low) in
+    let ready = subst (IsReadied l steps script c.readies.new.memo c.args.state.now c.readies.new.state c.args.class) c.in-Ready.is (c.in_ok-readies.ensures.readied steps script run low) in
     let need = ap (need_in l c.args.state.now) (sym (named_class_text l c.args.class t e)) ∙ ready.need in
     let step = subst (λ (s : State). IsStep l steps s f) (sym ready.same) (step_of l c.args.memo.now steps c.args.state.now f run top) in
     let ev = c.in_ok-makes_own-in-Ready.ensures.ok l o floats script steps f step fine in
@@ -29,28 +29,28 @@ returns-in_ok-makes_own-in-Ready-clause-ok c = λ o floats script steps f len ru
     ready_next l o floats script steps c.args.state.now f top c.readies.new.memo _ None (need_in l c.args.state.now t) t (Stays (with_thing (world_in l c.args.state.now) (fresh t)) (next (write (frame_of n f) c.args.to (next_object (world_in l c.args.state.now)))) None) need (record { event = there; kept = c.readies.ensures.kept steps run low })
 
 pub returns-in-Started-clause-ok : goal.returns-in-Started-clause-ok
-returns-in-Started-clause-ok c = λ o floats script steps f len run top fine e.
+returns-in-Started-clause-ok c = λ o floats script steps f run top fine e.
     let l = c.args.tables.now.lookups in
     let n = names_in l in
     let t = type_text l.types c.args.kind in
     let low = named_class_low l c.args.class t e in
-    let started = subst (IsReadied l steps script c.readies.new.memo c.args.state.now c.readies.new.state c.args.class) c.in-Started.is (c.in_ok-readies.ensures.readied steps script len run low) in
+    let started = subst (IsReadied l steps script c.readies.new.memo c.args.state.now c.readies.new.state c.args.class) c.in-Started.is (c.in_ok-readies.ensures.readied steps script run low) in
     started_next l o floats script steps c.args.state.now f top c.readies.new.memo c.readies.new.state c.args.class t (Stays (with_thing (world_in l c.args.state.now) (fresh t)) (next (write (frame_of n f) c.args.to (next_object (world_in l c.args.state.now)))) None) (named_class_text l c.args.class t e) started (c.readies.ensures.kept steps run low)
 
 pub returns-in-Failed-clause-ok : goal.returns-in-Failed-clause-ok
-returns-in-Failed-clause-ok c = λ o floats script steps f len run top fine e.
+returns-in-Failed-clause-ok c = λ o floats script steps f run top fine e.
     let l = c.args.tables.now.lookups in
     let n = names_in l in
     let t = type_text l.types c.args.kind in
     let low = named_class_low l c.args.class t e in
-    let failed = subst (IsReadied l steps script c.readies.new.memo c.args.state.now c.readies.new.state c.args.class) c.in-Failed.is (c.in_ok-readies.ensures.readied steps script len run low) in
+    let failed = subst (IsReadied l steps script c.readies.new.memo c.args.state.now c.readies.new.state c.args.class) c.in-Failed.is (c.in_ok-readies.ensures.readied steps script run low) in
     failed_next l o floats script steps c.args.state.now f top c.readies.new.memo c.readies.new.state c.args.class t (Stays (with_thing (world_in l c.args.state.now) (fresh t)) (next (write (frame_of n f) c.args.to (next_object (world_in l c.args.state.now)))) None) c.in-Failed.event (named_class_text l c.args.class t e) failed
 
 pub returns-in_err-makes_own-in-Ready-clause-err : goal.returns-in_err-makes_own-in-Ready-clause-err
 returns-in_err-makes_own-in-Ready-clause-err c = λ steps run e.
     let l = c.args.tables.now.lookups in
     let low = named_class_low l c.args.class (type_text l.types c.args.kind) e in
-    let ready = subst (IsReadied l steps [] c.readies.new.memo c.args.state.now c.readies.new.state c.args.class) c.in-Ready.is (c.in_ok-readies.ensures.readied steps [] (omega arith) run low) in
+    let ready = subst (IsReadied l steps [] c.readies.new.memo c.args.state.now c.readies.new.state c.args.class) c.in-Ready.is (c.in_ok-readies.ensures.readied steps [] run low) in
     let reserved = subst (λ (s : State). IsReserved s c.makes_own.new.state) ready.same c.in_err-makes_own-in-Ready.ensures.err in
     let both : IsUndoneWith l steps c.readies.new.memo c.args.state.now c.makes_own.new.state = record { undone = undone l steps c.args.state.now c.makes_own.new.state reserved run.state run.on; kept = c.readies.ensures.kept steps run low } in
     err_of _ _ both

@@ -76,12 +76,7 @@ impl<'a> Lookups<'a> {
     }
 
     /// Whether a type stands under a class with a kept virtual method of the name and the proto of a method number.
-    pub fn has_keeper(
-        &self,
-        memo: &mut Memo,
-        lower: Kind,
-        method: u32,
-    ) -> Result<bool, AllocError>
+    pub fn has_keeper(&self, memo: &mut Memo, lower: Kind, method: u32) -> Result<bool, AllocError>
         ensures kept { (o : Outside) (q : MethodName) → IsRight self.now → IsOuter self.now.program.now o self.now.outer → IsKept self.now memo.old → IsKind self.now.types lower
             → slice_get self.now.program.now.methods method ≡ Some q → IsKept self.now memo.new }
         ensures is { (o : Outside) (q : MethodName) → IsRight self.now → IsOuter self.now.program.now o self.now.outer → IsKept self.now memo.old → IsKind self.now.types lower

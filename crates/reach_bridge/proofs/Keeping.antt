@@ -315,11 +315,16 @@ module _ (p : Program) (o : Outside) (s : LiveSet) (g : IsMarked p o s) where
         entry = w.entry;
         is_entry = w.is_entry;
         is = w.is;
-        begins = λ y i. inr (fact.Class live.number, (live.marked,
+        begins = λ y i. inr (
+          fact.Class live.number,
+          (
+            live.marked,
             in_back y (class_facts p g.closed.tables.bases.items live.number) (conditional p g.closed.tables live.number)
-            (in_back y (flat_map (kept_field p) (row_of g.closed.tables.fields_if live.number)) (flat_map (kept_method p) (row_of g.closed.tables.methods_if live.number) ++ flat_map (kept_class p) (row_of g.closed.tables.classes_if live.number))
-            (in_front y (flat_map (kept_method p) (row_of g.closed.tables.methods_if live.number)) (flat_map (kept_class p) (row_of g.closed.tables.classes_if live.number))
-            (in_flat (kept_method p) w.number y (row_of g.closed.tables.methods_if live.number) row i)))));
+                (in_back y (flat_map (kept_field p) (row_of g.closed.tables.fields_if live.number)) (flat_map (kept_method p) (row_of g.closed.tables.methods_if live.number) ++ flat_map (kept_class p) (row_of g.closed.tables.classes_if live.number))
+                (in_front y (flat_map (kept_method p) (row_of g.closed.tables.methods_if live.number)) (flat_map (kept_class p) (row_of g.closed.tables.classes_if live.number))
+                (in_flat (kept_method p) w.number y (row_of g.closed.tables.methods_if live.number) row i))),
+          ),
+        );
       }
 
   pub kept_by_number : (f : MethodKey) → defines (named p) f.class ≡ true → IsKeptMethod f → KeptMethod f

@@ -179,9 +179,13 @@ module _ (p : NamedProgram) (o : Outer) (kept : Conditions) (s : Family) (f : Fr
   -- a class of which a constructor is kept
   constructor_kept : (t : Text) → o.constructed t ≡ true → (k : MethodKey) × ((k.class ≡ t) × ((is_constructor k ≡ true) × (is_kept_method o kept s k ≡ true)))
   constructor_kept t e =
-      let w = table.inside.constructed t e in
-      (w.0, (text_sound w.0.class t (and_left (text_eq w.0.class t) (is_constructor w.0) w.1.1),
-      (and_behind (text_eq w.0.class t) (is_constructor w.0) w.1.1, ap (λ b. b || (kept.methods w.0 && s.classes w.0.class)) w.1.0)))
+      let w = table.inside.constructed t e in (
+        w.0,
+        (
+          text_sound w.0.class t (and_left (text_eq w.0.class t) (is_constructor w.0) w.1.1),
+          (and_behind (text_eq w.0.class t) (is_constructor w.0) w.1.1, ap (λ b. b || (kept.methods w.0 && s.classes w.0.class)) w.1.0),
+        ),
+      )
 
   reached_class : (t : Text) → defines p t ≡ true → (o.classes t || o.constructed t) ≡ true → s.classes t ≡ true
   reached_class t d e = by (o.classes t) refl e

@@ -158,7 +158,6 @@ module _ (ok made : Text → Type 0) (live : MethodKey → Type 0) (says : Metho
           ≡ elim x as (λ x. State) [ true ↦ On w c (Method (entry_frame k vs b) ∷ sifted stack) script | false ↦ Ended ]
       by true = refl
       by false = refl
-
   body_sifted None w c k vs stack script = refl
 
   pub entering : (w : World) (c : Classes) (k : MethodKey) (vs : List Value) (stack : List Waiting) (script : List Move)

@@ -13,7 +13,7 @@ returns-clause-is c = λ o q r u m h e.
     let key = c.key_of_method-key.ensures.is c.args.self.now.program.now q e in
     c.in_ok-found.ensures.is o q.name q.proto (record { right = r; outer = u; key_is = key }) m h
     ∙ ap (list_any (keeps_over c.args.self.now.program.now c.args.self.now.framework.now o q.name q.proto (type_text c.args.self.now.types c.args.lower)))
-      (c.definers_of.ensures c.args.self.now.program.now q.name q.proto r.resolved.of key)
+    (c.definers_of.ensures c.args.self.now.program.now q.name q.proto r.resolved.of key)
 
 pub returns-in_err-found-clause-kept : goal.returns-in_err-found-clause-kept
 returns-in_err-found-clause-kept c = λ o q r u m h e.

@@ -1,0 +1,4 @@
+pub mod Onward
+pub mod Rewriting
+pub mod Programs
+pub mod Bodies

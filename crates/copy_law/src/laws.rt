@@ -1,0 +1,14 @@
+//! Laws of a program that reads originals in place of copies.
+
+ghost use Rattle.dalvik_defs.specs.Outer.{Outer};
+ghost use Rattle.dalvik_defs.specs.Shown.{SameShown};
+ghost use Rattle.dalvik_defs.specs.declared.program.NamedProgram.{NamedProgram};
+ghost use Rattle.silence_law.specs.Bodies.{Change, changed};
+ghost use Rattle.place_law.specs.Solid.{AllSolid};
+ghost use Rattle.copy_law.specs.Copied.{AllReadOriginals};
+
+/// A program shows the same with bodies that read originals in place of copies, for every framework, float table and
+/// script that fit.
+pub fn copied_law()
+    ensures { (p : NamedProgram) (o : Outer) (new : Change) → AllSolid p → AllReadOriginals new p → SameShown p (changed new p) o }
+{}

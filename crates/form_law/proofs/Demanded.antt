@@ -19,11 +19,11 @@ use Rattle.dalvik_defs.specs.declared.forms.Form.TheVariants as form
 use Rattle.dalvik_defs.specs.declared.program.NamedClass.{NamedClass}
 use Rattle.dalvik_defs.specs.declared.program.NamedMethod.{NamedMethod}
 use Rattle.dalvik_defs.specs.declared.program.NamedProgram.{NamedProgram}
-use Rattle.pass_defs.specs.Kinds.{Kind, Low, High, kind_eq, is_number, is_initialised, fits}
+use Rattle.pass_defs.specs.Kinds.{Kind, Low, High, kind_eq, is_number, is_initialised, fits, fits_holder}
 use Rattle.pass_defs.specs.Registers.{Kinds, kind_at}
 use Rattle.pass_defs.specs.Remade.{remade}
 use Rattle.form_law.specs.Kinds.{renamed, AtFirst, SameKinds, AllSame}
-use Rattle.pass_defs.specs.Demands.{wide_or, tested, like, put_item, result_fits, Demand, Moved, Number, Pair, Behind, Initialised, Either, Fits, Holder, Constructed, AnArray, ArrayOf, Filled, meets, is_moved, holds_field, is_constructed, is_array_where, item_eq, width_of_item, slot_demand, second_tested, is_equality, is_constructor_name, passed_wide, passed, found_class, receiver_demands, call_demands, demands, place_allowed, is_allowed}
+use Rattle.pass_defs.specs.Demands.{wide_or, tested, like, put_item, result_fits, Demand, Moved, Number, Pair, Behind, Initialised, Either, Fits, Receiver, Holder, Constructed, AnArray, ArrayOf, Filled, meets, is_moved, holds_field, is_constructed, is_array_where, item_eq, has_width, slot_demand, second_tested, is_equality, is_constructor_name, passed_wide, passed, found_class, receiver_demands, call_demands, demands, place_allowed, is_allowed}
 
 map_on : {A B : Type 0} (f : A → B) (xs ys : List A) → map f (xs ++ ys) ≡ map f xs ++ map f ys
 map_on f [] ys = refl
@@ -133,11 +133,12 @@ module _ (p : NamedProgram) (c : NamedClass) (m : NamedMethod) (r d t : ℕ → 
     met x Initialised h e = ap is_initialised h.first ∙ e
     met x Either h e = ap (λ k. is_number k || is_initialised k) h.first ∙ e
     met x (Fits u) h e = ap (λ k. fits p k u) h.first ∙ e
+    met x (Receiver u) h e = ap (λ k. fits_holder p k u) h.first ∙ e
     met x (Holder q) h e = ap (holds_field p c q) h.first ∙ e
     met x (Constructed u) h e = ap (is_constructed c u) h.first ∙ e
     met x AnArray h e = ap (is_array_where (λ t. true)) h.first ∙ e
     met x (ArrayOf i) h e = ap (is_array_where (λ t. item_eq (item_of_type t) i)) h.first ∙ e
-    met x (Filled n) h e = ap (is_array_where (λ t. nat_eq (width_of_item (item_of_type t)) n)) h.first ∙ e
+    met x (Filled n) h e = ap (is_array_where (λ t. has_width n (item_of_type t))) h.first ∙ e
 
     all_met : (xs : List (ℕ × Demand)) → AllSame r ks ks' xs → list_all (λ x. meets p c ks x.0 x.1) xs ≡ true → list_all (λ x. meets p c ks' x.0 x.1) (map named xs) ≡ true
     all_met [] h e = refl

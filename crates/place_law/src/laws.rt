@@ -13,6 +13,10 @@ ghost use Rattle.dalvik_defs.specs.declared.script.Move.{Move};
 ghost use Rattle.dalvik_defs.specs.declared.tables.Floats.{Floats};
 ghost use Rattle.dalvik_defs.specs.declared.tables.Framework.{Framework};
 ghost use Rattle.silence_law.specs.Bodies.{Change, changed, KeepsCode};
+ghost use Rattle.program_model.specs.ProgramRules.{is_well_formed};
+ghost use Rattle.program_model.specs.declared.program.Program.{Program};
+ghost use Rattle.dalvik_defs.specs.Naming.{named};
+ghost use Rattle.place_law.specs.Solid.{AllSolid};
 ghost use Rattle.place_law.specs.Rewriting.{IsInPlace};
 ghost use Rattle.place_law.specs.Replaced.{Replaced};
 
@@ -31,4 +35,9 @@ pub fn place_law()
 pub fn bodies_law()
     ensures some { (new : Change) (p : NamedProgram) (k : MethodKey) (b : NamedBody) → bodies_of p k ≡ Some b → Replaced new p k b }
     ensures none { (new : Change) (p : NamedProgram) → KeepsCode new → (k : MethodKey) → bodies_of p k ≡ None → bodies_of (changed new p) k ≡ None }
+{}
+
+/// In a well-formed program each body keeps to its registers and to fields of values.
+pub fn solid_law()
+    ensures { (p : Program) → is_well_formed p ≡ true → AllSolid (named p) }
 {}

@@ -2,7 +2,6 @@
 -- one face.
 use Rattle.std.proofs.Common.{◌≡◌, Bool, true, false, List, [], ◌∷◌, refl, sym, ap, ap₂, ◌∙◌}
 use Rattle.std.specs.Prelude.{Option, Some, None, map, is_some}
-use Rattle.std.specs.Option.{option_map}
 use Rattle.dalvik_defs.specs.Face.{face_of}
 use Rattle.dalvik_defs.specs.declared.program.NamedBody.{NamedBody}
 use Rattle.dalvik_defs.specs.declared.program.NamedMethod.{NamedMethod}

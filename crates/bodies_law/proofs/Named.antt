@@ -1,5 +1,5 @@
 -- Programs that are the same but for bodies and lines by number are so by name, and so is a program with other code.
-use Rattle.std.proofs.Common.{◌≡◌, Bool, true, false, List, [], ◌∷◌, refl, sym, ap, ◌∙◌, subst}
+use Rattle.std.proofs.Common.{◌≡◌, List, [], ◌∷◌, refl, sym, ap, ◌∙◌, subst}
 use Rattle.std.specs.Prelude.{Option, Some, None, map, is_some}
 use Rattle.std.specs.Option.{option_map}
 use Rattle.program_model.specs.declared.body.Body.{Body}
@@ -9,7 +9,6 @@ use Rattle.program_model.specs.declared.program.Program.{Program}
 use Rattle.dalvik_defs.specs.Naming.{body_of, named_method, named_class, named}
 use Rattle.dalvik_defs.specs.Silence.{key_in}
 use Rattle.dalvik_defs.specs.declared.names.MethodKey.{MethodKey}
-use Rattle.dalvik_defs.specs.declared.program.NamedBody.{NamedBody}
 use Rattle.dalvik_defs.specs.declared.program.NamedMethod.{NamedMethod}
 use Rattle.dalvik_defs.specs.declared.program.NamedClass.{NamedClass}
 use Rattle.dalvik_defs.specs.declared.program.NamedProgram.{NamedProgram}

@@ -2,7 +2,6 @@
 
 ghost use Rattle.std.specs.Prelude.{◌≡◌, Bool, true, Option, None};
 ghost use Rattle.std.specs.Option.{option_map};
-ghost use Rattle.program_model.specs.declared.body.Body.{Body};
 ghost use Rattle.program_model.specs.declared.program.Program.{Program};
 ghost use Rattle.dalvik_defs.specs.Face.{face_of, bodies_of};
 ghost use Rattle.dalvik_defs.specs.Naming.{named, body_of};

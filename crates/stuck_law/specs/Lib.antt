@@ -1,0 +1,3 @@
+pub mod TypedStates
+pub mod Regular
+pub mod NeverStuck

@@ -18,6 +18,7 @@ use Rattle.pass_defs.specs.Kinds.{is_plain, line_from, line_of, nearest}
 use Rattle.invariant_law.specs.Holds.{Each}
 use Rattle.stuck_law.specs.Regular.{IsRegular}
 use Rattle.stuck_law.proofs.Sorts.{class_alone}
+use Rattle.stuck_law.proofs.Transitive.{under_transitive}
 
 pub none_some : {A B : Type 0} (x : A) → None ≡ Some x → B
 none_some x e = absurd (true≢false (ap (λ o. elim o as (λ o. Bool) [ Some z ↦ false | None ↦ true ]) e))
@@ -142,7 +143,7 @@ module _ (p : NamedProgram) (f : Framework) (reg : IsRegular p f) where
       ∙ (ap (λ n. walks (directly_above p f) n t u) bound_is ∙ walks_step (length p.classes + (length (known_rows ++ f.rows) + 1)) t u (subst (λ xs. Contains xs u) (sym (above_of t c e)) h))
 
   pub step_up : (t u : Text) (c : NamedClass) → class_named p t ≡ Some c → Contains (c.superclass ∷ c.interfaces) u → defines p u ≡ true → Up t u
-  step_up t u c e h d z i = reg.transitive z t u i (step_under t u c e h d)
+  step_up t u c e h d z i = under_transitive p f reg.objects z t u i (step_under t u c e h d)
 
   -- ---- lines and chains
 

@@ -1,3 +1,4 @@
+pub mod Transitive
 pub mod Registers
 pub mod Sorts
 pub mod Climbs

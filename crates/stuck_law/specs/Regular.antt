@@ -44,8 +44,6 @@ pub record IsRegular (p : NamedProgram) (f : Framework) : Type 0 where
   pub classes : defines p class_type ≡ false
   -- the methods of a class have distinct names and signatures
   pub methods : (c : NamedClass) (m : NamedMethod) → Contains p.classes c → Contains c.methods m → defined_method p (key_in c m) ≡ Some m
-  -- a type that is under another is under all that this is under
-  pub transitive : (s t u : Text) → is_under p f s t ≡ true → is_under p f t u ≡ true → is_under p f s u ≡ true
   -- no plain class stands above an interface
   pub above_interfaces : (t : Text) (c : NamedClass) → class_named p t ≡ Some c → is_interface c.flags ≡ true → Each (λ u. is_plain p u ≡ false) (c.superclass ∷ c.interfaces)
   -- what an interface's name finds is static

@@ -30,18 +30,17 @@ use Rattle.dalvik_defs.specs.declared.program.NamedProgram.{NamedProgram}
 use Rattle.pass_defs.specs.Kinds.{Kind, kind_eq, is_number, is_initialised, kind_of_reference, fits}
 use Rattle.pass_defs.specs.Kinds as kind
 use Rattle.pass_defs.specs.Registers.{Kinds, kind_at, written}
-use Rattle.pass_defs.specs.Demands.{Demand, Pair, Fits, meets, item_eq, is_array_where, width_of_item, put_item as put_demand}
+use Rattle.pass_defs.specs.Demands.{Demand, Pair, Fits, meets, item_eq, is_array_where, has_width, put_item as put_demand}
 use Rattle.pass_defs.specs.Typed.{after, got}
 use Rattle.invariant_law.specs.Holds.{Each}
 use Rattle.invariant_law.proofs.Growing.{grows_with}
 use Rattle.invariant_law.proofs.Fine.{each_set, each_get, each_join, each_drop, each_map}
 use Rattle.stuck_law.specs.TypedStates.{IsObject, item_kind, KindHolds, ItemOf, TypedFrame, TypedThing, TypedWorld, ArrayFits}
-use Rattle.stuck_law.specs.Regular.{IsRegular}
+use Rattle.stuck_law.proofs.Settled.{IsSettled}
 use Rattle.stuck_law.proofs.Registers.{and_left, and_right, IsSingle}
 use Rattle.stuck_law.proofs.Sorts.{Sorted, OfWord, OfWide, OfReference, OfNone, sorted, not_wide, wide_alone}
 use Rattle.stuck_law.proofs.Climbs.{none_some, some_one, or_cases}
 use Rattle.stuck_law.proofs.Arrays.{true_false}
-use Rattle.stuck_law.proofs.Here.{own_body, get_contains}
 use Rattle.stuck_law.proofs.Orders.{number_held, reference_held, fits_held}
 use Rattle.stuck_law.proofs.Worlds.{state_later, typed_with, at_typed, zeros_typed, new_object}
 use Rattle.stuck_law.proofs.Values.{ItemSort, AWide, AReference, ANumber, item_sort, ref_kind, ref_single, ArrayThing, ItemFits, demanded_array, reads_number, reads_object, stores_wide, stores_number, stores_object}
@@ -60,7 +59,7 @@ pub untrue2 : (b : Bool) → not b ≡ false → b ≡ true
 untrue2 true e = refl
 untrue2 false e = absurd (true≢false e)
 
-module _ (p : NamedProgram) (o : Outer) (f : Framework) (floats : Floats) (reg : IsRegular p f) where
+module _ (p : NamedProgram) (o : Outer) (f : Framework) (floats : Floats) (reg : IsSettled p) where
   -- a new array is of its type
   pub array_new : (c : Text) (w : World) (u : Text) (vs : List Value) → is_array u ≡ true → KindHolds p f c (with_thing w (Items (item_of u) vs)) (kind.Array u) (next_object w)
   array_new c w [] vs e = absurd (true≢false (sym e))
@@ -245,40 +244,31 @@ module _ (p : NamedProgram) (o : Outer) (f : Framework) (floats : Floats) (reg :
 
     -- ---- arrays that are filled
 
-    filled_item : (z u : Text) (width : ℕ) (m : ℕ) → (width ≡ 0 → ⊥) → nat_eq (width_of_item (item_of_type u)) width ≡ true → ItemFits p f z u → ItemOf p f w z (filled z m)
-    filled_item z u width m nz e k d = by (item_sort p f reg w tw u) k
+    filled_item : (z u : Text) (width : ℕ) (m : ℕ) → has_width width (item_of_type u) ≡ true → ItemFits p f z u → ItemOf p f w z (filled z m)
+    filled_item z u width m e k d = by (item_sort p f reg w tw u) k
       where
         flat : (b : Bool) → is_wide z ≡ b → is_reference z ≡ false → KindHolds p f d w (item_kind p z) (elim b as (λ b. Value) [ true ↦ Low m | false ↦ stored (item_of_type z) (Word (m % 2 ^ 32)) ])
         flat true i r = subst (λ k. KindHolds p f d w k (Low m)) (sym (ap (λ b. if b then kind.Low else if is_reference z then kind_of_reference p z else kind.Word) i)) (m, refl)
         flat false i r = subst (λ k. KindHolds p f d w k (stored (item_of_type z) (Word (m % 2 ^ 32)))) (sym (ap (λ b. if b then kind.Low else if is_reference z then kind_of_reference p z else kind.Word) i ∙ ap (λ b. if b then kind_of_reference p z else kind.Word) r)) (stored_word (item_of_type z) (m % 2 ^ 32))
 
-        zero_width : is_reference u ≡ true → item_of_type u ≡ item.Object → ⊥
-        zero_width r i = nz (sym (eqb-true 0 width (sym (ap (λ x. nat_eq (width_of_item x) width) i) ∙ e)))
-
         as_is : z ≡ u → is_reference u ≡ false → KindHolds p f d w (item_kind p z) (filled z m)
         as_is j r = flat (is_wide z) refl (subst (λ x. is_reference x ≡ false) (sym j) r)
 
-        no_ref : is_wide u ≡ true → is_reference u ≡ false
-        no_ref x = wide_alone u x
-
         by : ItemSort p f reg w tw u (item_of_type u) → ItemFits p f z u → KindHolds p f d w (item_kind p z) (filled z m)
-        by (AWide x i) (inl j) = as_is j (no_ref x)
-        by (AWide x i) (inr j) = true_false j.1.0 (no_ref x)
+        by (AWide x i) (inl j) = as_is j (wide_alone u x)
+        by (AWide x i) (inr j) = true_false j.1.0 (wide_alone u x)
         by (ANumber x b i l) (inl j) = as_is j b
         by (ANumber x b i l) (inr j) = true_false j.1.0 b
-        by (AReference x b i) j = absurd (zero_width b i)
+        by (AReference x b i) j = absurd (true≢false (sym e ∙ ap (has_width width) i))
 
     pub fills_held : (on width : ℕ) (items : List ℕ) → I (form.FillArray on width items) → D (act (face_of p f).under floats (form.FillArray on width items) w g)
     fills_held on width items h = held p o f floats reg w cs g tw t (form.FillArray on width items) h (register g on) (fills (thing_at w (register g on)) w g (register g on) items) refl
-        (λ j. by (demanded_array p f reg w tw class (λ u. nat_eq (width_of_item (item_of_type u)) width) (kind_at a.registers on) (register g on) (and_left (is_array_where (λ u. nat_eq (width_of_item (item_of_type u)) width) (kind_at a.registers on)) true h.allowed) (reg_held p o f floats reg w cs g tw t on) j))
+        (λ j. by (demanded_array p f reg w tw class (λ u. has_width width (item_of_type u)) (kind_at a.registers on) (register g on) (and_left (is_array_where (λ u. has_width width (item_of_type u)) (kind_at a.registers on)) true h.allowed) (reg_held p o f floats reg w cs g tw t on) j))
       where
-        nz : width ≡ 0 → ⊥
-        nz = reg.fills t.in_method.class t.in_method.method t.in_method.body on width items t.in_method.class_in t.in_method.method_in (own_body p o f floats reg w g t) (get_contains t.in_method.body.forms n (form.FillArray on width items) h.has)
-
-        by : (u : Text) × ((kind_at a.registers on ≡ kind.Array u) × ((nat_eq (width_of_item (item_of_type (item_of u))) width ≡ true) × ArrayThing p f w (register g on) u)) → D (fills (thing_at w (register g on)) w g (register g on) items)
+        by : (u : Text) × ((kind_at a.registers on ≡ kind.Array u) × ((has_width width (item_of_type (item_of u)) ≡ true) × ArrayThing p f w (register g on) u)) → D (fills (thing_at w (register g on)) w g (register g on) items)
         by (u, (k, (e, th))) = subst (λ y. D (fills y w g (register g on) items)) (sym th.at) (one (nat_lt (length th.items) (length items)))
           where
             one : (b : Bool) → D (elim b as (λ b. Effect) [ true ↦ Faults out_of_bounds | false ↦ Goes (put_thing w (register g on) (Items th.item (fill th.item items th.items))) (next g) ])
             one true = throws_new p o f floats reg w cs g tw t (form.FillArray on width items) h out_of_bounds refl refl
             one false = changes p o f floats reg w cs g tw t (form.FillArray on width items) h refl (first_in (n + 1) []) (register g on) (Items th.item th.items) (Items th.item (fill th.item items th.items)) th.at refl
-                (each_join (ItemOf p f w th.item) (map (filled th.item) items) (drop (length items) th.items) (each_map (ItemOf p f w th.item) (filled th.item) (λ m. filled_item th.item (item_of u) width m nz e th.fits) items) (each_drop (ItemOf p f w th.item) (length items) th.items (at_typed p f w (register g on) (Items th.item th.items) tw th.at)))
+                (each_join (ItemOf p f w th.item) (map (filled th.item) items) (drop (length items) th.items) (each_map (ItemOf p f w th.item) (filled th.item) (λ m. filled_item th.item (item_of u) width m e th.fits) items) (each_drop (ItemOf p f w th.item) (length items) th.items (at_typed p f w (register g on) (Items th.item th.items) tw th.at)))

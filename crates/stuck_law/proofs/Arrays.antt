@@ -10,7 +10,7 @@ use Rattle.dalvik_defs.specs.declared.tables.Framework.{Framework}
 use Rattle.pass_defs.specs.Kinds.{Kind, kind_eq, is_plain, depth, arrays_of, line_from, line_of, nearest, is_flat, joined, joined_deep, joined_items, joined_arrays, class_or_reference, item_fits, array_fits, is_below, kind_of, kind_of_reference, object_array}
 use Rattle.pass_defs.specs.Kinds as kind
 use Rattle.stuck_law.specs.TypedStates.{Cond, ArrayFits, RefFits}
-use Rattle.stuck_law.specs.Regular.{IsRegular}
+use Rattle.stuck_law.proofs.Settled.{IsSettled}
 use Rattle.stuck_law.proofs.Registers.{and_left, and_right}
 use Rattle.stuck_law.proofs.Sorts.{RefSort, AnArray, APlain, AnAny, ref_sort, array_reference, not_word, not_wide}
 use Rattle.stuck_law.proofs.Climbs.{Up, or_cases, under_self, nearest_up, plain_defined}
@@ -18,7 +18,7 @@ use Rattle.stuck_law.proofs.Climbs.{Up, or_cases, under_self, nearest_up, plain_
 pub true_false : {A : Type 0} {b : Bool} → b ≡ true → b ≡ false → A
 true_false i j = absurd (true≢false (sym i ∙ j))
 
-module _ (p : NamedProgram) (f : Framework) (reg : IsRegular p f) where
+module _ (p : NamedProgram) (f : Framework) (reg : IsSettled p) where
   abbrev under : Text → Text → Bool
   under = is_under p f
 
@@ -40,8 +40,8 @@ module _ (p : NamedProgram) (f : Framework) (reg : IsRegular p f) where
 
   -- a type is of its own kind
   pub fits_self : (t : Text) → Fits t t
-  fits_self [] = to_cond false (ArrayFits p f [] []) (is_plain p [] ≡ true → under [] [] ≡ true) (λ e. absurd (true≢false (sym e))) (λ e i. true_false (reg.class_types [] (plain_defined p [] i)) refl)
-  fits_self (u ∷ us) = to_cond (nat_eq u 91) (ArrayFits p f (u ∷ us) (u ∷ us)) (is_plain p (u ∷ us) ≡ true → under (u ∷ us) (u ∷ us) ≡ true) (λ e. (e, (e, inl refl))) (λ e i. under_self p f reg (u ∷ us) (reg.class_types (u ∷ us) (plain_defined p (u ∷ us) i)))
+  fits_self [] = to_cond false (ArrayFits p f [] []) (is_plain p [] ≡ true → under [] [] ≡ true) (λ e. absurd (true≢false (sym e))) (λ e i. true_false (reg.regular.class_types [] (plain_defined p [] i)) refl)
+  fits_self (u ∷ us) = to_cond (nat_eq u 91) (ArrayFits p f (u ∷ us) (u ∷ us)) (is_plain p (u ∷ us) ≡ true → under (u ∷ us) (u ∷ us) ≡ true) (λ e. (e, (e, inl refl))) (λ e i. under_self p f reg (u ∷ us) (reg.regular.class_types (u ∷ us) (plain_defined p (u ∷ us) i)))
 
   -- what is under a type is of its kind
   pub under_fits : (z t : Text) → under z t ≡ true → Fits z t

@@ -1,6 +1,6 @@
 -- What comes back to a frame that waits, what lands in it, and classes that are initialised.
 use Rattle.std.proofs.Common.{◌≡◌, ℕ, ◌+◌, Bool, true, false, true≢false, List, [], ◌∷◌, Option, Some, None, refl, sym, ap, ◌∙◌, subst}
-use Rattle.std.specs.Prelude.{codes, not, slice_get, is_some, Contains}
+use Rattle.std.specs.Prelude.{codes, ◌||◌, not, slice_get, is_some, Contains}
 use Rattle.std.proofs.lemmas.Bool.{eqb-true}
 use Rattle.std.specs.Option.{option_and_then}
 use Rattle.insn_set.specs.declared.ops.Item.{Item}
@@ -29,12 +29,13 @@ use Rattle.pass_defs.specs.Walks.{onward}
 use Rattle.pass_defs.specs.Kinds.{Kind, is_plain, kind_eq, is_number, is_initialised, kind_of_reference, fits}
 use Rattle.pass_defs.specs.Kinds as kind
 use Rattle.pass_defs.specs.Registers.{Kinds, written}
-use Rattle.pass_defs.specs.Typed.{after, parameter_kinds, receiver_kind, wrong_item, wrong_field}
+use Rattle.pass_defs.specs.Typed.{after, parameter_kinds, receiver_kind, wrong_item, wrong_field, wrong_first}
 use Rattle.invariant_law.specs.Invariant.{Above, Callee, Owing}
 use Rattle.invariant_law.proofs.Growing.{grows_same}
 use Rattle.invariant_law.proofs.Plain.{grown}
 use Rattle.stuck_law.specs.TypedStates.{AllHold, IsObject, KindHolds, ValueOf, MaybeOf, StateHolds, AskedOf, TypedFrame, TypedWaiting, TypedWorld}
-use Rattle.stuck_law.specs.Regular.{IsRegular, reads_value}
+use Rattle.stuck_law.proofs.Settled.{IsSettled}
+use Rattle.stuck_law.specs.Regular.{reads_value}
 use Rattle.stuck_law.proofs.Arrays.{true_false}
 use Rattle.dalvik_defs.specs.declared.state.Value.TheVariants.{Word}
 use Rattle.stuck_law.proofs.Registers.{and_left, and_right, there_held, all_unwritten}
@@ -51,7 +52,7 @@ use Rattle.dalvik_defs.specs.Names.{initialiser_name, void}
 use Rattle.invariant_law.proofs.Invariants.{Landed}
 use Rattle.stuck_law.proofs.Forms.{first_in, or_left, held}
 
-module _ (p : NamedProgram) (o : Outer) (f : Framework) (floats : Floats) (reg : IsRegular p f) where
+module _ (p : NamedProgram) (o : Outer) (f : Framework) (floats : Floats) (reg : IsSettled p) where
   module _ (w : World) (cs : Classes) (g : Frame) (tw : TypedWorld p f w) where
     -- what waits is a typed frame at its form
     waiting_at : (above : Above) (t : TypedWaiting p f w above g) → At p o f floats reg w g t.frame t.form
@@ -96,7 +97,7 @@ module _ (p : NamedProgram) (o : Outer) (f : Framework) (floats : Floats) (reg :
 
       -- a field that is read has a type of values
       no_void : {A : Type 0} (x : Form) → At p o f floats reg w g t x → (u : Text) → reads_value x ≡ not (is_void u) → is_void u ≡ true → A
-      no_void x h u l e = true_false (reg.reads t.in_method.class t.in_method.method t.in_method.body x t.in_method.class_in t.in_method.method_in (own_body p o f floats reg w g t) (get_contains t.in_method.body.forms n x h.has)) (l ∙ ap not e)
+      no_void x h u l e = true_false (reg.regular.reads t.in_method.class t.in_method.method t.in_method.body x t.in_method.class_in t.in_method.method_in (own_body p o f floats reg w g t) (get_contains t.in_method.body.forms n x h.has)) (l ∙ ap not e)
 
       field_back : (x : Form) → At p o f floats reg w g t x → (i : Item) (to : ℕ) (u : Text) (v : Value) → wrong_item i u ≡ false → ValueOf p f w u v → after p t.in_method.class n x a ≡ written to (kind.kind_of p u) a → Contains (onward x n) (n + 1) → TypedFrame p f w (next (write_item i g to v))
       field_back x h i to u v wr held l c = (item_written p o f floats reg w cs g tw t x h i to u v None wr held l c).1
@@ -121,7 +122,7 @@ module _ (p : NamedProgram) (o : Outer) (f : Framework) (floats : Floats) (reg :
         by (form.Invoke ik k args) a e s None h = void_back t.frame ik k args a (subst (λ s. is_void s ≡ true) (sym s) h)
         by (form.InstanceGet i to on k) a e s (Some v) h = back_with None (form.InstanceGet i to on k) e v (field_back t.frame (form.InstanceGet i to on k) a i to k.kind v (or_left (wrong_item i k.kind) (wrong_field p false k) a.right) (subst (λ s. ValueOf p f w s v) (sym s) h) refl (first_in (g.position + 1) []))
         by (form.InstanceGet i to on k) a e s None h = no_void t.frame (form.InstanceGet i to on k) a k.kind refl (subst (λ s. is_void s ≡ true) (sym s) h)
-        by (form.StaticGet i to k) a e s (Some v) h = back_with None (form.StaticGet i to k) e v (field_back t.frame (form.StaticGet i to k) a i to k.kind v (or_left (wrong_item i k.kind) (wrong_field p true k) a.right) (subst (λ s. ValueOf p f w s v) (sym s) h) refl (first_in (g.position + 1) []))
+        by (form.StaticGet i to k) a e s (Some v) h = back_with None (form.StaticGet i to k) e v (field_back t.frame (form.StaticGet i to k) a i to k.kind v (or_left (wrong_item i k.kind) (wrong_field p true k) (or_left (wrong_item i k.kind || wrong_field p true k) (wrong_first p k) a.right)) (subst (λ s. ValueOf p f w s v) (sym s) h) refl (first_in (g.position + 1) []))
         by (form.StaticGet i to k) a e s None h = no_void t.frame (form.StaticGet i to k) a k.kind refl (subst (λ s. is_void s ≡ true) (sym s) h)
         by x a e s y h = absurd s
 

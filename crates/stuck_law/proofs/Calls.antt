@@ -45,7 +45,8 @@ use Rattle.invariant_law.proofs.Growing.{all_heap}
 use Rattle.invariant_law.proofs.Plain.{grown}
 use Rattle.invariant_law.proofs.Fine.{each_map}
 use Rattle.stuck_law.specs.TypedStates.{AllHold, CaughtHolds, IsObject, KindHolds, RefFits, StateHolds, TypedFrame, TypedWorld}
-use Rattle.stuck_law.specs.Regular.{IsRegular, taken, IsFound, FindsRegularly}
+use Rattle.stuck_law.proofs.Settled.{IsSettled, IsFound, FindsRegularly}
+use Rattle.stuck_law.specs.Regular.{taken}
 use Rattle.stuck_law.proofs.Registers.{and_left, and_right, there_held, all_map, all_join, all_unknown, all_long}
 use Rattle.stuck_law.proofs.Sorts.{RefSort, AnArray, APlain, AnAny, ref_sort, Sorted, OfWord, OfWide, OfReference, OfNone, sorted, class_alone}
 use Rattle.stuck_law.proofs.Climbs.{under_self, plain_below, step_up, defined_by, plain_by, or_cases}
@@ -57,7 +58,7 @@ use Rattle.stuck_law.proofs.FieldForms.{waits, waits_in, readied, fitting}
 use Rattle.stuck_law.proofs.ArrayForms.{untrue2}
 use Rattle.stuck_law.proofs.Forms.{wide_kind, first_in, or_left, or_right, any_class, Leads, Is, reg_held, low_held, stays, throws_new}
 
-module _ (p : NamedProgram) (o : Outer) (f : Framework) (floats : Floats) (reg : IsRegular p f) where
+module _ (p : NamedProgram) (o : Outer) (f : Framework) (floats : Floats) (reg : IsSettled p) where
   -- ---- how many registers arguments take
 
   pub halves_single : (u : Text) → is_wide u ≡ false → halves (kind.kind_of p u) ≡ kind.kind_of p u ∷ []
@@ -92,16 +93,16 @@ module _ (p : NamedProgram) (o : Outer) (f : Framework) (floats : Floats) (reg :
   Enter = Entered (setting p o f floats reg) (bodies_of p) (grown (setting p o f floats reg) (bodies_of p) (states p o f floats reg))
 
   pub entered : (w : World) (cs : Classes) (c : NamedClass) (m : NamedMethod) (b : NamedBody) (k : MethodKey) (vs : List Value) → Contains p.classes c → Contains c.methods m → m.body ≡ Some b → k ≡ key_in c m → AllHold p f c.name w (argument_kinds p c m) vs → Enter w cs k vs (bodies_of p k)
-  entered w cs c m b k vs ci mi mb e h = subst (Enter w cs k vs) (sym body) ((λ l. by (state_at table 0) refl typing.entry), (λ no. no (all_long p f c.name w (argument_kinds p c m) vs h ∙ (arguments_long c m ∙ sym (reg.entries c m b ci mi mb)))))
+  entered w cs c m b k vs ci mi mb e h = subst (Enter w cs k vs) (sym body) ((λ l. by (state_at table 0) refl typing.entry), (λ no. no (all_long p f c.name w (argument_kinds p c m) vs h ∙ (arguments_long c m ∙ sym (reg.regular.entries c m b ci mi mb)))))
     where
       body : bodies_of p k ≡ Some b
-      body = ap (bodies_of p) e ∙ (ap (λ o. option_and_then (λ m. m.body) o) (reg.methods c m ci mi) ∙ mb)
+      body = ap (bodies_of p) e ∙ (ap (λ o. option_and_then (λ m. m.body) o) (reg.regular.methods c m ci mi) ∙ mb)
 
       table : List (Option Kinds)
-      table = (reg.typed.bodies c m b ci mi mb).0
+      table = (reg.regular.typed.bodies c m b ci mi mb).0
 
       typing : IsTyping p c m b table
-      typing = (reg.typed.bodies c m b ci mi mb).1
+      typing = (reg.regular.typed.bodies c m b ci mi mb).1
 
       start : StateHolds p f c.name w (begun p c m b) (entry_frame k vs b)
       start = record { registers = all_join p f c.name w (replicate (b.registers - b.ins) kind.Undefined) (argument_kinds p c m) (replicate (b.registers - b.ins) (Word 0)) vs (all_unknown p f c.name w (b.registers - b.ins)) h; result = tt; caught = record { there = tt; held = λ i. absurd (true≢false (sym i)) } }
@@ -137,7 +138,7 @@ module _ (p : NamedProgram) (o : Outer) (f : Framework) (floats : Floats) (reg :
 
   constructed_held : (w : World) (c : NamedClass) → Contains p.classes c → (k : Kind) (a : Kinds) (vs : List Value) → AllHold p f c.name w a.registers vs → AllHold p f c.name w (constructed p c k a).registers vs
   constructed_held w c ci (kind.Fresh u m) a vs h = all_map p f c.name w (replaced (kind.Fresh u m) (kind.kind_of p u)) (replaced_held c.name w (kind.Fresh u m) (kind.kind_of p u) (λ v i. fresh_held c.name w u v i.1.1 i.0 (subst (λ z. (face_of p f).under z u ≡ true) (sym i.1.0) (under_self p f reg u i.1.1)))) a.registers vs h
-  constructed_held w c ci kind.FreshThis a vs h = all_map p f c.name w (replaced kind.FreshThis (kind.kind_of p c.name)) (replaced_held c.name w kind.FreshThis (kind.kind_of p c.name) (λ v i. fresh_held c.name w c.name v (reg.class_types c.name (defined_by p c.name (Some c) (reg.named c ci))) i.0 i.1)) a.registers vs h
+  constructed_held w c ci kind.FreshThis a vs h = all_map p f c.name w (replaced kind.FreshThis (kind.kind_of p c.name)) (replaced_held c.name w kind.FreshThis (kind.kind_of p c.name) (λ v i. fresh_held c.name w c.name v (reg.regular.class_types c.name (defined_by p c.name (Some c) (reg.regular.named c ci))) i.0 i.1)) a.registers vs h
   constructed_held w c ci k a vs h = h
 
   constructed_places : (w : World) (c : NamedClass) (k : Kind) (a : Kinds) → (constructed p c k a).caught ≡ a.caught
@@ -298,15 +299,15 @@ module _ (p : NamedProgram) (o : Outer) (f : Framework) (floats : Floats) (reg :
       where
         by : (y : Option Thing) → defines p (elim y as (λ y. Text) [ Some t ↦ kind_of_thing t | None ↦ [] ]) ≡ true → is_some y ≡ true
         by (Some t) e = refl
-        by None e = absurd (true≢false (sym (reg.class_types [] e)))
+        by None e = absurd (true≢false (sym (reg.regular.class_types [] e)))
     kind_object (Literal s) d = tt
     kind_object (Class s) d = tt
-    kind_object (Word m) d = absurd (true≢false (sym (reg.class_types [] d)))
-    kind_object (Low m) d = absurd (true≢false (sym (reg.class_types [] d)))
-    kind_object (High m) d = absurd (true≢false (sym (reg.class_types [] d)))
+    kind_object (Word m) d = absurd (true≢false (sym (reg.regular.class_types [] d)))
+    kind_object (Low m) d = absurd (true≢false (sym (reg.regular.class_types [] d)))
+    kind_object (High m) d = absurd (true≢false (sym (reg.regular.class_types [] d)))
 
     plain_class : (c : NamedClass) → Contains p.classes c → is_interface c.flags ≡ false → is_plain p c.name ≡ true
-    plain_class c ci e = plain_by p c.name (Some c) (reg.named c ci) ∙ ap not e
+    plain_class c ci e = plain_by p c.name (Some c) (reg.regular.named c ci) ∙ ap not e
 
     own_class : g.method.class ≡ class
     own_class = ap (λ k. k.class) (t.of ∙ t.in_method.is_key)
@@ -352,7 +353,7 @@ module _ (p : NamedProgram) (o : Outer) (f : Framework) (floats : Floats) (reg :
         k_defined = (finds.resolved k d e).1
 
         k_class : is_class_type k.class ≡ true
-        k_class = reg.class_types k.class k_defined
+        k_class = reg.regular.class_types k.class k_defined
 
         up : (z : Text) → is_under p f z k.class ≡ true → is_under p f z c.name ≡ true
         up z i = subst (λ q. is_under p f z q ≡ true) (ap (λ d. d.key.class) is) ((finds.statically k d e).1 z i)
@@ -363,7 +364,7 @@ module _ (p : NamedProgram) (o : Outer) (f : Framework) (floats : Floats) (reg :
           where
             one : (text_eq class k.class ≡ true) ⊎ (text_eq t.in_method.class.superclass k.class ≡ true) → is_under p f (kind_of w (register g r)) c.name ≡ true
             one (inl j) = up (kind_of w (register g r)) (subst (λ y. is_under p f (kind_of w (register g r)) y ≡ true) (text_sound class k.class j) q.1)
-            one (inr j) = up (kind_of w (register g r)) (step_up p f reg class k.class t.in_method.class (reg.named t.in_method.class t.in_method.class_in)
+            one (inr j) = up (kind_of w (register g r)) (step_up p f reg class k.class t.in_method.class (reg.regular.named t.in_method.class t.in_method.class_in)
                 (subst (λ y. Contains (t.in_method.class.superclass ∷ t.in_method.class.interfaces) y) (text_sound t.in_method.class.superclass k.class j) (0, omega arith, refl)) k_defined (kind_of w (register g r)) q.1)
         made q i s = absurd (true≢false (sym i))
 
@@ -401,7 +402,7 @@ module _ (p : NamedProgram) (o : Outer) (f : Framework) (floats : Floats) (reg :
         super_receiver : (k : MethodKey) (r : ℕ) (d : Found) → finds_super p class k ≡ Finds d → (c : NamedClass) (m : NamedMethod) → d ≡ found_in c m → Contains p.classes c → m.name ≡ k.name → is_null (register g r) ≡ false → is_constructor_name k.name ≡ false
             → fits p (kind_at a.registers r) d.key.class ≡ true → KindHolds p f c.name w (receiver_kind c m) (register g r)
         super_receiver k r d e c m is ci name z con fit = let fit_c = subst (λ u. fits p (kind_at a.registers r) u ≡ true) (ap (λ d. d.key.class) is) fit in
-            ordinary c m (register g r) (not_named m k.name name con) (fits_object c.name (reg.class_types c.name (defined_by p c.name (Some c) (reg.named c ci))) r fit_c z)
+            ordinary c m (register g r) (not_named m k.name name con) (fits_object c.name (reg.regular.class_types c.name (defined_by p c.name (Some c) (reg.regular.named c ci))) r fit_c z)
             (λ j. (fitting p o f floats reg w cs g tw t c.name (plain_class c ci j) r fit_c z).1)
 
     virtual_object : (r : ℕ) (k : MethodKey) (d : Found) → finds_virtually p f (kind_of w (register g r)) k ≡ Finds d → (finds_at p (kind_of w (register g r)) k ≡ Finds d) × (defines p (kind_of w (register g r)) ≡ true)
@@ -431,7 +432,7 @@ module _ (p : NamedProgram) (o : Outer) (f : Framework) (floats : Floats) (reg :
     virtual_receiver : (k : MethodKey) (r : ℕ) (d : Found) → finds_at p (kind_of w (register g r)) k ≡ Finds d → defines p (kind_of w (register g r)) ≡ true → (c : NamedClass) (m : NamedMethod) → d ≡ found_in c m → Contains p.classes c → KindHolds p f c.name w (receiver_kind c m) (register g r)
     virtual_receiver k r d e df c m is ci = let u = kind_of w (register g r) in let fl = virtual_flags d.flags d.key.name (finds.virtually u k d e).1.0 in
         ordinary c m (register g r) (not_named m m.name refl (subst (λ s. is_constructor_name s ≡ false) (ap (λ d. d.key.name) is) fl.1)) (kind_object (register g r) df)
-        (λ j. subst (λ q. is_under p f u q ≡ true) (ap (λ d. d.key.class) is) ((finds.virtually u k d e).1.1 u (subst (λ q. is_plain p q ≡ true) (sym (ap (λ d. d.key.class) is)) (plain_class c ci j)) (under_self p f reg u (reg.class_types u df))))
+        (λ j. subst (λ q. is_under p f u q ≡ true) (ap (λ d. d.key.class) is) ((finds.virtually u k d e).1.1 u (subst (λ q. is_plain p q ≡ true) (sym (ap (λ d. d.key.class) is)) (plain_class c ci j)) (under_self p f reg u (reg.regular.class_types u df))))
 
     virtual_args : (ik : InvokeKind) (k : MethodKey) (r : ℕ) (rs : List ℕ) → list_all met (map (λ q. (r, q)) ((if is_constructor_name k.name then Constructed k.class else Fits k.class) ∷ []) ++ passed k.signature.parameters rs) ≡ true → length rs ≡ words_of k.signature.parameters
         → (d : Found) → finds_virtually p f (kind_of w (register g r)) k ≡ Finds d → (c : NamedClass) (m : NamedMethod) → d ≡ found_in c m → Contains p.classes c → m.signature ≡ k.signature → AllHold p f c.name w (argument_kinds p c m) (map (register g) (r ∷ rs))

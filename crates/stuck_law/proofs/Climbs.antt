@@ -16,7 +16,7 @@ use Rattle.dalvik_defs.specs.declared.tables.Framework.{Framework}
 use Rattle.dalvik_defs.specs.declared.tables.FrameworkType.{FrameworkType}
 use Rattle.pass_defs.specs.Kinds.{is_plain, line_from, line_of, nearest}
 use Rattle.invariant_law.specs.Holds.{Each}
-use Rattle.stuck_law.specs.Regular.{IsRegular}
+use Rattle.stuck_law.proofs.Settled.{IsSettled}
 use Rattle.stuck_law.proofs.Sorts.{class_alone}
 use Rattle.stuck_law.proofs.Transitive.{under_transitive}
 
@@ -85,7 +85,7 @@ module _ (p : NamedProgram) where
       by (Some c) i = refl
       by None i = i
 
-module _ (p : NamedProgram) (f : Framework) (reg : IsRegular p f) where
+module _ (p : NamedProgram) (f : Framework) (reg : IsSettled p) where
   abbrev under : Text → Text → Bool
   under = is_under p f
 
@@ -93,7 +93,7 @@ module _ (p : NamedProgram) (f : Framework) (reg : IsRegular p f) where
   Up t u = (z : Text) → under z t ≡ true → under z u ≡ true
 
   defined_class : (t : Text) → defines p t ≡ true → is_array t ≡ false
-  defined_class t e = (class_alone t (reg.class_types t e)).1
+  defined_class t e = (class_alone t (reg.regular.class_types t e)).1
 
   -- of types that are no arrays the walks decide
   by_walks : (s t : Text) → is_class_type s ≡ true → is_class_type t ≡ true → under s t ≡ class_under p f s t
@@ -139,7 +139,7 @@ module _ (p : NamedProgram) (f : Framework) (reg : IsRegular p f) where
   above_of t c e = ap (above_in p f t) e
 
   pub step_under : (t u : Text) (c : NamedClass) → class_named p t ≡ Some c → Contains (c.superclass ∷ c.interfaces) u → defines p u ≡ true → under t u ≡ true
-  step_under t u c e h d = by_walks t u (reg.class_types t (defined_by p t (Some c) e)) (reg.class_types u d)
+  step_under t u c e h d = by_walks t u (reg.regular.class_types t (defined_by p t (Some c) e)) (reg.regular.class_types u d)
       ∙ (ap (λ n. walks (directly_above p f) n t u) bound_is ∙ walks_step (length p.classes + (length (known_rows ++ f.rows) + 1)) t u (subst (λ xs. Contains xs u) (sym (above_of t c e)) h))
 
   pub step_up : (t u : Text) (c : NamedClass) → class_named p t ≡ Some c → Contains (c.superclass ∷ c.interfaces) u → defines p u ≡ true → Up t u
@@ -182,7 +182,7 @@ module _ (p : NamedProgram) (f : Framework) (reg : IsRegular p f) where
       by : (o : Option NamedClass) → class_named p t ≡ o → ((u : Text) → Each (λ d. Up u d.name × (class_named p d.name ≡ Some d)) (chain_from n p u))
           → Each (λ d. Up t d.name × (class_named p d.name ≡ Some d)) (elim o as (λ o. List NamedClass) [ Some c ↦ c ∷ chain_from n p c.superclass | None ↦ [] ])
       by None e more = tt
-      by (Some c) e more = ((same_up t c e, reg.named c (class_in p t c e)), up n (class_named p c.superclass) refl (more c.superclass))
+      by (Some c) e more = ((same_up t c e, reg.regular.named c (class_in p t c e)), up n (class_named p c.superclass) refl (more c.superclass))
         where
           up : (n : ℕ) (o : Option NamedClass) → class_named p c.superclass ≡ o → Each (λ d. Up c.superclass d.name × (class_named p d.name ≡ Some d)) (chain_from n p c.superclass) → Each (λ d. Up t d.name × (class_named p d.name ≡ Some d)) (chain_from n p c.superclass)
           up zero o i h = tt
@@ -258,7 +258,7 @@ module _ (p : NamedProgram) (f : Framework) (reg : IsRegular p f) where
           one false j = absurd (true≢false j)
 
       by : (o : Option NamedClass) → class_named p s ≡ o → Each (λ u. is_plain p u ≡ false) (directly_above p f s)
-      by (Some c) i = subst (λ us. Each (λ u. is_plain p u ≡ false) us) (sym (above_of s c i)) (reg.above_interfaces s c i (interface_not c i))
+      by (Some c) i = subst (λ us. Each (λ u. is_plain p u ≡ false) us) (sym (above_of s c i)) (reg.regular.above_interfaces s c i (interface_not c i))
       by None i = plain_below_defined (directly_above p f s) (undefined_above s i)
 
   -- an array is under no class that the program defines
@@ -283,14 +283,14 @@ module _ (p : NamedProgram) (f : Framework) (reg : IsRegular p f) where
     where
       by : (b : Bool) → defines p z ≡ b → b ≡ true
       by true j = refl
-      by false j = absurd (true≢false (sym d ∙ none_walks (defines p) (λ s k. undefined_above s (undefined_none s k)) (walk_bound p f) z t j (sym (by_walks z t i (reg.class_types t d)) ∙ e)))
+      by false j = absurd (true≢false (sym d ∙ none_walks (defines p) (λ s k. undefined_above s (undefined_none s k)) (walk_bound p f) z t j (sym (by_walks z t i (reg.regular.class_types t d)) ∙ e)))
 
   pub plain_below : (z t : Text) → is_class_type z ≡ true → is_plain p t ≡ true → under z t ≡ true → is_plain p z ≡ true
   plain_below z t i d e = by (is_plain p z) refl
     where
       by : (b : Bool) → is_plain p z ≡ b → b ≡ true
       by true j = refl
-      by false j = absurd (true≢false (sym d ∙ none_walks (is_plain p) plain_kept (walk_bound p f) z t j (sym (by_walks z t i (reg.class_types t (plain_defined p t d))) ∙ e)))
+      by false j = absurd (true≢false (sym d ∙ none_walks (is_plain p) plain_kept (walk_bound p f) z t j (sym (by_walks z t i (reg.regular.class_types t (plain_defined p t d))) ∙ e)))
 
   pub not_array_below : (z t : Text) → defines p t ≡ true → under z t ≡ true → is_array z ≡ false
   not_array_below z t d e = by (is_array z) refl

@@ -1,5 +1,5 @@
 -- What the forms leave that make an object or name a field.
-use Rattle.std.proofs.Common.{◌≡◌, ℕ, zero, suc, ◌+◌, Bool, true, false, [], ◌∷◌, ◌++◌, Option, Some, None, ◌⊎◌, inl, inr, refl, sym, ap, ◌∙◌, subst}
+use Rattle.std.proofs.Common.{◌≡◌, ℕ, zero, suc, ◌+◌, Bool, true, false, true≢false, [], ◌∷◌, ◌++◌, Option, Some, None, ◌⊎◌, inl, inr, refl, sym, ap, ◌∙◌, subst}
 use Rattle.std.specs.Prelude.{◌&&◌, ◌||◌, not, ◌%◌, ◌^◌, nat_eq, length, map, Contains}
 use Rattle.std.specs.Int.{w8, w16}
 use Rattle.insn_set.specs.declared.ops.Item.{Item}
@@ -35,23 +35,24 @@ use Rattle.dalvik_defs.specs.declared.tables.Framework.{Framework}
 use Rattle.dalvik_defs.specs.declared.program.NamedProgram.{NamedProgram}
 use Rattle.pass_defs.specs.Bare.{may_throw}
 use Rattle.pass_defs.specs.Walks.{onward}
-use Rattle.pass_defs.specs.Kinds.{Kind, is_plain, kind_eq, is_number, is_initialised, kind_of_reference, fits}
+use Rattle.pass_defs.specs.Kinds.{Kind, is_plain, is_program_interface, kind_of_reference, fits, fits_holder}
 use Rattle.pass_defs.specs.Kinds as kind
 use Rattle.pass_defs.specs.Registers.{Kinds, kind_at, written, forget, forgotten}
 use Rattle.pass_defs.specs.Demands.{of_type, meets, holds_field}
-use Rattle.pass_defs.specs.Typed.{after, differ, wrong_field, wrong_item}
+use Rattle.pass_defs.specs.Typed.{after, wrong_field, wrong_first, wrong_item}
 use Rattle.invariant_law.specs.Invariant.{Above, Begun, Owing}
 use Rattle.invariant_law.specs.Fine.{IsThere}
 use Rattle.invariant_law.proofs.Growing.{grows_same, grows_with, show_heap, option_heap}
 use Rattle.invariant_law.proofs.Growing.{there_later}
 use Rattle.stuck_law.specs.TypedStates.{IsObject, KindHolds, ValueOf, StateHolds, AskedOf, IsUnder, TypedFrame, TypedWaiting, TypedWorld}
-use Rattle.stuck_law.specs.Regular.{IsRegular}
+use Rattle.stuck_law.proofs.Settled.{IsSettled}
 use Rattle.stuck_law.proofs.Registers.{and_left, and_right, there_held, all_written, all_map, IsSingle}
 use Rattle.stuck_law.proofs.Sorts.{RefSort, AnArray, APlain, AnAny, ref_sort, Sorted, OfWord, OfWide, OfReference, OfNone, sorted, class_alone, not_wide}
 use Rattle.stuck_law.proofs.Climbs.{plain_defined, defined_by, plain_by, none_some, some_one}
 use Rattle.stuck_law.proofs.Arrays.{true_false}
 use Rattle.stuck_law.proofs.Orders.{fits_held}
 use Rattle.stuck_law.proofs.Worlds.{state_later, typed_with, at_typed, typed_show, typed_option, typed_static, put_typed, fresh_typed, zero_value, waiting_later, new_object, object_there}
+use Rattle.stuck_law.proofs.FirstValues.{first_held}
 use Rattle.stuck_law.proofs.Values.{instance_thing, ref_single}
 use Rattle.stuck_law.proofs.ArrayForms.{kind_new, untrue2}
 use Rattle.stuck_law.proofs.Forms.{wide_kind, typed_value, shown, first_in, or_left, or_right, Leads, Does, Is, reg_held, stays, puts, puts_wide, held, changes, throws_new}
@@ -64,8 +65,8 @@ forget_held p f c w m (kind.Fresh u q) v h = by (nat_eq m q)
     by false = h
 forget_held p f c w m k v h = h
 
-module _ (p : NamedProgram) (o : Outer) (f : Framework) (floats : Floats) (reg : IsRegular p f) where
-  holder : (c : NamedClass) (k : FieldKey) (q : Kind) → holds_field p c k q ≡ true → (q ≡ kind.FreshThis) ⊎ (fits p q k.class ≡ true)
+module _ (p : NamedProgram) (o : Outer) (f : Framework) (floats : Floats) (reg : IsSettled p) where
+  holder : (c : NamedClass) (k : FieldKey) (q : Kind) → holds_field p c k q ≡ true → (q ≡ kind.FreshThis) ⊎ (fits_holder p q k.class ≡ true)
   holder c k kind.FreshThis e = inl refl
   holder c k q e = inr e
 
@@ -188,7 +189,7 @@ module _ (p : NamedProgram) (o : Outer) (f : Framework) (floats : Floats) (reg :
     fitting u pl r e z = by (sorted p u) (ref_sort p u)
       where
         named : is_class_type u ≡ true
-        named = reg.class_types u (plain_defined p u pl)
+        named = reg.regular.class_types u (plain_defined p u pl)
 
         v : Value
         v = register g r
@@ -208,31 +209,41 @@ module _ (p : NamedProgram) (o : Outer) (f : Framework) (floats : Floats) (reg :
         by (OfWide q b d j m) s = true_false (class_alone u named).0 d
         by (OfNone q b d j m) s = true_false (class_alone u named).0 d
 
-    -- an instance field that is found isn't an interface's
-    plain_holder : (k : FieldKey) (y : Text × NamedField) → finds_field p k ≡ Some y → wrong_field p false k ≡ false → is_plain p k.class ≡ true
-    plain_holder k y e wrong = by (class_named p k.class) refl
+    -- an object that holds a field is of no interface's kind
+    null_kind : (q : Kind) (v : Value) → kind.is_null q ≡ true → KindHolds p f class w q v → v ≡ Word 0
+    null_kind kind.Zero v e h = h
+    null_kind kind.Null v e h = h
+    null_kind q v e h = absurd (true≢false (sym e))
+
+    no_interface : (k : FieldKey) (r : ℕ) → fits_holder p (kind_at a.registers r) k.class ≡ true → is_null (register g r) ≡ false → is_program_interface p k.class ≡ false
+    no_interface k r e z = by (is_program_interface p k.class) (and_right (fits p (kind_at a.registers r) k.class) (not (is_program_interface p k.class) || kind.is_null (kind_at a.registers r)) e)
       where
-        by : (z : Option NamedClass) → class_named p k.class ≡ z → is_plain p k.class ≡ true
-        by None i = true_false (field_defined (length p.classes) k k.class y e) (defined_by p k.class None i)
-        by (Some c) i = one (is_interface c.flags) refl
-          where
-            one : (b : Bool) → is_interface c.flags ≡ b → is_plain p k.class ≡ true
-            one false j = plain_by p k.class (Some c) i ∙ ap not j
-            one true j = true_false (reg.interface_fields k c y i j e) (sym (ap (λ z. elim z as (λ z. Bool) [ Some f ↦ differ false (is_static f.1.flags) | None ↦ false ]) e) ∙ wrong)
+        by : (b : Bool) → (not b || kind.is_null (kind_at a.registers r)) ≡ true → b ≡ false
+        by false i = refl
+        by true i = true_false (ap is_null (null_kind (kind_at a.registers r) (register g r) i (reg_held p o f floats reg w cs g tw t r))) z
+
+    plain_holder : (k : FieldKey) (y : Text × NamedField) → finds_field p k ≡ Some y → is_program_interface p k.class ≡ false → is_plain p k.class ≡ true
+    plain_holder k y e outside = by (class_named p k.class) refl outside
+      where
+        by : (z : Option NamedClass) → class_named p k.class ≡ z → (elim z as (λ z. Bool) [ Some c ↦ is_interface c.flags | None ↦ false ]) ≡ false → is_plain p k.class ≡ true
+        by None i j = true_false (field_defined (length p.classes) k k.class y e) (defined_by p k.class None i)
+        by (Some c) i j = plain_by p k.class (Some c) i ∙ ap not j
 
     abbrev Thing_at : Value → Type 0
     Thing_at v = (c : Text) × ((fields : FieldKey → Option Value) × (thing_at w v ≡ Some (Instance c fields)))
 
-    pub holds_instance : (k : FieldKey) (y : Text × NamedField) → finds_field p k ≡ Some y → wrong_field p false k ≡ false → (r : ℕ) → fits p (kind_at a.registers r) k.class ≡ true → is_null (register g r) ≡ false → Thing_at (register g r)
-    holds_instance k y e wrong r i z = let pl = plain_holder k y e wrong in let u = fitting k.class pl r i z in instance_thing p f reg w tw (register g r) k.class u.0 (plain_defined p k.class pl) u.1
+    pub holds_instance : (k : FieldKey) (y : Text × NamedField) → finds_field p k ≡ Some y → (r : ℕ) → fits_holder p (kind_at a.registers r) k.class ≡ true → is_null (register g r) ≡ false → Thing_at (register g r)
+    holds_instance k y e r i z = let pl = plain_holder k y e (no_interface k r i z) in
+        let u = fitting k.class pl r (and_left (fits p (kind_at a.registers r) k.class) (not (is_program_interface p k.class) || kind.is_null (kind_at a.registers r)) i) z in
+        instance_thing p f reg w tw (register g r) k.class u.0 (plain_defined p k.class pl) u.1
 
-    pub puts_instance : (k : FieldKey) (y : Text × NamedField) → finds_field p k ≡ Some y → wrong_field p false k ≡ false → (r : ℕ) → holds_field p t.in_method.class k (kind_at a.registers r) ≡ true → is_null (register g r) ≡ false → Thing_at (register g r)
-    puts_instance k y e wrong r i z = by (holder t.in_method.class k (kind_at a.registers r) i)
+    pub puts_instance : (k : FieldKey) (y : Text × NamedField) → finds_field p k ≡ Some y → (r : ℕ) → holds_field p t.in_method.class k (kind_at a.registers r) ≡ true → is_null (register g r) ≡ false → Thing_at (register g r)
+    puts_instance k y e r i z = by (holder t.in_method.class k (kind_at a.registers r) i)
       where
-        by : (kind_at a.registers r ≡ kind.FreshThis) ⊎ (fits p (kind_at a.registers r) k.class ≡ true) → Thing_at (register g r)
-        by (inr j) = holds_instance k y e wrong r j z
+        by : (kind_at a.registers r ≡ kind.FreshThis) ⊎ (fits_holder p (kind_at a.registers r) k.class ≡ true) → Thing_at (register g r)
+        by (inr j) = holds_instance k y e r j z
         by (inl j) = let u = subst (λ q. KindHolds p f class w q (register g r)) j (reg_held p o f floats reg w cs g tw t r) in
-            instance_thing p f reg w tw (register g r) class u.0 (defined_by p class (Some t.in_method.class) (reg.named t.in_method.class t.in_method.class_in)) u.1
+            instance_thing p f reg w tw (register g r) class u.0 (defined_by p class (Some t.in_method.class) (reg.regular.named t.in_method.class t.in_method.class_in)) u.1
 
     -- ---- reads
 
@@ -259,7 +270,7 @@ module _ (p : NamedProgram) (o : Outer) (f : Framework) (floats : Floats) (reg :
 
         by : is_null (register g on) ≡ false → (y : Option (Text × NamedField)) → finds_field p k ≡ y → L (reads_instance i to k (register g on) w g (option_map (λ c. place_of c.0 c.1) (finds_field p k)))
         by z None e = subst (λ y. L (reads_instance i to k (register g on) w g (option_map (λ c. place_of c.0 c.1) y))) (sym e) (read_out (form.InstanceGet i to on k) h refl k (Some (register g on)) (λ v j. subst (IsThere w) (some_one (register g on) v j) (there_held p f class w (kind_at a.registers on) (register g on) (reg_held p o f floats reg w cs g tw t on))) refl)
-        by z (Some y) e = subst (λ y. L (reads_instance i to k (register g on) w g (option_map (λ c. place_of c.0 c.1) y))) (sym e) (value (register g on) (holds_instance k y e (or_right (wrong_item i k.kind) (wrong_field p false k) h.right) on (and_left (fits p (kind_at a.registers on) k.class) true h.allowed) z) (place_of y.0 y.1))
+        by z (Some y) e = subst (λ y. L (reads_instance i to k (register g on) w g (option_map (λ c. place_of c.0 c.1) y))) (sym e) (value (register g on) (holds_instance k y e on (and_left (fits_holder p (kind_at a.registers on) k.class) true h.allowed) z) (place_of y.0 y.1))
 
     pub static_gets : (i : Item) (to : ℕ) (k : FieldKey) → I (form.StaticGet i to k) → D (act (face_of p f).under floats (form.StaticGet i to k) w g)
     static_gets i to k h = by (finds_field p k) refl
@@ -268,8 +279,8 @@ module _ (p : NamedProgram) (o : Outer) (f : Framework) (floats : Floats) (reg :
         by None e = subst (λ y. L (reads_static need i to k w g (option_map (λ c. place_of c.0 c.1) y))) (sym e) (read_out (form.StaticGet i to k) h refl k None (λ v j. none_some v j) refl)
         by (Some y) e = let place = place_of y.0 y.1 in subst (λ y. L (reads_static need i to k w g (option_map (λ c. place_of c.0 c.1) y))) (sym e)
             (readied (form.StaticGet i to k) h refl (need place.class) place.class (reads_value i to (Some (static_value w k place)) w g)
-            (item_written (form.StaticGet i to k) h i to k.kind (static_value w k place) None (or_left (wrong_item i k.kind) (wrong_field p true k) h.right)
-            (or_value k.kind (w.statics (key_at k place)) (first_of k place) (λ v j. tw.statics (key_at k place) v j) (reg.firsts k y e w)) refl (first_in (n + 1) [])))
+            (item_written (form.StaticGet i to k) h i to k.kind (static_value w k place) None (or_left (wrong_item i k.kind) (wrong_field p true k) (or_left (wrong_item i k.kind || wrong_field p true k) (wrong_first p k) h.right))
+            (or_value k.kind (w.statics (key_at k place)) (first_of k place) (λ v j. tw.statics (key_at k place) v j) (first_held p f reg w k y e (or_right (wrong_item i k.kind || wrong_field p true k) (wrong_first p k) h.right))) refl (first_in (n + 1) [])))
 
     -- ---- writes
 
@@ -299,7 +310,7 @@ module _ (p : NamedProgram) (o : Outer) (f : Framework) (floats : Floats) (reg :
 
         by : is_null (register g on) ≡ false → (y : Option (Text × NamedField)) → finds_field p k ≡ y → L (writes_instance k (register g on) v w g (option_map (λ c. place_of c.0 c.1) (finds_field p k)))
         by z None e = subst (λ y. L (writes_instance k (register g on) v w g (option_map (λ c. place_of c.0 c.1) y))) (sym e) (write_out (form.InstancePut i from on k) h refl (first_in (n + 1) []) k (Some (register g on)) v (λ u j. subst (IsThere w) (some_one (register g on) u j) (there_held p f class w (kind_at a.registers on) (register g on) (reg_held p o f floats reg w cs g tw t on))) (value_there k.kind v fit))
-        by z (Some y) e = subst (λ y. L (writes_instance k (register g on) v w g (option_map (λ c. place_of c.0 c.1) y))) (sym e) (value (register g on) (puts_instance k y e (or_right (wrong_item i k.kind) (wrong_field p false k) h.right) on (and_left second true (and_right (meets p t.in_method.class a.registers from (of_type k.kind)) (second && true) h.allowed)) z) (place_of y.0 y.1))
+        by z (Some y) e = subst (λ y. L (writes_instance k (register g on) v w g (option_map (λ c. place_of c.0 c.1) y))) (sym e) (value (register g on) (puts_instance k y e on (and_left second true (and_right (meets p t.in_method.class a.registers from (of_type k.kind)) (second && true) h.allowed)) z) (place_of y.0 y.1))
 
     pub static_puts : (i : Item) (from : ℕ) (k : FieldKey) → I (form.StaticPut i from k) → D (act (face_of p f).under floats (form.StaticPut i from k) w g)
     static_puts i from k h = by (finds_field p k) refl

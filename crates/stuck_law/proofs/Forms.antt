@@ -51,7 +51,7 @@ use Rattle.invariant_law.specs.Fine.{IsThere}
 use Rattle.invariant_law.proofs.Growing.{grows_same, grows_put, show_heap}
 use Rattle.invariant_law.proofs.Plain.{LeadsPlainly}
 use Rattle.stuck_law.specs.TypedStates.{KindHolds, ValueOf, StateHolds, TypedFrame, TypedThing, TypedWorld}
-use Rattle.stuck_law.specs.Regular.{IsRegular}
+use Rattle.stuck_law.proofs.Settled.{IsSettled}
 use Rattle.stuck_law.proofs.Registers.{and_left, and_right, there_held, all_at, all_pair, all_written, all_known, IsSingle}
 use Rattle.stuck_law.proofs.Sorts.{RefSort, AnArray, APlain, AnAny, ref_sort, Sorted, OfWord, OfWide, OfReference, OfNone, sorted}
 use Rattle.stuck_law.proofs.Climbs.{none_some, or_cases}
@@ -132,7 +132,7 @@ literal_divides literals.DivInt x y e = refl
 literal_divides literals.RemInt x y e = refl
 literal_divides op x y e = absurd (true≢false (ap (λ o. is_some o) e))
 
-module _ (p : NamedProgram) (f : Framework) (reg : IsRegular p f) where
+module _ (p : NamedProgram) (f : Framework) (reg : IsSettled p) where
   pub wide_kind : (u : Text) → is_wide u ≡ true → kind.kind_of p u ≡ kind.Low
   wide_kind u e = by (sorted p u)
     where
@@ -165,7 +165,7 @@ module _ (p : NamedProgram) (f : Framework) (reg : IsRegular p f) where
       by (OfReference i x b j l) = subst (λ k. KindHolds p f d w k v) (sym j) (ref (ref_sort p u) (subst (λ k. KindHolds p f c w k v) j h))
       by (OfNone i x b j l) = subst (λ k. KindHolds p f d w k v) (sym j) (subst (λ k. KindHolds p f c w k v) j h)
 
-module _ (p : NamedProgram) (o : Outer) (f : Framework) (floats : Floats) (reg : IsRegular p f) where
+module _ (p : NamedProgram) (o : Outer) (f : Framework) (floats : Floats) (reg : IsSettled p) where
   module _ (w : World) (cs : Classes) (g : Frame) (tw : TypedWorld p f w) (t : TypedFrame p f w g) where
     abbrev class : Text
     class = t.in_method.class.name

@@ -25,7 +25,7 @@ use Rattle.pass_defs.specs.Typed.{parameter_kinds, argument_kinds, receiver_kind
 use Rattle.invariant_law.specs.Holds.{Each}
 use Rattle.invariant_law.proofs.Growing.{grows_same}
 use Rattle.stuck_law.specs.TypedStates.{AllHold, IsObject, KindHolds, TypedWorld}
-use Rattle.stuck_law.specs.Regular.{IsRegular, FindsRegularly}
+use Rattle.stuck_law.proofs.Settled.{IsSettled, FindsRegularly}
 use Rattle.stuck_law.proofs.Registers.{and_left, and_right}
 use Rattle.stuck_law.proofs.Sorts.{class_alone, not_wide}
 use Rattle.stuck_law.proofs.Climbs.{found_in_list, class_in, defined_by, none_some, some_one}
@@ -47,7 +47,7 @@ pub each_classes : (ts : List Text) → Each (λ t. Unit {0}) ts
 each_classes [] = tt
 each_classes (t ∷ ts) = (tt, each_classes ts)
 
-module _ (p : NamedProgram) (o : Outer) (f : Framework) (floats : Floats) (reg : IsRegular p f) (finds : FindsRegularly p f) where
+module _ (p : NamedProgram) (o : Outer) (f : Framework) (floats : Floats) (reg : IsSettled p) (finds : FindsRegularly p f) where
   -- ---- entries
 
   -- what is under a type is an object
@@ -118,7 +118,7 @@ module _ (p : NamedProgram) (o : Outer) (f : Framework) (floats : Floats) (reg :
               vs = (gets_all (gets w g).0 gs).1
 
               named : is_class_type c.name ≡ true
-              named = reg.class_types c.name (defined_by p c.name (Some c) (reg.named c ci))
+              named = reg.regular.class_types c.name (defined_by p c.name (Some c) (reg.regular.named c ci))
 
               fit : Bool
               fit = all_fit (face_of p f) o (gets w g).0 w2 gs vs m.signature.parameters
@@ -157,7 +157,7 @@ module _ (p : NamedProgram) (o : Outer) (f : Framework) (floats : Floats) (reg :
       by (Some c) i j = in_class c (class_in p u c i) (find (λ m. text_eq m.name n && text_eq (proto_text m.signature) q) c.methods) refl j
 
   pub makes_typed : (w : World) (u : Text) → TypedWorld p f w → may_make (face_of p f) o u ≡ true → TypedWorld p f (show (with_thing w (fresh u)) u (next_object w)).0
-  makes_typed w u tw e = typed_show p f (with_thing w (fresh u)) u (next_object w) (typed_with p f w (fresh u) tw (fresh_typed p f w u (reg.class_types u (by (class_named p u) (and_right (o.classes u || o.constructed u) (is_concrete (face_of p f) u) e))))) (object_there (with_thing w (fresh u)) (next_object w) (new_object w (fresh u)))
+  makes_typed w u tw e = typed_show p f (with_thing w (fresh u)) u (next_object w) (typed_with p f w (fresh u) tw (fresh_typed p f w u (reg.regular.class_types u (by (class_named p u) (and_right (o.classes u || o.constructed u) (is_concrete (face_of p f) u) e))))) (object_there (with_thing w (fresh u)) (next_object w) (new_object w (fresh u)))
     where
       by : (y : Option NamedClass) → (elim (option_map (λ c. c.flags) y) as (λ y. Bool) [ Some n ↦ not (is_interface n) && not (is_abstract n) | None ↦ false ]) ≡ true → (elim y as (λ y. Bool) [ Some c ↦ true | None ↦ false ]) ≡ true
       by (Some c) i = refl

@@ -23,7 +23,7 @@ use Rattle.invariant_law.specs.Invariant.{Grows}
 use Rattle.invariant_law.specs.Holds.{Each}
 use Rattle.invariant_law.proofs.Growing.{grows_same}
 use Rattle.stuck_law.specs.TypedStates.{AllHold, IsObject, KindHolds, ValueOf, ItemOf, RefFits, MaybeOf, TypedThing, TypedWorld, ArrayFits}
-use Rattle.stuck_law.specs.Regular.{IsRegular}
+use Rattle.stuck_law.proofs.Settled.{IsSettled}
 use Rattle.stuck_law.proofs.Registers.{and_left, and_right}
 use Rattle.stuck_law.proofs.Sorts.{Sorted, OfWord, OfWide, OfReference, OfNone, sorted, class_alone, array_reference}
 use Rattle.stuck_law.proofs.Climbs.{plain_defined, or_cases}
@@ -46,7 +46,7 @@ use Rattle.stuck_law.proofs.Worlds.{typed_exposed, object_later}
 use Rattle.dalvik_defs.specs.Names.{throwable_type}
 use Rattle.stuck_law.proofs.Forms.{wide_kind, or_left, or_right, null_ref}
 
-module _ (p : NamedProgram) (o : Outer) (f : Framework) (floats : Floats) (reg : IsRegular p f) where
+module _ (p : NamedProgram) (o : Outer) (f : Framework) (floats : Floats) (reg : IsSettled p) where
   -- a value that was given for a type
   pub record GivenTyped (w : World) (u : Text) (v : Value) : Type 0 where
     pub value : ValueOf p f w u v
@@ -84,7 +84,7 @@ module _ (p : NamedProgram) (o : Outer) (f : Framework) (floats : Floats) (reg :
   object_typed w u v ob e = by (is_plain_class (face_of p f) u || is_array u) refl e
     where
       refs : (is_plain_class (face_of p f) u ≡ true) ⊎ (is_array u ≡ true) → is_reference u ≡ true
-      refs (inl i) = (class_alone u (reg.class_types u (plain_defined p u (sym (plain_face u) ∙ i)))).0
+      refs (inl i) = (class_alone u (reg.regular.class_types u (plain_defined p u (sym (plain_face u) ∙ i)))).0
       refs (inr i) = array_reference u i
 
       by : (b : Bool) → (is_plain_class (face_of p f) u || is_array u) ≡ b → (elim b as (λ b. Bool) [ true ↦ (face_of p f).under (kind_of w v) u | false ↦ is_reference u ]) ≡ true → (is_reference u ≡ true) × RefFits p f (kind_of w v) u

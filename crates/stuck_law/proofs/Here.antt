@@ -34,7 +34,7 @@ use Rattle.invariant_law.proofs.Invariants.{Landed}
 use Rattle.invariant_law.proofs.Growing.{grows_with}
 use Rattle.invariant_law.proofs.Plain.{grown, LeadsPlainly}
 use Rattle.stuck_law.specs.TypedStates.{IsObject, KindHolds, StateHolds, TypedFrame, TypedWorld, typed_states}
-use Rattle.stuck_law.specs.Regular.{IsRegular}
+use Rattle.stuck_law.proofs.Settled.{IsSettled}
 use Rattle.stuck_law.proofs.Registers.{and_left, and_right, all_above}
 use Rattle.stuck_law.proofs.Sorts.{Sorted, OfWord, OfWide, OfReference, OfNone, sorted}
 use Rattle.stuck_law.proofs.Climbs.{none_some, some_one, found_in_list, found_passes}
@@ -77,7 +77,7 @@ get_contains [] m x e = none_some x e
 get_contains (y ∷ xs) zero x e = (0, omega arith, some_one y x e)
 get_contains (y ∷ xs) (suc m) x e = let h = get_contains xs m x e in (suc h.0, omega (arith, h.1), h.2)
 
-module _ (p : NamedProgram) (o : Outer) (f : Framework) (floats : Floats) (reg : IsRegular p f) where
+module _ (p : NamedProgram) (o : Outer) (f : Framework) (floats : Floats) (reg : IsSettled p) where
   abbrev pub setting : Setting
   setting = setting_of p o f floats
 
@@ -98,7 +98,7 @@ module _ (p : NamedProgram) (o : Outer) (f : Framework) (floats : Floats) (reg :
 
   -- the frame's method has the body
   pub own_body : (w : World) (g : Frame) (t : TypedFrame p f w g) → t.in_method.method.body ≡ Some t.in_method.body
-  own_body w g t = sym (ap (λ o. option_and_then (λ m. m.body) o) (reg.methods t.in_method.class t.in_method.method t.in_method.class_in t.in_method.method_in)) ∙ (ap (bodies_of p) (sym t.in_method.is_key) ∙ t.in_method.has_body)
+  own_body w g t = sym (ap (λ o. option_and_then (λ m. m.body) o) (reg.regular.methods t.in_method.class t.in_method.method t.in_method.class_in t.in_method.method_in)) ∙ (ap (bodies_of p) (sym t.in_method.is_key) ∙ t.in_method.has_body)
 
   pub record At (w : World) (g : Frame) (t : TypedFrame p f w g) (x : Form) : Type 0 where
     pub has : form_at t.in_method.body g.position ≡ Some x

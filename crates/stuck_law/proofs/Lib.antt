@@ -1,3 +1,4 @@
+pub mod Settled
 pub mod Transitive
 pub mod Registers
 pub mod Sorts
@@ -7,6 +8,7 @@ pub mod Orders
 pub mod Worlds
 pub mod Here
 pub mod Values
+pub mod FirstValues
 pub mod Forms
 pub mod ArrayForms
 pub mod FieldForms

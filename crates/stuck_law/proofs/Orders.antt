@@ -18,7 +18,7 @@ use Rattle.pass_defs.specs.Kinds.{Kind, kind_eq, is_number, is_initialised, is_p
 use Rattle.pass_defs.specs.Kinds as kind
 use Rattle.invariant_law.specs.Holds.{Each}
 use Rattle.stuck_law.specs.TypedStates.{IsObject, IsUnder, IsArrayOf, KindHolds, Cond, ArrayFits, RefFits}
-use Rattle.stuck_law.specs.Regular.{IsRegular}
+use Rattle.stuck_law.proofs.Settled.{IsSettled}
 use Rattle.stuck_law.proofs.Registers.{there_held}
 use Rattle.stuck_law.proofs.Sorts.{RefSort, AnArray, APlain, AnAny, ref_sort, Sorted, OfWord, OfWide, OfReference, OfNone, sorted, class_alone, array_reference}
 use Rattle.stuck_law.proofs.Climbs.{none_some, some_one, found_each, nearest_up, plain_by, plain_defined, defined_by, name_of}
@@ -69,7 +69,7 @@ below_initialised p a b e i = by (is_initialised a) refl
     by true m = refl
     by false m = absurd (unlike (kind_eq a b) (is_number a && is_number b) refl refl m)
 
-module _ (p : NamedProgram) (f : Framework) (reg : IsRegular p f) where
+module _ (p : NamedProgram) (f : Framework) (reg : IsSettled p) where
   -- ---- classes that are nearest
 
   line_defined : (n : ℕ) (t : Text) → Each (λ d. defines p d.name ≡ true) (line_from n p t)
@@ -115,10 +115,10 @@ module _ (p : NamedProgram) (f : Framework) (reg : IsRegular p f) where
   under = is_under p f
 
   nearest_fits : (s t k : Text) → nearest p s t ≡ Some k → (z : Text) → RefFits p f z s → RefFits p f z k
-  nearest_fits s t k e z h = to_cond p f reg (is_array k) (ArrayFits p f z k) (is_plain p k ≡ true → under z k ≡ true) (λ i. true_false i (class_alone k (reg.class_types k (nearest_defined s t k e))).1) (λ i j. by (class_named p s) refl j)
+  nearest_fits s t k e z h = to_cond p f reg (is_array k) (ArrayFits p f z k) (is_plain p k ≡ true → under z k ≡ true) (λ i. true_false i (class_alone k (reg.regular.class_types k (nearest_defined s t k e))).1) (λ i j. by (class_named p s) refl j)
     where
       plainly : is_plain p s ≡ true → under z s ≡ true
-      plainly = cond_false p f reg (is_array s) (ArrayFits p f z s) (is_plain p s ≡ true → under z s ≡ true) (class_alone s (reg.class_types s (nearest_from s t k e))).1 h
+      plainly = cond_false p f reg (is_array s) (ArrayFits p f z s) (is_plain p s ≡ true → under z s ≡ true) (class_alone s (reg.regular.class_types s (nearest_from s t k e))).1 h
 
       by : (o : Option NamedClass) → class_named p s ≡ o → is_plain p k ≡ true → under z k ≡ true
       by None i j = absurd (near (λ d. ⊥) (λ u. ⊥) (λ d h. h) s t k (line_none (length p.classes) s i) e)
@@ -143,14 +143,14 @@ module _ (p : NamedProgram) (f : Framework) (reg : IsRegular p f) where
   arrays_reference (suc n) c e = refl
 
   items_fit : (s t c : Text) → nearest p (base_of s) t ≡ Some c → (z : Text) → RefFits p f z s → RefFits p f z (arrays_of (depth s) c)
-  items_fit [] t c e z h = absurd (true≢false (sym (reg.class_types [] (nearest_from [] t c e))))
+  items_fit [] t c e z h = absurd (true≢false (sym (reg.regular.class_types [] (nearest_from [] t c e))))
   items_fit (x ∷ s) t c e z h = by (nat_eq x 91) refl (λ i z h. items_fit s t c i z h)
     where
       arrays : nat_eq x 91 ≡ true → nearest p (base_of s) t ≡ Some c → ((z : Text) → RefFits p f z s → RefFits p f z (arrays_of (depth s) c)) → (z : Text) → ArrayFits p f z (x ∷ s) → ArrayFits p f z (91 ∷ arrays_of (depth s) c)
       arrays i k more [] h = absurd h
-      arrays i k more (v ∷ z) (a, (b, inl l)) = let r = reference_based s (class_alone (base_of s) (reg.class_types (base_of s) (nearest_from (base_of s) t c k))).0 in
-          (a, (refl, inr (subst (λ u. is_reference u ≡ true) (sym l) r, (arrays_reference (depth s) c (class_alone c (reg.class_types c (nearest_defined (base_of s) t c k))).0, more z (subst (λ u. RefFits p f u s) (sym l) (fits_self p f reg s))))))
-      arrays i k more (v ∷ z) (a, (b, inr l)) = (a, (refl, inr (l.0, (arrays_reference (depth s) c (class_alone c (reg.class_types c (nearest_defined (base_of s) t c k))).0, more z l.1.1))))
+      arrays i k more (v ∷ z) (a, (b, inl l)) = let r = reference_based s (class_alone (base_of s) (reg.regular.class_types (base_of s) (nearest_from (base_of s) t c k))).0 in
+          (a, (refl, inr (subst (λ u. is_reference u ≡ true) (sym l) r, (arrays_reference (depth s) c (class_alone c (reg.regular.class_types c (nearest_defined (base_of s) t c k))).0, more z (subst (λ u. RefFits p f u s) (sym l) (fits_self p f reg s))))))
+      arrays i k more (v ∷ z) (a, (b, inr l)) = (a, (refl, inr (l.0, (arrays_reference (depth s) c (class_alone c (reg.regular.class_types c (nearest_defined (base_of s) t c k))).0, more z l.1.1))))
 
       by : (b : Bool) → nat_eq x 91 ≡ b → (nearest p (base_of s) t ≡ Some c → (z : Text) → RefFits p f z s → RefFits p f z (arrays_of (depth s) c)) → RefFits p f z (arrays_of (depth (x ∷ s)) c)
       by true i more = let k = ap (λ u. nearest p u t) (sym (deep p f reg x s i).1) ∙ e in

@@ -34,7 +34,8 @@ use Rattle.invariant_law.proofs.Growing.{grows_same}
 use Rattle.invariant_law.proofs.Plain.{grown}
 use Rattle.invariant_law.proofs.Fine.{each_set, each_get}
 use Rattle.stuck_law.specs.TypedStates.{IsObject, item_kind, KindHolds, ValueOf, ItemOf, MaybeOf, TypedThing, TypedWorld}
-use Rattle.stuck_law.specs.Regular.{IsRegular, FindsRegularly}
+use Rattle.stuck_law.specs.Regular.{IsRegular}
+use Rattle.stuck_law.proofs.Settled.{IsSettled, FindsRegularly}
 use Rattle.stuck_law.proofs.Registers.{and_left, and_right, there_held}
 use Rattle.stuck_law.proofs.Sorts.{Sorted, OfWord, OfWide, OfReference, OfNone, sorted}
 use Rattle.stuck_law.proofs.Climbs.{defined_by, none_some, some_one}
@@ -79,7 +80,7 @@ use Rattle.stuck_law.proofs.Forms.{or_left, or_right}
 wrong : {A : Type 0} → true ≡ false → A
 wrong e = absurd (true≢false e)
 
-module _ (p : NamedProgram) (o : Outer) (f : Framework) (floats : Floats) (reg : IsRegular p f) (finds : FindsRegularly p f) where
+module _ (p : NamedProgram) (o : Outer) (f : Framework) (floats : Floats) (reg : IsSettled p) (finds : FindsRegularly p f) where
   -- ---- what is stored
 
   value_there : (w : World) (u : Text) (v : Value) → ValueOf p f w u v → IsThere w v
@@ -293,18 +294,26 @@ module _ (p : NamedProgram) (o : Outer) (f : Framework) (floats : Floats) (reg :
       by (inl e) = inl e
       by (inr h) = inr (λ e. never_stuck s (bodies_of p) (grown s (bodies_of p) i) (keeps_plainly s (bodies_of p) i keeps_typed) (λ x. x) (after_steps s (bodies_of p) (opening script) n) h e)
 
+-- A framework that fits a program leaves it none of the types of which the machine makes objects itself.
+settled : (p : NamedProgram) (o : Outer) (f : Framework) (script : List Move) → IsRegular p → Fit p o f script → IsSettled p
+settled p o f script regular fit = record {
+  regular = regular;
+  objects = or_left (defines p object_type) (list_any (defines p) (string_type ∷ class_type ∷ others)) fit.classes;
+  texts = or_left (defines p string_type) (list_any (defines p) (class_type ∷ others)) behind_object;
+  classes = or_left (defines p class_type) (list_any (defines p) others) (or_right (defines p string_type) (list_any (defines p) (class_type ∷ others)) behind_object);
+}
+  where
+    others : List Text
+    others = map (λ r. r.name) known_rows
+
+    behind_object : list_any (defines p) (string_type ∷ class_type ∷ others) ≡ false
+    behind_object = or_right (defines p object_type) (list_any (defines p) (string_type ∷ class_type ∷ others)) fit.classes
+
 -- A run of a regular program goes on from each state that it reaches, unless the framework's next move isn't legal.
-pub never_stuck_regular : (p : NamedProgram) (o : Outer) (f : Framework) (floats : Floats) (script : List Move) → IsRegular p f → Fit p o f script → IsNeverStuck (setting_of p o f floats) (bodies_of p) (opening script)
-never_stuck_regular p o f floats script reg fit = never_stuck_typed p o f floats reg (finds_regularly p f reg) script fit
+pub never_stuck_regular : (p : NamedProgram) (o : Outer) (f : Framework) (floats : Floats) (script : List Move) → IsRegular p → Fit p o f script → IsNeverStuck (setting_of p o f floats) (bodies_of p) (opening script)
+never_stuck_regular p o f floats script regular fit = let reg = settled p o f script regular fit in never_stuck_typed p o f floats reg (finds_regularly p f reg) script fit
 
-pub typed_regular : (p : NamedProgram) (o : Outer) (f : Framework) (floats : Floats) (script : List Move) (n : ℕ) → IsRegular p f → Fit p o f script
+-- And in each of these states the kinds of a typing hold.
+pub typed_regular : (p : NamedProgram) (o : Outer) (f : Framework) (floats : Floats) (script : List Move) (n : ℕ) → IsRegular p → Fit p o f script
     → (after_steps (setting_of p o f floats) (bodies_of p) (opening script) n ≡ Ended) ⊎ HoldsBy (typed_states p f o) (after_steps (setting_of p o f floats) (bodies_of p) (opening script) n)
-typed_regular p o f floats script n reg fit = typed_always p o f floats reg (finds_regularly p f reg) script fit n
-
--- what a fitting program says of the types that the machine makes objects of
-pub fits_reserved : (p : NamedProgram) (o : Outer) (f : Framework) (script : List Move) → Fit p o f script → (defines p object_type ≡ false) × ((defines p string_type ≡ false) × (defines p class_type ≡ false))
-fits_reserved p o f script fit = let one = or_right (defines p object_type) (list_any (defines p) (string_type ∷ class_type ∷ map (λ r. r.name) known_rows)) fit.classes in
-    let two = or_right (defines p string_type) (list_any (defines p) (class_type ∷ map (λ r. r.name) known_rows)) one in (
-      or_left (defines p object_type) (list_any (defines p) (string_type ∷ class_type ∷ map (λ r. r.name) known_rows)) fit.classes,
-      (or_left (defines p string_type) (list_any (defines p) (class_type ∷ map (λ r. r.name) known_rows)) one, or_left (defines p class_type) (list_any (defines p) (map (λ r. r.name) known_rows)) two),
-    )
+typed_regular p o f floats script n regular fit = let reg = settled p o f script regular fit in typed_always p o f floats reg (finds_regularly p f reg) script fit n

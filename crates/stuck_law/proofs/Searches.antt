@@ -15,14 +15,14 @@ use Rattle.dalvik_defs.specs.declared.names.Signature.{Signature}
 use Rattle.dalvik_defs.specs.declared.program.NamedMethod.{NamedMethod}
 use Rattle.dalvik_defs.specs.Find.{Found, Search, Nothing, Clash, Finds, chain_from, chain_of, found_in, method_in, passing, first_method, search_of, is_virtual_method, own_candidate, interface_named, candidates_from, without_repeats, candidates, is_lowest, lowest, verdict, finds_among, finds_at, interfaces_from, superclass_of, finds_above, finds_super_037, finds_super, is_037, lists_interface}
 use Rattle.stuck_law.proofs.Registers.{and_left, and_right}
-use Rattle.stuck_law.specs.Regular.{IsFound, FindsRegularly}
+use Rattle.stuck_law.proofs.Settled.{IsFound, FindsRegularly}
 use Rattle.stuck_law.proofs.Climbs.{none_some, some_one, found_in_list, found_passes, class_in, name_of, defined_by, plain_by, chain_up, Up}
 use Rattle.dalvik_defs.specs.declared.program.NamedClass.{NamedClass}
 use Rattle.dalvik_defs.specs.declared.program.NamedProgram.{NamedProgram}
 use Rattle.dalvik_defs.specs.declared.tables.Framework.{Framework}
 use Rattle.pass_defs.specs.Kinds.{is_plain}
 use Rattle.invariant_law.specs.Holds.{Each}
-use Rattle.stuck_law.specs.Regular.{IsRegular}
+use Rattle.stuck_law.proofs.Settled.{IsSettled}
 
 same_texts : (xs ys : List Text) → texts_eq xs ys ≡ true → xs ≡ ys
 same_texts [] [] e = refl
@@ -146,7 +146,7 @@ module _ (p : NamedProgram) (k : MethodKey) where
       by (x ∷ []) h i = subst Candidate (finds_one x g i) h.0
       by (x ∷ y ∷ xs) h i = clash_found g i
 
-module _ (p : NamedProgram) (f : Framework) (reg : IsRegular p f) where
+module _ (p : NamedProgram) (f : Framework) (reg : IsSettled p) where
   each_with : {A : Type 0} (P Q : A → Type 0) → ((x : A) → P x → Q x) → (xs : List A) → Each P xs → Each Q xs
   each_with P Q to [] h = tt
   each_with P Q to (x ∷ xs) h = (to x h.0, each_with P Q to xs h.1)

@@ -23,7 +23,7 @@ use Rattle.dalvik_defs.specs.declared.tables.Framework.{Framework}
 use Rattle.dalvik_defs.specs.declared.program.NamedProgram.{NamedProgram}
 use Rattle.invariant_law.proofs.Plain.{LeadsPlainly}
 use Rattle.stuck_law.specs.TypedStates.{TypedFrame, TypedWorld}
-use Rattle.stuck_law.specs.Regular.{IsRegular, FindsRegularly}
+use Rattle.stuck_law.proofs.Settled.{IsSettled, FindsRegularly}
 use Rattle.stuck_law.proofs.Climbs.{none_some, some_one}
 use Rattle.stuck_law.proofs.Here.{at_form, setting, states}
 use Rattle.stuck_law.proofs.FieldForms.{makes_held, instance_gets, static_gets, instance_puts, static_puts}
@@ -47,7 +47,7 @@ got_in [] m q e = none_some q e
 got_in (u ∷ ts) zero q e = (0, omega arith, some_one u q e)
 got_in (u ∷ ts) (suc m) q e = later_in q u ts (got_in ts m q e)
 
-module _ (p : NamedProgram) (o : Outer) (f : Framework) (floats : Floats) (reg : IsRegular p f) (finds : FindsRegularly p f) where
+module _ (p : NamedProgram) (o : Outer) (f : Framework) (floats : Floats) (reg : IsSettled p) (finds : FindsRegularly p f) where
   module _ (w : World) (cs : Classes) (g : Frame) (tw : TypedWorld p f w) (t : TypedFrame p f w g) where
     abbrev n : ℕ
     n = g.position

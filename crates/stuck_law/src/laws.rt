@@ -15,15 +15,15 @@ ghost use Rattle.stuck_law.specs.NeverStuck.{IsNeverStuck};
 ghost use Rattle.stuck_law.specs.Regular.{IsRegular};
 ghost use Rattle.stuck_law.specs.TypedStates.{typed_states};
 
-/// Under a framework and a script that fit it, a typed and regular program ends only at the end of the script or at a move
-/// that isn't legal.
+/// A regular program under a framework and a script that fit it ends only at the end of the script or at a move that isn't
+/// legal: no frame is without a step.
 pub fn never_stuck()
-    ensures { (p : NamedProgram) (o : Outer) (f : Framework) (floats : Floats) (script : List Move) → IsRegular p f → Fit p o f script
-        → IsNeverStuck (setting_of p o f floats) (bodies_of p) (opening script) }
+    ensures { (p : NamedProgram) (o : Outer) (f : Framework) (a : Floats) (script : List Move) → IsRegular p → Fit p o f script
+        → IsNeverStuck (setting_of p o f a) (bodies_of p) (opening script) }
 {}
 
 /// Each state that such a run reaches has ended, or the kinds of a typing hold of it.
 pub fn typed_always()
-    ensures { (p : NamedProgram) (o : Outer) (f : Framework) (floats : Floats) (script : List Move) (n : ℕ) → IsRegular p f → Fit p o f script
-        → (after (setting_of p o f floats) (bodies_of p) (opening script) n ≡ Ended) ⊎ Holds (typed_states p f o) (after (setting_of p o f floats) (bodies_of p) (opening script) n) }
+    ensures { (p : NamedProgram) (o : Outer) (f : Framework) (a : Floats) (script : List Move) (n : ℕ) → IsRegular p → Fit p o f script
+        → let t = after (setting_of p o f a) (bodies_of p) (opening script) n in (t ≡ Ended) ⊎ Holds (typed_states p f o) t }
 {}

@@ -1,27 +1,25 @@
 -- What the forms on arrays leave.
 use Rattle.std.proofs.Common.{◌≡◌, ℕ, zero, suc, ◌+◌, ℤ, pos, negsuc, Bool, true, false, true≢false, List, [], ◌∷◌, ◌++◌, Option, Some, None, ◌⊎◌, inl, inr, refl, sym, ap, ◌∙◌, subst, arith}
-use Rattle.std.specs.Prelude.{◌&&◌, ◌||◌, not, ◌%◌, ◌^◌, nat_lt, nat_eq, length, map, drop, replicate, codes, slice_get, Contains, if◌then◌else◌}
-use Rattle.std.proofs.lemmas.Bool.{eqb-true}
+use Rattle.std.specs.Prelude.{◌&&◌, ◌||◌, not, ◌%◌, ◌^◌, nat_lt, length, map, drop, replicate, codes, slice_get, if◌then◌else◌}
 use Rattle.std.specs.Int.{w8, w16}
 use Rattle.std.specs.List.{list_all}
-use Rattle.std.specs.Option.{option_and_then}
 use Rattle.insn_set.specs.declared.ops.Item.{Item}
 use Rattle.insn_set.specs.declared.ops.Item.TheVariants as item
 use Rattle.dalvik_defs.proofs.Calm.{text_sound}
 use Rattle.dalvik_defs.specs.Names.{Text, text_eq, is_word, is_wide, is_reference, is_array, item_of}
 use Rattle.dalvik_defs.specs.Known.{bad_store, out_of_bounds, negative_size}
 use Rattle.dalvik_defs.specs.Arith.{signed, low_signed}
-use Rattle.dalvik_defs.specs.Face.{face_of, bodies_of}
+use Rattle.dalvik_defs.specs.Face.{face_of}
 use Rattle.dalvik_defs.specs.Outer.{Outer}
 use Rattle.dalvik_defs.specs.Items.{stored, fill, filled, item_of_type}
 use Rattle.dalvik_defs.specs.State.{World, Classes, Thing, Items, is_null, word_of, kind_of, kind_of_thing, thing_at, put_thing, zero_of, with_thing, next_object}
-use Rattle.dalvik_defs.specs.declared.state.Value.{Value}
-use Rattle.dalvik_defs.specs.declared.state.Value.TheVariants.{Word, Low}
-use Rattle.dalvik_defs.specs.declared.state.Frame.{Frame}
 use Rattle.dalvik_defs.specs.Effect.{Effect, Goes, Faults, register, write, write_item, next}
 use Rattle.dalvik_defs.specs.ActArray.{zeros, new_array, fills, item_at, reads_item, array_get, may_store, writes_item, put_item, array_put}
 use Rattle.dalvik_defs.specs.ActNumber.{number}
 use Rattle.dalvik_defs.specs.Act.{act}
+use Rattle.dalvik_defs.specs.declared.state.Value.{Value}
+use Rattle.dalvik_defs.specs.declared.state.Value.TheVariants.{Word, Low}
+use Rattle.dalvik_defs.specs.declared.state.Frame.{Frame}
 use Rattle.dalvik_defs.specs.declared.forms.Form.{Form}
 use Rattle.dalvik_defs.specs.declared.forms.Form.TheVariants as form
 use Rattle.dalvik_defs.specs.declared.tables.Floats.{Floats}
@@ -39,7 +37,7 @@ use Rattle.stuck_law.specs.TypedStates.{IsObject, item_kind, KindHolds, ItemOf, 
 use Rattle.stuck_law.proofs.Settled.{IsSettled}
 use Rattle.stuck_law.proofs.Registers.{and_left, and_right, IsSingle}
 use Rattle.stuck_law.proofs.Sorts.{Sorted, OfWord, OfWide, OfReference, OfNone, sorted, not_wide, wide_alone}
-use Rattle.stuck_law.proofs.Climbs.{none_some, some_one, or_cases}
+use Rattle.stuck_law.proofs.Climbs.{none_some, or_cases}
 use Rattle.stuck_law.proofs.Arrays.{true_false}
 use Rattle.stuck_law.proofs.Orders.{number_held, reference_held, fits_held}
 use Rattle.stuck_law.proofs.Worlds.{state_later, typed_with, at_typed, zeros_typed, new_object}

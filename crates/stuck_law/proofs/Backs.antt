@@ -4,27 +4,31 @@ use Rattle.std.specs.Prelude.{codes, ◌||◌, not, slice_get, is_some, Contains
 use Rattle.std.proofs.lemmas.Bool.{eqb-true}
 use Rattle.std.specs.Option.{option_and_then}
 use Rattle.insn_set.specs.declared.ops.Item.{Item}
+use Rattle.insn_set.specs.declared.ops.InvokeKind.{InvokeKind}
 use Rattle.dalvik_defs.proofs.Calm.{text_sound}
-use Rattle.dalvik_defs.specs.Names.{same_name, texts_eq, signature_eq, Text, text_eq, is_void, is_word, is_wide, is_reference, is_class_type}
+use Rattle.dalvik_defs.specs.Names.{same_name, texts_eq, signature_eq, Text, text_eq, is_void, is_word, is_wide, is_reference, is_class_type, initialiser_name, void}
 use Rattle.dalvik_defs.specs.Face.{face_of, bodies_of}
 use Rattle.dalvik_defs.specs.Under.{class_named}
 use Rattle.dalvik_defs.specs.Flags.{is_static}
+use Rattle.dalvik_defs.specs.Silence.{key_in}
+use Rattle.dalvik_defs.specs.Outer.{Outer}
+use Rattle.dalvik_defs.specs.State.{World, Classes, fresh, with_thing, next_object}
+use Rattle.dalvik_defs.specs.Effect.{write_item, next}
+use Rattle.dalvik_defs.specs.Stack.{form_at as form_of, receives, back, lands}
+use Rattle.dalvik_defs.specs.Initialised.{initialiser_of, initialiser_in, initialiser_key, is_initialiser}
+use Rattle.dalvik_defs.specs.Find.{method_in}
 use Rattle.dalvik_defs.specs.declared.program.NamedClass.{NamedClass}
 use Rattle.dalvik_defs.specs.declared.program.NamedMethod.{NamedMethod}
 use Rattle.dalvik_defs.specs.declared.program.NamedBody.{NamedBody}
 use Rattle.dalvik_defs.specs.declared.names.MethodKey.{MethodKey}
-use Rattle.dalvik_defs.specs.Silence.{key_in}
-use Rattle.insn_set.specs.declared.ops.InvokeKind.{InvokeKind}
-use Rattle.dalvik_defs.specs.Outer.{Outer}
-use Rattle.dalvik_defs.specs.State.{World, Classes, fresh, with_thing, next_object}
 use Rattle.dalvik_defs.specs.declared.state.Value.{Value}
 use Rattle.dalvik_defs.specs.declared.state.Frame.{Frame}
-use Rattle.dalvik_defs.specs.Effect.{write_item, next}
 use Rattle.dalvik_defs.specs.declared.forms.Form.{Form}
 use Rattle.dalvik_defs.specs.declared.forms.Form.TheVariants as form
 use Rattle.dalvik_defs.specs.declared.tables.Floats.{Floats}
 use Rattle.dalvik_defs.specs.declared.tables.Framework.{Framework}
 use Rattle.dalvik_defs.specs.declared.program.NamedProgram.{NamedProgram}
+use Rattle.dalvik_defs.specs.declared.state.Value.TheVariants.{Word}
 use Rattle.pass_defs.specs.Walks.{onward}
 use Rattle.pass_defs.specs.Kinds.{Kind, is_plain, kind_eq, is_number, is_initialised, kind_of_reference, fits}
 use Rattle.pass_defs.specs.Kinds as kind
@@ -33,24 +37,19 @@ use Rattle.pass_defs.specs.Typed.{after, parameter_kinds, receiver_kind, wrong_i
 use Rattle.invariant_law.specs.Invariant.{Above, Callee, Owing}
 use Rattle.invariant_law.proofs.Growing.{grows_same}
 use Rattle.invariant_law.proofs.Plain.{grown}
-use Rattle.stuck_law.specs.TypedStates.{AllHold, IsObject, KindHolds, ValueOf, MaybeOf, StateHolds, AskedOf, TypedFrame, TypedWaiting, TypedWorld}
-use Rattle.stuck_law.proofs.Settled.{IsSettled}
+use Rattle.invariant_law.proofs.Invariants.{Landed}
+use Rattle.stuck_law.specs.TypedStates.{AllHold, IsObject, KindHolds, ValueOf, MaybeOf, AskedOf, TypedFrame, TypedWaiting, TypedWorld}
 use Rattle.stuck_law.specs.Regular.{reads_value}
-use Rattle.stuck_law.proofs.Arrays.{true_false}
-use Rattle.dalvik_defs.specs.declared.state.Value.TheVariants.{Word}
-use Rattle.stuck_law.proofs.Registers.{and_left, and_right, there_held, all_unwritten}
+use Rattle.stuck_law.proofs.Settled.{IsSettled}
+use Rattle.stuck_law.proofs.Registers.{and_left, and_right}
 use Rattle.stuck_law.proofs.Sorts.{Sorted, OfWord, OfWide, OfReference, OfNone, sorted}
 use Rattle.stuck_law.proofs.Climbs.{found_in_list, found_passes, class_in, none_some, some_one}
+use Rattle.stuck_law.proofs.Arrays.{true_false}
 use Rattle.stuck_law.proofs.Worlds.{typed_with, fresh_typed, new_object}
 use Rattle.stuck_law.proofs.Here.{own_body, get_contains, at_form, setting, states, At, go_to, landed}
+use Rattle.stuck_law.proofs.Forms.{first_in, or_left, held}
 use Rattle.stuck_law.proofs.FieldForms.{item_written}
 use Rattle.stuck_law.proofs.Calls.{Enter, entered, called_holds}
-use Rattle.dalvik_defs.specs.Stack.{form_at as form_of, receives, back, lands}
-use Rattle.dalvik_defs.specs.Initialised.{initialiser_of, initialiser_in, initialiser_key, is_initialiser}
-use Rattle.dalvik_defs.specs.Find.{method_in}
-use Rattle.dalvik_defs.specs.Names.{initialiser_name, void}
-use Rattle.invariant_law.proofs.Invariants.{Landed}
-use Rattle.stuck_law.proofs.Forms.{first_in, or_left, held}
 
 module _ (p : NamedProgram) (o : Outer) (f : Framework) (floats : Floats) (reg : IsSettled p) where
   module _ (w : World) (cs : Classes) (g : Frame) (tw : TypedWorld p f w) where

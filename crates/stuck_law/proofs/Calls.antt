@@ -4,6 +4,8 @@ use Rattle.std.specs.Prelude.{◌&&◌, ◌||◌, not, nat_eq, length, map, drop
 use Rattle.std.proofs.lemmas.Bool.{eqb-true}
 use Rattle.std.specs.List.{list_all}
 use Rattle.std.specs.Option.{option_and_then}
+use Rattle.insn_set.specs.declared.ops.InvokeKind.{InvokeKind}
+use Rattle.insn_set.specs.declared.ops.InvokeKind.TheVariants as call
 use Rattle.dalvik_defs.proofs.Calm.{text_sound}
 use Rattle.dalvik_defs.specs.Names.{object_constructor, object_type, texts_eq, method_eq, signature_eq, Text, text_eq, is_wide, is_class_type}
 use Rattle.dalvik_defs.specs.Known.{null_pointer, class_change, abstract_method}
@@ -11,22 +13,20 @@ use Rattle.dalvik_defs.specs.Face.{finds_virtually, face_of, bodies_of}
 use Rattle.dalvik_defs.specs.Find.{Found, Search, Nothing, Clash, Finds, found_in, finds_statically, finds_super, finds_at, resolves_method}
 use Rattle.dalvik_defs.specs.Under.{class_named, defines, is_under}
 use Rattle.dalvik_defs.specs.Flags.{is_static, is_interface, is_virtual, is_native, is_private, is_special}
+use Rattle.dalvik_defs.specs.Silence.{key_in}
+use Rattle.dalvik_defs.specs.Stack.{entry_frame}
+use Rattle.dalvik_defs.specs.Outer.{Outer}
+use Rattle.dalvik_defs.specs.Show.{show_all}
+use Rattle.dalvik_defs.specs.State.{World, Classes, Thing, is_null, kind_of, kind_of_thing}
+use Rattle.dalvik_defs.specs.Effect.{register, next}
+use Rattle.dalvik_defs.specs.Outcome.{is_direct, Outcome, Stays, Need, need_of, faults, when_ready, Enters, on_receiver, takes_no_receiver, native_kind, passed_types, calls_out, calls_uncoded, calls_found, calls_ready, calls_unfound, calls_by, calls}
 use Rattle.dalvik_defs.specs.declared.program.NamedClass.{NamedClass}
 use Rattle.dalvik_defs.specs.declared.program.NamedMethod.{NamedMethod}
 use Rattle.dalvik_defs.specs.declared.program.NamedBody.{NamedBody}
 use Rattle.dalvik_defs.specs.declared.names.MethodKey.{MethodKey}
-use Rattle.dalvik_defs.specs.Silence.{key_in}
-use Rattle.dalvik_defs.specs.Stack.{entry_frame}
-use Rattle.insn_set.specs.declared.ops.InvokeKind.{InvokeKind}
-use Rattle.insn_set.specs.declared.ops.InvokeKind.TheVariants as call
-use Rattle.dalvik_defs.specs.Outer.{Outer}
-use Rattle.dalvik_defs.specs.Show.{show_all}
-use Rattle.dalvik_defs.specs.State.{World, Classes, Thing, is_null, kind_of, kind_of_thing}
 use Rattle.dalvik_defs.specs.declared.state.Value.{Value}
 use Rattle.dalvik_defs.specs.declared.state.Value.TheVariants.{Word, Low, High, Object, Literal, Class}
 use Rattle.dalvik_defs.specs.declared.state.Frame.{Frame}
-use Rattle.dalvik_defs.specs.Effect.{register, next}
-use Rattle.dalvik_defs.specs.Outcome.{is_direct, Outcome, Stays, Need, need_of, faults, when_ready, Enters, on_receiver, takes_no_receiver, native_kind, passed_types, calls_out, calls_uncoded, calls_found, calls_ready, calls_unfound, calls_by, calls}
 use Rattle.dalvik_defs.specs.declared.forms.Form.{Form}
 use Rattle.dalvik_defs.specs.declared.forms.Form.TheVariants as form
 use Rattle.dalvik_defs.specs.declared.tables.Floats.{Floats}
@@ -45,8 +45,8 @@ use Rattle.invariant_law.proofs.Growing.{all_heap}
 use Rattle.invariant_law.proofs.Plain.{grown}
 use Rattle.invariant_law.proofs.Fine.{each_map}
 use Rattle.stuck_law.specs.TypedStates.{AllHold, CaughtHolds, IsObject, KindHolds, RefFits, StateHolds, TypedFrame, TypedWorld}
-use Rattle.stuck_law.proofs.Settled.{IsSettled, IsFound, FindsRegularly}
 use Rattle.stuck_law.specs.Regular.{taken}
+use Rattle.stuck_law.proofs.Settled.{IsSettled, IsFound, FindsRegularly}
 use Rattle.stuck_law.proofs.Registers.{and_left, and_right, there_held, all_map, all_join, all_unknown, all_long}
 use Rattle.stuck_law.proofs.Sorts.{RefSort, AnArray, APlain, AnAny, ref_sort, Sorted, OfWord, OfWide, OfReference, OfNone, sorted, class_alone}
 use Rattle.stuck_law.proofs.Climbs.{under_self, plain_below, step_up, defined_by, plain_by, or_cases}
@@ -54,9 +54,9 @@ use Rattle.stuck_law.proofs.Arrays.{true_false, under_fits}
 use Rattle.stuck_law.proofs.Orders.{kind_sound, ref_held, ref_fits, fits_held}
 use Rattle.stuck_law.proofs.Worlds.{typed_all}
 use Rattle.stuck_law.proofs.Here.{state_above, setting, states}
-use Rattle.stuck_law.proofs.FieldForms.{waits, waits_in, readied, fitting}
-use Rattle.stuck_law.proofs.ArrayForms.{untrue2}
 use Rattle.stuck_law.proofs.Forms.{wide_kind, first_in, or_left, or_right, any_class, Leads, Is, reg_held, low_held, stays, throws_new}
+use Rattle.stuck_law.proofs.ArrayForms.{untrue2}
+use Rattle.stuck_law.proofs.FieldForms.{waits, waits_in, readied, fitting}
 
 module _ (p : NamedProgram) (o : Outer) (f : Framework) (floats : Floats) (reg : IsSettled p) where
   -- ---- how many registers arguments take

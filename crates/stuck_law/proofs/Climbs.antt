@@ -17,8 +17,8 @@ use Rattle.dalvik_defs.specs.declared.tables.FrameworkType.{FrameworkType}
 use Rattle.pass_defs.specs.Kinds.{is_plain, line_from, line_of, nearest}
 use Rattle.invariant_law.specs.Holds.{Each}
 use Rattle.stuck_law.proofs.Settled.{IsSettled}
-use Rattle.stuck_law.proofs.Sorts.{class_alone}
 use Rattle.stuck_law.proofs.Transitive.{under_transitive}
+use Rattle.stuck_law.proofs.Sorts.{class_alone}
 
 pub none_some : {A B : Type 0} (x : A) → None ≡ Some x → B
 none_some x e = absurd (true≢false (ap (λ o. elim o as (λ o. Bool) [ Some z ↦ false | None ↦ true ]) e))

@@ -2,6 +2,7 @@
 use Rattle.std.proofs.Common.{◌≡◌, ℕ, zero, suc, ◌+◌, Bool, true, false, true≢false, [], ◌∷◌, ◌++◌, Option, Some, None, ◌⊎◌, inl, inr, refl, sym, ap, ◌∙◌, subst}
 use Rattle.std.specs.Prelude.{◌&&◌, ◌||◌, not, ◌%◌, ◌^◌, nat_eq, length, map, Contains}
 use Rattle.std.specs.Int.{w8, w16}
+use Rattle.std.specs.Option.{option_map, option_or}
 use Rattle.insn_set.specs.declared.ops.Item.{Item}
 use Rattle.insn_set.specs.declared.ops.Item.TheVariants as item
 use Rattle.dalvik_defs.specs.Names.{Text, is_wide, is_reference, is_class_type}
@@ -11,23 +12,22 @@ use Rattle.dalvik_defs.specs.Face.{face_of, Place, place_of, is_defined}
 use Rattle.dalvik_defs.specs.Fields.{key_at, static_value, instance_value, written_or, first_of, with_static, with_instance}
 use Rattle.dalvik_defs.specs.Find.{finds_field, field_from, field_in, first_field}
 use Rattle.dalvik_defs.specs.Under.{class_named, defines}
-use Rattle.dalvik_defs.specs.Flags.{is_static, is_interface, is_abstract}
-use Rattle.dalvik_defs.specs.declared.names.FieldKey.{FieldKey}
-use Rattle.dalvik_defs.specs.declared.program.NamedClass.{NamedClass}
-use Rattle.dalvik_defs.specs.declared.program.NamedField.{NamedField}
-use Rattle.std.specs.Option.{option_map, option_or}
+use Rattle.dalvik_defs.specs.Flags.{is_interface, is_abstract}
 use Rattle.dalvik_defs.specs.Outer.{Outer}
 use Rattle.dalvik_defs.specs.Items.{stored}
 use Rattle.dalvik_defs.specs.Show.{show, show_option}
 use Rattle.dalvik_defs.specs.State.{World, Classes, Instance, is_null, word_of, kind_of, thing_at, put_field, fresh, zero_of, with_thing, next_object}
+use Rattle.dalvik_defs.specs.Effect.{Effect, Reads, Writes, register, write, write_item, next}
+use Rattle.dalvik_defs.specs.Outcome.{Outcome, Stays, Need, Ready, Fresh, Broken, need_of, when_ready, reads_value, reads_static, reads_instance, reads_out, writes_out, written as written_to, writes_static, writes_instance}
+use Rattle.dalvik_defs.specs.Act.{act}
+use Rattle.dalvik_defs.specs.declared.names.FieldKey.{FieldKey}
+use Rattle.dalvik_defs.specs.declared.program.NamedClass.{NamedClass}
+use Rattle.dalvik_defs.specs.declared.program.NamedField.{NamedField}
 use Rattle.dalvik_defs.specs.declared.state.Value.{Value}
 use Rattle.dalvik_defs.specs.declared.state.Value.TheVariants.{Word}
 use Rattle.dalvik_defs.specs.declared.state.Frame.{Frame}
 use Rattle.dalvik_defs.specs.declared.events.Event.{Event}
 use Rattle.dalvik_defs.specs.declared.events.Event.TheVariants as event
-use Rattle.dalvik_defs.specs.Effect.{Effect, Reads, Writes, register, write, write_item, next}
-use Rattle.dalvik_defs.specs.Outcome.{Outcome, Stays, Need, Ready, Fresh, Broken, need_of, when_ready, reads_value, reads_static, reads_instance, reads_out, writes_out, written as written_to, writes_static, writes_instance}
-use Rattle.dalvik_defs.specs.Act.{act}
 use Rattle.dalvik_defs.specs.declared.forms.Form.{Form}
 use Rattle.dalvik_defs.specs.declared.forms.Form.TheVariants as form
 use Rattle.dalvik_defs.specs.declared.tables.Floats.{Floats}
@@ -42,8 +42,7 @@ use Rattle.pass_defs.specs.Demands.{of_type, meets, holds_field}
 use Rattle.pass_defs.specs.Typed.{after, wrong_field, wrong_first, wrong_item}
 use Rattle.invariant_law.specs.Invariant.{Above, Begun, Owing}
 use Rattle.invariant_law.specs.Fine.{IsThere}
-use Rattle.invariant_law.proofs.Growing.{grows_same, grows_with, show_heap, option_heap}
-use Rattle.invariant_law.proofs.Growing.{there_later}
+use Rattle.invariant_law.proofs.Growing.{grows_same, grows_with, show_heap, option_heap, there_later}
 use Rattle.stuck_law.specs.TypedStates.{IsObject, KindHolds, ValueOf, StateHolds, AskedOf, IsUnder, TypedFrame, TypedWaiting, TypedWorld}
 use Rattle.stuck_law.proofs.Settled.{IsSettled}
 use Rattle.stuck_law.proofs.Registers.{and_left, and_right, there_held, all_written, all_map, IsSingle}
@@ -52,10 +51,10 @@ use Rattle.stuck_law.proofs.Climbs.{plain_defined, defined_by, plain_by, none_so
 use Rattle.stuck_law.proofs.Arrays.{true_false}
 use Rattle.stuck_law.proofs.Orders.{fits_held}
 use Rattle.stuck_law.proofs.Worlds.{state_later, typed_with, at_typed, typed_show, typed_option, typed_static, put_typed, fresh_typed, zero_value, waiting_later, new_object, object_there}
-use Rattle.stuck_law.proofs.FirstValues.{first_held}
 use Rattle.stuck_law.proofs.Values.{instance_thing, ref_single}
-use Rattle.stuck_law.proofs.ArrayForms.{kind_new, untrue2}
+use Rattle.stuck_law.proofs.FirstValues.{first_held}
 use Rattle.stuck_law.proofs.Forms.{wide_kind, typed_value, shown, first_in, or_left, or_right, Leads, Does, Is, reg_held, stays, puts, puts_wide, held, changes, throws_new}
+use Rattle.stuck_law.proofs.ArrayForms.{kind_new, untrue2}
 
 forget_held : (p : NamedProgram) (f : Framework) (c : Text) (w : World) (m : ℕ) (k : Kind) (v : Value) → KindHolds p f c w k v → KindHolds p f c w (forgotten m k) v
 forget_held p f c w m (kind.Fresh u q) v h = by (nat_eq m q)

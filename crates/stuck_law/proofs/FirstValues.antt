@@ -1,5 +1,5 @@
 -- What a static field holds before it is written is of its type, where it may be read.
-use Rattle.std.proofs.Common.{◌≡◌, ℕ, zero, suc, ◌<◌, Bool, true, false, true≢false, List, [], ◌∷◌, ◌++◌, Option, Some, None, inl, inr, refl, sym, ap, ◌∙◌, subst}
+use Rattle.std.proofs.Common.{◌≡◌, ℕ, zero, suc, Bool, true, false, true≢false, List, [], ◌∷◌, ◌++◌, Option, Some, None, inr, refl, sym, ap, ◌∙◌, subst}
 use Rattle.std.specs.Prelude.{◌&&◌, ◌||◌, map, length, Contains}
 use Rattle.std.specs.Option.{option_map, option_or}
 use Rattle.dalvik_defs.proofs.Calm.{text_sound}
@@ -21,9 +21,9 @@ use Rattle.pass_defs.specs.Kinds.{is_plain}
 use Rattle.pass_defs.specs.Kinds as kind
 use Rattle.pass_defs.specs.Typed.{is_text_or_type, begins_as_text_or_type, wrong_first}
 use Rattle.stuck_law.specs.TypedStates.{KindHolds, ValueOf}
-use Rattle.stuck_law.proofs.Settled.{IsSettled}
 use Rattle.stuck_law.specs.Regular.{suits}
-use Rattle.stuck_law.proofs.Registers.{and_right, and_left}
+use Rattle.stuck_law.proofs.Settled.{IsSettled}
+use Rattle.stuck_law.proofs.Registers.{and_right}
 use Rattle.stuck_law.proofs.Sorts.{RefSort, AnArray, APlain, AnAny, ref_sort, Sorted, OfWord, OfWide, OfReference, OfNone, sorted}
 use Rattle.stuck_law.proofs.Climbs.{none_some, some_one, found_in_list, found_passes, class_in}
 use Rattle.stuck_law.proofs.Arrays.{true_false}

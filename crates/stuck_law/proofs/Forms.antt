@@ -23,17 +23,17 @@ use Rattle.dalvik_defs.specs.Face.{face_of, bodies_of}
 use Rattle.dalvik_defs.specs.Outer.{Outer}
 use Rattle.dalvik_defs.specs.Show.{show}
 use Rattle.dalvik_defs.specs.State.{World, Classes, Thing, is_null, word_of, kind_of, kind_of_thing, thing_at, put_thing, put_lock}
-use Rattle.dalvik_defs.specs.declared.state.Value.{Value}
-use Rattle.dalvik_defs.specs.declared.state.Value.TheVariants.{Word, Low, High, Literal, Class}
-use Rattle.dalvik_defs.specs.declared.state.Frame.{Frame}
-use Rattle.dalvik_defs.specs.declared.events.Event.{Event}
-use Rattle.dalvik_defs.specs.declared.events.Event.TheVariants as event
 use Rattle.dalvik_defs.specs.Effect.{Effect, Goes, Faults, Throws, Locks, Unlocks, register, write, next, go, sets, sets_wide, unless_null}
 use Rattle.dalvik_defs.specs.ActPlain.{word_constant, exits, is_instance, truth, branch, goes_to}
 use Rattle.dalvik_defs.specs.ActArray.{measures}
 use Rattle.dalvik_defs.specs.ActNumber.{number, word, gives_word, gives_wide, sets_number, binary}
 use Rattle.dalvik_defs.specs.Outcome.{Outcome, Stays, outcome, need_of, faults, with_lock}
 use Rattle.dalvik_defs.specs.Act.{act}
+use Rattle.dalvik_defs.specs.declared.state.Value.{Value}
+use Rattle.dalvik_defs.specs.declared.state.Value.TheVariants.{Word, Low, High, Literal, Class}
+use Rattle.dalvik_defs.specs.declared.state.Frame.{Frame}
+use Rattle.dalvik_defs.specs.declared.events.Event.{Event}
+use Rattle.dalvik_defs.specs.declared.events.Event.TheVariants as event
 use Rattle.dalvik_defs.specs.declared.forms.Form.{Form}
 use Rattle.dalvik_defs.specs.declared.forms.Form.TheVariants as form
 use Rattle.dalvik_defs.specs.declared.tables.Floats.{Floats}

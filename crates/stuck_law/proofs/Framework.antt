@@ -1,29 +1,33 @@
 -- The moves of the framework keep all typed, and all that the law of invariants asks is put together.
 use Rattle.std.proofs.Common.{◌≡◌, Bool, true, false, true≢false, List, [], ◌∷◌, Option, Some, None, inr, refl, sym, ap, ◌∙◌, subst}
 use Rattle.std.specs.Prelude.{◌&&◌, ◌||◌, not, find, slice_get, is_some, Contains, if◌then◌else◌}
-use Rattle.dalvik_defs.specs.Names.{Text, text_eq, is_class_type}
-use Rattle.dalvik_defs.specs.Face.{face_of, bodies_of}
+use Rattle.std.specs.Option.{option_map}
+use Rattle.dalvik_defs.specs.Names.{Text, text_eq, is_class_type, proto_text}
+use Rattle.dalvik_defs.specs.Face.{face_of, bodies_of, declared_in, is_concrete}
 use Rattle.dalvik_defs.specs.Find.{Found, found_in}
 use Rattle.dalvik_defs.specs.Under.{class_named, is_under}
 use Rattle.dalvik_defs.specs.Flags.{is_static, is_interface, is_abstract}
-use Rattle.dalvik_defs.specs.declared.program.NamedClass.{NamedClass}
-use Rattle.dalvik_defs.specs.declared.program.NamedMethod.{NamedMethod}
-use Rattle.dalvik_defs.specs.declared.program.NamedBody.{NamedBody}
 use Rattle.dalvik_defs.specs.Silence.{key_in}
-use Rattle.std.specs.Option.{option_map}
 use Rattle.dalvik_defs.specs.Outer.{Outer}
 use Rattle.dalvik_defs.specs.Show.{show}
 use Rattle.dalvik_defs.specs.State.{World, Classes, Thing, is_null, kind_of, kind_of_thing, fresh, with_thing, next_object}
+use Rattle.dalvik_defs.specs.Gives.{gets, gets_all, spread, all_fit, is_on, fits as given_fits}
+use Rattle.dalvik_defs.specs.Legal.{may_enter, may_enter_found, receiver_ok, may_reach, is_class_initialiser, may_make}
+use Rattle.dalvik_defs.specs.declared.program.NamedClass.{NamedClass}
+use Rattle.dalvik_defs.specs.declared.program.NamedMethod.{NamedMethod}
+use Rattle.dalvik_defs.specs.declared.program.NamedBody.{NamedBody}
 use Rattle.dalvik_defs.specs.declared.state.Value.{Value}
 use Rattle.dalvik_defs.specs.declared.state.Value.TheVariants.{Word, Low, High, Object, Literal, Class}
 use Rattle.dalvik_defs.specs.declared.tables.Floats.{Floats}
 use Rattle.dalvik_defs.specs.declared.tables.Framework.{Framework}
 use Rattle.dalvik_defs.specs.declared.program.NamedProgram.{NamedProgram}
+use Rattle.dalvik_defs.specs.declared.script.Given.{Given}
 use Rattle.pass_defs.specs.Kinds.{Kind, is_plain, kind_eq, is_number, is_initialised, kind_of_reference, fits}
 use Rattle.pass_defs.specs.Kinds as kind
 use Rattle.pass_defs.specs.Typed.{parameter_kinds, argument_kinds, receiver_kind, is_constructor}
 use Rattle.invariant_law.specs.Holds.{Each}
 use Rattle.invariant_law.proofs.Growing.{grows_same}
+use Rattle.invariant_law.proofs.Plain.{all_grow}
 use Rattle.stuck_law.specs.TypedStates.{AllHold, IsObject, KindHolds, TypedWorld}
 use Rattle.stuck_law.proofs.Settled.{IsSettled, FindsRegularly}
 use Rattle.stuck_law.proofs.Registers.{and_left, and_right}
@@ -32,12 +36,6 @@ use Rattle.stuck_law.proofs.Climbs.{found_in_list, class_in, defined_by, none_so
 use Rattle.stuck_law.proofs.Worlds.{typed_with, typed_show, fresh_typed, new_object, object_there}
 use Rattle.stuck_law.proofs.Calls.{Enter, entered}
 use Rattle.stuck_law.proofs.Given.{GivenTyped, gets_typed, gives_first, given_typed, all_given}
-use Rattle.dalvik_defs.specs.Names.{proto_text}
-use Rattle.dalvik_defs.specs.Gives.{gets, gets_all, spread, all_fit, is_on, fits as given_fits}
-use Rattle.dalvik_defs.specs.Legal.{may_enter, may_enter_found, receiver_ok, may_reach, is_class_initialiser, may_make}
-use Rattle.dalvik_defs.specs.Face.{declared_in, is_concrete}
-use Rattle.dalvik_defs.specs.declared.script.Given.{Given}
-use Rattle.invariant_law.proofs.Plain.{all_grow}
 
 pub untrue : (b : Bool) → not b ≡ true → b ≡ false
 untrue true i = absurd (true≢false (sym i))

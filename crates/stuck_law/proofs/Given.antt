@@ -2,26 +2,34 @@
 use Rattle.std.proofs.Common.{◌≡◌, ℕ, zero, suc, Bool, true, false, true≢false, List, [], ◌∷◌, ◌++◌, Option, Some, None, ◌⊎◌, inl, inr, refl, sym, ap, ◌∙◌, subst, arith}
 use Rattle.std.specs.Prelude.{◌||◌, not, nat_lt, length, slice_get}
 use Rattle.std.proofs.lemmas.Bool.{ltb-true, lt-ltb}
-use Rattle.dalvik_defs.specs.Names.{Text, is_word, is_wide, is_reference, is_array, is_class_type}
-use Rattle.dalvik_defs.specs.Face.{face_of, is_defined}
+use Rattle.std.specs.Option.{option_map}
+use Rattle.dalvik_defs.specs.Names.{Text, is_word, is_wide, is_reference, is_array, is_class_type, throwable_type}
+use Rattle.dalvik_defs.specs.Face.{face_of, is_defined, is_plain_class}
 use Rattle.dalvik_defs.specs.Under.{class_named}
 use Rattle.dalvik_defs.specs.Flags.{is_interface}
-use Rattle.dalvik_defs.specs.declared.program.NamedClass.{NamedClass}
-use Rattle.std.specs.Option.{option_map}
 use Rattle.dalvik_defs.specs.Outer.{Outer}
-use Rattle.dalvik_defs.specs.State.{World, Thing, is_null, kind_of, fresh, with_thing, next_object}
+use Rattle.dalvik_defs.specs.State.{World, Thing, is_null, kind_of, fresh, with_thing, next_object, Exposed}
+use Rattle.dalvik_defs.specs.ActArray.{zeros}
+use Rattle.dalvik_defs.specs.Gives.{exposed_at, gets, gets_all, spread, may_give, reference_fits, value_fits, all_fit, is_on, fits as given_fits, may_throw as may_be_thrown}
+use Rattle.dalvik_defs.specs.Legal.{may_answer}
+use Rattle.dalvik_defs.specs.Moves.{got as given_option}
+use Rattle.dalvik_defs.specs.Show.{with_given}
+use Rattle.dalvik_defs.specs.declared.program.NamedClass.{NamedClass}
 use Rattle.dalvik_defs.specs.declared.state.Value.{Value}
 use Rattle.dalvik_defs.specs.declared.state.Value.TheVariants.{Word, Low, Object, Literal, Class}
-use Rattle.dalvik_defs.specs.ActArray.{zeros}
 use Rattle.dalvik_defs.specs.declared.tables.Floats.{Floats}
 use Rattle.dalvik_defs.specs.declared.tables.Framework.{Framework}
 use Rattle.dalvik_defs.specs.declared.program.NamedProgram.{NamedProgram}
+use Rattle.dalvik_defs.specs.declared.script.Given.{Given}
+use Rattle.dalvik_defs.specs.declared.script.Given.TheVariants as given
 use Rattle.pass_defs.specs.Kinds.{Kind, is_plain, kind_eq, is_number, is_initialised, kind_of_reference, fits}
 use Rattle.pass_defs.specs.Kinds as kind
 use Rattle.pass_defs.specs.Typed.{halves, parameter_kinds}
 use Rattle.invariant_law.specs.Invariant.{Grows}
 use Rattle.invariant_law.specs.Holds.{Each}
-use Rattle.invariant_law.proofs.Growing.{grows_same}
+use Rattle.invariant_law.proofs.Growing.{grows_same, grows_then}
+use Rattle.invariant_law.proofs.Plain.{all_grow}
+use Rattle.invariant_law.proofs.Fine.{each_append}
 use Rattle.stuck_law.specs.TypedStates.{AllHold, IsObject, KindHolds, ValueOf, ItemOf, RefFits, MaybeOf, TypedThing, TypedWorld, ArrayFits}
 use Rattle.stuck_law.proofs.Settled.{IsSettled}
 use Rattle.stuck_law.proofs.Registers.{and_left, and_right}
@@ -29,22 +37,9 @@ use Rattle.stuck_law.proofs.Sorts.{Sorted, OfWord, OfWide, OfReference, OfNone, 
 use Rattle.stuck_law.proofs.Climbs.{plain_defined, or_cases}
 use Rattle.stuck_law.proofs.Arrays.{true_false, to_cond, under_fits}
 use Rattle.stuck_law.proofs.Orders.{ref_held, ref_fits}
-use Rattle.stuck_law.proofs.Worlds.{typed_with, fresh_typed, zeros_typed, new_object}
-use Rattle.stuck_law.proofs.Calls.{halves_single}
-use Rattle.dalvik_defs.specs.Gives.{exposed_at, gets, gets_all, spread, may_give, reference_fits, value_fits, all_fit, is_on, fits as given_fits, may_throw as may_be_thrown}
-use Rattle.dalvik_defs.specs.Legal.{may_answer}
-use Rattle.dalvik_defs.specs.Moves.{got as given_option}
-use Rattle.dalvik_defs.specs.Show.{with_given}
-use Rattle.dalvik_defs.specs.Face.{is_plain_class}
-use Rattle.dalvik_defs.specs.State.{Exposed}
-use Rattle.dalvik_defs.specs.declared.script.Given.{Given}
-use Rattle.dalvik_defs.specs.declared.script.Given.TheVariants as given
-use Rattle.invariant_law.proofs.Plain.{all_grow}
-use Rattle.invariant_law.proofs.Growing.{grows_then}
-use Rattle.invariant_law.proofs.Fine.{each_append}
-use Rattle.stuck_law.proofs.Worlds.{typed_exposed, object_later}
-use Rattle.dalvik_defs.specs.Names.{throwable_type}
+use Rattle.stuck_law.proofs.Worlds.{typed_with, fresh_typed, zeros_typed, new_object, typed_exposed, object_later}
 use Rattle.stuck_law.proofs.Forms.{wide_kind, or_left, or_right, null_ref}
+use Rattle.stuck_law.proofs.Calls.{halves_single}
 
 module _ (p : NamedProgram) (o : Outer) (f : Framework) (floats : Floats) (reg : IsSettled p) where
   -- a value that was given for a type

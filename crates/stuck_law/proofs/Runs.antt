@@ -3,79 +3,65 @@ use Rattle.std.proofs.Common.{◌≡◌, ℕ, true, false, true≢false, List, [
 use Rattle.std.specs.Prelude.{◌&&◌, not, ◌%◌, ◌^◌, nat_lt, length, map, slice_set}
 use Rattle.std.specs.Int.{w8, w16}
 use Rattle.std.specs.List.{list_all, list_any}
-use Rattle.dalvik_defs.specs.Known.{known_rows}
+use Rattle.std.specs.Option.{option_map}
 use Rattle.insn_set.specs.declared.ops.Item.{Item}
 use Rattle.insn_set.specs.declared.ops.Item.TheVariants as item
-use Rattle.dalvik_defs.specs.Names.{object_type, Text, is_wide, is_reference, is_class_type}
-use Rattle.dalvik_defs.specs.Known.{no_class}
+use Rattle.dalvik_defs.specs.Known.{known_rows, no_class, initialiser_error}
+use Rattle.dalvik_defs.specs.Names.{object_type, Text, is_wide, is_reference, is_class_type, string_type, class_type, throwable_type}
 use Rattle.dalvik_defs.specs.Arith.{low_signed}
 use Rattle.dalvik_defs.specs.Face.{face_of, bodies_of, Place, place_of}
 use Rattle.dalvik_defs.specs.Fields.{key_at, static_value, instance_value, written_or, first_of, with_instance}
 use Rattle.dalvik_defs.specs.Under.{class_named, defines}
 use Rattle.dalvik_defs.specs.Flags.{is_static}
-use Rattle.dalvik_defs.specs.declared.names.FieldKey.{FieldKey}
-use Rattle.dalvik_defs.specs.declared.program.NamedClass.{NamedClass}
-use Rattle.std.specs.Option.{option_map}
 use Rattle.dalvik_defs.specs.Outer.{Outer}
 use Rattle.dalvik_defs.specs.Items.{stored, item_of_type}
-use Rattle.dalvik_defs.specs.State.{World, Classes, Thing, Instance, Items, is_null, word_of, kind_of, kind_of_thing, thing_at, put_thing, put_field, zero_of}
+use Rattle.dalvik_defs.specs.State.{World, Classes, Thing, Instance, Items, is_null, word_of, kind_of, kind_of_thing, thing_at, put_thing, put_field, zero_of, Ended, opening_world, opening}
+use Rattle.dalvik_defs.specs.Step.{step, after as after_steps, setting_of}
+use Rattle.dalvik_defs.specs.Happens.{Setting}
+use Rattle.dalvik_defs.specs.Shown.{Fit, fit_move}
+use Rattle.dalvik_defs.specs.MayGo.{may_go}
+use Rattle.dalvik_defs.specs.Gives.{gets, may_give, is_on, fits as given_fits}
+use Rattle.dalvik_defs.specs.Legal.{on_fits}
+use Rattle.dalvik_defs.specs.Moves.{got as given_option, field_value, with_field, with_item, key_of}
+use Rattle.dalvik_defs.specs.Find.{defined_field, field_in}
+use Rattle.dalvik_defs.specs.declared.names.FieldKey.{FieldKey}
+use Rattle.dalvik_defs.specs.declared.program.NamedClass.{NamedClass}
 use Rattle.dalvik_defs.specs.declared.state.Value.{Value}
 use Rattle.dalvik_defs.specs.declared.state.Value.TheVariants.{Word, Object}
 use Rattle.dalvik_defs.specs.declared.tables.Floats.{Floats}
 use Rattle.dalvik_defs.specs.declared.tables.Framework.{Framework}
 use Rattle.dalvik_defs.specs.declared.program.NamedProgram.{NamedProgram}
+use Rattle.dalvik_defs.specs.declared.program.NamedField.{NamedField}
+use Rattle.dalvik_defs.specs.declared.script.Move.{Move}
+use Rattle.dalvik_defs.specs.declared.script.Given.{Given}
 use Rattle.pass_defs.specs.Kinds.{Kind, is_plain, kind_eq, is_number, is_initialised, kind_of_reference, fits}
 use Rattle.pass_defs.specs.Kinds as kind
 use Rattle.pass_defs.specs.Demands.{item_eq}
 use Rattle.invariant_law.specs.Invariant.{Owing, Invariant, Grows}
 use Rattle.invariant_law.specs.Fine.{IsThere}
-use Rattle.invariant_law.specs.Holds.{Each}
-use Rattle.invariant_law.proofs.Growing.{grows_same}
-use Rattle.invariant_law.proofs.Plain.{grown}
-use Rattle.invariant_law.proofs.Fine.{each_set, each_get}
-use Rattle.stuck_law.specs.TypedStates.{IsObject, item_kind, KindHolds, ValueOf, ItemOf, MaybeOf, TypedThing, TypedWorld}
+use Rattle.invariant_law.specs.Holds.{Each, Holds as HoldsBy}
+use Rattle.invariant_law.proofs.Growing.{grows_same, grows_over}
+use Rattle.invariant_law.proofs.Plain.{grown, keeps_plainly, KeptPlainly, gets_grow, got_grows, ShownPlainly, WrittenPlainly}
+use Rattle.invariant_law.proofs.Fine.{each_set, each_get, each_to}
+use Rattle.invariant_law.proofs.Invariants.{Holds, holds_after, never_stuck, opens_with}
+use Rattle.invariant_law.proofs.FineFirsts.{firsts_there}
+use Rattle.stuck_law.specs.TypedStates.{IsObject, item_kind, KindHolds, ValueOf, ItemOf, MaybeOf, TypedThing, TypedWorld, typed_states}
 use Rattle.stuck_law.specs.Regular.{IsRegular}
+use Rattle.stuck_law.specs.NeverStuck.{IsNeverStuck}
 use Rattle.stuck_law.proofs.Settled.{IsSettled, FindsRegularly}
 use Rattle.stuck_law.proofs.Registers.{and_left, and_right, there_held}
 use Rattle.stuck_law.proofs.Sorts.{Sorted, OfWord, OfWide, OfReference, OfNone, sorted}
 use Rattle.stuck_law.proofs.Climbs.{defined_by, none_some, some_one}
 use Rattle.stuck_law.proofs.Arrays.{true_false}
-use Rattle.stuck_law.proofs.Worlds.{typed_put, at_typed, typed_show, typed_option, put_typed, zero_value, waiting_later, object_there}
+use Rattle.stuck_law.proofs.Worlds.{typed_put, at_typed, typed_show, typed_option, put_typed, zero_value, waiting_later, object_there, object_later, same_later, value_later, thing_later, typed_static}
 use Rattle.stuck_law.proofs.Here.{setting, states}
 use Rattle.stuck_law.proofs.Values.{instance_thing, ItemSort, AWide, AReference, ANumber, item_sort}
-use Rattle.stuck_law.proofs.Backs.{lands_typed, returns_typed, answers_typed, faults_typed, initialiser_typed}
-use Rattle.stuck_law.proofs.Steps.{steps_typed}
-use Rattle.stuck_law.proofs.Framework.{each_classes, object_under, enters_typed, makes_typed}
-use Rattle.dalvik_defs.specs.Step.{step, after as after_steps}
-use Rattle.dalvik_defs.specs.State.{Ended, opening_world, opening}
-use Rattle.dalvik_defs.specs.Happens.{Setting}
-use Rattle.dalvik_defs.specs.declared.program.NamedField.{NamedField}
-use Rattle.dalvik_defs.specs.Shown.{Fit, fit_move}
-use Rattle.dalvik_defs.specs.declared.script.Move.{Move}
-use Rattle.dalvik_defs.specs.MayGo.{may_go}
-use Rattle.invariant_law.specs.Holds.{Holds as HoldsBy}
-use Rattle.stuck_law.specs.NeverStuck.{IsNeverStuck}
-use Rattle.stuck_law.specs.TypedStates.{typed_states}
-use Rattle.invariant_law.proofs.Invariants.{Holds, holds_after, never_stuck, opens_with}
-use Rattle.invariant_law.proofs.Plain.{keeps_plainly}
-use Rattle.stuck_law.proofs.Searches.{finds_regularly}
-use Rattle.dalvik_defs.specs.Step.{setting_of}
-use Rattle.dalvik_defs.specs.Names.{string_type, class_type}
-use Rattle.stuck_law.proofs.Given.{GivenTyped, gets_typed, gives_first, given_typed, throws_given, answers_given}
-use Rattle.stuck_law.proofs.Worlds.{waiting_later}
-use Rattle.dalvik_defs.specs.Gives.{gets, may_give, is_on, fits as given_fits}
-use Rattle.dalvik_defs.specs.Legal.{on_fits}
-use Rattle.dalvik_defs.specs.Moves.{got as given_option, field_value, with_field, with_item, key_of}
-use Rattle.dalvik_defs.specs.Find.{defined_field, field_in}
-use Rattle.dalvik_defs.specs.declared.script.Given.{Given}
-use Rattle.invariant_law.proofs.Plain.{KeptPlainly, gets_grow, got_grows, ShownPlainly, WrittenPlainly}
-use Rattle.invariant_law.proofs.Growing.{grows_over}
-use Rattle.invariant_law.proofs.Fine.{each_to}
-use Rattle.invariant_law.proofs.FineFirsts.{firsts_there}
-use Rattle.stuck_law.proofs.Worlds.{zero_value, object_later, same_later, value_later, thing_later, typed_static, put_typed}
-use Rattle.dalvik_defs.specs.Known.{initialiser_error}
-use Rattle.dalvik_defs.specs.Names.{throwable_type}
 use Rattle.stuck_law.proofs.Forms.{or_left, or_right}
+use Rattle.stuck_law.proofs.Steps.{steps_typed}
+use Rattle.stuck_law.proofs.Backs.{lands_typed, returns_typed, answers_typed, faults_typed, initialiser_typed}
+use Rattle.stuck_law.proofs.Given.{GivenTyped, gets_typed, gives_first, given_typed, throws_given, answers_given}
+use Rattle.stuck_law.proofs.Framework.{each_classes, object_under, enters_typed, makes_typed}
+use Rattle.stuck_law.proofs.Searches.{finds_regularly}
 
 wrong : {A : Type 0} → true ≡ false → A
 wrong e = absurd (true≢false e)

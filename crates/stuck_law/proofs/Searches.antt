@@ -1,28 +1,24 @@
 -- What look-ups find: a method of the program, by its name and signature, that stands where the call may go.
 use Rattle.std.proofs.Common.{◌≡◌, ℕ, zero, suc, Bool, true, false, true≢false, List, [], ◌∷◌, ◌++◌, Option, Some, None, refl, sym, ap, ◌∙◌, subst}
-use Rattle.std.specs.Prelude.{◌&&◌, not, length, if◌then◌else◌, Contains}
-use Rattle.dalvik_defs.proofs.Calm.{text_sound}
-use Rattle.dalvik_defs.specs.Names.{Text, text_eq}
-use Rattle.dalvik_defs.specs.Flags.{is_interface}
-use Rattle.dalvik_defs.specs.Under.{class_named, defines, is_under}
+use Rattle.std.specs.Prelude.{◌&&◌, not, length, if◌then◌else◌, Contains, filter}
 use Rattle.std.specs.List.{flat_map}
-use Rattle.std.specs.Prelude.{filter}
 use Rattle.std.specs.Option.{option_or}
-use Rattle.dalvik_defs.specs.Names.{is_common, same_name, signature_eq, texts_eq}
-use Rattle.dalvik_defs.specs.Flags.{is_virtual}
+use Rattle.dalvik_defs.proofs.Calm.{text_sound}
+use Rattle.dalvik_defs.specs.Names.{Text, text_eq, is_common, same_name, signature_eq, texts_eq}
+use Rattle.dalvik_defs.specs.Flags.{is_interface, is_virtual}
+use Rattle.dalvik_defs.specs.Under.{class_named, defines, is_under}
+use Rattle.dalvik_defs.specs.Find.{Found, Search, Nothing, Clash, Finds, chain_from, chain_of, found_in, method_in, passing, first_method, search_of, is_virtual_method, own_candidate, interface_named, candidates_from, without_repeats, candidates, is_lowest, lowest, verdict, finds_among, finds_at, interfaces_from, superclass_of, finds_above, finds_super_037, finds_super, is_037, lists_interface}
 use Rattle.dalvik_defs.specs.declared.names.MethodKey.{MethodKey}
 use Rattle.dalvik_defs.specs.declared.names.Signature.{Signature}
 use Rattle.dalvik_defs.specs.declared.program.NamedMethod.{NamedMethod}
-use Rattle.dalvik_defs.specs.Find.{Found, Search, Nothing, Clash, Finds, chain_from, chain_of, found_in, method_in, passing, first_method, search_of, is_virtual_method, own_candidate, interface_named, candidates_from, without_repeats, candidates, is_lowest, lowest, verdict, finds_among, finds_at, interfaces_from, superclass_of, finds_above, finds_super_037, finds_super, is_037, lists_interface}
-use Rattle.stuck_law.proofs.Registers.{and_left, and_right}
-use Rattle.stuck_law.proofs.Settled.{IsFound, FindsRegularly}
-use Rattle.stuck_law.proofs.Climbs.{none_some, some_one, found_in_list, found_passes, class_in, name_of, defined_by, plain_by, chain_up, Up}
 use Rattle.dalvik_defs.specs.declared.program.NamedClass.{NamedClass}
 use Rattle.dalvik_defs.specs.declared.program.NamedProgram.{NamedProgram}
 use Rattle.dalvik_defs.specs.declared.tables.Framework.{Framework}
 use Rattle.pass_defs.specs.Kinds.{is_plain}
 use Rattle.invariant_law.specs.Holds.{Each}
-use Rattle.stuck_law.proofs.Settled.{IsSettled}
+use Rattle.stuck_law.proofs.Settled.{IsFound, FindsRegularly, IsSettled}
+use Rattle.stuck_law.proofs.Registers.{and_left, and_right}
+use Rattle.stuck_law.proofs.Climbs.{none_some, some_one, found_in_list, found_passes, class_in, name_of, defined_by, plain_by, chain_up, Up}
 
 same_texts : (xs ys : List Text) → texts_eq xs ys ≡ true → xs ≡ ys
 same_texts [] [] e = refl

@@ -1,6 +1,6 @@
 -- What the proofs know of a program: that it is regular, that a framework which fits it leaves it no class of which the
 -- machine makes objects itself, and what look-ups find.
-use Rattle.std.specs.Prelude.{◌≡◌, true, false, Contains}
+use Rattle.std.specs.Prelude.{◌≡◌, true, false, Contains, Some}
 use Rattle.dalvik_defs.specs.Names.{Text, object_type, string_type, class_type}
 use Rattle.dalvik_defs.specs.Flags.{is_virtual}
 use Rattle.dalvik_defs.specs.Under.{defines, is_under}
@@ -10,7 +10,6 @@ use Rattle.dalvik_defs.specs.declared.program.NamedClass.{NamedClass}
 use Rattle.dalvik_defs.specs.declared.program.NamedMethod.{NamedMethod}
 use Rattle.dalvik_defs.specs.declared.program.NamedProgram.{NamedProgram}
 use Rattle.dalvik_defs.specs.declared.tables.Framework.{Framework}
-use Rattle.std.specs.Prelude.{Some}
 use Rattle.pass_defs.specs.Kinds.{is_plain}
 use Rattle.stuck_law.specs.Regular.{IsRegular}
 

@@ -3,19 +3,21 @@ use Rattle.std.proofs.Common.{◌≡◌, ℕ, zero, suc, ◌+◌, ◌-◌, ℤ, 
 use Rattle.std.specs.Prelude.{◌||◌, ◌%◌, ◌^◌, slice_get, Contains, int_lt}
 use Rattle.std.specs.Int.{w32, cast_unsigned}
 use Rattle.std.specs.Option.{option_and_then}
+use Rattle.insn_set.specs.declared.ops.InvokeKind.TheVariants as call
 use Rattle.dalvik_defs.specs.Arith.{signed, passes}
 use Rattle.dalvik_defs.specs.Operators.{comparison}
 use Rattle.dalvik_defs.specs.Face.{face_of, bodies_of}
-use Rattle.insn_set.specs.declared.ops.InvokeKind.TheVariants as call
 use Rattle.dalvik_defs.specs.Outer.{Outer}
 use Rattle.dalvik_defs.specs.State.{World, Classes}
-use Rattle.dalvik_defs.specs.declared.state.Value.TheVariants.{Word}
-use Rattle.dalvik_defs.specs.declared.state.Frame.{Frame}
 use Rattle.dalvik_defs.specs.Effect.{Effect, register}
 use Rattle.dalvik_defs.specs.ActPlain.{switch_target, packed_target}
 use Rattle.dalvik_defs.specs.ActNumber.{number}
 use Rattle.dalvik_defs.specs.Outcome.{need_of}
 use Rattle.dalvik_defs.specs.Act.{act}
+use Rattle.dalvik_defs.specs.Happens.{outcome_at, effect_of}
+use Rattle.dalvik_defs.specs.Stack.{form_at as form_of}
+use Rattle.dalvik_defs.specs.declared.state.Value.TheVariants.{Word}
+use Rattle.dalvik_defs.specs.declared.state.Frame.{Frame}
 use Rattle.dalvik_defs.specs.declared.forms.Form.{Form}
 use Rattle.dalvik_defs.specs.declared.forms.Form.TheVariants as form
 use Rattle.dalvik_defs.specs.declared.tables.Floats.{Floats}
@@ -26,12 +28,10 @@ use Rattle.stuck_law.specs.TypedStates.{TypedFrame, TypedWorld}
 use Rattle.stuck_law.proofs.Settled.{IsSettled, FindsRegularly}
 use Rattle.stuck_law.proofs.Climbs.{none_some, some_one}
 use Rattle.stuck_law.proofs.Here.{at_form, setting, states}
+use Rattle.stuck_law.proofs.Forms.{same, later_in, nops, moves, results, exceptions, voids, returns, constants, wides, strings, classes, enters, exits_held, casts_held, instances, lengths, throws_held, unaries, binaries_held, literals_held, branches, targets_held, first_in, Does, Is, words}
+use Rattle.stuck_law.proofs.ArrayForms.{news, filled_news, fills_held, gets, puts_items}
 use Rattle.stuck_law.proofs.FieldForms.{makes_held, instance_gets, static_gets, instance_puts, static_puts}
 use Rattle.stuck_law.proofs.Calls.{static_calls, direct_calls, super_calls, virtual_calls, interface_calls}
-use Rattle.dalvik_defs.specs.Happens.{outcome_at, effect_of}
-use Rattle.dalvik_defs.specs.Stack.{form_at as form_of}
-use Rattle.stuck_law.proofs.ArrayForms.{news, filled_news, fills_held, gets, puts_items}
-use Rattle.stuck_law.proofs.Forms.{same, later_in, nops, moves, results, exceptions, voids, returns, constants, wides, strings, classes, enters, exits_held, casts_held, instances, lengths, throws_held, unaries, binaries_held, literals_held, branches, targets_held, first_in, Does, Is, words}
 
 switch_in : (z : ℤ) (ks : List ℤ) (ts : List ℕ) (q : ℕ) → switch_target z ks ts ≡ Some q → Contains ts q
 switch_in z [] ts q e = none_some q e

@@ -22,8 +22,7 @@ use Rattle.pass_defs.specs.Registers.{Kinds}
 use Rattle.invariant_law.specs.Invariant.{Above, Grows}
 use Rattle.invariant_law.specs.Fine.{IsThere}
 use Rattle.invariant_law.specs.Holds.{Each}
-use Rattle.invariant_law.proofs.Growing.{grows_same, grows_with, grows_put, show_heap}
-use Rattle.invariant_law.proofs.Growing.{there_later, kind_later}
+use Rattle.invariant_law.proofs.Growing.{grows_same, grows_with, grows_put, show_heap, there_later, kind_later}
 use Rattle.invariant_law.proofs.Fine.{each_append, each_set, each_get, each_drop, each_same, each_to, new_there, same_there}
 use Rattle.stuck_law.specs.TypedStates.{IsObject, IsUnder, IsArrayOf, ArrayFits, KindHolds, ValueOf, ItemOf, item_kind, StateHolds, TypedFrame, TypedWaiting, TypedThing, TypedWorld}
 use Rattle.stuck_law.proofs.Registers.{all_later, and_right}

@@ -1,7 +1,7 @@
 -- What is asked of a program beside that no framework and script reach for what isn't theirs: each body has a typing, and
 -- the classes, their members and the code are formed as a file's are (Dalvik executable format, "class_def_item",
 -- "encoded_value", "code_item").
-use Rattle.std.specs.Prelude.{◌≡◌, ℕ, ◌+◌, Bool, true, false, not, if◌then◌else◌, Some, Contains, List, ◌∷◌}
+use Rattle.std.specs.Prelude.{◌≡◌, ℕ, ◌+◌, Bool, true, false, not, if◌then◌else◌, Some, Contains, ◌∷◌}
 use Rattle.dalvik_defs.specs.Names.{Text, is_class_type, is_void, is_word, is_wide, is_reference}
 use Rattle.dalvik_defs.specs.Flags.{is_static, is_interface}
 use Rattle.dalvik_defs.specs.Under.{class_named, defines}
@@ -12,7 +12,7 @@ use Rattle.dalvik_defs.specs.declared.encoded.NamedValue.{NamedValue}
 use Rattle.dalvik_defs.specs.declared.forms.Form.{Form}
 use Rattle.dalvik_defs.specs.declared.forms.Form.TheVariants as form
 use Rattle.dalvik_defs.specs.declared.state.Value.{Value}
-use Rattle.dalvik_defs.specs.declared.state.Value.TheVariants.{Word, Low, High, Object, Literal, Class}
+use Rattle.dalvik_defs.specs.declared.state.Value.TheVariants.{Word, Low, Literal, Class}
 use Rattle.dalvik_defs.specs.declared.program.NamedBody.{NamedBody}
 use Rattle.dalvik_defs.specs.declared.program.NamedClass.{NamedClass}
 use Rattle.dalvik_defs.specs.declared.program.NamedField.{NamedField}

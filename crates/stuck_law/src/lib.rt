@@ -5,4 +5,5 @@
 //! laws.
 #![tactic(auto)]
 
+pub mod examples;
 pub mod laws;

@@ -40,6 +40,10 @@ suits t (Literal s) = is_reference t
 suits t (Class s) = is_reference t
 suits t v = false
 
+-- no class that is no interface stands directly above an interface
+abbrev pub InterfacesStandFree : NamedProgram → Type 0
+InterfacesStandFree p = (t : Text) (c : NamedClass) → class_named p t ≡ Some c → is_interface c.flags ≡ true → Each (λ u. is_plain p u ≡ false) (c.superclass ∷ c.interfaces)
+
 pub record IsRegular (p : NamedProgram) : Type 0 where
   -- each body has a typing
   pub typed : IsTyped p
@@ -47,8 +51,7 @@ pub record IsRegular (p : NamedProgram) : Type 0 where
   pub named : (c : NamedClass) → Contains p.classes c → class_named p c.name ≡ Some c
   pub class_types : (t : Text) → defines p t ≡ true → is_class_type t ≡ true
   pub methods : (c : NamedClass) (m : NamedMethod) → Contains p.classes c → Contains c.methods m → defined_method p (key_in c m) ≡ Some m
-  -- no class that is no interface stands directly above an interface
-  pub above_interfaces : (t : Text) (c : NamedClass) → class_named p t ≡ Some c → is_interface c.flags ≡ true → Each (λ u. is_plain p u ≡ false) (c.superclass ∷ c.interfaces)
+  pub above_interfaces : InterfacesStandFree p
   -- a first value suits the type of its field
   pub firsts : (c : NamedClass) (g : NamedField) (v : NamedValue) → Contains p.classes c → Contains c.fields g → g.first ≡ Some v → suits g.kind (first_value v) ≡ true
   -- a body takes as many registers as the arguments of its method, and no field that it reads is of type void

@@ -1,4 +1,4 @@
--- The moves of the framework keep all typed, and all that the law of invariants asks is put together.
+-- What the framework enters and makes is typed.
 use Rattle.std.proofs.Common.{◌≡◌, Bool, true, false, true≢false, List, [], ◌∷◌, Option, Some, None, inr, refl, sym, ap, ◌∙◌, subst}
 use Rattle.std.specs.Prelude.{◌&&◌, ◌||◌, not, find, slice_get, is_some, Contains, if◌then◌else◌}
 use Rattle.std.specs.Option.{option_map}

@@ -1,4 +1,4 @@
--- What the framework gives and does keeps all typed.
+-- What the framework gives for a type is of it, and keeps all typed.
 use Rattle.std.proofs.Common.{◌≡◌, ℕ, zero, suc, Bool, true, false, true≢false, List, [], ◌∷◌, ◌++◌, Option, Some, None, ◌⊎◌, inl, inr, refl, sym, ap, ◌∙◌, subst, arith}
 use Rattle.std.specs.Prelude.{◌||◌, not, nat_lt, length, slice_get}
 use Rattle.std.proofs.lemmas.Bool.{ltb-true, lt-ltb}

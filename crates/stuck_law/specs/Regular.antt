@@ -1,6 +1,5 @@
--- What is asked of a program beside that no framework and script reach for what isn't theirs: each body has a typing, and
--- the classes, their members and the code are formed as a file's are (Dalvik executable format, "class_def_item",
--- "encoded_value", "code_item").
+-- What is asked of a program: each body has a typing, and its classes, their members and the code are formed as those of a
+-- file are (Dalvik executable format, "class_def_item", "encoded_value", "code_item").
 use Rattle.std.specs.Prelude.{◌≡◌, ℕ, ◌+◌, Bool, true, false, not, if◌then◌else◌, Some, Contains, ◌∷◌}
 use Rattle.dalvik_defs.specs.Names.{Text, is_class_type, is_void, is_word, is_wide, is_reference}
 use Rattle.dalvik_defs.specs.Flags.{is_static, is_interface}

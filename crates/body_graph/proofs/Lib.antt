@@ -1,0 +1,4 @@
+mod Covers
+pub mod Links
+pub mod Members
+mod Reaching

@@ -1,19 +1,17 @@
 -- A first value of a well-formed program suits the type of its field.
-use Rattle.std.proofs.Common.{◌≡◌, ℕ, ◌+◌, pos, Bool, true, false, true≢false, List, [], ◌∷◌, Option, Some, None, refl, sym, ap, ◌∙◌, subst}
-use Rattle.std.specs.Prelude.{◌&&◌, ◌||◌, not, nat_eq, map, slice_get, codes}
+use Rattle.std.proofs.Common.{◌≡◌, ℕ, pos, Bool, true, false, true≢false, Some, refl, sym, ap, ◌∙◌, subst}
+use Rattle.std.specs.Prelude.{◌&&◌, not, nat_eq, slice_get, codes}
 use Rattle.std.specs.List.{list_any}
-use Rattle.std.specs.Option.{option_map}
 use Rattle.std.specs.Int.{w32, w64, cast_unsigned}
 use Rattle.std.specs.Ordering.{int_eq}
 use Rattle.program_model.specs.MemberRules.{class_of_field, field_fits, field_letter, first_value_fits, is_class_number, is_static}
 use Rattle.program_model.specs.Texts as texts
 use Rattle.program_model.specs.Texts.{has_string, has_type, letter_of}
 use Rattle.program_model.specs.ValueRules.{first_fits, layer_fits, marks_fit}
-use Rattle.program_model.specs.declared.pools.FieldName.{FieldName}
 use Rattle.program_model.specs.declared.program.Field.{Field}
 use Rattle.program_model.specs.declared.program.Program.{Program}
 use Rattle.program_model.specs.declared.value.Element.{Element, fold-Element}
-use Rattle.program_model.specs.declared.value.EncValue.{EncValue, EncValue-F, fold-roll-EncValue, out-EncValue, roll-EncValue}
+use Rattle.program_model.specs.declared.value.EncValue.{EncValue, EncValue-F, fold-roll-EncValue, roll-EncValue}
 use Rattle.program_model.specs.declared.value.EncValue.TheOpen as layer
 use Rattle.program_model.specs.declared.value.EncValue.TheViews.{out-roll-EncValue}
 use Rattle.program_model.specs.declared.value.EncValue.TheFolds as folds

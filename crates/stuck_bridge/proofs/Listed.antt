@@ -1,6 +1,6 @@
 -- Entries of lists, and the tests that a well-formed class passes.
-use Rattle.std.proofs.Common.{◌≡◌, ℕ, zero, suc, ◌<◌, Bool, true, false, true≢false, List, [], ◌∷◌, Option, Some, None, refl, sym, ap, ◌∙◌, subst, arith}
-use Rattle.std.specs.Prelude.{◌&&◌, not, length, map, find, slice_get, if◌then◌else◌, Contains}
+use Rattle.std.proofs.Common.{◌≡◌, ℕ, zero, suc, ◌<◌, Bool, true, false, true≢false, List, [], ◌∷◌, Some, None, refl, sym, ap, ◌∙◌, subst, arith}
+use Rattle.std.specs.Prelude.{◌&&◌, not, map, find, slice_get, if◌then◌else◌, Contains}
 use Rattle.std.specs.List.{list_all}
 use Rattle.program_model.specs.Distinct.{all_differ, own_field_key, own_method_key}
 use Rattle.program_model.specs.MemberRules as rules

@@ -1,6 +1,6 @@
 -- Classes and methods of a well-formed program stand under their names, and their bodies take what their arguments are.
-use Rattle.std.proofs.Common.{◌≡◌, ℕ, ◌+◌, ◌<◌, Bool, true, false, true≢false, List, [], ◌∷◌, Option, Some, None, ◌⊎◌, inl, inr, refl, sym, ap, ◌∙◌, subst, arith}
-use Rattle.std.specs.Prelude.{◌&&◌, not, nat_eq, nat_le, length, map, find, slice_get, if◌then◌else◌}
+use Rattle.std.proofs.Common.{◌≡◌, ℕ, ◌+◌, ◌<◌, Bool, true, false, true≢false, List, [], ◌∷◌, Option, Some, None, ◌⊎◌, inl, inr, refl, sym, ap, ◌∙◌}
+use Rattle.std.specs.Prelude.{◌&&◌, not, nat_eq, nat_le, length, map, slice_get, if◌then◌else◌}
 use Rattle.std.specs.List.{list_all, sum_by}
 use Rattle.std.specs.Option.{option_map, option_and_then}
 use Rattle.std.proofs.lemmas.List.Sums.{sum_by-cons}
@@ -25,18 +25,15 @@ use Rattle.insn_set.specs.declared.form.Insn.TheVariants as insn
 use Rattle.class_defs.specs.ClassGraph.{IsTwice}
 use Rattle.program_model.specs.Lookups.{class_place}
 use Rattle.class_defs.specs.Members.{is_method, names_method}
-use Rattle.class_defs.proofs.Positions.{number_test, number_of, both, PlaceFits, place_entry, FirstPlace, place_first}
+use Rattle.class_defs.proofs.Positions.{number_test, number_of, both, place_entry, FirstPlace, place_first}
 use Rattle.class_defs.proofs.WellFormed.{and_left, and_right, all_at, Sound, MethodFits, class_parts}
 use Rattle.dalvik_defs.specs.Names as name
 use Rattle.dalvik_defs.specs.Names.{Text}
 use Rattle.dalvik_defs.specs.Find.{method_in}
-use Rattle.dalvik_defs.specs.Flags as remainder
-use Rattle.dalvik_defs.specs.Naming.{text_at, type_at, signature_at, field_at, form_of, named_method, named_class, named}
+use Rattle.dalvik_defs.specs.Naming.{text_at, type_at, field_at, form_of, named_method, named_class, named}
 use Rattle.dalvik_defs.specs.Under.{class_named}
-use Rattle.dalvik_defs.specs.declared.forms.Form.{Form}
 use Rattle.dalvik_defs.specs.declared.names.FieldKey.{FieldKey}
 use Rattle.dalvik_defs.specs.declared.names.Signature.{Signature}
-use Rattle.dalvik_defs.specs.declared.program.NamedMethod.{NamedMethod}
 use Rattle.pass_defs.specs.Typed.{words_of}
 use Rattle.name_bridge.specs.Named.{class_at}
 use Rattle.name_bridge.proofs.Tables.{same_number, method_is, method_name, method_proto}

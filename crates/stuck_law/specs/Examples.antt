@@ -1,16 +1,15 @@
 -- Small programs for the examples of `examples.rt`, in which LA; has a method m.
-use Rattle.std.specs.Prelude.{pos, List, [], ◌∷◌, Option, Some, codes}
+use Rattle.std.specs.Prelude.{pos, [], ◌∷◌, Some, codes}
 use Rattle.insn_set.specs.declared.ops.Slot.TheVariants as slot
 use Rattle.insn_set.specs.declared.ops.Item.TheVariants as item
 use Rattle.dalvik_defs.specs.Names.{Text, object_type, void}
-use Rattle.dalvik_defs.specs.Examples.{c_type, i_type, code, class, enter_m, keeps_m, with_m}
+use Rattle.dalvik_defs.specs.Examples.{c_type, i_type, code, class, enter_m, keeps_m}
 use Rattle.dalvik_defs.specs.Happens.{Setting}
 use Rattle.dalvik_defs.specs.State.{State, opening}
 use Rattle.dalvik_defs.specs.Step.{setting_of}
 use Rattle.dalvik_defs.specs.declared.encoded.NamedValue.TheVariants as value
 use Rattle.dalvik_defs.specs.declared.forms.Form.TheVariants as form
 use Rattle.dalvik_defs.specs.declared.program.NamedBody.{NamedBody}
-use Rattle.dalvik_defs.specs.declared.program.NamedClass.{NamedClass}
 use Rattle.dalvik_defs.specs.declared.program.NamedProgram.{NamedProgram}
 use Rattle.pass_defs.specs.Kinds.{Undefined, Zero, Word, Class, Array, Reference}
 use Rattle.pass_defs.specs.Typed.{Table}

@@ -1,5 +1,5 @@
-use Rattle.std.proofs.Common.{◌≡◌, ℕ, zero, suc, ◌<◌, Bool, true, false, true≢false, List, [], ◌∷◌, Option, Some, None, refl, sym, ap, ◌∙◌, subst, arith}
-use Rattle.std.specs.Prelude.{length, Contains, codes}
+use Rattle.std.proofs.Common.{◌≡◌, zero, suc, ◌<◌, Bool, true, false, true≢false, List, [], ◌∷◌, Option, Some, None, refl, sym, ap, ◌∙◌, subst, arith}
+use Rattle.std.specs.Prelude.{Contains, codes}
 use Rattle.dalvik_defs.specs.Names.{Text, text_eq, is_class_type, object_type, void}
 use Rattle.dalvik_defs.specs.Flags.{is_interface}
 use Rattle.dalvik_defs.specs.Find.{defined_method}
@@ -7,15 +7,13 @@ use Rattle.dalvik_defs.specs.Fields.{first_layer, first_value}
 use Rattle.dalvik_defs.specs.declared.state.Value.{Value}
 use Rattle.dalvik_defs.specs.declared.state.Value.TheVariants.{Word}
 use Rattle.dalvik_defs.specs.Silence.{key_in}
-use Rattle.dalvik_defs.specs.Under.{class_named, defines}
-use Rattle.dalvik_defs.specs.Examples.{i_type, class, with_m}
+use Rattle.dalvik_defs.specs.Under.{class_named}
+use Rattle.dalvik_defs.specs.Examples.{with_m}
 use Rattle.dalvik_defs.specs.declared.encoded.NamedValue.{NamedValue, fold-roll-NamedValue}
 use Rattle.dalvik_defs.specs.declared.encoded.NamedValue.TheOpen as layer
 use Rattle.dalvik_defs.specs.declared.encoded.NamedValue.TheVariants as value
-use Rattle.dalvik_defs.specs.declared.forms.Form.{Form}
 use Rattle.dalvik_defs.specs.declared.program.NamedBody.{NamedBody}
 use Rattle.dalvik_defs.specs.declared.program.NamedClass.{NamedClass}
-use Rattle.dalvik_defs.specs.declared.program.NamedField.{NamedField}
 use Rattle.dalvik_defs.specs.declared.program.NamedMethod.{NamedMethod}
 use Rattle.pass_defs.specs.Kinds.{is_plain, Undefined, Reference}
 use Rattle.pass_defs.specs.Typed.{Table, IsTyping}

@@ -1,6 +1,6 @@
 use Rattle.std.proofs.Common.{◌≡◌, Bool, true, false, true≢false, ◌⊎◌, inl, inr, refl, sym, ap}
 use Rattle.dalvik_defs.specs.Face.{bodies_of}
-use Rattle.dalvik_defs.specs.State.{State, On, Ended}
+use Rattle.dalvik_defs.specs.State.{State, Ended}
 use Rattle.dalvik_defs.specs.Step.{step, after}
 use Rattle.dalvik_defs.specs.MayGo.{may_go}
 use Rattle.stuck_law.specs.Examples.{alone, enters_m, interface_below}

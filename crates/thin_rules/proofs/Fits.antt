@@ -1,7 +1,8 @@
 -- A thinned body keeps the rules of bodies.
 use Rattle.std.proofs.Common.{◌≡◌, ◌⊎◌, inl, inr, ℕ, zero, suc, ◌+◌, ◌-◌, ◌<◌, Bool, true, false, true≢false, List, [], ◌∷◌, length, refl, sym, ap, ◌∙◌, subst, arith}
-use Rattle.std.specs.Prelude.{◌&&◌, not, Option, Some, None, slice_get, Contains, map}
+use Rattle.std.specs.Prelude.{◌&&◌, not, Option, Some, None, slice_get, Contains, nat_lt, nat_le}
 use Rattle.std.specs.List.{list_all, enumerate_from}
+use Rattle.std.specs.Option.{option_map}
 use Rattle.insn_set.specs.Flow.{goes_on, targets_of}
 use Rattle.insn_set.specs.Spelling.{is_encodable}
 use Rattle.insn_set.specs.declared.form.Insn.{Insn}
@@ -9,18 +10,21 @@ use Rattle.insn_set.specs.declared.form.Insn.TheVariants as insn
 use Rattle.insn_set.specs.declared.ops.Slot.{Slot}
 use Rattle.program_model.specs.Neighbours.{neighbours}
 use Rattle.program_model.specs.OperandRules.{registers_fit, numbers_fit}
-use Rattle.program_model.specs.RegionRules.{may_begin, regions_fit}
-use Rattle.program_model.specs.BodyRules.{ends, has_result, may_follow, follows, may_enter, targets_fit, leaves, is_caught, insn_fits, body_fits}
+use Rattle.program_model.specs.RegionRules.{may_begin, handler_fits, rest_fits, catches, region_fits, regions_fit}
+use Rattle.program_model.specs.BodyRules.{ends, has_result, may_follow, follows, may_enter, targets_fit, leaves, handles_at, is_caught, insn_fits, body_fits}
+use Rattle.program_model.specs.Texts.{has_type}
+use Rattle.program_model.specs.declared.body.Handler.{Handler}
+use Rattle.program_model.specs.declared.body.Region.{Region}
 use Rattle.program_model.specs.declared.body.Body.{Body}
 use Rattle.program_model.specs.declared.program.Program.{Program}
-use Rattle.pass_defs.specs.Thinned.{Fate, Stays, Empties, Goes, stays, place, insn_retargeted, insns_left, body_thinned}
-use Rattle.frame_laws.proofs.Lists.{no_some, some_same}
+use Rattle.pass_defs.specs.Thinned.{Fate, Stays, Empties, Goes, place, insn_retargeted, insns_left, handler_moved, region_moved, region_has_room, body_thinned}
+use Rattle.frame_laws.proofs.Lists.{some_same}
 use Rattle.silence_law.proofs.Lists.{clash, and_left, and_right, and_both, all_map}
 use Rattle.thin_law.proofs.Places.{IsLeft, place_next}
 use Rattle.thin_rules.specs.Tidy.{IsTidy}
-use Rattle.thin_rules.proofs.Kept.{encodable, registers, numbers, flows_on, gives, enters, begins, aims, enter_begin}
-use Rattle.thin_rules.proofs.Places.{get_within, get_there, all_with, all_numbered, beside, all_beside, left_insn, insn_left, From, come_from, place_same}
-use Rattle.thin_rules.proofs.Regions.{regions_left}
+use Rattle.thin_rules.proofs.Kept.{encodable, registers, numbers, gives, enters, begins, aims, enter_begin}
+use Rattle.thin_rules.proofs.Places.{get_within, get_there, all_at, all_of, all_with, all_numbered, all_beside, left_insn, insn_left, From, come_from, place_same}
+use Rattle.thin_rules.proofs.Regions.{handlers_begin, rest_begins, kept_all, kept_any, handles_there, each_region_fits, regions_left}
 use Rattle.thin_rules.proofs.Lands.{first_begins, all_regions_fit, operands_at, targets_at, follows_at, left_at, Lands, lands, target_lands, is_marked, Falls, falls}
 
 not_behind : (a : ℕ) → suc (a - 1) < a → 0 < a → ⊥
@@ -68,15 +72,20 @@ module _ (p : Program) (marks : ℕ → Bool) (fs : List Fate) (b : Body) (fits 
 
   -- ---- the first and the last
 
-  first : (o : Option Insn) → slice_get b.insns 0 ≡ o → may_begin o ≡ true → may_begin (slice_get new 0) ≡ true
-  first None e h = clash true refl (sym h)
-  first (Some i) e h =
-      let l = lands p marks fs b fits tidy 0 i tidy.entry e in
-      ap may_begin (ap (slice_get new) (sym (entry_place fs)) ∙ stands 0 l) ∙ begin_left l.fate l.insn l.is_left (by l l.enters)
+  -- where a handler began at a marked position, one may begin at its place
+  begins_at : (n : ℕ) → marks n ≡ true → may_begin (slice_get b.insns n) ≡ true → may_begin (slice_get new (at n)) ≡ true
+  begins_at n m h = by_form (slice_get b.insns n) refl h
     where
-      by : (l : Lands p marks fs b fits tidy 0) → (l.to ≡ 0) ⊎ (may_enter (Some l.insn) ≡ true) → may_begin (Some l.insn) ≡ true
-      by l (inl s) = subst (λ z. may_begin (Some z) ≡ true) (some_same i l.insn (sym e ∙ ap (slice_get b.insns) (sym s) ∙ l.has_insn)) h
-      by l (inr s) = enter_begin (Some l.insn) s
+      by : (i : Insn) → slice_get b.insns n ≡ Some i → may_begin (Some i) ≡ true → (l : Lands p marks fs b fits tidy n) → (l.to ≡ n) ⊎ (may_enter (Some l.insn) ≡ true) → may_begin (Some l.insn) ≡ true
+      by i e h l (inl s) = subst (λ z. may_begin (Some z) ≡ true) (some_same i l.insn (sym e ∙ ap (slice_get b.insns) (sym s) ∙ l.has_insn)) h
+      by i e h l (inr s) = enter_begin (Some l.insn) s
+
+      by_form : (o : Option Insn) → slice_get b.insns n ≡ o → may_begin o ≡ true → may_begin (slice_get new (at n)) ≡ true
+      by_form None e h = clash true refl (sym h)
+      by_form (Some i) e h = let l = lands p marks fs b fits tidy n i m e in ap may_begin (stands n l) ∙ begin_left l.fate l.insn l.is_left (by i e h l l.enters)
+
+  first : may_begin (slice_get new 0) ≡ true
+  first = ap (λ k. may_begin (slice_get new k)) (sym (entry_place fs)) ∙ begins_at 0 tidy.entry (first_begins p marks fs b fits tidy)
 
   -- behind what goes on something is left
   behind : (j : ℕ) (y : Insn) → slice_get new j ≡ Some y → goes_on y ≡ true → suc j < length new
@@ -87,10 +96,7 @@ module _ (p : Program) (marks : ℕ → Bool) (fs : List Fate) (b : Body) (fits 
       (get_within new (at w.lands.to) (left_insn at w.lands.fate w.lands.insn) (insn_left at fs b.insns w.lands.to w.lands.fate w.lands.insn w.lands.has_fate w.lands.has_insn w.lands.is_left))
 
   last : slice_get new 0 ≡ None → ⊥
-  last e = by (slice_get b.insns 0) refl (first_begins p marks fs b fits tidy)
-    where
-      by : (o : Option Insn) → slice_get b.insns 0 ≡ o → may_begin o ≡ true → ⊥
-      by o d h = absurd (true≢false (sym (first o d h) ∙ ap may_begin e))
+  last e = absurd (true≢false (sym first ∙ ap may_begin e))
 
   last_ends : ends (slice_get new (length new - 1)) ≡ true
   last_ends = some_left (slice_get new 0) refl
@@ -167,8 +173,12 @@ module _ (p : Program) (marks : ℕ → Bool) (fs : List Fate) (b : Body) (fits 
       (and_both (targets_fit new x) (leaves (at n) x && is_caught thin.regions (at n) x)
       (ap (list_all (λ t. may_enter (slice_get new t))) (aims at i) ∙ all_map (λ t. may_enter (slice_get new t)) at (targets_of i)
       ∙ all_with (λ t. may_enter (slice_get b.insns t)) (λ t. may_enter (slice_get new (at t))) (targets_of i) aimed (targets_at p marks fs b fits tidy n i e))
-      (and_both (leaves (at n) x) (is_caught thin.regions (at n) x) (tidy.leaves n i h e) (tidy.caught n i h e)))
+      (and_both (leaves (at n) x) (is_caught thin.regions (at n) x) (tidy.leaves n i h e) (caught_left i h e)))
     where
+      caught_left : (i : Insn) → slice_get fs n ≡ Some Stays → slice_get b.insns n ≡ Some i → is_caught thin.regions (at n) (insn_retargeted at i) ≡ true
+      caught_left (insn.MoveException to) h e = let r = tidy.caught n to h e in kept_any p b.insns fs (handles_at (at n)) b.regions r.0 r.1.0 r.1.1.1 (handles_there p b.insns fs n r.0 r.1.1.0)
+      caught_left i h e = refl
+
       aimed : (t : ℕ) → Contains (targets_of i) t → may_enter (slice_get b.insns t) ≡ true → may_enter (slice_get new (at t)) ≡ true
       aimed t c v = let l = target_lands p marks fs b fits tidy n t i (is_marked p marks fs b fits tidy n Stays h tt) e c in
           ap may_enter (stands t l.0) ∙ enter_left l.0.fate l.0.insn l.0.is_left l.1
@@ -186,6 +196,32 @@ module _ (p : Program) (marks : ℕ → Bool) (fs : List Fate) (b : Body) (fits 
       by n Empties i h l k = nop_fits (at n)
       by n Goes i h l k = absurd l
 
+  -- ---- regions
+
+  begins_either : (n : ℕ) → may_begin (slice_get b.insns n) ≡ true → (marks n ≡ true) ⊎ (may_begin (slice_get new (at n)) ≡ true) → may_begin (slice_get new (at n)) ≡ true
+  begins_either n e (inl m) = begins_at n m e
+  begins_either n e (inr d) = d
+
+  one_region : (r : Region) → Contains b.regions r → region_fits p b.insns r ≡ true
+  one_region r c = all_at (region_fits p b.insns) b.regions r c (each_region_fits p b.insns fs tidy.long b.regions (all_regions_fit p marks fs b fits tidy))
+
+  inner : (r : Region) → Contains b.regions r → (list_all (handler_fits p b.insns) r.handlers && rest_fits b.insns r.rest) ≡ true
+  inner r c = and_right (catches r) (list_all (handler_fits p b.insns) r.handlers && rest_fits b.insns r.rest)
+      (and_right (nat_lt r.first r.end && nat_le r.end (length b.insns)) (catches r && (list_all (handler_fits p b.insns) r.handlers && rest_fits b.insns r.rest)) (one_region r c))
+
+  handlers_there : (r : Region) → Contains b.regions r → region_has_room (region_moved at r) ≡ true → handlers_begin new (region_moved at r) ≡ true
+  handlers_there r c e = all_map (λ (h : Handler). may_begin (slice_get new h.position)) (handler_moved at) r.handlers
+      ∙ all_of (λ (h : Handler). may_begin (slice_get new (at h.position))) r.handlers (λ h i. begins_either h.position
+      (and_right (has_type p h.kind) (may_begin (slice_get b.insns h.position))
+      (all_at (handler_fits p b.insns) r.handlers h i (and_left (list_all (handler_fits p b.insns) r.handlers) (rest_fits b.insns r.rest) (inner r c)))) (tidy.handlers r h c e i))
+
+  rest_there : (r : Region) → Contains b.regions r → region_has_room (region_moved at r) ≡ true → rest_begins new (region_moved at r) ≡ true
+  rest_there r c e = by r.rest refl (and_right (list_all (handler_fits p b.insns) r.handlers) (rest_fits b.insns r.rest) (inner r c))
+    where
+      by : (o : Option ℕ) → r.rest ≡ o → rest_fits b.insns o ≡ true → rest_fits new (option_map at o) ≡ true
+      by None d f = refl
+      by (Some n) d f = begins_either n f (tidy.rests r n c e d)
+
   -- ---- the body
 
   numbered : (j : ℕ) (y : Insn) → slice_get new j ≡ Some y → insn_fits p thin (0 + j, y) ≡ true
@@ -195,7 +231,8 @@ module _ (p : Program) (marks : ℕ → Bool) (fs : List Fate) (b : Body) (fits 
   unfolding body_fits
   thinned_fits =
       and_both (may_begin (slice_get new 0) && ends (slice_get new (length new - 1))) (list_all follows (neighbours new) && (list_all (insn_fits p thin) (enumerate_from 0 new) && regions_fit p new thin.regions))
-      (and_both (may_begin (slice_get new 0)) (ends (slice_get new (length new - 1))) (first (slice_get b.insns 0) refl (first_begins p marks fs b fits tidy)) last_ends)
+      (and_both (may_begin (slice_get new 0)) (ends (slice_get new (length new - 1))) first last_ends)
       (and_both (list_all follows (neighbours new)) (list_all (insn_fits p thin) (enumerate_from 0 new) && regions_fit p new thin.regions) (all_beside follows new follows_left)
       (and_both (list_all (insn_fits p thin) (enumerate_from 0 new)) (regions_fit p new thin.regions) (all_numbered (insn_fits p thin) new 0 numbered)
-      (regions_left p b.insns fs tidy.long b.regions (all_regions_fit p marks fs b fits tidy) tidy.handlers tidy.rests)))
+      (regions_left p b.insns fs tidy.long b.regions (all_regions_fit p marks fs b fits tidy)
+      (kept_all p b.insns fs (handlers_begin new) b.regions handlers_there) (kept_all p b.insns fs (rest_begins new) b.regions rest_there))))

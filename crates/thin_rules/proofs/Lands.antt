@@ -1,5 +1,5 @@
 -- Where what stood at a position goes on in the body that is left: at a position that is left, with the same place.
-use Rattle.std.proofs.Common.{◌≡◌, ◌⊎◌, inl, inr, ℕ, zero, suc, ◌+◌, ◌-◌, ◌<◌, ◌≤◌, Bool, true, false, true≢false, List, [], ◌∷◌, length, refl, sym, ap, ◌∙◌, subst, arith}
+use Rattle.std.proofs.Common.{◌≡◌, ◌⊎◌, inl, inr, ℕ, zero, suc, ◌+◌, ◌-◌, ◌<◌, ◌≤◌, Bool, true, true≢false, List, [], length, refl, sym, ap, ◌∙◌, subst, arith}
 use Rattle.std.specs.Prelude.{◌&&◌, not, Option, Some, None, slice_get, Contains}
 use Rattle.std.specs.List.{list_all, enumerate_from}
 use Rattle.insn_set.specs.Flow.{goes_on, targets_of}
@@ -9,16 +9,16 @@ use Rattle.insn_set.specs.declared.form.Insn.TheVariants as insn
 use Rattle.program_model.specs.Neighbours.{neighbours}
 use Rattle.program_model.specs.OperandRules.{registers_fit, numbers_fit}
 use Rattle.program_model.specs.RegionRules.{may_begin, regions_fit}
-use Rattle.program_model.specs.BodyRules.{ends, has_result, may_follow, follows, may_enter, targets_fit, leaves, is_caught, insn_fits, body_fits}
+use Rattle.program_model.specs.BodyRules.{ends, may_follow, follows, may_enter, targets_fit, leaves, is_caught, insn_fits, body_fits}
 use Rattle.program_model.specs.declared.body.Body.{Body}
 use Rattle.program_model.specs.declared.program.Program.{Program}
-use Rattle.pass_defs.specs.Thinned.{Fate, Stays, Empties, Goes, stays, place, insn_retargeted, insns_left}
+use Rattle.pass_defs.specs.Thinned.{Fate, Stays, Empties, Goes, place}
 use Rattle.frame_laws.proofs.Lists.{some_same, contains_here}
 use Rattle.silence_law.proofs.Lists.{clash, and_left, and_right}
-use Rattle.thin_law.proofs.Places.{IsLeft, next_suc, place_next, place_gone}
+use Rattle.thin_law.proofs.Places.{IsLeft, place_next, place_gone}
 use Rattle.thin_rules.specs.Tidy.{Passes, On, Over, IsTidy}
 use Rattle.thin_rules.proofs.Kept.{flows_on, follow_enter}
-use Rattle.thin_rules.proofs.Places.{get_within, get_there, get_none, all_at, numbered_at, beside, left_insn, insn_left, From, come_from, place_same}
+use Rattle.thin_rules.proofs.Places.{get_within, get_there, get_none, all_at, numbered_at, beside, left_insn}
 
 none_plus : (n : ℕ) → n ≡ 0 + n
 none_plus n = omega arith
@@ -75,6 +75,7 @@ module _ (p : Program) (marks : ℕ → Bool) (fs : List Fate) (b : Body) (fits 
 
   pub fits_at : (n : ℕ) (i : Insn) → slice_get b.insns n ≡ Some i → insn_fits p b (n, i) ≡ true
   fits_at n i e = ap (λ k. insn_fits p b (k, i)) (none_plus n) ∙ numbered_at (insn_fits p b) b.insns 0 n i each_fits e
+
   pub operands_at : (n : ℕ) (i : Insn) → slice_get b.insns n ≡ Some i → (is_encodable i && (registers_fit i b.registers && numbers_fit i p)) ≡ true
   unfolding insn_fits
   operands_at n i e = and_left (is_encodable i && (registers_fit i b.registers && numbers_fit i p)) (targets_fit b.insns i && (leaves n i && is_caught b.regions n i)) (fits_at n i e)

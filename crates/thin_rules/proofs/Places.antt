@@ -1,6 +1,6 @@
 -- Places of instructions that are left.
-use Rattle.std.proofs.Common.{◌≡◌, ℕ, zero, suc, ◌+◌, ◌<◌, ◌≤◌, Bool, true, false, List, [], ◌∷◌, length, refl, sym, ap, ◌∙◌, subst, arith}
-use Rattle.std.specs.Prelude.{◌&&◌, Option, Some, None, slice_get, Contains, slice_index_or}
+use Rattle.std.proofs.Common.{◌≡◌, ℕ, zero, suc, ◌+◌, ◌<◌, ◌≤◌, Bool, true, List, [], ◌∷◌, length, refl, sym, ap, ◌∙◌, subst, arith}
+use Rattle.std.specs.Prelude.{Some, None, slice_get, Contains}
 use Rattle.std.specs.List.{list_all, enumerate_from}
 use Rattle.insn_set.specs.declared.form.Insn.{Insn}
 use Rattle.insn_set.specs.declared.form.Insn.TheVariants as insn
@@ -31,6 +31,10 @@ pub all_with : {A : Type 0} (f g : A → Bool) (xs : List A) → ((x : A) → Co
 all_with f g [] h e = refl
 all_with f g (x ∷ xs) h e = and_both (g x) (list_all g xs) (h x (contains_here x xs) (and_left (f x) (list_all f xs) e))
     (all_with f g xs (λ y i k. h y (contains_there x xs y i) k) (and_right (f x) (list_all f xs) e))
+
+pub all_of : {A : Type 0} (f : A → Bool) (xs : List A) → ((x : A) → Contains xs x → f x ≡ true) → list_all f xs ≡ true
+all_of f [] h = refl
+all_of f (x ∷ xs) h = and_both (f x) (list_all f xs) (h x (contains_here x xs)) (all_of f xs (λ y i. h y (contains_there x xs y i)))
 
 pub all_at : {A : Type 0} (f : A → Bool) (xs : List A) (x : A) → Contains xs x → list_all f xs ≡ true → f x ≡ true
 all_at f [] x (k, l, e) h = let g : ⊥ = omega (arith, l) in absurd g

@@ -1,21 +1,29 @@
 -- Regions of a thinned body: those that cover something still, in their order.
-use Rattle.std.proofs.Common.{◌≡◌, ℕ, ◌≤◌, Bool, true, false, List, [], ◌∷◌, length, refl, sym, ap, ◌∙◌, subst, arith}
-use Rattle.std.specs.Prelude.{◌&&◌, ◌||◌, not, Option, Some, None, map, filter, nat_eq, nat_lt, nat_le, slice_get, is_some}
-use Rattle.std.specs.List.{list_all}
+use Rattle.std.proofs.Common.{◌≡◌, ℕ, zero, suc, ◌<◌, ◌≤◌, eq-eqb, Bool, true, false, List, [], ◌∷◌, length, refl, ap, ◌∙◌, subst, arith}
+use Rattle.std.specs.Prelude.{◌&&◌, ◌||◌, not, Option, Some, None, map, filter, nat_eq, nat_lt, nat_le, slice_get, is_some, Contains}
+use Rattle.std.specs.List.{list_all, list_any}
 use Rattle.std.specs.Option.{option_map}
-use Rattle.std.proofs.lemmas.Bool.{leb-true, le-leb}
+use Rattle.std.proofs.lemmas.Bool.{leb-true, le-leb, eqb-true}
 use mathlib.Core.Bool.{cond}
 use Rattle.insn_set.specs.declared.form.Insn.{Insn}
 use Rattle.program_model.specs.Neighbours.{neighbours}
 use Rattle.program_model.specs.Texts.{has_type}
 use Rattle.program_model.specs.RegionRules.{may_begin, handler_fits, rest_fits, catches, region_fits, are_apart, regions_fit}
+use Rattle.program_model.specs.BodyRules.{handles_at, is_rest}
 use Rattle.program_model.specs.declared.body.Handler.{Handler}
 use Rattle.program_model.specs.declared.body.Region.{Region}
 use Rattle.program_model.specs.declared.program.Program.{Program}
 use Rattle.pass_defs.specs.Thinned.{Fate, place, insns_left, handler_moved, region_moved, region_has_room}
+use Rattle.frame_laws.proofs.Lists.{contains_here, contains_there}
 use Rattle.silence_law.proofs.Lists.{and_left, and_right, and_both, length_same}
-use Rattle.thin_rules.specs.Tidy.{handlers_begin, rest_begins}
 use Rattle.thin_rules.proofs.Places.{place_rises, place_end}
+
+-- a region's handlers begin where handlers may
+abbrev pub handlers_begin : List Insn → Region → Bool
+handlers_begin insns r = list_all (λ h. may_begin (slice_get insns h.position)) r.handlers
+
+abbrev pub rest_begins : List Insn → Region → Bool
+rest_begins insns r = rest_fits insns r.rest
 
 -- ---- order
 
@@ -44,6 +52,12 @@ rising_apart : (low : ℕ) (rs : List Region) → Rising low rs → list_all are
 rising_apart low [] h = refl
 rising_apart low (r ∷ []) h = refl
 rising_apart low (r ∷ (s ∷ rs)) h = and_both (nat_le r.end s.first) (list_all are_apart (neighbours (s ∷ rs))) (le-leb r.end s.first h.1.1.0) (rising_apart r.end (s ∷ rs) h.1.1)
+
+none_there : {A : Type 0} (k : ℕ) → k < 0 → A
+none_there k l = let f : ⊥ = omega (arith, l) in absurd f
+
+less : (k a : ℕ) → suc k < suc a → k < a
+less k a l = omega arith
 
 module _ (p : Program) (old : List Insn) (fs : List Fate) where
   abbrev at : ℕ → ℕ
@@ -77,6 +91,62 @@ module _ (p : Program) (old : List Insn) (fs : List Fate) where
       by : (c : Bool) → a ≤ at r.first → at r.first ≤ at r.end → Rising (at r.end) (kept rs) → Rising a (kept rs) → Rising a (cond c (region_moved at r ∷ kept rs) (kept rs))
       by true first end k d = (first, (end, k))
       by false first end k d = d
+
+  -- what holds of each region that covers something still
+  pub kept_all : (f : Region → Bool) (rs : List Region) → ((r : Region) → Contains rs r → region_has_room (region_moved at r) ≡ true → f (region_moved at r) ≡ true) → list_all f (kept rs) ≡ true
+  kept_all f [] h = refl
+  kept_all f (r ∷ rs) h = by (region_has_room (region_moved at r)) refl (kept_all f rs (λ s i e. h s (contains_there r rs s i) e))
+    where
+      by : (c : Bool) → region_has_room (region_moved at r) ≡ c → list_all f (kept rs) ≡ true → list_all f (cond c (region_moved at r ∷ kept rs) (kept rs)) ≡ true
+      by true e k = and_both (f (region_moved at r)) (list_all f (kept rs)) (h r (contains_here r rs) e) k
+      by false e k = k
+
+  or_first : (a b : Bool) → a ≡ true → (a || b) ≡ true
+  or_first a b e = ap (λ z. z || b) e
+
+  or_second : (a b : Bool) → b ≡ true → (a || b) ≡ true
+  or_second true b e = refl
+  or_second false b e = e
+
+  pub kept_any : (f : Region → Bool) (rs : List Region) (r : Region) → Contains rs r → region_has_room (region_moved at r) ≡ true → f (region_moved at r) ≡ true → list_any f (kept rs) ≡ true
+  kept_any f [] r (k, l, e) d h = none_there k l
+  kept_any f (s ∷ rs) r (zero, l, e) d h = ap (λ c. list_any f (cond c (region_moved at s ∷ kept rs) (kept rs))) (ap (λ z. region_has_room (region_moved at z)) e ∙ d)
+      ∙ or_first (f (region_moved at s)) (list_any f (kept rs)) (ap (λ z. f (region_moved at z)) e ∙ h)
+  kept_any f (s ∷ rs) r (suc k, l, e) d h = by (region_has_room (region_moved at s)) (kept_any f rs r (k, less k (length rs) l, e) d h)
+    where
+      by : (c : Bool) → list_any f (kept rs) ≡ true → list_any f (cond c (region_moved at s ∷ kept rs) (kept rs)) ≡ true
+      by true k = or_second (f (region_moved at s)) (list_any f (kept rs)) k
+      by false k = k
+
+  -- a handler that stands at a position stands at its place
+  pub handles_there : (n : ℕ) (r : Region) → handles_at n r ≡ true → handles_at (at n) (region_moved at r) ≡ true
+  handles_there n r e = by_rest r.rest (moved_any r.handlers) e
+    where
+      same_place : (k : ℕ) → nat_eq k n ≡ true → nat_eq (at k) (at n) ≡ true
+      same_place k e = eq-eqb (at k) (at n) (ap at (eqb-true k n e))
+
+      moved_any : (hs : List Handler) → list_any (λ (h : Handler). nat_eq h.position n) hs ≡ true → list_any (λ (h : Handler). nat_eq h.position (at n)) (map (handler_moved at) hs) ≡ true
+      moved_any [] e = e
+      moved_any (h ∷ hs) e = by (nat_eq h.position n) refl e (moved_any hs)
+        where
+          by : (c : Bool) → nat_eq h.position n ≡ c → (c || list_any (λ (h : Handler). nat_eq h.position n) hs) ≡ true
+              → (list_any (λ (h : Handler). nat_eq h.position n) hs ≡ true → list_any (λ (h : Handler). nat_eq h.position (at n)) (map (handler_moved at) hs) ≡ true)
+              → (nat_eq (at h.position) (at n) || list_any (λ (h : Handler). nat_eq h.position (at n)) (map (handler_moved at) hs)) ≡ true
+          by true c e k = or_first (nat_eq (at h.position) (at n)) (list_any (λ (h : Handler). nat_eq h.position (at n)) (map (handler_moved at) hs)) (same_place h.position c)
+          by false c e k = or_second (nat_eq (at h.position) (at n)) (list_any (λ (h : Handler). nat_eq h.position (at n)) (map (handler_moved at) hs)) (k e)
+
+      rest_there : (o : Option ℕ) → is_rest n o ≡ true → is_rest (at n) (option_map at o) ≡ true
+      rest_there None e = e
+      rest_there (Some k) e = same_place k e
+
+      by_rest : (o : Option ℕ) → (list_any (λ (h : Handler). nat_eq h.position n) r.handlers ≡ true → list_any (λ (h : Handler). nat_eq h.position (at n)) (map (handler_moved at) r.handlers) ≡ true)
+          → (list_any (λ (h : Handler). nat_eq h.position n) r.handlers || is_rest n o) ≡ true → (list_any (λ (h : Handler). nat_eq h.position (at n)) (map (handler_moved at) r.handlers) || is_rest (at n) (option_map at o)) ≡ true
+      by_rest o k e = by (list_any (λ (h : Handler). nat_eq h.position n) r.handlers) refl e
+        where
+          by : (c : Bool) → list_any (λ (h : Handler). nat_eq h.position n) r.handlers ≡ c → (c || is_rest n o) ≡ true
+              → (list_any (λ (h : Handler). nat_eq h.position (at n)) (map (handler_moved at) r.handlers) || is_rest (at n) (option_map at o)) ≡ true
+          by true c e = or_first (list_any (λ (h : Handler). nat_eq h.position (at n)) (map (handler_moved at) r.handlers)) (is_rest (at n) (option_map at o)) (k c)
+          by false c e = or_second (list_any (λ (h : Handler). nat_eq h.position (at n)) (map (handler_moved at) r.handlers)) (is_rest (at n) (option_map at o)) (rest_there o e)
 
   -- ---- what regions are
 
@@ -127,6 +197,10 @@ module _ (p : Program) (old : List Insn) (fs : List Fate) where
             (one_fits r (and_left (region_fits p old r) (list_all (region_fits p old) rs) e) c (and_left (handlers_begin new x) (list_all (handlers_begin new) (kept rs)) h) (and_left (rest_begins new x) (list_all (rest_begins new) (kept rs)) d))
             (k (and_right (handlers_begin new x) (list_all (handlers_begin new) (kept rs)) h) (and_right (rest_begins new x) (list_all (rest_begins new) (kept rs)) d))
         by false c h d k = k h d
+
+    pub each_region_fits : (rs : List Region) → regions_fit p old rs ≡ true → list_all (region_fits p old) rs ≡ true
+    unfolding regions_fit
+    each_region_fits rs e = and_left (list_all (region_fits p old) rs) (list_all are_apart (neighbours rs)) e
 
     pub regions_left : (rs : List Region) → regions_fit p old rs ≡ true → list_all (handlers_begin new) (kept rs) ≡ true → list_all (rest_begins new) (kept rs) ≡ true → regions_fit p new (kept rs) ≡ true
     unfolding regions_fit

@@ -1,27 +1,20 @@
 -- Fates under which a body that keeps the rules of bodies still keeps them.
-use Rattle.std.specs.Prelude.{◌≡◌, ℕ, suc, ◌<◌, Bool, true, false, List, length, Some, slice_get, Contains}
-use Rattle.std.specs.List.{list_all}
+use Rattle.std.specs.Prelude.{◌≡◌, ◌⊎◌, ℕ, suc, ◌<◌, Bool, true, false, List, length, Some, slice_get, Contains}
 use Rattle.insn_set.specs.Flow.{goes_on, targets_of}
 use Rattle.insn_set.specs.declared.form.Insn.{Insn}
 use Rattle.insn_set.specs.declared.ops.Slot.{Slot}
 use Rattle.insn_set.specs.declared.form.Insn.TheVariants as insn
-use Rattle.program_model.specs.BodyRules.{has_result, leaves, is_caught}
-use Rattle.program_model.specs.RegionRules.{may_begin, rest_fits}
+use Rattle.program_model.specs.BodyRules.{has_result, leaves, handles_at}
+use Rattle.program_model.specs.RegionRules.{may_begin}
 use Rattle.program_model.specs.declared.body.Body.{Body}
+use Rattle.program_model.specs.declared.body.Handler.{Handler}
 use Rattle.program_model.specs.declared.body.Region.{Region}
-use Rattle.pass_defs.specs.Thinned.{Fate, Stays, Goes, stays, place, body_thinned, insn_retargeted}
+use Rattle.pass_defs.specs.Thinned.{Fate, Stays, Goes, stays, place, body_thinned, insn_retargeted, region_moved, region_has_room}
 
 -- a position that is passed: it goes on to the next one and gives no result, or it is a goto over positions that go
 pub data Passes (fs : List Fate) (n : ℕ) : Insn → Type 0 where
   On : (i : Insn) → goes_on i ≡ true → has_result i ≡ false → Passes fs n i
   Over : (t : ℕ) → n < t → place fs t ≡ place fs (suc n) → Passes fs n (insn.Goto t)
-
--- a region's handlers begin where handlers may
-abbrev pub handlers_begin : List Insn → Region → Bool
-handlers_begin insns r = list_all (λ h. may_begin (slice_get insns h.position)) r.handlers
-
-abbrev pub rest_begins : List Insn → Region → Bool
-rest_begins insns r = rest_fits insns r.rest
 
 -- The marks are closed: the entry has one, and so has each position where a marked one goes on. What is left is marked, and
 -- what is marked and doesn't stay is passed.
@@ -36,7 +29,9 @@ pub record IsTidy (marks : ℕ → Bool) (fs : List Fate) (b : Body) : Type 0 wh
   pub results : (n to : ℕ) (s : Slot) → slice_get fs (suc n) ≡ Some Stays → slice_get b.insns (suc n) ≡ Some (insn.MoveResult s to) → slice_get fs n ≡ Some Stays
   -- no conditional branch is left that goes to itself
   pub leaves : (n : ℕ) (i : Insn) → slice_get fs n ≡ Some Stays → slice_get b.insns n ≡ Some i → leaves (place fs n) (insn_retargeted (place fs) i) ≡ true
-  -- a region is left for each MoveException, and handlers of what regions are left begin where they may
-  pub caught : (n : ℕ) (i : Insn) → slice_get fs n ≡ Some Stays → slice_get b.insns n ≡ Some i → is_caught (body_thinned fs b).regions (place fs n) (insn_retargeted (place fs) i) ≡ true
-  pub handlers : list_all (handlers_begin (body_thinned fs b).insns) (body_thinned fs b).regions ≡ true
-  pub rests : list_all (rest_begins (body_thinned fs b).insns) (body_thinned fs b).regions ≡ true
+  -- a region that covers something still has its handler at each MoveException that stays
+  pub caught : (n to : ℕ) → slice_get fs n ≡ Some Stays → slice_get b.insns n ≡ Some (insn.MoveException to) → (r : Region) × (Contains b.regions r × ((handles_at n r ≡ true) × (region_has_room (region_moved (place fs) r) ≡ true)))
+  -- the handlers of such a region are marked, or have come to where a handler may begin
+  pub handlers : (r : Region) (h : Handler) → Contains b.regions r → region_has_room (region_moved (place fs) r) ≡ true → Contains r.handlers h
+      → (marks h.position ≡ true) ⊎ (may_begin (slice_get (body_thinned fs b).insns (place fs h.position)) ≡ true)
+  pub rests : (r : Region) (n : ℕ) → Contains b.regions r → region_has_room (region_moved (place fs) r) ≡ true → r.rest ≡ Some n → (marks n ≡ true) ⊎ (may_begin (slice_get (body_thinned fs b).insns (place fs n)) ≡ true)

@@ -20,7 +20,7 @@ use Rattle.verify.specs.Demands as demands
 use Rattle.verify.specs.Demands.{unless, lower}
 use Rattle.verify.specs.Frames.{Kinds, kind_at}
 use Rattle.verify.specs.Kinds as kinds
-use Rattle.verify.specs.Names.{field_kind, field_class}
+use Rattle.verify.specs.Names.{field_kind}
 use Rattle.verify.specs.Reads.{is_of_type, is_holder, is_array_of, refused_array, refused, found_at}
 use Rattle.verify.specs.Supers.{super_search}
 use Rattle.verify.proofs.Reading.{unless_true, lower_left, lower_right}
@@ -28,8 +28,8 @@ use Rattle.type_bridge.specs.Views.{kind_named, kinds_named}
 use Rattle.type_bridge.proofs.Frames.{low_test}
 use Rattle.type_bridge.proofs.Fits.{number_named}
 use Rattle.type_bridge.proofs.Order.{made_named}
-use Rattle.type_bridge.proofs.Members.{field_is, field_kind_is, field_class_is, method_is}
-use Rattle.type_bridge.proofs.Asked.{one_of, two_of, three_of, meets_number, meets_made, meets_fits, meets_wide, meets_type, meets_slot, meets_item, meets_tested, meets_tested_with, meets_array, meets_filled, meets_any_array, meets_holder, call_all, items_all}
+use Rattle.type_bridge.proofs.Members.{field_is, field_kind_is, method_is}
+use Rattle.type_bridge.proofs.Asked.{one_of, two_of, three_of, meets_number, meets_made, meets_receiver, meets_wide, meets_type, meets_slot, meets_item, meets_tested, meets_tested_with, meets_array, meets_filled, meets_any_array, meets_holder, call_all, items_all}
 use Rattle.type_bridge.proofs.Grounds.{IsSet, get_fits, put_fits, static_put_fits, invoke_fits, result_named}
 
 module _ (s : Setting) (c : Class) (m : Method) (i : IsSet s c m) (made : name.Kind) (n : ℕ) (a : Kinds) where
@@ -90,7 +90,7 @@ module _ (s : Setting) (c : Class) (m : Method) (i : IsSet s c m) (made : name.K
       (meets_number s i.told i.resolved c i.class a.registers index r.1)
   allowed (insn.InstanceGet x to on field) f g e =
       let k = field_is s.program.now s.tables.now i.told field (get_fits s.program.now x to on field f) in
-      one_of _ (meets_fits s i.told i.resolved c i.class a.registers on (field_class s.program.now field) (field_at s.program.now field).class (field_class_is s.program.now s.tables.now i.told field k) (unless_true _ on e))
+      one_of _ (meets_receiver s i.told i.resolved c i.class a.registers on field k (unless_true _ on e))
   allowed (insn.InstancePut x from on field) f g e =
       let k = field_is s.program.now s.tables.now i.told field (put_fits s.program.now x from on field f) in
       let one = unless (is_of_type s a.registers from (field_kind s.program.now field)) from in

@@ -25,7 +25,7 @@ use Rattle.pass_defs.specs.Kinds as name
 use Rattle.pass_defs.specs.Kinds.{kind_eq}
 use Rattle.pass_defs.specs.Registers as by_name
 use Rattle.pass_defs.specs.Demands as asked
-use Rattle.pass_defs.specs.Demands.{Demand, Moved, Number, Pair, Behind, Initialised, Either, Fits, Holder, Constructed, AnArray, ArrayOf, Filled, wide_or, number_or_pair, of_type}
+use Rattle.pass_defs.specs.Demands.{Demand, Moved, Number, Pair, Behind, Initialised, Either, Fits, Receiver, Holder, Constructed, AnArray, ArrayOf, Filled, wide_or, number_or_pair, of_type}
 use Rattle.verify.specs.declared.calls.Search.{Search}
 use Rattle.verify.specs.declared.calls.Search.TheVariants as search
 use Rattle.verify.specs.declared.kinds.Kind as number
@@ -34,7 +34,7 @@ use Rattle.verify.specs.declared.setting.Setting.{Setting}
 use Rattle.verify.specs.declared.tables.Tables.{Tables}
 use Rattle.verify.specs.Demands as demands
 use Rattle.verify.specs.Demands.{unless, lower, same_item}
-use Rattle.verify.specs.Fits.{fits, fits_item, stored_item}
+use Rattle.verify.specs.Fits.{fits, fits_holder, fits_item, stored_item}
 use Rattle.verify.specs.Frames.{kind_at, is_pair}
 use Rattle.verify.specs.Kinds as kinds
 use Rattle.verify.specs.Names.{field_class, method_class, parameters_of}
@@ -50,7 +50,7 @@ use Rattle.type_bridge.specs.Views.{item_text, class_kind, kind_named}
 use Rattle.type_bridge.proofs.Told.{Told}
 use Rattle.type_bridge.proofs.Texts.{sorts}
 use Rattle.type_bridge.proofs.Order.{made_named}
-use Rattle.type_bridge.proofs.Fits.{either_true, number_named, fits_named, fits_item_named, stored_named}
+use Rattle.type_bridge.proofs.Fits.{either_true, number_named, fits_named, holder_named, fits_item_named, stored_named}
 use Rattle.type_bridge.proofs.Frames.{at_named, pair_named}
 use Rattle.type_bridge.proofs.Members.{FieldIs, field_class_is, MethodIs, method_class_is, parameters_is, constructor_is, defines_is, SameFound, found_same}
 
@@ -75,14 +75,14 @@ item_self item.Byte = refl
 item_self item.Char = refl
 item_self item.Short = refl
 
-pub width_same : (a : Item) → asked.width_of_item a ≡ shapes.width_of a
-width_same item.Plain = refl
-width_same item.Wide = refl
-width_same item.Object = refl
-width_same item.Boolean = refl
-width_same item.Byte = refl
-width_same item.Char = refl
-width_same item.Short = refl
+pub width_same : (n : ℕ) (a : Item) → asked.has_width n a ≡ shapes.has_width n a
+width_same n item.Plain = refl
+width_same n item.Wide = refl
+width_same n item.Object = refl
+width_same n item.Boolean = refl
+width_same n item.Byte = refl
+width_same n item.Char = refl
+width_same n item.Short = refl
 
 pub equality_same : (t : Test) → asked.is_equality t ≡ demands.is_equality t
 equality_same test.Eq = refl
@@ -152,6 +152,10 @@ module _ (s : Setting) (d : Told s.program.now s.tables.now) (h : IsResolved s.p
 
   pub meets_fits : (r type : ℕ) (u : Text) → type_at s.program.now type ≡ u → fits s.tables.now (kind_at ks r) type ≡ true → Meets r (Fits u)
   meets_fits r type u f e = at (λ k. name.fits (named s.program.now) k u) r (subst (λ u. name.fits (named s.program.now) (kind_named s.program.now (kind_at ks r)) u ≡ true) f (fits_named s.program.now s.tables.now d (kind_at ks r) type e))
+
+  pub meets_receiver : (r f : ℕ) → FieldIs s.program.now s.tables.now d f → fits_holder s.tables.now (kind_at ks r) (field_class s.program.now f) ≡ true → Meets r (Receiver (field_at s.program.now f).class)
+  meets_receiver r f x e = at (λ k. name.fits_holder (named s.program.now) k (field_at s.program.now f).class) r
+      (subst (λ u. name.fits_holder (named s.program.now) (kind_named s.program.now (kind_at ks r)) u ≡ true) (field_class_is s.program.now s.tables.now d f x) (holder_named s.program.now s.tables.now d (kind_at ks r) (field_class s.program.now f) e))
 
   pub meets_wide : (b : Bool) (r : ℕ) → demands.is_number_or_pair b ks r ≡ true → Meets r (number_or_pair b)
   meets_wide true r e = meets_pair r e
@@ -235,9 +239,9 @@ module _ (s : Setting) (d : Told s.program.now s.tables.now) (h : IsResolved s.p
   filled_any k w e = e
 
   pub meets_filled : (w r : ℕ) → is_array_filled s (kind_at ks r) w ≡ true → Meets r (Filled w)
-  meets_filled w r e = at (asked.is_array_where (λ t. nat_eq (asked.width_of_item (item_of_type t)) w)) r (array_named s.program.now s.tables.now d (λ t. nat_eq (asked.width_of_item (item_of_type t)) w) (kind_at ks r) (filled_any (kind_at ks r) w e) (λ n j f.
-      ap (λ x. nat_eq (asked.width_of_item x) w) (stored_named s.program.now s.tables.now d n j)
-      ∙ ap (λ x. nat_eq x w) (width_same (stored_item s.tables.now (suc n) j))
+  meets_filled w r e = at (asked.is_array_where (λ t. asked.has_width w (item_of_type t))) r (array_named s.program.now s.tables.now d (λ t. asked.has_width w (item_of_type t)) (kind_at ks r) (filled_any (kind_at ks r) w e) (λ n j f.
+      ap (asked.has_width w) (stored_named s.program.now s.tables.now d n j)
+      ∙ width_same w (stored_item s.tables.now (suc n) j)
       ∙ subst (λ k. is_array_filled s k w ≡ true) f e))
 
   pub meets_any_array : (r : ℕ) → demands.is_any_array (kind_at ks r) ≡ true → Meets r AnArray
@@ -245,11 +249,11 @@ module _ (s : Setting) (d : Told s.program.now s.tables.now) (h : IsResolved s.p
 
   -- ---- receivers
 
-  other_holder : (f : ℕ) (e : FieldIs s.program.now s.tables.now d f) (k : number.Kind) → name.fits (named s.program.now) (kind_named s.program.now k) (field_at s.program.now f).class ≡ true → (k ≡ kind.FreshThis → ⊥) → asked.holds_field (named s.program.now) (named_class s.program.now c) (field_at s.program.now f) (kind_named s.program.now k) ≡ true
+  other_holder : (f : ℕ) (e : FieldIs s.program.now s.tables.now d f) (k : number.Kind) → name.fits_holder (named s.program.now) (kind_named s.program.now k) (field_at s.program.now f).class ≡ true → (k ≡ kind.FreshThis → ⊥) → asked.holds_field (named s.program.now) (named_class s.program.now c) (field_at s.program.now f) (kind_named s.program.now k) ≡ true
   other_holder f e kind.FreshThis g n = absurd (n refl)
   other_holder f e (kind.Program l) g n = by (slice_get s.program.now.classes l) g
     where
-      by : (o : Option Class) → name.fits (named s.program.now) (class_kind s.program.now o) (field_at s.program.now f).class ≡ true → asked.holds_field (named s.program.now) (named_class s.program.now c) (field_at s.program.now f) (class_kind s.program.now o) ≡ true
+      by : (o : Option Class) → name.fits_holder (named s.program.now) (class_kind s.program.now o) (field_at s.program.now f).class ≡ true → asked.holds_field (named s.program.now) (named_class s.program.now c) (field_at s.program.now f) (class_kind s.program.now o) ≡ true
       by None g = g
       by (Some k) g = g
   other_holder f e (kind.Array zero i) g n = g
@@ -258,7 +262,7 @@ module _ (s : Setting) (d : Told s.program.now s.tables.now) (h : IsResolved s.p
 
   holder_kind : (f : ℕ) (e : FieldIs s.program.now s.tables.now d f) (k : number.Kind) → is_holder s k f ≡ true → asked.holds_field (named s.program.now) (named_class s.program.now c) (field_at s.program.now f) (kind_named s.program.now k) ≡ true
   holder_kind f e kind.FreshThis g = defines_is s d h c own f e g
-  holder_kind f e k g = other_holder f e k (subst (λ u. name.fits (named s.program.now) (kind_named s.program.now k) u ≡ true) (field_class_is s.program.now s.tables.now d f e) (fits_named s.program.now s.tables.now d k (field_class s.program.now f) g)) (λ x. absurd (cc))
+  holder_kind f e k g = other_holder f e k (subst (λ u. name.fits_holder (named s.program.now) (kind_named s.program.now k) u ≡ true) (field_class_is s.program.now s.tables.now d f e) (holder_named s.program.now s.tables.now d k (field_class s.program.now f) g)) (λ x. absurd (cc))
 
   pub meets_holder : (f r : ℕ) → FieldIs s.program.now s.tables.now d f → is_holder s (kind_at ks r) f ≡ true → Meets r (Holder (field_at s.program.now f))
   meets_holder f r e g = at (asked.holds_field (named s.program.now) (named_class s.program.now c) (field_at s.program.now f)) r (holder_kind f e (kind_at ks r) g)

@@ -23,7 +23,7 @@ use Rattle.verify.specs.declared.kinds.Kind as number
 use Rattle.verify.specs.declared.setting.Setting.{Setting}
 use Rattle.verify.specs.Demands as demands
 use Rattle.verify.specs.Demands.{unless, lower}
-use Rattle.verify.specs.Fits.{fits}
+use Rattle.verify.specs.Fits.{fits_holder}
 use Rattle.verify.specs.Frames.{kind_at}
 use Rattle.verify.specs.Kinds as kinds
 use Rattle.verify.specs.Names.{field_kind, field_class}
@@ -31,9 +31,9 @@ use Rattle.verify.specs.Reads.{is_of_type, is_holder, is_array_of, is_array_fill
 use Rattle.verify.specs.Supers.{super_search}
 use Rattle.type_bridge.proofs.Back.{numbered}
 use Rattle.type_bridge.proofs.BackFrames.{kinds_numbered, low_back, number_back, made_back}
-use Rattle.type_bridge.proofs.BackReads.{unless_none, lower_none, met_number, met_made, met_fits, met_wide, met_type, met_slot, met_item, met_tested, met_tested_with, met_array, met_filled, met_any_array, met_holder, items_none, call_none}
+use Rattle.type_bridge.proofs.BackReads.{unless_none, lower_none, met_number, met_made, met_receiver, met_wide, met_type, met_slot, met_item, met_tested, met_tested_with, met_array, met_filled, met_any_array, met_holder, items_none, call_none}
 use Rattle.type_bridge.proofs.Grounds.{IsSet, get_fits, put_fits, static_put_fits, invoke_fits, result_named}
-use Rattle.type_bridge.proofs.Members.{field_is, field_kind_is, field_class_is, method_is}
+use Rattle.type_bridge.proofs.Members.{field_is, field_kind_is, method_is}
 use Rattle.type_bridge.proofs.Wrong.{or_none, untrue}
 
 module _ (s : Setting) (c : Class) (m : Method) (i : IsSet s c m) (n : ℕ) (a : by_name.Kinds) where
@@ -113,7 +113,7 @@ module _ (s : Setting) (c : Class) (m : Method) (i : IsSet s c m) (n : ℕ) (a :
       (array_two x array index (and_right first rest e))
   reads_back (insn.InstanceGet x to on field) f g w e =
       let k = field_is p s.tables.now i.told field (get_fits p x to on field f) in
-      one (fits s.tables.now (kind_at registers on) (field_class p field)) on (met_fits s i.told i.resolved c i.class a.registers on (field_class p field) (field_at p field).class (field_class_is p s.tables.now i.told field k) (and_left (meets on (asked.Fits (field_at p field).class)) true e))
+      one (fits_holder s.tables.now (kind_at registers on) (field_class p field)) on (met_receiver s i.told i.resolved c i.class a.registers on field k (and_left (meets on (asked.Receiver (field_at p field).class)) true e))
   reads_back (insn.InstancePut x from on field) f g w e =
       let k = field_is p s.tables.now i.told field (put_fits p x from on field f) in
       let first = meets from (asked.of_type (field_at p field).kind) in

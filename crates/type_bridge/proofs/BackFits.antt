@@ -12,15 +12,16 @@ use Rattle.dalvik_defs.specs.Naming.{type_at, named}
 use Rattle.dalvik_defs.proofs.Calm.{text_sound}
 use Rattle.name_bridge.proofs.Found.{type_same}
 use Rattle.pass_defs.specs.Kinds as name
-use Rattle.pass_defs.specs.Kinds.{Kind, Class as ClassKind, Array, Fresh, is_below, depth, arrays_of}
+use Rattle.pass_defs.specs.Kinds.{Kind, Zero, Null, Class as ClassKind, Array, Fresh, is_below, depth, arrays_of}
 use Rattle.verify.specs.declared.kinds.Kind as number
 use Rattle.verify.specs.declared.kinds.Kind.TheVariants as kind
 use Rattle.verify.specs.declared.shapes.Shape.{Shape}
 use Rattle.verify.specs.declared.shapes.Shape.TheVariants as shape
 use Rattle.verify.specs.declared.tables.Tables.{Tables}
 use Rattle.verify.specs.Descriptors.{same_text, brackets, without_brackets, short, is_item_of, item_named, item_number, number_or, base_shape, shape_named}
-use Rattle.verify.specs.Fits.{is_below_class, class_fits, reference_fits, item_fits, array_fits, fits_array, fits_shape, fits, fits_item_of, fits_item}
-use Rattle.verify.specs.Kinds.{same_number}
+use Rattle.verify.specs.Fits.{is_below_class, class_fits, reference_fits, item_fits, array_fits, fits_array, fits_shape, fits, fits_holder, fits_item_of, fits_item}
+use Rattle.verify.specs.Kinds as kinds
+use Rattle.verify.specs.Kinds.{same_number, is_null}
 use Rattle.verify.specs.Meeting.{is_settled}
 use Rattle.verify.specs.Shapes as shapes
 use Rattle.verify.specs.Types.{shape_of, item_shape, kind_of, kind_of_shape, reference_kind, cast_kind}
@@ -28,7 +29,7 @@ use Rattle.verify.specs.Typings.{Below}
 use Rattle.verify.proofs.Descriptions as texts
 use Rattle.verify.proofs.Fitting.{item_settled}
 use Rattle.verify.proofs.Lattice.{right_true}
-use Rattle.verify.proofs.Orders.{Under, itself, unknown, word, empty, any, classes, items, deep, under, is_null}
+use Rattle.verify.proofs.Orders.{Under, itself, unknown, word, empty, any, classes, items, deep, under}
 use Rattle.type_bridge.specs.Views.{item_text, class_kind, kind_named}
 use Rattle.type_bridge.specs.Numbered.{is_numbered}
 use Rattle.type_bridge.proofs.Back.{or_null, type_or, numbered, Sense, known, no_class, no_array, no_type, sense, some_dimension}
@@ -38,7 +39,7 @@ use Rattle.type_bridge.proofs.Numbers.{type_named, kind_number, number_back, one
 use Rattle.type_bridge.proofs.Numbering.{same_number_itself, below_numbered}
 use Rattle.type_bridge.proofs.Order.{chain_of_nearest}
 use Rattle.type_bridge.proofs.Told.{Told}
-use Rattle.type_bridge.proofs.Texts.{First, first_of, few_types, ClassText, class_text, Sorts, sorts, item_sorts, item_class, kind_is, text_of_type, depth_of, base_under, item_bare, item_base, depth_short, has_entry, base_is, no_plain}
+use Rattle.type_bridge.proofs.Texts.{First, first_of, few_types, ClassText, class_text, Sorts, sorts, item_sorts, item_class, kind_is, text_of_type, depth_of, base_under, item_bare, item_base, depth_short, has_entry, base_is, no_plain, interface_same}
 
 module _ (p : Program) (t : Tables) (d : Told p t) where
   -- ---- kinds of types have numbers
@@ -351,3 +352,21 @@ module _ (p : Program) (t : Tables) (d : Told p t) where
 
   pub fits_item_back : (k : Kind) (type : ℕ) → text.is_array (type_at p type) ≡ true → name.fits (named p) k (text.item_of (type_at p type)) ≡ true → fits_item t (numbered p k) type ≡ true
   fits_item_back k type e h = item_of_back k (type_at p type) (shape_of t type) (sorts p t d type) (type_numbered type) (sym (sorts p t d type).array ∙ e) h
+
+  -- ---- the receiver of a field's get or put
+
+  null_back : (k : Kind) → name.is_null k ≡ true → kinds.is_null (numbered p k) ≡ true
+  null_back Zero e = refl
+  null_back Null e = refl
+  null_back k e = absurd (true≢false (sym e))
+
+  pub fits_holder_back : (k : Kind) (type : ℕ) → name.fits_holder (named p) k (type_at p type) ≡ true → fits_holder t (numbered p k) type ≡ true
+  fits_holder_back k type e =
+      let rest = not (name.is_program_interface (named p) (type_at p type)) || name.is_null k in
+      both (fits t (numbered p k) type) (not (shapes.is_program_interface (shape_of t type)) || kinds.is_null (numbered p k))
+      (fits_back k type (and_left (name.fits (named p) k (type_at p type)) rest e))
+      (ap (λ b. not b || kinds.is_null (numbered p k)) (sym (interface_same p t d (type_at p type) (shape_of t type) (sorts p t d type))) ∙ by (name.is_program_interface (named p) (type_at p type)) (and_right (name.fits (named p) k (type_at p type)) rest e))
+    where
+      by : (b : Bool) → (not b || name.is_null k) ≡ true → (not b || kinds.is_null (numbered p k)) ≡ true
+      by true e = null_back k e
+      by false e = refl

@@ -25,7 +25,7 @@ use Rattle.pass_defs.specs.Kinds as name
 use Rattle.pass_defs.specs.Kinds.{Kind, Undefined, Zero, Word, Low, High, Null, Class as ClassKind, Array, Reference, Fresh, FreshThis, arrays_of}
 use Rattle.pass_defs.specs.Registers as by_name
 use Rattle.pass_defs.specs.Demands as asked
-use Rattle.pass_defs.specs.Demands.{Demand, Moved, Number, Pair, Behind, Initialised, Either, Fits, Holder, Constructed, AnArray, ArrayOf, Filled, wide_or, number_or_pair, of_type}
+use Rattle.pass_defs.specs.Demands.{Demand, Moved, Number, Pair, Behind, Initialised, Either, Fits, Receiver, Holder, Constructed, AnArray, ArrayOf, Filled, wide_or, number_or_pair, of_type}
 use Rattle.verify.specs.declared.calls.Search.{Search}
 use Rattle.verify.specs.declared.calls.Search.TheVariants as search
 use Rattle.verify.specs.declared.kinds.Kind as number
@@ -33,7 +33,7 @@ use Rattle.verify.specs.declared.kinds.Kind.TheVariants as kind
 use Rattle.verify.specs.declared.setting.Setting.{Setting}
 use Rattle.verify.specs.Demands as demands
 use Rattle.verify.specs.Demands.{unless, lower, same_item}
-use Rattle.verify.specs.Fits.{fits, fits_item, stored_item}
+use Rattle.verify.specs.Fits.{fits, fits_holder, fits_item, stored_item}
 use Rattle.verify.specs.Frames.{kind_at, is_pair}
 use Rattle.verify.specs.Kinds as kinds
 use Rattle.verify.specs.Names.{field_class, method_class, parameters_of}
@@ -48,7 +48,7 @@ use Rattle.type_bridge.proofs.Told.{Told}
 use Rattle.type_bridge.proofs.Texts.{sorts}
 use Rattle.type_bridge.proofs.Asked.{width_same, equality_same}
 use Rattle.type_bridge.proofs.Back.{or_null, numbered, for_class, for_array, Sense, known, no_class, no_array, no_type, sense}
-use Rattle.type_bridge.proofs.BackFits.{fits_back, fits_item_back}
+use Rattle.type_bridge.proofs.BackFits.{fits_back, fits_holder_back, fits_item_back}
 use Rattle.type_bridge.proofs.BackFrames.{number_back, made_back, moved_back, at_back, pair_back, fresh_text}
 use Rattle.type_bridge.proofs.Fits.{either_true, or_first, array_is, stored_named}
 use Rattle.type_bridge.proofs.Members.{FieldIs, field_class_is, MethodIs, method_class_is, method_class_small, parameters_is, constructor_is, defines_back, SameFound, found_same}
@@ -111,9 +111,9 @@ module _ (s : Setting) (d : Told s.program.now s.tables.now) where
   array_back i k e = where_back (λ v. asked.item_eq (item_of_type v) i) (λ x. is_array_of s x i ≡ true) refl refl
       (λ n j f. items_same (stored_item s.tables.now (suc n) j) i ∙ ap (λ x. asked.item_eq x i) (sym (stored_named s.program.now s.tables.now d n j)) ∙ f) k e
 
-  filled_back : (w : ℕ) (k : Kind) → asked.is_array_where (λ v. nat_eq (asked.width_of_item (item_of_type v)) w) k ≡ true → is_array_filled s (numbered s.program.now k) w ≡ true
-  filled_back w k e = where_back (λ v. nat_eq (asked.width_of_item (item_of_type v)) w) (λ x. is_array_filled s x w ≡ true) refl refl
-      (λ n j f. ap (λ x. nat_eq x w) (sym (width_same (stored_item s.tables.now (suc n) j))) ∙ ap (λ x. nat_eq (asked.width_of_item x) w) (sym (stored_named s.program.now s.tables.now d n j)) ∙ f) k e
+  filled_back : (w : ℕ) (k : Kind) → asked.is_array_where (λ v. asked.has_width w (item_of_type v)) k ≡ true → is_array_filled s (numbered s.program.now k) w ≡ true
+  filled_back w k e = where_back (λ v. asked.has_width w (item_of_type v)) (λ x. is_array_filled s x w ≡ true) refl refl
+      (λ n j f. sym (width_same w (stored_item s.tables.now (suc n) j)) ∙ ap (asked.has_width w) (sym (stored_named s.program.now s.tables.now d n j)) ∙ f) k e
 
   any_back : (k : Kind) → asked.is_array_where (λ v. true) k ≡ true → demands.is_any_array (numbered s.program.now k) ≡ true
   any_back k e = where_back (λ v. true) (λ x. demands.is_any_array x ≡ true) refl refl (λ n j f. refl) k e
@@ -209,13 +209,16 @@ module _ (s : Setting) (d : Told s.program.now s.tables.now) (h : IsResolved s.p
 
   -- ---- receivers
 
-  holder_fits : (f : ℕ) (e : FieldIs p s.tables.now d f) (k : Kind) → name.fits (named p) k (field_at p f).class ≡ true → fits s.tables.now (numbered p k) (field_class p f) ≡ true
-  holder_fits f e k g = fits_back p s.tables.now d k (field_class p f) (subst (λ v. name.fits (named p) k v ≡ true) (sym (field_class_is p s.tables.now d f e)) g)
+  holder_fits : (f : ℕ) (e : FieldIs p s.tables.now d f) (k : Kind) → name.fits_holder (named p) k (field_at p f).class ≡ true → fits_holder s.tables.now (numbered p k) (field_class p f) ≡ true
+  holder_fits f e k g = fits_holder_back p s.tables.now d k (field_class p f) (subst (λ v. name.fits_holder (named p) k v ≡ true) (sym (field_class_is p s.tables.now d f e)) g)
+
+  pub met_receiver : (r f : ℕ) → FieldIs p s.tables.now d f → Meets r (Receiver (field_at p f).class) → fits_holder s.tables.now (kind_at numbers r) (field_class p f) ≡ true
+  met_receiver r f x e = at (λ k. fits_holder s.tables.now k (field_class p f)) r (holder_fits f x (by_name.kind_at ks r) e)
 
   holder_back : (f : ℕ) (e : FieldIs p s.tables.now d f) (k : Kind) → asked.holds_field (named p) (named_class p c) (field_at p f) k ≡ true → is_holder s (numbered p k) f ≡ true
   holder_back f e FreshThis g = defines_back s d h c own f e g
-  holder_back f e (ClassKind u) g = for_class p (λ x. fits s.tables.now x (field_class p f) ≡ true → is_holder s x f ≡ true) u (λ x. x) (λ c x. x) (holder_fits f e (ClassKind u) g)
-  holder_back f e (Array u) g = for_array p (λ x. fits s.tables.now x (field_class p f) ≡ true → is_holder s x f ≡ true) u (λ x. x) (λ n i x. x) (holder_fits f e (Array u) g)
+  holder_back f e (ClassKind u) g = for_class p (λ x. fits_holder s.tables.now x (field_class p f) ≡ true → is_holder s x f ≡ true) u (λ x. x) (λ c x. x) (holder_fits f e (ClassKind u) g)
+  holder_back f e (Array u) g = for_array p (λ x. fits_holder s.tables.now x (field_class p f) ≡ true → is_holder s x f ≡ true) u (λ x. x) (λ n i x. x) (holder_fits f e (Array u) g)
   holder_back f e k g = holder_fits f e k g
 
   pub met_holder : (f r : ℕ) → FieldIs p s.tables.now d f → Meets r (Holder (field_at p f)) → is_holder s (kind_at numbers r) f ≡ true

@@ -47,7 +47,7 @@ use Rattle.type_bridge.proofs.Members.{field_is, method_is}
 use Rattle.type_bridge.proofs.Numbers.{kind_is}
 use Rattle.type_bridge.proofs.Told.{Told}
 use Rattle.type_bridge.proofs.Texts.{Sorts, sorts, item_sorts, class_by_text, class_unit, text_of_type, index_map, base_is}
-use Rattle.type_bridge.proofs.Wrong.{or_none, none_or, untrue, result_same, unmade, access_same, call_same}
+use Rattle.type_bridge.proofs.Wrong.{or_none, none_or, untrue, result_same, unmade, access_same, static_get_same, call_same}
 
 -- ---- letters
 
@@ -176,7 +176,7 @@ module _ (s : Setting) (c : Class) (m : Method) (i : IsSet s c m) (n : ℕ) (a :
   right_back (insn.FilledNewArray type args) f g e = ap not (filled_back type (shape_of s.tables.now type) (sorts p s.tables.now i.told type) e)
   right_back (insn.InstanceGet x to on field) f g e = sym (access_same s c m i n (kinds_numbered p a) false x field (field_is p s.tables.now i.told field (get_fits p x to on field f))) ∙ e
   right_back (insn.InstancePut x from on field) f g e = sym (access_same s c m i n (kinds_numbered p a) false x field (field_is p s.tables.now i.told field (put_fits p x from on field f))) ∙ e
-  right_back (insn.StaticGet x to field) f g e = sym (access_same s c m i n (kinds_numbered p a) true x field (field_is p s.tables.now i.told field (static_get_fits p x to field f))) ∙ e
+  right_back (insn.StaticGet x to field) f g e = sym (static_get_same s c m i n (kinds_numbered p a) x field (field_is p s.tables.now i.told field (static_get_fits p x to field f))) ∙ e
   right_back (insn.StaticPut x from field) f g e = sym (access_same s c m i n (kinds_numbered p a) true x field (field_is p s.tables.now i.told field (static_put_fits p x from field f))) ∙ e
   right_back (insn.Invoke k q args) f g e = call_same s c m i n (kinds_numbered p a) k q args (method_is p s.tables.now i.told q (invoke_fits p k q args f)) g ∙ e
   right_back x f g e = refl

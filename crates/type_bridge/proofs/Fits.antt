@@ -1,7 +1,7 @@
 -- A kind that fits a type fits it by name.
 use Rattle.std.proofs.Common.{◌≡◌, ℕ, zero, suc, ◌-◌, Bool, true, false, true≢false, nat_eq, [], Option, Some, None, refl, sym, ap, ◌∙◌, subst, arith, lt-ltb}
 use Rattle.std.specs.Prelude.{◌&&◌, ◌||◌, not, slice_get, nat_lt, if◌then◌else◌}
-use Rattle.class_defs.proofs.Positions.{number_of}
+use Rattle.class_defs.proofs.Positions.{number_of, both}
 use Rattle.class_defs.proofs.WellFormed.{and_left, and_right}
 use Rattle.program_model.specs.declared.program.Class.{Class}
 use Rattle.program_model.specs.declared.program.Program.{Program}
@@ -17,7 +17,7 @@ use Rattle.verify.specs.declared.kinds.Kind.TheVariants as kind
 use Rattle.verify.specs.declared.shapes.Shape.{Shape}
 use Rattle.verify.specs.declared.shapes.Shape.TheVariants as shape
 use Rattle.verify.specs.declared.tables.Tables.{Tables}
-use Rattle.verify.specs.Fits.{is_below_class, class_fits, reference_fits, item_fits, array_fits, fits_array, fits_shape, fits, stored_item, fits_item_of, fits_item}
+use Rattle.verify.specs.Fits.{is_below_class, class_fits, reference_fits, item_fits, array_fits, fits_array, fits_shape, fits, fits_holder, stored_item, fits_item_of, fits_item}
 use Rattle.verify.specs.Kinds as kinds
 use Rattle.verify.specs.Kinds.{same_number}
 use Rattle.verify.specs.Meeting.{is_settled}
@@ -27,7 +27,7 @@ use Rattle.verify.proofs.Descriptions.{text_same}
 use Rattle.verify.proofs.Lattice.{number_is}
 use Rattle.type_bridge.specs.Views.{item_text, class_kind, kind_named}
 use Rattle.type_bridge.proofs.Told.{Told}
-use Rattle.type_bridge.proofs.Texts.{depth_of, base_under, item_bare, ClassText, class_text, Sorts, sorts, item_sorts, item_class}
+use Rattle.type_bridge.proofs.Texts.{depth_of, base_under, item_bare, ClassText, class_text, Sorts, sorts, item_sorts, item_class, interface_same}
 use Rattle.type_bridge.proofs.Order.{made_named, class_over, near_texts}
 
 -- an array of more than one dimension
@@ -266,3 +266,21 @@ module _ (p : Program) (t : Tables) (d : Told p t) where
   pub stored_named : (n : ℕ) (i : Option ℕ) → item_of_type (text.item_of (arrays_of (suc n) (item_text p i))) ≡ stored_item t (suc n) i
   stored_named zero i = (item_sorts p t d i).stored
   stored_named (suc n) i = sym (ap (λ b. if b then item.Object else shapes.stored (item_shape t i)) (deeper n))
+
+  -- ---- the receiver of a field's get or put
+
+  null_named : (k : number.Kind) → kinds.is_null k ≡ true → name.is_null (kind_named p k) ≡ true
+  null_named kind.Zero e = refl
+  null_named kind.Null e = refl
+  null_named k e = absurd (true≢false (sym e))
+
+  pub holder_named : (k : number.Kind) (type : ℕ) → fits_holder t k type ≡ true → name.fits_holder (named p) (kind_named p k) (type_at p type) ≡ true
+  holder_named k type e =
+      let rest = not (shapes.is_program_interface (shape_of t type)) || kinds.is_null k in
+      both (name.fits (named p) (kind_named p k) (type_at p type)) (not (name.is_program_interface (named p) (type_at p type)) || name.is_null (kind_named p k))
+      (fits_named k type (and_left (fits t k type) rest e))
+      (ap (λ b. not b || name.is_null (kind_named p k)) (interface_same p t d (type_at p type) (shape_of t type) (sorts p t d type)) ∙ by (shapes.is_program_interface (shape_of t type)) (and_right (fits t k type) rest e))
+    where
+      by : (b : Bool) → (not b || kinds.is_null k) ≡ true → (not b || name.is_null (kind_named p k)) ≡ true
+      by true e = null_named k e
+      by false e = refl

@@ -31,13 +31,14 @@ use Rattle.verify.specs.Entry.{begun}
 use Rattle.verify.specs.Flow.{place_at}
 use Rattle.verify.specs.Frames.{Kinds, kind_at}
 use Rattle.verify.specs.Kinds as kinds
+use Rattle.verify.specs.Kinds.{is_null}
 use Rattle.verify.specs.Methods.{constructs, receiver_of, IsFor, HasTyping, TypesFor}
 use Rattle.verify.specs.Names.{parameters_of}
 use Rattle.verify.specs.Supers.{Finds}
 use Rattle.verify.specs.Types.{shape_of, kind_of, kind_of_shape, kind_of_class}
 use Rattle.verify.specs.Typings.{Below, IsBelow, AtMost, Table, IsUnder, IsLeastTyping}
 use Rattle.verify.proofs.Lattice.{joins, alike, numbers, objects, apart}
-use Rattle.verify.proofs.Orders.{Under, itself, unknown, word, empty, any, classes, items, deep, under, bare_below, is_null}
+use Rattle.verify.proofs.Orders.{Under, itself, unknown, word, empty, any, classes, items, deep, under, bare_below}
 use Rattle.verify.proofs.Raises.{below_itself, below_on}
 use Rattle.verify.proofs.Ranks.{lattice_of}
 use Rattle.verify.proofs.Throws.{below_undefined}

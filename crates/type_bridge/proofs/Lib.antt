@@ -13,6 +13,7 @@ pub mod BackWrong
 pub mod Bodies
 pub mod Edges
 pub mod Entries
+pub mod FirstValues
 pub mod Fits
 pub mod Flows
 pub mod Frames

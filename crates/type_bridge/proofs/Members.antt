@@ -46,6 +46,7 @@ use Rattle.verify.specs.Supers as supers
 use Rattle.verify.specs.Types.{is_constructor}
 use Rattle.verify.specs.Wrong as wrong
 use Rattle.verify.proofs.Descriptions.{text_same as same_text}
+use Rattle.type_bridge.proofs.FirstValues.{first_same}
 use Rattle.type_bridge.proofs.Told.{Told}
 
 got_map : {X Y : Type 0} (f : X → Y) (xs : List X) (i : ℕ) (x : X) → slice_get xs i ≡ Some x → slice_get (map f xs) i ≡ Some (f x)
@@ -200,6 +201,27 @@ module _ (s : Setting) (d : Told s.program.now s.tables.now) (h : IsResolved s.p
       ap (λ o. wrong.differ static (option_and_then (λ at. wrong.static_at s at.0 at.1) o)) (field_target f e)
       ∙ field_flag static (finding.resolves_field s.program.now f)
       ∙ sym (ap (λ o. elim o as (λ o. Bool) [ Some f ↦ typed.differ static (remainder.is_static f.1.flags) | None ↦ false ]) (field_resolves_by_number s.program.now d.sound f e.small))
+
+  -- what a field has first, to which a name resolves
+  field_first : (o : Option (ℕ × ℕ)) → elim o as (λ o. Bool) [ Some at ↦ wrong.begins_at s at.0 at.1 | None ↦ false ]
+      ≡ elim (option_and_then (field_at_place s.program.now) o) as (λ o. Bool) [ Some f ↦ typed.begins_as_text_or_type f.1 | None ↦ false ]
+  field_first None = refl
+  field_first (Some at) = by_class (slice_get s.program.now.classes at.0)
+    where
+      by_field : (k : Class) (o : Option Field) → wrong.begins_in o ≡ elim (field_there s.program.now k o) as (λ o. Bool) [ Some f ↦ typed.begins_as_text_or_type f.1 | None ↦ false ]
+      by_field k None = refl
+      by_field k (Some f) = sym (first_same s.program.now f.first)
+
+      by_class : (o : Option Class) → elim o as (λ o. Bool) [ Some k ↦ wrong.begins_in (slice_get k.fields at.1) | None ↦ false ] ≡ elim (field_of s.program.now at.1 o) as (λ o. Bool) [ Some f ↦ typed.begins_as_text_or_type f.1 | None ↦ false ]
+      by_class None = refl
+      by_class (Some k) = by_field k (slice_get k.fields at.1)
+
+  pub field_begins : (f : ℕ) → FieldIs s.program.now s.tables.now d f → wrong.begins_as_text_or_type s f
+      ≡ elim (finds_field (named s.program.now) (field_at s.program.now f)) as (λ o. Bool) [ Some f ↦ typed.begins_as_text_or_type f.1 | None ↦ false ]
+  field_begins f e =
+      ap (λ o. elim o as (λ o. Bool) [ Some at ↦ wrong.begins_at s at.0 at.1 | None ↦ false ]) (field_target f e)
+      ∙ field_first (finding.resolves_field s.program.now f)
+      ∙ sym (ap (λ o. elim o as (λ o. Bool) [ Some f ↦ typed.begins_as_text_or_type f.1 | None ↦ false ]) (field_resolves_by_number s.program.now d.sound f e.small))
 
   method_flag : (static : Bool) (o : Option MethodAt) → wrong.differ static (option_and_then (λ at. wrong.is_static_of (look.method_at s.program.now at)) o)
       ≡ elim (option_and_then (found_at s.program.now) o) as (λ o. Bool) [ Some g ↦ typed.differ static (remainder.is_static g.flags) | None ↦ false ]

@@ -22,11 +22,12 @@ use Rattle.verify.specs.Descriptors.{class_named}
 use Rattle.verify.specs.Joins as joins
 use Rattle.verify.specs.Joins.{nearest_place}
 use Rattle.verify.specs.Kinds as kinds
+use Rattle.verify.specs.Kinds.{is_null}
 use Rattle.verify.specs.Typings.{Below}
 use Rattle.verify.proofs.Chained as chained
 use Rattle.verify.proofs.Descriptions.{text_same}
 use Rattle.verify.proofs.Fitting.{AreItems, are_items}
-use Rattle.verify.proofs.Orders.{Under, itself, unknown, word, empty, any, classes, items, deep, under, is_null, number_below}
+use Rattle.verify.proofs.Orders.{Under, itself, unknown, word, empty, any, classes, items, deep, under, number_below}
 use Rattle.type_bridge.specs.Views.{item_text, class_kind, array_kind, kind_named}
 use Rattle.type_bridge.proofs.Lines.{above_class, placed_at, nearest_is, nearest_none}
 use Rattle.type_bridge.proofs.Told.{Told}

@@ -24,7 +24,7 @@ use Rattle.verify.specs.declared.tables.Tables.{Tables}
 use Rattle.verify.specs.Demands as demands
 use Rattle.verify.specs.Demands.{unless, lower}
 use Rattle.verify.specs.Faults.{fault_of}
-use Rattle.verify.specs.Fits.{fits}
+use Rattle.verify.specs.Fits.{fits_holder}
 use Rattle.verify.specs.Frames.{Kinds, kind_at}
 use Rattle.verify.specs.Kinds as kinds
 use Rattle.verify.specs.Names.{field_kind, field_class}
@@ -40,8 +40,8 @@ use Rattle.type_bridge.proofs.Back.{numbered}
 use Rattle.type_bridge.proofs.BackFrames.{kinds_numbered, low_back, number_back, made_back}
 use Rattle.type_bridge.proofs.BackWrong.{right_back}
 use Rattle.type_bridge.proofs.Grounds.{IsSet, get_fits, put_fits, static_put_fits, invoke_fits, result_named}
-use Rattle.type_bridge.proofs.Members.{field_is, field_kind_is, field_class_is, method_is}
-use Rattle.type_bridge.proofs.Unmet.{left_of, right_of, either_lower, unmet_by, Unmet, one, two, rest, down_number, down_made, down_fits, down_wide, down_type, down_slot, down_item, down_tested, down_tested_with, down_array, down_filled, down_any_array, down_holder, items_unmet, call_unmet}
+use Rattle.type_bridge.proofs.Members.{field_is, field_kind_is, method_is}
+use Rattle.type_bridge.proofs.Unmet.{left_of, right_of, either_lower, unmet_by, Unmet, one, two, rest, down_number, down_made, down_receiver, down_wide, down_type, down_slot, down_item, down_tested, down_tested_with, down_array, down_filled, down_any_array, down_holder, items_unmet, call_unmet}
 use Rattle.type_bridge.proofs.Wrong.{or_none, untrue, right}
 
 module _ (s : Setting) (c : Class) (m : Method) (i : IsSet s c m) (n : ℕ) (a : Kinds) where
@@ -141,7 +141,7 @@ module _ (s : Setting) (c : Class) (m : Method) (i : IsSet s c m) (n : ℕ) (a :
     refused_named (insn.Unary op to from) f g w r e = single (demands.is_number_or_pair (unary_reads_wide op) a.registers from) from r (asked.number_or_pair (unary_reads_wide op)) (down_wide s i.told i.resolved c i.class a.registers up.registers (unary_reads_wide op) from) e
     refused_named (insn.InstanceGet x to on field) f g w r e =
         let k = field_is p t i.told field (get_fits p x to on field f) in
-        single (fits t (kind_at a.registers on) (field_class p field)) on r (asked.Fits (field_at p field).class) (down_fits s i.told i.resolved c i.class a.registers up.registers on (field_class p field) (field_at p field).class (field_class_is p t i.told field k)) e
+        single (fits_holder t (kind_at a.registers on) (field_class p field)) on r (asked.Receiver (field_at p field).class) (down_receiver s i.told i.resolved c i.class a.registers up.registers on field k) e
     refused_named (insn.StaticPut x from field) f g w r e =
         let k = field_is p t i.told field (static_put_fits p x from field f) in
         single (is_of_type s a.registers from (field_kind p field)) from r (asked.of_type (field_at p field).kind) (down_type s i.told i.resolved c i.class a.registers up.registers from (field_kind p field) (field_at p field).kind (field_kind_is p t i.told field k)) e

@@ -23,6 +23,7 @@ use Rattle.dalvik_defs.specs.Items.{small_item, item_of_type}
 use Rattle.insn_set.specs.declared.ops.Item.TheVariants as item
 use Rattle.dalvik_defs.specs.Naming.{text_at, type_at, named_class, named}
 use Rattle.dalvik_defs.specs.Under as name
+use Rattle.dalvik_defs.specs.declared.program.NamedClass.{NamedClass}
 use Rattle.name_bridge.specs.Named.{class_at}
 use Rattle.name_bridge.proofs.Flags.{interface_flag}
 use Rattle.name_bridge.proofs.Found.{text_same, type_same}
@@ -350,6 +351,50 @@ module _ (p : Program) (t : Tables) (d : Told p t) where
       by (Some c) f =
           let r = class_text p d.well u c f in
           absurd (true≢false (sym (number_test (first_unit u) 76 (ap first_unit (sym r.named) ∙ class_unit c r.class r.is)) ∙ e))
+
+  -- a text that a class has is a class type
+  class_letter : (u : Text) → first_unit u ≡ 76 → text.is_class_type u ≡ true
+  class_letter [] e = absurd (cc)
+  class_letter (v ∷ us) e = number_test v 76 e
+
+  placed_letter : (u : Text) (c : ℕ) → class_named p u ≡ Some c → text.is_class_type u ≡ true
+  placed_letter u c e = let r = class_text p d.well u c e in class_letter u (ap first_unit (sym r.named) ∙ class_unit c r.class r.is)
+
+  abbrev interface_of : Option NamedClass → Bool
+  interface_of o = elim o as (λ o. Bool) [ Some c ↦ remainder.is_interface c.flags | None ↦ false ]
+
+  abbrev plain_of : Option NamedClass → Bool
+  plain_of o = elim o as (λ o. Bool) [ Some c ↦ not (remainder.is_interface c.flags) | None ↦ false ]
+
+  -- a program interface by its type
+  pub interface_same : (u : Text) (s : Shape) → Sorts p u s → kinds.is_program_interface (named p) u ≡ shapes.is_program_interface s
+  interface_same u s w = by s w
+    where
+      turned : (a b : Bool) → not a ≡ b → a ≡ not b
+      turned true b e = ap not e
+      turned false b e = ap not e
+
+      there : (c : ℕ) (b : Bool) → Sorts p u (shape.Class (Some c) b) → kinds.is_program_interface (named p) u ≡ not b
+      there c b w =
+          let r = class_text p d.well u c (w.placed c refl) in
+          let named_is : name.class_named (named p) u ≡ Some (named_class p r.class) = class_by_text p d.well u ∙ ap (option_and_then (class_at p)) (w.placed c refl) ∙ ap (option_map (named_class p)) r.is in
+          ap interface_of named_is ∙ turned (remainder.is_interface r.class.flags.0) b (sym (ap plain_of named_is) ∙ w.plain)
+
+      missing : (s : Shape) → Sorts p u s → shapes.place_of s ≡ None → kinds.is_program_interface (named p) u ≡ false
+      missing s w e = ap interface_of (class_by_text p d.well u ∙ ap (option_and_then (class_at p)) (none (class_named p u) refl))
+        where
+          none : (o : Option ℕ) → class_named p u ≡ o → class_named p u ≡ None
+          none None f = f
+          none (Some c) f = w.unplaced e (placed_letter u c f)
+
+      by : (s : Shape) → Sorts p u s → kinds.is_program_interface (named p) u ≡ shapes.is_program_interface s
+      by (shape.Class (Some c) b) w = there c b w
+      by (shape.Class None b) w = missing (shape.Class None b) w refl
+      by shape.Void w = missing shape.Void w refl
+      by shape.Int w = missing shape.Int w refl
+      by (shape.Word x) w = missing (shape.Word x) w refl
+      by shape.Wide w = missing shape.Wide w refl
+      by (shape.Array n j) w = missing (shape.Array n j) w refl
 
   abbrev SortsBase : Text → ℕ → Type 0
   SortsBase us v = IsBase (v ∷ us) → Sorts p (v ∷ us) (base_shape p (v ∷ us))

@@ -18,7 +18,7 @@ use Rattle.dalvik_defs.specs.Names as text
 use Rattle.dalvik_defs.specs.Names.{Text}
 use Rattle.dalvik_defs.specs.Naming.{type_at, field_at, method_at, named_class, named}
 use Rattle.pass_defs.specs.Demands as asked
-use Rattle.pass_defs.specs.Demands.{Demand, Number, Pair, Behind, Initialised, Either, Fits, Holder, Constructed, AnArray, ArrayOf, Filled, number_or_pair, of_type}
+use Rattle.pass_defs.specs.Demands.{Demand, Number, Pair, Behind, Initialised, Either, Fits, Receiver, Holder, Constructed, AnArray, ArrayOf, Filled, number_or_pair, of_type}
 use Rattle.pass_defs.specs.Kinds as name
 use Rattle.pass_defs.specs.Registers as by_name
 use Rattle.verify.specs.declared.calls.Search.{Search}
@@ -29,16 +29,16 @@ use Rattle.verify.specs.declared.setting.Setting.{Setting}
 use Rattle.verify.specs.declared.tables.Tables.{Tables}
 use Rattle.verify.specs.Demands as demands
 use Rattle.verify.specs.Demands.{unless, lower, lower_than}
-use Rattle.verify.specs.Fits.{fits, fits_item}
+use Rattle.verify.specs.Fits.{fits, fits_holder, fits_item}
 use Rattle.verify.specs.Frames.{kind_at, is_pair}
 use Rattle.verify.specs.Kinds as kinds
-use Rattle.verify.specs.Names.{method_class, parameters_of}
+use Rattle.verify.specs.Names.{field_class, method_class, parameters_of}
 use Rattle.verify.specs.Reads as reads
 use Rattle.verify.specs.Reads.{is_of_type, is_holder, is_receiver, is_constructed, is_array_of, is_array_filled, refused_from, refused_arguments, refused_received, refused_call, refused_items_from, refused_items, found_at, fits_search}
 use Rattle.verify.specs.Shapes as shapes
 use Rattle.verify.specs.Supers as supers
 use Rattle.verify.specs.Types.{shape_of, is_constructor}
-use Rattle.verify.proofs.Fitting.{fits_below, fits_item_below}
+use Rattle.verify.proofs.Fitting.{fits_below, holder_fits_below, fits_item_below}
 use Rattle.verify.proofs.Holding.{Each, number_or_pair_below, movable_below, tested_below, item_kind_below, of_type_below, holder_below, constructed_below, array_of_below, filled_below, any_array_below}
 use Rattle.verify.proofs.Orders.{number_below, made_below}
 use Rattle.type_bridge.specs.Views.{class_kind, kind_named}
@@ -46,7 +46,7 @@ use Rattle.type_bridge.proofs.Asked.{equality_same}
 use Rattle.type_bridge.proofs.Back.{numbered}
 use Rattle.type_bridge.proofs.BackFits.{fits_item_back}
 use Rattle.type_bridge.proofs.BackFrames.{at_back}
-use Rattle.type_bridge.proofs.BackReads.{met_number, met_made, met_fits, met_wide, met_type, met_slot, met_item, met_tested, met_array, met_filled, met_any_array, met_holder, met_constructed}
+use Rattle.type_bridge.proofs.BackReads.{met_number, met_made, met_fits, met_wide, met_type, met_slot, met_item, met_tested, met_array, met_filled, met_any_array, met_receiver, met_holder, met_constructed}
 use Rattle.type_bridge.proofs.Frames.{at_named}
 use Rattle.type_bridge.proofs.Members.{MethodIs, FieldIs, method_class_is, method_class_small, parameters_is, constructor_is, SameFound, found_same}
 use Rattle.type_bridge.proofs.Texts.{sorts}
@@ -187,6 +187,9 @@ module _ (s : Setting) (d : Told s.program.now s.tables.now) (h : IsResolved s.p
 
     pub down_any_array : (r : ℕ) → Meets r AnArray → demands.is_any_array (kind_at ks r) ≡ true
     down_any_array r e = any_array_below t d.meets (kind_at ks r) (kind_at numbers r) (up r) (met_any_array s d h c own names r e)
+
+    pub down_receiver : (r f : ℕ) → FieldIs p t d f → Meets r (Receiver (field_at p f).class) → fits_holder t (kind_at ks r) (field_class p f) ≡ true
+    down_receiver r f e g = holder_fits_below t d.meets (kind_at ks r) (kind_at numbers r) (field_class p f) (up r) (met_receiver s d h c own names r f e g)
 
     pub down_holder : (f r : ℕ) → FieldIs p t d f → Meets r (Holder (field_at p f)) → is_holder s (kind_at ks r) f ≡ true
     down_holder f r e g = holder_below s d.meets (kind_at ks r) (kind_at numbers r) f (up r) (met_holder s d h c own names f r e g)

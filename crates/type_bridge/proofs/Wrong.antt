@@ -41,13 +41,13 @@ use Rattle.verify.specs.Shapes as shapes
 use Rattle.verify.specs.Supers as supers
 use Rattle.verify.specs.Supers.{super_search}
 use Rattle.verify.specs.Types.{shape_of, item_shape, proto_words, is_constructor}
-use Rattle.verify.specs.Wrong.{differ, static_field, static_method, wrong_item, wrong_access, is_static_call, finds_static, wrong_super, parameter_words, passed_words, wrong_call, is_unmade, wrong_instance, wrong_result, ends_early, is_wrong}
+use Rattle.verify.specs.Wrong.{differ, static_field, static_method, wrong_item, wrong_access, begins_as_text_or_type, wrong_first, is_static_call, finds_static, wrong_super, parameter_words, passed_words, wrong_call, is_unmade, wrong_instance, wrong_result, ends_early, is_wrong}
 use Rattle.type_bridge.specs.Views.{receiver_named, kinds_named}
 use Rattle.type_bridge.proofs.Texts.{Sorts, sorts, item_sorts, class_by_text, is_int}
 use Rattle.type_bridge.proofs.Order.{same_kind}
 use Rattle.type_bridge.proofs.Frames.{made_receiver}
 use Rattle.type_bridge.proofs.Fits.{no_array, array_text}
-use Rattle.type_bridge.proofs.Members.{FieldIs, field_is, field_kind_is, field_flags, MethodIs, method_is, constructor_is, method_flags, signature_is, found_same}
+use Rattle.type_bridge.proofs.Members.{FieldIs, field_is, field_kind_is, field_flags, field_begins, MethodIs, method_is, constructor_is, method_flags, signature_is, found_same}
 use Rattle.type_bridge.proofs.Grounds.{IsSet, filled_type_fits, get_fits, put_fits, static_get_fits, static_put_fits, invoke_fits, constructs_is, result_named, result_small}
 use Rattle.type_bridge.proofs.Spelled.{void_text, int_array, words_are}
 
@@ -120,6 +120,22 @@ module _ (s : Setting) (c : Class) (m : Method) (i : IsSet s c m) (n : ℕ) (a :
   access : (static : Bool) (x : Item) (f : ℕ) → FieldIs s.program.now s.tables.now i.told f → wrong_access s static x f ≡ false
       → (typed.wrong_item x (field_at s.program.now f).kind || typed.wrong_field (named s.program.now) static (field_at s.program.now f)) ≡ false
   access static x f e h = access_same static x f e ∙ h
+
+  pub first_same : (f : ℕ) → FieldIs s.program.now s.tables.now i.told f → typed.wrong_first (named s.program.now) (field_at s.program.now f) ≡ wrong_first s f
+  first_same f e =
+      let k = field_kind s.program.now f in
+      let w = sorts s.program.now s.tables.now i.told k in
+      ap (λ b. (text.is_array (field_at s.program.now f).kind || name.is_plain (named s.program.now) (field_at s.program.now f).kind) && b) (sym (field_begins s i.told i.resolved f e))
+      ∙ ap (λ u. (text.is_array u || name.is_plain (named s.program.now) u) && begins_as_text_or_type s f) (sym (field_kind_is s.program.now s.tables.now i.told f e))
+      ∙ ap (λ b. (b || name.is_plain (named s.program.now) (type_at s.program.now k)) && begins_as_text_or_type s f) w.array
+      ∙ ap (λ b. (shapes.is_array (shape_of s.tables.now k) || b) && begins_as_text_or_type s f) w.plain
+
+  pub static_get_same : (x : Item) (f : ℕ) → FieldIs s.program.now s.tables.now i.told f
+      → (typed.wrong_item x (field_at s.program.now f).kind || typed.wrong_field (named s.program.now) true (field_at s.program.now f) || typed.wrong_first (named s.program.now) (field_at s.program.now f))
+      ≡ (wrong_access s true x f || wrong_first s f)
+  static_get_same x f e =
+      ap (λ b. b || typed.wrong_first (named s.program.now) (field_at s.program.now f)) (access_same true x f e)
+      ∙ ap (λ b. wrong_access s true x f || b) (first_same f e)
 
   -- ---- new objects
 
@@ -228,7 +244,7 @@ module _ (s : Setting) (c : Class) (m : Method) (i : IsSet s c m) (n : ℕ) (a :
   right (insn.FilledNewArray type args) f g e = filled_of type (shape_of s.tables.now type) (filled_type_fits s.program.now type args f) (sorts s.program.now s.tables.now i.told type) (untrue _ e)
   right (insn.InstanceGet x to on field) f g e = access false x field (field_is s.program.now s.tables.now i.told field (get_fits s.program.now x to on field f)) e
   right (insn.InstancePut x from on field) f g e = access false x field (field_is s.program.now s.tables.now i.told field (put_fits s.program.now x from on field f)) e
-  right (insn.StaticGet x to field) f g e = access true x field (field_is s.program.now s.tables.now i.told field (static_get_fits s.program.now x to field f)) e
+  right (insn.StaticGet x to field) f g e = static_get_same x field (field_is s.program.now s.tables.now i.told field (static_get_fits s.program.now x to field f)) ∙ e
   right (insn.StaticPut x from field) f g e = access true x field (field_is s.program.now s.tables.now i.told field (static_put_fits s.program.now x from field f)) e
   right (insn.Invoke k q args) f g e = sym (call_same k q args (method_is s.program.now s.tables.now i.told q (invoke_fits s.program.now k q args f)) g) ∙ e
   right x f g e = refl

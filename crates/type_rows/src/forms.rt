@@ -1,7 +1,7 @@
 //! Instructions of the rows, as constants can hold them.
 
 use program_model::{BinaryOp, Insn, InvokeKind, Item, Slot, Test};
-use seq::Words;
+use seq::{Seq, Words};
 use std::alloc::{AllocError, Global};
 
 /// An instruction of a row. Its numbers are registers, then the number of a type, a field, a method or a position.
@@ -15,9 +15,11 @@ pub enum Form {
     AddsWides(u16, u16, u16),
     ReadsStatic(Item, u16, u32),
     Reads(Item, u16, u16, u32),
+    Writes(Item, u16, u16, u32),
     Makes(u16, u32),
     MakesArray(u16, u16, u32),
     Fills(u32, &'static [u16]),
+    FillsTable(u16, u8),
     Calls(InvokeKind, u32, &'static [u16]),
     Branches(u16, u32),
     Returns(Slot, u16),
@@ -52,6 +54,12 @@ fn plain(form: Form) -> Insn {
         Form::AddsWides(to, a, b) => adds(BinaryOp::AddLong, to, a, b),
         Form::ReadsStatic(item, to, field) => reads(item, to, None, field),
         Form::Reads(item, to, on, field) => reads(item, to, Some(on), field),
+        Form::Writes(item, from, on, field) => Insn::InstancePut {
+            item,
+            from,
+            on,
+            field,
+        },
         Form::Makes(to, kind) => Insn::NewInstance { to, kind },
         Form::MakesArray(to, size, kind) => Insn::NewArray { to, size, kind },
         Form::Branches(a, target) => Insn::IfZero {
@@ -71,6 +79,11 @@ pub fn insn(alloc: Global, form: Form) -> Result<Insn, AllocError> {
         Form::Fills(kind, args) => Ok(Insn::FilledNewArray {
             kind,
             args: Words::of_slice(alloc, args)?,
+        }),
+        Form::FillsTable(on, width) => Ok(Insn::FillArray {
+            on,
+            width,
+            items: Seq::new(alloc),
         }),
         Form::Calls(kind, method, args) => Ok(Insn::Invoke {
             kind,

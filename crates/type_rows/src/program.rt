@@ -3,13 +3,14 @@
 use crate::forms::{Form, insn};
 use dex_base::Text;
 use program_model::{
-    Body, Class, Field, FieldName, Flags, Insn, Method, MethodName, Program, Proto, Version,
+    Body, Class, EncValue, Field, FieldName, Flags, Insn, Method, MethodName, Program, Proto,
+    Version,
 };
 use seq::Seq;
 use std::alloc::{AllocError, Global};
 
-/// The strings in their order. The types are strings 1 to 9, so type `LA;` has the number 2.
-const STRINGS: [&str; 16] = [
+/// The strings in their order. The types are strings 1 to 10, so type `LA;` has the number 2.
+const STRINGS: [&str; 17] = [
     "<init>",
     "I",
     "J",
@@ -20,6 +21,7 @@ const STRINGS: [&str; 16] = [
     "V",
     "[I",
     "[J",
+    "[LA;",
     "a",
     "b",
     "c",
@@ -31,18 +33,29 @@ const STRINGS: [&str; 16] = [
 /// `()I` and `()V`: shorty and result.
 const PROTOS: [(u32, u32); 2] = [(1, 0), (7, 6)];
 
-/// `LA;->a:I`, which is static, `LA;->b:I` and `LA;->c:J`, which are not: type, name and flags.
-const FIELDS: [(u32, u32, u32); 3] = [(0, 10, 9), (0, 11, 1), (1, 12, 1)];
+/// `LA;->a:I`, which is static, `LA;->b:I` and `LA;->c:J`, which are not, the static `LA;->d:[I` and `LA;->e:[I`, and
+/// `LI;->a:I`, which is not: class, type, name and flags.
+const FIELDS: [(u32, u32, u32, u32); 6] = [
+    (2, 0, 11, 9),
+    (2, 0, 12, 1),
+    (2, 1, 13, 1),
+    (2, 7, 14, 9),
+    (2, 7, 15, 9),
+    (4, 0, 11, 1),
+];
+
+/// The field that has a text first, and that text.
+const TEXT_FIELD: (u32, u32) = (3, 11);
 
 /// `LA;-><init>()V`, the static `LA;->d()V` and `LA;->e()I`, `LA;->f()V`, `Ljava/lang/Object;-><init>()V` and
 /// `Ljava/lang/Object;->f()V`: class, name and proto.
 const METHODS: [(u32, u32, u32); 6] = [
     (2, 0, 1),
-    (2, 13, 1),
-    (2, 14, 0),
-    (2, 15, 1),
+    (2, 14, 1),
+    (2, 15, 0),
+    (2, 16, 1),
     (5, 0, 1),
-    (5, 15, 1),
+    (5, 16, 1),
 ];
 
 /// The flags of the methods of `LA;`.
@@ -108,19 +121,44 @@ fn class_of(alloc: Global, name: u32, flags: u32) -> Class {
     }
 }
 
-/// `LA;`, in which this method has this code.
-fn tested_class(alloc: Global, method: u32, code: &[Form]) -> Result<Class, AllocError> {
-    let mut class = class_of(alloc, 2, 1);
+fn field_of(alloc: Global, name: u32, flags: Flags) -> Field {
+    let (begins, text) = TEXT_FIELD;
+    Field {
+        name,
+        flags,
+        first: if name == begins {
+            Some(EncValue::Str(text))
+        } else {
+            None
+        },
+        marks: Seq::new(alloc),
+    }
+}
+
+/// Gives a class its static fields, or the others.
+fn add_fields(alloc: Global, class: &mut Class, is_static: bool) -> Result<(), AllocError> {
     let mut number: u32 = 0;
-    for (_, _, flags) in &FIELDS {
-        class.fields.push(Field {
-            name: number,
-            flags: Flags(*flags),
-            first: None,
-            marks: Seq::new(alloc),
-        })?;
+    for (owner, _, _, flags) in &FIELDS {
+        let flags = Flags(*flags);
+        if *owner == class.name && flags.has(Flags::STATIC) == is_static {
+            class.fields.push(field_of(alloc, number, flags))?;
+        }
         number = number.saturating_add(1);
     }
+    Ok(())
+}
+
+/// A class with its fields, the static ones first.
+fn class_with_fields(alloc: Global, name: u32, flags: u32) -> Result<Class, AllocError> {
+    let mut class = class_of(alloc, name, flags);
+    add_fields(alloc, &mut class, true)?;
+    add_fields(alloc, &mut class, false)?;
+    Ok(class)
+}
+
+/// `LA;`, in which this method has this code.
+fn tested_class(alloc: Global, method: u32, code: &[Form]) -> Result<Class, AllocError> {
+    let mut class = class_with_fields(alloc, 2, 1)?;
     let mut number: u32 = 0;
     for (flags, own) in FLAGS.iter().zip(CODE.iter()) {
         let code = if number == method { code } else { *own };
@@ -143,7 +181,7 @@ fn pools(alloc: Global) -> Result<Program, AllocError> {
     for string in &STRINGS {
         program.strings.push(text(alloc, *string)?)?;
     }
-    for number in 1..10 {
+    for number in 1..11 {
         program.types.push(number)?;
     }
     Ok(program)
@@ -157,9 +195,9 @@ fn add_members(alloc: Global, program: &mut Program) -> Result<(), AllocError> {
             parameters: Seq::new(alloc),
         })?;
     }
-    for (kind, name, _) in &FIELDS {
+    for (class, kind, name, _) in &FIELDS {
         program.fields.push(FieldName {
-            class: 2,
+            class: *class,
             kind: *kind,
             name: *name,
         })?;
@@ -180,6 +218,6 @@ pub fn program_with(alloc: Global, method: u32, code: &[Form]) -> Result<Program
     add_members(alloc, &mut program)?;
     program.classes.push(tested_class(alloc, method, code)?)?;
     program.classes.push(class_of(alloc, 3, 0x401))?;
-    program.classes.push(class_of(alloc, 4, 0x601))?;
+    program.classes.push(class_with_fields(alloc, 4, 0x601)?)?;
     Ok(program)
 }

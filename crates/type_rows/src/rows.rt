@@ -18,7 +18,7 @@ struct Row {
     register: u32,
 }
 
-const ROWS: [Row; 18] = [
+const ROWS: [Row; 22] = [
     // a register that holds nothing is read
     Row {
         method: 2,
@@ -175,6 +175,49 @@ const ROWS: [Row; 18] = [
         ill: &[Nop, ReturnsVoid],
         position: 1,
         register: 0,
+    },
+    // a field that an interface names is read and written on null alone
+    Row {
+        method: 3,
+        typed: &[Zero(1), Reads(Item::Plain, 0, 1, 5), ReturnsVoid],
+        ill: &[Zero(1), Reads(Item::Plain, 0, 3, 5), ReturnsVoid],
+        position: 1,
+        register: 3,
+    },
+    Row {
+        method: 3,
+        typed: &[Zero(1), Writes(Item::Plain, 1, 1, 5), ReturnsVoid],
+        ill: &[Zero(1), Writes(Item::Plain, 1, 3, 5), ReturnsVoid],
+        position: 1,
+        register: 3,
+    },
+    // a static field of an array type has a text first
+    Row {
+        method: 1,
+        typed: &[ReadsStatic(Item::Object, 0, 4), ReturnsVoid],
+        ill: &[ReadsStatic(Item::Object, 0, 3), ReturnsVoid],
+        position: 0,
+        register: 0,
+    },
+    // an array of objects is not filled, whatever the width of the items
+    Row {
+        method: 1,
+        typed: &[
+            One(1),
+            MakesArray(2, 1, 9),
+            Zero(2),
+            FillsTable(2, 0),
+            ReturnsVoid,
+        ],
+        ill: &[
+            One(1),
+            MakesArray(2, 1, 9),
+            Nop,
+            FillsTable(2, 0),
+            ReturnsVoid,
+        ],
+        position: 3,
+        register: 2,
     },
 ];
 

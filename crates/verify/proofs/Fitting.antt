@@ -8,16 +8,16 @@ use Rattle.verify.specs.declared.shapes.Shape.{Shape}
 use Rattle.verify.specs.declared.shapes.Shape.TheVariants.{Void, Int, Word, Wide, Class, Array}
 use Rattle.verify.specs.declared.tables.Tables.{Tables}
 use Rattle.verify.specs.Chains.{above, nearest, is_in_chain}
-use Rattle.verify.specs.Fits.{is_below_class, item_fits, array_fits, fits_array, fits_class, fits_shape, fits, fits_item_of, fits_item}
+use Rattle.verify.specs.Fits.{is_below_class, item_fits, array_fits, fits_array, fits_class, fits_shape, fits, fits_holder, fits_item_of, fits_item}
 use Rattle.verify.specs.Joins.{nearest_place, nearest_item, is_flat}
-use Rattle.verify.specs.Kinds.{same_number}
+use Rattle.verify.specs.Kinds.{same_number, is_null}
 use Rattle.verify.specs.Meeting.{is_settled_class, is_settled, IsMeeting}
-use Rattle.verify.specs.Shapes.{is_reference, is_plain, place_of}
+use Rattle.verify.specs.Shapes.{is_reference, is_plain, is_program_interface, place_of}
 use Rattle.verify.specs.Types.{shape_of, item_shape, item_of_class}
 use Rattle.verify.specs.Typings.{Below}
 use Rattle.verify.proofs.Chained as chained
 use Rattle.verify.proofs.Lattice.{left_true, right_true, number_is}
-use Rattle.verify.proofs.Orders.{number_below, made_below, is_null, itself, unknown, word, empty, any, classes, items, deep, under}
+use Rattle.verify.proofs.Orders.{number_below, made_below, itself, unknown, word, empty, any, classes, items, deep, under}
 
 -- an array whose items have a class above those of another one
 pub record AreItems (t : Tables) (i j : Option ℕ) : Type 0 where
@@ -293,6 +293,25 @@ module _ (t : Tables) (m : IsMeeting t) where
 
   pub fits_below : (a b : Kind) (type : ℕ) → Below t a b → fits t b type ≡ true → fits t a type ≡ true
   fits_below a b type h f = shape_below a b (shape_of t type) h f
+
+  null_below : (a b : Kind) → Below t a b → is_null b ≡ true → is_null a ≡ true
+  null_below a b h e = elim (under t a b h) [
+    | itself q ↦ subst (λ x. is_null x ≡ true) (sym q) e
+    | unknown q ↦ absurd (let g : is_null kind.Undefined ≡ true = subst (λ x. is_null x ≡ true) q e in cc)
+    | word p q ↦ absurd (let g : is_null kind.Word ≡ true = subst (λ x. is_null x ≡ true) q e in cc)
+    | empty p r ↦ p
+    | any p q ↦ absurd (let g : is_null kind.Reference ≡ true = subst (λ x. is_null x ≡ true) q e in cc)
+    | classes c d p q n ↦ absurd (let g : is_null (kind.Program d) ≡ true = subst (λ x. is_null x ≡ true) q e in cc)
+    | items n i j c p q w z v ↦ absurd (let g : is_null (kind.Array n j) ≡ true = subst (λ x. is_null x ≡ true) w e in cc)
+    | deep n i p w q v ↦ absurd (let g : is_null (kind.Array 1 t.object) ≡ true = subst (λ x. is_null x ≡ true) v e in cc)
+  ]
+
+  pub holder_fits_below : (a b : Kind) (type : ℕ) → Below t a b → fits_holder t b type ≡ true → fits_holder t a type ≡ true
+  holder_fits_below a b type h e = go (is_program_interface (shape_of t type)) (left_true (fits t b type) (not (is_program_interface (shape_of t type)) || is_null b) e) (right_true (fits t b type) (not (is_program_interface (shape_of t type)) || is_null b) e)
+    where
+      go : (x : Bool) → fits t b type ≡ true → (not x || is_null b) ≡ true → (fits t a type && (not x || is_null a)) ≡ true
+      go true f g = ap (λ y. y && is_null a) (fits_below a b type h f) ∙ null_below a b h g
+      go false f g = ap (λ y. y && true) (fits_below a b type h f)
 
   item_below : (a b : Kind) (s : Shape) → Below t a b → fits_item_of t b s ≡ true → fits_item_of t a s ≡ true
   item_below a b (Array n i) h f = go (nat_lt 1 n) f

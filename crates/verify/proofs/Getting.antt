@@ -14,7 +14,7 @@ use Rattle.verify.specs.Chains.{nearest}
 use Rattle.verify.specs.Demands.{same_item}
 use Rattle.verify.specs.Fits.{stored_item}
 use Rattle.verify.specs.Joins.{joined, joined_references, joined_items, nearest_item}
-use Rattle.verify.specs.Kinds.{same_kind, is_number, is_initialised, is_moved}
+use Rattle.verify.specs.Kinds.{same_kind, is_number, is_initialised, is_moved, is_null}
 use Rattle.verify.specs.Meeting.{IsMeeting, is_settled}
 use Rattle.verify.specs.Shapes.{stored}
 use Rattle.verify.specs.Types.{item_shape, item_of_class, kind_of_class, kind_of_shape, kind_of_item}
@@ -22,7 +22,7 @@ use Rattle.verify.specs.Typings.{Below}
 use Rattle.verify.proofs.Fitting.{AreItems, are_items, object_is, item_settled}
 use Rattle.verify.proofs.Holding.{by_stored, moved_made, deep_stored}
 use Rattle.verify.proofs.Lattice.{same_is, joins, alike, numbers, objects, apart}
-use Rattle.verify.proofs.Orders.{is_null, itself, unknown, word, empty, any, classes, items, deep, under}
+use Rattle.verify.proofs.Orders.{itself, unknown, word, empty, any, classes, items, deep, under}
 use Rattle.verify.proofs.Raises.{below_itself, same_joined}
 
 -- ---- what is below what

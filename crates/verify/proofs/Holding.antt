@@ -14,19 +14,19 @@ use Rattle.verify.specs.declared.shapes.Shape.{Shape}
 use Rattle.verify.specs.declared.shapes.Shape.TheVariants as shape
 use Rattle.verify.specs.declared.tables.Tables.{Tables}
 use Rattle.verify.specs.Demands.{same_item, is_number_or_pair, is_movable, is_result, is_equality, is_tested, is_like, is_tested_with, is_item, is_any_array}
-use Rattle.verify.specs.Fits.{fits_shape, fits, stored_item}
+use Rattle.verify.specs.Fits.{fits_shape, fits, fits_holder, stored_item}
 use Rattle.verify.specs.Frames.{kind_at, is_pair}
 use Rattle.verify.specs.Joins.{is_flat}
-use Rattle.verify.specs.Kinds.{same_kind, is_number, is_initialised, is_moved}
+use Rattle.verify.specs.Kinds.{same_kind, is_number, is_initialised, is_moved, is_null}
 use Rattle.verify.specs.Meeting.{IsMeeting}
 use Rattle.verify.specs.Names.{field_class}
 use Rattle.verify.specs.Reads.{is_array_of, is_array_filled, is_of_type, is_holder, is_constructed}
-use Rattle.verify.specs.Shapes.{is_reference, is_wide, stored, width_of}
+use Rattle.verify.specs.Shapes.{is_reference, is_wide, stored, has_width}
 use Rattle.verify.specs.Types.{shape_of, item_shape}
 use Rattle.verify.specs.Typings.{Below}
-use Rattle.verify.proofs.Fitting.{AreItems, are_items, object_is, fits_below}
+use Rattle.verify.proofs.Fitting.{AreItems, are_items, object_is, fits_below, holder_fits_below}
 use Rattle.verify.proofs.Lattice.{left_true, right_true, same_is}
-use Rattle.verify.proofs.Orders.{number_below, made_below, bare_below, is_null, Under, itself, unknown, word, empty, any, classes, items, deep, under}
+use Rattle.verify.proofs.Orders.{number_below, made_below, bare_below, Under, itself, unknown, word, empty, any, classes, items, deep, under}
 
 -- frames of one length, each register below the other
 abbrev pub Each : Tables → List Kind → List Kind → Type 0
@@ -198,7 +198,7 @@ unfolding is_this
 this_is FreshThis e = refl
 this_is k e = absurd (cc)
 
-holder_other : (s : Setting) (k : Kind) (f : ℕ) → is_this k ≡ false → is_holder s k f ≡ fits s.tables.now k (field_class s.program.now f)
+holder_other : (s : Setting) (k : Kind) (f : ℕ) → is_this k ≡ false → is_holder s k f ≡ fits_holder s.tables.now k (field_class s.program.now f)
 unfolding is_this
 holder_other s FreshThis f e = absurd (cc)
 holder_other s k f e = refl
@@ -217,7 +217,7 @@ holder_this s b f h e = go (under s.tables.now FreshThis b h)
   where
     go : Under s.tables.now FreshThis b → is_holder s FreshThis f ≡ true
     go (itself q) = subst (λ x. is_holder s x f ≡ true) (sym q) e
-    go (unknown q) = absurd (let g : fits s.tables.now Undefined (field_class s.program.now f) ≡ true = subst (λ x. is_holder s x f ≡ true) q e in let u = undefined_shape s.tables.now (shape_of s.tables.now (field_class s.program.now f)) in cc)
+    go (unknown q) = absurd (let g : fits s.tables.now Undefined (field_class s.program.now f) ≡ true = left_true (fits s.tables.now Undefined (field_class s.program.now f)) _ (subst (λ x. is_holder s x f ≡ true) q e) in let u = undefined_shape s.tables.now (shape_of s.tables.now (field_class s.program.now f)) in cc)
     go (word p q) = absurd (cc)
     go (empty p q) = absurd (cc)
     go (any p q) = absurd (cc)
@@ -231,7 +231,7 @@ holder_below s m a b f h e = go (is_this a) (is_this b) refl refl
     go : (x y : Bool) → is_this a ≡ x → is_this b ≡ y → is_holder s a f ≡ true
     go true y p q = let z = this_is a p in subst (λ x. is_holder s x f ≡ true) (sym z) (holder_this s b f (subst (λ x. Below s.tables.now x b) z h) e)
     go false true p q = let z = this_is b q in let w : a ≡ FreshThis = bare_below s.tables.now a FreshThis (subst (Below s.tables.now a) z h) refl refl refl in subst (λ x. is_holder s x f ≡ true) (z ∙ sym w) e
-    go false false p q = holder_other s a f p ∙ fits_below s.tables.now m a b (field_class s.program.now f) h (sym (holder_other s b f q) ∙ e)
+    go false false p q = holder_other s a f p ∙ holder_fits_below s.tables.now m a b (field_class s.program.now f) h (sym (holder_other s b f q) ∙ e)
 
 constructed_bare : (s : Setting) (b : Kind) (class : ℕ) → is_constructed s b class ≡ true → (is_number b ≡ false) × ((is_initialised b ≡ false) × (same_kind b Undefined ≡ false))
 constructed_bare s (Fresh c n) class e = (refl, (refl, refl))
@@ -316,7 +316,7 @@ of_stored : (s : Setting) (k : Kind) (i : Item) → is_array_of s k i ≡ by_sto
 of_stored s (Array n j) i = refl
 of_stored s k i = refl
 
-filled_stored : (s : Setting) (k : Kind) (w : ℕ) → is_array_filled s k w ≡ by_stored (λ x. nat_eq (width_of x) w) s.tables.now k
+filled_stored : (s : Setting) (k : Kind) (w : ℕ) → is_array_filled s k w ≡ by_stored (λ x. has_width w x) s.tables.now k
 filled_stored s (Array n j) w = refl
 filled_stored s k w = refl
 
@@ -331,7 +331,7 @@ pub array_of_below : (s : Setting) (m : IsMeeting s.tables.now) (a b : Kind) (i 
 array_of_below s m a b i h e = of_stored s a i ∙ stored_below (λ x. same_item x i) s.tables.now m a b h (sym (of_stored s b i) ∙ e)
 
 pub filled_below : (s : Setting) (m : IsMeeting s.tables.now) (a b : Kind) (w : ℕ) → Below s.tables.now a b → is_array_filled s b w ≡ true → is_array_filled s a w ≡ true
-filled_below s m a b w h e = filled_stored s a w ∙ stored_below (λ x. nat_eq (width_of x) w) s.tables.now m a b h (sym (filled_stored s b w) ∙ e)
+filled_below s m a b w h e = filled_stored s a w ∙ stored_below (λ x. has_width w x) s.tables.now m a b h (sym (filled_stored s b w) ∙ e)
 
 pub any_array_below : (t : Tables) (m : IsMeeting t) (a b : Kind) → Below t a b → is_any_array b ≡ true → is_any_array a ≡ true
 any_array_below t m a b h e = any_stored t a ∙ stored_below (λ x. true) t m a b h (sym (any_stored t b) ∙ e)

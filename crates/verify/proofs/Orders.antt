@@ -7,7 +7,7 @@ use Rattle.verify.specs.declared.kinds.Kind.TheVariants.{Undefined, Word, Zero, 
 use Rattle.verify.specs.declared.tables.Tables.{Tables}
 use Rattle.verify.specs.Chains.{nearest}
 use Rattle.verify.specs.Joins.{joined_references, joined_items, joined_deep, class_or_reference, nearest_item, is_flat}
-use Rattle.verify.specs.Kinds.{same_kind, is_number, is_initialised}
+use Rattle.verify.specs.Kinds.{same_kind, is_number, is_initialised, is_null}
 use Rattle.verify.specs.Types.{item_of_class}
 use Rattle.verify.specs.Typings.{Below}
 use Rattle.verify.proofs.Lattice.{left_true, joins, alike, numbers, objects, apart, number_joined, made_joined}
@@ -17,12 +17,6 @@ number_below t a b h e = left_true (is_number a) (is_number b) (sym (number_join
 
 pub made_below : (t : Tables) (a b : Kind) → Below t a b → is_initialised b ≡ true → is_initialised a ≡ true
 made_below t a b h e = left_true (is_initialised a) (is_initialised b) (sym (made_joined t a b) ∙ ap is_initialised h ∙ e)
-
--- null or the constant 0
-abbrev pub is_null : Kind → Bool
-is_null Zero = true
-is_null Null = true
-is_null k = false
 
 pub data Under (t : Tables) (a b : Kind) : Type 0 where
   itself : a ≡ b → Under t a b

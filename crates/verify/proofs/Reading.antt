@@ -13,7 +13,7 @@ use Rattle.verify.specs.declared.kinds.Kind.{Kind}
 use Rattle.verify.specs.declared.setting.Setting.{Setting}
 use Rattle.verify.specs.Demands.{unless, lower_than, lower, is_number_or_pair, is_movable, is_result, is_tested, is_tested_with, is_item, is_any_array}
 use Rattle.verify.specs.Faults.{fault_of}
-use Rattle.verify.specs.Fits.{fits, fits_item}
+use Rattle.verify.specs.Fits.{fits, fits_holder, fits_item}
 use Rattle.verify.specs.Frames.{Kinds, kind_at, is_pair}
 use Rattle.verify.specs.Kinds.{is_number, is_initialised}
 use Rattle.verify.specs.Meeting.{IsMeeting}
@@ -23,7 +23,7 @@ use Rattle.verify.specs.Shapes.{is_void, is_wide}
 use Rattle.verify.specs.Types.{shape_of, is_constructor}
 use Rattle.verify.specs.Typings.{Below, IsBelow}
 use Rattle.verify.specs.Wrong.{wrong_result, ends_early, is_wrong}
-use Rattle.verify.proofs.Fitting.{fits_below, fits_item_below}
+use Rattle.verify.proofs.Fitting.{fits_below, holder_fits_below, fits_item_below}
 use Rattle.verify.proofs.Holding.{Each, pair_below, number_or_pair_below, movable_below, result_below, tested_below, tested_with_below, item_kind_below, of_type_below, holder_below, constructed_below, array_of_below, filled_below, any_array_below}
 use Rattle.verify.proofs.Lattice.{left_true, right_true}
 use Rattle.verify.proofs.Orders.{number_below, made_below}
@@ -205,7 +205,7 @@ module _ (s : Setting) (m : IsMeeting s.tables.now) (a b : Kinds) (h : IsBelow s
   refused_on n (insn.IfZero t x target) e = unless_on (is_tested t (kind_at b.registers x)) (is_tested t (kind_at a.registers x)) x (tested_below s.tables.now t (kind_at a.registers x) (kind_at b.registers x) (h.registers x)) e
   refused_on n (insn.Literal op to x value) e = number_on s m a.registers b.registers h.registers x e
   refused_on n (insn.Unary op to from) e = sized_on s m a.registers b.registers h.registers (unary_reads_wide op) from e
-  refused_on n (insn.InstanceGet i to on field) e = unless_on (fits s.tables.now (kind_at b.registers on) (field_class s.program.now field)) (fits s.tables.now (kind_at a.registers on) (field_class s.program.now field)) on (fits_below s.tables.now m (kind_at a.registers on) (kind_at b.registers on) (field_class s.program.now field) (h.registers on)) e
+  refused_on n (insn.InstanceGet i to on field) e = unless_on (fits_holder s.tables.now (kind_at b.registers on) (field_class s.program.now field)) (fits_holder s.tables.now (kind_at a.registers on) (field_class s.program.now field)) on (holder_fits_below s.tables.now m (kind_at a.registers on) (kind_at b.registers on) (field_class s.program.now field) (h.registers on)) e
   refused_on n (insn.StaticPut i from field) e = typed_on s m a.registers b.registers h.registers from (field_kind s.program.now field) e
   refused_on n (insn.Cmp op to x y) e = several_on s m a.registers b.registers h.registers n (insn.Cmp op to x y) e
   refused_on n (insn.If t x y target) e = several_on s m a.registers b.registers h.registers n (insn.If t x y target) e

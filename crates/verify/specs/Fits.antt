@@ -7,8 +7,8 @@ use Rattle.verify.specs.declared.kinds.Kind.TheVariants.{Zero, Null, Program, Ar
 use Rattle.verify.specs.declared.shapes.Shape.{Shape}
 use Rattle.verify.specs.declared.shapes.Shape.TheVariants as shape
 use Rattle.verify.specs.declared.tables.Tables.{Tables}
-use Rattle.verify.specs.Kinds.{same_number, is_number, is_initialised}
-use Rattle.verify.specs.Shapes.{is_reference, is_plain, stored}
+use Rattle.verify.specs.Kinds.{same_number, is_number, is_initialised, is_null}
+use Rattle.verify.specs.Shapes.{is_reference, is_plain, is_program_interface, stored}
 use Rattle.verify.specs.Types.{shape_of, item_shape}
 use Rattle.verify.specs.Chains.{is_in_chain}
 
@@ -57,6 +57,10 @@ fits_shape t k s = is_initialised k
 
 abbrev pub fits : Tables → Kind → ℕ → Bool
 fits t k type = fits_shape t k (shape_of t type)
+
+-- the receiver of a field's get or put: a field that a program interface names is read and written on null alone
+abbrev pub fits_holder : Tables → Kind → ℕ → Bool
+fits_holder t k type = fits t k type && (not (is_program_interface (shape_of t type)) || is_null k)
 
 -- how the items of an array are stored
 abbrev pub stored_item : Tables → ℕ → Option ℕ → Item

@@ -36,6 +36,12 @@ is_initialised (Array n i) = nat_lt 0 n
 is_initialised Reference = true
 is_initialised k = false
 
+-- null, or the constant 0
+abbrev pub is_null : Kind → Bool
+is_null Zero = true
+is_null Null = true
+is_null k = false
+
 -- a move of one register reads it
 abbrev pub is_moved : Kind → Bool
 is_moved Undefined = false

@@ -13,9 +13,9 @@ use Rattle.verify.specs.declared.kinds.Kind.{Kind}
 use Rattle.verify.specs.declared.kinds.Kind.TheVariants as kind
 use Rattle.verify.specs.declared.setting.Setting.{Setting}
 use Rattle.verify.specs.Kinds.{is_number, is_initialised}
-use Rattle.verify.specs.Shapes.{is_wide, width_of}
+use Rattle.verify.specs.Shapes.{is_wide, has_width}
 use Rattle.verify.specs.Types.{shape_of, is_constructor}
-use Rattle.verify.specs.Fits.{fits, fits_item, stored_item}
+use Rattle.verify.specs.Fits.{fits, fits_holder, fits_item, stored_item}
 use Rattle.verify.specs.Names.{field_kind, field_class, method_class, parameters_of}
 use Rattle.verify.specs.Frames.{Kinds, kind_at, is_pair}
 use Rattle.verify.specs.Demands.{unless, lower, same_item, is_number_or_pair, is_movable, is_result, is_tested, is_tested_with, is_item, is_any_array}
@@ -44,7 +44,7 @@ is_array_of s k i = false
 abbrev pub is_array_filled : Setting → Kind → ℕ → Bool
 is_array_filled s kind.Zero w = true
 is_array_filled s kind.Null w = true
-is_array_filled s (kind.Array n j) w = nat_eq (width_of (stored_item s.tables.now n j)) w
+is_array_filled s (kind.Array n j) w = has_width w (stored_item s.tables.now n j)
 is_array_filled s k w = false
 
 -- a value of a type
@@ -54,7 +54,7 @@ is_of_type s ks r type = if is_wide (shape_of s.tables.now type) then is_pair ks
 -- the receiver of a put, which may be the receiver of a constructor where its class defines the field
 abbrev pub is_holder : Setting → Kind → ℕ → Bool
 is_holder s kind.FreshThis f = defines_field s f
-is_holder s k f = fits s.tables.now k (field_class s.program.now f)
+is_holder s k f = fits_holder s.tables.now k (field_class s.program.now f)
 
 -- an object that was made of the class, or the receiver of a constructor of the class or of one whose superclass it is
 abbrev pub is_constructed : Setting → Kind → ℕ → Bool
@@ -149,6 +149,6 @@ refused s n a (insn.SparseSwitch on keys targets) = unless (is_number (kind_at a
 refused s n a (insn.IfZero t x target) = unless (is_tested t (kind_at a.registers x)) x
 refused s n a (insn.Literal op to x value) = unless (is_number (kind_at a.registers x)) x
 refused s n a (insn.Unary op to from) = unless (is_number_or_pair (unary_reads_wide op) a.registers from) from
-refused s n a (insn.InstanceGet i to on field) = unless (fits s.tables.now (kind_at a.registers on) (field_class s.program.now field)) on
+refused s n a (insn.InstanceGet i to on field) = unless (fits_holder s.tables.now (kind_at a.registers on) (field_class s.program.now field)) on
 refused s n a (insn.StaticPut i from field) = unless (is_of_type s a.registers from (field_kind s.program.now field)) from
 refused s n a i = refused_several s n a.registers i

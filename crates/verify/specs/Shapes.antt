@@ -1,5 +1,5 @@
 -- What a type is (Dalvik executable format, "TypeDescriptor").
-use Rattle.std.specs.Prelude.{ℕ, Bool, true, false, Option, None}
+use Rattle.std.specs.Prelude.{ℕ, Bool, true, false, not, nat_eq, Option, Some, None}
 use Rattle.insn_set.specs.declared.ops.Item.{Item}
 use Rattle.insn_set.specs.declared.ops.Item.TheVariants as item
 use Rattle.verify.specs.declared.shapes.Shape.{Shape}
@@ -33,6 +33,10 @@ abbrev pub is_plain : Shape → Bool
 is_plain (Class place plain) = plain
 is_plain s = false
 
+abbrev pub is_program_interface : Shape → Bool
+is_program_interface (Class (Some c) plain) = not plain
+is_program_interface s = false
+
 abbrev pub place_of : Shape → Option ℕ
 place_of (Class place plain) = place
 place_of s = None
@@ -45,12 +49,12 @@ stored (Class place plain) = item.Object
 stored (Array depth i) = item.Object
 stored s = item.Plain
 
--- the bytes of a primitive item
-abbrev pub width_of : Item → ℕ
-width_of item.Plain = 4
-width_of item.Wide = 8
-width_of item.Object = 0
-width_of item.Boolean = 1
-width_of item.Byte = 1
-width_of item.Char = 2
-width_of item.Short = 2
+-- whether an item is primitive and has so many bytes
+abbrev pub has_width : ℕ → Item → Bool
+has_width n item.Plain = nat_eq n 4
+has_width n item.Wide = nat_eq n 8
+has_width n item.Object = false
+has_width n item.Boolean = nat_eq n 1
+has_width n item.Byte = nat_eq n 1
+has_width n item.Char = nat_eq n 2
+has_width n item.Short = nat_eq n 2

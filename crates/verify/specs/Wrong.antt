@@ -9,6 +9,10 @@ use Rattle.insn_set.specs.declared.ops.Item.TheVariants as item
 use Rattle.insn_set.specs.declared.ops.InvokeKind.{InvokeKind}
 use Rattle.insn_set.specs.declared.ops.InvokeKind.TheVariants as call
 use Rattle.hierarchy.specs.Tables.{answer}
+use Rattle.program_model.specs.declared.value.EncValue.{EncValue, EncValue-F, out-EncValue}
+use Rattle.program_model.specs.declared.value.EncValue.TheOpen as value
+use Rattle.program_model.specs.declared.value.Element.{Element}
+use Rattle.program_model.specs.declared.value.Note.{Note}
 use Rattle.program_model.specs.declared.program.Class.{Class}
 use Rattle.verify.specs.declared.calls.Search.{Search}
 use Rattle.verify.specs.declared.calls.Search.TheVariants as search
@@ -16,7 +20,7 @@ use Rattle.verify.specs.declared.setting.Setting.{Setting}
 use Rattle.verify.specs.declared.shapes.Shape.{Shape}
 use Rattle.verify.specs.declared.shapes.Shape.TheVariants as shape
 use Rattle.verify.specs.Kinds.{is_initialised}
-use Rattle.verify.specs.Shapes.{is_void, is_word, is_wide, is_reference, is_array}
+use Rattle.verify.specs.Shapes.{is_void, is_word, is_wide, is_reference, is_array, is_plain}
 use Rattle.verify.specs.Types.{shape_of, proto_words, is_constructor}
 use Rattle.verify.specs.Fits.{is_fillable}
 use Rattle.program_model.specs.MemberRules.{has_flag}
@@ -44,6 +48,31 @@ static_at s c n = option_and_then (λ k. is_static_in (slice_get k.fields n)) (s
 abbrev pub static_field : Setting → ℕ → Option Bool
 static_field s f = option_and_then (λ at. static_at s at.0 at.1) (answer (slice_get s.hierarchy.now.targets.fields.items f))
 
+-- a text or a type
+abbrev pub is_layer_text_or_type : EncValue-F EncValue Element Note → Bool
+is_layer_text_or_type (value.Str n) = true
+is_layer_text_or_type (value.Class n) = true
+is_layer_text_or_type v = false
+
+abbrev pub is_text_or_type : EncValue → Bool
+is_text_or_type v = is_layer_text_or_type (out-EncValue v)
+
+abbrev pub is_first_text_or_type : Option EncValue → Bool
+is_first_text_or_type (Some v) = is_text_or_type v
+is_first_text_or_type None = false
+
+abbrev pub begins_in : Option Field → Bool
+begins_in (Some f) = is_first_text_or_type f.first
+begins_in None = false
+
+-- whether the field at a place of a class has a text or a type first
+abbrev pub begins_at : Setting → ℕ → ℕ → Bool
+begins_at s c n = elim (slice_get s.program.now.classes c) [ Some k ↦ begins_in (slice_get k.fields n) | None ↦ false ]
+
+-- whether the field to which a name resolves has
+abbrev pub begins_as_text_or_type : Setting → ℕ → Bool
+begins_as_text_or_type s f = elim (answer (slice_get s.hierarchy.now.targets.fields.items f)) [ Some at ↦ begins_at s at.0 at.1 | None ↦ false ]
+
 abbrev pub is_static_of : Option Method → Option Bool
 is_static_of (Some m) = Some (has_flag m.flags 8)
 is_static_of None = None
@@ -60,6 +89,12 @@ wrong_item i h = is_wide h || is_reference h
 
 abbrev pub wrong_access : Setting → Bool → Item → ℕ → Bool
 wrong_access s static i f = wrong_item i (shape_of s.tables.now (field_kind s.program.now f)) || differ static (static_field s f)
+
+-- a get of a field that has a text or a type first, and whose type is an array type or a program class that is no interface
+abbrev pub wrong_first : Setting → ℕ → Bool
+wrong_first s f =
+    (is_array (shape_of s.tables.now (field_kind s.program.now f)) || is_plain (shape_of s.tables.now (field_kind s.program.now f)))
+    && begins_as_text_or_type s f
 
 abbrev pub is_static_call : InvokeKind → Bool
 is_static_call call.Static = true
@@ -109,7 +144,7 @@ is_wrong s n a (insn.NewArray to size type) = not (is_array (shape_of s.tables.n
 is_wrong s n a (insn.FilledNewArray type args) = not (is_fillable s.tables.now type)
 is_wrong s n a (insn.InstanceGet i to on field) = wrong_access s false i field
 is_wrong s n a (insn.InstancePut i from on field) = wrong_access s false i field
-is_wrong s n a (insn.StaticGet i to field) = wrong_access s true i field
+is_wrong s n a (insn.StaticGet i to field) = wrong_access s true i field || wrong_first s field
 is_wrong s n a (insn.StaticPut i from field) = wrong_access s true i field
 is_wrong s n a (insn.Invoke k method args) = wrong_call s n k method (length args)
 is_wrong s n a i = false

@@ -1,7 +1,7 @@
 //! Which kinds fit a type.
 
 ghost use Rattle.std.specs.Prelude.{◌≡◌};
-ghost use Rattle.verify.specs.Fits.{is_below_class, class_fits, reference_fits, item_fits, array_fits, fits_array, fits_class, fits_shape, fits, stored_item, is_fillable_item, is_fillable, fits_item};
+ghost use Rattle.verify.specs.Fits.{is_below_class, class_fits, reference_fits, item_fits, array_fits, fits_array, fits_class, fits_shape, fits, fits_holder, stored_item, is_fillable_item, is_fillable, fits_item};
 
 use crate::kinds::{Kind, is_same_number};
 use crate::shapes::Shape;
@@ -109,6 +109,14 @@ impl Tables {
         ensures { result ≡ fits self.now kind into }
     {
         self.fits_shape(kind, self.shape(into))
+    }
+
+    /// Whether a value may be the receiver of a get or a put of a field that this class names. No kind but null's is under
+    /// a program interface.
+    pub fn fits_holder(&self, kind: Kind, class: u32) -> bool
+        ensures { result ≡ fits_holder self.now kind class }
+    {
+        self.fits(kind, class) && (!self.shape(class).is_program_interface() || kind.is_null())
     }
 
     /// How the items of an array are stored.

@@ -1,7 +1,7 @@
 //! The kinds of what registers hold.
 
 ghost use Rattle.std.specs.Prelude.{◌≡◌};
-ghost use Rattle.verify.specs.Kinds.{same_number, same_kind, is_number, is_initialised, is_moved, number_kind};
+ghost use Rattle.verify.specs.Kinds.{same_number, same_kind, is_number, is_initialised, is_null, is_moved, number_kind};
 
 /// What is known of the value in a register.
 ///
@@ -95,6 +95,13 @@ impl Kind {
             Kind::Array { depth, .. } => depth > 0,
             _ => false,
         }
+    }
+
+    /// Whether it is null, or the constant 0.
+    pub(crate) fn is_null(self) -> bool
+        ensures { result ≡ is_null self }
+    {
+        matches!(self, Kind::Zero | Kind::Null)
     }
 
     /// Whether a move of one register may read it: neither undefined nor half of a wide.

@@ -8,7 +8,7 @@ ghost use Rattle.verify.specs.Reads.{is_array_of, is_array_filled, is_of_type, i
 use crate::frames::Frame;
 use crate::kinds::Kind;
 use crate::setting::Setting;
-use crate::shapes::width_of;
+use crate::shapes::has_width;
 use insn_set::{Item, Slot, Test};
 
 /// The register, unless its read is allowed.
@@ -157,7 +157,7 @@ impl Setting<'_> {
     {
         match kind {
             Kind::Zero | Kind::Null => true,
-            Kind::Array { depth, item } => width_of(self.tables.stored_item(depth, item)) == width,
+            Kind::Array { depth, item } => has_width(width, self.tables.stored_item(depth, item)),
             _ => false,
         }
     }
@@ -179,7 +179,7 @@ impl Setting<'_> {
     {
         match kind {
             Kind::FreshThis => self.defines_field(field),
-            _ => self.tables.fits(kind, self.field_class(field)),
+            _ => self.tables.fits_holder(kind, self.field_class(field)),
         }
     }
 

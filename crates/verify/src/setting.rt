@@ -5,13 +5,13 @@ ghost use Rattle.std.specs.Option.{option_copied};
 ghost use Rattle.verify.specs.Names.{field_kind, field_class, method_class, parameters_of, result_of};
 ghost use Rattle.verify.specs.Types.{kind_of};
 ghost use Rattle.verify.specs.Reads.{found_at, defines_field};
-ghost use Rattle.verify.specs.Wrong.{parameter_words, static_at, static_field, static_method};
+ghost use Rattle.verify.specs.Wrong.{parameter_words, static_at, static_field, static_method, is_text_or_type, is_first_text_or_type, begins_at, begins_as_text_or_type};
 
 use crate::calls::{Search, method_at};
 use crate::kinds::Kind;
 use crate::tables::Tables;
 use hierarchy::Hierarchy;
-use program_model::{FieldName, Flags, MethodName, Program};
+use program_model::{EncValue, Field, FieldName, Flags, MethodName, Program};
 
 /// The code of one method and what stands around it. `class` is the place of its class and `kind` the class's type
 /// number, `superclass` that of its superclass, `result` that of the method's result type. `found` has what the super
@@ -27,6 +27,23 @@ pub struct Setting<'a> {
     pub result: u32,
     pub constructs: bool,
     pub found: &'a [Search],
+}
+
+/// Whether a value is a text or a type.
+fn is_text_or_type(value: &EncValue) -> bool
+    ensures { result ≡ is_text_or_type value.now }
+{
+    matches!(value, EncValue::Str(_) | EncValue::Class(_))
+}
+
+/// Whether a field has a text or a type first.
+fn is_first_text_or_type(field: &Field) -> bool
+    ensures { result ≡ is_first_text_or_type field.now.first }
+{
+    match &field.first {
+        Some(value) => is_text_or_type(value),
+        None => false,
+    }
 }
 
 impl Setting<'_> {
@@ -142,6 +159,29 @@ impl Setting<'_> {
         match self.hierarchy.resolve_field(self.program, field) {
             Some((class, place)) => self.is_static_at(class, place),
             None => None,
+        }
+    }
+
+    /// Whether the field at a place of a class has a text or a type first.
+    fn begins_at(&self, class: u32, place: u32) -> bool
+        ensures { result ≡ begins_at self.now class place }
+    {
+        match self.program.classes.as_slice().get(class as usize) {
+            Some(class) => match class.fields.as_slice().get(place as usize) {
+                Some(field) => is_first_text_or_type(field),
+                None => false,
+            },
+            None => false,
+        }
+    }
+
+    /// Whether the field to which a name resolves has a text or a type first.
+    pub fn begins_as_text_or_type(&self, field: u32) -> bool
+        ensures { result ≡ begins_as_text_or_type self.now field }
+    {
+        match self.hierarchy.resolve_field(self.program, field) {
+            Some((class, place)) => self.begins_at(class, place),
+            None => false,
         }
     }
 

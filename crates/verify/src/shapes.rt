@@ -2,7 +2,7 @@
 
 ghost use Rattle.std.specs.Prelude.{◌≡◌, ◌≤◌, length, drop};
 ghost use Rattle.verify.specs.Descriptors.{brackets, without_brackets, shape_of_text};
-ghost use Rattle.verify.specs.Shapes.{is_void, is_word, is_wide, is_reference, is_array, is_plain, place_of, stored, width_of};
+ghost use Rattle.verify.specs.Shapes.{is_void, is_word, is_wide, is_reference, is_array, is_plain, is_program_interface, place_of, stored, has_width};
 
 use insn_set::Item;
 
@@ -66,6 +66,16 @@ impl Shape {
         }
     }
 
+    /// Whether it is a class type that a program interface defines.
+    pub fn is_program_interface(self) -> bool
+        ensures { result ≡ is_program_interface self }
+    {
+        match self {
+            Shape::Class { place, plain } => place.is_some() && !plain,
+            _ => false,
+        }
+    }
+
     /// The place of the program class that defines it.
     pub fn place(self) -> Option<u32>
         ensures { result ≡ place_of self }
@@ -89,16 +99,16 @@ impl Shape {
     }
 }
 
-/// How many bytes a primitive item takes in the table that fills an array.
-pub fn width_of(item: Item) -> u8
-    ensures { result ≡ width_of item }
+/// Whether an item is primitive and takes so many bytes in the table that fills an array.
+pub fn has_width(width: u8, item: Item) -> bool
+    ensures { result ≡ has_width width item }
 {
     match item {
-        Item::Plain => 4,
-        Item::Wide => 8,
-        Item::Object => 0,
-        Item::Boolean | Item::Byte => 1,
-        Item::Char | Item::Short => 2,
+        Item::Plain => width == 4,
+        Item::Wide => width == 8,
+        Item::Object => false,
+        Item::Boolean | Item::Byte => width == 1,
+        Item::Char | Item::Short => width == 2,
     }
 }
 

@@ -3,7 +3,7 @@
 ghost use Rattle.std.specs.Prelude.{◌≡◌, slice_get};
 ghost use Rattle.verify.specs.Frames.{kinds_of};
 ghost use Rattle.verify.specs.Types.{shape_of};
-ghost use Rattle.verify.specs.Wrong.{differ, wrong_item, wrong_access, is_static_call, finds_static, wrong_super, passed_words, wrong_call, is_unmade, wrong_instance, wrong_result, ends_early, is_wrong};
+ghost use Rattle.verify.specs.Wrong.{differ, wrong_item, wrong_access, wrong_first, is_static_call, finds_static, wrong_super, passed_words, wrong_call, is_unmade, wrong_instance, wrong_result, ends_early, is_wrong};
 
 use crate::calls::Search;
 use crate::frames::Frame;
@@ -58,6 +58,15 @@ impl Setting<'_> {
     {
         self.is_wrong_item(item, self.field_kind(field))
             || is_other(is_static, self.is_static_field(field))
+    }
+
+    /// Whether a get finds a field that has a text or a type first, and whose type is an array type or a program class
+    /// that is no interface.
+    fn is_wrong_first(&self, field: u32) -> bool
+        ensures { result ≡ wrong_first self.now field }
+    {
+        let shape = self.tables.shape(self.field_kind(field));
+        (shape.is_array() || shape.is_plain()) && self.begins_as_text_or_type(field)
     }
 
     /// Whether a super call names a constructor or finds a static method.
@@ -146,9 +155,10 @@ impl Setting<'_> {
             Insn::InstanceGet { item, field, .. } | Insn::InstancePut { item, field, .. } => {
                 self.is_wrong_access(false, *item, *field)
             }
-            Insn::StaticGet { item, field, .. } | Insn::StaticPut { item, field, .. } => {
-                self.is_wrong_access(true, *item, *field)
+            Insn::StaticGet { item, field, .. } => {
+                self.is_wrong_access(true, *item, *field) || self.is_wrong_first(*field)
             }
+            Insn::StaticPut { item, field, .. } => self.is_wrong_access(true, *item, *field),
             Insn::Invoke { kind, method, args } => {
                 self.is_wrong_call(position, *kind, *method, args.as_slice().len())
             }

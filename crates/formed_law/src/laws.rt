@@ -1,0 +1,11 @@
+//! The law of programs with other code.
+
+ghost use Rattle.std.specs.Prelude.{◌≡◌, true};
+ghost use Rattle.program_model.specs.ProgramRules.{is_well_formed};
+ghost use Rattle.program_model.specs.declared.program.Program.{Program};
+ghost use Rattle.formed_law.specs.Recoded.{RecodedProgram};
+
+/// A well-formed program is well-formed with other code in some methods that keeps the rules of bodies.
+pub fn formed_law()
+    ensures { (p q : Program) → is_well_formed p ≡ true → RecodedProgram p q → is_well_formed q ≡ true }
+{}

@@ -1,5 +1,5 @@
 -- Renamed kinds may be read where the kinds may.
-use Rattle.std.proofs.Common.{◌≡◌, ℕ, ◌+◌, Bool, true, false, List, [], ◌∷◌, length, refl, sym, ap, ap₂, ◌∙◌}
+use Rattle.std.proofs.Common.{◌≡◌, ℕ, ◌+◌, Bool, true, false, List, [], ◌∷◌, length, refl, ap, ap₂, ◌∙◌}
 use std.Path.{fun_ext}
 use Rattle.std.specs.Prelude.{◌&&◌, ◌||◌, not, map, nat_eq, if◌then◌else◌}
 use Rattle.std.specs.List.{list_all}
@@ -13,13 +13,13 @@ use Rattle.dalvik_defs.specs.declared.forms.Form.TheVariants as form
 use Rattle.dalvik_defs.specs.declared.program.NamedMethod.{NamedMethod}
 use Rattle.dalvik_defs.specs.declared.program.NamedClass.{NamedClass}
 use Rattle.dalvik_defs.specs.declared.program.NamedProgram.{NamedProgram}
-use Rattle.pass_defs.specs.Kinds.{Kind, Undefined, Zero, Word, Low, High, Class, Fresh, FreshThis, kind_eq, is_number, is_initialised, is_null, is_plain, is_program_interface, kind_of, is_below, fits_array, fits, fits_holder}
+use Rattle.pass_defs.specs.Kinds.{Kind, Word, Low, High, Class, Fresh, kind_eq, is_number, is_initialised, is_plain, is_program_interface, kind_of, is_below, fits_array, fits, fits_holder}
 use Rattle.pass_defs.specs.Registers.{Kinds, kind_at}
 use Rattle.pass_defs.specs.Demands.{Demand, Moved, Number, Pair, Behind, Initialised, Either, Fits, Receiver, Holder, Constructed, AnArray, ArrayOf, Filled, is_moved, item_eq, is_array_where, has_width, holds_field, is_constructed, meets, is_equality, like, tested, second_tested, call_demands, demands, result_fits, place_allowed, is_allowed}
 use Rattle.pass_defs.specs.Remade.{retargeted}
 use Rattle.pass_defs.specs.Typed.{is_constructor, passed_words, wrong_method, wrong_super, wrong_return, ends_early, is_wrong}
 use Rattle.thin_types.specs.Renamed.{KeepsApart, renamed, kinds_renamed}
-use Rattle.thin_types.proofs.Orders.{eq_kept, eq_plain, number_kept, initialised_kept, null_kept, kind_fixed, below_kept, at_kept}
+use Rattle.thin_types.proofs.Orders.{eq_plain, number_kept, initialised_kept, null_kept, kind_fixed, below_kept, at_kept}
 
 pub all_same : (ns : List ℕ) → map (λ n. n) ns ≡ ns
 all_same [] = refl

@@ -7,7 +7,7 @@ use Rattle.insn_set.specs.declared.ops.Slot.TheVariants as slot
 use Rattle.insn_set.specs.declared.ops.Item.{Item}
 use Rattle.insn_set.specs.declared.ops.Item.TheVariants as item
 use Rattle.insn_set.specs.declared.ops.InvokeKind.{InvokeKind}
-use Rattle.dalvik_defs.specs.Names.{Text, text_eq, item_of}
+use Rattle.dalvik_defs.specs.Names.{Text, item_of}
 use Rattle.dalvik_defs.specs.Flags.{is_static, is_interface}
 use Rattle.dalvik_defs.specs.declared.names.MethodKey.{MethodKey}
 use Rattle.dalvik_defs.specs.declared.forms.Form.{Form}
@@ -16,7 +16,7 @@ use Rattle.dalvik_defs.specs.declared.program.NamedBody.{NamedBody}
 use Rattle.dalvik_defs.specs.declared.program.NamedMethod.{NamedMethod}
 use Rattle.dalvik_defs.specs.declared.program.NamedClass.{NamedClass}
 use Rattle.dalvik_defs.specs.declared.program.NamedProgram.{NamedProgram}
-use Rattle.pass_defs.specs.Kinds.{Kind, Undefined, Zero, Word, Low, High, Null, Class, Array, Reference, Fresh, FreshThis, kind_eq, kind_of_reference, kind_of}
+use Rattle.pass_defs.specs.Kinds.{Kind, Undefined, Zero, Word, Low, High, Class, Array, Reference, Fresh, FreshThis, kind_eq, kind_of_reference, kind_of}
 use Rattle.pass_defs.specs.Registers.{Kinds, kind_at, cleared, split, written_one, written_pair, written_kinds, written, replaced, replace, forgotten, forget}
 use Rattle.pass_defs.specs.Demands.{is_constructor_name}
 use Rattle.pass_defs.specs.Remade.{retargeted}

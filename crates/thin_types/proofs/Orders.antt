@@ -1,10 +1,10 @@
 -- Renamed kinds keep their order.
 use Rattle.std.proofs.Common.{◌≡◌, ℕ, zero, suc, Bool, true, false, List, [], ◌∷◌, refl, sym, ap, ap₂, ◌∙◌}
-use Rattle.std.specs.Prelude.{◌&&◌, Option, Some, None, map, nat_eq, if◌then◌else◌, slice_set}
+use Rattle.std.specs.Prelude.{◌&&◌, Option, Some, None, map, nat_eq, if◌then◌else◌}
 use Rattle.std.specs.Option.{option_map}
 use Rattle.dalvik_defs.specs.Names.{Text, text_eq, is_word, is_wide, is_reference, is_array}
 use Rattle.dalvik_defs.specs.declared.program.NamedProgram.{NamedProgram}
-use Rattle.pass_defs.specs.Kinds.{Kind, Undefined, Zero, Word, Low, High, Null, Class, Array, Reference, Fresh, FreshThis, kind_eq, is_number, is_initialised, is_null, is_plain, kind_of_reference, kind_of, joined, is_below}
+use Rattle.pass_defs.specs.Kinds.{Kind, Undefined, Word, Low, Class, Array, Reference, Fresh, kind_eq, is_number, is_initialised, is_null, is_plain, kind_of_reference, kind_of, is_below}
 use Rattle.pass_defs.specs.Registers.{Kinds, kind_at, all_below, kinds_below, state_below}
 use Rattle.thin_types.specs.Renamed.{KeepsApart, renamed, kinds_renamed}
 

@@ -18,17 +18,17 @@ pairwise_maps R f g h [] (y ∷ ys) r = absurd r
 pairwise_maps R f g h (x ∷ xs) [] r = absurd r
 pairwise_maps R f g h (x ∷ xs) (y ∷ ys) r = ap₂ (λ z zs. z ∷ zs) (h x y r.0) (pairwise_maps R f g h xs ys r.1)
 
-empty : NamedBody
+abbrev pub empty : NamedBody
 empty = record { registers = 0; ins = 0; forms = []; regions = [] }
 
-abbrev blank_if : Bool → Option NamedBody
+abbrev pub blank_if : Bool → Option NamedBody
 blank_if true = Some empty
 blank_if false = None
 
-abbrev blank : Change
+abbrev pub blank : Change
 blank c m = record { body = blank_if (is_some m.body); lines = [] }
 
-blank_coded : KeepsCode blank
+pub blank_coded : KeepsCode blank
 blank_coded c m = by (is_some m.body)
   where
     by : (b : Bool) → is_some (blank_if b) ≡ b
@@ -43,7 +43,7 @@ module _ (R : Codes) where
   class_blank c d h = ap (λ (x : NamedClass). record x { methods = map (method_changed blank d) d.methods }) h.same
       ∙ ap (λ l. record c { methods = l }) (pairwise_maps (OtherMethod R c) (method_changed blank d) (method_changed blank c) (method_blank c d) c.methods d.methods h.methods)
 
-  program_blank : (p q : NamedProgram) → OtherBodies R p q → changed blank q ≡ changed blank p
+  pub program_blank : (p q : NamedProgram) → OtherBodies R p q → changed blank q ≡ changed blank p
   program_blank p q h = ap (λ (x : NamedProgram). record x { classes = map (class_changed blank) q.classes }) h.same
       ∙ ap (λ l. record p { classes = l }) (pairwise_maps (OtherClass R) (class_changed blank) (class_changed blank) class_blank p.classes q.classes h.classes)
 

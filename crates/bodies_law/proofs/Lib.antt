@@ -2,3 +2,4 @@ pub mod Keys
 pub mod Faces
 pub mod Found
 pub mod Named
+pub mod Typed

@@ -9,6 +9,7 @@ use Rattle.program_model.specs.declared.program.Program.{Program}
 use Rattle.dalvik_defs.specs.Naming.{body_of, named_method, named_class, named}
 use Rattle.dalvik_defs.specs.Silence.{key_in}
 use Rattle.dalvik_defs.specs.declared.names.MethodKey.{MethodKey}
+use Rattle.dalvik_defs.specs.declared.program.NamedBody.{NamedBody}
 use Rattle.dalvik_defs.specs.declared.program.NamedMethod.{NamedMethod}
 use Rattle.dalvik_defs.specs.declared.program.NamedClass.{NamedClass}
 use Rattle.dalvik_defs.specs.declared.program.NamedProgram.{NamedProgram}
@@ -59,3 +60,19 @@ others_changed R new p keeps each = record { same = refl; classes = pairwise_sel
 
     class_other : (c : NamedClass) → OtherClass R c (class_changed new c)
     class_other c = record { same = refl; methods = pairwise_self (OtherMethod R c) (method_changed new c) (method_other c) c.methods }
+
+-- what follows from what is said of code
+pairwise_weaker : {A : Type 0} (R S : A → A → Type 0) → ((x y : A) → R x y → S x y) → (xs ys : List A) → Pairwise R xs ys → Pairwise S xs ys
+pairwise_weaker R S h [] [] r = tt
+pairwise_weaker R S h [] (y ∷ ys) r = absurd r
+pairwise_weaker R S h (x ∷ xs) [] r = absurd r
+pairwise_weaker R S h (x ∷ xs) (y ∷ ys) r = (h x y r.0, pairwise_weaker R S h xs ys r.1)
+
+pub others_weaker : (R S : Codes) → ((k : MethodKey) (a b : Option NamedBody) → R k a b → S k a b) → (p q : NamedProgram) → OtherBodies R p q → OtherBodies S p q
+others_weaker R S h p q o = record { same = o.same; classes = pairwise_weaker (OtherClass R) (OtherClass S) in_class p.classes q.classes o.classes }
+  where
+    in_method : (c : NamedClass) (m n : NamedMethod) → OtherMethod R c m n → OtherMethod S c m n
+    in_method c m n i = record { same = i.same; coded = i.coded; related = h (key_in c m) m.body n.body i.related }
+
+    in_class : (c d : NamedClass) → OtherClass R c d → OtherClass S c d
+    in_class c d i = record { same = i.same; methods = pairwise_weaker (OtherMethod R c) (OtherMethod S c) (in_method c) c.methods d.methods i.methods }

@@ -30,7 +30,7 @@ module _ (fs : List Fate) (n : ℕ) (left : IsLeft (slice_get fs n)) where
       let b = leb-true (suc (place fs n)) (place fs r.end) (before fs n r.end left ∙ both_right (nat_le r.first n) (nat_lt n r.end) e) in
       le-leb (suc (place fs r.first)) (place fs r.end) (omega (arith, a, b))
 
-  region_same : (rs : List NamedRegion) → find (covers (place fs n)) (filter has_room (map (moved (place fs)) rs)) ≡ option_map (moved (place fs)) (find (covers n) rs)
+  pub region_same : (rs : List NamedRegion) → find (covers (place fs n)) (filter has_room (map (moved (place fs)) rs)) ≡ option_map (moved (place fs)) (find (covers n) rs)
   region_same [] = refl
   region_same (r ∷ rs) = by (covers n r) (has_room (moved (place fs) r)) refl refl (region_same rs)
     where

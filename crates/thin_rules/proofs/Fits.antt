@@ -1,5 +1,5 @@
 -- A thinned body keeps the rules of bodies.
-use Rattle.std.proofs.Common.{◌≡◌, ◌⊎◌, inl, inr, ℕ, zero, suc, ◌+◌, ◌-◌, ◌<◌, Bool, true, false, true≢false, List, [], ◌∷◌, length, refl, sym, ap, ◌∙◌, subst, arith}
+use Rattle.std.proofs.Common.{◌≡◌, ◌⊎◌, inl, inr, ℕ, zero, suc, ◌+◌, ◌-◌, ◌<◌, ◌≤◌, Bool, true, false, true≢false, List, [], ◌∷◌, length, refl, sym, ap, ◌∙◌, subst, arith}
 use Rattle.std.specs.Prelude.{◌&&◌, not, Option, Some, None, slice_get, Contains, nat_lt, nat_le}
 use Rattle.std.specs.List.{list_all, enumerate_from}
 use Rattle.std.specs.Option.{option_map}
@@ -23,7 +23,7 @@ use Rattle.silence_law.proofs.Lists.{clash, and_left, and_right, and_both, all_m
 use Rattle.thin_law.proofs.Places.{IsLeft, place_next}
 use Rattle.thin_rules.specs.Tidy.{IsTidy}
 use Rattle.thin_rules.proofs.Kept.{encodable, registers, numbers, gives, enters, begins, aims, enter_begin}
-use Rattle.thin_rules.proofs.Places.{get_within, get_there, all_at, all_of, all_with, all_numbered, all_beside, left_insn, insn_left, From, come_from, place_same}
+use Rattle.thin_rules.proofs.Places.{get_within, get_there, all_at, all_of, all_with, all_numbered, all_beside, left_insn, insn_left, From, come_from, place_same, place_rises}
 use Rattle.thin_rules.proofs.Regions.{handlers_begin, rest_begins, kept_all, kept_any, handles_there, each_region_fits, regions_left}
 use Rattle.thin_rules.proofs.Lands.{first_begins, all_regions_fit, operands_at, targets_at, follows_at, left_at, Lands, lands, target_lands, is_marked, Falls, falls}
 
@@ -41,6 +41,23 @@ less n a l = omega arith
 
 same_suc : (a j : ℕ) → suc a ≡ suc j → a ≡ j
 same_suc a j e = omega (arith, e)
+
+too_low : (a b : ℕ) → a ≡ suc b → a ≤ b → ⊥
+too_low a b e l = omega (arith, e, l)
+
+too_high : (a b : ℕ) → b ≡ a → suc b ≤ a → ⊥
+too_high a b e l = omega (arith, e, l)
+
+three : (n m : ℕ) → (n ≤ m) ⊎ ((n ≡ suc m) ⊎ (suc (suc m) ≤ n))
+three zero m = inl (omega arith)
+three (suc zero) zero = inr (inl refl)
+three (suc (suc n)) zero = inr (inr (omega arith))
+three (suc n) (suc m) = by (three n m)
+  where
+    by : (n ≤ m) ⊎ ((n ≡ suc m) ⊎ (suc (suc m) ≤ n)) → (suc n ≤ suc m) ⊎ ((suc n ≡ suc (suc m)) ⊎ (suc (suc (suc m)) ≤ suc n))
+    by (inl l) = inl (omega (arith, l))
+    by (inr (inl e)) = inr (inl (ap suc e))
+    by (inr (inr l)) = inr (inr (omega (arith, l)))
 
 none_plus : (n : ℕ) → n ≡ 0 + n
 none_plus n = omega arith
@@ -198,9 +215,37 @@ module _ (p : Program) (marks : ℕ → Bool) (fs : List Fate) (b : Body) (fits 
 
   -- ---- regions
 
-  begins_either : (n : ℕ) → may_begin (slice_get b.insns n) ≡ true → (marks n ≡ true) ⊎ (may_begin (slice_get new (at n)) ≡ true) → may_begin (slice_get new (at n)) ≡ true
+  -- what stands at a place to which a handler has come is no result of a call that stands before it
+  no_result : (n m to : ℕ) (slot : Slot) → may_begin (slice_get b.insns n) ≡ true → slice_get fs m ≡ Some Stays → slice_get b.insns m ≡ Some (insn.MoveResult slot to) → at m ≡ at n → ⊥
+  no_result n zero to slot e h k s = absurd (true≢false (sym (first_begins p marks fs b fits tidy) ∙ ap may_begin k))
+  no_result n (suc m) to slot e h k s = by (three n m)
+    where
+      giver : slice_get fs m ≡ Some Stays
+      giver = tidy.results m to slot h k
+
+      by : (n ≤ m) ⊎ ((n ≡ suc m) ⊎ (suc (suc m) ≤ n)) → ⊥
+      by (inl l) = too_low (at n) (at m) (sym s ∙ place_next fs m (subst IsLeft (sym giver) tt)) (place_rises fs n m l)
+      by (inr (inl d)) = absurd (true≢false (sym e ∙ ap may_begin (ap (slice_get b.insns) d ∙ k)))
+      by (inr (inr l)) = too_high (at n) (at (suc m)) s (subst (λ z. z ≤ at n) (place_next fs (suc m) (subst IsLeft (sym h) tt)) (place_rises fs (suc (suc m)) n l))
+
+  begins_within : (n : ℕ) → may_begin (slice_get b.insns n) ≡ true → at n < length new → may_begin (slice_get new (at n)) ≡ true
+  begins_within n e l =
+      let y = get_there new (at n) l in
+      let r = come_from at fs b.insns (at n) y.0 y.1 in
+      ap may_begin y.1 ∙ ap (λ z. may_begin (Some z)) r.same ∙ by r.position r.fate r.insn r.has_fate r.is_left r.has_insn r.there
+    where
+      by_form : (m : ℕ) (i : Insn) → slice_get fs m ≡ Some Stays → slice_get b.insns m ≡ Some i → at m ≡ at n → may_begin (Some i) ≡ true
+      by_form m (insn.MoveResult slot to) h k s = absurd (no_result n m to slot e h k s)
+      by_form m i h k s = refl
+
+      by : (m : ℕ) (f : Fate) (i : Insn) → slice_get fs m ≡ Some f → IsLeft (Some f) → slice_get b.insns m ≡ Some i → at m ≡ at n → may_begin (Some (left_insn at f i)) ≡ true
+      by m Stays i h l k s = begins at i ∙ by_form m i h k s
+      by m Empties i h l k s = refl
+      by m Goes i h l k s = absurd l
+
+  begins_either : (n : ℕ) → may_begin (slice_get b.insns n) ≡ true → (marks n ≡ true) ⊎ (at n < length new) → may_begin (slice_get new (at n)) ≡ true
   begins_either n e (inl m) = begins_at n m e
-  begins_either n e (inr d) = d
+  begins_either n e (inr l) = begins_within n e l
 
   one_region : (r : Region) → Contains b.regions r → region_fits p b.insns r ≡ true
   one_region r c = all_at (region_fits p b.insns) b.regions r c (each_region_fits p b.insns fs tidy.long b.regions (all_regions_fit p marks fs b fits tidy))

@@ -3,3 +3,4 @@ pub mod Places
 pub mod Lands
 pub mod Regions
 pub mod Fits
+pub mod Tidied

@@ -5,7 +5,6 @@ use Rattle.insn_set.specs.declared.form.Insn.{Insn}
 use Rattle.insn_set.specs.declared.ops.Slot.{Slot}
 use Rattle.insn_set.specs.declared.form.Insn.TheVariants as insn
 use Rattle.program_model.specs.BodyRules.{has_result, leaves, handles_at}
-use Rattle.program_model.specs.RegionRules.{may_begin}
 use Rattle.program_model.specs.declared.body.Body.{Body}
 use Rattle.program_model.specs.declared.body.Handler.{Handler}
 use Rattle.program_model.specs.declared.body.Region.{Region}
@@ -31,7 +30,7 @@ pub record IsTidy (marks : ℕ → Bool) (fs : List Fate) (b : Body) : Type 0 wh
   pub leaves : (n : ℕ) (i : Insn) → slice_get fs n ≡ Some Stays → slice_get b.insns n ≡ Some i → leaves (place fs n) (insn_retargeted (place fs) i) ≡ true
   -- a region that covers something still has its handler at each MoveException that stays
   pub caught : (n to : ℕ) → slice_get fs n ≡ Some Stays → slice_get b.insns n ≡ Some (insn.MoveException to) → (r : Region) × (Contains b.regions r × ((handles_at n r ≡ true) × (region_has_room (region_moved (place fs) r) ≡ true)))
-  -- the handlers of such a region are marked, or have come to where a handler may begin
+  -- the handlers of such a region are marked, or haven't come past the end
   pub handlers : (r : Region) (h : Handler) → Contains b.regions r → region_has_room (region_moved (place fs) r) ≡ true → Contains r.handlers h
-      → (marks h.position ≡ true) ⊎ (may_begin (slice_get (body_thinned fs b).insns (place fs h.position)) ≡ true)
-  pub rests : (r : Region) (n : ℕ) → Contains b.regions r → region_has_room (region_moved (place fs) r) ≡ true → r.rest ≡ Some n → (marks n ≡ true) ⊎ (may_begin (slice_get (body_thinned fs b).insns (place fs n)) ≡ true)
+      → (marks h.position ≡ true) ⊎ (place fs h.position < length (body_thinned fs b).insns)
+  pub rests : (r : Region) (n : ℕ) → Contains b.regions r → region_has_room (region_moved (place fs) r) ≡ true → r.rest ≡ Some n → (marks n ≡ true) ⊎ (place fs n < length (body_thinned fs b).insns)

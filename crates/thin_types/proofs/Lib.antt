@@ -1,0 +1,5 @@
+pub mod Orders
+pub mod Demanded
+pub mod Leaves
+pub mod Sites
+pub mod Squeezed

@@ -1,1 +1,11 @@
 pub mod Renaming
+pub mod Reading
+pub mod Held
+pub mod Selecting
+pub mod Widths
+pub mod Stepping
+pub mod Knowing
+pub mod Sequences
+pub mod Asking
+pub mod Arriving
+pub mod TypedRenaming

@@ -32,6 +32,7 @@ use Rattle.place_law.proofs.Onward.{clash, contained}
 use Rattle.place_law.proofs.Bodies.{replaced, some_replaced, none_replaced}
 use Rattle.place_law.proofs.Programs.{in_place_always}
 use Rattle.pack_law.specs.Renamed.{IsRenamed, AllRenamed, Lives}
+use Rattle.pack_law.proofs.Reading.{reads_some}
 
 -- ---- the registers of an entry
 
@@ -51,11 +52,6 @@ below_or (suc n) zero = inl (omega arith)
 below_or (suc n) (suc o) = elim (below_or n o) [ inl lt ↦ inl (omega (arith, lt)) | inr h ↦ let e = h.1 in inr (h.0, omega (arith, e)) ]
 
 -- ---- what is read
-
-reads_some : (b : NamedBody) (r n k : ℕ) → IsReadAt b r n k → (m : ℕ) × ((f : Form) × ((form_at b m ≡ Some f) × (reads f r ≡ true)))
-reads_some b r n k (IsReadAt.Here m f e i) = (m, (f, (e, i)))
-reads_some b r n k (IsReadAt.Onward m j l f e i c h) = reads_some b r j l h
-reads_some b r n k (IsReadAt.Caught m j l f e c h) = reads_some b r j l h
 
 get_map : {A B : Type 0} (t : A → B) (xs : List A) (i : ℕ) → slice_get (map t xs) i ≡ option_map t (slice_get xs i)
 get_map t [] i = refl

@@ -1,0 +1,65 @@
+-- Lists, what stands in them, and tests of all that does.
+use Rattle.std.proofs.Common.{◌≡◌, ℕ, zero, suc, ◌+◌, ◌<◌, Bool, true, false, List, [], ◌∷◌, ◌++◌, length, Option, Some, None, refl, sym, ap, ◌∙◌, subst, inl, inr, arith, eqb-true}
+use Rattle.std.specs.Prelude.{◌⊎◌, ◌&&◌, nat_eq, map, slice_get, Contains}
+use Rattle.std.specs.List.{list_all}
+use Rattle.std.specs.Option.{option_map}
+use Rattle.pass_defs.specs.Typed.{each}
+use Rattle.pass_defs.proofs.Writes.{left_true, right_true, both_true}
+use Rattle.form_law.specs.Changes.{In, here, there}
+use Rattle.form_law.proofs.Uses.{own}
+use Rattle.place_law.proofs.Onward.{clash}
+
+pub in_contains : {A : Type 0} (x : A) (xs : List A) → Contains xs x → In x xs
+in_contains x [] (k, lt, e) = absurd (omega (arith, lt))
+in_contains x (y ∷ xs) (zero, lt, e) = subst (λ z. In x (z ∷ xs)) (sym e) (here xs)
+in_contains x (y ∷ xs) (suc k, lt, e) = there y xs (in_contains x xs (k, omega (arith, lt), e))
+
+pub split_in : {A : Type 0} (x : A) (xs ys : List A) → In x (xs ++ ys) → In x xs ⊎ In x ys
+split_in x [] ys i = inr i
+split_in x (y ∷ xs) ys (here zs) = inl (here xs)
+split_in x (y ∷ xs) ys (there z zs i) = elim (split_in x xs ys i) [ inl j ↦ inl (there y xs j) | inr j ↦ inr j ]
+
+pub in_map : {A B : Type 0} (g : A → B) (x : A) (xs : List A) → In x xs → In (g x) (map g xs)
+in_map g x [] i = elim i [ ]
+in_map g x (y ∷ xs) (here zs) = here (map g xs)
+in_map g x (y ∷ xs) (there z zs i) = there (g y) (map g xs) (in_map g x xs i)
+
+pub all_in : {A : Type 0} (f : A → Bool) (xs : List A) (x : A) → list_all f xs ≡ true → In x xs → f x ≡ true
+all_in f [] x e i = elim i [ ]
+all_in f (y ∷ xs) x e (here zs) = left_true (f y) (list_all f xs) e
+all_in f (y ∷ xs) x e (there z zs i) = all_in f xs x (right_true (f y) (list_all f xs) e) i
+
+pub all_map : {A B : Type 0} (f : B → Bool) (g : A → B) (xs : List A) → ((x : A) → In x xs → f (g x) ≡ true) → list_all f (map g xs) ≡ true
+all_map f g [] h = refl
+all_map f g (x ∷ xs) h = both_true (f (g x)) (list_all f (map g xs)) (h x (here xs)) (all_map f g xs (λ y i. h y (there x xs i)))
+
+pub all_both : {A : Type 0} (f : A → Bool) (xs ys : List A) → list_all f xs ≡ true → list_all f ys ≡ true → list_all f (xs ++ ys) ≡ true
+all_both f [] ys d e = e
+all_both f (x ∷ xs) ys d e = both_true (f x) (list_all f (xs ++ ys)) (left_true (f x) (list_all f xs) d) (all_both f xs ys (right_true (f x) (list_all f xs) d) e)
+
+pub each_at : (n : ℕ) (test : ℕ → Bool) (i : ℕ) → i < n → each n test ≡ true → test i ≡ true
+each_at zero test i lt e = absurd (omega (arith, lt))
+each_at (suc n) test i lt e = by (λ l. each_at n test i l (left_true (each n test) (test n) e)) (nat_eq i n) refl
+  where
+    less : (i n : ℕ) → i < suc n → (i ≡ n → ⊥) → i < n
+    less i zero lt ne = absurd (ne (omega (arith, lt)))
+    less zero (suc n) lt ne = omega arith
+    less (suc i) (suc n) lt ne = let h = less i n (omega (arith, lt)) (λ e. ne (ap suc e)) in omega (arith, h)
+
+    by : (i < n → test i ≡ true) → (b : Bool) → nat_eq i n ≡ b → test i ≡ true
+    by more true j = ap test (eqb-true i n j) ∙ right_true (each n test) (test n) e
+    by more false j = more (less i n lt (λ z. clash (nat_eq i n) (ap (nat_eq i) (sym z) ∙ own i) j))
+
+pub all_each : (n : ℕ) (test : ℕ → Bool) → ((i : ℕ) → test i ≡ true) → each n test ≡ true
+all_each zero test h = refl
+all_each (suc n) test h = both_true (each n test) (test n) (all_each n test h) (h n)
+
+pub get_below : {A : Type 0} (xs : List A) (n : ℕ) (x : A) → slice_get xs n ≡ Some x → n < length xs
+get_below [] n x e = clash true refl (ap (λ o. elim o as (λ o. Bool) [ Some y ↦ false | None ↦ true ]) e)
+get_below (y ∷ xs) zero x e = omega arith
+get_below (y ∷ xs) (suc n) x e = let h = get_below xs n x e in omega (arith, h)
+
+pub get_map : {A B : Type 0} (g : A → B) (xs : List A) (n : ℕ) → slice_get (map g xs) n ≡ option_map g (slice_get xs n)
+get_map g [] n = refl
+get_map g (x ∷ xs) zero = refl
+get_map g (x ∷ xs) (suc n) = get_map g xs n

@@ -1,0 +1,102 @@
+-- A typing of a body with other registers: at each position that is reached, each register has the kind of the one that it
+-- stands for and that is read later.
+use Rattle.std.specs.Prelude.{◌≡◌, ◌↔◌, ℕ, zero, suc, ◌+◌, ◌-◌, Bool, true, false, ◌&&◌, ◌||◌, if◌then◌else◌, nat_eq, List, [], ◌∷◌, length, Option, Some, None, Contains}
+use Rattle.std.specs.Option.{option_map}
+use Rattle.dalvik_defs.specs.Names.{is_wide}
+use Rattle.dalvik_defs.specs.declared.names.MethodKey.{MethodKey}
+use Rattle.insn_set.specs.declared.ops.InvokeKind.{InvokeKind}
+use Rattle.dalvik_defs.specs.declared.forms.Form.{Form}
+use Rattle.dalvik_defs.specs.declared.forms.Form.TheVariants as form
+use Rattle.dalvik_defs.specs.declared.program.NamedBody.{NamedBody}
+use Rattle.dalvik_defs.specs.declared.program.NamedMethod.{NamedMethod}
+use Rattle.dalvik_defs.specs.declared.program.NamedClass.{NamedClass}
+use Rattle.dalvik_defs.specs.declared.program.NamedProgram.{NamedProgram}
+use Rattle.pass_defs.specs.Bare.{reads}
+use Rattle.pass_defs.specs.Walks.{form_at, IsReached, IsRead}
+use Rattle.pass_defs.specs.Kinds.{Kind, Undefined, Low, High, kind_eq}
+use Rattle.pass_defs.specs.Registers.{Kinds, kind_at}
+use Rattle.pass_defs.specs.Demands.{Demand, Pair, Behind, is_constructor_name, demands}
+use Rattle.pass_defs.specs.Typed.{argument_kinds, Table, state_at, IsTyping}
+use Rattle.form_law.specs.Changes.{In}
+use Rattle.place_law.specs.Solid.{IsSolid}
+use Rattle.silence_law.specs.Bodies.{Change, KeepsCode}
+use Rattle.pack_law.specs.Renamed.{IsRenamed}
+
+-- a kind that is neither undefined nor half of a wide
+abbrev pub is_whole : Kind → Bool
+is_whole Undefined = false
+is_whole Low = false
+is_whole High = false
+is_whole k = true
+
+-- which registers are read at a position or later before they are written, and which positions a walk comes to, as tests
+pub record Marks (b : NamedBody) : Type 0 where
+  pub live : ℕ → ℕ → Bool
+  pub is_live : (n r : ℕ) → (live n r ≡ true) ↔ IsRead b r n
+  pub reached : ℕ → Bool
+  pub is_reached : (n : ℕ) → (reached n ≡ true) ↔ IsReached b n
+
+-- ---- the table
+
+module _ (new : ℕ → ℕ) (live : ℕ → Bool) (ks : List Kind) where
+  -- both halves of a wide are live, and stay side by side
+  abbrev pub is_pair : ℕ → Bool
+  is_pair q = (live q && live (q + 1)) && (kind_eq (kind_at ks q) Low && (kind_eq (kind_at ks (q + 1)) High && nat_eq (new (q + 1)) (new q + 1)))
+
+  -- a live register, whole or half of such a wide
+  abbrev pub is_kept : ℕ → Bool
+  is_kept o = live o && (is_whole (kind_at ks o) || (is_pair o || is_pair (o - 1)))
+
+-- the greatest number below a bound that passes a test
+abbrev pub sought : ℕ → (ℕ → Bool) → Option ℕ
+sought zero test = None
+sought (suc k) test = if test k then Some k else sought k test
+
+abbrev pub kind_or : List Kind → Option ℕ → Kind
+kind_or ks None = Undefined
+kind_or ks (Some o) = kind_at ks o
+
+-- the kind of the register that another one stands for
+abbrev pub selected : (ℕ → ℕ) → (ℕ → Bool) → List Kind → ℕ → Kind
+selected new live ks x = kind_or ks (sought (length ks) (λ o. is_kept new live ks o && nat_eq (new o) x))
+
+-- the kinds of so many registers from one on
+abbrev pub listed : ℕ → ℕ → (ℕ → Kind) → List Kind
+listed zero at kind = []
+listed (suc k) at kind = kind at ∷ listed k (at + 1) kind
+
+abbrev pub renamed_kinds : (ℕ → ℕ) → (ℕ → Bool) → ℕ → Kinds → Kinds
+renamed_kinds new live size a = record a { registers = listed size 0 (selected new live a.registers) }
+
+-- from a position on
+abbrev pub renamed_from : (ℕ → ℕ) → (ℕ → ℕ → Bool) → (ℕ → Bool) → ℕ → ℕ → Table → Table
+renamed_from new live reached size n [] = []
+renamed_from new live reached size n (o ∷ t) = (if reached n then option_map (renamed_kinds new (live n) size) o else None) ∷ renamed_from new live reached size (n + 1) t
+
+-- ---- what is asked
+
+-- An operand is read: of a wide both halves, which stay side by side. A register that must be behind another is its half.
+abbrev pub Kept : Form → (ℕ → ℕ) → List (ℕ × Demand) → ℕ → Demand → Type 0
+Kept f new all x Pair = (reads f x ≡ true) × ((reads f (x + 1) ≡ true) × (new (x + 1) ≡ new x + 1))
+Kept f new all x (Behind q) = In (q, Pair) all
+Kept f new all x d = reads f x ≡ true
+
+pub record IsTypedRenamed (p : NamedProgram) (c : NamedClass) (m : NamedMethod) (b d : NamedBody) : Type 0 where
+  pub new : ℕ → ℕ
+  pub renamed : IsRenamed b d new
+  pub solid : IsSolid b
+  pub marks : Marks b
+  pub table : Table
+  pub typing : IsTyping p c m b table
+  -- a method takes as many registers as its arguments have
+  pub takes : length (argument_kinds p c m) ≡ b.ins
+  pub asked : (n : ℕ) (f : Form) (a : Kinds) (x : ℕ) (q : Demand) → form_at b n ≡ Some f → state_at table n ≡ Some a → In (x, q) (demands p c m a.registers f)
+      → Kept f new (demands p c m a.registers f) x q
+  -- the class is of no wide type, and no method of one is called
+  pub class : is_wide c.name ≡ false
+  pub calls : (n : ℕ) (kind : InvokeKind) (k : MethodKey) (args : List ℕ) → form_at b n ≡ Some (form.Invoke kind k args) → is_wide k.class ≡ false
+
+-- so it is in each method, and methods have code where they had
+pub record AllTypedRenamed (new : Change) (p : NamedProgram) : Type 0 where
+  pub code : KeepsCode new
+  pub bodies : (c : NamedClass) (m : NamedMethod) (b d : NamedBody) → Contains p.classes c → Contains c.methods m → m.body ≡ Some b → (new c m).body ≡ Some d → IsTypedRenamed p c m b d

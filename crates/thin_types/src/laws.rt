@@ -18,6 +18,7 @@ ghost use Rattle.pass_defs.specs.Thinned.{Fate, thinned};
 ghost use Rattle.pass_defs.specs.Typed.{begun, after, is_wrong, Table, IsTyping, IsTyped};
 ghost use Rattle.bodies_law.specs.Others.{OtherBodies};
 ghost use Rattle.bodies_law.specs.Numbered.{OtherNumberedBodies};
+ghost use Rattle.kind_law.specs.Rooted.{IsRooted};
 ghost use Rattle.thin_law.specs.Thins.{Thins, ThinsNumbered};
 ghost use Rattle.thin_types.specs.Renamed.{KeepsApart, renamed, kinds_renamed};
 ghost use Rattle.thin_types.specs.Squeezed.{IsTransitive, SqueezesMarked, Squeezes, squeezed_table};
@@ -41,10 +42,10 @@ pub fn squeezed_typing_law()
         → (marks : ℕ → Bool) (fates : List Fate) → SqueezesMarked marks fates b → IsTyping p c m (thinned fates b) (squeezed_table marks fates t) }
 {}
 
-/// A squeezed program is typed where the program is, if the order of kinds is transitive.
+/// A squeezed program is typed where the program is, if its classes stand in lines that end outside it.
 pub fn squeezed_typed_law()
-    ensures by_name { (p q : NamedProgram) → IsTransitive p → IsTyped p → OtherBodies (Thins Squeezes) p q → IsTyped q }
-    ensures by_number { (p q : Program) → IsTransitive (named p) → IsTyped (named p) → OtherNumberedBodies (ThinsNumbered Squeezes p) p q → IsTyped (named q) }
+    ensures by_name { (p q : NamedProgram) → IsRooted p → IsTyped p → OtherBodies (Thins Squeezes) p q → IsTyped q }
+    ensures by_number { (p q : Program) → IsRooted (named p) → IsTyped (named p) → OtherNumberedBodies (ThinsNumbered Squeezes p) p q → IsTyped (named q) }
 {}
 
 /// And it shows the same.

@@ -1,3 +1,4 @@
+use Rattle.kind_law.proofs.Transitive.{transitive}
 use Rattle.dalvik_defs.specs.Naming.{named}
 use Rattle.thin_law.proofs.Programs.{named_thins}
 use Rattle.thin_types.specs.Squeezed.{Squeezes}
@@ -5,7 +6,7 @@ use Rattle.thin_types.proofs.Programs.{marked_typed}
 use Rattle.thin_types.proofs.laws.squeezed_typed_law.Goals as goal
 
 pub returns-clause-by_name : goal.returns-clause-by_name
-returns-clause-by_name c = λ p q above typed h. marked_typed p above typed q h
+returns-clause-by_name c = λ p q rooted typed h. marked_typed p (transitive p rooted) typed q h
 
 pub returns-clause-by_number : goal.returns-clause-by_number
-returns-clause-by_number c = λ p q above typed h. marked_typed (named p) above typed (named q) (named_thins Squeezes p q h)
+returns-clause-by_number c = λ p q rooted typed h. marked_typed (named p) (transitive (named p) rooted) typed (named q) (named_thins Squeezes p q h)

@@ -3,3 +3,4 @@ pub mod Demanded
 pub mod Leaves
 pub mod Sites
 pub mod Squeezed
+pub mod Programs

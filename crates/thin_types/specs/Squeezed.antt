@@ -10,6 +10,7 @@ use Rattle.pass_defs.specs.Thinned.{Fate, Stays, Empties, Goes, stays, place, le
 use Rattle.pass_defs.specs.Typed.{Table}
 use Rattle.pass_defs.specs.Walks.{form_at, onward, caught}
 use Rattle.thin_law.specs.Squeezing.{IsSkipped}
+use Rattle.thin_law.specs.Thins.{Right}
 use Rattle.thin_types.specs.Renamed.{kinds_renamed}
 
 -- the order of kinds
@@ -25,6 +26,10 @@ pub record SqueezesMarked (marks : ℕ → Bool) (fs : List Fate) (b : NamedBody
   pub caught : (n m : ℕ) (f : Form) → marks n ≡ true → form_at b n ≡ Some f → Contains (caught b f n) m → marks m ≡ true
   pub left : (n : ℕ) (f : Fate) → slice_get fs n ≡ Some f → (f ≡ Goes → ⊥) → marks n ≡ true
   pub skipped : (n : ℕ) (x : Form) (f : Fate) → marks n ≡ true → form_at b n ≡ Some x → slice_get fs n ≡ Some f → stays f ≡ false → IsSkipped fs n x
+
+-- fates that some marks make right
+abbrev pub Squeezes : Right
+Squeezes k fs b = (marks : ℕ → Bool) × SqueezesMarked marks fs b
 
 abbrev pub is_left : Option Fate → Bool
 is_left (Some Stays) = true

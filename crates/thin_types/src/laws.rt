@@ -1,6 +1,10 @@
 //! Laws of typings of thinned bodies.
 
 ghost use Rattle.std.specs.Prelude.{◌≡◌, ℕ, Bool, List};
+ghost use Rattle.program_model.specs.declared.program.Program.{Program};
+ghost use Rattle.dalvik_defs.specs.Naming.{named};
+ghost use Rattle.dalvik_defs.specs.Outer.{Outer};
+ghost use Rattle.dalvik_defs.specs.Shown.{SameShown};
 ghost use Rattle.dalvik_defs.specs.declared.forms.Form.{Form};
 ghost use Rattle.dalvik_defs.specs.declared.program.NamedBody.{NamedBody};
 ghost use Rattle.dalvik_defs.specs.declared.program.NamedMethod.{NamedMethod};
@@ -11,9 +15,13 @@ ghost use Rattle.pass_defs.specs.Kinds.{Kind, is_below};
 ghost use Rattle.pass_defs.specs.Registers.{Kinds};
 ghost use Rattle.pass_defs.specs.Remade.{retargeted};
 ghost use Rattle.pass_defs.specs.Thinned.{Fate, thinned};
-ghost use Rattle.pass_defs.specs.Typed.{begun, after, is_wrong, Table, IsTyping};
+ghost use Rattle.pass_defs.specs.Typed.{begun, after, is_wrong, Table, IsTyping, IsTyped};
+ghost use Rattle.bodies_law.specs.Others.{OtherBodies};
+ghost use Rattle.bodies_law.specs.Numbered.{OtherNumberedBodies};
+ghost use Rattle.kind_law.specs.Rooted.{IsRooted};
+ghost use Rattle.thin_law.specs.Thins.{Thins, ThinsNumbered};
 ghost use Rattle.thin_types.specs.Renamed.{KeepsApart, renamed, kinds_renamed};
-ghost use Rattle.thin_types.specs.Squeezed.{IsTransitive, SqueezesMarked, squeezed_table};
+ghost use Rattle.thin_types.specs.Squeezed.{IsTransitive, SqueezesMarked, Squeezes, squeezed_table};
 
 /// Where positions have other numbers, kinds keep their order, and each form with other targets reads what it read, is as
 /// right as it was, and leaves what it left.
@@ -32,4 +40,16 @@ pub fn renamed_law()
 pub fn squeezed_typing_law()
     ensures { (p : NamedProgram) → IsTransitive p → (c : NamedClass) (m : NamedMethod) (b : NamedBody) (t : Table) → IsTyping p c m b t
         → (marks : ℕ → Bool) (fates : List Fate) → SqueezesMarked marks fates b → IsTyping p c m (thinned fates b) (squeezed_table marks fates t) }
+{}
+
+/// A squeezed program is typed where the program is, if its classes stand in lines that end outside it.
+pub fn squeezed_typed_law()
+    ensures by_name { (p q : NamedProgram) → IsRooted p → IsTyped p → OtherBodies (Thins Squeezes) p q → IsTyped q }
+    ensures by_number { (p q : Program) → IsRooted (named p) → IsTyped (named p) → OtherNumberedBodies (ThinsNumbered Squeezes p) p q → IsTyped (named q) }
+{}
+
+/// And it shows the same.
+pub fn squeezed_shown_law()
+    ensures by_name { (p q : NamedProgram) (o : Outer) → OtherBodies (Thins Squeezes) p q → SameShown p q o }
+    ensures by_number { (p q : Program) (o : Outer) → OtherNumberedBodies (ThinsNumbered Squeezes p) p q → SameShown (named p) (named q) o }
 {}

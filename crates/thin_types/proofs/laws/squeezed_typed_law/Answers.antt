@@ -1,0 +1,12 @@
+use Rattle.kind_law.proofs.Transitive.{transitive}
+use Rattle.dalvik_defs.specs.Naming.{named}
+use Rattle.thin_law.proofs.Programs.{named_thins}
+use Rattle.thin_types.specs.Squeezed.{Squeezes}
+use Rattle.thin_types.proofs.Programs.{marked_typed}
+use Rattle.thin_types.proofs.laws.squeezed_typed_law.Goals as goal
+
+pub returns-clause-by_name : goal.returns-clause-by_name
+returns-clause-by_name c = λ p q rooted typed h. marked_typed p (transitive p rooted) typed q h
+
+pub returns-clause-by_number : goal.returns-clause-by_number
+returns-clause-by_number c = λ p q rooted typed h. marked_typed (named p) (transitive (named p) rooted) typed (named q) (named_thins Squeezes p q h)

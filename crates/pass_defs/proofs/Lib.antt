@@ -10,6 +10,7 @@ pub mod Spins
 pub mod HiddenNames
 pub mod Sums
 pub mod Copies
+pub mod FirstValues
 pub mod Packing
 pub mod Drops
 pub mod FlatSound

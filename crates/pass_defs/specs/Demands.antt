@@ -20,7 +20,7 @@ use Rattle.dalvik_defs.specs.declared.forms.Form.TheVariants as form
 use Rattle.dalvik_defs.specs.declared.program.NamedMethod.{NamedMethod}
 use Rattle.dalvik_defs.specs.declared.program.NamedClass.{NamedClass}
 use Rattle.dalvik_defs.specs.declared.program.NamedProgram.{NamedProgram}
-use Rattle.pass_defs.specs.Kinds.{Kind, Undefined, Zero, Word, Low, High, Null, Array, Fresh, FreshThis, kind_eq, is_number, is_initialised, fits}
+use Rattle.pass_defs.specs.Kinds.{Kind, Undefined, Zero, Word, Low, High, Null, Array, Fresh, FreshThis, kind_eq, is_number, is_initialised, fits, fits_holder}
 use Rattle.pass_defs.specs.Registers.{Kinds, kind_at}
 
 pub data Demand : Type 0 where
@@ -35,6 +35,8 @@ pub data Demand : Type 0 where
   -- a number or an initialised reference
   Either : Demand
   Fits : (type : Text) → Demand
+  -- the receiver of a get of a field of a class
+  Receiver : (class : Text) → Demand
   -- the receiver of a put, which may be the receiver of a constructor where its class defines the field
   Holder : (field : FieldKey) → Demand
   -- the receiver of a constructor of a class
@@ -68,22 +70,22 @@ is_array_where of Null = true
 is_array_where of (Array t) = of (item_of t)
 is_array_where of k = false
 
--- the bytes of a primitive item
-abbrev pub width_of_item : Item → ℕ
-width_of_item item.Plain = 4
-width_of_item item.Wide = 8
-width_of_item item.Object = 0
-width_of_item item.Boolean = 1
-width_of_item item.Byte = 1
-width_of_item item.Char = 2
-width_of_item item.Short = 2
+-- whether an item is primitive and has so many bytes
+abbrev pub has_width : ℕ → Item → Bool
+has_width n item.Plain = nat_eq n 4
+has_width n item.Wide = nat_eq n 8
+has_width n item.Object = false
+has_width n item.Boolean = nat_eq n 1
+has_width n item.Byte = nat_eq n 1
+has_width n item.Char = nat_eq n 2
+has_width n item.Short = nat_eq n 2
 
 abbrev pub defines_field : NamedProgram → NamedClass → FieldKey → Bool
 defines_field p c k = elim (finds_field p k) [ Some f ↦ text_eq f.0 c.name | None ↦ false ]
 
 abbrev pub holds_field : NamedProgram → NamedClass → FieldKey → Kind → Bool
 holds_field p c k FreshThis = defines_field p c k
-holds_field p c k kind = fits p kind k.class
+holds_field p c k kind = fits_holder p kind k.class
 
 -- an object that was made of the class, or the receiver of a constructor of the class or of one whose superclass it is
 abbrev pub is_constructed : NamedClass → Text → Kind → Bool
@@ -99,11 +101,12 @@ meets p c ks r (Behind q) = nat_eq r (q + 1)
 meets p c ks r Initialised = is_initialised (kind_at ks r)
 meets p c ks r Either = is_number (kind_at ks r) || is_initialised (kind_at ks r)
 meets p c ks r (Fits t) = fits p (kind_at ks r) t
+meets p c ks r (Receiver t) = fits_holder p (kind_at ks r) t
 meets p c ks r (Holder k) = holds_field p c k (kind_at ks r)
 meets p c ks r (Constructed t) = is_constructed c t (kind_at ks r)
 meets p c ks r AnArray = is_array_where (λ t. true) (kind_at ks r)
 meets p c ks r (ArrayOf i) = is_array_where (λ t. item_eq (item_of_type t) i) (kind_at ks r)
-meets p c ks r (Filled n) = is_array_where (λ t. nat_eq (width_of_item (item_of_type t)) n) (kind_at ks r)
+meets p c ks r (Filled n) = is_array_where (λ t. has_width n (item_of_type t)) (kind_at ks r)
 
 -- ---- what the forms ask
 
@@ -191,7 +194,7 @@ demands p c m ks (form.If test a b target) = (a, tested (is_equality test)) ∷ 
 demands p c m ks (form.IfZero test a target) = (a, tested (is_equality test)) ∷ []
 demands p c m ks (form.ArrayGet item to array index) = (array, ArrayOf item) ∷ (index, Number) ∷ []
 demands p c m ks (form.ArrayPut item from array index) = (from, put_item item) ∷ (array, ArrayOf item) ∷ (index, Number) ∷ []
-demands p c m ks (form.InstanceGet item to on field) = (on, Fits field.class) ∷ []
+demands p c m ks (form.InstanceGet item to on field) = (on, Receiver field.class) ∷ []
 demands p c m ks (form.InstancePut item from on field) = (from, of_type field.kind) ∷ (on, Holder field) ∷ []
 demands p c m ks (form.StaticPut item from field) = (from, of_type field.kind) ∷ []
 demands p c m ks (form.Invoke kind method args) = call_demands p c kind method args

@@ -56,6 +56,12 @@ is_initialised (Array t) = true
 is_initialised Reference = true
 is_initialised k = false
 
+-- the constant 0, or null
+abbrev pub is_null : Kind → Bool
+is_null Zero = true
+is_null Null = true
+is_null k = false
+
 -- ---- types
 
 -- how many brackets an array type has
@@ -70,6 +76,9 @@ arrays_of (suc n) t = array_of (arrays_of n t)
 -- a program class that is no interface
 abbrev pub is_plain : NamedProgram → Text → Bool
 is_plain p t = elim (class_named p t) [ Some c ↦ not (is_interface c.flags) | None ↦ false ]
+
+abbrev pub is_program_interface : NamedProgram → Text → Bool
+is_program_interface p t = elim (class_named p t) [ Some c ↦ is_interface c.flags | None ↦ false ]
 
 abbrev pub kind_of_reference : NamedProgram → Text → Kind
 kind_of_reference p t = if is_array t then Array t else if is_plain p t then Class t else Reference
@@ -166,3 +175,8 @@ fits p k t =
     else if is_array t then fits_array p k t
     else if is_plain p t then is_below p k (Class t)
     else is_initialised k
+
+-- The receiver of a field's get or put fits the field's class. No kind but null's is under a program interface, so a field
+-- that is named by one is read and written on null alone.
+abbrev pub fits_holder : NamedProgram → Kind → Text → Bool
+fits_holder p k t = fits p k t && (not (is_program_interface p t) || is_null k)

@@ -35,3 +35,4 @@ pub mod SiteExamples
 pub mod LooseExamples
 pub mod Covers
 pub mod Examples
+pub mod TypedExamples

@@ -31,23 +31,33 @@ abbrev pub wide_passed : InvokeKind → MethodKey → List ℕ → List ℕ
 wide_passed call.Static k rs = wide_arguments k.signature.parameters rs
 wide_passed kind k rs = wide_arguments (k.class ∷ k.signature.parameters) rs
 
--- the first registers of wide operands
+-- the first registers of wide operands that a form writes
+abbrev pub wides_written : Form → List ℕ
+wides_written (form.Move slot to from) = first_if (is_wide_slot slot) to
+wides_written (form.MoveResult slot to) = first_if (is_wide_slot slot) to
+wides_written (form.ConstWide to value) = to ∷ []
+wides_written (form.ArrayGet item to array index) = first_if (is_wide_item item) to
+wides_written (form.InstanceGet item to on field) = first_if (is_wide_item item) to
+wides_written (form.StaticGet item to field) = first_if (is_wide_item item) to
+wides_written (form.Unary op to from) = first_if (unary_writes_wide op) to
+wides_written (form.Binary op to a b) = first_if (binary_is_wide op) to
+wides_written f = []
+
+-- and of those that it reads
+abbrev pub wides_read : Form → List ℕ
+wides_read (form.Move slot to from) = first_if (is_wide_slot slot) from
+wides_read (form.Return slot from) = first_if (is_wide_slot slot) from
+wides_read (form.Cmp op to a b) = first_if (compares_wide op) a ++ first_if (compares_wide op) b
+wides_read (form.ArrayPut item from array index) = first_if (is_wide_item item) from
+wides_read (form.InstancePut item from on field) = first_if (is_wide_item item) from
+wides_read (form.StaticPut item from field) = first_if (is_wide_item item) from
+wides_read (form.Invoke kind method args) = wide_passed kind method args
+wides_read (form.Unary op to from) = first_if (unary_reads_wide op) from
+wides_read (form.Binary op to a b) = first_if (binary_is_wide op) a ++ first_if (second_is_wide op) b
+wides_read f = []
+
 abbrev pub wides_of : Form → List ℕ
-wides_of (form.Move slot to from) = first_if (is_wide_slot slot) to ++ first_if (is_wide_slot slot) from
-wides_of (form.MoveResult slot to) = first_if (is_wide_slot slot) to
-wides_of (form.Return slot from) = first_if (is_wide_slot slot) from
-wides_of (form.ConstWide to value) = to ∷ []
-wides_of (form.Cmp op to a b) = first_if (compares_wide op) a ++ first_if (compares_wide op) b
-wides_of (form.ArrayGet item to array index) = first_if (is_wide_item item) to
-wides_of (form.ArrayPut item from array index) = first_if (is_wide_item item) from
-wides_of (form.InstanceGet item to on field) = first_if (is_wide_item item) to
-wides_of (form.InstancePut item from on field) = first_if (is_wide_item item) from
-wides_of (form.StaticGet item to field) = first_if (is_wide_item item) to
-wides_of (form.StaticPut item from field) = first_if (is_wide_item item) from
-wides_of (form.Invoke kind method args) = wide_passed kind method args
-wides_of (form.Unary op to from) = first_if (unary_writes_wide op) to ++ first_if (unary_reads_wide op) from
-wides_of (form.Binary op to a b) = first_if (binary_is_wide op) to ++ first_if (binary_is_wide op) a ++ first_if (second_is_wide op) b
-wides_of f = []
+wides_of f = wides_written f ++ wides_read f
 
 -- ---- conflicts
 

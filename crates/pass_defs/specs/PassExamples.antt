@@ -1,5 +1,6 @@
 -- Small programs for the examples of `passes.rt`: what each pass looks for, and what it leaves alone.
 use Rattle.std.specs.Prelude.{◌≡◌, ℕ, zero, suc, pos, true, List, [], ◌∷◌, map, length, Option, Some, None, codes}
+use Rattle.insn_set.specs.declared.ops.Slot.{Slot}
 use Rattle.insn_set.specs.declared.ops.Slot.TheVariants as slot
 use Rattle.insn_set.specs.declared.ops.Test.TheVariants as test
 use Rattle.insn_set.specs.declared.ops.BinaryOp.TheVariants as binary
@@ -115,6 +116,10 @@ reads_copy = code 2 0 (form.Const 0 (pos 5) ∷ form.Move slot.Word 1 0 ∷ form
 
 abbrev pub copy_is_old : NamedBody
 copy_is_old = code 2 0 (form.Const 0 (pos 5) ∷ form.Move slot.Word 1 0 ∷ form.Const 0 (pos 7) ∷ form.Return slot.Word 1 ∷ [])
+
+-- register 2 is a copy of register 0, and is given back as it was copied, or in another width
+abbrev pub gives_copy : Slot → Slot → NamedBody
+gives_copy copied given = code 4 0 (form.ConstWide 0 (pos 5) ∷ form.Move copied 2 0 ∷ form.Return given 2 ∷ [])
 
 -- ---- registers
 

@@ -1,5 +1,6 @@
 -- Reads of a copy that could read the original (this project's profile).
-use Rattle.std.specs.Prelude.{◌≡◌, ℕ, ◌+◌, ◌<◌, ◌≤◌, Bool, true, false, ◌&&◌, ◌||◌, if◌then◌else◌, nat_eq, Some, Contains}
+use Rattle.std.specs.Prelude.{◌≡◌, ℕ, ◌+◌, ◌<◌, ◌≤◌, Bool, true, false, ◌&&◌, ◌||◌, not, if◌then◌else◌, nat_eq, Some, Contains}
+use Rattle.std.specs.List.{list_any}
 use Rattle.insn_set.specs.Registers.{in_operand}
 use Rattle.insn_set.specs.Spelling.{is_encodable}
 use Rattle.insn_set.specs.Widths.{is_wide_slot}
@@ -11,6 +12,7 @@ use Rattle.pass_defs.specs.Bare.{bare, reads, writes}
 use Rattle.pass_defs.specs.Remade.{remade}
 use Rattle.pass_defs.specs.Walks.{form_at, onward, successors, IsReached, IsReadAt}
 use Rattle.pass_defs.specs.Foldable.{units}
+use Rattle.pass_defs.specs.Packed.{wides_read}
 
 -- a Move at a position
 pub record Copy (b : NamedBody) (at : ℕ) : Type 0 where
@@ -45,6 +47,13 @@ pub data IsSpoilt (b : NamedBody) (at : ℕ) (slot : Slot) (to from : ℕ) : ℕ
   Written : (n m r : ℕ) (f : Form) → nat_eq n at ≡ false → IsReached b n → form_at b n ≡ Some f → (in_either slot to from r && writes f r) ≡ true → Contains (onward f n) m → IsSpoilt b at slot to from m
   Cast : (n m r : ℕ) (f : Form) → IsReached b n → form_at b n ≡ Some f → (in_either slot to from r && casts f r) ≡ true → Contains (successors b n) m → IsSpoilt b at slot to from m
 
+-- whether the form reads an operand as wide as the slot that begins at the register
+abbrev pub reads_as : Slot → Form → ℕ → Bool
+reads_as slot f r = elim (is_wide_slot slot) [
+  | true ↦ list_any (nat_eq r) (wides_read f)
+  | false ↦ reads f r && not (list_any (λ w. in_operand true w r) (wides_read f))
+]
+
 -- `from` in place of each `to` that is read, of a wide both halves
 abbrev pub instead : Slot → ℕ → ℕ → ℕ → ℕ
 instead slot to from r = if nat_eq r to then from else if is_wide_slot slot && nat_eq r (to + 1) then from + 1 else r
@@ -56,8 +65,7 @@ pub record StandsFor (b : NamedBody) (at : ℕ) (slot : Slot) (to from : ℕ) (n
   pub reached : IsReached b n
   pub kept : IsSpoilt b at slot to from n → ⊥
   pub apart : overlaps slot to from ≡ false
-  pub register : ℕ
-  pub read : (in_copy slot to register && reads f register) ≡ true
+  pub read : reads_as slot f to ≡ true
   pub plain : is_cast f ≡ false
   pub encodable : is_encodable (bare (reading slot to from f)) ≡ true
   pub short : units (reading slot to from f) ≤ units f

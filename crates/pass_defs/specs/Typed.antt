@@ -13,18 +13,22 @@ use Rattle.dalvik_defs.specs.Names.{Text, text_eq, is_word, is_wide, is_referenc
 use Rattle.dalvik_defs.specs.Flags.{is_static, is_interface, is_abstract}
 use Rattle.dalvik_defs.specs.Under.{class_named}
 use Rattle.dalvik_defs.specs.Find.{Search, Finds, finds_super, finds_field, resolves_method}
+use Rattle.dalvik_defs.specs.Fields.{first_value}
+use Rattle.dalvik_defs.specs.declared.state.Value.{Value}
+use Rattle.dalvik_defs.specs.declared.state.Value.TheVariants as value
 use Rattle.dalvik_defs.specs.declared.names.MethodKey.{MethodKey}
 use Rattle.dalvik_defs.specs.declared.names.FieldKey.{FieldKey}
 use Rattle.dalvik_defs.specs.declared.forms.Form.{Form}
 use Rattle.dalvik_defs.specs.declared.forms.Form.TheVariants as form
 use Rattle.dalvik_defs.specs.declared.program.NamedRegion.{NamedRegion}
 use Rattle.dalvik_defs.specs.declared.program.NamedBody.{NamedBody}
+use Rattle.dalvik_defs.specs.declared.program.NamedField.{NamedField}
 use Rattle.dalvik_defs.specs.declared.program.NamedMethod.{NamedMethod}
 use Rattle.dalvik_defs.specs.declared.program.NamedClass.{NamedClass}
 use Rattle.dalvik_defs.specs.declared.program.NamedProgram.{NamedProgram}
 use Rattle.pass_defs.specs.Bare.{may_throw}
 use Rattle.pass_defs.specs.Walks.{form_at, region_at, onward}
-use Rattle.pass_defs.specs.Kinds.{Kind, Undefined, Zero, Word, Low, High, Null, Class, Array, Reference, Fresh, FreshThis, kind_eq, kind_of, kind_of_reference}
+use Rattle.pass_defs.specs.Kinds.{Kind, Undefined, Zero, Word, Low, High, Null, Class, Array, Reference, Fresh, FreshThis, kind_eq, is_plain, kind_of, kind_of_reference}
 use Rattle.pass_defs.specs.Registers.{Kinds, kind_at, written, replace, forget, state_below, tables_below, all_undefined}
 use Rattle.pass_defs.specs.Demands.{is_constructor_name, is_allowed, is_refused}
 
@@ -133,6 +137,19 @@ differ false b = b
 abbrev pub wrong_field : NamedProgram → Bool → FieldKey → Bool
 wrong_field p static k = elim (finds_field p k) [ Some f ↦ differ static (is_static f.1.flags) | None ↦ false ]
 
+abbrev pub is_text_or_type : Value → Bool
+is_text_or_type (value.Literal t) = true
+is_text_or_type (value.Class t) = true
+is_text_or_type v = false
+
+abbrev pub begins_as_text_or_type : NamedField → Bool
+begins_as_text_or_type f = elim f.first [ Some v ↦ is_text_or_type (first_value v) | None ↦ false ]
+
+-- A static field may have a text or a type first, whatever reference type it has. Neither is an array or an object of a
+-- program class that is no interface, so a field of such a type that has one first isn't read.
+abbrev pub wrong_first : NamedProgram → FieldKey → Bool
+wrong_first p k = (is_array k.kind || is_plain p k.kind) && elim (finds_field p k) [ Some f ↦ begins_as_text_or_type f.1 | None ↦ false ]
+
 abbrev pub wrong_method : NamedProgram → InvokeKind → MethodKey → Bool
 wrong_method p kind k = elim (resolves_method p k) [ Some g ↦ differ (is_static_call kind) (is_static g.flags) | None ↦ false ]
 
@@ -181,7 +198,7 @@ is_wrong p c m a (form.NewArray to size kind) = not (is_array kind)
 is_wrong p c m a (form.FilledNewArray kind args) = wrong_filled kind
 is_wrong p c m a (form.InstanceGet item to on field) = wrong_item item field.kind || wrong_field p false field
 is_wrong p c m a (form.InstancePut item from on field) = wrong_item item field.kind || wrong_field p false field
-is_wrong p c m a (form.StaticGet item to field) = wrong_item item field.kind || wrong_field p true field
+is_wrong p c m a (form.StaticGet item to field) = wrong_item item field.kind || wrong_field p true field || wrong_first p field
 is_wrong p c m a (form.StaticPut item from field) = wrong_item item field.kind || wrong_field p true field
 is_wrong p c m a (form.Invoke kind method args) =
     wrong_method p kind method || wrong_super p c kind method || not (nat_eq (length args) (passed_words kind method))

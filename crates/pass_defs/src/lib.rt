@@ -8,3 +8,4 @@ pub mod examples;
 pub mod kept_examples;
 pub mod laws;
 pub mod passes;
+pub mod typed_examples;

@@ -15,9 +15,9 @@ use Rattle.dalvik_defs.specs.declared.forms.Form.TheVariants as form
 use Rattle.dalvik_defs.specs.declared.program.NamedMethod.{NamedMethod}
 use Rattle.dalvik_defs.specs.declared.program.NamedClass.{NamedClass}
 use Rattle.dalvik_defs.specs.declared.program.NamedProgram.{NamedProgram}
-use Rattle.pass_defs.specs.Kinds.{Kind, Zero, Low, High, Null, Class, Array, FreshThis, kind_eq, is_number, is_initialised, depth, is_plain, kind_of, is_below, item_fits, array_fits, fits_array, fits}
+use Rattle.pass_defs.specs.Kinds.{Kind, Zero, Low, High, Null, Class, Array, FreshThis, kind_eq, is_number, is_initialised, is_null, depth, is_plain, is_program_interface, kind_of, is_below, item_fits, array_fits, fits_array, fits, fits_holder}
 use Rattle.pass_defs.specs.Registers.{kind_at}
-use Rattle.pass_defs.specs.Demands.{Demand, Moved, Number, Pair, Behind, Initialised, Either, Fits, Holder, Constructed, AnArray, ArrayOf, Filled, is_moved, item_eq, is_array_where, width_of_item, holds_field, is_constructed, meets}
+use Rattle.pass_defs.specs.Demands.{Demand, Moved, Number, Pair, Behind, Initialised, Either, Fits, Receiver, Holder, Constructed, AnArray, ArrayOf, Filled, is_moved, item_eq, is_array_where, has_width, holds_field, is_constructed, meets}
 use Rattle.pass_defs.specs.Mentions.{types_of, types_in, fields_in}
 use Rattle.pass_defs.specs.Live.{Family, KeepsAbove}
 use Rattle.removal_law.specs.Agree.{Each}
@@ -26,7 +26,7 @@ use Rattle.removal_law.specs.Reach.{IsRegular, OkType}
 use Rattle.removal_law.proofs.Lists.{clash}
 use Rattle.removal_law.proofs.Classes.{Kept}
 use Rattle.removal_law.proofs.Faces.{base_twice}
-use Rattle.removal_law.proofs.KindsLeft.{at_left, null_if, is_gone, is_lost, array_left, left_kind, same_left, class_stays, plain_left, bare_kept, kind_left, below_left}
+use Rattle.removal_law.proofs.KindsLeft.{at_left, null_if, is_gone, is_lost, array_left, left_kind, same_left, class_stays, plain_left, interface_left, type_kept, bare_kept, kind_left, below_left}
 
 -- ---- lists
 
@@ -124,10 +124,24 @@ module _ (p : NamedProgram) (s : Family) (above : KeepsAbove p s) (regular : IsR
       by false false i e = let n = bare_kept p s above regular none t i h in
           ap (λ b. if b then is_below q (left k) (Class t) else is_initialised (left k)) (plain_left p s above regular none t n) ∙ plain n (is_plain p t) e
 
+  null_left : (k : Kind) → is_null k ≡ true → is_null (left k) ≡ true
+  null_left Zero e = refl
+  null_left Null e = refl
+  null_left k e = clash false e refl
+
+  pub holder_left : (k : Kind) (t : Text) → OkType p s t → fits_holder p k t ≡ true → fits_holder q (left k) t ≡ true
+  holder_left k t h e = ap (λ b. fits q (left k) t && (not b || is_null (left k))) (interface_left p s above regular none t (type_kept p s above regular none t h)) ∙ by (fits p k t) (is_program_interface p t) refl e
+    where
+      by : (a b : Bool) → fits p k t ≡ a → (a && (not b || is_null k)) ≡ true → (fits q (left k) t && (not b || is_null (left k))) ≡ true
+      by true true i e = ap (λ x. x && is_null (left k)) (fits_left k t h i) ∙ null_left k e
+      by true false i e = ap (λ x. x && true) (fits_left k t h i)
+      by false b i e = clash false e refl
+
   -- ---- when a demand is met
 
   abbrev pub OkDemand : Demand → Type 0
   OkDemand (Fits t) = OkType p s t
+  OkDemand (Receiver t) = OkType p s t
   OkDemand (Holder k) = OkType p s k.class × (finds_field q k ≡ finds_field p k)
   OkDemand d = Unit {0}
 
@@ -143,17 +157,17 @@ module _ (p : NamedProgram) (s : Family) (above : KeepsAbove p s) (regular : IsR
 
   holds_left : (c : NamedClass) (k : FieldKey) (kind : Kind) → OkType p s k.class → finds_field q k ≡ finds_field p k → holds_field p c k kind ≡ true → holds_field q (left_in s c) k (left kind) ≡ true
   holds_left c k FreshThis h f e = ap (λ o. elim o as (λ o. Bool) [ Some f ↦ text_eq f.0 c.name | None ↦ false ]) f ∙ e
-  holds_left c k (Class t) h f e = by (is_gone p s t) ∙ fits_left (Class t) k.class h e
+  holds_left c k (Class t) h f e = by (is_gone p s t) ∙ holder_left (Class t) k.class h e
     where
-      by : (b : Bool) → holds_field q (left_in s c) k (null_if p s b (Class t)) ≡ fits q (null_if p s b (Class t)) k.class
+      by : (b : Bool) → holds_field q (left_in s c) k (null_if p s b (Class t)) ≡ fits_holder q (null_if p s b (Class t)) k.class
       by true = refl
       by false = refl
-  holds_left c k (Array t) h f e = by (is_lost p s t) ∙ fits_left (Array t) k.class h e
+  holds_left c k (Array t) h f e = by (is_lost p s t) ∙ holder_left (Array t) k.class h e
     where
-      by : (b : Bool) → holds_field q (left_in s c) k (null_if p s b (Array t)) ≡ fits q (null_if p s b (Array t)) k.class
+      by : (b : Bool) → holds_field q (left_in s c) k (null_if p s b (Array t)) ≡ fits_holder q (null_if p s b (Array t)) k.class
       by true = refl
       by false = refl
-  holds_left c k kind h f e = fits_left kind k.class h e
+  holds_left c k kind h f e = holder_left kind k.class h e
 
   pub meets_left : (c : NamedClass) (ks : List Kind) (r : ℕ) (d : Demand) → OkDemand d → meets p c ks r d ≡ true → meets q (left_in s c) (map left ks) r d ≡ true
   meets_left c ks r Moved h e = ap is_moved (at_left p s ks r) ∙ same_left p s is_moved (λ t. refl) (λ t. refl) (kind_at ks r) ∙ e
@@ -168,6 +182,7 @@ module _ (p : NamedProgram) (s : Family) (above : KeepsAbove p s) (regular : IsR
   meets_left c ks r Initialised h e = ap is_initialised (at_left p s ks r) ∙ same_left p s is_initialised (λ t. refl) (λ t. refl) (kind_at ks r) ∙ e
   meets_left c ks r Either h e = ap (λ k. is_number k || is_initialised k) (at_left p s ks r) ∙ same_left p s (λ k. is_number k || is_initialised k) (λ t. refl) (λ t. refl) (kind_at ks r) ∙ e
   meets_left c ks r (Fits t) h e = ap (λ k. fits q k t) (at_left p s ks r) ∙ fits_left (kind_at ks r) t h e
+  meets_left c ks r (Receiver t) h e = ap (λ k. fits_holder q k t) (at_left p s ks r) ∙ holder_left (kind_at ks r) t h e
   meets_left c ks r (Holder k) h e = ap (holds_field q (left_in s c) k) (at_left p s ks r) ∙ holds_left c k (kind_at ks r) h.0 h.1 e
   meets_left c ks r (Constructed t) h e = ap (is_constructed (left_in s c) t) (at_left p s ks r) ∙ same_left p s (is_constructed (left_in s c) t) (λ t. refl) (λ t. refl) (kind_at ks r) ∙ same (kind_at ks r) ∙ e
     where
@@ -175,4 +190,4 @@ module _ (p : NamedProgram) (s : Family) (above : KeepsAbove p s) (regular : IsR
       same k = refl
   meets_left c ks r AnArray h e = ap (is_array_where (λ t. true)) (at_left p s ks r) ∙ where_left (λ t. true) (kind_at ks r) e
   meets_left c ks r (ArrayOf i) h e = ap (is_array_where (λ t. item_eq (item_of_type t) i)) (at_left p s ks r) ∙ where_left (λ t. item_eq (item_of_type t) i) (kind_at ks r) e
-  meets_left c ks r (Filled n) h e = ap (is_array_where (λ t. nat_eq (width_of_item (item_of_type t)) n)) (at_left p s ks r) ∙ where_left (λ t. nat_eq (width_of_item (item_of_type t)) n) (kind_at ks r) e
+  meets_left c ks r (Filled n) h e = ap (is_array_where (λ t. has_width n (item_of_type t))) (at_left p s ks r) ∙ where_left (λ t. has_width n (item_of_type t)) (kind_at ks r) e

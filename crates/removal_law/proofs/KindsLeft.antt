@@ -11,7 +11,7 @@ use Rattle.dalvik_defs.specs.Under.{class_named, defines}
 use Rattle.dalvik_defs.specs.declared.program.NamedClass.{NamedClass}
 use Rattle.dalvik_defs.specs.declared.program.NamedProgram.{NamedProgram}
 use Rattle.dalvik_defs.proofs.Calm.{text_sound}
-use Rattle.pass_defs.specs.Kinds.{Kind, Undefined, Zero, Word, Low, High, Null, Class, Array, Reference, Fresh, FreshThis, kind_eq, is_initialised, depth, arrays_of, is_plain, kind_of_reference, kind_of, line_of, nearest, is_flat, object_array, joined_items, joined_deep, joined_arrays, class_or_reference, is_below}
+use Rattle.pass_defs.specs.Kinds.{Kind, Undefined, Zero, Word, Low, High, Null, Class, Array, Reference, Fresh, FreshThis, kind_eq, is_initialised, depth, arrays_of, is_plain, is_program_interface, kind_of_reference, kind_of, line_of, nearest, is_flat, object_array, joined_items, joined_deep, joined_arrays, class_or_reference, is_below}
 use Rattle.pass_defs.specs.Registers.{kind_at}
 use Rattle.pass_defs.specs.Live.{Family, KeepsAbove}
 use Rattle.removal_law.specs.Left.{left_in, left_of}
@@ -195,6 +195,17 @@ module _ (p : NamedProgram) (s : Family) (above : KeepsAbove p s) (regular : IsR
       by : (o : Option NamedClass) → elim (option_map (left_in s) o) as (λ o. Bool) [ Some c ↦ not (is_interface c.flags) | None ↦ false ] ≡ elim o as (λ o. Bool) [ Some c ↦ not (is_interface c.flags) | None ↦ false ]
       by None = refl
       by (Some c) = refl
+
+  pub interface_left : (t : Text) → Kept s p t → is_program_interface q t ≡ is_program_interface p t
+  interface_left t h = ap (λ o. elim o as (λ o. Bool) [ Some c ↦ is_interface c.flags | None ↦ false ]) (class_left s p t h) ∙ by (class_named p t)
+    where
+      by : (o : Option NamedClass) → elim (option_map (left_in s) o) as (λ o. Bool) [ Some c ↦ is_interface c.flags | None ↦ false ] ≡ elim o as (λ o. Bool) [ Some c ↦ is_interface c.flags | None ↦ false ]
+      by None = refl
+      by (Some c) = refl
+
+  -- a type that the program defines has no brackets
+  pub type_kept : (t : Text) → OkType p s t → Kept s p t
+  type_kept t h = λ d. let e : base_of t ≡ t = base_bare t (class_bare t (regular.names t d)) in ap s.classes (sym e) ∙ h (ap (defines p) e ∙ d)
 
   pub bare_kept : (t : Text) → is_array t ≡ false → OkType p s t → Kept s p t
   bare_kept t e h = subst (Kept s p) (base_bare t e) h

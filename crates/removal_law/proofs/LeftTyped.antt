@@ -36,7 +36,7 @@ use Rattle.removal_law.proofs.Declared.{name_same, none_there}
 use Rattle.removal_law.proofs.Supers.{super_defined, resolves_left}
 use Rattle.removal_law.proofs.Faces.{field_types, slice_in}
 use Rattle.removal_law.proofs.TypedCode.{from_contained}
-use Rattle.removal_law.proofs.KindsLeft.{base_bare, class_bare}
+use Rattle.removal_law.proofs.KindsLeft.{base_bare, class_bare, type_kept}
 use Rattle.removal_law.proofs.DemandsLeft.{FormLeft}
 use Rattle.removal_law.proofs.TypedLeft.{BodyLeft, left_table, typing_left}
 
@@ -59,7 +59,7 @@ module _ (p : NamedProgram) (o : Outer) (k : Conditions) (s : Family) (closed : 
   base_defined t d = base_bare t (class_bare t (regular.names t d))
 
   ok_kept : (t : Text) → OkType p s t → Kept s p t
-  ok_kept t h = λ d. let e = base_defined t d in ap s.classes (sym e) ∙ h (ap (defines p) e ∙ d)
+  ok_kept t h = type_kept p s above regular none t h
 
   live_ok : (t : Text) → defines p t ≡ true → s.classes t ≡ true → OkType p s t
   live_ok t d l = λ i. ap s.classes (base_defined t d) ∙ l

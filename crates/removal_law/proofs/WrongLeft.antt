@@ -1,12 +1,12 @@
 -- No position that is left is wrong in what is left of a program, where it wasn't.
-use Rattle.std.proofs.Common.{◌≡◌, ℕ, Bool, true, false, List, [], length, refl, sym, ap, ◌∙◌}
+use Rattle.std.proofs.Common.{◌≡◌, ℕ, Bool, true, false, List, [], ◌∷◌, length, refl, sym, ap, ◌∙◌}
 use Rattle.std.specs.Prelude.{◌&&◌, ◌||◌, not, nat_eq, Option, Some, None}
 use Rattle.std.specs.Option.{option_map}
 use Rattle.std.proofs.lemmas.Bool.{eqb-true}
 use Rattle.insn_set.specs.declared.ops.Item.{Item}
 use Rattle.insn_set.specs.declared.ops.InvokeKind.{InvokeKind}
 use Rattle.insn_set.specs.declared.ops.InvokeKind.TheVariants as call
-use Rattle.dalvik_defs.specs.Names.{Text, text_eq, object_type, is_class_type, is_void}
+use Rattle.dalvik_defs.specs.Names.{Text, text_eq, object_type, is_array, is_class_type, is_void}
 use Rattle.dalvik_defs.specs.Flags.{is_static, is_abstract, is_interface}
 use Rattle.dalvik_defs.specs.Under.{class_named, defines}
 use Rattle.dalvik_defs.specs.Find.{finds_field}
@@ -18,16 +18,16 @@ use Rattle.dalvik_defs.specs.declared.program.NamedMethod.{NamedMethod}
 use Rattle.dalvik_defs.specs.declared.program.NamedClass.{NamedClass}
 use Rattle.dalvik_defs.specs.declared.program.NamedProgram.{NamedProgram}
 use Rattle.dalvik_defs.proofs.Calm.{text_sound}
-use Rattle.pass_defs.specs.Kinds.{Kind, Undefined, Zero, Word, Low, High, Null, Class, Array, Reference, Fresh, FreshThis, kind_eq, kind_of}
+use Rattle.pass_defs.specs.Kinds.{Kind, Undefined, Zero, Word, Low, High, Null, Class, Array, Reference, Fresh, FreshThis, kind_eq, is_plain, kind_of}
 use Rattle.pass_defs.specs.Registers.{Kinds}
 use Rattle.pass_defs.specs.Demands.{is_constructor_name}
-use Rattle.pass_defs.specs.Typed.{is_constructor, differ, wrong_field, is_static_call, wrong_method, finds_static, wrong_super, passed_words, wrong_item, wrong_return, wrong_instance, ends_early, is_wrong}
+use Rattle.pass_defs.specs.Typed.{is_constructor, differ, wrong_field, begins_as_text_or_type, wrong_first, is_static_call, wrong_method, finds_static, wrong_super, passed_words, wrong_item, wrong_return, wrong_instance, ends_early, is_wrong}
 use Rattle.pass_defs.specs.Live.{Family, KeepsAbove}
-use Rattle.removal_law.specs.Left.{left_in, left_of, here}
+use Rattle.removal_law.specs.Left.{left_in, left_of, here, there}
 use Rattle.removal_law.specs.Reach.{IsRegular, OkType}
 use Rattle.removal_law.proofs.Lists.{clash, and_left, and_behind}
 use Rattle.removal_law.proofs.Classes.{class_left}
-use Rattle.removal_law.proofs.KindsLeft.{left_kind, kind_self, class_bare, bare_kept, kind_left}
+use Rattle.removal_law.proofs.KindsLeft.{left_kind, kind_self, class_bare, type_kept, bare_kept, plain_left, kind_left}
 use Rattle.removal_law.proofs.DemandsLeft.{FormLeft}
 use Rattle.removal_law.proofs.WritesLeft.{left_kinds}
 
@@ -82,6 +82,11 @@ module _ (p : NamedProgram) (s : Family) (above : KeepsAbove p s) (regular : IsR
   field_left : (static : Bool) (k : FieldKey) → finds_field q k ≡ finds_field p k → wrong_field q static k ≡ wrong_field p static k
   field_left static k h = ap (λ o. elim o as (λ o. Bool) [ Some f ↦ differ static (is_static f.1.flags) | None ↦ false ]) h
 
+  first_left : (k : FieldKey) → OkType p s k.kind → finds_field q k ≡ finds_field p k → wrong_first q k ≡ wrong_first p k
+  first_left k h f =
+      ap (λ b. (is_array k.kind || b) && elim (finds_field q k) as (λ o. Bool) [ Some f ↦ begins_as_text_or_type f.1 | None ↦ false ]) (plain_left p s above regular none k.kind (type_kept p s above regular none k.kind h))
+      ∙ ap (λ o. (is_array k.kind || is_plain p k.kind) && elim o as (λ o. Bool) [ Some f ↦ begins_as_text_or_type f.1 | None ↦ false ]) f
+
   item_left : (static : Bool) (i : Item) (k : FieldKey) → finds_field q k ≡ finds_field p k → not (wrong_item i k.kind || wrong_field p static k) ≡ true → not (wrong_item i k.kind || wrong_field q static k) ≡ true
   item_left static i k h e = ap (λ b. not (wrong_item i k.kind || b)) (field_left static k h) ∙ e
 
@@ -98,7 +103,9 @@ module _ (p : NamedProgram) (s : Family) (above : KeepsAbove p s) (regular : IsR
   right_left a (form.NewInstance to kind) h e = instance_left kind (h.types kind (here [])) e
   right_left a (form.InstanceGet i to on field) h e = item_left false i field (h.fields field (here [])) e
   right_left a (form.InstancePut i from on field) h e = item_left false i field (h.fields field (here [])) e
-  right_left a (form.StaticGet i to field) h e = item_left true i field (h.fields field (here [])) e
+  right_left a (form.StaticGet i to field) h e =
+      ap (λ b. not (wrong_item i field.kind || b || wrong_first q field)) (field_left true field (h.fields field (here [])))
+      ∙ ap (λ b. not (wrong_item i field.kind || wrong_field p true field || b)) (first_left field (h.types field.kind (there field.class (field.kind ∷ []) (here []))) (h.fields field (here []))) ∙ e
   right_left a (form.StaticPut i from field) h e = item_left true i field (h.fields field (here [])) e
   right_left a (form.Invoke kind k args) h e =
       ap (λ b. not (b || wrong_super q (left_in s c) kind k || not (nat_eq (length args) (passed_words kind k)))) (method_left kind k args h)

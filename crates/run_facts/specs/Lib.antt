@@ -1,4 +1,3 @@
-pub mod TypedStates
 pub mod Covered
 pub mod ValueAnalysis
 pub mod Examples

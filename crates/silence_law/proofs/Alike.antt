@@ -23,13 +23,14 @@ use Rattle.dalvik_defs.specs.declared.program.NamedProgram.{NamedProgram}
 use Rattle.silence_law.specs.Bodies.{Code}
 use Rattle.pass_defs.specs.Bare.{may_throw}
 use Rattle.pass_defs.specs.Walks.{region_at, onward}
-use Rattle.pass_defs.specs.Kinds.{Kind, Undefined, Zero, Word, Low, Null, Class, Array, Reference, Fresh, FreshThis, kind_eq, is_number, is_initialised, depth, is_plain, kind_of_reference, kind_of, nearest, joined_items, joined_deep, class_or_reference, joined_references, is_below, item_fits, array_fits, fits_array, fits}
+use Rattle.pass_defs.specs.Kinds.{Kind, Undefined, Zero, Word, Low, Null, Class, Array, Reference, Fresh, FreshThis, kind_eq, is_number, is_initialised, is_null, depth, is_plain, is_program_interface, kind_of_reference, kind_of, nearest, joined_items, joined_deep, class_or_reference, joined_references, is_below, item_fits, array_fits, fits_array, fits, fits_holder}
 use Rattle.pass_defs.specs.Registers.{Kinds, kind_at, written, replace, all_below, kinds_below, state_below}
-use Rattle.pass_defs.specs.Demands.{Demand, Fits, Holder, Constructed, is_constructed, holds_field, meets, found_class, receiver_demands, passed, call_demands, demands, place_allowed, is_allowed, is_constructor_name}
-use Rattle.pass_defs.specs.Typed.{is_constructor, receiver_kind, halves, parameter_kinds, begun, got, constructed, receiver_register, is_static_call, called, after, differ, wrong_field, wrong_method, finds_static, wrong_super, passed_words, wrong_item, wrong_return, wrong_instance, ends_early, is_wrong, catch_all, catches_in, catches, edges, Table, state_at, each, at_state, arrives, IsTyping}
+use Rattle.pass_defs.specs.Demands.{Demand, Fits, Receiver, Holder, Constructed, is_constructed, holds_field, meets, found_class, receiver_demands, passed, call_demands, demands, place_allowed, is_allowed, is_constructor_name}
+use Rattle.pass_defs.specs.Typed.{is_constructor, receiver_kind, halves, parameter_kinds, begun, got, constructed, receiver_register, is_static_call, called, after, differ, wrong_field, begins_as_text_or_type, wrong_first, wrong_method, finds_static, wrong_super, passed_words, wrong_item, wrong_return, wrong_instance, ends_early, is_wrong, catch_all, catches_in, catches, edges, Table, state_at, each, at_state, arrives, IsTyping}
 
 pub record Alike (p q : NamedProgram) : Type 0 where
   pub plain : is_plain q ≡ is_plain p
+  pub interface : is_program_interface q ≡ is_program_interface p
   pub near : nearest q ≡ nearest p
   pub field : finds_field q ≡ finds_field p
   pub resolves : resolves_method q ≡ resolves_method p
@@ -102,6 +103,9 @@ module _ (p q : NamedProgram) (alike : Alike p q) where
       ∙ ap (λ f. if is_word t then is_number k else if is_array t then fits_array p k t else if f t then is_below q k (Class t) else is_initialised k) alike.plain
       ∙ ap (λ x. if is_word t then is_number k else if is_array t then fits_array p k t else if is_plain p t then x else is_initialised k) (below_at k (Class t))
 
+  holder_same : (k : Kind) (t : Text) → fits_holder q k t ≡ fits_holder p k t
+  holder_same k t = ap (λ b. b && (not (is_program_interface q t) || is_null k)) (fits_same k t) ∙ ap (λ f. fits p k t && (not (f t) || is_null k)) alike.interface
+
   -- ---- a class with other methods
 
   module _ (c : NamedClass) (ms : List NamedMethod) (m : NamedMethod) (code : Code) where
@@ -115,10 +119,11 @@ module _ (p q : NamedProgram) (alike : Alike p q) where
 
     holds_same : (k : FieldKey) (kind : Kind) → holds_field q d k kind ≡ holds_field p c k kind
     holds_same k FreshThis = ap (λ (f : FieldKey → Option (Text × NamedField)). elim (f k) as (λ o. Bool) [ Some f ↦ text_eq f.0 c.name | None ↦ false ]) alike.field
-    holds_same k kind = fits_same kind k.class
+    holds_same k kind = holder_same kind k.class
 
     meets_same : (ks : List Kind) (r : ℕ) (x : Demand) → meets q d ks r x ≡ meets p c ks r x
     meets_same ks r (Fits t) = fits_same (kind_at ks r) t
+    meets_same ks r (Receiver t) = holder_same (kind_at ks r) t
     meets_same ks r (Holder k) = holds_same k (kind_at ks r)
     meets_same ks r (Constructed t) = constructs (kind_at ks r)
       where
@@ -149,6 +154,11 @@ module _ (p q : NamedProgram) (alike : Alike p q) where
     wrong_field_same : (static : Bool) (k : FieldKey) → wrong_field q static k ≡ wrong_field p static k
     wrong_field_same static k = ap (λ (f : FieldKey → Option (Text × NamedField)). elim (f k) as (λ o. Bool) [ Some f ↦ differ static (is_static f.1.flags) | None ↦ false ]) alike.field
 
+    wrong_first_same : (k : FieldKey) → wrong_first q k ≡ wrong_first p k
+    wrong_first_same k =
+        ap (λ f. (is_array k.kind || f k.kind) && elim (finds_field q k) as (λ o. Bool) [ Some f ↦ begins_as_text_or_type f.1 | None ↦ false ]) alike.plain
+        ∙ ap (λ (f : FieldKey → Option (Text × NamedField)). (is_array k.kind || is_plain p k.kind) && elim (f k) as (λ o. Bool) [ Some f ↦ begins_as_text_or_type f.1 | None ↦ false ]) alike.field
+
     wrong_method_same : (kind : InvokeKind) (k : MethodKey) → wrong_method q kind k ≡ wrong_method p kind k
     wrong_method_same kind k = ap (λ (f : MethodKey → Option Found). elim (f k) as (λ o. Bool) [ Some g ↦ differ (is_static_call kind) (is_static g.flags) | None ↦ false ]) alike.resolves
 
@@ -165,7 +175,9 @@ module _ (p q : NamedProgram) (alike : Alike p q) where
     wrong_same a (form.NewInstance to kind) = ap (λ f. f kind) alike.instance
     wrong_same a (form.InstanceGet item to on field) = ap (λ x. wrong_item item field.kind || x) (wrong_field_same false field)
     wrong_same a (form.InstancePut item from on field) = ap (λ x. wrong_item item field.kind || x) (wrong_field_same false field)
-    wrong_same a (form.StaticGet item to field) = ap (λ x. wrong_item item field.kind || x) (wrong_field_same true field)
+    wrong_same a (form.StaticGet item to field) =
+        ap (λ x. wrong_item item field.kind || x || wrong_first q field) (wrong_field_same true field)
+        ∙ ap (λ x. wrong_item item field.kind || wrong_field p true field || x) (wrong_first_same field)
     wrong_same a (form.StaticPut item from field) = ap (λ x. wrong_item item field.kind || x) (wrong_field_same true field)
     wrong_same a (form.Invoke kind k args) =
         ap (λ x. x || wrong_super q d kind k || not (nat_eq (length args) (passed_words kind k))) (wrong_method_same kind k)

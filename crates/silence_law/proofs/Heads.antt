@@ -15,7 +15,7 @@ use Rattle.dalvik_defs.specs.declared.program.NamedField.{NamedField}
 use Rattle.dalvik_defs.specs.declared.program.NamedMethod.{NamedMethod}
 use Rattle.dalvik_defs.specs.declared.program.NamedClass.{NamedClass}
 use Rattle.dalvik_defs.specs.declared.program.NamedProgram.{NamedProgram}
-use Rattle.pass_defs.specs.Kinds.{is_plain, line_from, line_of, nearest}
+use Rattle.pass_defs.specs.Kinds.{is_plain, is_program_interface, line_from, line_of, nearest}
 use Rattle.silence_law.specs.Bodies.{Change, method_changed, class_changed, changed, KeepsCode}
 use Rattle.silence_law.proofs.Lists.{length_same, map_both, find_same, any_map, flat_same, flat_mapped}
 
@@ -47,6 +47,9 @@ module _ (new : Change) (p : NamedProgram) where
 
   pub plain_same : is_plain q ≡ is_plain p
   plain_same = fun_ext (at_class (λ c. not (is_interface c.flags)) (λ c. not (is_interface c.flags)) false (λ c. refl))
+
+  pub program_interface_same : is_program_interface q ≡ is_program_interface p
+  program_interface_same = fun_ext (at_class (λ c. is_interface c.flags) (λ c. is_interface c.flags) false (λ c. refl))
 
   -- ---- chains and lines
 

@@ -10,12 +10,13 @@ use Rattle.dalvik_defs.specs.declared.program.NamedClass.{NamedClass}
 use Rattle.dalvik_defs.specs.declared.program.NamedProgram.{NamedProgram}
 use Rattle.pass_defs.specs.Typed.{Table, IsTyping, IsTyped}
 use Rattle.silence_law.specs.Bodies.{Change, method_changed, class_changed, changed, KeepsCode}
-use Rattle.silence_law.proofs.Heads.{at_class, plain_same, nearest_same, field_same, resolves_same, super_same}
+use Rattle.silence_law.proofs.Heads.{at_class, plain_same, program_interface_same, nearest_same, field_same, resolves_same, super_same}
 use Rattle.silence_law.proofs.Alike.{Alike, typing_moved}
 
 pub others_alike : (new : Change) → KeepsCode new → (p : NamedProgram) → Alike p (changed new p)
 others_alike new keeps p = record {
   plain = plain_same new p;
+  interface = program_interface_same new p;
   near = nearest_same new p;
   field = field_same new p;
   resolves = resolves_same new p keeps;

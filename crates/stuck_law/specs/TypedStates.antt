@@ -26,8 +26,8 @@ use Rattle.pass_defs.specs.Kinds as kind
 use Rattle.pass_defs.specs.Registers.{Kinds}
 use Rattle.pass_defs.specs.Typed.{Table, state_at, IsTyping}
 use Rattle.invariant_law.specs.Fine.{IsThere}
-use Rattle.invariant_law.specs.Invariant.{Above, Callee, Begun, Owing, Invariant, Grows}
 use Rattle.invariant_law.specs.Holds.{Each}
+use Rattle.invariant_law.specs.Invariant.{Above, Callee, Begun, Owing, Invariant, Grows}
 
 -- a reference that isn't null, to what there is
 abbrev pub IsObject : World → Value → Type 0
@@ -96,11 +96,17 @@ module _ (p : NamedProgram) (f : Framework) where
   AllHold c w (k ∷ ks) (v ∷ vs) = KindHolds c w k v × AllHold c w ks vs
   AllHold c w ks vs = ⊥
 
+  -- The caught object is there. Only a form that wants an initialised reference reads it, so its kind is asked for where it
+  -- is one of those.
+  pub record CaughtHolds (c : Text) (w : World) (k : Kind) (v : Value) : Type 0 where
+    pub there : IsThere w v
+    pub held : kind.is_initialised k ≡ true → KindHolds c w k v
+
   -- the kinds of a position hold of a frame
   pub record StateHolds (c : Text) (w : World) (a : Kinds) (g : Frame) : Type 0 where
     pub registers : AllHold c w a.registers g.registers
     pub result : KindHolds c w a.result g.result
-    pub caught : KindHolds c w a.caught g.caught
+    pub caught : CaughtHolds c w a.caught g.caught
 
   -- the frame's method has a body with a typing
   pub record TypedMethod (k : MethodKey) : Type 0 where

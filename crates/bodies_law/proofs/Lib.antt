@@ -1,0 +1,4 @@
+pub mod Keys
+pub mod Faces
+pub mod Found
+pub mod Named

@@ -1,0 +1,10 @@
+use Rattle.std.proofs.Common.{◌≡◌, true}
+use Rattle.bodies_law.proofs.Faces.{others_face}
+use Rattle.bodies_law.proofs.Found.{others_found}
+use Rattle.bodies_law.proofs.laws.other_bodies_law.Goals as goal
+
+pub returns-clause-face : goal.returns-clause-face
+returns-clause-face c = λ p q test h f. others_face (λ k a b. test k a b ≡ true) p q h f
+
+pub returns-clause-found : goal.returns-clause-found
+returns-clause-found c = λ p q test none h k. others_found (λ k a b. test k a b ≡ true) none p q h k

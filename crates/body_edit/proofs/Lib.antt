@@ -1,0 +1,5 @@
+mod Each
+mod Left
+mod Placing
+mod Swapped
+mod Tracing

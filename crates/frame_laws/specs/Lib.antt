@@ -1,0 +1,3 @@
+pub mod Agree
+pub mod Alike
+pub mod Standing

@@ -1,0 +1,4 @@
+pub mod Listed
+pub mod Members
+pub mod FirstValues
+pub mod Formed

@@ -1,0 +1,4 @@
+pub mod TypedStates
+pub mod Regular
+pub mod NeverStuck
+pub mod Examples

@@ -1,0 +1,29 @@
+//! That a typed program is never stuck.
+
+ghost use Rattle.std.specs.Prelude.{◌≡◌, ◌⊎◌, ℕ, List};
+ghost use Rattle.dalvik_defs.specs.Face.{bodies_of};
+ghost use Rattle.dalvik_defs.specs.Outer.{Outer};
+ghost use Rattle.dalvik_defs.specs.Shown.{Fit};
+ghost use Rattle.dalvik_defs.specs.State.{Ended, opening};
+ghost use Rattle.dalvik_defs.specs.Step.{after, setting_of};
+ghost use Rattle.dalvik_defs.specs.declared.program.NamedProgram.{NamedProgram};
+ghost use Rattle.dalvik_defs.specs.declared.script.Move.{Move};
+ghost use Rattle.dalvik_defs.specs.declared.tables.Floats.{Floats};
+ghost use Rattle.dalvik_defs.specs.declared.tables.Framework.{Framework};
+ghost use Rattle.invariant_law.specs.Holds.{Holds};
+ghost use Rattle.stuck_law.specs.NeverStuck.{IsNeverStuck};
+ghost use Rattle.stuck_law.specs.Regular.{IsRegular};
+ghost use Rattle.stuck_law.specs.TypedStates.{typed_states};
+
+/// A regular program under a framework and a script that fit it ends only at the end of the script or at a move that isn't
+/// legal: no frame is without a step.
+pub fn never_stuck()
+    ensures { (p : NamedProgram) (o : Outer) (f : Framework) (a : Floats) (script : List Move) → IsRegular p → Fit p o f script
+        → IsNeverStuck (setting_of p o f a) (bodies_of p) (opening script) }
+{}
+
+/// Each state that such a run reaches has ended, or the kinds of a typing hold of it.
+pub fn typed_always()
+    ensures { (p : NamedProgram) (o : Outer) (f : Framework) (a : Floats) (script : List Move) (n : ℕ) → IsRegular p → Fit p o f script
+        → let t = after (setting_of p o f a) (bodies_of p) (opening script) n in (t ≡ Ended) ⊎ Holds (typed_states p f o) t }
+{}

@@ -1,0 +1,238 @@
+-- A thinned body keeps the rules of bodies.
+use Rattle.std.proofs.Common.{◌≡◌, ◌⊎◌, inl, inr, ℕ, zero, suc, ◌+◌, ◌-◌, ◌<◌, Bool, true, false, true≢false, List, [], ◌∷◌, length, refl, sym, ap, ◌∙◌, subst, arith}
+use Rattle.std.specs.Prelude.{◌&&◌, not, Option, Some, None, slice_get, Contains, nat_lt, nat_le}
+use Rattle.std.specs.List.{list_all, enumerate_from}
+use Rattle.std.specs.Option.{option_map}
+use Rattle.insn_set.specs.Flow.{goes_on, targets_of}
+use Rattle.insn_set.specs.Spelling.{is_encodable}
+use Rattle.insn_set.specs.declared.form.Insn.{Insn}
+use Rattle.insn_set.specs.declared.form.Insn.TheVariants as insn
+use Rattle.insn_set.specs.declared.ops.Slot.{Slot}
+use Rattle.program_model.specs.Neighbours.{neighbours}
+use Rattle.program_model.specs.OperandRules.{registers_fit, numbers_fit}
+use Rattle.program_model.specs.RegionRules.{may_begin, handler_fits, rest_fits, catches, region_fits, regions_fit}
+use Rattle.program_model.specs.BodyRules.{ends, has_result, may_follow, follows, may_enter, targets_fit, leaves, handles_at, is_caught, insn_fits, body_fits}
+use Rattle.program_model.specs.Texts.{has_type}
+use Rattle.program_model.specs.declared.body.Handler.{Handler}
+use Rattle.program_model.specs.declared.body.Region.{Region}
+use Rattle.program_model.specs.declared.body.Body.{Body}
+use Rattle.program_model.specs.declared.program.Program.{Program}
+use Rattle.pass_defs.specs.Thinned.{Fate, Stays, Empties, Goes, place, insn_retargeted, insns_left, handler_moved, region_moved, region_has_room, body_thinned}
+use Rattle.frame_laws.proofs.Lists.{some_same}
+use Rattle.silence_law.proofs.Lists.{clash, and_left, and_right, and_both, all_map}
+use Rattle.thin_law.proofs.Places.{IsLeft, place_next}
+use Rattle.thin_rules.specs.Tidy.{IsTidy}
+use Rattle.thin_rules.proofs.Kept.{encodable, registers, numbers, gives, enters, begins, aims, enter_begin}
+use Rattle.thin_rules.proofs.Places.{get_within, get_there, all_at, all_of, all_with, all_numbered, all_beside, left_insn, insn_left, From, come_from, place_same}
+use Rattle.thin_rules.proofs.Regions.{handlers_begin, rest_begins, kept_all, kept_any, handles_there, each_region_fits, regions_left}
+use Rattle.thin_rules.proofs.Lands.{first_begins, all_regions_fit, operands_at, targets_at, follows_at, left_at, Lands, lands, target_lands, is_marked, Falls, falls}
+
+not_behind : (a : ℕ) → suc (a - 1) < a → 0 < a → ⊥
+not_behind a l m = omega arith
+
+before_end : (a : ℕ) → 0 < a → a - 1 < a
+before_end a l = omega arith
+
+not_zero : (j : ℕ) → 0 ≡ suc j → ⊥
+not_zero j e = omega (arith, e)
+
+less : (n a : ℕ) → suc n < a → n < a
+less n a l = omega arith
+
+same_suc : (a j : ℕ) → suc a ≡ suc j → a ≡ j
+same_suc a j e = omega (arith, e)
+
+none_plus : (n : ℕ) → n ≡ 0 + n
+none_plus n = omega arith
+
+entry_place : (fs : List Fate) → place fs 0 ≡ 0
+entry_place [] = refl
+entry_place (f ∷ fs) = refl
+
+module _ (p : Program) (marks : ℕ → Bool) (fs : List Fate) (b : Body) (fits : body_fits p b ≡ true) (tidy : IsTidy marks fs b) where
+  abbrev at : ℕ → ℕ
+  at = place fs
+
+  abbrev new : List Insn
+  new = insns_left at fs b.insns
+
+  -- what stands where something lands
+  stands : (n : ℕ) (l : Lands p marks fs b fits tidy n) → slice_get new (at n) ≡ Some (left_insn at l.fate l.insn)
+  stands n l = ap (slice_get new) (sym l.same) ∙ insn_left at fs b.insns l.to l.fate l.insn l.has_fate l.has_insn l.is_left
+
+  enter_left : (f : Fate) (i : Insn) → IsLeft (Some f) → may_enter (Some i) ≡ true → may_enter (Some (left_insn at f i)) ≡ true
+  enter_left Stays i l e = enters at i ∙ e
+  enter_left Empties i l e = refl
+  enter_left Goes i l e = absurd l
+
+  begin_left : (f : Fate) (i : Insn) → IsLeft (Some f) → may_begin (Some i) ≡ true → may_begin (Some (left_insn at f i)) ≡ true
+  begin_left Stays i l e = begins at i ∙ e
+  begin_left Empties i l e = refl
+  begin_left Goes i l e = absurd l
+
+  -- ---- the first and the last
+
+  -- where a handler began at a marked position, one may begin at its place
+  begins_at : (n : ℕ) → marks n ≡ true → may_begin (slice_get b.insns n) ≡ true → may_begin (slice_get new (at n)) ≡ true
+  begins_at n m h = by_form (slice_get b.insns n) refl h
+    where
+      by : (i : Insn) → slice_get b.insns n ≡ Some i → may_begin (Some i) ≡ true → (l : Lands p marks fs b fits tidy n) → (l.to ≡ n) ⊎ (may_enter (Some l.insn) ≡ true) → may_begin (Some l.insn) ≡ true
+      by i e h l (inl s) = subst (λ z. may_begin (Some z) ≡ true) (some_same i l.insn (sym e ∙ ap (slice_get b.insns) (sym s) ∙ l.has_insn)) h
+      by i e h l (inr s) = enter_begin (Some l.insn) s
+
+      by_form : (o : Option Insn) → slice_get b.insns n ≡ o → may_begin o ≡ true → may_begin (slice_get new (at n)) ≡ true
+      by_form None e h = clash true refl (sym h)
+      by_form (Some i) e h = let l = lands p marks fs b fits tidy n i m e in ap may_begin (stands n l) ∙ begin_left l.fate l.insn l.is_left (by i e h l l.enters)
+
+  first : may_begin (slice_get new 0) ≡ true
+  first = ap (λ k. may_begin (slice_get new k)) (sym (entry_place fs)) ∙ begins_at 0 tidy.entry (first_begins p marks fs b fits tidy)
+
+  -- behind what goes on something is left
+  behind : (j : ℕ) (y : Insn) → slice_get new j ≡ Some y → goes_on y ≡ true → suc j < length new
+  behind j y e g =
+      let r = come_from at fs b.insns j y e in
+      let w = falls p marks fs b fits tidy r.position r.fate r.insn r.has_fate r.is_left r.has_insn (ap goes_on (sym r.same) ∙ g) in
+      subst (λ k. k < length new) (w.behind ∙ ap suc r.there)
+      (get_within new (at w.lands.to) (left_insn at w.lands.fate w.lands.insn) (insn_left at fs b.insns w.lands.to w.lands.fate w.lands.insn w.lands.has_fate w.lands.has_insn w.lands.is_left))
+
+  last : slice_get new 0 ≡ None → ⊥
+  last e = absurd (true≢false (sym first ∙ ap may_begin e))
+
+  last_ends : ends (slice_get new (length new - 1)) ≡ true
+  last_ends = some_left (slice_get new 0) refl
+    where
+      stops : (y : Insn) → slice_get new (length new - 1) ≡ Some y → 0 < length new → (g : Bool) → goes_on y ≡ g → not g ≡ true
+      stops y e l false h = refl
+      stops y e l true h = absurd (not_behind (length new) (behind (length new - 1) y e h) l)
+
+      some_left : (o : Option Insn) → slice_get new 0 ≡ o → ends (slice_get new (length new - 1)) ≡ true
+      some_left None e = absurd (last e)
+      some_left (Some y) e =
+          let l = get_within new 0 y e in
+          let z = get_there new (length new - 1) (before_end (length new) l) in
+          ap ends z.1 ∙ stops z.0 z.1 l (goes_on z.0) refl
+
+  -- ---- one behind another
+
+  -- nothing goes on to an instruction that may follow only what doesn't, or what gives a result
+  follows_left : (j : ℕ) (x y : Insn) → slice_get new j ≡ Some x → slice_get new (suc j) ≡ Some y → may_follow x y ≡ true
+  follows_left j x y e d = by (come_from at fs b.insns j x e) (come_from at fs b.insns (suc j) y d)
+    where
+      result : (n : ℕ) (i : Insn) → slice_get fs n ≡ Some Stays → slice_get b.insns n ≡ Some i → at n ≡ j → has_result i ≡ true → has_result x ≡ true
+      result n i h k s g = ap has_result (some_same x (insn_retargeted at i) (sym e ∙ ap (slice_get new) (sym s) ∙ insn_left at fs b.insns n Stays i h k tt)) ∙ gives at i ∙ g
+
+      taken : (m : ℕ) (slot : Slot) (to : ℕ) → slice_get fs m ≡ Some Stays → slice_get b.insns m ≡ Some (insn.MoveResult slot to) → at m ≡ suc j → has_result x ≡ true
+      taken zero slot to h k s = absurd (not_zero j (sym (entry_place fs) ∙ s))
+      taken (suc n) slot to h k s =
+          let giver = tidy.results n to slot h k in
+          let i = get_there b.insns n (less n (length b.insns) (get_within b.insns (suc n) (insn.MoveResult slot to) k)) in
+          result n i.0 giver i.1 (same_suc (at n) j (sym (place_next fs n (subst IsLeft (sym giver) tt)) ∙ s)) (follows_at p marks fs b fits tidy n i.0 (insn.MoveResult slot to) i.1 k)
+
+      never : (m to : ℕ) → slice_get fs m ≡ Some Stays → slice_get b.insns m ≡ Some (insn.MoveException to) → at m ≡ suc j → From at fs b.insns j x → goes_on x ≡ true → ⊥
+      never m to h k s r g = by w.enters
+        where
+          w : Falls p marks fs b fits tidy r.position r.insn
+          w = falls p marks fs b fits tidy r.position r.fate r.insn r.has_fate r.is_left r.has_insn (ap goes_on (sym r.same) ∙ g)
+
+          same : w.lands.to ≡ m
+          same = place_same fs w.lands.to m (left_at p marks fs b fits tidy w.lands.to w.lands.fate w.lands.has_fate w.lands.is_left) (subst IsLeft (sym h) tt) (w.behind ∙ ap suc r.there ∙ sym s)
+
+          by : ((w.lands.to ≡ suc r.position) × (goes_on r.insn ≡ true)) ⊎ (may_enter (Some w.lands.insn) ≡ true) → ⊥
+          by (inl d) = absurd (true≢false (sym (follows_at p marks fs b fits tidy r.position r.insn (insn.MoveException to) r.has_insn (ap (slice_get b.insns) (sym d.0 ∙ same) ∙ k)) ∙ ap not d.1))
+          by (inr d) = absurd (true≢false (sym d ∙ ap may_enter (sym w.lands.has_insn ∙ ap (slice_get b.insns) same ∙ k)))
+
+      stops : (m to : ℕ) → slice_get fs m ≡ Some Stays → slice_get b.insns m ≡ Some (insn.MoveException to) → at m ≡ suc j → From at fs b.insns j x → (g : Bool) → goes_on x ≡ g → not g ≡ true
+      stops m to h k s r false g = refl
+      stops m to h k s r true g = absurd (never m to h k s r g)
+
+      by_form : From at fs b.insns j x → (m : ℕ) (i : Insn) → slice_get fs m ≡ Some Stays → slice_get b.insns m ≡ Some i → at m ≡ suc j → may_follow x (insn_retargeted at i) ≡ true
+      by_form r m (insn.MoveResult slot to) h k s = taken m slot to h k s
+      by_form r m (insn.MoveException to) h k s = stops m to h k s r (goes_on x) refl
+      by_form r m i h k s = refl
+
+      by_fate : From at fs b.insns j x → (m : ℕ) (f : Fate) (i : Insn) → slice_get fs m ≡ Some f → IsLeft (Some f) → slice_get b.insns m ≡ Some i → at m ≡ suc j → may_follow x (left_insn at f i) ≡ true
+      by_fate r m Stays i h l k s = by_form r m i h k s
+      by_fate r m Empties i h l k s = refl
+      by_fate r m Goes i h l k s = absurd l
+
+      by : From at fs b.insns j x → From at fs b.insns (suc j) y → may_follow x y ≡ true
+      by r q = subst (λ z. may_follow x z ≡ true) (sym q.same) (by_fate r q.position q.fate q.insn q.has_fate q.is_left q.has_insn q.there)
+
+  -- ---- each instruction
+
+  abbrev thin : Body
+  thin = body_thinned fs b
+
+  stays_fits : (n : ℕ) (i : Insn) → slice_get fs n ≡ Some Stays → slice_get b.insns n ≡ Some i → insn_fits p thin (at n, insn_retargeted at i) ≡ true
+  unfolding insn_fits
+  stays_fits n i h e =
+      let x = insn_retargeted at i in
+      and_both (is_encodable x && (registers_fit x b.registers && numbers_fit x p)) (targets_fit new x && (leaves (at n) x && is_caught thin.regions (at n) x))
+      (ap (λ z. z && (registers_fit x b.registers && numbers_fit x p)) (encodable at i) ∙ ap (λ z. is_encodable i && (z && numbers_fit x p)) (registers at i b.registers)
+      ∙ ap (λ z. is_encodable i && (registers_fit i b.registers && z)) (numbers at i p) ∙ operands_at p marks fs b fits tidy n i e)
+      (and_both (targets_fit new x) (leaves (at n) x && is_caught thin.regions (at n) x)
+      (ap (list_all (λ t. may_enter (slice_get new t))) (aims at i) ∙ all_map (λ t. may_enter (slice_get new t)) at (targets_of i)
+      ∙ all_with (λ t. may_enter (slice_get b.insns t)) (λ t. may_enter (slice_get new (at t))) (targets_of i) aimed (targets_at p marks fs b fits tidy n i e))
+      (and_both (leaves (at n) x) (is_caught thin.regions (at n) x) (tidy.leaves n i h e) (caught_left i h e)))
+    where
+      caught_left : (i : Insn) → slice_get fs n ≡ Some Stays → slice_get b.insns n ≡ Some i → is_caught thin.regions (at n) (insn_retargeted at i) ≡ true
+      caught_left (insn.MoveException to) h e = let r = tidy.caught n to h e in kept_any p b.insns fs (handles_at (at n)) b.regions r.0 r.1.0 r.1.1.1 (handles_there p b.insns fs n r.0 r.1.1.0)
+      caught_left i h e = refl
+
+      aimed : (t : ℕ) → Contains (targets_of i) t → may_enter (slice_get b.insns t) ≡ true → may_enter (slice_get new (at t)) ≡ true
+      aimed t c v = let l = target_lands p marks fs b fits tidy n t i (is_marked p marks fs b fits tidy n Stays h tt) e c in
+          ap may_enter (stands t l.0) ∙ enter_left l.0.fate l.0.insn l.0.is_left l.1
+
+  nop_fits : (j : ℕ) → insn_fits p thin (j, insn.Nop) ≡ true
+  unfolding insn_fits registers_fit numbers_fit
+  nop_fits j = refl
+
+  each_left : (j : ℕ) (y : Insn) → slice_get new j ≡ Some y → insn_fits p thin (j, y) ≡ true
+  each_left j y e = let r = come_from at fs b.insns j y e in
+      subst (λ z. insn_fits p thin (j, z) ≡ true) (sym r.same) (subst (λ k. insn_fits p thin (k, left_insn at r.fate r.insn) ≡ true) r.there (by r.position r.fate r.insn r.has_fate r.is_left r.has_insn))
+    where
+      by : (n : ℕ) (f : Fate) (i : Insn) → slice_get fs n ≡ Some f → IsLeft (Some f) → slice_get b.insns n ≡ Some i → insn_fits p thin (at n, left_insn at f i) ≡ true
+      by n Stays i h l k = stays_fits n i h k
+      by n Empties i h l k = nop_fits (at n)
+      by n Goes i h l k = absurd l
+
+  -- ---- regions
+
+  begins_either : (n : ℕ) → may_begin (slice_get b.insns n) ≡ true → (marks n ≡ true) ⊎ (may_begin (slice_get new (at n)) ≡ true) → may_begin (slice_get new (at n)) ≡ true
+  begins_either n e (inl m) = begins_at n m e
+  begins_either n e (inr d) = d
+
+  one_region : (r : Region) → Contains b.regions r → region_fits p b.insns r ≡ true
+  one_region r c = all_at (region_fits p b.insns) b.regions r c (each_region_fits p b.insns fs tidy.long b.regions (all_regions_fit p marks fs b fits tidy))
+
+  inner : (r : Region) → Contains b.regions r → (list_all (handler_fits p b.insns) r.handlers && rest_fits b.insns r.rest) ≡ true
+  inner r c = and_right (catches r) (list_all (handler_fits p b.insns) r.handlers && rest_fits b.insns r.rest)
+      (and_right (nat_lt r.first r.end && nat_le r.end (length b.insns)) (catches r && (list_all (handler_fits p b.insns) r.handlers && rest_fits b.insns r.rest)) (one_region r c))
+
+  handlers_there : (r : Region) → Contains b.regions r → region_has_room (region_moved at r) ≡ true → handlers_begin new (region_moved at r) ≡ true
+  handlers_there r c e = all_map (λ (h : Handler). may_begin (slice_get new h.position)) (handler_moved at) r.handlers
+      ∙ all_of (λ (h : Handler). may_begin (slice_get new (at h.position))) r.handlers (λ h i. begins_either h.position
+      (and_right (has_type p h.kind) (may_begin (slice_get b.insns h.position))
+      (all_at (handler_fits p b.insns) r.handlers h i (and_left (list_all (handler_fits p b.insns) r.handlers) (rest_fits b.insns r.rest) (inner r c)))) (tidy.handlers r h c e i))
+
+  rest_there : (r : Region) → Contains b.regions r → region_has_room (region_moved at r) ≡ true → rest_begins new (region_moved at r) ≡ true
+  rest_there r c e = by r.rest refl (and_right (list_all (handler_fits p b.insns) r.handlers) (rest_fits b.insns r.rest) (inner r c))
+    where
+      by : (o : Option ℕ) → r.rest ≡ o → rest_fits b.insns o ≡ true → rest_fits new (option_map at o) ≡ true
+      by None d f = refl
+      by (Some n) d f = begins_either n f (tidy.rests r n c e d)
+
+  -- ---- the body
+
+  numbered : (j : ℕ) (y : Insn) → slice_get new j ≡ Some y → insn_fits p thin (0 + j, y) ≡ true
+  numbered j y e = ap (λ k. insn_fits p thin (k, y)) (sym (none_plus j)) ∙ each_left j y e
+
+  pub thinned_fits : body_fits p thin ≡ true
+  unfolding body_fits
+  thinned_fits =
+      and_both (may_begin (slice_get new 0) && ends (slice_get new (length new - 1))) (list_all follows (neighbours new) && (list_all (insn_fits p thin) (enumerate_from 0 new) && regions_fit p new thin.regions))
+      (and_both (may_begin (slice_get new 0)) (ends (slice_get new (length new - 1))) first last_ends)
+      (and_both (list_all follows (neighbours new)) (list_all (insn_fits p thin) (enumerate_from 0 new) && regions_fit p new thin.regions) (all_beside follows new follows_left)
+      (and_both (list_all (insn_fits p thin) (enumerate_from 0 new)) (regions_fit p new thin.regions) (all_numbered (insn_fits p thin) new 0 numbered)
+      (regions_left p b.insns fs tidy.long b.regions (all_regions_fit p marks fs b fits tidy)
+      (kept_all p b.insns fs (handlers_begin new) b.regions handlers_there) (kept_all p b.insns fs (rest_begins new) b.regions rest_there))))

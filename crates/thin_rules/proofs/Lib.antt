@@ -1,0 +1,5 @@
+pub mod Kept
+pub mod Places
+pub mod Lands
+pub mod Regions
+pub mod Fits

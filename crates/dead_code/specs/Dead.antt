@@ -1,0 +1,118 @@
+-- Which positions of a body compute what nobody reads, by number (Dalvik bytecode, "Summary of bytecode set"; this
+-- project's profile).
+use Rattle.std.specs.Prelude.{◌≡◌, ◌↔◌, ℕ, suc, ◌+◌, ◌<◌, pos, Bool, true, false, ◌&&◌, ◌||◌, not, nat_lt, List, length, Option, Some, None, slice_get, slice_index_or}
+use Rattle.std.specs.List.{list_any}
+use Rattle.std.specs.Ordering.{int_eq}
+use Rattle.insn_set.specs.Flow.{divides, divides_by_literal}
+use Rattle.insn_set.specs.Widths.{is_wide_slot, is_wide_item, unary_writes_wide, binary_is_wide}
+use Rattle.insn_set.specs.Registers.{writes_of}
+use Rattle.insn_set.specs.declared.form.Insn.{Insn}
+use Rattle.insn_set.specs.declared.form.Insn.TheVariants as insn
+use Rattle.program_model.specs.declared.body.Body.{Body}
+use Rattle.program_model.specs.declared.program.Program.{Program}
+use Rattle.class_defs.specs.Finding.{resolves_field}
+use Rattle.class_defs.specs.Starts.{is_trivial}
+use Rattle.hierarchy.specs.Tables.{answer}
+use Rattle.hierarchy.specs.declared.build.Hierarchy.{Hierarchy}
+use Rattle.flow_cfg.specs.Walks.{successors_of}
+use Rattle.walk_marks.specs.Walks.{is_on}
+use Rattle.body_graph.specs.Walks.{insn_at, IsRead, IsReadAfter}
+use Rattle.live_regs.specs.Live.{is_live}
+use Rattle.live_regs.specs.declared.table.Live.{Live}
+
+-- ---- pure forms
+
+-- a field of a program class that is trivially initialised
+abbrev pub is_quiet_field : Program → ℕ → Bool
+is_quiet_field p field = elim (resolves_field p field) [ Some at ↦ is_trivial p at.0 | None ↦ false ]
+
+-- the same by the tables of a hierarchy
+abbrev pub trivial_in : Hierarchy → Option (ℕ × ℕ) → Bool
+trivial_in h None = false
+trivial_in h (Some at) = slice_index_or h.starts.trivial.items at.0 false
+
+abbrev pub quiet_in : Hierarchy → ℕ → Bool
+quiet_in h field = trivial_in h (answer (slice_get h.targets.fields.items field))
+
+-- pure whatever the registers hold, where gets of these static fields are
+abbrev pub is_pure : (ℕ → Bool) → Insn → Bool
+is_pure quiet insn.Nop = true
+is_pure quiet (insn.Move slot to from) = true
+is_pure quiet (insn.MoveResult slot to) = true
+is_pure quiet (insn.MoveException to) = true
+is_pure quiet (insn.Const to value) = true
+is_pure quiet (insn.ConstWide to value) = true
+is_pure quiet (insn.ConstString to string) = true
+is_pure quiet (insn.ConstClass to kind) = true
+is_pure quiet (insn.InstanceOf to from kind) = true
+is_pure quiet (insn.Cmp op to a b) = true
+is_pure quiet (insn.StaticGet item to field) = quiet field
+is_pure quiet (insn.Unary op to from) = true
+is_pure quiet (insn.Binary op to a b) = not (divides op)
+is_pure quiet (insn.Literal op to a value) = not (divides_by_literal op) || not (int_eq value (pos 0))
+is_pure quiet i = false
+
+-- ---- dead positions
+
+-- A pure form that writes a register, and no walk onward reads what it writes before that is written. What it writes are
+-- registers of the body.
+pub record IsDead (quiet : ℕ → Bool) (b : Body) (n : ℕ) : Type 0 where
+  pub form : Insn
+  pub has_form : insn_at b n ≡ Some form
+  pub pure : is_pure quiet form ≡ true
+  pub register : ℕ
+  pub writes_it : writes_of form register ≡ true
+  pub inside : (r : ℕ) → writes_of form r ≡ true → r < b.registers
+  pub unread : (r : ℕ) → writes_of form r ≡ true → IsReadAfter b r n → ⊥
+
+-- exactly the dead positions are marked
+pub record AreDead (quiet : ℕ → Bool) (b : Body) (marks : List Bool) : Type 0 where
+  pub long : length marks ≡ length b.insns
+  pub each : (n : ℕ) → n < length b.insns → (is_on marks n ≡ true) ↔ IsDead quiet b n
+
+-- ---- how they are found
+
+-- the register that a form writes, and whether it writes the next one too
+abbrev pub written_of : Insn → Option (ℕ × Bool)
+written_of (insn.Move slot to from) = Some (to, is_wide_slot slot)
+written_of (insn.MoveResult slot to) = Some (to, is_wide_slot slot)
+written_of (insn.MoveException to) = Some (to, false)
+written_of (insn.Const to value) = Some (to, false)
+written_of (insn.ConstWide to value) = Some (to, true)
+written_of (insn.ConstString to string) = Some (to, false)
+written_of (insn.ConstClass to kind) = Some (to, false)
+written_of (insn.InstanceOf to from kind) = Some (to, false)
+written_of (insn.ArrayLength to from) = Some (to, false)
+written_of (insn.NewInstance to kind) = Some (to, false)
+written_of (insn.NewArray to size kind) = Some (to, false)
+written_of (insn.Cmp op to a b) = Some (to, false)
+written_of (insn.ArrayGet item to array index) = Some (to, is_wide_item item)
+written_of (insn.InstanceGet item to on field) = Some (to, is_wide_item item)
+written_of (insn.StaticGet item to field) = Some (to, is_wide_item item)
+written_of (insn.Unary op to from) = Some (to, unary_writes_wide op)
+written_of (insn.Binary op to a b) = Some (to, binary_is_wide op)
+written_of (insn.Literal op to a value) = Some (to, false)
+written_of i = None
+
+-- the register is live at one of some positions
+abbrev pub is_live_at : Live → List ℕ → ℕ → Bool
+is_live_at live ns r = list_any (λ n. is_live live n r) ns
+
+abbrev pub unread_by : Live → List ℕ → ℕ → ℕ → Bool → Bool
+unread_by live ns registers to false = nat_lt to registers && not (is_live_at live ns to)
+unread_by live ns registers to true = (nat_lt (to + 1) registers && not (is_live_at live ns to)) && not (is_live_at live ns (to + 1))
+
+abbrev pub unread_if : Live → List ℕ → ℕ → Option (ℕ × Bool) → Bool
+unread_if live ns registers None = false
+unread_if live ns registers (Some w) = unread_by live ns registers w.0 w.1
+
+abbrev pub dead_by : Live → List ℕ → ℕ → Insn → Bool
+dead_by live ns registers i = unread_if live ns registers (written_of i)
+
+abbrev pub dead_at : (ℕ → Bool) → Live → Body → ℕ → Option Insn → Bool
+dead_at quiet live b n None = false
+dead_at quiet live b n (Some i) = is_pure quiet i && dead_by live (successors_of b n) b.registers i
+
+-- what an analysis of the body's registers says
+abbrev pub LiveAs : Body → Live → Type 0
+LiveAs b live = (n r : ℕ) → r < b.registers → (is_live live n r ≡ true) ↔ IsRead b r n

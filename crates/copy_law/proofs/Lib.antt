@@ -1,3 +1,4 @@
 pub mod Copying
 pub mod Rereading
 pub mod TypedReads
+pub mod TypedRereading

@@ -20,10 +20,10 @@ use Rattle.place_law.proofs.Onward.{clash, some_same}
 use Rattle.copy_law.specs.Copied.{Stands, Itself, Original, ReadsOriginals}
 use Rattle.copy_law.specs.Reread.{Copied, substituted, StandsThere, IsReread, AreReread}
 
-first : (b : NamedBody) (n : ℕ) (f : Form) (c : Copied) (cs : List Copied) → All (StandsThere b n f) (c ∷ cs) → StandsThere b n f c
+pub first : (b : NamedBody) (n : ℕ) (f : Form) (c : Copied) (cs : List Copied) → All (StandsThere b n f) (c ∷ cs) → StandsThere b n f c
 first b n f c cs h = h 0 c (omega arith)
 
-rest : (b : NamedBody) (n : ℕ) (f : Form) (c : Copied) (cs : List Copied) → All (StandsThere b n f) (c ∷ cs) → All (StandsThere b n f) cs
+pub rest : (b : NamedBody) (n : ℕ) (f : Form) (c : Copied) (cs : List Copied) → All (StandsThere b n f) (c ∷ cs) → All (StandsThere b n f) cs
 rest b n f c cs h = λ k d lt. h (suc k) d (omega (arith, lt))
 
 module _ (b : NamedBody) (n : ℕ) (f : Form) where
@@ -102,31 +102,51 @@ pairs_first b n f cs h = tt
 -- ---- bodies
 
 module _ (b d : NamedBody) (all : AreReread b d) where
-  -- what is known of the registers that are read at a position
-  abbrev Known : ℕ → Option Form → Type 0
-  Known n o = (new : ℕ → ℕ) × ((f : Form) → o ≡ Some f
-      → (form_at d n ≡ Some (remade new (λ r. r) (λ t. t) f)) × (TakesPair new f × ((r : ℕ) → reads f r ≡ true → Stands b n r (new r))))
+  -- the copies that are read at a position
+  pub record Known (n : ℕ) (o : Option Form) : Type 0 where
+    pub copies : List Copied
+    pub stale : (f : Form) → o ≡ Some f → All (StandsThere b n f) copies
+    pub form : (f : Form) → o ≡ Some f → form_at d n ≡ Some (remade (substituted copies) (λ r. r) (λ t. t) f)
 
-  known : (n : ℕ) (o : Option Form) → form_at b n ≡ o → Known n o
-  known n None e = ((λ r. r), λ f i. clash true refl (ap (λ o. elim o as (λ o. Bool) [ Some x ↦ false | None ↦ true ]) i))
-  known n (Some g) e =
-      let h = all.forms n g e in let r = h.1.1 in (
-        substituted r.copies,
-        λ f i. subst (λ x. (form_at d n ≡ Some (remade (substituted r.copies) (λ r. r) (λ t. t) x)) × (TakesPair (substituted r.copies) x × ((y : ℕ) → reads x y ≡ true → Stands b n y (substituted r.copies y))))
-            (some_same g f i) (h.1.0 ∙ ap Some r.form, (pairs_first b n g r.copies r.stale, λ y a. stands_first b n g r.copies r.stale y)),
-      )
+  pub known : (n : ℕ) (o : Option Form) → form_at b n ≡ o → Known n o
+  known n None e = record {
+    copies = [];
+    stale = λ f i. none f i;
+    form = λ f i. none f i;
+  }
+    where
+      none : (f : Form) {A : Type 0} → None ≡ Some f → A
+      none f i = clash true refl (ap (λ o. elim o as (λ o. Bool) [ Some x ↦ false | None ↦ true ]) i)
+  known n (Some g) e = let h = all.forms n g e in let r = h.1.1 in record {
+    copies = r.copies;
+    stale = λ f i. subst (λ x. All (StandsThere b n x) r.copies) (some_same g f i) r.stale;
+    form = λ f i. subst (λ x. form_at d n ≡ Some (remade (substituted r.copies) (λ r. r) (λ t. t) x)) (some_same g f i) (h.1.0 ∙ ap Some r.form);
+  }
 
-  known_at : (n : ℕ) → Known n (form_at b n)
+  pub known_at : (n : ℕ) → Known n (form_at b n)
   known_at n = known n (form_at b n) refl
 
   pub reread_reads : ReadsOriginals b d
   reread_reads = record {
-    new = λ n. (known_at n).0;
-    forms = λ n f e. ((known_at n).1 f e).0;
+    new = λ n. substituted (known_at n).copies;
+    forms = λ n f e. (known_at n).form f e;
     ends = all.ends;
     regions = all.regions;
     registers = all.registers;
     ins = all.ins;
-    pairs = λ n f e. ((known_at n).1 f e).1.0;
-    stands = λ n f r e reached a. ((known_at n).1 f e).1.1 r a;
+    pairs = λ n f e. pairs_first b n f (known_at n).copies ((known_at n).stale f e);
+    stands = λ n f r e reached a. stands_first b n f (known_at n).copies ((known_at n).stale f e) r;
   }
+
+  pub reread_new : (n : ℕ) → reread_reads.new n ≡ substituted (known_at n).copies
+  unfolding reread_reads
+  reread_new n = refl
+
+  -- what is true of the copies of each form is true of those
+  pub known_all : (P : Copied → Type 0) (n : ℕ) → ((f : Form) (e : form_at b n ≡ Some f) → All P (all.forms n f e).1.1.copies) → (f : Form) → form_at b n ≡ Some f → All P (known_at n).copies
+  unfolding known known_at
+  known_all P n h f e = by (form_at b n) refl (λ g i. h g i)
+    where
+      by : (o : Option Form) (i : form_at b n ≡ o) → ((g : Form) (j : form_at b n ≡ Some g) → All P (all.forms n g j).1.1.copies) → All P (known n o i).copies
+      by None i h = λ k d lt. absurd (omega (arith, lt))
+      by (Some g) i h = h g i

@@ -8,7 +8,7 @@ ghost use Rattle.silence_law.specs.Bodies.{Change, changed};
 ghost use Rattle.place_law.specs.Solid.{AllSolid};
 ghost use Rattle.copy_law.specs.Copied.{ReadsOriginals, AllReadOriginals};
 ghost use Rattle.pass_defs.specs.Typed.{IsTyped};
-ghost use Rattle.copy_law.specs.TypedCopies.{AllReadAlike};
+ghost use Rattle.copy_law.specs.TypedCopies.{AllReadAlike, AllTypedReread};
 ghost use Rattle.copy_law.specs.Reread.{AreReread, AllReread};
 
 /// A program shows the same with bodies that read originals in place of copies, for every framework, float table and
@@ -27,4 +27,9 @@ pub fn reread_law()
 /// And such a program is typed, where originals have the kinds of their copies by some typing of each body.
 pub fn copied_typed_law()
     ensures { (p : NamedProgram) (new : Change) → AllReadAlike new p → IsTyped (changed new p) }
+{}
+
+/// And so is a program in which originals that Moves stand for are read, where they have the kinds of their copies.
+pub fn reread_typed_law()
+    ensures { (p : NamedProgram) (new : Change) → AllTypedReread new p → IsTyped (changed new p) }
 {}

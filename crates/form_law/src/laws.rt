@@ -1,6 +1,7 @@
 //! Laws of forms.
 
-ghost use Rattle.std.specs.Prelude.{ℕ, ◌+◌, ◌<◌, Bool, true, List, length, slice_index_or, ◌≡◌};
+ghost use Rattle.std.specs.Prelude.{ℕ, ◌+◌, ◌<◌, Bool, true, false, List, length, slice_index_or, nat_eq, Some, ◌≡◌};
+ghost use Rattle.std.specs.List.{list_any};
 ghost use Rattle.dalvik_defs.specs.Names.{Text};
 ghost use Rattle.dalvik_defs.specs.State.{World};
 ghost use Rattle.dalvik_defs.specs.declared.state.Value.{Value};
@@ -9,16 +10,20 @@ ghost use Rattle.dalvik_defs.specs.Act.{act};
 ghost use Rattle.dalvik_defs.specs.Effect.{register};
 ghost use Rattle.dalvik_defs.specs.declared.state.Frame.{Frame};
 ghost use Rattle.dalvik_defs.specs.declared.forms.Form.{Form};
+ghost use Rattle.dalvik_defs.specs.declared.program.NamedBody.{NamedBody};
 ghost use Rattle.dalvik_defs.specs.declared.program.NamedClass.{NamedClass};
 ghost use Rattle.dalvik_defs.specs.declared.program.NamedMethod.{NamedMethod};
 ghost use Rattle.dalvik_defs.specs.declared.program.NamedProgram.{NamedProgram};
 ghost use Rattle.dalvik_defs.specs.declared.tables.Floats.{Floats};
 ghost use Rattle.pass_defs.specs.Bare.{reads, writes};
-ghost use Rattle.pass_defs.specs.Demands.{demands, is_allowed};
+ghost use Rattle.pass_defs.specs.Packed.{wides_read};
+ghost use Rattle.pass_defs.specs.Demands.{Demand, Pair, demands, is_allowed};
+ghost use Rattle.pass_defs.specs.Typed.{is_wrong, Table, state_at, IsTyping};
+ghost use Rattle.pass_defs.specs.Walks.{form_at};
 ghost use Rattle.pass_defs.specs.Registers.{Kinds};
 ghost use Rattle.pass_defs.specs.Remade.{remade};
-ghost use Rattle.form_law.specs.Changes.{operands, destination, width, written, TakesPair, Same, Alike};
-ghost use Rattle.form_law.specs.Kinds.{AtFirst, AllSame};
+ghost use Rattle.form_law.specs.Changes.{In, operands, destination, width, written, TakesPair, Same, Alike};
+ghost use Rattle.form_law.specs.Kinds.{AtFirst, AllSame, IsAsked, HasNarrowClass, Held};
 
 /// A form with other registers and targets, which reads the same values, does the same to another frame: it has the same
 /// effect, with the same values in it, and changes the frame alike, at its own registers and targets.
@@ -54,4 +59,26 @@ pub fn demands_law()
     ensures { (p : NamedProgram) (c : NamedClass) (m : NamedMethod) (r d t : ℕ → ℕ) (a a' : Kinds) (f : Form) → a'.result ≡ a.result → a'.caught ≡ a.caught
         → AtFirst r a.registers a'.registers f → AllSame r a.registers a'.registers (demands p c m a.registers f)
         → is_allowed p c m a f ≡ true → is_allowed p c m a' (remade r d t f) ≡ true }
+{}
+
+/// What a form that is right and allowed asks for it reads, of a wide both halves.
+pub fn asked_law()
+    ensures { (p : NamedProgram) (c : NamedClass) (m : NamedMethod) (a : Kinds) (f : Form) → HasNarrowClass f → is_allowed p c m a f ≡ true → is_wrong p c m a f ≡ false
+        → (x : ℕ) (q : Demand) → In (x, q) (demands p c m a.registers f) → IsAsked f (demands p c m a.registers f) x q }
+{}
+
+/// What is allowed of a form that is right is allowed of it with other registers, where live registers and live wides have the
+/// kinds that they had, what the form reads is live, and halves of the wides that it asks for stay side by side.
+pub fn held_law()
+    ensures { (p : NamedProgram) (c : NamedClass) (m : NamedMethod) (f : Form) (new : ℕ → ℕ) (live : ℕ → Bool) (a a' : Kinds) → Held new live a.registers a'.registers → a'.result ≡ a.result → a'.caught ≡ a.caught
+        → ((o : ℕ) → reads f o ≡ true → live o ≡ true) → HasNarrowClass f → is_wrong p c m a f ≡ false → ((w : ℕ) → In (w, Pair) (demands p c m a.registers f) → list_any (nat_eq w) (wides_read f) ≡ true → new (w + 1) ≡ new w + 1)
+        → is_allowed p c m a f ≡ true → is_allowed p c m a' (remade new new (λ t. t) f) ≡ true }
+{}
+
+/// Where a typing has a state each form is allowed and right.
+pub fn typings_law()
+    ensures allowed { (p : NamedProgram) (c : NamedClass) (m : NamedMethod) (b : NamedBody) (t : Table) → IsTyping p c m b t → (n : ℕ) (f : Form) (a : Kinds) → form_at b n ≡ Some f → state_at t n ≡ Some a
+        → is_allowed p c m a f ≡ true }
+    ensures right { (p : NamedProgram) (c : NamedClass) (m : NamedMethod) (b : NamedBody) (t : Table) → IsTyping p c m b t → (n : ℕ) (f : Form) (a : Kinds) → form_at b n ≡ Some f → state_at t n ≡ Some a
+        → is_wrong p c m a f ≡ false }
 {}

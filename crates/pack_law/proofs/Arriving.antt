@@ -22,10 +22,11 @@ use Rattle.form_law.specs.Changes.{In, here, there}
 use Rattle.place_law.proofs.Onward.{clash, contained, in_front, in_back, some_same}
 use Rattle.pack_law.specs.Renamed.{IsRenamed}
 use Rattle.pack_law.specs.TypedRegisters.{IsTypedRenamed}
-use Rattle.pack_law.proofs.Held.{is_known, Held}
+use Rattle.pack_law.proofs.Held.{is_known}
 use Rattle.pack_law.proofs.Selecting.{Unique, each_below, as_long}
-use Rattle.pack_law.proofs.Sequences.{in_contains, split_in, in_map, all_in, each_at, get_below}
-use Rattle.pack_law.proofs.Asking.{known_above}
+use Rattle.pack_law.proofs.Sequences.{in_contains, split_in, in_map, all_in}
+use Rattle.form_law.proofs.Typings.{each_at, get_below, tested, allowed_at, right_at}
+use Rattle.pack_law.proofs.Held.{known_above}
 use Rattle.pack_law.proofs.Knowing.{after_known}
 
 -- ---- handlers
@@ -49,27 +50,9 @@ catches_at p n (Some r) i = elim (split_in n (map (λ (h : NamedHandler). h.posi
     rest (Some x) (there y xs i) = elim i [ ]
 
 module _ (p : NamedProgram) (c : NamedClass) (m : NamedMethod) (b : NamedBody) (t : Table) (typing : IsTyping p c m b t) where
-  -- what a typing says of a position with a form and a state
   module _ (n : ℕ) (f : Form) (a : Kinds) (x : form_at b n ≡ Some f) (y : state_at t n ≡ Some a) where
-    tested : (test : Form → Kinds → Bool) → at_state b t test n ≡ true → test f a ≡ true
-    tested test e = ap (λ s. elim s as (λ s. Bool) [ Some a ↦ test f a | None ↦ true ]) (sym y)
-        ∙ ap (λ o. elim o as (λ o. Bool) [ Some f ↦ elim (state_at t n) as (λ s. Bool) [ Some a ↦ test f a | None ↦ true ] | None ↦ true ]) (sym x) ∙ e
-
-    lower : n < length b.forms
-    lower = get_below b.forms n f x
-
-    pub allowed_at : is_allowed p c m a f ≡ true
-    allowed_at = tested (λ f a. is_allowed p c m a f) (each_at (length b.forms) (at_state b t (λ f a. is_allowed p c m a f)) n lower typing.reads)
-
-    pub right_at : is_wrong p c m a f ≡ false
-    right_at = by (is_wrong p c m a f) (tested (λ f a. not (is_wrong p c m a f)) (each_at (length b.forms) (at_state b t (λ f a. not (is_wrong p c m a f))) n lower typing.right))
-      where
-        by : (v : Bool) → not v ≡ true → v ≡ false
-        by true e = clash false e refl
-        by false e = refl
-
     edges_at : list_all (arrives p t) (edges p c b n f a) ≡ true
-    edges_at = tested (λ f a. list_all (arrives p t) (edges p c b n f a)) (each_at (length b.forms) (λ n. at_state b t (λ f a. list_all (arrives p t) (edges p c b n f a)) n) n lower typing.edges)
+    edges_at = tested p c m b t typing n f a x y (λ f a. list_all (arrives p t) (edges p c b n f a)) (each_at (length b.forms) (λ n. at_state b t (λ f a. list_all (arrives p t) (edges p c b n f a)) n) n (get_below b.forms n f x) typing.edges)
 
     -- where an edge arrives
     Arrival : ℕ → Kinds → Type 0

@@ -2,16 +2,22 @@
 use Rattle.std.proofs.Common.{◌≡◌, ℕ, zero, suc, ◌+◌, ◌-◌, ◌<◌, Bool, true, false, true≢false, List, [], ◌∷◌, length, refl, sym, ap, ◌∙◌, subst, inl, inr, arith, eqb-true, eq-eqb}
 use Rattle.std.specs.Prelude.{◌⊎◌, nat_eq, map, slice_set, if◌then◌else◌}
 use Rattle.std.proofs.lemmas.List.{get_or-set_same, get_or-set_other, length-set}
-use Rattle.pass_defs.specs.Kinds.{Kind, Undefined, Low, High, kind_eq}
+use Rattle.dalvik_defs.specs.declared.program.NamedProgram.{NamedProgram}
+use Rattle.pass_defs.specs.Kinds.{Kind, Undefined, Low, High, kind_eq, is_below}
 use Rattle.pass_defs.specs.Registers.{kind_at, cleared, split, written_one, written_pair, written_kinds}
 use Rattle.pass_defs.proofs.Writes.{same_kind}
 use Rattle.place_law.proofs.Onward.{clash}
-use Rattle.pack_law.specs.TypedRegisters.{is_whole}
+use Rattle.form_law.specs.Kinds.{is_whole, Held}
 
 -- a kind that isn't undefined
 abbrev pub is_known : Kind → Bool
 is_known Undefined = false
 is_known k = true
+
+pub known_above : (p : NamedProgram) (k l : Kind) → is_below p k l ≡ true → is_known l ≡ true → is_known k ≡ true
+known_above p Undefined Undefined e h = h
+known_above p Undefined l e h = clash false e refl
+known_above p k l e h = refl
 
 pub whole_known : (k : Kind) → is_whole k ≡ true → is_known k ≡ true
 whole_known Undefined e = clash false e refl
@@ -121,12 +127,6 @@ split_high r ks e =
     clear_hit (r + 1) High ks refl (sym outer ∙ e)
 
 -- ---- what registers hold
-
--- Under other names, live registers have the kinds that they had, and live wides both their halves.
-pub record Held (new : ℕ → ℕ) (live : ℕ → Bool) (ks ks' : List Kind) : Type 0 where
-  pub whole : (o : ℕ) → live o ≡ true → is_whole (kind_at ks o) ≡ true → kind_at ks' (new o) ≡ kind_at ks o
-  pub pairs : (q : ℕ) → live q ≡ true → live (q + 1) ≡ true → new (q + 1) ≡ new q + 1 → kind_at ks q ≡ Low → kind_at ks (q + 1) ≡ High
-      → (kind_at ks' (new q) ≡ Low) × (kind_at ks' (new q + 1) ≡ High)
 
 module _ (new : ℕ → ℕ) (live live' : ℕ → Bool) (ks ks' : List Kind) (held : Held new live ks ks') where
   -- a register that is live later is the one, or was live, and goes by another name

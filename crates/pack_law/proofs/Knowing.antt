@@ -24,9 +24,10 @@ use Rattle.form_law.specs.Changes.{destination, width}
 use Rattle.form_law.proofs.Uses.{writes_at}
 use Rattle.place_law.proofs.Onward.{clash}
 use Rattle.pack_law.proofs.Held.{is_known, whole_known, same_or, split_from, set_other, mapped}
-use Rattle.pack_law.proofs.Widths.{Takes, moved_whole, whole_takes, number_whole, initialised_whole, constant_takes, number_takes, reference_whole, type_takes, item_width, got_takes}
-use Rattle.pack_law.proofs.Selecting.{low_is}
-use Rattle.pack_law.specs.TypedRegisters.{is_whole}
+use Rattle.form_law.proofs.Asking.{moved_whole, number_whole, initialised_whole}
+use Rattle.pack_law.proofs.Widths.{Takes, whole_takes, constant_takes, number_takes, reference_whole, type_takes, item_width, got_takes}
+use Rattle.form_law.proofs.Asking.{low_is}
+use Rattle.form_law.specs.Kinds.{is_whole}
 use Rattle.pack_law.proofs.Stepping.{one_kind, neither, first_true}
 
 -- what is known of a register beside a write was known

@@ -6,6 +6,5 @@ pub mod Widths
 pub mod Stepping
 pub mod Knowing
 pub mod Sequences
-pub mod Asking
 pub mod Arriving
 pub mod TypedRenaming

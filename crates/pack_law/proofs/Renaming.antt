@@ -19,11 +19,12 @@ use Rattle.dalvik_defs.specs.declared.program.NamedProgram.{NamedProgram}
 use Rattle.pass_defs.specs.Bare.{reads, writes}
 use Rattle.pass_defs.specs.Remade.{remade}
 use Rattle.pass_defs.specs.Walks.{form_at, onward, caught, IsReadAt, IsRead}
-use Rattle.pass_defs.specs.Packed.{Conflict, First, locals}
+use Rattle.pass_defs.specs.Packed.{Conflict, First, wides_written, wides_read, locals}
 use Rattle.silence_law.specs.Bodies.{Change, changed}
 use Rattle.silence_law.proofs.Faces.{face_same}
 use Rattle.form_law.specs.Changes.{In, destination, width}
 use Rattle.form_law.proofs.Forms.{form_law}
+use Rattle.form_law.proofs.Asked.{any_front, any_back, pair_taken, pair_written}
 use Rattle.form_law.proofs.Uses.{or_left, or_right, same_reads, narrow, writes_at, writes_from, remade_destination}
 use Rattle.place_law.specs.Rewriting.{Claims, frame_size, Comes, Writes, Keeps, Fits, IsInPlace}
 use Rattle.place_law.specs.Solid.{IsSolid, AllSolid}
@@ -77,7 +78,7 @@ module _ (s : Setting) (find other : Bodies) (new : MethodKey → ℕ → ℕ) w
       goes_to : (i : ℕ) → i < width f → new k (destination f + i) ≡ destination f' + i
       goes_to zero lt = ap (new k) (omega arith) ∙ sym (remade_destination (new k) (new k) (λ t. t) f zero lt) ∙ omega arith
       goes_to (suc zero) lt = let a = narrow f in let z : width f ≡ 2 = omega (arith, a, lt) in
-          (renamed.pairs n f x).1 z ∙ ap (λ y. y + 1) (sym (remade_destination (new k) (new k) (λ t. t) f (suc zero) lt))
+          renamed.pairs n f (destination f) x (any_front (destination f) (wides_written f) (wides_read f) (pair_written f z)) ∙ ap (λ y. y + 1) (sym (remade_destination (new k) (new k) (λ t. t) f (suc zero) lt))
       goes_to (suc (suc i)) lt = let a = narrow f in absurd (omega (arith, a, lt))
 
       used : (r : ℕ) → writes f r ≡ true → (r < b.registers) × (new k r < d.registers)
@@ -108,7 +109,7 @@ module _ (s : Setting) (find other : Bodies) (new : MethodKey → ℕ → ℕ) w
       fits = record {
         alike = λ w c g g' rest script h i j ig. inl (form_law s.face.under s.floats (new k) (new k) (λ t. t) f w g g' h.result h.caught
             (same_reads (new k) (new k) (λ t. t) g g' f (λ r a. h.registers r (new k r)
-            (subst₂ (λ m p. R m p r (new k r)) (sym i) (sym j) (record { body = b; is = e; named = refl; read = (n, IsReadAt.Here n f x a) }))) (renamed.pairs n f x).0));
+            (subst₂ (λ m p. R m p r (new k r)) (sym i) (sym j) (record { body = b; is = e; named = refl; read = (n, IsReadAt.Here n f x a) }))) (pair_taken (new k) f (λ q i. renamed.pairs n f q x (any_back q (wides_written f) (wides_read f) i)))));
         room = λ i lt. let u = used (destination f + i) (writes_at f i lt) in
             let o : destination f + i < b.registers = u.0 in
             let v : destination f' + i < d.registers = subst (λ y. y < d.registers) (goes_to i lt) u.1 in

@@ -6,20 +6,14 @@ use Rattle.pass_defs.specs.Kinds.{Kind, Undefined, Low, High, kind_eq, is_below}
 use Rattle.pass_defs.specs.Registers.{Kinds, kind_at, all_below}
 use Rattle.pass_defs.proofs.Writes.{left_true, right_true, both_true, same_kind, itself_below}
 use Rattle.form_law.proofs.Uses.{or_left, or_right}
+use Rattle.form_law.proofs.Asking.{low_is, high_is}
 use Rattle.place_law.proofs.Onward.{clash}
 use Rattle.place_law.proofs.Operands.{either}
-use Rattle.pack_law.specs.TypedRegisters.{is_whole, is_pair, is_kept, sought, kind_or, selected, listed}
-use Rattle.pack_law.proofs.Held.{is_known, whole_known, same_or, Held}
+use Rattle.form_law.specs.Kinds.{is_whole, Held}
+use Rattle.pack_law.specs.TypedRegisters.{is_pair, is_kept, sought, kind_or, selected, listed}
+use Rattle.pack_law.proofs.Held.{is_known, whole_known, same_or}
 
 -- ---- kinds
-
-pub low_is : (k : Kind) → kind_eq k Low ≡ true → k ≡ Low
-low_is Low e = refl
-low_is k e = clash false e refl
-
-pub high_is : (k : Kind) → kind_eq k High ≡ true → k ≡ High
-high_is High e = refl
-high_is k e = clash false e refl
 
 module _ (p : NamedProgram) where
   below_nothing : (k : Kind) → is_below p k Undefined ≡ true

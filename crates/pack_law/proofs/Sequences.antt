@@ -6,7 +6,6 @@ use Rattle.std.specs.Option.{option_map}
 use Rattle.pass_defs.specs.Typed.{each}
 use Rattle.pass_defs.proofs.Writes.{left_true, right_true, both_true}
 use Rattle.form_law.specs.Changes.{In, here, there}
-use Rattle.form_law.proofs.Uses.{own}
 use Rattle.place_law.proofs.Onward.{clash}
 
 pub in_contains : {A : Type 0} (x : A) (xs : List A) → Contains xs x → In x xs
@@ -37,27 +36,9 @@ pub all_both : {A : Type 0} (f : A → Bool) (xs ys : List A) → list_all f xs 
 all_both f [] ys d e = e
 all_both f (x ∷ xs) ys d e = both_true (f x) (list_all f (xs ++ ys)) (left_true (f x) (list_all f xs) d) (all_both f xs ys (right_true (f x) (list_all f xs) d) e)
 
-pub each_at : (n : ℕ) (test : ℕ → Bool) (i : ℕ) → i < n → each n test ≡ true → test i ≡ true
-each_at zero test i lt e = absurd (omega (arith, lt))
-each_at (suc n) test i lt e = by (λ l. each_at n test i l (left_true (each n test) (test n) e)) (nat_eq i n) refl
-  where
-    less : (i n : ℕ) → i < suc n → (i ≡ n → ⊥) → i < n
-    less i zero lt ne = absurd (ne (omega (arith, lt)))
-    less zero (suc n) lt ne = omega arith
-    less (suc i) (suc n) lt ne = let h = less i n (omega (arith, lt)) (λ e. ne (ap suc e)) in omega (arith, h)
-
-    by : (i < n → test i ≡ true) → (b : Bool) → nat_eq i n ≡ b → test i ≡ true
-    by more true j = ap test (eqb-true i n j) ∙ right_true (each n test) (test n) e
-    by more false j = more (less i n lt (λ z. clash (nat_eq i n) (ap (nat_eq i) (sym z) ∙ own i) j))
-
 pub all_each : (n : ℕ) (test : ℕ → Bool) → ((i : ℕ) → test i ≡ true) → each n test ≡ true
 all_each zero test h = refl
 all_each (suc n) test h = both_true (each n test) (test n) (all_each n test h) (h n)
-
-pub get_below : {A : Type 0} (xs : List A) (n : ℕ) (x : A) → slice_get xs n ≡ Some x → n < length xs
-get_below [] n x e = clash true refl (ap (λ o. elim o as (λ o. Bool) [ Some y ↦ false | None ↦ true ]) e)
-get_below (y ∷ xs) zero x e = omega arith
-get_below (y ∷ xs) (suc n) x e = let h = get_below xs n x e in omega (arith, h)
 
 pub get_map : {A B : Type 0} (g : A → B) (xs : List A) (n : ℕ) → slice_get (map g xs) n ≡ option_map g (slice_get xs n)
 get_map g [] n = refl

@@ -25,10 +25,12 @@ use Rattle.pass_defs.proofs.Writes.{left_true, right_true}
 use Rattle.form_law.specs.Changes.{destination, width}
 use Rattle.form_law.proofs.Uses.{own, or_left, in_own, writes_from}
 use Rattle.place_law.proofs.Onward.{clash}
-use Rattle.pack_law.specs.TypedRegisters.{is_whole}
-use Rattle.pack_law.proofs.Held.{is_known, whole_known, same_or, Held, fewer, held_one, held_two, Changes, held_map, one_long, pair_long}
-use Rattle.pack_law.proofs.Selecting.{Unique, low_is}
-use Rattle.pack_law.proofs.Widths.{Takes, moved_whole, whole_takes, number_whole, initialised_whole, array_whole, constant_takes, number_takes, reference_whole, narrow_kind, type_takes, item_width, got_takes}
+use Rattle.form_law.specs.Kinds.{is_whole, Held}
+use Rattle.pack_law.proofs.Held.{is_known, whole_known, same_or, fewer, held_one, held_two, Changes, held_map, one_long, pair_long}
+use Rattle.pack_law.proofs.Selecting.{Unique}
+use Rattle.form_law.proofs.Asking.{low_is}
+use Rattle.form_law.proofs.Asking.{moved_whole, number_whole, initialised_whole, array_whole}
+use Rattle.pack_law.proofs.Widths.{Takes, whole_takes, constant_takes, number_takes, reference_whole, narrow_kind, type_takes, item_width, got_takes}
 
 pub map_long : {A B : Type 0} (g : A → B) (xs : List A) → length (map g xs) ≡ length xs
 map_long g [] = refl

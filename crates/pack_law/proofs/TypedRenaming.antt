@@ -17,20 +17,24 @@ use Rattle.pass_defs.specs.Kinds.{Kind, Undefined, Low, High, is_below}
 use Rattle.pass_defs.specs.Registers.{Kinds, kind_at, all_below, kinds_below, state_below}
 use Rattle.pass_defs.specs.Demands.{is_allowed}
 use Rattle.pass_defs.specs.Typed.{argument_kinds, begun, after, wrong_method, wrong_super, passed_words, is_wrong, catches_in, catches, edges, Table, state_at, each, at_state, arrives, IsTyping, IsTyped}
-use Rattle.pass_defs.specs.Packed.{locals}
+use Rattle.pass_defs.specs.Packed.{wides_written, wides_read, locals}
 use Rattle.pass_defs.proofs.Writes.{left_true, right_true, both_true}
 use Rattle.silence_law.specs.Bodies.{Change, changed}
 use Rattle.silence_law.proofs.Moved.{moved_typed}
 use Rattle.form_law.specs.Changes.{In, here, there, destination, width}
 use Rattle.form_law.proofs.Uses.{or_left, or_right, writes_at}
 use Rattle.place_law.proofs.Onward.{clash, contained, in_front, in_back, some_same, walk_on}
-use Rattle.pack_law.specs.TypedRegisters.{is_whole, selected, listed, renamed_kinds, renamed_from, IsTypedRenamed, AllTypedRenamed}
-use Rattle.pack_law.proofs.Held.{is_known, whole_known, Held, fewer}
+use Rattle.form_law.specs.Kinds.{is_whole, Held}
+use Rattle.pack_law.specs.TypedRegisters.{selected, listed, renamed_kinds, renamed_from, IsTypedRenamed, AllTypedRenamed}
+use Rattle.pack_law.proofs.Held.{is_known, whole_known, fewer}
 use Rattle.pack_law.proofs.Selecting.{Unique, known_below, each_below, as_long, listed_long, held_selected, below_selected}
 use Rattle.pack_law.proofs.Sequences.{in_contains, split_in, all_map, all_both, all_each, get_map}
-use Rattle.pack_law.proofs.Asking.{known_above, allowed_held}
+use Rattle.pack_law.proofs.Held.{known_above}
+use Rattle.form_law.proofs.Asking.{allowed_held}
+use Rattle.form_law.proofs.Typings.{allowed_at, right_at}
+use Rattle.form_law.proofs.Asked.{any_front, any_back, pair_written}
 use Rattle.pack_law.proofs.Stepping.{Before, After, stepped, map_long}
-use Rattle.pack_law.proofs.Arriving.{allowed_at, right_at, onward_arrives, catch_arrives, caught_catches, At, first_below, catch_caught, live_onward, live_caught, live_read, names_apart, goes_on, goes_caught}
+use Rattle.pack_law.proofs.Arriving.{onward_arrives, catch_arrives, caught_catches, At, first_below, catch_caught, live_onward, live_caught, live_read, names_apart, goes_on, goes_caught}
 use Rattle.pack_law.proofs.Reading.{reads_some}
 
 four : (w x y z : Bool) → (w && x && y && z) ≡ true → (w ≡ true) × ((x ≡ true) × ((y ≡ true) × (z ≡ true)))
@@ -168,14 +172,14 @@ module _ (p : NamedProgram) (c : NamedClass) (m : NamedMethod) (b d : NamedBody)
       caught = refl;
       receiver = refl;
       unwritten = λ o l w. (live_onward p c m b d h n q o f x i w l, λ j lt e. clash (writes f o) (ap (writes f) (sym (names_apart p c m b d h n q o (destination f + j) f x i (writes_at f j lt) l (sym e))) ∙ writes_at f j lt) w);
-      side = (h.renamed.pairs n f x).1;
+      side = λ e. h.renamed.pairs n f (destination f) x (any_front (destination f) (wides_written f) (wides_read f) (pair_written f e));
       used = λ o r. live_read p c m b d h n o f x r;
       room = λ j lt. there_room (destination f + j) (inr (writes_at f j lt));
       read_room = λ o r. there_room o (inl r);
       allowed = allowed;
       right = right;
       class = h.class;
-      calls = λ kind k args e. h.calls n kind k args (x ∙ ap Some e);
+      calls = λ kind k args e. h.calls n (form.Invoke kind k args) (x ∙ ap Some e);
     }
 
     behind : (q : ℕ) → In q (onward f n) → After p c m n new a (renewed n a) (live n) (live q) f
@@ -327,7 +331,7 @@ module _ (p : NamedProgram) (c : NamedClass) (m : NamedMethod) (b d : NamedBody)
     is_right = ap not (same_wrong new p c m a (renewed n a) f refl ∙ right_at p c m b t h.typing n f a x y)
 
     reads_allowed : is_allowed p c m (renewed n a) (named new f) ≡ true
-    reads_allowed = allowed_held p c m f new (live n) a (renewed n a) (held_at n a at) refl refl (λ o r. live_read p c m b d h n o f x r) (λ x1 q i. h.asked n f a x1 q x y i) (allowed_at p c m b t h.typing n f a x y)
+    reads_allowed = allowed_held p c m f new (live n) a (renewed n a) (held_at n a at) refl refl (λ o r. live_read p c m b d h n o f x r) (h.calls n f x) (right_at p c m b t h.typing n f a x y) (λ w z i. h.renamed.pairs n f w x (any_back w (wides_written f) (wides_read f) i)) (allowed_at p c m b t h.typing n f a x y)
 
   -- ---- the typing
 

@@ -15,38 +15,15 @@ use Rattle.pass_defs.specs.Typed.{number_kind, constant_kind, got, wrong_item}
 use Rattle.form_law.specs.Changes.{width_if}
 use Rattle.place_law.proofs.Onward.{clash}
 use Rattle.place_law.proofs.Operands.{either}
-use Rattle.pack_law.specs.TypedRegisters.{is_whole}
+use Rattle.form_law.specs.Kinds.{is_whole}
 
 -- a kind and how many registers it takes: the low half of a wide stands for both
 abbrev pub Takes : Kind → ℕ → Type 0
 Takes k w = ((kind_eq k Low ≡ false) × (w ≡ 1)) ⊎ ((k ≡ Low) × (w ≡ 2))
 
-pub moved_whole : (k : Kind) → is_moved k ≡ true → is_whole k ≡ true
-moved_whole Undefined e = e
-moved_whole Low e = e
-moved_whole High e = e
-moved_whole k e = refl
-
 pub whole_takes : (k : Kind) → is_whole k ≡ true → Takes k 1
 whole_takes Low e = clash false e refl
 whole_takes k e = inl (refl, refl)
-
-pub number_whole : (k : Kind) → is_number k ≡ true → is_whole k ≡ true
-number_whole Zero e = refl
-number_whole Word e = refl
-number_whole k e = clash false e refl
-
-pub initialised_whole : (k : Kind) → is_initialised k ≡ true → is_whole k ≡ true
-initialised_whole Undefined e = e
-initialised_whole Low e = e
-initialised_whole High e = e
-initialised_whole k e = refl
-
-pub array_whole : (of : Text → Bool) (k : Kind) → is_array_where of k ≡ true → is_whole k ≡ true
-array_whole of Undefined e = e
-array_whole of Low e = e
-array_whole of High e = e
-array_whole of k e = refl
 
 pub constant_takes : (z : ℤ) → Takes (constant_kind z) 1
 constant_takes z = by (int_eq z (pos 0))

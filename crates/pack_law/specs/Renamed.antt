@@ -1,5 +1,6 @@
 -- A body with other registers (this project's profile).
-use Rattle.std.specs.Prelude.{◌≡◌, ℕ, ◌+◌, ◌<◌, true, map, Some, Contains}
+use Rattle.std.specs.Prelude.{◌≡◌, ℕ, ◌+◌, ◌<◌, true, nat_eq, map, Some, Contains}
+use Rattle.std.specs.List.{list_any}
 use Rattle.dalvik_defs.specs.Face.{Bodies}
 use Rattle.dalvik_defs.specs.declared.names.MethodKey.{MethodKey}
 use Rattle.dalvik_defs.specs.declared.forms.Form.{Form}
@@ -9,8 +10,7 @@ use Rattle.dalvik_defs.specs.declared.program.NamedClass.{NamedClass}
 use Rattle.dalvik_defs.specs.declared.program.NamedProgram.{NamedProgram}
 use Rattle.pass_defs.specs.Remade.{remade}
 use Rattle.pass_defs.specs.Walks.{form_at, IsRead}
-use Rattle.pass_defs.specs.Packed.{Conflict, uses, locals}
-use Rattle.form_law.specs.Changes.{destination, width, TakesPair}
+use Rattle.pass_defs.specs.Packed.{Conflict, wides_of, uses, locals}
 use Rattle.silence_law.specs.Bodies.{Change, KeepsCode}
 
 -- Each register has another number, one for the whole body. Registers that conflict stay apart, halves of a wide stay
@@ -20,7 +20,7 @@ pub record IsRenamed (b d : NamedBody) (new : ℕ → ℕ) : Type 0 where
   pub regions : d.regions ≡ b.regions
   pub ins : d.ins ≡ b.ins
   pub apart : (r s : ℕ) → Conflict b r s → new r ≡ new s → r ≡ s
-  pub pairs : (n : ℕ) (f : Form) → form_at b n ≡ Some f → TakesPair new f × (width f ≡ 2 → new (destination f + 1) ≡ new (destination f) + 1)
+  pub pairs : (n : ℕ) (f : Form) (w : ℕ) → form_at b n ≡ Some f → list_any (nat_eq w) (wides_of f) ≡ true → new (w + 1) ≡ new w + 1
   -- the new numbers are there
   pub room : (n : ℕ) (f : Form) (r : ℕ) → form_at b n ≡ Some f → uses f r ≡ true → new r < d.registers
   -- of the registers at the entry: those that are no arguments, and the arguments

@@ -3,31 +3,19 @@
 use Rattle.std.specs.Prelude.{◌≡◌, ◌↔◌, ℕ, zero, suc, ◌+◌, ◌-◌, Bool, true, false, ◌&&◌, ◌||◌, if◌then◌else◌, nat_eq, List, [], ◌∷◌, length, Option, Some, None, Contains}
 use Rattle.std.specs.Option.{option_map}
 use Rattle.dalvik_defs.specs.Names.{is_wide}
-use Rattle.dalvik_defs.specs.declared.names.MethodKey.{MethodKey}
-use Rattle.insn_set.specs.declared.ops.InvokeKind.{InvokeKind}
 use Rattle.dalvik_defs.specs.declared.forms.Form.{Form}
-use Rattle.dalvik_defs.specs.declared.forms.Form.TheVariants as form
 use Rattle.dalvik_defs.specs.declared.program.NamedBody.{NamedBody}
 use Rattle.dalvik_defs.specs.declared.program.NamedMethod.{NamedMethod}
 use Rattle.dalvik_defs.specs.declared.program.NamedClass.{NamedClass}
 use Rattle.dalvik_defs.specs.declared.program.NamedProgram.{NamedProgram}
-use Rattle.pass_defs.specs.Bare.{reads}
 use Rattle.pass_defs.specs.Walks.{form_at, IsReached, IsRead}
 use Rattle.pass_defs.specs.Kinds.{Kind, Undefined, Low, High, kind_eq}
 use Rattle.pass_defs.specs.Registers.{Kinds, kind_at}
-use Rattle.pass_defs.specs.Demands.{Demand, Pair, Behind, is_constructor_name, demands}
-use Rattle.pass_defs.specs.Typed.{argument_kinds, Table, state_at, IsTyping}
-use Rattle.form_law.specs.Changes.{In}
+use Rattle.pass_defs.specs.Typed.{argument_kinds, Table, IsTyping}
+use Rattle.form_law.specs.Kinds.{is_whole, HasNarrowClass}
 use Rattle.place_law.specs.Solid.{IsSolid}
 use Rattle.silence_law.specs.Bodies.{Change, KeepsCode}
 use Rattle.pack_law.specs.Renamed.{IsRenamed}
-
--- a kind that is neither undefined nor half of a wide
-abbrev pub is_whole : Kind → Bool
-is_whole Undefined = false
-is_whole Low = false
-is_whole High = false
-is_whole k = true
 
 -- which registers are read at a position or later before they are written, and which positions a walk comes to, as tests
 pub record Marks (b : NamedBody) : Type 0 where
@@ -75,12 +63,6 @@ renamed_from new live reached size n (o ∷ t) = (if reached n then option_map (
 
 -- ---- what is asked
 
--- An operand is read: of a wide both halves, which stay side by side. A register that must be behind another is its half.
-abbrev pub Kept : Form → (ℕ → ℕ) → List (ℕ × Demand) → ℕ → Demand → Type 0
-Kept f new all x Pair = (reads f x ≡ true) × ((reads f (x + 1) ≡ true) × (new (x + 1) ≡ new x + 1))
-Kept f new all x (Behind q) = In (q, Pair) all
-Kept f new all x d = reads f x ≡ true
-
 pub record IsTypedRenamed (p : NamedProgram) (c : NamedClass) (m : NamedMethod) (b d : NamedBody) : Type 0 where
   pub new : ℕ → ℕ
   pub renamed : IsRenamed b d new
@@ -90,11 +72,9 @@ pub record IsTypedRenamed (p : NamedProgram) (c : NamedClass) (m : NamedMethod) 
   pub typing : IsTyping p c m b table
   -- a method takes as many registers as its arguments have
   pub takes : length (argument_kinds p c m) ≡ b.ins
-  pub asked : (n : ℕ) (f : Form) (a : Kinds) (x : ℕ) (q : Demand) → form_at b n ≡ Some f → state_at table n ≡ Some a → In (x, q) (demands p c m a.registers f)
-      → Kept f new (demands p c m a.registers f) x q
   -- the class is of no wide type, and no method of one is called
   pub class : is_wide c.name ≡ false
-  pub calls : (n : ℕ) (kind : InvokeKind) (k : MethodKey) (args : List ℕ) → form_at b n ≡ Some (form.Invoke kind k args) → is_wide k.class ≡ false
+  pub calls : (n : ℕ) (f : Form) → form_at b n ≡ Some f → HasNarrowClass f
 
 -- so it is in each method, and methods have code where they had
 pub record AllTypedRenamed (new : Change) (p : NamedProgram) : Type 0 where

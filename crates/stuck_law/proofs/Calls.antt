@@ -105,7 +105,7 @@ module _ (p : NamedProgram) (o : Outer) (f : Framework) (floats : Floats) (reg :
       typing = (reg.regular.typed.bodies c m b ci mi mb).1
 
       start : StateHolds p f c.name w (begun p c m b) (entry_frame k vs b)
-      start = record { registers = all_join p f c.name w (replicate (b.registers - b.ins) kind.Undefined) (argument_kinds p c m) (replicate (b.registers - b.ins) (Word 0)) vs (all_unknown p f c.name w (b.registers - b.ins)) h; result = tt; caught = record { there = tt; held = λ i. absurd (true≢false (sym i)) } }
+      start = record { registers = all_join p f c.name w (replicate (b.registers - b.ins) kind.Undefined) (argument_kinds p c m) (replicate (b.registers - b.ins) (Word 0)) vs (all_unknown p f c.name w (b.registers - b.ins)) h; result = tt; caught = record { there = tt; object = λ i. absurd (true≢false (sym i)); held = λ i. absurd (true≢false (sym i)) } }
 
       by : (y : Option Kinds) → state_at table 0 ≡ y → state_below p (Some (begun p c m b)) (state_at table 0) ≡ true → TypedFrame p f w (entry_frame k vs b)
       by None i j = absurd (true≢false (sym j ∙ ap (state_below p (Some (begun p c m b))) i))

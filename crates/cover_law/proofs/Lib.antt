@@ -1,0 +1,3 @@
+mod Along
+mod Reading
+mod Standing

@@ -1,0 +1,8 @@
+use Rattle.std.proofs.Common.{refl}
+use Rattle.cover_law.proofs.Along.{act_along}
+use Rattle.cover_law.proofs.Reading.{reads_seen}
+use Rattle.cover_law.proofs.Standing.{top_on}
+use Rattle.cover_law.proofs.laws.stub.Goals as goal
+
+pub returns : goal.returns
+returns c = λ n. refl

@@ -40,7 +40,7 @@ use Rattle.pass_defs.specs.Closed.{put, put_wide, put_sized, moved, refined, ref
 use Rattle.invariant_law.specs.Fine.{IsThere}
 use Rattle.invariant_law.specs.Holds.{Each}
 use Rattle.invariant_law.specs.Invariant.{Grows}
-use Rattle.invariant_law.proofs.Growing.{grows_with, grows_put, kind_later}
+use Rattle.invariant_law.proofs.Growing.{grows_same, grows_with, grows_put, kind_later}
 use Rattle.invariant_law.proofs.Fine.{each_get}
 use Rattle.stuck_law.proofs.Climbs.{none_some, some_one}
 use Rattle.stuck_law.proofs.ArrayForms.{kind_new}
@@ -128,7 +128,7 @@ module _ {V : Type 0} (a : Analysis V) (p : NamedProgram) (t : Facts V) where
           by true i = subst (See y w) (ap (register f) (sym (eqb-true s r i)) ∙ read f.registers s v (Word 0) e) k
           by false i = h s v e
 
-      closer : (r : ℕ) (o : Option V) → Holds a o (kind_of w (register f r)) (register f r) → Along (arm a (f.position + 1) (refined a r o x)) (Goes w (next f))
+      pub closer : (r : ℕ) (o : Option V) → Holds a o (kind_of w (register f r)) (register f r) → Along (arm a (f.position + 1) (refined a r o x)) (Goes w (next f))
       closer r None h = absurd h
       closer r (Some y) h = onward (put a r y x) w f.registers (closer_all x r y all h)
 
@@ -142,7 +142,7 @@ module _ {V : Type 0} (a : Analysis V) (p : NamedProgram) (t : Facts V) where
       unless true es c e h = tt
       unless false es c e h = h refl
 
-      used : (r : ℕ) → Seen r → is_null (register f r) ≡ false → Holds a (a.held (x r)) (kind_of w (register f r)) (register f r)
+      pub used : (r : ℕ) → Seen r → is_null (register f r) ≡ false → Holds a (a.held (x r)) (kind_of w (register f r)) (register f r)
       used r s e = sound.holders (x r) (kind_of w (register f r)) (register f r) s e
 
       bounded : (v : Value) (k : Text) (vs : List Value) → thing_at w v ≡ Some (Items k vs) → length vs < 2 ^ 31
@@ -309,18 +309,18 @@ module _ {V : Type 0} (a : Analysis V) (p : NamedProgram) (t : Facts V) where
       -- ---- arrays
 
       -- to the next position in a later world, with registers
-      onward_in : (y : ℕ → V) (w1 : World) (f1 : Frame) → f1.position ≡ f.position + 1 → SeeAll y w1 f1.registers → Along (arm a (f.position + 1) (Some y)) (Goes w1 f1)
+      pub onward_in : (y : ℕ → V) (w1 : World) (f1 : Frame) → f1.position ≡ f.position + 1 → SeeAll y w1 f1.registers → Along (arm a (f.position + 1) (Some y)) (Goes w1 f1)
       onward_in y w1 f1 e h = ((f.position + 1, y), here (f.position + 1, y) [], e, h)
 
       later_all : (y : ℕ → V) (w1 : World) → Grows w w1 → SeeAll y w f.registers → SeeAll y w1 f.registers
       later_all y w1 g h r v e = sees_later w w1 (y r) v g (subst (IsThere w) (read f.registers r v (Word 0) e) (there r)) (h r v e)
 
       -- behind a use of an object, in a later world
-      held_in : (r : ℕ) (o : Option V) (w1 : World) → Grows w w1 → Holds a o (kind_of w (register f r)) (register f r) → Along (arm a (f.position + 1) (refined a r o x)) (Goes w1 (next f))
+      pub held_in : (r : ℕ) (o : Option V) (w1 : World) → Grows w w1 → Holds a o (kind_of w (register f r)) (register f r) → Along (arm a (f.position + 1) (refined a r o x)) (Goes w1 (next f))
       held_in r None w1 g h = absurd h
       held_in r (Some y) w1 g h = onward_in (put a r y x) w1 (next f) refl (later_all (put a r y x) w1 g (closer_all x r y all h))
 
-      new_seen : (t : Thing) (k : Text) → kind_of_thing t ≡ k → See (a.made k) (with_thing w t) (next_object w)
+      pub new_seen : (t : Thing) (k : Text) → kind_of_thing t ≡ k → See (a.made k) (with_thing w t) (next_object w)
       new_seen t k e = subst (λ j. a.holds (a.made k) j (next_object w)) (sym (kind_new w t ∙ e)) (sound.makes k (length w.heap))
 
       array_made : (z : ℤ) (kind : Text) (to : ℕ) → array_of (item_of kind) ≡ kind → Along (arm a (f.position + 1) (Some (put a to (a.made kind) x))) (new_array z kind w f to)
@@ -370,16 +370,20 @@ module _ {V : Type 0} (a : Analysis V) (p : NamedProgram) (t : Facts V) where
       item_position item.Wide to v = refl
       item_position i to v = refl
 
-      item_ranged : (i : Item) (v : Value) → IsRanged v → IsRanged (read_item a i v)
+      pub item_ranged : (i : Item) (v : Value) → IsRanged v → IsRanged (read_item a i v)
       item_ranged item.Wide v h = tt
       item_ranged i v h = h
 
-      -- behind a use of an object
-      item_then : (r to : ℕ) (o : Option V) (i : Item) (v : Value) → Holds a o (kind_of w (register f r)) (register f r) → IsRanged v
-          → Along (arm a (f.position + 1) (then_put a (is_wide_item i) to (a.item i) (refined a r o x))) (Goes w (next (write_item i f to v)))
-      item_then r to None i v h k = absurd h
-      item_then r to (Some z) i v h k = onward_in (put_sized a (is_wide_item i) to (a.item i) (put a r z x)) w (next (write_item i f to v)) (item_position i to v)
-          (item_seen i to (a.item i) (put a r z x) w v (closer_all x r z all h) (sound.items i (kind_of w (read_item a i v)) v (item_ranged i v k)))
+      -- behind a use of an object, in a later world
+      pub then_item : (r to : ℕ) (o : Option V) (i : Item) (y : V) (w1 : World) (v : Value) → Grows w w1 → Holds a o (kind_of w (register f r)) (register f r) → a.holds y (kind_of w1 (read_item a i v)) (read_item a i v)
+          → Along (arm a (f.position + 1) (then_put a (is_wide_item i) to y (refined a r o x))) (Goes w1 (next (write_item i f to v)))
+      then_item r to None i y w1 v g h k = absurd h
+      then_item r to (Some z) i y w1 v g h k = onward_in (put_sized a (is_wide_item i) to y (put a r z x)) w1 (next (write_item i f to v)) (item_position i to v)
+          (item_seen i to y (put a r z x) w1 v (later_all (put a r z x) w1 g (closer_all x r z all h)) k)
+
+      pub just_item : (to : ℕ) (i : Item) (y : V) (w1 : World) (v : Value) → Grows w w1 → a.holds y (kind_of w1 (read_item a i v)) (read_item a i v)
+          → Along (arm a (f.position + 1) (Some (put_sized a (is_wide_item i) to y x))) (Goes w1 (next (write_item i f to v)))
+      just_item to i y w1 v g k = onward_in (put_sized a (is_wide_item i) to y x) w1 (next (write_item i f to v)) (item_position i to v) (item_seen i to y x w1 v (later_all x w1 g all) k)
 
       arrays_of : (v : Value) (k : Text) (vs : List Value) → thing_at w v ≡ Some (Items k vs) → (length vs < 2 ^ 31) × Each IsRanged vs
       arrays_of (Object n) k vs i = arrays n k vs i
@@ -391,7 +395,7 @@ module _ {V : Type 0} (a : Analysis V) (p : NamedProgram) (t : Facts V) where
         where
           there_at : (y : Option Value) → ((v : Value) → y ≡ Some v → IsRanged v) → Along (arm a (f.position + 1) (then_put a (is_wide_item i) to (a.item i) (refined a on (a.held (x on)) x))) (reads_item i y w f to)
           there_at None h = tt
-          there_at (Some v) h = item_then on to (a.held (x on)) i v (used on s e) (h v refl)
+          there_at (Some v) h = then_item on to (a.held (x on)) i (a.item i) w v (grows_same w w refl) (used on s e) (sound.items i (kind_of w (read_item a i v)) v (item_ranged i v (h v refl)))
 
           by : (at : ℤ) → Along (arm a (f.position + 1) (then_put a (is_wide_item i) to (a.item i) (refined a on (a.held (x on)) x))) (reads_item i (item_at vs at) w f to)
           by (pos n) = there_at (slice_get vs n) (λ v l. each_get IsRanged vs n v (arrays_of (register f on) k vs j).1 l)

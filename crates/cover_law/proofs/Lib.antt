@@ -1,3 +1,6 @@
 mod Along
 mod Reading
 mod Standing
+mod Worlds
+mod Local
+mod Fields

@@ -9,7 +9,6 @@ use Rattle.dalvik_defs.specs.Face.{bodies_of}
 use Rattle.dalvik_defs.specs.Outer.{Outer}
 use Rattle.dalvik_defs.specs.State.{World, kind_of}
 use Rattle.dalvik_defs.specs.Effect.{register, go}
-use Rattle.dalvik_defs.specs.Silence.{takes_result}
 use Rattle.dalvik_defs.specs.Stack.{form_at as form_of, handler_in, handler_at, covers}
 use Rattle.dalvik_defs.specs.declared.state.Value.{Value}
 use Rattle.dalvik_defs.specs.declared.state.Value.TheVariants.{Word}
@@ -24,6 +23,7 @@ use Rattle.dalvik_defs.specs.declared.program.NamedProgram.{NamedProgram}
 use Rattle.dalvik_defs.specs.declared.tables.Floats.{Floats}
 use Rattle.dalvik_defs.specs.declared.tables.Framework.{Framework}
 use Rattle.pass_defs.specs.Bare.{may_throw}
+use Rattle.pass_defs.specs.Quiet.{takes_result}
 use Rattle.pass_defs.specs.Walks.{form_at, handlers_at, handlers_of, region_at, listed, onward, caught}
 use Rattle.pass_defs.specs.Analysis.{Analysis}
 use Rattle.pass_defs.specs.Facts.{Facts, needs}
@@ -80,11 +80,11 @@ module _ {V : Type 0} (a : Analysis V) (p : NamedProgram) (facts : Facts V) wher
   cases_to : (on : ℕ) (ks : List ℤ) (ts : List ℕ) (x : ℕ → V) (q : ℕ × (ℕ → V)) → Contains (cases a on ks ts x) q → Contains ts q.0
   cases_to on [] ts x q h = nowhere q h
   cases_to on (k ∷ ks) [] x q h = nowhere q h
-  cases_to on (k ∷ ks) (t ∷ ts) x q h = by (split_in (arm a t (refined a on (a.keyed k (x on)) x)) (cases a on ks ts x) q h)
+  cases_to on (k ∷ ks) (t ∷ ts) x q h = by (split_in (arm a t (refined a on (a.keyed k (x on)) x)) (cases a on ks ts x) q h) (λ i. cases_to on ks ts x q i)
     where
-      by : Contains (arm a t (refined a on (a.keyed k (x on)) x)) q ⊎ Contains (cases a on ks ts x) q → Contains (t ∷ ts) q.0
-      by (inl i) = subst (Contains (t ∷ ts)) (sym (arm_to t (refined a on (a.keyed k (x on)) x) q i)) (first_in t ts)
-      by (inr i) = later_in q.0 t ts (cases_to on ks ts x q i)
+      by : Contains (arm a t (refined a on (a.keyed k (x on)) x)) q ⊎ Contains (cases a on ks ts x) q → (Contains (cases a on ks ts x) q → Contains ts q.0) → Contains (t ∷ ts) q.0
+      by (inl i) more = subst (Contains (t ∷ ts)) (sym (arm_to t (refined a on (a.keyed k (x on)) x) q i)) (first_in t ts)
+      by (inr i) more = later_in q.0 t ts (more i)
 
   either_to : (n m : ℕ) (y z : Option (ℕ → V)) (q : ℕ × (ℕ → V)) → Contains (arm a n y ++ arm a m z) q → Contains (n ∷ m ∷ []) q.0
   either_to n m y z q h = by (split_in (arm a n y) (arm a m z) q h)
@@ -93,18 +93,18 @@ module _ {V : Type 0} (a : Analysis V) (p : NamedProgram) (facts : Facts V) wher
       by (inl i) = subst (Contains (n ∷ m ∷ [])) (sym (arm_to n y q i)) (first_in n (m ∷ []))
       by (inr i) = subst (Contains (n ∷ m ∷ [])) (sym (arm_to m z q i)) (later_in m n (m ∷ []) (first_in m []))
 
-  switch_to : (on : ℕ) (ks : List ℤ) (ts : List ℕ) (n : ℕ) (x : ℕ → V) (q : ℕ × (ℕ → V)) → Contains (switched a on ks ts n x) q → Contains (n + 1 ∷ ts) q.0
+  switch_to : (on : ℕ) (ks : List ℤ) (ts : List ℕ) (n : ℕ) (x : ℕ → V) (q : ℕ × (ℕ → V)) → Contains (switched a on ks ts n x) q → Contains ((n + 1) ∷ ts) q.0
   switch_to on ks ts n x q h = by (split_in (arm a (n + 1) y) (cases a on ks ts x) q h)
     where
       y : Option (ℕ → V)
       y = refined a on (a.unkeyed (keys_of a ks ts) (x on)) x
 
-      by : Contains (arm a (n + 1) y) q ⊎ Contains (cases a on ks ts x) q → Contains (n + 1 ∷ ts) q.0
-      by (inl i) = subst (Contains (n + 1 ∷ ts)) (sym (arm_to (n + 1) y q i)) (first_in (n + 1) ts)
+      by : Contains (arm a (n + 1) y) q ⊎ Contains (cases a on ks ts x) q → Contains ((n + 1) ∷ ts) q.0
+      by (inl i) = subst (Contains ((n + 1) ∷ ts)) (sym (arm_to (n + 1) y q i)) (first_in (n + 1) ts)
       by (inr i) = later_in q.0 (n + 1) ts (cases_to on ks ts x q i)
 
-  next_to : (n : ℕ) (o : Option (ℕ → V)) (q : ℕ × (ℕ → V)) → Contains (arm a (n + 1) o) q → Contains (n + 1 ∷ []) q.0
-  next_to n o q h = subst (Contains (n + 1 ∷ [])) (sym (arm_to (n + 1) o q h)) (first_in (n + 1) [])
+  next_to : (n : ℕ) (o : Option (ℕ → V)) (q : ℕ × (ℕ → V)) → Contains (arm a (n + 1) o) q → Contains ((n + 1) ∷ []) q.0
+  next_to n o q h = subst (Contains ((n + 1) ∷ [])) (sym (arm_to (n + 1) o q h)) (first_in (n + 1) [])
 
   pub edges_onward : (n : ℕ) (y : Form) (x : ℕ → V) (q : ℕ × (ℕ → V)) → Contains (edges a p facts n y x) q → Contains (onward y n) q.0
   edges_onward n form.ReturnVoid x q h = nowhere q h
@@ -134,7 +134,7 @@ module _ {V : Type 0} (a : Analysis V) (p : NamedProgram) (o : Outer) (f : Frame
   own_form w g t y e = ap (λ y. option_and_then (λ b. slice_get b.forms g.position) y) (ap (bodies_of p) t.of ∙ t.in_method.has_body) ∙ e
 
   -- a position that the facts reach, with the body that the typing has
-  pub at_typed : (w : World) (g : Frame) (t : TypedFrame p f w g) (y : Form) (x : ℕ → V) → form_at t.in_method.body g.position ≡ Some y → facts.registers g.method g.position ≡ Some x → At a p facts g.method g.position
+  abbrev pub at_typed : (w : World) (g : Frame) (t : TypedFrame p f w g) (y : Form) (x : ℕ → V) → form_at t.in_method.body g.position ≡ Some y → facts.registers g.method g.position ≡ Some x → At a p facts g.method g.position
   at_typed w g t y x e r = record { body = t.in_method.body; form = y; registers = x; has_body = ap (bodies_of p) t.of ∙ t.in_method.has_body; has_form = e; reached = r }
 
   -- ---- later worlds

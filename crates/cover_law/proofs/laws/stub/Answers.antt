@@ -2,6 +2,9 @@ use Rattle.std.proofs.Common.{refl}
 use Rattle.cover_law.proofs.Along.{act_along}
 use Rattle.cover_law.proofs.Reading.{reads_seen}
 use Rattle.cover_law.proofs.Standing.{top_on}
+use Rattle.cover_law.proofs.Worlds.{covers_over}
+use Rattle.cover_law.proofs.Local.{act_fits}
+use Rattle.cover_law.proofs.Fields.{covers_instance}
 use Rattle.cover_law.proofs.laws.stub.Goals as goal
 
 pub returns : goal.returns

@@ -12,7 +12,7 @@ use Rattle.dalvik_defs.specs.Face.{place_of}
 use Rattle.dalvik_defs.specs.Fields.{first_of, key_at, written_or, static_value, with_static}
 use Rattle.dalvik_defs.specs.Find.{defined_field, finds_field, field_from, field_in, first_field}
 use Rattle.dalvik_defs.specs.Outer.{Outer}
-use Rattle.dalvik_defs.specs.State.{World, Thing, Instance, kind_of, put_field, put_thing, thing_at, zero_of, word_of}
+use Rattle.dalvik_defs.specs.State.{World, Thing, Instance, Items, kind_of, put_field, put_thing, thing_at, zero_of, word_of}
 use Rattle.dalvik_defs.specs.declared.state.Value.{Value}
 use Rattle.dalvik_defs.specs.declared.state.Value.TheVariants.{Low, Object}
 use Rattle.dalvik_defs.specs.declared.names.FieldKey.{FieldKey}

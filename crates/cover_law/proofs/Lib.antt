@@ -4,3 +4,7 @@ mod Standing
 mod Worlds
 mod Local
 mod Fields
+mod Stays
+mod Entering
+mod Waiting
+mod Calling

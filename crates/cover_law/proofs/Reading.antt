@@ -164,7 +164,7 @@ module _ {V : Type 0} (a : Analysis V) (p : NamedProgram) (o : Outer) (f : Frame
     abbrev S : ℕ → Type 0
     S r = Sees a p o facts (x r) w (register g r)
 
-    abbrev Ss : List ℕ → Type 0
+    abbrev pub Ss : List ℕ → Type 0
     Ss [] = Unit {0}
     Ss (r ∷ rs) = S r × Ss rs
 
@@ -206,7 +206,7 @@ module _ {V : Type 0} (a : Analysis V) (p : NamedProgram) (o : Outer) (f : Frame
     abbrev I : Form → Type 0
     I y = At p o f floats reg w g t y
 
-    enough : (ik : InvokeKind) (k : MethodKey) (args : List ℕ) → I (form.Invoke ik k args) → length args ≡ passed_words ik k
+    pub enough : (ik : InvokeKind) (k : MethodKey) (args : List ℕ) → I (form.Invoke ik k args) → length args ≡ passed_words ik k
     enough ik k args h = eqb-true (length args) (passed_words ik k) (untrue (nat_eq (length args) (passed_words ik k)) (or_right (wrong_method p ik k || wrong_super p t.in_method.class ik k) (not (nat_eq (length args) (passed_words ik k))) h.right))
       where
         untrue : (b : Bool) → not b ≡ false → b ≡ true

@@ -1,10 +1,10 @@
 -- What is asked of a program, a table of facts and a framework: the program is typed and regular, its code is formed as
 -- that of a file is, the analysis is sound, and the table is closed (Dalvik bytecode, "move-result"; Dalvik executable
 -- format, "code_item"; this project's profile).
-use Rattle.std.specs.Prelude.{◌≡◌, ◌⊎◌, ℕ, ◌<◌, ◌^◌, true, false, List, Some, length, Contains}
+use Rattle.std.specs.Prelude.{◌≡◌, ◌⊎◌, ◌||◌, Bool, ℕ, ◌<◌, ◌^◌, true, false, List, Some, length, Contains}
 use Rattle.std.specs.Int.{w32, cast_unsigned}
 use Rattle.insn_set.specs.declared.ops.InvokeKind.{InvokeKind}
-use Rattle.dalvik_defs.specs.Names.{Text}
+use Rattle.dalvik_defs.specs.Names.{Text, is_word, is_wide, is_reference}
 use Rattle.dalvik_defs.specs.Flags.{is_static}
 use Rattle.dalvik_defs.specs.Under.{defines, is_under}
 use Rattle.dalvik_defs.specs.Find.{Found, Finds}
@@ -26,12 +26,18 @@ use Rattle.pass_defs.specs.Live.{IsMade, unconditional}
 use Rattle.silence_law.specs.Results.{AllTakeInPlace}
 use Rattle.stuck_law.specs.Regular.{IsRegular}
 
--- the numbers of a form have 32 bits, and it makes no array of 2^31 items
-abbrev pub HasWords : Form → Type 0
-HasWords (form.Const to value) = cast_unsigned w32 value < 2 ^ 32
-HasWords (form.PackedSwitch on first targets) = cast_unsigned w32 first < 2 ^ 32
-HasWords (form.FilledNewArray kind args) = length args < 2 ^ 31
-HasWords x = Unit {0}
+-- a type that values have
+abbrev pub has_values : Text → Bool
+has_values t = is_word t || is_wide t || is_reference t
+
+-- The numbers of a form have 32 bits, it makes no array of 2^31 items, and a field that it writes has a type of values.
+abbrev pub IsFormed : Form → Type 0
+IsFormed (form.Const to value) = cast_unsigned w32 value < 2 ^ 32
+IsFormed (form.PackedSwitch on first targets) = cast_unsigned w32 first < 2 ^ 32
+IsFormed (form.FilledNewArray kind args) = length args < 2 ^ 31
+IsFormed (form.InstancePut item from on field) = has_values field.kind ≡ true
+IsFormed (form.StaticPut item from field) = has_values field.kind ≡ true
+IsFormed x = Unit {0}
 
 -- What the framework reaches by its own rows it reaches by the program's lists, or as one of the methods that it may enter.
 pub record Reaches (p : NamedProgram) (o : Outer) (f : Framework) : Type 0 where
@@ -48,7 +54,7 @@ pub record IsCoverable {V : Type 0} (a : Analysis V) (p : NamedProgram) (o : Out
   pub regular : IsRegular p
   -- only what gives a result goes on to what takes one, and no handler does
   pub places : AllTakeInPlace p
-  pub words : (k : MethodKey) (b : NamedBody) (x : Form) → bodies_of p k ≡ Some b → Contains b.forms x → HasWords x
+  pub formed : (k : MethodKey) (b : NamedBody) (x : Form) → bodies_of p k ≡ Some b → Contains b.forms x → IsFormed x
   pub reaches : Reaches p o f
   pub sound : IsSound a (is_under p f) floats
   pub closed : IsClosed a p o facts

@@ -5,6 +5,10 @@ use Rattle.cover_law.proofs.Standing.{top_on}
 use Rattle.cover_law.proofs.Worlds.{covers_over}
 use Rattle.cover_law.proofs.Local.{act_fits}
 use Rattle.cover_law.proofs.Fields.{covers_instance}
+use Rattle.cover_law.proofs.Stays.{filled}
+use Rattle.cover_law.proofs.Entering.{entry_top}
+use Rattle.cover_law.proofs.Waiting.{static_puts}
+use Rattle.cover_law.proofs.Calling.{calls_covered}
 use Rattle.cover_law.proofs.laws.stub.Goals as goal
 
 pub returns : goal.returns

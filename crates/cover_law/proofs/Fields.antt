@@ -29,14 +29,14 @@ use Rattle.invariant_law.specs.Fine.{IsThere}
 use Rattle.invariant_law.specs.Invariant.{Grows}
 use Rattle.invariant_law.proofs.Growing.{grows_same, grows_put}
 use Rattle.run_facts.specs.Covered.{Sees, CoversWorld}
-use Rattle.stuck_law.specs.TypedStates.{KindHolds, ValueOf, TypedWorld}
+use Rattle.stuck_law.specs.TypedStates.{KindHolds, ValueOf}
 use Rattle.stuck_law.proofs.Settled.{IsSettled}
 use Rattle.stuck_law.proofs.Registers.{and_left, and_right}
 use Rattle.stuck_law.proofs.Climbs.{none_some, some_one, class_in}
 use Rattle.stuck_law.proofs.Forms.{wide_kind}
 use Rattle.cover_law.specs.Coverable.{IsCoverable}
 use Rattle.cover_law.proofs.Along.{sees_later}
-use Rattle.cover_law.proofs.Worlds.{static_there, field_there}
+use Rattle.cover_law.proofs.Worlds.{FieldsThere}
 
 field_sound : (j k : FieldKey) → field_eq j k ≡ true → j ≡ k
 field_sound j k e = ap (λ u. record j { class = u }) (text_sound j.class k.class (and_left (text_eq j.class k.class) (text_eq j.name k.name) first))
@@ -136,10 +136,10 @@ module _ {V : Type 0} (a : Analysis V) (p : NamedProgram) (o : Outer) (f : Frame
       by true i e = subst (λ k. S (facts.fields k) w u) (sym (field_sound j k i)) (subst (S (facts.fields k) w) (some_one v u e) now)
       by false i e = old e
 
-  pub covers_static : (w : World) (k : FieldKey) (v : Value) → TypedWorld p f w → CoversWorld a p o facts w → IsThere w v → S (facts.fields k) w v → CoversWorld a p o facts (with_static w k v)
-  covers_static w k v tw cw there now = let w1 = with_static w k v in let gr = grows_same w w1 refl in record {
-    statics = λ j d u e i. put_seen w1 k j v u w.statics i (sees_later a p facts w w1 (facts.fields k) v gr there now) (λ i. sees_later a p facts w w1 (facts.fields j) u gr (static_there p f w j u tw i) (cw.statics j d u e i));
-    instances = λ j d u n c fs e i l. sees_later a p facts w w1 (facts.fields j) u gr (field_there p f w n c fs j u tw i l) (cw.instances j d u n c fs e i l);
+  pub covers_static : (w : World) (k : FieldKey) (v : Value) → FieldsThere w → CoversWorld a p o facts w → IsThere w v → S (facts.fields k) w v → CoversWorld a p o facts (with_static w k v)
+  covers_static w k v ft cw there now = let w1 = with_static w k v in let gr = grows_same w w1 refl in record {
+    statics = λ j d u e i. put_seen w1 k j v u w.statics i (sees_later a p facts w w1 (facts.fields k) v gr there now) (λ i. sees_later a p facts w w1 (facts.fields j) u gr (ft.statics j u i) (cw.statics j d u e i));
+    instances = λ j d u n c fs e i l. sees_later a p facts w w1 (facts.fields j) u gr (ft.instances n c fs j u i l) (cw.instances j d u n c fs e i l);
   }
 
   set_at : (xs : List Thing) (m : ℕ) (t : Thing) (n : ℕ) (c : Text) (fs : FieldKey → Option Value) → slice_get (slice_set xs m t) n ≡ Some (Instance c fs) → (t ≡ Instance c fs) ⊎ (slice_get xs n ≡ Some (Instance c fs))
@@ -152,10 +152,10 @@ module _ {V : Type 0} (a : Analysis V) (p : NamedProgram) (o : Outer) (f : Frame
   fields_of : (c d : Text) (fs gs : FieldKey → Option Value) → Instance c fs ≡ Instance d gs → (k : FieldKey) → fs k ≡ gs k
   fields_of c d fs gs e k = ap (λ t. elim t as (λ t. Option Value) [ Instance c fs ↦ fs k | Items z vs ↦ None ]) e
 
-  pub covers_instance : (w : World) (k : FieldKey) (z v : Value) (c : Text) (fs : FieldKey → Option Value) → thing_at w z ≡ Some (Instance c fs) → TypedWorld p f w → CoversWorld a p o facts w → IsThere w v → S (facts.fields k) w v
+  pub covers_instance : (w : World) (k : FieldKey) (z v : Value) (c : Text) (fs : FieldKey → Option Value) → thing_at w z ≡ Some (Instance c fs) → FieldsThere w → CoversWorld a p o facts w → IsThere w v → S (facts.fields k) w v
       → CoversWorld a p o facts (put_thing w z (Instance c (put_field k v fs)))
-  covers_instance w k (Object m) v c fs at tw cw there now = record {
-    statics = λ j d u e i. sees_later a p facts w w2 (facts.fields j) u gr (static_there p f w j u tw i) (cw.statics j d u e i);
+  covers_instance w k (Object m) v c fs at ft cw there now = record {
+    statics = λ j d u e i. sees_later a p facts w w2 (facts.fields j) u gr (ft.statics j u i) (cw.statics j d u e i);
     instances = λ j d u n c1 gs e i l. by j d u n c1 gs e l (set_at w.heap m new n c1 gs i);
   }
     where
@@ -169,7 +169,7 @@ module _ {V : Type 0} (a : Analysis V) (p : NamedProgram) (o : Outer) (f : Frame
       gr = grows_put w (Object m) (Instance c fs) new at refl
 
       by : (j : FieldKey) (d : NamedField) (u : Value) (n : ℕ) (c1 : Text) (gs : FieldKey → Option Value) → defined_field p j ≡ Some d → gs j ≡ Some u → (new ≡ Instance c1 gs) ⊎ (slice_get w.heap n ≡ Some (Instance c1 gs)) → S (facts.fields j) w2 u
-      by j d u n c1 gs e l (inr i) = sees_later a p facts w w2 (facts.fields j) u gr (field_there p f w n c1 gs j u tw i l) (cw.instances j d u n c1 gs e i l)
+      by j d u n c1 gs e l (inr i) = sees_later a p facts w w2 (facts.fields j) u gr (ft.instances n c1 gs j u i l) (cw.instances j d u n c1 gs e i l)
       by j d u n c1 gs e l (inl i) = put_seen w2 k j v u fs (fields_of c c1 (put_field k v fs) gs i j ∙ l) (sees_later a p facts w w2 (facts.fields k) v gr there now)
-          (λ q. sees_later a p facts w w2 (facts.fields j) u gr (field_there p f w m c fs j u tw at q) (cw.instances j d u m c fs e at q))
-  covers_instance w k z v c fs at tw cw there now = none_some (Instance c fs) at
+          (λ q. sees_later a p facts w w2 (facts.fields j) u gr (ft.instances m c fs j u at q) (cw.instances j d u m c fs e at q))
+  covers_instance w k z v c fs at ft cw there now = none_some (Instance c fs) at

@@ -8,3 +8,4 @@ mod Stays
 mod Entering
 mod Waiting
 mod Calling
+mod Steps

@@ -55,7 +55,7 @@ use Rattle.cover_law.specs.Known.{KnownFrame, KnownThing, KnownWorld, known_stat
 use Rattle.cover_law.proofs.Along.{Along, Looks, IsTold, act_along, sees_put, sees_wide}
 use Rattle.cover_law.proofs.Reading.{Ss, reads_seen}
 use Rattle.cover_law.proofs.Standing.{reg_there, own_form, at_typed, all_later, gone_on, top_on, caught_on, taken_on}
-use Rattle.cover_law.proofs.Worlds.{SameFields, same_with, same_world, covers_over}
+use Rattle.cover_law.proofs.Worlds.{SameFields, same_with, same_world, covers_over, typed_fields}
 use Rattle.cover_law.proofs.Local.{IsLocal, Fits, act_fits}
 
 pub array_whole : (u : Text) → is_array u ≡ true → array_of (item_of u) ≡ u
@@ -84,7 +84,7 @@ module _ {V : Type 0} (a : Analysis V) (p : NamedProgram) (o : Outer) (f : Frame
     x = top.stands.registers
 
     pub kept : (w1 : World) → SameFields w w1 → CoversWorld a p o facts w1
-    kept w1 s = covers_over p f a o facts w w1 tw s cw
+    kept w1 s = covers_over p a o facts w w1 (typed_fields p f w tw) s cw
 
     pub there : (r : ℕ) → IsThere w (register g r)
     there r = reg_there a p o f floats facts base reg w g t r

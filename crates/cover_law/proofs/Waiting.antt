@@ -64,7 +64,7 @@ use Rattle.cover_law.specs.Coverable.{IsCoverable, IsFormed, has_values}
 use Rattle.cover_law.specs.Known.{KnownFrame, KnownWorld}
 use Rattle.cover_law.proofs.Along.{Along, Looks, sees_put, sees_later, used, closer, then_item, just_item}
 use Rattle.cover_law.proofs.Standing.{own_form, all_later, top_on}
-use Rattle.cover_law.proofs.Worlds.{value_there, SameFields, same_world, same_with, same_then, same_show, same_option, same_lock}
+use Rattle.cover_law.proofs.Worlds.{typed_fields, value_there, SameFields, same_world, same_with, same_then, same_show, same_option, same_lock}
 use Rattle.cover_law.proofs.Fields.{read_same, static_seen, instance_seen, covers_static, covers_instance}
 use Rattle.cover_law.proofs.Stays.{below, covers, Leads, Does, Is, kept, there, arrays, here, stays, faulted, held, looks}
 
@@ -329,7 +329,7 @@ module _ {V : Type 0} (a : Analysis V) (p : NamedProgram) (o : Outer) (f : Frame
             moves_on y h refl w1 (next g) (Some (event.Put k.class k.name k.kind (show_option w k.class None).1 (show (show_option w k.class None).0 k.kind v).1)) (kept a p o f floats facts base reg w cs g tw kw cw t kg top w1 sf) refl (Some x) refl (unchanged y h w1 sf.grows))
         by (Some d) e = let w1 = with_static w (own_key k d) v in subst (λ m. L (writes_static need k v w g (option_map (λ c. place_of c.0 c.1) m))) (sym e)
             (readied y h refl (need d.0) d.0 (Stays w1 (next g) None) (class_of k d e)
-            (moves_on y h refl w1 (next g) None (covers_static a p o f floats facts base reg w (own_key k d) v tw cw (value_there p f w k.kind v (stored_value p o f floats reg w cs g tw t i k.kind (register g from) wrong vt))
+            (moves_on y h refl w1 (next g) None (covers_static a p o f floats facts base reg w (own_key k d) v (typed_fields p f w tw) cw (value_there p f w k.kind v (stored_value p o f floats reg w cs g tw t i k.kind (register g from) wrong vt))
                 (put_holds y h i from k d PutsStatic e (formed y h) wrong vt (seen_first y h from [] refl))) refl (Some x) refl (unchanged y h w1 (grows_same w w1 refl))))
 
     pub instance_puts : (i : Item) (from on : ℕ) (k : FieldKey) → I (form.InstancePut i from on k) → D (act (face_of p f).under floats (form.InstancePut i from on k) w g)
@@ -355,7 +355,7 @@ module _ {V : Type 0} (a : Analysis V) (p : NamedProgram) (o : Outer) (f : Frame
 
         value : (d : Text × NamedField) → finds_field p k ≡ Some d → is_null (register g on) ≡ false → (z : Value) → (c : Text) × ((fs : FieldKey → Option Value) × (thing_at w z ≡ Some (Instance c fs))) → L (written_to (with_instance w (own_key k d) z v (thing_at w z)) g)
         value d e nn z (c, (fs, at)) = let w1 = put_thing w z (Instance c (put_field (own_key k d) v fs)) in subst (λ q. L (written_to (with_instance w (own_key k d) z v q) g)) (sym at)
-            (moves_on y h refl w1 (next g) None (covers_instance a p o f floats facts base reg w (own_key k d) z v c fs at tw cw (value_there p f w k.kind v (stored_value p o f floats reg w cs g tw t i k.kind (register g from) wrong vt))
+            (moves_on y h refl w1 (next g) None (covers_instance a p o f floats facts base reg w (own_key k d) z v c fs at (typed_fields p f w tw) cw (value_there p f w k.kind v (stored_value p o f floats reg w cs g tw t i k.kind (register g from) wrong vt))
                 (put_holds y h i from k d (PutsInstance on) e (formed y h) wrong vt (seen_first y h from (on ∷ []) refl))) refl (refined a on (a.held (x on)) x) refl
             (used_on y h on on_seen nn w1 (grows_put w z (Instance c fs) (Instance c (put_field (own_key k d) v fs)) at refl)))
 

@@ -20,7 +20,7 @@ use Rattle.pass_defs.specs.Facts.{Facts}
 use Rattle.pass_defs.specs.Kinds as kind
 use Rattle.invariant_law.specs.Fine.{IsThere}
 use Rattle.invariant_law.specs.Invariant.{Grows}
-use Rattle.invariant_law.proofs.Growing.{grows_same, grows_then, grows_with, grows_put, show_heap, option_heap, all_heap}
+use Rattle.invariant_law.proofs.Growing.{grows_same, grows_then, grows_with, grows_put, grows_over, there_later, show_heap, option_heap, all_heap}
 use Rattle.invariant_law.proofs.Fine.{each_get}
 use Rattle.run_facts.specs.Covered.{CoversWorld}
 use Rattle.stuck_law.specs.TypedStates.{ValueOf, TypedThing, TypedWorld}
@@ -109,24 +109,49 @@ pub same_put : (w : World) (v : Value) (old t : Thing) → thing_at w v ≡ Some
 same_put w (Object m) old t e i b = record { grows = grows_put w (Object m) old t e i; statics = refl; things = set_at w.heap m t b }
 same_put w v old t e i b = none_some old e
 
+-- a thing of its kind is put over another in a later world
+pub same_put_over : (w w1 : World) (v : Value) (old t : Thing) → Grows w w1 → thing_at w v ≡ Some old → kind_of_thing t ≡ kind_of_thing old → IsBare t → SameFields w1 (put_thing w1 v t)
+same_put_over w w1 (Object m) old t g e i b = record { grows = grows_over w w1 (Object m) old t g e i; statics = refl; things = set_at w1.heap m t b }
+same_put_over w w1 v old t g e i b = none_some old e
+
+-- ---- what fields hold is there
+
+pub record FieldsThere (w : World) : Type 0 where
+  pub statics : (k : FieldKey) (v : Value) → w.statics k ≡ Some v → IsThere w v
+  pub instances : (n : ℕ) (c : Text) (fs : FieldKey → Option Value) (k : FieldKey) (v : Value) → slice_get w.heap n ≡ Some (Instance c fs) → fs k ≡ Some v → IsThere w v
+
+pub fields_over : (w w1 : World) → SameFields w w1 → FieldsThere w → FieldsThere w1
+fields_over w w1 s h = record {
+  statics = λ k v e. there_later w w1 s.grows v (h.statics k v (ap (λ m. m k) (sym s.statics) ∙ e));
+  instances = λ n c fs k v e i. by n c fs k v i (s.things n c fs e);
+}
+  where
+    by : (n : ℕ) (c : Text) (fs : FieldKey → Option Value) (k : FieldKey) (v : Value) → fs k ≡ Some v → ((k : FieldKey) → fs k ≡ None) ⊎ (slice_get w.heap n ≡ Some (Instance c fs)) → IsThere w1 v
+    by n c fs k v i (inl j) = none_some v (sym (j k) ∙ i)
+    by n c fs k v i (inr j) = there_later w w1 s.grows v (h.instances n c fs k v j i)
+
 module _ (p : NamedProgram) (f : Framework) where
   pub value_there : (w : World) (u : Text) (v : Value) → ValueOf p f w u v → IsThere w v
   value_there w u v h = there_held p f [] w (kind.kind_of p u) v (h [])
 
-  pub static_there : (w : World) (k : FieldKey) (v : Value) → TypedWorld p f w → w.statics k ≡ Some v → IsThere w v
+  static_there : (w : World) (k : FieldKey) (v : Value) → TypedWorld p f w → w.statics k ≡ Some v → IsThere w v
   static_there w k v tw e = value_there w k.kind v (tw.statics k v e)
 
-  pub field_there : (w : World) (n : ℕ) (c : Text) (fs : FieldKey → Option Value) (k : FieldKey) (v : Value) → TypedWorld p f w → slice_get w.heap n ≡ Some (Instance c fs) → fs k ≡ Some v → IsThere w v
+  field_there : (w : World) (n : ℕ) (c : Text) (fs : FieldKey → Option Value) (k : FieldKey) (v : Value) → TypedWorld p f w → slice_get w.heap n ≡ Some (Instance c fs) → fs k ≡ Some v → IsThere w v
   field_there w n c fs k v tw e i = value_there w k.kind v ((each_get (TypedThing p f w) w.heap n (Instance c fs) tw.things e).1 k v i)
 
-  module _ {V : Type 0} (a : Analysis V) (o : Outer) (facts : Facts V) where
-    pub covers_over : (w w1 : World) → TypedWorld p f w → SameFields w w1 → CoversWorld a p o facts w → CoversWorld a p o facts w1
-    covers_over w w1 tw s h = record {
-      statics = λ k d v e i. let j = ap (λ m. m k) (sym s.statics) ∙ i in sees_later a p facts w w1 (facts.fields k) v s.grows (static_there w k v tw j) (h.statics k d v e j);
-      instances = λ k d v n c fs e i j. by k d v n c fs e j (s.things n c fs i);
-    }
-      where
-        by : (k : FieldKey) (d : NamedField) (v : Value) (n : ℕ) (c : Text) (fs : FieldKey → Option Value) → defined_field p k ≡ Some d → fs k ≡ Some v
-            → ((k : FieldKey) → fs k ≡ None) ⊎ (slice_get w.heap n ≡ Some (Instance c fs)) → a.holds (facts.fields k) (kind_of w1 v) v
-        by k d v n c fs e j (inl i) = none_some v (sym (i k) ∙ j)
-        by k d v n c fs e j (inr i) = sees_later a p facts w w1 (facts.fields k) v s.grows (field_there w n c fs k v tw i j) (h.instances k d v n c fs e i j)
+  -- what a typed world's fields hold is there
+  pub typed_fields : (w : World) → TypedWorld p f w → FieldsThere w
+  typed_fields w tw = record { statics = λ k v e. static_there w k v tw e; instances = λ n c fs k v e i. field_there w n c fs k v tw e i }
+
+module _ (p : NamedProgram) {V : Type 0} (a : Analysis V) (o : Outer) (facts : Facts V) where
+  pub covers_over : (w w1 : World) → FieldsThere w → SameFields w w1 → CoversWorld a p o facts w → CoversWorld a p o facts w1
+  covers_over w w1 ft s h = record {
+    statics = λ k d v e i. let j = ap (λ m. m k) (sym s.statics) ∙ i in sees_later a p facts w w1 (facts.fields k) v s.grows (ft.statics k v j) (h.statics k d v e j);
+    instances = λ k d v n c fs e i j. by k d v n c fs e j (s.things n c fs i);
+  }
+    where
+      by : (k : FieldKey) (d : NamedField) (v : Value) (n : ℕ) (c : Text) (fs : FieldKey → Option Value) → defined_field p k ≡ Some d → fs k ≡ Some v
+          → ((k : FieldKey) → fs k ≡ None) ⊎ (slice_get w.heap n ≡ Some (Instance c fs)) → a.holds (facts.fields k) (kind_of w1 v) v
+      by k d v n c fs e j (inl i) = none_some v (sym (i k) ∙ j)
+      by k d v n c fs e j (inr i) = sees_later a p facts w w1 (facts.fields k) v s.grows (ft.instances n c fs k v i j) (h.instances k d v n c fs e i j)

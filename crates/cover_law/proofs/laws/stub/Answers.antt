@@ -9,6 +9,7 @@ use Rattle.cover_law.proofs.Stays.{filled}
 use Rattle.cover_law.proofs.Entering.{entry_top}
 use Rattle.cover_law.proofs.Waiting.{static_puts}
 use Rattle.cover_law.proofs.Calling.{calls_covered}
+use Rattle.cover_law.proofs.Steps.{steps_covered}
 use Rattle.cover_law.proofs.laws.stub.Goals as goal
 
 pub returns : goal.returns

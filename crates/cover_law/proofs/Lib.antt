@@ -9,3 +9,8 @@ mod Entering
 mod Waiting
 mod Calling
 mod Steps
+mod Returning
+mod Given
+mod Numbers
+mod Moving
+mod Runs

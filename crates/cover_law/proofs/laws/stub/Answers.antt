@@ -10,6 +10,11 @@ use Rattle.cover_law.proofs.Entering.{entry_top}
 use Rattle.cover_law.proofs.Waiting.{static_puts}
 use Rattle.cover_law.proofs.Calling.{calls_covered}
 use Rattle.cover_law.proofs.Steps.{steps_covered}
+use Rattle.cover_law.proofs.Returning.{returned}
+use Rattle.cover_law.proofs.Given.{own_field}
+use Rattle.cover_law.proofs.Numbers.{stored_ranged}
+use Rattle.cover_law.proofs.Moving.{enters_covered}
+use Rattle.cover_law.proofs.Runs.{covered_always}
 use Rattle.cover_law.proofs.laws.stub.Goals as goal
 
 pub returns : goal.returns

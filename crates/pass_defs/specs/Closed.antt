@@ -191,12 +191,13 @@ module _ {V : Type 0} (a : Analysis V) where
     Virtually : (k : MethodKey) (g : Found) (t : Text) → MayBe (x (receiver_register args)) t → IsMade p o unconditional t → is_within p t k.class ≡ true → finds_at p t k ≡ Finds g → MayCall p o class x args call.Virtual k g
     ByInterface : (k : MethodKey) (g : Found) (t : Text) → MayBe (x (receiver_register args)) t → IsMade p o unconditional t → is_within p t k.class ≡ true → finds_at p t k ≡ Finds g → MayCall p o class x args call.Interface k g
 
-  -- It may leave the program, or an array of what it names was made: what comes back is the framework's, or new.
+  -- It may leave the program: what it finds has no code, the class that it names is the framework's, or its receiver may be
+  -- an object that finds no code for it, as one that isn't under the interface that it names.
   abbrev pub MayLeave : NamedProgram → Outer → Text → Registers → List ℕ → InvokeKind → MethodKey → Type 0
   MayLeave p o class x args call.Static k = (g : Found) → finds_statically p k ≡ Finds g → g.coded ≡ false
   MayLeave p o class x args call.Direct k = (g : Found) → finds_statically p k ≡ Finds g → g.coded ≡ false
   MayLeave p o class x args call.Super k = (g : Found) → finds_super p class k ≡ Finds g → g.coded ≡ false
-  MayLeave p o class x args kind k = (defines p k.class ≡ false) ⊎ ((t : Text) × MayBe (x (receiver_register args)) t × ((g : Found) → IsMade p o unconditional t → finds_at p t k ≡ Finds g → g.coded ≡ false))
+  MayLeave p o class x args kind k = (defines p k.class ≡ false) ⊎ ((t : Text) × MayBe (x (receiver_register args)) t × ((g : Found) → IsMade p o unconditional t → is_within p t k.class ≡ true → finds_at p t k ≡ Finds g → g.coded ≡ false))
 
   -- what the place of the last result may hold behind a form that was reached
   pub data Results (p : NamedProgram) (o : Outer) (t : Facts V) (k : MethodKey) (x : Registers) : Form → V → Type 0 where

@@ -1,39 +1,34 @@
 -- When facts hold of the states of a run, as an invariant: of the frame on top, of a frame that waits for what stands above
--- it, of results, of thrown objects, of classes that are initialised, and of fields and objects.
-use Rattle.std.specs.Prelude.{◌≡◌, ℕ, ◌+◌, true, false, ◌⊎◌, List, [], ◌∷◌, Option, Some, None, is_some, slice_get, Contains}
+-- it, of results, of classes that are initialised, and of fields. It stands over invariants that say that references are to
+-- what there is (the typing's), that words have 32 bits and that objects are of made classes, and doesn't repeat them.
+use Rattle.std.specs.Prelude.{◌≡◌, ℕ, ◌+◌, false, ◌⊎◌, List, [], ◌∷◌, Option, Some, None, slice_get, Contains}
 use Rattle.insn_set.specs.declared.ops.Slot.{Slot}
 use Rattle.insn_set.specs.declared.ops.InvokeKind.{InvokeKind}
 use Rattle.insn_set.specs.declared.ops.InvokeKind.TheVariants as call
 use Rattle.dalvik_defs.specs.Names.{Text}
-use Rattle.dalvik_defs.specs.Under.{defines}
 use Rattle.dalvik_defs.specs.Find.{Found, defined_field, finds_field}
 use Rattle.dalvik_defs.specs.Face.{bodies_of}
 use Rattle.dalvik_defs.specs.Outer.{Outer}
-use Rattle.dalvik_defs.specs.Shown.{fit_move}
-use Rattle.dalvik_defs.specs.State.{World, Instance, Items, kind_of, is_null}
-use Rattle.dalvik_defs.specs.Gives.{exposed_at}
+use Rattle.dalvik_defs.specs.State.{World, Instance, kind_of, is_null}
 use Rattle.dalvik_defs.specs.declared.state.Value.{Value}
 use Rattle.dalvik_defs.specs.declared.state.Frame.{Frame}
 use Rattle.dalvik_defs.specs.declared.names.MethodKey.{MethodKey}
 use Rattle.dalvik_defs.specs.declared.names.FieldKey.{FieldKey}
 use Rattle.dalvik_defs.specs.declared.forms.Form.{Form}
 use Rattle.dalvik_defs.specs.declared.forms.Form.TheVariants as form
-use Rattle.dalvik_defs.specs.declared.script.Move.{Move}
 use Rattle.dalvik_defs.specs.declared.program.NamedField.{NamedField}
 use Rattle.dalvik_defs.specs.declared.program.NamedProgram.{NamedProgram}
 use Rattle.dalvik_defs.specs.Stack.{form_at}
 use Rattle.dalvik_defs.specs.Effect.{register}
 use Rattle.pass_defs.specs.Typed.{receiver_register}
-use Rattle.pass_defs.specs.Live.{IsMade, unconditional}
 use Rattle.pass_defs.specs.Facts.{Facts, Initialises, needs, IsEnteredOn}
-use Rattle.invariant_law.specs.Fine.{IsThere}
 use Rattle.invariant_law.specs.Invariant.{Above, Callee, Begun, Owing, Invariant, Grows}
-use Rattle.pass_defs.specs.Analysis.{Analysis, IsReference}
+use Rattle.pass_defs.specs.Analysis.{Analysis}
 use Rattle.pass_defs.specs.Closed.{At, MayCall, MayLeave, Results, IsNeeded}
 
 module _ {V : Type 0} (a : Analysis V) (p : NamedProgram) (o : Outer) (t : Facts V) where
   abbrev pub Sees : V → World → Value → Type 0
-  Sees x w v = IsThere w v × a.holds x (kind_of w v) v
+  Sees x w v = a.holds x (kind_of w v) v
 
   -- all registers are seen
   abbrev pub SeesAll : (ℕ → V) → World → List Value → Type 0
@@ -57,8 +52,6 @@ module _ {V : Type 0} (a : Analysis V) (p : NamedProgram) (o : Outer) (t : Facts
   pub record CoversTop (w : World) (f : Frame) : Type 0 where
     pub stands : Stands w f
     pub takes : (slot : Slot) (to : ℕ) → form_at (bodies_of p) f ≡ Some (form.MoveResult slot to) → TakesFrom w f
-    pub result : IsThere w f.result
-    pub caught : IsThere w f.caught
 
   -- the register whose use needs an object, which isn't null once the form waits
   abbrev pub Used : Form → List ℕ
@@ -95,28 +88,20 @@ module _ {V : Type 0} (a : Analysis V) (p : NamedProgram) (o : Outer) (t : Facts
     pub has_form : form_at (bodies_of p) f ≡ Some form
     pub awaits : Awaits f stands.registers form above
     pub past : IsPast above form f
-    pub result : IsThere w f.result
-    pub caught : IsThere w f.caught
 
   abbrev pub CoversResult : World → MethodKey → Option Value → Type 0
   CoversResult w k None = Unit {0}
   CoversResult w k (Some v) = Sees (t.results k) w v
 
-  -- fields hold their facts, items and fields refer to what there is, and objects of the program's classes are of made ones
+  -- fields hold their facts
   pub record CoversWorld (w : World) : Type 0 where
     pub statics : (k : FieldKey) (f : NamedField) (v : Value) → defined_field p k ≡ Some f → w.statics k ≡ Some v → Sees (t.fields k) w v
     pub instances : (k : FieldKey) (f : NamedField) (v : Value) (n : ℕ) (class : Text) (fields : FieldKey → Option Value) → defined_field p k ≡ Some f
         → slice_get w.heap n ≡ Some (Instance class fields) → fields k ≡ Some v → Sees (t.fields k) w v
-    pub items : (n : ℕ) (kind : Text) (vs : List Value) (v : Value) → slice_get w.heap n ≡ Some (Items kind vs) → Contains vs v → IsThere w v
-    pub made : (n : ℕ) (class : Text) (fields : FieldKey → Option Value) → slice_get w.heap n ≡ Some (Instance class fields) → defines p class ≡ true → IsMade p o unconditional class
-    pub exposed : (n : ℕ) → is_some (slice_get w.exposed n) ≡ true → IsThere w (exposed_at w n)
 
   -- a class that is initialised for one that code or the framework needs
   abbrev pub CoversClass : Text → Type 0
   CoversClass u = (v : Text) × IsNeeded a p o t v × Initialises p v u
-
-  abbrev pub CoversMove : Move → Type 0
-  CoversMove x = fit_move p o x ≡ true
 
   abbrev pub covering : Invariant
   covering = record {
@@ -124,9 +109,9 @@ module _ {V : Type 0} (a : Analysis V) (p : NamedProgram) (o : Outer) (t : Facts
     top = λ w c f. CoversTop w f;
     waits = CoversWaiting;
     result = CoversResult;
-    thrown = λ w v. IsThere w v × IsReference v;
+    thrown = λ w v. Unit {0};
     class = CoversClass;
-    move = CoversMove;
+    move = λ x. Unit {0};
     later = Grows;
     ended = Unit {0};
   }

@@ -105,7 +105,7 @@ module _ (p : NamedProgram) (o : Outer) (f : Framework) (floats : Floats) (reg :
       typing = (reg.regular.typed.bodies c m b ci mi mb).1
 
       start : StateHolds p f c.name w (begun p c m b) (entry_frame k vs b)
-      start = record { registers = all_join p f c.name w (replicate (b.registers - b.ins) kind.Undefined) (argument_kinds p c m) (replicate (b.registers - b.ins) (Word 0)) vs (all_unknown p f c.name w (b.registers - b.ins)) h; result = tt; caught = record { there = tt; held = λ i. absurd (true≢false (sym i)) } }
+      start = record { registers = all_join p f c.name w (replicate (b.registers - b.ins) kind.Undefined) (argument_kinds p c m) (replicate (b.registers - b.ins) (Word 0)) vs (all_unknown p f c.name w (b.registers - b.ins)) h; result = tt; caught = record { there = tt; object = λ i. absurd (true≢false (sym i)); held = λ i. absurd (true≢false (sym i)) } }
 
       by : (y : Option Kinds) → state_at table 0 ≡ y → state_below p (Some (begun p c m b)) (state_at table 0) ≡ true → TypedFrame p f w (entry_frame k vs b)
       by None i j = absurd (true≢false (sym j ∙ ap (state_below p (Some (begun p c m b))) i))
@@ -280,7 +280,7 @@ module _ (p : NamedProgram) (o : Outer) (f : Framework) (floats : Floats) (reg :
     constructing : (c : NamedClass) (m : NamedMethod) (v : Value) → is_constructor m ≡ true → IsObject w v → (face_of p f).under (kind_of w v) c.name ≡ true → KindHolds p f c.name w (receiver_kind c m) v
     constructing c m v e ob u = subst (λ b. KindHolds p f c.name w (if b then kind.FreshThis else if is_interface c.flags then kind.Reference else kind.Class c.name) v) (sym e) (ob, u)
 
-    fits_object : (u : Text) → is_class_type u ≡ true → (r : ℕ) → fits p (kind_at a.registers r) u ≡ true → is_null (register g r) ≡ false → IsObject w (register g r)
+    pub fits_object : (u : Text) → is_class_type u ≡ true → (r : ℕ) → fits p (kind_at a.registers r) u ≡ true → is_null (register g r) ≡ false → IsObject w (register g r)
     fits_object u cl r e z = by (sorted p u)
       where
         kept : (register g r ≡ Word 0) ⊎ (IsObject w (register g r) × RefFits p f (kind_of w (register g r)) u) → IsObject w (register g r)
@@ -294,7 +294,7 @@ module _ (p : NamedProgram) (o : Outer) (f : Framework) (floats : Floats) (reg :
         by (OfNone q x b k l) = true_false (class_alone u cl).0 b
 
     -- what is under nothing isn't of a class
-    kind_object : (v : Value) → defines p (kind_of w v) ≡ true → IsObject w v
+    pub kind_object : (v : Value) → defines p (kind_of w v) ≡ true → IsObject w v
     kind_object (Object m) d = by (slice_get w.heap m) d
       where
         by : (y : Option Thing) → defines p (elim y as (λ y. Text) [ Some t ↦ kind_of_thing t | None ↦ [] ]) ≡ true → is_some y ≡ true
@@ -309,7 +309,7 @@ module _ (p : NamedProgram) (o : Outer) (f : Framework) (floats : Floats) (reg :
     plain_class : (c : NamedClass) → Contains p.classes c → is_interface c.flags ≡ false → is_plain p c.name ≡ true
     plain_class c ci e = plain_by p c.name (Some c) (reg.regular.named c ci) ∙ ap not e
 
-    own_class : g.method.class ≡ class
+    pub own_class : g.method.class ≡ class
     own_class = ap (λ k. k.class) (t.of ∙ t.in_method.is_key)
 
     not_named : (m : NamedMethod) (s : Text) → m.name ≡ s → is_constructor_name s ≡ false → is_constructor m ≡ false
@@ -319,10 +319,10 @@ module _ (p : NamedProgram) (o : Outer) (f : Framework) (floats : Floats) (reg :
     enough : (ik : InvokeKind) (k : MethodKey) (args : List ℕ) → I (form.Invoke ik k args) → length args ≡ passed_words ik k
     enough ik k args h = eqb-true (length args) (passed_words ik k) (untrue2 (nat_eq (length args) (passed_words ik k)) (or_right (wrong_method p ik k || wrong_super p t.in_method.class ik k) (not (nat_eq (length args) (passed_words ik k))) h.right))
 
-    right_method : (ik : InvokeKind) (k : MethodKey) (args : List ℕ) → I (form.Invoke ik k args) → (d : Found) → resolves_method p k ≡ Some d → differ (is_static_call ik) (is_static d.flags) ≡ false
+    pub right_method : (ik : InvokeKind) (k : MethodKey) (args : List ℕ) → I (form.Invoke ik k args) → (d : Found) → resolves_method p k ≡ Some d → differ (is_static_call ik) (is_static d.flags) ≡ false
     right_method ik k args h d e = sym (ap (λ y. elim y as (λ y. Bool) [ Some g ↦ differ (is_static_call ik) (is_static g.flags) | None ↦ false ]) e) ∙ or_left (wrong_method p ik k) (wrong_super p t.in_method.class ik k) (or_left (wrong_method p ik k || wrong_super p t.in_method.class ik k) (not (nat_eq (length args) (passed_words ik k))) h.right)
 
-    right_super : (ik : InvokeKind) (k : MethodKey) (args : List ℕ) → I (form.Invoke ik k args) → wrong_super p t.in_method.class ik k ≡ false
+    pub right_super : (ik : InvokeKind) (k : MethodKey) (args : List ℕ) → I (form.Invoke ik k args) → wrong_super p t.in_method.class ik k ≡ false
     right_super ik k args h = or_right (wrong_method p ik k) (wrong_super p t.in_method.class ik k) (or_left (wrong_method p ik k || wrong_super p t.in_method.class ik k) (not (nat_eq (length args) (passed_words ik k))) h.right)
 
     parameters : (k : MethodKey) (m : NamedMethod) (rs : List ℕ) → m.signature ≡ k.signature → list_all met (passed k.signature.parameters rs) ≡ true → length rs ≡ words_of k.signature.parameters → (d : Text) → AllHold p f d w (parameter_kinds p m.signature.parameters) (map (register g) rs)
@@ -405,7 +405,7 @@ module _ (p : NamedProgram) (o : Outer) (f : Framework) (floats : Floats) (reg :
             ordinary c m (register g r) (not_named m k.name name con) (fits_object c.name (reg.regular.class_types c.name (defined_by p c.name (Some c) (reg.regular.named c ci))) r fit_c z)
             (λ j. (fitting p o f floats reg w cs g tw t c.name (plain_class c ci j) r fit_c z).1)
 
-    virtual_object : (r : ℕ) (k : MethodKey) (d : Found) → finds_virtually p f (kind_of w (register g r)) k ≡ Finds d → (finds_at p (kind_of w (register g r)) k ≡ Finds d) × (defines p (kind_of w (register g r)) ≡ true)
+    pub virtual_object : (r : ℕ) (k : MethodKey) (d : Found) → finds_virtually p f (kind_of w (register g r)) k ≡ Finds d → (finds_at p (kind_of w (register g r)) k ≡ Finds d) × (defines p (kind_of w (register g r)) ≡ true)
     virtual_object r k d e = by (class_named p (kind_of w (register g r))) refl (is_under p f (kind_of w (register g r)) k.class) e
       where
         clash : {A : Type 0} → Search.Nothing ≡ Finds d → A
@@ -418,7 +418,7 @@ module _ (p : NamedProgram) (o : Outer) (f : Framework) (floats : Floats) (reg :
         by (Some c) i false j = clash (sym (ap (λ y. elim (is_some y && false) as (λ b. Search) [ true ↦ finds_at p (kind_of w (register g r)) k | false ↦ Search.Nothing ]) i) ∙ j)
 
     -- what is virtual is no constructor and isn't static
-    virtual_flags : (flags : ℕ) (name : Text) → is_virtual flags name ≡ true → (is_static flags ≡ false) × (is_constructor_name name ≡ false)
+    pub virtual_flags : (flags : ℕ) (name : Text) → is_virtual flags name ≡ true → (is_static flags ≡ false) × (is_constructor_name name ≡ false)
     virtual_flags flags name e = (not_true (is_static flags) (and_left (not (is_static flags)) (not (is_private flags)) (and_left (not (is_static flags) && not (is_private flags)) (not (is_special name)) e)), by (is_constructor_name name) refl)
       where
         not_true : (b : Bool) → not b ≡ true → b ≡ false

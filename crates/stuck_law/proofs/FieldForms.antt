@@ -69,7 +69,7 @@ module _ (p : NamedProgram) (o : Outer) (f : Framework) (floats : Floats) (reg :
   holder c k kind.FreshThis e = inl refl
   holder c k q e = inr e
 
-  field_defined : (m : ℕ) (k : FieldKey) (u : Text) (y : Text × NamedField) → field_from m p k u ≡ Some y → defines p u ≡ true
+  pub field_defined : (m : ℕ) (k : FieldKey) (u : Text) (y : Text × NamedField) → field_from m p k u ≡ Some y → defines p u ≡ true
   field_defined zero k u y e = none_some y e
   field_defined (suc m) k u y e = by (class_named p u) refl
     where

@@ -96,12 +96,12 @@ is_wide_sort (Shifts k) = true
 is_wide_sort (OnDouble op) = true
 is_wide_sort s = false
 
-abbrev op_divides : Op → Bool
+abbrev pub op_divides : Op → Bool
 op_divides Div = true
 op_divides Rem = true
 op_divides k = false
 
-abbrev sort_divides : Sort → Bool
+abbrev pub sort_divides : Sort → Bool
 sort_divides (OnWord k) = op_divides k
 sort_divides (OnWide k) = op_divides k
 sort_divides (Shifts k) = op_divides k
@@ -111,7 +111,7 @@ sort_wide : (op : BinaryOp) → binary_is_wide op ≡ is_wide_sort (sort_of op)
 sort_wide binaries.AddInt = refl
 sort_wide op = refl
 
-sort_throws : (op : BinaryOp) → sort_divides (sort_of op) ≡ divides op
+pub sort_throws : (op : BinaryOp) → sort_divides (sort_of op) ≡ divides op
 sort_throws binaries.AddInt = refl
 sort_throws op = refl
 
@@ -122,12 +122,12 @@ number_wide floats op m = refl
 some_none : {A : Type 0} (m : ℕ) → Some m ≡ None → A
 some_none m e = none_some m (sym e)
 
-divides_op : (k : Op) (b : Bool) (x y : ℕ) → answer k b x y ≡ None → op_divides k ≡ true
+pub divides_op : (k : Op) (b : Bool) (x y : ℕ) → answer k b x y ≡ None → op_divides k ≡ true
 divides_op Div b x y e = refl
 divides_op Rem b x y e = refl
 divides_op k b x y e = absurd (true≢false (ap (λ o. is_some o) e))
 
-literal_divides : (op : LiteralOp) (x y : ℕ) → literal_answer op x y ≡ None → divides_by_literal op ≡ true
+pub literal_divides : (op : LiteralOp) (x y : ℕ) → literal_answer op x y ≡ None → divides_by_literal op ≡ true
 literal_divides literals.DivInt x y e = refl
 literal_divides literals.RemInt x y e = refl
 literal_divides op x y e = absurd (true≢false (ap (λ o. is_some o) e))

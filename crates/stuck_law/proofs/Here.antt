@@ -92,6 +92,7 @@ module _ (p : NamedProgram) (o : Outer) (f : Framework) (floats : Floats) (reg :
         result = below_held p f reg c w a.result b.result g.result (and_right (all_below p a.registers b.registers) (is_below p a.result b.result) y) h.result;
         caught = let l = and_right (all_below p a.registers b.registers && is_below p a.result b.result) (is_below p a.caught b.caught) x in record {
           there = h.caught.there;
+          object = λ i. h.caught.object (below_initialised p a.caught b.caught l i);
           held = λ i. below_held p f reg c w a.caught b.caught g.caught l (h.caught.held (below_initialised p a.caught b.caught l i));
         };
       }
@@ -178,7 +179,7 @@ module _ (p : NamedProgram) (o : Outer) (f : Framework) (floats : Floats) (reg :
         carried : (q : ℕ) (k : Kind) → Contains (catches_in p (region_at t.in_method.body g.position)) (q, k) → (is_initialised k ≡ true → KindHolds p f class w1 k v) → TypedFrame p f w1 (record (go g q) { caught = v })
         carried q k i held = arrive q (record t.kinds { caught = k }) (into_right (map (λ q. (q, after p t.in_method.class g.position x t.kinds)) (onward x g.position)) (map (λ h. (h.0, record t.kinds { caught = h.1 })) (catches p t.in_method.body g.position x)) (q, record t.kinds { caught = k })
             (into_map (λ h. (h.0, record t.kinds { caught = h.1 })) (catches p t.in_method.body g.position x) (q, k) (subst (λ b. Contains (if b then catches_in p (region_at t.in_method.body g.position) else []) (q, k)) (sym throws) i)))
-            w1 (record (go g q) { caught = v }) t.of refl (let s = state_later p f class w w1 grow t.kinds g t.holds in record { registers = s.registers; result = s.result; caught = record { there = object_there w1 v there; held = held } })
+            w1 (record (go g q) { caught = v }) t.of refl (let s = state_later p f class w w1 grow t.kinds g t.holds in record { registers = s.registers; result = s.result; caught = record { there = object_there w1 v there; object = λ i. there; held = held } })
 
         class_held : (u : Text) → above u ≡ true → is_initialised (kind.kind_of p u) ≡ true → KindHolds p f class w1 (kind.kind_of p u) v
         class_held u i e = by (sorted p u)

@@ -110,7 +110,7 @@ module _ (p : NamedProgram) (o : Outer) (f : Framework) (floats : Floats) (reg :
 
   -- ---- fields
 
-  own_defined : (k : FieldKey) (place : Place) → option_map (place_of k.class) (defined_field p k) ≡ Some place → defines p k.class ≡ true
+  pub own_defined : (k : FieldKey) (place : Place) → option_map (place_of k.class) (defined_field p k) ≡ Some place → defines p k.class ≡ true
   own_defined k place e = by (class_named p k.class) refl e
     where
       by : (y : Option NamedClass) → class_named p k.class ≡ y → option_map (place_of k.class) (elim y as (λ y. Option NamedField) [ Some c ↦ field_in c k.name k.kind | None ↦ None ]) ≡ Some place → defines p k.class ≡ true
@@ -253,7 +253,7 @@ module _ (p : NamedProgram) (o : Outer) (f : Framework) (floats : Floats) (reg :
       fault_class u (inl e) = ap is_class_type e
       fault_class u (inr e) = ap is_class_type e
 
-  typed_opening : TypedWorld p f opening_world
+  pub typed_opening : TypedWorld p f opening_world
   typed_opening = record { statics = λ k v e. none_some v e; things = tt; exposed = tt }
 
   -- a typed program is never stuck: a run goes on from each state that it reaches, unless the next move isn't legal
@@ -263,7 +263,7 @@ module _ (p : NamedProgram) (o : Outer) (f : Framework) (floats : Floats) (reg :
   abbrev i : Invariant
   i = states p o f floats reg
 
-  each_move : (xs : List Move) → list_all (fit_move p o) xs ≡ true → Each (λ x. fit_move p o x ≡ true) xs
+  pub each_move : (xs : List Move) → list_all (fit_move p o) xs ≡ true → Each (λ x. fit_move p o x ≡ true) xs
   each_move [] e = tt
   each_move (x ∷ xs) e = (and_left (fit_move p o x) (list_all (fit_move p o) xs) e, each_move xs (and_right (fit_move p o x) (list_all (fit_move p o) xs) e))
 
@@ -281,7 +281,7 @@ module _ (p : NamedProgram) (o : Outer) (f : Framework) (floats : Floats) (reg :
       by (inr h) = inr (λ e. never_stuck s (bodies_of p) (grown s (bodies_of p) i) (keeps_plainly s (bodies_of p) i keeps_typed) (λ x. x) (after_steps s (bodies_of p) (opening script) n) h e)
 
 -- A framework that fits a program leaves it none of the types of which the machine makes objects itself.
-settled : (p : NamedProgram) (o : Outer) (f : Framework) (script : List Move) → IsRegular p → Fit p o f script → IsSettled p
+pub settled : (p : NamedProgram) (o : Outer) (f : Framework) (script : List Move) → IsRegular p → Fit p o f script → IsSettled p
 settled p o f script regular fit = record {
   regular = regular;
   objects = or_left (defines p object_type) (list_any (defines p) (string_type ∷ class_type ∷ others)) fit.classes;

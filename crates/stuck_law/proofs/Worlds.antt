@@ -83,7 +83,7 @@ module _ (p : NamedProgram) (f : Framework) where
   state_later c w w1 g a x h = record {
     registers = all_later p f c w w1 (λ k v. holds_later c w w1 g k v) a.registers x.registers h.registers;
     result = holds_later c w w1 g a.result x.result h.result;
-    caught = record { there = there_later w w1 g x.caught h.caught.there; held = λ i. holds_later c w w1 g a.caught x.caught (h.caught.held i) };
+    caught = record { there = there_later w w1 g x.caught h.caught.there; object = λ i. object_later w w1 g x.caught (h.caught.object i); held = λ i. holds_later c w w1 g a.caught x.caught (h.caught.held i) };
   }
 
   pub frame_later : (w w1 : World) (x : Frame) → Grows w w1 → TypedFrame p f w x → TypedFrame p f w1 x

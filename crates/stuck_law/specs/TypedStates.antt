@@ -97,9 +97,10 @@ module _ (p : NamedProgram) (f : Framework) where
   AllHold c w ks vs = ⊥
 
   -- The caught object is there. Only a form that wants an initialised reference reads it, so its kind is asked for where it
-  -- is one of those.
+  -- is one of those: then something was caught, which isn't null.
   pub record CaughtHolds (c : Text) (w : World) (k : Kind) (v : Value) : Type 0 where
     pub there : IsThere w v
+    pub object : kind.is_initialised k ≡ true → IsObject w v
     pub held : kind.is_initialised k ≡ true → KindHolds c w k v
 
   -- the kinds of a position hold of a frame

@@ -1,0 +1,16 @@
+mod Along
+mod Reading
+mod Standing
+mod Worlds
+mod Local
+mod Fields
+mod Stays
+mod Entering
+mod Waiting
+mod Calling
+mod Steps
+mod Returning
+mod Given
+mod Numbers
+mod Moving
+mod Runs

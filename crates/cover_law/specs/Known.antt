@@ -1,0 +1,70 @@
+-- What is known of every state of a run beside its kinds, as an invariant: words have 32 bits, arrays have fewer than 2^31
+-- items, and methods, classes and objects are of what is live (Dalvik bytecode, "General Design"; this project's profile).
+use Rattle.std.specs.Prelude.{◌≡◌, ℕ, ◌<◌, ◌^◌, true, List, Option, Some, None, length}
+use Rattle.dalvik_defs.specs.Names.{Text}
+use Rattle.dalvik_defs.specs.Outer.{Outer}
+use Rattle.dalvik_defs.specs.State.{World, Thing, Instance, Items}
+use Rattle.dalvik_defs.specs.Under.{defines}
+use Rattle.dalvik_defs.specs.declared.names.FieldKey.{FieldKey}
+use Rattle.dalvik_defs.specs.declared.program.NamedProgram.{NamedProgram}
+use Rattle.dalvik_defs.specs.declared.script.Given.{Given}
+use Rattle.dalvik_defs.specs.declared.script.Given.TheVariants as given
+use Rattle.dalvik_defs.specs.declared.script.Move.{Move}
+use Rattle.dalvik_defs.specs.declared.script.Move.TheVariants as move
+use Rattle.dalvik_defs.specs.declared.state.Frame.{Frame}
+use Rattle.dalvik_defs.specs.declared.state.Value.{Value}
+use Rattle.invariant_law.specs.Holds.{Each}
+use Rattle.invariant_law.specs.Invariant.{Invariant, Grows}
+use Rattle.pass_defs.specs.Analysis.{IsRanged}
+use Rattle.pass_defs.specs.Live.{IsLiveClass, IsLiveMethod, IsMade, unconditional}
+
+abbrev pub MaybeRanged : Option Value → Type 0
+MaybeRanged None = Unit {0}
+MaybeRanged (Some v) = IsRanged v
+
+-- a word that the framework gives has 32 bits, and an array that it makes fewer than 2^31 items
+abbrev pub RangedGiven : Given → Type 0
+RangedGiven (given.Word n) = n < 2 ^ 32
+RangedGiven (given.Array item size) = size < 2 ^ 31
+RangedGiven g = Unit {0}
+
+abbrev pub MaybeGiven : Option Given → Type 0
+MaybeGiven None = Unit {0}
+MaybeGiven (Some g) = RangedGiven g
+
+abbrev pub RangedMove : Move → Type 0
+RangedMove (move.Enter c n q gs) = Each RangedGiven gs
+RangedMove (move.Return g) = MaybeGiven g
+RangedMove (move.Put c n k on g) = MaybeGiven on × RangedGiven g
+RangedMove (move.Get c n k on) = MaybeGiven on
+RangedMove (move.Throw g) = RangedGiven g
+RangedMove (move.ArrayPut on n g) = RangedGiven g
+RangedMove x = Unit {0}
+
+pub record KnownFrame (p : NamedProgram) (o : Outer) (f : Frame) : Type 0 where
+  pub registers : Each IsRanged f.registers
+  pub result : IsRanged f.result
+  pub caught : IsRanged f.caught
+  pub live : IsLiveMethod p o unconditional f.method
+
+-- an object of a class of the program is of a made one
+abbrev pub KnownThing : NamedProgram → Outer → Thing → Type 0
+KnownThing p o (Instance c fields) = (defines p c ≡ true → IsMade p o unconditional c) × ((k : FieldKey) (v : Value) → fields k ≡ Some v → IsRanged v)
+KnownThing p o (Items k vs) = (length vs < 2 ^ 31) × Each IsRanged vs
+
+pub record KnownWorld (p : NamedProgram) (o : Outer) (w : World) : Type 0 where
+  pub statics : (k : FieldKey) (v : Value) → w.statics k ≡ Some v → IsRanged v
+  pub things : Each (KnownThing p o) w.heap
+
+abbrev pub known_states : NamedProgram → Outer → Invariant
+known_states p o = record {
+  outside = λ w c. KnownWorld p o w;
+  top = λ w c f. KnownFrame p o f;
+  waits = λ w a f. KnownFrame p o f;
+  result = λ w k v. MaybeRanged v;
+  thrown = λ w v. Unit {0};
+  class = λ t. defines p t ≡ true → IsLiveClass p o unconditional t;
+  move = RangedMove;
+  later = Grows;
+  ended = Unit {0};
+}

@@ -199,24 +199,12 @@ const ROWS: [Row; 22] = [
         position: 0,
         register: 0,
     },
-    // an array of objects is not filled, whatever the width of the items
+    // an array of objects is not filled
     Row {
         method: 1,
-        typed: &[
-            One(1),
-            MakesArray(2, 1, 9),
-            Zero(2),
-            FillsTable(2, 0),
-            ReturnsVoid,
-        ],
-        ill: &[
-            One(1),
-            MakesArray(2, 1, 9),
-            Nop,
-            FillsTable(2, 0),
-            ReturnsVoid,
-        ],
-        position: 3,
+        typed: &[One(1), MakesArray(2, 1, 7), FillsTable(2, 4), ReturnsVoid],
+        ill: &[One(1), MakesArray(2, 1, 9), FillsTable(2, 4), ReturnsVoid],
+        position: 2,
         register: 2,
     },
 ];

@@ -270,7 +270,8 @@ impl Setting<'_> {
                 *from,
             ),
             Insn::InstanceGet { on, field, .. } => unless(
-                self.tables.fits_holder(frame.of(*on), self.field_class(*field)),
+                self.tables
+                    .fits_holder(frame.of(*on), self.field_class(*field)),
                 *on,
             ),
             Insn::StaticPut { from, field, .. } => unless(

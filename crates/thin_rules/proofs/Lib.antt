@@ -4,3 +4,4 @@ pub mod Lands
 pub mod Regions
 pub mod Fits
 pub mod Tidied
+pub mod Lost

@@ -1,2 +1,3 @@
 pub mod Tidy
 pub mod Tidied
+pub mod Examples

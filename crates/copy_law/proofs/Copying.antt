@@ -1,5 +1,5 @@
 -- A program that reads originals in place of copies shows the same.
-use Rattle.std.proofs.Common.{◌≡◌, ℕ, zero, suc, ◌+◌, ◌-◌, ◌<◌, ◌≤◌, Bool, true, false, List, [], length, Some, None, refl, sym, ap, ap₂, ◌∙◌, subst, subst₂, inl, arith}
+use Rattle.std.proofs.Common.{◌≡◌, ℕ, zero, suc, ◌+◌, ◌-◌, ◌<◌, Bool, true, false, List, [], Some, None, refl, sym, ap, ap₂, ◌∙◌, subst, subst₂, inl, arith}
 use Rattle.std.specs.Prelude.{◌||◌, ◌&&◌, ◌++◌, nat_eq, replicate, slice_index_or, Contains}
 use Rattle.std.proofs.lemmas.Bool.{eq-eqb, eqb-true}
 use Rattle.insn_set.specs.Registers.{in_operand}
@@ -31,8 +31,7 @@ use Rattle.form_law.proofs.Forms.{form_law}
 use Rattle.form_law.proofs.Uses.{or_left, or_right, same_reads, writes_at, writes_from, remade_destination}
 use Rattle.place_law.specs.Rewriting.{Claims, frame_size, Holds, Unwritten, Comes, Writes, Keeps, Fits, IsInPlace}
 use Rattle.place_law.specs.Rewriting.{Copies as Moves}
-use Rattle.place_law.specs.Solid.{HasRoom, IsSolid, AllSolid}
-use Rattle.place_law.specs.Replaced.{Replaced}
+use Rattle.place_law.specs.Solid.{IsSolid, AllSolid}
 use Rattle.place_law.proofs.Onward.{clash, contained, in_front, in_back}
 use Rattle.place_law.proofs.Bodies.{replaced, some_replaced, none_replaced}
 use Rattle.place_law.proofs.Programs.{in_place_always}

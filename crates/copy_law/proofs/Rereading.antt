@@ -1,7 +1,6 @@
 -- Forms that read the originals of copies that a Move stands for read originals.
-use Rattle.std.proofs.Common.{◌≡◌, ℕ, zero, suc, ◌+◌, ◌<◌, Bool, true, false, true≢false, List, [], ◌∷◌, length, Option, Some, None, refl, sym, ap, ap₂, ◌∙◌, subst, arith}
+use Rattle.std.proofs.Common.{◌≡◌, ℕ, suc, ◌+◌, ◌<◌, Bool, true, false, List, [], ◌∷◌, Option, Some, None, refl, sym, ap, ap₂, ◌∙◌, subst, arith}
 use Rattle.std.specs.Prelude.{◌&&◌, ◌||◌, not, nat_eq, if◌then◌else◌, All}
-use Rattle.std.specs.List.{list_any}
 use Rattle.std.proofs.lemmas.Bool.{eq-eqb, eqb-true}
 use Rattle.insn_set.specs.Registers.{in_operand}
 use Rattle.insn_set.specs.Widths.{is_wide_slot}
@@ -10,15 +9,13 @@ use Rattle.insn_set.specs.declared.ops.Slot.TheVariants as slot
 use Rattle.dalvik_defs.specs.declared.forms.Form.{Form}
 use Rattle.dalvik_defs.specs.declared.forms.Form.TheVariants as form
 use Rattle.dalvik_defs.specs.declared.program.NamedBody.{NamedBody}
-use Rattle.pass_defs.specs.Bare.{reads}
-use Rattle.pass_defs.specs.Packed.{wides_read}
 use Rattle.pass_defs.specs.Remade.{remade}
 use Rattle.pass_defs.specs.Stale.{reads_as}
-use Rattle.pass_defs.specs.Walks.{form_at, IsReached}
+use Rattle.pass_defs.specs.Walks.{form_at}
 use Rattle.form_law.specs.Changes.{width_if, TakesPair}
 use Rattle.place_law.proofs.Onward.{clash, some_same}
 use Rattle.copy_law.specs.Copied.{Stands, Itself, Original, ReadsOriginals}
-use Rattle.copy_law.specs.Reread.{Copied, substituted, StandsThere, IsReread, AreReread}
+use Rattle.copy_law.specs.Reread.{Copied, substituted, StandsThere, AreReread}
 
 pub first : (b : NamedBody) (n : ℕ) (f : Form) (c : Copied) (cs : List Copied) → All (StandsThere b n f) (c ∷ cs) → StandsThere b n f c
 first b n f c cs h = h 0 c (omega arith)

@@ -11,17 +11,16 @@ use Rattle.dalvik_defs.specs.declared.program.NamedProgram.{NamedProgram}
 use Rattle.pass_defs.specs.Bare.{may_throw, continues, targets}
 use Rattle.pass_defs.specs.Walks.{form_at, region_at, next_position, onward}
 use Rattle.pass_defs.specs.Kinds.{kind_of}
-use Rattle.pass_defs.specs.Registers.{Kinds, kind_at, written, state_below}
+use Rattle.pass_defs.specs.Registers.{Kinds, written, state_below}
 use Rattle.pass_defs.specs.Remade.{remade}
-use Rattle.pass_defs.specs.Demands.{is_constructor_name, demands, is_allowed}
-use Rattle.pass_defs.specs.Typed.{is_static_call, constructed, Table, state_at, at_state, each, arrives, after, moved, got, receiver_register, is_wrong, passed_words, wrong_method, wrong_super, catches_in, edges, begun, IsTyping, IsTyped}
+use Rattle.pass_defs.specs.Demands.{is_constructor_name, is_allowed}
+use Rattle.pass_defs.specs.Typed.{is_static_call, constructed, Table, state_at, at_state, each, arrives, after, moved, got, is_wrong, passed_words, wrong_method, wrong_super, catches_in, edges, begun, IsTyping, IsTyped}
 use Rattle.silence_law.specs.Bodies.{Change, changed}
 use Rattle.silence_law.proofs.Moved.{moved_typed}
-use Rattle.form_law.specs.Kinds.{AtFirst, AllSame}
 use Rattle.form_law.proofs.Demanded.{allowed_named, and_left, and_behind}
 use Rattle.place_law.proofs.Onward.{clash}
 use Rattle.copy_law.specs.Copied.{ReadsOriginals}
-use Rattle.copy_law.specs.TypedCopies.{Leaves, SameAt, ReadsAlike, AllReadAlike}
+use Rattle.copy_law.specs.TypedCopies.{Leaves, SameAt, AllReadAlike}
 
 module _ (r : ℕ → ℕ) where
   abbrev pub reading : Form → Form

@@ -1,6 +1,6 @@
 -- A program that reads originals of the kinds of their copies is typed.
-use Rattle.std.proofs.Common.{◌≡◌, ℕ, zero, suc, ◌+◌, ◌<◌, Bool, true, false, List, [], ◌∷◌, length, Some, None, refl, sym, ap, ap₂, ◌∙◌, subst, arith, eqb-true, eq-eqb}
-use Rattle.std.specs.Prelude.{◌&&◌, ◌||◌, not, nat_eq, map, if◌then◌else◌, All}
+use Rattle.std.proofs.Common.{◌≡◌, ℕ, suc, ◌+◌, Bool, true, false, List, [], ◌∷◌, Some, refl, sym, ap, ap₂, ◌∙◌, subst, arith, eqb-true, eq-eqb}
+use Rattle.std.specs.Prelude.{◌&&◌, ◌||◌, not, nat_eq, if◌then◌else◌, All}
 use Rattle.std.specs.List.{list_any, list_all}
 use Rattle.insn_set.specs.Registers.{in_operand}
 use Rattle.insn_set.specs.Widths.{is_wide_slot}
@@ -18,14 +18,14 @@ use Rattle.pass_defs.specs.Walks.{form_at}
 use Rattle.pass_defs.specs.Kinds.{Kind, Low, High, kind_eq}
 use Rattle.pass_defs.specs.Registers.{Kinds, kind_at}
 use Rattle.pass_defs.specs.Demands.{Pair, meets, demands, place_allowed, is_allowed}
-use Rattle.pass_defs.specs.Typed.{state_at, receiver_register, is_wrong, IsTyped}
+use Rattle.pass_defs.specs.Typed.{state_at, IsTyped}
 use Rattle.silence_law.specs.Bodies.{Change, changed}
 use Rattle.form_law.specs.Changes.{In}
-use Rattle.form_law.specs.Kinds.{HasNarrowClass, is_whole, Held}
-use Rattle.form_law.proofs.Uses.{or_left, or_right, own}
+use Rattle.form_law.specs.Kinds.{Held}
+use Rattle.form_law.proofs.Uses.{or_left, or_right}
 use Rattle.form_law.proofs.Demanded.{and_left, and_behind}
 use Rattle.form_law.proofs.Asked.{all_in}
-use Rattle.form_law.proofs.Asking.{low_is, high_is, all_met, all_same, first_same}
+use Rattle.form_law.proofs.Asking.{low_is, high_is, all_same, first_same}
 use Rattle.form_law.proofs.Typings.{allowed_at, right_at}
 use Rattle.place_law.proofs.Onward.{clash}
 use Rattle.copy_law.specs.Reread.{Copied, substituted, StandsThere}

@@ -1,6 +1,6 @@
 -- Every operand that a form asks for is read by it, of a wide both halves, where the form is right and allowed.
-use Rattle.std.proofs.Common.{◌≡◌, ℕ, zero, suc, ◌+◌, Bool, true, false, true≢false, List, [], ◌∷◌, ◌++◌, length, refl, sym, ap, ◌∙◌, subst, arith, eqb-true, eq-eqb}
-use Rattle.std.specs.Prelude.{◌&&◌, ◌||◌, not, nat_eq, map, drop, Some, None, if◌then◌else◌}
+use Rattle.std.proofs.Common.{◌≡◌, ℕ, ◌+◌, Bool, true, false, true≢false, List, [], ◌∷◌, ◌++◌, length, refl, sym, ap, ◌∙◌, subst, arith, eqb-true}
+use Rattle.std.specs.Prelude.{◌||◌, not, nat_eq, map, drop, if◌then◌else◌}
 use Rattle.std.specs.List.{list_any, list_all}
 use Rattle.insn_set.specs.Registers.{in_operand}
 use Rattle.insn_set.specs.Widths.{is_wide_slot, is_wide_item, compares_wide, unary_reads_wide, unary_writes_wide, binary_is_wide, second_is_wide}
@@ -11,7 +11,7 @@ use Rattle.insn_set.specs.declared.ops.Item.TheVariants as item
 use Rattle.insn_set.specs.declared.ops.InvokeKind.{InvokeKind}
 use Rattle.insn_set.specs.declared.ops.InvokeKind.TheVariants as call
 use Rattle.dalvik_defs.specs.Names.{Text, is_word, is_wide, is_reference, item_of}
-use Rattle.dalvik_defs.specs.Find.{Search, Finds, finds_super}
+use Rattle.dalvik_defs.specs.Find.{finds_super}
 use Rattle.dalvik_defs.specs.declared.names.MethodKey.{MethodKey}
 use Rattle.dalvik_defs.specs.declared.forms.Form.{Form}
 use Rattle.dalvik_defs.specs.declared.forms.Form.TheVariants as form
@@ -21,7 +21,7 @@ use Rattle.dalvik_defs.specs.declared.program.NamedProgram.{NamedProgram}
 use Rattle.pass_defs.specs.Bare.{reads}
 use Rattle.pass_defs.specs.Packed.{first_if, wide_arguments, wides_written, wides_read}
 use Rattle.pass_defs.specs.Registers.{Kinds}
-use Rattle.pass_defs.specs.Demands.{Demand, Number, Pair, Behind, Fits, Constructed, wide_or, slot_demand, put_item, tested, like, second_tested, is_equality, is_constructor_name, found_class, receiver_demands, passed_wide, passed, call_demands, meets, demands, place_allowed, is_allowed}
+use Rattle.pass_defs.specs.Demands.{Demand, Number, Pair, Behind, Fits, Constructed, wide_or, slot_demand, put_item, tested, second_tested, is_equality, is_constructor_name, found_class, receiver_demands, passed_wide, passed, meets, demands, place_allowed, is_allowed}
 use Rattle.pass_defs.specs.Kinds.{Kind, Zero, Word}
 use Rattle.pass_defs.specs.Registers.{kind_at}
 use Rattle.pass_defs.specs.Typed.{is_static_call, words_of, passed_words, wrong_item, wrong_return, ends_early, wrong_field, wrong_method, wrong_super, is_wrong}

@@ -1,6 +1,6 @@
 -- What a form asks of registers it asks of those that they stand for.
-use Rattle.std.proofs.Common.{◌≡◌, ℕ, ◌+◌, Bool, true, false, List, [], ◌∷◌, refl, sym, ap, ◌∙◌, subst, arith, eqb-true}
-use Rattle.std.specs.Prelude.{◌&&◌, ◌||◌, nat_eq, if◌then◌else◌}
+use Rattle.std.proofs.Common.{◌≡◌, ℕ, ◌+◌, Bool, true, false, List, [], ◌∷◌, refl, sym, ap, ◌∙◌, subst, eqb-true}
+use Rattle.std.specs.Prelude.{nat_eq, if◌then◌else◌}
 use Rattle.std.specs.List.{list_any, list_all}
 use Rattle.dalvik_defs.specs.Names.{Text, is_word, is_array}
 use Rattle.dalvik_defs.specs.Items.{item_of_type}
@@ -16,7 +16,7 @@ use Rattle.pass_defs.specs.Typed.{is_wrong}
 use Rattle.pass_defs.specs.Remade.{remade}
 use Rattle.pass_defs.specs.Kinds.{Kind, Undefined, Zero, Word, Low, High, Class, FreshThis, kind_eq, is_number, is_initialised, is_plain, is_below, fits, fits_holder}
 use Rattle.pass_defs.specs.Registers.{Kinds, kind_at}
-use Rattle.pass_defs.specs.Demands.{Demand, Moved, Number, Pair, Behind, Initialised, Either, Fits, Receiver, Holder, Constructed, AnArray, ArrayOf, Filled, item_eq, has_width, is_constructed, is_equality, holds_field, is_moved, is_array_where, meets, tested, second_tested, demands, place_allowed, is_allowed}
+use Rattle.pass_defs.specs.Demands.{Demand, Moved, Number, Pair, Behind, Initialised, Either, Fits, Receiver, Holder, Constructed, AnArray, ArrayOf, Filled, item_eq, has_width, is_constructed, is_equality, holds_field, is_moved, is_array_where, meets, tested, demands, place_allowed, is_allowed}
 use Rattle.form_law.specs.Changes.{In, here, there}
 use Rattle.form_law.specs.Kinds.{AtFirst, SameKinds, AllSame, IsAsked, HasNarrowClass, is_whole, Held}
 use Rattle.form_law.proofs.Uses.{own, or_left}

@@ -1,6 +1,6 @@
 -- What a form with other registers asks of them: the same of the same kinds.
 use Rattle.std.proofs.Common.{◌≡◌, ℕ, ◌+◌, Bool, true, false, true≢false, List, [], ◌∷◌, ◌++◌, refl, sym, ap, ap₂, ◌∙◌}
-use Rattle.std.specs.Prelude.{◌&&◌, ◌||◌, map, drop, nat_eq, if◌then◌else◌}
+use Rattle.std.specs.Prelude.{◌&&◌, ◌||◌, map, drop, if◌then◌else◌}
 use Rattle.std.specs.List.{list_all}
 use Rattle.std.proofs.lemmas.Bool.{eq-eqb, eqb-true}
 use Rattle.insn_set.specs.declared.ops.Slot.{Slot}

@@ -1,8 +1,7 @@
 -- At each position that a walk comes to a typing has a state, and live registers of one name are one there.
-use Rattle.std.proofs.Common.{◌≡◌, ℕ, zero, suc, ◌+◌, ◌-◌, ◌<◌, Bool, true, false, List, [], ◌∷◌, ◌++◌, length, Option, Some, None, refl, sym, ap, ap₂, ◌∙◌, subst, subst₂, inl, inr, arith}
-use Rattle.std.specs.Prelude.{◌⊎◌, ◌&&◌, not, map, if◌then◌else◌, replicate, Contains}
+use Rattle.std.proofs.Common.{◌≡◌, ℕ, ◌+◌, ◌-◌, Bool, true, false, List, [], ◌∷◌, length, Option, Some, None, refl, sym, ◌∙◌, inl, inr}
+use Rattle.std.specs.Prelude.{◌&&◌, map, if◌then◌else◌}
 use Rattle.std.specs.List.{list_all}
-use Rattle.std.proofs.lemmas.List.{length-append, length-replicate}
 use Rattle.dalvik_defs.specs.declared.forms.Form.{Form}
 use Rattle.dalvik_defs.specs.declared.program.NamedBody.{NamedBody}
 use Rattle.dalvik_defs.specs.declared.program.NamedClass.{NamedClass}
@@ -11,20 +10,18 @@ use Rattle.dalvik_defs.specs.declared.program.NamedRegion.{NamedRegion}
 use Rattle.dalvik_defs.specs.declared.program.NamedHandler.{NamedHandler}
 use Rattle.dalvik_defs.specs.declared.program.NamedProgram.{NamedProgram}
 use Rattle.pass_defs.specs.Bare.{reads, writes, may_throw}
-use Rattle.pass_defs.specs.Walks.{form_at, region_at, listed, handlers_of, handlers_at, onward, caught, successors, Walk, IsReached, IsReadAt, IsRead}
-use Rattle.pass_defs.specs.Kinds.{Kind, Undefined, Reference, is_below, kind_of}
+use Rattle.pass_defs.specs.Walks.{form_at, region_at, listed, handlers_of, handlers_at, onward, caught, IsReadAt}
+use Rattle.pass_defs.specs.Kinds.{Kind, Reference, is_below, kind_of}
 use Rattle.pass_defs.specs.Registers.{Kinds, kind_at, all_below, kinds_below, state_below}
-use Rattle.pass_defs.specs.Demands.{is_allowed}
-use Rattle.pass_defs.specs.Typed.{argument_kinds, begun, after, is_wrong, catch_all, catches_in, catches, edges, Table, state_at, each, at_state, arrives, IsTyping}
-use Rattle.pass_defs.specs.Packed.{Conflict, First, Both, locals}
-use Rattle.pass_defs.proofs.Writes.{left_true, right_true, both_true}
+use Rattle.pass_defs.specs.Typed.{after, catch_all, catches_in, catches, edges, Table, state_at, at_state, arrives, IsTyping}
+use Rattle.pass_defs.specs.Packed.{First, Both}
+use Rattle.pass_defs.proofs.Writes.{both_true}
 use Rattle.form_law.specs.Changes.{In, here, there}
-use Rattle.place_law.proofs.Onward.{clash, contained, in_front, in_back, some_same}
-use Rattle.pack_law.specs.Renamed.{IsRenamed}
+use Rattle.place_law.proofs.Onward.{clash, contained, in_front, in_back}
 use Rattle.pack_law.specs.TypedRegisters.{IsTypedRenamed}
 use Rattle.pack_law.proofs.Held.{is_known}
 use Rattle.pack_law.proofs.Selecting.{Unique, each_below, as_long}
-use Rattle.pack_law.proofs.Sequences.{in_contains, split_in, in_map, all_in}
+use Rattle.pack_law.proofs.Sequences.{split_in, in_map, all_in}
 use Rattle.form_law.proofs.Typings.{each_at, get_below, tested, allowed_at, right_at}
 use Rattle.pack_law.proofs.Held.{known_above}
 use Rattle.pack_law.proofs.Knowing.{after_known}

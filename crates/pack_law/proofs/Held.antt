@@ -1,10 +1,10 @@
 -- What registers hold of kinds under other names, and how writes keep it.
-use Rattle.std.proofs.Common.{◌≡◌, ℕ, zero, suc, ◌+◌, ◌-◌, ◌<◌, Bool, true, false, true≢false, List, [], ◌∷◌, length, refl, sym, ap, ◌∙◌, subst, inl, inr, arith, eqb-true, eq-eqb}
+use Rattle.std.proofs.Common.{◌≡◌, ℕ, zero, suc, ◌+◌, ◌-◌, ◌<◌, Bool, true, false, List, [], ◌∷◌, length, refl, sym, ap, ◌∙◌, subst, inl, inr, arith, eqb-true, eq-eqb}
 use Rattle.std.specs.Prelude.{◌⊎◌, nat_eq, map, slice_set, if◌then◌else◌}
 use Rattle.std.proofs.lemmas.List.{get_or-set_same, get_or-set_other, length-set}
 use Rattle.dalvik_defs.specs.declared.program.NamedProgram.{NamedProgram}
 use Rattle.pass_defs.specs.Kinds.{Kind, Undefined, Low, High, kind_eq, is_below}
-use Rattle.pass_defs.specs.Registers.{kind_at, cleared, split, written_one, written_pair, written_kinds}
+use Rattle.pass_defs.specs.Registers.{kind_at, cleared, split, written_one, written_pair}
 use Rattle.pass_defs.proofs.Writes.{same_kind}
 use Rattle.place_law.proofs.Onward.{clash}
 use Rattle.form_law.specs.Kinds.{is_whole, Held}

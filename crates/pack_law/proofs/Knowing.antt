@@ -1,9 +1,8 @@
 -- What is known behind a form of a register that it doesn't write was known before.
-use Rattle.std.proofs.Common.{◌≡◌, ℕ, zero, suc, ◌+◌, ◌-◌, ◌<◌, Bool, true, false, List, [], ◌∷◌, refl, sym, ap, ◌∙◌, subst, inl, inr, arith, eqb-true}
-use Rattle.std.specs.Prelude.{◌⊎◌, ◌&&◌, ◌||◌, not, nat_eq, map, slice_set, if◌then◌else◌}
+use Rattle.std.proofs.Common.{◌≡◌, ℕ, ◌+◌, Bool, true, false, List, refl, sym, ap, ◌∙◌, subst, inl, inr, arith}
+use Rattle.std.specs.Prelude.{◌⊎◌, ◌&&◌, ◌||◌, not, map, slice_set, if◌then◌else◌}
 use Rattle.std.specs.List.{list_all}
-use Rattle.insn_set.specs.Registers.{in_operand}
-use Rattle.insn_set.specs.Widths.{is_wide_slot, is_wide_item, unary_writes_wide, binary_is_wide}
+use Rattle.insn_set.specs.Widths.{is_wide_item, unary_writes_wide, binary_is_wide}
 use Rattle.insn_set.specs.declared.ops.Slot.TheVariants as slot
 use Rattle.insn_set.specs.declared.ops.InvokeKind.{InvokeKind}
 use Rattle.dalvik_defs.specs.Names.{Text}
@@ -16,10 +15,10 @@ use Rattle.dalvik_defs.specs.declared.program.NamedMethod.{NamedMethod}
 use Rattle.dalvik_defs.specs.declared.program.NamedProgram.{NamedProgram}
 use Rattle.pass_defs.specs.Bare.{writes}
 use Rattle.pass_defs.specs.Kinds.{Kind, Undefined, Low, High, Word, Reference, Array, Fresh, FreshThis, kind_eq, is_number, is_initialised, kind_of, kind_of_reference}
-use Rattle.pass_defs.specs.Registers.{Kinds, kind_at, split, written_one, written_pair, written_kinds, written, replaced, replace, forgotten, forget}
+use Rattle.pass_defs.specs.Registers.{Kinds, kind_at, split, written_one, written_pair, written_kinds, written, replaced, forgotten}
 use Rattle.pass_defs.specs.Demands.{is_constructor_name, is_moved, item_eq, is_array_where, meets, demands, place_allowed, is_allowed}
 use Rattle.pass_defs.proofs.Writes.{right_true}
-use Rattle.pass_defs.specs.Typed.{moved, got, number_kind, constant_kind, constructed, receiver_register, is_static_call, called, after, wrong_item, wrong_field, wrong_first, is_wrong}
+use Rattle.pass_defs.specs.Typed.{got, number_kind, constant_kind, constructed, receiver_register, is_static_call, called, after, wrong_item, wrong_field, wrong_first, is_wrong}
 use Rattle.form_law.specs.Changes.{destination, width}
 use Rattle.form_law.proofs.Uses.{writes_at}
 use Rattle.place_law.proofs.Onward.{clash}

@@ -1,5 +1,5 @@
 -- A program with other registers shows the same.
-use Rattle.std.proofs.Common.{◌≡◌, ℕ, zero, suc, ◌+◌, ◌-◌, ◌<◌, ◌≤◌, Bool, true, false, List, [], ◌∷◌, ◌++◌, length, Option, Some, None, refl, sym, ap, ◌∙◌, subst, subst₂, inl, inr, arith}
+use Rattle.std.proofs.Common.{◌≡◌, ℕ, zero, suc, ◌+◌, ◌<◌, Bool, true, false, List, [], ◌∷◌, ◌++◌, Option, Some, None, refl, sym, ap, ◌∙◌, subst, subst₂, inl, inr, arith}
 use Rattle.std.specs.Prelude.{◌⊎◌, map, slice_get, slice_index_or, replicate}
 use Rattle.std.specs.Option.{option_map}
 use Rattle.dalvik_defs.specs.Face.{Bodies, bodies_of}
@@ -28,7 +28,6 @@ use Rattle.form_law.proofs.Asked.{any_front, any_back, pair_taken, pair_written}
 use Rattle.form_law.proofs.Uses.{or_left, or_right, same_reads, narrow, writes_at, writes_from, remade_destination}
 use Rattle.place_law.specs.Rewriting.{Claims, frame_size, Comes, Writes, Keeps, Fits, IsInPlace}
 use Rattle.place_law.specs.Solid.{IsSolid, AllSolid}
-use Rattle.place_law.specs.Replaced.{Replaced}
 use Rattle.place_law.proofs.Onward.{clash, contained}
 use Rattle.place_law.proofs.Bodies.{replaced, some_replaced, none_replaced}
 use Rattle.place_law.proofs.Programs.{in_place_always}

@@ -3,8 +3,8 @@ use Rattle.std.proofs.Common.{◌≡◌, ℕ, zero, suc, ◌+◌, ◌-◌, ◌<�
 use Rattle.std.specs.Prelude.{◌⊎◌, ◌&&◌, ◌||◌, nat_eq, if◌then◌else◌}
 use Rattle.dalvik_defs.specs.declared.program.NamedProgram.{NamedProgram}
 use Rattle.pass_defs.specs.Kinds.{Kind, Undefined, Low, High, kind_eq, is_below}
-use Rattle.pass_defs.specs.Registers.{Kinds, kind_at, all_below}
-use Rattle.pass_defs.proofs.Writes.{left_true, right_true, both_true, same_kind, itself_below}
+use Rattle.pass_defs.specs.Registers.{kind_at, all_below}
+use Rattle.pass_defs.proofs.Writes.{left_true, right_true, both_true}
 use Rattle.form_law.proofs.Uses.{or_left, or_right}
 use Rattle.form_law.proofs.Asking.{low_is, high_is}
 use Rattle.place_law.proofs.Onward.{clash}

@@ -1,12 +1,11 @@
 -- Lists, what stands in them, and tests of all that does.
-use Rattle.std.proofs.Common.{◌≡◌, ℕ, zero, suc, ◌+◌, ◌<◌, Bool, true, false, List, [], ◌∷◌, ◌++◌, length, Option, Some, None, refl, sym, ap, ◌∙◌, subst, inl, inr, arith, eqb-true}
-use Rattle.std.specs.Prelude.{◌⊎◌, ◌&&◌, nat_eq, map, slice_get, Contains}
+use Rattle.std.proofs.Common.{◌≡◌, ℕ, zero, suc, Bool, true, List, [], ◌∷◌, ◌++◌, refl, sym, subst, inl, inr, arith}
+use Rattle.std.specs.Prelude.{◌⊎◌, map, slice_get, Contains}
 use Rattle.std.specs.List.{list_all}
 use Rattle.std.specs.Option.{option_map}
 use Rattle.pass_defs.specs.Typed.{each}
 use Rattle.pass_defs.proofs.Writes.{left_true, right_true, both_true}
 use Rattle.form_law.specs.Changes.{In, here, there}
-use Rattle.place_law.proofs.Onward.{clash}
 
 pub in_contains : {A : Type 0} (x : A) (xs : List A) → Contains xs x → In x xs
 in_contains x [] (k, lt, e) = absurd (omega (arith, lt))

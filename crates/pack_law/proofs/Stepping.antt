@@ -3,11 +3,11 @@ use Rattle.std.proofs.Common.{◌≡◌, ℕ, zero, suc, ◌+◌, ◌<◌, Bool,
 use Rattle.std.specs.Prelude.{◌⊎◌, ◌&&◌, ◌||◌, not, nat_eq, map, if◌then◌else◌}
 use Rattle.std.specs.List.{list_any, list_all}
 use Rattle.std.specs.Cmp.Lexicographic.{bytes_decides}
-use Rattle.insn_set.specs.Widths.{is_wide_slot, is_wide_item, unary_writes_wide, binary_is_wide}
+use Rattle.insn_set.specs.Widths.{is_wide_item, unary_writes_wide, binary_is_wide}
 use Rattle.insn_set.specs.declared.ops.Slot.TheVariants as slot
 use Rattle.insn_set.specs.declared.ops.InvokeKind.{InvokeKind}
 use Rattle.insn_set.specs.declared.ops.InvokeKind.TheVariants as call
-use Rattle.dalvik_defs.specs.Names.{Text, text_eq, is_wide}
+use Rattle.dalvik_defs.specs.Names.{Text, is_wide}
 use Rattle.dalvik_defs.specs.Items.{item_of_type}
 use Rattle.dalvik_defs.specs.declared.names.MethodKey.{MethodKey}
 use Rattle.dalvik_defs.specs.declared.forms.Form.{Form}
@@ -18,15 +18,15 @@ use Rattle.dalvik_defs.specs.declared.program.NamedProgram.{NamedProgram}
 use Rattle.pass_defs.specs.Bare.{reads, writes}
 use Rattle.pass_defs.specs.Remade.{remade}
 use Rattle.pass_defs.specs.Kinds.{Kind, Undefined, Low, High, Word, Reference, Array, Fresh, FreshThis, kind_eq, is_number, is_initialised, kind_of, kind_of_reference}
-use Rattle.pass_defs.specs.Registers.{Kinds, kind_at, cleared, written_one, written_pair, written_kinds, written, replaced, replace, forgotten, forget}
-use Rattle.pass_defs.specs.Demands.{Constructed, Fits, is_moved, item_eq, is_array_where, is_constructed, is_constructor_name, meets, demands, call_demands, receiver_demands, passed, place_allowed, is_allowed}
-use Rattle.pass_defs.specs.Typed.{moved, got, number_kind, constant_kind, constructed, receiver_register, is_static_call, called, after, passed_words, words_of, wrong_item, wrong_field, wrong_first, wrong_method, wrong_super, is_wrong}
-use Rattle.pass_defs.proofs.Writes.{left_true, right_true}
+use Rattle.pass_defs.specs.Registers.{Kinds, kind_at, written_one, written_kinds, written, replaced, replace, forgotten}
+use Rattle.pass_defs.specs.Demands.{Constructed, Fits, is_moved, item_eq, is_array_where, is_constructed, is_constructor_name, meets, demands, call_demands, passed, place_allowed, is_allowed}
+use Rattle.pass_defs.specs.Typed.{got, number_kind, constant_kind, constructed, receiver_register, is_static_call, called, after, passed_words, words_of, wrong_item, wrong_field, wrong_first, wrong_method, wrong_super, is_wrong}
+use Rattle.pass_defs.proofs.Writes.{right_true}
 use Rattle.form_law.specs.Changes.{destination, width}
-use Rattle.form_law.proofs.Uses.{own, or_left, in_own, writes_from}
+use Rattle.form_law.proofs.Uses.{own, or_left, writes_from}
 use Rattle.place_law.proofs.Onward.{clash}
 use Rattle.form_law.specs.Kinds.{is_whole, Held}
-use Rattle.pack_law.proofs.Held.{is_known, whole_known, same_or, fewer, held_one, held_two, Changes, held_map, one_long, pair_long}
+use Rattle.pack_law.proofs.Held.{is_known, whole_known, fewer, held_one, held_two, Changes, held_map, one_long, pair_long}
 use Rattle.pack_law.proofs.Selecting.{Unique}
 use Rattle.form_law.proofs.Asking.{low_is}
 use Rattle.form_law.proofs.Asking.{moved_whole, number_whole, initialised_whole, array_whole}

@@ -1,5 +1,5 @@
 -- A body that has other registers has a typing where the body has one, and so a program that has them is typed.
-use Rattle.std.proofs.Common.{◌≡◌, ℕ, zero, suc, ◌+◌, ◌-◌, ◌<◌, Bool, true, false, List, [], ◌∷◌, ◌++◌, length, Option, Some, None, refl, sym, ap, ap₂, ◌∙◌, subst, subst₂, inl, inr, arith}
+use Rattle.std.proofs.Common.{◌≡◌, ℕ, zero, suc, ◌+◌, ◌-◌, ◌<◌, Bool, true, false, List, [], ◌∷◌, ◌++◌, length, Option, Some, None, refl, sym, ap, ap₂, ◌∙◌, subst, inl, inr, arith}
 use Rattle.std.specs.Prelude.{◌⊎◌, ◌&&◌, ◌||◌, not, nat_eq, map, if◌then◌else◌, replicate, slice_get, is_some, Contains}
 use Rattle.std.specs.List.{list_all}
 use Rattle.std.specs.Option.{option_map}
@@ -12,22 +12,21 @@ use Rattle.dalvik_defs.specs.declared.program.NamedMethod.{NamedMethod}
 use Rattle.dalvik_defs.specs.declared.program.NamedProgram.{NamedProgram}
 use Rattle.pass_defs.specs.Bare.{reads, writes, may_throw, continues, targets}
 use Rattle.pass_defs.specs.Remade.{remade}
-use Rattle.pass_defs.specs.Walks.{form_at, region_at, next_position, handlers_at, onward, caught, successors, Walk, IsReached}
-use Rattle.pass_defs.specs.Kinds.{Kind, Undefined, Low, High, is_below}
+use Rattle.pass_defs.specs.Walks.{form_at, region_at, next_position, onward, caught, successors, Walk, IsReached}
+use Rattle.pass_defs.specs.Kinds.{Kind, Undefined, is_below}
 use Rattle.pass_defs.specs.Registers.{Kinds, kind_at, all_below, kinds_below, state_below}
 use Rattle.pass_defs.specs.Demands.{is_allowed}
-use Rattle.pass_defs.specs.Typed.{argument_kinds, begun, after, wrong_method, wrong_super, passed_words, is_wrong, catches_in, catches, edges, Table, state_at, each, at_state, arrives, IsTyping, IsTyped}
+use Rattle.pass_defs.specs.Typed.{argument_kinds, begun, after, wrong_method, wrong_super, passed_words, is_wrong, catches_in, catches, edges, Table, state_at, at_state, arrives, IsTyping, IsTyped}
 use Rattle.pass_defs.specs.Packed.{wides_written, wides_read, locals}
-use Rattle.pass_defs.proofs.Writes.{left_true, right_true, both_true}
 use Rattle.silence_law.specs.Bodies.{Change, changed}
 use Rattle.silence_law.proofs.Moved.{moved_typed}
-use Rattle.form_law.specs.Changes.{In, here, there, destination, width}
+use Rattle.form_law.specs.Changes.{In, destination}
 use Rattle.form_law.proofs.Uses.{or_left, or_right, writes_at}
 use Rattle.place_law.proofs.Onward.{clash, contained, in_front, in_back, some_same, walk_on}
-use Rattle.form_law.specs.Kinds.{is_whole, Held}
+use Rattle.form_law.specs.Kinds.{Held}
 use Rattle.pack_law.specs.TypedRegisters.{selected, listed, renamed_kinds, renamed_from, IsTypedRenamed, AllTypedRenamed}
 use Rattle.pack_law.proofs.Held.{is_known, whole_known, fewer}
-use Rattle.pack_law.proofs.Selecting.{Unique, known_below, each_below, as_long, listed_long, held_selected, below_selected}
+use Rattle.pack_law.proofs.Selecting.{known_below, each_below, as_long, listed_long, held_selected, below_selected}
 use Rattle.pack_law.proofs.Sequences.{in_contains, split_in, all_map, all_both, all_each, get_map}
 use Rattle.pack_law.proofs.Held.{known_above}
 use Rattle.form_law.proofs.Asking.{allowed_held}

@@ -1,16 +1,15 @@
 -- How wide the kinds are that forms write.
-use Rattle.std.proofs.Common.{◌≡◌, ℕ, zero, suc, ◌+◌, Bool, true, false, List, [], ◌∷◌, refl, sym, ap, ◌∙◌, subst, inl, inr, eqb-true}
+use Rattle.std.proofs.Common.{◌≡◌, ℕ, Bool, true, false, [], ◌∷◌, refl, sym, subst, inl, inr, eqb-true}
 use Rattle.std.specs.Prelude.{◌⊎◌, ℤ, pos, ◌||◌, not, nat_eq, if◌then◌else◌}
 use Rattle.std.specs.Ordering.{int_eq}
 use Rattle.insn_set.specs.declared.ops.Item.{Item}
 use Rattle.insn_set.specs.declared.ops.Item.TheVariants as item
-use Rattle.insn_set.specs.declared.ops.Slot.TheVariants as slot
 use Rattle.insn_set.specs.Widths.{is_wide_item}
 use Rattle.dalvik_defs.specs.Names.{Text, is_word, is_wide, is_reference, is_array, item_of}
 use Rattle.dalvik_defs.specs.Items.{small_item, item_of_type}
 use Rattle.dalvik_defs.specs.declared.program.NamedProgram.{NamedProgram}
-use Rattle.pass_defs.specs.Kinds.{Kind, Undefined, Zero, Word, Low, High, Null, Class, Array, Reference, Fresh, FreshThis, kind_eq, is_number, is_initialised, is_plain, kind_of_reference, kind_of}
-use Rattle.pass_defs.specs.Demands.{is_moved, item_eq, is_array_where}
+use Rattle.pass_defs.specs.Kinds.{Kind, Undefined, Zero, Word, Low, High, Class, Array, Reference, kind_eq, is_plain, kind_of_reference, kind_of}
+use Rattle.pass_defs.specs.Demands.{item_eq, is_array_where}
 use Rattle.pass_defs.specs.Typed.{number_kind, constant_kind, got, wrong_item}
 use Rattle.form_law.specs.Changes.{width_if}
 use Rattle.place_law.proofs.Onward.{clash}

@@ -1,10 +1,10 @@
 -- The bodies of a program with other bodies: each replaced in place of one of the program.
-use Rattle.std.proofs.Common.{◌≡◌, ℕ, suc, Bool, true, false, List, [], ◌∷◌, Option, Some, None, refl, sym, ap, ◌∙◌, subst, arith}
+use Rattle.std.proofs.Common.{◌≡◌, suc, Bool, true, false, List, [], ◌∷◌, Option, Some, None, refl, sym, ap, ◌∙◌, arith}
 use Rattle.std.specs.Prelude.{cond, find, is_some, Contains}
 use Rattle.std.specs.Option.{option_map, option_and_then}
-use Rattle.dalvik_defs.specs.Names.{Text, text_eq, same_name}
+use Rattle.dalvik_defs.specs.Names.{text_eq, same_name}
 use Rattle.dalvik_defs.specs.Under.{class_named}
-use Rattle.dalvik_defs.specs.Find.{method_in, defined_method}
+use Rattle.dalvik_defs.specs.Find.{method_in}
 use Rattle.dalvik_defs.specs.Face.{bodies_of}
 use Rattle.dalvik_defs.specs.declared.names.MethodKey.{MethodKey}
 use Rattle.dalvik_defs.specs.declared.program.NamedBody.{NamedBody}

@@ -25,7 +25,7 @@ use Rattle.dalvik_defs.specs.Fields.{key_at, static_value, instance_value, with_
 use Rattle.dalvik_defs.specs.Show.{show}
 use Rattle.dalvik_defs.specs.Effect.{Effect, Goes, Faults, Throws, Gives, Calls, Makes, Reads, Writes, Locks, Unlocks, Stuck, register, write, write_item, next, go}
 use Rattle.dalvik_defs.specs.Outcome.{Outcome, Stays, Enters, Ends, Raises, Halts, Need, Ready, Fresh, Broken, need_of, faults, when_ready, calls_out, native_kind, takes_no_receiver, is_direct, calls_uncoded, calls_found, calls_ready, calls_unfound, calls_by, receiver, on_receiver, calls, makes, reads_value, reads_static, reads_instance, reads, written as put_back, writes_static, writes_instance, writes, locks, unlocks, outcome}
-use Rattle.dalvik_defs.specs.Stack.{form_at as form_of, entry_registers, entry_frame, receives, back, handler_at, lands}
+use Rattle.dalvik_defs.specs.Stack.{form_at as form_of, entry_registers, receives, back, handler_at, lands}
 use Rattle.dalvik_defs.specs.Act.{act}
 use Rattle.dalvik_defs.specs.Happens.{Setting, effect_of}
 use Rattle.dalvik_defs.specs.declared.names.MethodKey.{MethodKey}
@@ -37,7 +37,7 @@ use Rattle.dalvik_defs.specs.declared.tables.Floats.{Floats}
 use Rattle.dalvik_defs.specs.declared.events.Event.{Event}
 use Rattle.dalvik_defs.specs.declared.events.Event.TheVariants as event
 use Rattle.dalvik_defs.specs.declared.program.NamedBody.{NamedBody}
-use Rattle.dalvik_defs.proofs.Frames.{Above, Calls as Called, Asks, Begins, Comes, Glides, now, Landed, Leads, Meet, Entered, FramesFollow, AtOnce}
+use Rattle.dalvik_defs.proofs.Frames.{Above, Calls as Called, Asks, Begins, Comes, Glides, now, Landed, Leads, Meet, Entered, FramesFollow}
 use Rattle.pass_defs.specs.Bare.{may_throw, continues, targets}
 use Rattle.pass_defs.specs.Walks.{form_at, handlers_at, next_position, onward, caught, successors, Walk, IsReached}
 use Rattle.form_law.specs.Changes.{In, destination, Change, Sets, Jumps, Results, written, changed, aimed, width_if, width, Possible, Waits, TakesResult, TakesItem, Alike}

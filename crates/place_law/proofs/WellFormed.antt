@@ -1,6 +1,6 @@
 -- The bodies of a well-formed program keep to their registers and to fields of values.
 use Rattle.std.proofs.Common.{◌≡◌, ℕ, zero, suc, ◌+◌, ◌-◌, ◌<◌, Bool, true, false, true≢false, List, [], ◌∷◌, length, Option, Some, None, refl, sym, ap, ◌∙◌, subst, ltb-true, arith}
-use Rattle.std.specs.Prelude.{◌&&◌, ◌||◌, not, nat_eq, nat_le, map, Contains, slice_get, slice_index_or}
+use Rattle.std.specs.Prelude.{◌&&◌, not, nat_le, map, Contains, slice_get, slice_index_or}
 use Rattle.std.specs.List.{list_all, enumerate_from}
 use Rattle.std.specs.Option.{option_map}
 use Rattle.insn_set.specs.Registers.{reads_of, writes_of}
@@ -20,7 +20,6 @@ use Rattle.program_model.specs.MemberRules.{fields_fit, class_of_method, is_clas
 use Rattle.program_model.specs.Cells.{cells_of}
 use Rattle.program_model.specs.Items.{items_of}
 use Rattle.program_model.specs.ProgramRules.{is_well_formed}
-use Rattle.program_model.specs.declared.pools.FieldName.{FieldName}
 use Rattle.program_model.specs.declared.body.Body.{Body}
 use Rattle.program_model.specs.declared.program.Method.{Method}
 use Rattle.program_model.specs.declared.program.Class.{Class}
@@ -28,12 +27,9 @@ use Rattle.program_model.specs.declared.program.Program.{Program}
 use Rattle.dalvik_defs.specs.Names.{is_void}
 use Rattle.dalvik_defs.specs.Naming.{type_at, field_at, form_of, body_of, named_method, named_class, named}
 use Rattle.dalvik_defs.specs.declared.names.FieldKey.{FieldKey}
-use Rattle.dalvik_defs.specs.declared.forms.Form.{Form}
 use Rattle.dalvik_defs.specs.declared.program.NamedBody.{NamedBody}
 use Rattle.dalvik_defs.specs.declared.program.NamedMethod.{NamedMethod}
 use Rattle.pass_defs.specs.Bare.{reads, writes}
-use Rattle.pass_defs.specs.Walks.{form_at}
-use Rattle.pass_defs.specs.Packed.{uses}
 use Rattle.silence_law.proofs.Lists.{clash, and_left, and_right}
 use Rattle.silence_law.proofs.Moved.{image}
 use Rattle.form_law.specs.Changes.{field_of}

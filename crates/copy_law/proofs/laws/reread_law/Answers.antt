@@ -1,4 +1,3 @@
-use Rattle.copy_law.specs.Reread.{AllReread}
 use Rattle.copy_law.proofs.Copying.{copied_shown}
 use Rattle.copy_law.proofs.Rereading.{reread_reads}
 use Rattle.copy_law.proofs.laws.reread_law.Goals as goal

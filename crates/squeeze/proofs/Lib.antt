@@ -1,0 +1,4 @@
+mod Going
+mod Fating
+mod Same
+mod Settling

@@ -1,0 +1,6 @@
+pub mod Inside
+pub mod Fates
+pub mod Settles
+pub mod Plans
+pub mod Squeezed
+pub mod Found

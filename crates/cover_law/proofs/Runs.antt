@@ -37,7 +37,7 @@ use Rattle.invariant_law.proofs.Fine.{stored_there}
 use Rattle.invariant_law.proofs.Plain.{grown, KeptPlainly, keeps_plainly, got_grows}
 use Rattle.invariant_law.proofs.Stacked.{KeptOver, LandedOver, ShownOver, keeps_both}
 use Rattle.invariant_law.proofs.Invariants.{Holds, holds_after, opens_with}
-use Rattle.run_facts.specs.Covered.{CoversTop, CoversWaiting, CoversWorld, CoversResult, IsPast, Used}
+use Rattle.run_facts.specs.Covered.{CoversTop, CoversWaiting, CoversWorld, CoversResult, covering}
 use Rattle.stuck_law.specs.TypedStates.{AskedOf, MaybeOf, TypedFrame, TypedWaiting, TypedWorld, typed_states}
 use Rattle.stuck_law.proofs.Settled.{IsSettled, FindsRegularly}
 use Rattle.stuck_law.proofs.Registers.{and_left, and_right}
@@ -157,3 +157,9 @@ module _ {V : Type 0} (a : Analysis V) (p : NamedProgram) (o : Outer) (f : Frame
       let keep = keeps_plainly s (bodies_of p) (both i j) (keeps_both s (bodies_of p) i j first keeps_covered) in
       holds_after s (bodies_of p) (grown s (bodies_of p) (both i j)) keep n (opening script)
       (opens_with s (bodies_of p) (grown s (bodies_of p) (both i j)) keep script ((typed_opening p o f floats reg finds, known_opening), covered_opening) (each_move script fit.values ranged))
+
+-- And for a framework and a script that fit the program.
+pub covered_regular : {V : Type 0} (a : Analysis V) (p : NamedProgram) (o : Outer) (f : Framework) (floats : Floats) (facts : Facts V) (script : List Move) (n : ℕ) → IsCoverable a p o f floats facts
+    → KeptOver (setting_of p o f floats) (bodies_of p) (typed_states p f o) (known_states p o) → Fit p o f script → Each RangedMove script
+    → (after (setting_of p o f floats) (bodies_of p) (opening script) n ≡ Ended) ⊎ HoldsBy (both (both (typed_states p f o) (known_states p o)) (covering a p o facts)) (after (setting_of p o f floats) (bodies_of p) (opening script) n)
+covered_regular a p o f floats facts script n base known fit ranged = let reg = settled p o f script base.regular fit in covered_always a p o f floats facts base reg (finds_regularly p f reg) known script fit ranged n

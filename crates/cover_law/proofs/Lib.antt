@@ -13,4 +13,6 @@ mod Returning
 mod Given
 mod Numbers
 mod Moving
+mod Ranges
+mod RangedRuns
 mod Runs

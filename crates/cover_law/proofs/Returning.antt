@@ -52,7 +52,7 @@ use Rattle.stuck_law.proofs.Forms.{first_in}
 use Rattle.stuck_law.proofs.Here.{setting, own_body, get_contains, at_form}
 use Rattle.stuck_law.proofs.Here as typed
 use Rattle.cover_law.specs.Coverable.{IsCoverable}
-use Rattle.cover_law.specs.Known.{KnownThing, KnownWorld, MaybeRanged}
+use Rattle.cover_law.specs.Known.{KnownWorld, MaybeRanged, RangedThing}
 use Rattle.cover_law.proofs.Along.{Along, closer, item_ranged, then_item, just_item}
 use Rattle.cover_law.proofs.Reading.{Ss, reads_seen, enough}
 use Rattle.cover_law.proofs.Standing.{reg_there, at_typed, gone_on, top_on, caught_on}
@@ -106,7 +106,7 @@ module _ {V : Type 0} (a : Analysis V) (p : NamedProgram) (o : Outer) (f : Frame
       there r = reg_there a p o f floats facts base reg w g t r
 
       arrays : (n : ℕ) (k : Text) (vs : List Value) → slice_get w.heap n ≡ Some (Items k vs) → (length vs < 2 ^ 31) × Each IsRanged vs
-      arrays n k vs e = each_get (KnownThing p o) w.heap n (Items k vs) kw.things e
+      arrays n k vs e = each_get RangedThing w.heap n (Items k vs) kw.ranged.things e
 
       abbrev Goes_to : List (ℕ × (ℕ → V)) → Frame → Type 0
       Goes_to es g1 = Along a p facts (face_of p f).under floats base.sound w g x st.hold there arrays es (Goes w g1)

@@ -21,21 +21,21 @@ ghost use Rattle.run_facts.specs.Covered.{covering};
 ghost use Rattle.run_facts.specs.ValueAnalysis.{Numbers, value_analysis};
 ghost use Rattle.stuck_law.specs.TypedStates.{typed_states};
 ghost use Rattle.cover_law.specs.Coverable.{IsCoverable};
-ghost use Rattle.cover_law.specs.Known.{RangedMove, known_states};
+ghost use Rattle.cover_law.specs.Known.{RangedMove, live_states, ranged_states};
 
 /// Under closed facts of constants, a framework and a script that fit, each state that a run of a typed, regular program
 /// reaches has ended, or its kinds and what is known of every state hold of it, and the facts cover it. What is known has to
 /// be kept over the kinds.
 pub fn constants_cover()
     ensures { (p : NamedProgram) (o : Outer) (f : Framework) (floats : Floats) (facts : Facts Flat) (script : List Move) (n : ℕ)
-        → IsCoverable flat_analysis p o f floats facts → KeptOver (setting_of p o f floats) (bodies_of p) (typed_states p f o) (known_states p o) → Fit p o f script → Each RangedMove script
-        → let t = after (setting_of p o f floats) (bodies_of p) (opening script) n in (t ≡ Ended) ⊎ Holds (both (both (typed_states p f o) (known_states p o)) (covering flat_analysis p o facts)) t }
+        → IsCoverable flat_analysis p o f floats facts → KeptOver (setting_of p o f floats) (bodies_of p) (both (typed_states p f o) ranged_states) (live_states p o) → Fit p o f script → Each RangedMove script
+        → let t = after (setting_of p o f floats) (bodies_of p) (opening script) n in (t ≡ Ended) ⊎ Holds (both (both (both (typed_states p f o) ranged_states) (live_states p o)) (covering flat_analysis p o facts)) t }
 {}
 
 /// The same of facts of the product domain, where what the code makes of numbers is sound.
 pub fn values_cover()
     ensures { (p : NamedProgram) (numbers : Numbers) (o : Outer) (f : Framework) (floats : Floats) (facts : Facts Parts) (script : List Move) (n : ℕ)
-        → IsCoverable (value_analysis p numbers) p o f floats facts → KeptOver (setting_of p o f floats) (bodies_of p) (typed_states p f o) (known_states p o) → Fit p o f script → Each RangedMove script
+        → IsCoverable (value_analysis p numbers) p o f floats facts → KeptOver (setting_of p o f floats) (bodies_of p) (both (typed_states p f o) ranged_states) (live_states p o) → Fit p o f script → Each RangedMove script
         → let t = after (setting_of p o f floats) (bodies_of p) (opening script) n in
-            (t ≡ Ended) ⊎ Holds (both (both (typed_states p f o) (known_states p o)) (covering (value_analysis p numbers) p o facts)) t }
+            (t ≡ Ended) ⊎ Holds (both (both (both (typed_states p f o) ranged_states) (live_states p o)) (covering (value_analysis p numbers) p o facts)) t }
 {}

@@ -293,10 +293,13 @@ module _ {V : Type 0} (a : Analysis V) (p : NamedProgram) (o : Outer) (f : Frame
       object_made : I direct → is_null (register g r) ≡ false → method_eq k object_constructor ≡ true → L (Stays w (next (record g { result = Word 0 })) None)
       object_made h z e = let al = used_on a p o f floats facts base reg w cs g tw kw cw t kg top direct h r (seen_at call.Direct k (r ∷ rs) h (r ∷ rs) (looks a p o f floats facts base reg w cs g tw kw cw t kg top direct h) 0 r refl) z w (grows_same w w refl) in
           let g1 = next (record g { result = Word 0 }) in
-          λ u v. (kept a p o f floats facts base reg w cs g tw kw cw t kg top w (same_world w), record {
-            stands = gone_on a p o f floats facts base reg w g t direct h.has top.stands w g1 al.0 al.1 al.2 refl al.3;
-            takes = λ s to j. nothing_behind a p o f floats facts base reg w g t direct h void_kind (first_in (g.position + 1) []) w g1 refl refl s to j;
-          })
+          λ u v. (
+            kept a p o f floats facts base reg w cs g tw kw cw t kg top w (same_world w),
+            record {
+              stands = gone_on a p o f floats facts base reg w g t direct h.has top.stands w g1 al.0 al.1 al.2 refl al.3;
+              takes = λ s to j. nothing_behind a p o f floats facts base reg w g t direct h void_kind (first_in (g.position + 1) []) w g1 refl refl s to j;
+            },
+          )
         where
           void_kind : kind.kind_of p k.signature.result ≡ kind.Undefined
           void_kind = ap (kind.kind_of p) (text_sound k.signature.result (codes "V") (and_left (text_eq k.signature.result (codes "V")) (texts_eq k.signature.parameters []) (and_right (text_eq k.class object_type && text_eq k.name (codes "<init>")) (signature_eq k.signature object_constructor.signature) e)))

@@ -134,7 +134,7 @@ module _ {V : Type 0} (a : Analysis V) (p : NamedProgram) (o : Outer) (f : Frame
   steps w cs g rw t rf = let at = at_form p o f floats reg w g t in
       subst (λ y. LeadsOver s (bodies_of p) i j w cs g (outcome (face_of p f) (need_of (face_of p f) cs) (effect_of s y w g) w g)) (sym (ap (λ b. option_and_then (λ b. slice_get b.forms g.position) b) (ap (bodies_of p) t.of ∙ t.in_method.has_body) ∙ at.1.has))
       (leads w cs g rw rf (outcome (face_of p f) (need_of (face_of p f) cs) (effect_of s (Some at.0) w g) w g) (step_ranged w g rw rf (face_of p f) first_ranged s (need_of (face_of p f) cs) at.0
-          (base.formed g.method t.in_method.body at.0 (ap (bodies_of p) t.of ∙ t.in_method.has_body) (get_contains t.in_method.body.forms g.position at.0 at.1.has))))
+      (base.formed g.method t.in_method.body at.0 (ap (bodies_of p) t.of ∙ t.in_method.has_body) (get_contains t.in_method.body.forms g.position at.0 at.1.has))))
 
   each_unit : (ts : List Text) → Each (λ t. Unit {0}) ts
   each_unit [] = tt

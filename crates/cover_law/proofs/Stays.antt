@@ -176,17 +176,20 @@ module _ {V : Type 0} (a : Analysis V) (p : NamedProgram) (o : Outer) (f : Frame
             took slot.Wide h k refl refl (sees_wide a p facts (face_of p f).under floats base.sound x w g.registers to k.value (word_of g.result) top.stands.hold (low k n.0 n.1))
 
     pub filled : (u : Text) (args : List ℕ) → Is (form.FilledNewArray u args) → Does (act (face_of p f).under floats (form.FilledNewArray u args) w g)
-    filled u args h = λ i v. (kept w1 s, record {
-      stands = gone_on a p o f floats facts base reg w g t (form.FilledNewArray u args) h.has top.stands w1 g1 al.0 al.1 al.2 refl al.3;
-      takes = λ s to e. record {
-        before = g.position;
-        behind = refl;
-        at = here (form.FilledNewArray u args) h;
-        value = a.made u;
-        from = Filled u args;
-        holds = subst (λ k. a.holds (a.made u) k (next_object w)) (sym (kind_new w th ∙ array_whole u (untrue2 (is_array u) (or_left (not (is_array u)) (not (text_eq (item_of u) (codes "I") || is_reference (item_of u))) h.right)))) (base.sound.makes u (length w.heap));
-      };
-    })
+    filled u args h = λ i v. (
+      kept w1 s,
+      record {
+        stands = gone_on a p o f floats facts base reg w g t (form.FilledNewArray u args) h.has top.stands w1 g1 al.0 al.1 al.2 refl al.3;
+        takes = λ s to e. record {
+          before = g.position;
+          behind = refl;
+          at = here (form.FilledNewArray u args) h;
+          value = a.made u;
+          from = Filled u args;
+          holds = subst (λ k. a.holds (a.made u) k (next_object w)) (sym (kind_new w th ∙ array_whole u (untrue2 (is_array u) (or_left (not (is_array u)) (not (text_eq (item_of u) (codes "I") || is_reference (item_of u))) h.right)))) (base.sound.makes u (length w.heap));
+        };
+      },
+    )
       where
         th : Thing
         th = Items (item_of u) (map (register g) args)

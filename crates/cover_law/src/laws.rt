@@ -24,8 +24,8 @@ ghost use Rattle.cover_law.specs.Coverable.{IsCoverable};
 ghost use Rattle.cover_law.specs.Known.{RangedMove, live_states, ranged_states};
 
 /// Under closed facts of constants, a framework and a script that fit, each state that a run of a typed, regular program
-/// reaches has ended, or its kinds and what is known of every state hold of it, and the facts cover it. What is known has to
-/// be kept over the kinds.
+/// reaches has ended, or the facts cover it, beside what its kinds, its words and what is live say of it. A premise says that
+/// what is live is kept: methods that run, classes that are initialised and classes of objects are live.
 pub fn constants_cover()
     ensures { (p : NamedProgram) (o : Outer) (f : Framework) (floats : Floats) (facts : Facts Flat) (script : List Move) (n : ℕ)
         → IsCoverable flat_analysis p o f floats facts → KeptOver (setting_of p o f floats) (bodies_of p) (both (typed_states p f o) ranged_states) (live_states p o) → Fit p o f script → Each RangedMove script
@@ -37,5 +37,5 @@ pub fn values_cover()
     ensures { (p : NamedProgram) (numbers : Numbers) (o : Outer) (f : Framework) (floats : Floats) (facts : Facts Parts) (script : List Move) (n : ℕ)
         → IsCoverable (value_analysis p numbers) p o f floats facts → KeptOver (setting_of p o f floats) (bodies_of p) (both (typed_states p f o) ranged_states) (live_states p o) → Fit p o f script → Each RangedMove script
         → let t = after (setting_of p o f floats) (bodies_of p) (opening script) n in
-            (t ≡ Ended) ⊎ Holds (both (both (both (typed_states p f o) ranged_states) (live_states p o)) (covering (value_analysis p numbers) p o facts)) t }
+        (t ≡ Ended) ⊎ Holds (both (both (both (typed_states p f o) ranged_states) (live_states p o)) (covering (value_analysis p numbers) p o facts)) t }
 {}

@@ -1,4 +1,5 @@
 mod Along
+mod FlatSound
 mod Reading
 mod Standing
 mod Worlds

@@ -1,7 +1,8 @@
 //! That facts cover runs.
 
-ghost use Rattle.std.specs.Prelude.{◌≡◌, ◌⊎◌, ℕ, List};
+ghost use Rattle.std.specs.Prelude.{◌≡◌, ◌⊎◌, ℕ, Bool, List};
 ghost use Rattle.dalvik_defs.specs.Face.{bodies_of};
+ghost use Rattle.dalvik_defs.specs.Names.{Text};
 ghost use Rattle.dalvik_defs.specs.Outer.{Outer};
 ghost use Rattle.dalvik_defs.specs.Shown.{Fit};
 ghost use Rattle.dalvik_defs.specs.State.{Ended, opening};
@@ -11,6 +12,7 @@ ghost use Rattle.dalvik_defs.specs.declared.script.Move.{Move};
 ghost use Rattle.dalvik_defs.specs.declared.tables.Floats.{Floats};
 ghost use Rattle.dalvik_defs.specs.declared.tables.Framework.{Framework};
 ghost use Rattle.domains.specs.Values.{Parts};
+ghost use Rattle.pass_defs.specs.Analysis.{IsSound};
 ghost use Rattle.pass_defs.specs.Facts.{Facts};
 ghost use Rattle.pass_defs.specs.Flat.{Flat};
 ghost use Rattle.pass_defs.specs.FlatAnalysis.{flat_analysis};
@@ -38,4 +40,9 @@ pub fn values_cover()
         → IsCoverable (value_analysis p numbers) p o f floats facts → KeptOver (setting_of p o f floats) (bodies_of p) (both (typed_states p f o) ranged_states) (live_states p o) → Fit p o f script → Each RangedMove script
         → let t = after (setting_of p o f floats) (bodies_of p) (opening script) n in
         (t ≡ Ended) ⊎ Holds (both (both (both (typed_states p f o) ranged_states) (live_states p o)) (covering (value_analysis p numbers) p o facts)) t }
+{}
+
+/// Constants are a sound analysis, whatever stands above what and whatever floats answer.
+pub fn constants_are_sound()
+    ensures { (under : Text → Text → Bool) (floats : Floats) → IsSound flat_analysis under floats }
 {}

@@ -53,7 +53,7 @@ use Rattle.stuck_law.proofs.Forms.{first_in, or_right}
 use Rattle.stuck_law.proofs.Here.{setting, get_contains}
 use Rattle.form_law.specs.Changes.{operands}
 use Rattle.cover_law.specs.Coverable.{IsCoverable}
-use Rattle.cover_law.specs.Known.{KnownFrame, KnownThing, KnownWorld}
+use Rattle.cover_law.specs.Known.{KnownFrame, KnownWorld, MadeThing}
 use Rattle.cover_law.proofs.Along.{Looks}
 use Rattle.cover_law.proofs.Reading.{enough}
 use Rattle.cover_law.proofs.Standing.{at_typed, gone_on}
@@ -124,7 +124,7 @@ made_kind p o reg w kw (Object m) d = by (slice_get w.heap m) refl d
   where
     by : (y : Option Thing) → slice_get w.heap m ≡ y → defines p (elim y as (λ y. Text) [ Some th ↦ kind_of_thing th | None ↦ [] ]) ≡ true → IsMade p o unconditional (elim y as (λ y. Text) [ Some th ↦ kind_of_thing th | None ↦ [] ])
     by None i d = absurd (true≢false (sym (reg.regular.class_types [] d)))
-    by (Some (Instance c fs)) i d = (each_get (KnownThing p o) w.heap m (Instance c fs) kw.things i).0 d
+    by (Some (Instance c fs)) i d = each_get (MadeThing p o) w.heap m (Instance c fs) kw.made i d
     by (Some (Items k vs)) i d = absurd (true≢false (sym (reg.regular.class_types (91 ∷ k) d)))
 made_kind p o reg w kw (Literal s) d = true_false d reg.texts
 made_kind p o reg w kw (Class s) d = true_false d reg.classes
@@ -206,7 +206,7 @@ module _ {V : Type 0} (a : Analysis V) (p : NamedProgram) (o : Outer) (f : Frame
       passed_open m any i v e = by (arg_at g args i v e)
         where
           by : (r : ℕ) × ((slice_get args i ≡ Some r) × (register g r ≡ v)) → S (facts.parameters m i) w v
-          by (r, (j, l)) = base.sound.grows a.any (facts.parameters m i) (kind_of w v) v (any i) (base.sound.all (kind_of w v) v (subst IsRanged l (each_or IsRanged g.registers r (Word 0) kg.registers (omega arith))))
+          by (r, (j, l)) = base.sound.grows a.any (facts.parameters m i) (kind_of w v) v (any i) (base.sound.all (kind_of w v) v (subst IsRanged l (each_or IsRanged g.registers r (Word 0) kg.ranged.registers (omega arith))))
 
       -- ---- what is found
 
@@ -218,7 +218,7 @@ module _ {V : Type 0} (a : Analysis V) (p : NamedProgram) (o : Outer) (f : Frame
         where
           by : (b : Option NamedBody) → bodies_of p m ≡ b → EnteredOver (setting p o f floats reg) (bodies_of p) (below a p o f floats facts base reg) (covers a p o f floats facts base reg) w cs m vs b
           by None i = tt
-          by (Some b) i = λ long u. entry_top a p o f floats facts base reg w m vs b i ent args long u.0
+          by (Some b) i = λ long u. entry_top a p o f floats facts base reg w m vs b i ent args long u.0.0
 
       found : Past → (d : Found) → d.key.signature ≡ k.signature → (is_static d.flags ≡ true → Contains (needs p y) d.key.class) → (d.coded ≡ true → Enters_by d) → (d.coded ≡ false → Leaves_by) → L (calls_ready need ik d vs w)
       found past d sig static enters leaves = by (is_static d.flags) refl
@@ -293,10 +293,13 @@ module _ {V : Type 0} (a : Analysis V) (p : NamedProgram) (o : Outer) (f : Frame
       object_made : I direct → is_null (register g r) ≡ false → method_eq k object_constructor ≡ true → L (Stays w (next (record g { result = Word 0 })) None)
       object_made h z e = let al = used_on a p o f floats facts base reg w cs g tw kw cw t kg top direct h r (seen_at call.Direct k (r ∷ rs) h (r ∷ rs) (looks a p o f floats facts base reg w cs g tw kw cw t kg top direct h) 0 r refl) z w (grows_same w w refl) in
           let g1 = next (record g { result = Word 0 }) in
-          λ u v. (kept a p o f floats facts base reg w cs g tw kw cw t kg top w (same_world w), record {
-            stands = gone_on a p o f floats facts base reg w g t direct h.has top.stands w g1 al.0 al.1 al.2 refl al.3;
-            takes = λ s to j. nothing_behind a p o f floats facts base reg w g t direct h void_kind (first_in (g.position + 1) []) w g1 refl refl s to j;
-          })
+          λ u v. (
+            kept a p o f floats facts base reg w cs g tw kw cw t kg top w (same_world w),
+            record {
+              stands = gone_on a p o f floats facts base reg w g t direct h.has top.stands w g1 al.0 al.1 al.2 refl al.3;
+              takes = λ s to j. nothing_behind a p o f floats facts base reg w g t direct h void_kind (first_in (g.position + 1) []) w g1 refl refl s to j;
+            },
+          )
         where
           void_kind : kind.kind_of p k.signature.result ≡ kind.Undefined
           void_kind = ap (kind.kind_of p) (text_sound k.signature.result (codes "V") (and_left (text_eq k.signature.result (codes "V")) (texts_eq k.signature.parameters []) (and_right (text_eq k.class object_type && text_eq k.name (codes "<init>")) (signature_eq k.signature object_constructor.signature) e)))

@@ -76,7 +76,7 @@ untaken p c m b tb typing q x e above s to has = by (state_at tb q) refl above
         let no = undefined_only p k.result (subst (λ z. is_below p z k.result ≡ true) e r) in
         let read = each_at (length b.forms) q (at_state b tb (λ f a. is_allowed p c m a f)) typing.reads (in_range b.forms q (form.MoveResult s to) has) in
         let allowed = sym (ap (λ o. elim o as (λ o. Bool) [ Some y ↦ elim (state_at tb q) as (λ o. Bool) [ Some a ↦ is_allowed p c m a y | None ↦ true ] | None ↦ true ]) has
-            ∙ ap (λ o. elim o as (λ o. Bool) [ Some a ↦ is_allowed p c m a (form.MoveResult s to) | None ↦ true ]) i) ∙ read in
+        ∙ ap (λ o. elim o as (λ o. Bool) [ Some a ↦ is_allowed p c m a (form.MoveResult s to) | None ↦ true ]) i) ∙ read in
         true≢false (sym (and_left (result_fits s k.result) true allowed) ∙ fits_none s k.result no)
 
 module _ {V : Type 0} (a : Analysis V) (p : NamedProgram) (o : Outer) (f : Framework) (floats : Floats) (facts : Facts V) (base : IsCoverable a p o f floats facts) (reg : IsSettled p) where
@@ -86,9 +86,9 @@ module _ {V : Type 0} (a : Analysis V) (p : NamedProgram) (o : Outer) (f : Frame
   nothing_behind w g t y h e i w1 g1 em ep s to j =
       let x = after p t.in_method.class g.position y t.kinds in
       absurd (untaken p t.in_method.class t.in_method.method t.in_method.body t.in_method.table t.in_method.typing (g.position + 1) x e
-          (all_in (arrives p t.in_method.table) (typed_edges p t.in_method.class t.in_method.body g.position y t.kinds) (g.position + 1, x) h.edges
-              (into_left (map (λ q. (q, x)) (onward y g.position)) (map (λ h. (h.0, record t.kinds { caught = h.1 })) (catches p t.in_method.body g.position y)) (g.position + 1, x) (into_map (λ q. (q, x)) (onward y g.position) (g.position + 1) i)))
-          s to (sym (ap (λ b. option_and_then (λ b. slice_get b.forms g1.position) b) (ap (bodies_of p) (em ∙ t.of) ∙ t.in_method.has_body) ∙ ap (form_at t.in_method.body) ep) ∙ j))
+      (all_in (arrives p t.in_method.table) (typed_edges p t.in_method.class t.in_method.body g.position y t.kinds) (g.position + 1, x) h.edges
+      (into_left (map (λ q. (q, x)) (onward y g.position)) (map (λ h. (h.0, record t.kinds { caught = h.1 })) (catches p t.in_method.body g.position y)) (g.position + 1, x) (into_map (λ q. (q, x)) (onward y g.position) (g.position + 1) i)))
+      s to (sym (ap (λ b. option_and_then (λ b. slice_get b.forms g1.position) b) (ap (bodies_of p) (em ∙ t.of) ∙ t.in_method.has_body) ∙ ap (form_at t.in_method.body) ep) ∙ j))
 
   -- ---- entries
 

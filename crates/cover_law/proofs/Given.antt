@@ -41,7 +41,7 @@ use Rattle.stuck_law.proofs.Climbs.{none_some, some_one, class_in, defined_by, d
 use Rattle.stuck_law.proofs.Framework.{object_under}
 use Rattle.stuck_law.proofs.Values.{instance_thing}
 use Rattle.stuck_law.proofs.Worlds.{object_there, at_typed}
-use Rattle.cover_law.specs.Known.{KnownThing, KnownWorld, RangedGiven, MaybeGiven, MaybeRanged}
+use Rattle.cover_law.specs.Known.{KnownWorld, MadeThing, RangedGiven, MaybeGiven, MaybeRanged}
 use Rattle.cover_law.proofs.Worlds.{SameFields, same_heap, same_world, same_with, same_then}
 
 -- ---- worlds
@@ -144,8 +144,8 @@ module _ (p : NamedProgram) (o : Outer) (f : Framework) (floats : Floats) (reg :
     where
       by : (v : Value) → (c : Text) × ((fs : FieldKey → Option Value) × (thing_at w v ≡ Some (Instance c fs))) → is_under p f (kind_of w v) u ≡ true → IsMade p o unconditional (kind_of w v)
       by (Object m) (c, (fs, at)) e = let kind : kind_of w (Object m) ≡ c = ap (λ y. elim y as (λ y. Text) [ Some th ↦ kind_of_thing th | None ↦ [] ]) at in
-          subst (IsMade p o unconditional) (sym kind) ((each_get (KnownThing p o) w.heap m (Instance c fs) kw.things at).0
-              (defined_below p f reg c u (at_typed p f w (Object m) (Instance c fs) tw at).0 d (subst (λ k. is_under p f k u ≡ true) kind e)))
+          subst (IsMade p o unconditional) (sym kind) (each_get (MadeThing p o) w.heap m (Instance c fs) kw.made at
+          (defined_below p f reg c u (at_typed p f w (Object m) (Instance c fs) tw at).0 d (subst (λ k. is_under p f k u ≡ true) kind e)))
       by v (c, (fs, at)) e = none_some (Instance c fs) at
 
   -- ---- methods that the framework enters

@@ -1,4 +1,5 @@
 mod Along
+mod FlatSound
 mod Reading
 mod Standing
 mod Worlds
@@ -13,4 +14,6 @@ mod Returning
 mod Given
 mod Numbers
 mod Moving
+mod Ranges
+mod RangedRuns
 mod Runs

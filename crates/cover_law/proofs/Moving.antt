@@ -76,7 +76,7 @@ module _ {V : Type 0} (a : Analysis V) (p : NamedProgram) (o : Outer) (f : Frame
     where
       by : (b : Option NamedBody) → bodies_of p k ≡ b → Enter w cs k [] b
       by None i = tt
-      by (Some b) i = λ long t. entry_top a p o f floats facts base reg w k [] b i (base.closed.entries.initialisers v u k needed init e) (λ i v e. none_some v e) long t.0
+      by (Some b) i = λ long t. entry_top a p o f floats facts base reg w k [] b i (base.closed.entries.initialisers v u k needed init e) (λ i v e. none_some v e) long t.0.0
 
   -- ---- entries
 
@@ -88,7 +88,7 @@ module _ {V : Type 0} (a : Analysis V) (p : NamedProgram) (o : Outer) (f : Frame
     where
       by : (b : Option NamedBody) → bodies_of p k ≡ b → Enter w cs k vs b
       by None i = tt
-      by (Some b) i = λ long t. entry_top a p o f floats facts base reg w k vs b i ways.0 (open_passes w k vs ways.1 (each_behind IsRanged (replicate (b.registers - b.ins) (Word 0)) vs t.1.registers)) long t.0
+      by (Some b) i = λ long t. entry_top a p o f floats facts base reg w k vs b i ways.0 (open_passes w k vs ways.1 (each_behind IsRanged (replicate (b.registers - b.ins) (Word 0)) vs t.0.1.registers)) long t.0.0
 
   pub enters_covered : (w : World) (cs : Classes) (c n q : Text) (gs : List Given) (d : Found) → TypedWorld p f w → CoversWorld a p o facts w → declared_in p c n q ≡ Some d → may_enter (face_of p f) o w (gets_all w gs).0 d gs (gets_all w gs).1 ≡ true
       → TypedWorld p f (gets_all w gs).0 × KnownWorld p o (gets_all w gs).0

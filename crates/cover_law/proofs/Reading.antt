@@ -216,10 +216,11 @@ module _ {V : Type 0} (a : Analysis V) (p : NamedProgram) (o : Outer) (f : Frame
     calls_seen : (ik : InvokeKind) (k : MethodKey) (args : List ℕ) → I (form.Invoke ik k args) → Ss args
     calls_seen call.Static k args h = passed_seen k.signature.parameters args h.allowed (let l = enough call.Static k args h in omega (arith, l))
     calls_seen ik k [] h = tt
-    calls_seen call.Super k (r ∷ rs) h = let params = list_all met (passed k.signature.parameters rs) in
-        (met_seen r (Fits k.class) tt (and_left (fits p (kind_at ks r) k.class) (list_all met (map (λ q. (r, q)) (map Fits (found_class (finds_super p t.in_method.class.name k))) ++ passed k.signature.parameters rs)) h.allowed),
-        passed_seen k.signature.parameters rs (by (found_class (finds_super p t.in_method.class.name k)) (and_right (fits p (kind_at ks r) k.class) (list_all met (map (λ q. (r, q)) (map Fits (found_class (finds_super p t.in_method.class.name k))) ++ passed k.signature.parameters rs)) h.allowed))
-            (let l = enough call.Super k (r ∷ rs) h in omega (arith, l)))
+    calls_seen call.Super k (r ∷ rs) h = let params = list_all met (passed k.signature.parameters rs) in (
+      met_seen r (Fits k.class) tt (and_left (fits p (kind_at ks r) k.class) (list_all met (map (λ q. (r, q)) (map Fits (found_class (finds_super p t.in_method.class.name k))) ++ passed k.signature.parameters rs)) h.allowed),
+      passed_seen k.signature.parameters rs (by (found_class (finds_super p t.in_method.class.name k)) (and_right (fits p (kind_at ks r) k.class) (list_all met (map (λ q. (r, q)) (map Fits (found_class (finds_super p t.in_method.class.name k))) ++ passed k.signature.parameters rs)) h.allowed))
+          (let l = enough call.Super k (r ∷ rs) h in omega (arith, l)),
+    )
       where
         by : (us : List Text) → list_all met (map (λ q. (r, q)) (map Fits us) ++ passed k.signature.parameters rs) ≡ true → list_all met (passed k.signature.parameters rs) ≡ true
         by [] e = e

@@ -52,7 +52,7 @@ use Rattle.stuck_law.proofs.Forms.{first_in}
 use Rattle.stuck_law.proofs.Here.{setting, own_body, get_contains, at_form}
 use Rattle.stuck_law.proofs.Here as typed
 use Rattle.cover_law.specs.Coverable.{IsCoverable}
-use Rattle.cover_law.specs.Known.{KnownThing, KnownWorld, MaybeRanged}
+use Rattle.cover_law.specs.Known.{KnownWorld, MaybeRanged, RangedThing}
 use Rattle.cover_law.proofs.Along.{Along, closer, item_ranged, then_item, just_item}
 use Rattle.cover_law.proofs.Reading.{Ss, reads_seen, enough}
 use Rattle.cover_law.proofs.Standing.{reg_there, at_typed, gone_on, top_on, caught_on}
@@ -106,7 +106,7 @@ module _ {V : Type 0} (a : Analysis V) (p : NamedProgram) (o : Outer) (f : Frame
       there r = reg_there a p o f floats facts base reg w g t r
 
       arrays : (n : ℕ) (k : Text) (vs : List Value) → slice_get w.heap n ≡ Some (Items k vs) → (length vs < 2 ^ 31) × Each IsRanged vs
-      arrays n k vs e = each_get (KnownThing p o) w.heap n (Items k vs) kw.things e
+      arrays n k vs e = each_get RangedThing w.heap n (Items k vs) kw.ranged.things e
 
       abbrev Goes_to : List (ℕ × (ℕ → V)) → Frame → Type 0
       Goes_to es g1 = Along a p facts (face_of p f).under floats base.sound w g x st.hold there arrays es (Goes w g1)
@@ -175,7 +175,7 @@ module _ {V : Type 0} (a : Analysis V) (p : NamedProgram) (o : Outer) (f : Frame
           → (a.holds (field_value a p facts k) (kind_of w (read_item a i u)) (read_item a i u) → Goes_to (arm a (g.position + 1) z) (next (write_item i g to u))) → CoversTop a p o facts w (next (write_item i g to u))
       field_back i to k u r none z ed gives more = let ri = read_item a i u in
           let al = more (subst (λ m. a.holds (elim m as (λ m. V) [ Some f ↦ facts.fields (own_key k f) | None ↦ a.outer k.kind ]) (kind_of w ri) ri) (sym none)
-              (base.sound.outers k.kind (kind_of w ri) ri (item_ranged a p facts (face_of p f).under floats base.sound w g x st.hold there arrays i u r))) in
+          (base.sound.outers k.kind (kind_of w ri) ri (item_ranged a p facts (face_of p f).under floats base.sound w g x st.hold there arrays i u r))) in
           top_on a p o f floats facts base reg w g t y has st gives w (next (write_item i g to u)) al.0 (subst (λ es. Contains es al.0) (sym ed) al.1) al.2 (item_method a p o f floats facts base reg i g to u) al.3
 
       own_y : form_of (bodies_of p) g ≡ Some y
@@ -198,7 +198,7 @@ module _ {V : Type 0} (a : Analysis V) (p : NamedProgram) (o : Outer) (f : Frame
             (field_back kw i to k q r none (then_put a (is_wide_item i) to (field_value a p facts k) (refined a on (a.held (x on)) x)) (ap (λ y. edges a p facts g.position y x) e) (ap gives_result e)
             (λ h. then_item a p facts (face_of p f).under floats base.sound w g x st.hold (there kw) (arrays kw) on to (a.held (x on)) i (field_value a p facts k) w q (grows_same w w refl)
             (base.sound.holders (x on) (kind_of w (register g on)) (register g on) (reads_seen a p o f floats reg facts w g t x st.hold (form.InstanceGet i to on k) (subst (typed.At p o f floats reg w g t) e at_y)).0
-                (past on (subst (λ y. Contains (Used a p o facts y) on) (sym e) (0, omega arith, refl)))) h))
+            (past on (subst (λ y. Contains (Used a p o facts y) on) (sym e) (0, omega arith, refl)))) h))
 
         by : (z : Form) → y ≡ z → AwaitsAnswer a p o facts g x z u → CoversTop a p o facts w (back (bodies_of p) g v)
         by (form.Invoke ik m args) e aw = called_back kw ik m args e past v

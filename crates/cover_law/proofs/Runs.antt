@@ -37,7 +37,7 @@ use Rattle.invariant_law.proofs.Fine.{stored_there}
 use Rattle.invariant_law.proofs.Plain.{grown, KeptPlainly, keeps_plainly, got_grows}
 use Rattle.invariant_law.proofs.Stacked.{KeptOver, LandedOver, ShownOver, keeps_both}
 use Rattle.invariant_law.proofs.Invariants.{Holds, holds_after, opens_with}
-use Rattle.run_facts.specs.Covered.{CoversTop, CoversWaiting, CoversWorld, CoversResult, IsPast, Used}
+use Rattle.run_facts.specs.Covered.{CoversTop, CoversWaiting, CoversWorld, CoversResult, covering}
 use Rattle.stuck_law.specs.TypedStates.{AskedOf, MaybeOf, TypedFrame, TypedWaiting, TypedWorld, typed_states}
 use Rattle.stuck_law.proofs.Settled.{IsSettled, FindsRegularly}
 use Rattle.stuck_law.proofs.Registers.{and_left, and_right}
@@ -47,7 +47,8 @@ use Rattle.stuck_law.proofs.Runs.{keeps_typed, typed_opening, settled}
 use Rattle.stuck_law.proofs.Searches.{finds_regularly}
 use Rattle.stuck_law.proofs.Worlds.{waiting_later}
 use Rattle.cover_law.specs.Coverable.{IsCoverable}
-use Rattle.cover_law.specs.Known.{KnownFrame, KnownWorld, MaybeRanged, RangedMove, known_states}
+use Rattle.cover_law.specs.Known.{KnownFrame, KnownWorld, MadeThing, MaybeRanged, RangedMove, RangedWorld, ranged_states, live_states}
+use Rattle.cover_law.proofs.RangedRuns.{keeps_ranged}
 use Rattle.cover_law.proofs.Given.{gets_same, got_same, all_same, gets_ranged, got_ranged, gets_there, got_exposed, typed_exposed, own_field}
 use Rattle.cover_law.proofs.Moving.{firsts_covered, initialiser_covered, enters_covered, makes_covered, field_covered, item_covered}
 use Rattle.cover_law.proofs.Numbers.{stored_ranged}
@@ -106,54 +107,64 @@ module _ {V : Type 0} (a : Analysis V) (p : NamedProgram) (o : Outer) (f : Frame
 
   -- ---- all that the law asks
 
+  known : (w : World) → RangedWorld w → Each (MadeThing p o) w.heap → KnownWorld p o w
+  known w r m = record { ranged = r; made = m }
+
   pub keeps_covered : KeptOver (setting p o f floats reg) (bodies_of p) i j
   keeps_covered = record {
-    steps = λ w cs g h t. steps_covered a p o f floats facts base reg finds w cs g h.0.0 h.0.1 h.1 t.0.0 t.0.1 t.1;
-    later = λ w w1 above g gr t h. waits_later a p o f floats facts base reg w w1 above g gr t.0 h;
-    returns = λ w cs k g v h t r x. returns_at w cs k g v t.0.0 t.1 h.0.1 r.0.0 r.0.1 r.1;
+    steps = λ w cs g h t. steps_covered a p o f floats facts base reg finds w cs g h.0.0.0 (known w h.0.0.1 h.0.1) h.1 t.0.0.0 (record { ranged = t.0.0.1; live = t.0.1 }) t.1;
+    later = λ w w1 above g gr t h. waits_later a p o f floats facts base reg w w1 above g gr t.0.0 h;
+    returns = λ w cs k g v h t r x. returns_at w cs k g v t.0.0.0 t.1 (known w h.0.0.1 h.0.1) r.0.0.0 r.0.0.1 r.1;
     retries = λ w cs u g h t x. retried a p o f floats facts base reg w u g t.1;
-    lands = λ w cs above g v h t x. lands_at w cs above g v t.0.0 t.1;
-    faults = λ w cs u e h. (over w (with_thing w (fresh u)) h.0.0 h.1 (same_with w (fresh u) (λ k. refl)), tt);
+    lands = λ w cs above g v h t x. lands_at w cs above g v t.0.0.0 t.1;
+    faults = λ w cs u e h. (over w (with_thing w (fresh u)) h.0.0.0 h.1 (same_with w (fresh u) (λ k. refl)), tt);
     statuses = λ w cs u s h c. h.1;
     firsts = λ u c. firsts_covered a p o f floats facts base reg finds u c.1;
     initialisers = λ w cs u k h c e. initialiser_covered a p o f floats facts base reg finds w cs u k c.1 e;
-    shows_result = λ w cs k v h r. over w (show_option w k.signature.result v).0 h.0.0 h.1 (same_option w k.signature.result v);
-    shows_thrown = λ w cs v h x. over w (show w throwable_type v).0 h.0.0 h.1 (same_show w throwable_type v);
-    enters = λ w cs u n q gs d h m e l x. enters_covered a p o f floats facts base reg finds w cs u n q gs d h.0.0 h.1 e l x;
-    makes = λ w cs u h m l. makes_covered a p o f floats facts base reg finds w u h.0.0 h.1 l;
-    answers = λ w cs u y g h m t l x z. answers_at w cs u y g h.0.0 h.1 t.0.0 t.1 l x.1 (got_ranged w y m.0.1);
-    throws = λ w cs g h m l. (over w (gets w g).0 h.0.0 h.1 (gets_same w g), tt);
-    reads = λ w cs u n k place on h m e l. shows_at w (got w on).0 cs k (field_value (got w on).0 (key_of u n k) place (got w on).1) h.0.0 h.1 (got_same w on);
+    shows_result = λ w cs k v h r. over w (show_option w k.signature.result v).0 h.0.0.0 h.1 (same_option w k.signature.result v);
+    shows_thrown = λ w cs v h x. over w (show w throwable_type v).0 h.0.0.0 h.1 (same_show w throwable_type v);
+    enters = λ w cs u n q gs d h m e l x. enters_covered a p o f floats facts base reg finds w cs u n q gs d h.0.0.0 h.1 e l (x.0.0, known (gets_all w gs).0 x.0.1 x.1);
+    makes = λ w cs u h m l. makes_covered a p o f floats facts base reg finds w u h.0.0.0 h.1 l;
+    answers = λ w cs u y g h m t l x z. answers_at w cs u y g h.0.0.0 h.1 t.0.0.0 t.1 l (known (got w y).0 x.0.1 x.1) (got_ranged w y m.0.0.1);
+    throws = λ w cs g h m l. (over w (gets w g).0 h.0.0.0 h.1 (gets_same w g), tt);
+    reads = λ w cs u n k place on h m e l. shows_at w (got w on).0 cs k (field_value (got w on).0 (key_of u n k) place (got w on).1) h.0.0.0 h.1 (got_same w on);
     writes = λ w cs u n k place on g h m e l.
         let w1 = (got w on).0 in let w2 = (gets w1 g).0 in let d = own_field p o f floats reg finds (key_of u n k) place e in
         let held = on_fits (face_of p f) o w w1 (key_of u n k) place on (got w on).1 in let fit = given_fits (face_of p f) o w1 w2 g (gets w1 g).1 k in
-        field_covered a p o f floats facts base reg finds w w2 cs (key_of u n k) d.0 (got w on).1 (stored (item_of_type k) (gets w1 g).1) (same_then w w1 w2 (got_same w on) (gets_same w1 g)) h.0.0 h.1 d.1
+        field_covered a p o f floats facts base reg finds w w2 cs (key_of u n k) d.0 (got w on).1 (stored (item_of_type k) (gets w1 g).1) (same_then w w1 w2 (got_same w on) (gets_same w1 g)) h.0.0.0 h.1 d.1
         (and_left (o.fields (key_of u n k)) held (and_left (o.fields (key_of u n k) && held) fit l))
-        (stored_there w2 (item_of_type k) (gets w1 g).1 (gets_there w1 g (got_exposed w on (typed_exposed p o f floats reg finds w h.0.0))))
-        (stored_ranged (item_of_type k) (gets w1 g).1 (gets_ranged w1 g m.0.1.1));
-    reads_items = λ w cs g n u vs v h m b e l. over w (show w u v).0 h.0.0 h.1 (same_show w u v);
-    writes_items = λ w cs on g n u vs h m b e x l. item_covered a p o f floats facts base reg finds w cs g (gets w on).1 n u vs h.0.0 h.1 e;
+        (stored_there w2 (item_of_type k) (gets w1 g).1 (gets_there w1 g (got_exposed w on (typed_exposed p o f floats reg finds w h.0.0.0))))
+        (stored_ranged (item_of_type k) (gets w1 g).1 (gets_ranged w1 g m.0.0.1.1));
+    reads_items = λ w cs g n u vs v h m b e l. over w (show w u v).0 h.0.0.0 h.1 (same_show w u v);
+    writes_items = λ w cs on g n u vs h m b e x l. item_covered a p o f floats facts base reg finds w cs g (gets w on).1 n u vs h.0.0.0 h.1 e;
   }
 
   covered_opening : CoversWorld a p o facts opening_world
   covered_opening = record { statics = λ k d v e i. none_some v i; instances = λ k d v n c fs e i l. none_some (Instance c fs) i }
 
-  known_opening : KnownWorld p o opening_world
-  known_opening = record { statics = λ k v e. none_some v e; things = tt }
-
   -- what is said of the framework's moves
   each_move : (xs : List Move) → list_all (fit_move p o) xs ≡ true → Each RangedMove xs → Each (both i j).move xs
   each_move [] e h = tt
-  each_move (x ∷ xs) e h = (((and_left (fit_move p o x) (list_all (fit_move p o) xs) e, h.0), tt), each_move xs (and_right (fit_move p o x) (list_all (fit_move p o) xs) e) h.1)
+  each_move (x ∷ xs) e h = ((((and_left (fit_move p o x) (list_all (fit_move p o) xs) e, h.0), tt), tt), each_move xs (and_right (fit_move p o x) (list_all (fit_move p o) xs) e) h.1)
 
   abbrev s : Setting
   s = setting p o f floats reg
 
-  -- where all is known, each state that a run reaches is covered
-  pub covered_always : KeptOver s (bodies_of p) (typed_states p f o) (known_states p o) → (script : List Move) → Fit p o f script → Each RangedMove script → (n : ℕ)
+  abbrev words : Invariant
+  words = both (typed_states p f o) ranged_states
+
+  -- where what is live is kept, each state that a run reaches is covered
+  pub covered_always : KeptOver s (bodies_of p) words (live_states p o) → (script : List Move) → Fit p o f script → Each RangedMove script → (n : ℕ)
       → (after s (bodies_of p) (opening script) n ≡ Ended) ⊎ HoldsBy (both i j) (after s (bodies_of p) (opening script) n)
-  covered_always known script fit ranged n =
-      let first = keeps_both s (bodies_of p) (typed_states p f o) (known_states p o) (keeps_typed p o f floats reg finds) known in
-      let keep = keeps_plainly s (bodies_of p) (both i j) (keeps_both s (bodies_of p) i j first keeps_covered) in
+  covered_always live script fit ranged n =
+      let first = keeps_both s (bodies_of p) (typed_states p f o) ranged_states (keeps_typed p o f floats reg finds) (keeps_ranged a p o f floats facts base reg finds) in
+      let second = keeps_both s (bodies_of p) words (live_states p o) first live in
+      let keep = keeps_plainly s (bodies_of p) (both i j) (keeps_both s (bodies_of p) i j second keeps_covered) in
       holds_after s (bodies_of p) (grown s (bodies_of p) (both i j)) keep n (opening script)
-      (opens_with s (bodies_of p) (grown s (bodies_of p) (both i j)) keep script ((typed_opening p o f floats reg finds, known_opening), covered_opening) (each_move script fit.values ranged))
+      (opens_with s (bodies_of p) (grown s (bodies_of p) (both i j)) keep script (((typed_opening p o f floats reg finds, record { statics = λ k v e. none_some v e; things = tt }), tt), covered_opening) (each_move script fit.values ranged))
+
+-- And for a framework and a script that fit the program.
+pub covered_regular : {V : Type 0} (a : Analysis V) (p : NamedProgram) (o : Outer) (f : Framework) (floats : Floats) (facts : Facts V) (script : List Move) (n : ℕ) → IsCoverable a p o f floats facts
+    → KeptOver (setting_of p o f floats) (bodies_of p) (both (typed_states p f o) ranged_states) (live_states p o) → Fit p o f script → Each RangedMove script
+    → (after (setting_of p o f floats) (bodies_of p) (opening script) n ≡ Ended) ⊎ HoldsBy (both (both (both (typed_states p f o) ranged_states) (live_states p o)) (covering a p o facts)) (after (setting_of p o f floats) (bodies_of p) (opening script) n)
+covered_regular a p o f floats facts script n base live fit ranged = let reg = settled p o f script base.regular fit in covered_always a p o f floats facts base reg (finds_regularly p f reg) live script fit ranged n

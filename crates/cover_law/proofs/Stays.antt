@@ -51,7 +51,7 @@ use Rattle.stuck_law.proofs.Here as typed
 use Rattle.stuck_law.proofs.Forms.{first_in, or_left}
 use Rattle.form_law.specs.Changes.{operands}
 use Rattle.cover_law.specs.Coverable.{IsCoverable}
-use Rattle.cover_law.specs.Known.{KnownFrame, KnownThing, KnownWorld, known_states}
+use Rattle.cover_law.specs.Known.{KnownFrame, KnownWorld, RangedThing, ranged_states, live_states}
 use Rattle.cover_law.proofs.Along.{Along, Looks, IsTold, act_along, sees_put, sees_wide}
 use Rattle.cover_law.proofs.Reading.{Ss, reads_seen}
 use Rattle.cover_law.proofs.Standing.{reg_there, own_form, at_typed, all_later, gone_on, top_on, caught_on, taken_on}
@@ -65,7 +65,7 @@ array_whole (c ∷ us) e = ap (λ c. c ∷ us) (sym (eqb-true c 91 e))
 module _ {V : Type 0} (a : Analysis V) (p : NamedProgram) (o : Outer) (f : Framework) (floats : Floats) (facts : Facts V) (base : IsCoverable a p o f floats facts) (reg : IsSettled p) where
   -- what is known of each state before, and what is said of it now
   abbrev pub below : Invariant
-  below = both (typed_states p f o) (known_states p o)
+  below = both (both (typed_states p f o) ranged_states) (live_states p o)
 
   abbrev pub covers : Invariant
   covers = covering a p o facts
@@ -90,7 +90,7 @@ module _ {V : Type 0} (a : Analysis V) (p : NamedProgram) (o : Outer) (f : Frame
     there r = reg_there a p o f floats facts base reg w g t r
 
     pub arrays : (n : ℕ) (k : Text) (vs : List Value) → slice_get w.heap n ≡ Some (Items k vs) → (length vs < 2 ^ 31) × Each IsRanged vs
-    arrays n k vs e = each_get (KnownThing p o) w.heap n (Items k vs) kw.things e
+    arrays n k vs e = each_get RangedThing w.heap n (Items k vs) kw.ranged.things e
 
     module _ (y : Form) (h : Is y) where
       abbrev pub here : At a p facts g.method g.position
@@ -176,17 +176,20 @@ module _ {V : Type 0} (a : Analysis V) (p : NamedProgram) (o : Outer) (f : Frame
             took slot.Wide h k refl refl (sees_wide a p facts (face_of p f).under floats base.sound x w g.registers to k.value (word_of g.result) top.stands.hold (low k n.0 n.1))
 
     pub filled : (u : Text) (args : List ℕ) → Is (form.FilledNewArray u args) → Does (act (face_of p f).under floats (form.FilledNewArray u args) w g)
-    filled u args h = λ i v. (kept w1 s, record {
-      stands = gone_on a p o f floats facts base reg w g t (form.FilledNewArray u args) h.has top.stands w1 g1 al.0 al.1 al.2 refl al.3;
-      takes = λ s to e. record {
-        before = g.position;
-        behind = refl;
-        at = here (form.FilledNewArray u args) h;
-        value = a.made u;
-        from = Filled u args;
-        holds = subst (λ k. a.holds (a.made u) k (next_object w)) (sym (kind_new w th ∙ array_whole u (untrue2 (is_array u) (or_left (not (is_array u)) (not (text_eq (item_of u) (codes "I") || is_reference (item_of u))) h.right)))) (base.sound.makes u (length w.heap));
-      };
-    })
+    filled u args h = λ i v. (
+      kept w1 s,
+      record {
+        stands = gone_on a p o f floats facts base reg w g t (form.FilledNewArray u args) h.has top.stands w1 g1 al.0 al.1 al.2 refl al.3;
+        takes = λ s to e. record {
+          before = g.position;
+          behind = refl;
+          at = here (form.FilledNewArray u args) h;
+          value = a.made u;
+          from = Filled u args;
+          holds = subst (λ k. a.holds (a.made u) k (next_object w)) (sym (kind_new w th ∙ array_whole u (untrue2 (is_array u) (or_left (not (is_array u)) (not (text_eq (item_of u) (codes "I") || is_reference (item_of u))) h.right)))) (base.sound.makes u (length w.heap));
+        };
+      },
+    )
       where
         th : Thing
         th = Items (item_of u) (map (register g) args)

@@ -179,9 +179,13 @@ module _ {V : Type 0} (a : Analysis V) (p : NamedProgram) (o : Outer) (f : Frame
         made = same_with w (fresh u) (λ k. refl)
 
         new : (w2 : World) → SameFields w w2 → kind_of w2 (next_object w) ≡ u → (e : Option Event) → L (Stays w2 g1 e)
-        new w2 s k e = moves_on (form.NewInstance to u) h refl w2 g1 e (kept a p o f floats facts base reg w cs g tw kw cw t kg top w2 s) refl (Some (put a to (a.made u) x)) refl
-            ((n + 1, put a to (a.made u) x), (0, omega arith, refl), refl, sees_put a p facts x w2 g.registers to (a.made u) (next_object w) (all_later a p o f floats facts base reg w w2 x g t s.grows top.stands.hold)
-            (subst (λ j. a.holds (a.made u) j (next_object w)) (sym k) (base.sound.makes u (length w.heap))))
+        new w2 s k e = moves_on (form.NewInstance to u) h refl w2 g1 e (kept a p o f floats facts base reg w cs g tw kw cw t kg top w2 s) refl (Some (put a to (a.made u) x)) refl (
+          (n + 1, put a to (a.made u) x),
+          (0, omega arith, refl),
+          refl,
+          sees_put a p facts x w2 g.registers to (a.made u) (next_object w) (all_later a p o f floats facts base reg w w2 x g t s.grows top.stands.hold)
+              (subst (λ j. a.holds (a.made u) j (next_object w)) (sym k) (base.sound.makes u (length w.heap))),
+        )
 
         shown_kind : (w2 : World) → w2.heap ≡ w1.heap → kind_of w2 (next_object w) ≡ u
         shown_kind w2 e = ap (λ hp. elim (slice_get {X = Thing} hp (length w.heap)) as (λ o. Text) [ Some th ↦ kind_of_thing th | None ↦ [] ]) e ∙ kind_new w (fresh u)
@@ -219,7 +223,7 @@ module _ {V : Type 0} (a : Analysis V) (p : NamedProgram) (o : Outer) (f : Frame
         read d e z v s vt = moves_on y h refl w (next (write_item i g to v)) None cw (item_method i g to v) (then_put a (is_wide_item i) to (field_value a p facts k) (refined a on (a.held (x on)) x)) refl
             (then_item a p facts (face_of p f).under floats base.sound w g x top.stands.hold (there a p o f floats facts base reg w cs g tw kw cw t kg top) (arrays a p o f floats facts base reg w cs g tw kw cw t kg top) on to (a.held (x on)) i (field_value a p facts k) w v (grows_same w w refl) (not_null y h on seen z)
             (subst (λ u. S (field_value a p facts k) w u) (sym (read_same a p o f floats facts base reg w i k.kind v wrong vt))
-                (subst (λ m. S (elim m as (λ m. V) [ Some f ↦ facts.fields (own_key k f) | None ↦ a.outer k.kind ]) w v) (sym e) s)))
+            (subst (λ m. S (elim m as (λ m. V) [ Some f ↦ facts.fields (own_key k f) | None ↦ a.outer k.kind ]) w v) (sym e) s)))
 
         value : (d : Text × NamedField) → finds_field p k ≡ Some d → is_null (register g on) ≡ false → (z : Value) → (c : Text) × ((fs : FieldKey → Option Value) × (thing_at w z ≡ Some (Instance c fs))) → L (reads_value i to (instance_value k (place_of d.0 d.1) (thing_at w z)) w g)
         value d e nn (Object m) (c, (fs, at)) = subst (λ q. L (reads_value i to (instance_value k (place_of d.0 d.1) q) w g)) (sym at) (read d e nn (written_or (fs (own_key k d)) (zero_of k.kind))
@@ -251,7 +255,7 @@ module _ {V : Type 0} (a : Analysis V) (p : NamedProgram) (o : Outer) (f : Frame
         read d e v s vt = moves_on y h refl w (next (write_item i g to v)) None cw (item_method i g to v) (Some (put_sized a (is_wide_item i) to (field_value a p facts k) x)) refl
             (just_item a p facts (face_of p f).under floats base.sound w g x top.stands.hold (there a p o f floats facts base reg w cs g tw kw cw t kg top) (arrays a p o f floats facts base reg w cs g tw kw cw t kg top) to i (field_value a p facts k) w v (grows_same w w refl)
             (subst (λ u. S (field_value a p facts k) w u) (sym (read_same a p o f floats facts base reg w i k.kind v (or_left (wrong_item i k.kind) (wrong_field p true k) wrong) vt))
-                (subst (λ m. S (elim m as (λ m. V) [ Some f ↦ facts.fields (own_key k f) | None ↦ a.outer k.kind ]) w v) (sym e) s)))
+            (subst (λ m. S (elim m as (λ m. V) [ Some f ↦ facts.fields (own_key k f) | None ↦ a.outer k.kind ]) w v) (sym e) s)))
 
         static : (d : Text × NamedField) → finds_field p k ≡ Some d → is_static d.1.flags ≡ true
         static d e = untrue (is_static d.1.flags) (flag_of true k d e (or_right (wrong_item i k.kind) (wrong_field p true k) wrong))
@@ -330,7 +334,7 @@ module _ {V : Type 0} (a : Analysis V) (p : NamedProgram) (o : Outer) (f : Frame
         by (Some d) e = let w1 = with_static w (own_key k d) v in subst (λ m. L (writes_static need k v w g (option_map (λ c. place_of c.0 c.1) m))) (sym e)
             (readied y h refl (need d.0) d.0 (Stays w1 (next g) None) (class_of k d e)
             (moves_on y h refl w1 (next g) None (covers_static a p o f floats facts base reg w (own_key k d) v (typed_fields p f w tw) cw (value_there p f w k.kind v (stored_value p o f floats reg w cs g tw t i k.kind (register g from) wrong vt))
-                (put_holds y h i from k d PutsStatic e (formed y h) wrong vt (seen_first y h from [] refl))) refl (Some x) refl (unchanged y h w1 (grows_same w w1 refl))))
+            (put_holds y h i from k d PutsStatic e (formed y h) wrong vt (seen_first y h from [] refl))) refl (Some x) refl (unchanged y h w1 (grows_same w w1 refl))))
 
     pub instance_puts : (i : Item) (from on : ℕ) (k : FieldKey) → I (form.InstancePut i from on k) → D (act (face_of p f).under floats (form.InstancePut i from on k) w g)
     instance_puts i from on k h = held a p o f floats facts base reg w cs g tw kw cw t kg top y h refl (register g on) (Writes k (Some (register g on)) v) (λ z. by z (finds_field p k) refl)
@@ -356,7 +360,7 @@ module _ {V : Type 0} (a : Analysis V) (p : NamedProgram) (o : Outer) (f : Frame
         value : (d : Text × NamedField) → finds_field p k ≡ Some d → is_null (register g on) ≡ false → (z : Value) → (c : Text) × ((fs : FieldKey → Option Value) × (thing_at w z ≡ Some (Instance c fs))) → L (written_to (with_instance w (own_key k d) z v (thing_at w z)) g)
         value d e nn z (c, (fs, at)) = let w1 = put_thing w z (Instance c (put_field (own_key k d) v fs)) in subst (λ q. L (written_to (with_instance w (own_key k d) z v q) g)) (sym at)
             (moves_on y h refl w1 (next g) None (covers_instance a p o f floats facts base reg w (own_key k d) z v c fs at (typed_fields p f w tw) cw (value_there p f w k.kind v (stored_value p o f floats reg w cs g tw t i k.kind (register g from) wrong vt))
-                (put_holds y h i from k d (PutsInstance on) e (formed y h) wrong vt (seen_first y h from (on ∷ []) refl))) refl (refined a on (a.held (x on)) x) refl
+            (put_holds y h i from k d (PutsInstance on) e (formed y h) wrong vt (seen_first y h from (on ∷ []) refl))) refl (refined a on (a.held (x on)) x) refl
             (used_on y h on on_seen nn w1 (grows_put w z (Instance c fs) (Instance c (put_field (own_key k d) v fs)) at refl)))
 
         by : is_null (register g on) ≡ false → (m : Option (Text × NamedField)) → finds_field p k ≡ m → L (writes_instance k (register g on) v w g (option_map (λ c. place_of c.0 c.1) (finds_field p k)))

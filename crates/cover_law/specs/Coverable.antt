@@ -7,18 +7,21 @@ use Rattle.insn_set.specs.declared.ops.InvokeKind.{InvokeKind}
 use Rattle.dalvik_defs.specs.Names.{Text, is_word, is_wide, is_reference}
 use Rattle.dalvik_defs.specs.Flags.{is_static}
 use Rattle.dalvik_defs.specs.Under.{defines, is_under}
-use Rattle.dalvik_defs.specs.Find.{Found, Finds}
-use Rattle.dalvik_defs.specs.Face.{face_of, bodies_of, declared_in, finds_virtually}
+use Rattle.dalvik_defs.specs.Find.{Found, Finds, defined_field}
+use Rattle.dalvik_defs.specs.Face.{face_of, bodies_of, declared_in, finds_virtually, place_of}
+use Rattle.dalvik_defs.specs.Fields.{first_of}
 use Rattle.dalvik_defs.specs.Legal.{may_make, may_reach}
 use Rattle.dalvik_defs.specs.Outer.{Outer}
 use Rattle.dalvik_defs.specs.declared.forms.Form.{Form}
 use Rattle.dalvik_defs.specs.declared.forms.Form.TheVariants as form
+use Rattle.dalvik_defs.specs.declared.names.FieldKey.{FieldKey}
 use Rattle.dalvik_defs.specs.declared.names.MethodKey.{MethodKey}
 use Rattle.dalvik_defs.specs.declared.program.NamedBody.{NamedBody}
+use Rattle.dalvik_defs.specs.declared.program.NamedField.{NamedField}
 use Rattle.dalvik_defs.specs.declared.program.NamedProgram.{NamedProgram}
 use Rattle.dalvik_defs.specs.declared.tables.Floats.{Floats}
 use Rattle.dalvik_defs.specs.declared.tables.Framework.{Framework}
-use Rattle.pass_defs.specs.Analysis.{Analysis, IsSound}
+use Rattle.pass_defs.specs.Analysis.{Analysis, IsRanged, IsSound}
 use Rattle.pass_defs.specs.Calls.{is_within}
 use Rattle.pass_defs.specs.Closed.{IsClosed}
 use Rattle.pass_defs.specs.Facts.{Facts, IsEnteredOn, may_be_made}
@@ -33,6 +36,7 @@ has_values t = is_word t || is_wide t || is_reference t
 -- The numbers of a form have 32 bits, it makes no array of 2^31 items, and a field that it writes has a type of values.
 abbrev pub IsFormed : Form → Type 0
 IsFormed (form.Const to value) = cast_unsigned w32 value < 2 ^ 32
+IsFormed (form.Literal op to r value) = cast_unsigned w32 value < 2 ^ 32
 IsFormed (form.PackedSwitch on first targets) = cast_unsigned w32 first < 2 ^ 32
 IsFormed (form.FilledNewArray kind args) = length args < 2 ^ 31
 IsFormed (form.InstancePut item from on field) = has_values field.kind ≡ true
@@ -55,6 +59,8 @@ pub record IsCoverable {V : Type 0} (a : Analysis V) (p : NamedProgram) (o : Out
   -- only what gives a result goes on to what takes one, and no handler does
   pub places : AllTakeInPlace p
   pub formed : (k : MethodKey) (b : NamedBody) (x : Form) → bodies_of p k ≡ Some b → Contains b.forms x → IsFormed x
+  -- a word that a field begins with has 32 bits
+  pub firsts : (k : FieldKey) (d : NamedField) → defined_field p k ≡ Some d → IsRanged (first_of k (place_of k.class d))
   pub reaches : Reaches p o f
   pub sound : IsSound a (is_under p f) floats
   pub closed : IsClosed a p o facts

@@ -1,4 +1,4 @@
--- What is known of every state of a run beside its kinds, as an invariant: words have 32 bits, arrays have fewer than 2^31
+-- What is known of every state of a run beside its kinds, as invariants: words have 32 bits, arrays have fewer than 2^31
 -- items, and methods, classes and objects are of what is live (Dalvik bytecode, "General Design"; this project's profile).
 use Rattle.std.specs.Prelude.{◌≡◌, ℕ, ◌<◌, ◌^◌, true, List, Option, Some, None, length}
 use Rattle.dalvik_defs.specs.Names.{Text}
@@ -41,30 +41,62 @@ RangedMove (move.Throw g) = RangedGiven g
 RangedMove (move.ArrayPut on n g) = RangedGiven g
 RangedMove x = Unit {0}
 
-pub record KnownFrame (p : NamedProgram) (o : Outer) (f : Frame) : Type 0 where
+-- ---- words
+
+abbrev pub RangedThing : Thing → Type 0
+RangedThing (Instance c fields) = (k : FieldKey) (v : Value) → fields k ≡ Some v → IsRanged v
+RangedThing (Items k vs) = (length vs < 2 ^ 31) × Each IsRanged vs
+
+pub record RangedWorld (w : World) : Type 0 where
+  pub statics : (k : FieldKey) (v : Value) → w.statics k ≡ Some v → IsRanged v
+  pub things : Each RangedThing w.heap
+
+pub record RangedFrame (f : Frame) : Type 0 where
   pub registers : Each IsRanged f.registers
   pub result : IsRanged f.result
   pub caught : IsRanged f.caught
-  pub live : IsLiveMethod p o unconditional f.method
 
--- an object of a class of the program is of a made one
-abbrev pub KnownThing : NamedProgram → Outer → Thing → Type 0
-KnownThing p o (Instance c fields) = (defines p c ≡ true → IsMade p o unconditional c) × ((k : FieldKey) (v : Value) → fields k ≡ Some v → IsRanged v)
-KnownThing p o (Items k vs) = (length vs < 2 ^ 31) × Each IsRanged vs
-
-pub record KnownWorld (p : NamedProgram) (o : Outer) (w : World) : Type 0 where
-  pub statics : (k : FieldKey) (v : Value) → w.statics k ≡ Some v → IsRanged v
-  pub things : Each (KnownThing p o) w.heap
-
-abbrev pub known_states : NamedProgram → Outer → Invariant
-known_states p o = record {
-  outside = λ w c. KnownWorld p o w;
-  top = λ w c f. KnownFrame p o f;
-  waits = λ w a f. KnownFrame p o f;
+-- each word has 32 bits, and each array fewer than 2^31 items
+abbrev pub ranged_states : Invariant
+ranged_states = record {
+  outside = λ w c. RangedWorld w;
+  top = λ w c f. RangedFrame f;
+  waits = λ w a f. RangedFrame f;
   result = λ w k v. MaybeRanged v;
-  thrown = λ w v. Unit {0};
-  class = λ t. defines p t ≡ true → IsLiveClass p o unconditional t;
+  thrown = λ w v. IsRanged v;
+  class = λ t. Unit {0};
   move = RangedMove;
   later = Grows;
   ended = Unit {0};
 }
+
+-- ---- what is live
+
+-- an object of a class of the program is of a made one
+abbrev pub MadeThing : NamedProgram → Outer → Thing → Type 0
+MadeThing p o (Instance c fields) = defines p c ≡ true → IsMade p o unconditional c
+MadeThing p o (Items k vs) = Unit {0}
+
+-- methods that run are live, and so are classes that are initialised
+abbrev pub live_states : NamedProgram → Outer → Invariant
+live_states p o = record {
+  outside = λ w c. Each (MadeThing p o) w.heap;
+  top = λ w c f. IsLiveMethod p o unconditional f.method;
+  waits = λ w a f. IsLiveMethod p o unconditional f.method;
+  result = λ w k v. Unit {0};
+  thrown = λ w v. Unit {0};
+  class = λ t. defines p t ≡ true → IsLiveClass p o unconditional t;
+  move = λ x. Unit {0};
+  later = Grows;
+  ended = Unit {0};
+}
+
+-- ---- both
+
+pub record KnownWorld (p : NamedProgram) (o : Outer) (w : World) : Type 0 where
+  pub ranged : RangedWorld w
+  pub made : Each (MadeThing p o) w.heap
+
+pub record KnownFrame (p : NamedProgram) (o : Outer) (f : Frame) : Type 0 where
+  pub ranged : RangedFrame f
+  pub live : IsLiveMethod p o unconditional f.method

@@ -1,0 +1,4 @@
+mod Counting
+mod Idled
+mod Noting
+mod Planning

@@ -20,12 +20,12 @@ use Rattle.insn_set.specs.Widths.{is_wide_item, unary_writes_wide, binary_is_wid
 use Rattle.dalvik_defs.specs.Names.{Text, item_of, array_of}
 use Rattle.dalvik_defs.specs.Known.{null_pointer, bad_cast, bad_monitor, out_of_bounds}
 use Rattle.dalvik_defs.specs.Arith.{signed, passes, literal_answer, answer}
-use Rattle.dalvik_defs.specs.Operators.{Number, OneWord, OneWide, unary_answer, Sort, OnWord, OnWide, Shifts, OnFloat, OnDouble, sort_of, comparison, float_word, float_wide}
+use Rattle.dalvik_defs.specs.Operators.{unary_answer, Sort, OnWord, OnWide, Shifts, OnFloat, OnDouble, sort_of, comparison, float_word, float_wide}
 use Rattle.dalvik_defs.specs.State.{World, Thing, Instance, Items, is_null, kind_of, kind_of_thing, thing_at, put_thing, with_thing, next_object, word_of}
 use Rattle.dalvik_defs.specs.declared.state.Value.{Value}
 use Rattle.dalvik_defs.specs.declared.state.Value.TheVariants.{Word, Low, High, Object, Literal, Class}
 use Rattle.dalvik_defs.specs.declared.state.Frame.{Frame}
-use Rattle.dalvik_defs.specs.Effect.{Effect, Goes, Faults, Throws, Gives, Calls, Makes, Reads, Writes, Locks, Unlocks, Stuck, register, write, write_wide, write_slot, write_item, next, go, sets}
+use Rattle.dalvik_defs.specs.Effect.{Effect, Goes, Faults, Throws, Gives, Calls, Makes, Reads, Writes, Locks, Unlocks, Stuck, register, write, write_wide, write_item, next, go, sets}
 use Rattle.dalvik_defs.specs.ActPlain.{move_slot, exits, is_instance, truth, branch, goes_to, switch_target, packed_target}
 use Rattle.dalvik_defs.specs.ActArray.{measures, zeros as zero_items, new_array, fills, item_at, may_store, writes_item, put_item, reads_item, array_get, array_put}
 use Rattle.dalvik_defs.specs.ActNumber.{number, word, gives_word, gives_wide, sets_number, binary}
@@ -36,7 +36,7 @@ use Rattle.dalvik_defs.specs.declared.tables.Floats.{Floats}
 use Rattle.dalvik_defs.specs.declared.program.NamedProgram.{NamedProgram}
 use Rattle.pass_defs.specs.Facts.{Facts}
 use Rattle.pass_defs.specs.Analysis.{Analysis, IsSound, IsRanged, Holds, HoldsBoth, IsNone, IsReference, on_sort, on_number, read_item}
-use Rattle.pass_defs.specs.Closed.{put, put_wide, put_sized, moved, refined, refined_both, then_put, arm, cases, keys_of, switched, edges, packed_key, packed_keys, is_wide_slot}
+use Rattle.pass_defs.specs.Closed.{put, put_wide, put_sized, moved, refined, refined_both, then_put, arm, cases, keys_of, switched, edges, packed_key, packed_keys}
 use Rattle.invariant_law.specs.Fine.{IsThere}
 use Rattle.invariant_law.specs.Holds.{Each}
 use Rattle.invariant_law.specs.Invariant.{Grows}

@@ -1,22 +1,21 @@
 -- Calls keep a frame covered: what they enter is covered at its entry, and what leaves the program is awaited.
-use Rattle.std.proofs.Common.{◌≡◌, ℕ, zero, suc, ◌+◌, ◌<◌, Bool, true, false, true≢false, List, [], ◌∷◌, ◌++◌, Option, Some, None, ◌⊎◌, inl, inr, refl, sym, ap, ◌∙◌, subst, arith}
-use Rattle.std.specs.Prelude.{codes, ◌&&◌, ◌||◌, not, ◌^◌, length, map, flat_map, slice_get, slice_index_or, is_some, Contains, if◌then◌else◌}
+use Rattle.std.proofs.Common.{◌≡◌, ℕ, zero, suc, ◌+◌, ◌<◌, Bool, true, false, true≢false, List, [], ◌∷◌, Option, Some, None, ◌⊎◌, inl, inr, refl, sym, ap, ◌∙◌, subst, arith}
+use Rattle.std.specs.Prelude.{codes, ◌&&◌, not, length, map, flat_map, slice_get, is_some, Contains, if◌then◌else◌}
 use Rattle.std.specs.List.{list_any}
-use Rattle.std.specs.Option.{option_map}
 use Rattle.insn_set.specs.declared.ops.InvokeKind.{InvokeKind}
 use Rattle.insn_set.specs.declared.ops.InvokeKind.TheVariants as call
 use Rattle.dalvik_defs.proofs.Calm.{text_sound}
-use Rattle.dalvik_defs.specs.Names.{Text, text_eq, texts_eq, signature_eq, method_eq, object_type, object_constructor, is_common, is_class_type}
+use Rattle.dalvik_defs.specs.Names.{Text, text_eq, texts_eq, signature_eq, method_eq, object_type, object_constructor, is_common}
 use Rattle.dalvik_defs.specs.Flags.{is_static, is_native}
 use Rattle.dalvik_defs.specs.Known.{null_pointer, abstract_method, class_change}
 use Rattle.dalvik_defs.specs.Under.{class_named, defines, own_above, walks, is_own_under, is_under}
-use Rattle.dalvik_defs.specs.Find.{Found, Search, Nothing, Clash, Finds, found_in, finds_statically, finds_super, finds_at, finds_among, chain_of, chain_from, is_037, verdict, lowest, without_repeats, candidates_from, first_method, is_virtual_method}
+use Rattle.dalvik_defs.specs.Find.{Found, Search, Nothing, Clash, Finds, finds_statically, finds_super, finds_at, finds_among, chain_from, is_037, verdict, lowest, without_repeats, candidates_from, first_method, is_virtual_method}
 use Rattle.dalvik_defs.specs.Face.{face_of, bodies_of, finds_virtually}
 use Rattle.dalvik_defs.specs.Outer.{Outer}
 use Rattle.dalvik_defs.specs.State.{World, Classes, Thing, Instance, Items, is_null, kind_of, kind_of_thing}
 use Rattle.dalvik_defs.specs.Show.{show_all}
 use Rattle.dalvik_defs.specs.Effect.{register, next}
-use Rattle.dalvik_defs.specs.Outcome.{Outcome, Stays, Starts, Enters, Leaves, Need, need_of, faults, when_ready, passed_types, calls_out, native_kind, takes_no_receiver, calls_uncoded, calls_found, calls_ready, is_direct, calls_unfound, calls_by, receiver, on_receiver, calls}
+use Rattle.dalvik_defs.specs.Outcome.{Outcome, Stays, Enters, Need, need_of, faults, when_ready, passed_types, calls_out, native_kind, takes_no_receiver, calls_uncoded, calls_found, calls_ready, calls_unfound, calls_by, receiver, on_receiver, calls}
 use Rattle.dalvik_defs.specs.declared.state.Value.{Value}
 use Rattle.dalvik_defs.specs.declared.state.Value.TheVariants.{Word, Low, High, Object, Literal, Class}
 use Rattle.dalvik_defs.specs.declared.state.Frame.{Frame}
@@ -30,13 +29,12 @@ use Rattle.dalvik_defs.specs.declared.tables.Floats.{Floats}
 use Rattle.dalvik_defs.specs.declared.tables.Framework.{Framework}
 use Rattle.pass_defs.specs.Analysis.{Analysis, IsRanged}
 use Rattle.pass_defs.specs.Calls.{is_within}
-use Rattle.pass_defs.specs.Closed.{At, IsBound, IsEntered, MayBe, MayCall, Statically, Directly, Above, Virtually, ByInterface, MayLeave, called, edges, arm, refined}
+use Rattle.pass_defs.specs.Closed.{At, IsBound, IsEntered, MayBe, MayCall, Statically, Directly, Above, Virtually, ByInterface, MayLeave}
 use Rattle.pass_defs.specs.Facts.{Facts, IsEnteredOn, needs, static_class}
 use Rattle.pass_defs.specs.Kinds as kind
 use Rattle.pass_defs.specs.Live.{IsMade, unconditional}
-use Rattle.pass_defs.specs.Typed.{receiver_register, after, wrong_super, finds_static, is_static_call, differ, words_of}
+use Rattle.pass_defs.specs.Typed.{finds_static, is_static_call, words_of}
 use Rattle.pass_defs.specs.Demands.{is_constructor_name}
-use Rattle.invariant_law.specs.Holds.{Each}
 use Rattle.invariant_law.specs.Invariant.{Callee, Owing}
 use Rattle.invariant_law.proofs.Fine.{each_get, each_or}
 use Rattle.invariant_law.proofs.Growing.{grows_same}
@@ -47,19 +45,17 @@ use Rattle.stuck_law.proofs.Settled.{IsSettled, IsFound, FindsRegularly}
 use Rattle.stuck_law.proofs.Registers.{and_left, and_right}
 use Rattle.stuck_law.proofs.Climbs.{none_some, some_one, or_cases, under_self, step_up, defined_by, Up}
 use Rattle.stuck_law.proofs.Arrays.{true_false}
-use Rattle.stuck_law.proofs.ArrayForms.{untrue2}
 use Rattle.stuck_law.proofs.Calls.{right_method, right_super, own_class, virtual_object, virtual_flags}
 use Rattle.stuck_law.proofs.Forms.{first_in, or_right}
 use Rattle.stuck_law.proofs.Here.{setting, get_contains}
-use Rattle.form_law.specs.Changes.{operands}
 use Rattle.cover_law.specs.Coverable.{IsCoverable}
 use Rattle.cover_law.specs.Known.{KnownFrame, KnownWorld, MadeThing}
 use Rattle.cover_law.proofs.Along.{Looks}
 use Rattle.cover_law.proofs.Reading.{enough}
-use Rattle.cover_law.proofs.Standing.{at_typed, gone_on}
+use Rattle.cover_law.proofs.Standing.{gone_on}
 use Rattle.cover_law.proofs.Entering.{Passes, entry_top, nothing_behind}
 use Rattle.cover_law.proofs.Worlds.{same_world, same_all}
-use Rattle.cover_law.proofs.Stays.{below, covers, Leads, Does, Is, kept, there, arrays, here, faulted, looks}
+use Rattle.cover_law.proofs.Stays.{below, covers, Leads, Is, kept, there, arrays, here, faulted, looks}
 use Rattle.cover_law.proofs.Waiting.{waits, readied, used_on}
 
 -- ---- what stands above by a program's own lists

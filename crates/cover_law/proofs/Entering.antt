@@ -1,7 +1,6 @@
 -- A method whose entry the facts reach is covered there, and nothing takes a result where none is.
 use Rattle.std.proofs.Common.{◌≡◌, ℕ, zero, suc, ◌+◌, ◌-◌, ◌<◌, Bool, true, false, true≢false, List, [], ◌∷◌, ◌++◌, Option, Some, None, ◌⊎◌, inl, inr, refl, sym, ap, ◌∙◌, subst, arith}
-use Rattle.std.specs.Prelude.{◌&&◌, ◌^◌, length, map, replicate, slice_get, is_some, Contains}
-use Rattle.std.specs.List.{list_all}
+use Rattle.std.specs.Prelude.{◌&&◌, length, map, replicate, slice_get, is_some, Contains}
 use Rattle.std.specs.Option.{option_and_then}
 use Rattle.insn_set.specs.declared.ops.Slot.{Slot}
 use Rattle.insn_set.specs.declared.ops.Slot.TheVariants as slot
@@ -23,11 +22,11 @@ use Rattle.dalvik_defs.specs.declared.tables.Floats.{Floats}
 use Rattle.dalvik_defs.specs.declared.tables.Framework.{Framework}
 use Rattle.pass_defs.specs.Analysis.{Analysis}
 use Rattle.pass_defs.specs.Closed.{IsEntered, BeginsAt}
-use Rattle.pass_defs.specs.Demands.{is_allowed, demands, meets, place_allowed, result_fits}
+use Rattle.pass_defs.specs.Demands.{is_allowed, result_fits}
 use Rattle.pass_defs.specs.Facts.{Facts}
 use Rattle.pass_defs.specs.Kinds.{Kind, is_below}
 use Rattle.pass_defs.specs.Kinds as kind
-use Rattle.pass_defs.specs.Registers.{Kinds, all_below, kinds_below, state_below}
+use Rattle.pass_defs.specs.Registers.{Kinds, all_below, state_below}
 use Rattle.pass_defs.specs.Typed.{Table, IsTyping, state_at, at_state, arrives, after, begun, edges as typed_edges, catches}
 use Rattle.pass_defs.specs.Walks.{form_at, onward}
 use Rattle.run_facts.specs.Covered.{Sees, SeesAll, TakesFrom, CoversTop}
@@ -36,7 +35,6 @@ use Rattle.stuck_law.proofs.Settled.{IsSettled}
 use Rattle.stuck_law.proofs.Registers.{and_left, and_right}
 use Rattle.stuck_law.proofs.Climbs.{none_some, some_one}
 use Rattle.stuck_law.proofs.Here.{At, each_at, all_in, into_left, into_map}
-use Rattle.stuck_law.proofs.Forms.{first_in}
 use Rattle.cover_law.specs.Coverable.{IsCoverable}
 
 -- ---- positions where there is no result

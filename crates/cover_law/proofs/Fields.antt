@@ -1,6 +1,6 @@
 -- What facts say of fields: of what is read from them, and once they are written.
-use Rattle.std.proofs.Common.{◌≡◌, ℕ, zero, suc, ◌+◌, Bool, true, false, true≢false, List, [], ◌∷◌, ◌++◌, Option, Some, None, ◌⊎◌, inl, inr, refl, sym, ap, ◌∙◌, subst}
-use Rattle.std.specs.Prelude.{◌&&◌, not, length, map, slice_get, slice_set, Contains, if◌then◌else◌}
+use Rattle.std.proofs.Common.{◌≡◌, ℕ, zero, suc, Bool, true, false, true≢false, List, [], ◌∷◌, ◌++◌, Option, Some, None, ◌⊎◌, inl, inr, refl, sym, ap, ◌∙◌, subst}
+use Rattle.std.specs.Prelude.{◌&&◌, not, length, map, slice_get, slice_set, Contains}
 use Rattle.std.specs.Option.{option_map, option_or}
 use Rattle.insn_set.specs.declared.ops.Item.{Item}
 use Rattle.insn_set.specs.declared.ops.Item.TheVariants as item
@@ -9,7 +9,7 @@ use Rattle.dalvik_defs.specs.Names.{Text, text_eq, field_eq, is_wide}
 use Rattle.dalvik_defs.specs.Flags.{is_static}
 use Rattle.dalvik_defs.specs.Under.{class_named}
 use Rattle.dalvik_defs.specs.Face.{place_of}
-use Rattle.dalvik_defs.specs.Fields.{first_of, key_at, written_or, static_value, with_static}
+use Rattle.dalvik_defs.specs.Fields.{first_of, written_or, static_value, with_static}
 use Rattle.dalvik_defs.specs.Find.{defined_field, finds_field, field_from, field_in, first_field}
 use Rattle.dalvik_defs.specs.Outer.{Outer}
 use Rattle.dalvik_defs.specs.State.{World, Thing, Instance, Items, kind_of, put_field, put_thing, thing_at, zero_of, word_of}
@@ -23,7 +23,6 @@ use Rattle.dalvik_defs.specs.declared.tables.Floats.{Floats}
 use Rattle.dalvik_defs.specs.declared.tables.Framework.{Framework}
 use Rattle.pass_defs.specs.Analysis.{Analysis, read_item}
 use Rattle.pass_defs.specs.Facts.{Facts, own_key, begun_with}
-use Rattle.pass_defs.specs.Kinds as kind
 use Rattle.pass_defs.specs.Typed.{wrong_item}
 use Rattle.invariant_law.specs.Fine.{IsThere}
 use Rattle.invariant_law.specs.Invariant.{Grows}

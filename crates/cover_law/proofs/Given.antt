@@ -1,9 +1,9 @@
 -- Values that the framework gives: they are there, they have 32 bits, and no field changes by them.
-use Rattle.std.proofs.Common.{◌≡◌, ℕ, zero, suc, ◌+◌, ◌<◌, Bool, true, false, true≢false, List, [], ◌∷◌, ◌++◌, Option, Some, None, ◌⊎◌, inl, inr, refl, sym, ap, ◌∙◌, subst, arith}
-use Rattle.std.specs.Prelude.{◌&&◌, ◌%◌, ◌^◌, not, find, is_some, length, slice_get, Contains}
+use Rattle.std.proofs.Common.{◌≡◌, ℕ, Bool, true, false, List, [], ◌∷◌, ◌++◌, Option, Some, None, refl, sym, ap, ◌∙◌, subst, arith}
+use Rattle.std.specs.Prelude.{◌&&◌, find, length, slice_get, Contains}
 use Rattle.std.specs.Option.{option_map}
 use Rattle.dalvik_defs.specs.Names.{Text, text_eq, signature_eq, initialiser_name, void, proto_text}
-use Rattle.dalvik_defs.specs.Face.{face_of, bodies_of, declared_in, Place, place_of}
+use Rattle.dalvik_defs.specs.Face.{declared_in, Place, place_of}
 use Rattle.dalvik_defs.specs.Find.{Found, defined_field, defined_method, found_in}
 use Rattle.dalvik_defs.specs.Flags.{is_static}
 use Rattle.dalvik_defs.specs.Gives.{gets, gets_all, exposed_at}
@@ -11,8 +11,7 @@ use Rattle.dalvik_defs.specs.Legal.{is_class_initialiser}
 use Rattle.dalvik_defs.specs.Moves.{got}
 use Rattle.dalvik_defs.specs.Outer.{Outer}
 use Rattle.dalvik_defs.specs.Show.{with_given}
-use Rattle.dalvik_defs.specs.Silence.{key_in}
-use Rattle.dalvik_defs.specs.State.{World, Exposed, Thing, Instance, fresh, kind_of, kind_of_thing, with_thing, thing_at, is_null}
+use Rattle.dalvik_defs.specs.State.{World, Exposed, Thing, Instance, fresh, kind_of, kind_of_thing, with_thing, thing_at}
 use Rattle.dalvik_defs.specs.ActArray.{zeros}
 use Rattle.dalvik_defs.specs.Under.{class_named, defines, is_under}
 use Rattle.dalvik_defs.specs.declared.names.FieldKey.{FieldKey}
@@ -27,20 +26,18 @@ use Rattle.dalvik_defs.specs.declared.program.NamedProgram.{NamedProgram}
 use Rattle.dalvik_defs.specs.declared.tables.Floats.{Floats}
 use Rattle.dalvik_defs.specs.declared.tables.Framework.{Framework}
 use Rattle.pass_defs.specs.Analysis.{IsRanged}
-use Rattle.pass_defs.specs.Facts.{IsEnteredStatic, is_initialiser_key}
+use Rattle.pass_defs.specs.Facts.{IsEnteredStatic}
 use Rattle.pass_defs.specs.Live.{IsMade, unconditional}
 use Rattle.invariant_law.specs.Fine.{IsThere}
 use Rattle.invariant_law.specs.Holds.{Each}
 use Rattle.invariant_law.proofs.Fine.{each_append, each_get, each_to, new_there}
 use Rattle.invariant_law.proofs.Growing.{grows_with, there_later}
-use Rattle.invariant_law.proofs.Plain.{gets_grow, got_grows, all_grow}
-use Rattle.stuck_law.specs.TypedStates.{IsObject, TypedThing, TypedWorld}
+use Rattle.stuck_law.specs.TypedStates.{IsObject, TypedWorld}
 use Rattle.stuck_law.proofs.Settled.{IsSettled, FindsRegularly}
-use Rattle.stuck_law.proofs.Registers.{and_left, and_right}
-use Rattle.stuck_law.proofs.Climbs.{none_some, some_one, class_in, defined_by, defined_below, found_in_list}
+use Rattle.stuck_law.proofs.Climbs.{none_some, some_one, class_in, defined_below, found_in_list}
 use Rattle.stuck_law.proofs.Framework.{object_under}
 use Rattle.stuck_law.proofs.Values.{instance_thing}
-use Rattle.stuck_law.proofs.Worlds.{object_there, at_typed}
+use Rattle.stuck_law.proofs.Worlds.{at_typed}
 use Rattle.cover_law.specs.Known.{KnownWorld, MadeThing, RangedGiven, MaybeGiven, MaybeRanged}
 use Rattle.cover_law.proofs.Worlds.{SameFields, same_heap, same_world, same_with, same_then}
 

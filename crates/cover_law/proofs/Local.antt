@@ -1,19 +1,18 @@
 -- What a form does that stays in its frame: fields hold what they held, and what throws may throw.
-use Rattle.std.proofs.Common.{◌≡◌, ℕ, zero, suc, ◌+◌, ℤ, pos, negsuc, Bool, true, false, true≢false, List, [], ◌∷◌, ◌++◌, Option, Some, None, refl, sym, ap, ◌∙◌, subst, nat_eq}
-use Rattle.std.specs.Prelude.{◌||◌, ◌&&◌, not, ◌^◌, ◌%◌, nat_lt, length, map, slice_get, slice_set}
+use Rattle.std.proofs.Common.{◌≡◌, ℕ, ℤ, pos, negsuc, Bool, true, false, List, Option, Some, None, refl, sym, ◌∙◌}
+use Rattle.std.specs.Prelude.{◌||◌, nat_lt, length, map}
 use Rattle.std.specs.Int.{w32, cast_unsigned}
 use Rattle.insn_set.specs.declared.ops.Item.{Item}
-use Rattle.insn_set.specs.Flow.{divides, divides_by_literal}
-use Rattle.dalvik_defs.specs.Items.{stored, fill}
+use Rattle.dalvik_defs.specs.Items.{fill}
 use Rattle.dalvik_defs.specs.Names.{Text, item_of}
-use Rattle.dalvik_defs.specs.Known.{null_pointer, bad_cast, bad_monitor, out_of_bounds}
+use Rattle.dalvik_defs.specs.Known.{null_pointer, bad_cast, out_of_bounds}
 use Rattle.dalvik_defs.specs.Arith.{signed, passes, literal_answer, answer}
-use Rattle.dalvik_defs.specs.Operators.{Number, OneWord, OneWide, unary_answer, Sort, OnWord, OnWide, Shifts, OnFloat, OnDouble, sort_of, float_word, float_wide}
-use Rattle.dalvik_defs.specs.State.{World, Thing, Instance, Items, is_null, thing_at, put_thing, with_thing, next_object, word_of, kind_of}
+use Rattle.dalvik_defs.specs.Operators.{Number, OneWord, OneWide, unary_answer, Sort, OnWord, OnWide, Shifts, OnFloat, OnDouble, sort_of}
+use Rattle.dalvik_defs.specs.State.{World, Thing, Instance, Items, is_null, thing_at, put_thing}
 use Rattle.dalvik_defs.specs.declared.state.Value.{Value}
 use Rattle.dalvik_defs.specs.declared.state.Value.TheVariants.{Word}
 use Rattle.dalvik_defs.specs.declared.state.Frame.{Frame}
-use Rattle.dalvik_defs.specs.Effect.{Effect, Goes, Faults, Throws, Gives, Calls, Makes, Reads, Writes, Locks, Unlocks, Stuck, register, write, write_item, unless_null, next, go, sets}
+use Rattle.dalvik_defs.specs.Effect.{Effect, Goes, Faults, Throws, Stuck, register, unless_null, next}
 use Rattle.dalvik_defs.specs.ActPlain.{is_instance, branch, goes_to, switch_target, packed_target}
 use Rattle.dalvik_defs.specs.ActArray.{measures, zeros as zero_items, new_array, fills, item_at, may_store, writes_item, put_item, reads_item, array_get, array_put}
 use Rattle.dalvik_defs.specs.ActNumber.{number, word, gives_word, gives_wide, sets_number, binary}
@@ -23,7 +22,6 @@ use Rattle.dalvik_defs.specs.declared.forms.Form.TheVariants as form
 use Rattle.dalvik_defs.specs.declared.tables.Floats.{Floats}
 use Rattle.pass_defs.specs.Bare.{may_throw}
 use Rattle.stuck_law.proofs.Forms.{sort_divides, sort_throws, divides_op, literal_divides}
-use Rattle.stuck_law.proofs.Climbs.{none_some}
 use Rattle.cover_law.proofs.Worlds.{SameFields, same_world, same_with, same_put}
 
 -- what stays in its frame: no call, no field, no monitor, no class and no end

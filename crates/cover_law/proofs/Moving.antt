@@ -1,19 +1,18 @@
 -- What the framework's moves leave is covered: entries, answers, and fields and items that it writes.
-use Rattle.std.proofs.Common.{◌≡◌, ℕ, zero, suc, ◌+◌, ◌<◌, Bool, true, false, true≢false, List, [], ◌∷◌, ◌++◌, Option, Some, None, ◌⊎◌, inl, inr, refl, sym, ap, ◌∙◌, subst, arith}
-use Rattle.std.specs.Prelude.{◌&&◌, ◌%◌, ◌^◌, ◌-◌, not, nat_lt, is_some, length, replicate, slice_get, slice_set, Contains}
-use Rattle.std.specs.Option.{option_map}
+use Rattle.std.proofs.Common.{◌≡◌, ℕ, suc, Bool, true, false, true≢false, List, [], ◌∷◌, Option, Some, None, refl, sym, ap, ◌∙◌, subst, arith}
+use Rattle.std.specs.Prelude.{◌&&◌, ◌-◌, not, nat_lt, length, replicate, slice_set, Contains}
 use Rattle.dalvik_defs.specs.Names.{Text}
-use Rattle.dalvik_defs.specs.Face.{face_of, bodies_of, declared_in, Place, place_of}
-use Rattle.dalvik_defs.specs.Fields.{with_static, with_instance}
+use Rattle.dalvik_defs.specs.Face.{face_of, bodies_of, declared_in}
+use Rattle.dalvik_defs.specs.Fields.{with_instance}
 use Rattle.dalvik_defs.specs.Find.{Found, defined_field}
 use Rattle.dalvik_defs.specs.Flags.{is_static}
-use Rattle.dalvik_defs.specs.Gives.{gets, gets_all, spread, fits, all_fit, is_on}
+use Rattle.dalvik_defs.specs.Gives.{gets, gets_all, spread, all_fit, is_on}
 use Rattle.dalvik_defs.specs.Initialised.{initialised_first, initialiser_of}
 use Rattle.dalvik_defs.specs.Items.{stored, item_of_type}
 use Rattle.dalvik_defs.specs.Legal.{may_enter, may_enter_found, may_make, may_reach, receiver_ok, is_class_initialiser}
-use Rattle.dalvik_defs.specs.Moves.{got, with_field, with_item}
+use Rattle.dalvik_defs.specs.Moves.{with_field, with_item}
 use Rattle.dalvik_defs.specs.Outer.{Outer}
-use Rattle.dalvik_defs.specs.State.{World, Classes, Thing, Instance, Items, fresh, is_null, kind_of, next_object, with_thing, thing_at, put_field, put_thing}
+use Rattle.dalvik_defs.specs.State.{World, Classes, Thing, Instance, Items, fresh, is_null, kind_of, next_object, with_thing, thing_at, put_thing}
 use Rattle.dalvik_defs.specs.Show.{show}
 use Rattle.dalvik_defs.specs.Under.{defines, is_under}
 use Rattle.dalvik_defs.specs.declared.names.FieldKey.{FieldKey}
@@ -27,27 +26,25 @@ use Rattle.dalvik_defs.specs.declared.program.NamedProgram.{NamedProgram}
 use Rattle.dalvik_defs.specs.declared.tables.Floats.{Floats}
 use Rattle.dalvik_defs.specs.declared.tables.Framework.{Framework}
 use Rattle.pass_defs.specs.Analysis.{Analysis, IsRanged}
-use Rattle.pass_defs.specs.Closed.{IsEntered, IsNeeded, Enters, Makes}
+use Rattle.pass_defs.specs.Closed.{IsEntered, Enters, Makes}
 use Rattle.pass_defs.specs.Facts.{Facts, Initialises, Itself, First, IsEnteredStatic, IsEnteredOn}
 use Rattle.invariant_law.specs.Fine.{IsThere}
 use Rattle.invariant_law.specs.Holds.{Each}
-use Rattle.invariant_law.specs.Invariant.{Grows}
-use Rattle.invariant_law.proofs.Fine.{each_get, stored_there}
+use Rattle.invariant_law.proofs.Fine.{each_get}
 use Rattle.invariant_law.proofs.Plain.{gets_grow}
-use Rattle.invariant_law.proofs.Growing.{grows_same}
 use Rattle.invariant_law.proofs.Stacked.{EnteredOver, WrittenOver}
 use Rattle.run_facts.specs.Covered.{Sees, CoversClass, CoversWorld}
-use Rattle.stuck_law.specs.TypedStates.{TypedFrame, TypedWorld}
+use Rattle.stuck_law.specs.TypedStates.{TypedWorld}
 use Rattle.stuck_law.proofs.Settled.{IsSettled, FindsRegularly}
 use Rattle.stuck_law.proofs.Registers.{and_left, and_right}
-use Rattle.stuck_law.proofs.Climbs.{none_some, some_one, defined_by}
+use Rattle.stuck_law.proofs.Climbs.{none_some, defined_by}
 use Rattle.stuck_law.proofs.Framework.{untrue}
 use Rattle.stuck_law.proofs.Here.{setting}
 use Rattle.cover_law.specs.Coverable.{IsCoverable}
-use Rattle.cover_law.specs.Known.{KnownFrame, KnownWorld}
+use Rattle.cover_law.specs.Known.{KnownWorld}
 use Rattle.cover_law.proofs.Entering.{Passes, entry_top}
 use Rattle.cover_law.proofs.Fields.{covers_static, covers_instance}
-use Rattle.cover_law.proofs.Given.{IsDeclared, declared, entered_static, gets_same, got_same, all_same, each_behind, made_under}
+use Rattle.cover_law.proofs.Given.{IsDeclared, declared, entered_static, gets_same, all_same, each_behind, made_under}
 use Rattle.cover_law.proofs.Stays.{below, covers}
 use Rattle.cover_law.proofs.Worlds.{SameFields, FieldsThere, typed_fields, fields_over, covers_over, same_with, same_then, same_show, same_put_over}
 

@@ -1,5 +1,5 @@
 -- What the machine makes of words has 32 bits.
-use Rattle.std.proofs.Common.{◌≡◌, ℕ, zero, suc, ◌+◌, ◌-◌, ◌*◌, ◌<◌, ℤ, pos, negsuc, neg_ℤ, nat_abs, arith, Bool, true, false, true≢false, Option, Some, None, refl, sym, ap, subst, div-le_self}
+use Rattle.std.proofs.Common.{◌≡◌, ℕ, zero, suc, ◌+◌, ◌-◌, ◌*◌, ◌<◌, ℤ, pos, negsuc, neg_ℤ, nat_abs, arith, Bool, true, false, true≢false, Option, Some, None, ap, subst, div-le_self}
 use native.Mathlib.Nat.{mod-le}
 use Rattle.std.specs.Prelude.{◌%◌, ◌/◌, ◌^◌, nat_eq, int_lt, int_div, int_rem, FitsSigned, bit_and}
 use Rattle.std.specs.Int.{w8, w16, w32, cast_signed, cast_unsigned}
@@ -16,7 +16,7 @@ use Rattle.insn_set.specs.declared.ops.UnaryOp.TheVariants as unary
 use Rattle.dalvik_defs.specs.declared.tables.Floats.{Floats}
 use Rattle.dalvik_defs.specs.declared.tables.FloatOp.{FloatOp}
 use Rattle.dalvik_defs.specs.declared.tables.FloatOp.TheVariants.{CmplFloat, CmpgFloat, CmplDouble, CmpgDouble, NegFloat, IntToFloat, LongToFloat, FloatToInt, DoubleToInt, DoubleToFloat}
-use Rattle.dalvik_defs.specs.Arith.{Kind, Add, Sub, Mul, Div, Rem, And, Or, Xor, Shl, Shr, Ushr, answer, literal_answer, half_down, if_divides, low_signed, signed, compared}
+use Rattle.dalvik_defs.specs.Arith.{Kind, Add, Sub, Mul, Div, Rem, And, Or, Xor, Shl, Shr, Ushr, answer, literal_answer, half_down, if_divides, signed}
 use Rattle.dalvik_defs.specs.Items.{stored}
 use Rattle.dalvik_defs.specs.Operators.{Number, OneWord, OneWide, unary_answer, comparison, float_word, float_answer}
 use Rattle.dalvik_defs.specs.State.{word_of}

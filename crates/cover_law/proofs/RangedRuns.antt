@@ -1,12 +1,12 @@
 -- In each state that a run reaches words have 32 bits, where those of the program and of the script have.
-use Rattle.std.proofs.Common.{◌≡◌, ℕ, zero, suc, ◌+◌, ◌-◌, ◌<◌, Bool, true, false, true≢false, List, [], ◌∷◌, Option, Some, None, ◌⊎◌, inl, inr, refl, sym, ap, ◌∙◌, subst, arith}
-use Rattle.std.specs.Prelude.{◌&&◌, ◌^◌, length, replicate, nat_lt, slice_get, slice_set}
+use Rattle.std.proofs.Common.{◌≡◌, ℕ, ◌+◌, ◌-◌, ◌<◌, Bool, true, false, List, [], ◌∷◌, Option, Some, None, refl, sym, ap, ◌∙◌, subst, arith}
+use Rattle.std.specs.Prelude.{◌^◌, length, replicate, nat_lt, slice_get, slice_set}
 use Rattle.std.specs.Option.{option_map, option_and_then}
 use Rattle.insn_set.specs.declared.ops.Item.{Item}
 use Rattle.insn_set.specs.declared.ops.Item.TheVariants as item
 use Rattle.dalvik_defs.specs.Names.{Text, throwable_type}
 use Rattle.dalvik_defs.specs.Face.{face_of, bodies_of, Place, place_of}
-use Rattle.dalvik_defs.specs.Fields.{first_of, with_static, with_instance}
+use Rattle.dalvik_defs.specs.Fields.{first_of, with_instance}
 use Rattle.dalvik_defs.specs.Find.{finds_field}
 use Rattle.dalvik_defs.specs.Gives.{gets, gets_all, spread}
 use Rattle.dalvik_defs.specs.Happens.{Setting, outcome_at, effect_of}
@@ -14,8 +14,8 @@ use Rattle.dalvik_defs.specs.Items.{stored, item_of_type}
 use Rattle.dalvik_defs.specs.Moves.{got, with_field, with_item, field_value, key_of}
 use Rattle.dalvik_defs.specs.Outcome.{Outcome, Stays, Starts, Enters, Leaves, Ends, Raises, Halts, need_of, outcome}
 use Rattle.dalvik_defs.specs.Outer.{Outer}
-use Rattle.dalvik_defs.specs.Show.{show, show_option, with_given}
-use Rattle.dalvik_defs.specs.Stack.{entry_frame, receives, back, lands, handler_at, form_at as form_of}
+use Rattle.dalvik_defs.specs.Show.{with_given}
+use Rattle.dalvik_defs.specs.Stack.{entry_frame, receives, back, handler_at, form_at as form_of}
 use Rattle.dalvik_defs.specs.State.{World, Classes, Thing, Instance, Items, fresh, kind_of, next_object, with_thing, thing_at, put_field, put_thing, word_of}
 use Rattle.dalvik_defs.specs.ActArray.{zeros}
 use Rattle.dalvik_defs.specs.Effect.{write_item, next, go}
@@ -39,7 +39,7 @@ use Rattle.invariant_law.specs.Holds.{Each}
 use Rattle.invariant_law.specs.Invariant.{Invariant}
 use Rattle.invariant_law.proofs.Fine.{each_join, each_same, each_set}
 use Rattle.invariant_law.proofs.Stacked.{KeptOver, LeadsOver, LandedOver, EnteredOver, ShownOver, WrittenOver}
-use Rattle.stuck_law.specs.TypedStates.{TypedFrame, TypedWorld, typed_states}
+use Rattle.stuck_law.specs.TypedStates.{TypedFrame, typed_states}
 use Rattle.stuck_law.proofs.Settled.{IsSettled, FindsRegularly}
 use Rattle.stuck_law.proofs.Climbs.{none_some, some_one}
 use Rattle.stuck_law.proofs.Here.{at_form, get_contains, setting}

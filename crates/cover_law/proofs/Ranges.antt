@@ -1,5 +1,5 @@
 -- What a step leaves has words of 32 bits, where its form's numbers have.
-use Rattle.std.proofs.Common.{◌≡◌, ℕ, ◌+◌, ◌-◌, ℤ, pos, negsuc, Bool, true, false, true≢false, List, Option, Some, None, refl, ap, ◌∙◌, subst, sym, arith, replicate, ◌<◌, ◌∷◌, [], suc, zero, ◌++◌}
+use Rattle.std.proofs.Common.{◌≡◌, ℕ, ◌+◌, ◌-◌, ℤ, pos, negsuc, Bool, true, false, true≢false, List, Option, Some, None, refl, ap, ◌∙◌, subst, sym, arith, replicate, ◌<◌, ◌∷◌, [], suc, zero}
 use Rattle.std.specs.Prelude.{◌&&◌, ◌||◌, nat_lt, nat_eq, length, map, slice_get, slice_set, drop, ◌%◌, ◌^◌}
 use Rattle.insn_set.specs.declared.ops.Item.{Item}
 use Rattle.insn_set.specs.declared.ops.Item.TheVariants as item
@@ -16,7 +16,7 @@ use Rattle.dalvik_defs.specs.declared.events.Event.TheVariants as event
 use Rattle.dalvik_defs.specs.Operators.{Number, OneWord, OneWide, Sort, unary_answer, sort_of, OnWord, OnWide, Shifts, OnFloat, OnDouble, float_word, float_wide, comparison}
 use Rattle.dalvik_defs.specs.Items.{fill, filled, stored, item_of_type}
 use Rattle.dalvik_defs.specs.Find.{Found, Search, Nothing, Clash, Finds}
-use Rattle.dalvik_defs.specs.Face.{Face, Place, Bodies, is_defined}
+use Rattle.dalvik_defs.specs.Face.{Face, Place, is_defined}
 use Rattle.dalvik_defs.specs.Fields.{with_instance, key_at, static_value, instance_value, with_static, first_of, written_or}
 use Rattle.dalvik_defs.specs.State.{World, Thing, Instance, Items, is_null, word_of, kind_of, kind_of_thing, thing_at, put_thing, with_thing, next_object, fresh, put_field, zero_of}
 use Rattle.dalvik_defs.specs.declared.state.Value.{Value}
@@ -29,8 +29,7 @@ use Rattle.dalvik_defs.specs.ActArray.{measures, zeros, new_array, fills, item_a
 use Rattle.dalvik_defs.specs.ActNumber.{number, word, gives_word, gives_wide, sets_number, binary}
 use Rattle.dalvik_defs.specs.Act.{act}
 use Rattle.dalvik_defs.specs.Outcome.{Outcome, Stays, Enters, Leaves, Ends, Raises, Need, Ready, Fresh, Broken, faults, when_ready, passed_types, calls_out, native_kind, takes_no_receiver, calls_uncoded, calls_found, is_direct, calls_by, receiver, on_receiver, calls, makes, reads_value, reads_static, reads_instance, reads, writes_out, written, writes_static, writes_instance, writes, with_lock, outcome}
-use Rattle.dalvik_defs.specs.Happens.{Setting, effect_of, outcome_at}
-use Rattle.dalvik_defs.specs.Stack.{form_at}
+use Rattle.dalvik_defs.specs.Happens.{Setting, effect_of}
 use Rattle.dalvik_defs.specs.declared.names.MethodKey.{MethodKey}
 use Rattle.dalvik_defs.specs.declared.names.FieldKey.{FieldKey}
 use Rattle.dalvik_defs.specs.declared.forms.Form.{Form}

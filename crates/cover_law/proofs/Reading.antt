@@ -1,5 +1,5 @@
 -- A typed frame has all registers that its form reads, so that facts which hold of its registers hold of what is read.
-use Rattle.std.proofs.Common.{◌≡◌, ℕ, zero, suc, ◌+◌, ◌<◌, Bool, true, false, true≢false, List, [], ◌∷◌, ◌++◌, Option, Some, None, ◌⊎◌, inl, inr, refl, sym, ap, ◌∙◌, subst, arith, nat_eq}
+use Rattle.std.proofs.Common.{◌≡◌, ℕ, zero, suc, ◌+◌, Bool, true, false, true≢false, List, [], ◌∷◌, ◌++◌, Some, ◌⊎◌, inl, inr, refl, sym, subst, arith, nat_eq}
 use Rattle.std.specs.Prelude.{◌&&◌, ◌||◌, not, length, map, drop, slice_get, slice_index_or, if◌then◌else◌}
 use Rattle.std.proofs.lemmas.Bool.{eqb-true}
 use Rattle.std.specs.List.{list_all}
@@ -32,16 +32,16 @@ use Rattle.pass_defs.specs.Analysis.{Analysis}
 use Rattle.pass_defs.specs.Facts.{Facts}
 use Rattle.pass_defs.specs.Kinds.{Kind, kind_eq, is_number, is_initialised, is_plain, is_below, is_program_interface, is_null, fits, fits_holder, fits_array}
 use Rattle.pass_defs.specs.Kinds as kind
-use Rattle.pass_defs.specs.Registers.{Kinds, kind_at}
-use Rattle.pass_defs.specs.Demands.{Demand, Moved, Number, Pair, Behind, Initialised, Either, Fits, Receiver, Holder, Constructed, AnArray, ArrayOf, Filled, is_moved, is_array_where, is_constructed, holds_field, item_eq, has_width, meets, wide_or, number_or_pair, of_type, slot_demand, is_equality, tested, second_tested, like, put_item, passed, passed_wide, receiver_demands, is_constructor_name, found_class}
-use Rattle.pass_defs.specs.Typed.{is_wrong, passed_words, is_static_call, wrong_method, wrong_super, words_of}
+use Rattle.pass_defs.specs.Registers.{kind_at}
+use Rattle.pass_defs.specs.Demands.{Demand, Moved, Number, Pair, Behind, Initialised, Either, Fits, Receiver, Holder, Constructed, AnArray, ArrayOf, Filled, is_moved, is_array_where, is_constructed, holds_field, item_eq, has_width, meets, wide_or, number_or_pair, of_type, slot_demand, is_equality, tested, second_tested, like, put_item, passed, passed_wide, is_constructor_name, found_class}
+use Rattle.pass_defs.specs.Typed.{passed_words, wrong_method, wrong_super, words_of}
 use Rattle.run_facts.specs.Covered.{Sees, SeesAll}
-use Rattle.stuck_law.specs.TypedStates.{AllHold, TypedFrame, TypedWorld}
+use Rattle.stuck_law.specs.TypedStates.{TypedFrame}
 use Rattle.stuck_law.proofs.Settled.{IsSettled}
 use Rattle.stuck_law.proofs.Registers.{and_left, and_right, all_long}
 use Rattle.stuck_law.proofs.Climbs.{or_cases}
 use Rattle.stuck_law.proofs.Here.{At}
-use Rattle.stuck_law.proofs.Forms.{or_left, or_right}
+use Rattle.stuck_law.proofs.Forms.{or_right}
 
 -- ---- kinds that meet a demand are known
 

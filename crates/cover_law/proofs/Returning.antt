@@ -1,12 +1,11 @@
 -- Frames that wait are covered again: at a handler, and behind a call or a read that has come back.
-use Rattle.std.proofs.Common.{◌≡◌, ℕ, zero, suc, ◌+◌, ◌<◌, Bool, true, false, true≢false, List, [], ◌∷◌, Option, Some, None, ◌⊎◌, inl, inr, refl, sym, ap, ◌∙◌, subst, arith}
+use Rattle.std.proofs.Common.{◌≡◌, ℕ, ◌+◌, ◌<◌, Bool, true, false, true≢false, List, [], ◌∷◌, Option, Some, None, ◌⊎◌, inl, inr, refl, sym, ap, ◌∙◌, subst, arith}
 use Rattle.std.specs.Prelude.{not, ◌^◌, length, slice_get, Contains, if◌then◌else◌}
 use Rattle.std.proofs.lemmas.Bool.{eqb-true}
 use Rattle.std.specs.Option.{option_map, option_and_then}
 use Rattle.insn_set.specs.declared.ops.InvokeKind.{InvokeKind}
 use Rattle.insn_set.specs.declared.ops.InvokeKind.TheVariants as call
 use Rattle.insn_set.specs.declared.ops.Item.{Item}
-use Rattle.insn_set.specs.declared.ops.Slot.{Slot}
 use Rattle.insn_set.specs.Widths.{is_wide_item}
 use Rattle.dalvik_defs.specs.Names.{Text, is_void, is_word, is_wide, is_reference}
 use Rattle.dalvik_defs.specs.Face.{face_of, bodies_of}
@@ -22,27 +21,25 @@ use Rattle.dalvik_defs.specs.declared.names.MethodKey.{MethodKey}
 use Rattle.dalvik_defs.specs.declared.names.FieldKey.{FieldKey}
 use Rattle.dalvik_defs.specs.declared.forms.Form.{Form}
 use Rattle.dalvik_defs.specs.declared.forms.Form.TheVariants as form
-use Rattle.dalvik_defs.specs.declared.program.NamedBody.{NamedBody}
-use Rattle.dalvik_defs.specs.declared.program.NamedField.{NamedField}
 use Rattle.dalvik_defs.specs.declared.program.NamedProgram.{NamedProgram}
 use Rattle.dalvik_defs.specs.declared.tables.Floats.{Floats}
 use Rattle.dalvik_defs.specs.declared.tables.Framework.{Framework}
 use Rattle.pass_defs.specs.Analysis.{Analysis, IsRanged, read_item}
 use Rattle.pass_defs.specs.Bare.{may_throw}
-use Rattle.pass_defs.specs.Closed.{At, Given, Left, Results, MayCall, MayLeave, called, refined, then_put, put_sized, arm, edges, field_value}
+use Rattle.pass_defs.specs.Closed.{Given, Left, Results, MayCall, MayLeave, called, refined, then_put, put_sized, arm, edges, field_value}
 use Rattle.pass_defs.specs.Facts.{Facts, IsEnteredOn, own_key}
 use Rattle.pass_defs.specs.Kinds as kind
-use Rattle.pass_defs.specs.Typed.{after, receiver_register, is_static_call, words_of}
-use Rattle.pass_defs.specs.Walks.{form_at, onward}
+use Rattle.pass_defs.specs.Typed.{receiver_register, is_static_call, words_of}
+use Rattle.pass_defs.specs.Walks.{form_at}
 use Rattle.invariant_law.specs.Fine.{IsThere}
 use Rattle.invariant_law.specs.Holds.{Each}
-use Rattle.invariant_law.specs.Invariant.{Above, Callee, Owing}
+use Rattle.invariant_law.specs.Invariant.{Callee}
 use Rattle.invariant_law.proofs.Fine.{each_get}
 use Rattle.invariant_law.proofs.Growing.{grows_same}
 use Rattle.invariant_law.proofs.Stacked.{LandedOver}
-use Rattle.run_facts.specs.Covered.{Sees, SeesAll, Stands, TakesFrom, CoversTop, CoversWaiting, AwaitsCall, AwaitsAnswer, Used}
+use Rattle.run_facts.specs.Covered.{Sees, SeesAll, Stands, CoversTop, AwaitsCall, AwaitsAnswer, Used}
 use Rattle.silence_law.specs.Results.{gives_result}
-use Rattle.stuck_law.specs.TypedStates.{MaybeOf, AskedOf, TypedFrame, TypedWaiting, TypedWorld}
+use Rattle.stuck_law.specs.TypedStates.{MaybeOf, AskedOf, TypedFrame}
 use Rattle.stuck_law.specs.Regular.{reads_value}
 use Rattle.stuck_law.proofs.Settled.{IsSettled}
 use Rattle.stuck_law.proofs.Climbs.{none_some, some_one}

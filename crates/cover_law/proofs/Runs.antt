@@ -1,25 +1,22 @@
 -- All that the law of invariants asks of coverage, and whole runs.
-use Rattle.std.proofs.Common.{◌≡◌, ℕ, zero, suc, ◌+◌, ◌<◌, Bool, true, false, true≢false, List, [], ◌∷◌, Option, Some, None, ◌⊎◌, inl, inr, refl, sym, ap, ◌∙◌, subst, arith}
-use Rattle.std.specs.Prelude.{◌&&◌, not, ◌^◌, slice_get, is_some, length, nat_lt}
+use Rattle.std.proofs.Common.{◌≡◌, ℕ, true, List, [], ◌∷◌, Option, Some, None, ◌⊎◌, refl, sym, ap, ◌∙◌, subst}
+use Rattle.std.specs.Prelude.{◌&&◌, slice_get}
 use Rattle.std.specs.List.{list_all}
-use Rattle.std.specs.Option.{option_map, option_and_then}
+use Rattle.std.specs.Option.{option_and_then}
 use Rattle.dalvik_defs.specs.Names.{Text, throwable_type, is_void}
-use Rattle.dalvik_defs.specs.Face.{face_of, bodies_of, Place, place_of}
-use Rattle.dalvik_defs.specs.Find.{defined_field}
+use Rattle.dalvik_defs.specs.Face.{face_of, bodies_of}
 use Rattle.dalvik_defs.specs.Gives.{gets, gets_all, fits as given_fits}
 use Rattle.dalvik_defs.specs.Items.{stored, item_of_type}
 use Rattle.dalvik_defs.specs.Legal.{may_answer, on_fits}
-use Rattle.dalvik_defs.specs.Moves.{got, field_value, with_field, key_of}
+use Rattle.dalvik_defs.specs.Moves.{got, field_value, key_of}
 use Rattle.dalvik_defs.specs.Outer.{Outer}
 use Rattle.dalvik_defs.specs.Show.{show, show_option}
 use Rattle.dalvik_defs.specs.Shown.{Fit, fit_move}
 use Rattle.dalvik_defs.specs.Happens.{Setting}
-use Rattle.dalvik_defs.specs.State.{World, Classes, State, Ended, Instance, Items, fresh, next_object, with_thing, opening, opening_world}
+use Rattle.dalvik_defs.specs.State.{World, Classes, Ended, Instance, fresh, with_thing, opening, opening_world}
 use Rattle.dalvik_defs.specs.Stack.{lands, back}
 use Rattle.dalvik_defs.specs.Step.{after, setting_of}
-use Rattle.dalvik_defs.specs.declared.names.FieldKey.{FieldKey}
 use Rattle.dalvik_defs.specs.declared.names.MethodKey.{MethodKey}
-use Rattle.dalvik_defs.specs.declared.forms.Form.{Form}
 use Rattle.dalvik_defs.specs.declared.state.Value.{Value}
 use Rattle.dalvik_defs.specs.declared.state.Frame.{Frame}
 use Rattle.dalvik_defs.specs.declared.script.Given.{Given}
@@ -27,18 +24,18 @@ use Rattle.dalvik_defs.specs.declared.script.Move.{Move}
 use Rattle.dalvik_defs.specs.declared.program.NamedProgram.{NamedProgram}
 use Rattle.dalvik_defs.specs.declared.tables.Floats.{Floats}
 use Rattle.dalvik_defs.specs.declared.tables.Framework.{Framework}
-use Rattle.pass_defs.specs.Analysis.{Analysis, IsRanged}
+use Rattle.pass_defs.specs.Analysis.{Analysis}
 use Rattle.pass_defs.specs.Bare.{may_throw}
 use Rattle.pass_defs.specs.Facts.{Facts}
 use Rattle.pass_defs.specs.Walks.{form_at}
 use Rattle.invariant_law.specs.Holds.{Each, Holds as HoldsBy}
-use Rattle.invariant_law.specs.Invariant.{Invariant, Above, Callee, Owing, Begun, Grows, both}
+use Rattle.invariant_law.specs.Invariant.{Invariant, Above, Callee, Owing, both}
 use Rattle.invariant_law.proofs.Fine.{stored_there}
-use Rattle.invariant_law.proofs.Plain.{grown, KeptPlainly, keeps_plainly, got_grows}
+use Rattle.invariant_law.proofs.Plain.{grown, keeps_plainly, got_grows}
 use Rattle.invariant_law.proofs.Stacked.{KeptOver, LandedOver, ShownOver, keeps_both}
-use Rattle.invariant_law.proofs.Invariants.{Holds, holds_after, opens_with}
+use Rattle.invariant_law.proofs.Invariants.{holds_after, opens_with}
 use Rattle.run_facts.specs.Covered.{CoversTop, CoversWaiting, CoversWorld, CoversResult, covering}
-use Rattle.stuck_law.specs.TypedStates.{AskedOf, MaybeOf, TypedFrame, TypedWaiting, TypedWorld, typed_states}
+use Rattle.stuck_law.specs.TypedStates.{AskedOf, MaybeOf, TypedWaiting, TypedWorld, typed_states}
 use Rattle.stuck_law.proofs.Settled.{IsSettled, FindsRegularly}
 use Rattle.stuck_law.proofs.Registers.{and_left, and_right}
 use Rattle.stuck_law.proofs.Climbs.{none_some, some_one}
@@ -47,9 +44,9 @@ use Rattle.stuck_law.proofs.Runs.{keeps_typed, typed_opening, settled}
 use Rattle.stuck_law.proofs.Searches.{finds_regularly}
 use Rattle.stuck_law.proofs.Worlds.{waiting_later}
 use Rattle.cover_law.specs.Coverable.{IsCoverable}
-use Rattle.cover_law.specs.Known.{KnownFrame, KnownWorld, MadeThing, MaybeRanged, RangedMove, RangedWorld, ranged_states, live_states}
+use Rattle.cover_law.specs.Known.{KnownWorld, MadeThing, MaybeRanged, RangedMove, RangedWorld, ranged_states, live_states}
 use Rattle.cover_law.proofs.RangedRuns.{keeps_ranged}
-use Rattle.cover_law.proofs.Given.{gets_same, got_same, all_same, gets_ranged, got_ranged, gets_there, got_exposed, typed_exposed, own_field}
+use Rattle.cover_law.proofs.Given.{gets_same, got_same, gets_ranged, got_ranged, gets_there, got_exposed, typed_exposed, own_field}
 use Rattle.cover_law.proofs.Moving.{firsts_covered, initialiser_covered, enters_covered, makes_covered, field_covered, item_covered}
 use Rattle.cover_law.proofs.Numbers.{stored_ranged}
 use Rattle.cover_law.proofs.Returning.{lands_covered, answered, returned}

@@ -1,7 +1,6 @@
 -- Where a frame stands on the facts: what arrives where it goes on, also at a handler, and once a class is done.
 use Rattle.std.proofs.Common.{◌≡◌, ℕ, zero, suc, ◌+◌, ◌<◌, ℤ, Bool, true, false, true≢false, List, [], ◌∷◌, ◌++◌, Option, Some, None, ◌⊎◌, inl, inr, refl, sym, ap, ◌∙◌, subst, arith}
-use Rattle.std.specs.Prelude.{◌&&◌, not, length, map, find, slice_get, Contains, if◌then◌else◌}
-use Rattle.std.specs.List.{list_all}
+use Rattle.std.specs.Prelude.{not, map, find, slice_get, Contains}
 use Rattle.std.specs.Option.{option_map, option_and_then}
 use Rattle.insn_set.specs.declared.ops.Slot.{Slot}
 use Rattle.dalvik_defs.specs.Names.{Text}
@@ -9,11 +8,10 @@ use Rattle.dalvik_defs.specs.Face.{bodies_of}
 use Rattle.dalvik_defs.specs.Outer.{Outer}
 use Rattle.dalvik_defs.specs.State.{World, kind_of}
 use Rattle.dalvik_defs.specs.Effect.{register, go}
-use Rattle.dalvik_defs.specs.Stack.{form_at as form_of, handler_in, handler_at, covers}
+use Rattle.dalvik_defs.specs.Stack.{form_at as form_of, handler_in, handler_at}
 use Rattle.dalvik_defs.specs.declared.state.Value.{Value}
 use Rattle.dalvik_defs.specs.declared.state.Value.TheVariants.{Word}
 use Rattle.dalvik_defs.specs.declared.state.Frame.{Frame}
-use Rattle.dalvik_defs.specs.declared.names.MethodKey.{MethodKey}
 use Rattle.dalvik_defs.specs.declared.forms.Form.{Form}
 use Rattle.dalvik_defs.specs.declared.forms.Form.TheVariants as form
 use Rattle.dalvik_defs.specs.declared.program.NamedBody.{NamedBody}
@@ -31,7 +29,7 @@ use Rattle.pass_defs.specs.Registers.{kind_at}
 use Rattle.pass_defs.specs.Closed.{At, Arrives, put_sized, is_wide_slot, refined, refined_both, arm, cases, keys_of, switched, edges, after, packed_keys}
 use Rattle.invariant_law.specs.Fine.{IsThere}
 use Rattle.invariant_law.specs.Invariant.{Above, Begun, Grows}
-use Rattle.run_facts.specs.Covered.{Sees, SeesAll, Stands, TakesFrom, CoversTop, CoversWaiting}
+use Rattle.run_facts.specs.Covered.{SeesAll, Stands, TakesFrom, CoversTop, CoversWaiting}
 use Rattle.silence_law.specs.Results.{gives_result, takes_none, TakesInPlace}
 use Rattle.stuck_law.specs.TypedStates.{TypedFrame, TypedWaiting}
 use Rattle.stuck_law.proofs.Settled.{IsSettled}

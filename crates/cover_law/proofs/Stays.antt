@@ -1,6 +1,6 @@
 -- Steps that stay in their frame, or throw in it, keep it covered.
-use Rattle.std.proofs.Common.{◌≡◌, ℕ, zero, suc, ◌+◌, ◌<◌, Bool, true, false, true≢false, List, [], ◌∷◌, ◌++◌, Option, Some, None, ◌⊎◌, inl, inr, refl, sym, ap, ◌∙◌, subst, arith}
-use Rattle.std.specs.Prelude.{codes, ◌&&◌, ◌||◌, not, ◌^◌, length, map, slice_get, slice_set, Contains}
+use Rattle.std.proofs.Common.{◌≡◌, ℕ, ◌+◌, ◌<◌, Bool, true, false, true≢false, List, [], ◌∷◌, Option, Some, None, refl, sym, ap, ◌∙◌, subst}
+use Rattle.std.specs.Prelude.{codes, ◌||◌, not, ◌^◌, length, map, slice_get, Contains}
 use Rattle.std.specs.Option.{option_map, option_and_then}
 use Rattle.std.proofs.lemmas.Bool.{eqb-true}
 use Rattle.insn_set.specs.declared.ops.Slot.{Slot}
@@ -12,7 +12,7 @@ use Rattle.dalvik_defs.specs.Known.{null_pointer}
 use Rattle.dalvik_defs.specs.State.{World, Classes, Thing, Items, fresh, is_null, kind_of, next_object, with_thing, word_of}
 use Rattle.dalvik_defs.specs.Effect.{Effect, Goes, Faults, Throws, Gives, Calls, Makes, Reads, Writes, Locks, Unlocks, Stuck, register, write_slot, unless_null, next, go}
 use Rattle.dalvik_defs.specs.Act.{act}
-use Rattle.dalvik_defs.specs.Outcome.{Outcome, Stays, Raises, Need, faults, need_of, outcome}
+use Rattle.dalvik_defs.specs.Outcome.{Outcome, Stays, Raises, faults, need_of, outcome}
 use Rattle.dalvik_defs.specs.Stack.{lands, handler_at}
 use Rattle.dalvik_defs.specs.declared.state.Value.{Value}
 use Rattle.dalvik_defs.specs.declared.state.Value.TheVariants.{Low}
@@ -23,38 +23,34 @@ use Rattle.dalvik_defs.specs.declared.forms.Form.TheVariants as form
 use Rattle.dalvik_defs.specs.declared.program.NamedProgram.{NamedProgram}
 use Rattle.dalvik_defs.specs.declared.tables.Floats.{Floats}
 use Rattle.dalvik_defs.specs.declared.tables.Framework.{Framework}
-use Rattle.pass_defs.specs.Analysis.{Analysis, IsRanged, IsReference}
+use Rattle.pass_defs.specs.Analysis.{Analysis, IsRanged}
 use Rattle.pass_defs.specs.Bare.{may_throw}
 use Rattle.pass_defs.specs.Closed.{At, put_sized, is_wide_slot, edges, Filled}
-use Rattle.pass_defs.specs.Demands.{result_fits, place_allowed}
 use Rattle.pass_defs.specs.Facts.{Facts}
 use Rattle.pass_defs.specs.Kinds.{kind_eq, is_initialised}
 use Rattle.pass_defs.specs.Kinds as kind
-use Rattle.pass_defs.specs.Walks.{form_at}
-use Rattle.pass_defs.specs.Typed.{is_wrong, wrong_filled}
 use Rattle.invariant_law.specs.Fine.{IsThere}
 use Rattle.invariant_law.specs.Holds.{Each}
-use Rattle.invariant_law.specs.Invariant.{Invariant, Grows, both}
+use Rattle.invariant_law.specs.Invariant.{Invariant, both}
 use Rattle.invariant_law.proofs.Fine.{each_get}
-use Rattle.invariant_law.proofs.Growing.{grows_same, grows_with, act_grows, EffectGrows}
+use Rattle.invariant_law.proofs.Growing.{act_grows, EffectGrows}
 use Rattle.invariant_law.proofs.Stacked.{LeadsOver, LandedOver}
-use Rattle.run_facts.specs.Covered.{Sees, SeesAll, TakesFrom, CoversTop, CoversWorld, covering}
+use Rattle.run_facts.specs.Covered.{SeesAll, TakesFrom, CoversTop, CoversWorld, covering}
 use Rattle.silence_law.specs.Results.{gives_result}
-use Rattle.stuck_law.specs.TypedStates.{IsObject, KindHolds, TypedFrame, TypedWorld, typed_states}
+use Rattle.stuck_law.specs.TypedStates.{KindHolds, TypedFrame, TypedWorld, typed_states}
 use Rattle.stuck_law.proofs.Settled.{IsSettled}
 use Rattle.stuck_law.proofs.Registers.{and_left}
-use Rattle.stuck_law.proofs.Climbs.{none_some}
 use Rattle.stuck_law.proofs.Orders.{kind_sound}
 use Rattle.stuck_law.proofs.ArrayForms.{kind_new, untrue2}
 use Rattle.stuck_law.proofs.Here.{setting}
 use Rattle.stuck_law.proofs.Here as typed
-use Rattle.stuck_law.proofs.Forms.{first_in, or_left}
+use Rattle.stuck_law.proofs.Forms.{or_left}
 use Rattle.form_law.specs.Changes.{operands}
 use Rattle.cover_law.specs.Coverable.{IsCoverable}
 use Rattle.cover_law.specs.Known.{KnownFrame, KnownWorld, RangedThing, ranged_states, live_states}
 use Rattle.cover_law.proofs.Along.{Along, Looks, IsTold, act_along, sees_put, sees_wide}
 use Rattle.cover_law.proofs.Reading.{Ss, reads_seen}
-use Rattle.cover_law.proofs.Standing.{reg_there, own_form, at_typed, all_later, gone_on, top_on, caught_on, taken_on}
+use Rattle.cover_law.proofs.Standing.{reg_there, own_form, at_typed, gone_on, top_on, caught_on, taken_on}
 use Rattle.cover_law.proofs.Worlds.{SameFields, same_with, same_world, covers_over, typed_fields}
 use Rattle.cover_law.proofs.Local.{IsLocal, Fits, act_fits}
 

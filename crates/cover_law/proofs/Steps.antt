@@ -1,7 +1,5 @@
 -- Each step of a covered frame.
-use Rattle.std.proofs.Common.{◌≡◌, ℕ, Bool, true, false, true≢false, List, Option, Some, None, refl, sym, ap, ◌∙◌, subst}
-use Rattle.std.specs.Prelude.{not, slice_get}
-use Rattle.std.specs.Option.{option_and_then}
+use Rattle.std.proofs.Common.{true, refl, sym, subst}
 use Rattle.dalvik_defs.specs.Names.{is_array}
 use Rattle.dalvik_defs.specs.Face.{face_of, bodies_of}
 use Rattle.dalvik_defs.specs.Outer.{Outer}
@@ -10,7 +8,6 @@ use Rattle.dalvik_defs.specs.Effect.{Effect}
 use Rattle.dalvik_defs.specs.Act.{act}
 use Rattle.dalvik_defs.specs.Outcome.{need_of}
 use Rattle.dalvik_defs.specs.Happens.{outcome_at, effect_of}
-use Rattle.dalvik_defs.specs.Stack.{form_at as form_of}
 use Rattle.dalvik_defs.specs.declared.state.Value.{Value}
 use Rattle.dalvik_defs.specs.declared.state.Value.TheVariants.{Word, Low, High, Object, Literal, Class}
 use Rattle.dalvik_defs.specs.declared.state.Frame.{Frame}

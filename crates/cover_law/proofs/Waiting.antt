@@ -1,25 +1,25 @@
 -- Steps that use monitors, make objects, read and write fields, or end their frame keep it covered.
-use Rattle.std.proofs.Common.{◌≡◌, ℕ, zero, suc, ◌+◌, ◌-◌, ◌<◌, Bool, true, false, true≢false, List, [], ◌∷◌, ◌++◌, Option, Some, None, ◌⊎◌, inl, inr, refl, sym, ap, ◌∙◌, subst, arith, nat_eq}
-use Rattle.std.specs.Prelude.{◌&&◌, ◌||◌, not, length, map, slice_get, slice_set, Contains, if◌then◌else◌}
+use Rattle.std.proofs.Common.{◌≡◌, ℕ, zero, suc, ◌+◌, ◌-◌, ◌<◌, Bool, true, false, true≢false, List, [], ◌∷◌, Option, Some, None, refl, sym, ap, ◌∙◌, subst, arith, nat_eq}
+use Rattle.std.specs.Prelude.{◌&&◌, ◌||◌, not, length, slice_get, Contains}
 use Rattle.std.specs.Option.{option_map}
 use Rattle.insn_set.specs.declared.ops.Slot.{Slot}
 use Rattle.insn_set.specs.declared.ops.Item.{Item}
 use Rattle.insn_set.specs.declared.ops.Item.TheVariants as item
 use Rattle.insn_set.specs.Widths.{is_wide_item}
-use Rattle.dalvik_defs.specs.Names.{Text, is_word, is_wide, is_reference}
+use Rattle.dalvik_defs.specs.Names.{Text, is_wide, is_reference}
 use Rattle.dalvik_defs.specs.Flags.{is_static}
-use Rattle.dalvik_defs.specs.Known.{null_pointer, bad_monitor, no_class}
-use Rattle.dalvik_defs.specs.Face.{face_of, bodies_of, is_defined, Place, place_of}
-use Rattle.dalvik_defs.specs.Fields.{first_of, key_at, written_or, static_value, instance_value, with_static, with_instance}
+use Rattle.dalvik_defs.specs.Known.{bad_monitor, no_class}
+use Rattle.dalvik_defs.specs.Face.{face_of, bodies_of, is_defined, place_of}
+use Rattle.dalvik_defs.specs.Fields.{first_of, written_or, static_value, instance_value, with_static, with_instance}
 use Rattle.dalvik_defs.specs.Find.{finds_field}
 use Rattle.dalvik_defs.specs.Items.{stored}
 use Rattle.dalvik_defs.specs.Outer.{Outer}
-use Rattle.dalvik_defs.specs.State.{World, Classes, Thing, Instance, fresh, is_null, kind_of, kind_of_thing, next_object, with_thing, thing_at, put_field, put_thing, zero_of, word_of}
+use Rattle.dalvik_defs.specs.State.{World, Classes, Thing, Instance, fresh, is_null, kind_of, kind_of_thing, next_object, with_thing, thing_at, put_field, put_thing, zero_of}
 use Rattle.dalvik_defs.specs.Show.{show, show_option}
 use Rattle.dalvik_defs.specs.Effect.{Effect, Goes, Faults, Locks, Unlocks, Reads, Writes, register, write, write_item, next}
 use Rattle.dalvik_defs.specs.ActPlain.{exits}
 use Rattle.dalvik_defs.specs.Act.{act}
-use Rattle.dalvik_defs.specs.Outcome.{Outcome, Stays, Starts, Leaves, Ends, Need, Ready, Fresh, Broken, need_of, when_ready, with_lock, reads_value, reads_out, reads_static, reads_instance, writes_out, writes_static, writes_instance, written as written_to}
+use Rattle.dalvik_defs.specs.Outcome.{Outcome, Stays, Need, Ready, Fresh, Broken, need_of, when_ready, with_lock, reads_value, reads_out, reads_static, reads_instance, writes_static, writes_instance, written as written_to}
 use Rattle.dalvik_defs.specs.declared.state.Value.{Value}
 use Rattle.dalvik_defs.specs.declared.state.Value.TheVariants.{Word, Object}
 use Rattle.dalvik_defs.specs.declared.state.Frame.{Frame}
@@ -32,41 +32,38 @@ use Rattle.dalvik_defs.specs.declared.program.NamedField.{NamedField}
 use Rattle.dalvik_defs.specs.declared.program.NamedProgram.{NamedProgram}
 use Rattle.dalvik_defs.specs.declared.tables.Floats.{Floats}
 use Rattle.dalvik_defs.specs.declared.tables.Framework.{Framework}
-use Rattle.pass_defs.specs.Analysis.{Analysis, Holds, read_item}
+use Rattle.pass_defs.specs.Analysis.{Analysis, Holds}
 use Rattle.pass_defs.specs.Bare.{may_throw}
 use Rattle.pass_defs.specs.Closed.{At, Puts, Instance as PutsInstance, Static as PutsStatic, AtPosition, put, put_sized, refined, then_put, arm, edges, field_value}
 use Rattle.pass_defs.specs.Facts.{Facts, Itself, own_key, needs, field_class}
 use Rattle.pass_defs.specs.Demands.{meets, of_type, holds_field}
 use Rattle.pass_defs.specs.Registers.{kind_at}
 use Rattle.pass_defs.specs.Kinds.{fits_holder}
-use Rattle.pass_defs.specs.Kinds as kind
 use Rattle.pass_defs.specs.Typed.{wrong_item, wrong_field, wrong_first, differ}
-use Rattle.pass_defs.specs.Walks.{form_at}
-use Rattle.invariant_law.specs.Fine.{IsThere}
 use Rattle.invariant_law.specs.Invariant.{Above, Begun, Owing, Grows}
 use Rattle.invariant_law.proofs.Growing.{grows_same, grows_put, show_heap}
-use Rattle.run_facts.specs.Covered.{Sees, SeesAll, CoversTop, CoversWaiting, CoversWorld, Awaits, IsPast}
+use Rattle.run_facts.specs.Covered.{Sees, CoversTop, CoversWaiting, CoversWorld, Awaits, IsPast}
 use Rattle.silence_law.specs.Results.{gives_result}
 use Rattle.stuck_law.specs.TypedStates.{KindHolds, ValueOf, TypedFrame, TypedWorld}
 use Rattle.stuck_law.proofs.Settled.{IsSettled}
 use Rattle.stuck_law.proofs.Registers.{and_left, and_right}
-use Rattle.stuck_law.proofs.Climbs.{none_some, some_one}
+use Rattle.stuck_law.proofs.Climbs.{none_some}
 use Rattle.stuck_law.proofs.Sorts.{Sorted, OfWord, OfWide, OfReference, OfNone, sorted}
 use Rattle.stuck_law.proofs.Arrays.{true_false}
 use Rattle.stuck_law.proofs.ArrayForms.{kind_new}
 use Rattle.stuck_law.proofs.FirstValues.{first_held}
-use Rattle.stuck_law.proofs.Forms.{first_in, or_left, or_right, typed_value}
+use Rattle.stuck_law.proofs.Forms.{or_left, or_right, typed_value}
 use Rattle.stuck_law.proofs.FieldForms.{holds_instance, puts_instance, or_value, stored_value}
 use Rattle.stuck_law.proofs.Here.{get_contains}
 use Rattle.stuck_law.proofs.Worlds.{at_typed, zero_value}
 use Rattle.form_law.specs.Changes.{operands}
 use Rattle.cover_law.specs.Coverable.{IsCoverable, IsFormed, has_values}
 use Rattle.cover_law.specs.Known.{KnownFrame, KnownWorld}
-use Rattle.cover_law.proofs.Along.{Along, Looks, sees_put, sees_later, used, closer, then_item, just_item}
+use Rattle.cover_law.proofs.Along.{Along, Looks, sees_put, closer, then_item, just_item}
 use Rattle.cover_law.proofs.Standing.{own_form, all_later, top_on}
 use Rattle.cover_law.proofs.Worlds.{typed_fields, value_there, SameFields, same_world, same_with, same_then, same_show, same_option, same_lock}
 use Rattle.cover_law.proofs.Fields.{read_same, static_seen, instance_seen, covers_static, covers_instance}
-use Rattle.cover_law.proofs.Stays.{below, covers, Leads, Does, Is, kept, there, arrays, here, stays, faulted, held, looks}
+use Rattle.cover_law.proofs.Stays.{Leads, Does, Is, kept, there, arrays, here, faulted, held, looks}
 
 module _ {V : Type 0} (a : Analysis V) (p : NamedProgram) (o : Outer) (f : Framework) (floats : Floats) (facts : Facts V) (base : IsCoverable a p o f floats facts) (reg : IsSettled p) where
   pub item_method : (i : Item) (g : Frame) (to : ℕ) (v : Value) → (next (write_item i g to v)).method ≡ g.method

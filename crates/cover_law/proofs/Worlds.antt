@@ -1,11 +1,11 @@
 -- Worlds whose fields hold what they held, so that facts go on to hold of them.
-use Rattle.std.proofs.Common.{◌≡◌, ℕ, zero, suc, ◌+◌, Bool, true, false, List, [], ◌∷◌, ◌++◌, Option, Some, None, ◌⊎◌, inl, inr, refl, sym, ap, ◌∙◌, subst, arith, nat_eq, eqb-true, eq-eqb, true≢false}
-use Rattle.std.specs.Prelude.{length, slice_get, slice_set}
-use Rattle.dalvik_defs.specs.Names.{Text, is_wide}
+use Rattle.std.proofs.Common.{◌≡◌, ℕ, zero, suc, Bool, true, false, List, [], ◌∷◌, ◌++◌, Option, Some, None, ◌⊎◌, inl, inr, refl, sym, ap, ◌∙◌, subst}
+use Rattle.std.specs.Prelude.{slice_get, slice_set}
+use Rattle.dalvik_defs.specs.Names.{Text}
 use Rattle.dalvik_defs.specs.Find.{defined_field}
 use Rattle.dalvik_defs.specs.Outer.{Outer}
 use Rattle.dalvik_defs.specs.Outcome.{with_lock}
-use Rattle.dalvik_defs.specs.State.{World, Exposed, Thing, Instance, Items, thing_at, put_thing, with_thing, fresh, kind_of, kind_of_thing, put_lock}
+use Rattle.dalvik_defs.specs.State.{World, Thing, Instance, Items, thing_at, put_thing, with_thing, kind_of, kind_of_thing}
 use Rattle.dalvik_defs.specs.Show.{show, show_option, show_all, show_at, mark_printed, is_printed, place_in, skip}
 use Rattle.dalvik_defs.specs.declared.state.Value.{Value}
 use Rattle.dalvik_defs.specs.declared.state.Value.TheVariants.{Object}

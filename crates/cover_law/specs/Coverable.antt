@@ -46,10 +46,12 @@ IsFormed x = Unit {0}
 -- What the framework reaches by its own rows it reaches by the program's lists, or as one of the methods that it may enter.
 pub record Reaches (p : NamedProgram) (o : Outer) (f : Framework) : Type 0 where
   -- what a call in code finds on a made object
-  pub virtually : (m : MethodKey) (b : NamedBody) (kind : InvokeKind) (k : MethodKey) (args : List ℕ) (t : Text) (g : Found) → bodies_of p m ≡ Some b → Contains b.forms (form.Invoke kind k args)
+  pub virtually : (m : MethodKey) (b : NamedBody) (kind : InvokeKind) (k : MethodKey) (args : List ℕ) (t : Text) (g : Found)
+      → bodies_of p m ≡ Some b → Contains b.forms (form.Invoke kind k args)
       → IsMade p o unconditional t → finds_virtually p f t k ≡ Finds g → (is_within p t k.class ≡ true) ⊎ ((defines p k.class ≡ false) × (g.coded ≡ true → IsEnteredOn p o g.key))
   -- what the framework calls on a made object
-  pub entered : (c n q t : Text) (g : Found) → declared_in p c n q ≡ Some g → IsMade p o unconditional t → is_under p f t g.key.class ≡ true → may_reach (face_of p f) o t g ≡ true → g.coded ≡ true
+  pub entered : (c n q t : Text) (g : Found) → declared_in p c n q ≡ Some g → IsMade p o unconditional t
+      → is_under p f t g.key.class ≡ true → may_reach (face_of p f) o t g ≡ true → g.coded ≡ true
       → is_static g.flags ≡ false → IsEnteredOn p o g.key
   -- what it makes
   pub makes : (t : Text) → may_make (face_of p f) o t ≡ true → may_be_made p o t ≡ true

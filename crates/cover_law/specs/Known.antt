@@ -1,7 +1,6 @@
 -- What is known of every state of a run beside its kinds, as invariants: words have 32 bits, arrays have fewer than 2^31
 -- items, and methods, classes and objects are of what is live (Dalvik bytecode, "General Design"; this project's profile).
-use Rattle.std.specs.Prelude.{◌≡◌, ℕ, ◌<◌, ◌^◌, true, List, Option, Some, None, length}
-use Rattle.dalvik_defs.specs.Names.{Text}
+use Rattle.std.specs.Prelude.{◌≡◌, ◌<◌, ◌^◌, true, Option, Some, None, length}
 use Rattle.dalvik_defs.specs.Outer.{Outer}
 use Rattle.dalvik_defs.specs.State.{World, Thing, Instance, Items}
 use Rattle.dalvik_defs.specs.Under.{defines}

@@ -17,29 +17,26 @@ ghost use Rattle.pass_defs.specs.Facts.{Facts};
 ghost use Rattle.pass_defs.specs.Flat.{Flat};
 ghost use Rattle.pass_defs.specs.FlatAnalysis.{flat_analysis};
 ghost use Rattle.invariant_law.specs.Holds.{Each, Holds};
-ghost use Rattle.invariant_law.specs.Invariant.{both};
-ghost use Rattle.invariant_law.proofs.Stacked.{KeptOver};
-ghost use Rattle.run_facts.specs.Covered.{covering};
 ghost use Rattle.run_facts.specs.ValueAnalysis.{Numbers, value_analysis};
-ghost use Rattle.stuck_law.specs.TypedStates.{typed_states};
 ghost use Rattle.cover_law.specs.Coverable.{IsCoverable};
-ghost use Rattle.cover_law.specs.Known.{RangedMove, live_states, ranged_states};
+ghost use Rattle.cover_law.specs.Known.{RangedMove};
+ghost use Rattle.cover_law.specs.States.{KeepsLive, covered_states};
 
 /// Under closed facts of constants, a framework and a script that fit, each state that a run of a typed, regular program
 /// reaches has ended, or the facts cover it, beside what its kinds, its words and what is live say of it. A premise says that
 /// what is live is kept: methods that run, classes that are initialised and classes of objects are live.
 pub fn constants_cover()
     ensures { (p : NamedProgram) (o : Outer) (f : Framework) (floats : Floats) (facts : Facts Flat) (script : List Move) (n : ℕ)
-        → IsCoverable flat_analysis p o f floats facts → KeptOver (setting_of p o f floats) (bodies_of p) (both (typed_states p f o) ranged_states) (live_states p o) → Fit p o f script → Each RangedMove script
-        → let t = after (setting_of p o f floats) (bodies_of p) (opening script) n in (t ≡ Ended) ⊎ Holds (both (both (both (typed_states p f o) ranged_states) (live_states p o)) (covering flat_analysis p o facts)) t }
+        → IsCoverable flat_analysis p o f floats facts → KeepsLive p o f floats → Fit p o f script → Each RangedMove script
+        → let t = after (setting_of p o f floats) (bodies_of p) (opening script) n in (t ≡ Ended) ⊎ Holds (covered_states flat_analysis p o f facts) t }
 {}
 
 /// The same of facts of the product domain, where what the code makes of numbers is sound.
 pub fn values_cover()
     ensures { (p : NamedProgram) (numbers : Numbers) (o : Outer) (f : Framework) (floats : Floats) (facts : Facts Parts) (script : List Move) (n : ℕ)
-        → IsCoverable (value_analysis p numbers) p o f floats facts → KeptOver (setting_of p o f floats) (bodies_of p) (both (typed_states p f o) ranged_states) (live_states p o) → Fit p o f script → Each RangedMove script
+        → IsCoverable (value_analysis p numbers) p o f floats facts → KeepsLive p o f floats → Fit p o f script → Each RangedMove script
         → let t = after (setting_of p o f floats) (bodies_of p) (opening script) n in
-        (t ≡ Ended) ⊎ Holds (both (both (both (typed_states p f o) ranged_states) (live_states p o)) (covering (value_analysis p numbers) p o facts)) t }
+        (t ≡ Ended) ⊎ Holds (covered_states (value_analysis p numbers) p o f facts) t }
 {}
 
 /// Constants are a sound analysis, whatever stands above what and whatever floats answer.

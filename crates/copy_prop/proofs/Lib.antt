@@ -1,0 +1,13 @@
+mod Choices
+mod Rows
+mod Reached
+mod Spoilt
+mod Behind
+mod Operands
+mod Good
+mod Worth
+mod Adding
+mod Table
+mod Reread
+mod Edited
+mod Programs

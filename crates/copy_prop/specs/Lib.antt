@@ -1,0 +1,4 @@
+pub mod Stale
+pub mod Searches
+pub mod Rereading
+pub mod Propagated

@@ -1,4 +1,6 @@
 mod Going
 mod Fating
+mod Lighter
+mod Needing
 mod Same
 mod Settling

@@ -4,3 +4,5 @@ pub mod Settles
 pub mod Plans
 pub mod Squeezed
 pub mod Found
+pub mod Needed
+pub mod Weights

@@ -10,6 +10,7 @@
 mod bodies;
 mod choice;
 mod inside;
+pub mod laws;
 mod methods;
 mod program;
 

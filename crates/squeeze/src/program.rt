@@ -1,7 +1,8 @@
 //! The classes of a program.
 
-ghost use Rattle.std.specs.Prelude.{◌≡◌, replicate, length, [], IfOk};
+ghost use Rattle.std.specs.Prelude.{◌≡◌, ◌<◌, ◌≤◌, replicate, length, [], IfOk};
 ghost use Rattle.squeeze.specs.Squeezed.{ClassGoes, ClassesGo, IsSqueezed};
+ghost use Rattle.squeeze.specs.Weights.{weight_of};
 
 use crate::methods::squeeze_methods;
 use program_model::{Admitted, Changed, Class, Origin, Program};
@@ -67,10 +68,13 @@ fn squeeze_program(
 
 /// Takes the positions out of the bodies of admitted methods that no walk from the entry comes to, the nops, and the gotos to the
 /// next position; lines follow, and `origins` says where each position comes from. `count` is how many positions went or became
-/// nops, 0 exactly where the program is the same. All else stays. The only error is want of memory (this project's profile).
+/// nops, 0 exactly where the program is the same. All else stays. A program that isn't the same
+/// weighs less: a nop weighs 1 and every other instruction 2. The only error is want of memory (this project's profile).
 pub fn apply(alloc: Global, program: Program, admitted: &Admitted) -> Result<Changed, AllocError>
     ensures squeezed { IfOk result (λ changed. IsSqueezed admitted.now.methods.items program changed.program (replicate (length program.methods) []) changed.origins changed.count) }
     ensures same { IfOk result (λ changed. changed.count ≡ 0 → changed.program ≡ program) }
+    ensures falls { IfOk result (λ changed. weight_of changed.program ≤ weight_of program) }
+    ensures less { IfOk result (λ changed. 0 < changed.count → weight_of changed.program < weight_of program) }
 {
     let mut program = program;
     let mut traces = no_origins(alloc, program.methods.len())?;

@@ -1,9 +1,9 @@
 -- Which static fields are quiet, by the tables of a hierarchy and by the program.
-use Rattle.std.proofs.Common.{◌≡◌, ℕ, zero, suc, ◌<◌, Bool, true, false, List, [], ◌∷◌, ◌++◌, map, length, Option, Some, None, slice_get, slice_index_or, refl, sym, ap, ◌∙◌, subst}
+use Rattle.std.proofs.Common.{◌≡◌, ℕ, zero, suc, ◌+◌, ◌<◌, ◌⊎◌, inl, inr, Bool, true, false, List, [], ◌∷◌, ◌++◌, map, length, Option, Some, None, slice_get, slice_index_or, refl, sym, ap, ◌∙◌, subst, arith}
 use Rattle.std.specs.Option.{option_map, option_and_then, option_or}
 use Rattle.std.specs.Prelude.{position}
 use Rattle.program_model.specs.declared.pools.FieldName.{FieldName}
-use Rattle.program_model.specs.declared.body.Body.{Body}
+use Rattle.program_model.specs.declared.pass.Changed.{Changed}
 use Rattle.program_model.specs.declared.program.Class.{Class}
 use Rattle.program_model.specs.declared.program.Program.{Program}
 use Rattle.class_defs.specs.Finding.{beside, field_by, field_from, first_among, resolves_field}
@@ -13,8 +13,12 @@ use Rattle.class_defs.specs.Starts.{is_trivial}
 use Rattle.hierarchy.specs.Shapes.{IsResolved}
 use Rattle.hierarchy.specs.Tables.{answer}
 use Rattle.hierarchy.specs.declared.build.Hierarchy.{Hierarchy}
-use Rattle.body_graph.proofs.Members.{get_inside}
-use Rattle.dead_code.specs.Dead.{is_quiet_field, trivial_in, quiet_in, AreDead}
+use Rattle.body_graph.proofs.Members.{get_inside, get_past}
+use Rattle.dead_code.specs.Dead.{is_quiet_field, trivial_in, quiet_in, AreDead, AreQuiet}
+use Rattle.walk_marks.specs.Walks.{is_on}
+use Rattle.thin_pass.specs.Plans.{IsThinnedBy}
+use Rattle.std.proofs.lemmas.Bool.{cases_lt}
+use Rattle.std.proofs.lemmas.List.{length_push, get_or_push, get_or_append_left, get_or_past}
 
 -- a field resolves to one of a class of the program
 module _ (p : Program) (name kind : ℕ) where
@@ -78,6 +82,26 @@ quiet_is p h r field = ap (trivial_in h) found ∙ by_field (slice_get p.fields 
     by_field None e = refl
     by_field (Some q) e = at_place q (field_by p (Some q)) refl
 
+-- a table of the fields
+pub quiet_none : (h : Hierarchy) (table : List Bool) → table ≡ [] → AreQuiet h 0 table
+quiet_none h table e = record { long = ap length e; each = λ n lt. absurd (omega (arith, lt)) }
+
+pub quiet_more : (h : Hierarchy) (count : ℕ) (table table' : List Bool) (q : Bool) → AreQuiet h count table → q ≡ quiet_in h count → table' ≡ table ++ q ∷ [] → AreQuiet h (count + 1) table'
+quiet_more h count table table' q a e f = record {
+  long = ap length f ∙ length_push table q ∙ ap (λ (n : ℕ). n + 1) a.long;
+  each = λ n lt. ap (λ (l : List Bool). is_on l n) f ∙ elim (cases_lt n count) [
+    | inl less ↦ get_or_append_left table (q ∷ []) false n (omega (arith, less, a.long)) ∙ a.each n less
+    | inr past ↦ (let here : count ≡ n = omega (arith, past, lt) in
+        subst (λ (k : ℕ). is_on (table ++ q ∷ []) k ≡ quiet_in h k) here (get_or_push table q false count a.long ∙ e))
+  ];
+}
+
+table_is : (p : Program) (h : Hierarchy) (table : List Bool) → IsResolved p h → AreQuiet h (length p.fields) table → (n : ℕ) → is_on table n ≡ is_quiet_field p n
+table_is p h table r a n = elim (cases_lt n (length p.fields)) [
+  | inl lt ↦ a.each n lt ∙ quiet_is p h r n
+  | inr past ↦ get_or_past table n false (omega (arith, past, a.long)) ∙ sym (ap (λ (o : Option FieldName). quiet_at p (field_by p o)) (get_past p.fields n past))
+]
+
 -- what is dead by the tables is dead by the program
-pub resolved_dead : (p : Program) (h : Hierarchy) (b : Body) (marks : List Bool) → IsResolved p h → AreDead (quiet_in h) b marks → AreDead (is_quiet_field p) b marks
-resolved_dead p h b marks r d = let same : quiet_in h ≡ is_quiet_field p = λ i field. quiet_is p h r field i in subst (λ (q : ℕ → Bool). AreDead q b marks) same d
+pub resolved_thinned : (p : Program) (h : Hierarchy) (table admitted : List Bool) (c : Changed) → IsResolved p h → AreQuiet h (length p.fields) table → IsThinnedBy (AreDead (is_on table)) admitted p c → IsThinnedBy (AreDead (is_quiet_field p)) admitted p c
+resolved_thinned p h table admitted c r a t = let same : is_on table ≡ is_quiet_field p = λ i n. table_is p h table r a n i in subst (λ (q : ℕ → Bool). IsThinnedBy (AreDead q) admitted p c) same t

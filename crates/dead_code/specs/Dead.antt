@@ -34,6 +34,11 @@ trivial_in h (Some at) = slice_index_or h.starts.trivial.items at.0 false
 abbrev pub quiet_in : Hierarchy → ℕ → Bool
 quiet_in h field = trivial_in h (answer (slice_get h.targets.fields.items field))
 
+-- a table of so many fields
+pub record AreQuiet (h : Hierarchy) (count : ℕ) (table : List Bool) : Type 0 where
+  pub long : length table ≡ count
+  pub each : (n : ℕ) → n < count → is_on table n ≡ quiet_in h n
+
 -- pure whatever the registers hold, where gets of these static fields are
 abbrev pub is_pure : (ℕ → Bool) → Insn → Bool
 is_pure quiet insn.Nop = true

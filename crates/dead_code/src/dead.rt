@@ -2,16 +2,15 @@
 
 ghost use Rattle.std.specs.Prelude.{◌≡◌, ◌+◌, ◌<◌, ◌^◌, length, slice_get, IfOk};
 ghost use Rattle.flow_cfg.specs.Walks.{successors_of};
-ghost use Rattle.hierarchy.specs.Shapes.{IsResolved};
-ghost use Rattle.dead_code.specs.Dead.{quiet_in, is_quiet_field, AreDead, is_live_at, unread_by, dead_by, dead_at};
+ghost use Rattle.walk_marks.specs.Walks.{is_on};
+ghost use Rattle.dead_code.specs.Dead.{AreDead, is_live_at, unread_by, dead_by, dead_at};
 
 use crate::quiet::is_pure;
 use crate::written::written;
 use flow_cfg::successors;
-use hierarchy::Hierarchy;
 use insn_set::Insn;
 use live_regs::{Live, live};
-use program_model::{Body, Program};
+use program_model::Body;
 use std::alloc::{AllocError, Global};
 
 /// Whether a register of the body, and the next one too where the write is wide, is live at none of some positions.
@@ -59,18 +58,17 @@ fn is_dead(
 /// Whether a position is dead.
 fn is_dead_at(
     alloc: Global,
-    program: &Program,
-    hierarchy: &Hierarchy,
+    quiet: &[bool],
     body: &Body,
     live: &Live,
     position: u32,
 ) -> Result<bool, AllocError>
     requires { length body.now.insns < 2 ^ 32 }
-    ensures { IfOk result (λ r. r ≡ dead_at (quiet_in hierarchy.now) live.now body.now position (slice_get body.now.insns position)) }
+    ensures { IfOk result (λ r. r ≡ dead_at (is_on quiet.now) live.now body.now position (slice_get body.now.insns position)) }
 {
     match body.insns.as_slice().get(position as usize) {
         Some(insn) => {
-            if is_pure(program, hierarchy, insn) {
+            if is_pure(quiet, insn) {
                 is_dead(alloc, body, live, insn, position)
             } else {
                 Ok(false)
@@ -80,22 +78,15 @@ fn is_dead_at(
     }
 }
 
-/// Which positions of a body of the program are dead. The hierarchy is that of the program's classes. The only error is
-/// want of memory.
-pub fn dead_positions(
-    alloc: Global,
-    program: &Program,
-    hierarchy: &Hierarchy,
-    body: &Body,
-) -> Result<Vec<bool>, AllocError>
+/// Which positions of a body are dead, where gets of the marked static fields are pure. The only error is want of memory.
+pub fn dead_positions(alloc: Global, quiet: &[bool], body: &Body) -> Result<Vec<bool>, AllocError>
     requires { length body.now.insns + length body.now.regions < 2 ^ 32 }
-    ensures dead { IfOk result (λ v. AreDead (quiet_in hierarchy.now) body.now v.items) }
-    ensures resolved { IsResolved program.now hierarchy.now → IfOk result (λ v. AreDead (is_quiet_field program.now) body.now v.items) }
+    ensures { IfOk result (λ v. AreDead (is_on quiet.now) body.now v.items) }
 {
     let live = live(alloc, body)?;
     let mut dead = Vec::with_capacity(alloc, body.insns.len())?;
     for position in 0..body.insns.len() {
-        dead.push(is_dead_at(alloc, program, hierarchy, body, &live, position as u32)?)?;
+        dead.push(is_dead_at(alloc, quiet, body, &live, position as u32)?)?;
     }
     Ok(dead)
 }

@@ -1,6 +1,8 @@
 -- From what fetching, working and putting say to what a command says.
 use Rattle.std.proofs.Common.{◌≡◌, ◌⊎◌, ◌++◌, ◌&&◌, ℕ, List, [], ◌∷◌, Bool, true, false, not, IsTrue, Option, None, Some, is_none, refl, sym, ap, subst, ◌∙◌, inl, inr}
 use Rattle.redex_outside.specs.Counts.{NoneFell}
+use Rattle.rule_text.specs.Fault.{IsFault}
+use Rattle.rule_text.specs.declared.fault.RuleFault.{RuleFault}
 use Rattle.redex_outside.specs.Held.{Held, AllSame, OthersSame, OldOrPrefix}
 use Rattle.program_model.specs.declared.limits.Counted.{Counted}
 use Rattle.program_model.specs.declared.limits.Counted.TheVariants.{RuleBytes, FileBytes, ScriptBytes}
@@ -9,9 +11,9 @@ use Rattle.command_line.specs.declared.command.CommandWords.TheVariants.{Optimis
 use Rattle.command_line.specs.declared.command.OptimiseWords.{OptimiseWords}
 use Rattle.redex_cli.specs.Commands.{Fetch, is_built, fetches, output_of, file_alone, library_file, rules_and_file, trace_files}
 use Rattle.redex_cli.specs.Fetching.{Failures, AllWithin, FirstTooLong, FetchRefused, PutRefused}
-use Rattle.redex_cli.specs.Files.{AllRead, FileCause, FileRefused, HoldsRead, HoldsRefused, IsRead}
-use Rattle.redex_cli.specs.Finished.{Checks, Finished, IsChecked, IsResult, IsSummary}
-use Rattle.redex_cli.specs.Refusals.{Cause, EndsTooLong, Gives, HoldsSummed, Refuses, TraceRefused, WorkRefused}
+use Rattle.redex_cli.specs.Files.{AllRead, FileCause, FileRefused, HoldsBadRules, HoldsRead, HoldsRefused, IsRead, RulesCause}
+use Rattle.redex_cli.specs.Finished.{Checks, Finished, FinishedOf, IsChecked, IsOutputOf, IsResult, IsSummary}
+use Rattle.redex_cli.specs.Refusals.{Cause, EndsTooLong, Gives, HoldsSummed, MadeRefused, ReadRefused, Refuses, TraceRefused, WorkRefused}
 use Rattle.redex_cli.specs.Stays.{OutputHolds, HoldsPart, Stays}
 use Rattle.redex_cli.specs.Traces.{IsTraced, TracesFile}
 use Rattle.redex_cli.specs.declared.status.Status.{Status}
@@ -41,116 +43,144 @@ fetch_ends names tells old f g (Limit fault) counted r told long = passes_ends t
 fetch_ends names tells old f g NoMemory counted r told long = tt
 fetch_ends names tells old f g _ counted r told long = absurd r
 
-pub fetch_refuses : (names : List Fetch) (output : Option (List ℕ)) (tells : Bool) (old new : Held) (f g p q : Failures) (status : Status)
+pub fetch_refuses : (names : List Fetch) (output : Option (List ℕ)) (IsFinal : List ℕ → List ℕ → Type 0) (tells : Bool) (old new : Held) (f g p q : Failures) (status : Status)
     → FetchRefused tells old f g names status → (IsTrue tells → AllSame old new)
-    → Refuses names output tells old new f g p q status
-fetch_refuses names output tells old new f g p q status r same = record {
+    → Refuses names output IsFinal tells old new f g p q status
+fetch_refuses names output IsFinal tells old new f g p q status r same = record {
   cause = fetch_cause names output tells old f g p q status r;
   too_long = λ counted told long. fetch_ends names tells old f g status counted r told long;
-  stays = λ told. stays_same (λ name. output ≡ Some name) status p q old new (fetch_keeps names tells old f g status r) (same told);
+  stays = λ told. stays_same (λ name. output ≡ Some name) IsFinal status p q old new (fetch_keeps names tells old f g status r) (same told);
 }
 
 -- ---- the work
 
-work_cause : (names : List Fetch) (output : Option (List ℕ)) (tells : Bool) (old : Held) (f g p q : Failures) (status : Status)
-    → WorkRefused status → (IsTrue tells → AllWithin old names) → (IsTrue tells → FileCause old names status)
+work_cause : (names : List Fetch) (output : Option (List ℕ)) (text : List ℕ) (tells : Bool) (old : Held) (f g p q : Failures) (status : Status)
+    → WorkRefused text status → (IsTrue tells → AllWithin old names) → ((fault : RuleFault) → IsTrue tells → IsFault text fault → RulesCause old names fault)
+    → (IsTrue tells → FileCause old names status)
     → Cause names output tells old f g p q status
-work_cause names output tells old f g p q (BadRules fault) r within file = r
-work_cause names output tells old f g p q (BadDex fault) r within file = record { carried = r; file = file }
-work_cause names output tells old f g p q (Limit fault) r within file = inr (record { inside = r; within = within; file = file })
-work_cause names output tells old f g p q NoMemory r within file = tt
-work_cause names output tells old f g p q _ r within file = absurd r
+work_cause names output text tells old f g p q (BadRules fault) r within ruling file = record { carried = r.0; ruling = λ told. ruling fault told r.1 }
+work_cause names output text tells old f g p q (BadDex fault) r within ruling file = record { carried = r; file = file }
+work_cause names output text tells old f g p q (Limit fault) r within ruling file = inr (record { inside = r; within = within; file = file })
+work_cause names output text tells old f g p q NoMemory r within ruling file = tt
+work_cause names output text tells old f g p q _ r within ruling file = absurd r
 
-work_keeps : (status : Status) → WorkRefused status → KeepsAll status
-work_keeps (BadRules fault) r = tt
-work_keeps (BadDex fault) r = tt
-work_keeps (Limit fault) r = tt
-work_keeps NoMemory r = tt
-work_keeps _ r = absurd r
+work_keeps : (text : List ℕ) (status : Status) → WorkRefused text status → KeepsAll status
+work_keeps text (BadRules fault) r = tt
+work_keeps text (BadDex fault) r = tt
+work_keeps text (Limit fault) r = tt
+work_keeps text NoMemory r = tt
+work_keeps text _ r = absurd r
 
-pub work_refuses : (names : List Fetch) (output : Option (List ℕ)) (tells : Bool) (old new : Held) (f g p q : Failures) (status : Status)
-    → WorkRefused status → (IsTrue tells → AllWithin old names) → (IsTrue tells → FileCause old names status) → (IsTrue tells → AllSame old new)
-    → Refuses names output tells old new f g p q status
-work_refuses names output tells old new f g p q status r within file same = record {
-  cause = work_cause names output tells old f g p q status r within file;
+pub work_refuses : (names : List Fetch) (output : Option (List ℕ)) (IsFinal : List ℕ → List ℕ → Type 0) (text : List ℕ) (tells : Bool) (old new : Held) (f g p q : Failures) (status : Status)
+    → WorkRefused text status → (IsTrue tells → AllWithin old names) → ((fault : RuleFault) → IsTrue tells → IsFault text fault → RulesCause old names fault)
+    → (IsTrue tells → FileCause old names status) → (IsTrue tells → AllSame old new)
+    → Refuses names output IsFinal tells old new f g p q status
+work_refuses names output IsFinal text tells old new f g p q status r within ruling file same = record {
+  cause = work_cause names output text tells old f g p q status r within ruling file;
   too_long = λ counted told long. absurd (within_or_long old names counted (within told) long);
-  stays = λ told. stays_same (λ name. output ≡ Some name) status p q old new (work_keeps status r) (same told);
+  stays = λ told. stays_same (λ name. output ≡ Some name) IsFinal status p q old new (work_keeps text status r) (same told);
 }
+
+-- the rules that a name holds
+holds_bad : (held : Held) (name text : List ℕ) (fault : RuleFault) → held name ≡ Some text → IsFault text fault
+    → HoldsBadRules held (record { name = name; counted = RuleBytes }) fault
+holds_bad held name text fault there bad = record { counted = refl; bytes = text; there = there; bad = bad }
 
 holds_refused : (held : Held) (name bytes : List ℕ) (status : Status) → held name ≡ Some bytes → FileRefused bytes status
     → HoldsRefused held (record { name = name; counted = FileBytes }) status
 holds_refused held name bytes status there refused = record { counted = refl; bytes = bytes; there = there; refused = refused }
 
 -- a command that fetches nothing
-pub made_refuses : (tells : Bool) (held : Held) (f p : Failures) (status : Status)
-    → WorkRefused status → Refuses [] None tells held held f f p p status
-made_refuses tells held f p status r = work_refuses [] None tells held held f f p p status r (λ _. tt) (λ _. tt) (λ _ name. refl)
+pub made_refuses : (IsFinal : List ℕ → List ℕ → Type 0) (tells : Bool) (held : Held) (f p : Failures) (status : Status)
+    → MadeRefused status → Refuses [] None IsFinal tells held held f f p p status
+made_refuses IsFinal tells held f p status r =
+    work_refuses [] None IsFinal r.rules tells held held f f p p status r.refused (λ _. tt) (λ fault _ _. tt) (λ _. tt) (λ _ name. refl)
 
-pub check_refuses : (input bytes : List ℕ) (tells : Bool) (old new : Held) (f g p q : Failures) (status : Status)
-    → WorkRefused status → FileRefused bytes status → (IsTrue tells → AllWithin old (file_alone input))
-    → (IsTrue tells → old input ≡ Some bytes) → (IsTrue tells → AllSame old new)
-    → Refuses (file_alone input) None tells old new f g p q status
-check_refuses input bytes tells old new f g p q status r refused within there same =
-    work_refuses (file_alone input) None tells old new f g p q status r within
-    (λ told. inl (holds_refused old input bytes status (there told) refused)) same
+read_cause : (names : List Fetch) (output : Option (List ℕ)) (tells : Bool) (old : Held) (f g p q : Failures) (status : Status)
+    → ReadRefused status → (IsTrue tells → AllWithin old names) → (IsTrue tells → FileCause old names status)
+    → Cause names output tells old f g p q status
+read_cause names output tells old f g p q (BadDex fault) r within file = record { carried = r; file = file }
+read_cause names output tells old f g p q (Limit fault) r within file = inr (record { inside = r; within = within; file = file })
+read_cause names output tells old f g p q NoMemory r within file = tt
+read_cause names output tells old f g p q _ r within file = absurd r
 
-pub pair_refuses : (rules input bytes : List ℕ) (output : Option (List ℕ)) (tells : Bool) (old new : Held) (f g p q : Failures) (status : Status)
-    → WorkRefused status → FileRefused bytes status → (IsTrue tells → AllWithin old (rules_and_file rules input))
+read_keeps : (status : Status) → ReadRefused status → KeepsAll status
+read_keeps (BadDex fault) r = tt
+read_keeps (Limit fault) r = tt
+read_keeps NoMemory r = tt
+read_keeps _ r = absurd r
+
+-- a command without rules
+pub check_refuses : (input bytes : List ℕ) (IsFinal : List ℕ → List ℕ → Type 0) (tells : Bool) (old new : Held) (f g p q : Failures) (status : Status)
+    → ReadRefused status → FileRefused bytes status → (IsTrue tells → AllWithin old (file_alone input))
     → (IsTrue tells → old input ≡ Some bytes) → (IsTrue tells → AllSame old new)
-    → Refuses (rules_and_file rules input) output tells old new f g p q status
-pair_refuses rules input bytes output tells old new f g p q status r refused within there same =
-    work_refuses (rules_and_file rules input) output tells old new f g p q status r within
+    → Refuses (file_alone input) None IsFinal tells old new f g p q status
+check_refuses input bytes IsFinal tells old new f g p q status r refused within there same = record {
+  cause = read_cause (file_alone input) None tells old f g p q status r within (λ told. inl (holds_refused old input bytes status (there told) refused));
+  too_long = λ counted told long. absurd (within_or_long old (file_alone input) counted (within told) long);
+  stays = λ told. stays_same (λ name. None ≡ Some name) IsFinal status p q old new (read_keeps status r) (same told);
+}
+
+pub pair_refuses : (rules input text bytes : List ℕ) (output : Option (List ℕ)) (IsFinal : List ℕ → List ℕ → Type 0) (tells : Bool) (old new : Held) (f g p q : Failures) (status : Status)
+    → WorkRefused text status → FileRefused bytes status → (IsTrue tells → AllWithin old (rules_and_file rules input))
+    → (IsTrue tells → old rules ≡ Some text) → (IsTrue tells → old input ≡ Some bytes) → (IsTrue tells → AllSame old new)
+    → Refuses (rules_and_file rules input) output IsFinal tells old new f g p q status
+pair_refuses rules input text bytes output IsFinal tells old new f g p q status r refused within ruled there same =
+    work_refuses (rules_and_file rules input) output IsFinal text tells old new f g p q status r within
+    (λ fault told bad. inl (holds_bad old rules text fault (ruled told) bad))
     (λ told. inr (inl (holds_refused old input bytes status (there told) refused))) same
 
-trace_cause : (rules input script text bytes : List ℕ) (tells : Bool) (old : Held) (f g p q : Failures) (status : Status)
-    → TraceRefused text status → FileRefused bytes status → (IsTrue tells → AllWithin old (trace_files rules input script))
-    → (IsTrue tells → old input ≡ Some bytes) → (IsTrue tells → old script ≡ Some text)
+-- what the work on rules and a file may cause, where a script is fetched too
+trace_cause : (rules input script ruling text bytes : List ℕ) (tells : Bool) (old : Held) (f g p q : Failures) (status : Status)
+    → TraceRefused ruling text status → FileRefused bytes status → (IsTrue tells → AllWithin old (trace_files rules input script))
+    → (IsTrue tells → old rules ≡ Some ruling) → (IsTrue tells → old input ≡ Some bytes) → (IsTrue tells → old script ≡ Some text)
     → Cause (trace_files rules input script) None tells old f g p q status
-trace_cause rules input script text bytes tells old f g p q (BadScript line) r refused within file there =
+trace_cause rules input script ruling text bytes tells old f g p q (BadScript line) r refused within ruled file there =
     λ told. inr (inr (inl (record { counted = refl; bytes = text; there = there told; says = r })))
-trace_cause rules input script text bytes tells old f g p q Done r refused within file there = absurd r
-trace_cause rules input script text bytes tells old f g p q Usage r refused within file there = absurd r
-trace_cause rules input script text bytes tells old f g p q (BadRules fault) r refused within file there = r
-trace_cause rules input script text bytes tells old f g p q (BadDex fault) r refused within file there =
-    work_cause (trace_files rules input script) None tells old f g p q (BadDex fault) r within
+trace_cause rules input script ruling text bytes tells old f g p q (BadRules fault) r refused within ruled file there =
+    record { carried = r.0; ruling = λ told. inl (holds_bad old rules ruling fault (ruled told) r.1) }
+trace_cause rules input script ruling text bytes tells old f g p q (BadDex fault) r refused within ruled file there =
+    read_cause (trace_files rules input script) None tells old f g p q (BadDex fault) r within
     (λ told. inr (inl (holds_refused old input bytes (BadDex fault) (file told) refused)))
-trace_cause rules input script text bytes tells old f g p q (Limit fault) r refused within file there =
-    work_cause (trace_files rules input script) None tells old f g p q (Limit fault) r within
+trace_cause rules input script ruling text bytes tells old f g p q (Limit fault) r refused within ruled file there =
+    read_cause (trace_files rules input script) None tells old f g p q (Limit fault) r within
     (λ told. inr (inl (holds_refused old input bytes (Limit fault) (file told) refused)))
-trace_cause rules input script text bytes tells old f g p q ReadFault r refused within file there = absurd r
-trace_cause rules input script text bytes tells old f g p q WriteFault r refused within file there = absurd r
-trace_cause rules input script text bytes tells old f g p q NoMemory r refused within file there = tt
+trace_cause rules input script ruling text bytes tells old f g p q NoMemory r refused within ruled file there = tt
+trace_cause rules input script ruling text bytes tells old f g p q Done r refused within ruled file there = absurd r
+trace_cause rules input script ruling text bytes tells old f g p q Usage r refused within ruled file there = absurd r
+trace_cause rules input script ruling text bytes tells old f g p q ReadFault r refused within ruled file there = absurd r
+trace_cause rules input script ruling text bytes tells old f g p q WriteFault r refused within ruled file there = absurd r
 
-trace_keeps : (text : List ℕ) (status : Status) → TraceRefused text status → KeepsAll status
-trace_keeps text (BadScript line) r = tt
-trace_keeps text Done r = absurd r
-trace_keeps text Usage r = absurd r
-trace_keeps text (BadRules fault) r = tt
-trace_keeps text (BadDex fault) r = tt
-trace_keeps text (Limit fault) r = tt
-trace_keeps text ReadFault r = absurd r
-trace_keeps text WriteFault r = absurd r
-trace_keeps text NoMemory r = tt
+trace_keeps : (ruling text : List ℕ) (status : Status) → TraceRefused ruling text status → KeepsAll status
+trace_keeps ruling text (BadScript line) r = tt
+trace_keeps ruling text Done r = absurd r
+trace_keeps ruling text Usage r = absurd r
+trace_keeps ruling text (BadRules fault) r = tt
+trace_keeps ruling text (BadDex fault) r = tt
+trace_keeps ruling text (Limit fault) r = tt
+trace_keeps ruling text ReadFault r = absurd r
+trace_keeps ruling text WriteFault r = absurd r
+trace_keeps ruling text NoMemory r = tt
 
-pub work_traces : (text : List ℕ) (status : Status) → WorkRefused status → TraceRefused text status
-work_traces text (BadScript line) r = absurd r
-work_traces text Done r = r
-work_traces text Usage r = r
-work_traces text (BadRules fault) r = r
-work_traces text (BadDex fault) r = r
-work_traces text (Limit fault) r = r
-work_traces text ReadFault r = r
-work_traces text WriteFault r = r
-work_traces text NoMemory r = r
+pub work_traces : (ruling text : List ℕ) (status : Status) → WorkRefused ruling status → TraceRefused ruling text status
+work_traces ruling text (BadScript line) r = absurd r
+work_traces ruling text Done r = r
+work_traces ruling text Usage r = r
+work_traces ruling text (BadRules fault) r = r
+work_traces ruling text (BadDex fault) r = r
+work_traces ruling text (Limit fault) r = r
+work_traces ruling text ReadFault r = r
+work_traces ruling text WriteFault r = r
+work_traces ruling text NoMemory r = r
 
-pub trace_refuses : (rules input script text bytes : List ℕ) (tells : Bool) (old new : Held) (f g p q : Failures) (status : Status)
-    → TraceRefused text status → FileRefused bytes status → (IsTrue tells → AllWithin old (trace_files rules input script))
-    → (IsTrue tells → old input ≡ Some bytes) → (IsTrue tells → old script ≡ Some text) → (IsTrue tells → AllSame old new)
-    → Refuses (trace_files rules input script) None tells old new f g p q status
-trace_refuses rules input script text bytes tells old new f g p q status r refused within file there same = record {
-  cause = trace_cause rules input script text bytes tells old f g p q status r refused within file there;
+pub trace_refuses : (rules input script ruling text bytes : List ℕ) (IsFinal : List ℕ → List ℕ → Type 0) (tells : Bool) (old new : Held) (f g p q : Failures) (status : Status)
+    → TraceRefused ruling text status → FileRefused bytes status → (IsTrue tells → AllWithin old (trace_files rules input script))
+    → (IsTrue tells → old rules ≡ Some ruling) → (IsTrue tells → old input ≡ Some bytes) → (IsTrue tells → old script ≡ Some text) → (IsTrue tells → AllSame old new)
+    → Refuses (trace_files rules input script) None IsFinal tells old new f g p q status
+trace_refuses rules input script ruling text bytes IsFinal tells old new f g p q status r refused within ruled file there same = record {
+  cause = trace_cause rules input script ruling text bytes tells old f g p q status r refused within ruled file there;
   too_long = λ counted told long. absurd (within_or_long old (trace_files rules input script) counted (within told) long);
-  stays = λ told. stays_same (λ name. None ≡ Some name) status p q old new (trace_keeps text status r) (same told);
+  stays = λ told. stays_same (λ name. None ≡ Some name) IsFinal status p q old new (trace_keeps ruling text status r) (same told);
 }
 
 -- ---- files that spell programs
@@ -177,10 +207,10 @@ trace_read held rules input script bytes there read =
     (λ e. absurd (rules_no_file e), (λ _. holds_read held input bytes FileBytes there read, (λ e. absurd (script_no_file e), tt)))
 
 -- a command that puts nothing
-pub keeps_gives : (names : List Fetch) (IsAnswer : List ℕ → Type 0) (tells : Bool) (old new : Held) (text : List ℕ)
+pub keeps_gives : (names : List Fetch) (IsFinal : List ℕ → List ℕ → Type 0) (IsAnswer : List ℕ → Type 0) (tells : Bool) (old new : Held) (text : List ℕ)
     → (IsTrue tells → AllWithin old names) → (IsTrue tells → AllRead old names) → IsAnswer text → (IsTrue tells → AllSame old new)
-    → Gives names None IsAnswer tells old new text
-keeps_gives names IsAnswer tells old new text within read answer same = record {
+    → Gives names None IsFinal IsAnswer tells old new text
+keeps_gives names IsFinal IsAnswer tells old new text within read answer same = record {
   within = within;
   read = read;
   answer = answer;
@@ -192,21 +222,21 @@ keeps_gives names IsAnswer tells old new text within read answer same = record {
     none_some name e = cc
 
 -- a command that fetches nothing
-pub made_gives : (IsAnswer : List ℕ → Type 0) (tells : Bool) (held : Held) (text : List ℕ) → IsAnswer text → Gives [] None IsAnswer tells held held text
-made_gives IsAnswer tells held text answer = keeps_gives [] IsAnswer tells held held text (λ _. tt) (λ _. tt) answer (λ _ name. refl)
+pub made_gives : (IsFinal : List ℕ → List ℕ → Type 0) (IsAnswer : List ℕ → Type 0) (tells : Bool) (held : Held) (text : List ℕ) → IsAnswer text → Gives [] None IsFinal IsAnswer tells held held text
+made_gives IsFinal IsAnswer tells held text answer = keeps_gives [] IsFinal IsAnswer tells held held text (λ _. tt) (λ _. tt) answer (λ _ name. refl)
 
-pub pair_gives : (rules input bytes : List ℕ) (IsAnswer : List ℕ → Type 0) (tells : Bool) (old new : Held) (text : List ℕ)
+pub pair_gives : (rules input bytes : List ℕ) (IsFinal : List ℕ → List ℕ → Type 0) (IsAnswer : List ℕ → Type 0) (tells : Bool) (old new : Held) (text : List ℕ)
     → IsRead bytes → (IsTrue tells → AllWithin old (rules_and_file rules input)) → (IsTrue tells → old input ≡ Some bytes)
     → IsAnswer text → (IsTrue tells → AllSame old new)
-    → Gives (rules_and_file rules input) None IsAnswer tells old new text
-pair_gives rules input bytes IsAnswer tells old new text read within there answer same =
-    keeps_gives (rules_and_file rules input) IsAnswer tells old new text within (λ told. pair_read old rules input bytes (there told) read) answer same
+    → Gives (rules_and_file rules input) None IsFinal IsAnswer tells old new text
+pair_gives rules input bytes IsFinal IsAnswer tells old new text read within there answer same =
+    keeps_gives (rules_and_file rules input) IsFinal IsAnswer tells old new text within (λ told. pair_read old rules input bytes (there told) read) answer same
 
-pub check_gives : (input bytes : List ℕ) (tells : Bool) (old new : Held) (text : List ℕ)
+pub check_gives : (input bytes : List ℕ) (IsFinal : List ℕ → List ℕ → Type 0) (tells : Bool) (old new : Held) (text : List ℕ)
     → Checks bytes text → (IsTrue tells → AllWithin old (file_alone input)) → (IsTrue tells → old input ≡ Some bytes) → (IsTrue tells → AllSame old new)
-    → Gives (file_alone input) None (IsChecked tells old input) tells old new text
-check_gives input bytes tells old new text checks within there same =
-    keeps_gives (file_alone input) (IsChecked tells old input) tells old new text within
+    → Gives (file_alone input) None IsFinal (IsChecked tells old input) tells old new text
+check_gives input bytes IsFinal tells old new text checks within there same =
+    keeps_gives (file_alone input) IsFinal (IsChecked tells old input) tells old new text within
     (λ told. (λ _. holds_read old input bytes FileBytes (there told) (record { program = checks.program; reads = checks.reads; accepted = checks.accepted }), tt))
     (record {
       program = checks.program;
@@ -226,12 +256,12 @@ is_traced input script bytes play steps tells old text traces file there = recor
   traces = traces.traces;
 }
 
-pub three_give : (rules input script bytes play : List ℕ) (steps : ℕ) (tells : Bool) (old new : Held) (text : List ℕ)
+pub three_give : (rules input script bytes play : List ℕ) (steps : ℕ) (IsFinal : List ℕ → List ℕ → Type 0) (tells : Bool) (old new : Held) (text : List ℕ)
     → IsRead bytes → TracesFile bytes play steps text → (IsTrue tells → AllWithin old (trace_files rules input script))
     → (IsTrue tells → old input ≡ Some bytes) → (IsTrue tells → old script ≡ Some play) → (IsTrue tells → AllSame old new)
-    → Gives (trace_files rules input script) None (IsTraced tells old input script steps) tells old new text
-three_give rules input script bytes play steps tells old new text read traces within file there same =
-    keeps_gives (trace_files rules input script) (IsTraced tells old input script steps) tells old new text within
+    → Gives (trace_files rules input script) None IsFinal (IsTraced tells old input script steps) tells old new text
+three_give rules input script bytes play steps IsFinal tells old new text read traces within file there same =
+    keeps_gives (trace_files rules input script) IsFinal (IsTraced tells old input script steps) tells old new text within
     (λ told. trace_read old rules input script bytes (file told) read)
     (is_traced input script bytes play steps tells old text traces file there) same
 
@@ -255,64 +285,78 @@ put_cause names name tells tells' old mid new f g p m q bytes WriteFault fell r 
 put_cause names name tells tells' old mid new f g p m q bytes NoMemory fell r = tt
 put_cause names name tells tells' old mid new f g p m q bytes _ fell r = absurd r
 
-put_stays : (name : List ℕ) (tells' : Bool) (old mid new : Held) (p m q : Failures) (bytes summary : List ℕ) (status : Status)
-    → Finished bytes summary → NoneFell p m → IsTrue tells' → AllSame old mid → OthersSame name mid new
+put_stays : (IsFinal : List ℕ → List ℕ → Type 0) (name : List ℕ) (tells' : Bool) (old mid new : Held) (p m q : Failures) (bytes summary : List ℕ) (status : Status)
+    → IsFinal bytes summary → NoneFell p m → IsTrue tells' → AllSame old mid → OthersSame name mid new
     → PutRefused tells' (m name) (q name) (mid name) (new name) bytes status
-    → Stays (λ other. Some name ≡ Some other) status p q old new
-put_stays name tells' old mid new p m q bytes summary WriteFault finished fell told same others r = record {
+    → Stays (λ other. Some name ≡ Some other) IsFinal status p q old new
+put_stays IsFinal name tells' old mid new p m q bytes summary WriteFault final fell told same others r = record {
   refused = λ x. absurd x;
   others = others_since name old mid new same others;
-  output = λ other e. subst (λ (n : List ℕ). OutputHolds WriteFault (p n) (q n) (old n) (new n)) (same_name name other e) (inr (record {
+  output = λ other e. subst (λ (n : List ℕ). OutputHolds IsFinal WriteFault (p n) (q n) (old n) (new n)) (same_name name other e) (inr (record {
     output = bytes;
     summary = summary;
-    finished = finished;
+    final = final;
     rose = rose_since (p name) (m name) (q name) (fell name).no_less r.0;
     there = subst (λ (before : Option (List ℕ)). OldOrPrefix before (new name) bytes) (same name) (r.1 told);
   }));
 }
-put_stays name tells' old mid new p m q bytes summary NoMemory finished fell told same others r = record {
+put_stays IsFinal name tells' old mid new p m q bytes summary NoMemory final fell told same others r = record {
   refused = λ x. absurd x;
   others = others_since name old mid new same others;
-  output = λ other e. subst (λ (n : List ℕ). OutputHolds NoMemory (p n) (q n) (old n) (new n)) (same_name name other e) (inl (r told ∙ same name));
+  output = λ other e. subst (λ (n : List ℕ). OutputHolds IsFinal NoMemory (p n) (q n) (old n) (new n)) (same_name name other e) (inl (r told ∙ same name));
 }
-put_stays name tells' old mid new p m q bytes summary _ finished fell told same others r = absurd r
+put_stays IsFinal name tells' old mid new p m q bytes summary _ final fell told same others r = absurd r
 
-pub put_refuses : (names : List Fetch) (name : List ℕ) (tells tells' : Bool) (old mid new : Held) (f g p m q : Failures) (bytes summary : List ℕ) (status : Status)
-    → (IsTrue tells → AllWithin old names) → Finished bytes summary → tells' ≡ tells → (IsTrue tells → AllSame old mid) → NoneFell p m
+pub put_refuses : (names : List Fetch) (IsFinal : List ℕ → List ℕ → Type 0) (name : List ℕ) (tells tells' : Bool) (old mid new : Held) (f g p m q : Failures) (bytes summary : List ℕ) (status : Status)
+    → (IsTrue tells → AllWithin old names) → IsFinal bytes summary → tells' ≡ tells → (IsTrue tells → AllSame old mid) → NoneFell p m
     → PutRefused tells' (m name) (q name) (mid name) (new name) bytes status → (IsTrue tells' → OthersSame name mid new)
-    → Refuses names (Some name) tells old new f g p q status
-put_refuses names name tells tells' old mid new f g p m q bytes summary status within finished e same fell r others = record {
+    → Refuses names (Some name) IsFinal tells old new f g p q status
+put_refuses names IsFinal name tells tells' old mid new f g p m q bytes summary status within final e same fell r others = record {
   cause = put_cause names name tells tells' old mid new f g p m q bytes status fell r;
   too_long = λ counted told long. absurd (within_or_long old names counted (within told) long);
-  stays = λ told. put_stays name tells' old mid new p m q bytes summary status finished fell (e ∙ told) (same told) (others (e ∙ told)) r;
+  stays = λ told. put_stays IsFinal name tells' old mid new p m q bytes summary status final fell (e ∙ told) (same told) (others (e ∙ told)) r;
+}
+
+-- the finished output of what the names hold
+finished_of : (rules input ruling file output summary : List ℕ) (tells : Bool) (old : Held) → (IsTrue tells → old rules ≡ Some ruling)
+    → (IsTrue tells → old input ≡ Some file) → Finished ruling file output summary → FinishedOf tells old rules input output summary
+finished_of rules input ruling file output summary tells old ruled filed finished = record {
+  ruling = ruling;
+  ruled = ruled;
+  file = file;
+  filed = filed;
+  finished = finished;
 }
 
 -- the same of names and bytes that are found to be these
-pub output_refuses : (rules input name rules' input' name' : List ℕ) (tells tells' : Bool) (old mid new : Held) (f g p m q : Failures) (bytes content summary : List ℕ) (status : Status)
+pub output_refuses : (rules input name rules' input' name' ruling file : List ℕ) (tells tells' : Bool) (old mid new : Held) (f g p m q : Failures) (bytes content summary : List ℕ) (status : Status)
     → rules' ≡ rules → input' ≡ input → name' ≡ name → content ≡ bytes
-    → (IsTrue tells → AllWithin old (rules_and_file rules' input')) → Finished bytes summary → tells' ≡ tells → (IsTrue tells → AllSame old mid) → NoneFell p m
+    → (IsTrue tells → AllWithin old (rules_and_file rules' input')) → (IsTrue tells → old rules' ≡ Some ruling) → (IsTrue tells → old input' ≡ Some file)
+    → Finished ruling file bytes summary → tells' ≡ tells → (IsTrue tells → AllSame old mid) → NoneFell p m
     → PutRefused tells' (m name') (q name') (mid name') (new name') content status → (IsTrue tells' → OthersSame name' mid new)
-    → Refuses (rules_and_file rules input) (Some name) tells old new f g p q status
-output_refuses rules input name rules' input' name' tells tells' old mid new f g p m q bytes content summary status is_rules is_input is_name is_bytes within finished e same fell r others =
-    subst (λ (n : List ℕ). Refuses (rules_and_file n input) (Some name) tells old new f g p q status) is_rules
-    (subst (λ (n : List ℕ). Refuses (rules_and_file rules' n) (Some name) tells old new f g p q status) is_input
-    (subst (λ (n : List ℕ). Refuses (rules_and_file rules' input') (Some n) tells old new f g p q status) is_name
-    (put_refuses (rules_and_file rules' input') name' tells tells' old mid new f g p m q bytes summary status within finished e same fell
+    → Refuses (rules_and_file rules input) (Some name) (FinishedOf tells old rules input) tells old new f g p q status
+output_refuses rules input name rules' input' name' ruling file tells tells' old mid new f g p m q bytes content summary status is_rules is_input is_name is_bytes within ruled filed finished e same fell r others =
+    subst (λ (n : List ℕ). Refuses (rules_and_file n input) (Some name) (FinishedOf tells old n input) tells old new f g p q status) is_rules
+    (subst (λ (n : List ℕ). Refuses (rules_and_file rules' n) (Some name) (FinishedOf tells old rules' n) tells old new f g p q status) is_input
+    (subst (λ (n : List ℕ). Refuses (rules_and_file rules' input') (Some n) (FinishedOf tells old rules' input') tells old new f g p q status) is_name
+    (put_refuses (rules_and_file rules' input') (FinishedOf tells old rules' input') name' tells tells' old mid new f g p m q bytes summary status within
+    (finished_of rules' input' ruling file bytes summary tells old ruled filed finished) e same fell
     (subst (λ (bs : List ℕ). PutRefused tells' (m name') (q name') (mid name') (new name') bs status) is_bytes r) others)))
 
-pub put_gives : (rules input file name : List ℕ) (tells tells' : Bool) (old mid new : Held) (bytes summary : List ℕ)
-    → IsRead file → (IsTrue tells → AllWithin old (rules_and_file rules input)) → (IsTrue tells → old input ≡ Some file)
-    → Finished bytes summary → tells' ≡ tells → (IsTrue tells → AllSame old mid)
+pub put_gives : (rules input ruling file name : List ℕ) (tells tells' : Bool) (old mid new : Held) (bytes summary : List ℕ)
+    → IsRead file → (IsTrue tells → AllWithin old (rules_and_file rules input)) → (IsTrue tells → old rules ≡ Some ruling) → (IsTrue tells → old input ≡ Some file)
+    → Finished ruling file bytes summary → tells' ≡ tells → (IsTrue tells → AllSame old mid)
     → (IsTrue tells' → new name ≡ Some bytes) → (IsTrue tells' → OthersSame name mid new)
-    → Gives (rules_and_file rules input) (Some name) IsSummary tells old new summary
-put_gives rules input file name tells tells' old mid new bytes summary read within there finished e same put others = record {
-  within = within;
-  read = λ told. pair_read old rules input file (there told) read;
-  answer = record { output = bytes; finished = finished };
-  others = λ told. others_since name old mid new (same told) (others (e ∙ told));
-  put = λ told other is. subst (λ (n : List ℕ). HoldsSummed summary (new n)) (same_name name other is)
-      (record { output = bytes; finished = finished; there = put (e ∙ told) });
-}
+    → Gives (rules_and_file rules input) (Some name) (FinishedOf tells old rules input) (IsSummary (FinishedOf tells old rules input)) tells old new summary
+put_gives rules input ruling file name tells tells' old mid new bytes summary read within ruled there finished e same put others =
+    let final = finished_of rules input ruling file bytes summary tells old ruled there finished in record {
+      within = within;
+      read = λ told. pair_read old rules input file (there told) read;
+      answer = record { output = bytes; final = final };
+      others = λ told. others_since name old mid new (same told) (others (e ∙ told));
+      put = λ told other is. subst (λ (n : List ℕ). HoldsSummed (FinishedOf tells old rules input) summary (new n)) (same_name name other is)
+          (record { output = bytes; final = final; there = put (e ∙ told) });
+    }
 
 -- ---- commands without a library
 
@@ -336,28 +380,29 @@ live_fetches rules input library built =
     ap (λ (more : List Fetch). rules_and_file rules input ++ more) (sym (no_library library built))
 
 pub optimise_gives : (words : OptimiseWords) (tells : Bool) (old new : Held) (text : List ℕ) → IsTrue (is_built (Optimise words))
-    → Gives (rules_and_file words.rules words.input) (Some words.output) IsSummary tells old new text
-    → Gives (fetches (Optimise words)) (output_of (Optimise words)) (IsResult tells old (Optimise words)) tells old new text
+    → Gives (rules_and_file words.rules words.input) (Some words.output) (FinishedOf tells old words.rules words.input) (IsSummary (FinishedOf tells old words.rules words.input)) tells old new text
+    → Gives (fetches (Optimise words)) (output_of (Optimise words)) (IsOutputOf tells old (Optimise words)) (IsResult tells old (Optimise words)) tells old new text
 optimise_gives words tells old new text built gives =
-    subst (λ (names : List Fetch). Gives names (Some words.output) IsSummary tells old new text) (optimise_fetches words built) gives
+    subst (λ (names : List Fetch). Gives names (Some words.output) (FinishedOf tells old words.rules words.input) (IsSummary (FinishedOf tells old words.rules words.input)) tells old new text)
+    (optimise_fetches words built) gives
 
 pub optimise_refuses : (words : OptimiseWords) (tells : Bool) (old new : Held) (f g p q : Failures) (status : Status) → IsTrue (is_built (Optimise words))
-    → Refuses (rules_and_file words.rules words.input) (Some words.output) tells old new f g p q status
-    → Refuses (fetches (Optimise words)) (output_of (Optimise words)) tells old new f g p q status
+    → Refuses (rules_and_file words.rules words.input) (Some words.output) (FinishedOf tells old words.rules words.input) tells old new f g p q status
+    → Refuses (fetches (Optimise words)) (output_of (Optimise words)) (IsOutputOf tells old (Optimise words)) tells old new f g p q status
 optimise_refuses words tells old new f g p q status built refuses =
-    subst (λ (names : List Fetch). Refuses names (Some words.output) tells old new f g p q status) (optimise_fetches words built) refuses
+    subst (λ (names : List Fetch). Refuses names (Some words.output) (FinishedOf tells old words.rules words.input) tells old new f g p q status) (optimise_fetches words built) refuses
 
 pub live_gives : (rules input : List ℕ) (library : Option (List ℕ)) (tells : Bool) (old new : Held) (text : List ℕ) → IsTrue (is_built (Live rules input library))
-    → Gives (rules_and_file rules input) None (λ _. Unit {0}) tells old new text
-    → Gives (fetches (Live rules input library)) (output_of (Live rules input library)) (IsResult tells old (Live rules input library)) tells old new text
+    → Gives (rules_and_file rules input) None (λ _ _. ⊥) (λ _. Unit {0}) tells old new text
+    → Gives (fetches (Live rules input library)) (output_of (Live rules input library)) (IsOutputOf tells old (Live rules input library)) (IsResult tells old (Live rules input library)) tells old new text
 live_gives rules input library tells old new text built gives =
-    subst (λ (names : List Fetch). Gives names None (λ _. Unit {0}) tells old new text) (live_fetches rules input library built) gives
+    subst (λ (names : List Fetch). Gives names None (λ _ _. ⊥) (λ _. Unit {0}) tells old new text) (live_fetches rules input library built) gives
 
 pub live_refuses : (rules input : List ℕ) (library : Option (List ℕ)) (tells : Bool) (old new : Held) (f g p q : Failures) (status : Status) → IsTrue (is_built (Live rules input library))
-    → Refuses (rules_and_file rules input) None tells old new f g p q status
-    → Refuses (fetches (Live rules input library)) (output_of (Live rules input library)) tells old new f g p q status
+    → Refuses (rules_and_file rules input) None (λ _ _. ⊥) tells old new f g p q status
+    → Refuses (fetches (Live rules input library)) (output_of (Live rules input library)) (IsOutputOf tells old (Live rules input library)) tells old new f g p q status
 live_refuses rules input library tells old new f g p q status built refuses =
-    subst (λ (names : List Fetch). Refuses names None tells old new f g p q status) (live_fetches rules input library built) refuses
+    subst (λ (names : List Fetch). Refuses names None (λ _ _. ⊥) tells old new f g p q status) (live_fetches rules input library built) refuses
 
 trace_fetches : (rules input script : List ℕ) (steps : ℕ) (library : Option (List ℕ)) → IsTrue (is_built (Trace rules input script steps library))
     → trace_files rules input script ≡ fetches (Trace rules input script steps library)
@@ -365,29 +410,29 @@ trace_fetches rules input script steps None built = refl
 trace_fetches rules input script steps (Some name) built = cc
 
 pub trace_gives : (rules input script : List ℕ) (steps : ℕ) (library : Option (List ℕ)) (tells : Bool) (old new : Held) (text : List ℕ) → IsTrue (is_built (Trace rules input script steps library))
-    → Gives (trace_files rules input script) None (IsTraced tells old input script steps) tells old new text
-    → Gives (fetches (Trace rules input script steps library)) (output_of (Trace rules input script steps library)) (IsResult tells old (Trace rules input script steps library)) tells old new text
+    → Gives (trace_files rules input script) None (λ _ _. ⊥) (IsTraced tells old input script steps) tells old new text
+    → Gives (fetches (Trace rules input script steps library)) (output_of (Trace rules input script steps library)) (IsOutputOf tells old (Trace rules input script steps library)) (IsResult tells old (Trace rules input script steps library)) tells old new text
 trace_gives rules input script steps library tells old new text built gives =
-    subst (λ (names : List Fetch). Gives names None (IsTraced tells old input script steps) tells old new text) (trace_fetches rules input script steps library built) gives
+    subst (λ (names : List Fetch). Gives names None (λ _ _. ⊥) (IsTraced tells old input script steps) tells old new text) (trace_fetches rules input script steps library built) gives
 
 pub trace_is_refused : (rules input script : List ℕ) (steps : ℕ) (library : Option (List ℕ)) (tells : Bool) (old new : Held) (f g p q : Failures) (status : Status) → IsTrue (is_built (Trace rules input script steps library))
-    → Refuses (trace_files rules input script) None tells old new f g p q status
-    → Refuses (fetches (Trace rules input script steps library)) (output_of (Trace rules input script steps library)) tells old new f g p q status
+    → Refuses (trace_files rules input script) None (λ _ _. ⊥) tells old new f g p q status
+    → Refuses (fetches (Trace rules input script steps library)) (output_of (Trace rules input script steps library)) (IsOutputOf tells old (Trace rules input script steps library)) tells old new f g p q status
 trace_is_refused rules input script steps library tells old new f g p q status built refuses =
-    subst (λ (names : List Fetch). Refuses names None tells old new f g p q status) (trace_fetches rules input script steps library built) refuses
+    subst (λ (names : List Fetch). Refuses names None (λ _ _. ⊥) tells old new f g p q status) (trace_fetches rules input script steps library built) refuses
 
 -- the same of a command that is found to be this one
 pub found_optimise_gives : (command : CommandWords) (words : OptimiseWords) (tells : Bool) (old new : Held) (text : List ℕ)
     → command ≡ Optimise words → IsTrue (is_built command)
-    → Gives (rules_and_file words.rules words.input) (Some words.output) IsSummary tells old new text
-    → Gives (fetches command) (output_of command) (IsResult tells old command) tells old new text
+    → Gives (rules_and_file words.rules words.input) (Some words.output) (FinishedOf tells old words.rules words.input) (IsSummary (FinishedOf tells old words.rules words.input)) tells old new text
+    → Gives (fetches command) (output_of command) (IsOutputOf tells old command) (IsResult tells old command) tells old new text
 found_optimise_gives command words tells old new text e built gives =
-    subst (λ (c : CommandWords). Gives (fetches c) (output_of c) (IsResult tells old c) tells old new text) (sym e)
+    subst (λ (c : CommandWords). Gives (fetches c) (output_of c) (IsOutputOf tells old c) (IsResult tells old c) tells old new text) (sym e)
     (optimise_gives words tells old new text (subst (λ (c : CommandWords). IsTrue (is_built c)) e built) gives)
 
 pub found_check_gives : (command : CommandWords) (input input' : List ℕ) (tells : Bool) (old new : Held) (text : List ℕ)
-    → command ≡ Check input → input' ≡ input → Gives (file_alone input') None (IsChecked tells old input') tells old new text
-    → Gives (fetches command) (output_of command) (IsResult tells old command) tells old new text
+    → command ≡ Check input → input' ≡ input → Gives (file_alone input') None (λ _ _. ⊥) (IsChecked tells old input') tells old new text
+    → Gives (fetches command) (output_of command) (IsOutputOf tells old command) (IsResult tells old command) tells old new text
 found_check_gives command input input' tells old new text e same gives =
-    subst (λ (c : CommandWords). Gives (fetches c) (output_of c) (IsResult tells old c) tells old new text) (sym e)
-    (subst (λ (name : List ℕ). Gives (file_alone name) None (IsChecked tells old name) tells old new text) same gives)
+    subst (λ (c : CommandWords). Gives (fetches c) (output_of c) (IsOutputOf tells old c) (IsResult tells old c) tells old new text) (sym e)
+    (subst (λ (name : List ℕ). Gives (file_alone name) None (λ _ _. ⊥) (IsChecked tells old name) tells old new text) same gives)

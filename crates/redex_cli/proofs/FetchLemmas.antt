@@ -51,16 +51,16 @@ KeepsAll Done = ⊥
 KeepsAll WriteFault = ⊥
 KeepsAll _ = Unit {0}
 
-holds_same : (status : Status) (f g : ℕ) (old new : Option (List ℕ)) → KeepsAll status → new ≡ old → OutputHolds status f g old new
-holds_same Done f g old new keeps e = absurd keeps
-holds_same WriteFault f g old new keeps e = absurd keeps
-holds_same NoMemory f g old new keeps e = inl e
-holds_same _ f g old new keeps e = e
+holds_same : (IsFinal : List ℕ → List ℕ → Type 0) (status : Status) (f g : ℕ) (old new : Option (List ℕ)) → KeepsAll status → new ≡ old → OutputHolds IsFinal status f g old new
+holds_same IsFinal Done f g old new keeps e = absurd keeps
+holds_same IsFinal WriteFault f g old new keeps e = absurd keeps
+holds_same IsFinal NoMemory f g old new keeps e = inl e
+holds_same IsFinal _ f g old new keeps e = e
 
-pub stays_same : (IsOutput : List ℕ → Type 0) (status : Status) (p q : Failures) (old new : Held) → KeepsAll status → AllSame old new
-    → Stays IsOutput status p q old new
-stays_same IsOutput status p q old new keeps same = record {
+pub stays_same : (IsOutput : List ℕ → Type 0) (IsFinal : List ℕ → List ℕ → Type 0) (status : Status) (p q : Failures) (old new : Held) → KeepsAll status → AllSame old new
+    → Stays IsOutput IsFinal status p q old new
+stays_same IsOutput IsFinal status p q old new keeps same = record {
   refused = λ _. same;
   others = λ name _. same name;
-  output = λ name _. holds_same status (p name) (q name) (old name) (new name) keeps (same name);
+  output = λ name _. holds_same IsFinal status (p name) (q name) (old name) (new name) keeps (same name);
 }

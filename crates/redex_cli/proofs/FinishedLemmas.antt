@@ -1,29 +1,69 @@
 -- Finished outputs.
-use Rattle.std.proofs.Common.{◌≡◌, ◌≤◌, ℕ, List, length, true, Ok}
-use Rattle.redex_cli.specs.declared.summary.Sizes.{Sizes}
+use Rattle.std.proofs.Common.{◌≡◌, ◌≤◌, ℕ, List, Bool, length, true, Ok, subst, sym}
 use Rattle.dex_read.specs.File.{program_at}
+use Rattle.dex_write.specs.Written.{IsWritten}
 use Rattle.hierarchy.specs.Shapes.{IsCause}
 use Rattle.hierarchy.specs.declared.fault.HierarchyFault.{HierarchyFault}
+use Rattle.pipeline.specs.Rounds.{IsOptimised}
 use Rattle.program_model.specs.ProgramRules.{is_well_formed}
+use Rattle.program_model.specs.declared.pass.Outside.{Outside}
 use Rattle.program_model.specs.declared.program.Program.{Program}
+use Rattle.rule_text.specs.ReadEntries.{IsReading}
+use Rattle.rule_text.specs.declared.rules.Rules.{Rules}
 use Rattle.redex_cli.specs.Accepted.{IsAccepted}
 use Rattle.redex_cli.specs.Files.{HasGraphFault, IsRead}
-use Rattle.redex_cli.specs.Finished.{Checks, Finished, IsSummary, program_text, summary_text}
+use Rattle.redex_cli.specs.Finished.{Checks, Finished, IsRuled, IsWorkload, Shrunk, program_text, sizes_in, summary_text}
+use Rattle.redex_cli.specs.Refusals.{MadeRefused, ReadRefused, WorkRefused}
+use Rattle.redex_cli.specs.Traces.{IsTableFor}
+use Rattle.redex_cli.specs.declared.status.Status.{Status}
+use Rattle.redex_cli.specs.declared.status.Status.TheVariants.{Done, Usage, BadRules, BadDex, Limit, ReadFault, WriteFault, NoMemory, BadScript}
+use Rattle.redex_cli.specs.declared.summary.Sizes.{Sizes}
 
-pub finished : (before after : Sizes) (rounds spared : ℕ) (output summary : List ℕ) → summary ≡ summary_text before after rounds spared
-    → after.bytes ≡ length output → 1 ≤ rounds → Finished output summary
-finished before after rounds spared output summary says bytes one_round = record {
-  before = before;
-  after = after;
+pub shrunk : (program : Program) (outside : Outside) (before after : Sizes) (left : Program) (rounds spared advisers : ℕ) (old new : List Bool) (output summary : List ℕ)
+    → (is_well_formed program ≡ true → IsOptimised outside program advisers old new spared left rounds)
+    → IsWritten left output → after ≡ sizes_in left (length output) → summary ≡ summary_text before after rounds spared → 1 ≤ rounds
+    → Shrunk program outside before output summary
+shrunk program outside before after left rounds spared advisers old new output summary optimised written sizes says one_round = record {
+  left = left;
   rounds = rounds;
   spared = spared;
-  says = says;
-  bytes = bytes;
+  leaves = λ well. record { advisers = advisers; before = old; after = new; optimised = optimised well };
+  written = written;
+  says = subst (λ (sizes : Sizes). summary ≡ summary_text before sizes rounds spared) sizes says;
   one_round = one_round;
 }
 
-pub is_summary : (output text : List ℕ) → Finished output text → IsSummary text
-is_summary output text finished = record { output = output; finished = finished }
+pub ruled : (rules : Rules) (program : Program) (outside : Outside) (text : List ℕ) → IsReading text rules → IsTableFor program outside → IsRuled text program outside
+ruled rules program outside text spelled table = record { rules = rules; spelled = spelled; table = table }
+
+pub finished : (program : Program) (outside : Outside) (rules file output summary : List ℕ) → program_at file ≡ Ok program → IsAccepted program
+    → IsRuled rules program outside → Shrunk program outside (sizes_in program (length file)) output summary → Finished rules file output summary
+finished program outside rules file output summary reads accepted ruled shrunk = record {
+  program = program;
+  reads = reads;
+  accepted = accepted;
+  outside = outside;
+  ruled = ruled;
+  shrunk = shrunk;
+}
+
+pub is_workload : (rules file output text : List ℕ) → Finished rules file output text → IsWorkload text
+is_workload rules file output text finished = record { rules = rules; file = file; output = output; finished = finished }
+
+pub made : (rules : List ℕ) (status : Status) → WorkRefused rules status → MadeRefused status
+made rules status refused = record { rules = rules; refused = refused }
+
+-- what refuses the work on a file refuses that on rules and a file
+pub work_reads : (rules : List ℕ) (status : Status) → ReadRefused status → WorkRefused rules status
+work_reads rules (BadRules fault) r = absurd r
+work_reads rules Done r = r
+work_reads rules Usage r = r
+work_reads rules (BadDex fault) r = r
+work_reads rules (Limit fault) r = r
+work_reads rules ReadFault r = r
+work_reads rules WriteFault r = r
+work_reads rules NoMemory r = r
+work_reads rules (BadScript line) r = r
 
 pub checked : (program : Program) (bytes text : List ℕ) → program_at bytes ≡ Ok program → IsAccepted program → text ≡ program_text program
     → Checks bytes text

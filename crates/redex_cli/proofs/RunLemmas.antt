@@ -7,7 +7,7 @@ use Rattle.redex_cli.specs.Commands.{CommandsNothing, Puts}
 use Rattle.redex_cli.specs.Ends.{Caused, Ends}
 use Rattle.redex_cli.specs.Fetching.{Failures}
 use Rattle.redex_cli.specs.Finished.{Results}
-use Rattle.redex_cli.specs.Refusals.{CauseFor, EndsTooLong, EndsUnspelled, GivesFor, RefusesFor, TooLong}
+use Rattle.redex_cli.specs.Refusals.{CauseFor, EndsTooLong, EndsUnspelled, GivesFor, OutputBy, RefusesFor, TooLong}
 use Rattle.redex_cli.specs.Said.{Said, SaysResult, SaysStatus, unsaid}
 use Rattle.redex_cli.specs.Stays.{HoldsFinished, IsRefusal, Stays}
 use Rattle.redex_cli.specs.declared.status.Status.{Status}
@@ -18,9 +18,9 @@ use Rattle.redex_cli.proofs.SaidLemmas.{none_said, said_for}
 -- ---- where there is a result
 
 put_holds : (words : List (List ℕ)) (tells : Bool) (old new : Held) (text name : List ℕ) → GivesFor words tells old new text
-    → IsTrue tells → Puts words name → HoldsFinished (new name)
+    → IsTrue tells → Puts words name → HoldsFinished (OutputBy words tells old) (new name)
 put_holds words tells old new text name g told puts =
-    let h = g.put told name puts in record { output = h.output; summary = text; finished = h.finished; there = h.there }
+    let h = g.put told name puts in record { output = h.output; summary = text; final = h.final; there = h.there }
 
 result_long : (words : List (List ℕ)) (tells : Bool) (old new : Held) (text : List ℕ) (counted : Counted) (status : Status)
     → GivesFor words tells old new text → IsTrue tells → TooLong words old counted → EndsTooLong counted status
@@ -113,7 +113,7 @@ memory_refuses words tells old new f g p q status refusal r = record {
   cause = tt;
   unspelled = λ _. tt;
   too_long = λ _ _ _. tt;
-  stays = λ told. stays_same (Puts words) NoMemory p q old new tt ((r.stays told).refused refusal);
+  stays = λ told. stays_same (Puts words) (OutputBy words tells old) NoMemory p q old new tt ((r.stays told).refused refusal);
 }
 
 unsaid_refuses : (words : List (List ℕ)) (tells : Bool) (old new : Held) (f g p q : Failures) (status : Status)

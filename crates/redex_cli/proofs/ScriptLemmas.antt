@@ -6,6 +6,6 @@ use Rattle.text_defs.specs.declared.fault.ScriptFault.TheVariants as fault
 use Rattle.redex_cli.specs.Refusals.{TraceRefused}
 use Rattle.redex_cli.specs.declared.status.Status.TheVariants.{BadScript}
 
-pub line_refuses : (text : List ℕ) (line : ℕ) → IsRefusal text (fault.Line line) → TraceRefused text (BadScript line)
-line_refuses text line (inl e) = cc
-line_refuses text line (inr e) = e
+pub line_refuses : (rules text : List ℕ) (line : ℕ) → IsRefusal text (fault.Line line) → TraceRefused rules text (BadScript line)
+line_refuses rules text line (inl e) = cc
+line_refuses rules text line (inr e) = e

@@ -1,5 +1,5 @@
 -- From what a command says to what the words say.
-use Rattle.std.proofs.Common.{◌≡◌, ◌≤◌, ℕ, List, [], ◌∷◌, Bool, true, false, IsTrue, Option, None, Some, refl, sym, ap, subst, ◌∙◌}
+use Rattle.std.proofs.Common.{◌≡◌, ◌≤◌, ℕ, List, [], ◌∷◌, Bool, true, false, IsTrue, Option, None, Some, refl, sym, ap, subst, ◌∙◌, inl, inr}
 use Rattle.redex_outside.specs.Held.{Held}
 use Rattle.program_model.specs.declared.limits.Counted.{Counted}
 use Rattle.command_line.specs.Spelling.{Spells, AsksFor, sorted_of}
@@ -10,9 +10,9 @@ use Rattle.command_line.specs.declared.command.CommandWords.TheVariants.{Nothing
 use Rattle.redex_cli.specs.Commands.{Commands, CommandsNothing, CountsWithin, Puts, fetches, is_built, output_of}
 use Rattle.redex_cli.specs.Fetching.{Failures, FirstTooLong}
 use Rattle.redex_cli.specs.Files.{AllRead}
-use Rattle.redex_cli.specs.Finished.{IsResult}
-use Rattle.redex_cli.specs.Refusals.{Cause, CauseFor, EndsTooLong, EndsUnspelled, Gives, GivesFor, Refuses, RefusesFor, TooLong, WordsRefused}
-use Rattle.redex_cli.specs.Stays.{Stays}
+use Rattle.redex_cli.specs.Finished.{IsOutputOf, IsResult}
+use Rattle.redex_cli.specs.Refusals.{Cause, CauseFor, EndsTooLong, EndsUnspelled, Gives, GivesFor, OutputBy, Refuses, RefusesFor, TooLong, WordsRefused}
+use Rattle.redex_cli.specs.Stays.{HoldsFinished, OutputHolds, Stays}
 use Rattle.redex_cli.specs.declared.status.Status.{Status}
 use Rattle.redex_cli.specs.declared.status.Status.TheVariants.{Done, Usage, BadRules, BadDex, Limit, ReadFault, WriteFault, NoMemory, BadScript}
 use Rattle.redex_cli.proofs.FetchLemmas.{KeepsAll, stays_same, within_or_long}
@@ -48,7 +48,7 @@ words_cause : (words : List (List ℕ)) (command : CommandWords) (tells : Bool) 
     → CauseFor words tells old f g p q status
 words_cause words command tells old f g p q Done commands c = c
 words_cause words command tells old f g p q Usage commands c = absurd c
-words_cause words command tells old f g p q (BadRules fault) commands c = c
+words_cause words command tells old f g p q (BadRules fault) commands c = record { command = command; commands = commands; cause = c }
 words_cause words command tells old f g p q (BadDex fault) commands c = record { command = command; commands = commands; cause = c }
 words_cause words command tells old f g p q (Limit fault) commands c = record { command = command; commands = commands; cause = c }
 words_cause words command tells old f g p q ReadFault commands c = record { command = command; commands = commands; rose = c }
@@ -66,9 +66,39 @@ output_by_words : (words : List (List ℕ)) (command : CommandWords) (name : Lis
 output_by_words words command name only puts =
     subst (λ (c : CommandWords). output_of c ≡ Some name) (only puts.command puts.commands) puts.output
 
+output_by : (words : List (List ℕ)) (command : CommandWords) (tells : Bool) (held : Held) → Commands words command
+    → (output summary : List ℕ) → IsOutputOf tells held command output summary → OutputBy words tells held output summary
+output_by words command tells held commands output summary final = record { command = command; commands = commands; final = final }
+
+holds_finished : (words : List (List ℕ)) (command : CommandWords) (tells : Bool) (old : Held) → Commands words command → (new : Option (List ℕ))
+    → HoldsFinished (IsOutputOf tells old command) new → HoldsFinished (OutputBy words tells old) new
+holds_finished words command tells old commands new h =
+    record { output = h.output; summary = h.summary; final = output_by words command tells old commands h.output h.summary h.final; there = h.there }
+
+-- what the output's name holds, from what a command says to what its words say
+output_holds : (words : List (List ℕ)) (command : CommandWords) (tells : Bool) (held : Held) → Commands words command → (status : Status) (p q : ℕ) (old new : Option (List ℕ))
+    → OutputHolds (IsOutputOf tells held command) status p q old new → OutputHolds (OutputBy words tells held) status p q old new
+output_holds words command tells held commands Done p q old new h = holds_finished words command tells held commands new h
+output_holds words command tells held commands WriteFault p q old new (inl h) = inl (holds_finished words command tells held commands new h)
+output_holds words command tells held commands WriteFault p q old new (inr h) = inr (record {
+  output = h.output;
+  summary = h.summary;
+  final = output_by words command tells held commands h.output h.summary h.final;
+  rose = h.rose;
+  there = h.there;
+})
+output_holds words command tells held commands NoMemory p q old new (inl e) = inl e
+output_holds words command tells held commands NoMemory p q old new (inr h) = inr (holds_finished words command tells held commands new h)
+output_holds words command tells held commands Usage p q old new e = e
+output_holds words command tells held commands (BadRules fault) p q old new e = e
+output_holds words command tells held commands (BadDex fault) p q old new e = e
+output_holds words command tells held commands (Limit fault) p q old new e = e
+output_holds words command tells held commands ReadFault p q old new e = e
+output_holds words command tells held commands (BadScript line) p q old new e = e
+
 pub words_refuse : (words : List (List ℕ)) (command : CommandWords) (tells : Bool) (old new : Held) (f g p q : Failures) (status : Status)
     → Commands words command → ((c : CommandWords) → Commands words c → c ≡ command)
-    → Refuses (fetches command) (output_of command) tells old new f g p q status
+    → Refuses (fetches command) (output_of command) (IsOutputOf tells old command) tells old new f g p q status
     → RefusesFor words tells old new f g p q status
 words_refuse words command tells old new f g p q status commands only r = record {
   cause = words_cause words command tells old f g p q status commands r.cause;
@@ -77,20 +107,22 @@ words_refuse words command tells old new f g p q status commands only r = record
   stays = λ told. record {
     refused = (r.stays told).refused;
     others = λ name differs. (r.stays told).others name (λ e. differs (record { command = command; commands = commands; output = e }));
-    output = λ name puts. (r.stays told).output name (output_by_words words command name only puts);
+    output = λ name puts. output_holds words command tells old commands status (p name) (q name) (old name) (new name)
+        ((r.stays told).output name (output_by_words words command name only puts));
   };
 }
 
 pub words_give : (words : List (List ℕ)) (command : CommandWords) (tells : Bool) (old new : Held) (text : List ℕ)
     → Commands words command → ((c : CommandWords) → Commands words c → c ≡ command)
-    → Gives (fetches command) (output_of command) (IsResult tells old command) tells old new text
+    → Gives (fetches command) (output_of command) (IsOutputOf tells old command) (IsResult tells old command) tells old new text
     → GivesFor words tells old new text
 words_give words command tells old new text commands only g = record {
   answer = record { command = command; commands = commands; result = g.answer };
   read = λ told c spelled. subst (λ (d : CommandWords). AllRead old (fetches d)) (sym (only c spelled)) (g.read told);
   within = λ counted told long. within_or_long old (fetches command) counted (g.within told) (long_of words command old counted only long);
   others = λ told name differs. g.others told name (λ e. differs (record { command = command; commands = commands; output = e }));
-  put = λ told name puts. g.put told name (output_by_words words command name only puts);
+  put = λ told name puts. let h = g.put told name (output_by_words words command name only puts) in
+      record { output = h.output; final = output_by words command tells old commands h.output text h.final; there = h.there };
 }
 
 -- ---- words that are refused before anything is fetched
@@ -123,5 +155,5 @@ early_refuses words tells held f p status r = record {
   cause = early_cause words tells held f p status r;
   unspelled = λ _. early_unspelled words status r;
   too_long = λ counted told long. early_long words held status counted r long;
-  stays = λ told. stays_same (Puts words) status p p held held (early_keeps words status r) (λ name. refl);
+  stays = λ told. stays_same (Puts words) (OutputBy words tells held) status p p held held (early_keeps words status r) (λ name. refl);
 }

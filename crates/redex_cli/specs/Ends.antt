@@ -6,7 +6,7 @@ use Rattle.redex_outside.specs.Held.{Held}
 use Rattle.redex_cli.specs.Commands.{CommandsNothing, Puts}
 use Rattle.redex_cli.specs.Fetching.{Failures}
 use Rattle.redex_cli.specs.Finished.{Results}
-use Rattle.redex_cli.specs.Refusals.{CouldNotFetch, CouldNotPut, EndsTooLong, EndsUnspelled, HasBadLine, HasFileFault, HoldsSummed, IsRuleFault, PassesLimit, ReadsAll, TooLong}
+use Rattle.redex_cli.specs.Refusals.{CouldNotFetch, CouldNotPut, EndsTooLong, EndsUnspelled, HasBadLine, HasFileFault, HasRulesFault, HoldsSummed, OutputBy, PassesLimit, ReadsAll, TooLong}
 use Rattle.redex_cli.specs.Said.{Said}
 use Rattle.redex_cli.specs.Stays.{Stays}
 use Rattle.redex_cli.specs.declared.status.Status.{Status}
@@ -16,7 +16,7 @@ use Rattle.redex_cli.specs.declared.status.Status.TheVariants.{Done, Usage, BadR
 abbrev pub Caused : List (List ℕ) → Bool → Held → Failures → Failures → Failures → Failures → ℕ → ℕ → Status → Type 0
 Caused words tells held fetches_old fetches_new puts_old puts_new notes_old notes_new Done = Unit {0}
 Caused words tells held fetches_old fetches_new puts_old puts_new notes_old notes_new Usage = CommandsNothing words
-Caused words tells held fetches_old fetches_new puts_old puts_new notes_old notes_new (BadRules fault) = IsRuleFault fault
+Caused words tells held fetches_old fetches_new puts_old puts_new notes_old notes_new (BadRules fault) = HasRulesFault words tells held fault
 Caused words tells held fetches_old fetches_new puts_old puts_new notes_old notes_new (BadDex fault) = HasFileFault words tells held fault
 Caused words tells held fetches_old fetches_new puts_old puts_new notes_old notes_new (Limit fault) = PassesLimit words tells held fault
 Caused words tells held fetches_old fetches_new puts_old puts_new notes_old notes_new ReadFault = CouldNotFetch words fetches_old fetches_new
@@ -30,7 +30,7 @@ pub record Delivers (words : List (List ℕ)) (tells : Bool) (old new : Held) (s
   pub text : List ℕ
   pub answer : Results words tells old text
   pub said : said_new ≡ said_old ++ text
-  pub put : (name : List ℕ) → Puts words name → HoldsSummed text (new name)
+  pub put : (name : List ℕ) → Puts words name → HoldsSummed (OutputBy words tells old) text (new name)
 
 -- All of it together.
 pub record Ends (words : List (List ℕ)) (tells : Bool) (old new : Held) (fetches_old fetches_new puts_old puts_new : Failures)
@@ -38,7 +38,7 @@ pub record Ends (words : List (List ℕ)) (tells : Bool) (old new : Held) (fetch
   pub cause : Caused words tells old fetches_old fetches_new puts_old puts_new notes_old notes_new status
   pub unspelled : CommandsNothing words → EndsUnspelled status
   pub too_long : (counted : Counted) → IsTrue tells → TooLong words old counted → EndsTooLong counted status
-  pub stays : IsTrue tells → Stays (Puts words) status puts_old puts_new old new
+  pub stays : IsTrue tells → Stays (Puts words) (OutputBy words tells old) status puts_old puts_new old new
   pub said : IsTrue notes_tell → Said (Results words tells old) status notes_old notes_new said_old said_new
   pub read : status ≡ Done → IsTrue tells → ReadsAll words old
   pub done : status ≡ Done → IsTrue tells → IsTrue notes_tell → Delivers words tells old new said_old said_new

@@ -5,9 +5,11 @@ use Rattle.dex_read.specs.declared.fault.DexFault.TheVariants as dex
 use Rattle.hierarchy.specs.Shapes.{IsCause}
 use Rattle.hierarchy.specs.declared.fault.HierarchyFault.{HierarchyFault}
 use Rattle.program_model.specs.ProgramRules.{is_well_formed}
-use Rattle.program_model.specs.declared.limits.Counted.TheVariants.{FileBytes}
+use Rattle.program_model.specs.declared.limits.Counted.TheVariants.{FileBytes, RuleBytes}
 use Rattle.program_model.specs.declared.program.Program.{Program}
 use Rattle.redex_outside.specs.Held.{Held}
+use Rattle.rule_text.specs.Fault.{IsFault}
+use Rattle.rule_text.specs.declared.fault.RuleFault.{RuleFault}
 use Rattle.verify.specs.declared.fault.TypeFault.{TypeFault}
 use Rattle.redex_cli.specs.Accepted.{IsAccepted, IsTypeCause}
 use Rattle.redex_cli.specs.Commands.{Fetch}
@@ -59,6 +61,23 @@ OneRefused held (fetch ∷ later) status = HoldsRefused held fetch status ⊎ On
 abbrev pub FileCause : Held → List Fetch → Status → Type 0
 FileCause held [] status = Unit {0}
 FileCause held (fetch ∷ later) status = OneRefused held (fetch ∷ later) status
+
+-- The name is fetched as rules, and holds a text that has this fault.
+pub record HoldsBadRules (held : Held) (fetch : Fetch) (fault : RuleFault) : Type 0 where
+  pub counted : fetch.counted ≡ RuleBytes
+  pub bytes : List ℕ
+  pub there : held fetch.name ≡ Some bytes
+  pub bad : IsFault bytes fault
+
+-- One of these names holds such rules.
+abbrev pub OneBadRules : Held → List Fetch → RuleFault → Type 0
+OneBadRules held [] fault = ⊥
+OneBadRules held (fetch ∷ later) fault = HoldsBadRules held fetch fault ⊎ OneBadRules held later fault
+
+-- The same of a command that has names fetched. One that fetches nothing has rules of its own.
+abbrev pub RulesCause : Held → List Fetch → RuleFault → Type 0
+RulesCause held [] fault = Unit {0}
+RulesCause held (fetch ∷ later) fault = OneBadRules held (fetch ∷ later) fault
 
 -- The name holds bytes that spell this program.
 pub record HoldsProgram (held : Held) (name : List ℕ) (program : Program) : Type 0 where

@@ -1,5 +1,6 @@
 -- Why a run is refused, and what holds where it is not.
 use Rattle.std.specs.Prelude.{◌≡◌, ◌⊎◌, ◌+◌, ◌++◌, ℕ, List, Bool, IsTrue, Option, Some, Err}
+use Rattle.rule_text.specs.Fault.{IsFault}
 use Rattle.rule_text.specs.declared.fault.RuleFault.{RuleFault}
 use Rattle.rule_text.specs.declared.fault.RuleFault.TheVariants as rule
 use Rattle.dex_read.specs.Counts.{PassesInFile}
@@ -19,8 +20,8 @@ use Rattle.redex_outside.specs.Held.{Held}
 use Rattle.command_line.specs.declared.command.CommandWords.{CommandWords}
 use Rattle.redex_cli.specs.Commands.{Commands, CommandsNothing, Fetch, Puts, fetches, output_of}
 use Rattle.redex_cli.specs.Fetching.{Failures, AllWithin, FirstTooLong, OneBadLine, OneRose, PassesByOne}
-use Rattle.redex_cli.specs.Files.{AllRead, FileCause}
-use Rattle.redex_cli.specs.Finished.{Finished, Results}
+use Rattle.redex_cli.specs.Files.{AllRead, FileCause, RulesCause}
+use Rattle.redex_cli.specs.Finished.{IsOutputOf, Results}
 use Rattle.redex_cli.specs.Stays.{Stays}
 use Rattle.redex_cli.specs.declared.status.InputFault.{InputFault}
 use Rattle.redex_cli.specs.declared.status.InputFault.TheVariants as input
@@ -55,18 +56,27 @@ IsInputFault (input.Hierarchy fault) = IsHierarchyFault fault
 IsInputFault (input.Typing fault) = IsTypeFault fault
 IsInputFault (input.Library fault) = ⊥
 
--- What the work on rules and a file may be refused with.
-abbrev pub WorkRefused : Status → Type 0
-WorkRefused (BadRules fault) = IsRuleFault fault
-WorkRefused (BadDex fault) = IsInputFault fault
-WorkRefused (Limit fault) = PassesInFile fault
-WorkRefused NoMemory = Unit {0}
-WorkRefused _ = ⊥
+-- What the work on a file alone may be refused with.
+abbrev pub ReadRefused : Status → Type 0
+ReadRefused (BadDex fault) = IsInputFault fault
+ReadRefused (Limit fault) = PassesInFile fault
+ReadRefused NoMemory = Unit {0}
+ReadRefused _ = ⊥
 
--- What the work on rules, a file and a script of this text may be refused with.
-abbrev pub TraceRefused : List ℕ → Status → Type 0
-TraceRefused text (BadScript line) = play_of text ≡ Err (script.Line line)
-TraceRefused text status = WorkRefused status
+-- What the work on rules of this text and a file may be refused with.
+abbrev pub WorkRefused : List ℕ → Status → Type 0
+WorkRefused rules (BadRules fault) = IsRuleFault fault × IsFault rules fault
+WorkRefused rules status = ReadRefused status
+
+-- The same of rules that are made, whatever they are.
+pub record MadeRefused (status : Status) : Type 0 where
+  pub rules : List ℕ
+  pub refused : WorkRefused rules status
+
+-- What the work on rules, a file and a script of these texts may be refused with.
+abbrev pub TraceRefused : List ℕ → List ℕ → Status → Type 0
+TraceRefused rules text (BadScript line) = play_of text ≡ Err (script.Line line)
+TraceRefused rules text status = WorkRefused rules status
 
 -- ---- the limits
 
@@ -80,6 +90,11 @@ pub record PassesInside (tells : Bool) (held : Held) (names : List Fetch) (fault
 pub record FileFault (tells : Bool) (held : Held) (names : List Fetch) (fault : InputFault) : Type 0 where
   pub carried : IsInputFault fault
   pub file : IsTrue tells → FileCause held names (BadDex fault)
+
+-- A fault of the rules, which is the one that their text has.
+pub record RulesFault (tells : Bool) (held : Held) (names : List Fetch) (fault : RuleFault) : Type 0 where
+  pub carried : IsRuleFault fault
+  pub ruling : IsTrue tells → RulesCause held names fault
 
 -- A fetch passed its limit, or something inside the file does. So the bytes of the rules, of a file or of a script are
 -- named exactly where their fetch took one more than its limit.
@@ -103,7 +118,7 @@ pub record OutputRose (output : Option (List ℕ)) (old new : Failures) : Type 0
 
 -- Why a command that has these names fetched and this one put is refused with this status.
 abbrev pub Cause : List Fetch → Option (List ℕ) → Bool → Held → Failures → Failures → Failures → Failures → Status → Type 0
-Cause names output tells held fetches_old fetches_new puts_old puts_new (BadRules fault) = IsRuleFault fault
+Cause names output tells held fetches_old fetches_new puts_old puts_new (BadRules fault) = RulesFault tells held names fault
 Cause names output tells held fetches_old fetches_new puts_old puts_new (BadDex fault) = FileFault tells held names fault
 Cause names output tells held fetches_old fetches_new puts_old puts_new (Limit fault) = LimitCause tells held names fault
 Cause names output tells held fetches_old fetches_new puts_old puts_new ReadFault = OneRose fetches_old fetches_new names
@@ -112,27 +127,27 @@ Cause names output tells held fetches_old fetches_new puts_old puts_new NoMemory
 Cause names output tells held fetches_old fetches_new puts_old puts_new (BadScript line) = IsTrue tells → OneBadLine held names line
 Cause names output tells held fetches_old fetches_new puts_old puts_new _ = ⊥
 
--- A command that has these names fetched and this one put is refused with this status.
-pub record Refuses (names : List Fetch) (output : Option (List ℕ)) (tells : Bool) (old new : Held)
+-- A command that has these names fetched and this one put, with a final output, is refused with this status.
+pub record Refuses (names : List Fetch) (output : Option (List ℕ)) (IsFinal : List ℕ → List ℕ → Type 0) (tells : Bool) (old new : Held)
     (fetches_old fetches_new puts_old puts_new : Failures) (status : Status) : Type 0 where
   pub cause : Cause names output tells old fetches_old fetches_new puts_old puts_new status
   pub too_long : (counted : Counted) → IsTrue tells → FirstTooLong old names counted → EndsTooLong counted status
-  pub stays : IsTrue tells → Stays (λ name. output ≡ Some name) status puts_old puts_new old new
+  pub stays : IsTrue tells → Stays (λ name. output ≡ Some name) IsFinal status puts_old puts_new old new
 
--- The name holds a finished output that has this summary.
-pub record HoldsSummed (summary : List ℕ) (held : Option (List ℕ)) : Type 0 where
+-- The name holds a final output that has this summary.
+pub record HoldsSummed (IsFinal : List ℕ → List ℕ → Type 0) (summary : List ℕ) (held : Option (List ℕ)) : Type 0 where
   pub output : List ℕ
-  pub finished : Finished output summary
+  pub final : IsFinal output summary
   pub there : held ≡ Some output
 
--- A command that has these names fetched and this one put gives this text to be said.
-pub record Gives (names : List Fetch) (output : Option (List ℕ)) (IsAnswer : List ℕ → Type 0) (tells : Bool) (old new : Held)
+-- A command that has these names fetched and this one put, with a final output, gives this text to be said.
+pub record Gives (names : List Fetch) (output : Option (List ℕ)) (IsFinal : List ℕ → List ℕ → Type 0) (IsAnswer : List ℕ → Type 0) (tells : Bool) (old new : Held)
     (text : List ℕ) : Type 0 where
   pub within : IsTrue tells → AllWithin old names
   pub read : IsTrue tells → AllRead old names
   pub answer : IsAnswer text
   pub others : IsTrue tells → (name : List ℕ) → (output ≡ Some name → ⊥) → new name ≡ old name
-  pub put : IsTrue tells → (name : List ℕ) → output ≡ Some name → HoldsSummed text (new name)
+  pub put : IsTrue tells → (name : List ℕ) → output ≡ Some name → HoldsSummed IsFinal text (new name)
 
 -- ---- words
 
@@ -159,6 +174,18 @@ pub record HasFileFault (words : List (List ℕ)) (tells : Bool) (held : Held) (
   pub command : CommandWords
   pub commands : Commands words command
   pub cause : FileFault tells held (fetches command) fault
+
+-- The rules that the words' command reads have this fault.
+pub record HasRulesFault (words : List (List ℕ)) (tells : Bool) (held : Held) (fault : RuleFault) : Type 0 where
+  pub command : CommandWords
+  pub commands : Commands words command
+  pub cause : RulesFault tells held (fetches command) fault
+
+-- The words' command may have this output, with this summary.
+pub record OutputBy (words : List (List ℕ)) (tells : Bool) (held : Held) (output summary : List ℕ) : Type 0 where
+  pub command : CommandWords
+  pub commands : Commands words command
+  pub final : IsOutputOf tells held command output summary
 
 -- The files that the words have fetched spell programs that are accepted.
 abbrev pub ReadsAll : List (List ℕ) → Held → Type 0
@@ -192,7 +219,7 @@ WordsRefused words _ = ⊥
 abbrev pub CauseFor : List (List ℕ) → Bool → Held → Failures → Failures → Failures → Failures → Status → Type 0
 CauseFor words tells held fetches_old fetches_new puts_old puts_new Done = ⊥
 CauseFor words tells held fetches_old fetches_new puts_old puts_new Usage = CommandsNothing words
-CauseFor words tells held fetches_old fetches_new puts_old puts_new (BadRules fault) = IsRuleFault fault
+CauseFor words tells held fetches_old fetches_new puts_old puts_new (BadRules fault) = HasRulesFault words tells held fault
 CauseFor words tells held fetches_old fetches_new puts_old puts_new (BadDex fault) = HasFileFault words tells held fault
 CauseFor words tells held fetches_old fetches_new puts_old puts_new (Limit fault) = PassesLimit words tells held fault
 CauseFor words tells held fetches_old fetches_new puts_old puts_new ReadFault = CouldNotFetch words fetches_old fetches_new
@@ -206,7 +233,7 @@ pub record RefusesFor (words : List (List ℕ)) (tells : Bool) (old new : Held)
   pub cause : CauseFor words tells old fetches_old fetches_new puts_old puts_new status
   pub unspelled : CommandsNothing words → EndsUnspelled status
   pub too_long : (counted : Counted) → IsTrue tells → TooLong words old counted → EndsTooLong counted status
-  pub stays : IsTrue tells → Stays (Puts words) status puts_old puts_new old new
+  pub stays : IsTrue tells → Stays (Puts words) (OutputBy words tells old) status puts_old puts_new old new
 
 -- These words give this text to be said.
 pub record GivesFor (words : List (List ℕ)) (tells : Bool) (old new : Held) (text : List ℕ) : Type 0 where
@@ -214,4 +241,4 @@ pub record GivesFor (words : List (List ℕ)) (tells : Bool) (old new : Held) (t
   pub read : IsTrue tells → ReadsAll words old
   pub within : (counted : Counted) → IsTrue tells → TooLong words old counted → ⊥
   pub others : IsTrue tells → (name : List ℕ) → (Puts words name → ⊥) → new name ≡ old name
-  pub put : IsTrue tells → (name : List ℕ) → Puts words name → HoldsSummed text (new name)
+  pub put : IsTrue tells → (name : List ℕ) → Puts words name → HoldsSummed (OutputBy words tells old) text (new name)

@@ -7,8 +7,8 @@ ghost use Rattle.redex_outside.specs.Held.{OthersSame};
 ghost use Rattle.redex_cli.specs.Commands.{is_built, CountsWithin, fetches, file_alone, output_of, rules_and_file, trace_files};
 ghost use Rattle.redex_cli.specs.FaultLines.{usage_text};
 ghost use Rattle.redex_cli.specs.Fetching.{AllWithin, FetchRefused, OnlyFetched, PutRefused};
-ghost use Rattle.redex_cli.specs.Finished.{IsResult, IsChecked, IsSummary};
-ghost use Rattle.redex_cli.specs.Refusals.{Refuses, Gives, WorkRefused};
+ghost use Rattle.redex_cli.specs.Finished.{FinishedOf, IsChecked, IsOutputOf, IsResult, IsSummary, IsWorkload};
+ghost use Rattle.redex_cli.specs.Refusals.{Refuses, Gives, MadeRefused, ReadRefused};
 ghost use Rattle.redex_cli.specs.Traces.{IsTraced};
 
 use crate::status::Status;
@@ -57,6 +57,7 @@ fn fetch_inputs<H: Shelf>(
     input: &str,
 ) -> Result<Inputs, Status>
     ensures limit { IfOk result (λ inputs. vec_len inputs.rules ≤ 1048576) }
+    ensures ruling { IfOk result (λ inputs. IsTrue (H.tells shelf.old) → H.held shelf.old rules.now ≡ Some inputs.rules.items) }
     ensures file { IfOk result (λ inputs. IsTrue (H.tells shelf.old) → H.held shelf.old input.now ≡ Some inputs.file.items) }
     ensures within { OnOk result (IsTrue (H.tells shelf.old) → AllWithin (H.held shelf.old) (rules_and_file rules.now input.now)) }
     ensures refused { IfErr result (λ status. FetchRefused (H.tells shelf.old) (H.held shelf.old) (H.fetch_faults shelf.old) (H.fetch_faults shelf.new) (rules_and_file rules.now input.now) status) }
@@ -90,6 +91,7 @@ fn fetch_trace<H: Shelf>(
 ) -> Result<TraceInputs, Status>
     ensures rules_limit { IfOk result (λ inputs. vec_len inputs.rules ≤ 1048576) }
     ensures script_limit { IfOk result (λ inputs. vec_len inputs.script ≤ 1048576) }
+    ensures ruling { IfOk result (λ inputs. IsTrue (H.tells shelf.old) → H.held shelf.old rules.now ≡ Some inputs.rules.items) }
     ensures file { IfOk result (λ inputs. IsTrue (H.tells shelf.old) → H.held shelf.old input.now ≡ Some inputs.file.items) }
     ensures there { IfOk result (λ inputs. IsTrue (H.tells shelf.old) → H.held shelf.old script.now ≡ Some inputs.script.items) }
     ensures within { OnOk result (IsTrue (H.tells shelf.old) → AllWithin (H.held shelf.old) (trace_files rules.now input.now script.now)) }
@@ -124,8 +126,8 @@ fn run_trace<H: Shelf>(
     steps: u32,
     shelf: &mut H,
 ) -> Result<Vec<u8>, Status>
-    ensures given { IfOk result (λ text. Gives (trace_files rules.now input.now script.now) None (IsTraced (H.tells shelf.old) (H.held shelf.old) input.now script.now steps) (H.tells shelf.old) (H.held shelf.old) (H.held shelf.new) text.items) }
-    ensures refused { IfErr result (λ status. Refuses (trace_files rules.now input.now script.now) None (H.tells shelf.old) (H.held shelf.old) (H.held shelf.new) (H.fetch_faults shelf.old) (H.fetch_faults shelf.new) (H.put_faults shelf.old) (H.put_faults shelf.new) status) }
+    ensures given { IfOk result (λ text. Gives (trace_files rules.now input.now script.now) None (λ _ _. ⊥) (IsTraced (H.tells shelf.old) (H.held shelf.old) input.now script.now steps) (H.tells shelf.old) (H.held shelf.old) (H.held shelf.new) text.items) }
+    ensures refused { IfErr result (λ status. Refuses (trace_files rules.now input.now script.now) None (λ _ _. ⊥) (H.tells shelf.old) (H.held shelf.old) (H.held shelf.new) (H.fetch_faults shelf.old) (H.fetch_faults shelf.new) (H.put_faults shelf.old) (H.put_faults shelf.new) status) }
 {
     let inputs = match fetch_trace(alloc, shelf, rules, input, script) {
         Ok(inputs) => inputs,
@@ -180,8 +182,8 @@ fn run_optimise<H: Shelf>(
     shelf: &mut H,
     advisers: Vec<Box<dyn Adviser>>,
 ) -> Result<Vec<u8>, Status>
-    ensures given { IfOk result (λ text. Gives (rules_and_file words.now.rules words.now.input) (Some words.now.output) IsSummary (H.tells shelf.old) (H.held shelf.old) (H.held shelf.new) text.items) }
-    ensures refused { IfErr result (λ status. Refuses (rules_and_file words.now.rules words.now.input) (Some words.now.output) (H.tells shelf.old) (H.held shelf.old) (H.held shelf.new) (H.fetch_faults shelf.old) (H.fetch_faults shelf.new) (H.put_faults shelf.old) (H.put_faults shelf.new) status) }
+    ensures given { IfOk result (λ text. Gives (rules_and_file words.now.rules words.now.input) (Some words.now.output) (FinishedOf (H.tells shelf.old) (H.held shelf.old) words.now.rules words.now.input) (IsSummary (FinishedOf (H.tells shelf.old) (H.held shelf.old) words.now.rules words.now.input)) (H.tells shelf.old) (H.held shelf.old) (H.held shelf.new) text.items) }
+    ensures refused { IfErr result (λ status. Refuses (rules_and_file words.now.rules words.now.input) (Some words.now.output) (FinishedOf (H.tells shelf.old) (H.held shelf.old) words.now.rules words.now.input) (H.tells shelf.old) (H.held shelf.old) (H.held shelf.new) (H.fetch_faults shelf.old) (H.fetch_faults shelf.new) (H.put_faults shelf.old) (H.put_faults shelf.new) status) }
 {
     let inputs = match fetch_inputs(alloc, shelf, words.rules.as_str(), words.input.as_str()) {
         Ok(inputs) => inputs,
@@ -216,8 +218,8 @@ fn run_live<H: Shelf>(
     input: &str,
     shelf: &mut H,
 ) -> Result<Vec<u8>, Status>
-    ensures given { IfOk result (λ text. Gives (rules_and_file rules.now input.now) None (λ _. Unit {0}) (H.tells shelf.old) (H.held shelf.old) (H.held shelf.new) text.items) }
-    ensures refused { IfErr result (λ status. Refuses (rules_and_file rules.now input.now) None (H.tells shelf.old) (H.held shelf.old) (H.held shelf.new) (H.fetch_faults shelf.old) (H.fetch_faults shelf.new) (H.put_faults shelf.old) (H.put_faults shelf.new) status) }
+    ensures given { IfOk result (λ text. Gives (rules_and_file rules.now input.now) None (λ _ _. ⊥) (λ _. Unit {0}) (H.tells shelf.old) (H.held shelf.old) (H.held shelf.new) text.items) }
+    ensures refused { IfErr result (λ status. Refuses (rules_and_file rules.now input.now) None (λ _ _. ⊥) (H.tells shelf.old) (H.held shelf.old) (H.held shelf.new) (H.fetch_faults shelf.old) (H.fetch_faults shelf.new) (H.put_faults shelf.old) (H.put_faults shelf.new) status) }
 {
     let inputs = match fetch_inputs(alloc, shelf, rules, input) {
         Ok(inputs) => inputs,
@@ -232,8 +234,8 @@ fn run_live<H: Shelf>(
 /// `check`: fetches the file. Its result is how much is in it.
 #[tactic(auto, using(crate::proofs::CommandLemmas::fetch_refuses, crate::proofs::CommandLemmas::check_refuses, crate::proofs::CommandLemmas::check_gives))]
 fn run_check<H: Shelf>(alloc: Global, input: &str, shelf: &mut H) -> Result<Vec<u8>, Status>
-    ensures given { IfOk result (λ text. Gives (file_alone input.now) None (IsChecked (H.tells shelf.old) (H.held shelf.old) input.now) (H.tells shelf.old) (H.held shelf.old) (H.held shelf.new) text.items) }
-    ensures refused { IfErr result (λ status. Refuses (file_alone input.now) None (H.tells shelf.old) (H.held shelf.old) (H.held shelf.new) (H.fetch_faults shelf.old) (H.fetch_faults shelf.new) (H.put_faults shelf.old) (H.put_faults shelf.new) status) }
+    ensures given { IfOk result (λ text. Gives (file_alone input.now) None (λ _ _. ⊥) (IsChecked (H.tells shelf.old) (H.held shelf.old) input.now) (H.tells shelf.old) (H.held shelf.old) (H.held shelf.new) text.items) }
+    ensures refused { IfErr result (λ status. Refuses (file_alone input.now) None (λ _ _. ⊥) (H.tells shelf.old) (H.held shelf.old) (H.held shelf.new) (H.fetch_faults shelf.old) (H.fetch_faults shelf.new) (H.put_faults shelf.old) (H.put_faults shelf.new) status) }
 {
     let file = match fetch(alloc, shelf, input, Counted::FileBytes) {
         Ok(file) => file,
@@ -248,7 +250,7 @@ fn run_check<H: Shelf>(alloc: Global, input: &str, shelf: &mut H) -> Result<Vec<
 /// No words: the result is the usage text.
 fn usage_result(alloc: Global) -> Result<Vec<u8>, Status>
     ensures text { IfOk result (λ text. text.items ≡ usage_text) }
-    ensures refused { IfErr result WorkRefused }
+    ensures refused { IfErr result MadeRefused }
 {
     match Vec::from_slice(alloc, USAGE.as_bytes()) {
         Ok(text) => Ok(text),
@@ -263,8 +265,8 @@ fn run_workload(
     advisers: Vec<Box<dyn Adviser>>,
 ) -> Result<Vec<u8>, Status>
     requires { count ≤ 2000 }
-    ensures summary { IfOk result (λ text. IsSummary text.items) }
-    ensures refused { IfErr result WorkRefused }
+    ensures summary { IfOk result (λ text. IsWorkload text.items) }
+    ensures refused { IfErr result MadeRefused }
 {
     match optimise_workload(alloc, count, advisers) {
         Ok(summary) => Ok(summary.into_bytes()),
@@ -282,8 +284,8 @@ pub fn perform<H: Shelf>(
 ) -> Result<Vec<u8>, Status>
     requires built { IsTrue (is_built command.now) }
     requires counts { CountsWithin command.now }
-    ensures given { IfOk result (λ text. Gives (fetches command.now) (output_of command.now) (IsResult (H.tells shelf.old) (H.held shelf.old) command.now) (H.tells shelf.old) (H.held shelf.old) (H.held shelf.new) text.items) }
-    ensures refused { IfErr result (λ status. Refuses (fetches command.now) (output_of command.now) (H.tells shelf.old) (H.held shelf.old) (H.held shelf.new) (H.fetch_faults shelf.old) (H.fetch_faults shelf.new) (H.put_faults shelf.old) (H.put_faults shelf.new) status) }
+    ensures given { IfOk result (λ text. Gives (fetches command.now) (output_of command.now) (IsOutputOf (H.tells shelf.old) (H.held shelf.old) command.now) (IsResult (H.tells shelf.old) (H.held shelf.old) command.now) (H.tells shelf.old) (H.held shelf.old) (H.held shelf.new) text.items) }
+    ensures refused { IfErr result (λ status. Refuses (fetches command.now) (output_of command.now) (IsOutputOf (H.tells shelf.old) (H.held shelf.old) command.now) (H.tells shelf.old) (H.held shelf.old) (H.held shelf.new) (H.fetch_faults shelf.old) (H.fetch_faults shelf.new) (H.put_faults shelf.old) (H.put_faults shelf.new) status) }
 {
     match command {
         CommandWords::Nothing => usage_result(alloc),

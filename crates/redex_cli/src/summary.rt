@@ -1,7 +1,7 @@
 //! The summary of an optimisation.
 
 ghost use Rattle.std.specs.Prelude.{◌≡◌, ◌++◌, IfOk, OnOk, string_bytes};
-ghost use Rattle.redex_cli.specs.Finished.{change_line, count_line, summary_text};
+ghost use Rattle.redex_cli.specs.Finished.{change_line, count_line, sizes_in, summary_text};
 
 use pipeline::{count_instructions, count_members};
 use program_model::Program;
@@ -18,7 +18,7 @@ pub struct Sizes {
 
 /// The sizes of a program whose file has so many bytes.
 pub fn sizes_of(program: &Program, bytes: usize) -> Sizes
-    ensures { result.bytes ≡ bytes }
+    ensures { result ≡ sizes_in program.now bytes }
 {
     Sizes {
         classes: program.classes.len(),

@@ -7,7 +7,7 @@ ghost use Rattle.command_line.specs.declared.command.CommandWords.{CommandWords}
 ghost use Rattle.redex_cli.specs.Commands.{Commands, CommandsNothing, CountsWithin, Puts, is_built};
 ghost use Rattle.redex_cli.specs.Ends.{Caused, Delivers, Ends};
 ghost use Rattle.redex_cli.specs.Finished.{Results};
-ghost use Rattle.redex_cli.specs.Refusals.{EndsTooLong, EndsUnspelled, GivesFor, ReadsAll, RefusesFor, TooLong, WordsRefused};
+ghost use Rattle.redex_cli.specs.Refusals.{EndsTooLong, EndsUnspelled, GivesFor, OutputBy, ReadsAll, RefusesFor, TooLong, WordsRefused};
 ghost use Rattle.redex_cli.specs.Said.{Said, SaysResult, SaysStatus, unsaid};
 ghost use Rattle.redex_cli.specs.Stays.{Stays};
 
@@ -150,7 +150,7 @@ pub fn run<H: Shelf, N: Notes>(
 
     // What the names hold, and what was said: of `check` the counts of the program that the file spells, of `trace` the
     // lines of what that program shows in so many steps of the play that the script spells (`specs/Finished.antt`).
-    ensures stays { IsTrue (H.tells shelf.old) → Stays (Puts (map string_bytes words.now)) result (H.put_faults shelf.old) (H.put_faults shelf.new) (H.held shelf.old) (H.held shelf.new) }
+    ensures stays { IsTrue (H.tells shelf.old) → Stays (Puts (map string_bytes words.now)) (OutputBy (map string_bytes words.now) (H.tells shelf.old) (H.held shelf.old)) result (H.put_faults shelf.old) (H.put_faults shelf.new) (H.held shelf.old) (H.held shelf.new) }
     ensures said { IsTrue (N.tells notes.old) → Said (Results (map string_bytes words.now) (H.tells shelf.old) (H.held shelf.old)) result (N.faults notes.old) (N.faults notes.new) (N.said notes.old) (N.said notes.new) }
     ensures done { result ≡ Status.Done → IsTrue (H.tells shelf.old) → IsTrue (N.tells notes.old) → Delivers (map string_bytes words.now) (H.tells shelf.old) (H.held shelf.old) (H.held shelf.new) (N.said notes.old) (N.said notes.new) }
 {

@@ -14,8 +14,9 @@ ghost use Rattle.program_model.specs.ProgramRules.{is_well_formed};
 ghost use Rattle.text_defs.specs.Plays.{play_of};
 ghost use Rattle.redex_cli.specs.Accepted.{IsAccepted};
 ghost use Rattle.redex_cli.specs.Files.{FileRefused, HasGraphFault, HasTypeFault, IsRead};
-ghost use Rattle.redex_cli.specs.Finished.{Checks, Finished, IsSummary, program_text};
-ghost use Rattle.redex_cli.specs.Refusals.{TraceRefused, WorkRefused};
+ghost use Rattle.rule_text.specs.Fault.{IsFault};
+ghost use Rattle.redex_cli.specs.Finished.{Checks, Finished, IsRuled, IsWorkload, Shrunk, program_text, sizes_in};
+ghost use Rattle.redex_cli.specs.Refusals.{MadeRefused, ReadRefused, TraceRefused, WorkRefused};
 ghost use Rattle.redex_cli.specs.Traces.{IsTableFor, Traces, TracesFile};
 
 use crate::check_line::check_line;
@@ -43,7 +44,7 @@ const WORKLOAD_RULES: &[u8] = b"-keep class ?0 { public static int run(int); }\n
 
 /// A fault of the rules as a status.
 fn rules_status(fault: RuleFault) -> Status
-    ensures refused { WorkRefused result }
+    ensures refused { (text : List ℕ) → IsFault text fault → WorkRefused text result }
     ensures file { (bytes : List ℕ) → FileRefused bytes result }
 {
     match fault {
@@ -58,7 +59,7 @@ fn rules_status(fault: RuleFault) -> Status
 /// A fault of the file as a status.
 fn dex_status(fault: DexFault) -> Status
     requires { CountsInFile fault }
-    ensures refused { WorkRefused result }
+    ensures refused { ReadRefused result }
     ensures file { (bytes : List ℕ) → FailsIf (is_free fault) fault (program_at bytes) → FileRefused bytes result }
 {
     match fault {
@@ -78,7 +79,7 @@ fn dex_status(fault: DexFault) -> Status
 
 /// A fault of the class graph as a status.
 fn hierarchy_status(fault: HierarchyFault) -> Status
-    ensures refused { WorkRefused result }
+    ensures refused { ReadRefused result }
     ensures file { (bytes : List ℕ) → HasGraphFault bytes fault → FileRefused bytes result }
 {
     match fault {
@@ -91,7 +92,7 @@ fn hierarchy_status(fault: HierarchyFault) -> Status
 
 /// A fault of a method's types as a status.
 fn typing_status(fault: TypeFault) -> Status
-    ensures refused { WorkRefused result }
+    ensures refused { ReadRefused result }
     ensures file { (bytes : List ℕ) → HasTypeFault bytes fault → FileRefused bytes result }
 {
     match fault {
@@ -113,7 +114,7 @@ fn read_classes(alloc: Global, file: Vec<u8>) -> Result<Classes, Status>
     ensures limits { IfOk result (λ classes. KeepsLimits classes.program) }
     ensures read { IfOk result (λ classes. program_at file.items ≡ Ok classes.program) }
     ensures accepted { IfOk result (λ classes. IsAccepted classes.program) }
-    ensures refused { IfErr result WorkRefused }
+    ensures refused { IfErr result ReadRefused }
     ensures file { IfErr result (FileRefused file.items) }
 {
     let program = match read_dex(alloc, &file) {
@@ -155,12 +156,13 @@ fn closed_outside(
 }
 
 /// The rules, the file, its class graph and its types, in this order. The bytes are let go as soon as they are read.
+#[tactic(auto, using(crate::proofs::FinishedLemmas::work_reads, crate::proofs::FinishedLemmas::ruled))]
 fn read_input(alloc: Global, rules: Vec<u8>, file: Vec<u8>) -> Result<Input, Status>
     requires { vec_len rules < 2 ^ 32 }
     ensures read { IfOk result (λ input. program_at file.items ≡ Ok input.program) }
     ensures accepted { IfOk result (λ input. IsAccepted input.program) }
-    ensures table { IfOk result (λ input. IsTableFor input.program input.outside) }
-    ensures refused { IfErr result WorkRefused }
+    ensures ruled { IfOk result (λ input. IsRuled rules.items input.program input.outside) }
+    ensures refused { IfErr result (WorkRefused rules.items) }
     ensures file { IfErr result (FileRefused file.items) }
 {
     let parsed = match read_rules(alloc, &rules) {
@@ -201,8 +203,8 @@ pub struct Optimised {
     pub summary: String,
 }
 
-/// Optimises a program, writes it and sums up.
-#[tactic(auto, using(crate::proofs::FinishedLemmas::finished))]
+/// Optimises a program, writes what is left and sums up.
+#[tactic(auto, using(crate::proofs::FinishedLemmas::shrunk))]
 fn optimise_program(
     alloc: Global,
     program: Program,
@@ -210,7 +212,7 @@ fn optimise_program(
     before: Sizes,
     panel: &mut Panel,
 ) -> Result<Optimised, AllocError>
-    ensures { IfOk result (λ optimised. Finished optimised.bytes.items (string_bytes optimised.summary)) }
+    ensures { IfOk result (λ optimised. Shrunk program outside.now before optimised.bytes.items (string_bytes optimised.summary)) }
 {
     let outcome = optimise(alloc, program, outside, panel)?;
     let bytes = write_dex(alloc, &outcome.program)?;
@@ -237,14 +239,14 @@ fn optimise_input(
     length: usize,
     panel: &mut Panel,
 ) -> Result<Optimised, AllocError>
-    ensures { IfOk result (λ optimised. Finished optimised.bytes.items (string_bytes optimised.summary)) }
+    ensures { IfOk result (λ optimised. Shrunk input.program input.outside (sizes_in input.program length) optimised.bytes.items (string_bytes optimised.summary)) }
 {
     let before = sizes_of(&input.program, length);
     optimise_program(alloc, input.program, &input.outside, before, panel)
 }
 
 /// Optimises a file by its rules.
-#[tactic(auto, using(crate::proofs::FinishedLemmas::read))]
+#[tactic(auto, using(crate::proofs::FinishedLemmas::read, crate::proofs::FinishedLemmas::finished))]
 pub fn optimise_file(
     alloc: Global,
     rules: Vec<u8>,
@@ -253,9 +255,9 @@ pub fn optimise_file(
     advisers: Vec<Box<dyn Adviser>>,
 ) -> Result<Optimised, Status>
     requires { vec_len rules < 2 ^ 32 }
-    ensures finished { IfOk result (λ optimised. Finished optimised.bytes.items (string_bytes optimised.summary)) }
+    ensures finished { IfOk result (λ optimised. Finished rules.items file.items optimised.bytes.items (string_bytes optimised.summary)) }
     ensures read { OnOk result (IsRead file.items) }
-    ensures refused { IfErr result WorkRefused }
+    ensures refused { IfErr result (WorkRefused rules.items) }
     ensures file { IfErr result (FileRefused file.items) }
 {
     let length = file.len();
@@ -291,15 +293,15 @@ fn workload_input(alloc: Global, count: u32) -> Result<(Vec<u8>, Vec<u8>), Alloc
 }
 
 /// Optimises the workload of so many classes, and answers the summary.
-#[tactic(auto, using(crate::proofs::FinishedLemmas::is_summary))]
+#[tactic(auto, using(crate::proofs::FinishedLemmas::is_workload, crate::proofs::FinishedLemmas::made))]
 pub fn optimise_workload(
     alloc: Global,
     count: u32,
     advisers: Vec<Box<dyn Adviser>>,
 ) -> Result<String, Status>
     requires { count ≤ 2000 }
-    ensures summary { IfOk result (λ text. IsSummary (string_bytes text)) }
-    ensures refused { IfErr result WorkRefused }
+    ensures summary { IfOk result (λ text. IsWorkload (string_bytes text)) }
+    ensures refused { IfErr result MadeRefused }
 {
     let (rules, file) = match workload_input(alloc, count) {
         Ok(input) => input,
@@ -313,7 +315,7 @@ pub fn optimise_workload(
 
 /// The live classes and members of an input, as they are said.
 fn live_of(alloc: Global, input: &Input) -> Result<Vec<u8>, Status>
-    ensures refused { IfErr result WorkRefused }
+    ensures refused { (rules : List ℕ) → IfErr result (WorkRefused rules) }
     ensures file { (bytes : List ℕ) → IfErr result (FileRefused bytes) }
 {
     let live = match live_members(alloc, &input.program, &input.hierarchy, &input.outside) {
@@ -331,7 +333,7 @@ fn live_of(alloc: Global, input: &Input) -> Result<Vec<u8>, Status>
 pub fn list_live(alloc: Global, rules: Vec<u8>, file: Vec<u8>) -> Result<Vec<u8>, Status>
     requires { vec_len rules < 2 ^ 32 }
     ensures read { OnOk result (IsRead file.items) }
-    ensures refused { IfErr result WorkRefused }
+    ensures refused { IfErr result (WorkRefused rules.items) }
     ensures file { IfErr result (FileRefused file.items) }
 {
     let input = match read_input(alloc, rules, file) {
@@ -344,7 +346,7 @@ pub fn list_live(alloc: Global, rules: Vec<u8>, file: Vec<u8>) -> Result<Vec<u8>
 /// How many classes, methods and instructions a program has, as they are said.
 fn counts_of(alloc: Global, program: &Program) -> Result<Vec<u8>, Status>
     ensures checked { IfOk result (λ text. text.items ≡ program_text program.now) }
-    ensures refused { IfErr result WorkRefused }
+    ensures refused { IfErr result ReadRefused }
     ensures file { (bytes : List ℕ) → IfErr result (FileRefused bytes) }
 {
     match check_line(alloc, program) {
@@ -357,7 +359,7 @@ fn counts_of(alloc: Global, program: &Program) -> Result<Vec<u8>, Status>
 #[tactic(auto, using(crate::proofs::FinishedLemmas::checked))]
 pub fn check_file(alloc: Global, file: Vec<u8>) -> Result<Vec<u8>, Status>
     ensures checked { IfOk result (λ text. Checks file.items text.items) }
-    ensures refused { IfErr result WorkRefused }
+    ensures refused { IfErr result ReadRefused }
     ensures file { IfErr result (FileRefused file.items) }
 {
     let classes = match read_classes(alloc, file) {
@@ -372,7 +374,7 @@ pub fn check_file(alloc: Global, file: Vec<u8>) -> Result<Vec<u8>, Status>
 fn read_play(alloc: Global, script: &[u8]) -> Result<Play, Status>
     requires { length script.now < 2 ^ 32 }
     ensures plays { IfOk result (λ play. play_of script.now ≡ Ok play) }
-    ensures refused { IfErr result (TraceRefused script.now) }
+    ensures refused { (rules : List ℕ) → IfErr result (TraceRefused rules script.now) }
     ensures file { (bytes : List ℕ) → IfErr result (FileRefused bytes) }
 {
     match read_script(alloc, script) {
@@ -422,7 +424,7 @@ fn trace_input(alloc: Global, input: &Input, script: &[u8], steps: u32) -> Resul
     requires accepted { IsAccepted input.now.program }
     requires table { IsTableFor input.now.program input.now.outside }
     ensures traced { (bytes : List ℕ) → program_at bytes ≡ Ok input.now.program → IfOk result (λ text. TracesFile bytes script.now steps text.items) }
-    ensures refused { IfErr result (TraceRefused script.now) }
+    ensures refused { (rules : List ℕ) → IfErr result (TraceRefused rules script.now) }
     ensures file { (bytes : List ℕ) → IfErr result (FileRefused bytes) }
 {
     let play = match read_play(alloc, script) {
@@ -448,7 +450,7 @@ pub fn trace_file(
     requires script { length script.now < 2 ^ 32 }
     ensures traced { IfOk result (λ text. TracesFile file.items script.now steps text.items) }
     ensures read { OnOk result (IsRead file.items) }
-    ensures refused { IfErr result (TraceRefused script.now) }
+    ensures refused { IfErr result (TraceRefused rules.items script.now) }
     ensures file { IfErr result (FileRefused file.items) }
 {
     let input = match read_input(alloc, rules, file) {

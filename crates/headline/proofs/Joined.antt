@@ -1,0 +1,58 @@
+-- From what a run gives to what it shows.
+use Rattle.std.proofs.Common.{◌≡◌, ℕ, Bool, true, List, [], refl, ◌∙◌}
+use Rattle.program_model.specs.ProgramRules.{is_well_formed}
+use Rattle.program_model.specs.declared.pass.Outside.{Outside}
+use Rattle.program_model.specs.declared.program.Program.{Program}
+use Rattle.command_line.specs.declared.command.CommandWords.{CommandWords}
+use Rattle.command_line.specs.declared.command.CommandWords.TheVariants.{Nothing, Optimise, Check, Live, Trace, Workload}
+use Rattle.silence_bridge.proofs.Optimised.{optimised_shows, optimised_typed}
+use Rattle.redex_outside.specs.Held.{Held}
+use Rattle.redex_cli.specs.Accepted.{IsAccepted}
+use Rattle.redex_cli.specs.Commands.{Commands}
+use Rattle.redex_cli.specs.Finished.{Finished, FinishedOf, IsOutputOf, IsRuled, Leaves}
+use Rattle.redex_cli.specs.Refusals.{OutputBy}
+use Rattle.headline.specs.Headline.{Headline, KeepsMeaning, Shrinks}
+
+-- rules shut no method
+unshut : (text : List ℕ) (p : Program) (o : Outside) → IsRuled text p o → o.shut ≡ []
+unshut text p o ruled = ruled.table.closes.shut ∙ ruled.table.unshut
+
+keeps : (p r : Program) (o : Outside) (rounds spared : ℕ) → is_well_formed p ≡ true → IsAccepted p → o.shut ≡ [] → Leaves p o r rounds spared → KeepsMeaning p o r
+keeps p r o rounds spared well accepted open leaves =
+    let graph = accepted.graph well in
+    let done = leaves.optimised in record {
+  admitted = done.admitted;
+  shown = optimised_shows p accepted.hierarchy well graph.resolved graph.acyclic graph.unsplit o accepted.types r leaves.advisers spared rounds leaves.before leaves.after done open;
+  typed = optimised_typed p accepted.hierarchy well graph.resolved graph.acyclic graph.unsplit o accepted.types r leaves.advisers spared rounds leaves.before leaves.after done;
+}
+
+shrinks : (rules file output summary : List ℕ) → Finished rules file output summary → Shrinks rules file output
+shrinks rules file output summary f = record {
+  program = f.program;
+  reads = f.reads;
+  outside = f.outside;
+  ruled = f.ruled;
+  left = f.shrunk.left;
+  written = f.shrunk.written;
+  keeps = λ well. keeps f.program f.shrunk.left f.outside f.shrunk.rounds f.shrunk.spared well f.accepted (unshut rules f.program f.outside f.ruled) (f.shrunk.leaves well);
+}
+
+of_command : (words : List (List ℕ)) (held : Held) (output summary : List ℕ) (command : CommandWords) → Commands words command
+    → IsOutputOf true held command output summary → Headline words held output
+of_command words held output summary (Optimise asked) commands f = record {
+  asked = asked;
+  commands = commands;
+  rules = f.ruling;
+  ruled = f.ruled refl;
+  file = f.file;
+  filed = f.filed refl;
+  shrinks = shrinks f.ruling f.file output summary f.finished;
+}
+of_command words held output summary Nothing commands f = absurd f
+of_command words held output summary (Check input) commands f = absurd f
+of_command words held output summary (Live rules input library) commands f = absurd f
+of_command words held output summary (Trace rules input script steps library) commands f = absurd f
+of_command words held output summary (Workload count) commands f = absurd f
+
+pub joined : (words : List (List ℕ)) (held : Held) (output summary : List ℕ) → OutputBy words true held output summary → Headline words held output
+joined words held output summary by = of_command words held output summary by.command by.commands by.final

@@ -18,13 +18,13 @@ unshut : (text : List ℕ) (p : Program) (o : Outside) → IsRuled text p o → 
 unshut text p o ruled = ruled.table.closes.shut ∙ ruled.table.unshut
 
 keeps : (p r : Program) (o : Outside) (rounds spared : ℕ) → is_well_formed p ≡ true → IsAccepted p → o.shut ≡ [] → Leaves p o r rounds spared → KeepsMeaning p o r
-keeps p r o rounds spared well accepted open leaves =
+keeps p r o rounds spared well accepted none leaves =
     let graph = accepted.graph well in
     let done = leaves.optimised in record {
-  admitted = done.admitted;
-  shown = optimised_shows p accepted.hierarchy well graph.resolved graph.acyclic graph.unsplit o accepted.types r leaves.advisers spared rounds leaves.before leaves.after done open;
-  typed = optimised_typed p accepted.hierarchy well graph.resolved graph.acyclic graph.unsplit o accepted.types r leaves.advisers spared rounds leaves.before leaves.after done;
-}
+      admitted = done.admitted;
+      shown = optimised_shows p accepted.hierarchy well graph.resolved graph.acyclic graph.unsplit o accepted.types r leaves.advisers spared rounds leaves.before leaves.after done none;
+      typed = optimised_typed p accepted.hierarchy well graph.resolved graph.acyclic graph.unsplit o accepted.types r leaves.advisers spared rounds leaves.before leaves.after done;
+    }
 
 shrinks : (rules file output summary : List ℕ) → Finished rules file output summary → Shrinks rules file output
 shrinks rules file output summary f = record {

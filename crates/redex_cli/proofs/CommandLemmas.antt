@@ -358,6 +358,20 @@ put_gives rules input ruling file name tells tells' old mid new bytes summary re
           (record { output = bytes; final = final; there = put (e ∙ told) });
     }
 
+-- the same of names and bytes that are found to be these
+pub output_gives : (rules input name rules' input' name' ruling file : List ℕ) (tells tells' : Bool) (old mid new : Held) (bytes content summary text : List ℕ)
+    → rules' ≡ rules → input' ≡ input → name' ≡ name → content ≡ bytes → text ≡ summary
+    → IsRead file → (IsTrue tells → AllWithin old (rules_and_file rules' input')) → (IsTrue tells → old rules' ≡ Some ruling) → (IsTrue tells → old input' ≡ Some file)
+    → Finished ruling file bytes summary → tells' ≡ tells → (IsTrue tells → AllSame old mid)
+    → (IsTrue tells' → new name' ≡ Some content) → (IsTrue tells' → OthersSame name' mid new)
+    → Gives (rules_and_file rules input) (Some name) (FinishedOf tells old rules input) (IsSummary (FinishedOf tells old rules input)) tells old new text
+output_gives rules input name rules' input' name' ruling file tells tells' old mid new bytes content summary text is_rules is_input is_name is_bytes is_text read within ruled there finished e same put others =
+    subst (λ (n : List ℕ). Gives (rules_and_file n input) (Some name) (FinishedOf tells old n input) (IsSummary (FinishedOf tells old n input)) tells old new text) is_rules
+    (subst (λ (n : List ℕ). Gives (rules_and_file rules' n) (Some name) (FinishedOf tells old rules' n) (IsSummary (FinishedOf tells old rules' n)) tells old new text) is_input
+    (subst (λ (n : List ℕ). Gives (rules_and_file rules' input') (Some n) (FinishedOf tells old rules' input') (IsSummary (FinishedOf tells old rules' input')) tells old new text) is_name
+    (subst (λ (t : List ℕ). Gives (rules_and_file rules' input') (Some name') (FinishedOf tells old rules' input') (IsSummary (FinishedOf tells old rules' input')) tells old new t) (sym is_text)
+    (put_gives rules' input' ruling file name' tells tells' old mid new bytes summary read within ruled there finished e same (λ told. put told ∙ ap Some is_bytes) others))))
+
 -- ---- commands without a library
 
 and_right : (a b : Bool) → IsTrue (a && b) → IsTrue b
@@ -436,3 +450,22 @@ pub found_check_gives : (command : CommandWords) (input input' : List ℕ) (tell
 found_check_gives command input input' tells old new text e same gives =
     subst (λ (c : CommandWords). Gives (fetches c) (output_of c) (IsOutputOf tells old c) (IsResult tells old c) tells old new text) (sym e)
     (subst (λ (name : List ℕ). Gives (file_alone name) None (λ _ _. ⊥) (IsChecked tells old name) tells old new text) same gives)
+
+pub found_optimise_refuses : (command : CommandWords) (words : OptimiseWords) (tells : Bool) (old new : Held) (f g p q : Failures) (status : Status)
+    → command ≡ Optimise words → IsTrue (is_built command)
+    → Refuses (rules_and_file words.rules words.input) (Some words.output) (FinishedOf tells old words.rules words.input) tells old new f g p q status
+    → Refuses (fetches command) (output_of command) (IsOutputOf tells old command) tells old new f g p q status
+found_optimise_refuses command words tells old new f g p q status e built refuses =
+    subst (λ (c : CommandWords). Refuses (fetches c) (output_of c) (IsOutputOf tells old c) tells old new f g p q status) (sym e)
+    (optimise_refuses words tells old new f g p q status (subst (λ (c : CommandWords). IsTrue (is_built c)) e built) refuses)
+
+pub found_trace_refuses : (command : CommandWords) (rules input script rules' input' script' : List ℕ) (steps : ℕ) (library : Option (List ℕ)) (tells : Bool) (old new : Held) (f g p q : Failures) (status : Status)
+    → command ≡ Trace rules input script steps library → IsTrue (is_built command) → rules' ≡ rules → input' ≡ input → script' ≡ script
+    → Refuses (trace_files rules' input' script') None (λ _ _. ⊥) tells old new f g p q status
+    → Refuses (fetches command) (output_of command) (IsOutputOf tells old command) tells old new f g p q status
+found_trace_refuses command rules input script rules' input' script' steps library tells old new f g p q status e built is_rules is_input is_script refuses =
+    subst (λ (c : CommandWords). Refuses (fetches c) (output_of c) (IsOutputOf tells old c) tells old new f g p q status) (sym e)
+    (trace_is_refused rules input script steps library tells old new f g p q status (subst (λ (c : CommandWords). IsTrue (is_built c)) e built)
+    (subst (λ (n : List ℕ). Refuses (trace_files n input script) None (λ _ _. ⊥) tells old new f g p q status) is_rules
+    (subst (λ (n : List ℕ). Refuses (trace_files rules' n script) None (λ _ _. ⊥) tells old new f g p q status) is_input
+    (subst (λ (n : List ℕ). Refuses (trace_files rules' input' n) None (λ _ _. ⊥) tells old new f g p q status) is_script refuses))))

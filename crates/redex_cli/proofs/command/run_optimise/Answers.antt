@@ -1,5 +1,5 @@
 use Rattle.std.proofs.Common.{string_bytes}
-use Rattle.redex_cli.proofs.CommandLemmas.{output_refuses}
+use Rattle.redex_cli.proofs.CommandLemmas.{output_gives, output_refuses}
 use Rattle.redex_cli.proofs.command.run_optimise.Goals as goal
 
 pub returns-in-Err-put-clause-refused : goal.returns-in-Err-put-clause-refused
@@ -16,3 +16,17 @@ returns-in-Err-put-clause-refused g c =
     c.as_str.ensures c.as_str-2.ensures c.as_str-3.ensures c.as_slice-2.ensures.value
     c.in-Ok.ensures.within c.in-Ok.ensures.ruling c.in-Ok.ensures.file c.in-Ok-optimise_file.ensures.finished c.fetch_inputs.ensures.stays.tells c.fetch_inputs.ensures.stays.held c.fetch_inputs.ensures.stays.puts
     c.in-Err-put.ensures.refused c.put.ensures.others
+
+pub returns-in-Ok-put-clause-given : goal.returns-in-Ok-put-clause-given
+returns-in-Ok-put-clause-given g c =
+    let shelf = c.args.shelf.now in
+    let mid = c.fetch_inputs.new.shelf in
+    let new = c.put.new.shelf in
+    let optimised = c.in-Ok-optimise_file.optimised in
+    output_gives c.args.words.now.rules c.args.words.now.input c.args.words.now.output c.as_str.result.now c.as_str-2.result.now c.as_str-3.result.now
+    c.in-Ok.inputs.rules.items c.in-Ok.inputs.file.items
+    (g.H.Shelf.tells shelf) (g.H.Shelf.tells mid) (g.H.Shelf.held shelf) (g.H.Shelf.held mid) (g.H.Shelf.held new)
+    optimised.bytes.items c.as_slice-2.result.now (string_bytes optimised.summary) c.into_bytes.result.items
+    c.as_str.ensures c.as_str-2.ensures c.as_str-3.ensures c.as_slice-2.ensures.value c.into_bytes.ensures.value
+    c.in-Ok-optimise_file.ensures.read c.in-Ok.ensures.within c.in-Ok.ensures.ruling c.in-Ok.ensures.file c.in-Ok-optimise_file.ensures.finished
+    c.fetch_inputs.ensures.stays.tells c.fetch_inputs.ensures.stays.held c.in-Ok-put.ensures.put c.put.ensures.others

@@ -1,4 +1,4 @@
-use Rattle.std.proofs.Common.{string_bytes}
+use Rattle.std.proofs.Common.{ap, string_bytes}
 use Rattle.redex_cli.proofs.CommandLemmas.{output_gives, output_refuses}
 use Rattle.redex_cli.proofs.command.run_optimise.Goals as goal
 
@@ -27,6 +27,6 @@ returns-in-Ok-put-clause-given g c =
     c.in-Ok.inputs.rules.items c.in-Ok.inputs.file.items
     (g.H.Shelf.tells shelf) (g.H.Shelf.tells mid) (g.H.Shelf.held shelf) (g.H.Shelf.held mid) (g.H.Shelf.held new)
     optimised.bytes.items c.as_slice-2.result.now (string_bytes optimised.summary) c.into_bytes.result.items
-    c.as_str.ensures c.as_str-2.ensures c.as_str-3.ensures c.as_slice-2.ensures.value c.into_bytes.ensures.value
+    c.as_str.ensures c.as_str-2.ensures c.as_str-3.ensures c.as_slice-2.ensures.value (ap (λ v. v.items) c.into_bytes.ensures.value)
     c.in-Ok-optimise_file.ensures.read c.in-Ok.ensures.within c.in-Ok.ensures.ruling c.in-Ok.ensures.file c.in-Ok-optimise_file.ensures.finished
     c.fetch_inputs.ensures.stays.tells c.fetch_inputs.ensures.stays.held c.in-Ok-put.ensures.put c.put.ensures.others

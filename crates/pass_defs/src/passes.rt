@@ -30,7 +30,9 @@ ghost use Rattle.pass_defs.specs.Origins.{composed};
 ghost use Rattle.pass_defs.specs.Loose.{KnowsCalls, AreLoose, is_alone, concerns, is_plain_call, new_key, shorty};
 ghost use Rattle.pass_defs.specs.Bindable.{IsBindable, package_of, may_access, may_rebind};
 ghost use Rattle.pass_defs.specs.Site.{all_inlined, IsSite};
-ghost use Rattle.pass_defs.specs.PassExamples.{spins, hides_q, inherits_q, nothing_key, app_type, lib_type, in_library, found_in, extends_interface, rebinds, rebinds_caller, rebinds_method, both_call_q, n_of, gives_q, caller_m, caller_n, sizes_of, branches_over, branches_next, at, q_key, adds, adds_three, knows_five, five_given, sum_typed, knows_sum, reads_copy, copy_is_old, needs_both, skips_one, drops_q, state_with, says, gives_copy};
+ghost use Rattle.pass_defs.specs.PassExamples.{spins, hides_q, inherits_q, nothing_key, app_type, lib_type, in_library, found_in, extends_interface, rebinds, rebinds_caller};
+ghost use Rattle.pass_defs.specs.PassExamples.{rebinds_method, both_call_q, n_of, gives_q, caller_m, caller_n, sizes_of, branches_over, branches_next, at, q_key, adds, adds_three};
+ghost use Rattle.pass_defs.specs.PassExamples.{knows_five, five_given, sum_typed, knows_sum, reads_copy, copy_is_old, needs_both, skips_one, drops_q, state_with, says, gives_copy};
 ghost use Rattle.pass_defs.specs.SiteExamples.{by_number, gives_by_number, m_inlined};
 ghost use Rattle.pass_defs.specs.LooseExamples.{needs_no_receiver, loose_program, is_q};
 

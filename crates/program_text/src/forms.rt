@@ -36,8 +36,12 @@ const FORMS: &str = "000- nop
 100f sget sget-wide sget-object sget-boolean sget-byte sget-char sget-short
 100f sput sput-wide sput-object sput-boolean sput-byte sput-char sput-short
 *00m invoke-virtual invoke-super invoke-direct invoke-static invoke-interface
-200- neg-int not-int neg-long not-long neg-float neg-double int-to-long int-to-float int-to-double long-to-int long-to-float long-to-double float-to-int float-to-long float-to-double double-to-int double-to-long double-to-float int-to-byte int-to-char int-to-short
-300- add-int sub-int mul-int div-int rem-int and-int or-int xor-int shl-int shr-int ushr-int add-long sub-long mul-long div-long rem-long and-long or-long xor-long shl-long shr-long ushr-long add-float sub-float mul-float div-float rem-float add-double sub-double mul-double div-double rem-double
+200- neg-int not-int neg-long not-long neg-float neg-double int-to-long int-to-float int-to-double long-to-int \
+    long-to-float long-to-double float-to-int float-to-long float-to-double double-to-int double-to-long \
+    double-to-float int-to-byte int-to-char int-to-short
+300- add-int sub-int mul-int div-int rem-int and-int or-int xor-int shl-int shr-int ushr-int add-long sub-long \
+    mul-long div-long rem-long and-long or-long xor-long shl-long shr-long ushr-long add-float sub-float mul-float \
+    div-float rem-float add-double sub-double mul-double div-double rem-double
 210- add-int/lit rsub-int/lit mul-int/lit div-int/lit rem-int/lit and-int/lit or-int/lit xor-int/lit shl-int/lit shr-int/lit ushr-int/lit";
 
 /// Where a mnemonic stands in the table, and what its operands are.

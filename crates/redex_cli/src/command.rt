@@ -126,8 +126,10 @@ fn run_trace<H: Shelf>(
     steps: u32,
     shelf: &mut H,
 ) -> Result<Vec<u8>, Status>
-    ensures given { IfOk result (λ text. Gives (trace_files rules.now input.now script.now) None (λ _ _. ⊥) (IsTraced (H.tells shelf.old) (H.held shelf.old) input.now script.now steps) (H.tells shelf.old) (H.held shelf.old) (H.held shelf.new) text.items) }
-    ensures refused { IfErr result (λ status. Refuses (trace_files rules.now input.now script.now) None (λ _ _. ⊥) (H.tells shelf.old) (H.held shelf.old) (H.held shelf.new) (H.fetch_faults shelf.old) (H.fetch_faults shelf.new) (H.put_faults shelf.old) (H.put_faults shelf.new) status) }
+    ensures given { IfOk result (λ text. Gives (trace_files rules.now input.now script.now) None (λ _ _. ⊥) (IsTraced (H.tells shelf.old) (H.held shelf.old) input.now script.now steps)
+        (H.tells shelf.old) (H.held shelf.old) (H.held shelf.new) text.items) }
+    ensures refused { IfErr result (λ status. Refuses (trace_files rules.now input.now script.now) None (λ _ _. ⊥)
+        (H.tells shelf.old) (H.held shelf.old) (H.held shelf.new) (H.fetch_faults shelf.old) (H.fetch_faults shelf.new) (H.put_faults shelf.old) (H.put_faults shelf.new) status) }
 {
     let inputs = match fetch_trace(alloc, shelf, rules, input, script) {
         Ok(inputs) => inputs,
@@ -182,8 +184,13 @@ fn run_optimise<H: Shelf>(
     shelf: &mut H,
     advisers: Vec<Box<dyn Adviser>>,
 ) -> Result<Vec<u8>, Status>
-    ensures given { IfOk result (λ text. Gives (rules_and_file words.now.rules words.now.input) (Some words.now.output) (FinishedOf (H.tells shelf.old) (H.held shelf.old) words.now.rules words.now.input) (IsSummary (FinishedOf (H.tells shelf.old) (H.held shelf.old) words.now.rules words.now.input)) (H.tells shelf.old) (H.held shelf.old) (H.held shelf.new) text.items) }
-    ensures refused { IfErr result (λ status. Refuses (rules_and_file words.now.rules words.now.input) (Some words.now.output) (FinishedOf (H.tells shelf.old) (H.held shelf.old) words.now.rules words.now.input) (H.tells shelf.old) (H.held shelf.old) (H.held shelf.new) (H.fetch_faults shelf.old) (H.fetch_faults shelf.new) (H.put_faults shelf.old) (H.put_faults shelf.new) status) }
+    ensures given { IfOk result (λ text. Gives (rules_and_file words.now.rules words.now.input) (Some words.now.output)
+        (FinishedOf (H.tells shelf.old) (H.held shelf.old) words.now.rules words.now.input)
+        (IsSummary (FinishedOf (H.tells shelf.old) (H.held shelf.old) words.now.rules words.now.input))
+        (H.tells shelf.old) (H.held shelf.old) (H.held shelf.new) text.items) }
+    ensures refused { IfErr result (λ status. Refuses (rules_and_file words.now.rules words.now.input) (Some words.now.output)
+        (FinishedOf (H.tells shelf.old) (H.held shelf.old) words.now.rules words.now.input)
+        (H.tells shelf.old) (H.held shelf.old) (H.held shelf.new) (H.fetch_faults shelf.old) (H.fetch_faults shelf.new) (H.put_faults shelf.old) (H.put_faults shelf.new) status) }
 {
     let inputs = match fetch_inputs(alloc, shelf, words.rules.as_str(), words.input.as_str()) {
         Ok(inputs) => inputs,
@@ -219,7 +226,8 @@ fn run_live<H: Shelf>(
     shelf: &mut H,
 ) -> Result<Vec<u8>, Status>
     ensures given { IfOk result (λ text. Gives (rules_and_file rules.now input.now) None (λ _ _. ⊥) (λ _. Unit {0}) (H.tells shelf.old) (H.held shelf.old) (H.held shelf.new) text.items) }
-    ensures refused { IfErr result (λ status. Refuses (rules_and_file rules.now input.now) None (λ _ _. ⊥) (H.tells shelf.old) (H.held shelf.old) (H.held shelf.new) (H.fetch_faults shelf.old) (H.fetch_faults shelf.new) (H.put_faults shelf.old) (H.put_faults shelf.new) status) }
+    ensures refused { IfErr result (λ status. Refuses (rules_and_file rules.now input.now) None (λ _ _. ⊥)
+        (H.tells shelf.old) (H.held shelf.old) (H.held shelf.new) (H.fetch_faults shelf.old) (H.fetch_faults shelf.new) (H.put_faults shelf.old) (H.put_faults shelf.new) status) }
 {
     let inputs = match fetch_inputs(alloc, shelf, rules, input) {
         Ok(inputs) => inputs,
@@ -234,8 +242,10 @@ fn run_live<H: Shelf>(
 /// `check`: fetches the file. Its result is how much is in it.
 #[tactic(auto, using(crate::proofs::CommandLemmas::fetch_refuses, crate::proofs::CommandLemmas::check_refuses, crate::proofs::CommandLemmas::check_gives))]
 fn run_check<H: Shelf>(alloc: Global, input: &str, shelf: &mut H) -> Result<Vec<u8>, Status>
-    ensures given { IfOk result (λ text. Gives (file_alone input.now) None (λ _ _. ⊥) (IsChecked (H.tells shelf.old) (H.held shelf.old) input.now) (H.tells shelf.old) (H.held shelf.old) (H.held shelf.new) text.items) }
-    ensures refused { IfErr result (λ status. Refuses (file_alone input.now) None (λ _ _. ⊥) (H.tells shelf.old) (H.held shelf.old) (H.held shelf.new) (H.fetch_faults shelf.old) (H.fetch_faults shelf.new) (H.put_faults shelf.old) (H.put_faults shelf.new) status) }
+    ensures given { IfOk result (λ text. Gives (file_alone input.now) None (λ _ _. ⊥) (IsChecked (H.tells shelf.old) (H.held shelf.old) input.now)
+        (H.tells shelf.old) (H.held shelf.old) (H.held shelf.new) text.items) }
+    ensures refused { IfErr result (λ status. Refuses (file_alone input.now) None (λ _ _. ⊥)
+        (H.tells shelf.old) (H.held shelf.old) (H.held shelf.new) (H.fetch_faults shelf.old) (H.fetch_faults shelf.new) (H.put_faults shelf.old) (H.put_faults shelf.new) status) }
 {
     let file = match fetch(alloc, shelf, input, Counted::FileBytes) {
         Ok(file) => file,
@@ -284,8 +294,11 @@ pub fn perform<H: Shelf>(
 ) -> Result<Vec<u8>, Status>
     requires built { IsTrue (is_built command.now) }
     requires counts { CountsWithin command.now }
-    ensures given { IfOk result (λ text. Gives (fetches command.now) (output_of command.now) (IsOutputOf (H.tells shelf.old) (H.held shelf.old) command.now) (IsResult (H.tells shelf.old) (H.held shelf.old) command.now) (H.tells shelf.old) (H.held shelf.old) (H.held shelf.new) text.items) }
-    ensures refused { IfErr result (λ status. Refuses (fetches command.now) (output_of command.now) (IsOutputOf (H.tells shelf.old) (H.held shelf.old) command.now) (H.tells shelf.old) (H.held shelf.old) (H.held shelf.new) (H.fetch_faults shelf.old) (H.fetch_faults shelf.new) (H.put_faults shelf.old) (H.put_faults shelf.new) status) }
+    ensures given { IfOk result (λ text. Gives (fetches command.now) (output_of command.now)
+        (IsOutputOf (H.tells shelf.old) (H.held shelf.old) command.now) (IsResult (H.tells shelf.old) (H.held shelf.old) command.now)
+        (H.tells shelf.old) (H.held shelf.old) (H.held shelf.new) text.items) }
+    ensures refused { IfErr result (λ status. Refuses (fetches command.now) (output_of command.now) (IsOutputOf (H.tells shelf.old) (H.held shelf.old) command.now)
+        (H.tells shelf.old) (H.held shelf.old) (H.held shelf.new) (H.fetch_faults shelf.old) (H.fetch_faults shelf.new) (H.put_faults shelf.old) (H.put_faults shelf.new) status) }
 {
     match command {
         CommandWords::Nothing => usage_result(alloc),

@@ -5,8 +5,8 @@
 //! writes alone, so a body means the same without its dead positions. A get of a static field is pure where initialising
 //! the field's class runs no code, a division where its divisor is a literal other than 0 (Dalvik bytecode, "Summary of
 //! bytecode set"). [`dead_positions`] marks exactly the dead positions, and [`apply`] takes them out (`thin_pass`): all
-//! behind moves up, and one nop stays where a branch would lead to itself. Where nothing changed, no position of an admitted
-//! body is dead. `specs/Dead.antt` says by number what is dead.
+//! behind moves up, and one nop stays where a branch would lead to itself. That nothing dead is left where nothing changed is
+//! meant so, and not proved yet. `specs/Dead.antt` says by number what is dead.
 #![tactic(auto)]
 
 mod clean;

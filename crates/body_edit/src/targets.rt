@@ -1,7 +1,8 @@
 //! Targets, handlers and regions that follow their positions.
 
-ghost use Rattle.std.specs.Prelude.{◌≡◌, map, filter};
-ghost use Rattle.pass_defs.specs.Thinned.{insn_retargeted, handler_moved, region_moved, region_has_room};
+ghost use Rattle.std.specs.Prelude.{◌≡◌, map, filter, nat_lt};
+ghost use Rattle.std.specs.List.{list_all};
+ghost use Rattle.pass_defs.specs.Thinned.{insn_retargeted, handler_moved, region_moved, rest_before, region_has_room};
 ghost use Rattle.body_edit.specs.Places.{place_in};
 
 use crate::places::Places;
@@ -68,16 +69,36 @@ pub(crate) fn move_regions(regions: &mut [Region], places: &Places)
     }
 }
 
-/// Whether a region covers a position.
-fn has_room(region: &Region) -> bool
-    ensures { result ≡ region_has_room region.now }
+/// Whether each handler stands before an end.
+fn are_before(end: usize, handlers: &[Handler]) -> bool
+    ensures { result ≡ list_all (λ handler. nat_lt handler.position end) handlers.now }
 {
-    region.first < region.end
+    handlers
+        .iter()
+        .all(|handler| (handler.position as usize) < end)
 }
 
-/// Drops the regions that cover nothing.
-pub(crate) fn drop_empty(regions: &mut Vec<Region>)
-    ensures { regions.new.items ≡ filter region_has_room regions.old.items }
+/// Whether a catch-all, if there is one, stands before an end.
+fn is_rest_before(end: usize, rest: Option<u32>) -> bool
+    ensures { result ≡ rest_before end rest }
 {
-    regions.retain(|region| has_room(region));
+    match rest {
+        Some(position) => (position as usize) < end,
+        None => true,
+    }
+}
+
+/// Whether a region covers a position, and its handlers stand before an end.
+fn has_room(end: usize, region: &Region) -> bool
+    ensures { result ≡ region_has_room end region.now }
+{
+    region.first < region.end
+        && (are_before(end, region.handlers.as_slice()) && is_rest_before(end, region.rest))
+}
+
+/// Drops the regions that cover nothing or have a handler past the end.
+pub(crate) fn drop_empty(regions: &mut Vec<Region>, end: usize)
+    ensures { regions.new.items ≡ filter (region_has_room end) regions.old.items }
+{
+    regions.retain(|region| has_room(end, region));
 }

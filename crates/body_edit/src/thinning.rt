@@ -52,8 +52,9 @@ fn thin_insns(insns: &mut Vec<Insn>, fates: &[Fate], places: &Places)
 }
 
 /// Takes the positions out of a body that go, makes nops of those that become nops, and moves the others up. Targets, regions
-/// and handlers follow, and a region that covers nothing any more is dropped (Dalvik executable format, "code_item"). The only
-/// error is want of memory, and then the body stays as it was.
+/// and handlers follow. A region is dropped that covers nothing any more, or that has a handler behind which nothing stays:
+/// no position that it covers leads there (Dalvik executable format, "code_item"). The only error is want of memory, and
+/// then the body stays as it was.
 pub fn thin(alloc: Global, body: &mut Body, fates: &[Fate]) -> Result<(), AllocError>
     requires long { length fates.now ≡ length body.old.insns }
     requires small { length fates.now < 2 ^ 32 }
@@ -63,6 +64,6 @@ pub fn thin(alloc: Global, body: &mut Body, fates: &[Fate]) -> Result<(), AllocE
     let places = places_of(alloc, fates)?;
     thin_insns(&mut body.insns.items, fates, &places);
     move_regions(body.regions.items.as_mut_slice(), &places);
-    drop_empty(&mut body.regions.items);
+    drop_empty(&mut body.regions.items, body.insns.len());
     Ok(())
 }

@@ -1,6 +1,7 @@
 -- Origins of a thinned body ascend, and a body thinned by number names the body thinned by name.
 use Rattle.std.proofs.Common.{◌≡◌, ℕ, suc, ◌<◌, Bool, true, false, List, [], ◌∷◌, refl, sym, ap, ◌∙◌, arith}
-use Rattle.std.specs.Prelude.{map, filter}
+use Rattle.std.specs.Prelude.{◌&&◌, length, map, filter, nat_lt}
+use Rattle.std.specs.List.{list_all}
 use mathlib.Core.Bool.{cond}
 use Rattle.insn_set.specs.declared.form.Insn.{Insn}
 use Rattle.insn_set.specs.declared.form.Insn.TheVariants as insn
@@ -11,7 +12,7 @@ use Rattle.program_model.specs.declared.body.Handler.{Handler}
 use Rattle.dalvik_defs.specs.Naming.{type_at, method_at, form_of, handler_of, region_of, body_of}
 use Rattle.dalvik_defs.specs.declared.forms.Form.TheVariants as form
 use Rattle.pass_defs.specs.Remade.{retargeted}
-use Rattle.pass_defs.specs.Thinned.{Fate, Stays, Empties, Goes, place, origins_from, forms_left, moved_handler, moved, has_room, thinned, insn_retargeted, insns_left, handler_moved, region_moved, region_has_room, body_thinned}
+use Rattle.pass_defs.specs.Thinned.{Fate, Stays, Empties, Goes, place, origins_from, forms_left, moved_handler, moved, rest_before, has_room, thinned, insn_retargeted, insns_left, handler_moved, region_moved, region_has_room, body_thinned}
 use Rattle.pass_defs.specs.Origins.{Ascends}
 
 rises : (k : ℕ) (fs : List Fate) (j : ℕ) → j < suc k → Ascends (j ∷ []) → Ascends (origins_from (suc k) fs) → Ascends (j ∷ origins_from (suc k) fs)
@@ -53,16 +54,35 @@ module _ (p : Program) (t : ℕ → ℕ) where
   region_same : (r : Region) → region_of p (region_moved t r) ≡ moved t (region_of p r)
   region_same r = ap (λ hs. record { first = t r.first; end = t r.end; handlers = hs; rest = (region_moved t r).rest }) (handlers_same r.handlers)
 
-  regions_same : (rs : List Region) → map (region_of p) (filter region_has_room (map (region_moved t) rs)) ≡ filter has_room (map (moved t) (map (region_of p) rs))
-  regions_same [] = refl
-  regions_same (r ∷ rs) = by (region_has_room (region_moved t r)) (region_same r) (regions_same rs)
+  before_same : (end : ℕ) (hs : List Handler) → list_all (λ h. nat_lt h.position end) (map (handler_of p) hs) ≡ list_all (λ h. nat_lt h.position end) hs
+  before_same end [] = refl
+  before_same end (h ∷ hs) = ap (λ b. nat_lt h.position end && b) (before_same end hs)
+
+  room_same : (end : ℕ) (r : Region) → has_room end (region_of p r) ≡ region_has_room end r
+  room_same end r = ap (λ b. nat_lt r.first r.end && (b && rest_before end r.rest)) (before_same end r.handlers)
+
+  regions_same : (end : ℕ) (rs : List Region) → map (region_of p) (filter (region_has_room end) (map (region_moved t) rs)) ≡ filter (has_room end) (map (moved t) (map (region_of p) rs))
+  regions_same end [] = refl
+  regions_same end (r ∷ rs) = by (region_has_room end (region_moved t r)) (has_room end (moved t (region_of p r))) (sym (room_same end (region_moved t r)) ∙ ap (has_room end) (region_same r)) (region_same r) (regions_same end rs)
     where
-      by : (b : Bool) → region_of p (region_moved t r) ≡ moved t (region_of p r) → map (region_of p) (filter region_has_room (map (region_moved t) rs)) ≡ filter has_room (map (moved t) (map (region_of p) rs))
-          → map (region_of p) (cond b (region_moved t r ∷ filter region_has_room (map (region_moved t) rs)) (filter region_has_room (map (region_moved t) rs)))
-          ≡ cond b (moved t (region_of p r) ∷ filter has_room (map (moved t) (map (region_of p) rs))) (filter has_room (map (moved t) (map (region_of p) rs)))
-      by true e i = ap (λ x. x ∷ map (region_of p) (filter region_has_room (map (region_moved t) rs))) e ∙ ap (λ l. moved t (region_of p r) ∷ l) i
-      by false e i = i
+      by : (b c : Bool) → b ≡ c → region_of p (region_moved t r) ≡ moved t (region_of p r) → map (region_of p) (filter (region_has_room end) (map (region_moved t) rs)) ≡ filter (has_room end) (map (moved t) (map (region_of p) rs))
+          → map (region_of p) (cond b (region_moved t r ∷ filter (region_has_room end) (map (region_moved t) rs)) (filter (region_has_room end) (map (region_moved t) rs)))
+          ≡ cond c (moved t (region_of p r) ∷ filter (has_room end) (map (moved t) (map (region_of p) rs))) (filter (has_room end) (map (moved t) (map (region_of p) rs)))
+      by true true same e i = ap (λ x. x ∷ map (region_of p) (filter (region_has_room end) (map (region_moved t) rs))) e ∙ ap (λ l. moved t (region_of p r) ∷ l) i
+      by false false same e i = i
+      by true false () e i
+      by false true () e i
+
+  long_same : (xs : List Insn) → length (map (form_of p) xs) ≡ length xs
+  long_same [] = refl
+  long_same (x ∷ xs) = ap suc (long_same xs)
+
+module _ (p : Program) (ms : List Fate) (b : Body) where
+  end_same : length (insns_left (place ms) ms b.insns) ≡ length (forms_left (place ms) ms (map (form_of p) b.insns))
+  end_same = sym (long_same p (place ms) (insns_left (place ms) ms b.insns)) ∙ ap length (forms_same p (place ms) ms b.insns)
 
 pub named_thinned : (p : Program) (ms : List Fate) (b : Body) → body_of p (body_thinned ms b) ≡ thinned ms (body_of p b)
 named_thinned p ms b = ap (λ fs. record { registers = b.registers; ins = b.ins; forms = fs; regions = (body_of p (body_thinned ms b)).regions }) (forms_same p (place ms) ms b.insns)
-    ∙ ap (λ rs. record { registers = b.registers; ins = b.ins; forms = forms_left (place ms) ms (map (form_of p) b.insns); regions = rs }) (regions_same p (place ms) b.regions)
+    ∙ ap (λ rs. record { registers = b.registers; ins = b.ins; forms = forms_left (place ms) ms (map (form_of p) b.insns); regions = rs })
+        (regions_same p (place ms) (length (insns_left (place ms) ms b.insns)) b.regions
+        ∙ ap (λ end. filter (has_room end) (map (moved (place ms)) (map (region_of p) b.regions))) (end_same p ms b))

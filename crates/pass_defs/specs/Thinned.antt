@@ -1,6 +1,7 @@
 -- A body without some of its positions, by name and by number: all others move up, and targets, regions and handlers follow
 -- (this project's profile).
-use Rattle.std.specs.Prelude.{ℕ, zero, suc, Bool, true, false, List, [], ◌∷◌, map, filter, nat_lt}
+use Rattle.std.specs.Prelude.{ℕ, zero, suc, Bool, true, false, ◌&&◌, List, [], ◌∷◌, length, map, filter, nat_lt, Option, Some, None}
+use Rattle.std.specs.List.{list_all}
 use Rattle.std.specs.Option.{option_map}
 use Rattle.insn_set.specs.declared.form.Insn.{Insn}
 use Rattle.insn_set.specs.declared.form.Insn.TheVariants as insn
@@ -59,12 +60,21 @@ moved_handler at h = record h { position = at h.position }
 abbrev pub moved : (ℕ → ℕ) → NamedRegion → NamedRegion
 moved at r = record { first = at r.first; end = at r.end; handlers = map (moved_handler at) r.handlers; rest = option_map at r.rest }
 
-abbrev pub has_room : NamedRegion → Bool
-has_room r = nat_lt r.first r.end
+abbrev pub rest_before : ℕ → Option ℕ → Bool
+rest_before end None = true
+rest_before end (Some n) = nat_lt n end
 
--- a region that covers nothing is left out
+-- a region covers something, and its handlers stand before an end
+abbrev pub has_room : ℕ → NamedRegion → Bool
+has_room end r = nat_lt r.first r.end && (list_all (λ h. nat_lt h.position end) r.handlers && rest_before end r.rest)
+
+-- A region that covers nothing is left out, and so is one with a handler that comes to stand behind the last position: no
+-- position that it covers leads there.
 abbrev pub thinned : List Fate → NamedBody → NamedBody
-thinned fs b = record b { forms = forms_left (place fs) fs b.forms; regions = filter has_room (map (moved (place fs)) b.regions) }
+thinned fs b = record b {
+  forms = forms_left (place fs) fs b.forms;
+  regions = filter (has_room (length (forms_left (place fs) fs b.forms))) (map (moved (place fs)) b.regions);
+}
 
 -- ---- by number
 
@@ -89,8 +99,11 @@ handler_moved at h = record h { position = at h.position }
 abbrev pub region_moved : (ℕ → ℕ) → Region → Region
 region_moved at r = record { first = at r.first; end = at r.end; handlers = map (handler_moved at) r.handlers; rest = option_map at r.rest }
 
-abbrev pub region_has_room : Region → Bool
-region_has_room r = nat_lt r.first r.end
+abbrev pub region_has_room : ℕ → Region → Bool
+region_has_room end r = nat_lt r.first r.end && (list_all (λ h. nat_lt h.position end) r.handlers && rest_before end r.rest)
 
 abbrev pub body_thinned : List Fate → Body → Body
-body_thinned fs b = record b { insns = insns_left (place fs) fs b.insns; regions = filter region_has_room (map (region_moved (place fs)) b.regions) }
+body_thinned fs b = record b {
+  insns = insns_left (place fs) fs b.insns;
+  regions = filter (region_has_room (length (insns_left (place fs) fs b.insns))) (map (region_moved (place fs)) b.regions);
+}

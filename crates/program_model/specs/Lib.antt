@@ -12,4 +12,5 @@ pub mod RegionRules
 pub mod BodyRules
 pub mod Items
 pub mod MemberRules
+pub mod InterfaceRules
 pub mod ProgramRules

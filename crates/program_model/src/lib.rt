@@ -1,7 +1,7 @@
 //! A program as a DEX file spells it: the tables of strings, types, protos, fields and methods, and the classes with
 //! their members, values and bodies, each naming the others by number. Contracts see a program as nested lists, and a
 //! clone equals its source. `well_formed` says whether a file can spell a program, which `specs/ProgramRules.antt`
-//! defines from one module for each part: tables, values, operands, regions, bodies, lines, members and items.
+//! defines from one module for each part: tables, values, operands, regions, bodies, lines, members, interfaces and items.
 #![tactic(auto)]
 
 mod body;
@@ -9,6 +9,7 @@ mod body_rules;
 mod cells;
 mod distinct;
 mod flags;
+mod interface_rules;
 mod items;
 mod limits;
 mod line_rules;

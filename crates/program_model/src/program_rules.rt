@@ -8,6 +8,7 @@ ghost use Rattle.program_model.specs.MemberRules.{class_fits};
 ghost use Rattle.program_model.specs.ProgramRules.{is_well_formed};
 
 use crate::cells::count_cells;
+use crate::interface_rules::interfaces_stand_free;
 use crate::items::count_items;
 use crate::limits::Counted;
 use crate::member_rules::class_fits;
@@ -50,12 +51,16 @@ fn classes_fit(program: &Program) -> bool
 /// their fields' types; annotations ascend and nest 64 deep at most. Frames have room for the arguments; branches and
 /// handlers go to positions where they may; regions lie in order and apart; lines are none or one for each position.
 ///
-/// A table that ascends is gone through once, and so is a body; an entry out of order is compared with each before it.
+/// No interface stands on a class of the program that is none.
+///
+/// A table that ascends is gone through once, and so is a body; an entry out of order is compared with each before it. For
+/// each type that an interface stands on, the classes are gone through.
 /// It takes no memory (Dalvik executable format, and Dalvik bytecode).
 #[tactic(auto, unfolding(crate::specs::ProgramRules::is_well_formed))]
 pub fn well_formed(program: &Program) -> bool
     ensures { result ≡ is_well_formed program.now }
 {
     tables_fit(program)
-        && ((has_few_cells(program) && has_few_items(program)) && classes_fit(program))
+        && ((has_few_cells(program) && (has_few_items(program) && interfaces_stand_free(program)))
+            && classes_fit(program))
 }

@@ -8,8 +8,6 @@ use Rattle.program_model.specs.declared.program.Field.{Field}
 use Rattle.program_model.specs.declared.program.Method.{Method}
 use Rattle.program_model.specs.declared.program.Class.{Class}
 use Rattle.program_model.specs.declared.program.Program.{Program}
-use Rattle.program_model.specs.Cells.{cells_of}
-use Rattle.program_model.specs.Items.{items_of}
 use Rattle.program_model.specs.Neighbours.{neighbours}
 use Rattle.program_model.specs.Texts.{has_type, is_class, letter_of, type_text}
 use Rattle.program_model.specs.ValueRules.{marks_fit}
@@ -17,6 +15,7 @@ use Rattle.program_model.specs.Distinct.{text_key, type_key, proto_key, field_ke
 use Rattle.program_model.specs.TableRules.{type_fits, proto_fits, field_id_fits, method_id_fits, entries_fit, entries_differ, tables_are_short, texts_are_short, tables_fit}
 use Rattle.program_model.specs.MemberRules.{is_class_type, is_object, types_of_class_fit, source_fits, fields_fit, methods_fit, class_fits, field_fits, method_fits, is_class_number, class_of_field, class_of_method, first_value_fits, code_fits, fields_in_order, methods_in_order}
 use Rattle.program_model.specs.ProgramRules.{is_well_formed}
+use Rattle.program_model.proofs.Formed.{formed}
 use Rattle.class_defs.proofs.Positions.{both, number_of}
 
 -- ---- tests
@@ -79,12 +78,9 @@ tables_of p h =
     (and_left (entries_fit p) (entries_differ p) r, and_right (entries_fit p) (entries_differ p) r)
 
 parts_of : (p : Program) → is_well_formed p ≡ true → (tables_fit p ≡ true) × (list_all (class_fits p) p.classes ≡ true)
-unfolding is_well_formed
 parts_of p h =
-    let r = and_right (tables_fit p) ((nat_le (cells_of p) 67108864 && nat_le (items_of p) 16777216) && list_all (class_fits p) p.classes) h in (
-      and_left (tables_fit p) ((nat_le (cells_of p) 67108864 && nat_le (items_of p) 16777216) && list_all (class_fits p) p.classes) h,
-      and_right (nat_le (cells_of p) 67108864 && nat_le (items_of p) 16777216) (list_all (class_fits p) p.classes) r,
-    )
+    let f = formed p h in
+    (f.tables, f.classes)
 
 pub sound : (p : Program) → is_well_formed p ≡ true → Sound p
 sound p h =

@@ -8,14 +8,13 @@ use Rattle.insn_set.specs.declared.ops.InvokeKind.{InvokeKind}
 use Rattle.insn_set.specs.declared.ops.Item.{Item}
 use Rattle.insn_set.specs.Spelling.{are_adjacent, fit_nibbles, is_encodable}
 use Rattle.program_model.specs.BodyRules.{body_fits, ends, follows, insn_fits, is_caught, leaves, targets_fit}
-use Rattle.program_model.specs.Cells.{cells_of}
 use Rattle.program_model.specs.Distinct.{all_differ, own_method_key}
-use Rattle.program_model.specs.Items.{items_of}
 use Rattle.program_model.specs.LineRules.{lines_fit}
 use Rattle.program_model.specs.MemberRules.{class_fits, class_of_method, code_fits, fields_fit, frame_fits, is_class_number, lacks_code, method_fits, methods_fit, methods_in_order, source_fits, types_of_class_fit}
 use Rattle.program_model.specs.Neighbours.{neighbours}
 use Rattle.program_model.specs.OperandRules.{numbers_fit, registers_fit}
 use Rattle.program_model.specs.ProgramRules.{is_well_formed}
+use Rattle.program_model.proofs.Formed.{formed}
 use Rattle.program_model.specs.TableRules.{entries_differ, entries_fit, tables_are_short, tables_fit, texts_are_short}
 use Rattle.std.proofs.lemmas.List.Sums.{sum_by-cons}
 use Rattle.dalvik_defs.specs.Names.{Text}
@@ -218,10 +217,9 @@ text_low (y ∷ ys) (suc i) x e =
     omega (arith, low, all)
 
 texts_short : (p : Program) → is_well_formed p ≡ true → sum_by length p.strings ≤ 16777216
-unfolding is_well_formed tables_fit texts_are_short
+unfolding tables_fit texts_are_short
 texts_short p h =
-    let tables = and_left (tables_fit p) ((nat_le (cells_of p) 67108864 && nat_le (items_of p) 16777216) && list_all (class_fits p) p.classes) h in
-    let short = and_left (tables_are_short p && texts_are_short p) (entries_fit p && entries_differ p) tables in
+    let short = and_left (tables_are_short p && texts_are_short p) (entries_fit p && entries_differ p) (formed p h).tables in
     at_most (sum_by length p.strings) 16777216 (and_right (tables_are_short p) (texts_are_short p) short)
 
 text_short : (p : Program) → is_well_formed p ≡ true → (n : ℕ) → length (text_at p n) ≤ 16777216

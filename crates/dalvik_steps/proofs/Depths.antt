@@ -1,14 +1,12 @@
 -- Types of a well-formed program have few brackets, and are never empty.
 use Rattle.std.proofs.Common.{◌≡◌, ℕ, zero, suc, ◌+◌, ◌<◌, ◌≤◌, ◌^◌, Bool, true, false, true≢false, List, [], ◌∷◌, ◌++◌, length, replicate, arith, ap, refl, sym, ◌∙◌, leb-true, length-append}
-use Rattle.std.specs.Prelude.{◌&&◌, fold, nat_le, slice_get, is_ok, Option, Some, None}
-use Rattle.std.specs.List.{list_all, sum_by}
+use Rattle.std.specs.Prelude.{◌&&◌, fold, slice_get, is_ok, Option, Some, None}
+use Rattle.std.specs.List.{sum_by}
 use Rattle.std.proofs.lemmas.List.{length-replicate}
 use Rattle.class_defs.proofs.WellFormed.{Sound, all_at, and_left, and_right, sound}
 use Rattle.dex_base.specs.Descriptor.{descriptor_of}
-use Rattle.program_model.specs.Cells.{cells_of}
-use Rattle.program_model.specs.Items.{items_of}
-use Rattle.program_model.specs.MemberRules.{class_fits}
 use Rattle.program_model.specs.ProgramRules.{is_well_formed}
+use Rattle.program_model.proofs.Formed.{formed}
 use Rattle.program_model.specs.TableRules.{entries_differ, entries_fit, tables_are_short, tables_fit, texts_are_short, type_fits}
 use Rattle.program_model.specs.Texts.{has_string, string_text}
 use Rattle.program_model.specs.declared.program.Program.{Program}
@@ -37,9 +35,8 @@ one_of acc (y ∷ ys) zero x e =
 one_of acc (y ∷ ys) (suc i) x e = one_of (acc + length y) ys i x e
 
 short_texts : (p : Program) → is_well_formed p ≡ true → sum_by length p.strings ≤ 16777216
-unfolding is_well_formed tables_fit texts_are_short
-short_texts p h = leb-true (sum_by length p.strings) 16777216 (and_right (tables_are_short p) (texts_are_short p) (and_left (tables_are_short p && texts_are_short p) (entries_fit p && entries_differ p)
-    (and_left ((tables_are_short p && texts_are_short p) && (entries_fit p && entries_differ p)) ((nat_le (cells_of p) 67108864 && nat_le (items_of p) 16777216) && list_all (class_fits p) p.classes) h)))
+unfolding tables_fit texts_are_short
+short_texts p h = leb-true (sum_by length p.strings) 16777216 (and_right (tables_are_short p) (texts_are_short p) (and_left (tables_are_short p && texts_are_short p) (entries_fit p && entries_differ p) (formed p h).tables))
 
 type_there : (p : Program) → Sound p → (n : ℕ) → n < length p.types → (i : ℕ) × ((t : Text) × ((slice_get p.strings i ≡ Some t) × (type_at p n ≡ t)))
 type_there p s n low =

@@ -1,5 +1,5 @@
 -- A program with other code that keeps the rules of bodies is well-formed where the program is.
-use Rattle.std.proofs.Common.{◌≡◌, ℕ, ◌+◌, ◌≤◌, true, List, [], length, refl, sym, ◌∙◌, subst, arith}
+use Rattle.std.proofs.Common.{◌≡◌, ℕ, ◌+◌, ◌≤◌, true, List, [], ◌∷◌, length, refl, sym, ◌∙◌, subst, arith}
 use Rattle.std.specs.Prelude.{◌&&◌, not, nat_le, Some, slice_get}
 use Rattle.std.specs.List.{list_all}
 use Rattle.std.proofs.lemmas.Bool.{leb-true, le-leb}
@@ -8,11 +8,11 @@ use Rattle.program_model.specs.Distinct.{own_method_key, all_differ}
 use Rattle.program_model.specs.BodyRules.{body_fits}
 use Rattle.program_model.specs.LineRules.{lines_fit}
 use Rattle.program_model.specs.ValueRules.{marks_fit}
-use Rattle.program_model.specs.TableRules.{tables_fit}
 use Rattle.program_model.specs.MemberRules.{is_class_number, class_of_method, lacks_code, is_direct, frame_fits, code_fits, method_fits, methods_in_order, methods_fit, fields_fit, types_of_class_fit, source_fits, class_fits}
 use Rattle.program_model.specs.Cells.{method_cells, class_cells, cells_of}
 use Rattle.program_model.specs.Items.{method_items, class_items, items_of}
 use Rattle.program_model.specs.ProgramRules.{is_well_formed}
+use Rattle.program_model.proofs.Formed.{formed, well_formed, SameHead, Drawn, Ended, Kept, stand_kept}
 use Rattle.program_model.specs.declared.body.Body.{Body}
 use Rattle.program_model.specs.declared.program.Method.{Method}
 use Rattle.program_model.specs.declared.program.Class.{Class}
@@ -128,20 +128,26 @@ module _ (p : Program) where
   unfolding items_of
   items_with cs r = more _ _ _ (sum_pairs (RecodedClass p) class_items class_items_fall p.classes cs r)
 
+  same_head : (c d : Class) → RecodedClass p c d → SameHead c d
+  same_head c d h = subst (SameHead c) (sym h.same) (record { name = refl; flags = refl; superclass = refl; interfaces = refl })
+
+  drawn_pairs : (cs ds : List Class) → Pairwise (RecodedClass p) cs ds → Drawn cs ds
+  drawn_pairs [] [] r = Ended
+  drawn_pairs [] (d ∷ ds) r = absurd r
+  drawn_pairs (c ∷ cs) [] r = absurd r
+  drawn_pairs (c ∷ cs) (d ∷ ds) r = Kept c d cs ds (same_head c d r.0) (drawn_pairs cs ds r.1)
+
   formed_with : (cs : List Class) → Pairwise (RecodedClass p) p.classes cs → is_well_formed p ≡ true → is_well_formed (record p { classes = cs }) ≡ true
-  unfolding is_well_formed
   formed_with cs r e =
       let q : Program = record p { classes = cs } in
-      let rest = and_right (tables_fit p) ((nat_le (cells_of p) 67108864 && nat_le (items_of p) 16777216) && list_all (class_fits p) p.classes) e in
-      let counts = and_left (nat_le (cells_of p) 67108864 && nat_le (items_of p) 16777216) (list_all (class_fits p) p.classes) rest in
-      and_both (tables_fit q) ((nat_le (cells_of q) 67108864 && nat_le (items_of q) 16777216) && list_all (class_fits q) cs)
-      (tables_kept p cs (no_more (length cs) (length p.classes) (length_pairs (RecodedClass p) p.classes cs r)) (and_left (tables_fit p) ((nat_le (cells_of p) 67108864 && nat_le (items_of p) 16777216) && list_all (class_fits p) p.classes) e))
-      (and_both (nat_le (cells_of q) 67108864 && nat_le (items_of q) 16777216) (list_all (class_fits q) cs)
-      (and_both (nat_le (cells_of q) 67108864) (nat_le (items_of q) 16777216)
-      (at_most (cells_of q) (cells_of p) 67108864 (sum_pairs (RecodedClass p) class_cells class_cells_fall p.classes cs r) (and_left (nat_le (cells_of p) 67108864) (nat_le (items_of p) 16777216) counts))
-      (at_most (items_of q) (items_of p) 16777216 (items_with cs r) (and_right (nat_le (cells_of p) 67108864) (nat_le (items_of p) 16777216) counts)))
-      (all_pairs (RecodedClass p) (class_fits p) (class_fits q) (λ c d h k. class_same p cs d ∙ class_kept c d h k) p.classes cs r
-      (and_right (nat_le (cells_of p) 67108864 && nat_le (items_of p) 16777216) (list_all (class_fits p) p.classes) rest)))
+      let f = formed p e in
+      well_formed q (record {
+        tables = tables_kept p cs (no_more (length cs) (length p.classes) (length_pairs (RecodedClass p) p.classes cs r)) f.tables;
+        cells = at_most (cells_of q) (cells_of p) 67108864 (sum_pairs (RecodedClass p) class_cells class_cells_fall p.classes cs r) f.cells;
+        items = at_most (items_of q) (items_of p) 16777216 (items_with cs r) f.items;
+        stands = stand_kept p q (drawn_pairs p.classes cs r) f.stands;
+        classes = all_pairs (RecodedClass p) (class_fits p) (class_fits q) (λ c d h k. class_same p cs d ∙ class_kept c d h k) p.classes cs r f.classes;
+      })
 
   pub recoded_formed : (q : Program) → RecodedProgram p q → is_well_formed p ≡ true → is_well_formed q ≡ true
   recoded_formed q h e = subst (λ x. is_well_formed x ≡ true) (sym h.same) (formed_with q.classes h.classes e)

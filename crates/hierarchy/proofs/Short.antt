@@ -15,9 +15,8 @@ use Rattle.program_model.specs.TableRules.{tables_are_short, texts_are_short, en
 use Rattle.program_model.specs.MemberRules.{class_fits, types_of_class_fit, source_fits, fields_fit, methods_fit, field_fits, method_fits, fields_in_order, methods_in_order}
 use Rattle.program_model.specs.ValueRules.{marks_fit}
 use Rattle.program_model.specs.Neighbours.{neighbours}
-use Rattle.program_model.specs.Cells.{cells_of}
-use Rattle.program_model.specs.Items.{items_of}
 use Rattle.program_model.specs.ProgramRules.{is_well_formed}
+use Rattle.program_model.proofs.Formed.{formed}
 use Rattle.std.specs.List.{list_all}
 use Rattle.class_defs.proofs.Positions.{number_of}
 use Rattle.class_defs.proofs.WellFormed.{and_left, and_right, all_at, sound, class_parts, few_classes, Sound, ClassFits}
@@ -95,9 +94,8 @@ short_tables p h =
     (omega (arith, f), omega (arith, m))
 
 short_of : (p : Program) → is_well_formed p ≡ true → tables_are_short p ≡ true
-unfolding is_well_formed tables_fit
-short_of p h = and_left (tables_are_short p) (texts_are_short p) (and_left (tables_are_short p && texts_are_short p) (entries_fit p && entries_differ p)
-    (and_left ((tables_are_short p && texts_are_short p) && (entries_fit p && entries_differ p)) ((nat_le (cells_of p) 67108864 && nat_le (items_of p) 16777216) && list_all (class_fits p) p.classes) h))
+unfolding tables_fit
+short_of p h = and_left (tables_are_short p) (texts_are_short p) (and_left (tables_are_short p && texts_are_short p) (entries_fit p && entries_differ p) (formed p h).tables)
 
 pub few_names : (p : Program) → is_well_formed p ≡ true → (length p.fields < 2 ^ 32 - 1) × (length p.methods < 2 ^ 32 - 1)
 few_names p h = short_tables p (short_of p h)

@@ -26,11 +26,11 @@ use Rattle.program_model.specs.OperandRules.{registers_fit, numbers_fit}
 use Rattle.program_model.specs.RegionRules.{may_begin, handler_fits, rest_fits, catches, region_fits, are_apart, regions_fit}
 use Rattle.program_model.specs.BodyRules.{ends, may_follow, follows, may_enter, targets_fit, leaves, is_caught, insn_fits, body_fits}
 use Rattle.program_model.specs.LineRules.{lines_fit}
-use Rattle.program_model.specs.TableRules.{tables_fit}
 use Rattle.program_model.specs.ValueRules.{marks_fit}
 use Rattle.program_model.specs.Texts.{has_type}
 use Rattle.program_model.specs.MemberRules.{is_class_number, class_of_method, lacks_code, is_direct, frame_fits, code_fits, method_fits, methods_in_order, methods_fit, fields_fit, types_of_class_fit, source_fits, class_fits}
 use Rattle.program_model.specs.ProgramRules.{is_well_formed}
+use Rattle.program_model.proofs.Formed.{formed, well_formed, drawn_all, stand_kept}
 use Rattle.reach.proofs.Tables.{tables_kept, class_same}
 use Rattle.pipeline.specs.Silence.{calls, takes_result, begins_with_result, silenced_insn, silenced_insns, silenced_body, silenced_method, silenced_class, silenced}
 
@@ -288,15 +288,16 @@ module _ (s : ℕ → Bool) where
     at_most a b n le h = le-leb a n (omega (arith, le, leb-true b n h))
 
     pub silenced_formed : (p : Program) → is_well_formed p ≡ true → is_well_formed (silenced s admitted p) ≡ true
-    unfolding is_well_formed
     silenced_formed p h =
-        let all = and_parts (tables_fit p) ((nat_le (cells_of p) 67108864 && nat_le (items_of p) 16777216) && list_all (class_fits p) p.classes) h in
-        let more = and_parts (nat_le (cells_of p) 67108864 && nat_le (items_of p) 16777216) (list_all (class_fits p) p.classes) all.1 in
-        let counts = and_parts (nat_le (cells_of p) 67108864) (nat_le (items_of p) 16777216) more.0 in
+        let f = formed p h in
         let new = map (silenced_class s admitted) p.classes in
-        and_from _ _ (tables_kept p new (omega (arith, length-map p.classes (silenced_class s admitted))) all.0)
-        (and_from _ _ (and_from _ _ (at_most (cells_of (silenced s admitted p)) (cells_of p) 67108864 (sum_map (silenced_class s admitted) class_cells class_cells_fall p.classes) counts.0) (at_most (items_of (silenced s admitted p)) (items_of p) 16777216 (all_items_fall p) counts.1))
-        (all_map (silenced_class s admitted) (class_fits p) (class_fits (record p { classes = new })) (λ c k. class_same p new (silenced_class s admitted c) ∙ class_kept p c k) p.classes more.1))
+        well_formed (silenced s admitted p) (record {
+          tables = tables_kept p new (omega (arith, length-map p.classes (silenced_class s admitted))) f.tables;
+          cells = at_most (cells_of (silenced s admitted p)) (cells_of p) 67108864 (sum_map (silenced_class s admitted) class_cells class_cells_fall p.classes) f.cells;
+          items = at_most (items_of (silenced s admitted p)) (items_of p) 16777216 (all_items_fall p) f.items;
+          stands = stand_kept p (silenced s admitted p) (drawn_all (silenced_class s admitted) (λ c. record { name = refl; flags = refl; superclass = refl; interfaces = refl }) p.classes) f.stands;
+          classes = all_map (silenced_class s admitted) (class_fits p) (class_fits (record p { classes = new })) (λ c k. class_same p new (silenced_class s admitted c) ∙ class_kept p c k) p.classes f.classes;
+        })
 
     pub still_formed : (p q : Program) → q ≡ silenced s admitted p → is_well_formed p ≡ true → is_well_formed q ≡ true
     still_formed p q e h = ap is_well_formed e ∙ silenced_formed p h

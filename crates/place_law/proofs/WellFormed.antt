@@ -1,6 +1,6 @@
 -- The bodies of a well-formed program keep to their registers and to fields of values.
 use Rattle.std.proofs.Common.{◌≡◌, ℕ, zero, suc, ◌+◌, ◌-◌, ◌<◌, Bool, true, false, true≢false, List, [], ◌∷◌, length, Option, Some, None, refl, sym, ap, ◌∙◌, subst, ltb-true, arith}
-use Rattle.std.specs.Prelude.{◌&&◌, not, nat_le, map, Contains, slice_get, slice_index_or}
+use Rattle.std.specs.Prelude.{◌&&◌, not, map, Contains, slice_get, slice_index_or}
 use Rattle.std.specs.List.{list_all, enumerate_from}
 use Rattle.std.specs.Option.{option_map}
 use Rattle.insn_set.specs.Registers.{reads_of, writes_of}
@@ -17,9 +17,8 @@ use Rattle.program_model.specs.ValueRules.{marks_fit}
 use Rattle.program_model.specs.TableRules.{type_fits, proto_fits, field_id_fits, method_id_fits, entries_fit, entries_differ, tables_are_short, texts_are_short, tables_fit}
 use Rattle.program_model.specs.Distinct.{own_method_key, all_differ}
 use Rattle.program_model.specs.MemberRules.{fields_fit, class_of_method, is_class_number, lacks_code, frame_fits, code_fits, method_fits, methods_in_order, methods_fit, types_of_class_fit, source_fits, class_fits}
-use Rattle.program_model.specs.Cells.{cells_of}
-use Rattle.program_model.specs.Items.{items_of}
 use Rattle.program_model.specs.ProgramRules.{is_well_formed}
+use Rattle.program_model.proofs.Formed.{formed}
 use Rattle.program_model.specs.declared.body.Body.{Body}
 use Rattle.program_model.specs.declared.program.Method.{Method}
 use Rattle.program_model.specs.declared.program.Class.{Class}
@@ -155,13 +154,10 @@ module _ (p : Program) where
   -- ---- a program
 
   program_classes : is_well_formed p ≡ true → list_all (class_fits p) p.classes ≡ true
-  unfolding is_well_formed
-  program_classes h = and_right (nat_le (cells_of p) 67108864 && nat_le (items_of p) 16777216) (list_all (class_fits p) p.classes)
-      (and_right (tables_fit p) ((nat_le (cells_of p) 67108864 && nat_le (items_of p) 16777216) && list_all (class_fits p) p.classes) h)
+  program_classes h = (formed p h).classes
 
   program_tables : is_well_formed p ≡ true → tables_fit p ≡ true
-  unfolding is_well_formed
-  program_tables h = and_left (tables_fit p) ((nat_le (cells_of p) 67108864 && nat_le (items_of p) 16777216) && list_all (class_fits p) p.classes) h
+  program_tables h = (formed p h).tables
 
   class_methods : (c : Class) → class_fits p c ≡ true → list_all (method_fits p c.name) c.methods ≡ true
   unfolding class_fits methods_fit

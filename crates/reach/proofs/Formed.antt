@@ -14,10 +14,10 @@ use Rattle.program_model.specs.Neighbours.{neighbours}
 use Rattle.program_model.specs.Distinct.{own_field_key, own_method_key, all_differ}
 use Rattle.program_model.specs.Cells.{method_cells, class_cells, cells_of}
 use Rattle.program_model.specs.Items.{field_items, method_items, class_items, items_of}
-use Rattle.program_model.specs.TableRules.{tables_fit}
 use Rattle.program_model.specs.ValueRules.{marks_fit}
 use Rattle.program_model.specs.MemberRules.{in_groups, is_static, is_direct, field_fits, fields_in_order, fields_fit, method_fits, methods_in_order, methods_fit, types_of_class_fit, source_fits, class_fits}
 use Rattle.program_model.specs.ProgramRules.{is_well_formed}
+use Rattle.program_model.proofs.Formed.{formed, well_formed, drawn_left, stand_kept}
 use Rattle.reach.specs.Kept.{is_marked, kept_in, kept_of, live_classes}
 use Rattle.reach.proofs.Sizes.{filter_shorter}
 use Rattle.reach.proofs.Sublists.{all_left, sum_left, order_left, differ_left, firsts_left}
@@ -107,14 +107,16 @@ module _ (s : LiveSet) where
   -- ---- the program
 
   pub kept_formed : (p : Program) → is_well_formed p ≡ true → is_well_formed (kept_of s p) ≡ true
-  unfolding is_well_formed
   kept_formed p h =
-      let all = and_parts (tables_fit p) ((nat_le (cells_of p) 67108864 && nat_le (items_of p) 16777216) && list_all (class_fits p) p.classes) h in
-      let more = and_parts (nat_le (cells_of p) 67108864 && nat_le (items_of p) 16777216) (list_all (class_fits p) p.classes) all.1 in
-      let counts = and_parts (nat_le (cells_of p) 67108864) (nat_le (items_of p) 16777216) more.0 in
-      and_from _ _ (tables_kept p (map (kept_in s) (live_classes s p.classes)) (classes_fall p.classes) all.0)
-      (and_from _ _ (and_from _ _ (at_most (cells_of (kept_of s p)) (cells_of p) 67108864 (sum_falls class_cells class_cells_fall p.classes) counts.0) (at_most (items_of (kept_of s p)) (items_of p) 16777216 (items_fall p) counts.1))
-      (classes_left p (map (kept_in s) (live_classes s p.classes)) (live_classes s p.classes) (all_left (λ c. is_marked s.classes.items c.name) (class_fits p) p.classes more.1)))
+      let f = formed p h in
+      let left = live_classes s p.classes in
+      well_formed (kept_of s p) (record {
+        tables = tables_kept p (map (kept_in s) left) (classes_fall p.classes) f.tables;
+        cells = at_most (cells_of (kept_of s p)) (cells_of p) 67108864 (sum_falls class_cells class_cells_fall p.classes) f.cells;
+        items = at_most (items_of (kept_of s p)) (items_of p) 16777216 (items_fall p) f.items;
+        stands = stand_kept p (kept_of s p) (drawn_left (λ c. is_marked s.classes.items c.name) (kept_in s) (λ c. record { name = refl; flags = refl; superclass = refl; interfaces = refl }) p.classes) f.stands;
+        classes = classes_left p (map (kept_in s) left) left (all_left (λ c. is_marked s.classes.items c.name) (class_fits p) p.classes f.classes);
+      })
 
   pub left_is_formed : (p q : Program) → q ≡ kept_of s p → is_well_formed p ≡ true → is_well_formed q ≡ true
   left_is_formed p q e h = subst (λ x. is_well_formed x ≡ true) (sym e) (kept_formed p h)

@@ -1,18 +1,15 @@
 -- The program class that a type is or is an array of, by number and by name.
 use Rattle.std.proofs.Common.{◌≡◌, ℕ, ◌<◌, ◌≤◌, ◌⊎◌, inl, inr, Bool, true, false, nat_eq, List, [], ◌∷◌, length, Option, Some, None, refl, sym, ap, ◌∙◌, subst, arith, leb-true}
 use Rattle.std.specs.Prelude.{◌&&◌, ◌^◌, cond, slice_get, nat_lt, nat_le}
-use Rattle.std.specs.List.{list_all}
 use Rattle.std.specs.Option.{option_map}
 use Rattle.std.proofs.lemmas.Option.{slice_get-map}
 use Rattle.program_model.specs.declared.program.Class.{Class}
 use Rattle.program_model.specs.declared.program.Program.{Program}
 use Rattle.program_model.specs.declared.pass.Outside.{Outside}
-use Rattle.program_model.specs.Cells.{cells_of}
-use Rattle.program_model.specs.Items.{items_of}
 use Rattle.program_model.specs.Texts.{string_text, type_text}
 use Rattle.program_model.specs.TableRules.{entries_fit, entries_differ, tables_are_short, texts_are_short, tables_fit}
-use Rattle.program_model.specs.MemberRules.{class_fits}
 use Rattle.program_model.specs.ProgramRules.{is_well_formed}
+use Rattle.program_model.proofs.Formed.{formed}
 use Rattle.class_defs.proofs.WellFormed.{and_left, and_right, Sound, sound, class_parts}
 use Rattle.call_graph.specs.Bases.{same_text, without_brackets, last_named, or_none, base_of_text, bases_of}
 use Rattle.call_graph.specs.declared.facts.Fact.{Fact}
@@ -45,9 +42,8 @@ short_types p h =
     leb-true (length p.types) 65535 (and_left (nat_le (length p.types) 65535) (nat_le (length p.protos) 65535) r)
 
 short_of : (p : Program) → is_well_formed p ≡ true → tables_are_short p ≡ true
-unfolding is_well_formed tables_fit
-short_of p h = and_left (tables_are_short p) (texts_are_short p) (and_left (tables_are_short p && texts_are_short p) (entries_fit p && entries_differ p)
-    (and_left ((tables_are_short p && texts_are_short p) && (entries_fit p && entries_differ p)) ((nat_le (cells_of p) 67108864 && nat_le (items_of p) 16777216) && list_all (class_fits p) p.classes) h))
+unfolding tables_fit
+short_of p h = and_left (tables_are_short p) (texts_are_short p) (and_left (tables_are_short p && texts_are_short p) (entries_fit p && entries_differ p) (formed p h).tables)
 
 pub few_types : (p : Program) → is_well_formed p ≡ true → length p.types ≤ 65535
 few_types p h = short_types p (short_of p h)

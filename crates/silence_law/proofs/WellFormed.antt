@@ -14,12 +14,10 @@ use Rattle.program_model.specs.RegionRules.{may_begin, handler_fits, rest_fits, 
 use Rattle.program_model.specs.BodyRules.{ends, has_result, may_follow, follows, may_enter, targets_fit, leaves, is_caught, insn_fits, body_fits}
 use Rattle.program_model.specs.LineRules.{lines_fit}
 use Rattle.program_model.specs.ValueRules.{marks_fit}
-use Rattle.program_model.specs.TableRules.{tables_fit}
 use Rattle.program_model.specs.Distinct.{own_method_key, all_differ}
 use Rattle.program_model.specs.MemberRules.{fields_fit, class_of_method, is_class_number, lacks_code, frame_fits, code_fits, method_fits, methods_in_order, methods_fit, types_of_class_fit, source_fits, class_fits}
-use Rattle.program_model.specs.Cells.{cells_of}
-use Rattle.program_model.specs.Items.{items_of}
 use Rattle.program_model.specs.ProgramRules.{is_well_formed}
+use Rattle.program_model.proofs.Formed.{formed}
 use Rattle.program_model.specs.declared.body.Handler.{Handler}
 use Rattle.program_model.specs.declared.body.Region.{Region}
 use Rattle.program_model.specs.declared.body.Body.{Body}
@@ -202,9 +200,7 @@ module _ (p : Program) where
   -- ---- a program
 
   program_classes : is_well_formed p ≡ true → list_all (class_fits p) p.classes ≡ true
-  unfolding is_well_formed
-  program_classes h = and_right (nat_le (cells_of p) 67108864 && nat_le (items_of p) 16777216) (list_all (class_fits p) p.classes)
-      (and_right (tables_fit p) ((nat_le (cells_of p) 67108864 && nat_le (items_of p) 16777216) && list_all (class_fits p) p.classes) h)
+  program_classes h = (formed p h).classes
 
   class_methods : (c : Class) → class_fits p c ≡ true → list_all (method_fits p c.name) c.methods ≡ true
   unfolding class_fits methods_fit

@@ -1,6 +1,6 @@
 -- A program whose code is thinned by tidy fates is well-formed where the program is.
 use Rattle.std.proofs.Common.{◌≡◌, ℕ, suc, ◌+◌, ◌*◌, ◌≤◌, Bool, true, false, List, [], ◌∷◌, length, refl, ap, ◌∙◌, subst, arith}
-use Rattle.std.specs.Prelude.{◌&&◌, not, nat_le, Option, Some, None, map, filter, sum_by, slice_get}
+use Rattle.std.specs.Prelude.{◌&&◌, not, Option, Some, None, map, filter, sum_by, slice_get}
 use Rattle.std.specs.List.{list_all}
 use Rattle.std.specs.Option.{option_map}
 use Rattle.std.proofs.Math.Nat.{mul-le-mul_left}
@@ -13,11 +13,11 @@ use Rattle.program_model.specs.Distinct.{own_method_key, all_differ}
 use Rattle.program_model.specs.BodyRules.{body_fits}
 use Rattle.program_model.specs.LineRules.{lines_fit}
 use Rattle.program_model.specs.ValueRules.{marks_fit}
-use Rattle.program_model.specs.TableRules.{tables_fit}
 use Rattle.program_model.specs.MemberRules.{is_class_number, class_of_method, lacks_code, frame_fits, code_fits, method_fits, methods_in_order, methods_fit, fields_fit, types_of_class_fit, source_fits, class_fits}
-use Rattle.program_model.specs.Cells.{entries_of, body_cells, cells_of}
-use Rattle.program_model.specs.Items.{rest_items, region_items, items_of}
+use Rattle.program_model.specs.Cells.{entries_of, body_cells}
+use Rattle.program_model.specs.Items.{rest_items, region_items}
 use Rattle.program_model.specs.ProgramRules.{is_well_formed}
+use Rattle.program_model.proofs.Formed.{formed}
 use Rattle.program_model.specs.declared.body.Body.{Body}
 use Rattle.program_model.specs.declared.body.Region.{Region}
 use Rattle.program_model.specs.declared.program.Method.{Method}
@@ -152,9 +152,7 @@ module _ (p : Program) where
   class_recoded c d h t = record { same = t.same; methods = pairs_given TidiedMethod (RecodedMethod p) (method_fits p c.name) (method_recoded c.name) c.methods d.methods (class_methods c h) t.methods }
 
   all_classes : is_well_formed p ≡ true → list_all (class_fits p) p.classes ≡ true
-  unfolding is_well_formed
-  all_classes h = and_right (nat_le (cells_of p) 67108864 && nat_le (items_of p) 16777216) (list_all (class_fits p) p.classes)
-      (and_right (tables_fit p) ((nat_le (cells_of p) 67108864 && nat_le (items_of p) 16777216) && list_all (class_fits p) p.classes) h)
+  all_classes h = (formed p h).classes
 
   pub tidied_recoded : (q : Program) → is_well_formed p ≡ true → TidiedProgram p q → RecodedProgram p q
   tidied_recoded q h t = record { same = t.same; classes = pairs_given TidiedClass (RecodedClass p) (class_fits p) class_recoded p.classes q.classes (all_classes h) t.classes }

@@ -1,7 +1,7 @@
 -- What the code of a well-formed program keeps to.
 use Rattle.std.proofs.Common.{◌≡◌, ℕ, zero, suc, ◌+◌, ◌-◌, ◌*◌, ◌<◌, ◌≤◌, true, true≢false, List, [], ◌∷◌, length, Option, Some, None, inl, inr, refl, sym, ap, ◌∙◌, subst, arith, leb-true}
 use Rattle.std.proofs.lemmas.List.Sums.{sum_by-cons}
-use Rattle.std.specs.Prelude.{◌&&◌, not, slice_get, nat_le, sum_by}
+use Rattle.std.specs.Prelude.{◌&&◌, not, slice_get, sum_by}
 use Rattle.std.specs.List.{list_all, enumerate_from}
 use Rattle.std.proofs.lemmas.Bool.{cases_lt}
 use Rattle.class_defs.proofs.WellFormed.{and_left, and_right, all_at, Sound}
@@ -10,14 +10,13 @@ use Rattle.insn_set.specs.Spelling.{is_encodable}
 use Rattle.insn_set.specs.declared.form.Insn.{Insn}
 use Rattle.program_model.specs.BodyRules.{ends, may_enter, targets_fit, leaves, is_caught, follows, insn_fits, body_fits}
 use Rattle.program_model.specs.Cells.{body_cells, method_cells, class_cells, cells_of}
-use Rattle.program_model.specs.Items.{items_of}
 use Rattle.program_model.specs.LineRules.{lines_fit}
 use Rattle.program_model.specs.MemberRules.{class_fits, types_of_class_fit, fields_fit, methods_fit, method_fits, code_fits, frame_fits, lacks_code, is_class_number, class_of_method}
 use Rattle.program_model.specs.Neighbours.{neighbours}
 use Rattle.program_model.specs.OperandRules.{registers_fit, numbers_fit}
 use Rattle.program_model.specs.ProgramRules.{is_well_formed}
+use Rattle.program_model.proofs.Formed.{formed}
 use Rattle.program_model.specs.RegionRules.{may_begin, region_fits, are_apart, regions_fit}
-use Rattle.program_model.specs.TableRules.{tables_fit}
 use Rattle.program_model.specs.declared.body.Body.{Body}
 use Rattle.program_model.specs.declared.body.Region.{Region}
 use Rattle.program_model.specs.declared.program.Class.{Class}
@@ -93,11 +92,7 @@ method_of p c k m h e =
     all_at (method_fits p c.name) c.methods k m (and_left (list_all (method_fits p c.name) c.methods) _ (and_right (fields_fit p c.name c.fields) (list_all (method_fits p c.name) c.methods && _) two)) e
 
 cells_limit : (p : Program) → is_well_formed p ≡ true → cells_of p ≤ 67108864
-unfolding is_well_formed
-cells_limit p h =
-    let r = and_right (tables_fit p) ((nat_le (cells_of p) 67108864 && nat_le (items_of p) 16777216) && list_all (class_fits p) p.classes) h in
-    let l = and_left (nat_le (cells_of p) 67108864 && nat_le (items_of p) 16777216) (list_all (class_fits p) p.classes) r in
-    leb-true (cells_of p) 67108864 (and_left (nat_le (cells_of p) 67108864) (nat_le (items_of p) 16777216) l)
+cells_limit p h = leb-true (cells_of p) 67108864 (formed p h).cells
 
 sum_at : {X : Type 0} (f : X → ℕ) (xs : List X) (k : ℕ) (x : X) → slice_get xs k ≡ Some x → f x ≤ sum_by f xs
 sum_at f [] k x e = absurd (cc)

@@ -7,10 +7,9 @@ use Rattle.std.proofs.Math.Nat.{min-eq_left}
 use Rattle.std.proofs.lemmas.List.Sums.{sum_by-cons}
 use Rattle.class_defs.proofs.Positions.{number_test, number_of, find_place, place_entry, PlaceFits, place_first, FirstPlace}
 use Rattle.class_defs.proofs.WellFormed.{and_left, and_right, all_at, few_classes}
-use Rattle.program_model.specs.Cells.{cells_of}
-use Rattle.program_model.specs.Items.{items_of}
 use Rattle.program_model.specs.MemberRules.{class_fits, types_of_class_fit, is_class_type, is_object, source_fits, fields_fit, methods_fit}
 use Rattle.program_model.specs.ProgramRules.{is_well_formed}
+use Rattle.program_model.proofs.Formed.{formed}
 use Rattle.program_model.specs.TableRules.{tables_fit, tables_are_short, texts_are_short, entries_fit, entries_differ}
 use Rattle.program_model.specs.Texts.{has_type, is_class, letter_of, first_unit, string_text, type_text}
 use Rattle.program_model.specs.ValueRules.{marks_fit}
@@ -137,8 +136,7 @@ got_short (y ∷ ys) zero x e = omega arith
 got_short (y ∷ ys) (suc i) x e = let h = got_short ys i x e in omega (arith, h)
 
 tables_of : (p : Program) → is_well_formed p ≡ true → tables_fit p ≡ true
-unfolding is_well_formed
-tables_of p h = and_left (tables_fit p) ((nat_le (cells_of p) 67108864 && nat_le (items_of p) 16777216) && list_all (class_fits p) p.classes) h
+tables_of p h = (formed p h).tables
 
 lengths_of : (p : Program) → tables_fit p ≡ true → (tables_are_short p && texts_are_short p) ≡ true
 unfolding tables_fit

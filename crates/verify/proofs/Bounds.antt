@@ -16,6 +16,7 @@ use Rattle.program_model.specs.LineRules.{lines_fit}
 use Rattle.program_model.specs.MemberRules.{class_fits, types_of_class_fit, fields_fit, methods_fit, method_fits, code_fits, frame_fits, lacks_code, is_class_number, class_of_method}
 use Rattle.program_model.specs.Neighbours.{neighbours}
 use Rattle.program_model.specs.ProgramRules.{is_well_formed}
+use Rattle.program_model.proofs.Formed.{formed}
 use Rattle.program_model.specs.RegionRules.{may_begin, catches, region_fits, are_apart, regions_fit}
 use Rattle.program_model.specs.TableRules.{tables_are_short, texts_are_short, entries_fit, entries_differ, tables_fit}
 use Rattle.program_model.specs.declared.body.Body.{Body}
@@ -39,11 +40,9 @@ times r n = let e = add-mul r 1 n in omega (arith, e)
 -- ---- the limits of a program
 
 limits : (p : Program) → is_well_formed p ≡ true → (cells_of p ≤ 67108864) × (items_of p ≤ 16777216)
-unfolding is_well_formed
 limits p h =
-    let r = and_right (tables_fit p) ((nat_le (cells_of p) 67108864 && nat_le (items_of p) 16777216) && list_all (class_fits p) p.classes) h in
-    let l = and_left (nat_le (cells_of p) 67108864 && nat_le (items_of p) 16777216) (list_all (class_fits p) p.classes) r in
-    (leb-true (cells_of p) 67108864 (and_left (nat_le (cells_of p) 67108864) (nat_le (items_of p) 16777216) l), leb-true (items_of p) 16777216 (and_right (nat_le (cells_of p) 67108864) (nat_le (items_of p) 16777216) l))
+    let f = formed p h in
+    (leb-true (cells_of p) 67108864 f.cells, leb-true (items_of p) 16777216 f.items)
 
 class_items_in : (p : Program) → sum_by class_items p.classes ≤ items_of p
 unfolding items_of
@@ -144,9 +143,9 @@ map_long [] = refl
 map_long (c ∷ cs) = ap suc (map_long cs)
 
 few_types : (p : Program) → is_well_formed p ≡ true → length p.types ≤ 65535
-unfolding is_well_formed tables_fit tables_are_short
+unfolding tables_fit tables_are_short
 few_types p h =
-    let t : tables_are_short p ≡ true = and_left (tables_are_short p) (texts_are_short p) (and_left (tables_are_short p && texts_are_short p) (entries_fit p && entries_differ p) (and_left (tables_fit p) ((nat_le (cells_of p) 67108864 && nat_le (items_of p) 16777216) && list_all (class_fits p) p.classes) h)) in
+    let t : tables_are_short p ≡ true = and_left (tables_are_short p) (texts_are_short p) (and_left (tables_are_short p && texts_are_short p) (entries_fit p && entries_differ p) (formed p h).tables) in
     let l = and_left (nat_le (length p.types) 65535 && nat_le (length p.protos) 65535) (nat_le (length p.fields) 65536 && nat_le (length p.methods) 65536) (and_right (nat_lt (length p.strings) (2 ^ 32) && nat_lt (length p.classes) (2 ^ 32)) ((nat_le (length p.types) 65535 && nat_le (length p.protos) 65535) && (nat_le (length p.fields) 65536 && nat_le (length p.methods) 65536)) t) in
     leb-true (length p.types) 65535 (and_left (nat_le (length p.types) 65535) (nat_le (length p.protos) 65535) l)
 

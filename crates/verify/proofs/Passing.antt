@@ -10,12 +10,11 @@ use Rattle.class_defs.specs.ClassGraph.{IsTwice}
 use Rattle.class_defs.specs.Members.{is_interface, string_is}
 use Rattle.class_defs.specs.Places.{super_place}
 use Rattle.dex_base.specs.Descriptor.{descriptor_of}
-use Rattle.program_model.specs.Cells.{cells_of}
 use Rattle.program_model.specs.Distinct.{text_key, type_key}
-use Rattle.program_model.specs.Items.{items_of}
 use Rattle.program_model.specs.Lookups.{class_place}
 use Rattle.program_model.specs.MemberRules.{class_fits, types_of_class_fit, is_class_type, is_object, source_fits, fields_fit, methods_fit, has_flag, words_of}
 use Rattle.program_model.specs.ProgramRules.{is_well_formed}
+use Rattle.program_model.proofs.Formed.{formed}
 use Rattle.program_model.specs.TableRules.{tables_fit, tables_are_short, texts_are_short, entries_fit, entries_differ, type_fits}
 use Rattle.program_model.specs.Texts.{has_string, has_type, is_class, letter_of, first_unit, string_text, type_text, text_or_none}
 use Rattle.program_model.specs.ValueRules.{marks_fit}
@@ -115,8 +114,7 @@ first_of test xs i x few e h =
 -- ---- a well-formed program
 
 tables_of : (p : Program) → is_well_formed p ≡ true → tables_fit p ≡ true
-unfolding is_well_formed
-tables_of p h = and_left (tables_fit p) ((nat_le (cells_of p) 67108864 && nat_le (items_of p) 16777216) && list_all (class_fits p) p.classes) h
+tables_of p h = (formed p h).tables
 
 lengths_of : (p : Program) → tables_fit p ≡ true → tables_are_short p ≡ true
 unfolding tables_fit

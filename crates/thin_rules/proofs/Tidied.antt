@@ -91,9 +91,9 @@ module _ (at : ℕ → ℕ) where
   region_same : (r : Region) → region_items (region_moved at r) ≡ region_items r
   region_same r = ap (λ n. n + rest_items (option_map at r.rest)) (length_same (handler_moved at) r.handlers) ∙ ap (λ n. length r.handlers + n) (rest_same r.rest)
 
-  regions_fall : (rs : List Region) → sum_by region_items (filter region_has_room (map (region_moved at) rs)) ≤ sum_by region_items rs
-  regions_fall [] = itself 0
-  regions_fall (r ∷ rs) = by (region_has_room (region_moved at r)) (regions_fall rs)
+  regions_fall : (end : ℕ) (rs : List Region) → sum_by region_items (filter (region_has_room end) (map (region_moved at) rs)) ≤ sum_by region_items rs
+  regions_fall end [] = itself 0
+  regions_fall end (r ∷ rs) = by (region_has_room end (region_moved at r)) (regions_fall end rs)
     where
       with_one : (x y : Region) (xs ys : List Region) → region_items y ≡ region_items x → sum_by region_items ys ≤ sum_by region_items xs → sum_by region_items (y ∷ ys) ≤ sum_by region_items (x ∷ xs)
       with_one x y xs ys l m = omega (arith, l, m, sum_by-cons region_items y ys, sum_by-cons region_items x xs)
@@ -101,10 +101,10 @@ module _ (at : ℕ → ℕ) where
       without : (x : Region) (xs ys : List Region) → sum_by region_items ys ≤ sum_by region_items xs → sum_by region_items ys ≤ sum_by region_items (x ∷ xs)
       without x xs ys m = omega (arith, m, sum_by-cons region_items x xs)
 
-      by : (c : Bool) → sum_by region_items (filter region_has_room (map (region_moved at) rs)) ≤ sum_by region_items rs
-          → sum_by region_items (cond c (region_moved at r ∷ filter region_has_room (map (region_moved at) rs)) (filter region_has_room (map (region_moved at) rs))) ≤ sum_by region_items (r ∷ rs)
-      by true k = with_one r (region_moved at r) rs (filter region_has_room (map (region_moved at) rs)) (region_same r) k
-      by false k = without r rs (filter region_has_room (map (region_moved at) rs)) k
+      by : (c : Bool) → sum_by region_items (filter (region_has_room end) (map (region_moved at) rs)) ≤ sum_by region_items rs
+          → sum_by region_items (cond c (region_moved at r ∷ filter (region_has_room end) (map (region_moved at) rs)) (filter (region_has_room end) (map (region_moved at) rs))) ≤ sum_by region_items (r ∷ rs)
+      by true k = with_one r (region_moved at r) rs (filter (region_has_room end) (map (region_moved at) rs)) (region_same r) k
+      by false k = without r rs (filter (region_has_room end) (map (region_moved at) rs)) k
 
 cells_fall : (fs : List Fate) (b : Body) → body_cells (body_thinned fs b) ≤ body_cells b
 cells_fall fs b = together ((b.registers + 1) * length (insns_left (place fs) fs b.insns)) ((b.registers + 1) * length b.insns) (sum_by entries_of (insns_left (place fs) fs b.insns)) (sum_by entries_of b.insns)
@@ -135,7 +135,7 @@ module _ (p : Program) where
         body = thinned_fits p marks fs b fits tidy;
         lined = l;
         cells = cells_fall fs b;
-        items = regions_fall (place fs) b.regions;
+        items = regions_fall (place fs) (length (insns_left (place fs) fs b.insns)) b.regions;
       }
 
   method_recoded : (class : ℕ) (m n : Method) → method_fits p class m ≡ true → TidiedMethod m n → RecodedMethod p m n

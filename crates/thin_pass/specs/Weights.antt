@@ -1,4 +1,4 @@
--- How much a program weighs: a squeeze that changes something makes it lighter.
+-- How much a program weighs: a pass that takes something out makes it lighter.
 use Rattle.std.specs.Prelude.{ℕ, ◌+◌, List, [], ◌∷◌, sum_by, Option, None, Some}
 use Rattle.insn_set.specs.declared.form.Insn.{Insn}
 use Rattle.insn_set.specs.declared.form.Insn.TheVariants as insn

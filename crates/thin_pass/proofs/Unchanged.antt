@@ -74,8 +74,7 @@ module _ (is : List Insn) (ws : List Fate) (stay : changed_in (fates_from is ws 
   at_position : (n : ℕ) (i : Insn) → slice_get is n ≡ Some i → (start : ℕ) × ((Stays ≡ fate_of (wish_at ws n) (is_held is ws start n) i) × (((k : ℕ) → start ≤ k → k < n → is_to_go ws k ≡ true) × (start ≤ n)))
   at_position n i e =
       let f = there (fates_from is ws 0 (length is)) n (omega (arith, inside is n i e, long_upto is ws 0 0 (length is))) in
-      let a = fate_is ws is n f.0 f.1 in
-      (
+      let a = fate_is ws is n f.0 f.1 in (
         a.start,
         (
           sym (each_stays (fates_from is ws 0 (length is)) stay n f.0 f.1) ∙ a.is_it ∙ ap (fate_if (wish_at ws n) (is_held is ws a.start n)) e,

@@ -84,13 +84,7 @@ fn fate_of(wish: Fate, held: bool, insn: &Insn) -> Fate
     match wish {
         Fate::Stays => Fate::Stays,
         Fate::Empties => emptied(insn),
-        Fate::Goes => {
-            if held {
-                emptied(insn)
-            } else {
-                Fate::Goes
-            }
-        }
+        Fate::Goes => { if held { emptied(insn) } else { Fate::Goes } }
     }
 }
 

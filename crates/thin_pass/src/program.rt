@@ -67,11 +67,7 @@ fn fates_for<T: Thinning>(
                 return Ok(Seq::of_vec(vec![in alloc; Fate::Stays; body.insns.len()]?));
             }
             let wishes = pass.wish(alloc, body)?;
-            Ok(Seq::of_vec(fates_where(
-                alloc,
-                body.insns.as_slice(),
-                &wishes,
-            )?))
+            Ok(Seq::of_vec(fates_where(alloc, body.insns.as_slice(), &wishes)?))
         }
         None => Ok(Seq::new(alloc)),
     }

@@ -1,5 +1,5 @@
 -- The classes of a well-formed program stand in lines that end outside it.
-use Rattle.std.proofs.Common.{◌≡◌, ℕ, zero, suc, Bool, true, false, length, refl, sym, ap, ◌∙◌, subst}
+use Rattle.std.proofs.Common.{◌≡◌, ℕ, zero, suc, Bool, true, false, List, [], ◌∷◌, length, refl, sym, ap, ◌∙◌, subst}
 use Rattle.std.specs.Prelude.{Option, Some, None}
 use Rattle.std.specs.List.{list_all}
 use Rattle.program_model.specs.declared.program.Program.{Program}
@@ -15,7 +15,7 @@ use Rattle.kind_law.specs.Rooted.{IsRooted}
 use Rattle.removal_law.specs.Reach.{ends, IsRegular}
 use Rattle.removal_law.proofs.Levels.{enough_steps}
 use Rattle.removal_law.proofs.Lists.{and_left}
-use Rattle.removal_law.proofs.Trees.{defined, defines_none, own_above_some}
+use Rattle.removal_law.proofs.Trees.{defined, defines_none}
 use Rattle.removal_bridge.proofs.Formed.{no_object, regular_program}
 
 module _ (p : NamedProgram) where
@@ -26,7 +26,7 @@ module _ (p : NamedProgram) where
       by false d h = defines_none p t d
       by true d h = absurd (cc)
   ends_within (suc n) t e = λ c h. ends_within n c.superclass
-      (and_left (ends p n c.superclass) (list_all (ends p n) c.interfaces) (sym (ap (list_all (ends p n)) (own_above_some p t c h)) ∙ e))
+      (and_left (ends p n c.superclass) (list_all (ends p n) c.interfaces) (sym (ap (λ (o : Option NamedClass). list_all (ends p n) (elim o as (λ o. List Text) [ Some c ↦ c.superclass ∷ c.interfaces | None ↦ [] ])) h) ∙ e))
 
 pub rooted : (p : Program) → is_well_formed p ≡ true → ((class : ℕ) → IsTwice p class → ⊥) → ((class : ℕ) → IsAncestor p class class → ⊥) → IsRooted (named p)
 rooted p fits twice ancestor = let r = regular_program p fits twice ancestor in record {

@@ -89,13 +89,13 @@ module _ (t : ℕ → ℕ) where
   insns_lighter (i ∷ is) [] h = absurd h
   insns_lighter (i ∷ is) (f ∷ fs) h = one_lighter f fs i is h.0 (insns_lighter is fs h.1)
 
-stay_changes : (n : ℕ) → changed_in (replicate n Stays) ≡ 0
+pub stay_changes : (n : ℕ) → changed_in (replicate n Stays) ≡ 0
 stay_changes zero = refl
-stay_changes (suc n) = changed_cons Stays (replicate n Stays) ∙ stay_changes n
+stay_changes (suc n) = omega (arith, changed_cons Stays (replicate n Stays), stay_changes n)
 
 -- ---- methods
 
-method_same : (fs : List Fate) (m : Method) → changed_in fs ≡ 0 → method_by fs m ≡ m
+pub method_same : (fs : List Fate) (m : Method) → changed_in fs ≡ 0 → method_by fs m ≡ m
 method_same fs m e = ap (λ k. if nat_eq k 0 then m else method_thinned fs m) e
 
 no_less : (a b c : ℕ) → a ≡ b → c ≡ 0 → a + c ≤ b

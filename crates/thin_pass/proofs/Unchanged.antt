@@ -24,7 +24,7 @@ use Rattle.thin_pass.proofs.Lighter.{changed_cons, left_part, right_part, not_ca
 each_stays : (fs : List Fate) → changed_in fs ≡ 0 → (n : ℕ) (f : Fate) → slice_get fs n ≡ Some f → f ≡ Stays
 each_stays [] e n f g = cc
 each_stays (Stays ∷ fs) e zero f g = cc
-each_stays (Stays ∷ fs) e (suc n) f g = each_stays fs (sym (changed_cons Stays fs) ∙ e) n f g
+each_stays (Stays ∷ fs) e (suc n) f g = each_stays fs (omega (arith, e, changed_cons Stays fs)) n f g
 each_stays (Empties ∷ fs) e n f g = absurd (omega (arith, e, changed_cons Empties fs))
 each_stays (Goes ∷ fs) e n f g = absurd (omega (arith, e, changed_cons Goes fs))
 
@@ -154,27 +154,27 @@ split_at y xs x (suc k) lt e = inr (k, omega (arith, lt), e)
 method_fates : (thins : Method → List Fate → Type 0) (ms : List Method) (plan : List (List Fate)) → AreFor thins ms plan → class_changes plan ≡ 0 → (m : Method) → Contains ms m → (fs : List Fate) × (thins m fs × (changed_in fs ≡ 0))
 method_fates thins [] plan h e m i = absurd (no_item m i)
 method_fates thins (n ∷ ms) [] h e m i = absurd h
-method_fates thins (n ∷ ms) (fs ∷ plan) h e m i = by (split_at n ms m i.0 i.1 i.2)
+method_fates thins (n ∷ ms) (fs ∷ plan) h e m i = by (split_at n ms m i.0 i.1 i.2) (λ j. method_fates thins ms plan h.1 (right_part (changed_in fs) (class_changes plan) both) m j)
   where
     both : changed_in fs + class_changes plan ≡ 0
     both = sym (sum_by-cons changed_in fs plan) ∙ e
 
-    by : (n ≡ m) ⊎ Contains ms m → (fs : List Fate) × (thins m fs × (changed_in fs ≡ 0))
-    by (inl s) = (fs, (subst (λ (k : Method). thins k fs) s h.0, left_part (changed_in fs) (class_changes plan) both))
-    by (inr j) = method_fates thins ms plan h.1 (right_part (changed_in fs) (class_changes plan) both) m j
+    by : (n ≡ m) ⊎ Contains ms m → (Contains ms m → (gs : List Fate) × (thins m gs × (changed_in gs ≡ 0))) → (gs : List Fate) × (thins m gs × (changed_in gs ≡ 0))
+    by (inl s) again = (fs, (subst (λ (k : Method). thins k fs) s h.0, left_part (changed_in fs) (class_changes plan) both))
+    by (inr j) again = again j
 
 class_fates : (thins : Method → List Fate → Type 0) (cs : List Class) (plan : List (List (List Fate))) → AreForClasses thins cs plan → all_changes plan ≡ 0 → (c : Class) (m : Method) → Contains cs c → Contains c.methods m
     → (fs : List Fate) × (thins m fs × (changed_in fs ≡ 0))
 class_fates thins [] plan h e c m i j = absurd (no_item c i)
 class_fates thins (d ∷ cs) [] h e c m i j = absurd h
-class_fates thins (d ∷ cs) (ps ∷ plan) h e c m i j = by (split_at d cs c i.0 i.1 i.2)
+class_fates thins (d ∷ cs) (ps ∷ plan) h e c m i j = by (split_at d cs c i.0 i.1 i.2) (λ k. class_fates thins cs plan h.1 (right_part (class_changes ps) (all_changes plan) both) c m k j)
   where
     both : class_changes ps + all_changes plan ≡ 0
     both = sym (sum_by-cons class_changes ps plan) ∙ e
 
-    by : (d ≡ c) ⊎ Contains cs c → (fs : List Fate) × (thins m fs × (changed_in fs ≡ 0))
-    by (inl s) = method_fates thins c.methods ps (subst (λ (k : Class). AreFor thins k.methods ps) s h.0) (left_part (class_changes ps) (all_changes plan) both) m j
-    by (inr k) = class_fates thins cs plan h.1 (right_part (class_changes ps) (all_changes plan) both) c m k j
+    by : (d ≡ c) ⊎ Contains cs c → (Contains cs c → (fs : List Fate) × (thins m fs × (changed_in fs ≡ 0))) → (fs : List Fate) × (thins m fs × (changed_in fs ≡ 0))
+    by (inl s) again = method_fates thins c.methods ps (subst (λ (k : Class). AreFor thins k.methods ps) s h.0) (left_part (class_changes ps) (all_changes plan) both) m j
+    by (inr k) again = again k
 
 -- each method of a program of which nothing changed has its fates, and they change nothing
 pub unchanged_fates : (wishes : Body → List Fate → Type 0) (admitted : List Bool) (p : Program) (c : Changed) → IsThinnedBy wishes admitted p c → c.count ≡ 0 → (k : Class) (m : Method) → Contains p.classes k → Contains k.methods m

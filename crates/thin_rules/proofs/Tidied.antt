@@ -1,6 +1,6 @@
 -- A program whose code is thinned by tidy fates is well-formed where the program is.
 use Rattle.std.proofs.Common.{◌≡◌, ℕ, suc, ◌+◌, ◌*◌, ◌≤◌, Bool, true, false, List, [], ◌∷◌, length, refl, ap, ◌∙◌, subst, arith}
-use Rattle.std.specs.Prelude.{◌&&◌, not, Option, Some, None, map, filter, sum_by, slice_get}
+use Rattle.std.specs.Prelude.{◌&&◌, not, Option, Some, None, map, filter, sum_by, slice_get, Contains}
 use Rattle.std.specs.List.{list_all}
 use Rattle.std.specs.Option.{option_map}
 use Rattle.std.proofs.Math.Nat.{mul-le-mul_left}
@@ -30,6 +30,7 @@ use Rattle.formed_law.specs.Recoded.{Recodes, RecodedMethod, Untouched as StillU
 use Rattle.thin_rules.specs.Tidy.{IsTidy}
 use Rattle.thin_rules.specs.Tidied.{TidiedMethod, Untouched, Tidied, TidiedClass, TidiedProgram}
 use Rattle.thin_rules.proofs.Fits.{thinned_fits}
+use Rattle.thin_rules.proofs.Places.{all_at}
 
 -- ---- room
 
@@ -153,6 +154,14 @@ module _ (p : Program) where
 
   all_classes : is_well_formed p ≡ true → list_all (class_fits p) p.classes ≡ true
   all_classes h = (formed p h).classes
+
+  -- the rules of a method's code
+  pub code_rules : (c : Class) (m : Method) (b : Body) → is_well_formed p ≡ true → Contains p.classes c → Contains c.methods m → m.body ≡ Some b → (body_fits p b ≡ true) × (lines_fit (length b.insns) m.lines ≡ true)
+  code_rules c m b h i j e =
+      let class = all_at (class_fits p) p.classes c i (all_classes h) in
+      let code = code_of c.name m b e (all_at (method_fits p c.name) c.methods m j (class_methods c class)) in
+      let rest = and_right (frame_fits p m b) (body_fits p b && lines_fit (length b.insns) m.lines) (and_right (not (lacks_code m.flags)) (frame_fits p m b && (body_fits p b && lines_fit (length b.insns) m.lines)) code) in
+      (and_left (body_fits p b) (lines_fit (length b.insns) m.lines) rest, and_right (body_fits p b) (lines_fit (length b.insns) m.lines) rest)
 
   pub tidied_recoded : (q : Program) → is_well_formed p ≡ true → TidiedProgram p q → RecodedProgram p q
   tidied_recoded q h t = record { same = t.same; classes = pairs_given TidiedClass (RecodedClass p) (class_fits p) class_recoded p.classes q.classes (all_classes h) t.classes }

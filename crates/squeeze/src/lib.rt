@@ -9,7 +9,7 @@
 #![tactic(auto)]
 
 mod program;
-mod wishes;
+mod wishing;
 
 pub use program::apply;
-pub use wishes::wishes;
+pub use wishing::wishes;

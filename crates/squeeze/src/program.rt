@@ -6,7 +6,7 @@ ghost use Rattle.thin_pass.specs.Weights.{weight_of};
 ghost use Rattle.squeeze.specs.Needed.{NothingLeft};
 ghost use Rattle.squeeze.specs.Skipping.{AreSkips};
 
-use crate::wishes::wishes;
+use crate::wishing::wishes;
 use body_edit::Fate;
 use program_model::{Admitted, Body, Changed, Program};
 use std::alloc::{AllocError, Global};

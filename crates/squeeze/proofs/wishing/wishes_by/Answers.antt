@@ -2,7 +2,7 @@ use Rattle.std.proofs.Common.{◌∙◌, ap, arith}
 use Rattle.walk_marks.specs.Walks.{is_on}
 use Rattle.squeeze.specs.Skipping.{wish_for}
 use Rattle.thin_pass.proofs.Wished.{wished_none, wished_more, wished_all}
-use Rattle.squeeze.proofs.wishes.wishes_by.Goals as goal
+use Rattle.squeeze.proofs.wishing.wishes_by.Goals as goal
 
 pub loop-position-init : goal.loop-position-init
 loop-position-init c = wished_none (λ n i. wish_for (is_on c.args.reached.now n) n i) c.args.insns.now c.in_ok-wishes.wishes.items c.in_ok-wishes.ensures.items

@@ -30,11 +30,11 @@ walk_more next a n m (walk.Goes k j l step rest) c = walk.Goes a j m step (walk_
 -- a number that a list has by a test
 has : (n : ℕ) (ts : List ℕ) → list_any (nat_eq n) ts ≡ true → Contains ts n
 has n [] e = cc
-has n (t ∷ ts) e = by (nat_eq n t) refl e
+has n (t ∷ ts) e = by (nat_eq n t) refl e (has n ts)
   where
-    by : (b : Bool) → nat_eq n t ≡ b → (b || list_any (nat_eq n) ts) ≡ true → Contains (t ∷ ts) n
-    by true d h = subst (λ (k : ℕ). Contains (t ∷ ts) k) (sym (eqb-true n t d)) (first t ts)
-    by false d h = there t ts n (has n ts h)
+    by : (b : Bool) → nat_eq n t ≡ b → (b || list_any (nat_eq n) ts) ≡ true → (list_any (nat_eq n) ts ≡ true → Contains ts n) → Contains (t ∷ ts) n
+    by true d h again = subst (λ (k : ℕ). Contains (t ∷ ts) k) (sym (eqb-true n t d)) (first t ts)
+    by false d h again = there t ts n (again h)
 
 module _ (b : Body) (ws : List Fate) (s : AreSkips b ws) (stay : changed_in (fates_from b.insns ws 0 (length b.insns)) ≡ 0) where
   wish_is : (n : ℕ) (i : Insn) → slice_get b.insns n ≡ Some i → wish_at ws n ≡ wish_for (is_on s.marks n) n i

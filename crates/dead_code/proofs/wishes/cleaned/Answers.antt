@@ -1,0 +1,4 @@
+use Rattle.dead_code.proofs.wishes.cleaned.Goals as goal
+
+pub returns : goal.returns
+returns c = ?

@@ -77,7 +77,7 @@ LiveAs b live = (n r : ℕ) → r < b.registers → (is_live live n r ≡ true) 
 -- exactly the dead positions are marked, by what is live
 pub record AreDead (quiet : ℕ → Bool) (b : Body) (marks : List Bool) : Type 0 where
   pub live : Live
-  pub is_live : LiveAs b live
+  pub live_is : LiveAs b live
   pub long : length marks ≡ length b.insns
   pub each : (n : ℕ) → n < length b.insns → (is_on marks n ≡ true) ↔ IsDead quiet b n
 

@@ -5,6 +5,7 @@
 mod asks;
 mod counts;
 mod graph;
+mod passes;
 mod rounds;
 mod silent;
 mod texts;

@@ -1,0 +1,77 @@
+-- What the passes of a round do to a program, by number (this project's profile).
+use Rattle.std.specs.Prelude.{◌≡◌, ◌⊎◌, ◌<◌, ◌+◌, ℕ, Bool, true, false, List, [], ◌∷◌, length, replicate}
+use Rattle.program_model.specs.declared.pass.Origin.{Origin}
+use Rattle.program_model.specs.declared.pass.Outside.{Outside}
+use Rattle.program_model.specs.declared.program.Program.{Program}
+use Rattle.program_model.specs.ProgramRules.{is_well_formed}
+use Rattle.call_graph.specs.declared.live_set.LiveSet.{LiveSet}
+use Rattle.reach.specs.Kept.{kept_of, size_of}
+use Rattle.reach.specs.Marked.{IsMarked}
+use Rattle.squeeze.specs.Squeezed.{IsSqueezed}
+use Rattle.squeeze.specs.Weights.{weight_of}
+use Rattle.pipeline.specs.Graph.{HasGraphFault}
+
+-- The passes.
+pub data Pass : Type 0 where
+  Reach : Pass
+  Squeeze : Pass
+
+-- The passes of a round, in their order.
+abbrev pub passes : List Pass
+passes = Reach ∷ Squeeze ∷ []
+
+-- ---- what each pass does to a well-formed program
+
+-- The rules let a removal be made, and marks that are closed under what the outside keeps leave this of a well-formed program.
+pub record Removes (o : Outside) (p q : Program) : Type 0 where
+  pub allowed : o.shrink ≡ true
+  pub marks : LiveSet
+  pub marked : IsMarked p o marks
+  pub left : q ≡ kept_of marks p
+
+-- The rules forbid all removal, or the class graph has a fault.
+abbrev pub IsBarred : Outside → Program → Type 0
+IsBarred o p = (o.shrink ≡ false) ⊎ HasGraphFault p
+
+-- A removal, or nothing where it is barred.
+abbrev pub IsRemoval : Outside → Program → Program → Type 0
+IsRemoval o p q = Removes o p q ⊎ ((q ≡ p) × IsBarred o p)
+
+-- The bodies of admitted methods without what does nothing.
+pub record Squeezes (admitted : List Bool) (p q : Program) : Type 0 where
+  pub origins : List (List Origin)
+  pub count : ℕ
+  pub squeezed : IsSqueezed admitted p q (replicate (length p.methods) []) origins count
+
+abbrev pub Does : Outside → List Bool → Pass → Program → Program → Type 0
+Does o admitted Reach p q = IsRemoval o p q
+Does o admitted Squeeze p q = Squeezes admitted p q
+
+-- ---- passes one after another
+
+-- A pass ran over a program. What it did is said where the program is well-formed.
+pub record Step (o : Outside) (admitted : List Bool) (pass : Pass) (p q : Program) : Type 0 where
+  pub does : is_well_formed p ≡ true → Does o admitted pass p q
+
+-- Some passes ran, one after another.
+pub data Steps (o : Outside) (admitted : List Bool) : List Pass → Program → Program → Type 0 where
+  Last : (p : Program) → Steps o admitted [] p p
+  Then : (pass : Pass) (rest : List Pass) (p q r : Program) → Step o admitted pass p q → Steps o admitted rest q r → Steps o admitted (pass ∷ rest) p r
+
+-- Each of some passes leaves the program the same.
+abbrev pub AreStill : Outside → List Bool → List Pass → Program → Type 0
+AreStill o admitted [] p = Unit {0}
+AreStill o admitted (pass ∷ rest) p = Step o admitted pass p p × AreStill o admitted rest p
+
+-- How much of a program there is: its classes and members, and its instructions, a nop counting 1 and every other one 2. No pass
+-- makes it more.
+abbrev pub bulk_of : Program → ℕ
+bulk_of p = size_of p + weight_of p
+
+-- Some passes ran, and this many changes were counted: none where each of them left the program the same, and otherwise there is
+-- less of it.
+pub record HavePassed (o : Outside) (admitted : List Bool) (some : List Pass) (p q : Program) (count : ℕ) : Type 0 where
+  pub steps : Steps o admitted some p q
+  pub same : count ≡ 0 → q ≡ p
+  pub still : count ≡ 0 → AreStill o admitted some p
+  pub less : 0 < count → bulk_of q < bulk_of p

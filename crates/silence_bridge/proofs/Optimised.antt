@@ -15,7 +15,9 @@ use Rattle.verify.specs.Methods.{TypesAll}
 use Rattle.type_bridge.proofs.Programs.{typed_program}
 use Rattle.pipeline.specs.Silence.{is_quiet, silenced, IsSilent}
 use Rattle.pipeline.specs.Rounds.{IsOptimised}
-use Rattle.reach_bridge.proofs.Repeated.{rounds_show, rounds_typed}
+use Rattle.rounds_bridge.specs.Owed.{Owes}
+use Rattle.rounds_bridge.specs.Premises.{SqueezeKeeps}
+use Rattle.rounds_bridge.proofs.Repeated.{all_rounds_owe}
 use Rattle.silence_law.proofs.Silenced.{silenced_typed}
 use Rattle.silence_law.proofs.WellFormed.{well_placed}
 use Rattle.silence_bridge.specs.Admitted.{admitted_in}
@@ -40,12 +42,17 @@ module _ (p : Program) (h : Hierarchy) (formed : is_well_formed p ≡ true) (res
     silent_typed admitted q silent = subst IsTyped (sym (silent_named admitted q silent))
         (silenced_typed (named p) (outer_of p o) (admitted_in p admitted) (well_placed p formed) (typed_program p h formed resolved types))
 
-    module _ (r : Program) (advisers spared n : ℕ) (before after : List Bool) (done : IsOptimised o p advisers before after spared r n) where
+    module _ (rules : SqueezeKeeps) (r : Program) (advisers spared n : ℕ) (before after : List Bool) (done : IsOptimised o p advisers before after spared r n) where
+      rounds : Owes o done.silenced r
+      rounds = all_rounds_owe rules o done.admitted done.ran.changing done.silenced r done.ran.rounds done.formed (silent_typed done.admitted done.silenced done.silent)
+
       pub optimised_shows : o.shut ≡ [] → SameShown (by_name.silenced (named p) (outer_of p o) (admitted_in p done.admitted)) (named r) (outer_of p o)
       optimised_shows none =
           subst (λ x. SameShown x (named r) (outer_of p o)) (silent_named done.admitted done.silenced done.silent)
-          (subst (λ x. SameShown (named done.silenced) (named r) x) (silent_outer done.admitted done.silenced done.silent)
-          (rounds_show o done.ran.removals done.silenced r done.ran.rounds (silent_typed done.admitted done.silenced done.silent) none))
+          (subst (λ x. SameShown (named done.silenced) (named r) x) (silent_outer done.admitted done.silenced done.silent) (rounds.shown none))
+
+      pub optimised_formed : is_well_formed r ≡ true
+      optimised_formed = rounds.formed
 
       pub optimised_typed : IsTyped (named r)
-      optimised_typed = rounds_typed o done.ran.removals done.silenced r done.ran.rounds (silent_typed done.admitted done.silenced done.silent)
+      optimised_typed = rounds.typed

@@ -14,17 +14,20 @@ ghost use Rattle.hierarchy.specs.Splitting.{NoSplit};
 ghost use Rattle.hierarchy.specs.declared.build.Hierarchy.{Hierarchy};
 ghost use Rattle.verify.specs.Methods.{TypesAll};
 ghost use Rattle.pipeline.specs.Rounds.{IsOptimised};
+ghost use Rattle.rounds_bridge.specs.Premises.{SqueezeKeeps};
 ghost use Rattle.silence_bridge.specs.Admitted.{admitted_in};
 
 /// What `optimise` leaves of a well-formed program for any rules shows what the program shows without its silent calls in
-/// the methods that were admitted, and is typed, where the hierarchy was built of the program, the verifier has a typing
-/// of each method, and no method is shut, as in what rules alone give. What the rounds begin with is, by names, the program
-/// without these calls. The premises are what `Hierarchy::build`, `verify_all` and `optimise` say where they accept.
+/// the methods that were admitted, and is well-formed and typed, where the hierarchy was built of the program, the verifier has
+/// a typing of each method, and no method is shut, as in what rules alone give. What the rounds begin with is, by names, the
+/// program without these calls. The premises are what `Hierarchy::build`, `verify_all` and `optimise` say where they accept.
 pub fn all_rules_law()
     ensures silenced { (p r : Program) (h : Hierarchy) (o : Outside) (advisers spared rounds : ℕ) (before after : List Bool) → is_well_formed p ≡ true → IsResolved p h → IsAcyclic p → NoSplit p
         → (done : IsOptimised o p advisers before after spared r rounds) → named done.silenced ≡ silenced (named p) (outer_of p o) (admitted_in p done.admitted) }
-    ensures shown { (p r : Program) (h : Hierarchy) (o : Outside) (advisers spared rounds : ℕ) (before after : List Bool) → is_well_formed p ≡ true → IsResolved p h → IsAcyclic p → NoSplit p → TypesAll p h
+    ensures shown { SqueezeKeeps → (p r : Program) (h : Hierarchy) (o : Outside) (advisers spared rounds : ℕ) (before after : List Bool) → is_well_formed p ≡ true → IsResolved p h → IsAcyclic p → NoSplit p → TypesAll p h
         → (done : IsOptimised o p advisers before after spared r rounds) → o.shut ≡ [] → SameShown (silenced (named p) (outer_of p o) (admitted_in p done.admitted)) (named r) (outer_of p o) }
-    ensures typed { (p r : Program) (h : Hierarchy) (o : Outside) (advisers spared rounds : ℕ) (before after : List Bool) → is_well_formed p ≡ true → IsResolved p h → IsAcyclic p → NoSplit p → TypesAll p h
+    ensures formed { SqueezeKeeps → (p r : Program) (h : Hierarchy) (o : Outside) (advisers spared rounds : ℕ) (before after : List Bool) → is_well_formed p ≡ true → IsResolved p h → IsAcyclic p → NoSplit p → TypesAll p h
+        → IsOptimised o p advisers before after spared r rounds → is_well_formed r ≡ true }
+    ensures typed { SqueezeKeeps → (p r : Program) (h : Hierarchy) (o : Outside) (advisers spared rounds : ℕ) (before after : List Bool) → is_well_formed p ≡ true → IsResolved p h → IsAcyclic p → NoSplit p → TypesAll p h
         → IsOptimised o p advisers before after spared r rounds → IsTyped (named r) }
 {}

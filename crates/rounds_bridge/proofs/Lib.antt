@@ -1,0 +1,4 @@
+pub mod Heads
+pub mod Keeping
+pub mod Owing
+pub mod Repeated

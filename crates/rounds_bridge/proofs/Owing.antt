@@ -1,0 +1,39 @@
+-- What each pass owes, all of them owe, one after another.
+use Rattle.std.proofs.Common.{◌≡◌, ℕ, zero, suc, Bool, true, List, [], ◌∷◌, refl, sym, ap, ◌∙◌, subst}
+use Rattle.program_model.specs.declared.program.Program.{Program}
+use Rattle.program_model.specs.declared.pass.Outside.{Outside}
+use Rattle.program_model.specs.ProgramRules.{is_well_formed}
+use Rattle.dalvik_defs.specs.Naming.{named}
+use Rattle.dalvik_defs.specs.Outer.{Outer, outer_of}
+use Rattle.dalvik_defs.specs.Shown.{SameShown}
+use Rattle.dalvik_defs.proofs.Same.{same_shown_refl, same_shown_on}
+use Rattle.pass_defs.specs.Typed.{IsTyped}
+use Rattle.pipeline.specs.Passes.{Pass, passes, Step, Steps, Last, Then}
+use Rattle.pipeline.specs.Rounds.{Rounds, Ended, Next}
+use Rattle.rounds_bridge.specs.Owed.{Owes, Keeps}
+
+module _ (o : Outside) where
+  pub owes_same : (p : Program) → is_well_formed p ≡ true → IsTyped (named p) → Owes o p p
+  owes_same p formed typed = record { formed = formed; typed = typed; outer = refl; fewer = λ t d. d; shown = λ none. same_shown_refl (named p) (outer_of p o) }
+
+  pub owes_on : (p q r : Program) → Owes o p q → Owes o q r → Owes o p r
+  owes_on p q r one two = record {
+    formed = two.formed;
+    typed = two.typed;
+    outer = two.outer ∙ one.outer;
+    fewer = λ t d. one.fewer t (two.fewer t d);
+    shown = λ none. same_shown_on (named p) (named q) (named r) (outer_of p o) one.fewer (one.shown none) (subst (λ (k : Outer). SameShown (named q) (named r) k) one.outer (two.shown none));
+  }
+
+  module _ (admitted : List Bool) (keeps : (pass : Pass) → Keeps o admitted pass) where
+    pub steps_owe : (some : List Pass) (p q : Program) → Steps o admitted some p q → is_well_formed p ≡ true → IsTyped (named p) → Owes o p q
+    steps_owe some p q (Last x) formed typed = owes_same x formed typed
+    steps_owe some p q (Then pass rest x y z first others) formed typed =
+        let one : Owes o x y = (keeps pass).owes x y formed typed (first.does formed) in
+        owes_on x y z one (steps_owe rest y z others one.formed one.typed)
+
+    pub rounds_owe : (n : ℕ) (p q : Program) → Rounds o admitted n p q → is_well_formed p ≡ true → IsTyped (named p) → Owes o p q
+    rounds_owe n p q (Ended x) formed typed = owes_same x formed typed
+    rounds_owe n p q (Next m x y z first less rest) formed typed =
+        let one : Owes o x y = steps_owe passes x y first formed typed in
+        owes_on x y z one (rounds_owe m y z rest one.formed one.typed)

@@ -1,6 +1,6 @@
 -- Passes, one after another.
-use Rattle.std.proofs.Common.{◌≡◌, ◌⊎◌, ℕ, zero, suc, ◌<◌, ◌≤◌, ◌+◌, Bool, true, false, List, [], ◌∷◌, ◌++◌, length, min, replicate, refl, sym, ap, ◌∙◌, subst, inl, inr, arith}
-use Rattle.program_model.specs.declared.pass.Origin.{Origin}
+use Rattle.std.proofs.Common.{◌≡◌, ◌⊎◌, ℕ, zero, suc, ◌<◌, ◌≤◌, ◌+◌, Bool, true, false, List, [], ◌∷◌, ◌++◌, min, refl, sym, ap, ◌∙◌, subst, inl, inr, arith}
+use Rattle.program_model.specs.declared.pass.Changed.{Changed}
 use Rattle.program_model.specs.declared.pass.Outside.{Outside}
 use Rattle.program_model.specs.declared.program.Program.{Program}
 use Rattle.program_model.specs.Cells.{capped}
@@ -11,11 +11,12 @@ use Rattle.call_graph.specs.declared.live_set.LiveSet.{LiveSet}
 use Rattle.call_graph.specs.Facts.{Fits}
 use Rattle.call_graph.specs.Closed.{IsClosedSet}
 use Rattle.reach.specs.Kept.{kept_of, size_of}
-use Rattle.squeeze.specs.Squeezed.{IsSqueezed}
-use Rattle.squeeze.specs.Weights.{weight_of}
+use Rattle.squeeze.specs.Skipping.{AreSkips}
+use Rattle.thin_pass.specs.Plans.{IsThinnedBy}
+use Rattle.thin_pass.specs.Weights.{weight_of}
 use Rattle.pipeline.specs.Graph.{HasGraph, HasGraphFault}
 use Rattle.pipeline.specs.Passes.{Pass, Reach, Squeeze, IsRemoval, Does, Step, Steps, Last, Then, AreStill, bulk_of, HavePassed}
-use Rattle.pipeline.proofs.Bulk.{removal_less, squeeze_less}
+use Rattle.pipeline.proofs.Bulk.{removal_less, thinned_less}
 
 -- ---- any passes
 
@@ -91,10 +92,9 @@ module _ (o : Outside) (admitted : List Bool) (p q : Program) where
   removal_passed count h allowed graph closed kept same less = one_passed o admitted Reach p q count
       (record { does = λ formed. removed h allowed formed (graph formed) closed }) same (λ some. removal_less kept.0 p q kept.2 (less some))
 
-  -- ---- squeezing
+-- ---- squeezing
 
-  pub squeeze_passed : (os ps : List (List Origin)) (count : ℕ) → IsSqueezed admitted p q os ps count → os ≡ replicate (length p.methods) [] → (count ≡ 0 → q ≡ p) → (0 < count → weight_of q < weight_of p)
-      → HavePassed o admitted (Squeeze ∷ []) p q count
-  squeeze_passed os ps count s none same less = one_passed o admitted Squeeze p q count
-      (record { does = λ _. record { origins = ps; count = count; squeezed = subst (λ (x : List (List Origin)). IsSqueezed admitted p q x ps count) none s } }) same
-      (λ some. squeeze_less admitted p q os ps count s (less some))
+module _ (o : Outside) (admitted : List Bool) (p : Program) (c : Changed) where
+  pub squeeze_passed : IsThinnedBy AreSkips admitted p c → (c.count ≡ 0 → c.program ≡ p) → (0 < c.count → weight_of c.program < weight_of p) → HavePassed o admitted (Squeeze ∷ []) p c.program c.count
+  squeeze_passed h same less = one_passed o admitted Squeeze p c.program c.count
+      (record { does = λ _. record { origins = c.origins; count = c.count; thinned = h } }) same (λ some. thinned_less AreSkips admitted p c h (less some))

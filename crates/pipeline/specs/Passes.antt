@@ -1,5 +1,6 @@
 -- What the passes of a round do to a program, by number (this project's profile).
-use Rattle.std.specs.Prelude.{◌≡◌, ◌⊎◌, ◌<◌, ◌+◌, ℕ, Bool, true, false, List, [], ◌∷◌, length, replicate}
+use Rattle.std.specs.Prelude.{◌≡◌, ◌⊎◌, ◌<◌, ◌+◌, ℕ, Bool, true, false, List, [], ◌∷◌}
+use Rattle.program_model.specs.declared.body.Body.{Body}
 use Rattle.program_model.specs.declared.pass.Origin.{Origin}
 use Rattle.program_model.specs.declared.pass.Outside.{Outside}
 use Rattle.program_model.specs.declared.program.Program.{Program}
@@ -7,8 +8,10 @@ use Rattle.program_model.specs.ProgramRules.{is_well_formed}
 use Rattle.call_graph.specs.declared.live_set.LiveSet.{LiveSet}
 use Rattle.reach.specs.Kept.{kept_of, size_of}
 use Rattle.reach.specs.Marked.{IsMarked}
-use Rattle.squeeze.specs.Squeezed.{IsSqueezed}
-use Rattle.squeeze.specs.Weights.{weight_of}
+use Rattle.body_edit.specs.declared.fate.Fate.{Fate}
+use Rattle.thin_pass.specs.Plans.{IsThinnedBy}
+use Rattle.thin_pass.specs.Weights.{weight_of}
+use Rattle.squeeze.specs.Skipping.{AreSkips}
 use Rattle.pipeline.specs.Graph.{HasGraphFault}
 
 -- The passes.
@@ -37,15 +40,15 @@ IsBarred o p = (o.shrink ≡ false) ⊎ HasGraphFault p
 abbrev pub IsRemoval : Outside → Program → Program → Type 0
 IsRemoval o p q = Removes o p q ⊎ ((q ≡ p) × IsBarred o p)
 
--- The bodies of admitted methods without what does nothing.
-pub record Squeezes (admitted : List Bool) (p q : Program) : Type 0 where
+-- The bodies of admitted methods as a pass that thins them wishes.
+pub record Thins (wishes : Body → List Fate → Type 0) (admitted : List Bool) (p q : Program) : Type 0 where
   pub origins : List (List Origin)
   pub count : ℕ
-  pub squeezed : IsSqueezed admitted p q (replicate (length p.methods) []) origins count
+  pub thinned : IsThinnedBy wishes admitted p (record { program = q; count = count; origins = origins })
 
 abbrev pub Does : Outside → List Bool → Pass → Program → Program → Type 0
 Does o admitted Reach p q = IsRemoval o p q
-Does o admitted Squeeze p q = Squeezes admitted p q
+Does o admitted Squeeze p q = Thins AreSkips admitted p q
 
 -- ---- passes one after another
 

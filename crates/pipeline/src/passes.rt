@@ -47,5 +47,6 @@ pub fn squeeze_bodies(
 ) -> Result<Changed, AllocError>
     ensures { IfOk result (λ changed. (outside : Outside) → HavePassed outside admitted.now.methods.items (Squeeze ∷ []) program changed.program changed.count) }
 {
-    Ok(squeeze::apply(alloc, program, admitted)?)
+    let squeezed = squeeze::apply(alloc, program, admitted)?;
+    Ok(squeezed)
 }

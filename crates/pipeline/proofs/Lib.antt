@@ -6,3 +6,4 @@ pub mod Graphs
 pub mod Passing
 pub mod RoundLemmas
 pub mod Silencing
+pub mod Tracing

@@ -2,7 +2,6 @@
 use Rattle.std.proofs.Common.{◌≡◌, ◌⊎◌, ℕ, zero, suc, ◌<◌, ◌+◌, Bool, true, false, List, [], ◌∷◌, length, map, replicate, refl, sym, ap, ◌∙◌, subst, inl, inr, arith}
 use Rattle.std.specs.Prelude.{if◌then◌else◌, slice_index_or}
 use Rattle.std.specs.Option.{option_map}
-use Rattle.program_model.specs.declared.pass.Changed.{Changed}
 use Rattle.program_model.specs.declared.pass.Outside.{Outside}
 use Rattle.program_model.specs.declared.program.Method.{Method}
 use Rattle.program_model.specs.declared.program.Class.{Class}
@@ -19,41 +18,43 @@ use Rattle.pipeline.specs.Counts.{counted}
 use Rattle.pipeline.specs.Graph.{HasGraph, HasGraphFault}
 use Rattle.pipeline.specs.Silence.{IsSilent, is_quiet, silenced_body, silenced_method, silenced_class, silenced}
 use Rattle.pipeline.specs.Passes.{passes, Steps, AreStill, bulk_of, HavePassed}
-use Rattle.pipeline.specs.Rounds.{Rounds, Ended, Next, HaveRun, IsOptimised}
+use Rattle.pipeline.specs.Rounds.{Rounds, Ended, Next, first_of, HaveRun, IsOptimised}
+use Rattle.pipeline.specs.declared.traces.Passed.{Passed}
+use Rattle.pipeline.specs.declared.traces.Traced.{Traced}
 
 -- ---- all rounds
 
-one_more : (o : Outside) (admitted : List Bool) (n : ℕ) (p q r : Program) → Rounds o admitted n p q → Steps o admitted passes q r → bulk_of r < bulk_of q → Rounds o admitted (suc n) p r
-one_more o admitted n p q r (Ended x) one less = Next zero x r r one less (Ended r)
-one_more o admitted n p q r (Next m x y z first falls rest) one less = Next (suc m) x y r first falls (one_more o admitted m y z r rest one less)
+one_more : (o : Outside) (admitted : List Bool) (n : ℕ) (t u v : Traced) → Rounds o admitted n t u → Steps o admitted passes u v → bulk_of v.program < bulk_of u.program → Rounds o admitted (suc n) t v
+one_more o admitted n t u v (Ended x) one less = Next zero x v v one less (Ended v)
+one_more o admitted n t u v (Next m x y z first falls rest) one less = Next (suc m) x y v first falls (one_more o admitted m y z v rest one less)
 
 -- what the rounds have come to, the last of which answered this, and how many ran
-pub record Rounding (o : Outside) (admitted : List Bool) (p : Program) (c : Changed) (count : ℕ) : Type 0 where
-  pub before : Program
+pub record Rounding (o : Outside) (admitted : List Bool) (p : Program) (r : Passed) (count : ℕ) : Type 0 where
+  pub before : Traced
   pub changing : ℕ
-  pub rounds : Rounds o admitted changing p before
-  pub one : HavePassed o admitted passes before c.program c.count
+  pub rounds : Rounds o admitted changing (first_of p) before
+  pub one : HavePassed o admitted passes before r
   pub count_is : count ≡ counted (suc changing)
 
-pub begun : (o : Outside) (admitted : List Bool) (p : Program) (c : Changed) → HavePassed o admitted passes p c.program c.count → Rounding o admitted p c 1
-begun o admitted p c one = record { before = p; changing = zero; rounds = Ended p; one = one; count_is = refl }
+pub begun : (o : Outside) (admitted : List Bool) (p : Program) (t : Traced) (r : Passed) → t ≡ first_of p → HavePassed o admitted passes t r → Rounding o admitted p r 1
+begun o admitted p t r e one = record { before = t; changing = zero; rounds = subst (λ (x : Traced). Rounds o admitted zero x t) e (Ended t); one = one; count_is = refl }
 
-pub further : (o : Outside) (admitted : List Bool) (p : Program) (b c : Changed) (n m : ℕ) → 0 < b.count → Rounding o admitted p b n
-    → HavePassed o admitted passes b.program c.program c.count → m ≡ counted (n + 1) → Rounding o admitted p c m
+pub further : (o : Outside) (admitted : List Bool) (p : Program) (b c : Passed) (n m : ℕ) → 0 < b.count → Rounding o admitted p b n
+    → HavePassed o admitted passes b.traced c → m ≡ counted (n + 1) → Rounding o admitted p c m
 further o admitted p b c n m some so one e = record {
-  before = b.program;
+  before = b.traced;
   changing = suc so.changing;
-  rounds = one_more o admitted so.changing p so.before b.program so.rounds so.one.steps (so.one.less some);
+  rounds = one_more o admitted so.changing (first_of p) so.before b.traced so.rounds so.one.steps (so.one.less some);
   one = one;
   count_is = omega (arith, e, so.count_is);
 }
 
 -- a round that changes nothing is the last
-pub ended : (o : Outside) (admitted : List Bool) (p : Program) (c : Changed) (n : ℕ) → Rounding o admitted p c n → c.count ≡ 0 → HaveRun o admitted p c.program n
-ended o admitted p c n so none = record {
+pub ended : (o : Outside) (admitted : List Bool) (p : Program) (r : Passed) (n : ℕ) → Rounding o admitted p r n → r.count ≡ 0 → HaveRun o admitted p r.traced n
+ended o admitted p r n so none = record {
   changing = so.changing;
-  rounds = subst (λ (x : Program). Rounds o admitted so.changing p x) (sym (so.one.same none)) so.rounds;
-  ends = subst (λ (x : Program). AreStill o admitted passes x) (sym (so.one.same none)) (so.one.still none);
+  rounds = subst (λ (x : Traced). Rounds o admitted so.changing (first_of p) x) (sym (so.one.same none)) so.rounds;
+  ends = subst (λ (x : Traced). AreStill o admitted passes x.program) (sym (so.one.same none)) (so.one.still none);
   count_is = so.count_is;
 }
 
@@ -109,11 +110,11 @@ none_admitted o p advisers before after v (inr still) e = ap (λ w. w.admitted) 
 
 -- ---- the whole
 
-pub optimised : (o : Outside) (p q r : Program) (advisers : ℕ) (before after : List Bool) (v : Verdict) (n : ℕ) → is_well_formed p ≡ true
+pub optimised : (o : Outside) (p q : Program) (t : Traced) (advisers : ℕ) (before after : List Bool) (v : Verdict) (n : ℕ) → is_well_formed p ≡ true
     → (is_well_formed p ≡ true → IsAdvised o p advisers before after v)
     → (is_well_formed p ≡ true → IsSilent o.silent v.admitted p q) → (is_well_formed p ≡ true → is_well_formed q ≡ true)
-    → HaveRun o v.admitted q r n → IsOptimised o p advisers before after v.spared r n
-optimised o p q r advisers before after v n formed advised silent still ran = record {
+    → HaveRun o v.admitted q t n → IsOptimised o p advisers before after v.spared t.program t.origins n
+optimised o p q t advisers before after v n formed advised silent still ran = record {
   admitted = v.admitted;
   advised = advised formed;
   silenced = q;

@@ -1,33 +1,39 @@
 -- What the rounds do to a program, by number (this project's profile).
-use Rattle.std.specs.Prelude.{◌≡◌, ◌<◌, ℕ, zero, suc, Bool, true, false, List}
+use Rattle.std.specs.Prelude.{◌≡◌, ◌<◌, ℕ, zero, suc, Bool, true, false, List, []}
+use Rattle.program_model.specs.declared.pass.Origin.{Origin}
 use Rattle.program_model.specs.declared.pass.Outside.{Outside}
 use Rattle.program_model.specs.declared.program.Program.{Program}
 use Rattle.program_model.specs.ProgramRules.{is_well_formed}
+use Rattle.pipeline.specs.declared.traces.Traced.{Traced}
 use Rattle.pipeline.specs.Advised.{IsAdvised}
 use Rattle.pipeline.specs.Counts.{counted}
 use Rattle.pipeline.specs.Passes.{passes, Steps, AreStill, bulk_of}
 use Rattle.pipeline.specs.Silence.{IsSilent}
 
 -- So many rounds, one after another, each of which leaves less.
-pub data Rounds (o : Outside) (admitted : List Bool) : ℕ → Program → Program → Type 0 where
-  Ended : (p : Program) → Rounds o admitted zero p p
-  Next : (n : ℕ) (p q r : Program) → Steps o admitted passes p q → bulk_of q < bulk_of p → Rounds o admitted n q r → Rounds o admitted (suc n) p r
+pub data Rounds (o : Outside) (admitted : List Bool) : ℕ → Traced → Traced → Type 0 where
+  Ended : (t : Traced) → Rounds o admitted zero t t
+  Next : (n : ℕ) (t u v : Traced) → Steps o admitted passes t u → bulk_of u.program < bulk_of t.program → Rounds o admitted n u v → Rounds o admitted (suc n) t v
+
+-- a program no position of which has moved
+abbrev pub first_of : Program → Traced
+first_of p = record { program = p; origins = [] }
 
 -- Rounds ran until one changed nothing, so that each pass leaves what is left the same, and this is their count with that one.
-pub record HaveRun (o : Outside) (admitted : List Bool) (p r : Program) (count : ℕ) : Type 0 where
+pub record HaveRun (o : Outside) (admitted : List Bool) (p : Program) (t : Traced) (count : ℕ) : Type 0 where
   pub changing : ℕ
-  pub rounds : Rounds o admitted changing p r
-  pub ends : AreStill o admitted passes r
+  pub rounds : Rounds o admitted changing (first_of p) t
+  pub ends : AreStill o admitted passes t.program
   pub count_is : count ≡ counted (suc changing)
 
--- What is left of a well-formed program. So many advisers were asked about methods, whose answers stand behind those before, and so
--- many methods were spared. The silent calls of the admitted methods are nops, of none where the rules forbid it, and the program is
--- well-formed still; then rounds ran, so many, until one left the program the same.
-pub record IsOptimised (o : Outside) (p : Program) (advisers : ℕ) (before after : List Bool) (spared : ℕ) (r : Program) (rounds : ℕ) : Type 0 where
+-- What is left of a well-formed program, and where its positions come from. So many advisers were asked about methods, whose answers
+-- stand behind those before, and so many methods were spared. The silent calls of the admitted methods are nops, of none where the
+-- rules forbid it, and the program is well-formed still; then rounds ran, so many, until one left the program the same.
+pub record IsOptimised (o : Outside) (p : Program) (advisers : ℕ) (before after : List Bool) (spared : ℕ) (r : Program) (origins : List (List Origin)) (rounds : ℕ) : Type 0 where
   pub admitted : List Bool
   pub advised : IsAdvised o p advisers before after (record { admitted = admitted; spared = spared })
   pub silenced : Program
   pub silent : IsSilent o.silent admitted p silenced
   pub unsilenced : o.optimise ≡ false → silenced ≡ p
   pub formed : is_well_formed silenced ≡ true
-  pub ran : HaveRun o admitted silenced r rounds
+  pub ran : HaveRun o admitted silenced (record { program = r; origins = origins }) rounds

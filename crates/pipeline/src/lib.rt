@@ -9,6 +9,7 @@ mod passes;
 mod rounds;
 mod silent;
 mod texts;
+mod traces;
 
 pub use counts::{count_instructions, count_members};
 pub use rounds::{Outcome, optimise};

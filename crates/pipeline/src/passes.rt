@@ -4,20 +4,16 @@ ghost use Rattle.std.specs.Prelude.{◌≡◌, ◌∷◌, [], Bool, List, IfOk};
 ghost use Rattle.pipeline.specs.Passes.{Reach, Squeeze, HavePassed};
 
 use crate::graph::hierarchy_of;
-use program_model::{Admitted, Changed, Outside, Program};
-use seq::Seq;
+use crate::traces::{Passed, Traced, passed};
+use program_model::{Admitted, Outside};
 use std::alloc::{AllocError, Global};
 
 /// The program as it is, with nothing changed.
-fn unchanged(alloc: Global, program: Program) -> Changed
-    ensures program { result.program ≡ program }
+fn unchanged(traced: Traced) -> Passed
+    ensures traced { result.traced ≡ traced }
     ensures count { result.count ≡ 0 }
 {
-    Changed {
-        program,
-        count: 0,
-        origins: Seq::new(alloc),
-    }
+    Passed { traced, count: 0 }
 }
 
 /// Removes what is not reached, unless the rules forbid it or the class graph has a fault. The only error is want of
@@ -25,28 +21,31 @@ fn unchanged(alloc: Global, program: Program) -> Changed
 #[tactic(auto, using(crate::proofs::Passing::barred_passed))]
 pub fn remove_unreached(
     alloc: Global,
-    program: Program,
+    traced: Traced,
     outside: &Outside,
-) -> Result<Changed, AllocError>
-    ensures { IfOk result (λ changed. (admitted : List Bool) → HavePassed outside.now admitted (Reach ∷ []) program changed.program changed.count) }
+) -> Result<Passed, AllocError>
+    ensures { IfOk result (λ passed. (admitted : List Bool) → HavePassed outside.now admitted (Reach ∷ []) traced passed) }
 {
     if !outside.shrink {
-        return Ok(unchanged(alloc, program));
+        return Ok(unchanged(traced));
     }
-    match hierarchy_of(alloc, &program)? {
-        Some(hierarchy) => Ok(reach::apply(alloc, program, &hierarchy, outside)?),
-        None => Ok(unchanged(alloc, program)),
+    match hierarchy_of(alloc, &traced.program)? {
+        Some(hierarchy) => {
+            let changed = reach::apply(alloc, traced.program, &hierarchy, outside)?;
+            Ok(passed(traced.origins, changed))
+        }
+        None => Ok(unchanged(traced)),
     }
 }
 
 /// Takes what does nothing out of the bodies of admitted methods. The only error is want of memory.
 pub fn squeeze_bodies(
     alloc: Global,
-    program: Program,
+    traced: Traced,
     admitted: &Admitted,
-) -> Result<Changed, AllocError>
-    ensures { IfOk result (λ changed. (outside : Outside) → HavePassed outside admitted.now.methods.items (Squeeze ∷ []) program changed.program changed.count) }
+) -> Result<Passed, AllocError>
+    ensures { IfOk result (λ passed. (outside : Outside) → HavePassed outside admitted.now.methods.items (Squeeze ∷ []) traced passed) }
 {
-    let squeezed = squeeze::apply(alloc, program, admitted)?;
-    Ok(squeezed)
+    let changed = squeeze::apply(alloc, traced.program, admitted)?;
+    Ok(passed(traced.origins, changed))
 }

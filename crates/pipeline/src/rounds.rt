@@ -13,14 +13,17 @@ use crate::counts::{count_instructions, count_members};
 use crate::graph::hierarchy_of;
 use crate::passes::{remove_unreached, squeeze_bodies};
 use crate::silent::silence;
+use crate::traces::{Passed, Traced};
 use call_graph::live_members;
-use program_model::{Admitted, Changed, Origin, Outside, Program};
+use program_model::{Admitted, Origin, Outside, Program};
 use redex_outside::Panel;
 use seq::Seq;
 use std::alloc::{AllocError, Global};
 
 /// What is left of a program: how many rounds ran, the last one of which changed nothing, how many members and
-/// instructions went, how many methods some adviser refused, and where the instructions come from.
+/// instructions went, how many methods some adviser refused, and where the positions come from: for each method number an
+/// origin for each position of the method, and no list at all where no position has moved. The list of a method that is not
+/// defined any more says nothing.
 #[derive(Debug, Drop)]
 pub struct Outcome {
     pub program: Program,
@@ -56,19 +59,18 @@ fn advice_on(
 /// One round: each pass once, in its order.
 fn round(
     alloc: Global,
-    program: Program,
+    traced: Traced,
     outside: &Outside,
     admitted: &Admitted,
-) -> Result<Changed, AllocError>
-    ensures passed { IfOk result (λ changed. HavePassed outside.now admitted.now.methods.items passes program changed.program changed.count) }
-    ensures falls { IfOk result (λ changed. bulk_of changed.program + min changed.count 1 ≤ bulk_of program) }
+) -> Result<Passed, AllocError>
+    ensures passed { IfOk result (HavePassed outside.now admitted.now.methods.items passes traced) }
+    ensures falls { IfOk result (λ left. bulk_of left.traced.program + min left.count 1 ≤ bulk_of traced.program) }
 {
-    let reached = remove_unreached(alloc, program, outside)?;
-    let squeezed = squeeze_bodies(alloc, reached.program, admitted)?;
-    Ok(Changed {
-        program: squeezed.program,
+    let reached = remove_unreached(alloc, traced, outside)?;
+    let squeezed = squeeze_bodies(alloc, reached.traced, admitted)?;
+    Ok(Passed {
+        traced: squeezed.traced,
         count: reached.count.saturating_add(squeezed.count),
-        origins: Seq::new(alloc),
     })
 }
 
@@ -78,17 +80,21 @@ fn all_rounds(
     program: Program,
     outside: &Outside,
     admitted: &Admitted,
-) -> Result<(Program, u32), AllocError>
+) -> Result<(Traced, u32), AllocError>
     ensures run { IfOk result (λ r. HaveRun outside.now admitted.now.methods.items program r.0 r.1) }
     ensures count { IfOk result (λ r. 1 ≤ r.1) }
 {
+    let first = Traced {
+        program,
+        origins: Seq::new(alloc),
+    };
     let mut rounds: u32 = 1;
-    let mut changed = round(alloc, program, outside, admitted)?;
-    'rounds: while changed.count > 0 {
-        changed = round(alloc, changed.program, outside, admitted)?;
+    let mut left = round(alloc, first, outside, admitted)?;
+    'rounds: while left.count > 0 {
+        left = round(alloc, left.traced, outside, admitted)?;
         rounds = rounds.saturating_add(1);
     }
-    Ok((changed.program, rounds))
+    Ok((left.traced, rounds))
 }
 
 /// Optimises a program: asks the panel about each live method with code, in class and method order, unless the rules
@@ -105,7 +111,7 @@ pub fn optimise(
     panel: &mut Panel,
 ) -> Result<Outcome, AllocError>
     requires { 0 ≤ vec_len panel.old.advisers }
-    ensures optimised { is_well_formed program ≡ true → IfOk result (λ outcome. IsOptimised outside.now program (length panel.old.advisers.items) panel.old.answers.items panel.new.answers.items outcome.spared outcome.program outcome.rounds) }
+    ensures optimised { is_well_formed program ≡ true → IfOk result (λ outcome. IsOptimised outside.now program (length panel.old.advisers.items) panel.old.answers.items panel.new.answers.items outcome.spared outcome.program outcome.origins outcome.rounds) }
     ensures rounds { IfOk result (λ outcome. 1 ≤ outcome.rounds) }
     ensures members { IfOk result (λ outcome. outcome.removed_members ≡ capped (members_of program) - capped (members_of outcome.program)) }
     ensures instructions { IfOk result (λ outcome. outcome.removed_instructions ≡ capped (insns_of program) - capped (insns_of outcome.program)) }
@@ -114,15 +120,15 @@ pub fn optimise(
     let instructions = count_instructions(&program);
     let advice = advice_on(alloc, &program, outside, panel)?;
     let program = silence(alloc, program, outside, &advice.admitted)?;
-    let (program, rounds) = all_rounds(alloc, program, outside, &advice.admitted)?;
-    let left_members = count_members(&program);
-    let left_instructions = count_instructions(&program);
+    let (left, rounds) = all_rounds(alloc, program, outside, &advice.admitted)?;
+    let left_members = count_members(&left.program);
+    let left_instructions = count_instructions(&left.program);
     Ok(Outcome {
-        program,
+        program: left.program,
         rounds,
         removed_members: members.saturating_sub(left_members),
         removed_instructions: instructions.saturating_sub(left_instructions),
         spared: advice.spared,
-        origins: Seq::new(alloc),
+        origins: left.origins,
     })
 }

@@ -6,8 +6,8 @@ use Rattle.pipeline.proofs.rounds.all_rounds.Given as goal
 abbrev pub invariant-rounds : goal.invariant-rounds
 invariant-rounds l = record {
   count : 1 ≤ l.rounds;
-  rounding : Rounding l.outside l.admitted.methods.items l.fn.program l.changed l.rounds;
+  rounding : Rounding l.outside l.admitted.methods.items l.fn.program l.left l.rounds;
 }
 
 abbrev pub decreases-rounds : goal.decreases-rounds
-decreases-rounds l = bulk_of l.changed.program + min l.changed.count 1
+decreases-rounds l = bulk_of l.left.traced.program + min l.left.count 1

@@ -23,9 +23,9 @@ keeps rules p r o rounds spared well accepted none leaves =
     let graph = accepted.graph well in
     let done = leaves.optimised in record {
       admitted = done.admitted;
-      shown = optimised_shows p accepted.hierarchy well graph.resolved graph.acyclic graph.unsplit o accepted.types rules r leaves.advisers spared rounds leaves.before leaves.after done none;
-      formed = optimised_formed p accepted.hierarchy well graph.resolved graph.acyclic graph.unsplit o accepted.types rules r leaves.advisers spared rounds leaves.before leaves.after done;
-      typed = optimised_typed p accepted.hierarchy well graph.resolved graph.acyclic graph.unsplit o accepted.types rules r leaves.advisers spared rounds leaves.before leaves.after done;
+      shown = optimised_shows p accepted.hierarchy well graph.resolved graph.acyclic graph.unsplit o accepted.types rules r leaves.origins leaves.advisers spared rounds leaves.before leaves.after done none;
+      formed = optimised_formed p accepted.hierarchy well graph.resolved graph.acyclic graph.unsplit o accepted.types rules r leaves.origins leaves.advisers spared rounds leaves.before leaves.after done;
+      typed = optimised_typed p accepted.hierarchy well graph.resolved graph.acyclic graph.unsplit o accepted.types rules r leaves.origins leaves.advisers spared rounds leaves.before leaves.after done;
     }
 
 shrinks : (rules file output summary : List ℕ) → Finished rules file output summary → Shrinks rules file output

@@ -1,5 +1,7 @@
 -- Each pass of a round keeps what a pass owes.
 use Rattle.std.proofs.Common.{◌≡◌, ◌⊎◌, inl, inr, ℕ, Bool, true, false, true≢false, List, [], Some, None, Option, refl, sym, ap, ◌∙◌, subst}
+use Rattle.program_model.specs.declared.body.Body.{Body}
+use Rattle.program_model.specs.declared.pass.Changed.{Changed}
 use Rattle.program_model.specs.declared.pass.Origin.{Origin}
 use Rattle.program_model.specs.declared.program.Program.{Program}
 use Rattle.program_model.specs.declared.pass.Outside.{Outside}
@@ -19,18 +21,17 @@ use Rattle.pass_defs.specs.Live.{Family}
 use Rattle.pass_defs.specs.Typed.{IsTyped}
 use Rattle.removal_law.specs.Left.{left_of}
 use Rattle.removal_law.proofs.Classes.{left_less}
-use Rattle.thin_law.specs.Thins.{Thins}
-use Rattle.thin_law.proofs.Programs.{Squeezes, squeezed_shown, named_thins}
-use Rattle.squeeze_bridge.proofs.Squeezes.{program_thins}
-use Rattle.pipeline.specs.Passes.{Pass, Reach, Squeeze, Removes, IsRemoval, Does}
-use Rattle.pipeline.specs.Passes.{Squeezes as SqueezesAll}
+use Rattle.body_edit.specs.declared.fate.Fate.{Fate}
+use Rattle.thin_pass.specs.Plans.{IsThinnedBy}
+use Rattle.squeeze.specs.Skipping.{AreSkips}
+use Rattle.pipeline.specs.Passes.{Pass, Reach, Squeeze, Removes, IsBarred, IsRemoval}
 use Rattle.reach_bridge.specs.Names.{family_of}
 use Rattle.reach_bridge.proofs.Kept.{kept_named}
 use Rattle.reach_bridge.proofs.Unshut.{unshut}
 use Rattle.reach_bridge.proofs.Within.{shows_the_same, keeps_typing}
 use Rattle.rounds_bridge.specs.Owed.{Owes, Keeps}
-use Rattle.rounds_bridge.specs.Premises.{SqueezeKeeps}
-use Rattle.rounds_bridge.proofs.Heads.{others_define}
+use Rattle.rounds_bridge.specs.Premises.{ThinningKeeps, SqueezeKeeps}
+use Rattle.rounds_bridge.proofs.Heads.{thinned_defines}
 use Rattle.rounds_bridge.proofs.Owing.{owes_same}
 
 -- ---- removal
@@ -59,28 +60,30 @@ module _ (o : Outside) where
     shown = λ none. shows_the_same p o s marked typed (unshut p o none);
   }
 
-  removal_owes : (p q : Program) → is_well_formed p ≡ true → IsTyped (named p) → IsRemoval o p q → Owes o p q
-  removal_owes p q formed typed (inl r) = subst (λ (x : Program). Owes o p x) (sym r.left) (kept_owes p r.marks r.marked typed)
-  removal_owes p q formed typed (inr still) = subst (λ (x : Program). Owes o p x) (sym still.0) (owes_same o p formed typed)
+  removal_owes : (p q : Program) (moved : List (List Origin)) → is_well_formed p ≡ true → IsTyped (named p) → IsRemoval o p q moved → Owes o p q
+  removal_owes p q moved formed typed r = by r.removal
+    where
+      by : Removes o p q ⊎ ((q ≡ p) × IsBarred o p) → Owes o p q
+      by (inl one) = subst (λ (x : Program). Owes o p x) (sym one.left) (kept_owes p one.marks one.marked typed)
+      by (inr none) = subst (λ (x : Program). Owes o p x) (sym none.0) (owes_same o p formed typed)
 
   pub reach_keeps : (admitted : List Bool) → Keeps o admitted Reach
   reach_keeps admitted = record { owes = removal_owes }
 
-  -- ---- squeezing
+  -- ---- thinning
 
-  squeeze_owes : SqueezeKeeps → (admitted : List Bool) (p q : Program) → is_well_formed p ≡ true → IsTyped (named p) → SqueezesAll admitted p q → Owes o p q
-  squeeze_owes rules admitted p q formed typed s =
-      let thins = program_thins admitted p q _ s.origins s.count s.squeezed in
-      let others = named_thins Squeezes p q thins in record {
-        formed = rules.formed admitted p q _ s.origins s.count s.squeezed formed;
-        typed = rules.typed admitted p q _ s.origins s.count s.squeezed formed typed;
-        outer = ap (λ (x : Program). outer_of x o) s.squeezed.same;
-        fewer = λ t d. sym (others_define (Thins Squeezes) (named p) (named q) others t) ∙ d;
-        shown = λ none. squeezed_shown (named p) (named q) (outer_of p o) others;
-      }
+  thinning_owes : (wishes : Body → List Fate → Type 0) → ThinningKeeps wishes → (admitted : List Bool) (p : Program) (c : Changed) → is_well_formed p ≡ true → IsTyped (named p)
+      → IsThinnedBy wishes admitted p c → Owes o p c.program
+  thinning_owes wishes rules admitted p c formed typed h = record {
+    formed = rules.formed admitted p c h formed;
+    typed = rules.typed admitted p c h formed typed;
+    outer = ap (λ (x : Program). outer_of x o) h.program;
+    fewer = λ t d. sym (thinned_defines p t h.plan) ∙ sym (ap (λ (x : Program). defines (named x) t) h.program) ∙ d;
+    shown = λ none. rules.shown admitted p c h formed typed (outer_of p o);
+  }
 
   pub squeeze_keeps : SqueezeKeeps → (admitted : List Bool) → Keeps o admitted Squeeze
-  squeeze_keeps rules admitted = record { owes = squeeze_owes rules admitted }
+  squeeze_keeps rules admitted = record { owes = λ p q moved formed typed h. thinning_owes AreSkips rules admitted p (record { program = q; count = h.count; origins = moved }) formed typed h.thinned }
 
   -- ---- every pass
 

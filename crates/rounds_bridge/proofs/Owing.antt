@@ -8,6 +8,7 @@ use Rattle.dalvik_defs.specs.Outer.{Outer, outer_of}
 use Rattle.dalvik_defs.specs.Shown.{SameShown}
 use Rattle.dalvik_defs.proofs.Same.{same_shown_refl, same_shown_on}
 use Rattle.pass_defs.specs.Typed.{IsTyped}
+use Rattle.pipeline.specs.declared.traces.Traced.{Traced}
 use Rattle.pipeline.specs.Passes.{Pass, passes, Step, Steps, Last, Then}
 use Rattle.pipeline.specs.Rounds.{Rounds, Ended, Next}
 use Rattle.rounds_bridge.specs.Owed.{Owes, Keeps}
@@ -26,14 +27,14 @@ module _ (o : Outside) where
   }
 
   module _ (admitted : List Bool) (keeps : (pass : Pass) → Keeps o admitted pass) where
-    pub steps_owe : (some : List Pass) (p q : Program) → Steps o admitted some p q → is_well_formed p ≡ true → IsTyped (named p) → Owes o p q
-    steps_owe some p q (Last x) formed typed = owes_same x formed typed
-    steps_owe some p q (Then pass rest x y z first others) formed typed =
-        let one : Owes o x y = (keeps pass).owes x y formed typed (first.does formed) in
-        owes_on x y z one (steps_owe rest y z others one.formed one.typed)
+    pub steps_owe : (some : List Pass) (t u : Traced) → Steps o admitted some t u → is_well_formed t.program ≡ true → IsTyped (named t.program) → Owes o t.program u.program
+    steps_owe some t u (Last x) formed typed = owes_same x.program formed typed
+    steps_owe some t u (Then pass rest x y z first others) formed typed =
+        let one : Owes o x.program y.program = (keeps pass).owes x.program y.program first.moved formed typed (first.does formed) in
+        owes_on x.program y.program z.program one (steps_owe rest y z others one.formed one.typed)
 
-    pub rounds_owe : (n : ℕ) (p q : Program) → Rounds o admitted n p q → is_well_formed p ≡ true → IsTyped (named p) → Owes o p q
-    rounds_owe n p q (Ended x) formed typed = owes_same x formed typed
-    rounds_owe n p q (Next m x y z first less rest) formed typed =
-        let one : Owes o x y = steps_owe passes x y first formed typed in
-        owes_on x y z one (rounds_owe m y z rest one.formed one.typed)
+    pub rounds_owe : (n : ℕ) (t u : Traced) → Rounds o admitted n t u → is_well_formed t.program ≡ true → IsTyped (named t.program) → Owes o t.program u.program
+    rounds_owe n t u (Ended x) formed typed = owes_same x.program formed typed
+    rounds_owe n t u (Next m x y z first less rest) formed typed =
+        let one : Owes o x.program y.program = steps_owe passes x y first formed typed in
+        owes_on x.program y.program z.program one (rounds_owe m y z rest one.formed one.typed)

@@ -1,5 +1,6 @@
 -- What a pass owes.
 use Rattle.std.specs.Prelude.{◌≡◌, Bool, true, List, []}
+use Rattle.program_model.specs.declared.pass.Origin.{Origin}
 use Rattle.program_model.specs.declared.program.Program.{Program}
 use Rattle.program_model.specs.declared.pass.Outside.{Outside}
 use Rattle.program_model.specs.ProgramRules.{is_well_formed}
@@ -22,4 +23,4 @@ pub record Owes (o : Outside) (p q : Program) : Type 0 where
 
 -- Whatever the pass does to a well-formed and typed program, it owes this.
 pub record Keeps (o : Outside) (admitted : List Bool) (pass : Pass) : Type 0 where
-  pub owes : (p q : Program) → is_well_formed p ≡ true → IsTyped (named p) → Does o admitted pass p q → Owes o p q
+  pub owes : (p q : Program) (moved : List (List Origin)) → is_well_formed p ≡ true → IsTyped (named p) → Does o admitted pass p q moved → Owes o p q

@@ -1,5 +1,6 @@
 -- What is left of a program for all rules shows what the program without its silent calls shows.
 use Rattle.std.proofs.Common.{◌≡◌, inl, inr, ℕ, Bool, true, List, [], sym, ap, ◌∙◌, subst}
+use Rattle.program_model.specs.declared.pass.Origin.{Origin}
 use Rattle.program_model.specs.declared.program.Program.{Program}
 use Rattle.program_model.specs.declared.pass.Outside.{Outside}
 use Rattle.program_model.specs.ProgramRules.{is_well_formed}
@@ -14,7 +15,7 @@ use Rattle.hierarchy.specs.declared.build.Hierarchy.{Hierarchy}
 use Rattle.verify.specs.Methods.{TypesAll}
 use Rattle.type_bridge.proofs.Programs.{typed_program}
 use Rattle.pipeline.specs.Silence.{is_quiet, silenced, IsSilent}
-use Rattle.pipeline.specs.Rounds.{IsOptimised}
+use Rattle.pipeline.specs.Rounds.{first_of, IsOptimised}
 use Rattle.rounds_bridge.specs.Owed.{Owes}
 use Rattle.rounds_bridge.specs.Premises.{SqueezeKeeps}
 use Rattle.rounds_bridge.proofs.Repeated.{all_rounds_owe}
@@ -42,9 +43,9 @@ module _ (p : Program) (h : Hierarchy) (formed : is_well_formed p ≡ true) (res
     silent_typed admitted q silent = subst IsTyped (sym (silent_named admitted q silent))
         (silenced_typed (named p) (outer_of p o) (admitted_in p admitted) (well_placed p formed) (typed_program p h formed resolved types))
 
-    module _ (rules : SqueezeKeeps) (r : Program) (advisers spared n : ℕ) (before after : List Bool) (done : IsOptimised o p advisers before after spared r n) where
+    module _ (rules : SqueezeKeeps) (r : Program) (origins : List (List Origin)) (advisers spared n : ℕ) (before after : List Bool) (done : IsOptimised o p advisers before after spared r origins n) where
       rounds : Owes o done.silenced r
-      rounds = all_rounds_owe rules o done.admitted done.ran.changing done.silenced r done.ran.rounds done.formed (silent_typed done.admitted done.silenced done.silent)
+      rounds = all_rounds_owe rules o done.admitted done.ran.changing (first_of done.silenced) (record { program = r; origins = origins }) done.ran.rounds done.formed (silent_typed done.admitted done.silenced done.silent)
 
       pub optimised_shows : o.shut ≡ [] → SameShown (by_name.silenced (named p) (outer_of p o) (admitted_in p done.admitted)) (named r) (outer_of p o)
       optimised_shows none =

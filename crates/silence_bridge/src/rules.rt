@@ -1,6 +1,7 @@
 //! The law of all rules.
 
 ghost use Rattle.std.specs.Prelude.{◌≡◌, ℕ, Bool, true, List, []};
+ghost use Rattle.program_model.specs.declared.pass.Origin.{Origin};
 ghost use Rattle.program_model.specs.declared.program.Program.{Program};
 ghost use Rattle.program_model.specs.declared.pass.Outside.{Outside};
 ghost use Rattle.program_model.specs.ProgramRules.{is_well_formed};
@@ -22,12 +23,12 @@ ghost use Rattle.silence_bridge.specs.Admitted.{admitted_in};
 /// a typing of each method, and no method is shut, as in what rules alone give. What the rounds begin with is, by names, the
 /// program without these calls. The premises are what `Hierarchy::build`, `verify_all` and `optimise` say where they accept.
 pub fn all_rules_law()
-    ensures silenced { (p r : Program) (h : Hierarchy) (o : Outside) (advisers spared rounds : ℕ) (before after : List Bool) → is_well_formed p ≡ true → IsResolved p h → IsAcyclic p → NoSplit p
-        → (done : IsOptimised o p advisers before after spared r rounds) → named done.silenced ≡ silenced (named p) (outer_of p o) (admitted_in p done.admitted) }
-    ensures shown { SqueezeKeeps → (p r : Program) (h : Hierarchy) (o : Outside) (advisers spared rounds : ℕ) (before after : List Bool) → is_well_formed p ≡ true → IsResolved p h → IsAcyclic p → NoSplit p → TypesAll p h
-        → (done : IsOptimised o p advisers before after spared r rounds) → o.shut ≡ [] → SameShown (silenced (named p) (outer_of p o) (admitted_in p done.admitted)) (named r) (outer_of p o) }
-    ensures formed { SqueezeKeeps → (p r : Program) (h : Hierarchy) (o : Outside) (advisers spared rounds : ℕ) (before after : List Bool) → is_well_formed p ≡ true → IsResolved p h → IsAcyclic p → NoSplit p → TypesAll p h
-        → IsOptimised o p advisers before after spared r rounds → is_well_formed r ≡ true }
-    ensures typed { SqueezeKeeps → (p r : Program) (h : Hierarchy) (o : Outside) (advisers spared rounds : ℕ) (before after : List Bool) → is_well_formed p ≡ true → IsResolved p h → IsAcyclic p → NoSplit p → TypesAll p h
-        → IsOptimised o p advisers before after spared r rounds → IsTyped (named r) }
+    ensures silenced { (p r : Program) (origins : List (List Origin)) (h : Hierarchy) (o : Outside) (advisers spared rounds : ℕ) (before after : List Bool) → is_well_formed p ≡ true → IsResolved p h → IsAcyclic p → NoSplit p
+        → (done : IsOptimised o p advisers before after spared r origins rounds) → named done.silenced ≡ silenced (named p) (outer_of p o) (admitted_in p done.admitted) }
+    ensures shown { SqueezeKeeps → (p r : Program) (origins : List (List Origin)) (h : Hierarchy) (o : Outside) (advisers spared rounds : ℕ) (before after : List Bool) → is_well_formed p ≡ true → IsResolved p h → IsAcyclic p → NoSplit p → TypesAll p h
+        → (done : IsOptimised o p advisers before after spared r origins rounds) → o.shut ≡ [] → SameShown (silenced (named p) (outer_of p o) (admitted_in p done.admitted)) (named r) (outer_of p o) }
+    ensures formed { SqueezeKeeps → (p r : Program) (origins : List (List Origin)) (h : Hierarchy) (o : Outside) (advisers spared rounds : ℕ) (before after : List Bool) → is_well_formed p ≡ true → IsResolved p h → IsAcyclic p → NoSplit p → TypesAll p h
+        → IsOptimised o p advisers before after spared r origins rounds → is_well_formed r ≡ true }
+    ensures typed { SqueezeKeeps → (p r : Program) (origins : List (List Origin)) (h : Hierarchy) (o : Outside) (advisers spared rounds : ℕ) (before after : List Bool) → is_well_formed p ≡ true → IsResolved p h → IsAcyclic p → NoSplit p → TypesAll p h
+        → IsOptimised o p advisers before after spared r origins rounds → IsTyped (named r) }
 {}

@@ -2,16 +2,16 @@ use Rattle.silence_bridge.proofs.Optimised.{silent_named, optimised_shows, optim
 use Rattle.silence_bridge.proofs.rules.all_rules_law.Goals as goal
 
 pub returns-clause-silenced : goal.returns-clause-silenced
-returns-clause-silenced c = λ p r h o advisers spared rounds before after formed resolved acyclic whole done. silent_named p h formed resolved acyclic whole o done.admitted done.silenced done.silent
+returns-clause-silenced c = λ p r origins h o advisers spared rounds before after formed resolved acyclic whole done. silent_named p h formed resolved acyclic whole o done.admitted done.silenced done.silent
 
 pub returns-clause-shown : goal.returns-clause-shown
-returns-clause-shown c = λ rules p r h o advisers spared rounds before after formed resolved acyclic whole types done none.
-    optimised_shows p h formed resolved acyclic whole o types rules r advisers spared rounds before after done none
+returns-clause-shown c = λ rules p r origins h o advisers spared rounds before after formed resolved acyclic whole types done none.
+    optimised_shows p h formed resolved acyclic whole o types rules r origins advisers spared rounds before after done none
 
 pub returns-clause-formed : goal.returns-clause-formed
-returns-clause-formed c = λ rules p r h o advisers spared rounds before after formed resolved acyclic whole types done.
-    optimised_formed p h formed resolved acyclic whole o types rules r advisers spared rounds before after done
+returns-clause-formed c = λ rules p r origins h o advisers spared rounds before after formed resolved acyclic whole types done.
+    optimised_formed p h formed resolved acyclic whole o types rules r origins advisers spared rounds before after done
 
 pub returns-clause-typed : goal.returns-clause-typed
-returns-clause-typed c = λ rules p r h o advisers spared rounds before after formed resolved acyclic whole types done.
-    optimised_typed p h formed resolved acyclic whole o types rules r advisers spared rounds before after done
+returns-clause-typed c = λ rules p r origins h o advisers spared rounds before after formed resolved acyclic whole types done.
+    optimised_typed p h formed resolved acyclic whole o types rules r origins advisers spared rounds before after done

@@ -5,8 +5,7 @@ use Rattle.program_model.specs.declared.pass.Outside.{Outside}
 use Rattle.program_model.specs.declared.program.Program.{Program}
 use Rattle.command_line.specs.declared.command.CommandWords.{CommandWords}
 use Rattle.command_line.specs.declared.command.CommandWords.TheVariants.{Nothing, Optimise, Check, Live, Trace, Workload}
-use Rattle.rounds_bridge.specs.Premises.{SqueezeKeeps}
-use Rattle.silence_bridge.proofs.Optimised.{optimised_shows, optimised_formed, optimised_typed}
+use Rattle.silence_bridge.proofs.Optimised.{optimised_shows, optimised_sound}
 use Rattle.redex_outside.specs.Held.{Held}
 use Rattle.redex_cli.specs.Accepted.{IsAccepted}
 use Rattle.redex_cli.specs.Commands.{Commands}
@@ -18,14 +17,14 @@ use Rattle.headline.specs.Headline.{Headline, KeepsMeaning, Shrinks}
 unshut : (text : List ℕ) (p : Program) (o : Outside) → IsRuled text p o → o.shut ≡ []
 unshut text p o ruled = ruled.table.closes.shut ∙ ruled.table.unshut
 
-keeps : SqueezeKeeps → (p r : Program) (o : Outside) (rounds spared : ℕ) → is_well_formed p ≡ true → IsAccepted p → o.shut ≡ [] → Leaves p o r rounds spared → KeepsMeaning p o r
-keeps rules p r o rounds spared well accepted none leaves =
+keeps : (p r : Program) (o : Outside) (rounds spared : ℕ) → is_well_formed p ≡ true → IsAccepted p → o.shut ≡ [] → Leaves p o r rounds spared → KeepsMeaning p o r
+keeps p r o rounds spared well accepted none leaves =
     let graph = accepted.graph well in
     let done = leaves.optimised in record {
       admitted = done.admitted;
-      shown = optimised_shows p accepted.hierarchy well graph.resolved graph.acyclic graph.unsplit o accepted.types rules r leaves.origins leaves.advisers spared rounds leaves.before leaves.after done none;
-      formed = optimised_formed p accepted.hierarchy well graph.resolved graph.acyclic graph.unsplit o accepted.types rules r leaves.origins leaves.advisers spared rounds leaves.before leaves.after done;
-      typed = optimised_typed p accepted.hierarchy well graph.resolved graph.acyclic graph.unsplit o accepted.types rules r leaves.origins leaves.advisers spared rounds leaves.before leaves.after done;
+      shown = optimised_shows p accepted.hierarchy well graph.resolved graph.acyclic graph.unsplit o accepted.types r leaves.origins leaves.advisers spared rounds leaves.before leaves.after done none;
+      formed = (optimised_sound p accepted.hierarchy well graph.resolved graph.acyclic graph.unsplit o accepted.types r leaves.origins leaves.advisers spared rounds leaves.before leaves.after done).formed;
+      typed = (optimised_sound p accepted.hierarchy well graph.resolved graph.acyclic graph.unsplit o accepted.types r leaves.origins leaves.advisers spared rounds leaves.before leaves.after done).typed;
     }
 
 shrinks : (rules file output summary : List ℕ) → Finished rules file output summary → Shrinks rules file output
@@ -36,7 +35,7 @@ shrinks rules file output summary f = record {
   ruled = f.ruled;
   left = f.shrunk.left;
   written = f.shrunk.written;
-  keeps = λ rules well. keeps rules f.program f.shrunk.left f.outside f.shrunk.rounds f.shrunk.spared well f.accepted (unshut rules f.program f.outside f.ruled) (f.shrunk.leaves well);
+  keeps = λ well. keeps f.program f.shrunk.left f.outside f.shrunk.rounds f.shrunk.spared well f.accepted (unshut rules f.program f.outside f.ruled) (f.shrunk.leaves well);
 }
 
 of_command : (words : List (List ℕ)) (held : Held) (output summary : List ℕ) (command : CommandWords) → Commands words command

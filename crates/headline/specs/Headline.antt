@@ -10,7 +10,6 @@ use Rattle.program_model.specs.declared.pass.Outside.{Outside}
 use Rattle.program_model.specs.declared.program.Program.{Program}
 use Rattle.dex_read.specs.File.{program_at}
 use Rattle.dex_write.specs.Written.{IsWritten}
-use Rattle.rounds_bridge.specs.Premises.{SqueezeKeeps}
 use Rattle.silence_bridge.specs.Admitted.{admitted_in}
 use Rattle.command_line.specs.declared.command.CommandWords.TheVariants.{Optimise}
 use Rattle.command_line.specs.declared.command.OptimiseWords.{OptimiseWords}
@@ -27,8 +26,8 @@ pub record KeepsMeaning (program : Program) (outside : Outside) (left : Program)
   pub typed : IsTyped (named left)
 
 -- The file spells a program, the rules have a table for it, and the output is the file that is written for a program that
--- keeps its meaning where it is well-formed, if squeezed programs are well-formed and typed. Not said yet: how the table comes of the
--- rules, that what is read is well-formed, and that the written file spells that program and is valid.
+-- keeps its meaning where it is well-formed. Not said yet: how the table comes of the rules, that what is read is well-formed,
+-- and that the written file spells that program and is valid.
 pub record Shrinks (rules file output : List ℕ) : Type 0 where
   pub program : Program
   pub reads : program_at file ≡ Ok program
@@ -36,7 +35,7 @@ pub record Shrinks (rules file output : List ℕ) : Type 0 where
   pub ruled : IsRuled rules program outside
   pub left : Program
   pub written : IsWritten left output
-  pub keeps : SqueezeKeeps → is_well_formed program ≡ true → KeepsMeaning program outside left
+  pub keeps : is_well_formed program ≡ true → KeepsMeaning program outside left
 
 -- The words spell `optimise`, and the output is such a one of what the names hold.
 pub record Headline (words : List (List ℕ)) (held : Held) (output : List ℕ) : Type 0 where

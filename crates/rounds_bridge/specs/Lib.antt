@@ -1,2 +1,1 @@
 pub mod Owed
-pub mod Premises

@@ -5,27 +5,27 @@ ghost use Rattle.program_model.specs.declared.pass.Origin.{Origin};
 ghost use Rattle.program_model.specs.declared.program.Program.{Program};
 ghost use Rattle.program_model.specs.declared.pass.Outside.{Outside};
 ghost use Rattle.program_model.specs.ProgramRules.{is_well_formed};
-ghost use Rattle.dalvik_defs.specs.Naming.{named};
-ghost use Rattle.pass_defs.specs.Typed.{IsTyped};
-ghost use Rattle.hierarchy.specs.Shapes.{IsResolved};
+ghost use Rattle.hierarchy.specs.Shapes.{IsAcyclic, IsResolved};
 ghost use Rattle.hierarchy.specs.declared.build.Hierarchy.{Hierarchy};
 ghost use Rattle.verify.specs.Methods.{TypesAll};
 ghost use Rattle.pipeline.specs.declared.traces.Traced.{Traced};
 ghost use Rattle.pipeline.specs.Rounds.{IsOptimised, Rounds};
-ghost use Rattle.rounds_bridge.specs.Owed.{Owes};
-ghost use Rattle.rounds_bridge.specs.Premises.{SqueezeKeeps};
+ghost use Rattle.rounds_bridge.specs.Owed.{IsSound, Owes};
 
-/// What any number of rounds leave of a well-formed, typed program is so too, and shows the same as the program before all
-/// of them, where no method is shut, as in what rules alone give.
-pub fn rounds_law()
-    ensures { SqueezeKeeps → (o : Outside) (admitted : List Bool) (n : ℕ) (t u : Traced) → Rounds o admitted n t u → is_well_formed t.program ≡ true → IsTyped (named t.program) → Owes o t.program u.program }
+/// A well-formed program of which a hierarchy was built, and of which the verifier has a typing of each method, is sound.
+pub fn accepted_sound_law()
+    ensures { (p : Program) (h : Hierarchy) → is_well_formed p ≡ true → IsResolved p h → IsAcyclic p → TypesAll p h → IsSound p }
 {}
 
-/// What `optimise` leaves of a well-formed program is well-formed and typed, and shows the same where no method is shut, where
-/// the hierarchy was built of it, the verifier has a typing of each method, and no call is silent: the rules forbid all
-/// rewriting, or name no silent method. The premises are what `Hierarchy::build`, `verify_all` and `optimise` say where they
-/// accept.
+/// What any number of rounds leave of a sound program is sound, and shows the same as the program before all of them, where
+/// no method is shut, as in what rules alone give.
+pub fn rounds_law()
+    ensures { (o : Outside) (admitted : List Bool) (n : ℕ) (t u : Traced) → Rounds o admitted n t u → IsSound t.program → Owes o t.program u.program }
+{}
+
+/// What `optimise` leaves of a sound program is sound, and shows the same where no method is shut, where no call is silent: the
+/// rules forbid all rewriting, or name no silent method.
 pub fn optimised_law()
-    ensures { SqueezeKeeps → (p r : Program) (origins : List (List Origin)) (h : Hierarchy) (o : Outside) (advisers spared rounds : ℕ) (before after : List Bool) → is_well_formed p ≡ true → IsResolved p h → TypesAll p h
-        → IsOptimised o p advisers before after spared r origins rounds → (o.optimise ≡ false) ⊎ (o.silent ≡ []) → Owes o p r }
+    ensures { (p r : Program) (origins : List (List Origin)) (o : Outside) (advisers spared rounds : ℕ) (before after : List Bool) → IsSound p → IsOptimised o p advisers before after spared r origins rounds
+        → (o.optimise ≡ false) ⊎ (o.silent ≡ []) → Owes o p r }
 {}

@@ -2,4 +2,4 @@ use Rattle.rounds_bridge.proofs.Keeping.{squeeze_keeps}
 use Rattle.rounds_bridge.proofs.passes.squeeze_keeps_law.Goals as goal
 
 pub returns : goal.returns
-returns c = λ rules o admitted. squeeze_keeps o rules admitted
+returns c = squeeze_keeps

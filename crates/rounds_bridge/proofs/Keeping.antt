@@ -90,7 +90,7 @@ module _ (o : Outside) where
 
   squeezing_owes : (admitted : List Bool) (p q : Program) (moved : List (List Origin)) → IsSound p → Thins AreSkips admitted p q moved → Owes o p q
   squeezing_owes admitted p q moved sound h = bodies_owe p q sound
-      (squeezed_kept admitted p (record { program = q; count = h.count; origins = moved }) sound.formed h.thinned sound.typed sound.once sound.grounded)
+      (squeezed_kept admitted p (record { program = q; count = h.count; origins = moved }) sound.formed sound.typed h.thinned sound.once sound.grounded)
 
   pub squeeze_keeps : (admitted : List Bool) → Keeps o admitted Squeeze
   squeeze_keeps admitted = record { owes = squeezing_owes admitted }

@@ -4,7 +4,7 @@ ghost use Rattle.std.specs.Prelude.{◌≡◌, ◌∷◌, [], Bool, List, IfOk};
 ghost use Rattle.pipeline.specs.Passes.{Reach, Squeeze, HavePassed};
 
 use crate::graph::hierarchy_of;
-use crate::traces::{Passed, Traced, passed};
+use crate::traces::{Passed, Traced, passed_on};
 use program_model::{Admitted, Outside};
 use std::alloc::{AllocError, Global};
 
@@ -32,7 +32,7 @@ pub fn remove_unreached(
     match hierarchy_of(alloc, &traced.program)? {
         Some(hierarchy) => {
             let changed = reach::apply(alloc, traced.program, &hierarchy, outside)?;
-            Ok(passed(traced.origins, changed))
+            Ok(passed_on(traced.origins, changed))
         }
         None => Ok(unchanged(traced)),
     }
@@ -47,5 +47,5 @@ pub fn squeeze_bodies(
     ensures { IfOk result (λ passed. (outside : Outside) → HavePassed outside admitted.now.methods.items (Squeeze ∷ []) traced passed) }
 {
     let changed = squeeze::apply(alloc, traced.program, admitted)?;
-    Ok(passed(traced.origins, changed))
+    Ok(passed_on(traced.origins, changed))
 }

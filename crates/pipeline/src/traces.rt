@@ -81,7 +81,7 @@ fn origins_after(old: Seq<Seq<Origin>>, new: Seq<Seq<Origin>>) -> Seq<Seq<Origin
 }
 
 /// What a pass left of a program, by the origins that the program had.
-pub fn passed(old: Seq<Seq<Origin>>, changed: Changed) -> Passed
+pub fn passed_on(old: Seq<Seq<Origin>>, changed: Changed) -> Passed
     ensures program { result.traced.program ≡ changed.program }
     ensures count { result.count ≡ changed.count }
     ensures origins { Follow old changed.origins result.traced.origins }

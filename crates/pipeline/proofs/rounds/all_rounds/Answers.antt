@@ -1,4 +1,4 @@
-use Rattle.std.proofs.Common.{◌≡◌, refl, ap, arith}
+use Rattle.std.proofs.Common.{arith, rules}
 use Rattle.pipeline.proofs.RoundLemmas.{begun, further, ended}
 use Rattle.pipeline.proofs.rounds.all_rounds.Goals as goal
 

@@ -1,6 +1,6 @@
 -- A body with nops for its dead positions has a typing where the body has one.
 use Rattle.std.proofs.Common.{◌≡◌, ◌⊎◌, inl, inr, ℕ, zero, suc, ◌+◌, ◌<◌, Bool, true, false, true≢false, if◌then◌else◌, List, [], ◌∷◌, ◌++◌, length, map, refl, sym, ap, ◌∙◌, subst, arith}
-use Rattle.std.specs.Prelude.{◌&&◌, not, Option, Some, None, slice_get, Contains}
+use Rattle.std.specs.Prelude.{◌&&◌, ◌||◌, not, nat_eq, Option, Some, None, slice_get, Contains}
 use Rattle.std.specs.List.{list_all}
 use Rattle.std.specs.Option.{option_map}
 use Rattle.std.proofs.lemmas.List.Elements.{Contains-append_left, Contains-append_right}
@@ -19,7 +19,7 @@ use Rattle.pass_defs.specs.Demands.{Pair, demands, is_allowed}
 use Rattle.pass_defs.specs.Packed.{wides_read}
 use Rattle.pass_defs.specs.Pure.{is_pure}
 use Rattle.pass_defs.specs.Remade.{remade}
-use Rattle.pass_defs.specs.Typed.{begun, after, is_wrong, catch_all, catches_in, catches, edges, Table, state_at, each, at_state, arrives, IsTyping}
+use Rattle.pass_defs.specs.Typed.{begun, after, is_wrong, catch_all, catches_in, catches, edges, passed_words, wrong_method, wrong_super, Table, state_at, each, at_state, arrives, IsTyping}
 use Rattle.pass_defs.specs.Walks.{form_at, region_at, onward, caught, listed, handlers_of, handlers_at}
 use Rattle.form_law.specs.Kinds.{HasNarrowClass, Held}
 use Rattle.form_law.proofs.Asking.{allowed_held}
@@ -27,9 +27,10 @@ use Rattle.form_law.proofs.Typings.{each_at, get_below, tested, allowed_at, righ
 use Rattle.frame_laws.proofs.Lists.{contains_here, contains_there}
 use Rattle.frame_laws.proofs.Walks.{goes_next}
 use Rattle.silence_law.proofs.Lists.{and_left, and_right, and_both, all_map, all_front, all_back, all_joined}
-use Rattle.dead_bridge.specs.Veiled.{veil, veiled, veiled_table, or_nop, emptied_forms, emptied}
+use Rattle.dead_bridge.specs.Veiled.{Hides, veil, veiled, veiled_table, or_nop, emptied_forms, emptied}
 use Rattle.dead_bridge.proofs.Agreeing.{AgreeOn}
 use Rattle.dead_bridge.proofs.Afters.{SameAfter, after_same}
+use Rattle.dead_bridge.proofs.Calling.{call_there}
 use Rattle.dead_bridge.proofs.Plain.{Keeps, pure_keeps, pure_continues}
 
 -- ---- lists
@@ -47,6 +48,10 @@ all_at f (y ∷ ys) x (suc k, l, e) h = all_at f ys x (k, omega (arith, l), e) (
 each_all : (n : ℕ) (f : ℕ → Bool) → ((k : ℕ) → f k ≡ true) → each n f ≡ true
 each_all zero f h = refl
 each_all (suc n) f h = and_both (each n f) (f n) (each_all n f h) (h n)
+
+or_false_right : (a b : Bool) → (a || b) ≡ false → b ≡ false
+or_false_right false b e = e
+or_false_right true b e = absurd (true≢false e)
 
 -- ---- veils
 
@@ -138,18 +143,6 @@ module _ (p : NamedProgram) where
   state_veil live a b None long lower result caught' receiver e = e
   state_veil live a b (Some l) long lower result caught' receiver e = kinds_veil live a b l long lower result caught' receiver e
 
--- ---- what is hidden
-
--- What is read is live, and what is live later and not written is live. A dead position has a pure form, and what it writes isn't
--- live behind it.
-pub record Hides (p : NamedProgram) (live : ℕ → ℕ → Bool) (dead : ℕ → Bool) (b : NamedBody) : Type 0 where
-  pub read : (n : ℕ) (f : Form) (r : ℕ) → form_at b n ≡ Some f → reads f r ≡ true → live n r ≡ true
-  pub on : (n q : ℕ) (f : Form) (r : ℕ) → form_at b n ≡ Some f → Contains (onward f n) q → live q r ≡ true → writes f r ≡ false → live n r ≡ true
-  pub thrown : (n q : ℕ) (f : Form) (r : ℕ) → form_at b n ≡ Some f → Contains (caught b f n) q → live q r ≡ true → live n r ≡ true
-  pub pure : (n : ℕ) (f : Form) → form_at b n ≡ Some f → dead n ≡ true → is_pure p f ≡ true
-  pub unread : (n : ℕ) (f : Form) (r : ℕ) → form_at b n ≡ Some f → dead n ≡ true → writes f r ≡ true → live (n + 1) r ≡ false
-  pub narrow : (n : ℕ) (f : Form) → form_at b n ≡ Some f → HasNarrowClass f
-
 module _ (p : NamedProgram) (c : NamedClass) (m : NamedMethod) (b : NamedBody) (t : Table) (typing : IsTyping p c m b t) (live : ℕ → ℕ → Bool) (dead : ℕ → Bool) (h : Hides p live dead b) where
   abbrev u : Table
   u = veiled_table live t
@@ -197,8 +190,17 @@ module _ (p : NamedProgram) (c : NamedClass) (m : NamedMethod) (b : NamedBody) (
       pairs = λ q i j s low high. (veil_at (live n) a.registers q i ∙ low, veil_at (live n) a.registers (q + 1) j ∙ high);
     }
 
+    held_allowed : (f : Form) → ((o : ℕ) → reads f o ≡ true → live n o ≡ true) → HasNarrowClass f → is_allowed p c m a f ≡ true → is_wrong p c m a f ≡ false → is_allowed p c m v f ≡ true
+    held_allowed f used narrow al ri = sym (ap (is_allowed p c m v) (same_form f)) ∙ allowed_held p c m f (λ r. r) (live n) a v held refl refl used narrow ri (λ w i j. refl) al
+
+    -- a call asks for its arguments by the types that it names
+    form_allowed : (f : Form) → ((o : ℕ) → reads f o ≡ true → live n o ≡ true) → is_allowed p c m a f ≡ true → is_wrong p c m a f ≡ false → is_allowed p c m v f ≡ true
+    form_allowed (form.Invoke kind k args) used al ri = call_there p c a.registers v.registers kind k args (or_false_right (wrong_method p kind k || wrong_super p c kind k) (not (nat_eq (length args) (passed_words kind k))) ri)
+        (λ r i. veil_at (live n) a.registers r (used r i)) al
+    form_allowed f used al ri = held_allowed f used tt al ri
+
     veil_allowed : is_allowed p c m v f ≡ true
-    veil_allowed = sym (ap (is_allowed p c m v) (same_form f)) ∙ allowed_held p c m f (λ r. r) (live n) a v held refl refl (λ o i. h.read n f o x i) (h.narrow n f x) right (λ w i j. refl) allowed
+    veil_allowed = form_allowed f (λ o i. h.read n f o x i) allowed right
 
     wrong_same : (f : Form) → is_wrong p c m v f ≡ is_wrong p c m a f
     wrong_same form.Nop = refl

@@ -1,0 +1,5 @@
+mod Agreeing
+mod Afters
+mod Calling
+mod Plain
+mod Veiling

@@ -3,3 +3,6 @@ mod Afters
 mod Calling
 mod Plain
 mod Veiling
+mod Quieting
+mod Cleaning
+mod Cleans

@@ -1,1 +1,2 @@
 pub mod Veiled
+pub mod Cleans

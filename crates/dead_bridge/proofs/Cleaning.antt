@@ -265,8 +265,8 @@ module _ (p : Program) (fit : is_well_formed p ≡ true) (twice : (class : ℕ) 
           by (live (n + 1) r) refl (λ z. d.unread r writes_it (n + 1, next, read_of (n + 1) r inside z))
         where
           by : (z : Bool) → live (n + 1) r ≡ z → (live (n + 1) r ≡ true → ⊥) → live (n + 1) r ≡ false
-          by false h no = h
-          by true h no = absurd (no h)
+          by false h gone = h
+          by true h gone = absurd (gone h)
 
   -- ---- the body with nops in their places
 
@@ -287,13 +287,13 @@ module _ (p : Program) (fit : is_well_formed p ≡ true) (twice : (class : ℕ) 
           let w : wish_at ws n ≡ Stays = stays_by (wish_at ws n) (is_held b.insns ws a.start n) i not_nop (sym a.is_it) in
           absurd (true≢false (sym on ∙ stays_if (is_on s.dead n) (is_on s.firsts n) (sym (wish_is n i e) ∙ w)))
 
-  same_left : (at : ℕ → ℕ) (gs : List Meant) (xs : List Form) (no : ℕ → Bool) → ((n : ℕ) → slice_get gs n ≡ Some MeantStays → no n ≡ false) → forms_left at gs (emptied_forms no xs) ≡ forms_left at gs xs
-  same_left at gs [] no h = refl
-  same_left at [] (x ∷ xs) no h = refl
-  same_left at (MeantGoes ∷ gs) (x ∷ xs) no h = same_left at gs xs (λ n. no (suc n)) (λ n e. h (suc n) e)
-  same_left at (MeantEmpties ∷ gs) (x ∷ xs) no h = ap (λ l. form.Nop ∷ l) (same_left at gs xs (λ n. no (suc n)) (λ n e. h (suc n) e))
-  same_left at (MeantStays ∷ gs) (x ∷ xs) no h = ap (λ z. retargeted at (or_nop z x) ∷ forms_left at gs (emptied_forms (λ n. no (suc n)) xs)) (h 0 refl)
-      ∙ ap (λ l. retargeted at x ∷ l) (same_left at gs xs (λ n. no (suc n)) (λ n e. h (suc n) e))
+  same_left : (at : ℕ → ℕ) (gs : List Meant) (xs : List Form) (marks : ℕ → Bool) → ((n : ℕ) → slice_get gs n ≡ Some MeantStays → marks n ≡ false) → forms_left at gs (emptied_forms marks xs) ≡ forms_left at gs xs
+  same_left at gs [] marks h = refl
+  same_left at [] (x ∷ xs) marks h = refl
+  same_left at (MeantGoes ∷ gs) (x ∷ xs) marks h = same_left at gs xs (λ n. marks (suc n)) (λ n e. h (suc n) e)
+  same_left at (MeantEmpties ∷ gs) (x ∷ xs) marks h = ap (λ l. form.Nop ∷ l) (same_left at gs xs (λ n. marks (suc n)) (λ n e. h (suc n) e))
+  same_left at (MeantStays ∷ gs) (x ∷ xs) marks h = ap (λ z. retargeted at (or_nop z x) ∷ forms_left at gs (emptied_forms (λ n. marks (suc n)) xs)) (h 0 refl)
+      ∙ ap (λ l. retargeted at x ∷ l) (same_left at gs xs (λ n. marks (suc n)) (λ n e. h (suc n) e))
 
   same_thinned : thinned fs d ≡ thinned fs (body_of p b)
   same_thinned = ap (λ (l : List Form). record { registers = b.registers; ins = b.ins; forms = l; regions = filter (has_room (length l)) (map (moved (place fs)) (body_of p b).regions) }) (same_left (place fs) fs (body_of p b).forms dead stays_alive)

@@ -1,8 +1,8 @@
 -- Which positions of a body compute what nobody reads, by number (Dalvik bytecode, "Summary of bytecode set"; this
 -- project's profile).
-use Rattle.std.specs.Prelude.{◌≡◌, ◌↔◌, ℕ, suc, ◌+◌, ◌<◌, pos, Bool, true, false, ◌&&◌, ◌||◌, not, nat_lt, List, length, Option, Some, None, slice_get, slice_index_or}
+use Rattle.std.specs.Prelude.{◌≡◌, ◌↔◌, ℕ, suc, ◌+◌, ◌<◌, Bool, true, false, ◌&&◌, ◌||◌, not, nat_eq, nat_lt, List, length, Option, Some, None, slice_get, slice_index_or}
 use Rattle.std.specs.List.{list_any}
-use Rattle.std.specs.Ordering.{int_eq}
+use Rattle.std.specs.Int.{w32, cast_unsigned}
 use Rattle.insn_set.specs.Flow.{divides, divides_by_literal}
 use Rattle.insn_set.specs.Widths.{is_wide_slot, is_wide_item, unary_writes_wide, binary_is_wide}
 use Rattle.insn_set.specs.Registers.{writes_of}
@@ -54,7 +54,7 @@ is_pure quiet (insn.Cmp op to a b) = true
 is_pure quiet (insn.StaticGet item to field) = quiet field
 is_pure quiet (insn.Unary op to from) = true
 is_pure quiet (insn.Binary op to a b) = not (divides op)
-is_pure quiet (insn.Literal op to a value) = not (divides_by_literal op) || not (int_eq value (pos 0))
+is_pure quiet (insn.Literal op to a value) = not (divides_by_literal op) || not (nat_eq (cast_unsigned w32 value) 0)
 is_pure quiet i = false
 
 -- ---- dead positions

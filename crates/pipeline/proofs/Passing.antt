@@ -1,5 +1,5 @@
 -- Passes, one after another.
-use Rattle.std.proofs.Common.{◌≡◌, ◌⊎◌, ℕ, zero, suc, ◌<◌, ◌≤◌, ◌+◌, Bool, true, false, List, [], ◌∷◌, ◌++◌, min, refl, sym, ap, ◌∙◌, subst, inl, inr, arith}
+use Rattle.std.proofs.Common.{◌≡◌, ℕ, zero, suc, ◌<◌, ◌≤◌, ◌+◌, Bool, true, false, List, [], ◌∷◌, ◌++◌, min, refl, sym, ap, ◌∙◌, subst, inl, inr, arith}
 use Rattle.std.specs.Prelude.{nat_eq, if◌then◌else◌}
 use Rattle.program_model.specs.declared.pass.Changed.{Changed}
 use Rattle.program_model.specs.declared.pass.Origin.{Origin}
@@ -14,14 +14,14 @@ use Rattle.call_graph.specs.Facts.{Fits}
 use Rattle.call_graph.specs.Closed.{IsClosedSet}
 use Rattle.reach.specs.Kept.{kept_of, size_of}
 use Rattle.squeeze.specs.Skipping.{AreSkips}
-use Rattle.thin_pass.specs.Plans.{all_changes, program_origins, IsThinnedBy}
+use Rattle.thin_pass.specs.Plans.{all_changes, IsThinnedBy}
 use Rattle.thin_pass.specs.Weights.{weight_of}
 use Rattle.thin_pass.proofs.Lighter.{not_capped}
 use Rattle.pipeline.specs.declared.traces.Passed.{Passed}
 use Rattle.pipeline.specs.declared.traces.Traced.{Traced}
 use Rattle.pipeline.specs.Graph.{HasGraph, HasGraphFault}
 use Rattle.pipeline.specs.Origins.{Follow}
-use Rattle.pipeline.specs.Passes.{Pass, Reach, Squeeze, Removes, IsBarred, IsRemoval, Does, Step, Steps, Last, Then, AreStill, bulk_of, HavePassed}
+use Rattle.pipeline.specs.Passes.{Pass, Reach, Squeeze, Removes, Does, Steps, Last, Then, AreStill, bulk_of, HavePassed}
 use Rattle.pipeline.proofs.Bulk.{removal_less, thinned_less}
 
 -- ---- any passes

@@ -5,4 +5,4 @@ mod Plain
 mod Veiling
 mod Quieting
 mod Cleaning
-mod Cleans
+pub mod Cleans

@@ -50,54 +50,53 @@ module _ (g : ℕ → ℕ) where
     abbrev Keeps : Insn → Type 0
     Keeps f = (at : ℕ) → list_any (nat_eq at) (wides_of w f) ≡ true → g (at + 1) ≡ g at + 1
 
-
     reads_fixed : (f : Insn) (r : ℕ) → remade g g f ≡ f → Keeps f → reads_of f r ≡ true → g r ≡ r
-    reads_fixed (Move slot to from) r e k h = let a : g from ≡ from = cc in half (is_wide_slot slot) from r a (λ v. k from (any_right from (wides_written (Move slot to from)) (wides_read w (Move slot to from)) (one_wide (is_wide_slot slot) from v))) h
-    reads_fixed (Return slot from) r e k h = let a : g from ≡ from = cc in half (is_wide_slot slot) from r a (λ v. k from (any_right from (wides_written (Return slot from)) (wides_read w (Return slot from)) (one_wide (is_wide_slot slot) from v))) h
-    reads_fixed (MonitorEnter on) r e k h = let a : g on ≡ on = cc in narrow on r a h
-    reads_fixed (MonitorExit on) r e k h = let a : g on ≡ on = cc in narrow on r a h
-    reads_fixed (CheckCast on kind) r e k h = let a : g on ≡ on = cc in narrow on r a h
-    reads_fixed (InstanceOf to from kind) r e k h = let a : g from ≡ from = cc in narrow from r a h
-    reads_fixed (ArrayLength to from) r e k h = let a : g from ≡ from = cc in narrow from r a h
-    reads_fixed (NewArray to size kind) r e k h = let a : g size ≡ size = cc in narrow size r a h
-    reads_fixed (FilledNewArray kind args) r e k h = let a : map g args ≡ args = cc in among args r a h
-    reads_fixed (FillArray on width items) r e k h = let a : g on ≡ on = cc in narrow on r a h
-    reads_fixed (Throw on) r e k h = let a : g on ≡ on = cc in narrow on r a h
-    reads_fixed (PackedSwitch on first targets) r e k h = let a : g on ≡ on = cc in narrow on r a h
-    reads_fixed (SparseSwitch on keys targets) r e k h = let a : g on ≡ on = cc in narrow on r a h
+    reads_fixed (Move slot to from) r e k h = let same : g from ≡ from = cc in half (is_wide_slot slot) from r same (λ v. k from (any_right from (wides_written (Move slot to from)) (wides_read w (Move slot to from)) (one_wide (is_wide_slot slot) from v))) h
+    reads_fixed (Return slot from) r e k h = let same : g from ≡ from = cc in half (is_wide_slot slot) from r same (λ v. k from (any_right from (wides_written (Return slot from)) (wides_read w (Return slot from)) (one_wide (is_wide_slot slot) from v))) h
+    reads_fixed (MonitorEnter on) r e k h = let same : g on ≡ on = cc in narrow on r same h
+    reads_fixed (MonitorExit on) r e k h = let same : g on ≡ on = cc in narrow on r same h
+    reads_fixed (CheckCast on kind) r e k h = let same : g on ≡ on = cc in narrow on r same h
+    reads_fixed (InstanceOf to from kind) r e k h = let same : g from ≡ from = cc in narrow from r same h
+    reads_fixed (ArrayLength to from) r e k h = let same : g from ≡ from = cc in narrow from r same h
+    reads_fixed (NewArray to size kind) r e k h = let same : g size ≡ size = cc in narrow size r same h
+    reads_fixed (FilledNewArray kind args) r e k h = let same : map g args ≡ args = cc in among args r same h
+    reads_fixed (FillArray on width items) r e k h = let same : g on ≡ on = cc in narrow on r same h
+    reads_fixed (Throw on) r e k h = let same : g on ≡ on = cc in narrow on r same h
+    reads_fixed (PackedSwitch on first targets) r e k h = let same : g on ≡ on = cc in narrow on r same h
+    reads_fixed (SparseSwitch on keys targets) r e k h = let same : g on ≡ on = cc in narrow on r same h
     reads_fixed (Cmp op to a b) r e k h = let a1 : g a ≡ a = cc in let a2 : g b ≡ b = cc in elim (or_cases (in_operand (compares_wide op) a r) (in_operand (compares_wide op) b r) h) [ inl i ↦ half (compares_wide op) a r a1 (λ v. k a (any_right a (wides_written (Cmp op to a b)) (wides_read w (Cmp op to a b)) (any_left a (first_if (compares_wide op) a) (first_if (compares_wide op) b) (one_wide (compares_wide op) a v)))) i | inr i ↦ half (compares_wide op) b r a2 (λ v. k b (any_right b (wides_written (Cmp op to a b)) (wides_read w (Cmp op to a b)) (any_right b (first_if (compares_wide op) a) (first_if (compares_wide op) b) (one_wide (compares_wide op) b v)))) i ]
     reads_fixed (If test a b target) r e k h = let a1 : g a ≡ a = cc in let a2 : g b ≡ b = cc in elim (or_cases (nat_eq r a) (nat_eq r b) h) [ inl i ↦ narrow a r a1 i | inr i ↦ narrow b r a2 i ]
-    reads_fixed (IfZero test a target) r e k h = let a : g a ≡ a = cc in narrow a r a h
+    reads_fixed (IfZero test a target) r e k h = let same : g a ≡ a = cc in narrow a r same h
     reads_fixed (ArrayGet item to array index) r e k h = let a1 : g array ≡ array = cc in let a2 : g index ≡ index = cc in elim (or_cases (nat_eq r array) (nat_eq r index) h) [ inl i ↦ narrow array r a1 i | inr i ↦ narrow index r a2 i ]
     reads_fixed (ArrayPut item from array index) r e k h = let a1 : g from ≡ from = cc in let a2 : g array ≡ array = cc in let a3 : g index ≡ index = cc in elim (or_three (in_operand (is_wide_item item) from r) (nat_eq r array) (nat_eq r index) h) [ inl i ↦ half (is_wide_item item) from r a1 (λ v. k from (any_right from (wides_written (ArrayPut item from array index)) (wides_read w (ArrayPut item from array index)) (one_wide (is_wide_item item) from v))) i | inr j ↦ elim (or_cases (nat_eq r array) (nat_eq r index) j) [ inl i ↦ narrow array r a2 i | inr i ↦ narrow index r a3 i ] ]
-    reads_fixed (InstanceGet item to on field) r e k h = let a : g on ≡ on = cc in narrow on r a h
+    reads_fixed (InstanceGet item to on field) r e k h = let same : g on ≡ on = cc in narrow on r same h
     reads_fixed (InstancePut item from on field) r e k h = let a1 : g from ≡ from = cc in let a2 : g on ≡ on = cc in elim (or_cases (in_operand (is_wide_item item) from r) (nat_eq r on) h) [ inl i ↦ half (is_wide_item item) from r a1 (λ v. k from (any_right from (wides_written (InstancePut item from on field)) (wides_read w (InstancePut item from on field)) (one_wide (is_wide_item item) from v))) i | inr i ↦ narrow on r a2 i ]
-    reads_fixed (StaticPut item from field) r e k h = let a : g from ≡ from = cc in half (is_wide_item item) from r a (λ v. k from (any_right from (wides_written (StaticPut item from field)) (wides_read w (StaticPut item from field)) (one_wide (is_wide_item item) from v))) h
-    reads_fixed (Invoke kind method args) r e k h = let a : map g args ≡ args = cc in among args r a h
-    reads_fixed (Unary op to from) r e k h = let a : g from ≡ from = cc in half (unary_reads_wide op) from r a (λ v. k from (any_right from (wides_written (Unary op to from)) (wides_read w (Unary op to from)) (one_wide (unary_reads_wide op) from v))) h
+    reads_fixed (StaticPut item from field) r e k h = let same : g from ≡ from = cc in half (is_wide_item item) from r same (λ v. k from (any_right from (wides_written (StaticPut item from field)) (wides_read w (StaticPut item from field)) (one_wide (is_wide_item item) from v))) h
+    reads_fixed (Invoke kind method args) r e k h = let same : map g args ≡ args = cc in among args r same h
+    reads_fixed (Unary op to from) r e k h = let same : g from ≡ from = cc in half (unary_reads_wide op) from r same (λ v. k from (any_right from (wides_written (Unary op to from)) (wides_read w (Unary op to from)) (one_wide (unary_reads_wide op) from v))) h
     reads_fixed (Binary op to a b) r e k h = let a1 : g a ≡ a = cc in let a2 : g b ≡ b = cc in elim (or_cases (in_operand (binary_is_wide op) a r) (in_operand (second_is_wide op) b r) h) [ inl i ↦ half (binary_is_wide op) a r a1 (λ v. k a (any_right a (wides_written (Binary op to a b)) (wides_read w (Binary op to a b)) (any_left a (first_if (binary_is_wide op) a) (first_if (second_is_wide op) b) (one_wide (binary_is_wide op) a v)))) i | inr i ↦ half (second_is_wide op) b r a2 (λ v. k b (any_right b (wides_written (Binary op to a b)) (wides_read w (Binary op to a b)) (any_right b (first_if (binary_is_wide op) a) (first_if (second_is_wide op) b) (one_wide (second_is_wide op) b v)))) i ]
-    reads_fixed (Literal op to a value) r e k h = let a : g a ≡ a = cc in narrow a r a h
+    reads_fixed (Literal op to a value) r e k h = let same : g a ≡ a = cc in narrow a r same h
     reads_fixed f r e k h = absurd (cc)
 
     writes_fixed : (f : Insn) (r : ℕ) → remade g g f ≡ f → Keeps f → writes_of f r ≡ true → g r ≡ r
-    writes_fixed (Move slot to from) r e k h = let a : g to ≡ to = cc in half (is_wide_slot slot) to r a (λ v. k to (any_left to (wides_written (Move slot to from)) (wides_read w (Move slot to from)) (one_wide (is_wide_slot slot) to v))) h
-    writes_fixed (MoveResult slot to) r e k h = let a : g to ≡ to = cc in half (is_wide_slot slot) to r a (λ v. k to (any_left to (wides_written (MoveResult slot to)) (wides_read w (MoveResult slot to)) (one_wide (is_wide_slot slot) to v))) h
-    writes_fixed (MoveException to) r e k h = let a : g to ≡ to = cc in narrow to r a h
-    writes_fixed (Const to value) r e k h = let a : g to ≡ to = cc in narrow to r a h
-    writes_fixed (ConstWide to value) r e k h = let a : g to ≡ to = cc in half (true) to r a (λ v. k to (any_left to (wides_written (ConstWide to value)) (wides_read w (ConstWide to value)) (one_wide (true) to v))) h
-    writes_fixed (ConstString to string) r e k h = let a : g to ≡ to = cc in narrow to r a h
-    writes_fixed (ConstClass to kind) r e k h = let a : g to ≡ to = cc in narrow to r a h
-    writes_fixed (InstanceOf to from kind) r e k h = let a : g to ≡ to = cc in narrow to r a h
-    writes_fixed (ArrayLength to from) r e k h = let a : g to ≡ to = cc in narrow to r a h
-    writes_fixed (NewInstance to kind) r e k h = let a : g to ≡ to = cc in narrow to r a h
-    writes_fixed (NewArray to size kind) r e k h = let a : g to ≡ to = cc in narrow to r a h
-    writes_fixed (Cmp op to a b) r e k h = let a : g to ≡ to = cc in narrow to r a h
-    writes_fixed (ArrayGet item to array index) r e k h = let a : g to ≡ to = cc in half (is_wide_item item) to r a (λ v. k to (any_left to (wides_written (ArrayGet item to array index)) (wides_read w (ArrayGet item to array index)) (one_wide (is_wide_item item) to v))) h
-    writes_fixed (InstanceGet item to on field) r e k h = let a : g to ≡ to = cc in half (is_wide_item item) to r a (λ v. k to (any_left to (wides_written (InstanceGet item to on field)) (wides_read w (InstanceGet item to on field)) (one_wide (is_wide_item item) to v))) h
-    writes_fixed (StaticGet item to field) r e k h = let a : g to ≡ to = cc in half (is_wide_item item) to r a (λ v. k to (any_left to (wides_written (StaticGet item to field)) (wides_read w (StaticGet item to field)) (one_wide (is_wide_item item) to v))) h
-    writes_fixed (Unary op to from) r e k h = let a : g to ≡ to = cc in half (unary_writes_wide op) to r a (λ v. k to (any_left to (wides_written (Unary op to from)) (wides_read w (Unary op to from)) (one_wide (unary_writes_wide op) to v))) h
-    writes_fixed (Binary op to a b) r e k h = let a : g to ≡ to = cc in half (binary_is_wide op) to r a (λ v. k to (any_left to (wides_written (Binary op to a b)) (wides_read w (Binary op to a b)) (one_wide (binary_is_wide op) to v))) h
-    writes_fixed (Literal op to a value) r e k h = let a : g to ≡ to = cc in narrow to r a h
+    writes_fixed (Move slot to from) r e k h = let same : g to ≡ to = cc in half (is_wide_slot slot) to r same (λ v. k to (any_left to (wides_written (Move slot to from)) (wides_read w (Move slot to from)) (one_wide (is_wide_slot slot) to v))) h
+    writes_fixed (MoveResult slot to) r e k h = let same : g to ≡ to = cc in half (is_wide_slot slot) to r same (λ v. k to (any_left to (wides_written (MoveResult slot to)) (wides_read w (MoveResult slot to)) (one_wide (is_wide_slot slot) to v))) h
+    writes_fixed (MoveException to) r e k h = let same : g to ≡ to = cc in narrow to r same h
+    writes_fixed (Const to value) r e k h = let same : g to ≡ to = cc in narrow to r same h
+    writes_fixed (ConstWide to value) r e k h = let same : g to ≡ to = cc in half (true) to r same (λ v. k to (any_left to (wides_written (ConstWide to value)) (wides_read w (ConstWide to value)) (one_wide (true) to v))) h
+    writes_fixed (ConstString to string) r e k h = let same : g to ≡ to = cc in narrow to r same h
+    writes_fixed (ConstClass to kind) r e k h = let same : g to ≡ to = cc in narrow to r same h
+    writes_fixed (InstanceOf to from kind) r e k h = let same : g to ≡ to = cc in narrow to r same h
+    writes_fixed (ArrayLength to from) r e k h = let same : g to ≡ to = cc in narrow to r same h
+    writes_fixed (NewInstance to kind) r e k h = let same : g to ≡ to = cc in narrow to r same h
+    writes_fixed (NewArray to size kind) r e k h = let same : g to ≡ to = cc in narrow to r same h
+    writes_fixed (Cmp op to a b) r e k h = let same : g to ≡ to = cc in narrow to r same h
+    writes_fixed (ArrayGet item to array index) r e k h = let same : g to ≡ to = cc in half (is_wide_item item) to r same (λ v. k to (any_left to (wides_written (ArrayGet item to array index)) (wides_read w (ArrayGet item to array index)) (one_wide (is_wide_item item) to v))) h
+    writes_fixed (InstanceGet item to on field) r e k h = let same : g to ≡ to = cc in half (is_wide_item item) to r same (λ v. k to (any_left to (wides_written (InstanceGet item to on field)) (wides_read w (InstanceGet item to on field)) (one_wide (is_wide_item item) to v))) h
+    writes_fixed (StaticGet item to field) r e k h = let same : g to ≡ to = cc in half (is_wide_item item) to r same (λ v. k to (any_left to (wides_written (StaticGet item to field)) (wides_read w (StaticGet item to field)) (one_wide (is_wide_item item) to v))) h
+    writes_fixed (Unary op to from) r e k h = let same : g to ≡ to = cc in half (unary_writes_wide op) to r same (λ v. k to (any_left to (wides_written (Unary op to from)) (wides_read w (Unary op to from)) (one_wide (unary_writes_wide op) to v))) h
+    writes_fixed (Binary op to a b) r e k h = let same : g to ≡ to = cc in half (binary_is_wide op) to r same (λ v. k to (any_left to (wides_written (Binary op to a b)) (wides_read w (Binary op to a b)) (one_wide (binary_is_wide op) to v))) h
+    writes_fixed (Literal op to a value) r e k h = let same : g to ≡ to = cc in narrow to r same h
     writes_fixed f r e k h = absurd (cc)
 
     pub uses_fixed : (f : Insn) (r : ℕ) → remade g g f ≡ f → ((at : ℕ) → list_any (nat_eq at) (wides_of w f) ≡ true → g (at + 1) ≡ g at + 1) → uses f r ≡ true → g r ≡ r

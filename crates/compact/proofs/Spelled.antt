@@ -49,6 +49,12 @@ call_units : (x : Bool) → format_units (if x then F35c else F3rc) ≡ 3
 call_units true = refl
 call_units false = refl
 
+-- the registers of a call by a range stay one behind the other
+abbrev pub Adjoins : (ℕ → ℕ) → Insn → Type 0
+Adjoins g (FilledNewArray kind args) = fit_nibbles args ≡ false → are_adjacent args ≡ true → are_adjacent (map g args) ≡ true
+Adjoins g (Invoke kind method args) = fit_nibbles args ≡ false → are_adjacent args ≡ true → are_adjacent (map g args) ≡ true
+Adjoins g f = Unit {0}
+
 module _ (g : ℕ → ℕ) (falls : (r : ℕ) → g r ≤ r) where
   below : (a n : ℕ) → nat_lt a n ≡ true → nat_lt (g a) n ≡ true
   below a n h = lt-ltb (g a) n (omega (arith, falls a, ltb-true a n h))
@@ -78,7 +84,7 @@ module _ (g : ℕ → ℕ) (falls : (r : ℕ) → g r ≤ r) where
   nibbles : (xs : List ℕ) → fit_nibbles xs ≡ true → fit_nibbles (map g xs) ≡ true
   nibbles xs h =
       let p : (nat_le (length xs) 5 ≡ true) × (list_all (λ r. nat_lt r 16) xs ≡ true) = and_parts (nat_le (length xs) 5) (list_all (λ r. nat_lt r 16) xs) h in
-      and_from (nat_le (length (map g xs)) 5) (list_all (λ r. nat_lt r 16) (map g xs)) (subst (λ n. nat_le n 5 ≡ true) (sym (length-map g xs)) p.0) (all_below 16 xs p.1)
+      and_from (nat_le (length (map g xs)) 5) (list_all (λ r. nat_lt r 16) (map g xs)) (subst (λ n. nat_le n 5 ≡ true) (sym (length-map xs g)) p.0) (all_below 16 xs p.1)
 
   call : (xs : List ℕ) → (fit_nibbles xs ≡ false → are_adjacent xs ≡ true → are_adjacent (map g xs) ≡ true) → fit_call xs ≡ true → fit_call (map g xs) ≡ true
   call xs k h = at (cases_Bool (fit_nibbles xs))
@@ -89,16 +95,10 @@ module _ (g : ℕ → ℕ) (falls : (r : ℕ) → g r ≤ r) where
         | inl i ↦ absurd (false≢true (sym e ∙ i))
         | inr i ↦
             let p : (nat_lt (length xs) 256 ≡ true) × (are_adjacent xs ≡ true) = and_parts (nat_lt (length xs) 256) (are_adjacent xs) i in
-            or_right (fit_nibbles (map g xs)) (nat_lt (length (map g xs)) 256 && are_adjacent (map g xs)) (and_from (nat_lt (length (map g xs)) 256) (are_adjacent (map g xs)) (subst (λ n. nat_lt n 256 ≡ true) (sym (length-map g xs)) p.0) (k e p.1))
+            or_right (fit_nibbles (map g xs)) (nat_lt (length (map g xs)) 256 && are_adjacent (map g xs)) (and_from (nat_lt (length (map g xs)) 256) (are_adjacent (map g xs)) (subst (λ n. nat_lt n 256 ≡ true) (sym (length-map xs g)) p.0) (k e p.1))
       ]
 
-  -- the registers of a call by a range stay one behind the other
-  abbrev Adjoins : Insn → Type 0
-  Adjoins (FilledNewArray kind args) = fit_nibbles args ≡ false → are_adjacent args ≡ true → are_adjacent (map g args) ≡ true
-  Adjoins (Invoke kind method args) = fit_nibbles args ≡ false → are_adjacent args ≡ true → are_adjacent (map g args) ≡ true
-  Adjoins f = Unit {0}
-
-  pub still_encodable : (f : Insn) → Adjoins f → is_encodable f ≡ true → is_encodable (remade g g f) ≡ true
+  pub still_encodable : (f : Insn) → Adjoins g f → is_encodable f ≡ true → is_encodable (remade g g f) ≡ true
   still_encodable Nop k h = h
   still_encodable (Move slot to from) k h = h
   still_encodable (MoveResult slot to) k h = below to 256 h

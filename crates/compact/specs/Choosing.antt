@@ -9,10 +9,9 @@ use Rattle.compact.specs.Placed.{Placed, IsFloor}
 use Rattle.compact.specs.declared.clash.Clash.{Clash}
 
 -- The registers below the floor are placed, and those from there on move down to the greatest place that is used.
-pub record IsChoice (w : List (List Bool)) (b : Body) (low : List ℕ) (shift : ℕ) : Type 0 where
+pub record IsChoice (w : List (List Bool)) (b : Body) (used : List Bool) (low : List ℕ) (shift : ℕ) : Type 0 where
   pub clash : Clash
   pub ties : List (List ℕ)
-  pub used : List Bool
   pub top : ℕ
   pub is_clash : IsClash b clash
   pub are_ties : AreTies w b ties

@@ -1,6 +1,6 @@
 -- Which registers meet, as rows.
 use Rattle.std.specs.Prelude.{◌≡◌, ◌↔◌, ℕ, ◌+◌, ◌<◌, ◌⊎◌, Bool, true, ◌||◌, min, List, length, slice_get, Contains}
-use Rattle.std.specs.List.{list_any}
+use Rattle.std.specs.List.{list_any, filter}
 use Rattle.insn_set.specs.declared.form.Insn.{Insn}
 use Rattle.program_model.specs.declared.body.Body.{Body}
 use Rattle.walk_marks.specs.Walks.{row_of, is_on}
@@ -23,9 +23,9 @@ pub record AreUsed (b : Body) (used : List Bool) : Type 0 where
 abbrev pub AreNames : List Bool → List ℕ → Type 0
 AreNames used names = (r : ℕ) → Contains names r ↔ (is_on used r ≡ true)
 
--- the registers that are hit where a register is written
-abbrev pub AreHits : Live → List Insn → List ℕ → List ℕ → List ℕ → Type 0
-AreHits live insns names writers row = (s : ℕ) → Contains row s ↔ (Contains names s × (list_any (is_hit live insns s) writers ≡ true))
+-- those of some registers that are hit at these positions
+abbrev pub hits_of : Live → List Insn → List ℕ → List ℕ → List ℕ
+hits_of live insns names positions = filter (λ s. list_any (is_hit live insns s) positions) names
 
 -- two registers meet
 abbrev pub Meets : Clash → ℕ → ℕ → Type 0
@@ -33,5 +33,6 @@ Meets c r q = Contains (row_of c.rows.items r) q ⊎ Contains (row_of c.back.ite
 
 -- those that meet are those that conflict
 pub record IsClash (b : Body) (c : Clash) : Type 0 where
+  pub within : (r q : ℕ) → r < b.registers → Meets c r q → q < b.registers
   pub sound : (r q : ℕ) → r < b.registers → Meets c r q → Conflict b r q
   pub all : (r q : ℕ) → r < b.registers → q < b.registers → Conflict b r q → Meets c r q

@@ -7,7 +7,7 @@ ghost use Rattle.walk_marks.specs.Walks.{row_of, is_on};
 ghost use Rattle.live_regs.specs.Live.{is_live};
 ghost use Rattle.live_regs.specs.Liveness.{writes_at};
 ghost use Rattle.compact.specs.Ties.{AreWriters};
-ghost use Rattle.compact.specs.Clashes.{is_hit, AreHits, AreNames, AreUsed, IsClash};
+ghost use Rattle.compact.specs.Clashes.{is_hit, hits_of, AreUsed, IsClash};
 
 use crate::used::names_of;
 use crate::writers::writers_of;
@@ -52,7 +52,7 @@ fn is_any_hit(live: &Live, insns: &[Insn], register: u32, writers: &[u32]) -> bo
         .any(|position| is_hit(live, insns, register, *position))
 }
 
-/// The registers that are hit at these positions.
+/// Those of some registers that are hit at these positions.
 fn hits(
     alloc: Global,
     live: &Live,
@@ -60,7 +60,7 @@ fn hits(
     names: &[u16],
     writers: &[u32],
 ) -> Result<Seq<u32>, AllocError>
-    ensures { IfOk result (AreHits live.now insns.now names.now writers.now) }
+    ensures { IfOk result (λ row. row ≡ hits_of live.now insns.now names.now writers.now) }
 {
     let mut row = Vec::new(alloc);
     if writers.is_empty() {
@@ -83,7 +83,7 @@ fn hit_rows(
     writers: &[Seq<u32>],
 ) -> Result<Vec<Seq<u32>>, AllocError>
     ensures long { IfOk result (λ v. length v.items ≡ length writers.now) }
-    ensures rows { IfOk result (λ v. (r : ℕ) → r < length writers.now → AreHits live.now insns.now names.now (row_of writers.now r) (row_of v.items r)) }
+    ensures rows { IfOk result (λ v. (r : ℕ) → r < length writers.now → row_of v.items r ≡ hits_of live.now insns.now names.now (row_of writers.now r)) }
 {
     let mut rows = Vec::with_capacity(alloc, writers.len())?;
     for register in 0..writers.len() {

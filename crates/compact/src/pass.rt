@@ -46,7 +46,7 @@ fn numbers_for(
     requires few { length body.now.insns + 1 < 2 ^ 32 }
     requires regions { length body.now.insns + length body.now.regions < 2 ^ 32 }
     requires used { AreUsed body.now used.now }
-    ensures { IfOk result (λ numbers. IsChoice widths.now body.now numbers.low.items numbers.shift) }
+    ensures { IfOk result (λ numbers. IsChoice widths.now body.now used.now numbers.low.items numbers.shift) }
 {
     let ties = ties_of(alloc, widths, body)?;
     let clash = clash_of(alloc, body, used)?;

@@ -19,8 +19,8 @@ pub(crate) struct Places {
 }
 
 /// Marks the number of a register, counted from a distance on.
-fn bar_one(marks: &mut [bool], numbers: &[u16], register: u32, step: u16)
-    ensures { Sets (λ x. (register < length numbers.now) × (slice_index numbers.now register ≡ x + step)) marks.old marks.new }
+fn bar_one(marks: &mut Vec<bool>, numbers: &[u16], register: u32, step: u16)
+    ensures { Sets (λ x. (register < length numbers.now) × (slice_index numbers.now register ≡ x + step)) marks.old.items marks.new.items }
 {
     let register = register as usize;
     if register < numbers.len() && numbers[register] >= step {
@@ -32,8 +32,8 @@ fn bar_one(marks: &mut [bool], numbers: &[u16], register: u32, step: u16)
 }
 
 /// Marks the numbers of registers, counted from a distance on.
-fn bar_all(marks: &mut [bool], numbers: &[u16], met: &[u32], step: u16)
-    ensures { Sets (Bars numbers.now met.now step) marks.old marks.new }
+fn bar_all(marks: &mut Vec<bool>, numbers: &[u16], met: &[u32], step: u16)
+    ensures { Sets (Bars numbers.now met.now step) marks.old.items marks.new.items }
 {
     for register in met {
         bar_one(marks, numbers, *register, step);
@@ -51,9 +51,9 @@ fn row(rows: &[Seq<u32>], register: usize) -> &[u32]
 }
 
 /// Marks the numbers at which a run can't begin.
-fn bar_run(marks: &mut [bool], clash: &Clash, numbers: &[u16], size: u16)
+fn bar_run(marks: &mut Vec<bool>, clash: &Clash, numbers: &[u16], size: u16)
     requires { length numbers.now + size < 65536 }
-    ensures { Sets (BarsRun clash.now numbers.now (length numbers.now) size) marks.old marks.new }
+    ensures { Sets (BarsRun clash.now numbers.now (length numbers.now) size) marks.old.items marks.new.items }
 {
     for step in 0..size {
         let register = numbers.len() + step as usize;
@@ -82,7 +82,7 @@ fn least_for(alloc: Global, clash: &Clash, places: &Places, size: u16) -> Result
     ensures least { IfOk result (λ x. (y : ℕ) → y < x → BarsRun clash.now places.now.numbers.items (length places.now.numbers.items) size y) }
 {
     let mut marks = vec![in alloc; false; places.top as usize]?;
-    bar_run(marks.as_mut_slice(), clash, places.numbers.as_slice(), size);
+    bar_run(&mut marks, clash, places.numbers.as_slice(), size);
     Ok(first_clear(marks.as_slice()))
 }
 
@@ -153,7 +153,7 @@ pub(crate) fn places_of(
         numbers: Vec::with_capacity(alloc, floor as usize)?,
         top: 0,
     };
-    while places.numbers.len() < floor as usize {
+    'runs: while places.numbers.len() < floor as usize {
         place_run(alloc, clash, ties, used, floor, &mut places)?;
     }
     Ok(places)

@@ -1,6 +1,6 @@
 //! Which registers a body uses.
 
-ghost use Rattle.std.specs.Prelude.{◌≡◌, ◌<◌, ℕ, length, IfOk};
+ghost use Rattle.std.specs.Prelude.{◌≡◌, ◌<◌, ◌++◌, ◌∷◌, [], ℕ, length, if◌then◌else◌, IfOk, OnOk};
 ghost use Rattle.compact.specs.Packed.{is_used};
 ghost use Rattle.compact.specs.Clashes.{AreUsed, AreNames};
 
@@ -29,6 +29,16 @@ pub(crate) fn used_in(alloc: Global, body: &Body) -> Result<Vec<bool>, AllocErro
     Ok(used)
 }
 
+/// Adds a number where it is marked.
+fn add_if(mark: bool, number: u16, names: &mut Vec<u16>) -> Result<(), AllocError>
+    ensures { OnOk result (names.new.items ≡ (if mark then names.old.items ++ number ∷ [] else names.old.items)) }
+{
+    if mark {
+        names.push(number)?;
+    }
+    Ok(())
+}
+
 /// The numbers that are marked.
 pub(crate) fn names_of(alloc: Global, used: &[bool]) -> Result<Vec<u16>, AllocError>
     requires { length used.now < 65536 }
@@ -36,9 +46,7 @@ pub(crate) fn names_of(alloc: Global, used: &[bool]) -> Result<Vec<u16>, AllocEr
 {
     let mut names = Vec::new(alloc);
     for register in 0..used.len() {
-        if used[register] {
-            names.push(register as u16)?;
-        }
+        add_if(used[register], register as u16, &mut names)?;
     }
     Ok(names)
 }

@@ -133,7 +133,7 @@ pub first_free : (c : Clash) (numbers shown : List ℕ) (size x top : ℕ) (befo
 first_free c numbers shown size x top before after seen e o n sets clear = (free, barred)
   where
     sets' : Sets (BarsRun c numbers (length numbers) size) before after
-    sets' = subst (λ (l : List ℕ). Sets (BarsRun c l (length l) size) old new) e sets
+    sets' = subst (λ (l : List ℕ). Sets (BarsRun c l (length l) size) before after) e sets
 
     free : x < top → BarsRun c numbers (length numbers) size x → ⊥
     free lt h = false≢true (sym clear.clear ∙ ap (λ (m : List Bool). is_on m x) n ∙ sets'.on x h (omega (arith, lt, ap length o, length-replicate top false)))

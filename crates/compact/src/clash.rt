@@ -97,6 +97,7 @@ pub(crate) fn clash_of(alloc: Global, body: &Body, used: &[bool]) -> Result<Clas
     requires few { length body.now.insns + 1 < 2 ^ 32 }
     requires regions { length body.now.insns + length body.now.regions < 2 ^ 32 }
     requires used { AreUsed body.now used.now }
+    requires narrow { length used.now < 65536 }
     ensures { IfOk result (IsClash body.now) }
 {
     let live = live(alloc, body)?;

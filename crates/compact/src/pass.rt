@@ -46,6 +46,7 @@ fn numbers_for(
     requires few { length body.now.insns + 1 < 2 ^ 32 }
     requires regions { length body.now.insns + length body.now.regions < 2 ^ 32 }
     requires used { AreUsed body.now used.now }
+    requires narrow { length used.now < 65536 }
     ensures { IfOk result (λ numbers. IsChoice widths.now body.now used.now numbers.low.items numbers.shift) }
 {
     let ties = ties_of(alloc, widths, body)?;

@@ -20,7 +20,8 @@ fn is_used(body: &Body, register: u16) -> bool
 
 /// The marks of the registers that are used.
 pub(crate) fn used_in(alloc: Global, body: &Body) -> Result<Vec<bool>, AllocError>
-    ensures { IfOk result (λ v. AreUsed body.now v.items) }
+    ensures used { IfOk result (λ v. AreUsed body.now v.items) }
+    ensures narrow { IfOk result (λ v. length v.items < 65536) }
 {
     let mut used = Vec::with_capacity(alloc, body.registers as usize)?;
     for register in 0..body.registers {

@@ -1,0 +1,2 @@
+pub mod Remaking
+pub mod Widths

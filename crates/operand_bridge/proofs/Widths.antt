@@ -51,24 +51,24 @@ wide_same p kind = ap is_wide (type_same p kind) ∙ letter_same (type_text p ki
 arguments_same : (p : Program) (kinds rs : List ℕ) → named.wide_arguments (map (type_at p) kinds) rs ≡ wide.wide_arguments (map (is_wide_type p) kinds) rs
 arguments_same p [] rs = refl
 arguments_same p (k ∷ ks) [] = refl
-arguments_same p (k ∷ ks) (r ∷ rs) =
-    ap (λ v. elim v [ true ↦ r ∷ named.wide_arguments (map (type_at p) ks) (drop 1 rs) | false ↦ named.wide_arguments (map (type_at p) ks) rs ]) (wide_same p k) ∙ by (is_wide_type p k) (arguments_same p ks (drop 1 rs)) (arguments_same p ks rs)
+arguments_same p (k ∷ ks) (r ∷ rs) = by (is_wide (type_at p k)) (is_wide_type p k) (wide_same p k) (arguments_same p ks (drop 1 rs)) (arguments_same p ks rs)
   where
-    by : (v : Bool) → named.wide_arguments (map (type_at p) ks) (drop 1 rs) ≡ wide.wide_arguments (map (is_wide_type p) ks) (drop 1 rs) → named.wide_arguments (map (type_at p) ks) rs ≡ wide.wide_arguments (map (is_wide_type p) ks) rs
-        → (elim v [ true ↦ r ∷ named.wide_arguments (map (type_at p) ks) (drop 1 rs) | false ↦ named.wide_arguments (map (type_at p) ks) rs ])
-        ≡ (elim v [ true ↦ r ∷ wide.wide_arguments (map (is_wide_type p) ks) (drop 1 rs) | false ↦ wide.wide_arguments (map (is_wide_type p) ks) rs ])
-    by true e f = ap (λ l. r ∷ l) e
-    by false e f = f
+    by : (u v : Bool) → u ≡ v → named.wide_arguments (map (type_at p) ks) (drop 1 rs) ≡ wide.wide_arguments (map (is_wide_type p) ks) (drop 1 rs) → named.wide_arguments (map (type_at p) ks) rs ≡ wide.wide_arguments (map (is_wide_type p) ks) rs
+        → ◌≡◌ {A = List ℕ} (elim u [ true ↦ r ∷ named.wide_arguments (map (type_at p) ks) (drop 1 rs) | false ↦ named.wide_arguments (map (type_at p) ks) rs ]) (elim v [ true ↦ r ∷ wide.wide_arguments (map (is_wide_type p) ks) (drop 1 rs) | false ↦ wide.wide_arguments (map (is_wide_type p) ks) rs ])
+    by true true e a b = ap (λ l. r ∷ l) a
+    by true false e a b = absurd (cc)
+    by false true e a b = absurd (cc)
+    by false false e a b = b
+
+abbrev signature_for : Program → Option Proto → Signature
+signature_for p o = elim o [ Some q ↦ record { parameters = map (type_at p) q.parameters; result = type_at p q.result } | None ↦ record { parameters = []; result = [] } ]
+
+parameters_for : (p : Program) (o : Option Proto) → (signature_for p o).parameters ≡ map (type_at p) (parameters_in o)
+parameters_for p None = refl
+parameters_for p (Some q) = refl
 
 parameters_same : (p : Program) (n : ℕ) → (signature_at p n).parameters ≡ map (type_at p) (parameters_in (slice_get p.protos n))
-parameters_same p n = by (slice_get p.protos n)
-  where
-    abbrev signature_for : Option Proto → Signature
-    signature_for o = elim o [ Some q ↦ record { parameters = map (type_at p) q.parameters; result = type_at p q.result } | None ↦ record { parameters = []; result = [] } ]
-
-    by : (o : Option Proto) → (signature_for o).parameters ≡ map (type_at p) (parameters_in o)
-    by None = refl
-    by (Some q) = refl
+parameters_same p n = parameters_for p (slice_get p.protos n)
 
 abbrev key_for : Program → Option MethodName → MethodKey
 key_for p o = elim o [

@@ -1,0 +1,4 @@
+mod Forms
+mod Reading
+mod Stands
+mod Rereads

@@ -30,7 +30,7 @@ insn_for p b n f e = by (insn_at b n) refl (sym (form_there p b n) ∙ e)
     by (Some i) h x = record { insn = i; has_insn = h; same = (let y : ◌≡◌ {A = Option Form} (Some (form_of p i)) (Some f) = x in cc) }
 
 module _ (p : Program) (b : Body) where
-  form_for : (n : ℕ) (i : Insn) → insn_at b n ≡ Some i → walks.form_at (body_of p b) n ≡ Some (form_of p i)
+  pub form_for : (n : ℕ) (i : Insn) → insn_at b n ≡ Some i → walks.form_at (body_of p b) n ≡ Some (form_of p i)
   form_for n i e = form_there p b n ∙ ap (option_map (form_of p)) e
 
   clobbers_to : (r s : ℕ) → named.Clobbers (body_of p b) r s → numbered.Clobbers b r s

@@ -1,3 +1,5 @@
 mod Tests
 mod Conflicts
 mod Bodies
+mod Same
+mod Programs

@@ -1,5 +1,4 @@
 mod Tests
 mod Conflicts
 mod Bodies
-mod Same
 mod Programs

@@ -34,7 +34,7 @@ use Rattle.change_bridge.specs.Changing.{change_to}
 use Rattle.change_bridge.proofs.Changing.{keeps_code, is_changed, related}
 use Rattle.change_bridge.proofs.Unique.{unique_named}
 use Rattle.compact_bridge.specs.Renames.{Compacts, Renames}
-use Rattle.compact_bridge.proofs.Same.{same_forms}
+use Rattle.operand_bridge.proofs.Same.{same_forms}
 use Rattle.compact_bridge.proofs.Tests.{uses_same}
 use Rattle.compact_bridge.proofs.Conflicts.{form_for}
 use Rattle.compact_bridge.proofs.Bodies.{renamed_by_number}

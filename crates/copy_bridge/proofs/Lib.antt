@@ -2,3 +2,4 @@ mod Forms
 mod Reading
 mod Stands
 mod Rereads
+mod Programs

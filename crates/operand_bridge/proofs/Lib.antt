@@ -1,2 +1,3 @@
 pub mod Remaking
 pub mod Widths
+pub mod Same

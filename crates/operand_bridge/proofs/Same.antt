@@ -5,7 +5,7 @@ use Rattle.dalvik_defs.specs.declared.forms.Form.{Form}
 use Rattle.dalvik_defs.specs.declared.forms.Form.TheVariants as form
 use Rattle.pass_defs.specs.Remade.{remade}
 
-same_form : (f : Form) → remade (λ r. r) (λ r. r) (λ t. t) f ≡ f
+pub same_form : (f : Form) → remade (λ r. r) (λ r. r) (λ t. t) f ≡ f
 same_form form.Nop = refl
 same_form (form.Move slot to from) = refl
 same_form (form.MoveResult slot to) = refl

@@ -1,5 +1,5 @@
 -- A program with other bodies is a change of the program.
-use Rattle.std.proofs.Common.{◌≡◌, ℕ, zero, suc, ◌<◌, Bool, true, false, List, [], ◌∷◌, map, length, Option, Some, None, Contains, refl, sym, ap, ap₂, ◌∙◌, subst, arith}
+use Rattle.std.proofs.Common.{◌≡◌, inl, inr, ℕ, zero, suc, ◌<◌, Bool, true, false, List, [], ◌∷◌, map, length, Option, Some, None, Contains, refl, sym, ap, ap₂, ◌∙◌, subst, arith}
 use Rattle.std.specs.Prelude.{◌&&◌, find, is_some, if◌then◌else◌, slice_get, slice_index_or, nat_eq}
 use Rattle.std.specs.Option.{option_and_then}
 use Rattle.std.specs.Cmp.Lexicographic.{pointwise}
@@ -24,8 +24,8 @@ found_at : {A : Type 0} (t : A → Bool) (xs : List A) (i : ℕ) (x : A) → sli
 found_at t [] i x e h only = absurd (cc)
 found_at t (z ∷ zs) zero x e h only = let s : z ≡ x = cc in ap (λ b. cond b (Some z) (find t zs)) (ap t s ∙ h) ∙ ap Some s
 found_at t (z ∷ zs) (suc i) x e h only = elim (cases_Bool (t z)) [
-  | inl yes ↦ let f : 0 ≡ suc i = only 0 z refl yes in absurd (omega (arith, f))
-  | inr no ↦ ap (λ b. cond b (Some z) (find t zs)) no ∙ found_at t zs i x e h (λ j y g k. let f : suc j ≡ suc i = only (suc j) y g k in omega (arith, f))
+  | inl on ↦ let f : 0 ≡ suc i = only 0 z refl on in absurd (omega (arith, f))
+  | inr off ↦ ap (λ b. cond b (Some z) (find t zs)) off ∙ found_at t zs i x e h (λ j y g k. let f : suc j ≡ suc i = only (suc j) y g k in omega (arith, f))
 ]
 
 -- the partner of an item of a list, and of its partner

@@ -2,3 +2,4 @@ mod Tests
 mod Conflicts
 mod Bodies
 mod Programs
+mod Measuring

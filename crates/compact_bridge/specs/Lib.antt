@@ -1,2 +1,3 @@
 pub mod Bridged
 pub mod Renames
+pub mod Measure

@@ -8,6 +8,7 @@ ghost use Rattle.dalvik_defs.specs.Naming.{named};
 ghost use Rattle.dalvik_defs.specs.Outer.{Outer};
 ghost use Rattle.dalvik_defs.specs.Shown.{SameShown};
 ghost use Rattle.compact.specs.Renamed.{IsCompactedProgram};
+ghost use Rattle.compact_bridge.specs.Measure.{LowersByNumber};
 ghost use Rattle.compact_bridge.specs.Bridged.{RenamedByNumber, PackedByNumber, SettlesByNumber};
 
 /// A compacted body whose instructions use its own registers alone has other registers by name: those that conflict stay
@@ -31,4 +32,10 @@ pub fn settled_by_number_law()
 pub fn compacted_program_law()
     ensures { (admitted : List Bool) (p q : Program) → is_well_formed p ≡ true → ((class : ℕ) → IsTwice p class → ⊥) → IsCompactedProgram admitted p q
         → (o : Outer) → SameShown (named p) (named q) o }
+{}
+
+/// Compaction raises neither the register count of a body nor the sum of the register numbers that its instructions name, and
+/// where it lowers neither it leaves the body the same.
+pub fn measure_law()
+    ensures { LowersByNumber }
 {}

@@ -72,7 +72,7 @@ casts_same p (insn.CheckCast on kind) r = turned on r
         by true true e f = refl
         by false false e f = refl
         by true false e f = sym (sym f ∙ eq-eqb n m (sym (eqb-true m n e)))
-        by false true e f = sym (eq-eqb m n (sym (eqb-true n m f))) ∙ e
+        by false true e f = sym e ∙ eq-eqb m n (sym (eqb-true n m f))
 casts_same p insn.Nop r = refl
 casts_same p i r = refl
 

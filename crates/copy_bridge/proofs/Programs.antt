@@ -2,6 +2,7 @@
 use Rattle.std.proofs.Common.{◌≡◌, ◌⊎◌, inl, inr, ℕ, zero, suc, ◌+◌, Bool, true, false, List, [], ◌∷◌, length, Option, Some, None, Contains, refl, sym, ap, ◌∙◌, subst, arith}
 use Rattle.std.specs.Prelude.{is_some, slice_get}
 use Rattle.std.specs.Option.{option_map}
+use Rattle.std.proofs.lemmas.List.Elements.{All-nil}
 use Rattle.program_model.specs.ProgramRules.{is_well_formed}
 use Rattle.program_model.specs.declared.body.Body.{Body}
 use Rattle.program_model.specs.declared.program.Method.{Method}
@@ -26,7 +27,7 @@ use Rattle.bodies_law.specs.Numbered.{OtherNumberedMethod, OtherNumberedClass, O
 use Rattle.bodies_law.proofs.Named.{others_named}
 use Rattle.place_law.proofs.WellFormed.{well_formed_solid}
 use Rattle.copy_law.specs.Copied.{AllReadOriginals, ReadsOriginals}
-use Rattle.copy_law.specs.Reread.{AreReread, IsReread}
+use Rattle.copy_law.specs.Reread.{AreReread, IsReread, StandsThere}
 use Rattle.copy_law.proofs.Copying.{copied_shown}
 use Rattle.copy_law.proofs.Rereading.{reread_reads}
 use Rattle.copy_prop.specs.Propagated.{IsPropagated, AreEach, RewritesBody, IsPropagatedMethod, IsPropagatedClass, IsPropagatedProgram}
@@ -41,7 +42,7 @@ use Rattle.copy_bridge.proofs.Rereads.{reads_by_number}
 
 same_reread : (b : NamedBody) → AreReread b b
 same_reread b = record {
-  forms = λ n f h. (f, (h, record { copies = []; stale = tt; form = sym (same_form f) }));
+  forms = λ n f h. (f, (h, record { copies = []; stale = All-nil (StandsThere b n f); form = sym (same_form f) }));
   ends = λ n h. h;
   regions = refl;
   registers = refl;

@@ -1,6 +1,7 @@
 -- A propagated body reads originals, by name.
 use Rattle.std.proofs.Common.{◌≡◌, ℕ, zero, suc, ◌+◌, ◌<◌, ◌≤◌, Bool, true, false, List, [], ◌∷◌, map, length, Option, Some, None, nat_eq, refl, sym, ap, ◌∙◌, subst, arith}
 use Rattle.std.specs.Prelude.{◌&&◌, ◌||◌, ◌^◌, if◌then◌else◌, All, slice_get}
+use Rattle.std.proofs.lemmas.List.Elements.{All-nil, All-cons, All-head, All-tail}
 use Rattle.std.proofs.lemmas.Bool.{or_left, or_right, eq-eqb}
 use Rattle.insn_set.specs.Registers.{reads_of, writes_of}
 use Rattle.insn_set.specs.Widths.{is_wide_slot}
@@ -19,35 +20,44 @@ use Rattle.body_graph.proofs.Members.{get_past, get_some}
 use Rattle.pass_defs.specs.Remade as named
 use Rattle.pass_defs.specs.Walks.{form_at}
 use Rattle.pass_defs.specs.Stale.{IsStale}
-use Rattle.copy_prop.specs.Searches.{IsAmong}
+use Rattle.copy_prop.specs.Stale.{IsStaleBy}
+use Rattle.insn_set.specs.declared.ops.Slot.{Slot}
 use Rattle.copy_prop.specs.Rereading.{IsReread}
 use Rattle.copy_prop.specs.Rereading as pass
 use Rattle.copy_prop.specs.Propagated.{IsPropagated, HasPairs}
-use Rattle.copy_prop.specs.declared.copied.Copied.{Copied}
 use Rattle.copy_law.specs.Reread as law
 use Rattle.operand_bridge.proofs.Remaking.{remade_by_number, remade_alike}
 use Rattle.copy_bridge.proofs.Forms.{IsOf, insn_for, form_for, no_form, no_insn}
 use Rattle.copy_bridge.proofs.Stands.{stands_by_name, stale_by_number}
 use Rattle.copy_bridge.specs.Bridged.{ReadsByNumber, SettlesByNumber, HasRoom, PairsByNumber}
 
-abbrev as_law : Copied → law.Copied
-as_law c = record { at = c.at; slot = c.slot; to = c.to; from = c.from }
+-- copies as the pass lists them, by what it asks of one
+module _ {C : Type 0} (sub : List C → ℕ → ℕ) (at : C → ℕ) (slot : C → Slot) (to from : C → ℕ) (none : (r : ℕ) → sub [] r ≡ r)
+    (more : (c : C) (cs : List C) (r : ℕ) → sub (c ∷ cs) r ≡ (if nat_eq r (to c) then from c else if is_wide_slot (slot c) && nat_eq r (to c + 1) then from c + 1 else sub cs r)) where
+  abbrev all_law : List C → List law.Copied
+  all_law cs = map (λ c. record { at = at c; slot = slot c; to = to c; from = from c }) cs
 
-substituted_same : (cs : List Copied) (r : ℕ) → pass.substituted cs r ≡ law.substituted (map as_law cs) r
-substituted_same [] r = refl
-substituted_same (c ∷ cs) r = ap (λ x. if nat_eq r c.to then c.from else if is_wide_slot c.slot && nat_eq r (c.to + 1) then c.from + 1 else x) (substituted_same cs r)
+  substituted_same : (cs : List C) (r : ℕ) → sub cs r ≡ law.substituted (all_law cs) r
+  substituted_same [] r = none r
+  substituted_same (c ∷ cs) r = more c cs r ∙ ap (λ x. if nat_eq r (to c) then from c else if is_wide_slot (slot c) && nat_eq r (to c + 1) then from c + 1 else x) (substituted_same cs r)
 
-module _ (p : Program) (b : Body) (n : ℕ) (i : Insn) where
-  stand : (cs : List Copied) → All (IsAmong (widths_of p) b n i) cs → All (law.StandsThere (body_of p b) n (form_of p i)) (map as_law cs)
-  stand [] a = tt
-  stand (c ∷ cs) a = (record { copy = form_for p b c.at (insn.Move c.slot c.to c.from) a.0.copy; stands = stands_by_name p b c.at c.slot c.to c.from n i a.0.stands }, stand cs a.1)
+  stand : (p : Program) (b : Body) (n : ℕ) (i : Insn) (cs : List C) → All (λ c. IsStaleBy (widths_of p) b n i (at c) (slot c) (to c) (from c)) cs → All (law.StandsThere (body_of p b) n (form_of p i)) (all_law cs)
+  stand p b n i [] a = All-nil (law.StandsThere (body_of p b) n (form_of p i))
+  stand p b n i (c ∷ cs) a =
+      let first : IsStaleBy (widths_of p) b n i (at c) (slot c) (to c) (from c) = All-head (λ c. IsStaleBy (widths_of p) b n i (at c) (slot c) (to c) (from c)) c cs a in
+      All-cons (law.StandsThere (body_of p b) n (form_of p i)) (record { at = at c; slot = slot c; to = to c; from = from c }) (all_law cs)
+      (record { copy = form_for p b (at c) (insn.Move (slot c) (to c) (from c)) first.copy; stands = stands_by_name p b (at c) (slot c) (to c) (from c) n i first.stands })
+      (stand p b n i cs (All-tail (λ c. IsStaleBy (widths_of p) b n i (at c) (slot c) (to c) (from c)) c cs a))
 
-  reread_by_name : (g : Insn) → IsReread (widths_of p) b n i g → law.IsReread (body_of p b) n (form_of p i) (form_of p g)
-  reread_by_name g s = record {
-    copies = map as_law s.copies;
-    stale = stand s.copies s.stale;
-    form = ap (form_of p) (s.form ∙ remade_alike (pass.substituted s.copies) (law.substituted (map as_law s.copies)) (λ r. r) (substituted_same s.copies) i) ∙ remade_by_number p (law.substituted (map as_law s.copies)) (λ r. r) i;
-  }
+reread_by_name : (p : Program) (b : Body) (n : ℕ) (i g : Insn) → IsReread (widths_of p) b n i g → law.IsReread (body_of p b) n (form_of p i) (form_of p g)
+reread_by_name p b n i g s =
+    let copies : List law.Copied = all_law pass.substituted (λ c. c.at) (λ c. c.slot) (λ c. c.to) (λ c. c.from) (λ r. refl) (λ c cs r. refl) s.copies in
+    record {
+      copies = copies;
+      stale = stand pass.substituted (λ c. c.at) (λ c. c.slot) (λ c. c.to) (λ c. c.from) (λ r. refl) (λ c cs r. refl) p b n i s.copies s.stale;
+      form = ap (form_of p) (s.form ∙ remade_alike (pass.substituted s.copies) (law.substituted copies) (λ r. r) (substituted_same pass.substituted (λ c. c.at) (λ c. c.slot) (λ c. c.to) (λ c. c.from) (λ r. refl) (λ c cs r. refl) s.copies) i)
+          ∙ remade_by_number p (law.substituted copies) (λ r. r) i;
+    }
 
 pub reads_by_number : ReadsByNumber
 reads_by_number p b d s = record {

@@ -1,8 +1,8 @@
 -- Which positions of a body compute what nobody reads, by number (Dalvik bytecode, "Summary of bytecode set"; this
 -- project's profile).
-use Rattle.std.specs.Prelude.{◌≡◌, ◌↔◌, ℕ, suc, ◌+◌, ◌<◌, pos, Bool, true, false, ◌&&◌, ◌||◌, not, nat_lt, List, length, Option, Some, None, slice_get, slice_index_or}
+use Rattle.std.specs.Prelude.{◌≡◌, ◌↔◌, ℕ, suc, ◌+◌, ◌<◌, Bool, true, false, ◌&&◌, ◌||◌, not, nat_eq, nat_lt, List, length, Option, Some, None, slice_get, slice_index_or}
 use Rattle.std.specs.List.{list_any}
-use Rattle.std.specs.Ordering.{int_eq}
+use Rattle.std.specs.Int.{w32, cast_unsigned}
 use Rattle.insn_set.specs.Flow.{divides, divides_by_literal}
 use Rattle.insn_set.specs.Widths.{is_wide_slot, is_wide_item, unary_writes_wide, binary_is_wide}
 use Rattle.insn_set.specs.Registers.{writes_of}
@@ -54,7 +54,7 @@ is_pure quiet (insn.Cmp op to a b) = true
 is_pure quiet (insn.StaticGet item to field) = quiet field
 is_pure quiet (insn.Unary op to from) = true
 is_pure quiet (insn.Binary op to a b) = not (divides op)
-is_pure quiet (insn.Literal op to a value) = not (divides_by_literal op) || not (int_eq value (pos 0))
+is_pure quiet (insn.Literal op to a value) = not (divides_by_literal op) || not (nat_eq (cast_unsigned w32 value) 0)
 is_pure quiet i = false
 
 -- ---- dead positions
@@ -70,8 +70,14 @@ pub record IsDead (quiet : ℕ → Bool) (b : Body) (n : ℕ) : Type 0 where
   pub inside : (r : ℕ) → writes_of form r ≡ true → r < b.registers
   pub unread : (r : ℕ) → writes_of form r ≡ true → IsReadAfter b r n → ⊥
 
--- exactly the dead positions are marked
+-- what an analysis of the body's registers says
+abbrev pub LiveAs : Body → Live → Type 0
+LiveAs b live = (n r : ℕ) → r < b.registers → (is_live live n r ≡ true) ↔ IsRead b r n
+
+-- exactly the dead positions are marked, by what is live
 pub record AreDead (quiet : ℕ → Bool) (b : Body) (marks : List Bool) : Type 0 where
+  pub live : Live
+  pub live_is : LiveAs b live
   pub long : length marks ≡ length b.insns
   pub each : (n : ℕ) → n < length b.insns → (is_on marks n ≡ true) ↔ IsDead quiet b n
 
@@ -117,7 +123,3 @@ dead_by live ns registers i = unread_if live ns registers (written_of i)
 abbrev pub dead_at : (ℕ → Bool) → Live → Body → ℕ → Option Insn → Bool
 dead_at quiet live b n None = false
 dead_at quiet live b n (Some i) = is_pure quiet i && dead_by live (successors_of b n) b.registers i
-
--- what an analysis of the body's registers says
-abbrev pub LiveAs : Body → Live → Type 0
-LiveAs b live = (n r : ℕ) → r < b.registers → (is_live live n r ≡ true) ↔ IsRead b r n

@@ -1,18 +1,17 @@
 -- What the chosen numbers keep of a body, and that a body whose registers keep their numbers is packed.
-use Rattle.std.proofs.Common.{◌≡◌, ◌↔◌, ◌⊎◌, inl, inr, ℕ, zero, suc, ◌+◌, ◌-◌, ◌<◌, ◌≤◌, Bool, true, false, List, [], ◌∷◌, ◌++◌, map, length, Option, Some, None, nat_eq, nat_lt, Contains, refl, sym, ap, ◌∙◌, subst, arith}
-use Rattle.std.specs.Prelude.{◌||◌, ◌&&◌, not, slice_index, if◌then◌else◌}
+use Rattle.std.proofs.Common.{◌≡◌, ◌⊎◌, inl, inr, ℕ, suc, ◌+◌, ◌-◌, ◌<◌, ◌≤◌, Bool, true, false, List, map, length, Option, Some, None, nat_eq, Contains, refl, sym, ap, ◌∙◌, subst, arith}
+use Rattle.std.specs.Prelude.{◌&&◌, slice_index, if◌then◌else◌}
 use Rattle.std.specs.List.{list_any}
-use Rattle.std.proofs.lemmas.Bool.{cases_lt, cases_order, cases_Bool, false≢true, true≢false, and_parts, not-true, lt-ltb, le-ltb, or_left, or_right}
+use Rattle.std.proofs.lemmas.Bool.{cases_lt, cases_order, cases_Bool, false≢true, and_parts, not-true, lt-ltb, le-ltb}
 use Rattle.insn_set.specs.declared.form.Insn.{Insn}
 use Rattle.program_model.specs.declared.body.Body.{Body}
 use Rattle.insn_regs.specs.Remade.{remade}
 use Rattle.walk_marks.specs.Walks.{is_on, row_of}
 use Rattle.body_graph.specs.Walks.{insn_at, IsRead}
 use Rattle.compact.specs.Packed.{Conflict, IsPacked, wides_of, uses, is_used, is_free, binds, locals}
-use Rattle.compact.specs.Ties.{AreTies, has_some, ties_of, ties_at}
+use Rattle.compact.specs.Ties.{has_some, ties_of, ties_at}
 use Rattle.compact.specs.Clashes.{Meets, IsClash, AreUsed}
 use Rattle.compact.specs.declared.clash.Clash.{Clash}
-use Rattle.compact.specs.Placed.{Placed, IsLoose}
 use Rattle.compact.specs.Choosing.{IsChoice, Moves}
 use Rattle.compact.specs.Renamed.{renamed, HasRegisters, IsCompacted, IsCounted}
 use Rattle.body_graph.proofs.Members.{none}

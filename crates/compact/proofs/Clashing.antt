@@ -1,13 +1,13 @@
 -- The registers that meet are those that conflict.
-use Rattle.std.proofs.Common.{◌≡◌, ◌↔◌, ◌⊎◌, inl, inr, ℕ, zero, suc, ◌+◌, ◌<◌, ◌≤◌, Bool, true, false, List, [], ◌∷◌, length, Option, Some, None, Contains, refl, sym, ap, ◌∙◌, subst, arith}
-use Rattle.std.specs.Prelude.{◌||◌, ◌&&◌, min, slice_get, ◌^◌}
+use Rattle.std.proofs.Common.{◌≡◌, ◌↔◌, ◌⊎◌, inl, inr, ℕ, ◌+◌, ◌<◌, ◌≤◌, Bool, true, false, List, [], ◌∷◌, length, Option, Some, None, Contains, refl, sym, ap, ◌∙◌, subst, arith}
+use Rattle.std.specs.Prelude.{min, ◌^◌}
 use Rattle.std.specs.List.{list_any}
 use Rattle.std.proofs.lemmas.Bool.{false≢true, or_cases, or_left, or_right, and_parts, and_from, cases_lt}
 use Rattle.std.proofs.lemmas.List.{get_or_past}
 use Rattle.insn_set.specs.Registers.{reads_of, writes_of}
 use Rattle.insn_set.specs.declared.form.Insn.{Insn}
 use Rattle.program_model.specs.declared.body.Body.{Body}
-use Rattle.walk_marks.specs.Walks.{AreTurned, row_of, is_on}
+use Rattle.walk_marks.specs.Walks.{AreTurned, row_of}
 use Rattle.body_graph.specs.Walks.{insn_at, onward, IsRead, IsReadAt, Here, Onward, Caught}
 use Rattle.body_graph.proofs.Members.{none, split, get_inside, in_filter, to_filter}
 use Rattle.live_regs.specs.Live.{is_live}

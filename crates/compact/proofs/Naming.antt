@@ -1,12 +1,12 @@
 -- Numbers picked one after the other.
-use Rattle.std.proofs.Common.{◌≡◌, ◌↔◌, ◌⊎◌, inl, inr, ℕ, zero, suc, ◌+◌, ◌<◌, ◌≤◌, Bool, true, false, List, [], ◌∷◌, ◌++◌, length, take, get_or, Contains, refl, sym, ap, ◌∙◌, subst, arith}
+use Rattle.std.proofs.Common.{◌≡◌, ◌⊎◌, inl, inr, ℕ, ◌+◌, ◌<◌, ◌≤◌, Bool, true, false, List, [], ◌∷◌, ◌++◌, length, Contains, refl, sym, ap, ◌∙◌, subst, arith}
 use Rattle.std.specs.Prelude.{if◌then◌else◌}
 use Rattle.std.specs.List.{filter, list_any}
 use Rattle.std.proofs.lemmas.Bool.{cases_lt, cases_eq, false≢true}
-use Rattle.std.proofs.lemmas.List.{get_or_past, take_more, take_all}
+use Rattle.std.proofs.lemmas.List.{get_or_past}
 use Rattle.std.proofs.lemmas.List.Elements.{Contains-append_left, Contains-append_right, Contains-append_cases}
-use Rattle.body_graph.proofs.Members.{none, first, there, split}
-use Rattle.walk_marks.specs.Walks.{is_on, row_of}
+use Rattle.body_graph.proofs.Members.{none, first, split}
+use Rattle.walk_marks.specs.Walks.{is_on}
 use Rattle.insn_set.specs.declared.form.Insn.{Insn}
 use Rattle.live_regs.specs.declared.table.Live.{Live}
 use Rattle.compact.specs.Clashes.{is_hit, hits_of, AreNames}

@@ -1,10 +1,10 @@
 -- A run more has its numbers.
-use Rattle.std.proofs.Common.{◌≡◌, ◌⊎◌, inl, inr, ℕ, zero, suc, ◌+◌, ◌-◌, ◌<◌, ◌≤◌, Bool, true, false, List, [], ◌∷◌, ◌++◌, length, replicate, get_or, refl, sym, ap, ◌∙◌, subst, arith, length-append}
-use Rattle.std.specs.Prelude.{slice_index, Contains}
-use Rattle.std.proofs.lemmas.Bool.{cases_lt, cases_eq, false≢true, true≢false}
+use Rattle.std.proofs.Common.{◌≡◌, ◌⊎◌, inl, inr, ℕ, zero, suc, ◌+◌, ◌-◌, ◌<◌, ◌≤◌, Bool, true, false, List, [], ◌∷◌, ◌++◌, length, replicate, refl, sym, ap, ◌∙◌, subst, arith, length-append}
+use Rattle.std.specs.Prelude.{slice_index}
+use Rattle.std.proofs.lemmas.Bool.{cases_lt, false≢true}
 use Rattle.std.proofs.lemmas.List.{get_or_append_left, get_or-append-add, length-replicate}
 use Rattle.std.proofs.Math.Seq.{get_or-append_seam}
-use Rattle.walk_marks.specs.Walks.{is_on, row_of}
+use Rattle.walk_marks.specs.Walks.{is_on}
 use Rattle.compact.specs.Ties.{has_some}
 use Rattle.compact.specs.Clashes.{Meets}
 use Rattle.compact.specs.Placed.{Sets, BarsRun, IsFirstClear, IsRun, counted, IsTop, IsLoose, Placed}

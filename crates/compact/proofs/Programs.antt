@@ -1,5 +1,5 @@
 -- Programs whose classes were edited in place.
-use Rattle.std.proofs.Common.{◌≡◌, ℕ, ◌<◌, Bool, List, length, refl, ap, ◌∙◌, sym, subst}
+use Rattle.std.proofs.Common.{◌≡◌, ℕ, Bool, List, length, refl, ap, ◌∙◌, subst}
 use Rattle.program_model.specs.declared.program.Program.{Program}
 use Rattle.insn_regs.specs.Wides.{widths_of}
 use Rattle.compact.specs.Renamed.{AreEach, AreEdited, IsCounted, IsCompactedClass, IsCompactedProgram}

@@ -1,7 +1,7 @@
 -- With numbers that don't rise, an instruction has a spelling where it had one, and gets no longer.
-use Rattle.std.proofs.Common.{◌≡◌, ℕ, ◌+◌, ◌<◌, ◌≤◌, Bool, true, false, List, [], ◌∷◌, map, length, refl, sym, ap, ◌∙◌, subst, ◌⊎◌, inl, inr, arith}
-use Rattle.std.specs.Prelude.{◌&&◌, ◌||◌, nat_eq, nat_lt, nat_le, if◌then◌else◌, ℤ, drop}
-use Rattle.std.specs.List.{list_all, zip}
+use Rattle.std.proofs.Common.{◌≡◌, ℕ, ◌≤◌, Bool, true, false, List, [], ◌∷◌, map, length, refl, sym, ap, ◌∙◌, subst, ◌⊎◌, inl, inr, arith}
+use Rattle.std.specs.Prelude.{◌&&◌, nat_eq, nat_lt, nat_le, if◌then◌else◌, ℤ}
+use Rattle.std.specs.List.{list_all}
 use Rattle.std.proofs.lemmas.Bool.{eqb-true, eq-eqb, ltb-true, lt-ltb, and_parts, and_from, or_cases, or_left, or_right, false≢true, cases_Bool}
 use Rattle.std.proofs.lemmas.List.{length-map}
 use Rattle.insn_set.specs.declared.form.Insn.{Insn}
@@ -9,7 +9,7 @@ use Rattle.insn_set.specs.declared.form.Insn.TheVariants.{Nop, Move, MoveResult,
 use Rattle.insn_set.specs.declared.format.Format.{Format}
 use Rattle.insn_set.specs.declared.format.Format.TheVariants.{F10x, F12x, F11n, F11x, F10t, F20t, F22x, F21t, F21s, F21h, F21c, F23x, F22b, F22t, F22s, F22c, F30t, F32x, F31i, F31t, F31c, F35c, F3rc, F51l}
 use Rattle.insn_set.specs.Formats.{format_units}
-use Rattle.insn_set.specs.Spelling.{is_encodable, units_of, fits_byte, fits_short, fits_nibble, is_multiple, takes_short, is_width, fits_width, keys_ascend, fit_call, fit_nibbles, are_adjacent, shortest_const}
+use Rattle.insn_set.specs.Spelling.{is_encodable, units_of, fits_byte, fits_short, fits_nibble, is_multiple, takes_short, is_width, fits_width, keys_ascend, fit_call, fit_nibbles, are_adjacent}
 use Rattle.insn_regs.specs.Remade.{remade}
 
 least_units : (f : Format) → 1 ≤ format_units f

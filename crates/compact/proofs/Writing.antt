@@ -1,8 +1,8 @@
 -- What an instruction writes, as a list, and where one goes that writes.
-use Rattle.std.proofs.Common.{◌≡◌, ◌↔◌, ◌⊎◌, inl, inr, ℕ, ◌+◌, Bool, true, false, ◌||◌, List, [], ◌∷◌, ◌++◌, nat_eq, Contains, refl, sym, subst}
+use Rattle.std.proofs.Common.{◌≡◌, ◌↔◌, inl, inr, ℕ, ◌+◌, Bool, true, false, List, [], ◌∷◌, nat_eq, Contains, refl, sym, subst}
 use Rattle.std.proofs.lemmas.Bool.{false≢true, or_cases, or_left, or_right, eqb-true, eq-eqb}
 use Rattle.insn_set.specs.declared.form.Insn.{Insn}
-use Rattle.insn_set.specs.declared.form.Insn.TheVariants.{Nop, Move, MoveResult, MoveException, ReturnVoid, Return, Const, ConstWide, ConstString, ConstClass, MonitorEnter, MonitorExit, CheckCast, InstanceOf, ArrayLength, NewInstance, NewArray, FilledNewArray, FillArray, Throw, Goto, PackedSwitch, SparseSwitch, Cmp, If, IfZero, ArrayGet, ArrayPut, InstanceGet, InstancePut, StaticGet, StaticPut, Invoke, Unary, Binary, Literal}
+use Rattle.insn_set.specs.declared.form.Insn.TheVariants.{Move, MoveResult, MoveException, Const, ConstWide, ConstString, ConstClass, InstanceOf, ArrayLength, NewInstance, NewArray, Cmp, ArrayGet, InstanceGet, StaticGet, Unary, Binary, Literal}
 use Rattle.insn_set.specs.Widths.{is_wide_slot, is_wide_item, unary_writes_wide, binary_is_wide}
 use Rattle.insn_set.specs.Registers.{in_operand, writes_of}
 use Rattle.body_graph.specs.Walks.{onward}

@@ -1,8 +1,8 @@
 -- What is chosen as the new numbers of a body's registers.
-use Rattle.std.specs.Prelude.{◌≡◌, ℕ, suc, ◌+◌, ◌-◌, ◌<◌, ◌≤◌, ◌⊎◌, Bool, true, false, List, length, slice_index}
+use Rattle.std.specs.Prelude.{◌≡◌, ℕ, ◌+◌, ◌<◌, ◌≤◌, ◌⊎◌, Bool, true, false, List, length, slice_index}
 use Rattle.program_model.specs.declared.body.Body.{Body}
 use Rattle.walk_marks.specs.Walks.{is_on}
-use Rattle.compact.specs.Packed.{is_used, locals}
+use Rattle.compact.specs.Packed.{locals}
 use Rattle.compact.specs.Ties.{AreTies}
 use Rattle.compact.specs.Clashes.{IsClash, AreUsed}
 use Rattle.compact.specs.Placed.{Placed, IsFloor}

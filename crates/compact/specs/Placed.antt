@@ -1,6 +1,6 @@
 -- The numbers that registers take, one run of tied registers after the other, each the least that is free.
-use Rattle.std.specs.Prelude.{◌≡◌, ℕ, zero, suc, ◌+◌, ◌-◌, ◌<◌, ◌≤◌, ◌⊎◌, Bool, true, false, nat_lt, if◌then◌else◌, List, [], ◌∷◌, ◌++◌, length, slice_index, Contains}
-use Rattle.walk_marks.specs.Walks.{is_on, row_of}
+use Rattle.std.specs.Prelude.{◌≡◌, ℕ, zero, suc, ◌+◌, ◌<◌, ◌≤◌, ◌⊎◌, Bool, true, false, List, [], ◌∷◌, ◌++◌, length, slice_index, Contains}
+use Rattle.walk_marks.specs.Walks.{is_on}
 use Rattle.compact.specs.Ties.{has_some}
 use Rattle.compact.specs.Clashes.{Meets}
 use Rattle.compact.specs.declared.clash.Clash.{Clash}

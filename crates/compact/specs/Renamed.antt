@@ -1,5 +1,5 @@
 -- Bodies and programs whose registers have other numbers.
-use Rattle.std.specs.Prelude.{◌≡◌, ℕ, ◌+◌, ◌-◌, ◌<◌, ◌≤◌, ℤ, Bool, true, false, nat_eq, nat_lt, if◌then◌else◌, List, map, length, Option, Some, None, slice_get, slice_index}
+use Rattle.std.specs.Prelude.{◌≡◌, ℕ, ◌+◌, ◌-◌, ◌<◌, ◌≤◌, ℤ, Bool, true, nat_eq, nat_lt, if◌then◌else◌, List, map, length, Option, Some, None, slice_get, slice_index}
 use Rattle.std.specs.List.{list_any}
 use Rattle.insn_set.specs.Spelling.{is_encodable, units_of}
 use Rattle.insn_set.specs.declared.form.Insn.{Insn}

@@ -1,5 +1,5 @@
 -- Registers that stay side by side, and those that an instruction writes.
-use Rattle.std.specs.Prelude.{◌≡◌, ◌↔◌, ℕ, ◌+◌, ◌<◌, Bool, true, false, not, nat_eq, if◌then◌else◌, List, [], ◌∷◌, ◌++◌, length, Option, Some, None, Contains}
+use Rattle.std.specs.Prelude.{◌↔◌, ℕ, ◌+◌, ◌<◌, Bool, true, false, not, nat_eq, if◌then◌else◌, List, [], ◌++◌, length, Option, Some, None, Contains}
 use Rattle.std.specs.List.{list_any, filter}
 use Rattle.insn_set.specs.Widths.{is_wide_slot, is_wide_item, unary_writes_wide, binary_is_wide}
 use Rattle.insn_set.specs.Spelling.{fit_nibbles}

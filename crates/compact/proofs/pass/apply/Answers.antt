@@ -1,6 +1,6 @@
 use Rattle.std.proofs.Common.{Bool, List, length, subst}
 use Rattle.compact.specs.Renamed.{AreEdited, IsCompactedClass}
-use Rattle.compact.proofs.Programs.{program_counted, program_compacted}
+use Rattle.compact.proofs.Programs.{program_compacted}
 use Rattle.compact.proofs.pass.apply.Goals as goal
 
 pub returns-clause-is : goal.returns-clause-is

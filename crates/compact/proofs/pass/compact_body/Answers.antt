@@ -1,4 +1,4 @@
-use Rattle.std.proofs.Common.{◌∙◌, Bool, List, ℕ, true, false, refl, sym, subst}
+use Rattle.std.proofs.Common.{◌∙◌, Bool, List, true, false, refl, sym, subst}
 use Rattle.compact.specs.Choosing.{Moves}
 use Rattle.compact.proofs.Chosen.{compacted, was_compacted, stays}
 use Rattle.compact.proofs.pass.compact_body.Goals as goal

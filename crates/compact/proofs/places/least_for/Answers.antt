@@ -1,4 +1,4 @@
-use Rattle.std.proofs.Common.{◌≡◌, Bool, false, replicate, rules}
+use Rattle.std.proofs.Common.{◌≡◌, false, replicate, rules}
 use Rattle.compact.proofs.Placing.{first_free}
 use Rattle.compact.proofs.places.least_for.Goals as goal
 

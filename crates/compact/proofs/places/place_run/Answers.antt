@@ -1,4 +1,4 @@
-use Rattle.std.proofs.Common.{ℕ, List, ◌∷◌, ◌++◌, length, length-append, ap, sym, subst, arith}
+use Rattle.std.proofs.Common.{ℕ, List, length, length-append, ap, sym, subst, arith}
 use Rattle.compact.specs.Placed.{Placed, IsTop, IsRun, counted}
 use Rattle.compact.proofs.Placing.{placed_more, length-counted}
 use Rattle.compact.proofs.places.place_run.Goals as goal

@@ -1,4 +1,3 @@
-use Rattle.std.proofs.Common.{◌≡◌, ◌↔◌, ℕ, ◌<◌, length, true, Contains}
 use Rattle.walk_marks.specs.Walks.{is_on}
 use Rattle.compact.proofs.Naming.{Named}
 use Rattle.compact.proofs.used.names_of.Given as goal

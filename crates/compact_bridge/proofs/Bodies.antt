@@ -1,20 +1,13 @@
 -- A compacted body by name.
-use Rattle.std.proofs.Common.{◌≡◌, ℕ, suc, ◌+◌, ◌<◌, Bool, true, List, [], ◌∷◌, map, nat_eq, Some, refl, sym, ap, ap₂, ◌∙◌, subst}
+use Rattle.std.proofs.Common.{◌≡◌, ℕ, List, [], ◌∷◌, map, nat_eq, refl, sym, ap, ap₂, ◌∙◌}
 use Rattle.std.specs.Prelude.{◌&&◌}
 use Rattle.std.specs.List.{list_any}
 use Rattle.insn_set.specs.declared.form.Insn.{Insn}
-use Rattle.program_model.specs.declared.body.Body.{Body}
 use Rattle.program_model.specs.declared.program.Program.{Program}
-use Rattle.dalvik_defs.specs.declared.forms.Form.{Form}
-use Rattle.dalvik_defs.specs.Naming.{form_of, region_of, body_of}
-use Rattle.insn_regs.specs.Wides.{widths_of}
+use Rattle.dalvik_defs.specs.Naming.{form_of, region_of}
 use Rattle.insn_regs.specs.Remade as remake
 use Rattle.pass_defs.specs.Remade as renew
-use Rattle.pass_defs.specs.Walks.{form_at}
-use Rattle.compact.specs.Renamed.{IsCompacted, HasRegisters}
-use Rattle.compact.specs.Packed as numbered
 use Rattle.pass_defs.specs.Packed as named
-use Rattle.pack_law.specs.Renamed.{IsRenamed}
 use Rattle.walk_bridge.proofs.Walked.{read_by_number}
 use Rattle.operand_bridge.proofs.Remaking.{remade_by_number}
 use Rattle.compact_bridge.proofs.Tests.{wides_same, uses_same, used_same, free_same}

@@ -1,16 +1,15 @@
 -- Conflicts by number and by name.
-use Rattle.std.proofs.Common.{◌≡◌, ℕ, Bool, true, List, Option, Some, None, Contains, refl, sym, ap, ap₂, ◌∙◌, subst}
+use Rattle.std.proofs.Common.{◌≡◌, ℕ, List, Option, Some, None, Contains, refl, sym, ap, ap₂, ◌∙◌, subst}
 use Rattle.std.specs.Prelude.{◌&&◌}
 use Rattle.std.specs.Option.{option_map}
-use Rattle.insn_set.specs.Registers.{reads_of, writes_of}
 use Rattle.insn_set.specs.declared.form.Insn.{Insn}
 use Rattle.program_model.specs.declared.body.Body.{Body}
 use Rattle.program_model.specs.declared.program.Program.{Program}
 use Rattle.dalvik_defs.specs.declared.forms.Form.{Form}
 use Rattle.dalvik_defs.specs.Naming.{form_of, body_of}
-use Rattle.pass_defs.specs.Bare.{reads, writes}
+use Rattle.pass_defs.specs.Bare.{writes}
 use Rattle.pass_defs.specs.Walks as walks
-use Rattle.body_graph.specs.Walks.{insn_at, onward}
+use Rattle.body_graph.specs.Walks.{insn_at}
 use Rattle.compact.specs.Packed as numbered
 use Rattle.pass_defs.specs.Packed as named
 use Rattle.walk_bridge.proofs.Formed.{same_writes, same_onward, form_there}

@@ -1,13 +1,12 @@
 -- Compaction lowers the register count or the sum of the numbers, or leaves a body the same.
-use Rattle.std.proofs.Common.{◌≡◌, ℕ, ◌+◌, ◌≤◌, Bool, List, [], ◌∷◌, map, sum, refl, sym, ap, ap₂, ◌∙◌, subst, arith}
+use Rattle.std.proofs.Common.{◌≡◌, ℕ, ◌+◌, ◌≤◌, List, [], ◌∷◌, map, sum, refl, sym, ap, ap₂, ◌∙◌, subst, arith}
 use Rattle.std.specs.Prelude.{sum_by}
 use Rattle.std.proofs.lemmas.List.Sums.{sum_by-cons}
 use Rattle.insn_set.specs.declared.form.Insn.{Insn}
 use Rattle.insn_set.specs.declared.form.Insn.TheVariants.{Nop, Move, MoveResult, MoveException, ReturnVoid, Return, Const, ConstWide, ConstString, ConstClass, MonitorEnter, MonitorExit, CheckCast, InstanceOf, ArrayLength, NewInstance, NewArray, FilledNewArray, FillArray, Throw, Goto, PackedSwitch, SparseSwitch, Cmp, If, IfZero, ArrayGet, ArrayPut, InstanceGet, InstancePut, StaticGet, StaticPut, Invoke, Unary, Binary, Literal}
 use Rattle.program_model.specs.declared.body.Body.{Body}
 use Rattle.insn_regs.specs.Remade.{remade}
-use Rattle.compact.specs.Renamed.{IsCompacted}
-use Rattle.compact_bridge.specs.Measure.{numbers_of, number_sum, IsLower, LowersByNumber}
+use Rattle.compact_bridge.specs.Measure.{numbers_of, number_sum, LowersByNumber}
 
 sum_more : (x : ℕ) (xs : List ℕ) → sum (x ∷ xs) ≡ x + sum xs
 sum_more x xs = sum_by-cons (λ y. y) x xs

@@ -1,8 +1,7 @@
 -- A compacted program shows the same.
-use Rattle.std.proofs.Common.{◌≡◌, ◌⊎◌, inl, inr, ℕ, zero, suc, ◌+◌, ◌<◌, Bool, true, false, List, [], ◌∷◌, map, length, Option, Some, None, nat_eq, Contains, refl, sym, ap, ◌∙◌, subst, arith}
+use Rattle.std.proofs.Common.{◌≡◌, inl, inr, ℕ, suc, Bool, true, false, List, [], ◌∷◌, length, Option, Some, None, Contains, refl, sym, ap, ◌∙◌, subst, arith}
 use Rattle.std.specs.Prelude.{is_some, slice_get}
 use Rattle.std.specs.Option.{option_map}
-use Rattle.insn_set.specs.declared.form.Insn.{Insn}
 use Rattle.program_model.specs.ProgramRules.{is_well_formed}
 use Rattle.program_model.specs.declared.body.Body.{Body}
 use Rattle.program_model.specs.declared.program.Method.{Method}
@@ -19,17 +18,15 @@ use Rattle.dalvik_defs.specs.declared.program.NamedMethod.{NamedMethod}
 use Rattle.dalvik_defs.specs.declared.program.NamedClass.{NamedClass}
 use Rattle.insn_regs.specs.Wides.{widths_of}
 use Rattle.walk_marks.specs.Walks.{is_on}
-use Rattle.body_graph.specs.Walks.{insn_at}
-use Rattle.silence_law.specs.Bodies.{Change, changed}
+use Rattle.silence_law.specs.Bodies.{Change}
 use Rattle.bodies_law.specs.Others.{Pairwise, OtherBodies}
 use Rattle.bodies_law.specs.Numbered.{OtherNumberedMethod, OtherNumberedClass, OtherNumberedBodies}
 use Rattle.bodies_law.proofs.Named.{others_named}
-use Rattle.place_law.specs.Solid.{HasRoom, AllSolid}
+use Rattle.place_law.specs.Solid.{HasRoom}
 use Rattle.place_law.proofs.WellFormed.{well_formed_solid}
 use Rattle.pack_law.specs.Renamed.{IsRenamed, AllRenamed}
 use Rattle.pack_law.proofs.Renaming.{renamed_shown}
-use Rattle.compact.specs.Packed.{uses}
-use Rattle.compact.specs.Renamed.{IsCompacted, HasRegisters, AreEach, RewritesBody, IsCompactedMethod, IsCompactedClass, IsCompactedProgram}
+use Rattle.compact.specs.Renamed.{HasRegisters, AreEach, RewritesBody, IsCompactedMethod, IsCompactedClass, IsCompactedProgram}
 use Rattle.change_bridge.specs.Changing.{change_to}
 use Rattle.change_bridge.proofs.Changing.{keeps_code, is_changed, related}
 use Rattle.change_bridge.proofs.Unique.{unique_named}

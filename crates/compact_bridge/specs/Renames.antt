@@ -1,8 +1,6 @@
 -- Methods whose code has other registers.
-use Rattle.std.specs.Prelude.{◌≡◌, ◌⊎◌, ℕ, List, Bool, Option, Some, None}
-use Rattle.program_model.specs.declared.body.Body.{Body}
+use Rattle.std.specs.Prelude.{◌≡◌, ◌⊎◌, ℕ, Some, None}
 use Rattle.program_model.specs.declared.program.Program.{Program}
-use Rattle.dalvik_defs.specs.declared.program.NamedBody.{NamedBody}
 use Rattle.insn_regs.specs.Wides.{widths_of}
 use Rattle.place_law.specs.Solid.{HasRoom}
 use Rattle.pack_law.specs.Renamed.{IsRenamed}

@@ -1,9 +1,9 @@
 -- The instruction of a form, and what a body copies and spoils, by number and by name.
-use Rattle.std.proofs.Common.{◌≡◌, ◌↔◌, ℕ, zero, suc, ◌+◌, Bool, true, false, List, [], ◌∷◌, ◌++◌, Option, Some, None, nat_eq, Contains, refl, sym, ap, ap₂, ◌∙◌, subst}
-use Rattle.std.specs.Prelude.{◌&&◌, ◌||◌, not}
+use Rattle.std.proofs.Common.{◌≡◌, ℕ, Bool, true, false, List, Option, Some, None, nat_eq, Contains, refl, sym, ap, ◌∙◌, subst}
+use Rattle.std.specs.Prelude.{◌&&◌, not}
 use Rattle.std.specs.Option.{option_map}
 use Rattle.std.specs.List.{list_any}
-use Rattle.std.proofs.lemmas.Bool.{eqb-true, eq-eqb, and_parts, and_from, false≢true}
+use Rattle.std.proofs.lemmas.Bool.{eqb-true, eq-eqb}
 use Rattle.insn_set.specs.Registers.{in_operand, reads_of, writes_of}
 use Rattle.insn_set.specs.Widths.{is_wide_slot}
 use Rattle.insn_set.specs.declared.ops.Slot.{Slot}
@@ -16,11 +16,10 @@ use Rattle.dalvik_defs.specs.declared.forms.Form.TheVariants as form
 use Rattle.dalvik_defs.specs.Naming.{form_of, body_of}
 use Rattle.insn_regs.specs.Wides.{widths_of}
 use Rattle.insn_regs.specs.Wides as wide
-use Rattle.flow_cfg.specs.Walks.{successors_of}
 use Rattle.pass_defs.specs.Bare.{reads, writes}
 use Rattle.pass_defs.specs.Packed.{wides_read}
 use Rattle.pass_defs.specs.Walks as walks
-use Rattle.body_graph.specs.Walks.{insn_at, onward}
+use Rattle.body_graph.specs.Walks.{insn_at}
 use Rattle.pass_defs.specs.Stale as named
 use Rattle.copy_prop.specs.Stale as numbered
 use Rattle.walk_bridge.proofs.Formed.{same_reads, same_writes, same_onward, same_successors, form_there}

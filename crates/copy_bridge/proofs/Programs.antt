@@ -1,5 +1,5 @@
 -- A propagated program shows the same.
-use Rattle.std.proofs.Common.{◌≡◌, ◌⊎◌, inl, inr, ℕ, zero, suc, ◌+◌, Bool, true, false, List, [], ◌∷◌, length, Option, Some, None, Contains, refl, sym, ap, ◌∙◌, subst, arith}
+use Rattle.std.proofs.Common.{◌≡◌, inl, inr, ℕ, suc, Bool, true, false, List, [], ◌∷◌, length, Option, Some, None, Contains, refl, sym, ap, ◌∙◌, subst, arith}
 use Rattle.std.specs.Prelude.{is_some, slice_get}
 use Rattle.std.specs.Option.{option_map}
 use Rattle.std.proofs.lemmas.List.Elements.{All-nil}
@@ -13,24 +13,22 @@ use Rattle.dalvik_defs.specs.Naming.{body_of, named_method, named_class, named}
 use Rattle.dalvik_defs.specs.Silence.{key_in}
 use Rattle.dalvik_defs.specs.Outer.{Outer}
 use Rattle.dalvik_defs.specs.Shown.{SameShown}
-use Rattle.dalvik_defs.specs.declared.forms.Form.{Form}
 use Rattle.dalvik_defs.specs.declared.names.MethodKey.{MethodKey}
 use Rattle.dalvik_defs.specs.declared.program.NamedBody.{NamedBody}
 use Rattle.dalvik_defs.specs.declared.program.NamedMethod.{NamedMethod}
 use Rattle.dalvik_defs.specs.declared.program.NamedClass.{NamedClass}
 use Rattle.insn_regs.specs.Wides.{widths_of}
 use Rattle.walk_marks.specs.Walks.{is_on}
-use Rattle.pass_defs.specs.Walks.{form_at}
-use Rattle.silence_law.specs.Bodies.{Change, changed}
+use Rattle.silence_law.specs.Bodies.{Change}
 use Rattle.bodies_law.specs.Others.{Pairwise, OtherBodies}
 use Rattle.bodies_law.specs.Numbered.{OtherNumberedMethod, OtherNumberedClass, OtherNumberedBodies}
 use Rattle.bodies_law.proofs.Named.{others_named}
 use Rattle.place_law.proofs.WellFormed.{well_formed_solid}
 use Rattle.copy_law.specs.Copied.{AllReadOriginals, ReadsOriginals}
-use Rattle.copy_law.specs.Reread.{AreReread, IsReread, StandsThere}
+use Rattle.copy_law.specs.Reread.{AreReread, StandsThere}
 use Rattle.copy_law.proofs.Copying.{copied_shown}
 use Rattle.copy_law.proofs.Rereading.{reread_reads}
-use Rattle.copy_prop.specs.Propagated.{IsPropagated, AreEach, RewritesBody, IsPropagatedMethod, IsPropagatedClass, IsPropagatedProgram}
+use Rattle.copy_prop.specs.Propagated.{AreEach, RewritesBody, IsPropagatedMethod, IsPropagatedClass, IsPropagatedProgram}
 use Rattle.operand_bridge.proofs.Same.{same_form}
 use Rattle.change_bridge.specs.Changing.{change_to}
 use Rattle.change_bridge.proofs.Changing.{keeps_code, is_changed, related}

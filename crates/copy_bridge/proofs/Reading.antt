@@ -1,6 +1,5 @@
 -- A walk that reads a register, by number and by name.
-use Rattle.std.proofs.Common.{◌≡◌, ℕ, List, Contains, sym, ap, ◌∙◌, subst}
-use Rattle.insn_set.specs.declared.form.Insn.{Insn}
+use Rattle.std.proofs.Common.{ℕ, List, Contains, sym, ◌∙◌, subst}
 use Rattle.program_model.specs.declared.body.Body.{Body}
 use Rattle.program_model.specs.declared.program.Program.{Program}
 use Rattle.dalvik_defs.specs.Naming.{form_of, body_of}

@@ -1,9 +1,9 @@
 -- A propagated body reads originals, by name.
-use Rattle.std.proofs.Common.{◌≡◌, ℕ, zero, suc, ◌+◌, ◌<◌, ◌≤◌, Bool, true, false, List, [], ◌∷◌, map, length, Option, Some, None, nat_eq, refl, sym, ap, ◌∙◌, subst, arith}
-use Rattle.std.specs.Prelude.{◌&&◌, ◌||◌, ◌^◌, if◌then◌else◌, All, slice_get}
+use Rattle.std.proofs.Common.{◌≡◌, ℕ, zero, suc, ◌+◌, ◌<◌, true, List, [], ◌∷◌, map, length, Some, None, nat_eq, refl, ap, ◌∙◌, subst, arith}
+use Rattle.std.specs.Prelude.{◌&&◌, ◌||◌, if◌then◌else◌, All, slice_get}
 use Rattle.std.proofs.lemmas.List.Elements.{All-nil, All-cons, All-head, All-tail}
 use Rattle.std.proofs.lemmas.Bool.{or_left, or_right, eq-eqb}
-use Rattle.insn_set.specs.Registers.{reads_of, writes_of}
+use Rattle.insn_set.specs.Registers.{writes_of}
 use Rattle.insn_set.specs.Widths.{is_wide_slot}
 use Rattle.insn_set.specs.declared.ops.Slot.TheVariants.{Wide}
 use Rattle.insn_set.specs.declared.form.Insn.{Insn}
@@ -11,25 +11,19 @@ use Rattle.insn_set.specs.declared.form.Insn.TheVariants as insn
 use Rattle.program_model.specs.declared.body.Body.{Body}
 use Rattle.program_model.specs.declared.program.Program.{Program}
 use Rattle.dalvik_defs.specs.declared.forms.Form.{Form}
-use Rattle.dalvik_defs.specs.declared.forms.Form.TheVariants as form
 use Rattle.dalvik_defs.specs.Naming.{form_of, body_of, region_of}
 use Rattle.insn_regs.specs.Wides.{widths_of}
-use Rattle.insn_regs.specs.Remade as numbered
 use Rattle.body_graph.specs.Walks.{insn_at}
-use Rattle.body_graph.proofs.Members.{get_past, get_some}
-use Rattle.pass_defs.specs.Remade as named
 use Rattle.pass_defs.specs.Walks.{form_at}
-use Rattle.pass_defs.specs.Stale.{IsStale}
 use Rattle.copy_prop.specs.Stale.{IsStaleBy}
 use Rattle.insn_set.specs.declared.ops.Slot.{Slot}
 use Rattle.copy_prop.specs.Rereading.{IsReread}
 use Rattle.copy_prop.specs.Rereading as pass
-use Rattle.copy_prop.specs.Propagated.{IsPropagated, HasPairs}
 use Rattle.copy_law.specs.Reread as law
 use Rattle.operand_bridge.proofs.Remaking.{remade_by_number, remade_alike}
 use Rattle.copy_bridge.proofs.Forms.{IsOf, insn_for, form_for, no_form, no_insn}
 use Rattle.copy_bridge.proofs.Stands.{stands_by_name, stale_by_number}
-use Rattle.copy_bridge.specs.Bridged.{ReadsByNumber, SettlesByNumber, HasRoom, PairsByNumber}
+use Rattle.copy_bridge.specs.Bridged.{ReadsByNumber, SettlesByNumber, PairsByNumber}
 
 -- copies as the pass lists them, by what it asks of one
 module _ {C : Type 0} (sub : List C → ℕ → ℕ) (at : C → ℕ) (slot : C → Slot) (to from : C → ℕ) (none : (r : ℕ) → sub [] r ≡ r)

@@ -1,20 +1,15 @@
 -- The reads for which a Move stands, and stale reads, by number and by name.
-use Rattle.std.proofs.Common.{◌≡◌, ◌↔◌, ℕ, ◌+◌, ◌<◌, ◌≤◌, Bool, true, false, List, Option, Some, None, Contains, refl, sym, ap, ◌∙◌, subst}
+use Rattle.std.proofs.Common.{◌≡◌, ℕ, ◌≤◌, List, Some, Contains, sym, ap, ◌∙◌, subst}
 use Rattle.std.specs.Prelude.{pos}
 use Rattle.insn_set.specs.Spelling.{is_encodable, units_of}
 use Rattle.insn_set.specs.declared.ops.Slot.{Slot}
 use Rattle.insn_set.specs.declared.form.Insn.{Insn}
-use Rattle.insn_set.specs.declared.form.Insn.TheVariants as insn
 use Rattle.program_model.specs.declared.body.Body.{Body}
 use Rattle.program_model.specs.declared.program.Program.{Program}
-use Rattle.dalvik_defs.specs.declared.forms.Form.{Form}
 use Rattle.dalvik_defs.specs.declared.forms.Form.TheVariants as form
 use Rattle.dalvik_defs.specs.Naming.{form_of, body_of}
 use Rattle.insn_regs.specs.Wides.{widths_of}
 use Rattle.pass_defs.specs.Bare.{bare}
-use Rattle.pass_defs.specs.Walks as walks
-use Rattle.body_graph.specs.Walks.{insn_at, IsReadAt, IsRead}
-use Rattle.flow_cfg.specs.Walks.{successors_of}
 use Rattle.pass_defs.specs.Stale as named
 use Rattle.copy_prop.specs.Stale as numbered
 use Rattle.walk_bridge.proofs.Formed.{same_successors}

@@ -1,5 +1,5 @@
 -- What is said of a propagated body by number, and of its named body.
-use Rattle.std.specs.Prelude.{◌≡◌, ℕ, ◌<◌, ◌^◌, ◌||◌, true, List, Bool, Some}
+use Rattle.std.specs.Prelude.{◌≡◌, ℕ, ◌<◌, ◌^◌, ◌||◌, true, Some}
 use Rattle.insn_set.specs.Registers.{reads_of, writes_of}
 use Rattle.insn_set.specs.declared.form.Insn.{Insn}
 use Rattle.program_model.specs.declared.body.Body.{Body}

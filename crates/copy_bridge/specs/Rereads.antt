@@ -1,8 +1,6 @@
 -- Methods whose code reads originals in place of copies.
-use Rattle.std.specs.Prelude.{◌≡◌, ◌⊎◌, Option, Some, None}
-use Rattle.program_model.specs.declared.body.Body.{Body}
+use Rattle.std.specs.Prelude.{◌≡◌, ◌⊎◌, Some, None}
 use Rattle.program_model.specs.declared.program.Program.{Program}
-use Rattle.dalvik_defs.specs.declared.program.NamedBody.{NamedBody}
 use Rattle.insn_regs.specs.Wides.{widths_of}
 use Rattle.bodies_law.specs.Others.{Codes}
 use Rattle.bodies_law.specs.Numbered.{NumberedCodes}

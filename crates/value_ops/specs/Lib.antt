@@ -1,0 +1,4 @@
+pub mod Left
+pub mod Sums
+pub mod Numbers
+pub mod Tests

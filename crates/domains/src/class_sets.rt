@@ -77,6 +77,17 @@ impl ClassSet {
         }
     }
 
+    /// Whether both sets are the same.
+    pub(crate) fn is_same(&self, other: &ClassSet) -> bool
+        ensures { IsTrue result → self.now ≡ other.now }
+    {
+        match (self.classes(), other.classes()) {
+            (None, None) => true,
+            (Some(few), Some(more)) => few == more,
+            _ => false,
+        }
+    }
+
     /// Any class, of the program or not.
     pub fn any() -> Self
         ensures { result ≡ None }

@@ -13,6 +13,7 @@ use crate::nulls::Nullness;
 use crate::numbers::Word;
 use crate::ranges::Interval;
 use lattice_core::{Domain, Lattice};
+use pat_map::MapValue;
 use std::alloc::{AllocError, Global};
 use std::marker::Model;
 
@@ -284,6 +285,21 @@ impl Domain for Value {
             nullness: self.nullness.widen(alloc, &newer.nullness)?,
             classes: self.classes.widen(alloc, &newer.classes)?,
         })
+    }
+}
+
+impl MapValue for Value {
+    ghost use Rattle.domains.specs.Bounded.{rank_below};
+
+    ghost most = { 20 };
+
+    ghost bounded = { rank_below };
+
+    fn is_same(&self, other: &Self) -> bool {
+        self.word.is_same(other.word)
+            && self.interval.is_same(other.interval)
+            && self.nullness.is_same(other.nullness)
+            && self.classes.is_same(&other.classes)
     }
 }
 

@@ -7,9 +7,11 @@ use Rattle.std.specs.FinMap as finite
 use Rattle.lattice_core.specs.Laws.{IsUpper, IsWidened}
 use Rattle.lattice_core.specs.Places.{total, total_falls}
 use Rattle.pat_map.specs.declared.nodes.Node.{Node, Leaf, Branch'}
-use Rattle.pat_map.specs.Trees.{WordMap, at, IsTree, map_of, either, BelowAt, IsBelow, union}
-use Rattle.pat_map.specs.TreeLaws.{same_or_not}
-use Rattle.pat_map.specs.MapLaws.{get_map, get_union}
+use Rattle.pat_map.specs.Trees.{WordMap, at, IsTree, map_of, map_from, either, BelowAt, IsBelow, union}
+use Rattle.std.specs.Prelude.{IfSome}
+use Rattle.std.specs.Option.{option_map}
+use Rattle.pat_map.specs.TreeLaws.{same_or_not, Joins}
+use Rattle.pat_map.specs.MapLaws.{get_map, get_union, map_union, union_none, none_union}
 use Rattle.pat_map.specs.Pours.{MadeIf, Made, WidensTo}
 
 -- a map describes a thing at a key: its value there does
@@ -164,3 +166,41 @@ module _ {V : Type 0} where
 
   pub holds_none : {M : Type 0} (holds : V → M → Type 0) (m : ℕ × M) → HoldsAt holds (finite.get (finite.empty {K = ℕ} {X = V} {R = nat_cmp}) m.0) m.1 → ⊥
   holds_none holds m h = subst (λ a. HoldsAt holds a m.1) (finite.get-empty nat_cmp m.0) h
+
+  -- ---- two maps as one
+
+  pub record IsMerge (made : V → V → V → Type 0) (f : V → V → V) (m n w : WordMap V) : Type 0 where
+    pub is : w ≡ union f m n
+    pub each : (k : ℕ) → MadeIf made f (finite.get m k) (finite.get n k)
+
+  pub merge_none : (made : V → V → V → Type 0) (f : V → V → V) (m n w : WordMap V) → finite.empty ≡ n → w ≡ m → IsMerge made f m n w
+  merge_none made f m n w e i = record {
+    is = i ∙ union_none f m ∙ ap (union f m) e;
+    each = λ k. subst (λ n. MadeIf made f (finite.get m k) (finite.get n k)) e (none_second made f m k);
+  }
+
+  pub none_merge : (made : V → V → V → Type 0) (f : V → V → V) (m n w : WordMap V) → finite.empty ≡ m → w ≡ n → IsMerge made f m n w
+  none_merge made f m n w e i = record {
+    is = i ∙ none_union f n ∙ ap (λ m. union f m n) e;
+    each = λ k. subst (λ m. MadeIf made f (finite.get m k) (finite.get n k)) e (none_first made f n k);
+  }
+
+  pub trees_merge : (made : V → V → V → Type 0) (f : V → V → V) (m n : WordMap V) (x y t : Node V) → map_of x ≡ m → map_of y ≡ n → IsTree x → IsTree y → IsTree t → Joins f x y t → Made made f x y → IsMerge made f m n (map_of t)
+  trees_merge made f m n x y t e i tx ty tt' j h = record {
+    is = map_union f x y t tx ty tt' j ∙ ap (λ m. union f m (map_of y)) e ∙ ap (union f m) i;
+    each = λ k. subst (λ m. MadeIf made f (finite.get m k) (finite.get n k)) e (subst (λ n. MadeIf made f (finite.get (map_of x) k) (finite.get n k)) i (made_map made f x y tx ty h k));
+  }
+
+  pub root_words : {R : Type 0} (value : R → Node V) (o : Option R) (m : WordMap V) → IfSome o (λ r. IsTree (value r)) → map_from (option_map value o) ≡ m → HasWords m
+  root_words value None m t e = subst HasWords e empty_words
+  root_words value (Some r) m t e = subst HasWords e (tree_words (value r) t)
+
+  pub merge_upper : (below : V → V → Type 0) → ((x : V) → below x x) → (f : V → V → V) (m n w : WordMap V) → IsMerge (IsUpper below) f m n w → IsUpper (IsBelow below) m n w
+  merge_upper below r f m n w h = subst (IsUpper (IsBelow below) m n) (sym h.is) (map_upper below r f m n h.each)
+
+  module _ (below : V → V → Type 0) (rank : V → ℕ) (most : ℕ) (exact : Bool) (joined f : V → V → V) (same : (x : V) → below x x) (bounded : (x : V) → rank x < most) (m n w : WordMap V) where
+    pub merge_over : IsMerge (WidensTo below rank exact joined) f m n w → IsUpper (IsBelow below) m n w
+    merge_over h = subst (IsUpper (IsBelow below) m n) (sym h.is) (widens_over below rank most exact joined f same bounded m n h.each)
+
+    pub merge_falls : HasWords m → HasWords n → IsMerge (WidensTo below rank exact joined) f m n w → IsWidened (IsBelow below) (map_rank rank most) exact (union joined m n) m w
+    merge_falls wm wn h = subst (IsWidened (IsBelow below) (map_rank rank most) exact (union joined m n) m) (sym h.is) (widens_falls below rank most exact joined f same bounded m n h.each wm wn)

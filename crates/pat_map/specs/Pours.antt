@@ -31,7 +31,7 @@ pub record WidensTo {V : Type 0} (below : V → V → Type 0) (rank : V → ℕ)
 
 module _ {V : Type 0} where
   pub puts_so : (key : ℕ) (u : V) (o : Option V) (x t : Node V) → Becomes u (at x key) o → PutsMaybe key o x t → Sets key u x t
-  puts_so key u None x t b p k = ap (λ n. at n k) p ∙ same_or_not k key
+  puts_so key u None x t b p = λ k. ap (λ n. at n k) p ∙ same_or_not k key
       (λ e r. rw e (ap (at x) r ∙ b))
       (λ e r. rw e refl)
   puts_so key u (Some v) x t b p = subst (λ v. Sets key v x t) b p

@@ -13,8 +13,12 @@ use Rattle.domains.specs.Reducing.{reduced}
 
 -- ---- nothing, or something
 
+abbrev pub is_bottom : Nullness → Bool
+is_bottom Bottom = true
+is_bottom n = false
+
 abbrev pub is_nothing : Parts → Bool
-is_nothing x = elim x.nullness [ Bottom ↦ true | Null ↦ false | NotNull ↦ false | Any ↦ false ]
+is_nothing x = is_bottom x.nullness
 
 -- the value, where it holds of anything
 abbrev pub goes_on : Parts → Option Parts

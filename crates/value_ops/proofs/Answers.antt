@@ -125,8 +125,8 @@ divided_none Rem w a b n d z e = zero_divides b _ n z e
 divided_none kind w a b n d z e = absurd (true≢false (sym d))
 
 -- so an operation that answers doesn't stop
-going : {P : Bool → Type 0} (k : Kind) (w : Bool) (y : Parts) (m : Number) (a b n : ℕ) → (m ≡ Single 0 → b ≡ 0) → (m ≡ Double 0 → b ≡ 0) → word_holds y.word m → answer k w a b ≡ Some n → P false → P (stops k y)
-going {P = P} k w y m a b n f g h e p = by (is_division k) (is_zero_number y.word) refl refl
+going : (P : Bool → Type 0) (k : Kind) (w : Bool) (y : Parts) (m : Number) (a b n : ℕ) → (m ≡ Single 0 → b ≡ 0) → (m ≡ Double 0 → b ≡ 0) → word_holds y.word m → answer k w a b ≡ Some n → P false → P (stops k y)
+going P k w y m a b n f g h e p = by (is_division k) (is_zero_number y.word) refl refl
   where
     by : (d z : Bool) → is_division k ≡ d → is_zero_number y.word ≡ z → P (d && z)
     by false z i j = p
@@ -145,7 +145,7 @@ word_answered k (word.KnownWide m) v r a b n h i e o = no_single a m h
 word_answered k word.Any v r a b n h i e o = o
 
 pub words_answered : (k : Kind) (x y : Parts) (a b n : ℕ) → a < 2 ^ 32 → b < 2 ^ 32 → n < 2 ^ 32 → value_holds x (Plain (Single a)) → value_holds y (Plain (Single b)) → answer k false a b ≡ Some n → HoldsSome (sorted_value (OnWord k) x y) (Plain (Single n))
-words_answered k x y a b n la lb ln h i e = going {P = λ s. HoldsSome (if s then None else word_answer k x.word y.word (range_of k x.interval y.interval)) (Plain (Single n))} k false y (Single b) a b n
+words_answered k x y a b n la lb ln h i e = going (λ s. HoldsSome (if s then None else word_answer k x.word y.word (range_of k x.interval y.interval)) (Plain (Single n))) k false y (Single b) a b n
     (λ q. single_is b 0 q) (λ q. no_single b 0 q) i.0.0 e
     (word_answered k x.word y.word (range_of k x.interval y.interval) a b n h.0.0 i.0.0 e (words_so (range_of k x.interval y.interval) n ln (range_so k x.interval y.interval a b n la lb ln h.0.1 i.0.1 e)))
 
@@ -181,10 +181,10 @@ shift_answered k (word.KnownWide m) word.Any a b n h i e = any_wide n
 shift_answered k word.Any v a b n h i e = any_wide n
 
 pub wides_answered : (k : Kind) (x y : Parts) (a b n : ℕ) → value_holds x (Plain (Double a)) → value_holds y (Plain (Double b)) → answer k true a b ≡ Some n → HoldsSome (sorted_value (OnWide k) x y) (Plain (Double n))
-wides_answered k x y a b n h i e = going {P = λ s. HoldsSome (if s then None else wide_answer k x.word y.word) (Plain (Double n))} k true y (Double b) a b n (λ q. no_double b 0 q) (λ q. double_is b 0 q) i.0 e (wide_answered k x.word y.word a b n h.0 i.0 e)
+wides_answered k x y a b n h i e = going (λ s. HoldsSome (if s then None else wide_answer k x.word y.word) (Plain (Double n))) k true y (Double b) a b n (λ q. no_double b 0 q) (λ q. double_is b 0 q) i.0 e (wide_answered k x.word y.word a b n h.0 i.0 e)
 
 pub shifts_answered : (k : Kind) (x y : Parts) (a b n : ℕ) → value_holds x (Plain (Double a)) → value_holds y (Plain (Single b)) → answer k true a b ≡ Some n → HoldsSome (sorted_value (Shifts k) x y) (Plain (Double n))
-shifts_answered k x y a b n h i e = going {P = λ s. HoldsSome (if s then None else shift_answer k x.word y.word) (Plain (Double n))} k true y (Single b) a b n (λ q. single_is b 0 q) (λ q. no_single b 0 q) i.0.0 e (shift_answered k x.word y.word a b n h.0 i.0.0 e)
+shifts_answered k x y a b n h i e = going (λ s. HoldsSome (if s then None else shift_answer k x.word y.word) (Plain (Double n))) k true y (Single b) a b n (λ q. single_is b 0 q) (λ q. no_single b 0 q) i.0.0 e (shift_answered k x.word y.word a b n h.0 i.0.0 e)
 
 -- an operator of a sort
 by_sort : (op : BinaryOp) (s : Sort) (x y : Parts) (d e o : Datum) → sort_of op ≡ s → value_holds x d → value_holds y e → HoldsSome (sorted_value s x y) o → HoldsSome (binary_value op x y) o

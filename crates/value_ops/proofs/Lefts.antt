@@ -121,7 +121,7 @@ words_so r w l h = left_so (record { word = word.Any; interval = r; nullness = A
 
 -- ---- both
 
-between_so : (low high z : ℤ) → low ≤ℤ z → z ≤ℤ high → range_holds (words_between low high) z
+pub between_so : (low high z : ℤ) → low ≤ℤ z → z ≤ℤ high → range_holds (words_between low high) z
 between_so low high z l h = by (int_lt high low) refl
   where
     by : (b : Bool) → int_lt high low ≡ b → range_holds (if b then no_words else record { low = low; high = high }) z

@@ -122,9 +122,16 @@ abbrev pub word_without : ℕ → Word → Word
 word_without c (word.Known a) = if a == c then word.Bottom else word.Known a
 word_without c x = x
 
+-- an end that isn't a word
+abbrev pub low_without : ℤ → ℤ → ℤ
+low_without z low = if int_eq low z then next_word z else low
+
+abbrev pub high_without : ℤ → ℤ → ℤ
+high_without z high = if int_eq high z then previous_word z else high
+
 -- a range without a word where that is one of its ends
 abbrev pub range_without : ℤ → Bounds → Bounds
-range_without z r = words_between (if int_eq r.low z then next_word z else r.low) (if int_eq r.high z then previous_word z else r.high)
+range_without z r = words_between (low_without z r.low) (high_without z r.high)
 
 abbrev pub null_without : ℕ → Nullness → Nullness
 null_without c n = if c == 0 then without_null n else n

@@ -67,9 +67,11 @@ abbrev pub literal_known : LiteralOp → Option ℕ → Bounds → ℤ → Optio
 literal_known op (Some n) r z = option_map constant_value (literal_answer op (n % 2 ^ 32) (cast_unsigned w32 z))
 literal_known op None r z = Some (words_of (literal_range op r z))
 
+abbrev pub divides_by_zero : LiteralOp → ℤ → Bool
+divides_by_zero op z = divides_by_literal op && int_eq z (pos 0)
+
 abbrev pub literal_value : LiteralOp → Parts → ℤ → Option Parts
-literal_value op x z =
-    if is_nothing x || (divides_by_literal op && int_eq z (pos 0)) then None else literal_known op (number_in x.word) x.interval z
+literal_value op x z = if is_nothing x || divides_by_zero op z then None else literal_known op (number_in x.word) x.interval z
 
 -- ---- one operand
 

@@ -73,10 +73,10 @@ word_has (word.Known a) w = a == w
 word_has x w = false
 
 abbrev pub null_has : Nullness → Bool → Bool
-null_has Bottom zero = false
-null_has Null zero = zero
-null_has NotNull zero = not zero
-null_has Any zero = true
+null_has Bottom z = false
+null_has Null z = z
+null_has NotNull z = not z
+null_has Any z = true
 
 abbrev pub has_word : Parts → ℤ → Bool
 has_word x z = word_has x.word (cast_unsigned w32 z) && in_range x.interval z && null_has x.nullness (int_eq z (pos 0))

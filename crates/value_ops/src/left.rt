@@ -4,7 +4,7 @@ ghost use Rattle.std.specs.Prelude.{◌≡◌, ◌==◌, ◌&&◌, Some, None, [
 ghost use Rattle.std.specs.Int.{w32, cast_signed, cast_unsigned};
 ghost use Rattle.domains.specs.Reducing.{reduced};
 ghost use Rattle.domains.specs.Values.{constant_value};
-ghost use Rattle.value_ops.specs.Left.{is_nothing, goes_on, both_go_on, without_null, with_null, held_value, null_value, is_unknown, settled, word_met, range_met, null_met, same_as, next_word, previous_word, word_without, range_without, null_without, without, narrowed};
+ghost use Rattle.value_ops.specs.Left.{is_nothing, goes_on, both_go_on, without_null, with_null, held_value, null_value, is_unknown, settled, word_met, range_met, null_met, same_as, next_word, previous_word, word_without, low_without, high_without, range_without, null_without, without, narrowed};
 
 use domains::{ClassSet, Interval, Nullness, Value, Word};
 
@@ -165,21 +165,29 @@ fn word_without(known: u32, word: Word) -> Word
     }
 }
 
+/// A low end that isn't this word.
+fn low_without(word: i32, low: i32) -> i32
+    ensures { result ≡ low_without word low }
+{
+    if low == word { next_word(word) } else { low }
+}
+
+/// A high end that isn't this word.
+fn high_without(word: i32, high: i32) -> i32
+    ensures { result ≡ high_without word high }
+{
+    if high == word {
+        previous_word(word)
+    } else {
+        high
+    }
+}
+
 /// A range without a word where that is one of its ends.
 fn range_without(word: i32, range: Interval) -> Interval
     ensures { result ≡ range_without word range }
 {
-    let low = if range.low == word {
-        next_word(word)
-    } else {
-        range.low
-    };
-    let high = if range.high == word {
-        previous_word(word)
-    } else {
-        range.high
-    };
-    Interval::between(low, high)
+    Interval::between(low_without(word, range.low), high_without(word, range.high))
 }
 
 /// Whether it can be null, where it isn't this word.

@@ -5,7 +5,7 @@ ghost use Rattle.std.specs.Option.{option_map};
 ghost use Rattle.domains.specs.Values.{constant_value, wide_value};
 ghost use Rattle.dalvik_numbers.specs.Kinds.{kind_of, sort_is};
 ghost use Rattle.value_ops.specs.Left.{number_in};
-ghost use Rattle.value_ops.specs.Numbers.{is_division, is_zero_number, word_answer, wide_answer, shift_answer, stops, sorted_value, binary_value, literal_known, literal_value};
+ghost use Rattle.value_ops.specs.Numbers.{is_division, is_zero_number, word_answer, wide_answer, shift_answer, stops, sorted_value, binary_value, divides_by_zero, literal_known, literal_value};
 
 use crate::left::is_nothing;
 use crate::made::{any_number, words_of};
@@ -165,12 +165,19 @@ fn on_literal(op: LiteralOp, number: Option<u64>, range: Interval, value: i16) -
     }
 }
 
+/// Whether the operator divides by a literal that is 0.
+fn divides_by_zero(op: LiteralOp, value: i16) -> bool
+    ensures { result ≡ divides_by_zero op value }
+{
+    op.divides() && value == 0
+}
+
 /// What the operator makes of its operand and a literal: the exact word of a known one, none where the operand holds of
 /// nothing or the literal is 0 and divides, else a range of words.
 pub fn literal(op: LiteralOp, a: &Value, value: i16) -> Option<Value>
     ensures { result ≡ literal_value op a.now value }
 {
-    if is_nothing(a) || (op.divides() && value == 0) {
+    if is_nothing(a) || divides_by_zero(op, value) {
         None
     } else {
         on_literal(op, number_in(a.word()), a.interval(), value)

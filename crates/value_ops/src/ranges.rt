@@ -1,6 +1,6 @@
 //! In which range the answer of an operation on two words is.
 
-ghost use Rattle.std.specs.Prelude.{◌≡◌, ◌≤ℤ◌};
+ghost use Rattle.std.specs.Prelude.{◌≡◌, ◌≤ℤ◌, ◌+ℤ◌, ◌-ℤ◌};
 ghost use Rattle.domains.specs.Ranges.{first_word, last_word, words_between};
 ghost use Rattle.dalvik_numbers.specs.Kinds.{kind_of};
 ghost use Rattle.value_ops.specs.Sums.{range_or_all, sum_range, difference_range, has_no_sign, mask_range, range_of, literal_range};
@@ -36,24 +36,32 @@ fn range_or_all(low: i64, high: i64) -> Interval
     }
 }
 
+/// The sum of two words, whatever it is.
+fn sum(a: i32, b: i32) -> i64
+    ensures { result ≡ a +ℤ b }
+{
+    i64::from(a) + i64::from(b)
+}
+
+/// The difference of two words, whatever it is.
+fn difference(a: i32, b: i32) -> i64
+    ensures { result ≡ a -ℤ b }
+{
+    i64::from(a) - i64::from(b)
+}
+
 /// The words of a range and of another, one added to the other.
 fn sum_range(a: Interval, b: Interval) -> Interval
     ensures { result ≡ sum_range a b }
 {
-    range_or_all(
-        i64::from(a.low) + i64::from(b.low),
-        i64::from(a.high) + i64::from(b.high),
-    )
+    range_or_all(sum(a.low, b.low), sum(a.high, b.high))
 }
 
 /// The words of a range less those of another.
 fn difference_range(a: Interval, b: Interval) -> Interval
     ensures { result ≡ difference_range a b }
 {
-    range_or_all(
-        i64::from(a.low) - i64::from(b.high),
-        i64::from(a.high) - i64::from(b.low),
-    )
+    range_or_all(difference(a.low, b.high), difference(a.high, b.low))
 }
 
 /// Whether no word of a range is below 0.

@@ -1,12 +1,13 @@
 //! What the way that a switch goes says of its operand.
 
-ghost use Rattle.std.specs.Prelude.{◌≡◌, ◌+◌, ◌<◌, ◌^◌, ◌%◌, length, fold, map};
-ghost use Rattle.std.specs.Int.{w32, cast_signed, cast_unsigned};
+ghost use Rattle.std.specs.Prelude.{◌≡◌, ◌&&◌, pos};
+ghost use Rattle.std.specs.Int.{w32, cast_unsigned};
+ghost use Rattle.std.specs.Ordering.{int_eq};
 ghost use Rattle.value_ops.specs.Left.{without};
-ghost use Rattle.value_ops.specs.Tests.{word_has, null_has, has_word, keyed_value, without_all, unkeyed_value, consecutive};
+ghost use Rattle.value_ops.specs.Tests.{word_has, null_has, has_word, keyed_value, without_all, unkeyed_value, key_at, consecutive};
 
 use crate::left::{goes_on, without};
-use domains::{Interval, Nullness, Value, Word};
+use domains::{Nullness, Value, Word};
 
 /// Whether a word is this one, as far as is known.
 fn word_has(word: Word, known: u32) -> bool
@@ -31,14 +32,28 @@ fn null_has(nullness: Nullness, zero: bool) -> bool
     }
 }
 
+/// Whether all three are so.
+fn all_three(a: bool, b: bool, c: bool) -> bool
+    ensures { result ≡ (a && b && c) }
+{
+    a && b && c
+}
+
+/// Whether it can be a signed word, as far as that is 0 or not.
+fn null_fits(nullness: Nullness, word: i32) -> bool
+    ensures { result ≡ null_has nullness (int_eq word (pos 0)) }
+{
+    null_has(nullness, word == 0)
+}
+
 /// Whether the value holds of a signed word.
 fn has_word(value: &Value, word: i32) -> bool
     ensures { result ≡ has_word value.now word }
 {
-    let interval = value.interval();
-    word_has(value.word(), word.cast_unsigned())
-        && interval.has(word)
-        && null_has(value.nullness(), word == 0)
+    let known = word_has(value.word(), word.cast_unsigned());
+    let inside = value.interval().has(word);
+    let fits = null_fits(value.nullness(), word);
+    all_three(known, inside, fits)
 }
 
 /// The operand of a switch where it is a key; none where it isn't.
@@ -52,24 +67,52 @@ pub fn keyed(key: i32, value: &Value) -> Option<Value>
     }
 }
 
+/// What is left of a value without some words.
+fn without_all(keys: &[i32], value: Value) -> Value
+    ensures { result ≡ without_all keys.now value }
+{
+    let mut left = value;
+    for key in keys {
+        left = without(key.cast_unsigned(), &left);
+    }
+    left
+}
+
 /// The operand of a switch where it is none of the keys; none where it is surely one of them.
 pub fn unkeyed(keys: &[i32], value: &Value) -> Option<Value>
     ensures { result ≡ unkeyed_value keys.now value.now }
 {
-    let mut left = value.same();
-    for key in keys {
-        left = without(key.cast_unsigned(), &left);
+    goes_on(without_all(keys, value.same()))
+}
+
+/// The key so many past the first, which wraps.
+fn key_at(first: i32, place: u32) -> i32
+    ensures { result ≡ key_at first place }
+{
+    first.cast_unsigned().wrapping_add(place).cast_signed()
+}
+
+/// What is left of a value without the word of a key, as many past the first.
+fn without_key(first: i32, place: u32, value: &Value) -> Value
+    ensures { result ≡ without (cast_unsigned w32 (key_at first place)) value.now }
+{
+    without(key_at(first, place).cast_unsigned(), value)
+}
+
+/// What is left of a value without so many consecutive keys.
+fn without_keys(first: i32, count: u32, value: Value) -> Value
+    ensures { result ≡ without_all (consecutive first count) value }
+{
+    let mut left = value;
+    for place in 0..count {
+        left = without_key(first, place, &left);
     }
-    goes_on(left)
+    left
 }
 
 /// The operand of a switch where it is none of `count` consecutive keys; none where it is surely one of them.
 pub fn unpacked(first: i32, count: u32, value: &Value) -> Option<Value>
     ensures { result ≡ unkeyed_value (consecutive first count) value.now }
 {
-    let mut left = value.same();
-    for place in 0..count {
-        left = without(first.cast_unsigned().wrapping_add(place), &left);
-    }
-    goes_on(left)
+    goes_on(without_keys(first, count, value.same()))
 }

@@ -65,24 +65,40 @@ fn different(a: &Value, b: &Value) -> Option<(Value, Value)>
     both_go_on(other_than(a, known_of(b)), other_than(b, known_of(a)))
 }
 
+/// The least word that a value can be.
+fn low_of(value: &Value) -> i32
+    ensures { result ≡ value.now.interval.low }
+{
+    value.interval().low
+}
+
+/// The greatest word that a value can be.
+fn high_of(value: &Value) -> i32
+    ensures { result ≡ value.now.interval.high }
+{
+    value.interval().high
+}
+
 /// What is left of two words of which the first is less.
 fn less(a: &Value, b: &Value) -> Option<(Value, Value)>
     ensures { result ≡ less_values a.now b.now }
 {
-    both_go_on(
-        narrowed(a, words_below(b.interval().high)),
-        narrowed(b, words_above(a.interval().low)),
-    )
+    let below = words_below(high_of(b));
+    let above = words_above(low_of(a));
+    let first = narrowed(a, below);
+    let second = narrowed(b, above);
+    both_go_on(first, second)
 }
 
 /// What is left of two words of which the first is no less.
 fn at_least(a: &Value, b: &Value) -> Option<(Value, Value)>
     ensures { result ≡ least_values a.now b.now }
 {
-    both_go_on(
-        narrowed(a, Interval::between(b.interval().low, i32::MAX)),
-        narrowed(b, Interval::between(i32::MIN, a.interval().high)),
-    )
+    let above = Interval::between(low_of(b), i32::MAX);
+    let below = Interval::between(i32::MIN, high_of(a));
+    let first = narrowed(a, above);
+    let second = narrowed(b, below);
+    both_go_on(first, second)
 }
 
 /// The other one first.

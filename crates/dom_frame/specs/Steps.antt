@@ -19,7 +19,7 @@ use Rattle.domains.specs.Ranges.{words_between}
 use Rattle.domains.specs.Values.{Parts, any_value, constant_value, wide_value}
 use Rattle.value_ops.specs.Left.{goes_on, held_value, any_object, of_class, words_of}
 use Rattle.value_ops.specs.Numbers.{binary_value, literal_value, unary_value, compared_value}
-use Rattle.value_ops.specs.Tests.{tested_values, keyed_value, unkeyed_value, consecutive, key_at}
+use Rattle.value_ops.specs.Tests.{tested_values, keyed_value, unkeyed_value, unpacked_value, key_at}
 use Rattle.dom_frame.specs.Registers.{Registers, value_at, put, put_wide, put_sized, moved, refined, refined_both, then_put}
 use Rattle.dom_frame.specs.Classes.{cast_value}
 
@@ -123,7 +123,7 @@ branched taken i x = Some x
 
 -- a switch that goes on at the next position, past all its keys
 abbrev pub unswitched : Insn → Registers → Option Registers
-unswitched (insn.PackedSwitch on first targets) x = refined on (unkeyed_value (consecutive first (length targets)) (value_at x on)) x
+unswitched (insn.PackedSwitch on first targets) x = refined on (unpacked_value first (length targets) (value_at x on)) x
 unswitched (insn.SparseSwitch on keys targets) x = refined on (unkeyed_value (take (length targets) keys) (value_at x on)) x
 unswitched i x = Some x
 

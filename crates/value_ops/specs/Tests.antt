@@ -92,10 +92,21 @@ without_all zs x = fold (λ v z. without (cast_unsigned w32 z) v) x zs
 abbrev pub unkeyed_value : List ℤ → Parts → Option Parts
 unkeyed_value zs x = goes_on (without_all zs x)
 
--- the key at a place of consecutive ones, which wrap
+-- the key at a place of consecutive ones, which wrap, as a word and as a number
+abbrev pub key_word : ℕ → ℕ → ℕ
+key_word start n = (start + n) % 2 ^ 32
+
 abbrev pub key_at : ℤ → ℕ → ℤ
-key_at first n = cast_signed w32 ((cast_unsigned w32 first + n) % 2 ^ 32)
+key_at first n = cast_signed w32 (key_word (cast_unsigned w32 first) n)
 
 abbrev pub consecutive : ℤ → ℕ → List ℤ
 consecutive first zero = []
 consecutive first (suc n) = consecutive first n ++ key_at first n ∷ []
+
+-- a value that is none of so many consecutive words
+abbrev pub without_run : ℕ → ℕ → Parts → Parts
+without_run start zero x = x
+without_run start (suc n) x = without (key_word start n) (without_run start n x)
+
+abbrev pub unpacked_value : ℤ → ℕ → Parts → Option Parts
+unpacked_value first n x = goes_on (without_run (cast_unsigned w32 first) n x)

@@ -14,7 +14,7 @@ ghost use Rattle.domains.specs.Ranges.{first_word, last_word};
 ghost use Rattle.domains.specs.Values.{Parts, value_holds};
 ghost use Rattle.value_ops.specs.Left.{goes_on, held_value, null_value};
 ghost use Rattle.value_ops.specs.Numbers.{binary_value, literal_value};
-ghost use Rattle.value_ops.specs.Tests.{equal_values, different_values, tested_values, keyed_value, unkeyed_value};
+ghost use Rattle.value_ops.specs.Tests.{equal_values, different_values, tested_values, keyed_value, unkeyed_value, consecutive, unpacked_value};
 ghost use Rattle.value_ops.specs.Sound.{HoldsSome, HoldsBoth, IsNarrow, AreSame, AreOther, IsNone, AreWords, passes_words};
 
 /// What isn't null is held by what is left behind a use, and what is null by what is left behind a test for it.
@@ -31,10 +31,12 @@ pub fn tests_keep()
     ensures other { (x y : Parts) (d e : Datum) → IsNarrow d → IsNarrow e → AreOther d e → value_holds x d → value_holds y e → HoldsBoth (different_values x y) d e }
 {}
 
-/// At a target of a switch its key is held, and past it what is none of the keys.
+/// At a target of a switch its key is held, and past it what is none of the keys, of which a packed
+/// switch has consecutive ones.
 pub fn switches_keep()
     ensures key { (z : ℤ) (x : Parts) (w : ℕ) → w < 2 ^ 32 → cast_signed w32 w ≡ z → value_holds x (Plain (Single w)) → HoldsSome (keyed_value z x) (Plain (Single w)) }
     ensures none { (zs : _) (x : Parts) (w : ℕ) → w < 2 ^ 32 → AreWords zs → IsNone zs (cast_signed w32 w) → value_holds x (Plain (Single w)) → HoldsSome (unkeyed_value zs x) (Plain (Single w)) }
+    ensures packed { (first : ℤ) (n : ℕ) (x : Parts) → unpacked_value first n x ≡ unkeyed_value (consecutive first n) x }
 {}
 
 /// What the machine answers on two operands of the operator's sort is held by what the operator makes of what holds of

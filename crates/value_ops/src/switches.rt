@@ -4,7 +4,7 @@ ghost use Rattle.std.specs.Prelude.{◌≡◌, ◌&&◌, pos};
 ghost use Rattle.std.specs.Int.{w32, cast_unsigned};
 ghost use Rattle.std.specs.Ordering.{int_eq};
 ghost use Rattle.value_ops.specs.Left.{without};
-ghost use Rattle.value_ops.specs.Tests.{word_has, null_has, has_word, keyed_value, without_all, unkeyed_value, key_at, consecutive};
+ghost use Rattle.value_ops.specs.Tests.{word_has, null_has, has_word, keyed_value, without_all, unkeyed_value, without_run, unpacked_value};
 
 use crate::left::{goes_on, without};
 use domains::{Nullness, Value, Word};
@@ -67,13 +67,20 @@ pub fn keyed(key: i32, value: &Value) -> Option<Value>
     }
 }
 
+/// What is left of a value without a key.
+fn without_key(key: &i32, value: &Value) -> Value
+    ensures { result ≡ without (cast_unsigned w32 key.now) value.now }
+{
+    without(key.cast_unsigned(), value)
+}
+
 /// What is left of a value without some words.
 fn without_all(keys: &[i32], value: Value) -> Value
     ensures { result ≡ without_all keys.now value }
 {
     let mut left = value;
     for key in keys {
-        left = without(key.cast_unsigned(), &left);
+        left = without_key(key, &left);
     }
     left
 }
@@ -85,34 +92,21 @@ pub fn unkeyed(keys: &[i32], value: &Value) -> Option<Value>
     goes_on(without_all(keys, value.same()))
 }
 
-/// The key so many past the first, which wraps.
-fn key_at(first: i32, place: u32) -> i32
-    ensures { result ≡ key_at first place }
-{
-    first.cast_unsigned().wrapping_add(place).cast_signed()
-}
-
-/// What is left of a value without the word of a key, as many past the first.
-fn without_key(first: i32, place: u32, value: &Value) -> Value
-    ensures { result ≡ without (cast_unsigned w32 (key_at first place)) value.now }
-{
-    without(key_at(first, place).cast_unsigned(), value)
-}
-
-/// What is left of a value without so many consecutive keys.
-fn without_keys(first: i32, count: u32, value: Value) -> Value
-    ensures { result ≡ without_all (consecutive first count) value }
+/// What is left of a value without so many consecutive words.
+fn without_run(start: u32, count: u32, value: Value) -> Value
+    ensures { result ≡ without_run start count value }
 {
     let mut left = value;
     for place in 0..count {
-        left = without_key(first, place, &left);
+        left = without(start.wrapping_add(place), &left);
     }
     left
 }
 
-/// The operand of a switch where it is none of `count` consecutive keys; none where it is surely one of them.
+/// The operand of a switch where it is none of `count` consecutive keys, of which the one behind the greatest word is the
+/// least; none where it is surely one of them.
 pub fn unpacked(first: i32, count: u32, value: &Value) -> Option<Value>
-    ensures { result ≡ unkeyed_value (consecutive first count) value.now }
+    ensures { result ≡ unpacked_value first count value.now }
 {
-    goes_on(without_keys(first, count, value.same()))
+    goes_on(without_run(first.cast_unsigned(), count, value.same()))
 }

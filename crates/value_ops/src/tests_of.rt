@@ -1,6 +1,7 @@
 //! What the test of a branch says of its operands.
 
 ghost use Rattle.std.specs.Prelude.{◌≡◌, if◌then◌else◌};
+ghost use Rattle.domains.specs.Ranges.{first_word, last_word, words_between};
 ghost use Rattle.domains.specs.Values.{known_of};
 ghost use Rattle.value_ops.specs.Tests.{words_below, words_above, other_than, equal_values, different_values, less_values, least_values, turned, passed_values, opposite, tested_values};
 
@@ -8,26 +9,40 @@ use crate::left::{both_go_on, narrowed, same_as, without};
 use domains::{Interval, Value};
 use insn_set::Test;
 
-/// The words below a word.
-fn words_below(word: i32) -> Interval
-    ensures { result ≡ words_below word }
+/// The words below the greatest one of a range.
+fn words_below(range: Interval) -> Interval
+    ensures { result ≡ words_below range.high }
 {
-    if word == i32::MIN {
+    if range.high == i32::MIN {
         Interval::empty()
     } else {
-        Interval::between(i32::MIN, word - 1)
+        Interval::between(i32::MIN, range.high - 1)
     }
 }
 
-/// The words above a word.
-fn words_above(word: i32) -> Interval
-    ensures { result ≡ words_above word }
+/// The words above the least one of a range.
+fn words_above(range: Interval) -> Interval
+    ensures { result ≡ words_above range.low }
 {
-    if word == i32::MAX {
+    if range.low == i32::MAX {
         Interval::empty()
     } else {
-        Interval::between(word + 1, i32::MAX)
+        Interval::between(range.low + 1, i32::MAX)
     }
+}
+
+/// The words that are no less than the least one of a range.
+fn words_from(range: Interval) -> Interval
+    ensures { result ≡ words_between range.low last_word }
+{
+    Interval::between(range.low, i32::MAX)
+}
+
+/// The words that are no greater than the greatest one of a range.
+fn words_to(range: Interval) -> Interval
+    ensures { result ≡ words_between first_word range.high }
+{
+    Interval::between(i32::MIN, range.high)
 }
 
 /// The word, where the value holds of it and of nothing else.
@@ -65,26 +80,12 @@ fn different(a: &Value, b: &Value) -> Option<(Value, Value)>
     both_go_on(other_than(a, known_of(b)), other_than(b, known_of(a)))
 }
 
-/// The least word that a value can be.
-fn low_of(value: &Value) -> i32
-    ensures { result ≡ value.now.interval.low }
-{
-    value.interval().low
-}
-
-/// The greatest word that a value can be.
-fn high_of(value: &Value) -> i32
-    ensures { result ≡ value.now.interval.high }
-{
-    value.interval().high
-}
-
 /// What is left of two words of which the first is less.
 fn less(a: &Value, b: &Value) -> Option<(Value, Value)>
     ensures { result ≡ less_values a.now b.now }
 {
-    let below = words_below(high_of(b));
-    let above = words_above(low_of(a));
+    let below = words_below(b.interval());
+    let above = words_above(a.interval());
     let first = narrowed(a, below);
     let second = narrowed(b, above);
     both_go_on(first, second)
@@ -94,8 +95,8 @@ fn less(a: &Value, b: &Value) -> Option<(Value, Value)>
 fn at_least(a: &Value, b: &Value) -> Option<(Value, Value)>
     ensures { result ≡ least_values a.now b.now }
 {
-    let above = Interval::between(low_of(b), i32::MAX);
-    let below = Interval::between(i32::MIN, high_of(a));
+    let above = words_from(b.interval());
+    let below = words_to(a.interval());
     let first = narrowed(a, above);
     let second = narrowed(b, below);
     both_go_on(first, second)

@@ -172,6 +172,8 @@ upto_more quiet b live upto marks marks' m s e f = record {
 
 pub upto_all : (quiet : ℕ → Bool) (b : Body) (live : Live) (upto : ℕ) (marks : List Bool) → LiveAs b live → upto ≡ length b.insns → DeadUpto quiet b live upto marks → AreDead quiet b marks
 upto_all quiet b live upto marks as' all s = record {
+  live = live;
+  live_is = as';
   long = s.long ∙ all;
   each = λ n lt.
       (let same = s.each n (omega (arith, lt, all)) in

@@ -70,8 +70,14 @@ pub record IsDead (quiet : ℕ → Bool) (b : Body) (n : ℕ) : Type 0 where
   pub inside : (r : ℕ) → writes_of form r ≡ true → r < b.registers
   pub unread : (r : ℕ) → writes_of form r ≡ true → IsReadAfter b r n → ⊥
 
--- exactly the dead positions are marked
+-- what an analysis of the body's registers says
+abbrev pub LiveAs : Body → Live → Type 0
+LiveAs b live = (n r : ℕ) → r < b.registers → (is_live live n r ≡ true) ↔ IsRead b r n
+
+-- exactly the dead positions are marked, by what is live
 pub record AreDead (quiet : ℕ → Bool) (b : Body) (marks : List Bool) : Type 0 where
+  pub live : Live
+  pub live_is : LiveAs b live
   pub long : length marks ≡ length b.insns
   pub each : (n : ℕ) → n < length b.insns → (is_on marks n ≡ true) ↔ IsDead quiet b n
 
@@ -117,7 +123,3 @@ dead_by live ns registers i = unread_if live ns registers (written_of i)
 abbrev pub dead_at : (ℕ → Bool) → Live → Body → ℕ → Option Insn → Bool
 dead_at quiet live b n None = false
 dead_at quiet live b n (Some i) = is_pure quiet i && dead_by live (successors_of b n) b.registers i
-
--- what an analysis of the body's registers says
-abbrev pub LiveAs : Body → Live → Type 0
-LiveAs b live = (n r : ℕ) → r < b.registers → (is_live live n r ≡ true) ↔ IsRead b r n

@@ -1,2 +1,3 @@
-mod Walked
+mod Entered
+mod Squeezing
 mod Squeezes

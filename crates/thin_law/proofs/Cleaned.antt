@@ -72,7 +72,7 @@ dropped_goes p b fs n x e (Unread _ h u) = let j = goes_next x n (pure_continues
     at r y true k = absurd (u r k (n + 1, goes_onward b n x e (n + 1) (goes_next x n (pure_continues p x h)), y))
 
 pub cleaning_fates : (p : NamedProgram) (fs : List Fate) (b : NamedBody) → IsCleaning p fs b → AreFates (λ n r. IsRead b r n) (IsTaken b) (Drops p) fs b
-cleaning_fates p fs b h = record { long = h.long; leaves = λ n x f i e k s. dropped_goes p b fs n x e (h.dropped n x f i e k s) }
+cleaning_fates p fs b h = record { long = h.long; within = h.within; leaves = λ n x f i e k s. dropped_goes p b fs n x e (h.dropped n x f i e k s) }
 
 -- ---- in a run
 

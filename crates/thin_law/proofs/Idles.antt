@@ -25,4 +25,4 @@ idle_dropped p o k b fs n _ d i (NopForm h) = Skipped form.Nop Nop
 idle_dropped p o k b fs n _ d i Skip = Skipped (form.Goto (n + 1)) (Over (n + 1) (more n) refl)
 
 pub idle_cleaning : (p : NamedProgram) (o : Outer) (k : MethodKey) (fs : List Fate) (b : NamedBody) → AreIdle p o k fs b → IsCleaning p fs b
-idle_cleaning p o k fs b h = record { long = h.long; dropped = λ n x f i e g s. idle_dropped p o k b fs n x (h.plain n x f e g s) i (h.idle n x f e g s) }
+idle_cleaning p o k fs b h = record { long = h.long; within = h.within; dropped = λ n x f i e g s. idle_dropped p o k b fs n x (h.plain n x f e g s) i (h.idle n x f e g s) }

@@ -1,5 +1,5 @@
 -- What goes as dead code: what a squeeze removes, and pure forms whose registers no walk reads.
-use Rattle.std.specs.Prelude.{◌≡◌, ◌⊎◌, ℕ, ℤ, pos, ◌+◌, true, false, List, length, Some, nat_eq, slice_get, Contains}
+use Rattle.std.specs.Prelude.{◌≡◌, ◌⊎◌, ℕ, ℤ, pos, ◌+◌, ◌<◌, true, false, List, length, Some, nat_eq, slice_get, Contains}
 use Rattle.std.specs.Ordering.{int_eq}
 use Rattle.std.specs.Int.{w32, cast_unsigned}
 use Rattle.insn_set.specs.declared.ops.LiteralOp.{LiteralOp}
@@ -37,13 +37,16 @@ pub data IsDropped (p : NamedProgram) (b : NamedBody) (fs : List Fate) (n : ℕ)
   Skipped : (x : Form) → IsSkipped fs n x → IsDropped p b fs n x
   Unread : (x : Form) → is_pure p x ≡ true → ((r : ℕ) → writes x r ≡ true → IsReadAfter b r n → ⊥) → IsDropped p b fs n x
 
+-- no walk passes the end
 pub record IsCleaning (p : NamedProgram) (fs : List Fate) (b : NamedBody) : Type 0 where
   pub long : length fs ≡ length b.forms
+  pub within : (n : ℕ) → IsReached b n → n < length b.forms
   pub dropped : (n : ℕ) (x : Form) (f : Fate) → IsReached b n → form_at b n ≡ Some x → slice_get fs n ≡ Some f → stays f ≡ false → IsDropped p b fs n x
 
--- each position that goes or empties is idle, and none is so only as a division by a register that the constants know
+-- no walk passes the end, each position that goes or empties is idle, and none is so only as a division by a register that the constants know
 pub record AreIdle (p : NamedProgram) (o : Outer) (k : MethodKey) (fs : List Fate) (b : NamedBody) : Type 0 where
   pub long : length fs ≡ length b.forms
+  pub within : (n : ℕ) → IsReached b n → n < length b.forms
   pub idle : (n : ℕ) (x : Form) (f : Fate) → form_at b n ≡ Some x → slice_get fs n ≡ Some f → stays f ≡ false → IsIdleForm p o k b n x
   pub plain : (n : ℕ) (x : Form) (f : Fate) → form_at b n ≡ Some x → slice_get fs n ≡ Some f → stays f ≡ false → DividesKnown p o k n x → ⊥
 

@@ -1,10 +1,14 @@
-use Rattle.std.proofs.Common.{◌≡◌, true, rules}
-use Rattle.pipeline.proofs.Graphs.{found_graph}
-use Rattle.pipeline.proofs.RoundLemmas.{removal_round}
+use Rattle.std.proofs.Common.{[], ◌∷◌, refl}
+use Rattle.pipeline.specs.Passes.{passes, Reach, Squeeze}
+use Rattle.pipeline.proofs.Passing.{both_passed, no_more}
 use Rattle.pipeline.proofs.rounds.round.Goals as goal
 
-pub returns-in_ok-apply-in-Some-clause-is : goal.returns-in_ok-apply-in-Some-clause-is
-returns-in_ok-apply-in-Some-clause-is c =
-    let allowed : c.args.outside.now.shrink ≡ true = search rules in
-    λ formed. removal_round c.args.outside.now c.args.program c.in_ok-apply-in-Some.field-0.program c.in-Some.hierarchy allowed formed
-    (found_graph c.args.program c.in_ok-hierarchy.field-0 c.in-Some.hierarchy (c.in_ok-hierarchy.ensures formed) c.in-Some.is) c.in_ok-apply-in-Some.ensures.closed
+passed : goal.returns-clause-passed
+passed c = both_passed c.args.outside.now c.args.admitted.now.methods.items (Reach ∷ []) (Squeeze ∷ []) c.args.traced c.in_ok-reached.reached c.in_ok-squeezed.squeezed _
+    (c.in_ok-reached.ensures c.args.admitted.now.methods.items) (c.in_ok-squeezed.ensures c.args.outside.now) refl c.saturating_add.ensures
+
+pub returns-clause-passed : goal.returns-clause-passed
+returns-clause-passed c = passed c
+
+pub returns-clause-falls : goal.returns-clause-falls
+returns-clause-falls c = no_more c.args.outside.now c.args.admitted.now.methods.items passes c.args.traced _ (passed c)

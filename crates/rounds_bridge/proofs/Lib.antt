@@ -1,0 +1,5 @@
+pub mod Heads
+pub mod Keeping
+pub mod Owing
+pub mod Parts
+pub mod Repeated

@@ -13,6 +13,7 @@ use value_ops::of_class;
 
 /// The classes of a program: the place of the class that defines each type by type number, how many there are, and how
 /// they stand to each other.
+#[derive(Clone, Copy)]
 pub struct Classes<'a> {
     pub places: &'a [Option<u32>],
     pub count: u32,

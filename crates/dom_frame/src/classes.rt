@@ -1,6 +1,6 @@
 //! What a step reads of a program.
 
-ghost use Rattle.std.specs.Prelude.{◌≡◌, ◌≤◌, filter, length};
+ghost use Rattle.std.specs.Prelude.{◌≡◌, ◌<◌, ◌≤◌, filter, length};
 ghost use Rattle.program_model.specs.declared.program.Program.{Program};
 ghost use Rattle.program_model.specs.Lookups.{class_place};
 ghost use Rattle.value_ops.specs.Left.{of_class};

@@ -3,6 +3,7 @@
 ghost use Rattle.std.specs.Prelude.{◌≡◌, ◌<◌, IfOk, OnOk, OnErr};
 ghost use Rattle.std.specs.FinMap as finite;
 ghost use Rattle.std.specs.Option.{unwrap_or};
+ghost use Rattle.domains.specs.Values.{least_value};
 ghost use Rattle.program_model.specs.declared.program.Program.{Program};
 ghost use Rattle.dom_frame.specs.Classes.{AreClasses};
 ghost use Rattle.dom_frame.specs.Registers.{Registers, value_at, filled as filled_with};
@@ -16,34 +17,21 @@ use domains::Value;
 use insn_set::Insn;
 use pat_map::PatMap;
 use std::alloc::{AllocError, Global};
-use std::marker::Model;
 
 /// A value for each register. A register without one is of nothing, and where no register has one nothing is reached.
 ///
-/// Contracts see it as its finite map. What is read of a register without a value is lent from `low`.
+/// What is read of a register without a value is lent from `low`.
 #[derive(Drop)]
 pub struct Frame {
-    registers: PatMap<Value>,
+    pub registers: PatMap<Value>,
     low: Value,
-}
-
-impl Model for Frame {
-    ghost use Rattle.std.specs.Prelude.{◌≡◌};
-    ghost use Rattle.std.specs.Ordering.{nat_cmp};
-    ghost use Rattle.std.specs.FinMap as finite;
-    ghost use Rattle.domains.specs.Values.{Parts, least_value};
-
-    ghost Value = { finite.FinMap nat_cmp Parts };
-
-    ghost view = { λ f. f.registers };
-
-    ghost invariant = { λ f. f.low ≡ least_value };
+    ghost lowest: { low ≡ least_value },
 }
 
 impl Frame {
     /// These registers.
     pub fn of(registers: PatMap<Value>) -> Frame
-        ensures { result ≡ registers }
+        ensures { result.registers ≡ registers }
     {
         Frame {
             registers,
@@ -53,21 +41,21 @@ impl Frame {
 
     /// The frame of what isn't reached.
     pub fn unreached() -> Frame
-        ensures { result ≡ finite.empty }
+        ensures { result.registers ≡ finite.empty }
     {
         Frame::of(PatMap::empty())
     }
 
     /// The same value in each register below the size. The only error is want of memory.
     pub fn filled(alloc: Global, size: u32, value: &Value) -> Result<Frame, AllocError>
-        ensures { IfOk result (λ f. f ≡ filled_with size value.now) }
+        ensures { IfOk result (λ f. f.registers ≡ filled_with size value.now) }
     {
         Ok(Frame::of(filled(alloc, size, value)?))
     }
 
     /// The value of a register, that of nothing where it has none. It takes no memory.
     pub fn get(&self, register: u32) -> &Value
-        ensures { result.now ≡ value_at self.now register }
+        ensures { result.now ≡ value_at self.now.registers register }
     {
         match self.registers.get(register) {
             Some(value) => value,
@@ -77,25 +65,18 @@ impl Frame {
 
     /// Puts a value into a register. After want of memory, the only error, the frame is as it was.
     pub fn set(&mut self, alloc: Global, register: u32, value: Value) -> Result<(), AllocError>
-        ensures ok { OnOk result (self.new ≡ finite.insert self.old register value) }
-        ensures err { OnErr result (self.new ≡ self.old) }
+        ensures ok { OnOk result (self.new.registers ≡ finite.insert self.old.registers register value) }
+        ensures err { OnErr result (self.new.registers ≡ self.old.registers) }
     {
         let changed = self.registers.set(alloc, register, value)?;
         self.registers = changed;
         Ok(())
     }
-
-    /// The registers as a map.
-    pub fn registers(&self) -> &PatMap<Value>
-        ensures { result.now ≡ self.now }
-    {
-        &self.registers
-    }
 }
 
 /// The frame of some registers, or of what isn't reached.
 fn frame_of(registers: Option<PatMap<Value>>) -> Frame
-    ensures { result ≡ unwrap_or registers finite.empty }
+    ensures { result.registers ≡ unwrap_or registers finite.empty }
 {
     match registers {
         Some(registers) => Frame::of(registers),
@@ -112,7 +93,7 @@ pub fn after(
     insn: &Insn,
     given: &Value,
 ) -> Result<Frame, AllocError>
-    ensures { (p : Program) → AreClasses p classes.now → IfOk result (λ f. f ≡ unwrap_or (steps_to p insn.now given.now frame.now) finite.empty) }
+    ensures { (p : Program) → AreClasses p classes.now → IfOk result (λ f. f.registers ≡ unwrap_or (steps_to p insn.now given.now frame.now.registers) finite.empty) }
 {
     Ok(frame_of(step(alloc, classes, &frame.registers, insn, given)?))
 }
@@ -120,7 +101,7 @@ pub fn after(
 /// The frame of a handler of what an instruction throws: a register that it writes it has not written. The only error is
 /// want of memory.
 pub fn after_throw(frame: &Frame) -> Result<Frame, AllocError>
-    ensures { IfOk result (λ f. f ≡ frame.now) }
+    ensures { IfOk result (λ f. f.registers ≡ frame.now.registers) }
 {
     Ok(Frame::of(frame.registers.share()?))
 }
@@ -133,7 +114,7 @@ pub fn refine_branch(
     insn: &Insn,
     taken: bool,
 ) -> Result<Frame, AllocError>
-    ensures { IfOk result (λ f. f ≡ unwrap_or (branched taken insn.now frame.now) finite.empty) }
+    ensures { IfOk result (λ f. f.registers ≡ unwrap_or (branched taken insn.now frame.now.registers) finite.empty) }
 {
     Ok(frame_of(branch(alloc, &frame.registers, insn, taken)?))
 }

@@ -13,6 +13,7 @@
 mod branches;
 mod classes;
 mod frames;
+mod laws;
 mod registers;
 mod steps;
 mod uses;
@@ -20,4 +21,5 @@ mod uses;
 pub use branches::{branch, switch_at, switch_past};
 pub use classes::Classes;
 pub use frames::{Frame, after, after_throw, refine_branch};
+pub use laws::registers_are_values;
 pub use steps::step;

@@ -1,6 +1,7 @@
 //! What a step reads of a program.
 
 ghost use Rattle.std.specs.Prelude.{◌≡◌, ◌<◌, ◌≤◌, filter, length};
+ghost use Rattle.domains.specs.ClassSets.{Ascends};
 ghost use Rattle.program_model.specs.declared.program.Program.{Program};
 ghost use Rattle.program_model.specs.Lookups.{class_place};
 ghost use Rattle.value_ops.specs.Left.{of_class};
@@ -39,9 +40,12 @@ impl Classes<'_> {
     }
 
     /// Those of some classes that stand under one, of at most eight.
+    #[tactic(auto, using(crate::proofs::Ascending::taken, crate::proofs::Ascending::passed, crate::proofs::Ascending::ended))]
     fn kept(&self, classes: &[u32], upper: u32) -> ArrayVec<u32, 8>
         requires few { length classes.now ≤ 8 }
-        ensures { (p : Program) → AreClasses p self.now → upper < length p.classes → result.items ≡ filter (stands_under p upper) classes.now }
+        requires ascending { Ascends 0 classes.now }
+        ensures ascending { Ascends 0 result.items }
+        ensures are { (p : Program) → AreClasses p self.now → upper < length p.classes → result.items ≡ filter (stands_under p upper) classes.now }
     {
         let mut kept = ArrayVec::new();
         for class in classes {

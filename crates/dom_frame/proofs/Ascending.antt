@@ -1,6 +1,8 @@
 -- What is left of an ascending list ascends.
-use Rattle.std.proofs.Common.{◌≡◌, ℕ, zero, suc, ◌+◌, ◌<◌, ◌≤◌, List, [], ◌∷◌, ◌++◌, length, drop, get_or, refl, sym, ap, subst, ◌∙◌, arith}
-use Rattle.std.proofs.lemmas.List.{drop_more}
+use Rattle.std.proofs.Common.{◌≡◌, ℕ, zero, suc, ◌+◌, ◌<◌, ◌≤◌, List, [], ◌∷◌, ◌++◌, length, take, drop, get_or, Bool, ◌⊎◌, inl, inr, length-append, refl, sym, ap, subst, ◌∙◌, arith}
+use Rattle.std.proofs.lemmas.List.{drop_more, take_more}
+use Rattle.std.proofs.lemmas.List.Elements.{filter-append}
+use Rattle.std.specs.Prelude.{filter}
 use Rattle.domains.specs.ClassSets.{Ascends}
 
 weaker : (n m : ℕ) (xs : List ℕ) → n ≤ m → Ascends m xs → Ascends n xs
@@ -35,3 +37,17 @@ ended ks cs i l h = subst (Ascends 0) (ap (λ r. ks ++ r) (none_left cs i l) ∙
     whole : (ks : List ℕ) → ks ++ [] ≡ ks
     whole [] = refl
     whole (k ∷ ks) = ap (λ l. k ∷ l) (whole ks)
+
+-- ---- one class more, kept or not
+
+module _ (ks ks' cs : List ℕ) (i d : ℕ) (l : i < length cs) where
+  pub kept_ascending : (ks' ≡ ks ++ get_or cs i d ∷ []) ⊎ (ks' ≡ ks) → Ascends 0 (ks ++ drop i cs) → Ascends 0 (ks' ++ drop (i + 1) cs)
+  kept_ascending (inl e) h = subst (λ k. Ascends 0 (k ++ drop (i + 1) cs)) (sym e) (taken ks cs i d l h)
+  kept_ascending (inr e) h = subst (λ k. Ascends 0 (k ++ drop (i + 1) cs)) (sym e) (passed ks cs i d l h)
+
+  pub kept_room : (ks' ≡ ks ++ get_or cs i d ∷ []) ⊎ (ks' ≡ ks) → length ks ≤ i → length ks' ≤ i + 1
+  kept_room (inl e) h = subst (λ k. length k ≤ i + 1) (sym e) (subst (λ n. n ≤ i + 1) (sym (length-append ks (get_or cs i d ∷ []))) (omega (arith, h)))
+  kept_room (inr e) h = subst (λ k. length k ≤ i + 1) (sym e) (omega (arith, h))
+
+  pub kept_filtered : (q : ℕ → Bool) → ks' ≡ ks ++ filter q (get_or cs i d ∷ []) → ks ≡ filter q (take i cs) → ks' ≡ filter q (take (i + 1) cs)
+  kept_filtered q e h = e ∙ ap (λ k. k ++ filter q (get_or cs i d ∷ [])) h ∙ sym (ap (filter q) (take_more cs i d l) ∙ filter-append q (take i cs) (get_or cs i d ∷ []))

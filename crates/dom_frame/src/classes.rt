@@ -1,6 +1,6 @@
 //! What a step reads of a program.
 
-ghost use Rattle.std.specs.Prelude.{◌≡◌, ◌<◌, ◌≤◌, filter, length};
+ghost use Rattle.std.specs.Prelude.{◌≡◌, ◌<◌, ◌≤◌, ◌⊎◌, ◌++◌, ◌∷◌, [], filter, length};
 ghost use Rattle.domains.specs.ClassSets.{Ascends};
 ghost use Rattle.program_model.specs.declared.program.Program.{Program};
 ghost use Rattle.program_model.specs.Lookups.{class_place};
@@ -39,8 +39,18 @@ impl Classes<'_> {
         class < self.count && self.hierarchy.is_under(class, upper)
     }
 
+    /// Adds a class to others where it stands under one.
+    fn keep(&self, kept: &mut ArrayVec<u32, 8>, class: u32, upper: u32)
+        requires { length kept.old.items < 8 }
+        ensures either { (kept.new.items ≡ kept.old.items ++ class ∷ []) ⊎ (kept.new.items ≡ kept.old.items) }
+        ensures are { (p : Program) → AreClasses p self.now → upper < length p.classes → kept.new.items ≡ kept.old.items ++ filter (stands_under p upper) (class ∷ []) }
+    {
+        if self.is_under(class, upper) {
+            kept.push(class);
+        }
+    }
+
     /// Those of some classes that stand under one, of at most eight.
-    #[tactic(auto, using(crate::proofs::Ascending::taken, crate::proofs::Ascending::passed, crate::proofs::Ascending::ended))]
     fn kept(&self, classes: &[u32], upper: u32) -> ArrayVec<u32, 8>
         requires few { length classes.now ≤ 8 }
         requires ascending { Ascends 0 classes.now }
@@ -49,9 +59,7 @@ impl Classes<'_> {
     {
         let mut kept = ArrayVec::new();
         for class in classes {
-            if self.is_under(*class, upper) {
-                kept.push(*class);
-            }
+            self.keep(&mut kept, *class, upper);
         }
         kept
     }

@@ -23,7 +23,7 @@ fn put(change: u8, at: u8, other: u32, number: u32) -> u32 {
     if change == at { other } else { number }
 }
 
-/// `I`, `LA;`, `LB;`, `V`, `VI`, `f` and `m`.
+/// `I`, `LA;`, `LB;`, `V`, `VI`, `f`, `m` and `LC;`.
 fn strings(alloc: Global, change: u8) -> Result<Seq<Text>, AllocError> {
     let mut strings = Seq::new(alloc);
     strings.push(text(alloc, "I")?)?;
@@ -33,6 +33,7 @@ fn strings(alloc: Global, change: u8) -> Result<Seq<Text>, AllocError> {
     strings.push(text(alloc, "VI")?)?;
     strings.push(text(alloc, "f")?)?;
     strings.push(text(alloc, if change == 1 { "f" } else { "m" })?)?;
+    strings.push(text(alloc, "LC;")?)?;
     Ok(strings)
 }
 
@@ -167,23 +168,34 @@ fn own_methods(alloc: Global, change: u8) -> Result<Seq<Method>, AllocError> {
     Ok(methods)
 }
 
-/// The program with the change of this number; there is none of number 0.
+/// The program with the change of this number; there is none of number 0. `LB;` is an interface.
 fn sample(alloc: Global, change: u8) -> Result<Program, AllocError> {
     let class = Class {
         name: 1,
         flags: Flags(1),
-        superclass: put(change, 27, 0, 2),
+        superclass: put(change, 27, 0, 4),
         interfaces: Seq::new(alloc),
-        source: Some(put(change, 28, 7, 5)),
+        source: Some(put(change, 28, 8, 5)),
         marks: Seq::new(alloc),
         fields: own_fields(alloc, change)?,
         methods: own_methods(alloc, change)?,
     };
+    let interface = Class {
+        name: 2,
+        flags: Flags(0x600),
+        superclass: put(change, 29, 1, 4),
+        interfaces: numbers(alloc, &[put(change, 30, 1, 4)])?,
+        source: None,
+        marks: Seq::new(alloc),
+        fields: Seq::new(alloc),
+        methods: Seq::new(alloc),
+    };
     let mut classes = Seq::new(alloc);
     classes.push(class)?;
+    classes.push(interface)?;
     Ok(Program {
         strings: strings(alloc, change)?,
-        types: numbers(alloc, &[0, 1, put(change, 2, 5, 2), 3])?,
+        types: numbers(alloc, &[0, 1, put(change, 2, 5, 2), 3, 7])?,
         protos: protos(alloc, change)?,
         fields: field_ids(alloc, change)?,
         methods: method_ids(alloc, change)?,
@@ -200,7 +212,7 @@ fn a_small_program_is_well_formed(rt: HostRuntime) -> Result<(), Fail> {
 
 #[test]
 fn each_change_makes_it_ill_formed(rt: HostRuntime) -> Result<(), Fail> {
-    for change in 1..=28 {
+    for change in 1..=30 {
         assert!(rt; !well_formed(&sample(rt.alloc(), change)?));
     }
     Ok(())

@@ -1,6 +1,7 @@
 -- Passes, one after another.
-use Rattle.std.proofs.Common.{◌≡◌, ◌⊎◌, ℕ, zero, suc, ◌<◌, ◌≤◌, ◌+◌, Bool, true, false, List, [], ◌∷◌, ◌++◌, min, refl, sym, ap, ◌∙◌, subst, inl, inr, arith}
+use Rattle.std.proofs.Common.{◌≡◌, ◌⊎◌, ℕ, zero, suc, ◌<◌, ◌≤◌, ◌+◌, ◌-◌, ◌^◌, Bool, true, false, List, [], ◌∷◌, ◌++◌, length, min, refl, sym, ap, ◌∙◌, subst, inl, inr, arith}
 use Rattle.std.specs.Prelude.{nat_eq, if◌then◌else◌}
+use Rattle.program_model.specs.declared.body.Body.{Body}
 use Rattle.program_model.specs.declared.pass.Changed.{Changed}
 use Rattle.program_model.specs.declared.pass.Origin.{Origin}
 use Rattle.program_model.specs.declared.pass.Outside.{Outside}
@@ -13,15 +14,22 @@ use Rattle.call_graph.specs.declared.live_set.LiveSet.{LiveSet}
 use Rattle.call_graph.specs.Facts.{Fits}
 use Rattle.call_graph.specs.Closed.{IsClosedSet}
 use Rattle.reach.specs.Kept.{kept_of, size_of}
+use Rattle.hierarchy.proofs.Short.{few_names}
+use Rattle.walk_marks.specs.Walks.{is_on}
+use Rattle.body_edit.specs.declared.fate.Fate.{Fate}
+use Rattle.dead_code.specs.Cleaned.{IsCleaned}
+use Rattle.dead_code.specs.Dead.{is_quiet_field}
+use Rattle.dead_code.specs.Wishes.{AreCleaned, NoneDead}
+use Rattle.squeeze.specs.Needed.{NothingLeft}
 use Rattle.squeeze.specs.Skipping.{AreSkips}
-use Rattle.thin_pass.specs.Plans.{all_changes, program_origins, IsThinnedBy}
+use Rattle.thin_pass.specs.Plans.{all_changes, IsThinnedBy}
 use Rattle.thin_pass.specs.Weights.{weight_of}
 use Rattle.thin_pass.proofs.Lighter.{not_capped}
 use Rattle.pipeline.specs.declared.traces.Passed.{Passed}
 use Rattle.pipeline.specs.declared.traces.Traced.{Traced}
 use Rattle.pipeline.specs.Graph.{HasGraph, HasGraphFault}
 use Rattle.pipeline.specs.Origins.{Follow}
-use Rattle.pipeline.specs.Passes.{Pass, Reach, Squeeze, Removes, IsBarred, IsRemoval, Does, Step, Steps, Last, Then, AreStill, bulk_of, HavePassed}
+use Rattle.pipeline.specs.Passes.{Pass, Reach, DeadCode, Squeeze, Removes, Does, Steps, Last, Then, AreStill, bulk_of, HavePassed}
 use Rattle.pipeline.proofs.Bulk.{removal_less, thinned_less}
 
 -- ---- any passes
@@ -135,13 +143,29 @@ module _ (o : Outside) (admitted : List Bool) (t : Traced) (r : Passed) where
 
   -- ---- squeezing
 
-  pub squeeze_passed : (c : Changed) → IsPassed t.origins c r → IsThinnedBy AreSkips admitted t.program c → (c.count ≡ 0 → c.program ≡ t.program) → (0 < c.count → weight_of c.program < weight_of t.program)
-      → HavePassed o admitted (Squeeze ∷ []) t r
-  squeeze_passed c passed h same less = one_passed o admitted Squeeze t c r passed
-      (λ _. record { count = c.count; thinned = h }) same (unmoved c h) (λ some. thinned_less AreSkips admitted t.program c h (less some))
-    where
-      if_zero : (n : ℕ) (os : List (List Origin)) → n ≡ 0 → (if nat_eq n 0 then [] else os) ≡ []
-      if_zero n os e = ap (λ (k : ℕ). if nat_eq k 0 then [] else os) e
+  if_zero : (n : ℕ) (os : List (List Origin)) → n ≡ 0 → (if nat_eq n 0 then [] else os) ≡ []
+  if_zero n os e = ap (λ (k : ℕ). if nat_eq k 0 then [] else os) e
 
-      unmoved : (c : Changed) → IsThinnedBy AreSkips admitted t.program c → c.count ≡ 0 → c.origins ≡ []
-      unmoved c h none = h.origins ∙ if_zero (all_changes h.plan) _ (not_capped (all_changes h.plan) (sym h.count ∙ none))
+  unmoved : (wishes : Body → List Fate → Type 0) (c : Changed) → IsThinnedBy wishes admitted t.program c → c.count ≡ 0 → c.origins ≡ []
+  unmoved wishes c h none = h.origins ∙ if_zero (all_changes h.plan) _ (not_capped (all_changes h.plan) (sym h.count ∙ none))
+
+  pub squeeze_passed : (c : Changed) → IsPassed t.origins c r → IsThinnedBy AreSkips admitted t.program c → (c.count ≡ 0 → c.program ≡ t.program) → (0 < c.count → weight_of c.program < weight_of t.program)
+      → (c.count ≡ 0 → NothingLeft admitted t.program) → HavePassed o admitted (Squeeze ∷ []) t r
+  squeeze_passed c passed h same less none = one_passed o admitted Squeeze t c r passed
+      (λ _. record { count = c.count; thinned = h; none_left = none }) same (unmoved AreSkips c h) (λ some. thinned_less AreSkips admitted t.program c h (less some))
+
+  -- ---- cleaning
+
+  pub clean_fault_passed : r.traced ≡ t → r.count ≡ 0 → (is_well_formed t.program ≡ true → HasGraphFault t.program) → HavePassed o admitted (DeadCode ∷ []) t r
+  clean_fault_passed same none fault = none_passed o admitted DeadCode t r (λ formed. inr (refl, fault formed)) same none
+
+  pub many_fields_passed : r.traced ≡ t → r.count ≡ 0 → 2 ^ 32 - 1 < length t.program.fields → HavePassed o admitted (DeadCode ∷ []) t r
+  many_fields_passed same none many = none_passed o admitted DeadCode t r
+      (λ formed. let few : length t.program.fields < 2 ^ 32 - 1 = (few_names t.program formed).0 in absurd (omega (arith, many, few))) same none
+
+  pub clean_passed : (c : Changed) (h : Hierarchy) → IsPassed t.origins c r → (is_well_formed t.program ≡ true → HasGraph t.program h) → IsCleaned h admitted t.program c
+      → (IsResolved t.program h → IsThinnedBy (AreCleaned (is_quiet_field t.program)) admitted t.program c) → (IsResolved t.program h → c.count ≡ 0 → NoneDead (is_quiet_field t.program) admitted t.program)
+      → (c.count ≡ 0 → c.program ≡ t.program) → (0 < c.count → weight_of c.program < weight_of t.program) → HavePassed o admitted (DeadCode ∷ []) t r
+  clean_passed c h passed graph cleaned resolved none same less = one_passed o admitted DeadCode t c r passed
+      (λ formed. inl (record { count = c.count; thinned = resolved (graph formed).resolved; none_left = none (graph formed).resolved })) same (unmoved (AreCleaned (is_on cleaned.quiet)) c cleaned.thinned)
+      (λ some. thinned_less (AreCleaned (is_on cleaned.quiet)) admitted t.program c cleaned.thinned (less some))

@@ -11,6 +11,9 @@ use Rattle.reach.specs.Marked.{IsMarked}
 use Rattle.body_edit.specs.declared.fate.Fate.{Fate}
 use Rattle.thin_pass.specs.Plans.{IsThinnedBy}
 use Rattle.thin_pass.specs.Weights.{weight_of}
+use Rattle.dead_code.specs.Dead.{is_quiet_field}
+use Rattle.dead_code.specs.Wishes.{AreCleaned, NoneDead}
+use Rattle.squeeze.specs.Needed.{NothingLeft}
 use Rattle.squeeze.specs.Skipping.{AreSkips}
 use Rattle.pipeline.specs.declared.traces.Passed.{Passed}
 use Rattle.pipeline.specs.declared.traces.Traced.{Traced}
@@ -20,11 +23,12 @@ use Rattle.pipeline.specs.Origins.{Follow}
 -- The passes.
 pub data Pass : Type 0 where
   Reach : Pass
+  DeadCode : Pass
   Squeeze : Pass
 
 -- The passes of a round, in their order.
 abbrev pub passes : List Pass
-passes = Reach ∷ Squeeze ∷ []
+passes = Reach ∷ DeadCode ∷ Squeeze ∷ []
 
 -- ---- what each pass does to a well-formed program
 
@@ -44,15 +48,21 @@ pub record IsRemoval (o : Outside) (p q : Program) (moved : List (List Origin)) 
   pub removal : Removes o p q ⊎ ((q ≡ p) × IsBarred o p)
   pub still : moved ≡ []
 
--- The bodies of admitted methods as a pass that thins them wishes.
-pub record Thins (wishes : Body → List Fate → Type 0) (admitted : List Bool) (p q : Program) (moved : List (List Origin)) : Type 0 where
+-- The bodies of admitted methods as a pass that thins them wishes. Where it counts nothing, nothing is left for it.
+pub record Thins (wishes : Body → List Fate → Type 0) (left : Type 0) (admitted : List Bool) (p q : Program) (moved : List (List Origin)) : Type 0 where
   pub count : ℕ
   pub thinned : IsThinnedBy wishes admitted p (record { program = q; count = count; origins = moved })
+  pub none_left : count ≡ 0 → left
+
+-- The bodies of admitted methods without what computes what nobody reads, unless the class graph has a fault: then nothing changes.
+abbrev pub IsCleaning : List Bool → Program → Program → List (List Origin) → Type 0
+IsCleaning admitted p q moved = Thins (AreCleaned (is_quiet_field p)) (NoneDead (is_quiet_field p) admitted p) admitted p q moved ⊎ ((q ≡ p) × HasGraphFault p)
 
 -- What a pass makes of a program, and where it says that positions come from.
 abbrev pub Does : Outside → List Bool → Pass → Program → Program → List (List Origin) → Type 0
 Does o admitted Reach p q moved = IsRemoval o p q moved
-Does o admitted Squeeze p q moved = Thins AreSkips admitted p q moved
+Does o admitted DeadCode p q moved = IsCleaning admitted p q moved
+Does o admitted Squeeze p q moved = Thins AreSkips (NothingLeft admitted p) admitted p q moved
 
 -- ---- passes one after another
 

@@ -11,7 +11,7 @@ ghost use Rattle.pipeline.specs.Rounds.{HaveRun, IsOptimised};
 use crate::asks::{Advice, ask_all, no_advice};
 use crate::counts::{count_instructions, count_members};
 use crate::graph::hierarchy_of;
-use crate::passes::{remove_unreached, squeeze_bodies};
+use crate::passes::{clean_bodies, remove_unreached, squeeze_bodies};
 use crate::silent::silence;
 use crate::traces::{Passed, Traced};
 use call_graph::live_members;
@@ -66,11 +66,13 @@ fn round(
     ensures passed { IfOk result (HavePassed outside.now admitted.now.methods.items passes traced) }
     ensures falls { IfOk result (λ left. bulk_of left.traced.program + min left.count 1 ≤ bulk_of traced.program) }
 {
-    let reached = remove_unreached(alloc, traced, outside)?;
-    let squeezed = squeeze_bodies(alloc, reached.traced, admitted)?;
+    let (reached, graph) = remove_unreached(alloc, traced, outside)?;
+    let cleaned = clean_bodies(alloc, reached.traced, &graph, admitted)?;
+    let squeezed = squeeze_bodies(alloc, cleaned.traced, admitted)?;
+    let removed = reached.count.saturating_add(cleaned.count);
     Ok(Passed {
         traced: squeezed.traced,
-        count: reached.count.saturating_add(squeezed.count),
+        count: removed.saturating_add(squeezed.count),
     })
 }
 

@@ -19,10 +19,12 @@ use Rattle.pass_defs.specs.Live.{Family}
 use Rattle.pass_defs.specs.Typed.{IsTyped}
 use Rattle.removal_law.specs.Left.{left_of}
 use Rattle.removal_law.proofs.Classes.{left_less}
+use Rattle.squeeze.specs.Needed.{NothingLeft}
 use Rattle.squeeze.specs.Skipping.{AreSkips}
 use Rattle.thin_bridge.specs.Kept.{AnyCode, IsKept}
 use Rattle.squeeze_bridge.proofs.Squeezes.{squeezed_kept}
-use Rattle.pipeline.specs.Passes.{Pass, Reach, Squeeze, Removes, IsBarred, IsRemoval, Thins}
+use Rattle.dead_bridge.proofs.Cleans.{cleaned_kept}
+use Rattle.pipeline.specs.Passes.{Pass, Reach, DeadCode, Squeeze, Removes, IsBarred, IsRemoval, Thins, IsCleaning}
 use Rattle.reach_bridge.specs.Names.{family_of}
 use Rattle.reach_bridge.proofs.Kept.{kept_named}
 use Rattle.reach_bridge.proofs.Unshut.{unshut}
@@ -88,15 +90,24 @@ module _ (o : Outside) where
     shown = λ none. kept.shown (outer_of p o);
   }
 
-  squeezing_owes : (admitted : List Bool) (p q : Program) (moved : List (List Origin)) → IsSound p → Thins AreSkips admitted p q moved → Owes o p q
+  squeezing_owes : (admitted : List Bool) (p q : Program) (moved : List (List Origin)) → IsSound p → Thins AreSkips (NothingLeft admitted p) admitted p q moved → Owes o p q
   squeezing_owes admitted p q moved sound h = bodies_owe p q sound
       (squeezed_kept admitted p (record { program = q; count = h.count; origins = moved }) sound.formed sound.typed h.thinned sound.once sound.grounded)
 
   pub squeeze_keeps : (admitted : List Bool) → Keeps o admitted Squeeze
   squeeze_keeps admitted = record { owes = squeezing_owes admitted }
 
+  cleaning_owes : (admitted : List Bool) (p q : Program) (moved : List (List Origin)) → IsSound p → IsCleaning admitted p q moved → Owes o p q
+  cleaning_owes admitted p q moved sound (inl h) = bodies_owe p q sound
+      (cleaned_kept p sound.formed sound.once sound.grounded admitted (record { program = q; count = h.count; origins = moved }) h.thinned sound.typed)
+  cleaning_owes admitted p q moved sound (inr none) = subst (λ (x : Program). Owes o p x) (sym none.0) (owes_same o p sound)
+
+  pub dead_code_keeps : (admitted : List Bool) → Keeps o admitted DeadCode
+  dead_code_keeps admitted = record { owes = cleaning_owes admitted }
+
   -- ---- every pass
 
   pub each_keeps : (admitted : List Bool) (pass : Pass) → Keeps o admitted pass
   each_keeps admitted Reach = reach_keeps admitted
+  each_keeps admitted DeadCode = dead_code_keeps admitted
   each_keeps admitted Squeeze = squeeze_keeps admitted

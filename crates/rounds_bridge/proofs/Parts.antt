@@ -64,7 +64,7 @@ module _ (p q : Program) (r : Part q.classes p.classes) where
   was : ℕ → ℕ
   was n = place q.classes p.classes r n
 
-  pub twice_was : (class : ℕ) → IsTwice q class → IsTwice p (was class)
+  twice_was : (class : ℕ) → IsTwice q class → IsTwice p (was class)
   unfolding was
   twice_was class t =
       let one : Stood p.classes (was t.earlier) t.one = stood q.classes p.classes r t.earlier t.one t.is_one in
@@ -98,7 +98,7 @@ module _ (p q : Program) (r : Part q.classes p.classes) where
   steps_were class [] upper s = above_was class upper s
   steps_were class (m ∷ mids) upper s = (above_was class m s.0, steps_were m mids upper s.1)
 
-  pub ancestor_was : (class upper : ℕ) → IsAncestor q class upper → IsAncestor p (was class) (was upper)
+  ancestor_was : (class upper : ℕ) → IsAncestor q class upper → IsAncestor p (was class) (was upper)
   ancestor_was class upper a = record { mids = map was a.mids; steps = steps_were class a.mids upper a.steps }
 
   pub still_once : ((class : ℕ) → IsTwice p class → ⊥) → (class : ℕ) → IsTwice q class → ⊥

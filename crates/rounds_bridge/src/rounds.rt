@@ -8,8 +8,12 @@ ghost use Rattle.program_model.specs.ProgramRules.{is_well_formed};
 ghost use Rattle.hierarchy.specs.Shapes.{IsAcyclic, IsResolved};
 ghost use Rattle.hierarchy.specs.declared.build.Hierarchy.{Hierarchy};
 ghost use Rattle.verify.specs.Methods.{TypesAll};
+ghost use Rattle.dead_code.specs.Dead.{is_quiet_field};
+ghost use Rattle.dead_code.specs.Wishes.{NoneDead};
+ghost use Rattle.squeeze.specs.Needed.{NothingLeft};
+ghost use Rattle.pipeline.specs.Graph.{HasGraphFault};
 ghost use Rattle.pipeline.specs.declared.traces.Traced.{Traced};
-ghost use Rattle.pipeline.specs.Rounds.{IsOptimised, Rounds};
+ghost use Rattle.pipeline.specs.Rounds.{HaveRun, IsOptimised, Rounds};
 ghost use Rattle.rounds_bridge.specs.Owed.{IsSound, Owes};
 
 /// A well-formed program of which a hierarchy was built, and of which the verifier has a typing of each method, is sound.
@@ -28,4 +32,12 @@ pub fn rounds_law()
 pub fn optimised_law()
     ensures { (p r : Program) (origins : List (List Origin)) (o : Outside) (advisers spared rounds : ℕ) (before after : List Bool) → IsSound p → IsOptimised o p advisers before after spared r origins rounds
         → (o.optimise ≡ false) ⊎ (o.silent ≡ []) → Owes o p r }
+{}
+
+/// Where the rounds end, no position of an admitted method is left that a squeeze takes out, and none that is dead, unless the
+/// class graph has a fault. (`NothingLeft` and `NoneDead` speak of bodies whose positions and regions 32 bits number.)
+pub fn settled_law()
+    ensures skips { (o : Outside) (admitted : List Bool) (p : Program) (t : Traced) (count : ℕ) → HaveRun o admitted p t count → is_well_formed t.program ≡ true → NothingLeft admitted t.program }
+    ensures dead { (o : Outside) (admitted : List Bool) (p : Program) (t : Traced) (count : ℕ) → HaveRun o admitted p t count → is_well_formed t.program ≡ true
+        → NoneDead (is_quiet_field t.program) admitted t.program ⊎ HasGraphFault t.program }
 {}

@@ -1,3 +1,3 @@
 mod Entered
 mod Squeezing
-mod Squeezes
+pub mod Squeezes

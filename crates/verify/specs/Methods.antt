@@ -92,10 +92,6 @@ pub record RefusesAt (v : Verifier) (at : MethodAt) (e : TypeFault) : Type 0 whe
 abbrev pub TypesAt : Verifier → MethodAt → Table → Type 0
 TypesAt v at x = (c : Class) (m : Method) → slice_get v.program.now.classes at.class ≡ Some c → method_at v.program.now at ≡ Some m → Types v c at.class m x
 
--- the answer for the method at a place with another body
-abbrev pub TypesWith : Verifier → MethodAt → Body → Table → Type 0
-TypesWith v at b x = (c : Class) (m : Method) → slice_get v.program.now.classes at.class ≡ Some c → method_at v.program.now at ≡ Some m → HasTyping v c at.class m b x
-
 -- the first method of a class that is refused
 pub record RefusesIn (v : Verifier) (c : Class) (at : ℕ) (e : TypeFault) : Type 0 where
   pub place : ℕ

@@ -7,7 +7,7 @@ ghost use Rattle.verify.specs.Flow.{greatest, places_of};
 ghost use Rattle.verify.specs.Typings.{IsShort, IsLeastTyping, Refuses as RefusesBody};
 ghost use Rattle.verify.specs.Meeting.{IsMeeting};
 ghost use Rattle.verify.specs.Names.{parameters_of, result_of};
-ghost use Rattle.verify.specs.Methods.{receiver_of, constructs, HasTyping, Refuses, Types, HasTypings, TypesAt, TypesWith, RefusesAt, RefusesIn, AllBelow, RefusesFirst, IsFor};
+ghost use Rattle.verify.specs.Methods.{receiver_of, constructs, HasTyping, Refuses, Types, HasTypings, TypesAt, RefusesAt, RefusesIn, AllBelow, RefusesFirst, IsFor};
 ghost use Rattle.verify.specs.Supers.{Serves};
 ghost use Rattle.verify.specs.Frames.{kinds_of};
 ghost use Rattle.verify.specs.Faults.{fault_of, fault_at, NoneBreaks};
@@ -275,28 +275,6 @@ impl<'a> Verifier<'a> {
             }
         };
         self.of_method(alloc, &mut scratch, (class, method.class), found)
-    }
-
-    /// The typings that a method has with a body in place of its own: the least that there are. `IllTyped` stands where
-    /// there are none. There are no positions where no method stands at the place.
-    pub fn typings_with(
-        &self,
-        alloc: Global,
-        method: MethodAt,
-        body: &Body,
-    ) -> Result<Typings, TypeFault>
-        requires { IsMeeting self.now.tables }
-        ensures { IfOk result (λ x. TypesWith self.now method body.now (places_of x.states.items)) }
-    {
-        let mut scratch = Scratch::new(alloc);
-        match (self.class_at(method.class), method_at(self.program, method)) {
-            (Some(class), Some(found)) => {
-                self.of_body(alloc, &mut scratch, (class, method.class), found, body)
-            }
-            _ => Ok(Typings {
-                states: Vec::new(alloc),
-            }),
-        }
     }
 
     /// The typings of a method, if it has code.

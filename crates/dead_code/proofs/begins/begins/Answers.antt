@@ -8,11 +8,11 @@ loop-region-init c =
     begun_none c.args.body.now.regions (length c.args.body.now.insns) c.in_ok-marks.marks.items filled
 
 pub loop-region-preserved : goal.loop-region-preserved
-loop-region-preserved c = begun_more c.args.body.now.regions (length c.args.body.now.insns) c.loop-region.region-index c.loop-region.marks.items c.mark.new.marks.items c.region-item.result (omega (arith, c.loop-region-test.true, ap length c.as_slice.ensures))
-    (c.region-item.is ∙ ap (λ l. get_or l c.loop-region.region-index c.region-item.result) c.as_slice.ensures) c.loop-region.invariant c.mark.ensures.long c.mark.ensures.marked
+loop-region-preserved c = begun_more c.args.body.now.regions (length c.args.body.now.insns) c.loop-region.region-index c.loop-region.marks.items c.mark.new.marks.items c.region-item.result (omega (arith, c.loop-region-test.true, ap length c.as_slice-region-items.ensures))
+    (c.region-item.is ∙ ap (λ l. get_or l c.loop-region.region-index c.region-item.result) c.as_slice-region-items.ensures) c.loop-region.invariant c.mark.ensures.long c.mark.ensures.marked
 
 pub returns : goal.returns
 returns c = record {
   long = c.loop-region.invariant.long;
-  begin = begun_all c.args.body.now.regions (length c.args.body.now.insns) c.loop-region.region-index c.loop-region.marks.items (omega (arith, c.loop-region-test.false, ap length c.as_slice.ensures)) c.loop-region.invariant;
+  begin = begun_all c.args.body.now.regions (length c.args.body.now.insns) c.loop-region.region-index c.loop-region.marks.items (omega (arith, c.loop-region-test.false, ap length c.as_slice-region-items.ensures)) c.loop-region.invariant;
 }

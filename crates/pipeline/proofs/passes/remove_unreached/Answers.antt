@@ -1,16 +1,15 @@
-use Rattle.std.proofs.Common.{◌≡◌, true, rules}
+use Rattle.std.proofs.Common.{◌≡◌, true, false, rules, sym, ap, subst}
+use Rattle.program_model.specs.declared.program.Program.{Program}
+use Rattle.pipeline.specs.declared.traces.Traced.{Traced}
+use Rattle.pipeline.specs.Graph.{IsGraph}
 use Rattle.pipeline.proofs.Graphs.{found_graph, found_fault}
-use Rattle.pipeline.proofs.Passing.{IsPassed, removal_passed, fault_passed}
+use Rattle.pipeline.proofs.Passing.{barred_passed, fault_passed}
 use Rattle.pipeline.proofs.passes.remove_unreached.Goals as goal
 
-pub returns-in_ok-changed-in-Some : goal.returns-in_ok-changed-in-Some
-returns-in_ok-changed-in-Some c =
-    let allowed : c.args.outside.now.shrink ≡ true = search rules in
-    let left : IsPassed c.args.traced.origins c.in_ok-changed-in-Some.changed c.passed_on.result = record { program = c.passed_on.ensures.program; count = c.passed_on.ensures.count; origins = c.passed_on.ensures.origins } in
-    λ admitted. removal_passed c.args.outside.now admitted c.args.traced c.passed_on.result c.in_ok-changed-in-Some.changed c.in-Some.hierarchy left allowed
-    (λ formed. found_graph c.args.traced.program c.in_ok-hierarchy.field-0 c.in-Some.hierarchy (c.in_ok-hierarchy.ensures formed) c.in-Some.is)
-    c.in_ok-changed-in-Some.ensures.origins c.in_ok-changed-in-Some.ensures.closed c.in_ok-changed-in-Some.ensures.kept c.in_ok-changed-in-Some.ensures.same c.in_ok-changed-in-Some.ensures.less
+pub returns-then-not-outside-clause-passed : goal.returns-then-not-outside-clause-passed
+returns-then-not-outside-clause-passed c =
+    let barred : c.args.outside.now.shrink ≡ false = search rules in
+    λ admitted. barred_passed c.args.outside.now admitted c.args.traced c.unchanged-then-not-outside.result c.unchanged-then-not-outside.ensures.traced c.unchanged-then-not-outside.ensures.count barred
 
-pub returns-in-None : goal.returns-in-None
-returns-in-None c = λ admitted. fault_passed c.args.outside.now admitted c.args.traced c.unchanged-in-None.result c.unchanged-in-None.ensures.traced c.unchanged-in-None.ensures.count
-    (λ formed. found_fault c.args.traced.program c.in_ok-hierarchy.field-0 (c.in_ok-hierarchy.ensures formed) c.in-None.is)
+pub returns-then-not-outside-clause-graph : goal.returns-then-not-outside-clause-graph
+returns-then-not-outside-clause-graph c = subst (λ (x : Traced). IsGraph x.program c.in_ok-graph.graph) (sym c.unchanged-then-not-outside.ensures.traced) c.in_ok-graph.ensures

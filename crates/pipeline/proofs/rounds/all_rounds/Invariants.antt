@@ -1,4 +1,4 @@
-use Rattle.std.proofs.Common.{◌≡◌, ◌+◌, ◌≤◌, min}
+use Rattle.std.proofs.Common.{◌+◌, ◌≤◌, min}
 use Rattle.pipeline.specs.Passes.{bulk_of}
 use Rattle.pipeline.proofs.RoundLemmas.{Rounding}
 use Rattle.pipeline.proofs.rounds.all_rounds.Given as goal

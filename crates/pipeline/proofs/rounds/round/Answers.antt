@@ -1,11 +1,18 @@
 use Rattle.std.proofs.Common.{[], ◌∷◌, refl}
-use Rattle.pipeline.specs.Passes.{passes, Reach, Squeeze}
+use Rattle.pipeline.specs.declared.traces.Passed.{Passed}
+use Rattle.pipeline.specs.Passes.{passes, Reach, DeadCode, Squeeze, HavePassed}
 use Rattle.pipeline.proofs.Passing.{both_passed, no_more}
 use Rattle.pipeline.proofs.rounds.round.Goals as goal
 
 passed : goal.returns-clause-passed
-passed c = both_passed c.args.outside.now c.args.admitted.now.methods.items (Reach ∷ []) (Squeeze ∷ []) c.args.traced c.in_ok-reached.reached c.in_ok-squeezed.squeezed _
-    (c.in_ok-reached.ensures c.args.admitted.now.methods.items) (c.in_ok-squeezed.ensures c.args.outside.now) refl c.saturating_add.ensures
+passed c =
+    let o = c.args.outside.now in
+    let admitted = c.args.admitted.now.methods.items in
+    let start = c.args.traced in
+    let two : Passed = record { traced = c.in_ok-cleaned.cleaned.traced; count = c.saturating_add-removed.result } in
+    let first : HavePassed o admitted (Reach ∷ DeadCode ∷ []) start two = both_passed o admitted (Reach ∷ []) (DeadCode ∷ []) start c.in_ok-reached.reached c.in_ok-cleaned.cleaned two
+    (c.in_ok-reached.ensures.passed admitted) (c.in_ok-cleaned.ensures c.in_ok-reached.ensures.graph o) refl c.saturating_add-removed.ensures in
+    both_passed o admitted (Reach ∷ DeadCode ∷ []) (Squeeze ∷ []) start two c.in_ok-squeezed.squeezed _ first (c.in_ok-squeezed.ensures o) refl c.saturating_add.ensures
 
 pub returns-clause-passed : goal.returns-clause-passed
 returns-clause-passed c = passed c

@@ -31,7 +31,8 @@ pub fn uses_keep()
 /// Behind a test both operands are held: two words as the test answers of them, and whatever a register holds where they
 /// are the same or aren't.
 pub fn tests_keep()
-    ensures words { (t : Test) (x y : Parts) (a b : ℕ) → a < 2 ^ 32 → b < 2 ^ 32 → value_holds x (Plain (Single a)) → value_holds y (Plain (Single b)) → HoldsBoth (tested_values (passes_words t a b) t x y) (Plain (Single a)) (Plain (Single b)) }
+    ensures words { (t : Test) (x y : Parts) (a b : ℕ) → a < 2 ^ 32 → b < 2 ^ 32 → value_holds x (Plain (Single a))
+        → value_holds y (Plain (Single b)) → HoldsBoth (tested_values (passes_words t a b) t x y) (Plain (Single a)) (Plain (Single b)) }
     ensures same { (x y : Parts) (d e : Datum) → IsNarrow d → IsNarrow e → AreSame d e → value_holds x d → value_holds y e → HoldsBoth (equal_values x y) d e }
     ensures other { (x y : Parts) (d e : Datum) → IsNarrow d → IsNarrow e → AreOther d e → value_holds x d → value_holds y e → HoldsBoth (different_values x y) d e }
 {}
@@ -40,24 +41,30 @@ pub fn tests_keep()
 /// switch has consecutive ones.
 pub fn switches_keep()
     ensures key { (z : ℤ) (x : Parts) (w : ℕ) → w < 2 ^ 32 → cast_signed w32 w ≡ z → value_holds x (Plain (Single w)) → HoldsSome (keyed_value z x) (Plain (Single w)) }
-    ensures none { (zs : _) (x : Parts) (w : ℕ) → w < 2 ^ 32 → AreWords zs → IsNone zs (cast_signed w32 w) → value_holds x (Plain (Single w)) → HoldsSome (unkeyed_value zs x) (Plain (Single w)) }
+    ensures none { (zs : _) (x : Parts) (w : ℕ) → w < 2 ^ 32 → AreWords zs → IsNone zs (cast_signed w32 w) → value_holds x (Plain (Single w))
+        → HoldsSome (unkeyed_value zs x) (Plain (Single w)) }
     ensures packed { (first : ℤ) (n : ℕ) (x : Parts) → unpacked_value first n x ≡ unkeyed_value (consecutive first n) x }
 {}
 
 /// What the machine answers on two operands of the operator's sort is held by what the operator makes of what holds of
 /// them, and there is an answer.
 pub fn answers_hold()
-    ensures words { (op : BinaryOp) (k : Kind) (x y : Parts) (a b n : ℕ) → sort_of op ≡ OnWord k → a < 2 ^ 32 → b < 2 ^ 32 → n < 2 ^ 32 → value_holds x (Plain (Single a)) → value_holds y (Plain (Single b)) → answer k false a b ≡ Some n
+    ensures words { (op : BinaryOp) (k : Kind) (x y : Parts) (a b n : ℕ) → sort_of op ≡ OnWord k → a < 2 ^ 32 → b < 2 ^ 32 → n < 2 ^ 32
+        → value_holds x (Plain (Single a)) → value_holds y (Plain (Single b)) → answer k false a b ≡ Some n
         → HoldsSome (binary_value op x y) (Plain (Single n)) }
-    ensures wides { (op : BinaryOp) (k : Kind) (x y : Parts) (a b n : ℕ) → sort_of op ≡ OnWide k → value_holds x (Plain (Double a)) → value_holds y (Plain (Double b)) → answer k true a b ≡ Some n → HoldsSome (binary_value op x y) (Plain (Double n)) }
-    ensures shifts { (op : BinaryOp) (k : Kind) (x y : Parts) (a b n : ℕ) → sort_of op ≡ Shifts k → value_holds x (Plain (Double a)) → value_holds y (Plain (Single b)) → answer k true a b ≡ Some n → HoldsSome (binary_value op x y) (Plain (Double n)) }
-    ensures literals { (op : LiteralOp) (x : Parts) (z : ℤ) (a n : ℕ) → a < 2 ^ 32 → n < 2 ^ 32 → first_word ≤ℤ z → z ≤ℤ last_word → value_holds x (Plain (Single a)) → literal_answer op a (cast_unsigned w32 z) ≡ Some n
+    ensures wides { (op : BinaryOp) (k : Kind) (x y : Parts) (a b n : ℕ) → sort_of op ≡ OnWide k → value_holds x (Plain (Double a))
+        → value_holds y (Plain (Double b)) → answer k true a b ≡ Some n → HoldsSome (binary_value op x y) (Plain (Double n)) }
+    ensures shifts { (op : BinaryOp) (k : Kind) (x y : Parts) (a b n : ℕ) → sort_of op ≡ Shifts k → value_holds x (Plain (Double a))
+        → value_holds y (Plain (Single b)) → answer k true a b ≡ Some n → HoldsSome (binary_value op x y) (Plain (Double n)) }
+    ensures literals { (op : LiteralOp) (x : Parts) (z : ℤ) (a n : ℕ) → a < 2 ^ 32 → n < 2 ^ 32 → first_word ≤ℤ z → z ≤ℤ last_word
+        → value_holds x (Plain (Single a)) → literal_answer op a (cast_unsigned w32 z) ≡ Some n
         → HoldsSome (literal_value op x z) (Plain (Single n)) }
 {}
 
 /// So it is of operators with one operand, of comparisons and of what an item or a field keeps of a word.
 pub fn others_hold()
-    ensures unary { (op : UnaryOp) (floats : Floats) (x : Parts) (m : Number) → value_holds x (Plain m) → value_holds (unary_value op x) (answer_datum (unary_answer floats op (size_of m))) }
+    ensures unary { (op : UnaryOp) (floats : Floats) (x : Parts) (m : Number) → value_holds x (Plain m)
+        → value_holds (unary_value op x) (answer_datum (unary_answer floats op (size_of m))) }
     ensures longs { (x y : Parts) (a b : ℕ) → value_holds x (Plain (Double a)) → value_holds y (Plain (Double b)) → (floats : Floats)
         → value_holds (compared_value CmpLong x y) (Plain (Single (comparison floats CmpLong a b))) }
     ensures floats { (op : CmpOp) (x y : Parts) (d e : Datum) (floats : Floats) (a b : ℕ) → (op ≡ CmpLong → ⊥) → value_holds x d → value_holds y e

@@ -12,6 +12,7 @@ pub mod Counting
 pub mod Covering
 pub mod Differing
 pub mod Fewer
+pub mod FieldBounds
 pub mod FieldReading
 pub mod Fitting
 pub mod Interfaces
@@ -22,6 +23,8 @@ pub mod MemberReading
 pub mod MethodReading
 pub mod Operands
 pub mod Readings
+pub mod Spelled
+pub mod SpelledTables
 pub mod Standing
 pub mod Told
 pub mod Yielding

@@ -1,6 +1,6 @@
 //! Laws of the bodies that the reader of code gives: each of them is one that a program may have.
 
-ghost use Rattle.std.specs.Prelude.{◌≡◌, ◌-◌, ◌&&◌, ◌<◌, ◌^◌, List, ℕ, length, true, slice_get, Ok};
+ghost use Rattle.std.specs.Prelude.{◌≡◌, ◌-◌, ◌&&◌, ◌<◌, ◌^◌, List, ℕ, length, true, slice_get, slice_index, Ok};
 ghost use Rattle.std.specs.List.{list_all, enumerate_from};
 ghost use Rattle.program_model.specs.BodyRules.{ends, follows, targets_fit, leaves, is_caught, body_fits};
 ghost use Rattle.insn_set.specs.Spelling.{is_encodable};
@@ -60,9 +60,14 @@ pub fn leaves_law()
         → list_all (λ at. leaves at.0 at.1) (enumerate_from 0 body.insns) ≡ true }
 {}
 
-/// So a body that is read, of fewer than 2 ^ 32 units, fits the program with which it is read where each of its
-/// instructions has a spelling.
+/// Each instruction of a body that is read has a spelling, as it was read by one.
+pub fn spellings_law()
+    ensures { (units tries starts : List ℕ) (sizes : sizes.Sizes) (body : body.Body) → ((i : ℕ) → slice_index units i < 65536) → code_of units tries sizes ≡ Ok (body, starts)
+        → list_all is_encodable body.insns ≡ true }
+{}
+
+/// So a body that is read, of fewer than 2 ^ 32 units of 16 bits, fits the program with which it is read.
 pub fn bodies_law()
-    ensures { (p : program.Program) (units tries starts : List ℕ) (sizes : sizes.Sizes) (body : body.Body) → AreSizes p sizes → length units < 2 ^ 32 → code_of units tries sizes ≡ Ok (body, starts)
-        → list_all is_encodable body.insns ≡ true → body_fits p body ≡ true }
+    ensures { (p : program.Program) (units tries starts : List ℕ) (sizes : sizes.Sizes) (body : body.Body) → AreSizes p sizes → ((i : ℕ) → slice_index units i < 65536) → length units < 2 ^ 32
+        → code_of units tries sizes ≡ Ok (body, starts) → body_fits p body ≡ true }
 {}

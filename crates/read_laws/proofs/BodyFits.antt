@@ -12,14 +12,14 @@ use Rattle.program_model.specs.declared.body.Body.{Body}
 use Rattle.program_model.specs.declared.program.Program.{Program}
 use Rattle.code_read.specs.declared.sizes.Sizes.{Sizes}
 use Rattle.code_read.specs.Sweep.{Places, sweep_of}
-use Rattle.read_laws.specs.Tables.{AreSizes}
+use Rattle.read_laws.specs.Tables.{AreWithin}
 use Rattle.read_laws.proofs.BodyLists.{and_both, each, item_of, all_each}
 use Rattle.read_laws.proofs.BodyParts.{Parts}
 use Rattle.read_laws.proofs.BodyLaws.{body_ends, body_begins, body_follows, body_targets, body_catches, body_operands, body_regions, body_leaves}
 use Rattle.read_laws.proofs.FieldBounds.{AreUnits}
 use Rattle.read_laws.proofs.SpelledTables.{all_spelled}
 
-pub fits : {tries : List ℕ} {sizes : Sizes} {places : Places} {b : Body} (parts : Parts tries sizes places b) (p : Program) → AreSizes p sizes → (units : List ℕ) → AreUnits units → sweep_of units ≡ Ok places → length units < 2 ^ 32 → body_fits p b ≡ true
+pub fits : {tries : List ℕ} {sizes : Sizes} {places : Places} {b : Body} (parts : Parts tries sizes places b) (p : Program) → AreWithin p sizes → (units : List ℕ) → AreUnits units → sweep_of units ≡ Ok places → length units < 2 ^ 32 → body_fits p b ≡ true
 unfolding body_fits insn_fits
 fits {sizes = sizes} {places = places} {b = b} parts p is units are swept few =
     let spelled : list_all is_encodable b.insns ≡ true = all_spelled units places sizes b.insns are swept parts.payloads parts.insns in

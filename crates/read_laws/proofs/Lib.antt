@@ -7,6 +7,7 @@ pub mod Booleans
 pub mod Bounds
 pub mod Caught
 pub mod ClassReading
+pub mod CodeReading
 pub mod Conjuncts
 pub mod Counting
 pub mod Covering
@@ -17,6 +18,7 @@ pub mod FieldReading
 pub mod Fitting
 pub mod Interfaces
 pub mod Leaving
+pub mod LineReading
 pub mod MarkReading
 pub mod MemberOrder
 pub mod MemberReading

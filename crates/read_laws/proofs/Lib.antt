@@ -17,9 +17,11 @@ pub mod FieldBounds
 pub mod FieldReading
 pub mod Fitting
 pub mod Interfaces
+pub mod ItemCounting
 pub mod Leaving
 pub mod LineReading
 pub mod MarkReading
+pub mod MemberItems
 pub mod MemberOrder
 pub mod MemberReading
 pub mod MethodReading
@@ -27,6 +29,7 @@ pub mod Operands
 pub mod Readings
 pub mod Spelled
 pub mod SpelledTables
+pub mod Spending
 pub mod Standing
 pub mod Told
 pub mod Yielding

@@ -32,4 +32,5 @@ pub mod SpelledTables
 pub mod Spending
 pub mod Standing
 pub mod Told
+pub mod WellFormed
 pub mod Yielding

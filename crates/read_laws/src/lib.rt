@@ -6,4 +6,5 @@
 pub mod bodies;
 pub mod cells;
 pub mod members;
+pub mod programs;
 pub mod tables;

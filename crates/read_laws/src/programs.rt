@@ -9,3 +9,10 @@ ghost use Rattle.dex_read.specs.File.{program_at};
 pub fn well_formed_law()
     ensures { (bytes : List ℕ) (p : Program) → ((i : ℕ) → slice_index bytes i < 256) → program_at bytes ≡ Ok p → is_well_formed p ≡ true }
 {}
+
+/// The same of bytes in memory: after a call, whatever program they spell is known to be well-formed. It does nothing else.
+pub fn reads_well_formed(bytes: &[u8])
+    ensures { (p : Program) → program_at bytes.now ≡ Ok p → is_well_formed p ≡ true }
+{
+    let _bytes = bytes;
+}

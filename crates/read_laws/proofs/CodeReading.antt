@@ -1,10 +1,10 @@
 -- The code of a method that is read: its units, and its body.
-use Rattle.std.proofs.Common.{◌≡◌, ℕ, zero, suc, ◌<◌, ◌^◌, ◌+◌, ◌*◌, true, List, [], ◌∷◌, length, take, drop, min, Ok, refl, sym, ap, subst, ◌∙◌, arith}
+use Rattle.std.proofs.Common.{◌≡◌, ℕ, zero, suc, ◌<◌, ◌^◌, ◌+◌, ◌*◌, true, List, [], ◌∷◌, length, take, drop, Ok, refl, sym, ap, subst, arith}
 use Rattle.std.specs.Prelude.{slice_index}
 use Rattle.std.specs.Int.{w16, from_le_bytes}
 use Rattle.std.proofs.Math.Nat.{min-le_left}
 use Rattle.dex_base.specs.Reading.{each}
-use Rattle.dex_base.specs.Word.{Is16, u16_at, u32_at}
+use Rattle.dex_base.specs.Word.{Is16, u16_at}
 use Rattle.dex_base.proofs.Words.{is_16}
 use Rattle.program_model.specs.BodyRules.{body_fits}
 use Rattle.program_model.specs.declared.body.Body.{Body}

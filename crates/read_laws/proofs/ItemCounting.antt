@@ -1,28 +1,24 @@
 -- The items that are counted are no fewer than those of what is read.
-use Rattle.std.proofs.Common.{◌≡◌, ℕ, zero, suc, ◌+◌, ◌*◌, ◌≤◌, leb, List, [], ◌∷◌, ◌++◌, length, map, Ok, Err, refl, sym, ap, subst, ◌∙◌, arith}
+use Rattle.std.proofs.Common.{◌≡◌, ℕ, ◌+◌, ◌*◌, ◌≤◌, List, [], ◌++◌, length, map, Ok, sym, subst, arith}
 use Rattle.std.specs.Prelude.{◌==◌, sum_by}
-use Rattle.std.proofs.lemmas.List.Sums.{sum_by-cons}
-use Rattle.dex_base.specs.Reading.{each}
 use Rattle.program_model.specs.Items.{proto_items, class_items, items_of}
 use Rattle.program_model.specs.declared.program.Program.{Program}
 use Rattle.dex_pools.specs.Order.{ascends_in, proto_below}
 use Rattle.dex_pools.specs.PoolTables.{strings_at, types_at, protos_at, fields_at, methods_at, pools_at}
-use Rattle.dex_pools.specs.Run.{run}
 use Rattle.dex_pools.specs.Tables.{extents_at, letters_of, parameters_at, proto_at}
 use Rattle.dex_pools.specs.Word.{word_at as pool_word_at, index_at as pool_index_at}
 use Rattle.dex_pools.specs.declared.fault.Table.TheVariants.{Protos}
 use Rattle.dex_pools.specs.declared.header.Extents.{Extents}
-use Rattle.dex_read.specs.declared.class_data.Members.{Members}
 use Rattle.dex_read.specs.declared.members.Budget.{Budget}
 use Rattle.program_model.specs.declared.program.Version.{Version}
-use Rattle.dex_read.specs.Classes.{def_at, interfaces_at, root_at, listed_at, methods_of, marked_at, begun_at, field_with, class_with, class_at}
+use Rattle.dex_read.specs.Classes.{def_at, interfaces_at, root_at, listed_at, field_with, class_with, class_at}
 use Rattle.dex_read.specs.Faults.{of_pool}
 use Rattle.dex_read.specs.File.{tables_with, tables_at, head_at, class_in, table_at, classes_at, program_at}
 use Rattle.dex_read.specs.Header.{need_at, header_at}
 use Rattle.dex_read.specs.Tables.{sizes_in}
 use Rattle.dex_read.specs.Word.{word_at}
 use Rattle.read_laws.proofs.MemberItems.{methods_spend, marked_spends, begun_spends, bare_fields, no_firsts}
-use Rattle.read_laws.proofs.Spending.{more, tested, lifted, run_spends, types_spend}
+use Rattle.read_laws.proofs.Spending.{tested, lifted, run_spends, types_spend}
 use Rattle.read_laws.proofs.Told.{is_read}
 use Rattle.read_laws.proofs.Yielding as yields
 use Rattle.read_laws.proofs.Yielding.{Yields, made, after, either}

@@ -1,5 +1,5 @@
 -- The lines that are read of a debug item fit the positions of a body.
-use Rattle.std.proofs.Common.{◌≡◌, ℕ, zero, suc, ◌≤◌, ◌<◌, ◌+◌, ◌-◌, ◌^◌, Bool, true, false, not, cond, List, [], ◌∷◌, ◌++◌, length, drop, replicate, Option, Some, None, Result, Ok, Err, refl, sym, ap, subst, ◌∙◌, arith}
+use Rattle.std.proofs.Common.{◌≡◌, ℕ, zero, suc, ◌≤◌, ◌+◌, ◌-◌, Bool, true, false, not, cond, List, [], ◌∷◌, ◌++◌, length, drop, replicate, Option, Some, None, Result, Ok, Err, refl, sym, subst, ◌∙◌, arith}
 use Rattle.std.specs.Prelude.{◌&&◌, ◌||◌, ◌==◌, nat_eq, nat_lt, nat_le, ℤ, pos, negsuc, ◌+ℤ◌}
 use Rattle.std.specs.List.{list_all, list_any}
 use Rattle.std.specs.Option.{option_map}
@@ -13,7 +13,7 @@ use Rattle.line_tables.specs.declared.opcode.Kind.TheVariants.{Step, Entry, End}
 use Rattle.line_tables.specs.declared.read.Spot.{Spot}
 use Rattle.line_tables.specs.declared.read.Turn.{Turn}
 use Rattle.line_tables.specs.declared.read.Turn.TheVariants.{Breaks, IsOver, GoesTo, EntersAt}
-use Rattle.line_tables.specs.Item.{in_range, moved_by, spot, turn_to, turn_of, turn_at, opcode_at, count_below, Lines, ahead, enter, take_turn, walk, begin_at, begun, lines_at}
+use Rattle.line_tables.specs.Item.{in_range, moved_by, spot, turn_to, turn_of, turn_at, opcode_at, count_below, Lines, ahead, take_turn, walk, begin_at, begun, lines_at}
 use Rattle.line_tables.specs.Text.{Lined}
 use Rattle.program_model.specs.LineRules.{goes_on_with_lines, lines_fit}
 use Rattle.program_model.specs.Neighbours.{neighbours}

@@ -1,20 +1,18 @@
 -- The items of the members of a class that is read are counted.
-use Rattle.std.proofs.Common.{◌≡◌, ℕ, zero, suc, ◌+◌, ◌-◌, ◌*◌, ◌≤◌, ◌<◌, Bool, true, false, cond, ltb, leb, List, [], ◌∷◌, ◌++◌, map, drop, length, Option, Some, None, Result, Ok, Err, refl, sym, ap, subst, ◌∙◌, arith}
-use Rattle.std.specs.Prelude.{◌==◌, sum_by, is_some, slice_get}
+use Rattle.std.proofs.Common.{◌≡◌, ℕ, zero, suc, ◌+◌, ◌-◌, ◌*◌, ◌≤◌, ◌<◌, Bool, true, false, cond, ltb, leb, List, [], ◌∷◌, ◌++◌, map, drop, length, Option, Some, None, Result, Ok, Err, refl, ap, ◌∙◌, arith}
+use Rattle.std.specs.Prelude.{◌==◌, sum_by, is_some}
 use Rattle.std.proofs.lemmas.Bool.{leb-true}
 use Rattle.std.proofs.lemmas.List.Sums.{sum_by-cons}
 use Rattle.std.specs.Result.{result_ok}
 use Rattle.dex_base.specs.Word.{u16_at, u32_at}
 use Rattle.insn_set.specs.declared.form.Insn.{Insn}
 use Rattle.program_model.specs.Items.{marks_items, first_items_from, field_items, fields_items, region_items, rest_items, body_items, method_items}
-use Rattle.program_model.specs.declared.body.Body.{Body}
 use Rattle.program_model.specs.declared.body.Region.{Region}
 use Rattle.program_model.specs.declared.body.Handler.{Handler}
 use Rattle.program_model.specs.declared.program.Field.{Field}
 use Rattle.program_model.specs.declared.program.Method.{Method}
 use Rattle.program_model.specs.declared.program.Program.{Program}
 use Rattle.program_model.specs.declared.value.EncValue.{EncValue}
-use Rattle.program_model.specs.declared.value.Mark.{Mark}
 use Rattle.code_read.specs.declared.fault.CodeFault.{CodeFault}
 use Rattle.code_read.specs.declared.fault.CodeFault.TheVariants as fault
 use Rattle.code_read.specs.declared.sizes.Sizes.{Sizes}
@@ -25,12 +23,10 @@ use Rattle.code_read.specs.Handlers.{◌>?=◌, has_list, rest_count, caught_cou
 use Rattle.code_read.specs.Positions.{count_below}
 use Rattle.code_read.specs.Regions.{try_item, try_at, region, lies_right, with_handlers, region_of, region_at, keep, regions_from, regions_of}
 use Rattle.code_read.specs.Sweep.{Places, sweep_of}
-use Rattle.dex_pools.specs.Items.{spend}
 use Rattle.dex_pools.specs.Value.{whole_value_at}
-use Rattle.program_model.specs.declared.limits.Counted.TheVariants.{Items}
 use Rattle.dex_read.specs.Classes.{field_with, methods_of, marked_at, begun_at}
-use Rattle.dex_read.specs.Code.{item_at, frame_at, units_at, body_at, sizes_for, of_code, kept_lines, counted_lines, lined_at, cells_with, method_with, coded_at, method_at}
-use Rattle.dex_read.specs.Directory.{Marked, marked, named_at, with_marks, with_own_marks, with_parameter_marks, mark_field, mark_method, mark_parameters, set_at, directory_at}
+use Rattle.dex_read.specs.Code.{item_at, frame_at, units_at, body_at, sizes_for, of_code, kept_lines, lined_at, cells_with, method_with, coded_at, method_at}
+use Rattle.dex_read.specs.Directory.{Marked, marked, named_at, with_marks, with_own_marks, with_parameter_marks, mark_field, mark_method, mark_parameters, directory_at}
 use Rattle.dex_read.specs.Faults.{of_pool}
 use Rattle.dex_read.specs.FirstValues.{first_of as first_value, with_first, give_first, firsts_at}
 use Rattle.dex_read.specs.Header.{need_at}
@@ -42,7 +38,7 @@ use Rattle.dex_read.specs.declared.class_data.Members.{Members}
 use Rattle.dex_read.specs.declared.code.CodeItem.{CodeItem}
 use Rattle.dex_read.specs.declared.members.Budget.{Budget}
 use Rattle.line_tables.specs.Item.{lines_at}
-use Rattle.read_laws.proofs.Spending.{more, none, tested, lifted, spend_leaves, value_spends, set_spends, sets_spend}
+use Rattle.read_laws.proofs.Spending.{none, tested, lifted, spend_leaves, value_spends, set_spends, sets_spend}
 use Rattle.read_laws.proofs.Yielding as yields
 use Rattle.read_laws.proofs.Yielding.{Yields, made, after, either}
 

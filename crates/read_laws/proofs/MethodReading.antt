@@ -1,5 +1,5 @@
 -- Methods as they are read, and the directory of annotations.
-use Rattle.std.proofs.Common.{◌≡◌, ℕ, Bool, true, false, not, leb, List, [], ◌∷◌, ◌++◌, map, drop, Option, Some, None, is_none, Ok, refl, sym, ap, subst, ◌∙◌}
+use Rattle.std.proofs.Common.{◌≡◌, ℕ, Bool, true, false, not, leb, List, [], ◌∷◌, ◌++◌, map, Option, Some, None, is_none, Ok, refl, sym, ap, subst, ◌∙◌}
 use Rattle.std.specs.Prelude.{◌&&◌, ◌||◌, ◌==◌, slice_get}
 use Rattle.std.specs.List.{list_all}
 use Rattle.std.proofs.lemmas.List.Folds.{list_all-map, list_all-append}
@@ -15,7 +15,7 @@ use Rattle.program_model.specs.declared.program.Program.{Program}
 use Rattle.program_model.specs.declared.value.Mark.{Mark}
 use Rattle.dex_read.specs.ClassData.{agree, method_suits, is_direct_entry, place_in}
 use Rattle.dex_read.specs.Classes.{methods_of}
-use Rattle.dex_read.specs.Code.{item_at, frame_at, units_at, body_at, sizes_for, of_code, lined_at, cells_with, method_with, coded_at, method_at}
+use Rattle.dex_read.specs.Code.{frame_at, cells_with, method_with, coded_at, method_at}
 use Rattle.dex_read.specs.Directory.{with_own_marks, with_parameter_marks, named_at, mark_method, mark_parameters}
 use Rattle.dex_read.specs.Steps.{change_at, for_each}
 use Rattle.dex_read.specs.Tables.{sizes_in}
@@ -29,7 +29,7 @@ use Rattle.read_laws.proofs.FieldReading.{AreListed, change_keeps, change_all, a
 use Rattle.read_laws.proofs.LineReading.{reads_lined}
 use Rattle.read_laws.proofs.MarkReading.{reads_set, reads_sets}
 use Rattle.read_laws.proofs.MemberOrder.{Own, own, key, grouped, Group, Apart, two_groups, lists_differ, map_neighbours, map_differ}
-use Rattle.read_laws.proofs.Readings.{Reads, anything, weaker, done, when, either, next, lifted, both, and}
+use Rattle.read_laws.proofs.Readings.{Reads, anything, weaker, done, when, either, next, both, and}
 
 abbrev pub own_method : Method → Own
 own_method m = (m.name, m.flags)

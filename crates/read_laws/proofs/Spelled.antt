@@ -1,22 +1,17 @@
 -- Each instruction that was read has a spelling: the one that was read.
-use Rattle.std.proofs.Common.{◌≡◌, ℕ, zero, suc, ◌<◌, ◌≤◌, ◌+◌, ◌-◌, ◌*◌, ◌/◌, ◌%◌, Bool, true, false, cond, List, [], ◌∷◌, length, take, drop, refl, sym, ap, subst, ◌∙◌, arith}
-use Rattle.std.specs.Prelude.{◌&&◌, ◌||◌, ◌==◌, nat_eq, nat_lt, nat_le, ℤ, Option, Some, None, slice_get, slice_index, Ok}
-use Rattle.std.specs.List.{list_all, zip}
+use Rattle.std.proofs.Common.{◌≡◌, ℕ, zero, suc, ◌<◌, ◌≤◌, ◌+◌, ◌-◌, ◌/◌, ◌%◌, Bool, true, false, cond, List, [], ◌∷◌, length, take, refl, sym, ap, subst, arith}
+use Rattle.std.specs.Prelude.{◌&&◌, ◌||◌, ◌==◌, nat_eq, nat_lt, nat_le, Option}
+use Rattle.std.specs.List.{list_all}
 use Rattle.std.proofs.lemmas.Bool.{lt-ltb, ltb-true, ltb-false, le-leb, eq-eqb, eqb-true}
-use Rattle.insn_set.specs.Spelling.{fits_byte, takes_short, fits_width, is_width, are_adjacent, fit_nibbles, fit_call, keys_ascend, is_encodable}
+use Rattle.insn_set.specs.Spelling.{fits_byte, takes_short, are_adjacent, fit_nibbles, fit_call, is_encodable}
 use Rattle.insn_set.specs.declared.form.Insn.{Insn}
-use Rattle.code_read.specs.declared.fault.CodeFault.{CodeFault}
 use Rattle.code_read.specs.declared.fields.Fields.{Fields}
-use Rattle.code_read.specs.declared.sizes.Sizes.{Sizes}
 use Rattle.code_read.specs.Branches.{is_branch, is_call, is_range, nibbles_form, registers_from, words_form, branch_form, call_form}
-use Rattle.code_read.specs.Decoded.{opcode_at, fields_at, units_from, payload_of, entries_at, check_payloads, branch_at, call_at, insn_of, insn_at}
 use Rattle.code_read.specs.Forms.{byte, move_form, const_form, wide_form, object_form, array_form, field_form, operation_form, plain}
 use Rattle.code_read.specs.Opcodes.{from_to, format_at, literal_at}
-use Rattle.code_read.specs.Payloads.{double_in, signed_in, entries, bytes_in, item_in, items_in, keys_in, targets_in, has_payload, size_of, is_right, table_form}
-use Rattle.code_read.specs.Positions.{payload_at, unit_from, target_from}
-use Rattle.code_read.specs.Sweep.{Places, places_of, sweep_of}
-use Rattle.read_laws.proofs.BodyLists.{clash, and_left, and_right, and_both, none_some, some_same, all_items, Found, weaker, done, failed, as_read, when, either, next}
-use Rattle.read_laws.proofs.FieldBounds.{AreUnits, units_behind, Narrow, Bytes, First, Third, is_narrow, has_bytes, has_first, of_span, format_passes, narrow_at, bytes_at, first_at, third_at}
+use Rattle.code_read.specs.Payloads.{has_payload}
+use Rattle.read_laws.proofs.BodyLists.{clash, and_left, and_right, and_both}
+use Rattle.read_laws.proofs.FieldBounds.{Narrow, Bytes, First, Third, is_narrow, has_bytes, has_first, of_span, format_passes}
 
 pub record Spelled (insn : Insn) : Type 0 where
   pub is : is_encodable insn ≡ true
@@ -140,7 +135,6 @@ module _ (op : ℕ) (f : Fields) (low : op < 256) (narrow : format_passes is_nar
   operation : 0x6e ≤ op → is_call op ≡ false → Spelled (operation_form op f)
   unfolding format_at
   operation lo no_call =
-      let two : format_passes is_narrow op ≡ true → Narrow f = narrow in
       let wider : Narrow f → (nat_lt f.a 256 && (nat_lt f.a 256 && nat_lt f.b 256)) ≡ true = λ n. lt_three f.a f.a f.b 256 (omega (arith, n.a)) (omega (arith, n.a)) (omega (arith, n.b)) in
       let all : Bytes f → (nat_lt f.a 256 && (nat_lt f.b 256 && nat_lt f.c 256)) ≡ true = λ b. lt_three f.a f.b f.c 256 b.a b.b b.c in
       let there : operates op ≡ true = of_span operates 0x6e 0xff op refl (range 0x6e 0xff op lo (omega (arith, low))) in

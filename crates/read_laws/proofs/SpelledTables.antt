@@ -1,6 +1,6 @@
 -- Switches and filled arrays that were read have spellings, and so has each instruction that was read.
-use Rattle.std.proofs.Common.{◌≡◌, ℕ, zero, suc, ◌<◌, ◌≤◌, ◌+◌, ◌-◌, ◌*◌, ◌/◌, ◌%◌, Bool, true, false, cond, List, [], ◌∷◌, length, drop, refl, sym, ap, subst, ◌∙◌, arith}
-use Rattle.std.specs.Prelude.{◌&&◌, ◌||◌, ◌==◌, nat_eq, nat_lt, nat_le, ℤ, Option, Some, None, slice_get, slice_index, Ok}
+use Rattle.std.proofs.Common.{◌≡◌, ℕ, zero, suc, ◌<◌, ◌+◌, ◌-◌, ◌*◌, ◌/◌, ◌%◌, Bool, true, false, cond, List, [], ◌∷◌, length, drop, refl, sym, ap, subst, ◌∙◌, arith}
+use Rattle.std.specs.Prelude.{◌&&◌, ◌||◌, ◌==◌, nat_eq, nat_lt, ℤ, Option, Some, None, slice_get, slice_index, Ok}
 use Rattle.std.specs.List.{list_all}
 use Rattle.std.proofs.lemmas.Bool.{eqb-true, eq-eqb}
 use Rattle.insn_set.specs.Spelling.{fits_width, is_width, keys_ascend, is_encodable}
@@ -14,8 +14,8 @@ use Rattle.code_read.specs.Opcodes.{format_at}
 use Rattle.code_read.specs.Payloads.{double_in, signed_in, entries, bytes_in, item_in, items_in, keys_in, targets_in, has_payload, size_of, is_right, table_form}
 use Rattle.code_read.specs.Positions.{payload_at, unit_from, target_from}
 use Rattle.code_read.specs.Sweep.{Places, places_of, sweep_of}
-use Rattle.read_laws.proofs.BodyLists.{clash, and_left, and_right, and_both, none_some, some_same, all_items, Found, weaker, done, failed, as_read, when, either, next}
-use Rattle.read_laws.proofs.FieldBounds.{AreUnits, units_behind, First, has_first, of_span, format_passes, narrow_at, bytes_at, first_at, third_at}
+use Rattle.read_laws.proofs.BodyLists.{clash, and_right, and_both, none_some, some_same, all_items, Found, weaker, done, failed, as_read, when, either, next}
+use Rattle.read_laws.proofs.FieldBounds.{AreUnits, units_behind, has_first, format_passes, narrow_at, bytes_at, first_at, third_at}
 use Rattle.read_laws.proofs.Operands.{are_read, start_of}
 use Rattle.read_laws.proofs.Spelled.{Spelled, of, or, lt, behind, neither, plain_spelled, branch_spelled, call_spelled}
 
@@ -121,10 +121,7 @@ HasRight places start = has_payload (opcode_at places.units start) ≡ true → 
 
 one_right : (places : Places) (start : ℕ) → Found (λ n. HasRight places start) (entries_at places start)
 unfolding entries_at
-one_right places start =
-    let op : ℕ = opcode_at places.units start in
-    let payload : List ℕ = payload_of places start (fields_at places.units start) in
-    either {b = has_payload (opcode_at places.units start)}
+one_right places start = either {b = has_payload (opcode_at places.units start)}
     (λ is. weaker (cond (is_right (opcode_at places.units start) (payload_of places start (fields_at places.units start))) _ _) (when {b = is_right (opcode_at places.units start) (payload_of places start (fields_at places.units start))} _ (done _)) (λ y p has. p.0))
     (λ no. weaker (Ok 0) (done 0) (λ y p has. clash (has_payload (opcode_at places.units start)) has no))
 

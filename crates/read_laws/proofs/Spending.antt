@@ -1,11 +1,11 @@
 -- The entries of lists in values and annotations that are read are counted.
-use Rattle.std.proofs.Common.{◌≡◌, ℕ, zero, suc, ◌+◌, ◌-◌, ◌*◌, ◌/◌, ◌%◌, ◌≤◌, Bool, true, false, cond, ltb, leb, List, [], ◌∷◌, length, Result, Ok, Err, refl, sym, ap, subst, ◌∙◌, arith}
+use Rattle.std.proofs.Common.{◌≡◌, ℕ, zero, suc, ◌+◌, ◌-◌, ◌*◌, ◌/◌, ◌%◌, ◌≤◌, Bool, true, false, cond, ltb, leb, List, [], ◌∷◌, length, Result, Ok, Err, refl, sym, ap, subst, arith}
 use Rattle.std.specs.Prelude.{◌==◌, sum_by}
 use Rattle.std.specs.Int.{w32}
 use Rattle.std.proofs.lemmas.Bool.{leb-true}
 use Rattle.std.proofs.lemmas.List.Sums.{sum_by-cons}
-use Rattle.dex_base.specs.Reading.{◌>>=◌, raise}
-use Rattle.dex_base.proofs.Decides.{ok_is, not_both}
+use Rattle.dex_base.specs.Reading.{raise}
+use Rattle.dex_base.proofs.Decides.{not_both}
 use Rattle.program_model.specs.Items.{element_items, note_items, layer_items, value_items, mark_items, marks_items}
 use Rattle.program_model.specs.declared.limits.Counted.TheVariants.{Items}
 use Rattle.program_model.specs.declared.program.Program.{Program}
@@ -14,12 +14,11 @@ use Rattle.program_model.specs.declared.value.EncValue.TheOpen as layer
 use Rattle.program_model.specs.declared.value.EncValue.TheVariants as value
 use Rattle.program_model.specs.declared.value.Element.{Element}
 use Rattle.program_model.specs.declared.value.Note.{Note, Note-F, roll-Note, out-roll-Note}
-use Rattle.program_model.specs.declared.value.Mark.{Mark}
 use Rattle.dex_pools.specs.Items.{spend, count_at, listed_at, type_list_at}
 use Rattle.dex_pools.specs.Marks.{mark_below, mark_at, marked_at, marks_at, parameter_at, parameters_marks_at}
 use Rattle.dex_pools.specs.Order.{ascends_in}
 use Rattle.dex_pools.specs.Run.{run}
-use Rattle.dex_pools.specs.Value.{byte_at, few_at, number_index_at, numeric, naming, size_for, named_at, scalar_at, zero_extended, counted, array_in, element_below, element_in, note_in, of_kind, value_in, value_at, whole_note_at}
+use Rattle.dex_pools.specs.Value.{byte_at, few_at, number_index_at, numeric, naming, size_for, scalar_at, zero_extended, counted, array_in, element_below, element_in, note_in, of_kind, value_in, value_at, whole_note_at}
 use Rattle.dex_pools.specs.Word.{word_at, half_index_at, number_at}
 use Rattle.dex_pools.specs.declared.fault.PoolFault.{PoolFault}
 use Rattle.dex_pools.specs.declared.fault.Table.TheVariants.{Members}

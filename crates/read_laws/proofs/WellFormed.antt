@@ -1,6 +1,5 @@
 -- What is read is well-formed.
-use Rattle.std.proofs.Common.{◌≡◌, ℕ, ◌+◌, ◌*◌, ◌≤◌, true, List, [], length, Ok, refl, sym, subst, ◌∙◌}
-use Rattle.std.specs.Prelude.{◌==◌}
+use Rattle.std.proofs.Common.{◌≡◌, ℕ, ◌+◌, ◌*◌, true, List, [], Ok, refl, sym, subst, ◌∙◌}
 use Rattle.std.specs.List.{list_all}
 use Rattle.std.proofs.lemmas.Bool.{le-leb}
 use Rattle.program_model.specs.Cells.{cells_of}
@@ -11,8 +10,6 @@ use Rattle.program_model.specs.declared.program.Class.{Class}
 use Rattle.program_model.specs.declared.program.Program.{Program}
 use Rattle.program_model.proofs.Formed.{well_formed}
 use Rattle.table_rules.proofs.Tables.{class_same}
-use Rattle.dex_pools.specs.Run.{run}
-use Rattle.dex_read.specs.Classes.{class_at}
 use Rattle.dex_read.specs.File.{class_in, table_at, classes_at, program_at}
 use Rattle.dex_read.specs.Header.{need_at}
 use Rattle.dex_read.specs.Word.{word_at}

@@ -16,4 +16,5 @@ mod Numbers
 mod Moving
 mod Ranges
 mod RangedRuns
+mod Living
 mod Runs

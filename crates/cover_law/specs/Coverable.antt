@@ -26,6 +26,7 @@ use Rattle.pass_defs.specs.Calls.{is_within}
 use Rattle.pass_defs.specs.Closed.{IsClosed}
 use Rattle.pass_defs.specs.Facts.{Facts, IsEnteredOn, may_be_made}
 use Rattle.pass_defs.specs.Live.{IsMade, unconditional}
+use Rattle.removal_law.specs.Reach.{IsAcyclic, IsDescribed, IsSoundTable}
 use Rattle.silence_law.specs.Results.{AllTakeInPlace}
 use Rattle.stuck_law.specs.Regular.{IsRegular}
 
@@ -58,6 +59,11 @@ pub record Reaches (p : NamedProgram) (o : Outer) (f : Framework) : Type 0 where
 
 pub record IsCoverable {V : Type 0} (a : Analysis V) (p : NamedProgram) (o : Outer) (f : Framework) (floats : Floats) (facts : Facts V) : Type 0 where
   pub regular : IsRegular p
+  -- no class stands above itself, and the parameters of methods are descriptors
+  pub acyclic : IsAcyclic p
+  pub described : IsDescribed p
+  -- the parts of the table of what the framework may reach agree
+  pub table : IsSoundTable p o
   -- only what gives a result goes on to what takes one, and no handler does
   pub places : AllTakeInPlace p
   pub formed : (k : MethodKey) (b : NamedBody) (x : Form) → bodies_of p k ≡ Some b → Contains b.forms x → IsFormed x

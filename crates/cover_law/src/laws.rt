@@ -20,21 +20,21 @@ ghost use Rattle.invariant_law.specs.Holds.{Each, Holds};
 ghost use Rattle.run_facts.specs.ValueAnalysis.{Numbers, value_analysis};
 ghost use Rattle.cover_law.specs.Coverable.{IsCoverable};
 ghost use Rattle.cover_law.specs.Known.{RangedMove};
-ghost use Rattle.cover_law.specs.States.{KeepsLive, covered_states};
+ghost use Rattle.cover_law.specs.States.{covered_states};
 
 /// Under closed facts of constants, a framework and a script that fit, each state that a run of a typed, regular program
-/// reaches has ended, or the facts cover it, beside what its kinds, its words and what is live say of it. A premise says that
-/// what is live is kept: methods that run, classes that are initialised and classes of objects are live.
+/// reaches has ended, or the facts cover it, beside what its kinds and its words say of it, and that what runs is live:
+/// methods, classes that are initialised and classes of objects.
 pub fn constants_cover()
     ensures { (p : NamedProgram) (o : Outer) (f : Framework) (floats : Floats) (facts : Facts Flat) (script : List Move) (n : ℕ)
-        → IsCoverable flat_analysis p o f floats facts → KeepsLive p o f floats → Fit p o f script → Each RangedMove script
+        → IsCoverable flat_analysis p o f floats facts → Fit p o f script → Each RangedMove script
         → let t = after (setting_of p o f floats) (bodies_of p) (opening script) n in (t ≡ Ended) ⊎ Holds (covered_states flat_analysis p o f facts) t }
 {}
 
 /// The same of facts of the product domain, where what the code makes of numbers is sound.
 pub fn values_cover()
     ensures { (p : NamedProgram) (numbers : Numbers) (o : Outer) (f : Framework) (floats : Floats) (facts : Facts Parts) (script : List Move) (n : ℕ)
-        → IsCoverable (value_analysis p numbers) p o f floats facts → KeepsLive p o f floats → Fit p o f script → Each RangedMove script
+        → IsCoverable (value_analysis p numbers) p o f floats facts → Fit p o f script → Each RangedMove script
         → let t = after (setting_of p o f floats) (bodies_of p) (opening script) n in
         (t ≡ Ended) ⊎ Holds (covered_states (value_analysis p numbers) p o f facts) t }
 {}

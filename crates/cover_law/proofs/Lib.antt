@@ -17,4 +17,6 @@ mod Moving
 mod Ranges
 mod RangedRuns
 mod Living
+mod Ready
+mod Reaching
 mod Runs

@@ -10,12 +10,11 @@ use Rattle.dalvik_defs.specs.Names.{Text, throwable_type}
 use Rattle.dalvik_defs.specs.Face.{Face, face_of, bodies_of, Place}
 use Rattle.dalvik_defs.specs.Fields.{with_instance, with_static}
 use Rattle.dalvik_defs.specs.Find.{Found}
-use Rattle.dalvik_defs.specs.Flags.{is_static}
 use Rattle.dalvik_defs.specs.Gives.{gets, gets_all, spread, fits, may_throw as may_be_thrown}
 use Rattle.dalvik_defs.specs.Happens.{Setting, outcome_at, effect_of}
 use Rattle.dalvik_defs.specs.Items.{stored, item_of_type}
 use Rattle.dalvik_defs.specs.Known.{no_class, initialiser_error}
-use Rattle.dalvik_defs.specs.Legal.{may_enter, may_make, may_answer, on_fits}
+use Rattle.dalvik_defs.specs.Legal.{may_enter, may_answer, on_fits}
 use Rattle.dalvik_defs.specs.MayGo.{legal_write}
 use Rattle.dalvik_defs.specs.Moves.{got, field_value, with_field, with_item, key_of}
 use Rattle.dalvik_defs.specs.Outcome.{Outcome, Stays, Starts, Enters, Leaves, Ends, Raises, Halts, need_of, outcome}

@@ -37,8 +37,9 @@ use Rattle.invariant_law.proofs.Plain.{grown, keeps_plainly, got_grows}
 use Rattle.invariant_law.proofs.Stacked.{KeptOver, LandedOver, ShownOver, keeps_both}
 use Rattle.invariant_law.proofs.Invariants.{holds_after, opens_with}
 use Rattle.run_facts.specs.Covered.{CoversTop, CoversWaiting, CoversWorld, CoversResult, covering}
-use Rattle.removal_law.specs.Reach.{DefinesOnce, LeftAgrees}
+use Rattle.removal_law.specs.Reach.{DefinesOnce, LeftAgrees, TellsProtos}
 use Rattle.removal_law.proofs.Acyclic.{regular as upright}
+use Rattle.removal_law.proofs.Fits.{fit_names_none}
 use Rattle.removal_law.proofs.Lists.{contained}
 use Rattle.removal_law.proofs.Protos.{told_apart, protos_told}
 use Rattle.removal_law.proofs.Removal.{faces_agree}
@@ -53,6 +54,8 @@ use Rattle.stuck_law.proofs.Runs.{keeps_typed, typed_opening, settled}
 use Rattle.stuck_law.proofs.Searches.{finds_regularly}
 use Rattle.stuck_law.proofs.Worlds.{waiting_later}
 use Rattle.cover_law.specs.Coverable.{IsCoverable}
+use Rattle.cover_law.proofs.Ready.{IsReady}
+use Rattle.cover_law.proofs.Reaching.{reaches}
 use Rattle.cover_law.specs.Known.{Always, KnownWorld, LiveThings, MaybeRanged, RangedMove, RangedWorld, ranged_states, live_states}
 use Rattle.cover_law.proofs.Living.{made_things, live_method, keeps_live}
 use Rattle.cover_law.proofs.RangedRuns.{keeps_ranged}
@@ -65,7 +68,7 @@ use Rattle.cover_law.proofs.Stays.{below, covers}
 use Rattle.cover_law.proofs.Steps.{steps_covered}
 use Rattle.cover_law.proofs.Worlds.{SameFields, typed_fields, covers_over, same_with, same_then, same_show, same_option}
 
-module _ {V : Type 0} (a : Analysis V) (p : NamedProgram) (o : Outer) (f : Framework) (floats : Floats) (facts : Facts V) (base : IsCoverable a p o f floats facts) (reg : IsSettled p) (finds : FindsRegularly p f) where
+module _ {V : Type 0} (a : Analysis V) (p : NamedProgram) (o : Outer) (f : Framework) (floats : Floats) (facts : Facts V) (base : IsReady a p o f floats facts) (reg : IsSettled p) (finds : FindsRegularly p f) where
   abbrev i : Invariant
   i = below a p o f floats facts base reg
 
@@ -179,14 +182,32 @@ once p reg t c m x e i j n g = some_one m x (sym (reg.methods c m inside (contai
     inside : Contains p.classes c
     inside = class_in p t c e
 
--- what is left by each closed family answers alike
-agrees : {V : Type 0} (a : Analysis V) (p : NamedProgram) (o : Outer) (f : Framework) (floats : Floats) (facts : Facts V) (script : List Move) → IsCoverable a p o f floats facts → Fit p o f script
-    → (s : Family) → IsClosedFamily p o unconditional s → LeftAgrees p o s f
-agrees a p o f floats facts script base fit s closed = faces_agree p o unconditional s closed (upright p base.acyclic base.regular.class_types)
-    (typed_code p base.regular.typed (told_apart p base.described (once p base.regular)) (protos_told p base.described)) base.table f script fit
+module _ {V : Type 0} (a : Analysis V) (p : NamedProgram) (o : Outer) (f : Framework) (floats : Floats) (facts : Facts V) (script : List Move) (base : IsCoverable a p o f floats facts) (fit : Fit p o f script) where
+  told : TellsProtos p
+  told = protos_told p base.described
+
+  -- what is left by each closed family answers alike
+  agrees : (s : Family) → IsClosedFamily p o unconditional s → LeftAgrees p o s f
+  agrees s closed = faces_agree p o unconditional s closed (upright p base.acyclic base.regular.class_types)
+      (typed_code p base.regular.typed (told_apart p base.described (once p base.regular)) told) base.table f script fit
+
+  reg : IsSettled p
+  reg = settled p o f script base.regular fit
+
+  ready : IsReady a p o f floats facts
+  ready = record {
+    regular = base.regular;
+    places = base.places;
+    formed = base.formed;
+    firsts = base.firsts;
+    reaches = reaches p o f floats reg (finds_regularly p f reg) (upright p base.acyclic base.regular.class_types) (fit_names_none p o f script fit) told base.table;
+    makes = base.makes;
+    sound = base.sound;
+    closed = base.closed;
+  }
 
 -- And for a framework and a script that fit the program.
 pub covered_regular : {V : Type 0} (a : Analysis V) (p : NamedProgram) (o : Outer) (f : Framework) (floats : Floats) (facts : Facts V) (script : List Move) (n : ℕ) → IsCoverable a p o f floats facts → Fit p o f script → Each RangedMove script
     → (after (setting_of p o f floats) (bodies_of p) (opening script) n ≡ Ended) ⊎ HoldsBy (both (both (both (typed_states p f o) ranged_states) (live_states p o)) (covering a p o facts)) (after (setting_of p o f floats) (bodies_of p) (opening script) n)
-covered_regular a p o f floats facts script n base fit ranged = let reg = settled p o f script base.regular fit in
-    covered_always a p o f floats facts base reg (finds_regularly p f reg) (keeps_live p o f floats (agrees a p o f floats facts script base fit)) script fit ranged n
+covered_regular a p o f floats facts script n base fit ranged = let known = reg a p o f floats facts script base fit in
+    covered_always a p o f floats facts (ready a p o f floats facts script base fit) known (finds_regularly p f known) (keeps_live p o f floats (agrees a p o f floats facts script base fit)) script fit ranged n

@@ -20,3 +20,4 @@ mod Living
 mod Ready
 mod Reaching
 mod Runs
+mod ValueSound

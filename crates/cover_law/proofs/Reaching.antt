@@ -65,6 +65,15 @@ same_find : (k : MethodKey) (s : Search) → is_found k s ≡ finds_itself k s
 same_find k (Finds g) = refl
 same_find k s = refl
 
+-- a class above which another one of the program stands
+pub own_under : (p : NamedProgram) (f : Framework) → NamesNone p f → IsRegular p → (t u : Text) → defines p t ≡ true → defines p u ≡ true → is_under p f t u ≡ true → is_own_under p t u ≡ true
+own_under p f none regular t u d e i = by (under_up p f none regular t u d i)
+  where
+    by : Up p f none regular (length p.classes) t u → is_own_under p t u ≡ true
+    by (inside j) = j
+    by (through j away) = absurd (true≢false (sym e ∙ away))
+    by (object j) = absurd (true≢false (sym e ∙ ap (defines p) (text_sound u object_type j) ∙ none.object))
+
 module _ (p : NamedProgram) (o : Outer) (f : Framework) (floats : Floats) (reg : IsSettled p) (finds : FindsRegularly p f) (regular : IsRegular p) (none : NamesNone p f) (protos : TellsProtos p) (table : IsSoundTable p o) where
   all_above : KeepsAbove p everything
   all_above = record {
@@ -78,16 +87,6 @@ module _ (p : NamedProgram) (o : Outer) (f : Framework) (floats : Floats) (reg :
 
   class_defined : (c : NamedClass) → Contains p.classes c → defines p c.name ≡ true
   class_defined c i = defined p c.name c (reg.regular.named c i)
-
-  -- ---- a class above which another one of the program stands
-
-  own_under : (t u : Text) → defines p t ≡ true → defines p u ≡ true → is_under p f t u ≡ true → is_own_under p t u ≡ true
-  own_under t u d e i = by (under_up p f none regular t u d i)
-    where
-      by : Up p f none regular (length p.classes) t u → is_own_under p t u ≡ true
-      by (inside j) = j
-      by (through j away) = absurd (true≢false (sym e ∙ away))
-      by (object j) = absurd (true≢false (sym e ∙ ap (defines p) (text_sound u object_type j) ∙ none.object))
 
   -- ---- what a call in code finds
 
@@ -208,7 +207,7 @@ module _ (p : NamedProgram) (o : Outer) (f : Framework) (floats : Floats) (reg :
         defined_u = defined p u d e
 
         under : is_own_under p t d.name ≡ true
-        under = ap (is_own_under p t) name ∙ own_under t u there defined_u j
+        under = ap (is_own_under p t) name ∙ own_under p f none regular t u there defined_u j
 
         r : In x d.methods
         r = (found_where test d.methods x a).is_in
@@ -278,7 +277,7 @@ module _ (p : NamedProgram) (o : Outer) (f : Framework) (floats : Floats) (reg :
       held = held;
       coded = coded;
       made = made;
-      under = own_under t c.name there (class_defined c class_there) u;
+      under = own_under p f none regular t c.name there (class_defined c class_there) u;
       opened = reached l;
     }
 

@@ -16,4 +16,8 @@ mod Numbers
 mod Moving
 mod Ranges
 mod RangedRuns
+mod Living
+mod Ready
+mod Reaching
 mod Runs
+mod ValueSound

@@ -26,7 +26,7 @@ use Rattle.stuck_law.proofs.Settled.{IsSettled, FindsRegularly}
 use Rattle.stuck_law.proofs.Registers.{and_left}
 use Rattle.stuck_law.proofs.ArrayForms.{untrue2}
 use Rattle.stuck_law.proofs.Here.{at_form, setting}
-use Rattle.cover_law.specs.Coverable.{IsCoverable}
+use Rattle.cover_law.proofs.Ready.{IsReady}
 use Rattle.cover_law.specs.Known.{KnownFrame, KnownWorld}
 use Rattle.cover_law.proofs.Standing.{own_form}
 use Rattle.cover_law.proofs.Stays.{array_whole, below, covers, Does, Is, local_form, results, filled}
@@ -41,7 +41,7 @@ reference w (Word n) h = h
 reference w (Low n) h = h
 reference w (High n) h = h
 
-module _ {V : Type 0} (a : Analysis V) (p : NamedProgram) (o : Outer) (f : Framework) (floats : Floats) (facts : Facts V) (base : IsCoverable a p o f floats facts) (reg : IsSettled p) (finds : FindsRegularly p f) where
+module _ {V : Type 0} (a : Analysis V) (p : NamedProgram) (o : Outer) (f : Framework) (floats : Floats) (facts : Facts V) (base : IsReady a p o f floats facts) (reg : IsSettled p) (finds : FindsRegularly p f) where
   module _ (w : World) (cs : Classes) (g : Frame) (tw : TypedWorld p f w) (kw : KnownWorld p o w) (cw : CoversWorld a p o facts w) (t : TypedFrame p f w g) (kg : KnownFrame p o g) (top : CoversTop a p o facts w g) where
     abbrev D : Effect → Type 0
     D = Does a p o f floats facts base reg w cs g tw kw cw t kg top

@@ -57,7 +57,8 @@ use Rattle.stuck_law.proofs.FieldForms.{holds_instance, puts_instance, or_value,
 use Rattle.stuck_law.proofs.Here.{get_contains}
 use Rattle.stuck_law.proofs.Worlds.{at_typed, zero_value}
 use Rattle.form_law.specs.Changes.{operands}
-use Rattle.cover_law.specs.Coverable.{IsCoverable, IsFormed, has_values}
+use Rattle.cover_law.specs.Coverable.{IsFormed, has_values}
+use Rattle.cover_law.proofs.Ready.{IsReady}
 use Rattle.cover_law.specs.Known.{KnownFrame, KnownWorld}
 use Rattle.cover_law.proofs.Along.{Along, Looks, sees_put, closer, then_item, just_item}
 use Rattle.cover_law.proofs.Standing.{own_form, all_later, top_on}
@@ -65,7 +66,7 @@ use Rattle.cover_law.proofs.Worlds.{typed_fields, value_there, SameFields, same_
 use Rattle.cover_law.proofs.Fields.{read_same, static_seen, instance_seen, covers_static, covers_instance}
 use Rattle.cover_law.proofs.Stays.{Leads, Does, Is, kept, there, arrays, here, faulted, held, looks}
 
-module _ {V : Type 0} (a : Analysis V) (p : NamedProgram) (o : Outer) (f : Framework) (floats : Floats) (facts : Facts V) (base : IsCoverable a p o f floats facts) (reg : IsSettled p) where
+module _ {V : Type 0} (a : Analysis V) (p : NamedProgram) (o : Outer) (f : Framework) (floats : Floats) (facts : Facts V) (base : IsReady a p o f floats facts) (reg : IsSettled p) where
   pub item_method : (i : Item) (g : Frame) (to : ℕ) (v : Value) → (next (write_item i g to v)).method ≡ g.method
   item_method item.Wide g to v = refl
   item_method i g to v = refl

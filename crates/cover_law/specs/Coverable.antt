@@ -1,16 +1,14 @@
 -- What is asked of a program, a table of facts and a framework: the program is typed and regular, its code is formed as
 -- that of a file is, the analysis is sound, and the table is closed (Dalvik bytecode, "move-result"; Dalvik executable
 -- format, "code_item"; this project's profile).
-use Rattle.std.specs.Prelude.{◌≡◌, ◌⊎◌, ◌||◌, Bool, ℕ, ◌<◌, ◌^◌, true, false, List, Some, length, Contains}
+use Rattle.std.specs.Prelude.{◌≡◌, ◌||◌, Bool, ◌<◌, ◌^◌, true, Some, length, Contains}
 use Rattle.std.specs.Int.{w32, cast_unsigned}
-use Rattle.insn_set.specs.declared.ops.InvokeKind.{InvokeKind}
 use Rattle.dalvik_defs.specs.Names.{Text, is_word, is_wide, is_reference}
-use Rattle.dalvik_defs.specs.Flags.{is_static}
-use Rattle.dalvik_defs.specs.Under.{defines, is_under}
-use Rattle.dalvik_defs.specs.Find.{Found, Finds, defined_field}
-use Rattle.dalvik_defs.specs.Face.{face_of, bodies_of, declared_in, finds_virtually, place_of}
+use Rattle.dalvik_defs.specs.Under.{is_under}
+use Rattle.dalvik_defs.specs.Find.{defined_field}
+use Rattle.dalvik_defs.specs.Face.{face_of, bodies_of, place_of}
 use Rattle.dalvik_defs.specs.Fields.{first_of}
-use Rattle.dalvik_defs.specs.Legal.{may_make, may_reach}
+use Rattle.dalvik_defs.specs.Legal.{may_make}
 use Rattle.dalvik_defs.specs.Outer.{Outer}
 use Rattle.dalvik_defs.specs.declared.forms.Form.{Form}
 use Rattle.dalvik_defs.specs.declared.forms.Form.TheVariants as form
@@ -22,10 +20,9 @@ use Rattle.dalvik_defs.specs.declared.program.NamedProgram.{NamedProgram}
 use Rattle.dalvik_defs.specs.declared.tables.Floats.{Floats}
 use Rattle.dalvik_defs.specs.declared.tables.Framework.{Framework}
 use Rattle.pass_defs.specs.Analysis.{Analysis, IsRanged, IsSound}
-use Rattle.pass_defs.specs.Calls.{is_within}
 use Rattle.pass_defs.specs.Closed.{IsClosed}
-use Rattle.pass_defs.specs.Facts.{Facts, IsEnteredOn, may_be_made}
-use Rattle.pass_defs.specs.Live.{IsMade, unconditional}
+use Rattle.pass_defs.specs.Facts.{Facts, may_be_made}
+use Rattle.removal_law.specs.Reach.{IsAcyclic, IsDescribed, IsSoundTable}
 use Rattle.silence_law.specs.Results.{AllTakeInPlace}
 use Rattle.stuck_law.specs.Regular.{IsRegular}
 
@@ -43,26 +40,19 @@ IsFormed (form.InstancePut item from on field) = has_values field.kind ≡ true
 IsFormed (form.StaticPut item from field) = has_values field.kind ≡ true
 IsFormed x = Unit {0}
 
--- What the framework reaches by its own rows it reaches by the program's lists, or as one of the methods that it may enter.
-pub record Reaches (p : NamedProgram) (o : Outer) (f : Framework) : Type 0 where
-  -- what a call in code finds on a made object
-  pub virtually : (m : MethodKey) (b : NamedBody) (kind : InvokeKind) (k : MethodKey) (args : List ℕ) (t : Text) (g : Found)
-      → bodies_of p m ≡ Some b → Contains b.forms (form.Invoke kind k args)
-      → IsMade p o unconditional t → finds_virtually p f t k ≡ Finds g → (is_within p t k.class ≡ true) ⊎ ((defines p k.class ≡ false) × (g.coded ≡ true → IsEnteredOn p o g.key))
-  -- what the framework calls on a made object
-  pub entered : (c n q t : Text) (g : Found) → declared_in p c n q ≡ Some g → IsMade p o unconditional t
-      → is_under p f t g.key.class ≡ true → may_reach (face_of p f) o t g ≡ true → g.coded ≡ true
-      → is_static g.flags ≡ false → IsEnteredOn p o g.key
-  -- what it makes
-  pub makes : (t : Text) → may_make (face_of p f) o t ≡ true → may_be_made p o t ≡ true
-
 pub record IsCoverable {V : Type 0} (a : Analysis V) (p : NamedProgram) (o : Outer) (f : Framework) (floats : Floats) (facts : Facts V) : Type 0 where
   pub regular : IsRegular p
+  -- no class stands above itself, and the parameters of methods are descriptors
+  pub acyclic : IsAcyclic p
+  pub described : IsDescribed p
+  -- the parts of the table of what the framework may reach agree
+  pub table : IsSoundTable p o
   -- only what gives a result goes on to what takes one, and no handler does
   pub places : AllTakeInPlace p
   pub formed : (k : MethodKey) (b : NamedBody) (x : Form) → bodies_of p k ≡ Some b → Contains b.forms x → IsFormed x
   -- a word that a field begins with has 32 bits
   pub firsts : (k : FieldKey) (d : NamedField) → defined_field p k ≡ Some d → IsRanged (first_of k (place_of k.class d))
-  pub reaches : Reaches p o f
+  -- what the framework makes is a class that is kept or has a kept constructor
+  pub makes : (t : Text) → may_make (face_of p f) o t ≡ true → may_be_made p o t ≡ true
   pub sound : IsSound a (is_under p f) floats
   pub closed : IsClosed a p o facts

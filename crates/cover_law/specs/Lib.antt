@@ -1,3 +1,4 @@
 pub mod Known
 pub mod Coverable
 pub mod States
+pub mod Apart

@@ -5,6 +5,7 @@ use Rattle.program_model.specs.declared.pass.Outside.{Outside}
 use Rattle.program_model.specs.declared.program.Program.{Program}
 use Rattle.command_line.specs.declared.command.CommandWords.{CommandWords}
 use Rattle.command_line.specs.declared.command.CommandWords.TheVariants.{Nothing, Optimise, Check, Live, Trace, Workload}
+use Rattle.read_laws.proofs.WellFormed.{well_formed_read}
 use Rattle.silence_bridge.proofs.Optimised.{optimised_shows, optimised_sound}
 use Rattle.redex_outside.specs.Held.{Held}
 use Rattle.redex_cli.specs.Accepted.{IsAccepted}
@@ -35,7 +36,9 @@ shrinks rules file output summary f = record {
   ruled = f.ruled;
   left = f.shrunk.left;
   written = f.shrunk.written;
-  keeps = λ well. keeps f.program f.shrunk.left f.outside f.shrunk.rounds f.shrunk.spared well f.accepted (unshut rules f.program f.outside f.ruled) (f.shrunk.leaves well);
+  keeps = λ bytes.
+      let well : is_well_formed f.program ≡ true = well_formed_read file f.program bytes f.reads in
+      keeps f.program f.shrunk.left f.outside f.shrunk.rounds f.shrunk.spared well f.accepted (unshut rules f.program f.outside f.ruled) (f.shrunk.leaves well);
 }
 
 of_command : (words : List (List ℕ)) (held : Held) (output summary : List ℕ) (command : CommandWords) → Commands words command

@@ -1,5 +1,5 @@
 -- What the output of `optimise` is to the rules and the file that it comes from.
-use Rattle.std.specs.Prelude.{◌≡◌, ℕ, Bool, true, List, Some, Ok}
+use Rattle.std.specs.Prelude.{◌≡◌, ◌<◌, ℕ, Bool, true, List, Some, Ok, slice_index}
 use Rattle.dalvik_defs.specs.Naming.{named}
 use Rattle.dalvik_defs.specs.Outer.{outer_of}
 use Rattle.dalvik_defs.specs.Shown.{SameShown}
@@ -26,8 +26,8 @@ pub record KeepsMeaning (program : Program) (outside : Outside) (left : Program)
   pub typed : IsTyped (named left)
 
 -- The file spells a program, the rules have a table for it, and the output is the file that is written for a program that
--- keeps its meaning where it is well-formed. Not said yet: how the table comes of the rules, that what is read is well-formed,
--- and that the written file spells that program and is valid.
+-- keeps its meaning; all that the file holds are bytes. Not said yet: how the table comes of the rules, and that the written
+-- file spells that program and is valid.
 pub record Shrinks (rules file output : List ℕ) : Type 0 where
   pub program : Program
   pub reads : program_at file ≡ Ok program
@@ -35,7 +35,7 @@ pub record Shrinks (rules file output : List ℕ) : Type 0 where
   pub ruled : IsRuled rules program outside
   pub left : Program
   pub written : IsWritten left output
-  pub keeps : is_well_formed program ≡ true → KeepsMeaning program outside left
+  pub keeps : ((i : ℕ) → slice_index file i < 256) → KeepsMeaning program outside left
 
 -- The words spell `optimise`, and the output is such a one of what the names hold.
 pub record Headline (words : List (List ℕ)) (held : Held) (output : List ℕ) : Type 0 where

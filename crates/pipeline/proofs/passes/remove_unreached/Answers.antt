@@ -1,5 +1,4 @@
-use Rattle.std.proofs.Common.{◌≡◌, true, false, rules, sym, ap, subst}
-use Rattle.program_model.specs.declared.program.Program.{Program}
+use Rattle.std.proofs.Common.{◌≡◌, false, rules, sym, subst}
 use Rattle.pipeline.specs.declared.traces.Traced.{Traced}
 use Rattle.pipeline.specs.Graph.{IsGraph}
 use Rattle.pipeline.proofs.Graphs.{found_graph, found_fault}

@@ -6,7 +6,7 @@ use Rattle.program_model.specs.declared.program.Program.{Program}
 use Rattle.command_line.specs.declared.command.CommandWords.{CommandWords}
 use Rattle.command_line.specs.declared.command.CommandWords.TheVariants.{Nothing, Optimise, Check, Live, Trace, Workload}
 use Rattle.read_laws.proofs.WellFormed.{well_formed_read}
-use Rattle.silence_bridge.proofs.Optimised.{optimised_shows, optimised_sound}
+use Rattle.silence_bridge.proofs.Optimised.{optimised_shows, optimised_sound, optimised_skips, optimised_dead}
 use Rattle.redex_outside.specs.Held.{Held}
 use Rattle.redex_cli.specs.Accepted.{IsAccepted}
 use Rattle.redex_cli.specs.Commands.{Commands}
@@ -23,9 +23,16 @@ keeps p r o rounds spared well accepted none leaves =
     let graph = accepted.graph well in
     let done = leaves.optimised in record {
       admitted = done.admitted;
+      advisers = leaves.advisers;
+      before = leaves.before;
+      after = leaves.after;
+      spared = spared;
+      advised = done.advised;
       shown = optimised_shows p accepted.hierarchy well graph.resolved graph.acyclic graph.unsplit o accepted.types r leaves.origins leaves.advisers spared rounds leaves.before leaves.after done none;
       formed = (optimised_sound p accepted.hierarchy well graph.resolved graph.acyclic graph.unsplit o accepted.types r leaves.origins leaves.advisers spared rounds leaves.before leaves.after done).formed;
       typed = (optimised_sound p accepted.hierarchy well graph.resolved graph.acyclic graph.unsplit o accepted.types r leaves.origins leaves.advisers spared rounds leaves.before leaves.after done).typed;
+      squeezed = optimised_skips p accepted.hierarchy well graph.resolved graph.acyclic graph.unsplit o accepted.types r leaves.origins leaves.advisers spared rounds leaves.before leaves.after done;
+      cleaned = optimised_dead p accepted.hierarchy well graph.resolved graph.acyclic graph.unsplit o accepted.types r leaves.origins leaves.advisers spared rounds leaves.before leaves.after done;
     }
 
 shrinks : (rules file output summary : List ℕ) → Finished rules file output summary → Shrinks rules file output

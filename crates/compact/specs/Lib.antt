@@ -4,3 +4,4 @@ pub mod Clashes
 pub mod Placed
 pub mod Renamed
 pub mod Choosing
+pub mod Narrow

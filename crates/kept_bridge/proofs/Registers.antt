@@ -61,7 +61,9 @@ module _ (w : List (List Bool)) (g : ℕ → ℕ) (n : ℕ) where
   fits (If test a b target) rd wr wd ww = and_both (nat_lt (g a) n) (nat_lt (g b) n) (narrow a (λ r e. rd r (or_left (nat_eq r a) (nat_eq r b) e))) (narrow b (λ r e. rd r (or_right (nat_eq r a) (nat_eq r b) e)))
   fits (IfZero test a target) rd wr wd ww = narrow a rd
   fits (ArrayGet item to array index) rd wr wd ww = and_both (has_room (is_wide_item item) (g to) n) (nat_lt (g array) n && nat_lt (g index) n) (operand (is_wide_item item) to wr (λ v. ww to (wide_one (is_wide_item item) to v))) (and_both (nat_lt (g array) n) (nat_lt (g index) n) (narrow array (λ r e. rd r (or_left (nat_eq r array) (nat_eq r index) e))) (narrow index (λ r e. rd r (or_right (nat_eq r array) (nat_eq r index) e))))
-  fits (ArrayPut item from array index) rd wr wd ww = and_both (has_room (is_wide_item item) (g from) n) (nat_lt (g array) n && nat_lt (g index) n) (operand (is_wide_item item) from (λ r e. rd r (or_left (in_operand (is_wide_item item) from r) (nat_eq r array || nat_eq r index) e)) (λ v. wd from (wide_one (is_wide_item item) from v))) (and_both (nat_lt (g array) n) (nat_lt (g index) n) (narrow array (λ r e. rd r (or_right (in_operand (is_wide_item item) from r) (nat_eq r array || nat_eq r index) (or_left (nat_eq r array) (nat_eq r index) e)))) (narrow index (λ r e. rd r (or_right (in_operand (is_wide_item item) from r) (nat_eq r array || nat_eq r index) (or_right (nat_eq r array) (nat_eq r index) e)))))
+  fits (ArrayPut item from array index) rd wr wd ww = and_both (has_room (is_wide_item item) (g from) n) (nat_lt (g array) n && nat_lt (g index) n)
+      (operand (is_wide_item item) from (λ r e. rd r (or_left (in_operand (is_wide_item item) from r || nat_eq r array) (nat_eq r index) (or_left (in_operand (is_wide_item item) from r) (nat_eq r array) e))) (λ v. wd from (wide_one (is_wide_item item) from v)))
+      (and_both (nat_lt (g array) n) (nat_lt (g index) n) (narrow array (λ r e. rd r (or_left (in_operand (is_wide_item item) from r || nat_eq r array) (nat_eq r index) (or_right (in_operand (is_wide_item item) from r) (nat_eq r array) e)))) (narrow index (λ r e. rd r (or_right (in_operand (is_wide_item item) from r || nat_eq r array) (nat_eq r index) e))))
   fits (InstanceGet item to on field) rd wr wd ww = and_both (has_room (is_wide_item item) (g to) n) (nat_lt (g on) n) (operand (is_wide_item item) to wr (λ v. ww to (wide_one (is_wide_item item) to v))) (narrow on rd)
   fits (InstancePut item from on field) rd wr wd ww = and_both (has_room (is_wide_item item) (g from) n) (nat_lt (g on) n) (operand (is_wide_item item) from (λ r e. rd r (or_left (in_operand (is_wide_item item) from r) (nat_eq r on) e)) (λ v. wd from (wide_one (is_wide_item item) from v))) (narrow on (λ r e. rd r (or_right (in_operand (is_wide_item item) from r) (nat_eq r on) e)))
   fits (StaticGet item to field) rd wr wd ww = operand (is_wide_item item) to wr (λ v. ww to (wide_one (is_wide_item item) to v))

@@ -5,3 +5,4 @@ pub mod Placed
 pub mod Renamed
 pub mod Choosing
 pub mod Narrow
+pub mod Measure

@@ -2,4 +2,3 @@ pub mod Tests
 pub mod Conflicts
 pub mod Bodies
 pub mod Programs
-pub mod Measuring

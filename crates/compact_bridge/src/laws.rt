@@ -8,7 +8,7 @@ ghost use Rattle.dalvik_defs.specs.Naming.{named};
 ghost use Rattle.dalvik_defs.specs.Outer.{Outer};
 ghost use Rattle.dalvik_defs.specs.Shown.{SameShown};
 ghost use Rattle.compact.specs.Renamed.{IsCompactedProgram};
-ghost use Rattle.compact_bridge.specs.Measure.{LowersByNumber};
+ghost use Rattle.compact.specs.Measure.{LowersByNumber};
 ghost use Rattle.compact_bridge.specs.Bridged.{RenamedByNumber, PackedByNumber, SettlesByNumber};
 
 /// A compacted body whose instructions use its own registers alone has other registers by name: those that conflict stay

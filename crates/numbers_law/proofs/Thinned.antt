@@ -1,5 +1,5 @@
 -- A program without some positions names no more registers.
-use Rattle.std.proofs.Common.{◌≡◌, ℕ, ◌+◌, ◌≤◌, Bool, true, false, List, [], ◌∷◌, sum, Option, Some, None, nat_eq, refl, sym, ap, ◌∙◌, subst, arith}
+use Rattle.std.proofs.Common.{◌≡◌, ℕ, ◌+◌, ◌≤◌, Bool, true, false, List, [], ◌∷◌, sum, Option, Some, None, nat_eq, refl, sym, ap, subst, arith}
 use Rattle.std.specs.Prelude.{sum_by, if◌then◌else◌}
 use Rattle.std.proofs.lemmas.List.Sums.{sum_by-cons}
 use Rattle.insn_set.specs.declared.form.Insn.{Insn}
@@ -67,5 +67,8 @@ classes_fall (ps ∷ plan) [] = omega arith
 classes_fall (ps ∷ plan) (c ∷ cs) = let h : class_numbers (class_by ps c) ≤ class_numbers c = methods_fall ps c.methods in
     omega (arith, h, classes_fall plan cs, sum_by-cons class_numbers (class_by ps c) (classes_by plan cs), sum_by-cons class_numbers c cs)
 
+pub planned_numbers : (plan : List (List (List Fate))) (p : Program) → numbers_in (program_by plan p) ≤ numbers_in p
+planned_numbers plan p = classes_fall plan p.classes
+
 pub thinned_numbers : (wishes : Body → List Fate → Type 0) (admitted : List Bool) (p : Program) (c : Changed) → IsThinnedBy wishes admitted p c → numbers_in c.program ≤ numbers_in p
-thinned_numbers wishes admitted p c h = subst (λ q. numbers_in q ≤ numbers_in p) (sym h.program) (classes_fall h.plan p.classes)
+thinned_numbers wishes admitted p c h = subst (λ q. numbers_in q ≤ numbers_in p) (sym h.program) (planned_numbers h.plan p)

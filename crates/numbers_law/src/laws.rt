@@ -1,20 +1,19 @@
 //! The laws.
 
 ghost use Rattle.std.specs.Prelude.{◌≡◌, ◌≤◌, Bool, List};
-ghost use Rattle.program_model.specs.declared.body.Body.{Body};
-ghost use Rattle.program_model.specs.declared.pass.Changed.{Changed};
 ghost use Rattle.program_model.specs.declared.program.Program.{Program};
 ghost use Rattle.body_edit.specs.declared.fate.Fate.{Fate};
 ghost use Rattle.call_graph.specs.declared.live_set.LiveSet.{LiveSet};
 ghost use Rattle.reach.specs.Kept.{kept_of, size_of};
-ghost use Rattle.thin_pass.specs.Plans.{IsThinnedBy};
+ghost use Rattle.thin_pass.specs.Plans.{program_by};
 ghost use Rattle.thin_pass.specs.Weights.{weight_of};
 ghost use Rattle.compact.specs.Measure.{numbers_in};
 ghost use Rattle.compact.specs.Renamed.{IsCompactedProgram};
 
-/// A program without some positions has no more registers, and its instructions name no more numbers.
+/// A program without some positions has no more registers, and its instructions name no more numbers. A plan has the fates of
+/// the positions.
 pub fn thinned_numbers_law()
-    ensures { (wishes : Body → List Fate → Type 0) (admitted : List Bool) (p : Program) (changed : Changed) → IsThinnedBy wishes admitted p changed → numbers_in changed.program ≤ numbers_in p }
+    ensures { (plan : List (List (List Fate))) (p : Program) → numbers_in (program_by plan p) ≤ numbers_in p }
 {}
 
 /// Nor has a program without some classes and members.

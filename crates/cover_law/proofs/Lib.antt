@@ -21,3 +21,5 @@ mod Ready
 mod Reaching
 mod Runs
 mod ValueSound
+mod Suits
+mod SoundOn

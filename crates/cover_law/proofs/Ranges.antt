@@ -114,7 +114,7 @@ put_ranged k v fields h i j u e = by (field_eq j k) e
 
 -- ---- effects
 
-small_bits : (z : ℤ) → IsSmall z → cast_unsigned w32 z < 2 ^ 32
+pub small_bits : (z : ℤ) → IsSmall z → cast_unsigned w32 z < 2 ^ 32
 small_bits z h = let l = h.0 in let r = h.1 in omega (arith, ints, l, r)
 
 module _ (w : World) (f : Frame) (fw : RangedWorld w) (ff : RangedFrame f) where

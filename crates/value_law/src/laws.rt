@@ -1,0 +1,22 @@
+//! That the product domain is sound.
+
+ghost use Rattle.std.specs.Prelude.{List};
+ghost use Rattle.dalvik_defs.specs.Outer.{Outer};
+ghost use Rattle.dalvik_defs.specs.Shown.{Fit};
+ghost use Rattle.dalvik_defs.specs.Under.{is_under};
+ghost use Rattle.dalvik_defs.specs.declared.program.NamedProgram.{NamedProgram};
+ghost use Rattle.dalvik_defs.specs.declared.script.Move.{Move};
+ghost use Rattle.dalvik_defs.specs.declared.tables.Floats.{Floats};
+ghost use Rattle.dalvik_defs.specs.declared.tables.Framework.{Framework};
+ghost use Rattle.removal_law.specs.Reach.{IsAcyclic};
+ghost use Rattle.run_facts.specs.ValueAnalysis.{value_analysis};
+ghost use Rattle.stuck_law.specs.Regular.{IsRegular};
+ghost use Rattle.cover_law.specs.Sound.{IsSoundOn};
+ghost use Rattle.value_law.specs.Operators.{operators};
+
+/// The product domain with the operators of value_ops is sound on operands as the typing has them, under a framework that
+/// fits a regular program of which no class stands above itself, whatever floats answer.
+pub fn values_are_sound()
+    ensures { (p : NamedProgram) (o : Outer) (f : Framework) (floats : Floats) (script : List Move) → IsRegular p → IsAcyclic p → Fit p o f script
+        → IsSoundOn (value_analysis p operators) (is_under p f) floats }
+{}

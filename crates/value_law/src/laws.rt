@@ -12,11 +12,14 @@ ghost use Rattle.removal_law.specs.Reach.{IsAcyclic};
 ghost use Rattle.run_facts.specs.ValueAnalysis.{value_analysis};
 ghost use Rattle.stuck_law.specs.Regular.{IsRegular};
 ghost use Rattle.cover_law.specs.Sound.{IsSoundOn};
-ghost use Rattle.value_law.specs.Operators.{operators};
+ghost use Rattle.value_law.specs.Operators.{operators, refining};
 
 /// The product domain with the operators of value_ops is sound on operands as the typing has them, under a framework that
-/// fits a regular program of which no class stands above itself, whatever floats answer.
+/// fits a regular program of which no class stands above itself, whatever floats answer: with tests against null alone, and
+/// with all that the code's tests refine.
 pub fn values_are_sound()
-    ensures { (p : NamedProgram) (o : Outer) (f : Framework) (floats : Floats) (script : List Move) → IsRegular p → IsAcyclic p → Fit p o f script
+    ensures null_tests { (p : NamedProgram) (o : Outer) (f : Framework) (floats : Floats) (script : List Move) → IsRegular p → IsAcyclic p → Fit p o f script
         → IsSoundOn (value_analysis p operators) (is_under p f) floats }
+    ensures all_tests { (p : NamedProgram) (o : Outer) (f : Framework) (floats : Floats) (script : List Move) → IsRegular p → IsAcyclic p → Fit p o f script
+        → IsSoundOn (refining p) (is_under p f) floats }
 {}

@@ -19,7 +19,7 @@ mod RangedRuns
 mod Living
 mod Ready
 mod Reaching
-mod Runs
+pub mod Runs
 pub mod ValueSound
 mod Suits
 mod SoundOn

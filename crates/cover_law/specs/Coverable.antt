@@ -42,7 +42,8 @@ IsFormed (form.InstancePut item from on field) = has_values field.kind ≡ true
 IsFormed (form.StaticPut item from field) = has_values field.kind ≡ true
 IsFormed x = Unit {0}
 
-pub record IsCoverable {V : Type 0} (a : Analysis V) (p : NamedProgram) (o : Outer) (f : Framework) (floats : Floats) (facts : Facts V) : Type 0 where
+-- A table of facts is closed, of a program that is so and a framework.
+pub record IsTabled {V : Type 0} (a : Analysis V) (p : NamedProgram) (o : Outer) (f : Framework) (facts : Facts V) : Type 0 where
   pub regular : IsRegular p
   -- no class stands above itself, and the parameters of methods are descriptors
   pub acyclic : IsAcyclic p
@@ -56,5 +57,9 @@ pub record IsCoverable {V : Type 0} (a : Analysis V) (p : NamedProgram) (o : Out
   pub firsts : (k : FieldKey) (d : NamedField) → defined_field p k ≡ Some d → IsRanged (first_of k (place_of k.class d))
   -- what the framework makes is a class that is kept or has a kept constructor
   pub makes : (t : Text) → may_make (face_of p f) o t ≡ true → may_be_made p o t ≡ true
-  pub sound : IsSoundOn a (is_under p f) floats
   pub closed : IsClosed a p o facts
+
+-- And the analysis is sound.
+pub record IsCoverable {V : Type 0} (a : Analysis V) (p : NamedProgram) (o : Outer) (f : Framework) (floats : Floats) (facts : Facts V) : Type 0 where
+  pub tabled : IsTabled a p o f facts
+  pub sound : IsSoundOn a (is_under p f) floats

@@ -22,7 +22,7 @@ ghost use Rattle.run_facts.specs.ValueAnalysis.{Numbers, value_analysis};
 ghost use Rattle.removal_law.specs.Reach.{IsAcyclic};
 ghost use Rattle.stuck_law.specs.Regular.{IsRegular};
 ghost use Rattle.cover_law.specs.Apart.{IsSoundApart};
-ghost use Rattle.cover_law.specs.Coverable.{IsCoverable};
+ghost use Rattle.cover_law.specs.Coverable.{IsCoverable, IsTabled};
 ghost use Rattle.cover_law.specs.Known.{RangedMove};
 ghost use Rattle.cover_law.specs.Sound.{IsSoundOn};
 ghost use Rattle.cover_law.specs.States.{covered_states};
@@ -32,7 +32,7 @@ ghost use Rattle.cover_law.specs.States.{covered_states};
 /// methods, classes that are initialised and classes of objects.
 pub fn constants_cover()
     ensures { (p : NamedProgram) (o : Outer) (f : Framework) (floats : Floats) (facts : Facts Flat) (script : List Move) (n : ℕ)
-        → IsCoverable flat_analysis p o f floats facts → Fit p o f script → Each RangedMove script
+        → IsTabled flat_analysis p o f facts → Fit p o f script → Each RangedMove script
         → let t = after (setting_of p o f floats) (bodies_of p) (opening script) n in (t ≡ Ended) ⊎ Holds (covered_states flat_analysis p o f facts) t }
 {}
 

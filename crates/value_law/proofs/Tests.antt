@@ -1,6 +1,6 @@
 -- Behind a test both operands are held by what it leaves of them.
-use Rattle.std.proofs.Common.{◌≡◌, ℕ, ◌<◌, Bool, true, false, true≢false, Option, Some, None, refl, sym, ap, ◌∙◌, subst}
-use Rattle.std.specs.Prelude.{not, if◌then◌else◌}
+use Rattle.std.proofs.Common.{◌≡◌, Bool, true, false, true≢false, Option, Some, None, refl, sym, ◌∙◌}
+use Rattle.std.specs.Prelude.{not}
 use Rattle.std.proofs.lemmas.Bool.{eqb-true, eq-eqb}
 use Rattle.insn_set.specs.declared.ops.Test.{Test}
 use Rattle.insn_set.specs.declared.ops.Test.TheVariants as test
@@ -15,7 +15,7 @@ use Rattle.pass_defs.specs.Analysis.{Analysis, HoldsBoth}
 use Rattle.pass_defs.specs.Demands.{is_equality}
 use Rattle.run_facts.specs.ValueAnalysis.{datum_of}
 use Rattle.value_ops.specs.Sound.{AreOther, AreSame, HoldsBoth as BothHold, IsNarrow as NarrowDatum}
-use Rattle.value_ops.specs.Tests.{different_values, equal_values, passed_values, tested_values}
+use Rattle.value_ops.specs.Tests.{different_values, equal_values, tested_values}
 use Rattle.value_ops.proofs.Asked.{different_so, equal_so, words_asked}
 use Rattle.cover_law.specs.Sound.{IsNarrow, IsWord, TestedOf}
 use Rattle.value_law.specs.Operators.{refining}

@@ -1,6 +1,6 @@
 -- The operands of a form in a typed frame, whose words have 32 bits, are such as its numbers are asked of.
-use Rattle.std.proofs.Common.{◌≡◌, ℕ, ◌<◌, Bool, true, false, true≢false, List, ◌⊎◌, inl, inr, refl, sym, ap, ◌∙◌, subst, arith}
-use Rattle.std.specs.Prelude.{◌&&◌, ◌||◌, ◌^◌}
+use Rattle.std.proofs.Common.{◌≡◌, ℕ, Bool, true, false, true≢false, inl, inr, refl, sym, subst, arith}
+use Rattle.std.specs.Prelude.{◌&&◌, ◌||◌}
 use Rattle.insn_set.specs.Widths.{unary_reads_wide, binary_is_wide, second_is_wide, compares_wide}
 use Rattle.dalvik_defs.specs.Effect.{register}
 use Rattle.dalvik_defs.specs.Names.{Text}
@@ -11,11 +11,11 @@ use Rattle.dalvik_defs.specs.declared.forms.Form.TheVariants as form
 use Rattle.dalvik_defs.specs.declared.program.NamedProgram.{NamedProgram}
 use Rattle.dalvik_defs.specs.declared.state.Frame.{Frame}
 use Rattle.dalvik_defs.specs.declared.state.Value.{Value}
-use Rattle.dalvik_defs.specs.declared.state.Value.TheVariants.{Word, Low, High, Object, Literal, Class}
+use Rattle.dalvik_defs.specs.declared.state.Value.TheVariants.{Word, Object, Literal, Class}
 use Rattle.dalvik_defs.specs.declared.tables.Floats.{Floats}
 use Rattle.dalvik_defs.specs.declared.tables.Framework.{Framework}
 use Rattle.pass_defs.specs.Analysis.{IsRanged}
-use Rattle.pass_defs.specs.Demands.{Demand, meets, Number, Pair, Either, number_or_pair, tested, second_tested, like, is_equality}
+use Rattle.pass_defs.specs.Demands.{Demand, meets, Number, Either, number_or_pair, tested, second_tested, like, is_equality}
 use Rattle.pass_defs.specs.Kinds.{Kind, is_number, is_initialised}
 use Rattle.pass_defs.specs.Kinds as kind
 use Rattle.pass_defs.specs.Registers.{kind_at}
@@ -27,7 +27,7 @@ use Rattle.stuck_law.proofs.Registers.{and_left, and_right}
 use Rattle.stuck_law.proofs.Settled.{IsSettled}
 use Rattle.cover_law.specs.Coverable.{IsFormed}
 use Rattle.cover_law.specs.Known.{RangedFrame}
-use Rattle.cover_law.specs.Sound.{IsNarrow, IsSmall, IsWide, IsWord, NumberOf, TestedOf}
+use Rattle.cover_law.specs.Sound.{IsNarrow, IsWide, IsWord, NumberOf, TestedOf}
 use Rattle.cover_law.proofs.Along.{Suits}
 
 word_of_bits : (v : Value) → IsRanged v → (n : ℕ) × (v ≡ Word n) → IsWord v

@@ -19,7 +19,7 @@ use Rattle.dalvik_defs.specs.declared.program.NamedField.{NamedField}
 use Rattle.dalvik_defs.specs.declared.program.NamedProgram.{NamedProgram}
 use Rattle.dalvik_defs.specs.declared.tables.Floats.{Floats}
 use Rattle.dalvik_defs.specs.declared.tables.Framework.{Framework}
-use Rattle.pass_defs.specs.Analysis.{Analysis, IsRanged, IsSound}
+use Rattle.pass_defs.specs.Analysis.{Analysis, IsRanged}
 use Rattle.pass_defs.specs.Calls.{is_within}
 use Rattle.pass_defs.specs.Closed.{IsBound, IsClosed}
 use Rattle.pass_defs.specs.Facts.{Facts, IsEnteredOn, may_be_made}
@@ -27,6 +27,7 @@ use Rattle.pass_defs.specs.Live.{IsMade, unconditional}
 use Rattle.silence_law.specs.Results.{AllTakeInPlace}
 use Rattle.stuck_law.specs.Regular.{IsRegular}
 use Rattle.cover_law.specs.Coverable.{IsFormed}
+use Rattle.cover_law.specs.Sound.{IsSoundOn}
 
 -- What the framework reaches by its own rows it reaches by the program's lists, or as one of the methods that it may enter.
 pub record Reaches (p : NamedProgram) (o : Outer) (f : Framework) : Type 0 where
@@ -46,5 +47,5 @@ pub record IsReady {V : Type 0} (a : Analysis V) (p : NamedProgram) (o : Outer) 
   pub firsts : (k : FieldKey) (d : NamedField) → defined_field p k ≡ Some d → IsRanged (first_of k (place_of k.class d))
   pub reaches : Reaches p o f
   pub makes : (t : Text) → may_make (face_of p f) o t ≡ true → may_be_made p o t ≡ true
-  pub sound : IsSound a (is_under p f) floats
+  pub sound : IsSoundOn a (is_under p f) floats
   pub closed : IsClosed a p o facts

@@ -184,26 +184,26 @@ once p reg t c m x e i j n g = some_one m x (sym (reg.methods c m inside (contai
 
 module _ {V : Type 0} (a : Analysis V) (p : NamedProgram) (o : Outer) (f : Framework) (floats : Floats) (facts : Facts V) (script : List Move) (base : IsCoverable a p o f floats facts) (fit : Fit p o f script) where
   told : TellsProtos p
-  told = protos_told p base.described
+  told = protos_told p base.tabled.described
 
   -- what is left by each closed family answers alike
   agrees : (s : Family) → IsClosedFamily p o unconditional s → LeftAgrees p o s f
-  agrees s closed = faces_agree p o unconditional s closed (upright p base.acyclic base.regular.class_types)
-      (typed_code p base.regular.typed (told_apart p base.described (once p base.regular)) told) base.table f script fit
+  agrees s closed = faces_agree p o unconditional s closed (upright p base.tabled.acyclic base.tabled.regular.class_types)
+      (typed_code p base.tabled.regular.typed (told_apart p base.tabled.described (once p base.tabled.regular)) told) base.tabled.table f script fit
 
   reg : IsSettled p
-  reg = settled p o f script base.regular fit
+  reg = settled p o f script base.tabled.regular fit
 
   ready : IsReady a p o f floats facts
   ready = record {
-    regular = base.regular;
-    places = base.places;
-    formed = base.formed;
-    firsts = base.firsts;
-    reaches = reaches p o f floats reg (finds_regularly p f reg) (upright p base.acyclic base.regular.class_types) (fit_names_none p o f script fit) told base.table;
-    makes = base.makes;
+    regular = base.tabled.regular;
+    places = base.tabled.places;
+    formed = base.tabled.formed;
+    firsts = base.tabled.firsts;
+    reaches = reaches p o f floats reg (finds_regularly p f reg) (upright p base.tabled.acyclic base.tabled.regular.class_types) (fit_names_none p o f script fit) told base.tabled.table;
+    makes = base.tabled.makes;
     sound = base.sound;
-    closed = base.closed;
+    closed = base.tabled.closed;
   }
 
 -- And for a framework and a script that fit the program.

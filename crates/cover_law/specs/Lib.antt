@@ -2,3 +2,4 @@ pub mod Known
 pub mod Coverable
 pub mod States
 pub mod Apart
+pub mod Sound

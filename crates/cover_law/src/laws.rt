@@ -22,8 +22,9 @@ ghost use Rattle.run_facts.specs.ValueAnalysis.{Numbers, value_analysis};
 ghost use Rattle.removal_law.specs.Reach.{IsAcyclic};
 ghost use Rattle.stuck_law.specs.Regular.{IsRegular};
 ghost use Rattle.cover_law.specs.Apart.{IsSoundApart};
-ghost use Rattle.cover_law.specs.Coverable.{IsCoverable};
+ghost use Rattle.cover_law.specs.Coverable.{IsCoverable, IsTabled};
 ghost use Rattle.cover_law.specs.Known.{RangedMove};
+ghost use Rattle.cover_law.specs.Sound.{IsSoundOn};
 ghost use Rattle.cover_law.specs.States.{covered_states};
 
 /// Under closed facts of constants, a framework and a script that fit, each state that a run of a typed, regular program
@@ -31,7 +32,7 @@ ghost use Rattle.cover_law.specs.States.{covered_states};
 /// methods, classes that are initialised and classes of objects.
 pub fn constants_cover()
     ensures { (p : NamedProgram) (o : Outer) (f : Framework) (floats : Floats) (facts : Facts Flat) (script : List Move) (n : ℕ)
-        → IsCoverable flat_analysis p o f floats facts → Fit p o f script → Each RangedMove script
+        → IsTabled flat_analysis p o f facts → Fit p o f script → Each RangedMove script
         → let t = after (setting_of p o f floats) (bodies_of p) (opening script) n in (t ≡ Ended) ⊎ Holds (covered_states flat_analysis p o f facts) t }
 {}
 
@@ -43,9 +44,11 @@ pub fn values_cover()
         (t ≡ Ended) ⊎ Holds (covered_states (value_analysis p numbers) p o f facts) t }
 {}
 
-/// Constants are a sound analysis, whatever stands above what and whatever floats answer.
+/// Constants are a sound analysis, whatever stands above what and whatever floats answer: on all operands, and so on those
+/// that the typing has.
 pub fn constants_are_sound()
-    ensures { (under : Text → Text → Bool) (floats : Floats) → IsSound flat_analysis under floats }
+    ensures all { (under : Text → Text → Bool) (floats : Floats) → IsSound flat_analysis under floats }
+    ensures typed { (under : Text → Text → Bool) (floats : Floats) → IsSoundOn flat_analysis under floats }
 {}
 
 /// The product domain is sound apart from numbers under a framework that fits a regular program of which no class stands

@@ -5,15 +5,12 @@ use Rattle.std.specs.Prelude.{◌||◌, ◌&&◌, not, ◌^◌, if◌then◌else
 use Rattle.std.specs.Int.{w32, cast_signed}
 use Rattle.std.specs.List.{position_or_len}
 use Rattle.std.specs.Option.{option_map}
-use Rattle.std.proofs.lemmas.Bool.{eqb-true, ltb-true}
-use Rattle.insn_set.specs.declared.ops.Test.{Test}
-use Rattle.insn_set.specs.declared.ops.Test.TheVariants as test
+use Rattle.std.proofs.lemmas.Bool.{ltb-true}
 use Rattle.dalvik_defs.specs.Names.{Text, text_eq, object_type}
 use Rattle.dalvik_defs.specs.Outer.{Outer}
 use Rattle.dalvik_defs.specs.Shown.{Fit}
 use Rattle.dalvik_defs.specs.Under.{class_named, defines, is_own_under, is_under}
-use Rattle.dalvik_defs.specs.Arith.{passes}
-use Rattle.dalvik_defs.specs.State.{is_null, same_value}
+use Rattle.dalvik_defs.specs.State.{is_null}
 use Rattle.dalvik_defs.specs.declared.state.Value.{Value}
 use Rattle.dalvik_defs.specs.declared.state.Value.TheVariants.{Word, Low, High, Literal, Class}
 use Rattle.dalvik_defs.specs.declared.state.Value.TheVariants as machine
@@ -33,7 +30,7 @@ use Rattle.domains.specs.ValueLaws.{constant_reduced, wide_reduced, objects_held
 use Rattle.domains.specs.Values.{Parts, value_holds, kind_holds, any_value}
 use Rattle.domains.specs.Reducing.{reduced}
 use Rattle.domains.specs.ReducingLaws.{reduced_alike}
-use Rattle.pass_defs.specs.Analysis.{Analysis, Holds, HoldsBoth, IsReference, IsRanged, read_item}
+use Rattle.pass_defs.specs.Analysis.{Analysis, Holds, IsReference, IsRanged, read_item}
 use Rattle.stuck_law.specs.Regular.{IsRegular as Regular}
 use Rattle.stuck_law.proofs.Climbs.{none_some, some_one}
 use Rattle.removal_law.specs.Left.{NamesNone}
@@ -45,7 +42,7 @@ use Rattle.removal_law.proofs.Lists.{contained}
 use Rattle.removal_law.proofs.Trees.{defined}
 use Rattle.cover_law.specs.Apart.{IsSoundApart}
 use Rattle.cover_law.proofs.Reaching.{own_under}
-use Rattle.run_facts.specs.ValueAnalysis.{class_place, datum_of, any_object, of_class, known_value, words_in, without_null, with_null, held_value, null_value, goes_on, under_class, cast_value, tested_null, is_only_null, tested_values, Numbers, value_analysis}
+use Rattle.run_facts.specs.ValueAnalysis.{class_place, datum_of, any_object, of_class, known_value, words_in, without_null, held_value, goes_on, under_class, cast_value, Numbers, value_analysis}
 
 module _ (p : NamedProgram) (n : Numbers) where
   abbrev a : Analysis Parts

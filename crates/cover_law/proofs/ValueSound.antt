@@ -1,19 +1,16 @@
--- The product domain is sound apart from numbers, whatever it makes of these.
+-- The product domain is sound apart from numbers and tests, whatever it makes of these.
 use Rattle.std.proofs.lemmas.Int.{ints}
 use Rattle.std.proofs.Common.{◌≡◌, ℕ, zero, suc, ◌+◌, ◌<◌, ℤ, pos, Bool, true, false, true≢false, List, [], ◌∷◌, Option, Some, None, refl, sym, ap, ◌∙◌, subst, arith}
 use Rattle.std.specs.Prelude.{◌||◌, ◌&&◌, not, ◌^◌, if◌then◌else◌, cond, filter, position, slice_get, nat_lt, Contains, length, int_lt, ◌≤ℤ◌}
 use Rattle.std.specs.Int.{w32, cast_signed}
 use Rattle.std.specs.List.{position_or_len}
 use Rattle.std.specs.Option.{option_map}
-use Rattle.std.proofs.lemmas.Bool.{eqb-true, ltb-true}
-use Rattle.insn_set.specs.declared.ops.Test.{Test}
-use Rattle.insn_set.specs.declared.ops.Test.TheVariants as test
+use Rattle.std.proofs.lemmas.Bool.{ltb-true}
 use Rattle.dalvik_defs.specs.Names.{Text, text_eq, object_type}
 use Rattle.dalvik_defs.specs.Outer.{Outer}
 use Rattle.dalvik_defs.specs.Shown.{Fit}
 use Rattle.dalvik_defs.specs.Under.{class_named, defines, is_own_under, is_under}
-use Rattle.dalvik_defs.specs.Arith.{passes}
-use Rattle.dalvik_defs.specs.State.{is_null, same_value}
+use Rattle.dalvik_defs.specs.State.{is_null}
 use Rattle.dalvik_defs.specs.declared.state.Value.{Value}
 use Rattle.dalvik_defs.specs.declared.state.Value.TheVariants.{Word, Low, High, Literal, Class}
 use Rattle.dalvik_defs.specs.declared.state.Value.TheVariants as machine
@@ -33,7 +30,7 @@ use Rattle.domains.specs.ValueLaws.{constant_reduced, wide_reduced, objects_held
 use Rattle.domains.specs.Values.{Parts, value_holds, kind_holds, any_value}
 use Rattle.domains.specs.Reducing.{reduced}
 use Rattle.domains.specs.ReducingLaws.{reduced_alike}
-use Rattle.pass_defs.specs.Analysis.{Analysis, Holds, HoldsBoth, IsReference, IsRanged, read_item}
+use Rattle.pass_defs.specs.Analysis.{Analysis, Holds, IsReference, IsRanged, read_item}
 use Rattle.stuck_law.specs.Regular.{IsRegular as Regular}
 use Rattle.stuck_law.proofs.Climbs.{none_some, some_one}
 use Rattle.removal_law.specs.Left.{NamesNone}
@@ -45,7 +42,7 @@ use Rattle.removal_law.proofs.Lists.{contained}
 use Rattle.removal_law.proofs.Trees.{defined}
 use Rattle.cover_law.specs.Apart.{IsSoundApart}
 use Rattle.cover_law.proofs.Reaching.{own_under}
-use Rattle.run_facts.specs.ValueAnalysis.{class_place, datum_of, any_object, of_class, known_value, words_in, without_null, with_null, held_value, null_value, goes_on, under_class, cast_value, tested_null, is_only_null, tested_values, Numbers, value_analysis}
+use Rattle.run_facts.specs.ValueAnalysis.{class_place, datum_of, any_object, of_class, known_value, words_in, without_null, held_value, goes_on, under_class, cast_value, Numbers, value_analysis}
 
 module _ (p : NamedProgram) (n : Numbers) where
   abbrev a : Analysis Parts
@@ -75,12 +72,6 @@ module _ (p : NamedProgram) (n : Numbers) where
   allows_without NotNull z h e = h
   allows_without Any z h e = e
 
-  allows_with : (l : Nullness) (z : Bool) → Allows l z → z ≡ true → Allows (with_null l) z
-  allows_with Bottom z h e = h
-  allows_with Null z h e = h
-  allows_with NotNull z h e = absurd (true≢false (sym e ∙ h))
-  allows_with Any z h e = e
-
   -- a value whose nullness alone differs holds of the same kinds
   other_null : (x : Parts) (l : Nullness) (d : Datum) → kind_holds x d → kind_holds (record x { nullness = l }) d
   other_null x l (Plain (Single w)) h = h
@@ -90,61 +81,6 @@ module _ (p : NamedProgram) (n : Numbers) where
   held_holds : (x : Parts) (k : Text) (v : Value) → value_holds x (datum_of p k v) → is_null v ≡ false → value_holds (held_value x) (datum_of p k v)
   held_holds x k v h e = (reduced_alike (record x { nullness = without_null x.nullness }) (datum_of p k v)).1
       (other_null x (without_null x.nullness) (datum_of p k v) h.0, allows_without x.nullness (is_zero (datum_of p k v)) h.1 (null_same k v ∙ e))
-
-  null_holds : (x : Parts) (k : Text) (v : Value) → value_holds x (datum_of p k v) → is_null v ≡ true → value_holds (null_value x) (datum_of p k v)
-  null_holds x k v h e = (reduced_alike (record x { nullness = with_null x.nullness }) (datum_of p k v)).1
-      (other_null x (with_null x.nullness) (datum_of p k v) h.0, allows_with x.nullness (is_zero (datum_of p k v)) h.1 (null_same k v ∙ e))
-
-  -- ---- tests against null
-
-  only_null : (y : Parts) (l : Text) (u : Value) → is_only_null y ≡ true → value_holds y (datum_of p l u) → is_null u ≡ true
-  only_null y l u e h = by y.nullness refl e
-    where
-      by : (n : Nullness) → y.nullness ≡ n → (elim n as (λ n. Bool) [ Bottom ↦ false | Null ↦ true | NotNull ↦ false | Any ↦ false ]) ≡ true → is_null u ≡ true
-      by Bottom i e = absurd (true≢false (sym e))
-      by Null i e = sym (null_same l u) ∙ subst (λ m. Allows m (is_zero (datum_of p l u))) i h.1
-      by NotNull i e = absurd (true≢false (sym e))
-      by Any i e = absurd (true≢false (sym e))
-
-  null_word : (u : Value) → is_null u ≡ true → u ≡ Word 0
-  null_word (Word m) e = ap Word (eqb-true m 0 e)
-  null_word v e = absurd (true≢false (sym e))
-
-  same_null : (v : Value) → same_value v (Word 0) ≡ is_null v
-  same_null (Word m) = refl
-  same_null v = refl
-
-  tests_null : (b : Bool) (x y : Parts) (k l : Text) (v u : Value) → value_holds x (datum_of p k v) → value_holds y (datum_of p l u) → is_null v ≡ b → HoldsBoth a (tested_null b x y) k v l u
-  tests_null true x y k l v u h i e = by (goes_on (null_value x)) (on_goes (null_value x) k v (null_holds x k v h e))
-    where
-      by : (o : Option Parts) → Holds a o k v → HoldsBoth a (option_map (λ z. (z, y)) o) k v l u
-      by None j = j
-      by (Some z) j = (j, i)
-  tests_null false x y k l v u h i e = by (goes_on (held_value x)) (on_goes (held_value x) k v (held_holds x k v h e))
-    where
-      by : (o : Option Parts) → Holds a o k v → HoldsBoth a (option_map (λ z. (z, y)) o) k v l u
-      by None j = j
-      by (Some z) j = (j, i)
-
-  not_same : (b : Bool) → not (not b) ≡ b
-  not_same true = refl
-  not_same false = refl
-
-  equal_null : (y : Parts) (l : Text) (v u : Value) → is_only_null y ≡ true → value_holds y (datum_of p l u) → is_null v ≡ same_value v u
-  equal_null y l v u e i = sym (same_null v) ∙ ap (same_value v) (sym (null_word u (only_null y l u e i)))
-
-  tests : (c : Test) (x y : Parts) (k l : Text) (v u : Value) → value_holds x (datum_of p k v) → value_holds y (datum_of p l u) → HoldsBoth a (tested_values (passes c v u) c x y) k v l u
-  tests test.Eq x y k l v u h i = by (is_only_null y) refl
-    where
-      by : (b : Bool) → is_only_null y ≡ b → HoldsBoth a (if b then tested_null (same_value v u) x y else Some (x, y)) k v l u
-      by true e = tests_null (same_value v u) x y k l v u h i (equal_null y l v u e i)
-      by false e = (h, i)
-  tests test.Ne x y k l v u h i = by (is_only_null y) refl
-    where
-      by : (b : Bool) → is_only_null y ≡ b → HoldsBoth a (if b then tested_null (not (not (same_value v u))) x y else Some (x, y)) k v l u
-      by true e = tests_null (not (not (same_value v u))) x y k l v u h i (equal_null y l v u e i ∙ sym (not_same (same_value v u)))
-      by false e = (h, i)
-  tests c x y k l v u h i = (h, i)
 
   -- ---- casts
 
@@ -250,7 +186,6 @@ module _ (p : NamedProgram) (n : Numbers) where
       catches = catches;
       holders = λ x k v i e. on_goes (held_value x) k v (held_holds x k v i e);
       casts = casts;
-      tests = tests;
     }
 
 -- ---- a class that is under one of the program is so by the program's lists

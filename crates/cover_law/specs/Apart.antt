@@ -1,14 +1,12 @@
--- What it is that an analysis is sound apart from numbers: what is known, made, given, used, cast and tested against null
--- holds of what the machine has.
+-- What it is that an analysis is sound apart from numbers and tests: what is known, made, given, used and cast holds of what
+-- the machine has.
 use Rattle.std.specs.Prelude.{◌≡◌, ◌||◌, ◌<◌, ◌^◌, ℕ, Bool, true, false}
 use Rattle.insn_set.specs.declared.ops.Item.{Item}
-use Rattle.insn_set.specs.declared.ops.Test.{Test}
-use Rattle.dalvik_defs.specs.Arith.{passes}
 use Rattle.dalvik_defs.specs.Names.{Text}
 use Rattle.dalvik_defs.specs.State.{is_null}
 use Rattle.dalvik_defs.specs.declared.state.Value.{Value}
 use Rattle.dalvik_defs.specs.declared.state.Value.TheVariants.{Word, Object}
-use Rattle.pass_defs.specs.Analysis.{Analysis, Holds, HoldsBoth, IsRanged, IsReference, read_item}
+use Rattle.pass_defs.specs.Analysis.{Analysis, Holds, IsRanged, IsReference, read_item}
 
 pub record IsSoundApart {V : Type 0} (a : Analysis V) (under : Text → Text → Bool) : Type 0 where
   pub grows : (x y : V) (k : Text) (v : Value) → a.below x y → a.holds x k v → a.holds y k v
@@ -22,4 +20,3 @@ pub record IsSoundApart {V : Type 0} (a : Analysis V) (under : Text → Text →
   pub catches : (k : Text) (v : Value) → IsReference v → a.holds a.caught k v
   pub holders : (x : V) (k : Text) (v : Value) → a.holds x k v → is_null v ≡ false → Holds a (a.held x) k v
   pub casts : (t : Text) (x : V) (k : Text) (v : Value) → a.holds x k v → (is_null v || under k t) ≡ true → Holds a (a.cast t x) k v
-  pub tests : (test : Test) (x y : V) (k l : Text) (v u : Value) → a.holds x k v → a.holds y l u → HoldsBoth a (a.tested (passes test v u) test x y) k v l u

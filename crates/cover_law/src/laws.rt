@@ -51,9 +51,9 @@ pub fn constants_are_sound()
     ensures typed { (under : Text → Text → Bool) (floats : Floats) → IsSoundOn flat_analysis under floats }
 {}
 
-/// The product domain is sound apart from numbers under a framework that fits a regular program of which no class stands
-/// above itself, whatever the code makes of numbers: what it knows of constants, new objects, uses, casts and tests against
-/// null holds of what the machine has.
+/// The product domain is sound apart from numbers and tests under a framework that fits a regular program of which no class
+/// stands above itself, whatever the code makes of these: what it knows of constants, new objects, uses and casts holds of
+/// what the machine has.
 pub fn values_are_sound_apart()
     ensures { (p : NamedProgram) (o : Outer) (f : Framework) (script : List Move) (numbers : Numbers) → IsRegular p → IsAcyclic p → Fit p o f script
         → IsSoundApart (value_analysis p numbers) (is_under p f) }

@@ -5,7 +5,7 @@
 //! is lemmas: `covered_regular` of `proofs/Runs.antt`, over `keeps_covered`, by which each step, answer and move leaves a
 //! covered state covered, and `keeps_live` of `proofs/Living.antt`, by which it leaves what is live so. Soundness is asked on
 //! operands as the typing has them (`specs/Sound.antt`). Of the analyses, constants are proved sound, and the product domain
-//! apart from numbers (`specs/Apart.antt`), which value_law adds. This crate declares no types of its own. Its functions
+//! apart from numbers and tests (`specs/Apart.antt`), which value_law adds. This crate declares no types of its own. Its functions
 //! have an empty body, and their contracts are the law for constants and for the product domain, and what is proved of the
 //! two.
 #![tactic(auto)]

@@ -13,16 +13,16 @@ use Rattle.dalvik_defs.specs.declared.state.Value.TheVariants.{Word, Low, High, 
 use Rattle.domains.specs.Values.{Parts, value_holds}
 use Rattle.pass_defs.specs.Analysis.{Analysis, HoldsBoth}
 use Rattle.pass_defs.specs.Demands.{is_equality}
-use Rattle.run_facts.specs.ValueAnalysis.{datum_of}
+use Rattle.run_facts.specs.ValueAnalysis.{datum_of, value_analysis}
 use Rattle.value_ops.specs.Sound.{AreOther, AreSame, HoldsBoth as BothHold, IsNarrow as NarrowDatum}
 use Rattle.value_ops.specs.Tests.{different_values, equal_values, tested_values}
 use Rattle.value_ops.proofs.Asked.{different_so, equal_so, words_asked}
 use Rattle.cover_law.specs.Sound.{IsNarrow, IsWord, TestedOf}
-use Rattle.value_law.specs.Operators.{refining}
+use Rattle.value_law.specs.Operators.{operators}
 
 module _ (p : NamedProgram) where
   abbrev a : Analysis Parts
-  a = refining p
+  a = value_analysis p operators
 
   both_hold : (o : Option (Parts × Parts)) (k l : Text) (v u : Value) → BothHold o (datum_of p k v) (datum_of p l u) → HoldsBoth a o k v l u
   both_hold None k l v u h = h

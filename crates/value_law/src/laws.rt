@@ -21,22 +21,19 @@ ghost use Rattle.cover_law.specs.Coverable.{IsTabled};
 ghost use Rattle.cover_law.specs.Known.{RangedMove};
 ghost use Rattle.cover_law.specs.States.{covered_states};
 ghost use Rattle.cover_law.specs.Sound.{IsSoundOn};
-ghost use Rattle.value_law.specs.Operators.{operators, refining};
+ghost use Rattle.value_law.specs.Operators.{operators};
 
-/// The product domain with the operators of value_ops is sound on operands as the typing has them, under a framework that
-/// fits a regular program of which no class stands above itself, whatever floats answer: with tests against null alone, and
-/// with all that the code's tests refine.
+/// The product domain with the operators and the tests of value_ops is sound on operands as the typing has them, under a
+/// framework that fits a regular program of which no class stands above itself, whatever floats answer.
 pub fn values_are_sound()
-    ensures null_tests { (p : NamedProgram) (o : Outer) (f : Framework) (floats : Floats) (script : List Move) → IsRegular p → IsAcyclic p → Fit p o f script
+    ensures { (p : NamedProgram) (o : Outer) (f : Framework) (floats : Floats) (script : List Move) → IsRegular p → IsAcyclic p → Fit p o f script
         → IsSoundOn (value_analysis p operators) (is_under p f) floats }
-    ensures all_tests { (p : NamedProgram) (o : Outer) (f : Framework) (floats : Floats) (script : List Move) → IsRegular p → IsAcyclic p → Fit p o f script
-        → IsSoundOn (refining p) (is_under p f) floats }
 {}
 
 /// Under a closed table of facts of the product domain, as the code makes them of instructions, and a framework and a script
 /// that fit, each state that a run of a typed, regular program reaches has ended, or the facts cover it.
 pub fn values_cover()
     ensures { (p : NamedProgram) (o : Outer) (f : Framework) (floats : Floats) (facts : Facts Parts) (script : List Move) (n : ℕ)
-        → IsTabled (refining p) p o f facts → Fit p o f script → Each RangedMove script
-        → let t = after (setting_of p o f floats) (bodies_of p) (opening script) n in (t ≡ Ended) ⊎ Holds (covered_states (refining p) p o f facts) t }
+        → IsTabled (value_analysis p operators) p o f facts → Fit p o f script → Each RangedMove script
+        → let t = after (setting_of p o f floats) (bodies_of p) (opening script) n in (t ≡ Ended) ⊎ Holds (covered_states (value_analysis p operators) p o f facts) t }
 {}

@@ -1,5 +1,5 @@
 -- What the output of `optimise` is to the rules and the file that it comes from.
-use Rattle.std.specs.Prelude.{◌≡◌, ◌<◌, ℕ, Bool, true, List, Some, Ok, slice_index}
+use Rattle.std.specs.Prelude.{◌≡◌, ℕ, Bool, true, List, Some, Ok}
 use Rattle.dalvik_defs.specs.Naming.{named}
 use Rattle.dalvik_defs.specs.Outer.{outer_of}
 use Rattle.dalvik_defs.specs.Shown.{SameShown}
@@ -39,8 +39,8 @@ pub record KeepsMeaning (program : Program) (outside : Outside) (left : Program)
   pub cleaned : NoneDead (is_quiet_field left) admitted left
 
 -- The file spells a program, the rules have a table for it, and the output is the file that is written for a program that
--- keeps its meaning; all that the file holds are bytes. Not said yet: how the table comes of the rules, and that the written
--- file spells that program and is valid.
+-- keeps its meaning. Not said yet: how the table comes of the rules, and that the written file spells that program and is
+-- valid.
 pub record Shrinks (rules file output : List ℕ) : Type 0 where
   pub program : Program
   pub reads : program_at file ≡ Ok program
@@ -48,7 +48,7 @@ pub record Shrinks (rules file output : List ℕ) : Type 0 where
   pub ruled : IsRuled rules program outside
   pub left : Program
   pub written : IsWritten left output
-  pub keeps : ((i : ℕ) → slice_index file i < 256) → KeepsMeaning program outside left
+  pub keeps : KeepsMeaning program outside left
 
 -- The words spell `optimise`, and the output is such a one of what the names hold.
 pub record Headline (words : List (List ℕ)) (held : Held) (output : List ℕ) : Type 0 where

@@ -1,0 +1,75 @@
+//! What the framework may name.
+
+use program_model::{ClassIf, Outside, Program};
+use std::alloc::{AllocError, Global};
+
+/// The kept classes by type, and the kept and the shut methods by number. What is kept under a condition counts as kept.
+#[derive(Drop)]
+pub(crate) struct Kept {
+    classes: Vec<bool>,
+    methods: Vec<bool>,
+    shut: Vec<bool>,
+}
+
+/// Marks the places that a list names.
+fn mark_all(marks: &mut [bool], numbers: &[u32]) {
+    for number in numbers {
+        if let Some(mark) = marks.get_mut(*number as usize) {
+            *mark = true;
+        }
+    }
+}
+
+/// Marks the classes that are kept where others are live.
+fn mark_classes(marks: &mut [bool], conditions: &[ClassIf]) {
+    for one in conditions {
+        if let Some(mark) = marks.get_mut(one.class as usize) {
+            *mark = true;
+        }
+    }
+}
+
+/// Whether a number is marked.
+pub(crate) fn is_on(marks: &[bool], number: u32) -> bool {
+    match marks.get(number as usize) {
+        Some(mark) => *mark,
+        None => false,
+    }
+}
+
+impl Kept {
+    pub(crate) fn new(
+        alloc: Global,
+        program: &Program,
+        outside: &Outside,
+    ) -> Result<Kept, AllocError> {
+        let mut classes = vec![in alloc; false; program.types.len()]?;
+        mark_all(&mut classes, outside.classes.as_slice());
+        mark_classes(&mut classes, outside.classes_if.as_slice());
+        let mut methods = vec![in alloc; false; program.methods.len()]?;
+        mark_all(&mut methods, outside.methods.as_slice());
+        mark_all(&mut methods, outside.methods_if.as_slice());
+        let mut shut = vec![in alloc; false; program.methods.len()]?;
+        mark_all(&mut shut, outside.shut.as_slice());
+        Ok(Kept {
+            classes,
+            methods,
+            shut,
+        })
+    }
+
+    /// Whether a class is kept, by its type.
+    pub(crate) fn keeps_class(&self, kind: u32) -> bool {
+        is_on(&self.classes, kind)
+    }
+
+    /// Whether a method is kept.
+    pub(crate) fn keeps_method(&self, number: u32) -> bool {
+        is_on(&self.methods, number)
+    }
+
+    /// Whether a method is shut.
+    pub(crate) fn is_shut(&self, number: u32) -> bool {
+        is_on(&self.shut, number)
+    }
+}

@@ -1,0 +1,22 @@
+//! What the calls of a program may find on the objects that a run can make, and what the framework may enter.
+//!
+//! A virtual or interface call is named by a method number: all calls that name the same method in the same way may find
+//! the same. [`targets`] goes over the made classes once, and over the types above each of them, and notes for each
+//! call on such a type what the class finds. [`bound_target`] answers what a static, direct or super call finds.
+//!
+//! Proved is that all this is safe, ends and wants nothing but memory, and what static and direct calls find
+//! (`specs/Bound.antt`). What super calls find, and what [`targets`] answers, isn't proved.
+#![tactic(auto)]
+
+mod above;
+mod bound;
+mod entered;
+mod kept;
+mod looks;
+mod made;
+mod named;
+mod table;
+
+pub use bound::{Target, bound_target};
+pub use made::targets;
+pub use table::{Link, Targets, call_number};

@@ -1,2 +1,4 @@
+mod Beginning
 mod Dying
+mod Left
 mod Quieted

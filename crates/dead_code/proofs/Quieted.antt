@@ -14,7 +14,9 @@ use Rattle.hierarchy.specs.Shapes.{IsResolved}
 use Rattle.hierarchy.specs.Tables.{answer}
 use Rattle.hierarchy.specs.declared.build.Hierarchy.{Hierarchy}
 use Rattle.body_graph.proofs.Members.{get_inside, get_past}
-use Rattle.dead_code.specs.Dead.{is_quiet_field, trivial_in, quiet_in, AreDead, AreQuiet}
+use Rattle.dead_code.specs.Dead.{is_quiet_field, trivial_in, quiet_in, AreQuiet}
+use Rattle.dead_code.specs.Wishes.{AreCleaned, NoneDead}
+use Rattle.dead_code.proofs.Left.{none_left}
 use Rattle.walk_marks.specs.Walks.{is_on}
 use Rattle.thin_pass.specs.Plans.{IsThinnedBy}
 use Rattle.std.proofs.lemmas.Bool.{cases_lt}
@@ -103,5 +105,10 @@ table_is p h table r a n = elim (cases_lt n (length p.fields)) [
 ]
 
 -- what is dead by the tables is dead by the program
-pub resolved_thinned : (p : Program) (h : Hierarchy) (table admitted : List Bool) (c : Changed) → IsResolved p h → AreQuiet h (length p.fields) table → IsThinnedBy (AreDead (is_on table)) admitted p c → IsThinnedBy (AreDead (is_quiet_field p)) admitted p c
-resolved_thinned p h table admitted c r a t = let same : is_on table ≡ is_quiet_field p = λ i n. table_is p h table r a n i in subst (λ (q : ℕ → Bool). IsThinnedBy (AreDead q) admitted p c) same t
+pub resolved_thinned : (p : Program) (h : Hierarchy) (table admitted : List Bool) (c : Changed) → IsResolved p h → AreQuiet h (length p.fields) table → IsThinnedBy (AreCleaned (is_on table)) admitted p c → IsThinnedBy (AreCleaned (is_quiet_field p)) admitted p c
+resolved_thinned p h table admitted c r a t = let same : is_on table ≡ is_quiet_field p = λ i n. table_is p h table r a n i in subst (λ (q : ℕ → Bool). IsThinnedBy (AreCleaned q) admitted p c) same t
+
+-- and where nothing is counted, none is
+pub resolved_none : (p : Program) (h : Hierarchy) (table admitted : List Bool) (c : Changed) → IsResolved p h → AreQuiet h (length p.fields) table → IsThinnedBy (AreCleaned (is_on table)) admitted p c
+    → c.count ≡ 0 → NoneDead (is_quiet_field p) admitted p
+resolved_none p h table admitted c r a t e = none_left (is_quiet_field p) admitted p c (resolved_thinned p h table admitted c r a t) e

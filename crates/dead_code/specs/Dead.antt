@@ -1,8 +1,8 @@
 -- Which positions of a body compute what nobody reads, by number (Dalvik bytecode, "Summary of bytecode set"; this
 -- project's profile).
-use Rattle.std.specs.Prelude.{◌≡◌, ◌↔◌, ℕ, suc, ◌+◌, ◌<◌, pos, Bool, true, false, ◌&&◌, ◌||◌, not, nat_lt, List, length, Option, Some, None, slice_get, slice_index_or}
+use Rattle.std.specs.Prelude.{◌≡◌, ◌↔◌, ℕ, suc, ◌+◌, ◌<◌, Bool, true, false, ◌&&◌, ◌||◌, not, nat_eq, nat_lt, List, length, Option, Some, None, slice_get, slice_index_or, if◌then◌else◌}
 use Rattle.std.specs.List.{list_any}
-use Rattle.std.specs.Ordering.{int_eq}
+use Rattle.std.specs.Int.{w32, cast_unsigned}
 use Rattle.insn_set.specs.Flow.{divides, divides_by_literal}
 use Rattle.insn_set.specs.Widths.{is_wide_slot, is_wide_item, unary_writes_wide, binary_is_wide}
 use Rattle.insn_set.specs.Registers.{writes_of}
@@ -14,7 +14,6 @@ use Rattle.class_defs.specs.Finding.{resolves_field}
 use Rattle.class_defs.specs.Starts.{is_trivial}
 use Rattle.hierarchy.specs.Tables.{answer}
 use Rattle.hierarchy.specs.declared.build.Hierarchy.{Hierarchy}
-use Rattle.flow_cfg.specs.Walks.{successors_of}
 use Rattle.walk_marks.specs.Walks.{is_on}
 use Rattle.body_graph.specs.Walks.{insn_at, IsRead, IsReadAfter}
 use Rattle.live_regs.specs.Live.{is_live}
@@ -54,7 +53,7 @@ is_pure quiet (insn.Cmp op to a b) = true
 is_pure quiet (insn.StaticGet item to field) = quiet field
 is_pure quiet (insn.Unary op to from) = true
 is_pure quiet (insn.Binary op to a b) = not (divides op)
-is_pure quiet (insn.Literal op to a value) = not (divides_by_literal op) || not (int_eq value (pos 0))
+is_pure quiet (insn.Literal op to a value) = not (divides_by_literal op) || not (nat_eq (cast_unsigned w32 value) 0)
 is_pure quiet i = false
 
 -- ---- dead positions
@@ -70,8 +69,14 @@ pub record IsDead (quiet : ℕ → Bool) (b : Body) (n : ℕ) : Type 0 where
   pub inside : (r : ℕ) → writes_of form r ≡ true → r < b.registers
   pub unread : (r : ℕ) → writes_of form r ≡ true → IsReadAfter b r n → ⊥
 
--- exactly the dead positions are marked
+-- what an analysis of the body's registers says
+abbrev pub LiveAs : Body → Live → Type 0
+LiveAs b live = (n r : ℕ) → r < b.registers → (is_live live n r ≡ true) ↔ IsRead b r n
+
+-- exactly the dead positions are marked, by what is live
 pub record AreDead (quiet : ℕ → Bool) (b : Body) (marks : List Bool) : Type 0 where
+  pub live : Live
+  pub live_is : LiveAs b live
   pub long : length marks ≡ length b.insns
   pub each : (n : ℕ) → n < length b.insns → (is_on marks n ≡ true) ↔ IsDead quiet b n
 
@@ -99,25 +104,30 @@ written_of (insn.Binary op to a b) = Some (to, binary_is_wide op)
 written_of (insn.Literal op to a value) = Some (to, false)
 written_of i = None
 
--- the register is live at one of some positions
-abbrev pub is_live_at : Live → List ℕ → ℕ → Bool
-is_live_at live ns r = list_any (λ n. is_live live n r) ns
+-- the register is live at one of the positions where there are some
+abbrev pub any_of : (ℕ → Bool) → Option (List ℕ) → Bool
+any_of p None = false
+any_of p (Some ns) = list_any p ns
 
-abbrev pub unread_by : Live → List ℕ → ℕ → ℕ → Bool → Bool
-unread_by live ns registers to false = nat_lt to registers && not (is_live_at live ns to)
-unread_by live ns registers to true = (nat_lt (to + 1) registers && not (is_live_at live ns to)) && not (is_live_at live ns (to + 1))
+-- the register is live at a position, or at a handler of a region
+abbrev pub is_live_in : Live → List (List ℕ) → ℕ → ℕ → ℕ → Bool
+is_live_in live rows count r n = if nat_lt n count then is_live live n r else any_of (λ h. is_live live h r) (slice_get rows n)
 
-abbrev pub unread_if : Live → List ℕ → ℕ → Option (ℕ × Bool) → Bool
-unread_if live ns registers None = false
-unread_if live ns registers (Some w) = unread_by live ns registers w.0 w.1
+-- the register is live at a position to which a walk goes from the position, by the graph of the body
+abbrev pub is_live_behind : Live → List (List ℕ) → ℕ → ℕ → ℕ → Bool
+is_live_behind live rows count n r = any_of (λ m. is_live_in live rows count r m) (slice_get rows n)
 
-abbrev pub dead_by : Live → List ℕ → ℕ → Insn → Bool
-dead_by live ns registers i = unread_if live ns registers (written_of i)
+abbrev pub unread_by : (ℕ → Bool) → ℕ → ℕ → Bool → Bool
+unread_by behind registers to false = nat_lt to registers && not (behind to)
+unread_by behind registers to true = (nat_lt (to + 1) registers && not (behind to)) && not (behind (to + 1))
 
-abbrev pub dead_at : (ℕ → Bool) → Live → Body → ℕ → Option Insn → Bool
-dead_at quiet live b n None = false
-dead_at quiet live b n (Some i) = is_pure quiet i && dead_by live (successors_of b n) b.registers i
+abbrev pub unread_if : (ℕ → Bool) → ℕ → Option (ℕ × Bool) → Bool
+unread_if behind registers None = false
+unread_if behind registers (Some w) = unread_by behind registers w.0 w.1
 
--- what an analysis of the body's registers says
-abbrev pub LiveAs : Body → Live → Type 0
-LiveAs b live = (n r : ℕ) → r < b.registers → (is_live live n r ≡ true) ↔ IsRead b r n
+abbrev pub dead_by : (ℕ → Bool) → ℕ → Insn → Bool
+dead_by behind registers i = unread_if behind registers (written_of i)
+
+abbrev pub dead_at : (ℕ → Bool) → Live → List (List ℕ) → Body → ℕ → Option Insn → Bool
+dead_at quiet live rows b n None = false
+dead_at quiet live rows b n (Some i) = is_pure quiet i && dead_by (is_live_behind live rows (length b.insns) n) b.registers i

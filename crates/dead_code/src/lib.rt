@@ -5,13 +5,17 @@
 //! writes alone, so a body means the same without its dead positions. A get of a static field is pure where initialising
 //! the field's class runs no code, a division where its divisor is a literal other than 0 (Dalvik bytecode, "Summary of
 //! bytecode set"). [`dead_positions`] marks exactly the dead positions, and [`apply`] takes them out (`thin_pass`): all
-//! behind moves up, and one nop stays where a branch would lead to itself. That nothing dead is left where nothing changed is
-//! meant so, and not proved yet. `specs/Dead.antt` says by number what is dead.
+//! behind moves up, and one nop stays where a branch would lead to itself. Where a region begins with a dead position that
+//! becomes a nop too, so that no region loses all that it covers while a MoveException still stands at its handler; squeezing
+//! takes the nop, and with it the region, once no walk comes to that handler. Where nothing is counted, nothing was dead.
+//! `specs/Dead.antt` says by number what is dead, and `specs/Wishes.antt` what becomes of it.
 #![tactic(auto)]
 
+mod begins;
 mod clean;
 mod dead;
 mod quiet;
+mod wishes;
 mod written;
 
 pub use clean::apply;

@@ -63,7 +63,7 @@ pub(crate) fn is_pure(quiet: &[bool], insn: &Insn) -> bool
         | Insn::Unary { .. } => true,
         Insn::StaticGet { field, .. } => is_on(quiet, *field),
         Insn::Binary { op, .. } => !op.divides(),
-        Insn::Literal { op, value, .. } => !op.divides() || *value != 0,
+        Insn::Literal { op, value, .. } => !op.divides() || i32::from(*value).cast_unsigned() != 0,
         _ => false,
     }
 }

@@ -66,12 +66,23 @@ pub data InMembers (bytes : List ℕ) (f : Fault) : Type 0 where
   WrongMethod : (class which place at string begin : ℕ) (name : List ℕ) (e : Entry) → HasEntry bytes class which place e → 2 ≤ which → IsIdAt bytes which e.number at → Is32 bytes (at + 4) string → HasText bytes string name begin
       → suits_list which e.flags (first_unit name) ≡ false → f ≡ Member class place → InMembers bytes f
 
+-- a class of the file that is no interface defines the type
+pub record IsPlainType (bytes : List ℕ) (kind : ℕ) : Type 0 where
+  pub class : ℕ
+  pub def : Def
+  pub has : HasDef bytes class def
+  pub defines : def.name ≡ kind
+  pub plain : has_bit def.flags 512 ≡ false
+
 pub data InRoots (bytes : List ℕ) (f : Fault) : Type 0 where
   IsObject : (class begin : ℕ) (def : Def) → HasDef bytes class def → HasTypeText bytes def.name (codes "Ljava/lang/Object;") begin → f ≡ Root class → InRoots bytes f
   NoSuperclass : (class : ℕ) (def : Def) → HasDef bytes class def → def.superclass ≡ none → f ≡ Root class → InRoots bytes f
   OwnType : (class letter : ℕ) (def : Def) → HasDef bytes class def → HasLetter bytes def.name letter → (letter ≡ 76 → ⊥) → f ≡ Root class → InRoots bytes f
   Above : (class letter : ℕ) (def : Def) → HasDef bytes class def → HasLetter bytes def.superclass letter → (letter ≡ 76 → ⊥) → f ≡ Root class → InRoots bytes f
   Interface : (class letter at i kind count : ℕ) (def : Def) → HasDef bytes class def → Leads def.interfaces at → Is32 bytes at count → i < count → Is16 bytes (at + 4 + 2 * i) kind → HasLetter bytes kind letter → (letter ≡ 76 → ⊥) → f ≡ Root class → InRoots bytes f
+  -- the superclass of an interface, and an interface of its list, is a class of the file that is no interface
+  OnPlain : (class : ℕ) (def : Def) → HasDef bytes class def → has_bit def.flags 512 ≡ true → IsPlainType bytes def.superclass → f ≡ Root class → InRoots bytes f
+  ListsPlain : (class at i kind count : ℕ) (def : Def) → HasDef bytes class def → has_bit def.flags 512 ≡ true → Leads def.interfaces at → Is32 bytes at count → i < count → Is16 bytes (at + 4 + 2 * i) kind → IsPlainType bytes kind → f ≡ Root class → InRoots bytes f
 
 -- the registers of a receiver and of parameters
 abbrev pub words_of : List ℕ → ℕ

@@ -6,3 +6,4 @@ pub mod Rising
 pub mod Search
 pub mod Steps
 pub mod Keeping
+pub mod PlainTypes

@@ -15,6 +15,7 @@ use Rattle.dex_read.specs.declared.members.Budget.{Budget}
 use Rattle.dex_read.specs.Classes.{class_at}
 use Rattle.dex_read.specs.Faults.{of_pool}
 use Rattle.dex_read.specs.Header.{need_at, header_at}
+use Rattle.dex_read.specs.Standing.{standing_at}
 use Rattle.dex_read.specs.Word.{word_at}
 
 -- a program that has these tables and no class
@@ -54,9 +55,10 @@ unfoldable pub head_at : List ℕ → Result (Program × ℕ) DexFault
 head_at bytes = header_at bytes >>= λ version. tables_at bytes version
 
 -- The program that the bytes spell, or the fault for which they are refused. The faults come in this order: the header, the checksum and
--- the limits of the tables; strings, types, protos, fields and methods; and then class by class.
+-- the limits of the tables; strings, types, protos, fields and methods; then class by class; and then what interfaces stand on.
 unfoldable pub program_at : List ℕ → Result Program DexFault
 program_at bytes = do
   tables ← head_at bytes
   classes ← classes_at bytes tables.0 (record { items = tables.1; cells = 0 })
+  stands ← standing_at (record tables.0 { classes = classes })
   Ok (record tables.0 { classes = classes })

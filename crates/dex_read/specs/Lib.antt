@@ -11,4 +11,5 @@ pub mod Code
 pub mod Directory
 pub mod FirstValues
 pub mod Classes
+pub mod Standing
 pub mod File

@@ -38,7 +38,8 @@ pub enum DexFault {
     /// The member at `place` of a list of class data or annotations does not fit its class, its flags or its list.
     #[error("member {place} of class {class}")]
     Member { class: u32, place: u32 },
-    /// The class is `Ljava/lang/Object;`, or has no superclass, or is, extends or implements what is no class.
+    /// The class is `Ljava/lang/Object;`, or has no superclass, or is, extends or implements what is no class. Or it is
+    /// an interface, and extends or implements a class of the file that is none.
     #[error("root class {class}")]
     Root { class: u32 },
     /// The method's arguments are not those of its proto, or pass its registers.

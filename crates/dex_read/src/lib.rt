@@ -13,6 +13,7 @@ mod first_values;
 mod header;
 mod members;
 mod reader;
+mod standing;
 
 pub use fault::DexFault;
 pub use reader::read_dex;

@@ -14,6 +14,7 @@ use crate::class_defs::read_class;
 use crate::fault::DexFault;
 use crate::header::{need, read_header};
 use crate::members::{Budget, Source, letters_of};
+use crate::standing::check_standing;
 use dex_pools::{Pools, TableSizes};
 use program_model::{Class, Program, Version};
 use seq::Seq;
@@ -186,8 +187,9 @@ fn filled(program: Program, classes: Vec<Class>) -> Program
 ///
 /// A fault names what is wrong where it stands. The header comes first, then the checksum, the sizes of the tables,
 /// the tables, and the classes in order: each its class_def, its members, their code, its annotations and its first
-/// values. The map, the signature and the order of the classes are not looked at, and debug information gives lines
-/// or none, never a fault. `Limit` comes where the file has more than the counted limits allow.
+/// values. Behind all classes comes the first interface that extends or implements a class of the file that is no
+/// interface. The map, the signature and the order of the classes are not looked at, and debug information gives
+/// lines or none, never a fault. `Limit` comes where the file has more than the counted limits allow.
 #[tactic(auto, using(crate::proofs::Keeping::keeps), unfolding(crate::specs::File::program_at))]
 pub fn read_dex(alloc: Global, bytes: &[u8]) -> Result<Program, DexFault>
     // The bytes decide the program, or the fault: the first one in this order.
@@ -199,5 +201,7 @@ pub fn read_dex(alloc: Global, bytes: &[u8]) -> Result<Program, DexFault>
 {
     let (tables, left) = head_of(alloc, bytes)?;
     let classes = read_classes(alloc, bytes, &tables, left)?;
-    Ok(filled(tables, classes))
+    let program = filled(tables, classes);
+    check_standing(alloc, &program)?;
+    Ok(program)
 }

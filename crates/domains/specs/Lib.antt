@@ -7,3 +7,4 @@ pub mod Values
 pub mod ValueLaws
 pub mod Reducing
 pub mod ReducingLaws
+pub mod Bounded

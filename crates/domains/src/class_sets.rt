@@ -6,7 +6,7 @@ ghost use Rattle.std.specs.Bool.{OnTrue, OnFalse};
 ghost use Rattle.std.specs.Option.{option_copied, option_map};
 ghost use Rattle.lattice_core.specs.Laws.{IsUpper, IsWidened};
 ghost use Rattle.domains.specs.Datum.{Within};
-ghost use Rattle.domains.specs.ClassSets.{IsKept, is_no_set, has, at_most_eight, inserted, merged, place_in, set_holds, set_joined, set_rank, set_leq};
+ghost use Rattle.domains.specs.ClassSets.{Ascends, IsKept, is_no_set, has, at_most_eight, inserted, merged, place_in, set_holds, set_joined, set_rank, set_leq};
 
 use arrayvec::ArrayVec;
 use lattice_core::{Domain, Lattice};
@@ -52,6 +52,39 @@ impl ClassSet {
         classes.push(class);
         ClassSet {
             classes: Some(classes),
+        }
+    }
+
+    /// The set of these classes, which ascend.
+    pub fn these(classes: ArrayVec<u32, 8>) -> Self
+        requires { Ascends 0 classes.items }
+        ensures { result ≡ Some classes.items }
+    {
+        ClassSet {
+            classes: Some(classes),
+        }
+    }
+
+    /// The same set once more. It takes no memory.
+    pub fn same(&self) -> Self
+        ensures { result ≡ self.now }
+    {
+        match &self.classes {
+            Some(classes) => ClassSet {
+                classes: Some(copied(classes.as_slice())),
+            },
+            None => ClassSet::any(),
+        }
+    }
+
+    /// Whether both sets are the same.
+    pub(crate) fn is_same(&self, other: &ClassSet) -> bool
+        ensures { IsTrue result → self.now ≡ other.now }
+    {
+        match (self.classes(), other.classes()) {
+            (None, None) => true,
+            (Some(few), Some(more)) => few == more,
+            _ => false,
         }
     }
 
@@ -122,12 +155,7 @@ impl Lattice for ClassSet {
     }
 
     fn copy(&self, alloc: Global) -> Result<Self, AllocError> {
-        Ok(match &self.classes {
-            Some(classes) => ClassSet {
-                classes: Some(copied(classes.as_slice())),
-            },
-            None => ClassSet::any(),
-        })
+        Ok(self.same())
     }
 }
 

@@ -1,6 +1,6 @@
 //! Whether a content is null.
 
-ghost use Rattle.std.specs.Prelude.{◌≡◌, true};
+ghost use Rattle.std.specs.Prelude.{◌≡◌, true, IsTrue};
 ghost use Rattle.domains.specs.Nulls.{null_leq, null_joined};
 
 use lattice_core::{Domain, Lattice};
@@ -13,6 +13,21 @@ pub enum Nullness {
     Null,
     NotNull,
     Any,
+}
+
+impl Nullness {
+    /// Whether both are the same.
+    pub(crate) fn is_same(self, other: Nullness) -> bool
+        ensures { IsTrue result → self ≡ other }
+    {
+        match (self, other) {
+            (Nullness::Bottom, Nullness::Bottom)
+            | (Nullness::Null, Nullness::Null)
+            | (Nullness::NotNull, Nullness::NotNull)
+            | (Nullness::Any, Nullness::Any) => true,
+            _ => false,
+        }
+    }
 }
 
 impl Lattice for Nullness {

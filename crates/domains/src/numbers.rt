@@ -1,6 +1,6 @@
 //! One number, or any.
 
-ghost use Rattle.std.specs.Prelude.{◌≡◌, true};
+ghost use Rattle.std.specs.Prelude.{◌≡◌, true, IsTrue};
 ghost use Rattle.domains.specs.Words.{word_leq, word_joined, word_known, word_known_wide};
 ghost use Rattle.domains.specs.Reducing.{has_zero as holds_zero};
 
@@ -34,6 +34,18 @@ impl Word {
         match self {
             Word::Known(word) => word == 0,
             Word::Any => true,
+            _ => false,
+        }
+    }
+
+    /// Whether two words are the same.
+    pub(crate) fn is_same(self, other: Word) -> bool
+        ensures { IsTrue result → self ≡ other }
+    {
+        match (self, other) {
+            (Word::Bottom, Word::Bottom) | (Word::Any, Word::Any) => true,
+            (Word::Known(m), Word::Known(n)) => m == n,
+            (Word::KnownWide(m), Word::KnownWide(n)) => m == n,
             _ => false,
         }
     }

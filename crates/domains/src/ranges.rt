@@ -1,6 +1,6 @@
 //! A range of signed words.
 
-ghost use Rattle.std.specs.Prelude.{◌≡◌, false, ◌≤ℤ◌, if◌then◌else◌, int_lt};
+ghost use Rattle.std.specs.Prelude.{◌≡◌, false, ◌≤ℤ◌, if◌then◌else◌, int_lt, IsTrue};
 ghost use Rattle.domains.specs.Ranges.{no_words, all_words, only_word, words_between, range_leq, range_joined, range_widened, Widens, first_word, last_word, is_empty as has_no_word};
 ghost use Rattle.domains.specs.Reducing.{in_range, past_zero as low_end, before_zero as high_end, without_zero as trimmed};
 ghost use Rattle.domains.specs.ReducingLaws.{AreEnds};
@@ -85,6 +85,13 @@ impl Interval {
         ensures ends { AreEnds self.now }
     {
         Interval::between(past_zero(self.low), before_zero(self.high))
+    }
+
+    /// Whether both ranges are the same.
+    pub(crate) fn is_same(self, other: Interval) -> bool
+        ensures { IsTrue result → self ≡ other }
+    {
+        self.low == other.low && self.high == other.high
     }
 
     /// Whether there is no word in it.

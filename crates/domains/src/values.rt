@@ -13,6 +13,7 @@ use crate::nulls::Nullness;
 use crate::numbers::Word;
 use crate::ranges::Interval;
 use lattice_core::{Domain, Lattice};
+use pat_map::MapValue;
 use std::alloc::{AllocError, Global};
 use std::marker::Model;
 
@@ -99,6 +100,39 @@ impl Value {
         }
     }
 
+    /// The value that holds of what this word, interval and nullness hold of together with the classes of this value.
+    pub fn with_parts(&self, word: Word, interval: Interval, nullness: Nullness) -> Value
+        ensures is { result ≡ reduced (record { word = word; interval = interval; nullness = nullness; classes = self.now.classes }) }
+    {
+        Value::of(word, interval, nullness, self.classes.same())
+    }
+
+    /// The value that holds of what this one holds of, but of objects of these classes alone.
+    pub fn with_classes(&self, classes: ClassSet) -> Value
+        ensures is { result ≡ reduced (record self.now { classes = classes }) }
+    {
+        Value::of(self.word, self.interval, self.nullness, classes)
+    }
+
+    /// The same value once more. It takes no memory.
+    pub fn same(&self) -> Value
+        ensures { result ≡ self.now }
+    {
+        Value {
+            word: self.word,
+            interval: self.interval,
+            nullness: self.nullness,
+            classes: self.classes.same(),
+        }
+    }
+
+    /// The value that holds of nothing.
+    pub fn none() -> Value
+        ensures { result ≡ least_value }
+    {
+        nothing()
+    }
+
     /// The value of which nothing is known.
     pub fn any() -> Value
         ensures is { result ≡ any_value }
@@ -149,6 +183,13 @@ impl Value {
         ensures { IsTrue result ↔ (value_holds self.now (Plain (Single 0)) → ⊥) }
     {
         matches!(self.nullness, Nullness::Bottom | Nullness::NotNull)
+    }
+
+    /// Whether it holds of no object.
+    pub fn has_no_object(&self) -> bool
+        ensures { result ≡ is_no_set self.now.classes }
+    {
+        self.classes.is_empty()
     }
 
     /// What is known of it as a number.
@@ -220,12 +261,7 @@ impl Lattice for Value {
     }
 
     fn copy(&self, alloc: Global) -> Result<Self, AllocError> {
-        Ok(Value {
-            word: self.word,
-            interval: self.interval,
-            nullness: self.nullness,
-            classes: self.classes.copy(alloc)?,
-        })
+        Ok(self.same())
     }
 }
 
@@ -249,6 +285,21 @@ impl Domain for Value {
             nullness: self.nullness.widen(alloc, &newer.nullness)?,
             classes: self.classes.widen(alloc, &newer.classes)?,
         })
+    }
+}
+
+impl MapValue for Value {
+    ghost use Rattle.domains.specs.Bounded.{rank_below};
+
+    ghost most = { 20 };
+
+    ghost bounded = { rank_below };
+
+    fn is_same(&self, other: &Self) -> bool {
+        self.word.is_same(other.word)
+            && self.interval.is_same(other.interval)
+            && self.nullness.is_same(other.nullness)
+            && self.classes.is_same(&other.classes)
     }
 }
 

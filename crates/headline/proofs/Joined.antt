@@ -5,7 +5,7 @@ use Rattle.program_model.specs.declared.pass.Outside.{Outside}
 use Rattle.program_model.specs.declared.program.Program.{Program}
 use Rattle.command_line.specs.declared.command.CommandWords.{CommandWords}
 use Rattle.command_line.specs.declared.command.CommandWords.TheVariants.{Nothing, Optimise, Check, Live, Trace, Workload}
-use Rattle.silence_bridge.proofs.Optimised.{optimised_shows, optimised_typed}
+use Rattle.silence_bridge.proofs.Optimised.{optimised_shows, optimised_sound}
 use Rattle.redex_outside.specs.Held.{Held}
 use Rattle.redex_cli.specs.Accepted.{IsAccepted}
 use Rattle.redex_cli.specs.Commands.{Commands}
@@ -22,8 +22,9 @@ keeps p r o rounds spared well accepted none leaves =
     let graph = accepted.graph well in
     let done = leaves.optimised in record {
       admitted = done.admitted;
-      shown = optimised_shows p accepted.hierarchy well graph.resolved graph.acyclic graph.unsplit o accepted.types r leaves.advisers spared rounds leaves.before leaves.after done none;
-      typed = optimised_typed p accepted.hierarchy well graph.resolved graph.acyclic graph.unsplit o accepted.types r leaves.advisers spared rounds leaves.before leaves.after done;
+      shown = optimised_shows p accepted.hierarchy well graph.resolved graph.acyclic graph.unsplit o accepted.types r leaves.origins leaves.advisers spared rounds leaves.before leaves.after done none;
+      formed = (optimised_sound p accepted.hierarchy well graph.resolved graph.acyclic graph.unsplit o accepted.types r leaves.origins leaves.advisers spared rounds leaves.before leaves.after done).formed;
+      typed = (optimised_sound p accepted.hierarchy well graph.resolved graph.acyclic graph.unsplit o accepted.types r leaves.origins leaves.advisers spared rounds leaves.before leaves.after done).typed;
     }
 
 shrinks : (rules file output summary : List ℕ) → Finished rules file output summary → Shrinks rules file output

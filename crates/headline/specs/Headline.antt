@@ -18,10 +18,11 @@ use Rattle.redex_cli.specs.Commands.{Commands}
 use Rattle.redex_cli.specs.Finished.{IsRuled}
 
 -- What is left of a program shows what the program shows without its silent calls in some admitted methods, to every
--- framework, under every script and float table that fit, and is typed.
+-- framework, under every script and float table that fit, and is well-formed and typed.
 pub record KeepsMeaning (program : Program) (outside : Outside) (left : Program) : Type 0 where
   pub admitted : List Bool
   pub shown : SameShown (silenced (named program) (outer_of program outside) (admitted_in program admitted)) (named left) (outer_of program outside)
+  pub formed : is_well_formed left ≡ true
   pub typed : IsTyped (named left)
 
 -- The file spells a program, the rules have a table for it, and the output is the file that is written for a program that

@@ -1,5 +1,5 @@
 -- Origins of a thinned body ascend, and a body thinned by number names the body thinned by name.
-use Rattle.std.proofs.Common.{◌≡◌, ℕ, suc, ◌<◌, Bool, true, false, List, [], ◌∷◌, refl, sym, ap, ◌∙◌, arith}
+use Rattle.std.proofs.Common.{◌≡◌, ℕ, suc, ◌<◌, Bool, true, false, true≢false, List, [], ◌∷◌, refl, sym, ap, ◌∙◌, arith}
 use Rattle.std.specs.Prelude.{◌&&◌, length, map, filter, nat_lt}
 use Rattle.std.specs.List.{list_all}
 use mathlib.Core.Bool.{cond}
@@ -70,8 +70,8 @@ module _ (p : Program) (t : ℕ → ℕ) where
           ≡ cond c (moved t (region_of p r) ∷ filter (has_room end) (map (moved t) (map (region_of p) rs))) (filter (has_room end) (map (moved t) (map (region_of p) rs)))
       by true true same e i = ap (λ x. x ∷ map (region_of p) (filter (region_has_room end) (map (region_moved t) rs))) e ∙ ap (λ l. moved t (region_of p r) ∷ l) i
       by false false same e i = i
-      by true false () e i
-      by false true () e i
+      by true false same e i = absurd (true≢false same)
+      by false true same e i = absurd (true≢false (sym same))
 
   long_same : (xs : List Insn) → length (map (form_of p) xs) ≡ length xs
   long_same [] = refl
@@ -84,5 +84,5 @@ module _ (p : Program) (ms : List Fate) (b : Body) where
 pub named_thinned : (p : Program) (ms : List Fate) (b : Body) → body_of p (body_thinned ms b) ≡ thinned ms (body_of p b)
 named_thinned p ms b = ap (λ fs. record { registers = b.registers; ins = b.ins; forms = fs; regions = (body_of p (body_thinned ms b)).regions }) (forms_same p (place ms) ms b.insns)
     ∙ ap (λ rs. record { registers = b.registers; ins = b.ins; forms = forms_left (place ms) ms (map (form_of p) b.insns); regions = rs })
-        (regions_same p (place ms) (length (insns_left (place ms) ms b.insns)) b.regions
-        ∙ ap (λ end. filter (has_room end) (map (moved (place ms)) (map (region_of p) b.regions))) (end_same p ms b))
+    (regions_same p (place ms) (length (insns_left (place ms) ms b.insns)) b.regions
+    ∙ ap (λ end. filter (has_room end) (map (moved (place ms)) (map (region_of p) b.regions))) (end_same p ms b))

@@ -15,7 +15,7 @@ use std::rc::Rc;
 /// nodes but those on the way to the key with the old one.
 #[derive(Drop)]
 pub struct PatMap<V> {
-    root: Option<Rc<Node<V>>>,
+    pub(crate) root: Option<Rc<Node<V>>>,
 }
 
 impl<V> Model for PatMap<V> {

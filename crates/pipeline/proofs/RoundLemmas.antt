@@ -2,7 +2,6 @@
 use Rattle.std.proofs.Common.{◌≡◌, ◌⊎◌, ℕ, zero, suc, ◌<◌, ◌+◌, Bool, true, false, List, [], ◌∷◌, length, map, replicate, refl, sym, ap, ◌∙◌, subst, inl, inr, arith}
 use Rattle.std.specs.Prelude.{if◌then◌else◌, slice_index_or}
 use Rattle.std.specs.Option.{option_map}
-use Rattle.program_model.specs.declared.pass.Changed.{Changed}
 use Rattle.program_model.specs.declared.pass.Outside.{Outside}
 use Rattle.program_model.specs.declared.program.Method.{Method}
 use Rattle.program_model.specs.declared.program.Class.{Class}
@@ -13,85 +12,49 @@ use Rattle.hierarchy.specs.declared.build.Hierarchy.{Hierarchy}
 use Rattle.call_graph.specs.declared.live_set.LiveSet.{LiveSet}
 use Rattle.call_graph.specs.Facts.{Fits}
 use Rattle.call_graph.specs.Closed.{IsClosedSet}
-use Rattle.reach.specs.Kept.{kept_of, size_of}
 use Rattle.pipeline.specs.Advised.{IsAdvised}
 use Rattle.pipeline.specs.Asks.{Verdict, asked, no_verdict, AreAnswered}
 use Rattle.pipeline.specs.Counts.{counted}
 use Rattle.pipeline.specs.Graph.{HasGraph, HasGraphFault}
 use Rattle.pipeline.specs.Silence.{IsSilent, is_quiet, silenced_body, silenced_method, silenced_class, silenced}
-use Rattle.pipeline.specs.Rounds.{Removes, IsRound, Rounds, Ended, Next, HaveRun, IsOptimised}
-
--- ---- one round
-
-pub barred_round : (o : Outside) (p q : Program) → q ≡ p → o.shrink ≡ false → IsRound o p q
-barred_round o p q same e = inr (same, inl e)
-
-pub fault_round : (o : Outside) (p q : Program) → q ≡ p → HasGraphFault p → IsRound o p q
-fault_round o p q same fault = inr (same, inr fault)
-
-pub removal_round : (o : Outside) (p q : Program) (h : Hierarchy) → o.shrink ≡ true → is_well_formed p ≡ true → HasGraph p h
-    → (is_well_formed p ≡ true → IsResolved p h → (s : LiveSet) × Fits p s × IsClosedSet p o s × (q ≡ kept_of s p)) → IsRound o p q
-removal_round o p q h allowed formed graph removed =
-    let r = removed formed graph.resolved in
-    inl (record {
-      allowed = allowed;
-      marks = r.0;
-      marked = record { formed = formed; once = graph.resolved.of.once; grounded = graph.grounded; sized = r.1; closed = r.2 };
-      left = r.3;
-    })
-
-pub same_formed : (p q : Program) → q ≡ p → is_well_formed p ≡ true → is_well_formed q ≡ true
-same_formed p q e h = ap is_well_formed e ∙ h
-
-pub never_less : (n a b : ℕ) → n ≡ 0 → 0 < n → a < b
-never_less n a b e h = absurd (omega (arith, e, h))
+use Rattle.pipeline.specs.Passes.{passes, Steps, AreStill, bulk_of, HavePassed}
+use Rattle.pipeline.specs.Rounds.{Rounds, Ended, Next, first_of, HaveRun, IsOptimised}
+use Rattle.pipeline.specs.declared.traces.Passed.{Passed}
+use Rattle.pipeline.specs.declared.traces.Traced.{Traced}
 
 -- ---- all rounds
 
-one_more : (o : Outside) (n : ℕ) (p q r : Program) → Rounds o n p q → Removes o q r → size_of r < size_of q → Rounds o (suc n) p r
-one_more o n p q r (Ended x) one less = Next zero x r r one less (Ended r)
-one_more o n p q r (Next m x y z first falls rest) one less = Next (suc m) x y r first falls (one_more o m y z r rest one less)
-
--- a round that leaves less is a removal
-round_more : (o : Outside) (n : ℕ) (p q r : Program) → Rounds o n p q → IsRound o q r → size_of r < size_of q → Rounds o (suc n) p r
-round_more o n p q r so (inl one) less = one_more o n p q r so one less
-round_more o n p q r so (inr same) less = absurd (omega (arith, less, ap size_of same.0))
+one_more : (o : Outside) (admitted : List Bool) (n : ℕ) (t u v : Traced) → Rounds o admitted n t u → Steps o admitted passes u v → bulk_of v.program < bulk_of u.program → Rounds o admitted (suc n) t v
+one_more o admitted n t u v (Ended x) one less = Next zero x v v one less (Ended v)
+one_more o admitted n t u v (Next m x y z first falls rest) one less = Next (suc m) x y v first falls (one_more o admitted m y z v rest one less)
 
 -- what the rounds have come to, the last of which answered this, and how many ran
-pub record Rounding (o : Outside) (p : Program) (c : Changed) (count : ℕ) : Type 0 where
-  pub before : Program
-  pub removals : ℕ
-  pub rounds : Rounds o removals p before
-  pub one : IsRound o before c.program
-  pub formed : is_well_formed c.program ≡ true
-  pub same : c.count ≡ 0 → c.program ≡ before
-  pub less : 0 < c.count → size_of c.program < size_of before
-  pub count_is : count ≡ counted (suc removals)
+pub record Rounding (o : Outside) (admitted : List Bool) (p : Program) (r : Passed) (count : ℕ) : Type 0 where
+  pub before : Traced
+  pub changing : ℕ
+  pub rounds : Rounds o admitted changing (first_of p) before
+  pub one : HavePassed o admitted passes before r
+  pub count_is : count ≡ counted (suc changing)
 
-pub begun : (o : Outside) (p : Program) (c : Changed) → IsRound o p c.program → is_well_formed c.program ≡ true → (c.count ≡ 0 → c.program ≡ p)
-    → (0 < c.count → size_of c.program < size_of p) → Rounding o p c 1
-begun o p c one formed same less = record { before = p; removals = zero; rounds = Ended p; one = one; formed = formed; same = same; less = less; count_is = refl }
+pub begun : (o : Outside) (admitted : List Bool) (p : Program) (t : Traced) (r : Passed) → t ≡ first_of p → HavePassed o admitted passes t r → Rounding o admitted p r 1
+begun o admitted p t r e one = record { before = t; changing = zero; rounds = subst (λ (x : Traced). Rounds o admitted zero x t) e (Ended t); one = one; count_is = refl }
 
-pub further : (o : Outside) (p : Program) (b c : Changed) (n m : ℕ) → 0 < b.count → Rounding o p b n → (is_well_formed b.program ≡ true → IsRound o b.program c.program)
-    → (is_well_formed b.program ≡ true → is_well_formed c.program ≡ true) → (c.count ≡ 0 → c.program ≡ b.program) → (0 < c.count → size_of c.program < size_of b.program)
-    → m ≡ counted (n + 1) → Rounding o p c m
-further o p b c n m some so one formed same less e = record {
-  before = b.program;
-  removals = suc so.removals;
-  rounds = round_more o so.removals p so.before b.program so.rounds so.one (so.less some);
-  one = one so.formed;
-  formed = formed so.formed;
-  same = same;
-  less = less;
+pub further : (o : Outside) (admitted : List Bool) (p : Program) (b c : Passed) (n m : ℕ) → 0 < b.count → Rounding o admitted p b n
+    → HavePassed o admitted passes b.traced c → m ≡ counted (n + 1) → Rounding o admitted p c m
+further o admitted p b c n m some so one e = record {
+  before = b.traced;
+  changing = suc so.changing;
+  rounds = one_more o admitted so.changing (first_of p) so.before b.traced so.rounds so.one.steps (so.one.less some);
+  one = one;
   count_is = omega (arith, e, so.count_is);
 }
 
 -- a round that changes nothing is the last
-pub ended : (o : Outside) (p : Program) (c : Changed) (n : ℕ) → Rounding o p c n → c.count ≡ 0 → HaveRun o p c.program n
-ended o p c n so none = record {
-  removals = so.removals;
-  rounds = subst (λ x. Rounds o so.removals p x) (sym (so.same none)) so.rounds;
-  ends = subst (λ x. IsRound o x c.program) (sym (so.same none)) so.one;
+pub ended : (o : Outside) (admitted : List Bool) (p : Program) (r : Passed) (n : ℕ) → Rounding o admitted p r n → r.count ≡ 0 → HaveRun o admitted p r.traced n
+ended o admitted p r n so none = record {
+  changing = so.changing;
+  rounds = subst (λ (x : Traced). Rounds o admitted so.changing (first_of p) x) (sym (so.one.same none)) so.rounds;
+  ends = subst (λ (x : Traced). AreStill o admitted passes x.program) (sym (so.one.same none)) (so.one.still none);
   count_is = so.count_is;
 }
 
@@ -147,15 +110,16 @@ none_admitted o p advisers before after v (inr still) e = ap (λ w. w.admitted) 
 
 -- ---- the whole
 
-pub optimised : (o : Outside) (p q r : Program) (advisers : ℕ) (before after : List Bool) (v : Verdict) (n : ℕ) → is_well_formed p ≡ true
+pub optimised : (o : Outside) (p q : Program) (t : Traced) (advisers : ℕ) (before after : List Bool) (v : Verdict) (n : ℕ) → is_well_formed p ≡ true
     → (is_well_formed p ≡ true → IsAdvised o p advisers before after v)
     → (is_well_formed p ≡ true → IsSilent o.silent v.admitted p q) → (is_well_formed p ≡ true → is_well_formed q ≡ true)
-    → (is_well_formed q ≡ true → HaveRun o q r n) → IsOptimised o p advisers before after v.spared r n
-optimised o p q r advisers before after v n formed advised silent still ran = record {
+    → HaveRun o v.admitted q t n → IsOptimised o p advisers before after v.spared t.program t.origins n
+optimised o p q t advisers before after v n formed advised silent still ran = record {
   admitted = v.admitted;
   advised = advised formed;
   silenced = q;
   silent = silent formed;
   unsilenced = λ e. unsilenced o.silent v.admitted p q (length p.methods) (silent formed) (none_admitted o p advisers before after v (advised formed) e);
-  ran = ran (still formed);
+  formed = still formed;
+  ran = ran;
 }

@@ -1,4 +1,6 @@
 -- The class graph of a program, or a fault in it.
+use Rattle.std.specs.Prelude.{◌≡◌, true, Option, MatchOption}
+use Rattle.program_model.specs.ProgramRules.{is_well_formed}
 use Rattle.program_model.specs.declared.program.Program.{Program}
 use Rattle.hierarchy.specs.Shapes.{IsAcyclic, IsCause, IsResolved}
 use Rattle.hierarchy.specs.declared.build.Hierarchy.{Hierarchy}
@@ -20,3 +22,7 @@ pub record HasGraphFault (p : Program) : Type 0 where
   pub fault : HierarchyFault
   pub is : IsFault fault
   pub cause : IsCause p fault
+
+-- what was found of a well-formed program: its class graph, or that it has a fault
+abbrev pub IsGraph : Program → Option Hierarchy → Type 0
+IsGraph p found = is_well_formed p ≡ true → MatchOption found (HasGraphFault p) (HasGraph p)

@@ -5,9 +5,11 @@
 mod asks;
 mod counts;
 mod graph;
+mod passes;
 mod rounds;
 mod silent;
 mod texts;
+mod traces;
 
 pub use counts::{count_instructions, count_members};
 pub use rounds::{Outcome, optimise};

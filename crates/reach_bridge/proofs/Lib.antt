@@ -18,4 +18,3 @@ pub mod Noted
 pub mod Annotated
 pub mod Within
 pub mod Unshut
-pub mod Repeated

@@ -7,8 +7,6 @@
 //! under what follows. With all records `closed_law` has the closed family, and `reach_law` that what the marks leave
 //! shows the same. `accepted` puts these together for programs that the hierarchy and the verifier accept:
 //! `accepted_reach_law` has for premises what the contracts of `Hierarchy::build`, `verify_all` and `live_members` say.
-//! `rounds` goes from one removal to the next: what all rounds of pipeline leave shows the same as the program before them
-//! (`rounds_law`), and so does what `optimise` leaves of an accepted program without silent calls (`optimised_law`).
 //!
 //! What stands as a premise of the others:
 //!
@@ -22,4 +20,3 @@
 pub mod accepted;
 pub mod closed;
 pub mod laws;
-pub mod rounds;

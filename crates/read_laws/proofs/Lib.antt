@@ -14,6 +14,7 @@ pub mod Differing
 pub mod Fewer
 pub mod FieldReading
 pub mod Fitting
+pub mod Interfaces
 pub mod Leaving
 pub mod MarkReading
 pub mod MemberOrder

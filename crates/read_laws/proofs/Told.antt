@@ -14,6 +14,7 @@ use Rattle.dex_read.specs.declared.fault.DexFault.{DexFault}
 use Rattle.dex_read.specs.Faults.{of_pool}
 use Rattle.dex_read.specs.File.{tables_with, tables_at, head_at, classes_at, program_at}
 use Rattle.dex_read.specs.Header.{header_at}
+use Rattle.dex_read.specs.Standing.{standing_at}
 use Rattle.dex_read.proofs.Rising.{then_ok}
 
 -- what the program that is read is made of
@@ -27,6 +28,7 @@ pub record IsRead (bytes : List ℕ) (p : Program) : Type 0 where
   pub made : tables ≡ tables_with version pools
   pub spells : SpellsPools bytes 16777216 pools
   pub filled : classes_at bytes tables (record { items = left; cells = 0 }) ≡ Ok classes
+  pub stands : standing_at (record tables { classes = classes }) ≡ Ok tt
   pub is : p ≡ record tables { classes = classes }
 
 lowered : {X : Type 0} (read : Result X PoolFault) (x : X) → raise of_pool read ≡ Ok x → read ≡ Ok x
@@ -59,8 +61,9 @@ head_has bytes t h =
 pub is_read : (bytes : List ℕ) (p : Program) → program_at bytes ≡ Ok p → IsRead bytes p
 unfolding program_at
 is_read bytes p h =
-    let a = then_ok (head_at bytes) (λ tables. classes_at bytes tables.0 (record { items = tables.1; cells = 0 }) >>= λ classes. Ok (record tables.0 { classes = classes })) p h in
-    let b = then_ok (classes_at bytes a.0.0 (record { items = a.0.1; cells = 0 })) (λ classes. Ok (record a.0.0 { classes = classes })) p a.2 in
+    let a = then_ok (head_at bytes) (λ tables. classes_at bytes tables.0 (record { items = tables.1; cells = 0 }) >>= λ classes. standing_at (record tables.0 { classes = classes }) >>= λ stands. Ok (record tables.0 { classes = classes })) p h in
+    let b = then_ok (classes_at bytes a.0.0 (record { items = a.0.1; cells = 0 })) (λ classes. standing_at (record a.0.0 { classes = classes }) >>= λ stands. Ok (record a.0.0 { classes = classes })) p a.2 in
+    let c = then_ok (standing_at (record a.0.0 { classes = b.0 })) (λ stands. Ok (record a.0.0 { classes = b.0 })) p b.2 in
     let t = head_has bytes a.0 a.1 in
     record {
       tables = a.0.0;
@@ -72,5 +75,6 @@ is_read bytes p h =
       made = t.made;
       spells = t.spells;
       filled = b.1;
-      is = sym (ok_is {F = DexFault} (record a.0.0 { classes = b.0 }) p b.2);
+      stands = c.1;
+      is = sym (ok_is {F = DexFault} (record a.0.0 { classes = b.0 }) p c.2);
     }

@@ -3,6 +3,7 @@
 ghost use Rattle.std.specs.Prelude.{◌≡◌, Bool, true, List, ℕ, Ok};
 ghost use Rattle.program_model.specs.declared.program.Class.{Class};
 ghost use Rattle.program_model.specs.declared.program.Program.{Program};
+ghost use Rattle.program_model.specs.InterfaceRules.{interfaces_stand_free};
 ghost use Rattle.program_model.specs.MemberRules.{types_of_class_fit, source_fits, fields_fit, methods_fit, class_fits};
 ghost use Rattle.program_model.specs.ValueRules.{value_fits, marks_fit};
 ghost use Rattle.program_model.specs.declared.value.EncValue.{EncValue};
@@ -13,6 +14,7 @@ ghost use Rattle.dex_read.specs.Directory.{set_at, sets_at};
 ghost use Rattle.dex_read.specs.Tables.{sizes_in};
 ghost use Rattle.dex_read.specs.declared.members.Budget.{Budget};
 ghost use Rattle.dex_read.specs.Classes.{class_at};
+ghost use Rattle.dex_read.specs.File.{program_at};
 ghost use Rattle.read_laws.specs.Bodies.{body_and_lines_fit};
 
 /// A class that is read is no root, it, its superclass and its interfaces are class types, and its source is a string.
@@ -48,4 +50,9 @@ pub fn methods_law()
 pub fn class_law()
     ensures { (bytes : List ℕ) (p : Program) (at place : ℕ) (left : Budget) (r : Class × Budget) → class_at bytes p at place left ≡ Ok r
         → list_all (λ m. body_and_lines_fit p m.body m.lines) r.0.methods ≡ true → class_fits p r.0 ≡ true }
+{}
+
+/// No interface of the program that is read has a class of the program that is no interface as its superclass or in its list.
+pub fn interfaces_law()
+    ensures { (bytes : List ℕ) (p : Program) → program_at bytes ≡ Ok p → interfaces_stand_free p ≡ true }
 {}

@@ -6,6 +6,7 @@ use Rattle.hierarchy.specs.Shapes.{IsCause}
 use Rattle.hierarchy.specs.declared.fault.HierarchyFault.{HierarchyFault}
 use Rattle.pipeline.specs.Rounds.{IsOptimised}
 use Rattle.program_model.specs.ProgramRules.{is_well_formed}
+use Rattle.program_model.specs.declared.pass.Origin.{Origin}
 use Rattle.program_model.specs.declared.pass.Outside.{Outside}
 use Rattle.program_model.specs.declared.program.Program.{Program}
 use Rattle.rule_text.specs.ReadEntries.{IsReading}
@@ -19,15 +20,15 @@ use Rattle.redex_cli.specs.declared.status.Status.{Status}
 use Rattle.redex_cli.specs.declared.status.Status.TheVariants.{Done, Usage, BadRules, BadDex, Limit, ReadFault, WriteFault, NoMemory, BadScript}
 use Rattle.redex_cli.specs.declared.summary.Sizes.{Sizes}
 
-pub shrunk : (program : Program) (outside : Outside) (before after : Sizes) (left : Program) (rounds spared advisers : ℕ) (old new : List Bool) (output summary : List ℕ)
-    → (is_well_formed program ≡ true → IsOptimised outside program advisers old new spared left rounds)
+pub shrunk : (program : Program) (outside : Outside) (before after : Sizes) (left : Program) (rounds spared advisers : ℕ) (old new : List Bool) (origins : List (List Origin)) (output summary : List ℕ)
+    → (is_well_formed program ≡ true → IsOptimised outside program advisers old new spared left origins rounds)
     → IsWritten left output → after ≡ sizes_in left (length output) → summary ≡ summary_text before after rounds spared → 1 ≤ rounds
     → Shrunk program outside before output summary
-shrunk program outside before after left rounds spared advisers old new output summary optimised written sizes says one_round = record {
+shrunk program outside before after left rounds spared advisers old new origins output summary optimised written sizes says one_round = record {
   left = left;
   rounds = rounds;
   spared = spared;
-  leaves = λ well. record { advisers = advisers; before = old; after = new; optimised = optimised well };
+  leaves = λ well. record { advisers = advisers; before = old; after = new; origins = origins; optimised = optimised well };
   written = written;
   says = subst (λ (sizes : Sizes). summary ≡ summary_text before sizes rounds spared) sizes says;
   one_round = one_round;

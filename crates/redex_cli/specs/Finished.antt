@@ -10,6 +10,7 @@ use Rattle.redex_outside.specs.Held.{Held}
 use Rattle.redex_cli.specs.Commands.{Commands}
 use Rattle.redex_cli.specs.Files.{HoldsProgram}
 use Rattle.program_model.specs.ProgramRules.{is_well_formed}
+use Rattle.program_model.specs.declared.pass.Origin.{Origin}
 use Rattle.program_model.specs.declared.pass.Outside.{Outside}
 use Rattle.program_model.specs.declared.program.Program.{Program}
 use Rattle.program_model.specs.Cells.{capped}
@@ -48,12 +49,14 @@ sizes_in program bytes = record {
   bytes = bytes;
 }
 
--- What is left of the program in so many rounds, with so many methods spared, whatever the advisers were and answered.
+-- What is left of the program in so many rounds, with so many methods spared, whatever the advisers were and answered, and wherever
+-- its positions come from.
 pub record Leaves (program : Program) (outside : Outside) (left : Program) (rounds spared : ℕ) : Type 0 where
   pub advisers : ℕ
   pub before : List Bool
   pub after : List Bool
-  pub optimised : IsOptimised outside program advisers before after spared left rounds
+  pub origins : List (List Origin)
+  pub optimised : IsOptimised outside program advisers before after spared left origins rounds
 
 -- The output is the file that is written for what is left of the program by this table, and the summary counts the program,
 -- whose sizes are these, what is left, its file, the rounds and the spared methods.

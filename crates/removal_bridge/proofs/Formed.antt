@@ -136,7 +136,7 @@ module _ (p : Program) (fits : is_well_formed p ≡ true) where
       (class_text (type_at p o.0.class.name) (letter_text p o.0.class.name (name_letter p o.0.class (types_fit_class p o.0.class (fits_at o.0.place o.0.class o.0.is_class)))))
 
   -- Object is no class of the program
-  no_object : defines (named p) object_type ≡ false
+  pub no_object : defines (named p) object_type ≡ false
   no_object = by (defines (named p) object_type) refl
     where
       by : (b : Bool) → defines (named p) object_type ≡ b → defines (named p) object_type ≡ false

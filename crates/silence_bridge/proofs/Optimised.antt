@@ -1,5 +1,6 @@
 -- What is left of a program for all rules shows what the program without its silent calls shows.
-use Rattle.std.proofs.Common.{◌≡◌, inl, inr, ℕ, Bool, true, List, [], sym, ap, ◌∙◌, subst}
+use Rattle.std.proofs.Common.{◌≡◌, inl, inr, ℕ, Bool, true, List, [], refl, sym, ap, ◌∙◌, subst}
+use Rattle.program_model.specs.declared.pass.Origin.{Origin}
 use Rattle.program_model.specs.declared.program.Program.{Program}
 use Rattle.program_model.specs.declared.pass.Outside.{Outside}
 use Rattle.program_model.specs.ProgramRules.{is_well_formed}
@@ -13,9 +14,11 @@ use Rattle.hierarchy.specs.Splitting.{NoSplit}
 use Rattle.hierarchy.specs.declared.build.Hierarchy.{Hierarchy}
 use Rattle.verify.specs.Methods.{TypesAll}
 use Rattle.type_bridge.proofs.Programs.{typed_program}
-use Rattle.pipeline.specs.Silence.{is_quiet, silenced, IsSilent}
-use Rattle.pipeline.specs.Rounds.{IsOptimised}
-use Rattle.reach_bridge.proofs.Repeated.{rounds_show, rounds_typed}
+use Rattle.pipeline.specs.Silence.{is_quiet, silenced_class, silenced, IsSilent}
+use Rattle.pipeline.specs.Rounds.{first_of, IsOptimised}
+use Rattle.rounds_bridge.specs.Owed.{IsSound, Owes}
+use Rattle.rounds_bridge.proofs.Parts.{Part, mapped_part, still_once, still_grounded}
+use Rattle.rounds_bridge.proofs.Repeated.{all_rounds_owe}
 use Rattle.silence_law.proofs.Silenced.{silenced_typed}
 use Rattle.silence_law.proofs.WellFormed.{well_placed}
 use Rattle.silence_bridge.specs.Admitted.{admitted_in}
@@ -40,12 +43,27 @@ module _ (p : Program) (h : Hierarchy) (formed : is_well_formed p ≡ true) (res
     silent_typed admitted q silent = subst IsTyped (sym (silent_named admitted q silent))
         (silenced_typed (named p) (outer_of p o) (admitted_in p admitted) (well_placed p formed) (typed_program p h formed resolved types))
 
-    module _ (r : Program) (advisers spared n : ℕ) (before after : List Bool) (done : IsOptimised o p advisers before after spared r n) where
+    -- its classes are the program's but for bodies
+    silent_part : (admitted : List Bool) (q : Program) → IsSilent o.silent admitted p q → Part q.classes p.classes
+    silent_part admitted q silent = subst (λ (x : Program). Part x.classes p.classes) (sym (is_silenced admitted q silent))
+        (mapped_part (silenced_class (is_quiet p o.silent) admitted) (λ c. record { name = refl; superclass = refl; interfaces = refl }) p.classes)
+
+    silent_sound : (admitted : List Bool) (q : Program) → IsSilent o.silent admitted p q → is_well_formed q ≡ true → IsSound q
+    silent_sound admitted q silent well = record {
+      formed = well;
+      once = still_once p q (silent_part admitted q silent) resolved.of.once;
+      grounded = still_grounded p q (silent_part admitted q silent) acyclic;
+      typed = silent_typed admitted q silent;
+    }
+
+    module _ (r : Program) (origins : List (List Origin)) (advisers spared n : ℕ) (before after : List Bool) (done : IsOptimised o p advisers before after spared r origins n) where
+      rounds : Owes o done.silenced r
+      rounds = all_rounds_owe o done.admitted done.ran.changing (first_of done.silenced) (record { program = r; origins = origins }) done.ran.rounds (silent_sound done.admitted done.silenced done.silent done.formed)
+
       pub optimised_shows : o.shut ≡ [] → SameShown (by_name.silenced (named p) (outer_of p o) (admitted_in p done.admitted)) (named r) (outer_of p o)
       optimised_shows none =
           subst (λ x. SameShown x (named r) (outer_of p o)) (silent_named done.admitted done.silenced done.silent)
-          (subst (λ x. SameShown (named done.silenced) (named r) x) (silent_outer done.admitted done.silenced done.silent)
-          (rounds_show o done.ran.removals done.silenced r done.ran.rounds (silent_typed done.admitted done.silenced done.silent) none))
+          (subst (λ x. SameShown (named done.silenced) (named r) x) (silent_outer done.admitted done.silenced done.silent) (rounds.shown none))
 
-      pub optimised_typed : IsTyped (named r)
-      optimised_typed = rounds_typed o done.ran.removals done.silenced r done.ran.rounds (silent_typed done.admitted done.silenced done.silent)
+      pub optimised_sound : IsSound r
+      optimised_sound = rounds.sound

@@ -9,7 +9,7 @@
 //! - `Silenced`: from the instruction to the whole program (`silenced_named`).
 //! - `Unfaulted`: where a hierarchy was built, the class graph has no fault (`unfaulted`); a program with one `silence`
 //!   leaves whole.
-//! - `Optimised`: the removals that follow.
+//! - `Optimised`: the rounds that follow.
 #![tactic(auto)]
 
 pub mod laws;

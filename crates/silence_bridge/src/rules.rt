@@ -1,6 +1,7 @@
 //! The law of all rules.
 
 ghost use Rattle.std.specs.Prelude.{◌≡◌, ℕ, Bool, true, List, []};
+ghost use Rattle.program_model.specs.declared.pass.Origin.{Origin};
 ghost use Rattle.program_model.specs.declared.program.Program.{Program};
 ghost use Rattle.program_model.specs.declared.pass.Outside.{Outside};
 ghost use Rattle.program_model.specs.ProgramRules.{is_well_formed};
@@ -8,23 +9,23 @@ ghost use Rattle.dalvik_defs.specs.Naming.{named};
 ghost use Rattle.dalvik_defs.specs.Outer.{outer_of};
 ghost use Rattle.dalvik_defs.specs.Silence.{silenced};
 ghost use Rattle.dalvik_defs.specs.Shown.{SameShown};
-ghost use Rattle.pass_defs.specs.Typed.{IsTyped};
 ghost use Rattle.hierarchy.specs.Shapes.{IsAcyclic, IsResolved};
 ghost use Rattle.hierarchy.specs.Splitting.{NoSplit};
 ghost use Rattle.hierarchy.specs.declared.build.Hierarchy.{Hierarchy};
 ghost use Rattle.verify.specs.Methods.{TypesAll};
 ghost use Rattle.pipeline.specs.Rounds.{IsOptimised};
+ghost use Rattle.rounds_bridge.specs.Owed.{IsSound};
 ghost use Rattle.silence_bridge.specs.Admitted.{admitted_in};
 
 /// What `optimise` leaves of a well-formed program for any rules shows what the program shows without its silent calls in
-/// the methods that were admitted, and is typed, where the hierarchy was built of the program, the verifier has a typing
-/// of each method, and no method is shut, as in what rules alone give. What the rounds begin with is, by names, the program
-/// without these calls. The premises are what `Hierarchy::build`, `verify_all` and `optimise` say where they accept.
+/// the methods that were admitted, and is sound, where the hierarchy was built of the program, the verifier has a typing of each
+/// method, and no method is shut, as in what rules alone give. What the rounds begin with is, by names, the
+/// program without these calls. The premises are what `Hierarchy::build`, `verify_all` and `optimise` say where they accept.
 pub fn all_rules_law()
-    ensures silenced { (p r : Program) (h : Hierarchy) (o : Outside) (advisers spared rounds : ℕ) (before after : List Bool) → is_well_formed p ≡ true → IsResolved p h → IsAcyclic p → NoSplit p
-        → (done : IsOptimised o p advisers before after spared r rounds) → named done.silenced ≡ silenced (named p) (outer_of p o) (admitted_in p done.admitted) }
-    ensures shown { (p r : Program) (h : Hierarchy) (o : Outside) (advisers spared rounds : ℕ) (before after : List Bool) → is_well_formed p ≡ true → IsResolved p h → IsAcyclic p → NoSplit p → TypesAll p h
-        → (done : IsOptimised o p advisers before after spared r rounds) → o.shut ≡ [] → SameShown (silenced (named p) (outer_of p o) (admitted_in p done.admitted)) (named r) (outer_of p o) }
-    ensures typed { (p r : Program) (h : Hierarchy) (o : Outside) (advisers spared rounds : ℕ) (before after : List Bool) → is_well_formed p ≡ true → IsResolved p h → IsAcyclic p → NoSplit p → TypesAll p h
-        → IsOptimised o p advisers before after spared r rounds → IsTyped (named r) }
+    ensures silenced { (p r : Program) (origins : List (List Origin)) (h : Hierarchy) (o : Outside) (advisers spared rounds : ℕ) (before after : List Bool) → is_well_formed p ≡ true → IsResolved p h → IsAcyclic p → NoSplit p
+        → (done : IsOptimised o p advisers before after spared r origins rounds) → named done.silenced ≡ silenced (named p) (outer_of p o) (admitted_in p done.admitted) }
+    ensures shown { (p r : Program) (origins : List (List Origin)) (h : Hierarchy) (o : Outside) (advisers spared rounds : ℕ) (before after : List Bool) → is_well_formed p ≡ true → IsResolved p h → IsAcyclic p → NoSplit p → TypesAll p h
+        → (done : IsOptimised o p advisers before after spared r origins rounds) → o.shut ≡ [] → SameShown (silenced (named p) (outer_of p o) (admitted_in p done.admitted)) (named r) (outer_of p o) }
+    ensures sound { (p r : Program) (origins : List (List Origin)) (h : Hierarchy) (o : Outside) (advisers spared rounds : ℕ) (before after : List Bool) → is_well_formed p ≡ true → IsResolved p h → IsAcyclic p → NoSplit p → TypesAll p h
+        → IsOptimised o p advisers before after spared r origins rounds → IsSound r }
 {}

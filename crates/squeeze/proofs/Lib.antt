@@ -1,6 +1,1 @@
-mod Going
-mod Fating
-mod Lighter
 mod Needing
-mod Same
-mod Settling

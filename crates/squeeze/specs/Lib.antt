@@ -1,8 +1,2 @@
-pub mod Inside
-pub mod Fates
-pub mod Settles
-pub mod Plans
-pub mod Squeezed
-pub mod Found
+pub mod Skipping
 pub mod Needed
-pub mod Weights

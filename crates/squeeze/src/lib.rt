@@ -2,17 +2,14 @@
 //!
 //! What goes is what no walk from the entry comes to, nops, and gotos to the next position. Where the branch behind a run of
 //! nops goes back into the run, its last position stays as a nop, so that no branch comes to go to itself. Everything else
-//! stays, so no walk loses anything that it does. [`apply`] does it to a program in place; `specs/Fates.antt` says what goes, and
-//! `specs/Settles.antt` what becomes of a body. Where a body stays as it was, nothing of the three kinds is left in it, but
-//! where a handler of a region that is left would come to stand behind the end.
+//! stays, so no walk loses anything that it does. [`wishes`] says of a body what is to go (`specs/Skipping.antt`), and [`apply`]
+//! takes it out of a program in place (`thin_pass`). Where nothing is counted, nothing of the three kinds is left in any body of
+//! an admitted method, but the nops to which the branch behind them goes (`specs/Needed.antt`). That a squeezed program keeps
+//! the rules, is typed and shows the same is the law of `squeeze_bridge`.
 #![tactic(auto)]
 
-mod bodies;
-mod choice;
-mod inside;
-pub mod laws;
-mod methods;
 mod program;
+mod wishing;
 
-pub use choice::fates;
 pub use program::apply;
+pub use wishing::wishes;

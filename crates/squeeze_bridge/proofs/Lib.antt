@@ -1,2 +1,3 @@
-mod Walked
-mod Squeezes
+mod Entered
+mod Squeezing
+pub mod Squeezes

@@ -1,21 +1,20 @@
 //! The law of squeezed programs.
 
-ghost use Rattle.std.specs.Prelude.{ℕ, Bool, List};
-ghost use Rattle.program_model.specs.declared.pass.Origin.{Origin};
+ghost use Rattle.std.specs.Prelude.{◌≡◌, ℕ, Bool, true, List};
+ghost use Rattle.program_model.specs.ProgramRules.{is_well_formed};
+ghost use Rattle.program_model.specs.declared.pass.Changed.{Changed};
 ghost use Rattle.program_model.specs.declared.program.Program.{Program};
+ghost use Rattle.class_defs.specs.ClassGraph.{IsTwice, IsAncestor};
 ghost use Rattle.dalvik_defs.specs.Naming.{named};
-ghost use Rattle.dalvik_defs.specs.Outer.{Outer};
-ghost use Rattle.dalvik_defs.specs.Shown.{SameShown};
-ghost use Rattle.bodies_law.specs.Numbered.{OtherNumberedBodies};
-ghost use Rattle.thin_law.specs.Squeezing.{IsSqueezing};
-ghost use Rattle.thin_law.specs.Thins.{ThinsNumbered};
-ghost use Rattle.squeeze.specs.Squeezed.{IsSqueezed};
+ghost use Rattle.pass_defs.specs.Typed.{IsTyped};
+ghost use Rattle.squeeze.specs.Skipping.{AreSkips};
+ghost use Rattle.thin_bridge.specs.Kept.{IsKept};
+ghost use Rattle.thin_pass.specs.Plans.{IsThinnedBy};
 
-/// A squeezed program has the bodies of the old one without nops, gotos to the next position and positions that no walk reaches,
-/// or with nops in their places, and shows the same: for every framework, script and float arithmetic that fit it, and both ways.
+/// What `squeeze` leaves of a well-formed, typed program, of which no class is defined twice or is its own ancestor, is
+/// well-formed and typed, has the same tables, and the same classes and members but for bodies and source lines, and shows the
+/// same, for every outside, whatever methods are admitted.
 pub fn squeezed_program_law()
-    ensures thins { (admitted : List Bool) (p q : Program) (os ps : List (List Origin)) (count : ℕ) → IsSqueezed admitted p q os ps count
-        → OtherNumberedBodies (ThinsNumbered (λ k fs b. IsSqueezing fs b) p) p q }
-    ensures shown { (admitted : List Bool) (p q : Program) (os ps : List (List Origin)) (count : ℕ) → IsSqueezed admitted p q os ps count
-        → (o : Outer) → SameShown (named p) (named q) o }
+    ensures { (admitted : List Bool) (p : Program) (changed : Changed) → is_well_formed p ≡ true → ((class : ℕ) → IsTwice p class → ⊥) → ((class : ℕ) → IsAncestor p class class → ⊥)
+        → IsTyped (named p) → IsThinnedBy AreSkips admitted p changed → IsKept p changed.program }
 {}

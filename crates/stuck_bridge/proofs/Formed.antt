@@ -1,8 +1,9 @@
--- The named program of a well-formed program is regular, where its code is typed and no class stands above an interface.
+-- The named program of a well-formed program is regular, where its code is typed.
 use Rattle.std.proofs.Common.{◌≡◌, ℕ, Bool, true, false, true≢false, Option, Some, None, refl, sym, ap, ◌∙◌, subst}
 use Rattle.std.specs.Prelude.{Contains}
 use Rattle.std.specs.Option.{option_map}
 use Rattle.program_model.specs.ProgramRules.{is_well_formed}
+use Rattle.program_model.proofs.Formed.{formed}
 use Rattle.program_model.specs.declared.body.Body.{Body}
 use Rattle.program_model.specs.declared.program.Method.{Method}
 use Rattle.program_model.specs.declared.program.Program.{Program}
@@ -22,11 +23,12 @@ use Rattle.dalvik_defs.specs.declared.program.NamedClass.{NamedClass}
 use Rattle.dalvik_defs.specs.declared.program.NamedField.{NamedField}
 use Rattle.dalvik_defs.specs.declared.program.NamedMethod.{NamedMethod}
 use Rattle.pass_defs.specs.Typed.{IsTyped}
-use Rattle.stuck_law.specs.Regular.{InterfacesStandFree, IsRegular, reads_value, suits, taken}
+use Rattle.stuck_law.specs.Regular.{IsRegular, reads_value, suits, taken}
 use Rattle.stuck_law.proofs.Climbs.{name_of, class_in}
 use Rattle.stuck_bridge.proofs.Listed.{Image, image, some_same, none_same, field_fits_at, name_fits}
 use Rattle.stuck_bridge.proofs.Members.{class_known, method_known, taken_known, reads_known}
 use Rattle.stuck_bridge.proofs.FirstValues.{first_suits}
+use Rattle.stuck_bridge.proofs.Standing.{interfaces_free}
 
 module _ (p : Program) (fits : is_well_formed p ≡ true) (twice : (class : ℕ) → IsTwice p class → ⊥) where
   s : Sound p
@@ -95,13 +97,13 @@ module _ (p : Program) (fits : is_well_formed p ≡ true) (twice : (class : ℕ)
       by (Some x) l n = subst (λ v. suits g.kind (first_value v) ≡ true) (some_same (value_of p x) v n)
           (subst (λ g. suits g.kind (first_value (value_of p x)) ≡ true) at.is (first_suits p s k.entry.name at.entry x ((class_parts p s k.place k.entry k.is_entry).fields at.place at.entry at.is_entry) (field_fits_at p s k.place k.entry k.is_entry at.place at.entry at.is_entry) l))
 
-  pub regular_program : InterfacesStandFree (named p) → IsTyped (named p) → IsRegular (named p)
-  regular_program free typed = record {
+  pub regular_program : IsTyped (named p) → IsRegular (named p)
+  regular_program typed = record {
     typed = typed;
     named = class_under;
     class_types = class_fits;
     methods = method_under;
-    above_interfaces = free;
+    above_interfaces = interfaces_free p s (formed p fits).stands;
     firsts = begun;
     entries = entered;
     reads = read;

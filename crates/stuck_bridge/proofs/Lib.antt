@@ -1,4 +1,5 @@
 pub mod Listed
 pub mod Members
 pub mod FirstValues
+pub mod Standing
 pub mod Formed

@@ -15,18 +15,17 @@ ghost use Rattle.dalvik_defs.specs.declared.tables.Floats.{Floats};
 ghost use Rattle.dalvik_defs.specs.declared.tables.Framework.{Framework};
 ghost use Rattle.pass_defs.specs.Typed.{IsTyped};
 ghost use Rattle.stuck_law.specs.NeverStuck.{IsNeverStuck};
-ghost use Rattle.stuck_law.specs.Regular.{InterfacesStandFree, IsRegular};
+ghost use Rattle.stuck_law.specs.Regular.{IsRegular};
 
-/// The named program of a typed and well-formed program, of which no class is defined twice and no class stands directly
-/// above an interface, is regular.
+/// The named program of a typed and well-formed program, of which no class is defined twice, is regular.
 pub fn regular_law()
-    ensures { (p : Program) → is_well_formed p ≡ true → ((class : ℕ) → IsTwice p class → ⊥) → InterfacesStandFree (named p) → IsTyped (named p) → IsRegular (named p) }
+    ensures { (p : Program) → is_well_formed p ≡ true → ((class : ℕ) → IsTwice p class → ⊥) → IsTyped (named p) → IsRegular (named p) }
 {}
 
 /// So under a framework and a script that fit it, a run of it ends only at the end of the script or at a move that isn't
 /// legal.
 pub fn never_stuck_law()
-    ensures { (p : Program) → is_well_formed p ≡ true → ((class : ℕ) → IsTwice p class → ⊥) → InterfacesStandFree (named p) → IsTyped (named p)
+    ensures { (p : Program) → is_well_formed p ≡ true → ((class : ℕ) → IsTwice p class → ⊥) → IsTyped (named p)
         → (o : Outer) (f : Framework) (a : Floats) (script : List Move) → Fit (named p) o f script
         → IsNeverStuck (setting_of (named p) o f a) (bodies_of (named p)) (opening script) }
 {}

@@ -28,7 +28,7 @@ use Rattle.thin_law.specs.Fates.{MayGo, AreFates}
 use Rattle.thin_law.specs.Cleaning.{IsTaken, Takes, Leads, Catches, Drops, IsDropped, Skipped, Unread, IsCleaning, IsSound}
 use Rattle.thin_law.proofs.Thinning.{Leaps}
 use Rattle.thin_law.proofs.Squeezed.{more, skip_leaps, skipped_goes}
-use Rattle.thin_law.proofs.Pure.{pure_leaps, Fine}
+use Rattle.thin_law.proofs.Pure.{pure_leaps}
 
 pub read_need : (b : NamedBody) → ((n : ℕ) (x : Form) → form_at b n ≡ Some x → gets_void x ≡ false) → IsNeed b (λ n r. IsRead b r n) (IsTaken b)
 read_need b v = record {
@@ -57,9 +57,9 @@ pure_plain p x e = refl
 
 dropped_goes : (p : NamedProgram) (b : NamedBody) (fs : List Fate) (n : ℕ) (x : Form) → form_at b n ≡ Some x → IsDropped p b fs n x → MayGo (λ n r. IsRead b r n) (IsTaken b) (Drops p) fs n x
 dropped_goes p b fs n x e (Skipped _ h) = skipped_goes (λ n r. IsRead b r n) (IsTaken b) (Drops p) fs n x (λ m j. inl j) h
-dropped_goes p b fs n x e (Unread _ h u) = let j = goes_next x n (pure_continues p x h) in record {
+dropped_goes p b fs n x e (Unread _ h v u) = let j = goes_next x n (pure_continues p x h) in record {
   to = n + 1;
-  loses_it = inr (h, refl);
+  loses_it = inr (h, (v, refl));
   ahead = more n;
   onward = j;
   beside = refl;
@@ -72,7 +72,7 @@ dropped_goes p b fs n x e (Unread _ h u) = let j = goes_next x n (pure_continues
     at r y true k = absurd (u r k (n + 1, goes_onward b n x e (n + 1) (goes_next x n (pure_continues p x h)), y))
 
 pub cleaning_fates : (p : NamedProgram) (fs : List Fate) (b : NamedBody) → IsCleaning p fs b → AreFates (λ n r. IsRead b r n) (IsTaken b) (Drops p) fs b
-cleaning_fates p fs b h = record { long = h.long; leaves = λ n x f i e k s. dropped_goes p b fs n x e (h.dropped n x f i e k s) }
+cleaning_fates p fs b h = record { long = h.long; within = h.within; leaves = λ n x f i e k s. dropped_goes p b fs n x e (h.dropped n x f i e k s) }
 
 -- ---- in a run
 
@@ -80,21 +80,7 @@ module _ (p : NamedProgram) (o : Outer) (sound : IsSound p) where
   abbrev pub level : ℕ
   level = suc (length p.classes)
 
-  here_in : (f : Frame) (x : Form) → form_here (bodies_of p) f ≡ Some x → (b : NamedBody) × ((bodies_of p f.method ≡ Some b) × (form_at b f.position ≡ Some x))
-  here_in f x e = by (bodies_of p f.method) refl e
-    where
-      by : (y : Option NamedBody) → bodies_of p f.method ≡ y → (elim y as (λ y. Option Form) [ None ↦ None | Some b ↦ form_at b f.position ]) ≡ Some x
-          → (b : NamedBody) × ((bodies_of p f.method ≡ Some b) × (form_at b f.position ≡ Some x))
-      by None e i = no_some x i
-      by (Some b) e i = (b, (e, i))
-
-  fine : (b : NamedBody) (k : MethodKey) (n : ℕ) (x : Form) → bodies_of p k ≡ Some b → form_at b n ≡ Some x → Fine x
-  fine b k n (form.Literal op to from value) i e = sound.literals k b n op to from value i e
-  fine b k n x i e = tt
-
   pub drop_leaps : (framework : Framework) (floats : Floats) (w : World) (c : Classes) (f : Frame) (x : Form) (m : ℕ) → ((t : Text) → quiet_within (face_of p framework) level t ≡ true → c t ≡ Done)
       → form_here (bodies_of p) f ≡ Some x → Drops p f.position x m → Leaps (setting_of p o framework floats) (bodies_of p) w c f x m
   drop_leaps framework floats w c f x m d e (inl k) = skip_leaps (setting_of p o framework floats) (bodies_of p) w c f x m e k
-  drop_leaps framework floats w c f x m d e (inr k) = let b = here_in f x e in
-      subst (λ n. Leaps (setting_of p o framework floats) (bodies_of p) w c f x n) (sym k.1)
-      (pure_leaps p o framework floats sound.ends w c f d x (fine b.0 f.method f.position x b.1.0 b.1.1) k.0 e)
+  drop_leaps framework floats w c f x m d e (inr k) = subst (λ n. Leaps (setting_of p o framework floats) (bodies_of p) w c f x n) (sym k.1.1) (pure_leaps p o framework floats sound.ends w c f d x k.1.0 k.0 e)

@@ -44,6 +44,7 @@ use Rattle.pass_defs.specs.Bare.{writes}
 use Rattle.pass_defs.specs.Pure.{is_pure, is_quiet_field}
 use Rattle.frame_laws.proofs.Agree.{agree_refl, agree_on, agree_write}
 use Rattle.frame_laws.proofs.Acts.{wide_sort, is_division, divides_sort, sort_width, sort_divides, wide_number, unary_width}
+use Rattle.thin_law.specs.Cleaning.{IsFine}
 use Rattle.thin_law.proofs.Thinning.{Leaps, leap_by}
 
 clash : {A : Type 0} (b : Bool) → b ≡ true → b ≡ false → A
@@ -102,11 +103,6 @@ module _ (s : Setting) (find : Bodies) (w : World) (c : Classes) (f : Frame) (x 
   in_sort (OnFloat op) to a b d o e = one to _ o (goes_by _ e)
   in_sort (OnDouble op) to a b d o e = two to _ _ o (goes_by _ e)
 
--- the literal of a division isn't 0 as a word
-abbrev pub Fine : Form → Type 0
-Fine (form.Literal op to from value) = int_eq value (pos 0) ≡ false → nat_eq (cast_unsigned w32 value) 0 ≡ false
-Fine x = Unit {0}
-
 -- where the class of a trivially initialised field is done
 module _ (p : NamedProgram) (o : Outer) (framework : Framework) (floats : Floats) (ends : (t : Text) → EndsWithin p (length p.classes) t) where
   abbrev s : Setting
@@ -159,7 +155,7 @@ module _ (p : NamedProgram) (o : Outer) (framework : Framework) (floats : Floats
     moves slot.Object to from h = one s (bodies_of p) w c f _ h to _ (λ r k. k) (goes_by s (bodies_of p) w c f _ h _ refl)
     moves slot.Wide to from h = two s (bodies_of p) w c f _ h to _ _ (λ r k. k) (goes_by s (bodies_of p) w c f _ h _ refl)
 
-    pub pure_leaps : (x : Form) → Fine x → is_pure p x ≡ true → Comes x
+    pub pure_leaps : (x : Form) → IsFine x → is_pure p x ≡ true → Comes x
     pure_leaps form.Nop n e h = leap_by s (bodies_of p) w c f form.Nop (f.position + 1) f.registers (goes_by s (bodies_of p) w c f form.Nop h (next f) refl) (agree_refl (λ r. writes form.Nop r ≡ false) f.registers)
     pure_leaps (form.Move sl to from) n e h = moves sl to from h
     pure_leaps (form.MoveResult sl to) n e h = goes_slot sl to h
@@ -175,6 +171,6 @@ module _ (p : NamedProgram) (o : Outer) (framework : Framework) (floats : Floats
         (λ r k. subst (λ b. in_operand b to r ≡ false) (sym (unary_width floats op (number f from))) k) refl
     pure_leaps (form.Binary op to a b) n e h = in_sort s (bodies_of p) w c f (form.Binary op to a b) h (sort_of op) to a b (sort_divides op ∙ not_true (divides op) e) (λ r k. subst (λ b. in_operand b to r ≡ false) (sym (sort_width op)) k) refl
     pure_leaps (form.Literal op to from value) n e h =
-        let m = literal_answered op (word f from) (cast_unsigned w32 value) (λ d. n (not_true (int_eq value (pos 0)) (ap (λ b. not b || not (int_eq value (pos 0))) (sym d) ∙ e))) in
+        let m = literal_answered op (word f from) (cast_unsigned w32 value) n in
         one s (bodies_of p) w c f (form.Literal op to from value) h to (Word m.0) (λ r k. k) (goes_by s (bodies_of p) w c f (form.Literal op to from value) h _ (ap (λ y. gives_word y w f to) m.1))
     pure_leaps x n e h = absurd (true≢false (sym e))

@@ -52,4 +52,4 @@ skipped_goes need wants loses fs n _ skips (Over m l e) = record {
 }
 
 pub squeezing_fates : (fs : List Fate) (b : NamedBody) → IsSqueezing fs b → AreFates Everything Anywhere Skips fs b
-squeezing_fates fs b h = record { long = h.long; leaves = λ n x f i e k s. skipped_goes Everything Anywhere Skips fs n x (λ m j. j) (h.skipped n x f i e k s) }
+squeezing_fates fs b h = record { long = h.long; within = h.within; leaves = λ n x f i e k s. skipped_goes Everything Anywhere Skips fs n x (λ m j. j) (h.skipped n x f i e k s) }

@@ -17,7 +17,8 @@ pub record MayGo (need : ℕ → ℕ → Type 0) (wants : ℕ → Type 0) (loses
   pub unneeded : (r : ℕ) → need to r → writes x r ≡ false
   pub untaken : gives_result x ≡ true → wants to → ⊥
 
--- each position that some walk reaches stays, or may go
+-- each position that some walk reaches has a form, and stays or may go
 pub record AreFates (need : ℕ → ℕ → Type 0) (wants : ℕ → Type 0) (loses : ℕ → Form → ℕ → Type 0) (fs : List Fate) (b : NamedBody) : Type 0 where
   pub long : length fs ≡ length b.forms
+  pub within : (n : ℕ) → IsReached b n → n < length b.forms
   pub leaves : (n : ℕ) (x : Form) (f : Fate) → IsReached b n → form_at b n ≡ Some x → slice_get fs n ≡ Some f → stays f ≡ false → MayGo need wants loses fs n x

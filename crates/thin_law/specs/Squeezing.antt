@@ -24,7 +24,8 @@ pub data IsSkipped (fs : List Fate) (n : ℕ) : Form → Type 0 where
   Nop : IsSkipped fs n form.Nop
   Over : (m : ℕ) → n < m → place fs m ≡ place fs (n + 1) → IsSkipped fs n (form.Goto m)
 
--- each position that goes or empties is unreached, or such a form
+-- no walk passes the end, and each position that goes or empties is unreached, or such a form
 pub record IsSqueezing (fs : List Fate) (b : NamedBody) : Type 0 where
   pub long : length fs ≡ length b.forms
+  pub within : (n : ℕ) → IsReached b n → n < length b.forms
   pub skipped : (n : ℕ) (x : Form) (f : Fate) → IsReached b n → form_at b n ≡ Some x → slice_get fs n ≡ Some f → stays f ≡ false → IsSkipped fs n x

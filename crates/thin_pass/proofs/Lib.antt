@@ -1,4 +1,7 @@
 mod Counting
-mod Idled
+pub mod Fated
+pub mod Lighter
+pub mod Wished
+pub mod Unchanged
 mod Noting
 mod Planning

@@ -1,2 +1,3 @@
-pub mod Idling
+pub mod Wishing
+pub mod Weights
 pub mod Plans

@@ -12,7 +12,7 @@ use Rattle.pass_defs.specs.Thinned.{left, body_thinned}
 use Rattle.body_edit.specs.declared.fate.Fate.{Fate}
 use Rattle.body_edit.specs.declared.fate.Fate.TheVariants.{Stays, Empties, Goes}
 use Rattle.body_edit.specs.Fates.{fates_of, origins_of}
-use Rattle.thin_pass.specs.Idling.{HasFates}
+use Rattle.thin_pass.specs.Wishing.{HasFates}
 
 abbrev pub changes : Fate → Bool
 changes Stays = false
@@ -100,12 +100,12 @@ all_origins (c ∷ cs) (ps ∷ plan) os = all_origins cs plan (class_origins c.m
 abbrev pub program_origins : List (List (List Fate)) → Program → List (List Origin)
 program_origins plan p = if nat_eq (all_changes plan) 0 then [] else all_origins p.classes plan (replicate (length p.methods) [])
 
--- A program that was thinned: each admitted body is what the fates of its idle positions leave of it, all else stays, the
+-- A program that was thinned: each admitted body is what the fates that come of the wishes leave of it, all else stays, the
 -- positions that changed are counted up to the greatest number of 64 bits, and the origins are those of the positions that
 -- are left.
-pub record IsThinnedBy (idles : Body → List Bool → Type 0) (admitted : List Bool) (p : Program) (c : Changed) : Type 0 where
+pub record IsThinnedBy (wishes : Body → List Fate → Type 0) (admitted : List Bool) (p : Program) (c : Changed) : Type 0 where
   pub plan : List (List (List Fate))
-  pub fates : AreForClasses (HasFates idles admitted) p.classes plan
+  pub fates : AreForClasses (HasFates wishes admitted) p.classes plan
   pub program : c.program ≡ program_by plan p
   pub count : c.count ≡ capped (all_changes plan)
   pub origins : c.origins ≡ program_origins plan c.program

@@ -1,9 +1,11 @@
 //! A program whose bodies are thinned in place.
 
-ghost use Rattle.std.specs.Prelude.{◌≡◌, ◌+◌, ◌<◌, ◌^◌, [], List, Bool, false, length, slice_index_or, IfOk};
+ghost use Rattle.std.specs.Prelude.{◌≡◌, ◌+◌, ◌<◌, ◌≤◌, ◌^◌, [], List, false, length, slice_index_or, IfOk};
 ghost use Rattle.program_model.specs.Cells.{capped};
 ghost use Rattle.program_model.specs.declared.body.Body.{Body};
-ghost use Rattle.thin_pass.specs.Idling.{room_in, is_small, FatesIn, HasFates};
+ghost use Rattle.thin_pass.specs.Wishing.{room_in, is_small, FatesIn, HasFates};
+ghost use Rattle.body_edit.specs.declared.fate.Fate.{Fate};
+ghost use Rattle.thin_pass.specs.Weights.{weight_of};
 ghost use Rattle.thin_pass.specs.Plans.{AreFor, AreForClasses, positions_of, method_by, methods_by, class_by, classes_by, program_by, class_changes, all_changes, IsThinnedBy};
 
 use crate::fates::fates_where;
@@ -14,15 +16,15 @@ use program_model::{Admitted, Body, Changed, Class, Method, Program};
 use seq::Seq;
 use std::alloc::{AllocError, Global};
 
-/// What decides which positions of a body are idle.
+/// What decides which positions of a body are to go or to become nops.
 pub trait Thinning {
-    /// These marks are those of a body's idle positions.
-    ghost idles: { Self → Body → List Bool → Type 0 };
+    /// This is wished for the positions of a body.
+    ghost wishes: { Self → Body → List Fate → Type 0 };
 
-    /// Which positions of a body are idle. The only error is want of memory.
-    fn idle(&self, alloc: Global, body: &Body) -> Result<Vec<bool>, AllocError>
+    /// What is wished for the positions of a body. The only error is want of memory.
+    fn wish(&self, alloc: Global, body: &Body) -> Result<Vec<Fate>, AllocError>
         requires { length body.now.insns + length body.now.regions < 2 ^ 32 }
-        ensures { IfOk result (λ v. idles self.now body.now v.items) };
+        ensures { IfOk result (λ v. wishes self.now body.now v.items) };
 }
 
 /// Whether a number is marked.
@@ -56,7 +58,7 @@ fn fates_for<T: Thinning>(
     admitted: bool,
 ) -> Result<Seq<Fate>, AllocError>
     requires { room_in method.now.body < 2 ^ 32 }
-    ensures fates { IfOk result (FatesIn (T.idles pass.now) admitted method.now.body) }
+    ensures fates { IfOk result (FatesIn (T.wishes pass.now) admitted method.now.body) }
     ensures long { IfOk result (λ fs. length fs ≡ positions_of method.now) }
 {
     match &method.body {
@@ -64,8 +66,8 @@ fn fates_for<T: Thinning>(
             if !admitted {
                 return Ok(Seq::of_vec(vec![in alloc; Fate::Stays; body.insns.len()]?));
             }
-            let idle = pass.idle(alloc, body)?;
-            Ok(Seq::of_vec(fates_where(alloc, body.insns.as_slice(), &idle)?))
+            let wishes = pass.wish(alloc, body)?;
+            Ok(Seq::of_vec(fates_where(alloc, body.insns.as_slice(), &wishes)?))
         }
         None => Ok(Seq::new(alloc)),
     }
@@ -78,7 +80,7 @@ fn thin_one<T: Thinning>(
     pass: &T,
     admitted: &[bool],
 ) -> Result<Seq<Fate>, AllocError>
-    ensures fates { IfOk result (HasFates (T.idles pass.now) admitted.now method.old) }
+    ensures fates { IfOk result (HasFates (T.wishes pass.now) admitted.now method.old) }
     ensures by { IfOk result (λ fs. method.new ≡ method_by fs method.old) }
 {
     if !is_small(method) {
@@ -98,7 +100,7 @@ fn thin_methods<T: Thinning>(
     pass: &T,
     admitted: &[bool],
 ) -> Result<Seq<Seq<Fate>>, AllocError>
-    ensures thins { IfOk result (λ plan. AreFor (HasFates (T.idles pass.now) admitted.now) methods.old plan) }
+    ensures thins { IfOk result (λ plan. AreFor (HasFates (T.wishes pass.now) admitted.now) methods.old plan) }
     ensures by { IfOk result (λ plan. methods.new ≡ methods_by plan methods.old) }
 {
     let mut plan = Vec::with_capacity(alloc, methods.len())?;
@@ -115,7 +117,7 @@ fn thin_class<T: Thinning>(
     pass: &T,
     admitted: &[bool],
 ) -> Result<Seq<Seq<Fate>>, AllocError>
-    ensures thins { IfOk result (λ plan. AreFor (HasFates (T.idles pass.now) admitted.now) class.old.methods plan) }
+    ensures thins { IfOk result (λ plan. AreFor (HasFates (T.wishes pass.now) admitted.now) class.old.methods plan) }
     ensures by { IfOk result (λ plan. class.new ≡ class_by plan class.old) }
 {
     thin_methods(alloc, class.methods.items.as_mut_slice(), pass, admitted)
@@ -128,7 +130,7 @@ fn thin_classes<T: Thinning>(
     pass: &T,
     admitted: &[bool],
 ) -> Result<Seq<Seq<Seq<Fate>>>, AllocError>
-    ensures thins { IfOk result (λ plan. AreForClasses (HasFates (T.idles pass.now) admitted.now) classes.old plan) }
+    ensures thins { IfOk result (λ plan. AreForClasses (HasFates (T.wishes pass.now) admitted.now) classes.old plan) }
     ensures by { IfOk result (λ plan. classes.new ≡ classes_by plan classes.old) }
 {
     let mut plan = Vec::with_capacity(alloc, classes.len())?;
@@ -167,24 +169,20 @@ fn thin_all<T: Thinning>(
     pass: &T,
     admitted: &[bool],
 ) -> Result<Seq<Seq<Seq<Fate>>>, AllocError>
-    ensures thins { IfOk result (λ plan. AreForClasses (HasFates (T.idles pass.now) admitted.now) program.old.classes plan) }
+    ensures thins { IfOk result (λ plan. AreForClasses (HasFates (T.wishes pass.now) admitted.now) program.old.classes plan) }
     ensures by { IfOk result (λ plan. program.new ≡ program_by plan program.old) }
 {
     thin_classes(alloc, program.classes.items.as_mut_slice(), pass, admitted)
 }
 
-/// Takes the idle positions out of the admitted bodies of a program, in place. Where a branch would lead to itself without
-/// them, the last one stays as a nop. All else stays, and lines and origins follow. `count` is how many positions went or
-/// became nops, and `origins` says where those that are left come from, for each method number, where any changed. A body
-/// with 4,294,967,296 positions and regions or more is left alone. After want of memory, the only error, the program is
-/// lost.
-pub fn thin_program<T: Thinning>(
+/// Thins the admitted bodies of a program, with what changed.
+fn thin_bodies<T: Thinning>(
     alloc: Global,
     program: Program,
     pass: &T,
     admitted: &Admitted,
 ) -> Result<Changed, AllocError>
-    ensures { IfOk result (IsThinnedBy (T.idles pass.now) admitted.now.methods.items program) }
+    ensures { IfOk result (IsThinnedBy (T.wishes pass.now) admitted.now.methods.items program) }
 {
     let mut program = program;
     let plan = thin_all(alloc, &mut program, pass, &admitted.methods)?;
@@ -196,4 +194,25 @@ pub fn thin_program<T: Thinning>(
         count,
         origins,
     })
+}
+
+/// Takes the positions out of the admitted bodies of a program that a pass wishes to go, and makes nops of those that it wishes
+/// to become nops, in place. Where a branch would lead to itself, the last position before it becomes a nop. All else stays,
+/// and lines and origins follow. `count` is how many positions went or became nops, 0 exactly where the program is the same,
+/// and `origins` says where those that are left come from, for each method number, where any changed. A program that isn't
+/// the same weighs less: a nop weighs 1 and every other instruction 2. A body with 4,294,967,296 positions and regions or
+/// more is left alone. After want of memory, the only error, the program is lost.
+pub fn thin_program<T: Thinning>(
+    alloc: Global,
+    program: Program,
+    pass: &T,
+    admitted: &Admitted,
+) -> Result<Changed, AllocError>
+    ensures thinned { IfOk result (IsThinnedBy (T.wishes pass.now) admitted.now.methods.items program) }
+    ensures same { IfOk result (λ changed. changed.count ≡ 0 → changed.program ≡ program) }
+    ensures falls { IfOk result (λ changed. weight_of changed.program ≤ weight_of program) }
+    ensures less { IfOk result (λ changed. 0 < changed.count → weight_of changed.program < weight_of program) }
+{
+    let changed = thin_bodies(alloc, program, pass, admitted)?;
+    Ok(changed)
 }

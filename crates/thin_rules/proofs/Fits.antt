@@ -1,6 +1,6 @@
 -- A thinned body keeps the rules of bodies.
-use Rattle.std.proofs.Common.{◌≡◌, ◌⊎◌, inl, inr, ℕ, zero, suc, ◌+◌, ◌-◌, ◌<◌, ◌≤◌, Bool, true, false, true≢false, List, [], ◌∷◌, length, refl, sym, ap, ◌∙◌, subst, arith}
-use Rattle.std.specs.Prelude.{◌&&◌, not, Option, Some, None, slice_get, Contains, nat_lt, nat_le}
+use Rattle.std.proofs.Common.{◌≡◌, ◌⊎◌, inl, inr, ℕ, zero, suc, ◌+◌, ◌-◌, ◌<◌, ◌≤◌, Bool, true, false, true≢false, List, [], ◌∷◌, length, refl, sym, ap, ◌∙◌, subst, arith, lt-ltb, ltb-true}
+use Rattle.std.specs.Prelude.{◌&&◌, not, Option, Some, None, slice_get, Contains, nat_lt, nat_le, map}
 use Rattle.std.specs.List.{list_all, enumerate_from}
 use Rattle.std.specs.Option.{option_map}
 use Rattle.insn_set.specs.Flow.{goes_on, targets_of}
@@ -17,15 +17,16 @@ use Rattle.program_model.specs.declared.body.Handler.{Handler}
 use Rattle.program_model.specs.declared.body.Region.{Region}
 use Rattle.program_model.specs.declared.body.Body.{Body}
 use Rattle.program_model.specs.declared.program.Program.{Program}
-use Rattle.pass_defs.specs.Thinned.{Fate, Stays, Empties, Goes, place, insn_retargeted, insns_left, handler_moved, region_moved, region_has_room, body_thinned}
+use Rattle.pass_defs.specs.Thinned.{Fate, Stays, Empties, Goes, place, insn_retargeted, insns_left, handler_moved, region_moved, rest_before, body_thinned}
 use Rattle.frame_laws.proofs.Lists.{some_same}
 use Rattle.silence_law.proofs.Lists.{clash, and_left, and_right, and_both, all_map}
 use Rattle.thin_law.proofs.Places.{IsLeft, place_next}
-use Rattle.thin_rules.specs.Tidy.{IsTidy}
+use Rattle.thin_rules.specs.Tidy.{Catches, IsTidy}
 use Rattle.thin_rules.proofs.Kept.{encodable, registers, numbers, gives, enters, begins, aims, enter_begin}
 use Rattle.thin_rules.proofs.Places.{get_within, get_there, all_at, all_of, all_with, all_numbered, all_beside, left_insn, insn_left, From, come_from, place_same, place_rises}
-use Rattle.thin_rules.proofs.Regions.{handlers_begin, rest_begins, kept_all, kept_any, handles_there, each_region_fits, regions_left}
-use Rattle.thin_rules.proofs.Lands.{first_begins, all_regions_fit, operands_at, targets_at, follows_at, left_at, Lands, lands, target_lands, is_marked, Falls, falls}
+use Rattle.thin_rules.proofs.Regions.{has_room, handlers_begin, rest_begins, kept_all, kept_any, handles_there, each_region_fits, regions_left}
+use Rattle.thin_rules.proofs.Rules.{first_begins, all_regions_fit, operands_at, targets_at, follows_at, rest_of, may_begin_at}
+use Rattle.thin_rules.proofs.Lands.{left_at, Lands, lands, target_lands, is_marked, Falls, falls}
 
 not_behind : (a : ℕ) → suc (a - 1) < a → 0 < a → ⊥
 not_behind a l m = omega arith
@@ -58,6 +59,17 @@ three (suc n) (suc m) = by (three n m)
     by (inl l) = inl (omega (arith, l))
     by (inr (inl e)) = inr (inl (ap suc e))
     by (inr (inr l)) = inr (inr (omega (arith, l)))
+
+between : (a b c : ℕ) → a ≤ b → suc b ≤ c → a < c
+between a b c l m = omega arith
+
+upto : (a b : ℕ) → a < b → suc a ≤ b
+upto a b l = omega arith
+
+is_left : (f : Fate) → (f ≡ Goes → ⊥) → IsLeft (Some f)
+is_left Stays n = tt
+is_left Empties n = tt
+is_left Goes n = n refl
 
 none_plus : (n : ℕ) → n ≡ 0 + n
 none_plus n = omega arith
@@ -102,7 +114,7 @@ module _ (p : Program) (marks : ℕ → Bool) (fs : List Fate) (b : Body) (fits 
       by_form (Some i) e h = let l = lands p marks fs b fits tidy n i m e in ap may_begin (stands n l) ∙ begin_left l.fate l.insn l.is_left (by i e h l l.enters)
 
   first : may_begin (slice_get new 0) ≡ true
-  first = ap (λ k. may_begin (slice_get new k)) (sym (entry_place fs)) ∙ begins_at 0 tidy.entry (first_begins p marks fs b fits tidy)
+  first = ap (λ k. may_begin (slice_get new k)) (sym (entry_place fs)) ∙ begins_at 0 tidy.entry (first_begins p b fits)
 
   -- behind what goes on something is left
   behind : (j : ℕ) (y : Insn) → slice_get new j ≡ Some y → goes_on y ≡ true → suc j < length new
@@ -143,7 +155,7 @@ module _ (p : Program) (marks : ℕ → Bool) (fs : List Fate) (b : Body) (fits 
       taken (suc n) slot to h k s =
           let giver = tidy.results n to slot h k in
           let i = get_there b.insns n (less n (length b.insns) (get_within b.insns (suc n) (insn.MoveResult slot to) k)) in
-          result n i.0 giver i.1 (same_suc (at n) j (sym (place_next fs n (subst IsLeft (sym giver) tt)) ∙ s)) (follows_at p marks fs b fits tidy n i.0 (insn.MoveResult slot to) i.1 k)
+          result n i.0 giver i.1 (same_suc (at n) j (sym (place_next fs n (subst IsLeft (sym giver) tt)) ∙ s)) (follows_at p b fits n i.0 (insn.MoveResult slot to) i.1 k)
 
       never : (m to : ℕ) → slice_get fs m ≡ Some Stays → slice_get b.insns m ≡ Some (insn.MoveException to) → at m ≡ suc j → From at fs b.insns j x → goes_on x ≡ true → ⊥
       never m to h k s r g = by w.enters
@@ -155,7 +167,7 @@ module _ (p : Program) (marks : ℕ → Bool) (fs : List Fate) (b : Body) (fits 
           same = place_same fs w.lands.to m (left_at p marks fs b fits tidy w.lands.to w.lands.fate w.lands.has_fate w.lands.is_left) (subst IsLeft (sym h) tt) (w.behind ∙ ap suc r.there ∙ sym s)
 
           by : ((w.lands.to ≡ suc r.position) × (goes_on r.insn ≡ true)) ⊎ (may_enter (Some w.lands.insn) ≡ true) → ⊥
-          by (inl d) = absurd (true≢false (sym (follows_at p marks fs b fits tidy r.position r.insn (insn.MoveException to) r.has_insn (ap (slice_get b.insns) (sym d.0 ∙ same) ∙ k)) ∙ ap not d.1))
+          by (inl d) = absurd (true≢false (sym (follows_at p b fits r.position r.insn (insn.MoveException to) r.has_insn (ap (slice_get b.insns) (sym d.0 ∙ same) ∙ k)) ∙ ap not d.1))
           by (inr d) = absurd (true≢false (sym d ∙ ap may_enter (sym w.lands.has_insn ∙ ap (slice_get b.insns) same ∙ k)))
 
       stops : (m to : ℕ) → slice_get fs m ≡ Some Stays → slice_get b.insns m ≡ Some (insn.MoveException to) → at m ≡ suc j → From at fs b.insns j x → (g : Bool) → goes_on x ≡ g → not g ≡ true
@@ -175,6 +187,32 @@ module _ (p : Program) (marks : ℕ → Bool) (fs : List Fate) (b : Body) (fits 
       by : From at fs b.insns j x → From at fs b.insns (suc j) y → may_follow x y ≡ true
       by r q = subst (λ z. may_follow x z ≡ true) (sym q.same) (by_fate r q.position q.fate q.insn q.has_fate q.is_left q.has_insn q.there)
 
+  -- ---- a region that still covers something
+
+  -- what is marked comes to stand before the end
+  lands_before : (n : ℕ) → marks n ≡ true → may_begin (slice_get b.insns n) ≡ true → nat_lt (at n) (length new) ≡ true
+  lands_before n m h = by_form (slice_get b.insns n) refl h
+    where
+      by_form : (o : Option Insn) → slice_get b.insns n ≡ o → may_begin o ≡ true → nat_lt (at n) (length new) ≡ true
+      by_form None e h = clash true refl (sym h)
+      by_form (Some i) e h = let l = lands p marks fs b fits tidy n i m e in lt-ltb (at n) (length new) (get_within new (at n) (left_insn at l.fate l.insn) (stands n l))
+
+  covers_still : (n : ℕ) (r : Catches marks fs b n) → at r.region.first < at r.region.end
+  covers_still n r = between (at r.region.first) (at r.covered) (at r.region.end) (place_rises fs r.region.first r.covered r.first)
+      (subst (λ k. k ≤ at r.region.end) (place_next fs r.covered (subst IsLeft (sym r.has_fate) (is_left r.fate r.is_left))) (place_rises fs (suc r.covered) r.region.end (upto r.covered r.region.end r.end)))
+
+  room : (n : ℕ) (r : Catches marks fs b n) → has_room p b.insns fs r.region ≡ true
+  room n r = and_both (nat_lt (at r.region.first) (at r.region.end)) (list_all (λ (h : Handler). nat_lt h.position (length new)) (map (handler_moved at) r.region.handlers) && rest_before (length new) (option_map at r.region.rest))
+      (lt-ltb (at r.region.first) (at r.region.end) (covers_still n r))
+      (and_both (list_all (λ (h : Handler). nat_lt h.position (length new)) (map (handler_moved at) r.region.handlers)) (rest_before (length new) (option_map at r.region.rest))
+      (all_map (λ (h : Handler). nat_lt h.position (length new)) (handler_moved at) r.region.handlers
+      ∙ all_of (λ (h : Handler). nat_lt (at h.position) (length new)) r.region.handlers (λ h i. lands_before h.position (r.marked h i) (may_begin_at p b fits r.region r.has_region h i)))
+      (rest_lands r.region.rest refl (rest_of p b fits r.region r.has_region)))
+    where
+      rest_lands : (o : Option ℕ) → r.region.rest ≡ o → rest_fits b.insns o ≡ true → rest_before (length new) (option_map at o) ≡ true
+      rest_lands None d f = refl
+      rest_lands (Some k) d f = lands_before k (r.rest k d) f
+
   -- ---- each instruction
 
   abbrev thin : Body
@@ -186,14 +224,14 @@ module _ (p : Program) (marks : ℕ → Bool) (fs : List Fate) (b : Body) (fits 
       let x = insn_retargeted at i in
       and_both (is_encodable x && (registers_fit x b.registers && numbers_fit x p)) (targets_fit new x && (leaves (at n) x && is_caught thin.regions (at n) x))
       (ap (λ z. z && (registers_fit x b.registers && numbers_fit x p)) (encodable at i) ∙ ap (λ z. is_encodable i && (z && numbers_fit x p)) (registers at i b.registers)
-      ∙ ap (λ z. is_encodable i && (registers_fit i b.registers && z)) (numbers at i p) ∙ operands_at p marks fs b fits tidy n i e)
+      ∙ ap (λ z. is_encodable i && (registers_fit i b.registers && z)) (numbers at i p) ∙ operands_at p b fits n i e)
       (and_both (targets_fit new x) (leaves (at n) x && is_caught thin.regions (at n) x)
       (ap (list_all (λ t. may_enter (slice_get new t))) (aims at i) ∙ all_map (λ t. may_enter (slice_get new t)) at (targets_of i)
-      ∙ all_with (λ t. may_enter (slice_get b.insns t)) (λ t. may_enter (slice_get new (at t))) (targets_of i) aimed (targets_at p marks fs b fits tidy n i e))
+      ∙ all_with (λ t. may_enter (slice_get b.insns t)) (λ t. may_enter (slice_get new (at t))) (targets_of i) aimed (targets_at p b fits n i e))
       (and_both (leaves (at n) x) (is_caught thin.regions (at n) x) (tidy.leaves n i h e) (caught_left i h e)))
     where
       caught_left : (i : Insn) → slice_get fs n ≡ Some Stays → slice_get b.insns n ≡ Some i → is_caught thin.regions (at n) (insn_retargeted at i) ≡ true
-      caught_left (insn.MoveException to) h e = let r = tidy.caught n to h e in kept_any p b.insns fs (handles_at (at n)) b.regions r.0 r.1.0 r.1.1.1 (handles_there p b.insns fs n r.0 r.1.1.0)
+      caught_left (insn.MoveException to) h e = let r = tidy.caught n to h e in kept_any p b.insns fs (handles_at (at n)) b.regions r.region r.has_region (room n r) (handles_there p b.insns fs n r.region r.handles)
       caught_left i h e = refl
 
       aimed : (t : ℕ) → Contains (targets_of i) t → may_enter (slice_get b.insns t) ≡ true → may_enter (slice_get new (at t)) ≡ true
@@ -217,7 +255,7 @@ module _ (p : Program) (marks : ℕ → Bool) (fs : List Fate) (b : Body) (fits 
 
   -- what stands at a place to which a handler has come is no result of a call that stands before it
   no_result : (n m to : ℕ) (slot : Slot) → may_begin (slice_get b.insns n) ≡ true → slice_get fs m ≡ Some Stays → slice_get b.insns m ≡ Some (insn.MoveResult slot to) → at m ≡ at n → ⊥
-  no_result n zero to slot e h k s = absurd (true≢false (sym (first_begins p marks fs b fits tidy) ∙ ap may_begin k))
+  no_result n zero to slot e h k s = absurd (true≢false (sym (first_begins p b fits) ∙ ap may_begin k))
   no_result n (suc m) to slot e h k s = by (three n m)
     where
       giver : slice_get fs m ≡ Some Stays
@@ -243,29 +281,27 @@ module _ (p : Program) (marks : ℕ → Bool) (fs : List Fate) (b : Body) (fits 
       by m Empties i h l k s = refl
       by m Goes i h l k s = absurd l
 
-  begins_either : (n : ℕ) → may_begin (slice_get b.insns n) ≡ true → (marks n ≡ true) ⊎ (at n < length new) → may_begin (slice_get new (at n)) ≡ true
-  begins_either n e (inl m) = begins_at n m e
-  begins_either n e (inr l) = begins_within n e l
+  tests : (r : Region) → has_room p b.insns fs r ≡ true → (list_all (λ (h : Handler). nat_lt h.position (length new)) (map (handler_moved at) r.handlers) && rest_before (length new) (option_map at r.rest)) ≡ true
+  tests r e = and_right (nat_lt (at r.first) (at r.end)) (list_all (λ (h : Handler). nat_lt h.position (length new)) (map (handler_moved at) r.handlers) && rest_before (length new) (option_map at r.rest)) e
 
-  one_region : (r : Region) → Contains b.regions r → region_fits p b.insns r ≡ true
-  one_region r c = all_at (region_fits p b.insns) b.regions r c (each_region_fits p b.insns fs tidy.long b.regions (all_regions_fit p marks fs b fits tidy))
+  handlers_inside : (r : Region) → has_room p b.insns fs r ≡ true → list_all (λ (h : Handler). nat_lt (at h.position) (length new)) r.handlers ≡ true
+  handlers_inside r e = sym (all_map (λ (h : Handler). nat_lt h.position (length new)) (handler_moved at) r.handlers)
+      ∙ and_left (list_all (λ (h : Handler). nat_lt h.position (length new)) (map (handler_moved at) r.handlers)) (rest_before (length new) (option_map at r.rest)) (tests r e)
 
-  inner : (r : Region) → Contains b.regions r → (list_all (handler_fits p b.insns) r.handlers && rest_fits b.insns r.rest) ≡ true
-  inner r c = and_right (catches r) (list_all (handler_fits p b.insns) r.handlers && rest_fits b.insns r.rest)
-      (and_right (nat_lt r.first r.end && nat_le r.end (length b.insns)) (catches r && (list_all (handler_fits p b.insns) r.handlers && rest_fits b.insns r.rest)) (one_region r c))
+  rest_inside : (r : Region) → has_room p b.insns fs r ≡ true → rest_before (length new) (option_map at r.rest) ≡ true
+  rest_inside r e = and_right (list_all (λ (h : Handler). nat_lt h.position (length new)) (map (handler_moved at) r.handlers)) (rest_before (length new) (option_map at r.rest)) (tests r e)
 
-  handlers_there : (r : Region) → Contains b.regions r → region_has_room (region_moved at r) ≡ true → handlers_begin new (region_moved at r) ≡ true
+  handlers_there : (r : Region) → Contains b.regions r → has_room p b.insns fs r ≡ true → handlers_begin new (region_moved at r) ≡ true
   handlers_there r c e = all_map (λ (h : Handler). may_begin (slice_get new h.position)) (handler_moved at) r.handlers
-      ∙ all_of (λ (h : Handler). may_begin (slice_get new (at h.position))) r.handlers (λ h i. begins_either h.position
-      (and_right (has_type p h.kind) (may_begin (slice_get b.insns h.position))
-      (all_at (handler_fits p b.insns) r.handlers h i (and_left (list_all (handler_fits p b.insns) r.handlers) (rest_fits b.insns r.rest) (inner r c)))) (tidy.handlers r h c e i))
+      ∙ all_of (λ (h : Handler). may_begin (slice_get new (at h.position))) r.handlers (λ h i. begins_within h.position (may_begin_at p b fits r c h i)
+      (ltb-true (at h.position) (length new) (all_at (λ (h : Handler). nat_lt (at h.position) (length new)) r.handlers h i (handlers_inside r e))))
 
-  rest_there : (r : Region) → Contains b.regions r → region_has_room (region_moved at r) ≡ true → rest_begins new (region_moved at r) ≡ true
-  rest_there r c e = by r.rest refl (and_right (list_all (handler_fits p b.insns) r.handlers) (rest_fits b.insns r.rest) (inner r c))
+  rest_there : (r : Region) → Contains b.regions r → has_room p b.insns fs r ≡ true → rest_begins new (region_moved at r) ≡ true
+  rest_there r c e = by r.rest (rest_of p b fits r c) (rest_inside r e)
     where
-      by : (o : Option ℕ) → r.rest ≡ o → rest_fits b.insns o ≡ true → rest_fits new (option_map at o) ≡ true
-      by None d f = refl
-      by (Some n) d f = begins_either n f (tidy.rests r n c e d)
+      by : (o : Option ℕ) → rest_fits b.insns o ≡ true → rest_before (length new) (option_map at o) ≡ true → rest_fits new (option_map at o) ≡ true
+      by None f l = refl
+      by (Some n) f l = begins_within n f (ltb-true (at n) (length new) l)
 
   -- ---- the body
 
@@ -279,5 +315,5 @@ module _ (p : Program) (marks : ℕ → Bool) (fs : List Fate) (b : Body) (fits 
       (and_both (may_begin (slice_get new 0)) (ends (slice_get new (length new - 1))) first last_ends)
       (and_both (list_all follows (neighbours new)) (list_all (insn_fits p thin) (enumerate_from 0 new) && regions_fit p new thin.regions) (all_beside follows new follows_left)
       (and_both (list_all (insn_fits p thin) (enumerate_from 0 new)) (regions_fit p new thin.regions) (all_numbered (insn_fits p thin) new 0 numbered)
-      (regions_left p b.insns fs tidy.long b.regions (all_regions_fit p marks fs b fits tidy)
+      (regions_left p b.insns fs tidy.long b.regions (all_regions_fit p b fits)
       (kept_all p b.insns fs (handlers_begin new) b.regions handlers_there) (kept_all p b.insns fs (rest_begins new) b.regions rest_there))))

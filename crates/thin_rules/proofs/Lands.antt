@@ -18,13 +18,8 @@ use Rattle.silence_law.proofs.Lists.{clash, and_left, and_right}
 use Rattle.thin_law.proofs.Places.{IsLeft, place_next, place_gone}
 use Rattle.thin_rules.specs.Tidy.{Passes, On, Over, IsTidy}
 use Rattle.thin_rules.proofs.Kept.{flows_on, follow_enter}
+use Rattle.thin_rules.proofs.Rules.{next_there, target_there}
 use Rattle.thin_rules.proofs.Places.{get_within, get_there, get_none, all_at, numbered_at, beside, left_insn}
-
-none_plus : (n : ℕ) → n ≡ 0 + n
-none_plus n = omega arith
-
-at_end : (a n : ℕ) → n < a → a ≤ suc n → a - 1 ≡ n
-at_end a n l m = omega arith
 
 no_room : {A : Type 0} (a n : ℕ) → a ≤ n + 0 → n < a → A
 no_room a n l m = let f : ⊥ = omega arith in absurd f
@@ -43,68 +38,6 @@ its_target : (t : ℕ) → Contains (targets_of (insn.Goto t)) t
 its_target t = contains_here t []
 
 module _ (p : Program) (marks : ℕ → Bool) (fs : List Fate) (b : Body) (fits : body_fits p b ≡ true) (tidy : IsTidy marks fs b) where
-  -- ---- the rules of the body
-
-  rules : (list_all follows (neighbours b.insns) && (list_all (insn_fits p b) (enumerate_from 0 b.insns) && regions_fit p b.insns b.regions)) ≡ true
-  unfolding body_fits
-  rules = and_right (may_begin (slice_get b.insns 0) && ends (slice_get b.insns (length b.insns - 1))) (list_all follows (neighbours b.insns) && (list_all (insn_fits p b) (enumerate_from 0 b.insns) && regions_fit p b.insns b.regions)) fits
-
-  bounds : (may_begin (slice_get b.insns 0) && ends (slice_get b.insns (length b.insns - 1))) ≡ true
-  unfolding body_fits
-  bounds = and_left (may_begin (slice_get b.insns 0) && ends (slice_get b.insns (length b.insns - 1))) (list_all follows (neighbours b.insns) && (list_all (insn_fits p b) (enumerate_from 0 b.insns) && regions_fit p b.insns b.regions)) fits
-
-  pub first_begins : may_begin (slice_get b.insns 0) ≡ true
-  first_begins = and_left (may_begin (slice_get b.insns 0)) (ends (slice_get b.insns (length b.insns - 1))) bounds
-
-  last_ends : ends (slice_get b.insns (length b.insns - 1)) ≡ true
-  last_ends = and_right (may_begin (slice_get b.insns 0)) (ends (slice_get b.insns (length b.insns - 1))) bounds
-
-  follow_fits : list_all follows (neighbours b.insns) ≡ true
-  follow_fits = and_left (list_all follows (neighbours b.insns)) (list_all (insn_fits p b) (enumerate_from 0 b.insns) && regions_fit p b.insns b.regions) rules
-
-  each_fits : list_all (insn_fits p b) (enumerate_from 0 b.insns) ≡ true
-  each_fits = and_left (list_all (insn_fits p b) (enumerate_from 0 b.insns)) (regions_fit p b.insns b.regions)
-      (and_right (list_all follows (neighbours b.insns)) (list_all (insn_fits p b) (enumerate_from 0 b.insns) && regions_fit p b.insns b.regions) rules)
-
-  pub all_regions_fit : regions_fit p b.insns b.regions ≡ true
-  all_regions_fit = and_right (list_all (insn_fits p b) (enumerate_from 0 b.insns)) (regions_fit p b.insns b.regions)
-      (and_right (list_all follows (neighbours b.insns)) (list_all (insn_fits p b) (enumerate_from 0 b.insns) && regions_fit p b.insns b.regions) rules)
-
-  pub follows_at : (n : ℕ) (i j : Insn) → slice_get b.insns n ≡ Some i → slice_get b.insns (suc n) ≡ Some j → may_follow i j ≡ true
-  follows_at n i j e d = beside follows b.insns n i j follow_fits e d
-
-  pub fits_at : (n : ℕ) (i : Insn) → slice_get b.insns n ≡ Some i → insn_fits p b (n, i) ≡ true
-  fits_at n i e = ap (λ k. insn_fits p b (k, i)) (none_plus n) ∙ numbered_at (insn_fits p b) b.insns 0 n i each_fits e
-
-  pub operands_at : (n : ℕ) (i : Insn) → slice_get b.insns n ≡ Some i → (is_encodable i && (registers_fit i b.registers && numbers_fit i p)) ≡ true
-  unfolding insn_fits
-  operands_at n i e = and_left (is_encodable i && (registers_fit i b.registers && numbers_fit i p)) (targets_fit b.insns i && (leaves n i && is_caught b.regions n i)) (fits_at n i e)
-
-  pub targets_at : (n : ℕ) (i : Insn) → slice_get b.insns n ≡ Some i → targets_fit b.insns i ≡ true
-  unfolding insn_fits
-  targets_at n i e = and_left (targets_fit b.insns i) (leaves n i && is_caught b.regions n i)
-      (and_right (is_encodable i && (registers_fit i b.registers && numbers_fit i p)) (targets_fit b.insns i && (leaves n i && is_caught b.regions n i)) (fits_at n i e))
-
-  -- ---- one after another
-
-  entered : (o : Option Insn) → may_enter o ≡ true → (j : Insn) × ((o ≡ Some j) × (may_enter (Some j) ≡ true))
-  entered None e = clash true refl (sym e)
-  entered (Some j) e = (j, (refl, e))
-
-  -- what goes on has an instruction behind it
-  pub next_there : (n : ℕ) (i : Insn) → slice_get b.insns n ≡ Some i → goes_on i ≡ true → (j : Insn) × ((slice_get b.insns (suc n) ≡ Some j) × (may_follow i j ≡ true))
-  next_there n i e g = by (slice_get b.insns (suc n)) refl
-    where
-      by : (o : Option Insn) → slice_get b.insns (suc n) ≡ o → (j : Insn) × ((o ≡ Some j) × (may_follow i j ≡ true))
-      by (Some j) d = (j, (refl, beside follows b.insns n i j follow_fits e d))
-      by None d =
-          let inside = get_within b.insns n i e in
-          let outside = get_none b.insns (suc n) d in
-          absurd (true≢false (sym last_ends ∙ ap ends (ap (slice_get b.insns) (at_end (length b.insns) n inside outside) ∙ e) ∙ ap not g))
-
-  target_there : (n t : ℕ) (i : Insn) → slice_get b.insns n ≡ Some i → Contains (targets_of i) t → (j : Insn) × ((slice_get b.insns t ≡ Some j) × (may_enter (Some j) ≡ true))
-  target_there n t i e m = entered (slice_get b.insns t) (all_at (λ target. may_enter (slice_get b.insns target)) (targets_of i) t m (targets_at n i e))
-
   -- ---- where a position goes on
 
   pub record Lands (n : ℕ) : Type 0 where
@@ -136,11 +69,11 @@ module _ (p : Program) (marks : ℕ → Bool) (fs : List Fate) (b : Body) (fits 
 
       passing : (j : Insn) → slice_get b.insns n ≡ Some j → slice_get fs n ≡ Some Goes → Passes fs n j → Again → Lands n
       passing _ d h (On j g r) again =
-          let x = next_there n j d g in
+          let x = next_there p b fits n j d g in
           let v = follow_enter j x.0 g r x.1.1 in
           further n (suc n) x.0 x.1.0 v (place_gone fs n h) (again (suc n) (next_room (length b.insns) n k l) (tidy.next n j m d g) x.0 x.1.0)
       passing _ d h (Over t a s) again =
-          let x = target_there n t (insn.Goto t) d (its_target t) in
+          let x = target_there p b fits n t (insn.Goto t) d (its_target t) in
           further n t x.0 x.1.0 x.1.1 (s ∙ place_gone fs n h) (again t (jump_room (length b.insns) n k t l a) (tidy.targets n t (insn.Goto t) m d (its_target t)) x.0 x.1.0)
 
       by : (f : Fate) → slice_get fs n ≡ Some f → Again → Lands n
@@ -153,7 +86,7 @@ module _ (p : Program) (marks : ℕ → Bool) (fs : List Fate) (b : Body) (fits 
 
   pub target_lands : (n t : ℕ) (i : Insn) → marks n ≡ true → slice_get b.insns n ≡ Some i → Contains (targets_of i) t → (l : Lands t) × (may_enter (Some l.insn) ≡ true)
   target_lands n t i m e c =
-      let x = target_there n t i e c in
+      let x = target_there p b fits n t i e c in
       let l = lands t x.0 (tidy.targets n t i m e c) x.1.0 in
       (l, by l x.0 x.1.0 x.1.1 l.enters)
     where
@@ -178,7 +111,7 @@ module _ (p : Program) (marks : ℕ → Bool) (fs : List Fate) (b : Body) (fits 
 
   falls_next : (n : ℕ) (i : Insn) → marks n ≡ true → IsLeft (slice_get fs n) → slice_get b.insns n ≡ Some i → goes_on i ≡ true → Falls n i
   falls_next n i m l e g =
-      let x = next_there n i e g in
+      let x = next_there p b fits n i e g in
       let y = lands (suc n) x.0 (tidy.next n i m e g) x.1.0 in
       record { from = suc n; lands = y; behind = y.same ∙ place_next fs n l; enters = by y y.enters }
     where

@@ -1,5 +1,6 @@
 pub mod Kept
 pub mod Places
+pub mod Rules
 pub mod Lands
 pub mod Regions
 pub mod Fits

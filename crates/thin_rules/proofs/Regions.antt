@@ -13,7 +13,7 @@ use Rattle.program_model.specs.BodyRules.{handles_at, is_rest}
 use Rattle.program_model.specs.declared.body.Handler.{Handler}
 use Rattle.program_model.specs.declared.body.Region.{Region}
 use Rattle.program_model.specs.declared.program.Program.{Program}
-use Rattle.pass_defs.specs.Thinned.{Fate, place, insns_left, handler_moved, region_moved, region_has_room}
+use Rattle.pass_defs.specs.Thinned.{Fate, place, insns_left, handler_moved, region_moved, rest_before, region_has_room}
 use Rattle.frame_laws.proofs.Lists.{contains_here, contains_there}
 use Rattle.silence_law.proofs.Lists.{and_left, and_right, and_both, length_same}
 use Rattle.thin_rules.proofs.Places.{place_rises, place_end}
@@ -63,8 +63,15 @@ module _ (p : Program) (old : List Insn) (fs : List Fate) where
   abbrev at : ℕ → ℕ
   at = place fs
 
+  abbrev new : List Insn
+  new = insns_left at fs old
+
+  -- a region that is left
+  abbrev pub has_room : Region → Bool
+  has_room r = region_has_room (length new) (region_moved at r)
+
   abbrev kept : List Region → List Region
-  kept rs = filter region_has_room (map (region_moved at) rs)
+  kept rs = filter (region_has_room (length new)) (map (region_moved at) rs)
 
   covers : (r : Region) → region_fits p old r ≡ true → (nat_lt r.first r.end && nat_le r.end (length old)) ≡ true
   covers r e = and_left (nat_lt r.first r.end && nat_le r.end (length old)) (catches r && (list_all (handler_fits p old) r.handlers && rest_fits old r.rest)) e
@@ -86,18 +93,18 @@ module _ (p : Program) (old : List Insn) (fs : List Fate) where
   rising_kept low a l (r ∷ rs) h =
       let first : a ≤ at r.first = upwards a (at low) (at r.first) l (place_rises fs low r.first h.0) in
       let end : at r.first ≤ at r.end = place_rises fs r.first r.end h.1.0 in
-      by (region_has_room (region_moved at r)) first end (rising_kept r.end (at r.end) (itself (at r.end)) rs h.1.1) (rising_kept r.end a (upwards a (at r.first) (at r.end) first end) rs h.1.1)
+      by (has_room r) first end (rising_kept r.end (at r.end) (itself (at r.end)) rs h.1.1) (rising_kept r.end a (upwards a (at r.first) (at r.end) first end) rs h.1.1)
     where
       by : (c : Bool) → a ≤ at r.first → at r.first ≤ at r.end → Rising (at r.end) (kept rs) → Rising a (kept rs) → Rising a (cond c (region_moved at r ∷ kept rs) (kept rs))
       by true first end k d = (first, (end, k))
       by false first end k d = d
 
   -- what holds of each region that covers something still
-  pub kept_all : (f : Region → Bool) (rs : List Region) → ((r : Region) → Contains rs r → region_has_room (region_moved at r) ≡ true → f (region_moved at r) ≡ true) → list_all f (kept rs) ≡ true
+  pub kept_all : (f : Region → Bool) (rs : List Region) → ((r : Region) → Contains rs r → has_room r ≡ true → f (region_moved at r) ≡ true) → list_all f (kept rs) ≡ true
   kept_all f [] h = refl
-  kept_all f (r ∷ rs) h = by (region_has_room (region_moved at r)) refl (kept_all f rs (λ s i e. h s (contains_there r rs s i) e))
+  kept_all f (r ∷ rs) h = by (has_room r) refl (kept_all f rs (λ s i e. h s (contains_there r rs s i) e))
     where
-      by : (c : Bool) → region_has_room (region_moved at r) ≡ c → list_all f (kept rs) ≡ true → list_all f (cond c (region_moved at r ∷ kept rs) (kept rs)) ≡ true
+      by : (c : Bool) → has_room r ≡ c → list_all f (kept rs) ≡ true → list_all f (cond c (region_moved at r ∷ kept rs) (kept rs)) ≡ true
       by true e k = and_both (f (region_moved at r)) (list_all f (kept rs)) (h r (contains_here r rs) e) k
       by false e k = k
 
@@ -108,11 +115,11 @@ module _ (p : Program) (old : List Insn) (fs : List Fate) where
   or_second true b e = refl
   or_second false b e = e
 
-  pub kept_any : (f : Region → Bool) (rs : List Region) (r : Region) → Contains rs r → region_has_room (region_moved at r) ≡ true → f (region_moved at r) ≡ true → list_any f (kept rs) ≡ true
+  pub kept_any : (f : Region → Bool) (rs : List Region) (r : Region) → Contains rs r → has_room r ≡ true → f (region_moved at r) ≡ true → list_any f (kept rs) ≡ true
   kept_any f [] r (k, l, e) d h = none_there k l
-  kept_any f (s ∷ rs) r (zero, l, e) d h = ap (λ c. list_any f (cond c (region_moved at s ∷ kept rs) (kept rs))) (ap (λ z. region_has_room (region_moved at z)) e ∙ d)
+  kept_any f (s ∷ rs) r (zero, l, e) d h = ap (λ c. list_any f (cond c (region_moved at s ∷ kept rs) (kept rs))) (ap (λ z. has_room z) e ∙ d)
       ∙ or_first (f (region_moved at s)) (list_any f (kept rs)) (ap (λ z. f (region_moved at z)) e ∙ h)
-  kept_any f (s ∷ rs) r (suc k, l, e) d h = by (region_has_room (region_moved at s)) (kept_any f rs r (k, less k (length rs) l, e) d h)
+  kept_any f (s ∷ rs) r (suc k, l, e) d h = by (has_room s) (kept_any f rs r (k, less k (length rs) l, e) d h)
     where
       by : (c : Bool) → list_any f (kept rs) ≡ true → list_any f (cond c (region_moved at s ∷ kept rs) (kept rs)) ≡ true
       by true k = or_second (f (region_moved at s)) (list_any f (kept rs)) k
@@ -150,9 +157,6 @@ module _ (p : Program) (old : List Insn) (fs : List Fate) where
 
   -- ---- what regions are
 
-  abbrev new : List Insn
-  new = insns_left at fs old
-
   handlers_fit : (hs : List Handler) → list_all (handler_fits p old) hs ≡ true → list_all (λ (h : Handler). may_begin (slice_get new h.position)) (map (handler_moved at) hs) ≡ true → list_all (handler_fits p new) (map (handler_moved at) hs) ≡ true
   handlers_fit [] e d = refl
   handlers_fit (h ∷ hs) e d = and_both (has_type p h.kind && may_begin (slice_get new (at h.position))) (list_all (handler_fits p new) (map (handler_moved at) hs))
@@ -174,11 +178,14 @@ module _ (p : Program) (old : List Insn) (fs : List Fate) where
     ends_within : (n : ℕ) → nat_le n (length old) ≡ true → nat_le (at n) (length new) ≡ true
     ends_within n e = le-leb (at n) (length new) (subst (λ k. at n ≤ k) (place_end at fs old long) (place_rises fs n (length old) (leb-true n (length old) e)))
 
-    one_fits : (r : Region) → region_fits p old r ≡ true → region_has_room (region_moved at r) ≡ true → handlers_begin new (region_moved at r) ≡ true → rest_begins new (region_moved at r) ≡ true → region_fits p new (region_moved at r) ≡ true
+    covers_left : (r : Region) → has_room r ≡ true → nat_lt (at r.first) (at r.end) ≡ true
+    covers_left r c = and_left (nat_lt (at r.first) (at r.end)) (list_all (λ (h : Handler). nat_lt h.position (length new)) (map (handler_moved at) r.handlers) && rest_before (length new) (option_map at r.rest)) c
+
+    one_fits : (r : Region) → region_fits p old r ≡ true → has_room r ≡ true → handlers_begin new (region_moved at r) ≡ true → rest_begins new (region_moved at r) ≡ true → region_fits p new (region_moved at r) ≡ true
     one_fits r e c h d =
         let inner = and_right (nat_lt r.first r.end && nat_le r.end (length old)) (catches r && (list_all (handler_fits p old) r.handlers && rest_fits old r.rest)) e in
         and_both (nat_lt (at r.first) (at r.end) && nat_le (at r.end) (length new)) (catches (region_moved at r) && (list_all (handler_fits p new) (map (handler_moved at) r.handlers) && rest_fits new (option_map at r.rest)))
-        (and_both (nat_lt (at r.first) (at r.end)) (nat_le (at r.end) (length new)) c (ends_within r.end (and_right (nat_lt r.first r.end) (nat_le r.end (length old)) (covers r e))))
+        (and_both (nat_lt (at r.first) (at r.end)) (nat_le (at r.end) (length new)) (covers_left r c) (ends_within r.end (and_right (nat_lt r.first r.end) (nat_le r.end (length old)) (covers r e))))
         (and_both (catches (region_moved at r)) (list_all (handler_fits p new) (map (handler_moved at) r.handlers) && rest_fits new (option_map at r.rest))
         (catches_same r ∙ and_left (catches r) (list_all (handler_fits p old) r.handlers && rest_fits old r.rest) inner)
         (and_both (list_all (handler_fits p new) (map (handler_moved at) r.handlers)) (rest_fits new (option_map at r.rest))
@@ -186,12 +193,12 @@ module _ (p : Program) (old : List Insn) (fs : List Fate) where
 
     each_kept : (rs : List Region) → list_all (region_fits p old) rs ≡ true → list_all (handlers_begin new) (kept rs) ≡ true → list_all (rest_begins new) (kept rs) ≡ true → list_all (region_fits p new) (kept rs) ≡ true
     each_kept [] e h d = refl
-    each_kept (r ∷ rs) e h d = by (region_has_room (region_moved at r)) refl h d (each_kept rs (and_right (region_fits p old r) (list_all (region_fits p old) rs) e))
+    each_kept (r ∷ rs) e h d = by (has_room r) refl h d (each_kept rs (and_right (region_fits p old r) (list_all (region_fits p old) rs) e))
       where
         x : Region
         x = region_moved at r
 
-        by : (c : Bool) → region_has_room x ≡ c → list_all (handlers_begin new) (cond c (x ∷ kept rs) (kept rs)) ≡ true → list_all (rest_begins new) (cond c (x ∷ kept rs) (kept rs)) ≡ true
+        by : (c : Bool) → has_room r ≡ c → list_all (handlers_begin new) (cond c (x ∷ kept rs) (kept rs)) ≡ true → list_all (rest_begins new) (cond c (x ∷ kept rs) (kept rs)) ≡ true
             → (list_all (handlers_begin new) (kept rs) ≡ true → list_all (rest_begins new) (kept rs) ≡ true → list_all (region_fits p new) (kept rs) ≡ true) → list_all (region_fits p new) (cond c (x ∷ kept rs) (kept rs)) ≡ true
         by true c h d k = and_both (region_fits p new x) (list_all (region_fits p new) (kept rs))
             (one_fits r (and_left (region_fits p old r) (list_all (region_fits p old) rs) e) c (and_left (handlers_begin new x) (list_all (handlers_begin new) (kept rs)) h) (and_left (rest_begins new x) (list_all (rest_begins new) (kept rs)) d))

@@ -1,6 +1,6 @@
 -- A program whose code is thinned by tidy fates is well-formed where the program is.
 use Rattle.std.proofs.Common.{◌≡◌, ℕ, suc, ◌+◌, ◌*◌, ◌≤◌, Bool, true, false, List, [], ◌∷◌, length, refl, ap, ◌∙◌, subst, arith}
-use Rattle.std.specs.Prelude.{◌&&◌, not, Option, Some, None, map, filter, sum_by, slice_get}
+use Rattle.std.specs.Prelude.{◌&&◌, not, Option, Some, None, map, filter, sum_by, slice_get, Contains}
 use Rattle.std.specs.List.{list_all}
 use Rattle.std.specs.Option.{option_map}
 use Rattle.std.proofs.Math.Nat.{mul-le-mul_left}
@@ -30,6 +30,7 @@ use Rattle.formed_law.specs.Recoded.{Recodes, RecodedMethod, Untouched as StillU
 use Rattle.thin_rules.specs.Tidy.{IsTidy}
 use Rattle.thin_rules.specs.Tidied.{TidiedMethod, Untouched, Tidied, TidiedClass, TidiedProgram}
 use Rattle.thin_rules.proofs.Fits.{thinned_fits}
+use Rattle.thin_rules.proofs.Places.{all_at}
 
 -- ---- room
 
@@ -91,9 +92,9 @@ module _ (at : ℕ → ℕ) where
   region_same : (r : Region) → region_items (region_moved at r) ≡ region_items r
   region_same r = ap (λ n. n + rest_items (option_map at r.rest)) (length_same (handler_moved at) r.handlers) ∙ ap (λ n. length r.handlers + n) (rest_same r.rest)
 
-  regions_fall : (rs : List Region) → sum_by region_items (filter region_has_room (map (region_moved at) rs)) ≤ sum_by region_items rs
-  regions_fall [] = itself 0
-  regions_fall (r ∷ rs) = by (region_has_room (region_moved at r)) (regions_fall rs)
+  regions_fall : (end : ℕ) (rs : List Region) → sum_by region_items (filter (region_has_room end) (map (region_moved at) rs)) ≤ sum_by region_items rs
+  regions_fall end [] = itself 0
+  regions_fall end (r ∷ rs) = by (region_has_room end (region_moved at r)) (regions_fall end rs)
     where
       with_one : (x y : Region) (xs ys : List Region) → region_items y ≡ region_items x → sum_by region_items ys ≤ sum_by region_items xs → sum_by region_items (y ∷ ys) ≤ sum_by region_items (x ∷ xs)
       with_one x y xs ys l m = omega (arith, l, m, sum_by-cons region_items y ys, sum_by-cons region_items x xs)
@@ -101,10 +102,10 @@ module _ (at : ℕ → ℕ) where
       without : (x : Region) (xs ys : List Region) → sum_by region_items ys ≤ sum_by region_items xs → sum_by region_items ys ≤ sum_by region_items (x ∷ xs)
       without x xs ys m = omega (arith, m, sum_by-cons region_items x xs)
 
-      by : (c : Bool) → sum_by region_items (filter region_has_room (map (region_moved at) rs)) ≤ sum_by region_items rs
-          → sum_by region_items (cond c (region_moved at r ∷ filter region_has_room (map (region_moved at) rs)) (filter region_has_room (map (region_moved at) rs))) ≤ sum_by region_items (r ∷ rs)
-      by true k = with_one r (region_moved at r) rs (filter region_has_room (map (region_moved at) rs)) (region_same r) k
-      by false k = without r rs (filter region_has_room (map (region_moved at) rs)) k
+      by : (c : Bool) → sum_by region_items (filter (region_has_room end) (map (region_moved at) rs)) ≤ sum_by region_items rs
+          → sum_by region_items (cond c (region_moved at r ∷ filter (region_has_room end) (map (region_moved at) rs)) (filter (region_has_room end) (map (region_moved at) rs))) ≤ sum_by region_items (r ∷ rs)
+      by true k = with_one r (region_moved at r) rs (filter (region_has_room end) (map (region_moved at) rs)) (region_same r) k
+      by false k = without r rs (filter (region_has_room end) (map (region_moved at) rs)) k
 
 cells_fall : (fs : List Fate) (b : Body) → body_cells (body_thinned fs b) ≤ body_cells b
 cells_fall fs b = together ((b.registers + 1) * length (insns_left (place fs) fs b.insns)) ((b.registers + 1) * length b.insns) (sum_by entries_of (insns_left (place fs) fs b.insns)) (sum_by entries_of b.insns)
@@ -135,7 +136,7 @@ module _ (p : Program) where
         body = thinned_fits p marks fs b fits tidy;
         lined = l;
         cells = cells_fall fs b;
-        items = regions_fall (place fs) b.regions;
+        items = regions_fall (place fs) (length (insns_left (place fs) fs b.insns)) b.regions;
       }
 
   method_recoded : (class : ℕ) (m n : Method) → method_fits p class m ≡ true → TidiedMethod m n → RecodedMethod p m n
@@ -153,6 +154,14 @@ module _ (p : Program) where
 
   all_classes : is_well_formed p ≡ true → list_all (class_fits p) p.classes ≡ true
   all_classes h = (formed p h).classes
+
+  -- the rules of a method's code
+  pub code_rules : (c : Class) (m : Method) (b : Body) → is_well_formed p ≡ true → Contains p.classes c → Contains c.methods m → m.body ≡ Some b → (body_fits p b ≡ true) × (lines_fit (length b.insns) m.lines ≡ true)
+  code_rules c m b h i j e =
+      let class = all_at (class_fits p) p.classes c i (all_classes h) in
+      let code = code_of c.name m b e (all_at (method_fits p c.name) c.methods m j (class_methods c class)) in
+      let rest = and_right (frame_fits p m b) (body_fits p b && lines_fit (length b.insns) m.lines) (and_right (not (lacks_code m.flags)) (frame_fits p m b && (body_fits p b && lines_fit (length b.insns) m.lines)) code) in
+      (and_left (body_fits p b) (lines_fit (length b.insns) m.lines) rest, and_right (body_fits p b) (lines_fit (length b.insns) m.lines) rest)
 
   pub tidied_recoded : (q : Program) → is_well_formed p ≡ true → TidiedProgram p q → RecodedProgram p q
   tidied_recoded q h t = record { same = t.same; classes = pairs_given TidiedClass (RecodedClass p) (class_fits p) class_recoded p.classes q.classes (all_classes h) t.classes }

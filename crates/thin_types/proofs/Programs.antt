@@ -43,7 +43,7 @@ module _ (marks : ℕ → Bool) (fs : List Fate) (b : NamedBody) (h : SqueezesMa
   walked n m (Steps _ k _ i w) e = walked k m w (one_step n k e (form_at b n) refl i)
 
   squeezing : IsSqueezing fs b
-  squeezing = record { long = h.long; skipped = λ n x f i e k s. h.skipped n x f (walked 0 n i h.entry) e k s }
+  squeezing = record { long = h.long; within = λ n i. h.within n (walked 0 n i h.entry); skipped = λ n x f i e k s. h.skipped n x f (walked 0 n i h.entry) e k s }
 
 weaker : (k : MethodKey) (a b : Option NamedBody) → Thins Squeezes k a b → Thins (λ k fs b. IsSqueezing fs b) k a b
 weaker k _ _ NoCode = NoCode

@@ -24,7 +24,8 @@ use Rattle.frame_laws.proofs.Walks.{goes_next}
 use Rattle.silence_law.proofs.Lists.{and_left, and_right, and_both, all_map, map_both, all_front, all_back, all_joined}
 use Rattle.thin_law.specs.Squeezing.{IsSkipped, Nop, Over}
 use Rattle.thin_law.proofs.Places.{IsLeft, next_suc, place_next, place_gone, left_as, form_left}
-use Rattle.thin_law.proofs.Regions.{region_same}
+use Rattle.thin_law.proofs.Regions.{end_of, region_before, region_same}
+use Rattle.thin_law.proofs.Fates.{Further, comes_before}
 use Rattle.thin_types.specs.Renamed.{renamed, kinds_renamed}
 use Rattle.thin_types.specs.Squeezed.{IsTransitive, SqueezesMarked, site, marked, squeezed_table}
 use Rattle.thin_types.proofs.Orders.{kind_fixed, state_kept}
@@ -228,6 +229,13 @@ module _ (p : NamedProgram) (above : IsTransitive p) (c : NamedClass) (m : Named
   arrive : (n : ℕ) → marks n ≡ true → (x : Kinds) → state_below p (Some x) (state_at t n) ≡ true → state_below p (Some (mvs x)) (state_at u (at n)) ≡ true
   arrive n mk x e = arrive_within (length b.forms) n (fits_in n (length b.forms)) mk x e
 
+  -- no marked position comes to stand behind the end
+  goes_further : (n : ℕ) (f : Form) → marks n ≡ true → form_at b n ≡ Some f → slice_get fs n ≡ Some Goes → Further fs (λ q. marks q ≡ true) n
+  goes_further n f mk e i = let j = skip p c fs n f (h.skipped n f Goes mk e i refl) in record { to = j.to; ahead = j.ahead; beside = j.beside; there = h.onward n j.to f mk e j.goes }
+
+  lands : (n : ℕ) → marks n ≡ true → place fs n < end_of fs b
+  lands n mk = comes_before fs b h.long (λ q. marks q ≡ true) h.within goes_further n mk
+
   -- ---- edges of what is left
 
   module _ (n : ℕ) (f : Form) (a : Kinds) (here : form_at b n ≡ Some f) (has : state_at t n ≡ Some a) (mk : marks n ≡ true) where
@@ -268,8 +276,11 @@ module _ (p : NamedProgram) (above : IsTransitive p) (c : NamedClass) (m : Named
 
       caught_left : (x : Bool) → may_throw f ≡ x → list_all Q (if x then catches_in p (region_at b n) else []) ≡ true → list_all P (if x then catches_in p (region_at thin (at n)) else []) ≡ true
       caught_left false e j = refl
-      caught_left true e j = ap (λ o. list_all P (catches_in p o)) (region_same fs n is_left b.regions)
-          ∙ region_caught (region_at b n) (all_of marks (handlers_at b n) (λ q i. h.caught n q f mk here (subst (λ x. Contains (elim x as (λ x. List ℕ) [ true ↦ handlers_at b n | false ↦ [] ]) q) (sym e) i))) j
+      caught_left true e j = ap (λ o. list_all P (catches_in p o)) (region_same fs (end_of fs b) n is_left b.regions (region_before fs b n (λ q i. lands q (marked_there q i))))
+          ∙ region_caught (region_at b n) (all_of marks (handlers_at b n) marked_there) j
+        where
+          marked_there : (q : ℕ) → Contains (handlers_at b n) q → marks q ≡ true
+          marked_there q i = h.caught n q f mk here (subst (λ x. Contains (elim x as (λ x. List ℕ) [ true ↦ handlers_at b n | false ↦ [] ]) q) (sym e) i)
 
       edges_left : after p c (at n) (retargeted at f) (mvs a) ≡ mvs (after p c n f a) → list_all (arrives p u) (edges p c thin (at n) (retargeted at f) (mvs a)) ≡ true
       edges_left same =

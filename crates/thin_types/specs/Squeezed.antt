@@ -1,6 +1,6 @@
 -- The typing of a squeezed body: that of the body, without the positions that go and without what no mark reaches, and with
 -- other numbers for the positions where objects were made.
-use Rattle.std.specs.Prelude.{◌≡◌, ℕ, suc, ◌+◌, Bool, true, false, List, [], ◌∷◌, length, map, Option, Some, None, slice_get, if◌then◌else◌, Contains}
+use Rattle.std.specs.Prelude.{◌≡◌, ℕ, suc, ◌+◌, ◌<◌, Bool, true, false, List, [], ◌∷◌, length, map, Option, Some, None, slice_get, if◌then◌else◌, Contains}
 use Rattle.std.specs.Option.{option_map}
 use Rattle.dalvik_defs.specs.declared.forms.Form.{Form}
 use Rattle.dalvik_defs.specs.declared.program.NamedBody.{NamedBody}
@@ -17,10 +17,11 @@ use Rattle.thin_types.specs.Renamed.{kinds_renamed}
 abbrev pub IsTransitive : NamedProgram → Type 0
 IsTransitive p = (a b c : Kind) → is_below p a b ≡ true → is_below p b c ≡ true → is_below p a c ≡ true
 
--- The marks are closed: the entry has one, and so has each position where a walk goes on from a marked one. What is left is
--- marked, and what is marked and doesn't stay is a nop, or a goto to the next position that is left.
+-- The marks are closed: the entry has one, and so has each position where a walk goes on from a marked one. What is marked has a
+-- form, what is left is marked, and what is marked and doesn't stay is a nop, or a goto to the next position that is left.
 pub record SqueezesMarked (marks : ℕ → Bool) (fs : List Fate) (b : NamedBody) : Type 0 where
   pub long : length fs ≡ length b.forms
+  pub within : (n : ℕ) → marks n ≡ true → n < length b.forms
   pub entry : marks 0 ≡ true
   pub onward : (n m : ℕ) (f : Form) → marks n ≡ true → form_at b n ≡ Some f → Contains (onward f n) m → marks m ≡ true
   pub caught : (n m : ℕ) (f : Form) → marks n ≡ true → form_at b n ≡ Some f → Contains (caught b f n) m → marks m ≡ true

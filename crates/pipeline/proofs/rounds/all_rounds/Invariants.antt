@@ -1,14 +1,13 @@
-use Rattle.std.proofs.Common.{◌≡◌, ◌+◌, ◌≤◌, true, min}
-use Rattle.program_model.specs.ProgramRules.{is_well_formed}
-use Rattle.reach.specs.Kept.{size_of}
+use Rattle.std.proofs.Common.{◌+◌, ◌≤◌, min}
+use Rattle.pipeline.specs.Passes.{bulk_of}
 use Rattle.pipeline.proofs.RoundLemmas.{Rounding}
 use Rattle.pipeline.proofs.rounds.all_rounds.Given as goal
 
 abbrev pub invariant-rounds : goal.invariant-rounds
 invariant-rounds l = record {
   count : 1 ≤ l.rounds;
-  rounding : is_well_formed l.fn.program ≡ true → Rounding l.outside l.fn.program l.changed l.rounds;
+  rounding : Rounding l.outside l.admitted.methods.items l.fn.program l.left l.rounds;
 }
 
 abbrev pub decreases-rounds : goal.decreases-rounds
-decreases-rounds l = size_of l.changed.program + min l.changed.count 1
+decreases-rounds l = bulk_of l.left.traced.program + min l.left.count 1

@@ -1,10 +1,21 @@
-use Rattle.std.proofs.Common.{◌≡◌, true, rules}
-use Rattle.pipeline.proofs.Graphs.{found_graph}
-use Rattle.pipeline.proofs.RoundLemmas.{removal_round}
+use Rattle.std.proofs.Common.{[], ◌∷◌, refl}
+use Rattle.pipeline.specs.declared.traces.Passed.{Passed}
+use Rattle.pipeline.specs.Passes.{passes, Reach, DeadCode, Squeeze, HavePassed}
+use Rattle.pipeline.proofs.Passing.{both_passed, no_more}
 use Rattle.pipeline.proofs.rounds.round.Goals as goal
 
-pub returns-in_ok-apply-in-Some-clause-is : goal.returns-in_ok-apply-in-Some-clause-is
-returns-in_ok-apply-in-Some-clause-is c =
-    let allowed : c.args.outside.now.shrink ≡ true = search rules in
-    λ formed. removal_round c.args.outside.now c.args.program c.in_ok-apply-in-Some.field-0.program c.in-Some.hierarchy allowed formed
-    (found_graph c.args.program c.in_ok-hierarchy.field-0 c.in-Some.hierarchy (c.in_ok-hierarchy.ensures formed) c.in-Some.is) c.in_ok-apply-in-Some.ensures.closed
+passed : goal.returns-clause-passed
+passed c =
+    let o = c.args.outside.now in
+    let admitted = c.args.admitted.now.methods.items in
+    let start = c.args.traced in
+    let two : Passed = record { traced = c.in_ok-cleaned.cleaned.traced; count = c.saturating_add-removed.result } in
+    let first : HavePassed o admitted (Reach ∷ DeadCode ∷ []) start two = both_passed o admitted (Reach ∷ []) (DeadCode ∷ []) start c.in_ok-reached.reached c.in_ok-cleaned.cleaned two
+    (c.in_ok-reached.ensures.passed admitted) (c.in_ok-cleaned.ensures c.in_ok-reached.ensures.graph o) refl c.saturating_add-removed.ensures in
+    both_passed o admitted (Reach ∷ DeadCode ∷ []) (Squeeze ∷ []) start two c.in_ok-squeezed.squeezed _ first (c.in_ok-squeezed.ensures o) refl c.saturating_add.ensures
+
+pub returns-clause-passed : goal.returns-clause-passed
+returns-clause-passed c = passed c
+
+pub returns-clause-falls : goal.returns-clause-falls
+returns-clause-falls c = no_more c.args.outside.now c.args.admitted.now.methods.items passes c.args.traced _ (passed c)

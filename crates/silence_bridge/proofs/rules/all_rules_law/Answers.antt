@@ -1,13 +1,13 @@
-use Rattle.silence_bridge.proofs.Optimised.{silent_named, optimised_shows, optimised_typed}
+use Rattle.silence_bridge.proofs.Optimised.{silent_named, optimised_shows, optimised_sound}
 use Rattle.silence_bridge.proofs.rules.all_rules_law.Goals as goal
 
 pub returns-clause-silenced : goal.returns-clause-silenced
-returns-clause-silenced c = λ p r h o advisers spared rounds before after formed resolved acyclic whole done. silent_named p h formed resolved acyclic whole o done.admitted done.silenced done.silent
+returns-clause-silenced c = λ p r origins h o advisers spared rounds before after formed resolved acyclic whole done. silent_named p h formed resolved acyclic whole o done.admitted done.silenced done.silent
 
 pub returns-clause-shown : goal.returns-clause-shown
-returns-clause-shown c = λ p r h o advisers spared rounds before after formed resolved acyclic whole types done none.
-    optimised_shows p h formed resolved acyclic whole o types r advisers spared rounds before after done none
+returns-clause-shown c = λ p r origins h o advisers spared rounds before after formed resolved acyclic whole types done none.
+    optimised_shows p h formed resolved acyclic whole o types r origins advisers spared rounds before after done none
 
-pub returns-clause-typed : goal.returns-clause-typed
-returns-clause-typed c = λ p r h o advisers spared rounds before after formed resolved acyclic whole types done.
-    optimised_typed p h formed resolved acyclic whole o types r advisers spared rounds before after done
+pub returns-clause-sound : goal.returns-clause-sound
+returns-clause-sound c = λ p r origins h o advisers spared rounds before after formed resolved acyclic whole types done.
+    optimised_sound p h formed resolved acyclic whole o types r origins advisers spared rounds before after done

@@ -4,4 +4,4 @@ use Rattle.stuck_bridge.proofs.Formed.{regular_program}
 use Rattle.stuck_bridge.proofs.laws.never_stuck_law.Goals as goal
 
 pub returns : goal.returns
-returns c p fits twice free typed o f a script fit = never_stuck_regular (named p) o f a script (regular_program p fits twice free typed) fit
+returns c p fits twice typed o f a script fit = never_stuck_regular (named p) o f a script (regular_program p fits twice typed) fit

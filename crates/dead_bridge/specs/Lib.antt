@@ -1,0 +1,2 @@
+pub mod Veiled
+pub mod Cleans

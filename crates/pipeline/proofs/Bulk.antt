@@ -1,0 +1,52 @@
+-- No pass makes a program more.
+use Rattle.std.proofs.Common.{◌≡◌, suc, ◌<◌, ◌≤◌, Bool, List, [], ◌∷◌, map, length, refl, sym, ap, subst, ◌∙◌, arith}
+use Rattle.std.specs.List.{sum_by}
+use Rattle.std.proofs.lemmas.List.Sums.{sum_by-cons}
+use Rattle.program_model.specs.declared.body.Body.{Body}
+use Rattle.program_model.specs.declared.pass.Changed.{Changed}
+use Rattle.program_model.specs.declared.program.Class.{Class}
+use Rattle.program_model.specs.declared.program.Method.{Method}
+use Rattle.program_model.specs.declared.program.Program.{Program}
+use Rattle.call_graph.specs.declared.live_set.LiveSet.{LiveSet}
+use Rattle.reach.specs.Kept.{is_marked, kept_in, kept_of, live_classes, class_size, size_of}
+use Rattle.reach.proofs.Sublists.{sum_left}
+use Rattle.body_edit.specs.declared.fate.Fate.{Fate}
+use Rattle.thin_pass.specs.Plans.{methods_by, class_by, classes_by, IsThinnedBy}
+use Rattle.thin_pass.specs.Weights.{method_weight, class_weight, weight_of}
+use Rattle.pipeline.specs.Passes.{bulk_of}
+
+-- ---- removal
+
+module _ (s : LiveSet) where
+  class_no_heavier : (c : Class) → class_weight (kept_in s c) ≤ class_weight c
+  class_no_heavier c = sum_left (λ m. is_marked s.methods.items m.name) method_weight c.methods
+
+  classes_no_heavier : (cs : List Class) → sum_by class_weight (map (kept_in s) cs) ≤ sum_by class_weight cs
+  classes_no_heavier [] = omega arith
+  classes_no_heavier (c ∷ cs) = omega (arith, class_no_heavier c, classes_no_heavier cs, sum_by-cons class_weight (kept_in s c) (map (kept_in s) cs), sum_by-cons class_weight c cs)
+
+  kept_no_heavier : (p : Program) → weight_of (kept_of s p) ≤ weight_of p
+  kept_no_heavier p = omega (arith, classes_no_heavier (live_classes s p.classes), sum_left (λ c. is_marked s.classes.items c.name) class_weight p.classes)
+
+  pub removal_less : (p q : Program) → q ≡ kept_of s p → size_of q < size_of p → bulk_of q < bulk_of p
+  removal_less p q e less = let w : weight_of q ≤ weight_of p = subst (λ (x : Program). weight_of x ≤ weight_of p) (sym e) (kept_no_heavier p) in omega (arith, w, less)
+
+-- ---- thinning
+
+methods_long : (plan : List (List Fate)) (ms : List Method) → length (methods_by plan ms) ≡ length ms
+methods_long [] ms = refl
+methods_long (fs ∷ plan) [] = refl
+methods_long (fs ∷ plan) (m ∷ ms) = ap suc (methods_long plan ms)
+
+class_sized : (plan : List (List Fate)) (c : Class) → class_size (class_by plan c) ≡ class_size c
+class_sized plan c = omega (arith, methods_long plan c.methods)
+
+classes_sized : (plan : List (List (List Fate))) (cs : List Class) → sum_by class_size (classes_by plan cs) ≡ sum_by class_size cs
+classes_sized [] cs = refl
+classes_sized (ps ∷ plan) [] = refl
+classes_sized (ps ∷ plan) (c ∷ cs) = omega (arith, class_sized ps c, classes_sized plan cs, sum_by-cons class_size (class_by ps c) (classes_by plan cs), sum_by-cons class_size c cs)
+
+pub thinned_less : (wishes : Body → List Fate → Type 0) (admitted : List Bool) (p : Program) (c : Changed) → IsThinnedBy wishes admitted p c → weight_of c.program < weight_of p → bulk_of c.program < bulk_of p
+thinned_less wishes admitted p c h less =
+    let size : size_of c.program ≡ size_of p = ap size_of h.program ∙ classes_sized h.plan p.classes in
+    omega (arith, size, less)

@@ -1,0 +1,37 @@
+-- Where the rounds end nothing is left for the passes that thin bodies.
+use Rattle.std.proofs.Common.{◌≡◌, ◌⊎◌, inl, inr, ℕ, zero, suc, ◌<◌, Bool, true, List, [], refl, arith}
+use Rattle.program_model.specs.declared.body.Body.{Body}
+use Rattle.program_model.specs.declared.pass.Changed.{Changed}
+use Rattle.program_model.specs.declared.pass.Origin.{Origin}
+use Rattle.program_model.specs.declared.pass.Outside.{Outside}
+use Rattle.program_model.specs.declared.program.Program.{Program}
+use Rattle.program_model.specs.ProgramRules.{is_well_formed}
+use Rattle.body_edit.specs.declared.fate.Fate.{Fate}
+use Rattle.thin_pass.specs.Weights.{weight_of}
+use Rattle.thin_pass.proofs.Lighter.{thinned_less}
+use Rattle.dead_code.specs.Dead.{is_quiet_field}
+use Rattle.dead_code.specs.Wishes.{AreCleaned, NoneDead}
+use Rattle.squeeze.specs.Needed.{NothingLeft}
+use Rattle.squeeze.specs.Skipping.{AreSkips}
+use Rattle.pipeline.specs.Graph.{HasGraphFault}
+use Rattle.pipeline.specs.Passes.{Thins, IsCleaning, passes, AreStill}
+
+-- a thinning that leaves the program the same has counted nothing, since it would weigh less
+module _ (wishes : Body → List Fate → Type 0) (left : Type 0) (admitted : List Bool) (p : Program) (moved : List (List Origin)) (h : Thins wishes left admitted p p moved) where
+  none_counted : h.count ≡ 0
+  none_counted = by h.count refl
+    where
+      by : (n : ℕ) → h.count ≡ n → h.count ≡ 0
+      by zero e = e
+      by (suc n) e = let less : weight_of p < weight_of p = thinned_less wishes admitted p (record { program = p; count = h.count; origins = moved }) h.thinned (omega (arith, e)) in absurd (omega (arith, less))
+
+module _ (o : Outside) (admitted : List Bool) (p : Program) (formed : is_well_formed p ≡ true) (still : AreStill o admitted passes p) where
+  pub none_skipped : NothingLeft admitted p
+  none_skipped = let h = still.1.1.0 formed in h.none_left (none_counted AreSkips (NothingLeft admitted p) admitted p [] h)
+
+  pub none_dead : NoneDead (is_quiet_field p) admitted p ⊎ HasGraphFault p
+  none_dead = by (still.1.0 formed)
+    where
+      by : IsCleaning admitted p p [] → NoneDead (is_quiet_field p) admitted p ⊎ HasGraphFault p
+      by (inl h) = inl (h.none_left (none_counted (AreCleaned (is_quiet_field p)) (NoneDead (is_quiet_field p) admitted p) admitted p [] h))
+      by (inr none) = inr none.1

@@ -1,0 +1,113 @@
+-- Each pass of a round keeps what a pass owes.
+use Rattle.std.proofs.Common.{◌≡◌, ◌⊎◌, inl, inr, ℕ, Bool, true, false, true≢false, List, [], Some, None, Option, refl, sym, ap, ◌∙◌, subst}
+use Rattle.program_model.specs.declared.pass.Origin.{Origin}
+use Rattle.program_model.specs.declared.program.Program.{Program}
+use Rattle.program_model.specs.declared.pass.Outside.{Outside}
+use Rattle.program_model.specs.ProgramRules.{is_well_formed}
+use Rattle.call_graph.specs.declared.live_set.LiveSet.{LiveSet}
+use Rattle.reach.specs.Kept.{kept_of}
+use Rattle.reach.specs.Marked.{IsMarked}
+use Rattle.reach.proofs.Formed.{kept_formed}
+use Rattle.dalvik_defs.specs.Names.{Text}
+use Rattle.dalvik_defs.specs.Naming.{named}
+use Rattle.dalvik_defs.specs.Outer.{outer_of}
+use Rattle.dalvik_defs.specs.Under.{class_named, defines}
+use Rattle.dalvik_defs.specs.Shown.{SameShown}
+use Rattle.dalvik_defs.specs.declared.program.NamedClass.{NamedClass}
+use Rattle.dalvik_defs.specs.declared.program.NamedProgram.{NamedProgram}
+use Rattle.pass_defs.specs.Live.{Family}
+use Rattle.pass_defs.specs.Typed.{IsTyped}
+use Rattle.removal_law.specs.Left.{left_of}
+use Rattle.removal_law.proofs.Classes.{left_less}
+use Rattle.squeeze.specs.Needed.{NothingLeft}
+use Rattle.squeeze.specs.Skipping.{AreSkips}
+use Rattle.thin_bridge.specs.Kept.{AnyCode, IsKept}
+use Rattle.squeeze_bridge.proofs.Squeezes.{squeezed_kept}
+use Rattle.dead_bridge.proofs.Cleans.{cleaned_kept}
+use Rattle.pipeline.specs.Passes.{Pass, Reach, DeadCode, Squeeze, Removes, IsBarred, IsRemoval, Thins, IsCleaning}
+use Rattle.reach_bridge.specs.Names.{family_of}
+use Rattle.reach_bridge.proofs.Kept.{kept_named}
+use Rattle.reach_bridge.proofs.Unshut.{unshut}
+use Rattle.reach_bridge.proofs.Within.{shows_the_same, keeps_typing}
+use Rattle.rounds_bridge.specs.Owed.{IsSound, Owes, Keeps}
+use Rattle.rounds_bridge.proofs.Heads.{others_define}
+use Rattle.rounds_bridge.proofs.Owing.{owes_same}
+use Rattle.rounds_bridge.proofs.Parts.{kept_part, other_part, still_once, still_grounded}
+
+-- ---- removal
+
+-- what is left defines no more
+left_defines : (p : NamedProgram) (s : Family) (t : Text) → defines (left_of s p) t ≡ true → defines p t ≡ true
+left_defines p s t e = by (defines p t) refl
+  where
+    is_there : Option NamedClass → Bool
+    is_there o = elim o [ Some c ↦ true | None ↦ false ]
+
+    by : (b : Bool) → defines p t ≡ b → b ≡ true
+    by true d = refl
+    by false d = absurd (true≢false (sym e ∙ ap is_there (left_less s p t d)))
+
+kept_defines : (p : Program) (s : LiveSet) → is_well_formed p ≡ true → (t : Text) → defines (named (kept_of s p)) t ≡ true → defines (named p) t ≡ true
+kept_defines p s formed t e = left_defines (named p) (family_of p s) t (subst (λ q. defines q t ≡ true) (kept_named p s formed) e)
+
+module _ (o : Outside) where
+  kept_owes : (p : Program) (s : LiveSet) → IsMarked p o s → IsSound p → Owes o p (kept_of s p)
+  kept_owes p s marked sound = record {
+    sound = record {
+      formed = kept_formed s p sound.formed;
+      once = still_once p (kept_of s p) (kept_part s p.classes) sound.once;
+      grounded = still_grounded p (kept_of s p) (kept_part s p.classes) sound.grounded;
+      typed = keeps_typing p o s marked sound.typed;
+    };
+    outer = refl;
+    fewer = kept_defines p s sound.formed;
+    shown = λ none. shows_the_same p o s marked sound.typed (unshut p o none);
+  }
+
+  removal_owes : (p q : Program) (moved : List (List Origin)) → IsSound p → IsRemoval o p q moved → Owes o p q
+  removal_owes p q moved sound r = by r.removal
+    where
+      by : Removes o p q ⊎ ((q ≡ p) × IsBarred o p) → Owes o p q
+      by (inl one) = subst (λ (x : Program). Owes o p x) (sym one.left) (kept_owes p one.marks one.marked sound)
+      by (inr none) = subst (λ (x : Program). Owes o p x) (sym none.0) (owes_same o p sound)
+
+  pub reach_keeps : (admitted : List Bool) → Keeps o admitted Reach
+  reach_keeps admitted = record { owes = removal_owes }
+
+  -- ---- passes on bodies
+
+  -- a pass that keeps a program but for bodies and lines
+  bodies_owe : (p q : Program) → IsSound p → IsKept p q → Owes o p q
+  bodies_owe p q sound kept = record {
+    sound = record {
+      formed = kept.formed;
+      once = still_once p q (other_part AnyCode p p.classes q.classes kept.others.classes) sound.once;
+      grounded = still_grounded p q (other_part AnyCode p p.classes q.classes kept.others.classes) sound.grounded;
+      typed = kept.typed;
+    };
+    outer = ap (λ (x : Program). outer_of x o) kept.others.same;
+    fewer = λ t d. sym (others_define AnyCode p t q kept.others) ∙ d;
+    shown = λ none. kept.shown (outer_of p o);
+  }
+
+  squeezing_owes : (admitted : List Bool) (p q : Program) (moved : List (List Origin)) → IsSound p → Thins AreSkips (NothingLeft admitted p) admitted p q moved → Owes o p q
+  squeezing_owes admitted p q moved sound h = bodies_owe p q sound
+      (squeezed_kept admitted p (record { program = q; count = h.count; origins = moved }) sound.formed sound.typed h.thinned sound.once sound.grounded)
+
+  pub squeeze_keeps : (admitted : List Bool) → Keeps o admitted Squeeze
+  squeeze_keeps admitted = record { owes = squeezing_owes admitted }
+
+  cleaning_owes : (admitted : List Bool) (p q : Program) (moved : List (List Origin)) → IsSound p → IsCleaning admitted p q moved → Owes o p q
+  cleaning_owes admitted p q moved sound (inl h) = bodies_owe p q sound
+      (cleaned_kept p sound.formed sound.once sound.grounded admitted (record { program = q; count = h.count; origins = moved }) h.thinned sound.typed)
+  cleaning_owes admitted p q moved sound (inr none) = subst (λ (x : Program). Owes o p x) (sym none.0) (owes_same o p sound)
+
+  pub dead_code_keeps : (admitted : List Bool) → Keeps o admitted DeadCode
+  dead_code_keeps admitted = record { owes = cleaning_owes admitted }
+
+  -- ---- every pass
+
+  pub each_keeps : (admitted : List Bool) (pass : Pass) → Keeps o admitted pass
+  each_keeps admitted Reach = reach_keeps admitted
+  each_keeps admitted DeadCode = dead_code_keeps admitted
+  each_keeps admitted Squeeze = squeeze_keeps admitted

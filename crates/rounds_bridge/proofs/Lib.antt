@@ -1,0 +1,6 @@
+pub mod Ends
+pub mod Heads
+pub mod Keeping
+pub mod Owing
+pub mod Parts
+pub mod Repeated

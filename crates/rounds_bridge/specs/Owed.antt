@@ -1,0 +1,33 @@
+-- What a pass owes.
+use Rattle.std.specs.Prelude.{◌≡◌, ℕ, Bool, true, List, []}
+use Rattle.program_model.specs.declared.pass.Origin.{Origin}
+use Rattle.program_model.specs.declared.pass.Outside.{Outside}
+use Rattle.program_model.specs.declared.program.Program.{Program}
+use Rattle.program_model.specs.ProgramRules.{is_well_formed}
+use Rattle.class_defs.specs.ClassGraph.{IsTwice, IsAncestor}
+use Rattle.dalvik_defs.specs.Names.{Text}
+use Rattle.dalvik_defs.specs.Naming.{named}
+use Rattle.dalvik_defs.specs.Outer.{outer_of}
+use Rattle.dalvik_defs.specs.Under.{defines}
+use Rattle.dalvik_defs.specs.Shown.{SameShown}
+use Rattle.pass_defs.specs.Typed.{IsTyped}
+use Rattle.pipeline.specs.Passes.{Pass, Does}
+
+-- A well-formed and typed program, of which no class is defined twice or is its own ancestor.
+pub record IsSound (p : Program) : Type 0 where
+  pub formed : is_well_formed p ≡ true
+  pub once : (class : ℕ) → IsTwice p class → ⊥
+  pub grounded : (class : ℕ) → IsAncestor p class class → ⊥
+  pub typed : IsTyped (named p)
+
+-- What is left is sound, what the outside names is the same by the tables of both programs, no more classes are defined, and where
+-- no method is shut the same is shown.
+pub record Owes (o : Outside) (p q : Program) : Type 0 where
+  pub sound : IsSound q
+  pub outer : outer_of q o ≡ outer_of p o
+  pub fewer : (t : Text) → defines (named q) t ≡ true → defines (named p) t ≡ true
+  pub shown : o.shut ≡ [] → SameShown (named p) (named q) (outer_of p o)
+
+-- Whatever the pass does to a sound program, it owes this.
+pub record Keeps (o : Outside) (admitted : List Bool) (pass : Pass) : Type 0 where
+  pub owes : (p q : Program) (moved : List (List Origin)) → IsSound p → Does o admitted pass p q moved → Owes o p q

@@ -1,0 +1,21 @@
+//! Laws of the passes.
+
+ghost use Rattle.std.specs.Prelude.{Bool, List};
+ghost use Rattle.program_model.specs.declared.pass.Outside.{Outside};
+ghost use Rattle.pipeline.specs.Passes.{Reach, DeadCode, Squeeze};
+ghost use Rattle.rounds_bridge.specs.Owed.{Keeps};
+
+/// A removal of what is not reached keeps what a pass owes, and so does a removal that is barred.
+pub fn reach_keeps_law()
+    ensures { (o : Outside) (admitted : List Bool) → Keeps o admitted Reach }
+{}
+
+/// Bodies without what computes what nobody reads keep what a pass owes.
+pub fn dead_code_keeps_law()
+    ensures { (o : Outside) (admitted : List Bool) → Keeps o admitted DeadCode }
+{}
+
+/// Bodies without what does nothing keep what a pass owes.
+pub fn squeeze_keeps_law()
+    ensures { (o : Outside) (admitted : List Bool) → Keeps o admitted Squeeze }
+{}

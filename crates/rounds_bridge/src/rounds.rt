@@ -1,0 +1,43 @@
+//! Laws of rounds: what is left when one pass has followed another shows the same.
+
+ghost use Rattle.std.specs.Prelude.{◌≡◌, ◌⊎◌, ℕ, Bool, true, false, List, []};
+ghost use Rattle.program_model.specs.declared.pass.Origin.{Origin};
+ghost use Rattle.program_model.specs.declared.program.Program.{Program};
+ghost use Rattle.program_model.specs.declared.pass.Outside.{Outside};
+ghost use Rattle.program_model.specs.ProgramRules.{is_well_formed};
+ghost use Rattle.hierarchy.specs.Shapes.{IsAcyclic, IsResolved};
+ghost use Rattle.hierarchy.specs.declared.build.Hierarchy.{Hierarchy};
+ghost use Rattle.verify.specs.Methods.{TypesAll};
+ghost use Rattle.dead_code.specs.Dead.{is_quiet_field};
+ghost use Rattle.dead_code.specs.Wishes.{NoneDead};
+ghost use Rattle.squeeze.specs.Needed.{NothingLeft};
+ghost use Rattle.pipeline.specs.Graph.{HasGraphFault};
+ghost use Rattle.pipeline.specs.declared.traces.Traced.{Traced};
+ghost use Rattle.pipeline.specs.Rounds.{HaveRun, IsOptimised, Rounds};
+ghost use Rattle.rounds_bridge.specs.Owed.{IsSound, Owes};
+
+/// A well-formed program of which a hierarchy was built, and of which the verifier has a typing of each method, is sound.
+pub fn accepted_sound_law()
+    ensures { (p : Program) (h : Hierarchy) → is_well_formed p ≡ true → IsResolved p h → IsAcyclic p → TypesAll p h → IsSound p }
+{}
+
+/// What any number of rounds leave of a sound program is sound, and shows the same as the program before all of them, where
+/// no method is shut, as in what rules alone give.
+pub fn rounds_law()
+    ensures { (o : Outside) (admitted : List Bool) (n : ℕ) (t u : Traced) → Rounds o admitted n t u → IsSound t.program → Owes o t.program u.program }
+{}
+
+/// What `optimise` leaves of a sound program is sound, and shows the same where no method is shut, where no call is silent: the
+/// rules forbid all rewriting, or name no silent method.
+pub fn optimised_law()
+    ensures { (p r : Program) (origins : List (List Origin)) (o : Outside) (advisers spared rounds : ℕ) (before after : List Bool) → IsSound p → IsOptimised o p advisers before after spared r origins rounds
+        → (o.optimise ≡ false) ⊎ (o.silent ≡ []) → Owes o p r }
+{}
+
+/// Where the rounds end, no position of an admitted method is left that a squeeze takes out, and none that is dead, unless the
+/// class graph has a fault. (`NothingLeft` and `NoneDead` speak of bodies whose positions and regions 32 bits number.)
+pub fn settled_law()
+    ensures skips { (o : Outside) (admitted : List Bool) (p : Program) (t : Traced) (count : ℕ) → HaveRun o admitted p t count → is_well_formed t.program ≡ true → NothingLeft admitted t.program }
+    ensures dead { (o : Outside) (admitted : List Bool) (p : Program) (t : Traced) (count : ℕ) → HaveRun o admitted p t count → is_well_formed t.program ≡ true
+        → NoneDead (is_quiet_field t.program) admitted t.program ⊎ HasGraphFault t.program }
+{}

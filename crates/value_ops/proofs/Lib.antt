@@ -1,0 +1,4 @@
+pub mod Lefts
+pub mod Answers
+pub mod Asked
+pub mod Keys

@@ -1,0 +1,5 @@
+pub mod Left
+pub mod Sums
+pub mod Numbers
+pub mod Tests
+pub mod Sound

@@ -24,6 +24,7 @@ mod sure_shelf;
 
 pub use adviser::{Adviser, Ask, Key};
 pub use budget_adviser::BudgetAdviser;
+pub use edge::{read_all, write_all};
 pub use fail::Fail;
 pub use file_shelf::FileShelf;
 pub use memory_notes::MemoryNotes;
@@ -34,6 +35,3 @@ pub use prefix_adviser::PrefixAdviser;
 pub use shelf::{FetchFault, PutFault, Shelf};
 pub use std_notes::StdNotes;
 pub use sure_shelf::SureShelf;
-
-#[cfg(test)]
-mod tests;

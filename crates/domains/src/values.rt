@@ -1,6 +1,6 @@
 //! All that is known of the content of a register.
 
-ghost use Rattle.std.specs.Prelude.{◌≡◌, ℕ, ◌↔◌, IsTrue, Contains, Option, Some, None, IfSome, false, ◌==◌, if◌then◌else◌};
+ghost use Rattle.std.specs.Prelude.{◌≡◌, ◌≤◌, ℕ, length, ◌↔◌, IsTrue, Contains, Option, Some, None, IfSome, false, ◌==◌, if◌then◌else◌};
 ghost use Rattle.domains.specs.declared.nulls.Nullness.TheVariants.{Bottom, Null, NotNull, Any};
 ghost use Rattle.domains.specs.Reducing.{any_number, known_value, reduced, with_number as numbers};
 ghost use Rattle.std.specs.Option.{option_copied};
@@ -173,6 +173,7 @@ impl Value {
         ensures listed { IfSome result (λ xs. (c : ℕ) → Contains xs.now c ↔ value_holds self.now (Object (Some c))) }
         ensures any { (result ≡ None) ↔ value_holds self.now (Object None) }
         ensures ascending { IfSome result (λ xs. Ascends 0 xs.now) }
+        ensures few { IfSome result (λ xs. length xs.now ≤ 8) }
         ensures is { option_copied result ≡ self.now.classes }
     {
         self.classes.classes()

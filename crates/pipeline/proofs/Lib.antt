@@ -1,6 +1,7 @@
 pub mod AskLemmas
 pub mod Bulk
 pub mod Each
+pub mod Few
 pub mod Formed
 pub mod Graphs
 pub mod Passing

@@ -14,7 +14,6 @@ use Rattle.call_graph.specs.declared.live_set.LiveSet.{LiveSet}
 use Rattle.call_graph.specs.Facts.{Fits}
 use Rattle.call_graph.specs.Closed.{IsClosedSet}
 use Rattle.reach.specs.Kept.{kept_of, size_of}
-use Rattle.hierarchy.proofs.Short.{few_names}
 use Rattle.walk_marks.specs.Walks.{is_on}
 use Rattle.body_edit.specs.declared.fate.Fate.{Fate}
 use Rattle.dead_code.specs.Cleaned.{IsCleaned}
@@ -30,6 +29,7 @@ use Rattle.pipeline.specs.declared.traces.Traced.{Traced}
 use Rattle.pipeline.specs.Graph.{HasGraph, HasGraphFault}
 use Rattle.pipeline.specs.Origins.{Follow}
 use Rattle.pipeline.specs.Passes.{Pass, Reach, DeadCode, Squeeze, Removes, Does, Steps, Last, Then, AreStill, bulk_of, HavePassed}
+use Rattle.pipeline.proofs.Few.{few_fields}
 use Rattle.pipeline.proofs.Bulk.{removal_less, thinned_less}
 
 -- ---- any passes
@@ -161,7 +161,7 @@ module _ (o : Outside) (admitted : List Bool) (t : Traced) (r : Passed) where
 
   pub many_fields_passed : r.traced ≡ t → r.count ≡ 0 → 2 ^ 32 - 1 < length t.program.fields → HavePassed o admitted (DeadCode ∷ []) t r
   many_fields_passed same none many = none_passed o admitted DeadCode t r
-      (λ formed. let few : length t.program.fields < 2 ^ 32 - 1 = (few_names t.program formed).0 in absurd (omega (arith, many, few))) same none
+      (λ formed. let few : length t.program.fields < 2 ^ 32 = few_fields t.program formed in absurd (omega (arith, many, few))) same none
 
   pub clean_passed : (c : Changed) (h : Hierarchy) → IsPassed t.origins c r → (is_well_formed t.program ≡ true → HasGraph t.program h) → IsCleaned h admitted t.program c
       → (IsResolved t.program h → IsThinnedBy (AreCleaned (is_quiet_field t.program)) admitted t.program c) → (IsResolved t.program h → c.count ≡ 0 → NoneDead (is_quiet_field t.program) admitted t.program)

@@ -5,7 +5,6 @@ use Rattle.program_model.specs.declared.pass.Changed.{Changed}
 use Rattle.program_model.specs.declared.pass.Origin.{Origin}
 use Rattle.program_model.specs.declared.pass.Outside.{Outside}
 use Rattle.program_model.specs.declared.program.Program.{Program}
-use Rattle.program_model.specs.ProgramRules.{is_well_formed}
 use Rattle.body_edit.specs.declared.fate.Fate.{Fate}
 use Rattle.thin_pass.specs.Weights.{weight_of}
 use Rattle.thin_pass.proofs.Lighter.{thinned_less}
@@ -13,8 +12,12 @@ use Rattle.dead_code.specs.Dead.{is_quiet_field}
 use Rattle.dead_code.specs.Wishes.{AreCleaned, NoneDead}
 use Rattle.squeeze.specs.Needed.{NothingLeft}
 use Rattle.squeeze.specs.Skipping.{AreSkips}
-use Rattle.pipeline.specs.Graph.{HasGraphFault}
+use Rattle.hierarchy.specs.Shapes.{IsCause}
+use Rattle.hierarchy.specs.declared.fault.HierarchyFault.{HierarchyFault}
+use Rattle.hierarchy.specs.declared.fault.HierarchyFault.TheVariants as fault
+use Rattle.pipeline.specs.Graph.{HasGraphFault, IsFault}
 use Rattle.pipeline.specs.Passes.{Thins, IsCleaning, passes, AreStill}
+use Rattle.rounds_bridge.specs.Owed.{IsSound}
 
 -- a thinning that leaves the program the same has counted nothing, since it would weigh less
 module _ (wishes : Body → List Fate → Type 0) (left : Type 0) (admitted : List Bool) (p : Program) (moved : List (List Origin)) (h : Thins wishes left admitted p p moved) where
@@ -25,13 +28,23 @@ module _ (wishes : Body → List Fate → Type 0) (left : Type 0) (admitted : Li
       by zero e = e
       by (suc n) e = let less : weight_of p < weight_of p = thinned_less wishes admitted p (record { program = p; count = h.count; origins = moved }) h.thinned (omega (arith, e)) in absurd (omega (arith, less))
 
-module _ (o : Outside) (admitted : List Bool) (p : Program) (formed : is_well_formed p ≡ true) (still : AreStill o admitted passes p) where
-  pub none_skipped : NothingLeft admitted p
-  none_skipped = let h = still.1.1.0 formed in h.none_left (none_counted AreSkips (NothingLeft admitted p) admitted p [] h)
+-- the class graph of a sound program has no fault
+pub unfaulted : (p : Program) → IsSound p → HasGraphFault p → ⊥
+unfaulted p sound x = by x.fault x.is x.cause
+  where
+    by : (f : HierarchyFault) → IsFault f → IsCause p f → ⊥
+    by fault.NoMemory is cause = is
+    by (fault.Cycle class) is cause = sound.grounded class cause.is.own
+    by (fault.Twice class) is cause = sound.once class cause.twice
+    by (fault.SplitOverride class method) is cause = sound.whole class method cause.is.is
 
-  pub none_dead : NoneDead (is_quiet_field p) admitted p ⊎ HasGraphFault p
-  none_dead = by (still.1.0 formed)
+module _ (o : Outside) (admitted : List Bool) (p : Program) (sound : IsSound p) (still : AreStill o admitted passes p) where
+  pub none_skipped : NothingLeft admitted p
+  none_skipped = let h : Thins AreSkips (NothingLeft admitted p) admitted p p [] = still.1.1.0 sound.formed in h.none_left (none_counted AreSkips (NothingLeft admitted p) admitted p [] h)
+
+  pub none_dead : NoneDead (is_quiet_field p) admitted p
+  none_dead = by (still.1.0 sound.formed)
     where
-      by : IsCleaning admitted p p [] → NoneDead (is_quiet_field p) admitted p ⊎ HasGraphFault p
-      by (inl h) = inl (h.none_left (none_counted (AreCleaned (is_quiet_field p)) (NoneDead (is_quiet_field p) admitted p) admitted p [] h))
-      by (inr none) = inr none.1
+      by : IsCleaning admitted p p [] → NoneDead (is_quiet_field p) admitted p
+      by (inl h) = h.none_left (none_counted (AreCleaned (is_quiet_field p)) (NoneDead (is_quiet_field p) admitted p) admitted p [] h)
+      by (inr none) = absurd (unfaulted p sound none.1)

@@ -33,6 +33,7 @@ use Rattle.rounds_bridge.specs.Owed.{IsSound, Owes, Keeps}
 use Rattle.rounds_bridge.proofs.Heads.{others_define}
 use Rattle.rounds_bridge.proofs.Owing.{owes_same}
 use Rattle.rounds_bridge.proofs.Parts.{kept_part, other_part, still_once, still_grounded}
+use Rattle.rounds_bridge.proofs.Splits.{whole_left}
 
 -- ---- removal
 
@@ -57,6 +58,7 @@ module _ (o : Outside) where
       formed = kept_formed s p sound.formed;
       once = still_once p (kept_of s p) (kept_part s p.classes) sound.once;
       grounded = still_grounded p (kept_of s p) (kept_part s p.classes) sound.grounded;
+      whole = whole_left p (kept_of s p) refl (kept_part s p.classes) sound.whole;
       typed = keeps_typing p o s marked sound.typed;
     };
     outer = refl;
@@ -83,6 +85,7 @@ module _ (o : Outside) where
       formed = kept.formed;
       once = still_once p q (other_part AnyCode p p.classes q.classes kept.others.classes) sound.once;
       grounded = still_grounded p q (other_part AnyCode p p.classes q.classes kept.others.classes) sound.grounded;
+      whole = whole_left p q kept.others.same (other_part AnyCode p p.classes q.classes kept.others.classes) sound.whole;
       typed = kept.typed;
     };
     outer = ap (λ (x : Program). outer_of x o) kept.others.same;

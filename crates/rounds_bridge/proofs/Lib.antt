@@ -4,3 +4,4 @@ pub mod Keeping
 pub mod Owing
 pub mod Parts
 pub mod Repeated
+pub mod Splits

@@ -5,6 +5,7 @@ use Rattle.program_model.specs.declared.pass.Outside.{Outside}
 use Rattle.program_model.specs.declared.program.Program.{Program}
 use Rattle.program_model.specs.ProgramRules.{is_well_formed}
 use Rattle.hierarchy.specs.Shapes.{IsAcyclic, IsResolved}
+use Rattle.hierarchy.specs.Splitting.{NoSplit}
 use Rattle.hierarchy.specs.declared.build.Hierarchy.{Hierarchy}
 use Rattle.verify.specs.Methods.{TypesAll}
 use Rattle.type_bridge.proofs.Programs.{typed_program}
@@ -19,8 +20,8 @@ pub all_rounds_owe : (o : Outside) (admitted : List Bool) (n : ℕ) (t u : Trace
 all_rounds_owe o admitted n t u rounds sound = rounds_owe o admitted (each_keeps o admitted) n t u rounds sound
 
 -- what hierarchy and verify accept is sound
-pub accepted_sound : (p : Program) (h : Hierarchy) → is_well_formed p ≡ true → IsResolved p h → IsAcyclic p → TypesAll p h → IsSound p
-accepted_sound p h formed resolved acyclic types = record { formed = formed; once = resolved.of.once; grounded = acyclic; typed = typed_program p h formed resolved types }
+pub accepted_sound : (p : Program) (h : Hierarchy) → is_well_formed p ≡ true → IsResolved p h → IsAcyclic p → NoSplit p → TypesAll p h → IsSound p
+accepted_sound p h formed resolved acyclic whole types = record { formed = formed; once = resolved.of.once; grounded = acyclic; whole = whole; typed = typed_program p h formed resolved types }
 
 -- where no call is silent, the rounds begin with the program
 module _ (p r : Program) (origins : List (List Origin)) (o : Outside) (advisers spared n : ℕ) (before after : List Bool) (sound : IsSound p)

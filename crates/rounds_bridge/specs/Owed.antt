@@ -11,13 +11,16 @@ use Rattle.dalvik_defs.specs.Outer.{outer_of}
 use Rattle.dalvik_defs.specs.Under.{defines}
 use Rattle.dalvik_defs.specs.Shown.{SameShown}
 use Rattle.pass_defs.specs.Typed.{IsTyped}
+use Rattle.hierarchy.specs.Splitting.{NoSplit}
 use Rattle.pipeline.specs.Passes.{Pass, Does}
 
--- A well-formed and typed program, of which no class is defined twice or is its own ancestor.
+-- A well-formed and typed program, whose class graph has no fault: no class of it is defined twice, is its own ancestor, or
+-- repeats a package-private method of another package.
 pub record IsSound (p : Program) : Type 0 where
   pub formed : is_well_formed p ≡ true
   pub once : (class : ℕ) → IsTwice p class → ⊥
   pub grounded : (class : ℕ) → IsAncestor p class class → ⊥
+  pub whole : NoSplit p
   pub typed : IsTyped (named p)
 
 -- What is left is sound, what the outside names is the same by the tables of both programs, no more classes are defined, and where

@@ -1,8 +1,8 @@
 //! What all rounds of pipeline leave shows what the program showed before them. The functions of this crate have an empty
 //! body, and their contracts are the laws.
 //!
-//! `specs/Owed.antt` says what a pass owes: of a sound program, which is well-formed and typed and has no class twice or above
-//! itself, it leaves one that is sound, whose tables are the same, which defines no more classes, and which shows the same.
+//! `specs/Owed.antt` says what a pass owes: of a sound program, which is well-formed and typed and whose class graph has no
+//! fault, it leaves one that is sound, whose tables are the same, which defines no more classes, and which shows the same.
 //! `passes` has this of each pass of a round, and `rounds` of all of them, one after another, and of what `optimise` leaves of a
 //! sound program without silent calls. A new pass is one more law of `passes`.
 #![tactic(auto)]

@@ -6,19 +6,19 @@ ghost use Rattle.program_model.specs.declared.program.Program.{Program};
 ghost use Rattle.program_model.specs.declared.pass.Outside.{Outside};
 ghost use Rattle.program_model.specs.ProgramRules.{is_well_formed};
 ghost use Rattle.hierarchy.specs.Shapes.{IsAcyclic, IsResolved};
+ghost use Rattle.hierarchy.specs.Splitting.{NoSplit};
 ghost use Rattle.hierarchy.specs.declared.build.Hierarchy.{Hierarchy};
 ghost use Rattle.verify.specs.Methods.{TypesAll};
 ghost use Rattle.dead_code.specs.Dead.{is_quiet_field};
 ghost use Rattle.dead_code.specs.Wishes.{NoneDead};
 ghost use Rattle.squeeze.specs.Needed.{NothingLeft};
-ghost use Rattle.pipeline.specs.Graph.{HasGraphFault};
 ghost use Rattle.pipeline.specs.declared.traces.Traced.{Traced};
 ghost use Rattle.pipeline.specs.Rounds.{HaveRun, IsOptimised, Rounds};
 ghost use Rattle.rounds_bridge.specs.Owed.{IsSound, Owes};
 
 /// A well-formed program of which a hierarchy was built, and of which the verifier has a typing of each method, is sound.
 pub fn accepted_sound_law()
-    ensures { (p : Program) (h : Hierarchy) → is_well_formed p ≡ true → IsResolved p h → IsAcyclic p → TypesAll p h → IsSound p }
+    ensures { (p : Program) (h : Hierarchy) → is_well_formed p ≡ true → IsResolved p h → IsAcyclic p → NoSplit p → TypesAll p h → IsSound p }
 {}
 
 /// What any number of rounds leave of a sound program is sound, and shows the same as the program before all of them, where
@@ -34,10 +34,10 @@ pub fn optimised_law()
         → (o.optimise ≡ false) ⊎ (o.silent ≡ []) → Owes o p r }
 {}
 
-/// Where the rounds end, no position of an admitted method is left that a squeeze takes out, and none that is dead, unless the
-/// class graph has a fault. (`NothingLeft` and `NoneDead` speak of bodies whose positions and regions 32 bits number.)
+/// Where the rounds end in a sound program, as they do where they began with one, no position of an admitted method is left that
+/// a squeeze takes out, and none that is dead. (`NothingLeft` and `NoneDead` speak of bodies whose positions and regions 32
+/// bits number.)
 pub fn settled_law()
-    ensures skips { (o : Outside) (admitted : List Bool) (p : Program) (t : Traced) (count : ℕ) → HaveRun o admitted p t count → is_well_formed t.program ≡ true → NothingLeft admitted t.program }
-    ensures dead { (o : Outside) (admitted : List Bool) (p : Program) (t : Traced) (count : ℕ) → HaveRun o admitted p t count → is_well_formed t.program ≡ true
-        → NoneDead (is_quiet_field t.program) admitted t.program ⊎ HasGraphFault t.program }
+    ensures skips { (o : Outside) (admitted : List Bool) (p : Program) (t : Traced) (count : ℕ) → HaveRun o admitted p t count → IsSound t.program → NothingLeft admitted t.program }
+    ensures dead { (o : Outside) (admitted : List Bool) (p : Program) (t : Traced) (count : ℕ) → HaveRun o admitted p t count → IsSound t.program → NoneDead (is_quiet_field t.program) admitted t.program }
 {}

@@ -1,4 +1,4 @@
--- What the examples of `examples.rt` say of: a program without code, and an analysis that knows nothing of sums.
+-- What the examples of `examples.rt` say of: a program without code, and an analysis that knows nothing of sums and of tests only what null says.
 use Rattle.std.specs.Prelude.{ℕ, List, [], ◌∷◌, map, Some, None}
 use Rattle.program_model.specs.declared.program.Version.TheVariants.{V035}
 use Rattle.dalvik_defs.specs.Examples.{a_type, b_type, class, program}
@@ -8,7 +8,7 @@ use Rattle.domains.specs.Values.{Parts, any_value}
 use Rattle.pass_defs.specs.Facts.{Facts}
 use Rattle.pass_defs.specs.Analysis.{Analysis}
 use Rattle.pass_defs.specs.Closed.{edges}
-use Rattle.run_facts.specs.ValueAnalysis.{Numbers, value_analysis}
+use Rattle.run_facts.specs.ValueAnalysis.{Numbers, tested_values, value_analysis}
 
 -- LB; under LA;
 abbrev pub two_classes : NamedProgram
@@ -21,6 +21,7 @@ any_numbers = record {
   literal = λ op x z. Some any_value;
   compared = λ op x y. any_value;
   stored = λ i x. x;
+  tested = tested_values;
   keyed = λ z x. Some x;
   unkeyed = λ zs x. Some x;
 }

@@ -1,5 +1,5 @@
 -- The product domain as an analysis of a program: its meaning by the place of an object's class, new objects by their class,
--- uses and tests that refine nullness, casts that refine classes. What it makes of two numbers is left to the code.
+-- uses that refine nullness, casts that refine classes. What it makes of numbers and of tests is left to the code.
 use Rattle.std.specs.Prelude.{ℕ, ℤ, pos, Bool, true, false, ◌&&◌, not, if◌then◌else◌, List, [], ◌∷◌, filter, position, slice_get, Option, Some, None}
 use Rattle.std.specs.Option.{option_map}
 use Rattle.insn_set.specs.declared.ops.Item.{Item}
@@ -92,18 +92,20 @@ tested_null false x y = option_map (λ v. (v, y)) (goes_on (held_value x))
 abbrev pub is_only_null : Parts → Bool
 is_only_null x = elim x.nullness [ Bottom ↦ false | Null ↦ true | NotNull ↦ false | Any ↦ false ]
 
+-- what a test against null says, and nothing of another
 abbrev pub tested_values : Bool → Test → Parts → Parts → Option (Parts × Parts)
 tested_values b test.Eq x y = if is_only_null y then tested_null b x y else Some (x, y)
 tested_values b test.Ne x y = if is_only_null y then tested_null (not b) x y else Some (x, y)
 tested_values b t x y = Some (x, y)
 
--- what the code makes of numbers
+-- what the code makes of numbers, and of the operands of tests and switches
 pub record Numbers : Type 0 where
   pub unary : UnaryOp → Parts → Parts
   pub binary : BinaryOp → Parts → Parts → Option Parts
   pub literal : LiteralOp → Parts → ℤ → Option Parts
   pub compared : CmpOp → Parts → Parts → Parts
   pub stored : Item → Parts → Parts
+  pub tested : Bool → Test → Parts → Parts → Option (Parts × Parts)
   pub keyed : ℤ → Parts → Option Parts
   pub unkeyed : List ℤ → Parts → Option Parts
 
@@ -126,7 +128,7 @@ value_analysis p n = record {
   stored = n.stored;
   held = λ x. goes_on (held_value x);
   cast = λ t x. Some (cast_value p t x);
-  tested = tested_values;
+  tested = n.tested;
   keyed = n.keyed;
   unkeyed = n.unkeyed;
 }

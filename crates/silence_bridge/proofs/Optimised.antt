@@ -1,7 +1,10 @@
 -- What is left of a program for all rules shows what the program without its silent calls shows.
-use Rattle.std.proofs.Common.{◌≡◌, inl, inr, ℕ, Bool, true, List, [], refl, sym, ap, ◌∙◌, subst}
+use Rattle.std.proofs.Common.{◌≡◌, inl, inr, ℕ, Bool, true, false, List, [], refl, sym, ap, ◌∙◌, subst}
+use Rattle.std.specs.Prelude.{if◌then◌else◌, slice_index_or}
+use Rattle.std.specs.Option.{option_map}
 use Rattle.program_model.specs.declared.pass.Origin.{Origin}
 use Rattle.program_model.specs.declared.program.Program.{Program}
+use Rattle.program_model.specs.declared.program.Method.{Method}
 use Rattle.program_model.specs.declared.pass.Outside.{Outside}
 use Rattle.program_model.specs.ProgramRules.{is_well_formed}
 use Rattle.dalvik_defs.specs.Naming.{named}
@@ -14,10 +17,15 @@ use Rattle.hierarchy.specs.Splitting.{NoSplit}
 use Rattle.hierarchy.specs.declared.build.Hierarchy.{Hierarchy}
 use Rattle.verify.specs.Methods.{TypesAll}
 use Rattle.type_bridge.proofs.Programs.{typed_program}
-use Rattle.pipeline.specs.Silence.{is_quiet, silenced_class, silenced, IsSilent}
+use Rattle.pipeline.specs.Silence.{is_quiet, silenced_body, silenced_method, silenced_class, silenced, IsSilent}
+use Rattle.dead_code.specs.Dead.{is_quiet_field}
+use Rattle.dead_code.specs.Wishes.{NoneDead}
+use Rattle.squeeze.specs.Needed.{NothingLeft}
 use Rattle.pipeline.specs.Rounds.{first_of, IsOptimised}
 use Rattle.rounds_bridge.specs.Owed.{IsSound, Owes}
-use Rattle.rounds_bridge.proofs.Parts.{Part, mapped_part, still_once, still_grounded}
+use Rattle.rounds_bridge.proofs.Ends.{none_skipped, none_dead}
+use Rattle.rounds_bridge.proofs.Parts.{Part, mapped_head, mapped_part, still_once, still_grounded}
+use Rattle.rounds_bridge.proofs.Splits.{whole_left}
 use Rattle.rounds_bridge.proofs.Repeated.{all_rounds_owe}
 use Rattle.silence_law.proofs.Silenced.{silenced_typed}
 use Rattle.silence_law.proofs.WellFormed.{well_placed}
@@ -43,16 +51,35 @@ module _ (p : Program) (h : Hierarchy) (formed : is_well_formed p ≡ true) (res
     silent_typed admitted q silent = subst IsTyped (sym (silent_named admitted q silent))
         (silenced_typed (named p) (outer_of p o) (admitted_in p admitted) (well_placed p formed) (typed_program p h formed resolved types))
 
+    -- a method keeps its number and its flags
+    same_name : (admitted : List Bool) (m : Method) → (silenced_method (is_quiet p o.silent) admitted m).name ≡ m.name
+    same_name admitted m = by (slice_index_or admitted m.name false)
+      where
+        by : (b : Bool) → (if b then record m { body = option_map (silenced_body (is_quiet p o.silent)) m.body } else m).name ≡ m.name
+        by true = refl
+        by false = refl
+
+    same_flags : (admitted : List Bool) (m : Method) → (silenced_method (is_quiet p o.silent) admitted m).flags ≡ m.flags
+    same_flags admitted m = by (slice_index_or admitted m.name false)
+      where
+        by : (b : Bool) → (if b then record m { body = option_map (silenced_body (is_quiet p o.silent)) m.body } else m).flags ≡ m.flags
+        by true = refl
+        by false = refl
+
+    same_tables : (admitted : List Bool) (q : Program) → IsSilent o.silent admitted p q → q ≡ record p { classes = q.classes }
+    same_tables admitted q silent = is_silenced admitted q silent ∙ ap (λ (x : Program). record p { classes = x.classes }) (sym (is_silenced admitted q silent))
+
     -- its classes are the program's but for bodies
     silent_part : (admitted : List Bool) (q : Program) → IsSilent o.silent admitted p q → Part q.classes p.classes
     silent_part admitted q silent = subst (λ (x : Program). Part x.classes p.classes) (sym (is_silenced admitted q silent))
-        (mapped_part (silenced_class (is_quiet p o.silent) admitted) (λ c. record { name = refl; superclass = refl; interfaces = refl }) p.classes)
+        (mapped_part (silenced_class (is_quiet p o.silent) admitted) (λ c. mapped_head (silenced_method (is_quiet p o.silent) admitted) (same_name admitted) (same_flags admitted) c) p.classes)
 
     silent_sound : (admitted : List Bool) (q : Program) → IsSilent o.silent admitted p q → is_well_formed q ≡ true → IsSound q
     silent_sound admitted q silent well = record {
       formed = well;
       once = still_once p q (silent_part admitted q silent) resolved.of.once;
       grounded = still_grounded p q (silent_part admitted q silent) acyclic;
+      whole = whole_left p q (same_tables admitted q silent) (silent_part admitted q silent) whole;
       typed = silent_typed admitted q silent;
     }
 
@@ -67,3 +94,9 @@ module _ (p : Program) (h : Hierarchy) (formed : is_well_formed p ≡ true) (res
 
       pub optimised_sound : IsSound r
       optimised_sound = rounds.sound
+
+      pub optimised_skips : NothingLeft done.admitted r
+      optimised_skips = none_skipped o done.admitted r rounds.sound done.ran.ends
+
+      pub optimised_dead : NoneDead (is_quiet_field r) done.admitted r
+      optimised_dead = none_dead o done.admitted r rounds.sound done.ran.ends

@@ -1,9 +1,13 @@
 -- What it is that the answers hold of what the machine makes.
 use Rattle.std.specs.Prelude.{◌≡◌, ℕ, Bool, true, false, not, ◌%◌, ◌^◌, ◌<◌, ℤ, ◌≤ℤ◌, List, [], ◌∷◌, Option, Some, None}
+use Rattle.insn_set.specs.declared.ops.Item.{Item}
 use Rattle.insn_set.specs.declared.ops.Test.{Test}
 use Rattle.dalvik_defs.specs.Arith.{passes}
+use Rattle.dalvik_defs.specs.Items.{stored}
+use Rattle.dalvik_defs.specs.Operators.{OneWord, OneWide, Number as Answer}
+use Rattle.dalvik_defs.specs.State.{word_of}
 use Rattle.dalvik_defs.specs.declared.state.Value.TheVariants as machine
-use Rattle.domains.specs.Datum.{Datum, Plain, Single, Double, Object}
+use Rattle.domains.specs.Datum.{Number, Datum, Plain, Single, Double, Object}
 use Rattle.domains.specs.Ranges.{first_word, last_word}
 use Rattle.domains.specs.Values.{Parts, value_holds}
 
@@ -46,3 +50,18 @@ IsNone (k ∷ ks) z = (k ≡ z → ⊥) × IsNone ks z
 abbrev pub AreWords : List ℤ → Type 0
 AreWords [] = Unit {0}
 AreWords (k ∷ ks) = ((first_word ≤ℤ k) × (k ≤ℤ last_word)) × AreWords ks
+
+-- ---- numbers of either width
+
+abbrev pub size_of : Number → ℕ
+size_of (Single a) = a
+size_of (Double a) = a
+
+-- what an operator with one operand answers
+abbrev pub answer_datum : Answer → Datum
+answer_datum (OneWord n) = Plain (Single n)
+answer_datum (OneWide n) = Plain (Double n)
+
+-- what an item keeps of a word
+abbrev pub kept_word : Item → ℕ → ℕ
+kept_word i a = word_of (stored i (machine.Word a))

@@ -4,7 +4,8 @@ ghost use Rattle.std.specs.Prelude.{◌≡◌, ◌==◌, ◌&&◌, Some, None, [
 ghost use Rattle.std.specs.Int.{w32, cast_signed, cast_unsigned};
 ghost use Rattle.domains.specs.Reducing.{reduced};
 ghost use Rattle.domains.specs.Values.{constant_value};
-ghost use Rattle.value_ops.specs.Left.{is_nothing, goes_on, both_go_on, without_null, with_null, held_value, null_value, is_unknown, settled, word_met, range_met, null_met, same_as, next_word, previous_word, word_without, low_without, high_without, range_without, null_without, without, narrowed};
+ghost use Rattle.value_ops.specs.Left.{is_nothing, goes_on, both_go_on, without_null, with_null, held_value, null_value, is_unknown, settled, word_met, range_met};
+ghost use Rattle.value_ops.specs.Left.{null_met, same_as, next_word, previous_word, word_without, low_without, high_without, range_without, null_without, without, narrowed};
 
 use domains::{ClassSet, Interval, Nullness, Value, Word};
 

@@ -20,7 +20,7 @@ mod switches;
 mod tests_of;
 mod unaries;
 
-pub use laws::{answers_hold, switches_keep, tests_keep, uses_keep};
+pub use laws::{answers_hold, others_hold, switches_keep, tests_keep, uses_keep};
 pub use left::{held, null, settled};
 pub use made::{any_number, any_object, of_class, words_between};
 pub use numbers::{binary, literal};

@@ -4,7 +4,8 @@ ghost use Rattle.std.specs.Prelude.{◌≡◌, ◌%◌, ◌^◌, true, Some};
 ghost use Rattle.std.specs.Int.{w8, w16};
 ghost use Rattle.dalvik_defs.specs.Arith.{compared, signed, low_signed};
 ghost use Rattle.dalvik_defs.specs.Operators.{unary_answer};
-ghost use Rattle.value_ops.specs.Numbers.{no_floats, number_value, unknown_answer, unary_known, unary_value, comparison_of, compared_known, compared_value, cut_value, boolean_range, byte_range, char_range, short_range, kept_value, stored_value};
+ghost use Rattle.value_ops.specs.Numbers.{no_floats, number_value, unknown_answer, unary_known, unary_value, comparison_of, compared_known};
+ghost use Rattle.value_ops.specs.Numbers.{compared_value, cut_value, boolean_range, byte_range, char_range, short_range, kept_value, stored_value};
 
 use crate::left::is_nothing;
 use crate::made::{any_number, words_between};

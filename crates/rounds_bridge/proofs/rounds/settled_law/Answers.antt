@@ -2,7 +2,7 @@ use Rattle.rounds_bridge.proofs.Ends.{none_skipped, none_dead}
 use Rattle.rounds_bridge.proofs.rounds.settled_law.Goals as goal
 
 pub returns-clause-skips : goal.returns-clause-skips
-returns-clause-skips c = λ o admitted p t count ran formed. none_skipped o admitted t.program formed ran.ends
+returns-clause-skips c = λ o admitted p t count ran sound. none_skipped o admitted t.program sound ran.ends
 
 pub returns-clause-dead : goal.returns-clause-dead
-returns-clause-dead c = λ o admitted p t count ran formed. none_dead o admitted t.program formed ran.ends
+returns-clause-dead c = λ o admitted p t count ran sound. none_dead o admitted t.program sound ran.ends

@@ -1,0 +1,33 @@
+//! The laws.
+
+ghost use Rattle.std.specs.Prelude.{◌≡◌, ℕ, Bool, true, Option, Contains};
+ghost use Rattle.program_model.specs.ProgramRules.{is_well_formed};
+ghost use Rattle.program_model.specs.declared.program.Program.{Program};
+ghost use Rattle.class_defs.specs.ClassGraph.{IsTwice};
+ghost use Rattle.dalvik_defs.specs.Naming.{named};
+ghost use Rattle.dalvik_defs.specs.Silence.{key_in};
+ghost use Rattle.dalvik_defs.specs.declared.names.MethodKey.{MethodKey};
+ghost use Rattle.dalvik_defs.specs.declared.program.NamedBody.{NamedBody};
+ghost use Rattle.dalvik_defs.specs.declared.program.NamedClass.{NamedClass};
+ghost use Rattle.dalvik_defs.specs.declared.program.NamedMethod.{NamedMethod};
+ghost use Rattle.dalvik_defs.specs.declared.program.NamedProgram.{NamedProgram};
+ghost use Rattle.silence_law.specs.Bodies.{changed, KeepsCode};
+ghost use Rattle.bodies_law.specs.Others.{OtherBodies};
+ghost use Rattle.change_bridge.specs.Unique.{IsUnique};
+ghost use Rattle.change_bridge.specs.Changing.{change_to};
+
+/// Names are had once in a well-formed program without a class that is defined twice.
+pub fn unique_law()
+    ensures { (p : Program) → is_well_formed p ≡ true → ((class : ℕ) → IsTwice p class → ⊥) → IsUnique (named p) }
+{}
+
+/// A program that is the same but for bodies and source lines is a change, which keeps code where it was, and what a test
+/// says of each method's old and new code it says of the change.
+pub fn change_law()
+    ensures code { (q : NamedProgram) → KeepsCode (change_to q) }
+    ensures same { (p q : NamedProgram) (test : MethodKey → Option NamedBody → Option NamedBody → Bool) → IsUnique p
+        → OtherBodies (λ k a b. test k a b ≡ true) p q → changed (change_to q) p ≡ q }
+    ensures bodies { (p q : NamedProgram) (test : MethodKey → Option NamedBody → Option NamedBody → Bool) → IsUnique p
+        → OtherBodies (λ k a b. test k a b ≡ true) p q
+        → (c : NamedClass) (m : NamedMethod) → Contains p.classes c → Contains c.methods m → test (key_in c m) m.body (change_to q c m).body ≡ true }
+{}

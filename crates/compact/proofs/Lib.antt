@@ -1,0 +1,12 @@
+mod Fixing
+mod Writing
+mod Spelled
+mod Rows
+mod Tying
+mod Naming
+mod Sets
+mod Clashing
+mod Placing
+mod Chosen
+mod Edited
+mod Programs

@@ -1,0 +1,6 @@
+pub mod Packed
+pub mod Ties
+pub mod Clashes
+pub mod Placed
+pub mod Renamed
+pub mod Choosing

@@ -1,0 +1,5 @@
+mod Tests
+mod Conflicts
+mod Bodies
+mod Programs
+mod Measuring

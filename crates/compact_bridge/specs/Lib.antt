@@ -1,0 +1,3 @@
+pub mod Bridged
+pub mod Renames
+pub mod Measure

@@ -1,0 +1,8 @@
+//! What compaction leaves of a body, by name: a body that was compacted by number (`compact`) has other registers by name, as
+//! the law of other registers asks (`pack_law`), and a body that compaction leaves the same is packed by name. So a well-formed
+//! program shows the same after compaction. That it stays typed is not said here.
+//! `specs/Bridged.antt` says what is claimed. This crate declares no types of its own. Its functions have an empty body, and
+//! their contracts are the laws.
+#![tactic(auto)]
+
+pub mod laws;

@@ -1,0 +1,5 @@
+mod Forms
+mod Reading
+mod Stands
+mod Rereads
+mod Programs

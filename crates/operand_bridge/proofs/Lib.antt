@@ -1,0 +1,3 @@
+pub mod Remaking
+pub mod Widths
+pub mod Same

@@ -43,7 +43,7 @@ fn units(alloc: Global, digits: &str) -> Result<Vec<u16>, Trouble> {
 
 /// A code item in a file of one type and one method, with no parameters: how many registers, try items and items there may
 /// be, units, and the bytes of the try items and their handlers.
-fn spelled(alloc: Global, line: &str) -> Result<Spelled, Trouble> {
+fn code_in(alloc: Global, line: &str) -> Result<Spelled, Trouble> {
     let mut words = line.split_whitespace();
     let registers = number(words.next().unwrap_or(""))?;
     let tries = number(words.next().unwrap_or(""))?;
@@ -79,7 +79,7 @@ fn fault_text(alloc: Global, fault: CodeFault) -> Result<String, Trouble> {
 
 /// The code that is read, in which the type and the method are those of a class `LA;`.
 pub fn read(alloc: Global, line: &str) -> Result<String, Trouble> {
-    let spelled = spelled(alloc, line)?;
+    let spelled = code_in(alloc, line)?;
     if spelled.units.len() > 1000 {
         return Err(Trouble::Words);
     }
@@ -97,7 +97,7 @@ pub fn read(alloc: Global, line: &str) -> Result<String, Trouble> {
 
 /// Where the instructions that are read begin.
 pub fn starts(alloc: Global, line: &str) -> Result<String, Trouble> {
-    let spelled = spelled(alloc, line)?;
+    let spelled = code_in(alloc, line)?;
     if spelled.units.len() > 1000 {
         return Err(Trouble::Words);
     }

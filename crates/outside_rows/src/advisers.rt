@@ -43,19 +43,14 @@ pub fn prefixes(alloc: Global, class: &str) -> Result<String, Trouble> {
     Ok(String::from_str(alloc, word(is_yes))?)
 }
 
-/// A panel of an adviser that spares and one with a budget.
-fn panel_of(alloc: Global) -> Result<Panel, AllocError> {
+/// What a panel of an adviser that spares and one with a budget says of these classes, and what each adviser answered: the
+/// line has the prefix that is spared and the budget first.
+pub fn panel(alloc: Global, line: &str) -> Result<String, Trouble> {
+    let mut words = line.split(' ');
     let mut advisers: Vec<Box<dyn Adviser>> = Vec::new(alloc);
     advisers.push(Box::new(alloc, PrefixAdviser::new(alloc))?)?;
     advisers.push(Box::new(alloc, BudgetAdviser::new())?)?;
-    Ok(Panel::new(alloc, advisers))
-}
-
-/// What the panel says of these classes, and what each adviser answered: the line has the prefix that is spared and the
-/// budget first.
-pub fn panel(alloc: Global, line: &str) -> Result<String, Trouble> {
-    let mut words = line.split(' ');
-    let mut panel = panel_of(alloc)?;
+    let mut panel = Panel::new(alloc, advisers);
     panel.tell(alloc, Key::Spare, 0, words.next().unwrap_or(""))?;
     panel.tell(alloc, Key::AtMost, number(words.next().unwrap_or(""))?, "")?;
     let mut texts = Texts::new(alloc);

@@ -1,14 +1,19 @@
 //! What rules match and keep.
 
+ghost use Rattle.std.specs.Prelude.{◌≡◌, ◌&&◌, nat_lt, length};
+
 use hierarchy::{Hierarchy, HierarchyFault};
 use keep_rules::{RuleFault, outside_of, read_rules};
 use program_model::{Outside, Program};
 use program_text::{TextFault, assemble, field_text, method_text, type_text};
 use row_text::{Texts, Trouble, lines_of};
+use rule_text::Rules;
 use std::alloc::{AllocError, Global};
 
 /// Whether each table of numbers, and the list of classes, has fewer than a hundred entries, as the rows have it.
-fn is_small(program: &Program) -> bool {
+fn is_small(program: &Program) -> bool
+    ensures { result ≡ (nat_lt (length program.now.types) 100 && nat_lt (length program.now.fields) 100 && nat_lt (length program.now.methods) 100 && nat_lt (length program.now.classes) 100) }
+{
     program.types.len() < 100
         && program.fields.len() < 100
         && program.methods.len() < 100
@@ -24,22 +29,38 @@ pub fn program_of(alloc: Global, text: &str) -> Result<Program, Trouble> {
     }
 }
 
-/// What rules keep of a program.
-fn outside(alloc: Global, program: &Program, rules: &[u8]) -> Result<Outside, Trouble> {
-    let hierarchy = match Hierarchy::build(alloc, program) {
-        Ok(hierarchy) => hierarchy,
-        Err(HierarchyFault::NoMemory) => return Err(Trouble::NoMemory),
-        Err(_) => return Err(Trouble::Words),
-    };
-    if rules.len() > 1000 || !is_small(program) {
+/// The classes of a program.
+fn classes_of(alloc: Global, program: &Program) -> Result<Hierarchy, Trouble> {
+    match Hierarchy::build(alloc, program) {
+        Ok(hierarchy) => Ok(hierarchy),
+        Err(HierarchyFault::NoMemory) => Err(Trouble::NoMemory),
+        Err(_) => Err(Trouble::Words),
+    }
+}
+
+/// The rules of a short text.
+fn rules_of(alloc: Global, text: &[u8]) -> Result<Rules, Trouble> {
+    if text.len() > 1000 {
         return Err(Trouble::Words);
     }
-    let rules = match read_rules(alloc, rules) {
-        Ok(rules) => rules,
-        Err(RuleFault::NoMemory) => return Err(Trouble::NoMemory),
-        Err(_) => return Err(Trouble::Words),
-    };
-    outside_of(alloc, &rules, program, &hierarchy).map_err(|_| Trouble::NoMemory)
+    match read_rules(alloc, text) {
+        Ok(rules) => Ok(rules),
+        Err(RuleFault::NoMemory) => Err(Trouble::NoMemory),
+        Err(_) => Err(Trouble::Words),
+    }
+}
+
+/// What rules keep of a program.
+fn outside(alloc: Global, program: &Program, rules: &[u8]) -> Result<Outside, Trouble> {
+    if !is_small(program) {
+        return Err(Trouble::Words);
+    }
+    let hierarchy = classes_of(alloc, program)?;
+    let rules = rules_of(alloc, rules)?;
+    match outside_of(alloc, &rules, program, &hierarchy) {
+        Ok(outside) => Ok(outside),
+        Err(_) => Err(Trouble::NoMemory),
+    }
 }
 
 /// Adds the members with these numbers behind a word, if there are any.

@@ -185,6 +185,9 @@ module _ (w : List (List Bool)) (b : Body) (used : List Bool) (low : List ℕ) (
     ins = refl;
     falls = falls;
     registers = omega arith;
+    frame = λ le. omega (arith, le, c.is_shift, c.is_floor.low);
+    live = c.is_clash.live;
+    is_live = c.is_clash.is_live;
     apart = λ has r s d e. apart r s d e;
     pairs = pairs;
     room = λ has n r f h u. room has r (any_at (λ i. uses i r) b.insns n f h u);
@@ -206,6 +209,9 @@ module _ (w : List (List Bool)) (b : Body) (used : List Bool) (low : List ℕ) (
     ins = refl;
     falls = λ r. omega arith;
     registers = omega arith;
+    frame = λ le. le;
+    live = c.is_clash.live;
+    is_live = c.is_clash.is_live;
     apart = λ has r s d e. e;
     pairs = λ n at f h e. refl;
     room = λ has n r f h u. has n r f h u;

@@ -129,7 +129,7 @@ module _ (b : Body) (live : Live) (used : List Bool) (names : List ℕ) (writers
       inl (hits_row r q n lt lt' (written_used b q n f h p.1) (writes_row r n f lt h p.0) (or_right (is_live live (min (n + 1) 4294967295) q) (writes_at q (insn_at b n)) (ap (writes_at q) h ∙ p.1)))
 
   pub clash_is : IsClash b c
-  clash_is = record { within = within; sound = sound; all = all }
+  clash_is = record { live = is_live live; is_live = is_live_at; within = within; sound = sound; all = all }
 
 -- as the calls hand it on
 pub clash_from : (b : Body) (live : Live) (used : List Bool) (names shown : List ℕ) (writers seen : List (List ℕ)) (insns : List Insn) (c : Clash) (given : List (List ℕ)) (count : ℕ) → length b.insns + 1 < 2 ^ 32

@@ -10,3 +10,4 @@ mod Placing
 mod Chosen
 mod Edited
 mod Programs
+pub mod Measuring

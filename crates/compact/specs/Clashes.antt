@@ -4,6 +4,7 @@ use Rattle.std.specs.List.{list_any, filter}
 use Rattle.insn_set.specs.declared.form.Insn.{Insn}
 use Rattle.program_model.specs.declared.body.Body.{Body}
 use Rattle.walk_marks.specs.Walks.{row_of, is_on}
+use Rattle.body_graph.specs.Walks.{IsRead}
 use Rattle.live_regs.specs.Live.{is_live}
 use Rattle.live_regs.specs.Liveness.{writes_at}
 use Rattle.live_regs.specs.declared.table.Live.{Live}
@@ -31,8 +32,10 @@ hits_of live insns names positions = filter (λ s. list_any (is_hit live insns s
 abbrev pub Meets : Clash → ℕ → ℕ → Type 0
 Meets c r q = Contains (row_of c.rows.items r) q ⊎ Contains (row_of c.back.items r) q
 
--- those that meet are those that conflict
+-- those that meet are those that conflict; and a test tells what is read
 pub record IsClash (b : Body) (c : Clash) : Type 0 where
+  pub live : ℕ → ℕ → Bool
+  pub is_live : (n r : ℕ) → r < b.registers → (live n r ≡ true) ↔ IsRead b r n
   pub within : (r q : ℕ) → r < b.registers → Meets c r q → q < b.registers
   pub sound : (r q : ℕ) → r < b.registers → Meets c r q → Conflict b r q
   pub all : (r q : ℕ) → r < b.registers → q < b.registers → Conflict b r q → Meets c r q

@@ -4,3 +4,5 @@ pub mod Clashes
 pub mod Placed
 pub mod Renamed
 pub mod Choosing
+pub mod Narrow
+pub mod Measure

@@ -1,5 +1,5 @@
 -- Bodies and programs whose registers have other numbers.
-use Rattle.std.specs.Prelude.{◌≡◌, ℕ, ◌+◌, ◌-◌, ◌<◌, ◌≤◌, ℤ, Bool, true, nat_eq, nat_lt, if◌then◌else◌, List, map, length, Option, Some, None, slice_get, slice_index}
+use Rattle.std.specs.Prelude.{◌≡◌, ◌↔◌, ℕ, ◌+◌, ◌-◌, ◌<◌, ◌≤◌, ℤ, Bool, true, nat_eq, nat_lt, if◌then◌else◌, List, map, length, Option, Some, None, slice_get, slice_index}
 use Rattle.std.specs.List.{list_any}
 use Rattle.insn_set.specs.Spelling.{is_encodable, units_of}
 use Rattle.insn_set.specs.declared.form.Insn.{Insn}
@@ -22,8 +22,9 @@ abbrev pub HasRegisters : Body → Type 0
 HasRegisters b = (n r : ℕ) (f : Insn) → insn_at b n ≡ Some f → uses f r ≡ true → r < b.registers
 
 -- Each register has one new number, which isn't greater. Those that conflict stay apart, halves of a wide stay side by
--- side, and what stands before the arguments stays there. No instruction gets longer. All else is the same. A body that
--- stays the same is packed.
+-- side, and what stands before the arguments stays there, so that a body with room for its arguments has it still. No
+-- instruction gets longer. All else is the same. A body that stays the same is packed. A test tells what is read of the
+-- registers of the old body.
 pub record IsCompacted (w : List (List Bool)) (b d : Body) : Type 0 where
   pub new : ℕ → ℕ
   pub insns : d.insns ≡ map (remade new new) b.insns
@@ -31,6 +32,9 @@ pub record IsCompacted (w : List (List Bool)) (b d : Body) : Type 0 where
   pub ins : d.ins ≡ b.ins
   pub falls : (r : ℕ) → new r ≤ r
   pub registers : d.registers ≤ b.registers
+  pub frame : b.ins ≤ b.registers → d.ins ≤ d.registers
+  pub live : ℕ → ℕ → Bool
+  pub is_live : (n r : ℕ) → r < b.registers → (live n r ≡ true) ↔ IsRead b r n
   pub apart : HasRegisters b → (r s : ℕ) → Conflict b r s → new r ≡ new s → r ≡ s
   pub pairs : (n at : ℕ) (f : Insn) → insn_at b n ≡ Some f → list_any (nat_eq at) (wides_of w f) ≡ true → new (at + 1) ≡ new at + 1
   pub room : HasRegisters b → (n r : ℕ) (f : Insn) → insn_at b n ≡ Some f → uses f r ≡ true → new r < d.registers

@@ -13,6 +13,7 @@
 #![tactic(auto)]
 
 mod clash;
+mod narrow;
 mod numbers;
 mod pass;
 mod places;
@@ -21,4 +22,5 @@ mod ties;
 mod used;
 mod writers;
 
+pub use narrow::has_narrow_classes;
 pub use pass::apply;

@@ -8,6 +8,7 @@ ghost use Rattle.compact.specs.Packed.{locals};
 ghost use Rattle.compact.specs.Renamed.{renamed, IsCompacted, IsCompactedMethod, IsCompactedClass, IsCompactedProgram, AreEdited, IsCounted};
 ghost use Rattle.compact.specs.Clashes.{AreUsed};
 ghost use Rattle.compact.specs.Choosing.{IsChoice, Moves};
+ghost use Rattle.compact.specs.Measure.{numbers_in};
 
 use crate::clash::clash_of;
 use crate::numbers::{Numbers, renumber};
@@ -195,11 +196,14 @@ fn compact_program(
 }
 
 /// Gives the registers of all admitted methods the least numbers that they can have, and lowers the register counts.
-/// `count` is the number of bodies that change. Positions, lines and all else stay. The only error is want of memory.
+/// `count` is the number of bodies that change. Each change lowers the sum of the register counts and of the numbers that
+/// instructions name. Positions, lines and all else stay. The only error is want of memory.
 pub fn apply(alloc: Global, program: Program, admitted: &Admitted) -> Result<Changed, AllocError>
     ensures origins { IfOk result (λ changed. changed.origins ≡ []) }
     ensures is { IfOk result (λ changed. IsCompactedProgram admitted.now.methods.items program changed.program) }
     ensures count { IfOk result (λ changed. IsCounted changed.count program changed.program) }
+    ensures most { IfOk result (λ changed. numbers_in changed.program ≤ numbers_in program) }
+    ensures less { IfOk result (λ changed. 0 < changed.count → numbers_in changed.program < numbers_in program) }
 {
     let widths = widths_of(alloc, &program)?;
     let mut program = program;

@@ -1,5 +1,5 @@
-mod Tests
-mod Conflicts
-mod Bodies
-mod Programs
-mod Measuring
+pub mod Tests
+pub mod Conflicts
+pub mod Bodies
+pub mod Programs
+pub mod Settled

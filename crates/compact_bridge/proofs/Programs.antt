@@ -50,7 +50,7 @@ same_renamed b room = record {
   arguments = λ i lt c. refl;
 }
 
-registers_of : (p : Program) (b : Body) → HasRoom (body_of p b) → HasRegisters b
+pub registers_of : (p : Program) (b : Body) → HasRoom (body_of p b) → HasRegisters b
 registers_of p b room n r i h e = room n (form_of p i) r (form_for p b n i h) (uses_same p r i ∙ e)
 
 code_renamed : (p : Program) (k : MethodKey) (a b : Option Body) → Compacts p k a b → Renames k (option_map (body_of p) a) (option_map (body_of p) b)
@@ -76,7 +76,7 @@ rewrites p k false (Some b) None r = absurd (cc)
 rewrites p k false None (Some d) r = absurd (cc)
 rewrites p k false None None r = record { related = tt; coded = refl }
 
-pairs : {A : Type 0} (R S : A → A → Type 0) → ((x y : A) → R x y → S x y) → (xs ys : List A) → AreEach R xs ys → Pairwise S xs ys
+pub pairs : {A : Type 0} (R S : A → A → Type 0) → ((x y : A) → R x y → S x y) → (xs ys : List A) → AreEach R xs ys → Pairwise S xs ys
 pairs R S f [] [] a = tt
 pairs R S f [] (y ∷ ys) a = absurd (let e : length (y ∷ ys) ≡ 0 = a.long in omega (arith, e))
 pairs R S f (x ∷ xs) [] a = absurd (let e : 0 ≡ length (x ∷ xs) = a.long in omega (arith, e))

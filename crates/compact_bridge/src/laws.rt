@@ -8,8 +8,8 @@ ghost use Rattle.dalvik_defs.specs.Naming.{named};
 ghost use Rattle.dalvik_defs.specs.Outer.{Outer};
 ghost use Rattle.dalvik_defs.specs.Shown.{SameShown};
 ghost use Rattle.compact.specs.Renamed.{IsCompactedProgram};
-ghost use Rattle.compact_bridge.specs.Measure.{LowersByNumber};
-ghost use Rattle.compact_bridge.specs.Bridged.{RenamedByNumber, PackedByNumber, SettlesByNumber};
+ghost use Rattle.compact.specs.Measure.{LowersByNumber};
+ghost use Rattle.compact_bridge.specs.Bridged.{RenamedByNumber, PackedByNumber, SettlesByNumber, AllPacked};
 
 /// A compacted body whose instructions use its own registers alone has other registers by name: those that conflict stay
 /// apart, wide halves stay side by side, and what is read of the entry's registers keeps its place.
@@ -38,4 +38,9 @@ pub fn compacted_program_law()
 /// where it lowers neither it leaves the body the same.
 pub fn measure_law()
     ensures { LowersByNumber }
+{}
+
+/// Where compaction leaves a program the same, the body of each admitted method is packed, by name.
+pub fn settled_program_law()
+    ensures { (admitted : List Bool) (p : Program) → IsCompactedProgram admitted p p → AllPacked admitted p }
 {}

@@ -1,6 +1,6 @@
 -- A step in a frame goes along an edge of the facts: what a form leaves is seen by what the analysis makes of it.
 use Rattle.std.proofs.Common.{◌≡◌, ℕ, zero, suc, ◌+◌, ◌-◌, ◌<◌, ℤ, pos, negsuc, Bool, true, false, true≢false, List, [], ◌∷◌, ◌++◌, Option, Some, None, refl, sym, ap, ◌∙◌, subst, arith}
-use Rattle.std.specs.Prelude.{◌||◌, ◌&&◌, not, ◌%◌, ◌^◌, nat_lt, nat_eq, length, map, slice_get, slice_set, slice_index_or, Contains, if◌then◌else◌, int_lt}
+use Rattle.std.specs.Prelude.{◌≤ℤ◌, ◌||◌, ◌&&◌, not, ◌%◌, ◌^◌, nat_lt, nat_eq, length, map, slice_get, slice_set, slice_index_or, Contains, if◌then◌else◌, int_lt}
 use Rattle.std.proofs.lemmas.Bool.{eqb-true, eq-eqb}
 use Rattle.std.specs.Option.{option_map}
 use Rattle.std.proofs.lemmas.Int.{ints, of_z-to_z}
@@ -35,7 +35,12 @@ use Rattle.dalvik_defs.specs.declared.forms.Form.TheVariants as form
 use Rattle.dalvik_defs.specs.declared.tables.Floats.{Floats}
 use Rattle.dalvik_defs.specs.declared.program.NamedProgram.{NamedProgram}
 use Rattle.pass_defs.specs.Facts.{Facts}
-use Rattle.pass_defs.specs.Analysis.{Analysis, IsSound, IsRanged, Holds, HoldsBoth, IsNone, IsReference, on_sort, on_number, read_item}
+use Rattle.insn_set.specs.Widths.{unary_reads_wide, binary_is_wide, second_is_wide, compares_wide}
+use Rattle.domains.specs.Ranges.{first_word, last_word}
+use Rattle.pass_defs.specs.Demands.{is_equality}
+use Rattle.cover_law.specs.Sound.{AreSmall, IsSmall, IsSoundOn, IsWord, NumberOf, TestedOf}
+use Rattle.cover_law.proofs.Numbers.{cut}
+use Rattle.pass_defs.specs.Analysis.{Analysis, IsRanged, Holds, HoldsBoth, IsNone, IsReference, on_sort, on_number, read_item}
 use Rattle.pass_defs.specs.Closed.{put, put_wide, put_sized, moved, refined, refined_both, then_put, arm, cases, keys_of, switched, edges, packed_key, packed_keys}
 use Rattle.invariant_law.specs.Fine.{IsThere}
 use Rattle.invariant_law.specs.Holds.{Each}
@@ -65,6 +70,37 @@ read [] s v d e = none_some v e
 read (u ∷ vs) zero v d e = some_one u v e
 read (u ∷ vs) (suc s) v d e = read vs s v d e
 
+small_word : (n : ℕ) → n < 2 ^ 32 → IsSmall (cast_signed w32 n)
+small_word n l = (low n l, high n l)
+  where
+    low : (n : ℕ) → n < 2 ^ 32 → first_word ≤ℤ cast_signed w32 n
+    low n l = omega (arith, ints, l)
+
+    high : (n : ℕ) → n < 2 ^ 32 → cast_signed w32 n ≤ℤ last_word
+    high n l = omega (arith, ints, l)
+
+small_signed : (n : ℕ) → IsSmall (signed false (n % 2 ^ 32))
+small_signed n = by (n % 2 ^ 32) (cut n)
+  where
+    by : (m : ℕ) → m < 2 ^ 32 → IsSmall (signed false m)
+    by m l = subst (λ k. IsSmall (cast_signed w32 k)) (sym (whole m l)) (small_word m l)
+      where
+        whole : (m : ℕ) → m < 2 ^ 32 → m % 2 ^ 32 ≡ m
+        whole m l = omega (arith, l)
+
+-- ---- operands as the typing has them
+
+abbrev pub Suits : Frame → Form → Type 0
+Suits f (form.Unary op to from) = NumberOf (unary_reads_wide op) (register f from)
+Suits f (form.Binary op to r s) = NumberOf (binary_is_wide op) (register f r) × NumberOf (second_is_wide op) (register f s)
+Suits f (form.Literal op to r value) = IsWord (register f r) × IsSmall value
+Suits f (form.Cmp op to r s) = NumberOf (compares_wide op) (register f r) × NumberOf (compares_wide op) (register f s)
+Suits f (form.If test r s target) = TestedOf (is_equality test) (register f r) × TestedOf (is_equality test) (register f s)
+Suits f (form.IfZero test r target) = TestedOf (is_equality test) (register f r)
+Suits f (form.PackedSwitch on first targets) = IsWord (register f on)
+Suits f (form.SparseSwitch on keys targets) = IsWord (register f on) × AreSmall keys
+Suits f y = Unit {0}
+
 module _ {V : Type 0} (a : Analysis V) (p : NamedProgram) (t : Facts V) where
   abbrev See : V → World → Value → Type 0
   See x w v = a.holds x (kind_of w v) v
@@ -82,7 +118,7 @@ module _ {V : Type 0} (a : Analysis V) (p : NamedProgram) (t : Facts V) where
       by true i = subst (See y w) (set_same vs to u v (ap (λ n. slice_get (slice_set vs to u) n) (sym (eqb-true r to i)) ∙ e)) k
       by false i = h r v (sym (set_other vs to r u (λ j. true≢false (sym (eq-eqb r to j) ∙ i))) ∙ e)
 
-  module _ (under : Text → Text → Bool) (floats : Floats) (sound : IsSound a under floats) where
+  module _ (under : Text → Text → Bool) (floats : Floats) (sound : IsSoundOn a under floats) where
     -- the low half, and the high half beside it, of which nothing is known
     pub sees_wide : (x : ℕ → V) (w : World) (vs : List Value) (to : ℕ) (y : V) (n : ℕ) → SeeAll x w vs → a.holds y [] (Low n) → SeeAll (put_wide a to y x) w (slice_set (slice_set vs to (Low n)) (to + 1) (High n))
     sees_wide x w vs to y n h k = sees_put (put a to y x) w (slice_set vs to (Low n)) (to + 1) a.any (High n) (sees_put x w vs to y (Low n) h k) (sound.all [] (High n) tt)
@@ -200,10 +236,10 @@ module _ {V : Type 0} (a : Analysis V) (p : NamedProgram) (t : Facts V) where
       no_more [] = refl
       no_more (e ∷ es) = ap (λ l. e ∷ l) (no_more es)
 
-      tests : (test : Test) (r s target : ℕ) → Seen r → Seen s → (b : Bool) → passes test (register f r) (register f s) ≡ b
+      tests : (test : Test) (r s target : ℕ) → TestedOf (is_equality test) (register f r) → TestedOf (is_equality test) (register f s) → Seen r → Seen s → (b : Bool) → passes test (register f r) (register f s) ≡ b
           → Along (arm a (f.position + 1) (refined_both a r s (a.tested false test (x r) (x s)) x) ++ arm a target (refined_both a r s (a.tested true test (x r) (x s)) x)) (branch b w f target)
-      tests test r s target sr ss b e = by b (subst (λ d. HoldsBoth a (a.tested d test (x r) (x s)) (kind_of w (register f r)) (register f r) (kind_of w (register f s)) (register f s)) e
-          (sound.tests test (x r) (x s) (kind_of w (register f r)) (kind_of w (register f s)) (register f r) (register f s) sr ss))
+      tests test r s target or os sr ss b e = by b (subst (λ d. HoldsBoth a (a.tested d test (x r) (x s)) (kind_of w (register f r)) (register f r) (kind_of w (register f s)) (register f s)) e
+          (sound.tests test (x r) (x s) (kind_of w (register f r)) (kind_of w (register f s)) (register f r) (register f s) or os sr ss))
         where
           by : (b : Bool) → HoldsBoth a (a.tested b test (x r) (x s)) (kind_of w (register f r)) (register f r) (kind_of w (register f s)) (register f s)
               → Along (arm a (f.position + 1) (refined_both a r s (a.tested false test (x r) (x s)) x) ++ arm a target (refined_both a r s (a.tested true test (x r) (x s)) x)) (branch b w f target)
@@ -215,10 +251,14 @@ module _ {V : Type 0} (a : Analysis V) (p : NamedProgram) (t : Facts V) where
       one_of None k l v u h = h
       one_of (Some y) k l v u h = h.0
 
-      zeros : (test : Test) (r target : ℕ) → Seen r → (b : Bool) → passes test (register f r) (Word 0) ≡ b
+      zero_tested : (b : Bool) → TestedOf b (Word 0)
+      zero_tested true = omega arith
+      zero_tested false = omega arith
+
+      zeros : (test : Test) (r target : ℕ) → TestedOf (is_equality test) (register f r) → Seen r → (b : Bool) → passes test (register f r) (Word 0) ≡ b
           → Along (arm a (f.position + 1) (refined a r (option_map (λ v. v.0) (a.tested false test (x r) (a.known (Word 0)))) x) ++ arm a target (refined a r (option_map (λ v. v.0) (a.tested true test (x r) (a.known (Word 0)))) x)) (branch b w f target)
-      zeros test r target sr b e = by b (subst (λ d. HoldsBoth a (a.tested d test (x r) (a.known (Word 0))) (kind_of w (register f r)) (register f r) [] (Word 0)) e
-          (sound.tests test (x r) (a.known (Word 0)) (kind_of w (register f r)) [] (register f r) (Word 0) sr (sound.knows [] (Word 0))))
+      zeros test r target or sr b e = by b (subst (λ d. HoldsBoth a (a.tested d test (x r) (a.known (Word 0))) (kind_of w (register f r)) (register f r) [] (Word 0)) e
+          (sound.tests test (x r) (a.known (Word 0)) (kind_of w (register f r)) [] (register f r) (Word 0) or (zero_tested (is_equality test)) sr (sound.knows [] (Word 0))))
         where
           by : (b : Bool) → HoldsBoth a (a.tested b test (x r) (a.known (Word 0))) (kind_of w (register f r)) (register f r) [] (Word 0)
               → Along (arm a (f.position + 1) (refined a r (option_map (λ v. v.0) (a.tested false test (x r) (a.known (Word 0)))) x) ++ arm a target (refined a r (option_map (λ v. v.0) (a.tested true test (x r) (a.known (Word 0)))) x)) (branch b w f target)
@@ -230,8 +270,8 @@ module _ {V : Type 0} (a : Analysis V) (p : NamedProgram) (t : Facts V) where
 
       -- ---- numbers
 
-      unaries : (op : UnaryOp) (to from : ℕ) → Seen from → Along (arm a (f.position + 1) (Some (put_sized a (unary_writes_wide op) to (a.unary op (x from)) x))) (sets_number (unary_answer floats op (number f from)) w f to)
-      unaries op to from s = by op (a.unary op (x from)) (number f from) (sound.unaries op (x from) (kind_of w (register f from)) [] (register f from) s)
+      unaries : (op : UnaryOp) (to from : ℕ) → NumberOf (unary_reads_wide op) (register f from) → Seen from → Along (arm a (f.position + 1) (Some (put_sized a (unary_writes_wide op) to (a.unary op (x from)) x))) (sets_number (unary_answer floats op (number f from)) w f to)
+      unaries op to from o s = by op (a.unary op (x from)) (number f from) (sound.unaries op (x from) (kind_of w (register f from)) [] (register f from) o s)
         where
           by : (op : UnaryOp) (y : V) (n : ℕ) → a.holds y [] (on_number (unary_answer floats op n)) → Along (arm a (f.position + 1) (Some (put_sized a (unary_writes_wide op) to y x))) (sets_number (unary_answer floats op n) w f to)
           by unary.NegLong y n h = writes_wide to y ((2 ^ 64 - n) % 2 ^ 64) h
@@ -292,19 +332,24 @@ module _ {V : Type 0} (a : Analysis V) (p : NamedProgram) (t : Facts V) where
       Switches on ks ts None = IsNone (keys_of a ks ts) (signed false (number f on))
       Switches on ks ts (Some q) = Along (cases a on ks ts x) (Goes w (go f q))
 
-      switches : (on : ℕ) → Seen on → (ks : List ℤ) (ts : List ℕ) → Switches on ks ts (switch_target (signed false (number f on)) ks ts)
-      switches on s [] ts = tt
-      switches on s (k ∷ ks) [] = tt
-      switches on s (k ∷ ks) (t ∷ ts) = by (int_lt (signed false (number f on)) k || int_lt k (signed false (number f on))) refl (switch_target (signed false (number f on)) ks ts) (switches on s ks ts)
+      switches : (on : ℕ) → IsWord (register f on) → Seen on → (ks : List ℤ) (ts : List ℕ) → Switches on ks ts (switch_target (signed false (number f on)) ks ts)
+      switches on ow s [] ts = tt
+      switches on ow s (k ∷ ks) [] = tt
+      switches on ow s (k ∷ ks) (t ∷ ts) = by (int_lt (signed false (number f on)) k || int_lt k (signed false (number f on))) refl (switch_target (signed false (number f on)) ks ts) (switches on ow s ks ts)
         where
           by : (b : Bool) → (int_lt (signed false (number f on)) k || int_lt k (signed false (number f on))) ≡ b → (q : Option ℕ) → Switches on ks ts q → Switches on (k ∷ ks) (t ∷ ts) (elim b as (λ b. Option ℕ) [ true ↦ q | false ↦ Some t ])
           by true e None h = (other_int (signed false (number f on)) k e, h)
           by true e (Some q) h = behind t (refined a on (a.keyed k (x on)) x) (cases a on ks ts x) (Goes w (go f q)) h
-          by false e q h = one_first t on (a.keyed k (x on)) (cases a on ks ts x) (sound.keys k (x on) (kind_of w (register f on)) (register f on) s (same_int (signed false (number f on)) k e))
+          by false e q h = one_first t on (a.keyed k (x on)) (cases a on ks ts x) (sound.keys k (x on) (kind_of w (register f on)) (register f on) ow s (same_int (signed false (number f on)) k e))
 
-      switched_to : (on : ℕ) → Seen on → (ks : List ℤ) (ts : List ℕ) (q : Option ℕ) → Switches on ks ts q → Along (switched a on ks ts f.position x) (goes_to q w f)
-      switched_to on s ks ts None h = one_first (f.position + 1) on (a.unkeyed (keys_of a ks ts) (x on)) (cases a on ks ts x) (sound.others (keys_of a ks ts) (x on) (kind_of w (register f on)) (register f on) s h)
-      switched_to on s ks ts (Some q) h = behind (f.position + 1) (refined a on (a.unkeyed (keys_of a ks ts) (x on)) x) (cases a on ks ts x) (Goes w (go f q)) h
+      small_keys : (ks : List ℤ) (ts : List ℕ) → AreSmall ks → AreSmall (keys_of a ks ts)
+      small_keys [] ts h = tt
+      small_keys (k ∷ ks) [] h = tt
+      small_keys (k ∷ ks) (t ∷ ts) h = (h.0, small_keys ks ts h.1)
+
+      switched_to : (on : ℕ) → IsWord (register f on) → Seen on → (ks : List ℤ) (ts : List ℕ) (q : Option ℕ) → AreSmall ks → Switches on ks ts q → Along (switched a on ks ts f.position x) (goes_to q w f)
+      switched_to on ow s ks ts None sm h = one_first (f.position + 1) on (a.unkeyed (keys_of a ks ts) (x on)) (cases a on ks ts x) (sound.others (keys_of a ks ts) (x on) (kind_of w (register f on)) (register f on) ow (small_keys ks ts sm) s h)
+      switched_to on ow s ks ts (Some q) sm h = behind (f.position + 1) (refined a on (a.unkeyed (keys_of a ks ts) (x on)) x) (cases a on ks ts x) (Goes w (go f q)) h
 
       -- ---- arrays
 
@@ -421,17 +466,17 @@ module _ {V : Type 0} (a : Analysis V) (p : NamedProgram) (t : Facts V) where
       apart c i d n l e k = omega (arith, l, e, k)
 
       -- the operand is the key at a place, which is j steps from the first
-      packed_at : (on : ℕ) → Seen on → (first : ℤ) (ts : List ℕ) (i d : ℕ) → i + d < 2 ^ 32 → number f on % 2 ^ 32 ≡ (cast_unsigned w32 first + (i + d)) % 2 ^ 32 → Switches on (packed_keys first i ts) ts (slice_get ts d)
-      packed_at on s first [] i d l e = tt
-      packed_at on s first (q ∷ ts) i zero l e = one_first q on (a.keyed (packed_key first i) (x on)) (cases a on (packed_keys first (suc i) ts) ts x)
-          (sound.keys (packed_key first i) (x on) (kind_of w (register f on)) (register f on) s (same_key (number f on) i (e ∙ ap (λ j. (cast_unsigned w32 first + j) % 2 ^ 32) (plus_zero i))))
+      packed_at : (on : ℕ) → IsWord (register f on) → Seen on → (first : ℤ) (ts : List ℕ) (i d : ℕ) → i + d < 2 ^ 32 → number f on % 2 ^ 32 ≡ (cast_unsigned w32 first + (i + d)) % 2 ^ 32 → Switches on (packed_keys first i ts) ts (slice_get ts d)
+      packed_at on ow s first [] i d l e = tt
+      packed_at on ow s first (q ∷ ts) i zero l e = one_first q on (a.keyed (packed_key first i) (x on)) (cases a on (packed_keys first (suc i) ts) ts x)
+          (sound.keys (packed_key first i) (x on) (kind_of w (register f on)) (register f on) ow s (same_key (number f on) i (e ∙ ap (λ j. (cast_unsigned w32 first + j) % 2 ^ 32) (plus_zero i))))
         where
           plus_zero : (i : ℕ) → i + 0 ≡ i
           plus_zero i = omega arith
 
           same_key : (n i : ℕ) → n % 2 ^ 32 ≡ (cast_unsigned w32 first + i) % 2 ^ 32 → signed false n ≡ packed_key first i
           same_key n i e = ap (cast_signed w32) (e ∙ sym (cut_twice (cast_unsigned w32 first + i)))
-      packed_at on s first (q ∷ ts) i (suc d) l e = by (slice_get ts d) (packed_at on s first ts (suc i) d (omega (arith, l)) (e ∙ ap (λ j. (cast_unsigned w32 first + j) % 2 ^ 32) (step i d)))
+      packed_at on ow s first (q ∷ ts) i (suc d) l e = by (slice_get ts d) (packed_at on ow s first ts (suc i) d (omega (arith, l)) (e ∙ ap (λ j. (cast_unsigned w32 first + j) % 2 ^ 32) (step i d)))
         where
           step : (i d : ℕ) → i + suc d ≡ suc i + d
           step i d = omega arith
@@ -446,8 +491,12 @@ module _ {V : Type 0} (a : Analysis V) (p : NamedProgram) (t : Facts V) where
       distance : (c n : ℕ) → c < 2 ^ 32 → n % 2 ^ 32 ≡ (c + (0 + (n + (2 ^ 32 - c)) % 2 ^ 32)) % 2 ^ 32
       distance c n l = omega (arith, l)
 
-      packed_seen : (on : ℕ) → Seen on → (first : ℤ) (ts : List ℕ) → cast_unsigned w32 first < 2 ^ 32 → Switches on (packed_keys first 0 ts) ts (packed_target (number f on) first ts)
-      packed_seen on s first ts l = packed_at on s first ts 0 ((number f on + (2 ^ 32 - cast_unsigned w32 first)) % 2 ^ 32) (none_less (number f on + (2 ^ 32 - cast_unsigned w32 first))) (distance (cast_unsigned w32 first) (number f on) l)
+      small_packed : (first : ℤ) (i : ℕ) (ts : List ℕ) → AreSmall (packed_keys first i ts)
+      small_packed first i [] = tt
+      small_packed first i (t ∷ ts) = (small_signed (cast_unsigned w32 first + i), small_packed first (suc i) ts)
+
+      packed_seen : (on : ℕ) → IsWord (register f on) → Seen on → (first : ℤ) (ts : List ℕ) → cast_unsigned w32 first < 2 ^ 32 → Switches on (packed_keys first 0 ts) ts (packed_target (number f on) first ts)
+      packed_seen on ow s first ts l = packed_at on ow s first ts 0 ((number f on + (2 ^ 32 - cast_unsigned w32 first)) % 2 ^ 32) (none_less (number f on + (2 ^ 32 - cast_unsigned w32 first))) (distance (cast_unsigned w32 first) (number f on) l)
 
       -- ---- the forms
 
@@ -457,8 +506,8 @@ module _ {V : Type 0} (a : Analysis V) (p : NamedProgram) (t : Facts V) where
       IsTold (form.MoveResult slot to) = ⊥
       IsTold (form.MoveException to) = IsReference f.caught
       IsTold (form.NewArray to size kind) = array_of (item_of kind) ≡ kind
-      IsTold (form.PackedSwitch on first targets) = cast_unsigned w32 first < 2 ^ 32
-      IsTold y = Unit {0}
+      IsTold (form.PackedSwitch on first targets) = (cast_unsigned w32 first < 2 ^ 32) × Suits f (form.PackedSwitch on first targets)
+      IsTold y = Suits f y
 
       pub act_along : (y : Form) → IsTold y → Looks (operands y) → Along (edges a p t f.position y x) (act under floats y w f)
       act_along form.Nop o h = onward x w f.registers all
@@ -486,12 +535,12 @@ module _ {V : Type 0} (a : Analysis V) (p : NamedProgram) (t : Facts V) where
           (λ e. fills_seen on h.0 items (thing_at w (register f on)) refl e)
       act_along (form.Throw on) o h = unless (is_null (register f on)) (edges a p t f.position (form.Throw on) x) null_pointer (Throws (register f on)) (λ e. tt)
       act_along (form.Goto target) o h = goes_to_first target x [] all
-      act_along (form.PackedSwitch on first targets) o h = switched_to on h.0 (packed_keys first 0 targets) targets (packed_target (number f on) first targets) (packed_seen on h.0 first targets o)
-      act_along (form.SparseSwitch on keys targets) o h = switched_to on h.0 keys targets (switch_target (signed false (number f on)) keys targets) (switches on h.0 keys targets)
+      act_along (form.PackedSwitch on first targets) o h = switched_to on o.1 h.0 (packed_keys first 0 targets) targets (packed_target (number f on) first targets) (small_packed first 0 targets) (packed_seen on o.1 h.0 first targets o.0)
+      act_along (form.SparseSwitch on keys targets) o h = switched_to on o.0 h.0 keys targets (switch_target (signed false (number f on)) keys targets) o.1 (switches on o.0 h.0 keys targets)
       act_along (form.Cmp op to r s) o h = writes_one to (a.compared op (x r) (x s)) (Word (comparison floats op (number f r) (number f s)))
-          (sound.comparisons op (x r) (x s) (kind_of w (register f r)) (kind_of w (register f s)) [] (register f r) (register f s) h.0 h.1.0)
-      act_along (form.If test r s target) o h = tests test r s target h.0 h.1.0 (passes test (register f r) (register f s)) refl
-      act_along (form.IfZero test r target) o h = zeros test r target h.0 (passes test (register f r) (Word 0)) refl
+          (sound.comparisons op (x r) (x s) (kind_of w (register f r)) (kind_of w (register f s)) [] (register f r) (register f s) o.0 o.1 h.0 h.1.0)
+      act_along (form.If test r s target) o h = tests test r s target o.0 o.1 h.0 h.1.0 (passes test (register f r) (register f s)) refl
+      act_along (form.IfZero test r target) o h = zeros test r target o h.0 (passes test (register f r) (Word 0)) refl
       act_along (form.ArrayGet item to array index) o h = unless (is_null (register f array)) (edges a p t f.position (form.ArrayGet item to array index) x) null_pointer (array_get item (thing_at w (register f array)) w f to (signed false (number f index)))
           (λ e. gets_seen item to array h.0 (signed false (number f index)) (thing_at w (register f array)) refl e)
       act_along (form.ArrayPut item from array index) o h = unless (is_null (register f array)) (edges a p t f.position (form.ArrayPut item from array index) x) null_pointer
@@ -502,9 +551,9 @@ module _ {V : Type 0} (a : Analysis V) (p : NamedProgram) (t : Facts V) where
       act_along (form.StaticGet item to field) o h = tt
       act_along (form.StaticPut item from field) o h = tt
       act_along (form.Invoke kind method args) o h = tt
-      act_along (form.Unary op to from) o h = unaries op to from h.0
+      act_along (form.Unary op to from) o h = unaries op to from o h.0
       act_along (form.Binary op to r s) o h = subst (λ b. Along (arm a (f.position + 1) (option_map (λ v. put_sized a b to v x) (a.binary op (x r) (x s)))) (binary floats (sort_of op) w f to r s)) (sym (sort_wide op))
           (sorts (sort_of op) to r s (a.binary op (x r) (x s))
-          (λ z e. sound.binaries op (x r) (x s) (kind_of w (register f r)) (kind_of w (register f s)) [] (register f r) (register f s) z h.0 h.1.0 e))
+          (λ z e. sound.binaries op (x r) (x s) (kind_of w (register f r)) (kind_of w (register f s)) [] (register f r) (register f s) z o.0 o.1 h.0 h.1.0 e))
       act_along (form.Literal op to r value) o h = words to (a.literal op (x r) value) (literal_answer op (word f r) (cast_unsigned w32 value))
-          (λ m e. sound.literals op (x r) value (kind_of w (register f r)) [] (register f r) m h.0 e)
+          (λ m e. sound.literals op (x r) value (kind_of w (register f r)) [] (register f r) m o.0 o.1 h.0 e)

@@ -48,7 +48,7 @@ use Rattle.stuck_law.proofs.Arrays.{true_false}
 use Rattle.stuck_law.proofs.Calls.{right_method, right_super, own_class, virtual_object, virtual_flags}
 use Rattle.stuck_law.proofs.Forms.{first_in, or_right}
 use Rattle.stuck_law.proofs.Here.{setting, get_contains}
-use Rattle.cover_law.specs.Coverable.{IsCoverable}
+use Rattle.cover_law.proofs.Ready.{IsReady}
 use Rattle.cover_law.specs.Known.{KnownFrame, KnownWorld, MadeThing}
 use Rattle.cover_law.proofs.Along.{Looks}
 use Rattle.cover_law.proofs.Reading.{enough}
@@ -133,7 +133,7 @@ arg_at g [] i v e = none_some v e
 arg_at g (r ∷ rs) zero v e = (r, (refl, some_one (register g r) v e))
 arg_at g (r ∷ rs) (suc i) v e = arg_at g rs i v e
 
-module _ {V : Type 0} (a : Analysis V) (p : NamedProgram) (o : Outer) (f : Framework) (floats : Floats) (facts : Facts V) (base : IsCoverable a p o f floats facts) (reg : IsSettled p) (finds : FindsRegularly p f) where
+module _ {V : Type 0} (a : Analysis V) (p : NamedProgram) (o : Outer) (f : Framework) (floats : Floats) (facts : Facts V) (base : IsReady a p o f floats facts) (reg : IsSettled p) (finds : FindsRegularly p f) where
   module _ (w : World) (cs : Classes) (g : Frame) (tw : TypedWorld p f w) (kw : KnownWorld p o w) (cw : CoversWorld a p o facts w) (t : TypedFrame p f w g) (kg : KnownFrame p o g) (top : CoversTop a p o facts w g) where
     abbrev L : Outcome → Type 0
     L = Leads a p o f floats facts base reg w cs g tw kw cw t kg top
@@ -343,7 +343,7 @@ module _ {V : Type 0} (a : Analysis V) (p : NamedProgram) (o : Outer) (f : Frame
           (λ i. out (leaves_it (unfound i)) i z)
           (λ d e. found_signature k d (finds.virtually u k d (at_of d e).0).0)
           (λ d e st. true_false st (virtual_flags p o f floats reg finds w cs g tw t d.flags d.key.name (finds.virtually u k d (at_of d e).0).1.0).0)
-          (λ d e c. enter d e c (base.reaches.virtually g.method t.in_method.body ik k (r ∷ rs) u d (ap (bodies_of p) t.of ∙ t.in_method.has_body) (get_contains t.in_method.body.forms g.position (form.Invoke ik k (r ∷ rs)) h.has) (made d e) e))
+          (λ d e c. enter d e c (base.reaches.virtually g.method t.in_method.body ik k (r ∷ rs) u d (ap (bodies_of p) t.of ∙ t.in_method.has_body) (get_contains t.in_method.body.forms g.position (form.Invoke ik k (r ∷ rs)) h.has) unbound (made d e) e))
           (λ d e c. leaves_it (inr (u, maybe, (λ d1 m i j. same_coded (finds_at p u k) d d1 (at_of d e).0 j c))))
         where
           maybe : MayBe a (x r) u

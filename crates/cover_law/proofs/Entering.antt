@@ -35,7 +35,7 @@ use Rattle.stuck_law.proofs.Settled.{IsSettled}
 use Rattle.stuck_law.proofs.Registers.{and_left, and_right}
 use Rattle.stuck_law.proofs.Climbs.{none_some, some_one}
 use Rattle.stuck_law.proofs.Here.{At, each_at, all_in, into_left, into_map}
-use Rattle.cover_law.specs.Coverable.{IsCoverable}
+use Rattle.cover_law.proofs.Ready.{IsReady}
 
 -- ---- positions where there is no result
 
@@ -77,7 +77,7 @@ untaken p c m b tb typing q x e above s to has = by (state_at tb q) refl above
         ∙ ap (λ o. elim o as (λ o. Bool) [ Some a ↦ is_allowed p c m a (form.MoveResult s to) | None ↦ true ]) i) ∙ read in
         true≢false (sym (and_left (result_fits s k.result) true allowed) ∙ fits_none s k.result no)
 
-module _ {V : Type 0} (a : Analysis V) (p : NamedProgram) (o : Outer) (f : Framework) (floats : Floats) (facts : Facts V) (base : IsCoverable a p o f floats facts) (reg : IsSettled p) where
+module _ {V : Type 0} (a : Analysis V) (p : NamedProgram) (o : Outer) (f : Framework) (floats : Floats) (facts : Facts V) (base : IsReady a p o f floats facts) (reg : IsSettled p) where
   -- the position behind a form that leaves no result takes none
   pub nothing_behind : (w : World) (g : Frame) (t : TypedFrame p f w g) (y : Form) (h : At p o f floats reg w g t y) → (after p t.in_method.class g.position y t.kinds).result ≡ kind.Undefined → Contains (onward y g.position) (g.position + 1)
       → (w1 : World) (g1 : Frame) → g1.method ≡ g.method → g1.position ≡ g.position + 1 → (s : Slot) (to : ℕ) → form_of (bodies_of p) g1 ≡ Some (form.MoveResult s to) → TakesFrom a p o facts w1 g1

@@ -33,7 +33,7 @@ use Rattle.stuck_law.proofs.Settled.{IsSettled}
 use Rattle.stuck_law.proofs.Registers.{and_left, and_right}
 use Rattle.stuck_law.proofs.Climbs.{none_some, some_one, class_in}
 use Rattle.stuck_law.proofs.Forms.{wide_kind}
-use Rattle.cover_law.specs.Coverable.{IsCoverable}
+use Rattle.cover_law.proofs.Ready.{IsReady}
 use Rattle.cover_law.proofs.Along.{sees_later}
 use Rattle.cover_law.proofs.Worlds.{FieldsThere}
 
@@ -79,7 +79,7 @@ module _ (p : NamedProgram) (k : FieldKey) (y : Text × NamedField) (named : (c 
   pub found_own : finds_field p k ≡ Some y → Own
   found_own e = from_own (length p.classes) k.class e
 
-module _ {V : Type 0} (a : Analysis V) (p : NamedProgram) (o : Outer) (f : Framework) (floats : Floats) (facts : Facts V) (base : IsCoverable a p o f floats facts) (reg : IsSettled p) where
+module _ {V : Type 0} (a : Analysis V) (p : NamedProgram) (o : Outer) (f : Framework) (floats : Floats) (facts : Facts V) (base : IsReady a p o f floats facts) (reg : IsSettled p) where
   abbrev S : V → World → Value → Type 0
   S = Sees a p o facts
 

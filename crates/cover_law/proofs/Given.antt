@@ -145,6 +145,14 @@ module _ (p : NamedProgram) (o : Outer) (f : Framework) (floats : Floats) (reg :
           (defined_below p f reg c u (at_typed p f w (Object m) (Instance c fs) tw at).0 d (subst (λ k. is_under p f k u ≡ true) kind e)))
       by v (c, (fs, at)) e = none_some (Instance c fs) at
 
+  pub defined_under : (w : World) → TypedWorld p f w → (v : Value) (u : Text) → is_under p f (kind_of w v) u ≡ true → defines p u ≡ true → defines p (kind_of w v) ≡ true
+  defined_under w tw v u e d = by v (instance_thing p f reg w tw v u (object_under p o f floats reg finds w v u e) d e) e
+    where
+      by : (v : Value) → (c : Text) × ((fs : FieldKey → Option Value) × (thing_at w v ≡ Some (Instance c fs))) → is_under p f (kind_of w v) u ≡ true → defines p (kind_of w v) ≡ true
+      by (Object m) (c, (fs, at)) e = let kind : kind_of w (Object m) ≡ c = ap (λ y. elim y as (λ y. Text) [ Some th ↦ kind_of_thing th | None ↦ [] ]) at in
+          subst (λ k. defines p k ≡ true) (sym kind) (defined_below p f reg c u (at_typed p f w (Object m) (Instance c fs) tw at).0 d (subst (λ k. is_under p f k u ≡ true) kind e))
+      by v (c, (fs, at)) e = none_some (Instance c fs) at
+
   -- ---- methods that the framework enters
 
   pub record IsDeclared (d : Found) : Type 0 where

@@ -12,8 +12,14 @@ mod Calling
 mod Steps
 mod Returning
 mod Given
-mod Numbers
+pub mod Numbers
 mod Moving
-mod Ranges
+pub mod Ranges
 mod RangedRuns
-mod Runs
+mod Living
+mod Ready
+mod Reaching
+pub mod Runs
+pub mod ValueSound
+mod Suits
+mod SoundOn

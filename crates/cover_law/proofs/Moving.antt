@@ -40,11 +40,11 @@ use Rattle.stuck_law.proofs.Registers.{and_left, and_right}
 use Rattle.stuck_law.proofs.Climbs.{none_some, defined_by}
 use Rattle.stuck_law.proofs.Framework.{untrue}
 use Rattle.stuck_law.proofs.Here.{setting}
-use Rattle.cover_law.specs.Coverable.{IsCoverable}
+use Rattle.cover_law.proofs.Ready.{IsReady}
 use Rattle.cover_law.specs.Known.{KnownWorld}
 use Rattle.cover_law.proofs.Entering.{Passes, entry_top}
 use Rattle.cover_law.proofs.Fields.{covers_static, covers_instance}
-use Rattle.cover_law.proofs.Given.{IsDeclared, declared, entered_static, gets_same, all_same, each_behind, made_under}
+use Rattle.cover_law.proofs.Given.{IsDeclared, declared, entered_static, gets_same, all_same, each_behind, defined_under, made_under}
 use Rattle.cover_law.proofs.Stays.{below, covers}
 use Rattle.cover_law.proofs.Worlds.{SameFields, FieldsThere, typed_fields, fields_over, covers_over, same_with, same_then, same_show, same_put_over}
 
@@ -56,7 +56,7 @@ first_last : (p : NamedProgram) (v t u : Text) → Initialises p v t → Contain
 first_last p v t u (Itself t1) c = First v u u c (Itself u)
 first_last p v t u (First t1 x t2 d rest) c = First v x u d (first_last p x t u rest c)
 
-module _ {V : Type 0} (a : Analysis V) (p : NamedProgram) (o : Outer) (f : Framework) (floats : Floats) (facts : Facts V) (base : IsCoverable a p o f floats facts) (reg : IsSettled p) (finds : FindsRegularly p f) where
+module _ {V : Type 0} (a : Analysis V) (p : NamedProgram) (o : Outer) (f : Framework) (floats : Floats) (facts : Facts V) (base : IsReady a p o f floats facts) (reg : IsSettled p) (finds : FindsRegularly p f) where
   abbrev S : V → World → Value → Type 0
   S = Sees a p o facts
 
@@ -134,7 +134,7 @@ module _ {V : Type 0} (a : Analysis V) (p : NamedProgram) (o : Outer) (f : Frame
       on : (us : List Value) → receiver_ok (face_of p f) o w1 d us ≡ true → is_static d.flags ≡ false → IsEnteredOn p o d.key
       on [] i s = absurd (true≢false (sym i))
       on (v ∷ us) i s = let under = and_right (not (is_null v)) (is_under p f (kind_of w1 v) d.key.class) (and_left (is_on (face_of p f) w1 v d.key.class) (may_reach (face_of p f) o (kind_of w1 v) d) i) in
-          base.reaches.entered c n q (kind_of w1 v) d e (made_under p o f floats reg finds w1 below1.0 below1.1 v d.key.class under class_defined) under (and_right (is_on (face_of p f) w1 v d.key.class) (may_reach (face_of p f) o (kind_of w1 v) d) i) coded s
+          base.reaches.entered c n q (kind_of w1 v) d e (defined_under p o f floats reg finds w1 below1.0 v d.key.class under class_defined) (made_under p o f floats reg finds w1 below1.0 below1.1 v d.key.class under class_defined) under (and_right (is_on (face_of p f) w1 v d.key.class) (may_reach (face_of p f) o (kind_of w1 v) d) i) coded s
 
       by : (b : Bool) → is_static d.flags ≡ b → Enter w1 cs d.key (spread vs) (bodies_of p d.key)
       by true i = let op = base.closed.entries.statics d.key (static_entered i) in opened w1 cs d.key (spread vs) (op.entered, op.parameters)
@@ -142,7 +142,7 @@ module _ {V : Type 0} (a : Analysis V) (p : NamedProgram) (o : Outer) (f : Frame
 
   pub makes_covered : (w : World) (u : Text) → TypedWorld p f w → CoversWorld a p o facts w → may_make (face_of p f) o u ≡ true → CoversClass a p o facts u × CoversWorld a p o facts (show (with_thing w (fresh u)) u (next_object w)).0
   makes_covered w u tw cw l = let w1 = with_thing w (fresh u) in let w2 = (show w1 u (next_object w)).0 in
-      ((u, Makes u (base.reaches.makes u l), Itself u), covers_over p a o facts w w2 (typed_fields p f w tw) (same_then w w1 w2 (same_with w (fresh u) (λ k. refl)) (same_show w1 u (next_object w))) cw)
+      ((u, Makes u (base.makes u l), Itself u), covers_over p a o facts w w2 (typed_fields p f w tw) (same_then w w1 w2 (same_with w (fresh u) (λ k. refl)) (same_show w1 u (next_object w))) cw)
 
   -- ---- fields and items that are written
 

@@ -147,7 +147,7 @@ literal_less literals.ShlInt a b l m = answer_less Shl a b l m
 literal_less literals.ShrInt a b l m = answer_less Shr a b l m
 literal_less literals.UshrInt a b l m = answer_less Ushr a b l m
 
-float_less : (floats : Floats) (op : FloatOp) (a b : ℕ) → float_word floats op a b < 2 ^ 32
+pub float_less : (floats : Floats) (op : FloatOp) (a b : ℕ) → float_word floats op a b < 2 ^ 32
 float_less floats op a b = cut (float_answer floats op a b)
 
 not_less : (n : ℕ) → 2 ^ 32 - 1 - n < 2 ^ 32

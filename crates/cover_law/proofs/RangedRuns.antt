@@ -43,7 +43,7 @@ use Rattle.stuck_law.specs.TypedStates.{TypedFrame, typed_states}
 use Rattle.stuck_law.proofs.Settled.{IsSettled, FindsRegularly}
 use Rattle.stuck_law.proofs.Climbs.{none_some, some_one}
 use Rattle.stuck_law.proofs.Here.{at_form, get_contains, setting}
-use Rattle.cover_law.specs.Coverable.{IsCoverable}
+use Rattle.cover_law.proofs.Ready.{IsReady}
 use Rattle.cover_law.specs.Known.{MaybeGiven, MaybeRanged, RangedFrame, RangedGiven, RangedThing, RangedWorld, ranged_states}
 use Rattle.cover_law.proofs.Fields.{found_own}
 use Rattle.cover_law.proofs.Given.{gets_ranged, got_ranged}
@@ -92,7 +92,7 @@ receives_ranged (Some (form.InstanceGet i to on field)) f v h k = item_ranged f 
 receives_ranged (Some (form.StaticGet i to field)) f v h k = item_ranged f i to v h k
 receives_ranged y f v h k = record { registers = h.registers; result = k; caught = h.caught }
 
-module _ {V : Type 0} (a : Analysis V) (p : NamedProgram) (o : Outer) (f : Framework) (floats : Floats) (facts : Facts V) (base : IsCoverable a p o f floats facts) (reg : IsSettled p) (finds : FindsRegularly p f) where
+module _ {V : Type 0} (a : Analysis V) (p : NamedProgram) (o : Outer) (f : Framework) (floats : Floats) (facts : Facts V) (base : IsReady a p o f floats facts) (reg : IsSettled p) (finds : FindsRegularly p f) where
   abbrev s : Setting
   s = setting p o f floats reg
 

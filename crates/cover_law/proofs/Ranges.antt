@@ -1,4 +1,5 @@
 -- What a step leaves has words of 32 bits, where its form's numbers have.
+use Rattle.std.proofs.lemmas.Int.{ints}
 use Rattle.std.proofs.Common.{◌≡◌, ℕ, ◌+◌, ◌-◌, ℤ, pos, negsuc, Bool, true, false, true≢false, List, Option, Some, None, refl, ap, ◌∙◌, subst, sym, arith, replicate, ◌<◌, ◌∷◌, [], suc, zero}
 use Rattle.std.specs.Prelude.{◌&&◌, ◌||◌, nat_lt, nat_eq, length, map, slice_get, slice_set, drop, ◌%◌, ◌^◌}
 use Rattle.insn_set.specs.declared.ops.Item.{Item}
@@ -43,6 +44,7 @@ use Rattle.dalvik_defs.specs.Operators.{float_answer}
 use Rattle.pass_defs.specs.Analysis.{IsRanged}
 use Rattle.stuck_law.proofs.Climbs.{none_some, some_one}
 use Rattle.cover_law.specs.Coverable.{IsFormed}
+use Rattle.cover_law.specs.Sound.{IsSmall}
 use Rattle.cover_law.specs.Known.{MaybeRanged, RangedThing, RangedWorld, RangedFrame}
 use Rattle.cover_law.proofs.Numbers.{stored_ranged, cut, MaybeLess, answer_less, literal_less, NumberLess, unary_less, compared_less, new_size}
 use Rattle.cover_law.proofs.Worlds.{show_statics, option_statics, all_statics}
@@ -111,6 +113,9 @@ put_ranged k v fields h i j u e = by (field_eq j k) e
     by false e = h j u e
 
 -- ---- effects
+
+pub small_bits : (z : ℤ) → IsSmall z → cast_unsigned w32 z < 2 ^ 32
+small_bits z h = let l = h.0 in let r = h.1 in omega (arith, ints, l, r)
 
 module _ (w : World) (f : Frame) (fw : RangedWorld w) (ff : RangedFrame f) where
   abbrev pub EffectRanged : Effect → Type 0
@@ -310,7 +315,7 @@ module _ (w : World) (f : Frame) (fw : RangedWorld w) (ff : RangedFrame f) where
   act_ranged under floats (form.Invoke kind method args) formed = listed args
   act_ranged under floats (form.Unary op to from) formed = numbers (unary_answer floats op (number f from)) to (unary_less floats op (number f from))
   act_ranged under floats (form.Binary op to a b) formed = sorts floats (sort_of op) to a b
-  act_ranged under floats (form.Literal op to a value) formed = words (literal_answer op (word f a) (cast_unsigned w32 value)) to (literal_less op (word f a) (cast_unsigned w32 value) (cut (number f a)) formed)
+  act_ranged under floats (form.Literal op to a value) formed = words (literal_answer op (word f a) (cast_unsigned w32 value)) to (literal_less op (word f a) (cast_unsigned w32 value) (cut (number f a)) (small_bits value formed))
 
   -- ---- outcomes
 

@@ -48,7 +48,7 @@ use Rattle.stuck_law.proofs.Arrays.{true_false}
 use Rattle.stuck_law.proofs.Forms.{first_in}
 use Rattle.stuck_law.proofs.Here.{setting, own_body, get_contains, at_form}
 use Rattle.stuck_law.proofs.Here as typed
-use Rattle.cover_law.specs.Coverable.{IsCoverable}
+use Rattle.cover_law.proofs.Ready.{IsReady}
 use Rattle.cover_law.specs.Known.{KnownWorld, MaybeRanged, RangedThing}
 use Rattle.cover_law.proofs.Along.{Along, closer, item_ranged, then_item, just_item}
 use Rattle.cover_law.proofs.Reading.{Ss, reads_seen, enough}
@@ -57,7 +57,7 @@ use Rattle.cover_law.proofs.Entering.{nothing_behind}
 use Rattle.cover_law.proofs.Stays.{below, covers}
 use Rattle.cover_law.proofs.Waiting.{item_method}
 
-module _ {V : Type 0} (a : Analysis V) (p : NamedProgram) (o : Outer) (f : Framework) (floats : Floats) (facts : Facts V) (base : IsCoverable a p o f floats facts) (reg : IsSettled p) where
+module _ {V : Type 0} (a : Analysis V) (p : NamedProgram) (o : Outer) (f : Framework) (floats : Floats) (facts : Facts V) (base : IsReady a p o f floats facts) (reg : IsSettled p) where
   abbrev S : V → World → Value → Type 0
   S = Sees a p o facts
 

@@ -1,10 +1,11 @@
 -- All that the law of invariants asks of coverage, and whole runs.
 use Rattle.std.proofs.Common.{◌≡◌, ℕ, true, List, [], ◌∷◌, Option, Some, None, ◌⊎◌, refl, sym, ap, ◌∙◌, subst}
-use Rattle.std.specs.Prelude.{◌&&◌, slice_get}
+use Rattle.std.specs.Prelude.{◌&&◌, slice_get, Contains}
 use Rattle.std.specs.List.{list_all}
 use Rattle.std.specs.Option.{option_and_then}
 use Rattle.dalvik_defs.specs.Names.{Text, throwable_type, is_void}
 use Rattle.dalvik_defs.specs.Face.{face_of, bodies_of}
+use Rattle.dalvik_defs.specs.Find.{defined_method}
 use Rattle.dalvik_defs.specs.Gives.{gets, gets_all, fits as given_fits}
 use Rattle.dalvik_defs.specs.Items.{stored, item_of_type}
 use Rattle.dalvik_defs.specs.Legal.{may_answer, on_fits}
@@ -27,6 +28,7 @@ use Rattle.dalvik_defs.specs.declared.tables.Framework.{Framework}
 use Rattle.pass_defs.specs.Analysis.{Analysis}
 use Rattle.pass_defs.specs.Bare.{may_throw}
 use Rattle.pass_defs.specs.Facts.{Facts}
+use Rattle.pass_defs.specs.Live.{Family, IsClosedFamily, unconditional}
 use Rattle.pass_defs.specs.Walks.{form_at}
 use Rattle.invariant_law.specs.Holds.{Each, Holds as HoldsBy}
 use Rattle.invariant_law.specs.Invariant.{Invariant, Above, Callee, Owing, both}
@@ -35,16 +37,27 @@ use Rattle.invariant_law.proofs.Plain.{grown, keeps_plainly, got_grows}
 use Rattle.invariant_law.proofs.Stacked.{KeptOver, LandedOver, ShownOver, keeps_both}
 use Rattle.invariant_law.proofs.Invariants.{holds_after, opens_with}
 use Rattle.run_facts.specs.Covered.{CoversTop, CoversWaiting, CoversWorld, CoversResult, covering}
+use Rattle.removal_law.specs.Reach.{DefinesOnce, LeftAgrees, TellsProtos}
+use Rattle.removal_law.proofs.Acyclic.{regular as upright}
+use Rattle.removal_law.proofs.Fits.{fit_names_none}
+use Rattle.removal_law.proofs.Lists.{contained}
+use Rattle.removal_law.proofs.Protos.{told_apart, protos_told}
+use Rattle.removal_law.proofs.Removal.{faces_agree}
+use Rattle.removal_law.proofs.TypedCode.{typed_code}
+use Rattle.stuck_law.specs.Regular.{IsRegular}
 use Rattle.stuck_law.specs.TypedStates.{AskedOf, MaybeOf, TypedWaiting, TypedWorld, typed_states}
 use Rattle.stuck_law.proofs.Settled.{IsSettled, FindsRegularly}
 use Rattle.stuck_law.proofs.Registers.{and_left, and_right}
-use Rattle.stuck_law.proofs.Climbs.{none_some, some_one}
+use Rattle.stuck_law.proofs.Climbs.{class_in, none_some, some_one}
 use Rattle.stuck_law.proofs.Here.{setting}
 use Rattle.stuck_law.proofs.Runs.{keeps_typed, typed_opening, settled}
 use Rattle.stuck_law.proofs.Searches.{finds_regularly}
 use Rattle.stuck_law.proofs.Worlds.{waiting_later}
 use Rattle.cover_law.specs.Coverable.{IsCoverable}
-use Rattle.cover_law.specs.Known.{KnownWorld, MadeThing, MaybeRanged, RangedMove, RangedWorld, ranged_states, live_states}
+use Rattle.cover_law.proofs.Ready.{IsReady}
+use Rattle.cover_law.proofs.Reaching.{reaches}
+use Rattle.cover_law.specs.Known.{Always, KnownWorld, LiveThings, MaybeRanged, RangedMove, RangedWorld, ranged_states, live_states}
+use Rattle.cover_law.proofs.Living.{made_things, live_method, keeps_live}
 use Rattle.cover_law.proofs.RangedRuns.{keeps_ranged}
 use Rattle.cover_law.proofs.Given.{gets_same, got_same, gets_ranged, got_ranged, gets_there, got_exposed, typed_exposed, own_field}
 use Rattle.cover_law.proofs.Moving.{firsts_covered, initialiser_covered, enters_covered, makes_covered, field_covered, item_covered}
@@ -55,7 +68,7 @@ use Rattle.cover_law.proofs.Stays.{below, covers}
 use Rattle.cover_law.proofs.Steps.{steps_covered}
 use Rattle.cover_law.proofs.Worlds.{SameFields, typed_fields, covers_over, same_with, same_then, same_show, same_option}
 
-module _ {V : Type 0} (a : Analysis V) (p : NamedProgram) (o : Outer) (f : Framework) (floats : Floats) (facts : Facts V) (base : IsCoverable a p o f floats facts) (reg : IsSettled p) (finds : FindsRegularly p f) where
+module _ {V : Type 0} (a : Analysis V) (p : NamedProgram) (o : Outer) (f : Framework) (floats : Floats) (facts : Facts V) (base : IsReady a p o f floats facts) (reg : IsSettled p) (finds : FindsRegularly p f) where
   abbrev i : Invariant
   i = below a p o f floats facts base reg
 
@@ -104,12 +117,12 @@ module _ {V : Type 0} (a : Analysis V) (p : NamedProgram) (o : Outer) (f : Frame
 
   -- ---- all that the law asks
 
-  known : (w : World) → RangedWorld w → Each (MadeThing p o) w.heap → KnownWorld p o w
-  known w r m = record { ranged = r; made = m }
+  known : (w : World) → RangedWorld w → Always p o (λ s. LiveThings p s w) → KnownWorld p o w
+  known w r m = record { ranged = r; made = made_things p o w.heap (λ s k. (m s k).1) }
 
   pub keeps_covered : KeptOver (setting p o f floats reg) (bodies_of p) i j
   keeps_covered = record {
-    steps = λ w cs g h t. steps_covered a p o f floats facts base reg finds w cs g h.0.0.0 (known w h.0.0.1 h.0.1) h.1 t.0.0.0 (record { ranged = t.0.0.1; live = t.0.1 }) t.1;
+    steps = λ w cs g h t. steps_covered a p o f floats facts base reg finds w cs g h.0.0.0 (known w h.0.0.1 h.0.1) h.1 t.0.0.0 (record { ranged = t.0.0.1; live = live_method p o g t.0.1 }) t.1;
     later = λ w w1 above g gr t h. waits_later a p o f floats facts base reg w w1 above g gr t.0.0 h;
     returns = λ w cs k g v h t r x. returns_at w cs k g v t.0.0.0 t.1 (known w h.0.0.1 h.0.1) r.0.0.0 r.0.0.1 r.1;
     retries = λ w cs u g h t x. retried a p o f floats facts base reg w u g t.1;
@@ -158,10 +171,43 @@ module _ {V : Type 0} (a : Analysis V) (p : NamedProgram) (o : Outer) (f : Frame
       let second = keeps_both s (bodies_of p) words (live_states p o) first live in
       let keep = keeps_plainly s (bodies_of p) (both i j) (keeps_both s (bodies_of p) i j second keeps_covered) in
       holds_after s (bodies_of p) (grown s (bodies_of p) (both i j)) keep n (opening script)
-      (opens_with s (bodies_of p) (grown s (bodies_of p) (both i j)) keep script (((typed_opening p o f floats reg finds, record { statics = λ k v e. none_some v e; things = tt }), tt), covered_opening) (each_move script fit.values ranged))
+      (opens_with s (bodies_of p) (grown s (bodies_of p) (both i j)) keep script (((typed_opening p o f floats reg finds, record { statics = λ k v e. none_some v e; things = tt }), λ s k. (tt, tt)), covered_opening) (each_move script fit.values ranged))
+
+-- no class defines two methods of one name and signature
+once : (p : NamedProgram) → IsRegular p → DefinesOnce p
+once p reg t c m x e i j n g = some_one m x (sym (reg.methods c m inside (contained m c.methods i))
+    ∙ (ap (λ y. defined_method p (record { class = c.name; name = y; signature = m.signature })) n ∙ ap (λ y. defined_method p (record { class = c.name; name = x.name; signature = y })) g)
+    ∙ reg.methods c x inside (contained x c.methods j))
+  where
+    inside : Contains p.classes c
+    inside = class_in p t c e
+
+module _ {V : Type 0} (a : Analysis V) (p : NamedProgram) (o : Outer) (f : Framework) (floats : Floats) (facts : Facts V) (script : List Move) (base : IsCoverable a p o f floats facts) (fit : Fit p o f script) where
+  told : TellsProtos p
+  told = protos_told p base.tabled.described
+
+  -- what is left by each closed family answers alike
+  agrees : (s : Family) → IsClosedFamily p o unconditional s → LeftAgrees p o s f
+  agrees s closed = faces_agree p o unconditional s closed (upright p base.tabled.acyclic base.tabled.regular.class_types)
+      (typed_code p base.tabled.regular.typed (told_apart p base.tabled.described (once p base.tabled.regular)) told) base.tabled.table f script fit
+
+  reg : IsSettled p
+  reg = settled p o f script base.tabled.regular fit
+
+  ready : IsReady a p o f floats facts
+  ready = record {
+    regular = base.tabled.regular;
+    places = base.tabled.places;
+    formed = base.tabled.formed;
+    firsts = base.tabled.firsts;
+    reaches = reaches p o f floats reg (finds_regularly p f reg) (upright p base.tabled.acyclic base.tabled.regular.class_types) (fit_names_none p o f script fit) told base.tabled.table;
+    makes = base.tabled.makes;
+    sound = base.sound;
+    closed = base.tabled.closed;
+  }
 
 -- And for a framework and a script that fit the program.
-pub covered_regular : {V : Type 0} (a : Analysis V) (p : NamedProgram) (o : Outer) (f : Framework) (floats : Floats) (facts : Facts V) (script : List Move) (n : ℕ) → IsCoverable a p o f floats facts
-    → KeptOver (setting_of p o f floats) (bodies_of p) (both (typed_states p f o) ranged_states) (live_states p o) → Fit p o f script → Each RangedMove script
+pub covered_regular : {V : Type 0} (a : Analysis V) (p : NamedProgram) (o : Outer) (f : Framework) (floats : Floats) (facts : Facts V) (script : List Move) (n : ℕ) → IsCoverable a p o f floats facts → Fit p o f script → Each RangedMove script
     → (after (setting_of p o f floats) (bodies_of p) (opening script) n ≡ Ended) ⊎ HoldsBy (both (both (both (typed_states p f o) ranged_states) (live_states p o)) (covering a p o facts)) (after (setting_of p o f floats) (bodies_of p) (opening script) n)
-covered_regular a p o f floats facts script n base live fit ranged = let reg = settled p o f script base.regular fit in covered_always a p o f floats facts base reg (finds_regularly p f reg) live script fit ranged n
+covered_regular a p o f floats facts script n base fit ranged = let known = reg a p o f floats facts script base fit in
+    covered_always a p o f floats facts (ready a p o f floats facts script base fit) known (finds_regularly p f known) (keeps_live p o f floats (agrees a p o f floats facts script base fit)) script fit ranged n

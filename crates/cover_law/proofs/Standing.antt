@@ -37,7 +37,7 @@ use Rattle.stuck_law.proofs.Registers.{there_held, all_at}
 use Rattle.stuck_law.proofs.Climbs.{none_some, some_one, found_in_list}
 use Rattle.stuck_law.proofs.Here.{all_in, into_left, into_right, into_map, own_body}
 use Rattle.stuck_law.proofs.Forms.{first_in, later_in}
-use Rattle.cover_law.specs.Coverable.{IsCoverable}
+use Rattle.cover_law.proofs.Ready.{IsReady}
 use Rattle.cover_law.proofs.Along.{sees_later, read}
 
 -- ---- lists
@@ -119,7 +119,7 @@ module _ {V : Type 0} (a : Analysis V) (p : NamedProgram) (facts : Facts V) wher
   edges_onward n (form.IfZero test r target) x q h = either_to (n + 1) target (refined a r (option_map (λ v. v.0) (a.tested false test (x r) (a.known (Word 0)))) x) (refined a r (option_map (λ v. v.0) (a.tested true test (x r) (a.known (Word 0)))) x) q h
   edges_onward n y x q h = next_to n (after a p facts y x) q h
 
-module _ {V : Type 0} (a : Analysis V) (p : NamedProgram) (o : Outer) (f : Framework) (floats : Floats) (facts : Facts V) (base : IsCoverable a p o f floats facts) (reg : IsSettled p) where
+module _ {V : Type 0} (a : Analysis V) (p : NamedProgram) (o : Outer) (f : Framework) (floats : Floats) (facts : Facts V) (base : IsReady a p o f floats facts) (reg : IsSettled p) where
   -- what registers hold is there
   pub reg_there : (w : World) (g : Frame) → TypedFrame p f w g → (r : ℕ) → IsThere w (register g r)
   reg_there w g t r = there_held p f t.in_method.class.name w (kind_at t.kinds.registers r) (register g r) (all_at p f t.in_method.class.name w t.kinds.registers g.registers r t.holds.registers)

@@ -46,7 +46,7 @@ use Rattle.stuck_law.proofs.Here.{setting}
 use Rattle.stuck_law.proofs.Here as typed
 use Rattle.stuck_law.proofs.Forms.{or_left}
 use Rattle.form_law.specs.Changes.{operands}
-use Rattle.cover_law.specs.Coverable.{IsCoverable}
+use Rattle.cover_law.proofs.Ready.{IsReady}
 use Rattle.cover_law.specs.Known.{KnownFrame, KnownWorld, RangedThing, ranged_states, live_states}
 use Rattle.cover_law.proofs.Along.{Along, Looks, IsTold, act_along, sees_put, sees_wide}
 use Rattle.cover_law.proofs.Reading.{Ss, reads_seen}
@@ -58,7 +58,7 @@ pub array_whole : (u : Text) → is_array u ≡ true → array_of (item_of u) �
 array_whole [] e = absurd (true≢false (sym e))
 array_whole (c ∷ us) e = ap (λ c. c ∷ us) (sym (eqb-true c 91 e))
 
-module _ {V : Type 0} (a : Analysis V) (p : NamedProgram) (o : Outer) (f : Framework) (floats : Floats) (facts : Facts V) (base : IsCoverable a p o f floats facts) (reg : IsSettled p) where
+module _ {V : Type 0} (a : Analysis V) (p : NamedProgram) (o : Outer) (f : Framework) (floats : Floats) (facts : Facts V) (base : IsReady a p o f floats facts) (reg : IsSettled p) where
   -- what is known of each state before, and what is said of it now
   abbrev pub below : Invariant
   below = both (both (typed_states p f o) ranged_states) (live_states p o)

@@ -26,9 +26,10 @@ use Rattle.stuck_law.proofs.Settled.{IsSettled, FindsRegularly}
 use Rattle.stuck_law.proofs.Registers.{and_left}
 use Rattle.stuck_law.proofs.ArrayForms.{untrue2}
 use Rattle.stuck_law.proofs.Here.{at_form, setting}
-use Rattle.cover_law.specs.Coverable.{IsCoverable}
+use Rattle.cover_law.proofs.Ready.{IsReady}
 use Rattle.cover_law.specs.Known.{KnownFrame, KnownWorld}
 use Rattle.cover_law.proofs.Standing.{own_form}
+use Rattle.cover_law.proofs.Suits.{suits}
 use Rattle.cover_law.proofs.Stays.{array_whole, below, covers, Does, Is, local_form, results, filled}
 use Rattle.cover_law.proofs.Waiting.{formed, returns, voids, enters, exits_held, makes, instance_gets, static_gets, static_puts, instance_puts}
 use Rattle.cover_law.proofs.Calling.{calls_covered}
@@ -41,7 +42,7 @@ reference w (Word n) h = h
 reference w (Low n) h = h
 reference w (High n) h = h
 
-module _ {V : Type 0} (a : Analysis V) (p : NamedProgram) (o : Outer) (f : Framework) (floats : Floats) (facts : Facts V) (base : IsCoverable a p o f floats facts) (reg : IsSettled p) (finds : FindsRegularly p f) where
+module _ {V : Type 0} (a : Analysis V) (p : NamedProgram) (o : Outer) (f : Framework) (floats : Floats) (facts : Facts V) (base : IsReady a p o f floats facts) (reg : IsSettled p) (finds : FindsRegularly p f) where
   module _ (w : World) (cs : Classes) (g : Frame) (tw : TypedWorld p f w) (kw : KnownWorld p o w) (cw : CoversWorld a p o facts w) (t : TypedFrame p f w g) (kg : KnownFrame p o g) (top : CoversTop a p o facts w g) where
     abbrev D : Effect → Type 0
     D = Does a p o f floats facts base reg w cs g tw kw cw t kg top
@@ -59,13 +60,13 @@ module _ {V : Type 0} (a : Analysis V) (p : NamedProgram) (o : Outer) (f : Frame
     forms (form.NewInstance to kind) h = makes a p o f floats facts base reg w cs g tw kw cw t kg top to kind h
     forms (form.NewArray to size kind) h = local_form a p o f floats facts base reg w cs g tw kw cw t kg top (form.NewArray to size kind) h tt refl (array_whole kind (untrue2 (is_array kind) h.right))
     forms (form.FilledNewArray kind args) h = filled a p o f floats facts base reg w cs g tw kw cw t kg top kind args h
-    forms (form.PackedSwitch on first targets) h = local_form a p o f floats facts base reg w cs g tw kw cw t kg top (form.PackedSwitch on first targets) h tt refl (formed a p o f floats facts base reg w cs g tw kw cw t kg top (form.PackedSwitch on first targets) h)
+    forms (form.PackedSwitch on first targets) h = local_form a p o f floats facts base reg w cs g tw kw cw t kg top (form.PackedSwitch on first targets) h tt refl (formed a p o f floats facts base reg w cs g tw kw cw t kg top (form.PackedSwitch on first targets) h, suits p o f floats reg w cs g tw t kg.ranged (form.PackedSwitch on first targets) h (formed a p o f floats facts base reg w cs g tw kw cw t kg top (form.PackedSwitch on first targets) h))
     forms (form.InstanceGet item to on field) h = instance_gets a p o f floats facts base reg w cs g tw kw cw t kg top item to on field h
     forms (form.InstancePut item from on field) h = instance_puts a p o f floats facts base reg w cs g tw kw cw t kg top item from on field h
     forms (form.StaticGet item to field) h = static_gets a p o f floats facts base reg w cs g tw kw cw t kg top item to field h
     forms (form.StaticPut item from field) h = static_puts a p o f floats facts base reg w cs g tw kw cw t kg top item from field h
     forms (form.Invoke kind method args) h = calls_covered a p o f floats facts base reg finds w cs g tw kw cw t kg top kind method args h
-    forms y h = local_form a p o f floats facts base reg w cs g tw kw cw t kg top y h tt refl tt
+    forms y h = local_form a p o f floats facts base reg w cs g tw kw cw t kg top y h tt refl (suits p o f floats reg w cs g tw t kg.ranged y h (formed a p o f floats facts base reg w cs g tw kw cw t kg top y h))
 
     -- each step of a covered frame in a covered world leaves both covered
     pub steps_covered : LeadsOver (setting p o f floats reg) (bodies_of p) (below a p o f floats facts base reg) (covers a p o f floats facts base reg) w cs g (outcome_at (setting p o f floats reg) (bodies_of p) (need_of (face_of p f) cs) w g)

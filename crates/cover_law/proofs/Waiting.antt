@@ -32,7 +32,7 @@ use Rattle.dalvik_defs.specs.declared.program.NamedField.{NamedField}
 use Rattle.dalvik_defs.specs.declared.program.NamedProgram.{NamedProgram}
 use Rattle.dalvik_defs.specs.declared.tables.Floats.{Floats}
 use Rattle.dalvik_defs.specs.declared.tables.Framework.{Framework}
-use Rattle.pass_defs.specs.Analysis.{Analysis, Holds}
+use Rattle.pass_defs.specs.Analysis.{Analysis, IsRanged, Holds}
 use Rattle.pass_defs.specs.Bare.{may_throw}
 use Rattle.pass_defs.specs.Closed.{At, Puts, Instance as PutsInstance, Static as PutsStatic, AtPosition, put, put_sized, refined, then_put, arm, edges, field_value}
 use Rattle.pass_defs.specs.Facts.{Facts, Itself, own_key, needs, field_class}
@@ -44,6 +44,7 @@ use Rattle.invariant_law.specs.Invariant.{Above, Begun, Owing, Grows}
 use Rattle.invariant_law.proofs.Growing.{grows_same, grows_put, show_heap}
 use Rattle.run_facts.specs.Covered.{Sees, CoversTop, CoversWaiting, CoversWorld, Awaits, IsPast}
 use Rattle.silence_law.specs.Results.{gives_result}
+use Rattle.invariant_law.proofs.Fine.{each_or}
 use Rattle.stuck_law.specs.TypedStates.{KindHolds, ValueOf, TypedFrame, TypedWorld}
 use Rattle.stuck_law.proofs.Settled.{IsSettled}
 use Rattle.stuck_law.proofs.Registers.{and_left, and_right}
@@ -57,7 +58,9 @@ use Rattle.stuck_law.proofs.FieldForms.{holds_instance, puts_instance, or_value,
 use Rattle.stuck_law.proofs.Here.{get_contains}
 use Rattle.stuck_law.proofs.Worlds.{at_typed, zero_value}
 use Rattle.form_law.specs.Changes.{operands}
-use Rattle.cover_law.specs.Coverable.{IsCoverable, IsFormed, has_values}
+use Rattle.cover_law.specs.Coverable.{IsFormed, has_values}
+use Rattle.cover_law.specs.Sound.{IsWord}
+use Rattle.cover_law.proofs.Ready.{IsReady}
 use Rattle.cover_law.specs.Known.{KnownFrame, KnownWorld}
 use Rattle.cover_law.proofs.Along.{Along, Looks, sees_put, closer, then_item, just_item}
 use Rattle.cover_law.proofs.Standing.{own_form, all_later, top_on}
@@ -65,7 +68,7 @@ use Rattle.cover_law.proofs.Worlds.{typed_fields, value_there, SameFields, same_
 use Rattle.cover_law.proofs.Fields.{read_same, static_seen, instance_seen, covers_static, covers_instance}
 use Rattle.cover_law.proofs.Stays.{Leads, Does, Is, kept, there, arrays, here, faulted, held, looks}
 
-module _ {V : Type 0} (a : Analysis V) (p : NamedProgram) (o : Outer) (f : Framework) (floats : Floats) (facts : Facts V) (base : IsCoverable a p o f floats facts) (reg : IsSettled p) where
+module _ {V : Type 0} (a : Analysis V) (p : NamedProgram) (o : Outer) (f : Framework) (floats : Floats) (facts : Facts V) (base : IsReady a p o f floats facts) (reg : IsSettled p) where
   pub item_method : (i : Item) (g : Frame) (to : ℕ) (v : Value) → (next (write_item i g to v)).method ≡ g.method
   item_method item.Wide g to v = refl
   item_method i g to v = refl
@@ -271,38 +274,41 @@ module _ {V : Type 0} (a : Analysis V) (p : NamedProgram) (o : Outer) (f : Frame
     -- ---- fields that are written
 
     -- what a field keeps of a value of its type
-    stored_seen : (i : Item) (u : Text) (z : V) (v : Value) → has_values u ≡ true → wrong_item i u ≡ false → ValueOf p f w u v → S z w v → S (a.stored i z) w (stored i v)
-    stored_seen i u z v hv wr vt s = by i wr
+    stored_seen : (i : Item) (u : Text) (z : V) (v : Value) → IsRanged v → has_values u ≡ true → wrong_item i u ≡ false → ValueOf p f w u v → S z w v → S (a.stored i z) w (stored i v)
+    stored_seen i u z v bits hv wr vt s = by i wr
       where
-        number : (is_wide u || is_reference u) ≡ false → kind_of w v ≡ []
-        number e = one (sorted p u)
+        a_word : (is_wide u || is_reference u) ≡ false → (m : ℕ) × (v ≡ Word m)
+        a_word e = one (sorted p u)
           where
-            of_word : (m : ℕ) × (v ≡ Word m) → kind_of w v ≡ []
-            of_word (m, j) = ap (kind_of w) j
-
-            one : Sorted p u → kind_of w v ≡ []
-            one (OfWord q b d j l) = of_word (subst (λ k. KindHolds p f [] w k v) j (vt []))
+            one : Sorted p u → (m : ℕ) × (v ≡ Word m)
+            one (OfWord q b d j l) = subst (λ k. KindHolds p f [] w k v) j (vt [])
             one (OfWide q b d j l) = true_false b (or_left (is_wide u) (is_reference u) e)
             one (OfReference q b d j l) = true_false d (or_right (is_wide u) (is_reference u) e)
             one (OfNone q b d j l) = absurd (true≢false (sym hv ∙ (ap (λ c. c || is_wide u || is_reference u) q ∙ (ap (λ c. c || is_reference u) b ∙ d))))
 
+        number : (is_wide u || is_reference u) ≡ false → kind_of w v ≡ []
+        number e = ap (kind_of w) (a_word e).1
+
+        word : (is_wide u || is_reference u) ≡ false → IsWord v
+        word e = let h = a_word e in subst IsWord (sym h.1) (subst IsRanged h.1 bits)
+
         plain : S (a.stored item.Plain z) w v
-        plain = base.sound.stores item.Plain z (kind_of w v) v s
+        plain = base.sound.stores item.Plain z (kind_of w v) v tt s
 
         by : (i : Item) → wrong_item i u ≡ false → S (a.stored i z) w (stored i v)
         by item.Plain e = plain
-        by item.Wide e = base.sound.stores item.Wide z (kind_of w v) v s
-        by item.Object e = base.sound.stores item.Object z (kind_of w v) v s
-        by item.Boolean e = subst (λ c. a.holds (a.stored item.Boolean z) c (stored item.Boolean v)) (number e) (base.sound.stores item.Boolean z (kind_of w v) v s)
-        by item.Byte e = subst (λ c. a.holds (a.stored item.Byte z) c (stored item.Byte v)) (number e) (base.sound.stores item.Byte z (kind_of w v) v s)
-        by item.Char e = subst (λ c. a.holds (a.stored item.Char z) c (stored item.Char v)) (number e) (base.sound.stores item.Char z (kind_of w v) v s)
-        by item.Short e = subst (λ c. a.holds (a.stored item.Short z) c (stored item.Short v)) (number e) (base.sound.stores item.Short z (kind_of w v) v s)
+        by item.Wide e = base.sound.stores item.Wide z (kind_of w v) v tt s
+        by item.Object e = base.sound.stores item.Object z (kind_of w v) v tt s
+        by item.Boolean e = subst (λ c. a.holds (a.stored item.Boolean z) c (stored item.Boolean v)) (number e) (base.sound.stores item.Boolean z (kind_of w v) v (word e) s)
+        by item.Byte e = subst (λ c. a.holds (a.stored item.Byte z) c (stored item.Byte v)) (number e) (base.sound.stores item.Byte z (kind_of w v) v (word e) s)
+        by item.Char e = subst (λ c. a.holds (a.stored item.Char z) c (stored item.Char v)) (number e) (base.sound.stores item.Char z (kind_of w v) v (word e) s)
+        by item.Short e = subst (λ c. a.holds (a.stored item.Short z) c (stored item.Short v)) (number e) (base.sound.stores item.Short z (kind_of w v) v (word e) s)
 
     -- the field's facts hold of what is put into it
     put_holds : (y : Form) (h : I y) (i : Item) (from : ℕ) (k : FieldKey) (d : Text × NamedField) → Puts i from k y → finds_field p k ≡ Some d → has_values k.kind ≡ true → wrong_item i k.kind ≡ false → ValueOf p f w k.kind (register g from) → S (x from) w (register g from)
         → S (facts.fields (own_key k d)) w (stored i (register g from))
     put_holds y h i from k d puts e hv wr vt s = base.sound.grows (a.stored i (x from)) (facts.fields (own_key k d)) (kind_of w (stored i (register g from))) (stored i (register g from)) (base.closed.fields.puts g.method g.position from i k d (at_y y h) puts e)
-        (stored_seen i k.kind (x from) (register g from) hv wr vt s)
+        (stored_seen i k.kind (x from) (register g from) (each_or IsRanged g.registers from (Word 0) kg.ranged.registers (omega arith)) hv wr vt s)
 
     pub formed : (y : Form) → I y → IsFormed y
     formed y h = base.formed g.method t.in_method.body y (ap (bodies_of p) t.of ∙ t.in_method.has_body) (get_contains t.in_method.body.forms n y h.has)

@@ -1,16 +1,14 @@
 -- What is asked of a program, a table of facts and a framework: the program is typed and regular, its code is formed as
 -- that of a file is, the analysis is sound, and the table is closed (Dalvik bytecode, "move-result"; Dalvik executable
 -- format, "code_item"; this project's profile).
-use Rattle.std.specs.Prelude.{◌≡◌, ◌⊎◌, ◌||◌, Bool, ℕ, ◌<◌, ◌^◌, true, false, List, Some, length, Contains}
+use Rattle.std.specs.Prelude.{◌≡◌, ◌||◌, Bool, ◌<◌, ◌^◌, true, Some, length, Contains}
 use Rattle.std.specs.Int.{w32, cast_unsigned}
-use Rattle.insn_set.specs.declared.ops.InvokeKind.{InvokeKind}
 use Rattle.dalvik_defs.specs.Names.{Text, is_word, is_wide, is_reference}
-use Rattle.dalvik_defs.specs.Flags.{is_static}
-use Rattle.dalvik_defs.specs.Under.{defines, is_under}
-use Rattle.dalvik_defs.specs.Find.{Found, Finds, defined_field}
-use Rattle.dalvik_defs.specs.Face.{face_of, bodies_of, declared_in, finds_virtually, place_of}
+use Rattle.dalvik_defs.specs.Under.{is_under}
+use Rattle.dalvik_defs.specs.Find.{defined_field}
+use Rattle.dalvik_defs.specs.Face.{face_of, bodies_of, place_of}
 use Rattle.dalvik_defs.specs.Fields.{first_of}
-use Rattle.dalvik_defs.specs.Legal.{may_make, may_reach}
+use Rattle.dalvik_defs.specs.Legal.{may_make}
 use Rattle.dalvik_defs.specs.Outer.{Outer}
 use Rattle.dalvik_defs.specs.declared.forms.Form.{Form}
 use Rattle.dalvik_defs.specs.declared.forms.Form.TheVariants as form
@@ -21,48 +19,47 @@ use Rattle.dalvik_defs.specs.declared.program.NamedField.{NamedField}
 use Rattle.dalvik_defs.specs.declared.program.NamedProgram.{NamedProgram}
 use Rattle.dalvik_defs.specs.declared.tables.Floats.{Floats}
 use Rattle.dalvik_defs.specs.declared.tables.Framework.{Framework}
-use Rattle.pass_defs.specs.Analysis.{Analysis, IsRanged, IsSound}
-use Rattle.pass_defs.specs.Calls.{is_within}
+use Rattle.pass_defs.specs.Analysis.{Analysis, IsRanged}
 use Rattle.pass_defs.specs.Closed.{IsClosed}
-use Rattle.pass_defs.specs.Facts.{Facts, IsEnteredOn, may_be_made}
-use Rattle.pass_defs.specs.Live.{IsMade, unconditional}
+use Rattle.pass_defs.specs.Facts.{Facts, may_be_made}
+use Rattle.removal_law.specs.Reach.{IsAcyclic, IsDescribed, IsSoundTable}
 use Rattle.silence_law.specs.Results.{AllTakeInPlace}
 use Rattle.stuck_law.specs.Regular.{IsRegular}
+use Rattle.cover_law.specs.Sound.{AreSmall, IsSmall, IsSoundOn}
 
 -- a type that values have
 abbrev pub has_values : Text → Bool
 has_values t = is_word t || is_wide t || is_reference t
 
--- The numbers of a form have 32 bits, it makes no array of 2^31 items, and a field that it writes has a type of values.
+-- The numbers of a form have 32 bits, also with a sign those of a literal and of keys, it makes no array of 2^31 items, and a field that it writes has a type of values.
 abbrev pub IsFormed : Form → Type 0
 IsFormed (form.Const to value) = cast_unsigned w32 value < 2 ^ 32
-IsFormed (form.Literal op to r value) = cast_unsigned w32 value < 2 ^ 32
+IsFormed (form.Literal op to r value) = IsSmall value
+IsFormed (form.SparseSwitch on keys targets) = AreSmall keys
 IsFormed (form.PackedSwitch on first targets) = cast_unsigned w32 first < 2 ^ 32
 IsFormed (form.FilledNewArray kind args) = length args < 2 ^ 31
 IsFormed (form.InstancePut item from on field) = has_values field.kind ≡ true
 IsFormed (form.StaticPut item from field) = has_values field.kind ≡ true
 IsFormed x = Unit {0}
 
--- What the framework reaches by its own rows it reaches by the program's lists, or as one of the methods that it may enter.
-pub record Reaches (p : NamedProgram) (o : Outer) (f : Framework) : Type 0 where
-  -- what a call in code finds on a made object
-  pub virtually : (m : MethodKey) (b : NamedBody) (kind : InvokeKind) (k : MethodKey) (args : List ℕ) (t : Text) (g : Found)
-      → bodies_of p m ≡ Some b → Contains b.forms (form.Invoke kind k args)
-      → IsMade p o unconditional t → finds_virtually p f t k ≡ Finds g → (is_within p t k.class ≡ true) ⊎ ((defines p k.class ≡ false) × (g.coded ≡ true → IsEnteredOn p o g.key))
-  -- what the framework calls on a made object
-  pub entered : (c n q t : Text) (g : Found) → declared_in p c n q ≡ Some g → IsMade p o unconditional t
-      → is_under p f t g.key.class ≡ true → may_reach (face_of p f) o t g ≡ true → g.coded ≡ true
-      → is_static g.flags ≡ false → IsEnteredOn p o g.key
-  -- what it makes
-  pub makes : (t : Text) → may_make (face_of p f) o t ≡ true → may_be_made p o t ≡ true
-
-pub record IsCoverable {V : Type 0} (a : Analysis V) (p : NamedProgram) (o : Outer) (f : Framework) (floats : Floats) (facts : Facts V) : Type 0 where
+-- A table of facts is closed, of a program that is so and a framework.
+pub record IsTabled {V : Type 0} (a : Analysis V) (p : NamedProgram) (o : Outer) (f : Framework) (facts : Facts V) : Type 0 where
   pub regular : IsRegular p
+  -- no class stands above itself, and the parameters of methods are descriptors
+  pub acyclic : IsAcyclic p
+  pub described : IsDescribed p
+  -- the parts of the table of what the framework may reach agree
+  pub table : IsSoundTable p o
   -- only what gives a result goes on to what takes one, and no handler does
   pub places : AllTakeInPlace p
   pub formed : (k : MethodKey) (b : NamedBody) (x : Form) → bodies_of p k ≡ Some b → Contains b.forms x → IsFormed x
   -- a word that a field begins with has 32 bits
   pub firsts : (k : FieldKey) (d : NamedField) → defined_field p k ≡ Some d → IsRanged (first_of k (place_of k.class d))
-  pub reaches : Reaches p o f
-  pub sound : IsSound a (is_under p f) floats
+  -- what the framework makes is a class that is kept or has a kept constructor
+  pub makes : (t : Text) → may_make (face_of p f) o t ≡ true → may_be_made p o t ≡ true
   pub closed : IsClosed a p o facts
+
+-- And the analysis is sound.
+pub record IsCoverable {V : Type 0} (a : Analysis V) (p : NamedProgram) (o : Outer) (f : Framework) (floats : Floats) (facts : Facts V) : Type 0 where
+  pub tabled : IsTabled a p o f facts
+  pub sound : IsSoundOn a (is_under p f) floats

@@ -1,9 +1,12 @@
 -- What is known of every state of a run beside its kinds, as invariants: words have 32 bits, arrays have fewer than 2^31
 -- items, and methods, classes and objects are of what is live (Dalvik bytecode, "General Design"; this project's profile).
 use Rattle.std.specs.Prelude.{◌≡◌, ◌<◌, ◌^◌, true, Option, Some, None, length}
+use Rattle.dalvik_defs.specs.Face.{bodies_of}
 use Rattle.dalvik_defs.specs.Outer.{Outer}
+use Rattle.dalvik_defs.specs.Stack.{form_at}
 use Rattle.dalvik_defs.specs.State.{World, Thing, Instance, Items}
 use Rattle.dalvik_defs.specs.Under.{defines}
+use Rattle.dalvik_defs.specs.declared.forms.Form.{Form}
 use Rattle.dalvik_defs.specs.declared.names.FieldKey.{FieldKey}
 use Rattle.dalvik_defs.specs.declared.program.NamedProgram.{NamedProgram}
 use Rattle.dalvik_defs.specs.declared.script.Given.{Given}
@@ -15,7 +18,10 @@ use Rattle.dalvik_defs.specs.declared.state.Value.{Value}
 use Rattle.invariant_law.specs.Holds.{Each}
 use Rattle.invariant_law.specs.Invariant.{Invariant, Grows}
 use Rattle.pass_defs.specs.Analysis.{IsRanged}
-use Rattle.pass_defs.specs.Live.{IsLiveClass, IsLiveMethod, IsMade, unconditional}
+use Rattle.pass_defs.specs.Bare.{continues, may_throw}
+use Rattle.pass_defs.specs.Live.{Family, IsClosedFamily, IsLiveMethod, IsMade, unconditional}
+use Rattle.removal_law.specs.Reach.{OkType, MadeType, LiveMethod, ReachedAt}
+use Rattle.removal_law.proofs.Worlds.{Kinds}
 
 abbrev pub MaybeRanged : Option Value → Type 0
 MaybeRanged None = Unit {0}
@@ -71,24 +77,40 @@ ranged_states = record {
 
 -- ---- what is live
 
--- an object of a class of the program is of a made one
-abbrev pub MadeThing : NamedProgram → Outer → Thing → Type 0
-MadeThing p o (Instance c fields) = defines p c ≡ true → IsMade p o unconditional c
-MadeThing p o (Items k vs) = Unit {0}
+-- of every closed family of live sets
+abbrev pub Always : NamedProgram → Outer → (Family → Type 0) → Type 0
+Always p o P = (s : Family) → IsClosedFamily p o unconditional s → P s
 
--- methods that run are live, and so are classes that are initialised
+-- a frame of a live method, at a position that a walk through its code comes to
+abbrev pub LivesAt : NamedProgram → Family → Frame → Type 0
+LivesAt p s f = LiveMethod p s f.method × ReachedAt p f.method f.position
+
+-- a frame of which the form may throw, and goes on behind itself
+abbrev pub MayWait : NamedProgram → Frame → Type 0
+MayWait p f = (x : Form) × ((form_at (bodies_of p) f ≡ Some x) × ((continues x ≡ true) × (may_throw x ≡ true)))
+
+-- things are of live types, and of made classes
+abbrev pub LiveThings : NamedProgram → Family → World → Type 0
+LiveThings p s w = Kinds (OkType p s) w.heap × Kinds (MadeType p s) w.heap
+
+-- methods that run are live, and so are classes that are initialised, and objects are of made classes
 abbrev pub live_states : NamedProgram → Outer → Invariant
 live_states p o = record {
-  outside = λ w c. Each (MadeThing p o) w.heap;
-  top = λ w c f. IsLiveMethod p o unconditional f.method;
-  waits = λ w a f. IsLiveMethod p o unconditional f.method;
+  outside = λ w c. Always p o (λ s. LiveThings p s w);
+  top = λ w c f. Always p o (λ s. LivesAt p s f);
+  waits = λ w a f. Always p o (λ s. LivesAt p s f × MayWait p f);
   result = λ w k v. Unit {0};
   thrown = λ w v. Unit {0};
-  class = λ t. defines p t ≡ true → IsLiveClass p o unconditional t;
+  class = λ t. Always p o (λ s. OkType p s t);
   move = λ x. Unit {0};
   later = Grows;
   ended = Unit {0};
 }
+
+-- an object of a class of the program is of a made one
+abbrev pub MadeThing : NamedProgram → Outer → Thing → Type 0
+MadeThing p o (Instance c fields) = defines p c ≡ true → IsMade p o unconditional c
+MadeThing p o (Items k vs) = Unit {0}
 
 -- ---- both
 

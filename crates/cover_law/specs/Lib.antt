@@ -1,3 +1,5 @@
 pub mod Known
 pub mod Coverable
 pub mod States
+pub mod Apart
+pub mod Sound

@@ -1,12 +1,8 @@
 -- The invariants that coverage stands over, and all of them at once.
-use Rattle.dalvik_defs.specs.Face.{bodies_of}
 use Rattle.dalvik_defs.specs.Outer.{Outer}
-use Rattle.dalvik_defs.specs.Step.{setting_of}
 use Rattle.dalvik_defs.specs.declared.program.NamedProgram.{NamedProgram}
-use Rattle.dalvik_defs.specs.declared.tables.Floats.{Floats}
 use Rattle.dalvik_defs.specs.declared.tables.Framework.{Framework}
 use Rattle.invariant_law.specs.Invariant.{Invariant, both}
-use Rattle.invariant_law.proofs.Stacked.{KeptOver}
 use Rattle.pass_defs.specs.Analysis.{Analysis}
 use Rattle.pass_defs.specs.Facts.{Facts}
 use Rattle.run_facts.specs.Covered.{covering}
@@ -16,10 +12,6 @@ use Rattle.cover_law.specs.Known.{live_states, ranged_states}
 -- typed, with words of 32 bits
 abbrev pub word_states : NamedProgram → Framework → Outer → Invariant
 word_states p f o = both (typed_states p f o) ranged_states
-
--- each step, entry, answer and move that finds only what is live leaves it so
-abbrev pub KeepsLive : NamedProgram → Outer → Framework → Floats → Type 0
-KeepsLive p o f floats = KeptOver (setting_of p o f floats) (bodies_of p) (word_states p f o) (live_states p o)
 
 -- and covered by facts
 abbrev pub covered_states : {V : Type 0} → Analysis V → NamedProgram → Outer → Framework → Facts V → Invariant

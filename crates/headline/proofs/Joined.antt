@@ -1,11 +1,10 @@
 -- From what a run gives to what it shows.
 use Rattle.std.proofs.Common.{◌≡◌, ℕ, Bool, true, List, [], refl, ◌∙◌}
-use Rattle.program_model.specs.ProgramRules.{is_well_formed}
 use Rattle.program_model.specs.declared.pass.Outside.{Outside}
 use Rattle.program_model.specs.declared.program.Program.{Program}
 use Rattle.command_line.specs.declared.command.CommandWords.{CommandWords}
 use Rattle.command_line.specs.declared.command.CommandWords.TheVariants.{Nothing, Optimise, Check, Live, Trace, Workload}
-use Rattle.silence_bridge.proofs.Optimised.{optimised_shows, optimised_sound}
+use Rattle.silence_bridge.proofs.Optimised.{optimised_shows, optimised_sound, optimised_skips, optimised_dead}
 use Rattle.redex_outside.specs.Held.{Held}
 use Rattle.redex_cli.specs.Accepted.{IsAccepted}
 use Rattle.redex_cli.specs.Commands.{Commands}
@@ -17,14 +16,22 @@ use Rattle.headline.specs.Headline.{Headline, KeepsMeaning, Shrinks}
 unshut : (text : List ℕ) (p : Program) (o : Outside) → IsRuled text p o → o.shut ≡ []
 unshut text p o ruled = ruled.table.closes.shut ∙ ruled.table.unshut
 
-keeps : (p r : Program) (o : Outside) (rounds spared : ℕ) → is_well_formed p ≡ true → IsAccepted p → o.shut ≡ [] → Leaves p o r rounds spared → KeepsMeaning p o r
-keeps p r o rounds spared well accepted none leaves =
-    let graph = accepted.graph well in
+keeps : (p r : Program) (o : Outside) (rounds spared : ℕ) → IsAccepted p → o.shut ≡ [] → Leaves p o r rounds spared → KeepsMeaning p o r
+keeps p r o rounds spared accepted none leaves =
+    let well = accepted.formed in
+    let graph = accepted.graph in
     let done = leaves.optimised in record {
       admitted = done.admitted;
+      advisers = leaves.advisers;
+      before = leaves.before;
+      after = leaves.after;
+      spared = spared;
+      advised = done.advised;
       shown = optimised_shows p accepted.hierarchy well graph.resolved graph.acyclic graph.unsplit o accepted.types r leaves.origins leaves.advisers spared rounds leaves.before leaves.after done none;
       formed = (optimised_sound p accepted.hierarchy well graph.resolved graph.acyclic graph.unsplit o accepted.types r leaves.origins leaves.advisers spared rounds leaves.before leaves.after done).formed;
       typed = (optimised_sound p accepted.hierarchy well graph.resolved graph.acyclic graph.unsplit o accepted.types r leaves.origins leaves.advisers spared rounds leaves.before leaves.after done).typed;
+      squeezed = optimised_skips p accepted.hierarchy well graph.resolved graph.acyclic graph.unsplit o accepted.types r leaves.origins leaves.advisers spared rounds leaves.before leaves.after done;
+      cleaned = optimised_dead p accepted.hierarchy well graph.resolved graph.acyclic graph.unsplit o accepted.types r leaves.origins leaves.advisers spared rounds leaves.before leaves.after done;
     }
 
 shrinks : (rules file output summary : List ℕ) → Finished rules file output summary → Shrinks rules file output
@@ -35,7 +42,7 @@ shrinks rules file output summary f = record {
   ruled = f.ruled;
   left = f.shrunk.left;
   written = f.shrunk.written;
-  keeps = λ well. keeps f.program f.shrunk.left f.outside f.shrunk.rounds f.shrunk.spared well f.accepted (unshut rules f.program f.outside f.ruled) (f.shrunk.leaves well);
+  keeps = keeps f.program f.shrunk.left f.outside f.shrunk.rounds f.shrunk.spared f.accepted (unshut rules f.program f.outside f.ruled) f.shrunk.leaves;
 }
 
 of_command : (words : List (List ℕ)) (held : Held) (output summary : List ℕ) (command : CommandWords) → Commands words command

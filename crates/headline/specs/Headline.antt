@@ -10,6 +10,10 @@ use Rattle.program_model.specs.declared.pass.Outside.{Outside}
 use Rattle.program_model.specs.declared.program.Program.{Program}
 use Rattle.dex_read.specs.File.{program_at}
 use Rattle.dex_write.specs.Written.{IsWritten}
+use Rattle.dead_code.specs.Dead.{is_quiet_field}
+use Rattle.dead_code.specs.Wishes.{NoneDead}
+use Rattle.squeeze.specs.Needed.{NothingLeft}
+use Rattle.pipeline.specs.Advised.{IsAdvised}
 use Rattle.silence_bridge.specs.Admitted.{admitted_in}
 use Rattle.command_line.specs.declared.command.CommandWords.TheVariants.{Optimise}
 use Rattle.command_line.specs.declared.command.OptimiseWords.{OptimiseWords}
@@ -17,17 +21,26 @@ use Rattle.redex_outside.specs.Held.{Held}
 use Rattle.redex_cli.specs.Commands.{Commands}
 use Rattle.redex_cli.specs.Finished.{IsRuled}
 
--- What is left of a program shows what the program shows without its silent calls in some admitted methods, to every
--- framework, under every script and float table that fit, and is well-formed and typed.
+-- What is left of a program shows what the program shows without its silent calls in the admitted methods, to every
+-- framework, under every script and float table that fit, and is well-formed and typed. Some advisers were asked which methods
+-- may be rewritten: these are admitted. In their bodies, whose positions and regions 32 bits number, every position is reached, is no
+-- goto to the next one and no nop, but where the branch behind it goes to it, and none computes what nobody reads.
 pub record KeepsMeaning (program : Program) (outside : Outside) (left : Program) : Type 0 where
   pub admitted : List Bool
+  pub advisers : ℕ
+  pub before : List Bool
+  pub after : List Bool
+  pub spared : ℕ
+  pub advised : IsAdvised outside program advisers before after (record { admitted = admitted; spared = spared })
   pub shown : SameShown (silenced (named program) (outer_of program outside) (admitted_in program admitted)) (named left) (outer_of program outside)
   pub formed : is_well_formed left ≡ true
   pub typed : IsTyped (named left)
+  pub squeezed : NothingLeft admitted left
+  pub cleaned : NoneDead (is_quiet_field left) admitted left
 
 -- The file spells a program, the rules have a table for it, and the output is the file that is written for a program that
--- keeps its meaning where it is well-formed. Not said yet: how the table comes of the rules, that what is read is well-formed,
--- and that the written file spells that program and is valid.
+-- keeps its meaning. Not said yet: how the table comes of the rules, and that the written file spells that program and is
+-- valid.
 pub record Shrinks (rules file output : List ℕ) : Type 0 where
   pub program : Program
   pub reads : program_at file ≡ Ok program
@@ -35,7 +48,7 @@ pub record Shrinks (rules file output : List ℕ) : Type 0 where
   pub ruled : IsRuled rules program outside
   pub left : Program
   pub written : IsWritten left output
-  pub keeps : is_well_formed program ≡ true → KeepsMeaning program outside left
+  pub keeps : KeepsMeaning program outside left
 
 -- The words spell `optimise`, and the output is such a one of what the names hold.
 pub record Headline (words : List (List ℕ)) (held : Held) (output : List ℕ) : Type 0 where

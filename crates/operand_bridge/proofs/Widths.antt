@@ -42,7 +42,7 @@ letter_same : (t : Text) → is_wide t ≡ is_wide_letter (first_unit t)
 letter_same [] = refl
 letter_same (u ∷ us) = refl
 
-wide_same : (p : Program) (kind : ℕ) → is_wide (type_at p kind) ≡ is_wide_type p kind
+pub wide_same : (p : Program) (kind : ℕ) → is_wide (type_at p kind) ≡ is_wide_type p kind
 unfolding letter_of
 wide_same p kind = ap is_wide (type_same p kind) ∙ letter_same (type_text p kind)
 

@@ -1,3 +1,4 @@
+mod Apart
 pub mod Renaming
 pub mod Reading
 pub mod Held

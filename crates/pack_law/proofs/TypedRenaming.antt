@@ -33,7 +33,8 @@ use Rattle.form_law.proofs.Asking.{allowed_held}
 use Rattle.form_law.proofs.Typings.{allowed_at, right_at}
 use Rattle.form_law.proofs.Asked.{any_front, any_back, pair_written}
 use Rattle.pack_law.proofs.Stepping.{Before, After, stepped, map_long}
-use Rattle.pack_law.proofs.Arriving.{onward_arrives, catch_arrives, caught_catches, At, first_below, catch_caught, live_onward, live_caught, live_read, names_apart, goes_on, goes_caught}
+use Rattle.pack_law.proofs.Apart.{all_apart, apart_all, all_are_apart}
+use Rattle.pack_law.proofs.Arriving.{onward_arrives, catch_arrives, At, first_below, catch_caught, live_onward, live_caught, live_read, names_apart, goes_on, goes_caught}
 use Rattle.pack_law.proofs.Reading.{reads_some}
 
 four : (w x y z : Bool) → (w && x && y && z) ≡ true → (w ≡ true) × ((x ≡ true) × ((y ≡ true) × (z ≡ true)))
@@ -106,31 +107,41 @@ module _ (p : NamedProgram) (c : NamedClass) (m : NamedMethod) (b d : NamedBody)
   abbrev size : ℕ
   size = (d.registers - d.ins) + d.ins
 
+  -- the positions whose kinds are told apart
+  abbrev apart : ℕ → Bool
+  apart n = all_apart new (live n) ((b.registers - b.ins) + b.ins) (state_at t n)
+
   abbrev renewed : ℕ → Kinds → Kinds
   renewed n a = renamed_kinds new (live n) size a
 
-  abbrev table : Table
-  table = renamed_from new live h.marks.reached size 0 t
+  abbrev pub table : Table
+  table = renamed_from new live apart size 0 t
 
   abbrev state_if : Bool → ℕ → Option Kinds → Option Kinds
   state_if b n o = if b then option_map (renewed n) o else None
 
-  table_from : (t : Table) (k i : ℕ) → state_at (renamed_from new live h.marks.reached size k t) i ≡ state_if (h.marks.reached (k + i)) (k + i) (state_at t i)
-  table_from [] k i = by (h.marks.reached (k + i))
+  table_from : (t : Table) (k i : ℕ) → state_at (renamed_from new live apart size k t) i ≡ state_if (apart (k + i)) (k + i) (state_at t i)
+  table_from [] k i = by (apart (k + i))
     where
       by : (v : Bool) → None ≡ state_if v (k + i) None
       by true = refl
       by false = refl
-  table_from (o ∷ t) k zero = ap (λ j. state_if (h.marks.reached j) j o) (omega arith)
-  table_from (o ∷ t) k (suc i) = table_from t (k + 1) i ∙ ap (λ j. state_if (h.marks.reached j) j (state_at t i)) (omega arith)
+  table_from (o ∷ t) k zero = ap (λ j. state_if (apart j) j o) (omega arith)
+  table_from (o ∷ t) k (suc i) = table_from t (k + 1) i ∙ ap (λ j. state_if (apart j) j (state_at t i)) (omega arith)
 
-  table_at : (n : ℕ) → state_at table n ≡ state_if (h.marks.reached n) n (state_at t n)
-  table_at n = table_from t 0 n ∙ ap (λ j. state_if (h.marks.reached j) j (state_at t n)) (omega arith)
+  table_at : (n : ℕ) → state_at table n ≡ state_if (apart n) n (state_at t n)
+  table_at n = table_from t 0 n ∙ ap (λ j. state_if (apart j) j (state_at t n)) (omega arith)
 
-  there_at : (n : ℕ) (a : Kinds) → IsReached b n → state_at t n ≡ Some a → state_at table n ≡ Some (renewed n a)
-  there_at n a r e = table_at n ∙ ap₂ (λ v o. state_if v n o) ((h.marks.is_reached n).1 r) e
+  apart_of : (n : ℕ) (a : Kinds) → At p c m b d h n a → state_at t n ≡ Some a → apart n ≡ true
+  apart_of n a at e = ap (all_apart new (live n) ((b.registers - b.ins) + b.ins)) e ∙ apart_all new (live n) ((b.registers - b.ins) + b.ins) a at.long at.unique
 
-  long_table : (t : Table) (k : ℕ) → length (renamed_from new live h.marks.reached size k t) ≡ length t
+  at_of : (n : ℕ) (a : Kinds) → apart n ≡ true → state_at t n ≡ Some a → At p c m b d h n a
+  at_of n a v e = let r = all_are_apart new (live n) ((b.registers - b.ins) + b.ins) a (sym (ap (all_apart new (live n) ((b.registers - b.ins) + b.ins)) e) ∙ v) in record { long = r.0; unique = r.1 }
+
+  there_at : (n : ℕ) (a : Kinds) → At p c m b d h n a → state_at t n ≡ Some a → state_at table n ≡ Some (renewed n a)
+  there_at n a at e = table_at n ∙ ap₂ (λ v o. state_if v n o) (apart_of n a at e) e
+
+  long_table : (t : Table) (k : ℕ) → length (renamed_from new live apart size k t) ≡ length t
   long_table [] k = refl
   long_table (o ∷ t) k = ap suc (long_table t (k + 1))
 
@@ -184,34 +195,6 @@ module _ (p : NamedProgram) (c : NamedClass) (m : NamedMethod) (b d : NamedBody)
     behind : (q : ℕ) → In q (onward f n) → After p c m n new a (renewed n a) (live n) (live q) f
     behind q i = stepped p c m n new a (renewed n a) (live n) (live q) f (before q i)
 
-    -- ---- walks
-
-    onward_at : (q : ℕ) → In q (onward f n) → (l : Kinds) × ((state_at t q ≡ Some l) × At p c m b d h q l)
-    onward_at q i = let r = onward_arrives p c m b t h.typing n f a x y q i in (r.0, (r.1.0, goes_on p c m b d h n f a x y at (behind q i).long q r.0 i r.1.1))
-
-    caught_at : (q : ℕ) → In q (caught b f n) → (l : Kinds) × ((state_at t q ≡ Some l) × At p c m b d h q l)
-    caught_at q i =
-        let k = caught_catches p c m b t h.typing n f a x y q i in
-        let r = catch_arrives p c m b t h.typing n f a x y q k.0 k.1 in
-        (r.0, (r.1.0, goes_caught p c m b d h n f a x y at q r.0 k.0 i r.1.1))
-
-    next_at : (q : ℕ) → Contains (onward f n ++ caught b f n) q → (l : Kinds) × ((state_at t q ≡ Some l) × At p c m b d h q l)
-    next_at q i = elim (split_in q (onward f n) (caught b f n) (in_contains q (onward f n ++ caught b f n) i)) [ inl j ↦ onward_at q j | inr j ↦ caught_at q j ]
-
-  abbrev State_at : ℕ → Type 0
-  State_at n = (a : Kinds) × ((state_at t n ≡ Some a) × At p c m b d h n a)
-
-  none_contains : (q : ℕ) {A : Type 0} → Contains [] q → A
-  none_contains q i = elim (in_contains q [] i) [ ]
-
-  along : (k n : ℕ) → Walk (successors b) k n → State_at k → State_at n
-  along k n (Walk.Stays j) s = s
-  along k n (Walk.Goes j q l i w) s = along q n w (step (form_at b k) refl i s)
-    where
-      step : (o : Option Form) → form_at b k ≡ o → Contains (elim o as (λ o. List ℕ) [ Some f ↦ onward f k ++ caught b f k | None ↦ [] ]) q → State_at k → State_at q
-      step None e i s = none_contains q i
-      step (Some f) e i s = next_at k f s.0 e s.1.0 s.1.1 q i
-
   -- ---- the entry
 
   abbrev first : Kinds
@@ -255,30 +238,18 @@ module _ (p : NamedProgram) (c : NamedClass) (m : NamedMethod) (b d : NamedBody)
       by None i e = clash false e refl
       by (Some a) i e = (a, (i, e))
 
-  begins : State_at 0
-  begins = (
-    entered.0,
-    (
-      entered.1.0,
-      record {
-        long = as_long p first.registers entered.0.registers (first_below p first entered.0 entered.1.1) ∙ long_first;
-        unique = λ o q lo lq ko kq e.
-            let r = argument o lo (was o ko) in let s = argument q lq (was q kq) in
-            let y = r.1.1 in let z = s.1.1 in
-            let same : r.0 ≡ s.0 = omega (arith, y, z, e) in
-            r.1.0 ∙ ap (λ i. locals b + i) same ∙ sym s.1.0;
-      },
-    ),
-  )
+  begins : At p c m b d h 0 entered.0
+  begins = record {
+    long = as_long p first.registers entered.0.registers (first_below p first entered.0 entered.1.1) ∙ long_first;
+    unique = λ o q lo lq ko kq e.
+        let r = argument o lo (was o ko) in let s = argument q lq (was q kq) in
+        let y = r.1.1 in let z = s.1.1 in
+        let same : r.0 ≡ s.0 = omega (arith, y, z, e) in
+        r.1.0 ∙ ap (λ i. locals b + i) same ∙ sym s.1.0;
+  }
     where
       was : (o : ℕ) → is_known (kind_at entered.0.registers o) ≡ true → is_known (kind_at first.registers o) ≡ true
       was o k = known_above p (kind_at first.registers o) (kind_at entered.0.registers o) (each_below p first.registers entered.0.registers o (first_below p first entered.0 entered.1.1)) k
-
-  state_of : (n : ℕ) → IsReached b n → State_at n
-  state_of n w = along 0 n w begins
-
-  at_state_of : (n : ℕ) (a : Kinds) → IsReached b n → state_at t n ≡ Some a → At p c m b d h n a
-  at_state_of n a w e = let s = state_of n w in subst (At p c m b d h n) (some_same s.0 a (sym s.1.0 ∙ e)) s.1.1
 
   -- ---- kinds that arrive
 
@@ -292,27 +263,21 @@ module _ (p : NamedProgram) (c : NamedClass) (m : NamedMethod) (b d : NamedBody)
       (ap (λ x. is_below p x l.caught) s ∙ parts.1.1.0)
       (ap (λ x. is_below p x l.receiver) u ∙ parts.1.1.1)
 
-  arrives_at : (q : ℕ) (k' l : Kinds) → IsReached b q → state_at t q ≡ Some l → kinds_below p k' (renewed q l) ≡ true → arrives p table (q, k') ≡ true
+  arrives_at : (q : ℕ) (k' l : Kinds) → At p c m b d h q l → state_at t q ≡ Some l → kinds_below p k' (renewed q l) ≡ true → arrives p table (q, k') ≡ true
   arrives_at q k' l w e below = ap (state_below p (Some k')) (there_at q l w e) ∙ below
 
-  module _ (n : ℕ) (f : Form) (a : Kinds) (x : form_at b n ≡ Some f) (y : state_at t n ≡ Some a) (w : IsReached b n) where
-    at : At p c m b d h n a
-    at = at_state_of n a w y
-
-    reached_next : (q : ℕ) → In q (onward f n ++ caught b f n) → IsReached b q
-    reached_next q i = walk_on (successors b) 0 n q w (contained q (successors b n) (subst (λ o. In q (elim o as (λ o. List ℕ) [ Some f ↦ onward f n ++ caught b f n | None ↦ [] ])) (sym x) i))
-
+  module _ (n : ℕ) (f : Form) (a : Kinds) (x : form_at b n ≡ Some f) (y : state_at t n ≡ Some a) (at : At p c m b d h n a) where
     onward_renewed : (q : ℕ) → In q (onward f n) → arrives p table (q, after p c n (named new f) (renewed n a)) ≡ true
     onward_renewed q i =
         let r = onward_arrives p c m b t h.typing n f a x y q i in
         let s = behind n f a x y at q i in
-        arrives_at q (after p c n (named new f) (renewed n a)) r.0 (reached_next q (in_front q (onward f n) (caught b f n) i)) r.1.0
+        arrives_at q (after p c n (named new f) (renewed n a)) r.0 (goes_on p c m b d h n f a x y at s.long q r.0 i r.1.1) r.1.0
         (below_renewed q (after p c n f a) (after p c n (named new f) (renewed n a)) r.0 s.held s.result s.caught s.receiver (s.long' ∙ listed_long size 0 (selected new (live n) a.registers)) r.1.1)
 
     caught_renewed : (q : ℕ) (k : Kind) → In {A = ℕ × Kind} (q, k) (catches p b n f) → In q (caught b f n) → arrives p table (q, record (renewed n a) { caught = k }) ≡ true
     caught_renewed q k i j =
         let r = catch_arrives p c m b t h.typing n f a x y q k i in
-        arrives_at q (record (renewed n a) { caught = k }) r.0 (reached_next q (in_back q (onward f n) (caught b f n) j)) r.1.0
+        arrives_at q (record (renewed n a) { caught = k }) r.0 (goes_caught p c m b d h n f a x y at q r.0 k j r.1.1) r.1.0
         (below_renewed q (record a { caught = k }) (record (renewed n a) { caught = k }) r.0 (fewer new (live n) (live q) a.registers (renewed n a).registers (held_at n a at) (λ o l. live_caught p c m b d h n q o f x j l))
         refl refl refl (listed_long size 0 (selected new (live n) a.registers)) r.1.1)
 
@@ -334,24 +299,24 @@ module _ (p : NamedProgram) (c : NamedClass) (m : NamedMethod) (b d : NamedBody)
 
   -- ---- the typing
 
-  each_state : (test : ℕ → Form → Kinds → Bool) → ((n : ℕ) (f : Form) (a : Kinds) → form_at b n ≡ Some f → state_at t n ≡ Some a → IsReached b n → test n (named new f) (renewed n a) ≡ true)
+  each_state : (test : ℕ → Form → Kinds → Bool) → ((n : ℕ) (f : Form) (a : Kinds) → form_at b n ≡ Some f → state_at t n ≡ Some a → At p c m b d h n a → test n (named new f) (renewed n a) ≡ true)
       → (n : ℕ) → at_state d table (test n) n ≡ true
   each_state test k n = at_form (form_at b n) refl
     where
-      at_kinds : (f : Form) → form_at b n ≡ Some f → (v : Bool) → h.marks.reached n ≡ v → (o : Option Kinds) → state_at t n ≡ o → (elim (state_if v n o) as (λ s. Bool) [ Some a ↦ test n (named new f) a | None ↦ true ]) ≡ true
+      at_kinds : (f : Form) → form_at b n ≡ Some f → (v : Bool) → apart n ≡ v → (o : Option Kinds) → state_at t n ≡ o → (elim (state_if v n o) as (λ s. Bool) [ Some a ↦ test n (named new f) a | None ↦ true ]) ≡ true
       at_kinds f x false i o e = refl
       at_kinds f x true i None e = refl
-      at_kinds f x true i (Some a) e = k n f a x e ((h.marks.is_reached n).0 i)
+      at_kinds f x true i (Some a) e = k n f a x e (at_of n a i e)
 
       at_form : (o : Option Form) → form_at b n ≡ o → at_state d table (test n) n ≡ true
       at_form None x = ap (λ o. elim o as (λ o. Bool) [ Some f ↦ elim (state_at table n) as (λ s. Bool) [ Some a ↦ test n f a | None ↦ true ] | None ↦ true ]) (form_there n ∙ ap (option_map (named new)) x)
       at_form (Some f) x = ap (λ o. elim o as (λ o. Bool) [ Some f ↦ elim (state_at table n) as (λ s. Bool) [ Some a ↦ test n f a | None ↦ true ] | None ↦ true ]) (form_there n ∙ ap (option_map (named new)) x)
-          ∙ ap (λ s. elim s as (λ s. Bool) [ Some a ↦ test n (named new f) a | None ↦ true ]) (table_at n) ∙ at_kinds f x (h.marks.reached n) refl (state_at t n) refl
+          ∙ ap (λ s. elim s as (λ s. Bool) [ Some a ↦ test n (named new f) a | None ↦ true ]) (table_at n) ∙ at_kinds f x (apart n) refl (state_at t n) refl
 
   pub typed_renamed : IsTyping p c m d table
   typed_renamed = record {
     long = long_table t 0 ∙ h.typing.long ∙ sym (ap length h.renamed.forms ∙ map_long (named new) b.forms);
-    entry = ap (state_below p (Some first')) (there_at 0 entered.0 (Walk.Stays 0) entered.1.0) ∙ below_renewed 0 first first' entered.0 held_first refl refl refl long_first' entered.1.1;
+    entry = ap (state_below p (Some first')) (there_at 0 entered.0 begins entered.1.0) ∙ below_renewed 0 first first' entered.0 held_first refl refl refl long_first' entered.1.1;
     reads = all_each (length d.forms) (at_state d table (λ f a. is_allowed p c m a f)) (each_state (λ n f a. is_allowed p c m a f) reads_allowed);
     right = all_each (length d.forms) (at_state d table (λ f a. not (is_wrong p c m a f))) (each_state (λ n f a. not (is_wrong p c m a f)) is_right);
     edges = all_each (length d.forms) (λ n. at_state d table (λ f a. list_all (arrives p table) (edges p c d n f a)) n) (each_state (λ n f a. list_all (arrives p table) (edges p c d n f a)) all_arrive);
@@ -362,4 +327,4 @@ renamed_typed p new all = moved_typed new all.code p (λ c m d i j e. at c m d i
   where
     at : (c : NamedClass) (m : NamedMethod) (d : NamedBody) → Contains p.classes c → Contains c.methods m → (new c m).body ≡ Some d → (o : Option NamedBody) → m.body ≡ o → (t : Table) × IsTyping p c m d t
     at c m d i j e None x = clash true refl (sym (ap is_some e) ∙ all.code c m ∙ ap is_some x)
-    at c m d i j e (Some b) x = let h = all.bodies c m b d i j x e in (renamed_from h.new h.marks.live h.marks.reached ((d.registers - d.ins) + d.ins) 0 h.table, typed_renamed p c m b d h)
+    at c m d i j e (Some b) x = let h = all.bodies c m b d i j x e in (table p c m b d h, typed_renamed p c m b d h)

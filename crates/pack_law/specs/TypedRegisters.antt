@@ -1,5 +1,5 @@
--- A typing of a body with other registers: at each position that is reached, each register has the kind of the one that it
--- stands for and that is read later.
+-- A typing of a body with other registers: at each position where registers that are read later and known have numbers of their
+-- own, each register has the kind of the one that it stands for.
 use Rattle.std.specs.Prelude.{◌≡◌, ◌↔◌, ℕ, zero, suc, ◌+◌, ◌-◌, Bool, true, false, ◌&&◌, ◌||◌, if◌then◌else◌, nat_eq, List, [], ◌∷◌, length, Option, Some, None, Contains}
 use Rattle.std.specs.Option.{option_map}
 use Rattle.dalvik_defs.specs.Names.{is_wide}
@@ -8,7 +8,7 @@ use Rattle.dalvik_defs.specs.declared.program.NamedBody.{NamedBody}
 use Rattle.dalvik_defs.specs.declared.program.NamedMethod.{NamedMethod}
 use Rattle.dalvik_defs.specs.declared.program.NamedClass.{NamedClass}
 use Rattle.dalvik_defs.specs.declared.program.NamedProgram.{NamedProgram}
-use Rattle.pass_defs.specs.Walks.{form_at, IsReached, IsRead}
+use Rattle.pass_defs.specs.Walks.{form_at, IsRead}
 use Rattle.pass_defs.specs.Kinds.{Kind, Undefined, Low, High, kind_eq}
 use Rattle.pass_defs.specs.Registers.{Kinds, kind_at}
 use Rattle.pass_defs.specs.Typed.{argument_kinds, Table, IsTyping}
@@ -17,12 +17,10 @@ use Rattle.place_law.specs.Solid.{IsSolid}
 use Rattle.silence_law.specs.Bodies.{Change, KeepsCode}
 use Rattle.pack_law.specs.Renamed.{IsRenamed}
 
--- which registers are read at a position or later before they are written, and which positions a walk comes to, as tests
+-- which registers are read at a position or later before they are written, as a test
 pub record Marks (b : NamedBody) : Type 0 where
   pub live : ℕ → ℕ → Bool
   pub is_live : (n r : ℕ) → (live n r ≡ true) ↔ IsRead b r n
-  pub reached : ℕ → Bool
-  pub is_reached : (n : ℕ) → (reached n ≡ true) ↔ IsReached b n
 
 -- ---- the table
 
@@ -56,10 +54,10 @@ listed (suc k) at kind = kind at ∷ listed k (at + 1) kind
 abbrev pub renamed_kinds : (ℕ → ℕ) → (ℕ → Bool) → ℕ → Kinds → Kinds
 renamed_kinds new live size a = record a { registers = listed size 0 (selected new live a.registers) }
 
--- from a position on
+-- from a position on, with kinds where they are told apart
 abbrev pub renamed_from : (ℕ → ℕ) → (ℕ → ℕ → Bool) → (ℕ → Bool) → ℕ → ℕ → Table → Table
-renamed_from new live reached size n [] = []
-renamed_from new live reached size n (o ∷ t) = (if reached n then option_map (renamed_kinds new (live n) size) o else None) ∷ renamed_from new live reached size (n + 1) t
+renamed_from new live apart size n [] = []
+renamed_from new live apart size n (o ∷ t) = (if apart n then option_map (renamed_kinds new (live n) size) o else None) ∷ renamed_from new live apart size (n + 1) t
 
 -- ---- what is asked
 

@@ -15,7 +15,7 @@ short_fields : (p : Program) → tables_are_short p ≡ true → length p.fields
 unfolding tables_are_short
 short_fields p h =
     let names = and_parts (nat_le (length p.types) 65535 && nat_le (length p.protos) 65535) (nat_le (length p.fields) 65536 && nat_le (length p.methods) 65536)
-        (and_parts (nat_lt (length p.strings) (2 ^ 32) && nat_lt (length p.classes) (2 ^ 32)) ((nat_le (length p.types) 65535 && nat_le (length p.protos) 65535) && (nat_le (length p.fields) 65536 && nat_le (length p.methods) 65536)) h).1 in
+    (and_parts (nat_lt (length p.strings) (2 ^ 32) && nat_lt (length p.classes) (2 ^ 32)) ((nat_le (length p.types) 65535 && nat_le (length p.protos) 65535) && (nat_le (length p.fields) 65536 && nat_le (length p.methods) 65536)) h).1 in
     let few : length p.fields ≤ 65536 = leb-true (length p.fields) 65536 (and_parts (nat_le (length p.fields) 65536) (nat_le (length p.methods) 65536) names.1).0 in
     omega (arith, few)
 

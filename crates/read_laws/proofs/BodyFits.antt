@@ -1,4 +1,4 @@
--- A body that was read is one that a program may have, where its instructions have spellings.
+-- A body that was read is one that a program may have.
 use Rattle.std.proofs.Common.{◌≡◌, ℕ, ◌<◌, ◌-◌, true, List, length}
 use Rattle.std.specs.Prelude.{◌&&◌, ◌^◌, slice_get, Some, Ok}
 use Rattle.std.specs.List.{list_all, enumerate_from}
@@ -12,15 +12,17 @@ use Rattle.program_model.specs.declared.body.Body.{Body}
 use Rattle.program_model.specs.declared.program.Program.{Program}
 use Rattle.code_read.specs.declared.sizes.Sizes.{Sizes}
 use Rattle.code_read.specs.Sweep.{Places, sweep_of}
-use Rattle.read_laws.specs.Tables.{AreSizes}
+use Rattle.read_laws.specs.Tables.{AreWithin}
 use Rattle.read_laws.proofs.BodyLists.{and_both, each, item_of, all_each}
 use Rattle.read_laws.proofs.BodyParts.{Parts}
 use Rattle.read_laws.proofs.BodyLaws.{body_ends, body_begins, body_follows, body_targets, body_catches, body_operands, body_regions, body_leaves}
+use Rattle.read_laws.proofs.FieldBounds.{AreUnits}
+use Rattle.read_laws.proofs.SpelledTables.{all_spelled}
 
-pub fits : {tries : List ℕ} {sizes : Sizes} {places : Places} {b : Body} (parts : Parts tries sizes places b) (p : Program) → AreSizes p sizes → (units : List ℕ) → sweep_of units ≡ Ok places → length units < 2 ^ 32
-    → list_all is_encodable b.insns ≡ true → body_fits p b ≡ true
+pub fits : {tries : List ℕ} {sizes : Sizes} {places : Places} {b : Body} (parts : Parts tries sizes places b) (p : Program) → AreWithin p sizes → (units : List ℕ) → AreUnits units → sweep_of units ≡ Ok places → length units < 2 ^ 32 → body_fits p b ≡ true
 unfolding body_fits insn_fits
-fits {b = b} parts p is units swept few spelled =
+fits {sizes = sizes} {places = places} {b = b} parts p is units are swept few =
+    let spelled : list_all is_encodable b.insns ≡ true = all_spelled units places sizes b.insns are swept parts.payloads parts.insns in
     let one : (k : ℕ) (i : Insn) → slice_get b.insns k ≡ Some i → insn_fits p b (k, i) ≡ true = λ k i e.
     and_both (is_encodable i && (registers_fit i b.registers && numbers_fit i p)) (targets_fit b.insns i && (leaves k i && is_caught b.regions k i))
     (and_both (is_encodable i) (registers_fit i b.registers && numbers_fit i p) (item_of is_encodable b.insns spelled k i e)

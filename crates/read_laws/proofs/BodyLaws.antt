@@ -14,7 +14,7 @@ use Rattle.code_read.specs.declared.sizes.Sizes.{Sizes}
 use Rattle.code_read.specs.Sweep.{Places, sweep_of}
 use Rattle.program_model.specs.OperandRules.{registers_fit, numbers_fit}
 use Rattle.program_model.specs.declared.program.Program.{Program}
-use Rattle.read_laws.specs.Tables.{AreSizes}
+use Rattle.read_laws.specs.Tables.{AreWithin}
 use Rattle.read_laws.proofs.BodyLists.{clash, all_each, all_items, all_by, item_of}
 use Rattle.read_laws.proofs.BodyParts.{Parts}
 use Rattle.read_laws.proofs.Caught.{all_right}
@@ -49,11 +49,11 @@ module _ {tries : List ℕ} {sizes : Sizes} {places : Places} {b : Body} (parts 
   pub body_catches : list_all (λ (at : ℕ × Insn). rule.is_caught b.regions at.0 at.1) (enumerate_from 0 b.insns) ≡ true
   body_catches = all_each (λ (at : ℕ × Insn). rule.is_caught b.regions at.0 at.1) b.insns (all_caught b.insns b.regions parts.placed)
 
-  pub body_operands : (p : Program) → AreSizes p sizes → list_all (λ (insn : Insn). registers_fit insn b.registers && numbers_fit insn p) b.insns ≡ true
+  pub body_operands : (p : Program) → AreWithin p sizes → list_all (λ (insn : Insn). registers_fit insn b.registers && numbers_fit insn p) b.insns ≡ true
   body_operands p is = subst (λ (n : ℕ). list_all (λ (insn : Insn). registers_fit insn n && numbers_fit insn p) b.insns ≡ true) (sym parts.registers)
       (all_by (operands_inside sizes) (λ (insn : Insn). registers_fit insn sizes.registers && numbers_fit insn p) (operands_fit p sizes is) b.insns (each_inside places sizes b.insns parts.insns))
 
-  pub body_regions : (p : Program) → AreSizes p sizes → region.regions_fit p b.insns b.regions ≡ true
+  pub body_regions : (p : Program) → AreWithin p sizes → region.regions_fit p b.insns b.regions ≡ true
   body_regions p is = regions_fit p sizes is b.insns b.regions places.starts
       (as_many places sizes places.starts b.insns ((are_read places sizes places.starts).found b.insns parts.insns)) parts.placed (all_right tries sizes places b.regions parts.regions)
 

@@ -16,6 +16,7 @@ use Rattle.code_read.specs.Regions.{regions_of}
 use Rattle.code_read.specs.Sweep.{Places, sweep_of}
 use Rattle.code_read.proofs.First.{none_fails, placed_all}
 use Rattle.read_laws.proofs.BodyLists.{Found, weaker, done, failed, as_read, when, next}
+use Rattle.read_laws.proofs.Operands.{are_read, as_many}
 
 pub record Parts (tries : List ℕ) (sizes : Sizes) (places : Places) (b : Body) : Type 0 where
   pub payloads : check_payloads places 67108864 places.starts ≡ Ok tt
@@ -69,16 +70,20 @@ parts_at tries sizes places = weaker (body_at tries sizes places)
     }))
 
 -- the parts, and the places of the units
-pub record Whole (units tries : List ℕ) (sizes : Sizes) (b : Body) : Type 0 where
+pub record Whole (units tries : List ℕ) (sizes : Sizes) (b : Body) (starts : List ℕ) : Type 0 where
   pub places : Places
   pub swept : sweep_of units ≡ Ok places
   pub parts : Parts tries sizes places b
+  pub as_many : length b.insns ≡ length starts
 
-founds_whole : (units tries : List ℕ) (sizes : Sizes) → Found (λ read. Whole units tries sizes read.0) (code_of units tries sizes)
+of_starts : (tries : List ℕ) (sizes : Sizes) (places : Places) (b : Body) → Parts tries sizes places b → length b.insns ≡ length places.starts
+of_starts tries sizes places b parts = sym (as_many places sizes places.starts b.insns ((are_read places sizes places.starts).found b.insns parts.insns))
+
+founds_whole : (units tries : List ℕ) (sizes : Sizes) → Found (λ read. Whole units tries sizes read.0 read.1) (code_of units tries sizes)
 unfolding code_of
 founds_whole units tries sizes = weaker (code_of units tries sizes)
     (next (as_read (sweep_of units)) (λ places _. next (parts_at tries sizes places) (λ b _. done (b, places.starts))))
-    (λ y p. subst (λ (read : Body × List ℕ). Whole units tries sizes read.0) p.2.2 (record { places = p.0; swept = p.1; parts = p.2.1 }))
+    (λ y p. subst (λ (read : Body × List ℕ). Whole units tries sizes read.0 read.1) p.2.2 (record { places = p.0; swept = p.1; parts = p.2.1; as_many = of_starts tries sizes p.0 p.2.0 p.2.1 }))
 
-pub whole_of : (units tries : List ℕ) (sizes : Sizes) (b : Body) (starts : List ℕ) → code_of units tries sizes ≡ Ok (b, starts) → Whole units tries sizes b
+pub whole_of : (units tries : List ℕ) (sizes : Sizes) (b : Body) (starts : List ℕ) → code_of units tries sizes ≡ Ok (b, starts) → Whole units tries sizes b starts
 whole_of units tries sizes b starts h = (founds_whole units tries sizes).found (b, starts) h

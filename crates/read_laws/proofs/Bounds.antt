@@ -25,14 +25,14 @@ use Rattle.dex_read.proofs.Rising.{then_ok}
 abbrev pub AreBytes : List ℕ → Type 0
 AreBytes bytes = (i : ℕ) → slice_index bytes i < 256
 
-taken : (n : ℕ) (bytes : List ℕ) → AreBytes bytes → AreBytes (take n bytes)
+pub taken : (n : ℕ) (bytes : List ℕ) → AreBytes bytes → AreBytes (take n bytes)
 taken zero [] h i = omega arith
 taken zero (b ∷ bytes) h i = omega arith
 taken (suc n) [] h i = omega arith
 taken (suc n) (b ∷ bytes) h zero = h 0
 taken (suc n) (b ∷ bytes) h (suc i) = taken n bytes (λ k. h (suc k)) i
 
-dropped : (n : ℕ) (bytes : List ℕ) → AreBytes bytes → AreBytes (drop n bytes)
+pub dropped : (n : ℕ) (bytes : List ℕ) → AreBytes bytes → AreBytes (drop n bytes)
 dropped zero bytes h i = h i
 dropped (suc n) [] h i = omega arith
 dropped (suc n) (b ∷ bytes) h i = dropped n bytes (λ k. h (suc k)) i
@@ -66,7 +66,7 @@ table_length bytes p count offset left r h =
     chosen (eqb count 0) count left (need_at bytes offset (32 * count) >>= λ whole. read) r (eqb-true count 0)
     (λ e. run_length (class_in bytes p offset) 0 count left r (then_ok (need_at bytes offset (32 * count)) (λ whole. read) r e).2) h
 
-word_is : (bytes : List ℕ) (at n : ℕ) → word_at bytes at ≡ Ok n → Is32 bytes at n
+pub word_is : (bytes : List ℕ) (at n : ℕ) → word_at bytes at ≡ Ok n → Is32 bytes at n
 word_is bytes at n h = (raised of_base (u32_at bytes at) (finds (u32_at bytes at) (is_32 bytes at))).found n h
 
 pub few_classes : (bytes : List ℕ) (p : Program) (left : Budget) (classes : List Class) → AreBytes bytes → classes_at bytes p left ≡ Ok classes → length classes < 2 ^ 32

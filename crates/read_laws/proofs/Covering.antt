@@ -13,8 +13,9 @@ use Rattle.code_read.specs.Marks.{is_rest, catches_at, is_handler}
 use Rattle.code_read.specs.Order.{all_placed}
 use Rattle.code_read.specs.Regions as read
 use Rattle.code_read.specs.declared.sizes.Sizes.{Sizes}
-use Rattle.read_laws.specs.Tables.{AreSizes}
+use Rattle.read_laws.specs.Tables.{AreWithin}
 use Rattle.read_laws.proofs.BodyLists.{and_left, and_right, and_both, some_same, none_some, item_of, all_items}
+use Rattle.read_laws.proofs.Operands.{below_more}
 use Rattle.read_laws.proofs.Standing.{any_of, same_number, handler_begins}
 use Rattle.read_laws.proofs.Caught.{Right, AllRight}
 
@@ -38,7 +39,7 @@ right_at starts types from [] h j r e = none_some r e
 right_at starts types from (s ∷ rs) h zero r e = (from, subst (Right starts types from) (some_same s r e) h.0)
 right_at starts types from (s ∷ rs) h (suc j) r e = right_at starts types s.end rs h.1 j r e
 
-module _ (p : Program) (sizes : Sizes) (is : AreSizes p sizes) (insns : List Insn) (regions : List Region) (starts : List ℕ)
+module _ (p : Program) (sizes : Sizes) (is : AreWithin p sizes) (insns : List Insn) (regions : List Region) (starts : List ℕ)
     (as_many : length starts ≡ length insns) (placed : all_placed insns regions ≡ true) (right : AllRight starts sizes.types 0 regions) where
   -- ---- where a region goes on
 
@@ -57,7 +58,7 @@ module _ (p : Program) (sizes : Sizes) (is : AreSizes p sizes) (insns : List Ins
   handlers_fit j r e inside = all_items (rule.handler_fits p insns) r.handlers (λ m h d.
       let one : (nat_lt h.kind sizes.types && nat_lt h.position (length starts)) ≡ true = item_of (read.handler_inside sizes.types (length starts)) r.handlers inside m h d in
       and_both (nat_lt h.kind (length p.types)) (rule.may_begin (slice_get insns h.position))
-      (subst (λ (n : ℕ). nat_lt h.kind n ≡ true) is.types (and_left (nat_lt h.kind sizes.types) (nat_lt h.position (length starts)) one))
+      (below_more h.kind sizes.types (length p.types) is.types (and_left (nat_lt h.kind sizes.types) (nat_lt h.position (length starts)) one))
       (begins h.position (and_right (nat_lt h.kind sizes.types) (nat_lt h.position (length starts)) one) (has_handler j r e m h d)))
 
   rest_fits : (o : Option ℕ) → read.rest_inside (length starts) o ≡ true → ((k : ℕ) → o ≡ Some k → is_handler regions k ≡ true) → rule.rest_fits insns o ≡ true

@@ -1,5 +1,6 @@
 -- The registers and the numbers of the instructions that were read are in range.
-use Rattle.std.proofs.Common.{◌≡◌, ℕ, zero, suc, Bool, true, false, List, [], ◌∷◌, length, refl, sym, ap, subst, ◌∙◌}
+use Rattle.std.proofs.Common.{◌≡◌, ℕ, zero, suc, ◌≤◌, Bool, true, false, List, [], ◌∷◌, length, refl, sym, ap, subst, ◌∙◌, arith}
+use Rattle.std.proofs.lemmas.Bool.{ltb-true, lt-ltb}
 use Rattle.std.specs.Prelude.{◌&&◌, nat_lt, slice_get, Some, Ok}
 use Rattle.std.specs.List.{list_all}
 use Rattle.insn_set.specs.declared.form.Insn.{Insn}
@@ -11,10 +12,10 @@ use Rattle.code_read.specs.declared.sizes.Sizes.{Sizes}
 use Rattle.code_read.specs.Checks as read
 use Rattle.code_read.specs.Decoded.{insn_at, checked_at, insns_from, insns_of}
 use Rattle.code_read.specs.Sweep.{Places}
-use Rattle.read_laws.specs.Tables.{AreSizes}
-use Rattle.read_laws.proofs.BodyLists.{and_both, some_same, none_some, Found, weaker, done, as_read, when, next}
+use Rattle.read_laws.specs.Tables.{AreWithin}
+use Rattle.read_laws.proofs.BodyLists.{and_left, and_right, and_both, some_same, none_some, Found, weaker, done, as_read, when, next}
 
--- ---- the checks of the reader are the rules
+-- ---- what the checks of the reader ask, the rules do
 
 same_room : (wide : Bool) (r n : ℕ) → read.has_room wide r n ≡ rule.has_room wide r n
 same_room true r n = refl
@@ -40,21 +41,24 @@ same_registers (Unary op to from) n = two (read.has_room (unary_writes_wide op) 
 same_registers (Binary op to a b) n = two (read.has_room (binary_is_wide op) to n) ((read.has_room (binary_is_wide op) a n) && (read.has_room (second_is_wide op) b n)) (rule.has_room (binary_is_wide op) to n) ((rule.has_room (binary_is_wide op) a n) && (rule.has_room (second_is_wide op) b n)) (same_room (binary_is_wide op) to n) (two (read.has_room (binary_is_wide op) a n) (read.has_room (second_is_wide op) b n) (rule.has_room (binary_is_wide op) a n) (rule.has_room (second_is_wide op) b n) (same_room (binary_is_wide op) a n) (same_room (second_is_wide op) b n))
 same_registers insn n = refl
 
-same_numbers : (p : Program) (sizes : Sizes) → AreSizes p sizes → (insn : Insn) → read.numbers_inside insn sizes ≡ rule.numbers_fit insn p
+pub below_more : (n low high : ℕ) → low ≤ high → nat_lt n low ≡ true → nat_lt n high ≡ true
+below_more n low high le h = lt-ltb n high (omega (arith, le, ltb-true n low h))
+
+numbers_named : (p : Program) (sizes : Sizes) → AreWithin p sizes → (insn : Insn) → read.numbers_inside insn sizes ≡ true → rule.numbers_fit insn p ≡ true
 unfolding rule.numbers_fit
-same_numbers p sizes is (ConstString to string) = ap (λ (n : ℕ). nat_lt string n) is.strings
-same_numbers p sizes is (ConstClass to kind) = ap (λ (n : ℕ). nat_lt kind n) is.types
-same_numbers p sizes is (CheckCast on kind) = ap (λ (n : ℕ). nat_lt kind n) is.types
-same_numbers p sizes is (InstanceOf to from kind) = ap (λ (n : ℕ). nat_lt kind n) is.types
-same_numbers p sizes is (NewInstance to kind) = ap (λ (n : ℕ). nat_lt kind n) is.types
-same_numbers p sizes is (NewArray to size kind) = ap (λ (n : ℕ). nat_lt kind n) is.types
-same_numbers p sizes is (FilledNewArray kind args) = ap (λ (n : ℕ). nat_lt kind n) is.types
-same_numbers p sizes is (InstanceGet item to on field) = ap (λ (n : ℕ). nat_lt field n) is.fields
-same_numbers p sizes is (InstancePut item from on field) = ap (λ (n : ℕ). nat_lt field n) is.fields
-same_numbers p sizes is (StaticGet item to field) = ap (λ (n : ℕ). nat_lt field n) is.fields
-same_numbers p sizes is (StaticPut item from field) = ap (λ (n : ℕ). nat_lt field n) is.fields
-same_numbers p sizes is (Invoke kind method args) = ap (λ (n : ℕ). nat_lt method n) is.methods
-same_numbers p sizes is insn = refl
+numbers_named p sizes is (ConstString to string) = below_more string sizes.strings (length p.strings) is.strings
+numbers_named p sizes is (ConstClass to kind) = below_more kind sizes.types (length p.types) is.types
+numbers_named p sizes is (CheckCast on kind) = below_more kind sizes.types (length p.types) is.types
+numbers_named p sizes is (InstanceOf to from kind) = below_more kind sizes.types (length p.types) is.types
+numbers_named p sizes is (NewInstance to kind) = below_more kind sizes.types (length p.types) is.types
+numbers_named p sizes is (NewArray to size kind) = below_more kind sizes.types (length p.types) is.types
+numbers_named p sizes is (FilledNewArray kind args) = below_more kind sizes.types (length p.types) is.types
+numbers_named p sizes is (InstanceGet item to on field) = below_more field sizes.fields (length p.fields) is.fields
+numbers_named p sizes is (InstancePut item from on field) = below_more field sizes.fields (length p.fields) is.fields
+numbers_named p sizes is (StaticGet item to field) = below_more field sizes.fields (length p.fields) is.fields
+numbers_named p sizes is (StaticPut item from field) = below_more field sizes.fields (length p.fields) is.fields
+numbers_named p sizes is (Invoke kind method args) = below_more method sizes.methods (length p.methods) is.methods
+numbers_named p sizes is insn = λ h. refl
 
 -- ---- each instruction that was read passed them
 
@@ -97,8 +101,10 @@ all_inside places sizes [] (i ∷ is) h = absurd h
 all_inside places sizes (s ∷ ss) [] h = absurd h
 all_inside places sizes (s ∷ ss) (i ∷ is) h = and_both (read.operands_inside sizes i) (list_all (read.operands_inside sizes) is) h.0.1 (all_inside places sizes ss is h.1)
 
-pub operands_fit : (p : Program) (sizes : Sizes) → AreSizes p sizes → (insn : Insn) → read.operands_inside sizes insn ≡ true → (rule.registers_fit insn sizes.registers && rule.numbers_fit insn p) ≡ true
-operands_fit p sizes is insn h = sym (two (read.registers_inside insn sizes.registers) (read.numbers_inside insn sizes) (rule.registers_fit insn sizes.registers) (rule.numbers_fit insn p) (same_registers insn sizes.registers) (same_numbers p sizes is insn)) ∙ h
+pub operands_fit : (p : Program) (sizes : Sizes) → AreWithin p sizes → (insn : Insn) → read.operands_inside sizes insn ≡ true → (rule.registers_fit insn sizes.registers && rule.numbers_fit insn p) ≡ true
+operands_fit p sizes is insn h = and_both (rule.registers_fit insn sizes.registers) (rule.numbers_fit insn p)
+    (sym (same_registers insn sizes.registers) ∙ and_left (read.registers_inside insn sizes.registers) (read.numbers_inside insn sizes) h)
+    (numbers_named p sizes is insn (and_right (read.registers_inside insn sizes.registers) (read.numbers_inside insn sizes) h))
 
 pub each_inside : (places : Places) (sizes : Sizes) (insns : List Insn) → insns_of places sizes ≡ Ok insns → list_all (read.operands_inside sizes) insns ≡ true
 each_inside places sizes insns h = all_inside places sizes places.starts insns ((are_read places sizes places.starts).found insns h)

@@ -1,6 +1,6 @@
 //! Laws of the bodies that the reader of code gives: each of them is one that a program may have.
 
-ghost use Rattle.std.specs.Prelude.{◌≡◌, ◌-◌, ◌&&◌, ◌<◌, ◌^◌, List, ℕ, length, true, slice_get, Ok};
+ghost use Rattle.std.specs.Prelude.{◌≡◌, ◌-◌, ◌&&◌, ◌<◌, ◌^◌, List, ℕ, length, true, slice_get, slice_index, Ok};
 ghost use Rattle.std.specs.List.{list_all, enumerate_from};
 ghost use Rattle.program_model.specs.BodyRules.{ends, follows, targets_fit, leaves, is_caught, body_fits};
 ghost use Rattle.insn_set.specs.Spelling.{is_encodable};
@@ -11,7 +11,7 @@ ghost use Rattle.program_model.specs.declared.body.Body as body;
 ghost use Rattle.program_model.specs.declared.program.Program as program;
 ghost use Rattle.code_read.specs.Code.{code_of};
 ghost use Rattle.code_read.specs.declared.sizes.Sizes as sizes;
-ghost use Rattle.read_laws.specs.Tables.{AreSizes};
+ghost use Rattle.read_laws.specs.Tables.{AreWithin};
 
 /// A body that is read has a last instruction, and nothing follows it.
 pub fn ends_law()
@@ -43,14 +43,14 @@ pub fn catches_law()
 /// The registers of the instructions of a body that is read are those of the body, and what they name are entries of the
 /// tables of the program with which it is read.
 pub fn operands_law()
-    ensures { (p : program.Program) (units tries starts : List ℕ) (sizes : sizes.Sizes) (body : body.Body) → AreSizes p sizes → code_of units tries sizes ≡ Ok (body, starts)
+    ensures { (p : program.Program) (units tries starts : List ℕ) (sizes : sizes.Sizes) (body : body.Body) → AreWithin p sizes → code_of units tries sizes ≡ Ok (body, starts)
         → list_all (λ insn. registers_fit insn body.registers && numbers_fit insn p) body.insns ≡ true }
 {}
 
 /// Each region of a body that is read covers positions, has a handler and goes on at positions where one may begin; its
 /// handlers are of types of the program with which it is read, and the regions lie one behind another.
 pub fn regions_law()
-    ensures { (p : program.Program) (units tries starts : List ℕ) (sizes : sizes.Sizes) (body : body.Body) → AreSizes p sizes → code_of units tries sizes ≡ Ok (body, starts)
+    ensures { (p : program.Program) (units tries starts : List ℕ) (sizes : sizes.Sizes) (body : body.Body) → AreWithin p sizes → code_of units tries sizes ≡ Ok (body, starts)
         → regions_fit p body.insns body.regions ≡ true }
 {}
 
@@ -60,9 +60,14 @@ pub fn leaves_law()
         → list_all (λ at. leaves at.0 at.1) (enumerate_from 0 body.insns) ≡ true }
 {}
 
-/// So a body that is read, of fewer than 2 ^ 32 units, fits the program with which it is read where each of its
-/// instructions has a spelling.
+/// Each instruction of a body that is read has a spelling, as it was read by one.
+pub fn spellings_law()
+    ensures { (units tries starts : List ℕ) (sizes : sizes.Sizes) (body : body.Body) → ((i : ℕ) → slice_index units i < 65536) → code_of units tries sizes ≡ Ok (body, starts)
+        → list_all is_encodable body.insns ≡ true }
+{}
+
+/// So a body that is read, of fewer than 2 ^ 32 units of 16 bits, fits the program with which it is read.
 pub fn bodies_law()
-    ensures { (p : program.Program) (units tries starts : List ℕ) (sizes : sizes.Sizes) (body : body.Body) → AreSizes p sizes → length units < 2 ^ 32 → code_of units tries sizes ≡ Ok (body, starts)
-        → list_all is_encodable body.insns ≡ true → body_fits p body ≡ true }
+    ensures { (p : program.Program) (units tries starts : List ℕ) (sizes : sizes.Sizes) (body : body.Body) → AreWithin p sizes → ((i : ℕ) → slice_index units i < 65536) → length units < 2 ^ 32
+        → code_of units tries sizes ≡ Ok (body, starts) → body_fits p body ≡ true }
 {}

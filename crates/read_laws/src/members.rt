@@ -1,21 +1,22 @@
 //! Classes and their members that are read fit the rules.
 
-ghost use Rattle.std.specs.Prelude.{◌≡◌, Bool, true, List, ℕ, Ok};
+ghost use Rattle.std.specs.Prelude.{◌≡◌, ◌<◌, true, List, ℕ, Ok, length, slice_index};
 ghost use Rattle.program_model.specs.declared.program.Class.{Class};
 ghost use Rattle.program_model.specs.declared.program.Program.{Program};
 ghost use Rattle.program_model.specs.InterfaceRules.{interfaces_stand_free};
+ghost use Rattle.program_model.specs.LineRules.{lines_fit};
 ghost use Rattle.program_model.specs.MemberRules.{types_of_class_fit, source_fits, fields_fit, methods_fit, class_fits};
 ghost use Rattle.program_model.specs.ValueRules.{value_fits, marks_fit};
 ghost use Rattle.program_model.specs.declared.value.EncValue.{EncValue};
 ghost use Rattle.program_model.specs.declared.value.Mark.{Mark};
 ghost use Rattle.std.specs.List.{list_all};
 ghost use Rattle.dex_pools.specs.Value.{value_at};
+ghost use Rattle.dex_read.specs.Code.{lined_at};
 ghost use Rattle.dex_read.specs.Directory.{set_at, sets_at};
 ghost use Rattle.dex_read.specs.Tables.{sizes_in};
 ghost use Rattle.dex_read.specs.declared.members.Budget.{Budget};
 ghost use Rattle.dex_read.specs.Classes.{class_at};
 ghost use Rattle.dex_read.specs.File.{program_at};
-ghost use Rattle.read_laws.specs.Bodies.{body_and_lines_fit};
 
 /// A class that is read is no root, it, its superclass and its interfaces are class types, and its source is a string.
 pub fn class_types_law()
@@ -39,17 +40,21 @@ pub fn fields_law()
 {}
 
 /// The methods of a class that is read are its own, direct ones first, ascend by number and are none twice; they have code where they
-/// are neither abstract nor native, in a frame of their receiver and parameters, and their annotations fit. So they fit where their
-/// bodies and lines do.
+/// are neither abstract nor native, in a frame of their receiver and parameters; their bodies, their lines and their annotations fit.
 pub fn methods_law()
-    ensures { (bytes : List ℕ) (p : Program) (at place : ℕ) (left : Budget) (r : Class × Budget) → class_at bytes p at place left ≡ Ok r
-        → list_all (λ m. body_and_lines_fit p m.body m.lines) r.0.methods ≡ true → methods_fit p r.0.name r.0.methods ≡ true }
+    ensures { (bytes : List ℕ) (p : Program) (at place : ℕ) (left : Budget) (r : Class × Budget) → ((i : ℕ) → slice_index bytes i < 256)
+        → class_at bytes p at place left ≡ Ok r → methods_fit p r.0.name r.0.methods ≡ true }
 {}
 
-/// A class that is read fits where the bodies and the lines of its methods do.
+/// The lines that are read of a debug item fit as many positions as begin at these units.
+pub fn lines_law()
+    ensures { (bytes starts : List ℕ) (debug left : ℕ) (r : List ℕ × ℕ) → lined_at bytes debug starts left ≡ Ok r → lines_fit (length starts) r.0 ≡ true }
+{}
+
+/// A class that is read fits.
 pub fn class_law()
-    ensures { (bytes : List ℕ) (p : Program) (at place : ℕ) (left : Budget) (r : Class × Budget) → class_at bytes p at place left ≡ Ok r
-        → list_all (λ m. body_and_lines_fit p m.body m.lines) r.0.methods ≡ true → class_fits p r.0 ≡ true }
+    ensures { (bytes : List ℕ) (p : Program) (at place : ℕ) (left : Budget) (r : Class × Budget) → ((i : ℕ) → slice_index bytes i < 256)
+        → class_at bytes p at place left ≡ Ok r → class_fits p r.0 ≡ true }
 {}
 
 /// No interface of the program that is read has a class of the program that is no interface as its superclass or in its list.

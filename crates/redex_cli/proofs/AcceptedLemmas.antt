@@ -17,22 +17,24 @@ use Rattle.redex_cli.specs.Files.{HasTypeFault}
 graph_of : (p : Program) (h : Hierarchy) → IsResolved p h → IsAcyclic p → NoSplit p → IsGraphOf p h
 graph_of p h resolved acyclic unsplit = record { resolved = resolved; once = resolved.of.once; acyclic = acyclic; unsplit = unsplit }
 
-pub accepted : (p : Program) (h : Hierarchy) → (is_well_formed p ≡ true → IsResolved p h) → (is_well_formed p ≡ true → IsAcyclic p)
+pub accepted : (p : Program) (h : Hierarchy) → is_well_formed p ≡ true → (is_well_formed p ≡ true → IsResolved p h) → (is_well_formed p ≡ true → IsAcyclic p)
     → (is_well_formed p ≡ true → NoSplit p) → TypesAll p h → IsAccepted p
-accepted p h resolved acyclic unsplit types = record {
+accepted p h well resolved acyclic unsplit types = record {
+  formed = well;
   hierarchy = h;
-  graph = λ well. graph_of p h (resolved well) (acyclic well) (unsplit well);
+  graph = graph_of p h (resolved well) (acyclic well) (unsplit well);
   types = types;
-  typed = λ well. typed_program p h well (resolved well) types;
+  typed = typed_program p h well (resolved well) types;
 }
 
-ill_typed : (p : Program) (h : Hierarchy) (method position register : ℕ) → (is_well_formed p ≡ true → IsGraphOf p h)
+ill_typed : (p : Program) (h : Hierarchy) (method position register : ℕ) → is_well_formed p ≡ true → IsGraphOf p h
     → RefusesOne p h (IllTyped method position register) → IsIllTyped p method position register
-ill_typed p h method position register graph refuses = record {
+ill_typed p h method position register well graph refuses = record {
+  formed = well;
   hierarchy = h;
   graph = graph;
   refuses = refuses;
-  untyped = λ well. refused_program p h well (graph well).resolved method position register refuses;
+  untyped = refused_program p h well graph.resolved method position register refuses;
 }
 
 some_memory : (method position register : ℕ) → IllTyped method position register ≡ NoMemory → ⊥
@@ -46,16 +48,16 @@ by_fault Refuses Cause none ill NoMemory refuses = none
 by_fault Refuses Cause none ill (IllTyped method position register) (inl e) = absurd (some_memory method position register e)
 by_fault Refuses Cause none ill (IllTyped method position register) (inr refuses) = ill method position register refuses
 
-cause_of : (p : Program) (h : Hierarchy) → (is_well_formed p ≡ true → IsGraphOf p h) → (fault : TypeFault)
+cause_of : (p : Program) (h : Hierarchy) → is_well_formed p ≡ true → IsGraphOf p h → (fault : TypeFault)
     → (fault ≡ NoMemory) ⊎ RefusesOne p h fault → IsTypeCause p fault
-cause_of p h graph fault refuses =
-    by_fault (RefusesOne p h) (IsTypeCause p) tt (λ method position register. ill_typed p h method position register graph) fault refuses
+cause_of p h well graph fault refuses =
+    by_fault (RefusesOne p h) (IsTypeCause p) tt (λ method position register. ill_typed p h method position register well graph) fault refuses
 
-pub type_fault : (p : Program) (h : Hierarchy) (bytes : List ℕ) (fault : TypeFault) → program_at bytes ≡ Ok p
+pub type_fault : (p : Program) (h : Hierarchy) (bytes : List ℕ) (fault : TypeFault) → program_at bytes ≡ Ok p → is_well_formed p ≡ true
     → (is_well_formed p ≡ true → IsResolved p h) → (is_well_formed p ≡ true → IsAcyclic p) → (is_well_formed p ≡ true → NoSplit p)
     → (fault ≡ NoMemory) ⊎ RefusesOne p h fault → HasTypeFault bytes fault
-type_fault p h bytes fault reads resolved acyclic unsplit refuses = record {
+type_fault p h bytes fault reads well resolved acyclic unsplit refuses = record {
   program = p;
   reads = reads;
-  cause = cause_of p h (λ well. graph_of p h (resolved well) (acyclic well) (unsplit well)) fault refuses;
+  cause = cause_of p h well (graph_of p h (resolved well) (acyclic well) (unsplit well)) fault refuses;
 }

@@ -1,6 +1,10 @@
 -- Finished outputs.
-use Rattle.std.proofs.Common.{◌≡◌, ◌≤◌, ℕ, List, Bool, length, true, Ok, subst, sym}
+use Rattle.std.proofs.Common.{◌≡◌, ◌≤◌, ℕ, List, Bool, length, true, Result, Ok, Err, subst, sym}
+use Rattle.std.specs.Prelude.{IfOk}
+use Rattle.dex_base.specs.Reading.{Gives}
+use Rattle.dex_read.specs.Faults.{is_free}
 use Rattle.dex_read.specs.File.{program_at}
+use Rattle.dex_read.specs.declared.fault.DexFault.{DexFault}
 use Rattle.dex_write.specs.Written.{IsWritten}
 use Rattle.hierarchy.specs.Shapes.{IsCause}
 use Rattle.hierarchy.specs.declared.fault.HierarchyFault.{HierarchyFault}
@@ -20,15 +24,21 @@ use Rattle.redex_cli.specs.declared.status.Status.{Status}
 use Rattle.redex_cli.specs.declared.status.Status.TheVariants.{Done, Usage, BadRules, BadDex, Limit, ReadFault, WriteFault, NoMemory, BadScript}
 use Rattle.redex_cli.specs.declared.summary.Sizes.{Sizes}
 
+-- what is read of bytes that spell well-formed programs alone
+pub well_formed_if : (bytes : List ℕ) (result : Result Program DexFault) → ((p : Program) → program_at bytes ≡ Ok p → is_well_formed p ≡ true)
+    → Gives is_free (λ program. program) result (program_at bytes) → IfOk result (λ program. is_well_formed program ≡ true)
+well_formed_if bytes (Ok p) formed gives = formed p gives
+well_formed_if bytes (Err e) formed gives = tt
+
 pub shrunk : (program : Program) (outside : Outside) (before after : Sizes) (left : Program) (rounds spared advisers : ℕ) (old new : List Bool) (origins : List (List Origin)) (output summary : List ℕ)
-    → (is_well_formed program ≡ true → IsOptimised outside program advisers old new spared left origins rounds)
+    → is_well_formed program ≡ true → (is_well_formed program ≡ true → IsOptimised outside program advisers old new spared left origins rounds)
     → IsWritten left output → after ≡ sizes_in left (length output) → summary ≡ summary_text before after rounds spared → 1 ≤ rounds
     → Shrunk program outside before output summary
-shrunk program outside before after left rounds spared advisers old new origins output summary optimised written sizes says one_round = record {
+shrunk program outside before after left rounds spared advisers old new origins output summary well optimised written sizes says one_round = record {
   left = left;
   rounds = rounds;
   spared = spared;
-  leaves = λ well. record { advisers = advisers; before = old; after = new; origins = origins; optimised = optimised well };
+  leaves = record { advisers = advisers; before = old; after = new; origins = origins; optimised = optimised well };
   written = written;
   says = subst (λ (sizes : Sizes). summary ≡ summary_text before sizes rounds spared) sizes says;
   one_round = one_round;
@@ -74,5 +84,5 @@ pub read : (program : Program) (bytes : List ℕ) → program_at bytes ≡ Ok pr
 read program bytes reads accepted = record { program = program; reads = reads; accepted = accepted }
 
 pub graph_fault : (program : Program) (bytes : List ℕ) (fault : HierarchyFault) → program_at bytes ≡ Ok program
-    → (is_well_formed program ≡ true → IsCause program fault) → HasGraphFault bytes fault
-graph_fault program bytes fault reads cause = record { program = program; reads = reads; cause = cause }
+    → is_well_formed program ≡ true → (is_well_formed program ≡ true → IsCause program fault) → HasGraphFault bytes fault
+graph_fault program bytes fault reads well cause = record { program = program; reads = reads; formed = well; cause = cause well }

@@ -12,7 +12,6 @@ use Rattle.dalvik_defs.specs.declared.tables.Framework.{Framework}
 use Rattle.dalvik_model.specs.Standing.{IsSubject, MakesOnlyArrays, shown_by, subject_of}
 use Rattle.dex_read.specs.File.{program_at}
 use Rattle.keep_rules.specs.Outside.{IsWithin}
-use Rattle.program_model.specs.ProgramRules.{is_well_formed}
 use Rattle.program_model.specs.declared.pass.Outside.{Outside}
 use Rattle.program_model.specs.declared.program.Program.{Program}
 use Rattle.reach.specs.Kept.{Closes}
@@ -25,37 +24,31 @@ use Rattle.redex_cli.specs.Traces.{IsTableFor, Traces, TracesFile}
 -- ---- a run
 
 makes_arrays : (p : Program) (o : Outside) (f : Framework) (a : Floats) (script : List Move) (n : ℕ)
-    → is_well_formed p ≡ true → IsAccepted p → MakesOnlyArrays (subject_of p o f a script) n
-makes_arrays p o f a script n well accepted = make_arrays (named p) (accepted.typed well) (outer_of p o) f a script n
+    → IsAccepted p → MakesOnlyArrays (subject_of p o f a script) n
+makes_arrays p o f a script n accepted = make_arrays (named p) accepted.typed (outer_of p o) f a script n
 
 subject : (p : Program) (o : Outside) (f : Framework) (a : Floats) (script : List Move)
-    → is_well_formed p ≡ true → IsAccepted p → IsSubject (subject_of p o f a script)
-subject p o f a script well accepted =
-    let graph = accepted.graph well in
-    record { well = well; accepted = record { once = graph.once; acyclic = graph.acyclic; unsplit = graph.unsplit } }
+    → IsAccepted p → IsSubject (subject_of p o f a script)
+subject p o f a script accepted =
+    let graph = accepted.graph in
+    record { well = accepted.formed; accepted = record { once = graph.once; acyclic = graph.acyclic; unsplit = graph.unsplit } }
 
 -- what the table of the rules is
 pub table_for : (p : Program) (ruled outside : Outside) → IsWithin p ruled → ruled.shut ≡ [] → Closes ruled outside → IsTableFor p outside
 table_for p ruled outside within unshut closes = record { ruled = ruled; within = within; unshut = unshut; closes = closes }
 
--- a premise of an answer that a call may give
-premised : {T E : Type 0} (r : Result T E) (W : Type 0) (P : T → Type 0) → (W → IfOk r P) → IfOk r (λ x. W → P x)
-premised (Ok x) W P says = says
-premised (Err e) W P says = tt
-
 -- what the machine answers of a run of an accepted program, where the script that it was given is this one
 pub shown : {T E : Type 0} (r : Result T E) (items : T → List Event) (p : Program) (o : Outside) (f : Framework) (a : Floats) (given script : List Move) (n : ℕ)
     → given ≡ script → IsAccepted p
     → (IsSubject (subject_of p o f a given) → MakesOnlyArrays (subject_of p o f a given) n → IfOk r (λ x. items x ≡ shown_by (subject_of p o f a given) n))
-    → IfOk r (λ x. is_well_formed p ≡ true → items x ≡ shows (named p) (outer_of p o) f a script n)
+    → IfOk r (λ x. items x ≡ shows (named p) (outer_of p o) f a script n)
 shown r items p o f a given script n same accepted says =
-    subst (λ (moves : List Move). IfOk r (λ x. is_well_formed p ≡ true → items x ≡ shows (named p) (outer_of p o) f a moves n)) same
-    (premised r (is_well_formed p ≡ true) (λ x. items x ≡ shows (named p) (outer_of p o) f a given n)
-    (λ well. says (subject p o f a given well accepted) (makes_arrays p o f a given n well accepted)))
+    subst (λ (moves : List Move). IfOk r (λ x. items x ≡ shows (named p) (outer_of p o) f a moves n)) same
+    (says (subject p o f a given accepted) (makes_arrays p o f a given n accepted))
 
 pub traces : (p : Program) (play : Play) (outside : Outside) (steps : ℕ) (events : List Event) (text : List ℕ)
     → IsTableFor p outside → length events ≤ steps
-    → (is_well_formed p ≡ true → events ≡ shows (named p) (outer_of p outside) play.framework play.floats play.moves steps)
+    → events ≡ shows (named p) (outer_of p outside) play.framework play.floats play.moves steps
     → text ≡ event_lines events → Traces p play steps text
 traces p play outside steps events text table few shown says = record {
   outside = outside;

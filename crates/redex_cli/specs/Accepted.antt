@@ -1,5 +1,4 @@
--- The programs that a run goes on with, and those that it refuses for their types. What is said of the class graph and by
--- names is said of a well-formed program, as the crates below say it; that what bytes spell is one is not said here.
+-- The programs that a run goes on with, and those that it refuses for their types.
 use Rattle.std.specs.Prelude.{◌≡◌, ℕ, true}
 use Rattle.class_defs.specs.ClassGraph.{IsTwice}
 use Rattle.dalvik_defs.specs.Naming.{named}
@@ -21,20 +20,23 @@ pub record IsGraphOf (program : Program) (hierarchy : Hierarchy) : Type 0 where
   pub acyclic : IsAcyclic program
   pub unsplit : NoSplit program
 
--- The program's class graph is accepted, and each of its bodies is well typed: by the verifier's numbers, and by names.
+-- The program is well-formed, its class graph is accepted, and each of its bodies is well typed: by the verifier's numbers,
+-- and by names.
 pub record IsAccepted (program : Program) : Type 0 where
+  pub formed : is_well_formed program ≡ true
   pub hierarchy : Hierarchy
-  pub graph : is_well_formed program ≡ true → IsGraphOf program hierarchy
+  pub graph : IsGraphOf program hierarchy
   pub types : TypesAll program hierarchy
-  pub typed : is_well_formed program ≡ true → IsTyped (named program)
+  pub typed : IsTyped (named program)
 
--- The program's class graph is accepted, and this is its first ill typed method, in class and method order: the least flow
--- of its code breaks first at this position, and there at this register. By names the program isn't typed.
+-- The program is well-formed, its class graph is accepted, and this is its first ill typed method, in class and method order:
+-- the least flow of its code breaks first at this position, and there at this register. By names the program isn't typed.
 pub record IsIllTyped (program : Program) (method position register : ℕ) : Type 0 where
+  pub formed : is_well_formed program ≡ true
   pub hierarchy : Hierarchy
-  pub graph : is_well_formed program ≡ true → IsGraphOf program hierarchy
+  pub graph : IsGraphOf program hierarchy
   pub refuses : RefusesOne program hierarchy (typing.IllTyped method position register)
-  pub untyped : is_well_formed program ≡ true → IsTyped (named program) → ⊥
+  pub untyped : IsTyped (named program) → ⊥
 
 -- the cause of a refusal by the verifier
 abbrev pub IsTypeCause : Program → TypeFault → Type 0

@@ -23,11 +23,12 @@ pub record IsRead (bytes : List ℕ) : Type 0 where
   pub reads : program_at bytes ≡ Ok program
   pub accepted : IsAccepted program
 
--- The bytes spell a program in whose class graph this fault stands.
+-- The bytes spell a well-formed program in whose class graph this fault stands.
 pub record HasGraphFault (bytes : List ℕ) (fault : HierarchyFault) : Type 0 where
   pub program : Program
   pub reads : program_at bytes ≡ Ok program
-  pub cause : is_well_formed program ≡ true → IsCause program fault
+  pub formed : is_well_formed program ≡ true
+  pub cause : IsCause program fault
 
 -- The bytes spell a program in whose bodies this fault stands.
 pub record HasTypeFault (bytes : List ℕ) (fault : TypeFault) : Type 0 where

@@ -9,7 +9,6 @@ use Rattle.dex_write.specs.Written.{IsWritten}
 use Rattle.redex_outside.specs.Held.{Held}
 use Rattle.redex_cli.specs.Commands.{Commands}
 use Rattle.redex_cli.specs.Files.{HoldsProgram}
-use Rattle.program_model.specs.ProgramRules.{is_well_formed}
 use Rattle.program_model.specs.declared.pass.Origin.{Origin}
 use Rattle.program_model.specs.declared.pass.Outside.{Outside}
 use Rattle.program_model.specs.declared.program.Program.{Program}
@@ -64,7 +63,7 @@ pub record Shrunk (program : Program) (outside : Outside) (before : Sizes) (outp
   pub left : Program
   pub rounds : ℕ
   pub spared : ℕ
-  pub leaves : is_well_formed program ≡ true → Leaves program outside left rounds spared
+  pub leaves : Leaves program outside left rounds spared
   pub written : IsWritten left output
   pub says : summary ≡ summary_text before (sizes_in left (length output)) rounds spared
   pub one_round : 1 ≤ rounds

@@ -6,7 +6,6 @@ use Rattle.dalvik_defs.specs.Step.{shows}
 use Rattle.dalvik_defs.specs.declared.events.Event.{Event}
 use Rattle.dex_read.specs.File.{program_at}
 use Rattle.keep_rules.specs.Outside.{IsWithin}
-use Rattle.program_model.specs.ProgramRules.{is_well_formed}
 use Rattle.program_model.specs.declared.pass.Outside.{Outside}
 use Rattle.program_model.specs.declared.program.Program.{Program}
 use Rattle.reach.specs.Kept.{Closes}
@@ -26,16 +25,15 @@ pub record IsTableFor (program : Program) (outside : Outside) : Type 0 where
   pub unshut : ruled.shut ≡ []
   pub closes : Closes ruled outside
 
--- The text is the lines of events, one for a step at most. Of a well-formed program they are exactly those that it shows
--- in so many steps of the play, by such a table.
+-- The text is the lines of events, one for a step at most: exactly those that the program shows in so many steps of the play,
+-- by such a table.
 pub record Traces (program : Program) (play : Play) (steps : ℕ) (text : List ℕ) : Type 0 where
   pub outside : Outside
   pub table : IsTableFor program outside
   pub events : List Event
   pub says : text ≡ event_lines events
   pub few : length events ≤ steps
-  pub shown : is_well_formed program ≡ true
-      → events ≡ shows (named program) (outer_of program outside) play.framework play.floats play.moves steps
+  pub shown : events ≡ shows (named program) (outer_of program outside) play.framework play.floats play.moves steps
 
 -- The same of the program that these bytes spell, which is accepted, and of the play that the script spells.
 pub record TracesFile (bytes script : List ℕ) (steps : ℕ) (text : List ℕ) : Type 0 where

@@ -4,7 +4,7 @@ ghost use Rattle.std.specs.Prelude.{◌≡◌, ◌<◌, ◌≤◌, ◌^◌, ℕ,
 ghost use Rattle.dalvik_defs.specs.Naming.{named};
 ghost use Rattle.dalvik_defs.specs.Outer.{outer_of};
 ghost use Rattle.dalvik_defs.specs.Step.{shows};
-ghost use Rattle.dex_base.specs.Reading.{FailsIf};
+ghost use Rattle.dex_base.specs.Reading.{FailsIf, Gives};
 ghost use Rattle.dex_read.specs.Counts.{CountsInFile};
 ghost use Rattle.dex_read.specs.Faults.{is_free};
 ghost use Rattle.dex_read.specs.File.{program_at};
@@ -33,6 +33,7 @@ use keep_rules::{RuleFault, Rules, outside_of, read_rules};
 use pipeline::optimise;
 use program_model::{Outside, Program};
 use reach::close;
+use read_laws::programs::reads_well_formed;
 use redex_gen::generate;
 use redex_outside::{Adviser, Key, Panel};
 use script_text::{Play, ScriptFault, read_script, write_events};
@@ -108,16 +109,29 @@ struct Classes {
     hierarchy: Hierarchy,
 }
 
+/// The program that the bytes spell, which is well-formed.
+#[tactic(auto, using(crate::proofs::FinishedLemmas::well_formed_if))]
+fn read_program(alloc: Global, bytes: &[u8]) -> Result<Program, DexFault>
+    ensures gives { Gives is_free (λ program. program) result (program_at bytes.now) }
+    ensures limits { IfOk result KeepsLimits }
+    ensures counts { IfErr result CountsInFile }
+    ensures formed { IfOk result (λ program. is_well_formed program ≡ true) }
+{
+    reads_well_formed(bytes);
+    read_dex(alloc, bytes)
+}
+
 /// The file, its class graph and its types, in this order. The bytes are let go as soon as they are read.
 #[tactic(auto, using(crate::proofs::FinishedLemmas::graph_fault))]
 fn read_classes(alloc: Global, file: Vec<u8>) -> Result<Classes, Status>
     ensures limits { IfOk result (λ classes. KeepsLimits classes.program) }
     ensures read { IfOk result (λ classes. program_at file.items ≡ Ok classes.program) }
+    ensures formed { IfOk result (λ classes. is_well_formed classes.program ≡ true) }
     ensures accepted { IfOk result (λ classes. IsAccepted classes.program) }
     ensures refused { IfErr result ReadRefused }
     ensures file { IfErr result (FileRefused file.items) }
 {
-    let program = match read_dex(alloc, &file) {
+    let program = match read_program(alloc, &file) {
         Ok(program) => program,
         Err(fault) => return Err(dex_status(fault)),
     };
@@ -160,6 +174,7 @@ fn closed_outside(
 fn read_input(alloc: Global, rules: Vec<u8>, file: Vec<u8>) -> Result<Input, Status>
     requires { vec_len rules < 2 ^ 32 }
     ensures read { IfOk result (λ input. program_at file.items ≡ Ok input.program) }
+    ensures formed { IfOk result (λ input. is_well_formed input.program ≡ true) }
     ensures accepted { IfOk result (λ input. IsAccepted input.program) }
     ensures ruled { IfOk result (λ input. IsRuled rules.items input.program input.outside) }
     ensures refused { IfErr result (WorkRefused rules.items) }
@@ -212,6 +227,7 @@ fn optimise_program(
     before: Sizes,
     panel: &mut Panel,
 ) -> Result<Optimised, AllocError>
+    requires { is_well_formed program ≡ true }
     ensures { IfOk result (λ optimised. Shrunk program outside.now before optimised.bytes.items (string_bytes optimised.summary)) }
 {
     let outcome = optimise(alloc, program, outside, panel)?;
@@ -239,6 +255,7 @@ fn optimise_input(
     length: usize,
     panel: &mut Panel,
 ) -> Result<Optimised, AllocError>
+    requires { is_well_formed input.program ≡ true }
     ensures { IfOk result (λ optimised. Shrunk input.program input.outside (sizes_in input.program length) optimised.bytes.items (string_bytes optimised.summary)) }
 {
     let before = sizes_of(&input.program, length);
@@ -393,7 +410,7 @@ fn events_of(
 ) -> Result<Vec<Event>, AllocError>
     requires { IsAccepted input.now.program }
     ensures few { IfOk result (λ events. vec_len events ≤ steps) }
-    ensures shown { IfOk result (λ events. is_well_formed input.now.program ≡ true → events.items ≡ shows (named input.now.program) (outer_of input.now.program input.now.outside) play.now.framework play.now.floats play.now.moves steps) }
+    ensures shown { IfOk result (λ events. events.items ≡ shows (named input.now.program) (outer_of input.now.program input.now.outside) play.now.framework play.now.floats play.now.moves steps) }
 {
     run(
         alloc,

@@ -126,12 +126,13 @@ module _ (p q : Program) (r : Part q.classes p.classes) where
 
 filter_had : (t : Method → Bool) (ms : List Method) (k : ℕ) (m : Method) → slice_get (filter t ms) k ≡ Some m → (j : ℕ) × (slice_get ms j ≡ Some m)
 filter_had t [] k m h = cc
-filter_had t (x ∷ xs) k m h = by (t x) k h
+filter_had t (x ∷ xs) k m h = by (t x) k (λ (i : ℕ) (g : slice_get (filter t xs) i ≡ Some m). filter_had t xs i m g) h
   where
-    by : (b : Bool) (k : ℕ) → slice_get (cond b (x ∷ filter t xs) (filter t xs)) k ≡ Some m → (j : ℕ) × (slice_get (x ∷ xs) j ≡ Some m)
-    by true zero h = (0, h)
-    by true (suc k) h = let r : (j : ℕ) × (slice_get xs j ≡ Some m) = filter_had t xs k m h in (suc r.0, r.1)
-    by false k h = let r : (j : ℕ) × (slice_get xs j ≡ Some m) = filter_had t xs k m h in (suc r.0, r.1)
+    by : (b : Bool) (k : ℕ) → ((i : ℕ) → slice_get (filter t xs) i ≡ Some m → (j : ℕ) × (slice_get xs j ≡ Some m)) → slice_get (cond b (x ∷ filter t xs) (filter t xs)) k ≡ Some m
+        → (j : ℕ) × (slice_get (x ∷ xs) j ≡ Some m)
+    by true zero rest h = (0, h)
+    by true (suc k) rest h = let r : (j : ℕ) × (slice_get xs j ≡ Some m) = rest k h in (suc r.0, r.1)
+    by false k rest h = let r : (j : ℕ) × (slice_get xs j ≡ Some m) = rest k h in (suc r.0, r.1)
 
 kept_head : (s : LiveSet) (c : Class) → SameHead c (kept_in s c)
 kept_head s c = record {

@@ -6,8 +6,8 @@ use Rattle.program_model.specs.declared.pools.MethodName.{MethodName}
 use Rattle.program_model.specs.declared.program.Class.{Class}
 use Rattle.program_model.specs.declared.program.Method.{Method}
 use Rattle.program_model.specs.declared.program.Program.{Program}
-use Rattle.program_model.specs.MemberRules.{is_static, is_private, first_unit, name_of_method, is_direct}
-use Rattle.program_model.specs.Texts.{type_text}
+use Rattle.program_model.specs.MemberRules.{is_static, is_private, name_of_method, is_direct}
+use Rattle.program_model.specs.Texts.{first_unit, type_text}
 use Rattle.class_defs.specs.ClassGraph.{IsSuperclass, StepsTo, IsUnder, HasVirtual, IsSplit, is_package_private, package_of}
 use Rattle.hierarchy.specs.Splitting.{NoSplit}
 use Rattle.rounds_bridge.proofs.Parts.{Part, HadMethod, Stood, place, stood}
@@ -63,6 +63,13 @@ module _ (p : Program) (ds : List Class) (r : Part ds p.classes) where
         flags = had.flags;
       }
 
+  text_same : (k : ℕ) → type_text left k ≡ type_text p k
+  unfolding type_text
+  text_same k = refl
+
+  package_same : (d c : Class) → d.name ≡ c.name → package_of (type_text left d.name) ≡ package_of (type_text p c.name)
+  package_same d c e = ap package_of (text_same d.name) ∙ ap (λ (k : ℕ). package_of (type_text p k)) e
+
   split_was : (class method : ℕ) → IsSplit left class method → IsSplit p (was class) method
   split_was class method s =
       let low : WasVirtual class s.c s.m s.name = virtual_was class s.c s.m s.name s.has in
@@ -82,7 +89,7 @@ module _ (p : Program) (ds : List Class) (r : Part ds p.classes) where
         hidden = ap is_package_private (sym high.flags) ∙ s.hidden;
         same_name = s.same_name;
         same_proto = s.same_proto;
-        apart = λ e. s.apart (ap (λ (k : ℕ). package_of (type_text p k)) low.kind ∙ e ∙ sym (ap (λ (k : ℕ). package_of (type_text p k)) high.kind));
+        apart = λ e. s.apart (package_same s.c low.owner low.kind ∙ e ∙ sym (package_same s.u high.owner high.kind));
       }
 
   still_whole : NoSplit p → NoSplit left

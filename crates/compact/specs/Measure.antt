@@ -1,8 +1,11 @@
 -- The registers that a body names, in numbers.
-use Rattle.std.specs.Prelude.{◌≡◌, ℕ, ◌≤◌, Bool, List, [], ◌∷◌, sum, sum_by}
+use Rattle.std.specs.Prelude.{◌≡◌, ℕ, ◌+◌, ◌≤◌, Bool, List, [], ◌∷◌, sum, sum_by, Option, Some, None}
 use Rattle.insn_set.specs.declared.form.Insn.{Insn}
 use Rattle.insn_set.specs.declared.form.Insn.TheVariants.{Move, MoveResult, MoveException, Return, Const, ConstWide, ConstString, ConstClass, MonitorEnter, MonitorExit, CheckCast, InstanceOf, ArrayLength, NewInstance, NewArray, FilledNewArray, FillArray, Throw, PackedSwitch, SparseSwitch, Cmp, If, IfZero, ArrayGet, ArrayPut, InstanceGet, InstancePut, StaticGet, StaticPut, Invoke, Unary, Binary, Literal}
 use Rattle.program_model.specs.declared.body.Body.{Body}
+use Rattle.program_model.specs.declared.program.Method.{Method}
+use Rattle.program_model.specs.declared.program.Class.{Class}
+use Rattle.program_model.specs.declared.program.Program.{Program}
 use Rattle.compact.specs.Renamed.{IsCompacted}
 
 -- the registers that an instruction names, of a wide one the first
@@ -53,3 +56,17 @@ pub record IsLower (b d : Body) : Type 0 where
 
 abbrev pub LowersByNumber : Type 0
 LowersByNumber = (w : List (List Bool)) (b d : Body) → IsCompacted w b d → IsLower b d
+
+-- the registers of all bodies, and the numbers that their instructions name
+abbrev pub body_numbers : Option Body → ℕ
+body_numbers None = 0
+body_numbers (Some b) = b.registers + number_sum b
+
+abbrev pub method_numbers : Method → ℕ
+method_numbers m = body_numbers m.body
+
+abbrev pub class_numbers : Class → ℕ
+class_numbers c = sum_by method_numbers c.methods
+
+abbrev pub numbers_in : Program → ℕ
+numbers_in p = sum_by class_numbers p.classes

@@ -1,0 +1,18 @@
+//! The law of the program that is read.
+
+ghost use Rattle.std.specs.Prelude.{◌≡◌, ◌<◌, List, ℕ, Ok, true, slice_index};
+ghost use Rattle.program_model.specs.ProgramRules.{is_well_formed};
+ghost use Rattle.program_model.specs.declared.program.Program.{Program};
+ghost use Rattle.dex_read.specs.File.{program_at};
+
+/// The program that is read is well-formed: its tables, its classes with their members and bodies, and what it counts.
+pub fn well_formed_law()
+    ensures { (bytes : List ℕ) (p : Program) → ((i : ℕ) → slice_index bytes i < 256) → program_at bytes ≡ Ok p → is_well_formed p ≡ true }
+{}
+
+/// The same of bytes in memory: after a call, whatever program they spell is known to be well-formed. It does nothing else.
+pub fn reads_well_formed(bytes: &[u8])
+    ensures { (p : Program) → program_at bytes.now ≡ Ok p → is_well_formed p ≡ true }
+{
+    let _bytes = bytes;
+}

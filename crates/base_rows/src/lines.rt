@@ -1,92 +1,64 @@
+//! Tables of source lines.
+
+ghost use Rattle.std.specs.Prelude.{◌<◌, ◌^◌, IsTrue};
+ghost use Rattle.std.specs.List.{AllByRecursion};
+ghost use Rattle.line_tables.specs.Text.{AscendsFrom};
+
 use line_tables::{read_lines, write_lines};
-use std::alloc::{AllocError, Global};
-use std::test::*;
+use row_text::{Trouble, bytes, digits_of, list_of, number, numbers};
+use std::alloc::Global;
 
-#[test]
-fn an_entry_stands_where_the_line_changes(rt: HostRuntime) -> Result<(), Fail> {
-    let mut out = Vec::new(rt.alloc());
-    write_lines(&mut out, &[5, 5, 7], &[0, 1, 2], 0)?;
-    assert_eq!(rt; out.as_slice(), [0x05, 0x00, 0x0e, 0x2e, 0x00].as_slice());
-    let read = read_lines(rt.alloc(), &out, 0, &[0, 1, 2], 100)?;
-    assert_eq!(rt; read.opcodes, 3);
-    let lines = read.lines.ok_or("it is an item")?;
-    assert_eq!(rt; lines.as_slice(), [5, 5, 7].as_slice());
-    Ok(())
+/// Whether the starts ascend strictly from one on.
+fn ascend(low: u32, starts: &[u32]) -> bool
+    ensures { IsTrue result → AscendsFrom low starts.now }
+{
+    match starts {
+        [] => true,
+        [first, rest @ ..] => low <= *first && *first < 0x8000_0000 && ascend(*first + 1, rest),
+    }
 }
 
-#[test]
-fn large_steps_have_opcodes_of_their_own(rt: HostRuntime) -> Result<(), Fail> {
-    let mut out = Vec::new(rt.alloc());
-    write_lines(&mut out, &[5, 100], &[0, 20], 0)?;
-    assert_eq!(rt;
-        out.as_slice(),
-        [0x05, 0x00, 0x0e, 0x02, 0xdf, 0x00, 0x01, 0x14, 0x0e, 0x00].as_slice()
-    );
-    let read = read_lines(rt.alloc(), &out, 0, &[0, 20], 5)?;
-    let lines = read.lines.ok_or("it is an item")?;
-    assert_eq!(rt; lines.as_slice(), [5, 100].as_slice());
-    Ok(())
+/// Whether there are no lines past the greatest.
+fn are_low(lines: &[u32]) -> bool
+    ensures { IsTrue result → AllByRecursion (λ x. x < 2 ^ 31) lines.now }
+{
+    match lines {
+        [] => true,
+        [first, rest @ ..] => *first < 0x8000_0000 && are_low(rest),
+    }
 }
 
-#[test]
-fn parameters_have_no_names(rt: HostRuntime) -> Result<(), Fail> {
-    let mut out = vec![in rt.alloc(); 0xff]?;
-    write_lines(&mut out, &[0, 0, 300], &[0, 2, 3], 2)?;
-    assert_eq!(rt;
-        out.as_slice(),
-        [0xff, 0xac, 0x02, 0x02, 0x00, 0x00, 0x3b, 0x00].as_slice()
-    );
-    let read = read_lines(rt.alloc(), &out, 1, &[0, 2, 3], 100)?;
-    let lines = read.lines.ok_or("it is an item")?;
-    assert_eq!(rt; lines.as_slice(), [0, 0, 300].as_slice());
-    Ok(())
+/// The bytes of a table behind `ff`: lines, starts and how many parameters there are.
+pub fn write(
+    alloc: Global,
+    lines: &str,
+    starts: &str,
+    parameters: &str,
+) -> Result<String, Trouble> {
+    let lines = numbers(alloc, lines)?;
+    let starts = numbers(alloc, starts)?;
+    let parameters = number(parameters)?;
+    let mut out = vec![in alloc; 0xff]?;
+    let are_fine = ascend(0, starts.as_slice()) && are_low(lines.as_slice());
+    if !are_fine || lines.len() != starts.len() {
+        return Err(Trouble::Words);
+    }
+    write_lines(&mut out, lines.as_slice(), starts.as_slice(), parameters)?;
+    Ok(digits_of(alloc, out.as_slice())?)
 }
 
-/// The opcodes that are read of an item that gives no lines.
-fn broken(alloc: Global, bytes: &[u8], most: u32) -> Result<Option<u64>, AllocError> {
-    let read = read_lines(alloc, bytes, 0, &[0, 1], most)?;
-    Ok(if read.lines.is_none() {
-        Some(read.opcodes)
-    } else {
-        None
+/// The lines that bytes from the second one on give to starts, and how many opcodes are read, of at most so many.
+pub fn read(alloc: Global, digits: &str, starts: &str, most: &str) -> Result<String, Trouble> {
+    let bytes = bytes(alloc, digits)?;
+    let starts = numbers(alloc, starts)?;
+    let most = number(most)?;
+    let read = read_lines(alloc, bytes.as_slice(), 1, starts.as_slice(), most)?;
+    let opcodes = read.opcodes;
+    Ok(match read.lines {
+        Some(lines) => {
+            let lines = list_of(alloc, lines.as_slice())?;
+            format!(in alloc; "{opcodes} opcodes, lines {lines}")?
+        }
+        None => format!(in alloc; "{opcodes} opcodes, no lines")?,
     })
-}
-
-#[test]
-fn what_breaks_an_item_leaves_no_lines(rt: HostRuntime) -> Result<(), Fail> {
-    assert_eq!(rt; broken(rt.alloc(), &[5, 0], 9)?, Some(0));
-    assert_eq!(rt; broken(rt.alloc(), &[5, 2, 0], 9)?, Some(0));
-    assert_eq!(rt; broken(rt.alloc(), &[5, 0, 7, 8, 9, 0], 3)?, Some(3));
-    assert_eq!(rt; broken(rt.alloc(), &[5, 0, 7, 8, 9, 0, 0], 3)?, Some(4));
-    assert_eq!(rt;
-        broken(
-            rt.alloc(),
-            &[5, 0, 7, 1, 0xff, 0xff, 0xff, 0xff, 0xff, 0, 0],
-            9
-        )?,
-        Some(2)
-    );
-    assert_eq!(rt;
-        broken(rt.alloc(), &[5, 0, 1, 0xff, 0xff, 0xff, 0xff, 0x0f, 0], 9)?,
-        Some(1)
-    );
-    assert_eq!(rt; broken(rt.alloc(), &[5, 0, 2, 0x7a, 0], 9)?, Some(1));
-    assert_eq!(rt; broken(rt.alloc(), &[4, 0, 10, 0], 9)?, Some(1));
-    assert_eq!(rt;
-        broken(rt.alloc(), &[0x80, 0x80, 0x80, 0x80, 0x08, 0, 0], 9)?,
-        Some(0)
-    );
-    Ok(())
-}
-
-#[test]
-fn reading_ends_behind_the_last_start(rt: HostRuntime) -> Result<(), Fail> {
-    let read = read_lines(rt.alloc(), &[5, 0, 0x0e, 0x2d, 0x01], 0, &[0], 9)?;
-    assert_eq!(rt; read.opcodes, 2);
-    let lines = read.lines.ok_or("the rest isn't read")?;
-    assert_eq!(rt; lines.as_slice(), [5].as_slice());
-    let read = read_lines(rt.alloc(), &[5, 0, 0x0e, 0x01], 0, &[], 9)?;
-    assert_eq!(rt; read.opcodes, 1);
-    assert!(rt; read.lines.is_some());
-    Ok(())
 }

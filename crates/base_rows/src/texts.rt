@@ -1,246 +1,121 @@
+//! Numbers and texts of a file.
+
 use dex_base::{
     BaseFault, Descriptor, Text, adler, compare_units, read_sleb, read_text, read_u16, read_u32,
     read_uleb, split_descriptor, write_sleb, write_text, write_u16, write_u32, write_uleb,
 };
-use std::cmp::Ordering;
-use std::test::*;
+use program_text::units_of;
+use row_text::{Trouble, bytes, digits_of, number, place};
+use std::alloc::{AllocError, Global};
 
-#[test]
-fn numbers_of_up_to_five_bytes_are_read(rt: HostRuntime) {
-    assert!(rt; matches!(read_uleb(&[0x80, 0x7f], 0), Ok((16256, 2))));
-    assert!(rt; matches!(read_uleb(&[0x80, 0x00], 0), Ok((0, 2))));
-    assert!(rt;
-        matches!(
-            read_uleb(&[7, 0xff, 0xff, 0xff, 0xff, 0x0f], 1),
-            Ok((0xffff_ffff, 6))
-        )
-    );
-    assert!(rt;
-        matches!(
-            read_uleb(&[0xff, 0xff, 0xff, 0xff, 0x7f], 0),
-            Ok((0xffff_ffff, 5))
-        )
-    );
-    assert!(rt; matches!(read_sleb(&[0x80, 0x7f], 0), Ok((-128, 2))));
-    assert!(rt; matches!(read_sleb(&[0x7f], 0), Ok((-1, 1))));
-    assert!(rt;
-        matches!(
-            read_sleb(&[0x80, 0x80, 0x80, 0x80, 0x78], 0),
-            Ok((-0x8000_0000, 5))
-        )
-    );
+/// A fault as it is said.
+fn fault_text(alloc: Global, fault: BaseFault) -> Result<String, AllocError> {
+    match fault {
+        BaseFault::NoMemory => Err(AllocError),
+        fault => format!(in alloc; "{fault}"),
+    }
 }
 
-#[test]
-fn a_number_that_ends_nowhere_is_refused(rt: HostRuntime) {
-    assert!(rt;
-        matches!(
-            read_uleb(&[0xff, 0xff, 0xff, 0xff, 0xff], 0),
-            Err(BaseFault::LongLeb { at: 4 })
-        )
-    );
-    assert!(rt;
-        matches!(
-            read_sleb(&[0, 0xff, 0xff, 0xff, 0xff, 0xff], 1),
-            Err(BaseFault::LongLeb { at: 5 })
-        )
-    );
-    assert!(rt; matches!(read_uleb(&[0x80, 0x80], 0), Err(BaseFault::Short { at: 0 })));
-    assert!(rt; matches!(read_uleb(&[0], 1), Err(BaseFault::Short { at: 1 })));
-    assert!(rt;
-        matches!(
-            read_sleb(&[0], usize::MAX),
-            Err(BaseFault::Short { at: usize::MAX })
-        )
-    );
+/// A number that is read and where it ends, or the fault.
+fn read_number(alloc: Global, name: &str, bytes: &[u8], at: usize) -> Result<String, AllocError> {
+    let read = match name {
+        "uleb" => read_uleb(bytes, at).map(|(number, next)| (i64::from(number), next)),
+        "sleb" => read_sleb(bytes, at).map(|(number, next)| (i64::from(number), next)),
+        "u16" => read_u16(bytes, at).map(|number| (i64::from(number), at)),
+        _ => read_u32(bytes, at).map(|number| (i64::from(number), at)),
+    };
+    match read {
+        Ok((number, next)) if next == at => format!(in alloc; "{number}"),
+        Ok((number, next)) => format!(in alloc; "{number} up to {next}"),
+        Err(fault) => fault_text(alloc, fault),
+    }
 }
 
-#[test]
-fn numbers_are_written_with_few_bytes(rt: HostRuntime) -> Result<(), Fail> {
-    let mut out = Vec::new(rt.alloc());
-    write_uleb(&mut out, 16256)?;
-    write_uleb(&mut out, 0)?;
-    write_uleb(&mut out, 0xffff_ffff)?;
-    write_sleb(&mut out, -128)?;
-    write_sleb(&mut out, 64)?;
-    write_sleb(&mut out, -0x8000_0000)?;
-    assert_eq!(rt;
-        out.as_slice(),
-        [
-            0x80, 0x7f, 0, 0xff, 0xff, 0xff, 0xff, 0x0f, 0x80, 0x7f, 0xc0, 0, 0x80, 0x80, 0x80,
-            0x80, 0x78
-        ]
-        .as_slice()
-    );
-    Ok(())
+/// The bytes of a number behind `ff`.
+fn written_number(alloc: Global, name: &str, number: i64) -> Result<String, Trouble> {
+    let mut out = vec![in alloc; 0xff]?;
+    let signed = i32::try_from(number);
+    let unsigned = u32::try_from(number);
+    let short = u16::try_from(number);
+    match (name, signed, unsigned, short) {
+        ("write-sleb", Ok(number), _, _) => write_sleb(&mut out, number)?,
+        ("write-uleb", _, Ok(number), _) => write_uleb(&mut out, number)?,
+        ("write-u32", _, Ok(number), _) => write_u32(&mut out, number)?,
+        ("write-u16", _, _, Ok(number)) => write_u16(&mut out, number)?,
+        _ => return Err(Trouble::Words),
+    }
+    Ok(digits_of(alloc, out.as_slice())?)
 }
 
-#[test]
-fn words_are_little_endian(rt: HostRuntime) -> Result<(), Fail> {
-    let mut out = Vec::new(rt.alloc());
-    write_u16(&mut out, 0x1234)?;
-    write_u32(&mut out, 0x89ab_cdef)?;
-    assert_eq!(rt;
-        out.as_slice(),
-        [0x34, 0x12, 0xef, 0xcd, 0xab, 0x89].as_slice()
-    );
-    assert!(rt; matches!(read_u16(&out, 0), Ok(0x1234)));
-    assert!(rt; matches!(read_u32(&out, 2), Ok(0x89ab_cdef)));
-    assert!(rt; matches!(read_u32(&out, 3), Err(BaseFault::Short { at: 3 })));
-    assert!(rt;
-        matches!(
-            read_u16(&out, usize::MAX),
-            Err(BaseFault::Short { at: usize::MAX })
-        )
-    );
-    Ok(())
+/// A text of these units.
+fn text(alloc: Global, word: &str) -> Result<Text, AllocError> {
+    Ok(Text::from_vec(units_of(alloc, word)?))
 }
 
-#[test]
-fn the_checksum_is_adlers(rt: HostRuntime) {
-    assert_eq!(rt; adler(b"abc"), 0x024d_0127);
-    assert_eq!(rt; adler(b"Wikipedia"), 0x11e6_0398);
-    assert_eq!(rt; adler(b""), 1);
+/// The bytes of a text behind `ff`.
+fn written_text(alloc: Global, word: &str) -> Result<String, AllocError> {
+    let mut out = vec![in alloc; 0xff]?;
+    write_text(&mut out, &text(alloc, word)?)?;
+    digits_of(alloc, out.as_slice())
 }
 
-/// `A`, zero, `é` and a surrogate pair, with the zero byte behind them.
-const SPELLED: [u8; 13] = [
-    0xff, 0x41, 0xc0, 0x80, 0xc3, 0xa9, 0xed, 0xa0, 0xbd, 0xed, 0xb8, 0x80, 0,
-];
-
-#[test]
-fn texts_are_written_and_read(rt: HostRuntime) -> Result<(), Fail> {
-    let short = Text::from_units(rt.alloc(), &[0x61, 0])?;
-    let mut out = Vec::new(rt.alloc());
-    write_text(&mut out, &short)?;
-    assert_eq!(rt; out.as_slice(), [0x61, 0xc0, 0x80, 0].as_slice());
-    let text = Text::from_units(rt.alloc(), &[0x41, 0, 0xe9, 0xd83d, 0xde00])?;
-    let mut out = vec![in rt.alloc(); 0xff]?;
-    write_text(&mut out, &text)?;
-    assert_eq!(rt; out.as_slice(), SPELLED.as_slice());
-    let (read, next) = read_text(rt.alloc(), &SPELLED, 1, 5)
-        .ok()
-        .ok_or("five units stand there")?;
-    assert_eq!(rt; next, 13);
-    assert_eq!(rt; compare_units(&read, &text), Ordering::Equal);
-    assert_eq!(rt; compare_units(&short, &text), Ordering::Greater);
-    Ok(())
+/// A text of so many units that is read, and where it ends, or the fault.
+fn read_units(alloc: Global, bytes: &[u8], at: usize, count: u32) -> Result<String, Trouble> {
+    Ok(match read_text(alloc, bytes, at, count) {
+        Ok((text, next)) => {
+            let mut out = String::new(alloc);
+            for unit in text.units() {
+                write!(out, "{unit:04x} ")?;
+            }
+            write!(out, "up to {next}")?;
+            out
+        }
+        Err(fault) => fault_text(alloc, fault)?,
+    })
 }
 
-#[test]
-fn texts_that_cannot_continue_are_refused(rt: HostRuntime) {
-    assert!(rt;
-        matches!(
-            read_text(rt.alloc(), &SPELLED, 1, 4),
-            Err(BaseFault::BadText { at: 9 })
-        )
-    );
-    assert!(rt;
-        matches!(
-            read_text(rt.alloc(), &SPELLED, 1, 6),
-            Err(BaseFault::BadText { at: 12 })
-        )
-    );
-    assert!(rt;
-        matches!(
-            read_text(rt.alloc(), &SPELLED[..12], 1, 5),
-            Err(BaseFault::Short { at: 1 })
-        )
-    );
-    assert!(rt;
-        matches!(
-            read_text(rt.alloc(), &[0xc1, 0x81, 0], 0, 1),
-            Err(BaseFault::BadText { at: 0 })
-        )
-    );
-    assert!(rt;
-        matches!(
-            read_text(rt.alloc(), &[0xe0, 0x9f, 0], 0, 1),
-            Err(BaseFault::BadText { at: 1 })
-        )
-    );
-    assert!(rt;
-        matches!(
-            read_text(rt.alloc(), &[], 7, 0),
-            Err(BaseFault::Short { at: 7 })
-        )
-    );
+/// What a descriptor says.
+fn descriptor(alloc: Global, word: &str) -> Result<String, AllocError> {
+    match split_descriptor(&text(alloc, word)?) {
+        Ok(Descriptor::Void) => String::from_str(alloc, "void"),
+        Ok(Descriptor::Primitive(letter)) => format!(in alloc; "primitive {letter:02x}"),
+        Ok(Descriptor::Class) => String::from_str(alloc, "class"),
+        Ok(Descriptor::Array { depth }) => format!(in alloc; "array of depth {depth}"),
+        Err(fault) => fault_text(alloc, fault),
+    }
 }
 
-fn kind_of(rt: &HostRuntime, units: &[u16]) -> Result<Result<Descriptor, BaseFault>, Fail> {
-    let text = Text::from_units(rt.alloc(), units)?;
-    Ok(split_descriptor(&text))
-}
-
-#[test]
-fn descriptors_say_their_type(rt: HostRuntime) -> Result<(), Fail> {
-    assert!(rt; matches!(kind_of(&rt, &[0x56])?, Ok(Descriptor::Void)));
-    assert!(rt; matches!(kind_of(&rt, &[0x49])?, Ok(Descriptor::Primitive(0x49))));
-    assert!(rt;
-        matches!(
-            kind_of(&rt, &[0x4c, 0x61, 0x2f, 0x24, 0x3b])?,
-            Ok(Descriptor::Class)
-        )
-    );
-    assert!(rt;
-        matches!(
-            kind_of(&rt, &[0x5b, 0x5b, 0x4a])?,
-            Ok(Descriptor::Array { depth: 2 })
-        )
-    );
-    assert!(rt;
-        matches!(
-            kind_of(&rt, &[0x4c, 0xd83d, 0xde00, 0x3b])?,
-            Ok(Descriptor::Class)
-        )
-    );
-    Ok(())
-}
-
-#[test]
-fn the_first_unit_that_cannot_continue_is_named(rt: HostRuntime) -> Result<(), Fail> {
-    assert!(rt; matches!(kind_of(&rt, &[])?, Err(BaseFault::BadDescriptor { at: 0 })));
-    assert!(rt;
-        matches!(
-            kind_of(&rt, &[0x5b, 0x56])?,
-            Err(BaseFault::BadDescriptor { at: 1 })
-        )
-    );
-    assert!(rt;
-        matches!(
-            kind_of(&rt, &[0x4c, 0x3b])?,
-            Err(BaseFault::BadDescriptor { at: 1 })
-        )
-    );
-    assert!(rt;
-        matches!(
-            kind_of(&rt, &[0x4c, 0x61])?,
-            Err(BaseFault::BadDescriptor { at: 2 })
-        )
-    );
-    assert!(rt;
-        matches!(
-            kind_of(&rt, &[0x4c, 0x61, 0x2f, 0x2f])?,
-            Err(BaseFault::BadDescriptor { at: 3 })
-        )
-    );
-    assert!(rt;
-        matches!(
-            kind_of(&rt, &[0x4c, 0xd83d, 0x3b])?,
-            Err(BaseFault::BadDescriptor { at: 2 })
-        )
-    );
-    assert!(rt;
-        matches!(
-            kind_of(&rt, &[0x49, 0x49])?,
-            Err(BaseFault::BadDescriptor { at: 1 })
-        )
-    );
-    assert!(rt;
-        matches!(
-            kind_of(&rt, &[0x5b; 256])?,
-            Err(BaseFault::BadDescriptor { at: 255 })
-        )
-    );
-    Ok(())
+/// The answer to a line on numbers or texts, none where it is on something else.
+pub fn answer(
+    alloc: Global,
+    first: &str,
+    second: &str,
+    third: &str,
+    fourth: &str,
+) -> Result<Option<String>, Trouble> {
+    Ok(Some(match first {
+        "uleb" | "sleb" | "u16" | "u32" => {
+            let bytes = bytes(alloc, second)?;
+            read_number(alloc, first, bytes.as_slice(), place(third)?)?
+        }
+        "text" => {
+            let bytes = bytes(alloc, second)?;
+            read_units(alloc, bytes.as_slice(), place(third)?, number(fourth)?)?
+        }
+        "adler" => {
+            let sum = adler(second.as_bytes());
+            format!(in alloc; "{sum:08x}")?
+        }
+        "write-text" => written_text(alloc, second)?,
+        "compare" => {
+            let order = compare_units(&text(alloc, second)?, &text(alloc, third)?);
+            format!(in alloc; "{order:?}")?
+        }
+        "descriptor" => descriptor(alloc, second)?,
+        "write-uleb" | "write-sleb" | "write-u16" | "write-u32" => {
+            let number = second.parse::<i64>().map_err(|_| Trouble::Words)?;
+            written_number(alloc, first, number)?
+        }
+        _ => return Ok(None),
+    }))
 }

@@ -1,32 +1,31 @@
-//! What rules match and keep, a sentence of it a row.
+//! What rules match and keep.
 
-use crate::is_small;
-use crate::sample::sample;
+ghost use Rattle.std.specs.Prelude.{◌≡◌, ◌&&◌, nat_lt, length};
+
 use hierarchy::{Hierarchy, HierarchyFault};
 use keep_rules::{RuleFault, outside_of, read_rules};
 use program_model::{Outside, Program};
+use program_text::{TextFault, assemble, field_text, method_text, type_text};
+use row_text::{Texts, Trouble, lines_of};
 use rule_text::Rules;
-use std::alloc::Global;
-use std::test::*;
+use std::alloc::{AllocError, Global};
 
-/// Why there is no answer.
-#[derive(Debug, Drop)]
-enum Trouble {
-    Rules(RuleFault),
-    Classes(HierarchyFault),
-    Memory,
-    Size,
+/// Whether each table of numbers, and the list of classes, has fewer than a hundred entries, as the rows have it.
+fn is_small(program: &Program) -> bool
+    ensures { result ≡ (nat_lt (length program.now.types) 100 && nat_lt (length program.now.fields) 100 && nat_lt (length program.now.methods) 100 && nat_lt (length program.now.classes) 100) }
+{
+    program.types.len() < 100
+        && program.fields.len() < 100
+        && program.methods.len() < 100
+        && program.classes.len() < 100
 }
 
-fn answer(alloc: Global, program: &Program, text: &str) -> Result<Outside, Trouble> {
-    if !is_small(program) {
-        return Err(Trouble::Size);
-    }
-    let hierarchy = classes_of(alloc, program)?;
-    let rules = rules_of(alloc, text)?;
-    match outside_of(alloc, &rules, program, &hierarchy) {
-        Ok(outside) => Ok(outside),
-        Err(_) => Err(Trouble::Memory),
+/// The program of a text.
+pub fn program_of(alloc: Global, text: &str) -> Result<Program, Trouble> {
+    match assemble(alloc, text) {
+        Ok(program) => Ok(program),
+        Err(TextFault::NoMemory) => Err(Trouble::NoMemory),
+        Err(_) => Err(Trouble::Words),
     }
 }
 
@@ -34,157 +33,97 @@ fn answer(alloc: Global, program: &Program, text: &str) -> Result<Outside, Troub
 fn classes_of(alloc: Global, program: &Program) -> Result<Hierarchy, Trouble> {
     match Hierarchy::build(alloc, program) {
         Ok(hierarchy) => Ok(hierarchy),
-        Err(fault) => Err(Trouble::Classes(fault)),
+        Err(HierarchyFault::NoMemory) => Err(Trouble::NoMemory),
+        Err(_) => Err(Trouble::Words),
     }
 }
 
 /// The rules of a short text.
-fn rules_of(alloc: Global, text: &str) -> Result<Rules, Trouble> {
-    if text.len() > 999 {
-        return Err(Trouble::Size);
+fn rules_of(alloc: Global, text: &[u8]) -> Result<Rules, Trouble> {
+    if text.len() > 1000 {
+        return Err(Trouble::Words);
     }
-    match read_rules(alloc, text.as_bytes()) {
+    match read_rules(alloc, text) {
         Ok(rules) => Ok(rules),
-        Err(fault) => Err(Trouble::Rules(fault)),
+        Err(RuleFault::NoMemory) => Err(Trouble::NoMemory),
+        Err(_) => Err(Trouble::Words),
     }
 }
 
-/// A text, and the numbers of the classes, methods and fields that are kept.
-const KEPT: [(&str, &[u32], &[u32], &[u32]); 37] = [
-    ("", &[], &[], &[]),
-    ("-keep class A", &[1], &[], &[]),
-    ("-keep class a.B$C", &[2], &[], &[]),
-    ("-keep class a/B$C", &[], &[], &[]),
-    ("-keep class *", &[1, 2], &[], &[]),
-    ("-keep class *,b", &[1, 2], &[], &[]),
-    ("-keep class ?", &[1], &[], &[]),
-    ("-keep class *C", &[], &[], &[]),
-    ("-keep class *.B*", &[2], &[], &[]),
-    ("-keep class **C", &[2], &[], &[]),
-    ("-keep class a?B$C", &[], &[], &[]),
-    ("-keep class a.B?C, A", &[1, 2], &[], &[]),
-    ("-keep enum *", &[2], &[], &[]),
-    ("-keep !enum *", &[1], &[], &[]),
-    (
-        "-keep interface * -keep @interface * -keep !class *",
-        &[],
-        &[],
-        &[],
-    ),
-    ("-keep public class *", &[1], &[], &[]),
-    ("-keep !public final class *", &[2], &[], &[]),
-    ("-keep @a.Mark class *", &[1], &[], &[]),
-    ("-keep class * extends A", &[2], &[], &[]),
-    ("-keep class * implements android.View", &[1, 2], &[], &[]),
-    ("-keep class ** extends @a.Mark *", &[2], &[], &[]),
-    ("-keep class * extends @a.Mark android.View", &[], &[], &[]),
-    ("-keep class * extends a.B$C", &[], &[], &[]),
-    ("-keep class A { *; }", &[1], &[0, 1, 2], &[0]),
-    ("-keep class A { <fields>; }", &[1], &[], &[0]),
-    ("-keep class A { <methods>; }", &[1], &[0, 1, 2], &[]),
-    ("-keep class * { <init>(); }", &[1, 2], &[0, 3], &[]),
-    ("-keep class A { <init>(int); }", &[1], &[], &[]),
-    ("-keep class A { void *(android.View); }", &[1], &[1], &[]),
-    (
-        "-keep class A { public static %  m?k*(...); }",
-        &[1],
-        &[2],
-        &[],
-    ),
-    (
-        "-keep class A { public private !static *; }",
-        &[1],
-        &[0, 1],
-        &[0],
-    ),
-    ("-keep class A { @a.Mark <methods>; }", &[1], &[1], &[]),
-    ("-keep class * { **[] x; }", &[1, 2], &[], &[1]),
-    ("-keep class * { ** x; % x; }", &[1, 2], &[], &[0]),
-    ("-keep class * { *** *(a.B$C[]); }", &[1, 2], &[2], &[]),
-    (
-        "-keepclasseswithmembers class * { private <init>(); *** x; }",
-        &[2],
-        &[3],
-        &[1],
-    ),
-    (
-        "-keep,includedescriptorclasses class A { int make(...); }",
-        &[1, 2],
-        &[2],
-        &[],
-    ),
-];
-
-/// Whether two lists of numbers are the same.
-fn are_numbers(found: &[u32], wanted: &[u32]) -> bool {
-    found == wanted
+/// What rules keep of a program.
+fn outside(alloc: Global, program: &Program, rules: &[u8]) -> Result<Outside, Trouble> {
+    if !is_small(program) {
+        return Err(Trouble::Words);
+    }
+    let hierarchy = classes_of(alloc, program)?;
+    let rules = rules_of(alloc, rules)?;
+    match outside_of(alloc, &rules, program, &hierarchy) {
+        Ok(outside) => Ok(outside),
+        Err(_) => Err(Trouble::NoMemory),
+    }
 }
 
-/// Whether these classes, methods and fields are kept, and none on a condition.
-fn keeps(outside: &Outside, classes: &[u32], methods: &[u32], fields: &[u32]) -> bool {
-    are_numbers(outside.classes.as_slice(), classes)
-        && are_numbers(outside.methods.as_slice(), methods)
-        && are_numbers(outside.fields.as_slice(), fields)
-        && outside.methods_if.is_empty()
-        && outside.classes_if.is_empty()
-}
-
-#[test]
-fn rules_keep_what_they_match(rt: HostRuntime) -> Result<(), Fail> {
-    let program = sample(rt.alloc())?;
-    for (text, classes, methods, fields) in KEPT {
-        let outside = answer(rt.alloc(), &program, text)?;
-        assert!(rt; keeps(&outside, classes, methods, fields));
+/// Adds the members with these numbers behind a word, if there are any.
+fn add_members(
+    alloc: Global,
+    program: &Program,
+    word: &str,
+    fields: &[u32],
+    methods: &[u32],
+    texts: &mut Texts,
+) -> Result<(), AllocError> {
+    if !(fields.is_empty() && methods.is_empty()) && !word.is_empty() {
+        texts.add(word)?;
+    }
+    for field in fields {
+        texts.add(field_text(alloc, program, *field)?.as_str())?;
+    }
+    for method in methods {
+        texts.add(method_text(alloc, program, *method)?.as_str())?;
     }
     Ok(())
 }
 
-#[test]
-fn members_of_live_classes_are_kept_apart(rt: HostRuntime) -> Result<(), Fail> {
-    let program = sample(rt.alloc())?;
-    let text = "-keepclassmembers,includedescriptorclasses class A { *; } -dontshrink";
-    let outside = answer(rt.alloc(), &program, text)?;
-    assert!(rt; outside.classes.is_empty() && outside.methods.is_empty());
-    assert!(rt; are_numbers(outside.methods_if.as_slice(), &[0, 1, 2]));
-    assert!(rt; are_numbers(outside.fields_if.as_slice(), &[0]));
-    assert_eq!(rt; outside.classes_if.len(), 1);
-    assert_eq!(rt; outside.classes_if.as_slice()[0].class, 2);
-    assert_eq!(rt; outside.classes_if.as_slice()[0].owner, 1);
-    assert!(rt; !outside.shrink && outside.optimise && outside.shut.is_empty());
-    Ok(())
-}
-
-#[test]
-fn rules_of_names_and_those_that_allow_shrinking_keep_nothing(rt: HostRuntime) -> Result<(), Fail> {
-    let program = sample(rt.alloc())?;
-    let text = "-keepnames class * { *; } -keepclassmembernames class * { *; } -dontoptimize
-        -keepclasseswithmembernames class * { *; } -keep,allowshrinking class * { *; }";
-    let outside = answer(rt.alloc(), &program, text)?;
-    assert!(rt; outside.classes.is_empty() && outside.methods.is_empty());
-    assert!(rt; outside.methods_if.is_empty() && outside.shrink && !outside.optimise);
-    Ok(())
-}
-
-/// A text, and the methods that are silent.
-const SILENT: [(&str, &[u32]); 6] = [
-    ("-assumenosideeffects class Log { *; }", &[4, 5]),
-    (
-        "-assumenosideeffects class * { static <methods>; }",
-        &[4, 5],
-    ),
-    ("-assumenosideeffects class L?g { void log(); }", &[4]),
-    ("-assumenosideeffects class Log { int *(a.B$C[]); }", &[5]),
-    ("-assumenosideeffects class A { *; }", &[]),
-    ("-assumenosideeffects class Log { void log(int); }", &[]),
-];
-
-#[test]
-fn methods_outside_the_program_are_silent(rt: HostRuntime) -> Result<(), Fail> {
-    let program = sample(rt.alloc())?;
-    for (text, silent) in SILENT {
-        let outside = answer(rt.alloc(), &program, text)?;
-        assert!(rt; are_numbers(outside.silent.as_slice(), silent));
-        assert!(rt; outside.methods.is_empty() && outside.classes.is_empty());
+/// What rules keep of a program: classes, fields and methods, the same on a condition behind `if`, silent and shut methods
+/// behind these words, and what is forbidden.
+pub fn kept(alloc: Global, text: &str, rules: &str) -> Result<String, Trouble> {
+    let program = program_of(alloc, text)?;
+    let rules = lines_of(alloc, rules)?;
+    let outside = outside(alloc, &program, rules.as_slice())?;
+    let mut texts = Texts::new(alloc);
+    for class in outside.classes.as_slice() {
+        texts.add(type_text(alloc, &program, *class)?.as_str())?;
     }
-    Ok(())
+    let (fields, methods) = (outside.fields.as_slice(), outside.methods.as_slice());
+    add_members(alloc, &program, "", fields, methods, &mut texts)?;
+    for one in outside.classes_if.as_slice() {
+        let class = type_text(alloc, &program, one.class)?;
+        let owner = type_text(alloc, &program, one.owner)?;
+        texts.add(format!(in alloc; "{class} if {owner}")?.as_str())?;
+    }
+    let (fields, methods) = (outside.fields_if.as_slice(), outside.methods_if.as_slice());
+    add_members(alloc, &program, "if", fields, methods, &mut texts)?;
+    add_members(
+        alloc,
+        &program,
+        "silent",
+        &[],
+        outside.silent.as_slice(),
+        &mut texts,
+    )?;
+    add_members(
+        alloc,
+        &program,
+        "shut",
+        &[],
+        outside.shut.as_slice(),
+        &mut texts,
+    )?;
+    if !outside.shrink {
+        texts.add("noshrink")?;
+    }
+    if !outside.optimise {
+        texts.add("nooptimise")?;
+    }
+    Ok(texts.said(alloc)?)
 }

@@ -1,0 +1,339 @@
+//! The analysis.
+
+ghost use Rattle.std.specs.Prelude.{◌≡◌, true, length};
+ghost use Rattle.program_model.specs.ProgramRules.{is_well_formed};
+ghost use Rattle.hierarchy.specs.Shapes.{IsResolved};
+ghost use Rattle.fact_graph.specs.Known.{ArePlaces};
+
+use crate::bodies::make_bodies;
+use crate::edges::Drawing;
+use crate::fill::{frames_by_number, frames_of};
+use crate::numbers::{Counts, Numbering, behind, number_nodes};
+use crate::quiet::Search;
+use call_graph::live_members;
+use call_targets::{Targets, targets};
+use dom_frame::Frame;
+use domains::Value;
+use fact_graph::{Arrival, Bodies, Code, Links, Network, blocks_of, classes_of, places_of, solved};
+use facts::Facts;
+use hierarchy::Hierarchy;
+use program_model::{Class, Method, Outside, Program};
+use seq::Seq;
+use std::alloc::{AllocError, Global};
+
+/// The numbering of the nodes.
+fn numbering_of(program: &Program, bodies: &Bodies<'_>) -> Numbering {
+    number_nodes(Counts {
+        blocks: bodies.blocks.len(),
+        regions: bodies.regions,
+        codes: bodies.codes.len(),
+        fields: program.fields.len(),
+        methods: program.methods.len(),
+        classes: program.classes.len(),
+    })
+}
+
+/// The value of one register of what has come to a node.
+fn value_in(states: &[Arrival], node: u32, register: u32) -> Option<Value> {
+    match states.get(node as usize) {
+        Some(arrival) => match arrival.second.get(register) {
+            Some(value) => Some(value.same()),
+            None => None,
+        },
+        None => None,
+    }
+}
+
+/// A value, or that of nothing.
+fn or_none(value: Option<Value>) -> Value {
+    match value {
+        Some(value) => value,
+        None => Value::none(),
+    }
+}
+
+/// What each method number may return: nothing where a method has code, anything where it has none.
+fn first_results(alloc: Global, program: &Program) -> Result<Vec<Value>, AllocError> {
+    let mut results = Vec::with_capacity(alloc, program.methods.len())?;
+    for _ in 0..program.methods.len() {
+        results.push(Value::any())?;
+    }
+    for class in program.classes.as_slice() {
+        note_results(&mut results, class);
+    }
+    Ok(results)
+}
+
+/// Notes the methods of a class that have code.
+fn note_results(results: &mut [Value], class: &Class) {
+    for method in class.methods.as_slice() {
+        if method.body.is_some() {
+            if let Some(result) = results.get_mut(method.name as usize) {
+                *result = Value::none();
+            }
+        }
+    }
+}
+
+/// So many values of nothing.
+fn nothings(alloc: Global, count: u16) -> Result<Seq<Value>, AllocError> {
+    let mut values = Seq::new(alloc);
+    for _ in 0..count {
+        values.items.push(Value::none())?;
+    }
+    Ok(values)
+}
+
+/// Notes the parameters of a method that has code.
+fn note_parameters(
+    alloc: Global,
+    parameters: &mut [Seq<Value>],
+    method: &Method,
+) -> Result<(), AllocError> {
+    if let Some(body) = &method.body {
+        if let Some(words) = parameters.get_mut(method.name as usize) {
+            *words = nothings(alloc, body.ins)?;
+        }
+    }
+    Ok(())
+}
+
+/// What each parameter word of each method number can be: nothing where the method has code.
+fn first_parameters(alloc: Global, program: &Program) -> Result<Vec<Seq<Value>>, AllocError> {
+    let mut parameters: Vec<Seq<Value>> = Vec::with_capacity(alloc, program.methods.len())?;
+    for _ in 0..program.methods.len() {
+        parameters.push(Seq::new(alloc))?;
+    }
+    for class in program.classes.as_slice() {
+        for method in class.methods.as_slice() {
+            note_parameters(alloc, &mut parameters, method)?;
+        }
+    }
+    Ok(parameters)
+}
+
+/// The parameter words of a body.
+fn parameters_of(
+    alloc: Global,
+    states: &[Arrival],
+    entry: u32,
+    count: u16,
+) -> Result<Seq<Value>, AllocError> {
+    let mut words = Seq::new(alloc);
+    for word in 0..count {
+        words
+            .items
+            .push(or_none(value_in(states, entry, u32::from(word))))?;
+    }
+    Ok(words)
+}
+
+/// What each field can be, anything where the program defines none of this number.
+fn fields_of(
+    alloc: Global,
+    states: &[Arrival],
+    first: u32,
+    count: usize,
+) -> Result<Vec<Value>, AllocError> {
+    let mut fields = Vec::with_capacity(alloc, count)?;
+    let mut node = first;
+    for _ in 0..count {
+        fields.push(match value_in(states, node, 0) {
+            Some(value) => value,
+            None => Value::any(),
+        })?;
+        node = behind(node, 1);
+    }
+    Ok(fields)
+}
+
+/// The table as it is filled in.
+#[derive(Drop)]
+struct Table {
+    frames: Vec<Seq<Option<Frame>>>,
+    parameters: Vec<Seq<Value>>,
+    results: Vec<Value>,
+}
+
+impl Table {
+    /// Fills in what is known of a body.
+    fn add(
+        &mut self,
+        alloc: Global,
+        network: &Network<'_>,
+        numbering: &Numbering,
+        place: u32,
+        code: &Code<'_>,
+        states: &[Arrival],
+    ) -> Result<(), AllocError> {
+        let blocks = blocks_of(network.bodies, place as usize);
+        let number = code.number as usize;
+        if let Some(frames) = self.frames.get_mut(number) {
+            *frames = Seq::of_vec(frames_of(alloc, network, code, blocks, states)?);
+        }
+        if let Some(words) = self.parameters.get_mut(number) {
+            let entry = behind(numbering.entries, place);
+            *words = parameters_of(alloc, states, entry, code.body.ins)?;
+        }
+        if let Some(result) = self.results.get_mut(number) {
+            *result = or_none(value_in(states, behind(numbering.results, place), 0));
+        }
+        Ok(())
+    }
+
+    /// Fills in what is known of all bodies.
+    fn add_all(
+        &mut self,
+        alloc: Global,
+        network: &Network<'_>,
+        numbering: &Numbering,
+        states: &[Arrival],
+    ) -> Result<(), AllocError> {
+        let mut place = 0u32;
+        for code in network.bodies.codes.as_slice() {
+            self.add(alloc, network, numbering, place, code, states)?;
+            place = behind(place, 1);
+        }
+        Ok(())
+    }
+}
+
+/// What is known by the solved table.
+fn filled(
+    alloc: Global,
+    network: &Network<'_>,
+    numbering: &Numbering,
+    search: &Search<'_>,
+    states: &[Arrival],
+) -> Result<Facts, AllocError> {
+    let program = network.program;
+    let mut table = Table {
+        frames: frames_by_number(alloc, program.methods.len())?,
+        parameters: first_parameters(alloc, program)?,
+        results: first_results(alloc, program)?,
+    };
+    table.add_all(alloc, network, numbering, states)?;
+    let quiet = search.quiet(alloc, network, network.bodies, states, &table.frames)?;
+    let Table {
+        frames,
+        parameters,
+        results,
+    } = table;
+    Ok(Facts {
+        frames,
+        parameters,
+        results,
+        fields: fields_of(alloc, states, numbering.fields, program.fields.len())?,
+        quiet,
+        any: Value::any(),
+    })
+}
+
+/// The graph of a program.
+fn draw<'a>(
+    alloc: Global,
+    program: &'a Program,
+    hierarchy: &'a Hierarchy,
+    outside: &Outside,
+    bodies: &Bodies<'_>,
+    found: &Targets,
+) -> Result<(Links, Vec<usize>), AllocError> {
+    let numbering = numbering_of(program, bodies);
+    let mut drawing = Drawing {
+        program,
+        hierarchy,
+        numbering,
+        links: Links::new(alloc, numbering.nodes)?,
+    };
+    let ranges = drawing.add_codes(alloc, bodies)?;
+    drawing.begin_all_fields(alloc, outside)?;
+    drawing.begin_entries(alloc, bodies, found)?;
+    drawing.begin_answers(alloc, found)?;
+    drawing.add_links(bodies, found)?;
+    drawing.add_classes(bodies, found)?;
+    let Drawing { links, .. } = drawing;
+    Ok((links, ranges))
+}
+
+/// What is known by the graph of a program.
+fn solved_facts<'a>(
+    alloc: Global,
+    program: &'a Program,
+    hierarchy: &'a Hierarchy,
+    places: &'a [Option<u32>],
+    bodies: &'a Bodies<'a>,
+    drawn: (Links, Vec<usize>),
+) -> Result<Facts, AllocError>
+    requires formed { is_well_formed program.now ≡ true }
+    requires resolved { IsResolved program.now hierarchy.now }
+    requires places { ArePlaces hierarchy.now (length program.now.types) places.now }
+{
+    let numbering = numbering_of(program, bodies);
+    let (links, ranges) = drawn;
+    let network = Network {
+        program,
+        classes: classes_of(program, hierarchy, places),
+        bodies,
+        links,
+        ranges,
+    };
+    let states = solved(alloc, &network, numbering.root)?;
+    let search = Search {
+        program,
+        hierarchy,
+        numbering,
+    };
+    filled(alloc, &network, &numbering, &search, &states)
+}
+
+/// What is known of a program with these bodies.
+fn facts_of_bodies<'a>(
+    alloc: Global,
+    program: &'a Program,
+    hierarchy: &'a Hierarchy,
+    outside: &Outside,
+    found: &Targets,
+    places: &'a [Option<u32>],
+    bodies: Bodies<'a>,
+) -> Result<Facts, AllocError>
+    requires formed { is_well_formed program.now ≡ true }
+    requires resolved { IsResolved program.now hierarchy.now }
+    requires places { ArePlaces hierarchy.now (length program.now.types) places.now }
+{
+    let drawn = draw(alloc, program, hierarchy, outside, &bodies, found)?;
+    solved_facts(alloc, program, hierarchy, places, &bodies, drawn)
+}
+
+/// What is known of a program by the table of its classes.
+fn facts_of_places<'a>(
+    alloc: Global,
+    program: &'a Program,
+    hierarchy: &'a Hierarchy,
+    outside: &Outside,
+    places: &'a [Option<u32>],
+) -> Result<Facts, AllocError>
+    requires formed { is_well_formed program.now ≡ true }
+    requires resolved { IsResolved program.now hierarchy.now }
+    requires places { ArePlaces hierarchy.now (length program.now.types) places.now }
+{
+    let live = live_members(alloc, program, hierarchy, outside)?;
+    let found = targets(alloc, program, hierarchy, outside, &live)?;
+    let bodies = make_bodies(alloc, program, &live)?;
+    facts_of_bodies(alloc, program, hierarchy, outside, &found, places, bodies)
+}
+
+/// What is known of every run of a program that the framework begins as the table of the outside allows: of each position
+/// that a run may come to, of parameters, results and fields, and which methods are quiet. The hierarchy is that of the
+/// program's classes. The only error is want of memory.
+pub fn analyse(
+    alloc: Global,
+    program: &Program,
+    hierarchy: &Hierarchy,
+    outside: &Outside,
+) -> Result<Facts, AllocError>
+    requires formed { is_well_formed program.now ≡ true }
+    requires resolved { IsResolved program.now hierarchy.now }
+{
+    let places = places_of(alloc, hierarchy, program.types.len())?;
+    facts_of_places(alloc, program, hierarchy, outside, &places)
+}

@@ -37,7 +37,7 @@ struct Row {
     sealed: &'static str,
 }
 
-const ROWS: [Row; 21] = [
+const ROWS: [Row; 15] = [
     Row {
         file: PLAIN,
         rules: "-keep class A { *; }",
@@ -104,46 +104,6 @@ const ROWS: [Row; 21] = [
         said: "classes 1 -> 1\nmembers 1 -> 1\ninstructions 2 -> 2\nbytes 412 -> 412\nrounds 1\nspared 0\n",
         sealed: "3f2b6b0ba857869aef7fcccca2ad6457daa58e485e6aac3b",
     },
-    // a silent call is a nop, which goes
-    Row {
-        file: SILENT,
-        rules: "-keep class A { void m(...); } -assumenosideeffects class Log { *; }",
-        said: "classes 1 -> 1\nmembers 1 -> 1\ninstructions 2 -> 1\nbytes 412 -> 376\nrounds 2\nspared 0\n",
-        sealed: "6526ad007fd1f5420336526500ce176a05273eec5f3b0843",
-    },
-    // what does nothing goes, but where the rules forbid all rewriting
-    Row {
-        file: IDLING,
-        rules: "-keep class A { int m(...); }",
-        said: "classes 1 -> 1\nmembers 1 -> 1\ninstructions 6 -> 1\nbytes 412 -> 404\nrounds 2\nspared 0\n",
-        sealed: "fa2c2ad7d022676bc5bfe951e23d53f59df3f6f2f8a4762e",
-    },
-    Row {
-        file: IDLING,
-        rules: "-dontoptimize -keep class A { int m(...); }",
-        said: "classes 1 -> 1\nmembers 1 -> 1\ninstructions 6 -> 6\nbytes 412 -> 412\nrounds 1\nspared 0\n",
-        sealed: "412b4c9b71e65fe1f9089e495cbc9e576c33845581a32ae9",
-    },
-    // a result that nobody reads is not taken, and its call stays, also where it is named silent
-    Row {
-        file: UNREAD,
-        rules: "-keep class A { void m(...); } -assumenosideeffects class Log { *; }",
-        said: "classes 1 -> 1\nmembers 1 -> 1\ninstructions 3 -> 2\nbytes 436 -> 432\nrounds 2\nspared 0\n",
-        sealed: "78275a797ac1c43ff2db66c590ce7879211549ae984eb115",
-    },
-    // a get that initialises a class stays, and so does a division that throws
-    Row {
-        file: STARTS,
-        rules: "-keep class A { void m(...); }",
-        said: "classes 2 -> 2\nmembers 3 -> 3\ninstructions 4 -> 4\nbytes 552 -> 552\nrounds 1\nspared 0\n",
-        sealed: "4e374bc49ae2106ca7fec28bae5225716bf85025917d6a7b",
-    },
-    Row {
-        file: DIVIDES,
-        rules: "-keep class A { int m(...); }",
-        said: "classes 1 -> 1\nmembers 1 -> 1\ninstructions 4 -> 4\nbytes 380 -> 380\nrounds 1\nspared 0\n",
-        sealed: "8e294b0f24dd2c8c75dadc600d5ae1787bee8fd55161e755",
-    },
     Row {
         file: VIEW,
         rules: "-keep class app.V { <init>(); }",
@@ -172,6 +132,51 @@ const ROWS: [Row; 21] = [
     },
 ];
 
+/// What becomes of instructions that do nothing, or whose result nobody reads.
+const BODIES: [Row; 5] = [
+    // a silent call is a nop, which goes
+    Row {
+        file: SILENT,
+        rules: "-keep class A { void m(...); } -assumenosideeffects class Log { *; }",
+        said: "classes 1 -> 1\nmembers 1 -> 1\ninstructions 2 -> 1\nbytes 412 -> 376\nrounds 2\nspared 0\n",
+        sealed: "6526ad007fd1f5420336526500ce176a05273eec5f3b0843",
+    },
+    // what does nothing goes, but where the rules forbid all rewriting
+    Row {
+        file: IDLING,
+        rules: "-keep class A { int m(...); }",
+        said: "classes 1 -> 1\nmembers 1 -> 1\ninstructions 6 -> 1\nbytes 412 -> 404\nrounds 2\nspared 0\n",
+        sealed: "fa2c2ad7d022676bc5bfe951e23d53f59df3f6f2f8a4762e",
+    },
+    Row {
+        file: IDLING,
+        rules: "-dontoptimize -keep class A { int m(...); }",
+        said: "classes 1 -> 1\nmembers 1 -> 1\ninstructions 6 -> 6\nbytes 412 -> 412\nrounds 1\nspared 0\n",
+        sealed: "412b4c9b71e65fe1f9089e495cbc9e576c33845581a32ae9",
+    },
+    // a get that initialises a class stays, and so does a division that throws
+    Row {
+        file: STARTS,
+        rules: "-keep class A { void m(...); }",
+        said: "classes 2 -> 2\nmembers 3 -> 3\ninstructions 4 -> 4\nbytes 552 -> 552\nrounds 1\nspared 0\n",
+        sealed: "4e374bc49ae2106ca7fec28bae5225716bf85025917d6a7b",
+    },
+    Row {
+        file: DIVIDES,
+        rules: "-keep class A { int m(...); }",
+        said: "classes 1 -> 1\nmembers 1 -> 1\ninstructions 4 -> 4\nbytes 380 -> 380\nrounds 1\nspared 0\n",
+        sealed: "8e294b0f24dd2c8c75dadc600d5ae1787bee8fd55161e755",
+    },
+];
+
+/// A call that is named silent, and whose result is taken but not read.
+const TAKEN: Row = Row {
+    file: UNREAD,
+    rules: "-keep class A { void m(...); } -assumenosideeffects class Log { *; }",
+    said: "classes 1 -> 1\nmembers 1 -> 1\ninstructions 3 -> 2\nbytes 436 -> 432\nrounds 2\nspared 0\n",
+    sealed: "78275a797ac1c43ff2db66c590ce7879211549ae984eb115",
+};
+
 /// Optimises a file in hexadecimal.
 fn optimise(alloc: Global, rules: &str, file: &str) -> Result<Left, Fail> {
     Ok(run_on(alloc, OPTIMISE, rules, &hex::decode(alloc, file)?)?)
@@ -199,6 +204,31 @@ fn a_second_run_changes_nothing(rt: HostRuntime) -> Result<(), Fail> {
         assert!(rt; second.said.as_slice().ends_with(b"rounds 1\nspared 0\n"));
         assert_eq!(rt; second.output.as_slice(), first.output.as_slice());
     }
+    Ok(())
+}
+
+#[test]
+fn what_does_nothing_goes_and_a_second_run_changes_nothing(rt: HostRuntime) -> Result<(), Fail> {
+    let alloc = rt.alloc();
+    for row in &BODIES {
+        let first = optimise(alloc, row.rules, row.file)?;
+        assert_eq!(rt; first.said.as_slice(), row.said.as_bytes());
+        let seal = first.output.get(8..32).ok_or("a header")?;
+        assert_eq!(rt; seal, hex::decode(alloc, row.sealed)?.as_slice());
+        let second = run_on(alloc, OPTIMISE, row.rules, &first.output)?;
+        assert_eq!(rt; second.output.as_slice(), first.output.as_slice());
+    }
+    Ok(())
+}
+
+// A second run would find the call silent, since nothing takes its result any more.
+#[test]
+fn a_result_that_nobody_reads_is_not_taken_and_its_call_stays(rt: HostRuntime) -> Result<(), Fail> {
+    let alloc = rt.alloc();
+    let left = optimise(alloc, TAKEN.rules, TAKEN.file)?;
+    assert_eq!(rt; left.said.as_slice(), TAKEN.said.as_bytes());
+    let seal = left.output.get(8..32).ok_or("a header")?;
+    assert_eq!(rt; seal, hex::decode(alloc, TAKEN.sealed)?.as_slice());
     Ok(())
 }
 

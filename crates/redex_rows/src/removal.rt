@@ -170,12 +170,12 @@ const BODIES: [Row; 5] = [
 ];
 
 /// A call that is named silent, and whose result is taken but not read.
-const TAKEN: Row = Row {
+const TAKEN: [Row; 1] = [Row {
     file: UNREAD,
     rules: "-keep class A { void m(...); } -assumenosideeffects class Log { *; }",
     said: "classes 1 -> 1\nmembers 1 -> 1\ninstructions 3 -> 2\nbytes 436 -> 432\nrounds 2\nspared 0\n",
     sealed: "78275a797ac1c43ff2db66c590ce7879211549ae984eb115",
-};
+}];
 
 /// Optimises a file in hexadecimal.
 fn optimise(alloc: Global, rules: &str, file: &str) -> Result<Left, Fail> {
@@ -225,10 +225,12 @@ fn what_does_nothing_goes_and_a_second_run_changes_nothing(rt: HostRuntime) -> R
 #[test]
 fn a_result_that_nobody_reads_is_not_taken_and_its_call_stays(rt: HostRuntime) -> Result<(), Fail> {
     let alloc = rt.alloc();
-    let left = optimise(alloc, TAKEN.rules, TAKEN.file)?;
-    assert_eq!(rt; left.said.as_slice(), TAKEN.said.as_bytes());
-    let seal = left.output.get(8..32).ok_or("a header")?;
-    assert_eq!(rt; seal, hex::decode(alloc, TAKEN.sealed)?.as_slice());
+    for row in &TAKEN {
+        let left = optimise(alloc, row.rules, row.file)?;
+        assert_eq!(rt; left.said.as_slice(), row.said.as_bytes());
+        let seal = left.output.get(8..32).ok_or("a header")?;
+        assert_eq!(rt; seal, hex::decode(alloc, row.sealed)?.as_slice());
+    }
     Ok(())
 }
 

@@ -13,9 +13,9 @@
 //! What the framework may enter, need and keep begins with anything. What the objects of the classes that the program or
 //! the framework makes find for a call is told by `call_targets`.
 //!
-//! Proved is that the analysis is safe and ends, that its only error is want of memory, and that the table of the graph is at
-//! or above what begins at each node and above what each edge into it brings, where the edges bring exactly what `fact_graph`
-//! says. That the graph has all edges which a run takes isn't proved yet.
+//! Proved is that the analysis is safe and ends, and that its only error is want of memory. The table that it solves is at or
+//! above what each edge brings (`fact_graph`); that the facts are those of this table, and that the graph has all edges which
+//! a run takes, no clause says yet.
 #![tactic(auto)]
 
 mod analysis;

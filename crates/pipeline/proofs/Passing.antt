@@ -24,13 +24,16 @@ use Rattle.squeeze.specs.Skipping.{AreSkips}
 use Rattle.thin_pass.specs.Plans.{all_changes, IsThinnedBy}
 use Rattle.thin_pass.specs.Weights.{weight_of}
 use Rattle.thin_pass.proofs.Lighter.{not_capped}
+use Rattle.compact.specs.Measure.{numbers_in}
+use Rattle.compact.specs.Narrow.{has_narrow_classes}
+use Rattle.compact.specs.Renamed.{IsCompactedProgram, IsCounted}
 use Rattle.pipeline.specs.declared.traces.Passed.{Passed}
 use Rattle.pipeline.specs.declared.traces.Traced.{Traced}
 use Rattle.pipeline.specs.Graph.{HasGraph, HasGraphFault}
 use Rattle.pipeline.specs.Origins.{Follow}
-use Rattle.pipeline.specs.Passes.{Pass, Reach, DeadCode, Squeeze, Removes, Does, Steps, Last, Then, AreStill, bulk_of, HavePassed}
+use Rattle.pipeline.specs.Passes.{Pass, Reach, DeadCode, Squeeze, Compact, Removes, Does, Steps, Last, Then, AreStill, bulk_of, HavePassed}
 use Rattle.pipeline.proofs.Few.{few_fields}
-use Rattle.pipeline.proofs.Bulk.{removal_less, thinned_less}
+use Rattle.pipeline.proofs.Bulk.{removal_less, thinned_less, compacted_less}
 
 -- ---- any passes
 
@@ -169,3 +172,13 @@ module _ (o : Outside) (admitted : List Bool) (t : Traced) (r : Passed) where
   clean_passed c h passed graph cleaned resolved none same less = one_passed o admitted DeadCode t c r passed
       (λ formed. inl (record { count = c.count; thinned = resolved (graph formed).resolved; none_left = none (graph formed).resolved })) same (unmoved (AreCleaned (is_on cleaned.quiet)) c cleaned.thinned)
       (λ some. thinned_less (AreCleaned (is_on cleaned.quiet)) admitted t.program c cleaned.thinned (less some))
+
+  -- ---- compaction
+
+  pub wide_passed : r.traced ≡ t → r.count ≡ 0 → has_narrow_classes t.program ≡ false → HavePassed o admitted (Compact ∷ []) t r
+  wide_passed same none wide = none_passed o admitted Compact t r (λ _. record { compaction = inr (refl, wide); still = refl }) same none
+
+  pub compact_passed : (c : Changed) → IsPassed t.origins c r → has_narrow_classes t.program ≡ true → c.origins ≡ [] → IsCompactedProgram admitted t.program c.program → IsCounted c.count t.program c.program
+      → (0 < c.count → numbers_in c.program < numbers_in t.program) → HavePassed o admitted (Compact ∷ []) t r
+  compact_passed c passed narrow still h counts less = one_passed o admitted Compact t c r passed
+      (λ _. record { compaction = inl (narrow, h); still = still }) counts.same (λ _. still) (λ some. compacted_less admitted t.program c.program h (less some))

@@ -2,7 +2,7 @@
 
 ghost use Rattle.std.specs.Prelude.{◌≡◌, ◌∷◌, [], Bool, true, List, Some, IfOk};
 ghost use Rattle.pipeline.specs.Graph.{IsGraph};
-ghost use Rattle.pipeline.specs.Passes.{Reach, DeadCode, Squeeze, HavePassed};
+ghost use Rattle.pipeline.specs.Passes.{Reach, DeadCode, Squeeze, Compact, HavePassed};
 
 use crate::graph::hierarchy_of;
 use crate::traces::{Passed, Traced, passed_on};
@@ -113,5 +113,21 @@ pub fn squeeze_bodies(
     ensures { IfOk result (λ passed. (outside : Outside) → HavePassed outside admitted.now.methods.items (Squeeze ∷ []) traced passed) }
 {
     let changed = squeeze::apply(alloc, traced.program, admitted)?;
+    Ok(passed_on(traced.origins, changed))
+}
+
+/// Gives the registers of admitted methods the least numbers that they can have, unless the program names a method of a wide
+/// type. The only error is want of memory.
+pub fn compact_bodies(
+    alloc: Global,
+    traced: Traced,
+    admitted: &Admitted,
+) -> Result<Passed, AllocError>
+    ensures { IfOk result (λ passed. (outside : Outside) → HavePassed outside admitted.now.methods.items (Compact ∷ []) traced passed) }
+{
+    if !compact::has_narrow_classes(&traced.program) {
+        return Ok(unchanged(traced));
+    }
+    let changed = compact::apply(alloc, traced.program, admitted)?;
     Ok(passed_on(traced.origins, changed))
 }

@@ -11,7 +11,7 @@ ghost use Rattle.pipeline.specs.Rounds.{HaveRun, IsOptimised};
 use crate::asks::{Advice, ask_all, no_advice};
 use crate::counts::{count_instructions, count_members};
 use crate::graph::hierarchy_of;
-use crate::passes::{clean_bodies, remove_unreached, squeeze_bodies};
+use crate::passes::{clean_bodies, compact_bodies, remove_unreached, squeeze_bodies};
 use crate::silent::silence;
 use crate::traces::{Passed, Traced};
 use call_graph::live_members;
@@ -69,10 +69,12 @@ fn round(
     let (reached, graph) = remove_unreached(alloc, traced, outside)?;
     let cleaned = clean_bodies(alloc, reached.traced, &graph, admitted)?;
     let squeezed = squeeze_bodies(alloc, cleaned.traced, admitted)?;
+    let compacted = compact_bodies(alloc, squeezed.traced, admitted)?;
     let removed = reached.count.saturating_add(cleaned.count);
+    let thinned = removed.saturating_add(squeezed.count);
     Ok(Passed {
-        traced: squeezed.traced,
-        count: removed.saturating_add(squeezed.count),
+        traced: compacted.traced,
+        count: thinned.saturating_add(compacted.count),
     })
 }
 

@@ -13,10 +13,7 @@ use Rattle.reach.proofs.Sublists.{sum_left}
 use Rattle.body_edit.specs.declared.fate.Fate.{Fate}
 use Rattle.thin_pass.specs.Plans.{methods_by, class_by, classes_by, IsThinnedBy}
 use Rattle.thin_pass.specs.Weights.{method_weight, class_weight, weight_of}
-use Rattle.compact.specs.Measure.{numbers_in}
 use Rattle.compact.specs.Renamed.{IsCompactedProgram}
-use Rattle.numbers_law.proofs.Thinned.{thinned_numbers}
-use Rattle.numbers_law.proofs.Removed.{removed_numbers}
 use Rattle.numbers_law.proofs.Compacted.{compacted_size, compacted_weight}
 use Rattle.pipeline.specs.Passes.{bulk_of}
 
@@ -34,8 +31,7 @@ module _ (s : LiveSet) where
   kept_no_heavier p = omega (arith, classes_no_heavier (live_classes s p.classes), sum_left (λ c. is_marked s.classes.items c.name) class_weight p.classes)
 
   pub removal_less : (p q : Program) → q ≡ kept_of s p → size_of q < size_of p → bulk_of q < bulk_of p
-  removal_less p q e less = let w : weight_of q ≤ weight_of p = subst (λ (x : Program). weight_of x ≤ weight_of p) (sym e) (kept_no_heavier p) in
-      let n : numbers_in q ≤ numbers_in p = subst (λ (x : Program). numbers_in x ≤ numbers_in p) (sym e) (removed_numbers s p) in omega (arith, w, n, less)
+  removal_less p q e less = let w : weight_of q ≤ weight_of p = subst (λ (x : Program). weight_of x ≤ weight_of p) (sym e) (kept_no_heavier p) in omega (arith, w, less)
 
 -- ---- thinning
 
@@ -55,13 +51,12 @@ classes_sized (ps ∷ plan) (c ∷ cs) = omega (arith, class_sized ps c, classes
 pub thinned_less : (wishes : Body → List Fate → Type 0) (admitted : List Bool) (p : Program) (c : Changed) → IsThinnedBy wishes admitted p c → weight_of c.program < weight_of p → bulk_of c.program < bulk_of p
 thinned_less wishes admitted p c h less =
     let size : size_of c.program ≡ size_of p = ap size_of h.program ∙ classes_sized h.plan p.classes in
-    let named : numbers_in c.program ≤ numbers_in p = thinned_numbers wishes admitted p c h in
-    omega (arith, size, named, less)
+    omega (arith, size, less)
 
 -- ---- compaction
 
-pub compacted_less : (admitted : List Bool) (p q : Program) → IsCompactedProgram admitted p q → numbers_in q < numbers_in p → bulk_of q < bulk_of p
-compacted_less admitted p q h less =
+pub compacted_same : (admitted : List Bool) (p q : Program) → IsCompactedProgram admitted p q → bulk_of q ≡ bulk_of p
+compacted_same admitted p q h =
     let size : size_of q ≡ size_of p = compacted_size admitted p q h in
     let weight : weight_of q ≡ weight_of p = compacted_weight admitted p q h in
-    omega (arith, size, weight, less)
+    omega (arith, size, weight)

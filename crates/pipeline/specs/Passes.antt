@@ -1,5 +1,5 @@
 -- What the passes of a round do to a program, by number (this project's profile).
-use Rattle.std.specs.Prelude.{◌≡◌, ◌⊎◌, ◌<◌, ◌+◌, ℕ, Bool, true, false, List, [], ◌∷◌}
+use Rattle.std.specs.Prelude.{◌≡◌, ◌⊎◌, ◌<◌, ◌≤◌, ◌+◌, ℕ, Bool, true, false, List, [], ◌∷◌}
 use Rattle.program_model.specs.declared.body.Body.{Body}
 use Rattle.program_model.specs.declared.pass.Origin.{Origin}
 use Rattle.program_model.specs.declared.pass.Outside.{Outside}
@@ -93,14 +93,27 @@ abbrev pub AreStill : Outside → List Bool → List Pass → Program → Type 0
 AreStill o admitted [] p = Unit {0}
 AreStill o admitted (pass ∷ rest) p = (is_well_formed p ≡ true → Does o admitted pass p p []) × AreStill o admitted rest p
 
--- How much of a program there is: its classes and members, its instructions, a nop counting 1 and every other one 2, and its
--- registers and the numbers that instructions name. No pass makes it more.
+-- How much of a program there is: its classes and members, and its instructions, a nop counting 1 and every other one 2. No pass
+-- makes it more.
 abbrev pub bulk_of : Program → ℕ
-bulk_of p = (size_of p + weight_of p) + numbers_in p
+bulk_of p = size_of p + weight_of p
 
--- Some passes ran, and changes were counted: none where each of them left the program the same, and otherwise there is less of it.
+-- What its bodies name: their registers, and the numbers of those that instructions name. A pass that takes nothing away and changes
+-- bodies in place makes it less.
+abbrev pub rank_of : Program → ℕ
+rank_of p = numbers_in p
+
+-- There is less of a program, or as much and what is left ranks lower.
+abbrev pub IsLess : Program → Program → Type 0
+IsLess q p = (bulk_of q < bulk_of p) ⊎ ((bulk_of q ≤ bulk_of p) × (rank_of q < rank_of p))
+
+-- Some passes ran, and counted what they took away and what they changed in place: nothing where each of them left the program the
+-- same. Where something was taken away there is less of the program, and where something was only changed it ranks lower.
 pub record HavePassed (o : Outside) (admitted : List Bool) (some : List Pass) (t : Traced) (r : Passed) : Type 0 where
   pub steps : Steps o admitted some t r.traced
-  pub same : r.count ≡ 0 → r.traced ≡ t
-  pub still : r.count ≡ 0 → AreStill o admitted some t.program
-  pub less : 0 < r.count → bulk_of r.traced.program < bulk_of t.program
+  pub same : r.removed ≡ 0 → r.rewritten ≡ 0 → r.traced ≡ t
+  pub still : r.removed ≡ 0 → r.rewritten ≡ 0 → AreStill o admitted some t.program
+  pub no_more : bulk_of r.traced.program ≤ bulk_of t.program
+  pub less : 0 < r.removed → bulk_of r.traced.program < bulk_of t.program
+  pub no_higher : r.removed ≡ 0 → rank_of r.traced.program ≤ rank_of t.program
+  pub lower : r.removed ≡ 0 → 0 < r.rewritten → rank_of r.traced.program < rank_of t.program

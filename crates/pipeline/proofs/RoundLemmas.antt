@@ -1,5 +1,5 @@
 -- Rounds, one after another, until one changes nothing.
-use Rattle.std.proofs.Common.{◌≡◌, ◌⊎◌, ℕ, zero, suc, ◌<◌, ◌≤◌, ◌+◌, Bool, true, false, List, [], ◌∷◌, length, map, replicate, refl, sym, ap, ◌∙◌, subst, inl, inr, arith}
+use Rattle.std.proofs.Common.{◌≡◌, ◌⊎◌, ℕ, zero, suc, ◌<◌, ◌≤◌, ◌+◌, Bool, true, false, List, [], ◌∷◌, length, map, min, replicate, refl, sym, ap, ◌∙◌, subst, inl, inr, arith}
 use Rattle.std.specs.Prelude.{if◌then◌else◌, slice_index_or}
 use Rattle.std.specs.Option.{option_map}
 use Rattle.program_model.specs.declared.pass.Outside.{Outside}
@@ -17,12 +17,17 @@ use Rattle.pipeline.specs.Asks.{Verdict, asked, no_verdict, AreAnswered}
 use Rattle.pipeline.specs.Counts.{counted}
 use Rattle.pipeline.specs.Graph.{HasGraph, HasGraphFault}
 use Rattle.pipeline.specs.Silence.{IsSilent, is_quiet, silenced_body, silenced_method, silenced_class, silenced}
-use Rattle.pipeline.specs.Passes.{passes, Steps, AreStill, bulk_of, IsLess, HavePassed}
+use Rattle.pipeline.specs.Passes.{passes, Steps, AreStill, bulk_of, rank_of, IsLess, HavePassed}
 use Rattle.pipeline.specs.Rounds.{Rounds, Ended, Next, Rounding, first_of, HaveRun, IsOptimised}
 use Rattle.pipeline.specs.declared.traces.Passed.{Passed}
 use Rattle.pipeline.specs.declared.traces.Traced.{Traced}
 
 -- ---- all rounds
+
+-- the rank, and whether something was changed, where nothing was taken away
+abbrev pub left_to_do : ℕ → Passed → ℕ
+left_to_do zero r = rank_of r.traced.program + min r.rewritten 1 + 1
+left_to_do (suc n) r = 0
 
 module _ (o : Outside) (admitted : List Bool) where
   -- what a round leaves that changed something is less
@@ -32,6 +37,24 @@ module _ (o : Outside) (admitted : List Bool) where
       by : (n : ℕ) → r.removed ≡ n → IsLess r.traced.program t.program
       by zero e = inr (h.no_more, h.lower e (omega (arith, e, some)))
       by (suc n) e = inl (h.less (omega (arith, e)))
+
+  pub falls : (t : Traced) (r : Passed) → HavePassed o admitted passes t r → bulk_of r.traced.program + min r.removed 1 ≤ bulk_of t.program
+  falls t r h = by r.removed refl
+    where
+      by : (n : ℕ) → r.removed ≡ n → bulk_of r.traced.program + min r.removed 1 ≤ bulk_of t.program
+      by zero e = omega (arith, e, h.no_more)
+      by (suc n) e = omega (arith, h.less (omega (arith, e)))
+
+  -- a round behind one that took nothing away leaves less to do
+  pub less_to_do : (b c : Passed) → HavePassed o admitted passes b.traced c → b.removed ≡ 0 → 0 < b.rewritten → left_to_do c.removed c < left_to_do b.removed b
+  less_to_do b c h none some = subst (λ (n : ℕ). left_to_do c.removed c < left_to_do n b) (sym none) (by c.removed refl)
+    where
+      as_high : (n : ℕ) → c.removed ≡ 0 → c.rewritten ≡ n → left_to_do 0 c < left_to_do 0 b
+      as_high zero e i = omega (arith, h.no_higher e, i, some)
+      as_high (suc n) e i = omega (arith, h.lower e (omega (arith, i)), i, some)
+      by : (n : ℕ) → c.removed ≡ n → left_to_do n c < left_to_do 0 b
+      by zero e = as_high c.rewritten e refl
+      by (suc n) e = omega arith
 
   more_rounds : (m n : ℕ) (t u v : Traced) → Rounds o admitted m t u → Rounds o admitted n u v → Rounds o admitted (m + n) t v
   more_rounds m n t u v (Ended x) others = subst (λ (k : ℕ). Rounds o admitted k x v) (omega arith) others

@@ -74,8 +74,10 @@ module _ (o : Outside) (admitted : List Bool) where
       where
         none : a.removed ≡ 0
         none = omega (arith, removed, h)
+
         nothing : b.removed ≡ 0
         nothing = omega (arith, removed, h)
+
         by : (n : ℕ) → a.rewritten ≡ n → rank_of r.traced.program < rank_of t.program
         by zero e = omega (arith, rank_left, one.no_higher none, two.lower nothing (omega (arith, rewritten, e, k)))
         by (suc n) e = omega (arith, rank_left, two.no_higher nothing, one.lower none (omega (arith, e)))

@@ -52,6 +52,7 @@ module _ (o : Outside) (admitted : List Bool) where
       as_high : (n : ℕ) → c.removed ≡ 0 → c.rewritten ≡ n → left_to_do 0 c < left_to_do 0 b
       as_high zero e i = omega (arith, h.no_higher e, i, some)
       as_high (suc n) e i = omega (arith, h.lower e (omega (arith, i)), i, some)
+
       by : (n : ℕ) → c.removed ≡ n → left_to_do n c < left_to_do 0 b
       by zero e = as_high c.rewritten e refl
       by (suc n) e = omega arith
@@ -68,12 +69,12 @@ module _ (o : Outside) (admitted : List Bool) where
 
   -- rounds that changed something, and others behind them
   pub further : (t : Traced) (b c : Passed) (n k m : ℕ) → 0 < b.removed + b.rewritten → Rounding o admitted t b n → Rounding o admitted b.traced c k → m ≡ counted (n + k) → Rounding o admitted t c m
-  further t b c n k m some so then e = record {
-    before = then.before;
-    changing = so.changing + 1 + then.changing;
-    rounds = more_rounds (so.changing + 1) then.changing t b.traced then.before (more_rounds so.changing 1 t so.before b.traced so.rounds (one_round so.before b so.one some)) then.rounds;
-    one = then.one;
-    count_is = omega (arith, e, so.count_is, then.count_is);
+  further t b c n k m some so more e = record {
+    before = more.before;
+    changing = so.changing + 1 + more.changing;
+    rounds = more_rounds (so.changing + 1) more.changing t b.traced more.before (more_rounds so.changing 1 t so.before b.traced so.rounds (one_round so.before b so.one some)) more.rounds;
+    one = more.one;
+    count_is = omega (arith, e, so.count_is, more.count_is);
   }
 
   -- a round that changes nothing is the last

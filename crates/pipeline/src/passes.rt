@@ -31,10 +31,13 @@ fn graph_after(
 ) -> Result<Option<Hierarchy>, AllocError>
     ensures { (p : Program) → IsGraph p (Some hierarchy) → (passed.now.removed ≡ 0 → passed.now.rewritten ≡ 0 → passed.now.traced.program ≡ p) → IfOk result (IsGraph passed.now.traced.program) }
 {
-    if passed.removed == 0 && passed.rewritten == 0 {
-        return Ok(Some(hierarchy));
+    if passed.removed > 0 {
+        return Ok(hierarchy_of(alloc, &passed.traced.program)?);
     }
-    Ok(hierarchy_of(alloc, &passed.traced.program)?)
+    if passed.rewritten > 0 {
+        return Ok(hierarchy_of(alloc, &passed.traced.program)?);
+    }
+    Ok(Some(hierarchy))
 }
 
 /// Removes what is not reached by a program's hierarchy. The only error is want of memory.

@@ -6,7 +6,7 @@ use Rattle.pipeline.proofs.rounds.all_rounds.Goals as goal
 
 pub rounds-init : goal.rounds-init
 rounds-init c = record {
-  count = omega arith;
+  count = c.in_ok-left.ensures.count;
   settled = c.in_ok-left.ensures.settled;
   rounding = subst (λ (t : Traced). Rounding c.args.outside.now c.args.admitted.now.methods.items t c.in_ok-left.left c.in_ok-left.rounds) (search rules) c.in_ok-left.ensures.run;
 }

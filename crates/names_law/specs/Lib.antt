@@ -1,0 +1,7 @@
+pub mod Used
+pub mod Orders
+pub mod Carried
+pub mod Members
+pub mod Owning
+pub mod Reordered
+pub mod Ascending

@@ -13,6 +13,8 @@ use Rattle.dex_write.specs.Written.{IsWritten}
 use Rattle.dead_code.specs.Dead.{is_quiet_field}
 use Rattle.dead_code.specs.Wishes.{NoneDead}
 use Rattle.squeeze.specs.Needed.{NothingLeft}
+use Rattle.compact.specs.Narrow.{has_narrow_classes}
+use Rattle.compact_bridge.specs.Bridged.{AllPacked}
 use Rattle.pipeline.specs.Advised.{IsAdvised}
 use Rattle.silence_bridge.specs.Admitted.{admitted_in}
 use Rattle.command_line.specs.declared.command.CommandWords.TheVariants.{Optimise}
@@ -24,7 +26,8 @@ use Rattle.redex_cli.specs.Finished.{IsRuled}
 -- What is left of a program shows what the program shows without its silent calls in the admitted methods, to every
 -- framework, under every script and float table that fit, and is well-formed and typed. Some advisers were asked which methods
 -- may be rewritten: these are admitted. In their bodies, whose positions and regions 32 bits number, every position is reached, is no
--- goto to the next one and no nop, but where the branch behind it goes to it, and none computes what nobody reads.
+-- goto to the next one and no nop, but where the branch behind it goes to it, and none computes what nobody reads; and unless
+-- the program names a method of a wide type, no register could have a lower number (`IsPacked` of pass_defs).
 pub record KeepsMeaning (program : Program) (outside : Outside) (left : Program) : Type 0 where
   pub admitted : List Bool
   pub advisers : ℕ
@@ -37,6 +40,7 @@ pub record KeepsMeaning (program : Program) (outside : Outside) (left : Program)
   pub typed : IsTyped (named left)
   pub squeezed : NothingLeft admitted left
   pub cleaned : NoneDead (is_quiet_field left) admitted left
+  pub packed : has_narrow_classes left ≡ true → AllPacked admitted left
 
 -- The file spells a program, the rules have a table for it, and the output is the file that is written for a program that
 -- keeps its meaning. Not said yet: how the table comes of the rules, and that the written file spells that program and is

@@ -183,7 +183,8 @@ class Body:
 
     def make(self):
         cls = self.rng.choice(['LA;', 'LB;'])
-        self.add(op21('new-instance', 0x22, OBJECT_A, Ref('type', cls), cls), invoke('direct', 0x70, (cls, '<init>', 'V', ()), [OBJECT_A]))
+        self.add(op21('new-instance', 0x22, OBJECT, Ref('type', cls), cls), invoke('direct', 0x70, (cls, '<init>', 'V', ()), [OBJECT]),
+                 op12('move-object', 0x07, OBJECT_A, OBJECT))
 
     def null(self):
         self.add(const(self.rng.choice([OBJECT_A, OBJECT, ARRAY]), 0))
@@ -317,7 +318,8 @@ class Body:
     def fail(self):
         """A throw behind a test."""
         past, kind = self.p.label(), 'Ljava/lang/RuntimeException;'
-        self.add(if_zero(self.rng.choice(TESTS), self.rng.choice(INTS), past), op21('new-instance', 0x22, OBJECT, Ref('type', kind), kind), op11('throw', 0x27, OBJECT), past)
+        self.add(if_zero(self.rng.choice(TESTS), self.rng.choice(INTS), past), op21('new-instance', 0x22, OBJECT, Ref('type', kind), kind),
+                 invoke('direct', 0x70, (kind, '<init>', 'V', ()), [OBJECT]), op11('throw', 0x27, OBJECT), past)
 
     def some(self, depth):
         for _ in range(self.rng.choice([1, 1, 2, 3])):

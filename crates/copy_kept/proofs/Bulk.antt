@@ -13,7 +13,7 @@ use Rattle.insn_regs.specs.Wides.{widths_of}
 use Rattle.walk_marks.specs.Walks.{is_on}
 use Rattle.reach.specs.Kept.{class_size, size_of}
 use Rattle.thin_pass.specs.Weights.{weight, insns_weight, code_weight, method_weight, class_weight, weight_of}
-use Rattle.copy_prop.specs.Rereading.{IsReread, substituted}
+use Rattle.copy_prop.specs.Rereading.{substituted}
 use Rattle.copy_prop.specs.Propagated.{AreEach, IsPropagated, RewritesBody, IsPropagatedMethod, IsPropagatedClass, IsPropagatedProgram}
 
 same_weight : (g h : ℕ → ℕ) (i : Insn) → weight (remade g h i) ≡ weight i

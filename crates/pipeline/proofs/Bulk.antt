@@ -13,6 +13,8 @@ use Rattle.reach.proofs.Sublists.{sum_left}
 use Rattle.body_edit.specs.declared.fate.Fate.{Fate}
 use Rattle.thin_pass.specs.Plans.{methods_by, class_by, classes_by, IsThinnedBy}
 use Rattle.thin_pass.specs.Weights.{method_weight, class_weight, weight_of}
+use Rattle.compact.specs.Renamed.{IsCompactedProgram}
+use Rattle.numbers_law.proofs.Compacted.{compacted_size, compacted_weight}
 use Rattle.pipeline.specs.Passes.{bulk_of}
 
 -- ---- removal
@@ -50,3 +52,11 @@ pub thinned_less : (wishes : Body → List Fate → Type 0) (admitted : List Boo
 thinned_less wishes admitted p c h less =
     let size : size_of c.program ≡ size_of p = ap size_of h.program ∙ classes_sized h.plan p.classes in
     omega (arith, size, less)
+
+-- ---- compaction
+
+pub compacted_same : (admitted : List Bool) (p q : Program) → IsCompactedProgram admitted p q → bulk_of q ≡ bulk_of p
+compacted_same admitted p q h =
+    let size : size_of q ≡ size_of p = compacted_size admitted p q h in
+    let weight : weight_of q ≡ weight_of p = compacted_weight admitted p q h in
+    omega (arith, size, weight)

@@ -1,5 +1,5 @@
 -- Rounds, one after another, until one changes nothing.
-use Rattle.std.proofs.Common.{◌≡◌, ◌⊎◌, ℕ, zero, suc, ◌<◌, ◌+◌, Bool, true, false, List, [], ◌∷◌, length, map, replicate, refl, sym, ap, ◌∙◌, subst, inl, inr, arith}
+use Rattle.std.proofs.Common.{◌≡◌, ◌⊎◌, ℕ, zero, suc, ◌<◌, ◌≤◌, ◌+◌, Bool, true, false, List, [], ◌∷◌, length, map, min, replicate, refl, sym, ap, ◌∙◌, subst, inl, inr, arith}
 use Rattle.std.specs.Prelude.{if◌then◌else◌, slice_index_or}
 use Rattle.std.specs.Option.{option_map}
 use Rattle.program_model.specs.declared.pass.Outside.{Outside}
@@ -17,46 +17,73 @@ use Rattle.pipeline.specs.Asks.{Verdict, asked, no_verdict, AreAnswered}
 use Rattle.pipeline.specs.Counts.{counted}
 use Rattle.pipeline.specs.Graph.{HasGraph, HasGraphFault}
 use Rattle.pipeline.specs.Silence.{IsSilent, is_quiet, silenced_body, silenced_method, silenced_class, silenced}
-use Rattle.pipeline.specs.Passes.{passes, Steps, AreStill, bulk_of, HavePassed}
-use Rattle.pipeline.specs.Rounds.{Rounds, Ended, Next, first_of, HaveRun, IsOptimised}
+use Rattle.pipeline.specs.Passes.{passes, Steps, AreStill, bulk_of, rank_of, IsLess, HavePassed}
+use Rattle.pipeline.specs.Rounds.{Rounds, Ended, Next, Rounding, first_of, HaveRun, IsOptimised}
 use Rattle.pipeline.specs.declared.traces.Passed.{Passed}
 use Rattle.pipeline.specs.declared.traces.Traced.{Traced}
 
 -- ---- all rounds
 
-one_more : (o : Outside) (admitted : List Bool) (n : ℕ) (t u v : Traced) → Rounds o admitted n t u → Steps o admitted passes u v → bulk_of v.program < bulk_of u.program → Rounds o admitted (suc n) t v
-one_more o admitted n t u v (Ended x) one less = Next zero x v v one less (Ended v)
-one_more o admitted n t u v (Next m x y z first falls rest) one less = Next (suc m) x y v first falls (one_more o admitted m y z v rest one less)
+-- the rank, and whether something was changed, where nothing was taken away
+abbrev pub left_to_do : ℕ → Passed → ℕ
+left_to_do zero r = rank_of r.traced.program + min r.rewritten 1 + 1
+left_to_do (suc n) r = 0
 
--- what the rounds have come to, the last of which answered this, and how many ran
-pub record Rounding (o : Outside) (admitted : List Bool) (p : Program) (r : Passed) (count : ℕ) : Type 0 where
-  pub before : Traced
-  pub changing : ℕ
-  pub rounds : Rounds o admitted changing (first_of p) before
-  pub one : HavePassed o admitted passes before r
-  pub count_is : count ≡ counted (suc changing)
+module _ (o : Outside) (admitted : List Bool) where
+  -- what a round leaves that changed something is less
+  round_less : (t : Traced) (r : Passed) → HavePassed o admitted passes t r → 0 < r.removed + r.rewritten → IsLess r.traced.program t.program
+  round_less t r h some = by r.removed refl
+    where
+      by : (n : ℕ) → r.removed ≡ n → IsLess r.traced.program t.program
+      by zero e = inr (h.no_more, h.lower e (omega (arith, e, some)))
+      by (suc n) e = inl (h.less (omega (arith, e)))
 
-pub begun : (o : Outside) (admitted : List Bool) (p : Program) (t : Traced) (r : Passed) → t ≡ first_of p → HavePassed o admitted passes t r → Rounding o admitted p r 1
-begun o admitted p t r e one = record { before = t; changing = zero; rounds = subst (λ (x : Traced). Rounds o admitted zero x t) e (Ended t); one = one; count_is = refl }
+  pub falls : (t : Traced) (r : Passed) → HavePassed o admitted passes t r → bulk_of r.traced.program + min r.removed 1 ≤ bulk_of t.program
+  falls t r h = by r.removed refl
+    where
+      by : (n : ℕ) → r.removed ≡ n → bulk_of r.traced.program + min r.removed 1 ≤ bulk_of t.program
+      by zero e = omega (arith, e, h.no_more)
+      by (suc n) e = omega (arith, h.less (omega (arith, e)))
 
-pub further : (o : Outside) (admitted : List Bool) (p : Program) (b c : Passed) (n m : ℕ) → 0 < b.count → Rounding o admitted p b n
-    → HavePassed o admitted passes b.traced c → m ≡ counted (n + 1) → Rounding o admitted p c m
-further o admitted p b c n m some so one e = record {
-  before = b.traced;
-  changing = suc so.changing;
-  rounds = one_more o admitted so.changing (first_of p) so.before b.traced so.rounds so.one.steps (so.one.less some);
-  one = one;
-  count_is = omega (arith, e, so.count_is);
-}
+  -- a round behind one that took nothing away leaves less to do
+  pub less_to_do : (b c : Passed) → HavePassed o admitted passes b.traced c → b.removed ≡ 0 → 0 < b.rewritten → left_to_do c.removed c < left_to_do b.removed b
+  less_to_do b c h none some = subst (λ (n : ℕ). left_to_do c.removed c < left_to_do n b) (sym none) (by c.removed refl)
+    where
+      as_high : (n : ℕ) → c.removed ≡ 0 → c.rewritten ≡ n → left_to_do 0 c < left_to_do 0 b
+      as_high zero e i = omega (arith, h.no_higher e, i, some)
+      as_high (suc n) e i = omega (arith, h.lower e (omega (arith, i)), i, some)
+      by : (n : ℕ) → c.removed ≡ n → left_to_do n c < left_to_do 0 b
+      by zero e = as_high c.rewritten e refl
+      by (suc n) e = omega arith
 
--- a round that changes nothing is the last
-pub ended : (o : Outside) (admitted : List Bool) (p : Program) (r : Passed) (n : ℕ) → Rounding o admitted p r n → r.count ≡ 0 → HaveRun o admitted p r.traced n
-ended o admitted p r n so none = record {
-  changing = so.changing;
-  rounds = subst (λ (x : Traced). Rounds o admitted so.changing (first_of p) x) (sym (so.one.same none)) so.rounds;
-  ends = subst (λ (x : Traced). AreStill o admitted passes x.program) (sym (so.one.same none)) (so.one.still none);
-  count_is = so.count_is;
-}
+  more_rounds : (m n : ℕ) (t u v : Traced) → Rounds o admitted m t u → Rounds o admitted n u v → Rounds o admitted (m + n) t v
+  more_rounds m n t u v (Ended x) others = subst (λ (k : ℕ). Rounds o admitted k x v) (omega arith) others
+  more_rounds m n t u v (Next k x y z first less rest) others = subst (λ (j : ℕ). Rounds o admitted j x v) (omega arith) (Next (k + n) x y v first less (more_rounds k n y z v rest others))
+
+  one_round : (t : Traced) (r : Passed) → HavePassed o admitted passes t r → 0 < r.removed + r.rewritten → Rounds o admitted 1 t r.traced
+  one_round t r h some = Next zero t r.traced r.traced h.steps (round_less t r h some) (Ended r.traced)
+
+  pub begun : (t : Traced) (r : Passed) → HavePassed o admitted passes t r → Rounding o admitted t r 1
+  begun t r one = record { before = t; changing = zero; rounds = Ended t; one = one; count_is = refl }
+
+  -- rounds that changed something, and others behind them
+  pub further : (t : Traced) (b c : Passed) (n k m : ℕ) → 0 < b.removed + b.rewritten → Rounding o admitted t b n → Rounding o admitted b.traced c k → m ≡ counted (n + k) → Rounding o admitted t c m
+  further t b c n k m some so then e = record {
+    before = then.before;
+    changing = so.changing + 1 + then.changing;
+    rounds = more_rounds (so.changing + 1) then.changing t b.traced then.before (more_rounds so.changing 1 t so.before b.traced so.rounds (one_round so.before b so.one some)) then.rounds;
+    one = then.one;
+    count_is = omega (arith, e, so.count_is, then.count_is);
+  }
+
+  -- a round that changes nothing is the last
+  pub ended : (p : Program) (t : Traced) (r : Passed) (n : ℕ) → t ≡ first_of p → Rounding o admitted t r n → r.removed ≡ 0 → r.rewritten ≡ 0 → HaveRun o admitted p r.traced n
+  ended p t r n e so none nothing = record {
+    changing = so.changing;
+    rounds = subst (λ (x : Traced). Rounds o admitted so.changing x r.traced) e (subst (λ (x : Traced). Rounds o admitted so.changing t x) (sym (so.one.same none nothing)) so.rounds);
+    ends = subst (λ (x : Traced). AreStill o admitted passes x.program) (sym (so.one.same none nothing)) (so.one.still none nothing);
+    count_is = so.count_is;
+  }
 
 -- ---- where nothing may be rewritten
 

@@ -1,19 +1,28 @@
 -- What the rounds do to a program, by number (this project's profile).
-use Rattle.std.specs.Prelude.{◌≡◌, ◌<◌, ℕ, zero, suc, Bool, true, false, List, []}
+use Rattle.std.specs.Prelude.{◌≡◌, ℕ, zero, suc, Bool, true, false, List, []}
 use Rattle.program_model.specs.declared.pass.Origin.{Origin}
 use Rattle.program_model.specs.declared.pass.Outside.{Outside}
 use Rattle.program_model.specs.declared.program.Program.{Program}
 use Rattle.program_model.specs.ProgramRules.{is_well_formed}
+use Rattle.pipeline.specs.declared.traces.Passed.{Passed}
 use Rattle.pipeline.specs.declared.traces.Traced.{Traced}
 use Rattle.pipeline.specs.Advised.{IsAdvised}
 use Rattle.pipeline.specs.Counts.{counted}
-use Rattle.pipeline.specs.Passes.{passes, Steps, AreStill, bulk_of}
+use Rattle.pipeline.specs.Passes.{passes, Steps, AreStill, IsLess, HavePassed}
 use Rattle.pipeline.specs.Silence.{IsSilent}
 
--- So many rounds, one after another, each of which leaves less.
+-- So many rounds, one after another, each of which leaves less, or what ranks lower.
 pub data Rounds (o : Outside) (admitted : List Bool) : ℕ → Traced → Traced → Type 0 where
   Ended : (t : Traced) → Rounds o admitted zero t t
-  Next : (n : ℕ) (t u v : Traced) → Steps o admitted passes t u → bulk_of u.program < bulk_of t.program → Rounds o admitted n u v → Rounds o admitted (suc n) t v
+  Next : (n : ℕ) (t u v : Traced) → Steps o admitted passes t u → IsLess u.program t.program → Rounds o admitted n u v → Rounds o admitted (suc n) t v
+
+-- Rounds ran from a program on, so many with the last one, which left this.
+pub record Rounding (o : Outside) (admitted : List Bool) (t : Traced) (r : Passed) (count : ℕ) : Type 0 where
+  pub before : Traced
+  pub changing : ℕ
+  pub rounds : Rounds o admitted changing t before
+  pub one : HavePassed o admitted passes before r
+  pub count_is : count ≡ counted (suc changing)
 
 -- a program no position of which has moved
 abbrev pub first_of : Program → Traced

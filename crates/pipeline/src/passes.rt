@@ -2,10 +2,10 @@
 
 ghost use Rattle.std.specs.Prelude.{◌≡◌, ◌∷◌, [], Bool, true, List, Some, IfOk};
 ghost use Rattle.pipeline.specs.Graph.{IsGraph};
-ghost use Rattle.pipeline.specs.Passes.{Reach, DeadCode, Squeeze, HavePassed};
+ghost use Rattle.pipeline.specs.Passes.{Reach, DeadCode, Squeeze, Compact, HavePassed};
 
 use crate::graph::hierarchy_of;
-use crate::traces::{Passed, Traced, passed_on};
+use crate::traces::{Passed, Traced, changed_in_place, taken_away};
 use hierarchy::Hierarchy;
 use program_model::{Admitted, Outside, Program};
 use std::alloc::{AllocError, Global};
@@ -13,9 +13,14 @@ use std::alloc::{AllocError, Global};
 /// The program as it is, with nothing changed.
 fn unchanged(traced: Traced) -> Passed
     ensures traced { result.traced ≡ traced }
-    ensures count { result.count ≡ 0 }
+    ensures removed { result.removed ≡ 0 }
+    ensures rewritten { result.rewritten ≡ 0 }
 {
-    Passed { traced, count: 0 }
+    Passed {
+        traced,
+        removed: 0,
+        rewritten: 0,
+    }
 }
 
 /// The hierarchy of what a pass left of a program: the program's own where nothing changed.
@@ -24,9 +29,9 @@ fn graph_after(
     hierarchy: Hierarchy,
     passed: &Passed,
 ) -> Result<Option<Hierarchy>, AllocError>
-    ensures { (p : Program) → IsGraph p (Some hierarchy) → (passed.now.count ≡ 0 → passed.now.traced.program ≡ p) → IfOk result (IsGraph passed.now.traced.program) }
+    ensures { (p : Program) → IsGraph p (Some hierarchy) → (passed.now.removed ≡ 0 → passed.now.rewritten ≡ 0 → passed.now.traced.program ≡ p) → IfOk result (IsGraph passed.now.traced.program) }
 {
-    if passed.count == 0 {
+    if passed.removed == 0 && passed.rewritten == 0 {
         return Ok(Some(hierarchy));
     }
     Ok(hierarchy_of(alloc, &passed.traced.program)?)
@@ -43,7 +48,7 @@ fn remove_by(
     ensures { IsGraph traced.program (Some hierarchy.now) → IfOk result (λ passed. (admitted : List Bool) → HavePassed outside.now admitted (Reach ∷ []) traced passed) }
 {
     let changed = reach::apply(alloc, traced.program, hierarchy, outside)?;
-    Ok(passed_on(traced.origins, changed))
+    Ok(taken_away(traced.origins, changed))
 }
 
 /// The same, with the hierarchy of what is left.
@@ -98,7 +103,7 @@ pub fn clean_bodies(
     match graph {
         Some(hierarchy) => {
             let changed = dead_code::apply(alloc, traced.program, hierarchy, admitted)?;
-            Ok(passed_on(traced.origins, changed))
+            Ok(taken_away(traced.origins, changed))
         }
         None => Ok(unchanged(traced)),
     }
@@ -113,5 +118,21 @@ pub fn squeeze_bodies(
     ensures { IfOk result (λ passed. (outside : Outside) → HavePassed outside admitted.now.methods.items (Squeeze ∷ []) traced passed) }
 {
     let changed = squeeze::apply(alloc, traced.program, admitted)?;
-    Ok(passed_on(traced.origins, changed))
+    Ok(taken_away(traced.origins, changed))
+}
+
+/// Gives the registers of admitted methods the least numbers that they can have, unless the program names a method of a wide
+/// type. The only error is want of memory.
+pub fn compact_bodies(
+    alloc: Global,
+    traced: Traced,
+    admitted: &Admitted,
+) -> Result<Passed, AllocError>
+    ensures { IfOk result (λ passed. (outside : Outside) → HavePassed outside admitted.now.methods.items (Compact ∷ []) traced passed) }
+{
+    if !compact::has_narrow_classes(&traced.program) {
+        return Ok(unchanged(traced));
+    }
+    let changed = compact::apply(alloc, traced.program, admitted)?;
+    Ok(changed_in_place(traced.origins, changed))
 }

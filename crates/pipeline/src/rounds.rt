@@ -6,14 +6,14 @@ ghost use Rattle.program_model.specs.ProgramRules.{is_well_formed};
 ghost use Rattle.pipeline.specs.Advised.{IsAdvised, verdict};
 ghost use Rattle.pipeline.specs.Counts.{members_of, insns_of};
 ghost use Rattle.pipeline.specs.Passes.{passes, bulk_of, HavePassed};
-ghost use Rattle.pipeline.specs.Rounds.{HaveRun, IsOptimised};
+ghost use Rattle.pipeline.specs.Rounds.{HaveRun, IsOptimised, Rounding};
 
 use crate::asks::{Advice, ask_all, no_advice};
 use crate::counts::{count_instructions, count_members};
 use crate::graph::hierarchy_of;
-use crate::passes::{clean_bodies, remove_unreached, squeeze_bodies};
+use crate::passes::{clean_bodies, compact_bodies, remove_unreached, squeeze_bodies};
 use crate::silent::silence;
-use crate::traces::{Passed, Traced};
+use crate::traces::{Passed, Traced, and_then};
 use call_graph::live_members;
 use program_model::{Admitted, Origin, Outside, Program};
 use redex_outside::Panel;
@@ -63,17 +63,36 @@ fn round(
     outside: &Outside,
     admitted: &Admitted,
 ) -> Result<Passed, AllocError>
-    ensures passed { IfOk result (HavePassed outside.now admitted.now.methods.items passes traced) }
-    ensures falls { IfOk result (λ left. bulk_of left.traced.program + min left.count 1 ≤ bulk_of traced.program) }
+    ensures { IfOk result (HavePassed outside.now admitted.now.methods.items passes traced) }
 {
     let (reached, graph) = remove_unreached(alloc, traced, outside)?;
     let cleaned = clean_bodies(alloc, reached.traced, &graph, admitted)?;
+    let cleaned = and_then(reached.removed, reached.rewritten, cleaned);
     let squeezed = squeeze_bodies(alloc, cleaned.traced, admitted)?;
-    let removed = reached.count.saturating_add(cleaned.count);
-    Ok(Passed {
-        traced: squeezed.traced,
-        count: removed.saturating_add(squeezed.count),
-    })
+    let squeezed = and_then(cleaned.removed, cleaned.rewritten, squeezed);
+    let compacted = compact_bodies(alloc, squeezed.traced, admitted)?;
+    Ok(and_then(squeezed.removed, squeezed.rewritten, compacted))
+}
+
+/// Rounds, until one takes something away or changes nothing: what the last one left, and how many ran.
+fn rewriting_rounds(
+    alloc: Global,
+    traced: Traced,
+    outside: &Outside,
+    admitted: &Admitted,
+) -> Result<(Passed, u32), AllocError>
+    ensures run { IfOk result (λ r. Rounding outside.now admitted.now.methods.items traced r.0 r.1) }
+    ensures settled { IfOk result (λ r. r.0.removed ≡ 0 → r.0.rewritten ≡ 0) }
+    ensures falls { IfOk result (λ r. bulk_of r.0.traced.program + min r.0.removed 1 ≤ bulk_of traced.program) }
+    ensures count { IfOk result (λ r. 1 ≤ r.1) }
+{
+    let mut rounds: u32 = 1;
+    let mut left = round(alloc, traced, outside, admitted)?;
+    'rounds: while left.removed == 0 && left.rewritten > 0 {
+        left = round(alloc, left.traced, outside, admitted)?;
+        rounds = rounds.saturating_add(1);
+    }
+    Ok((left, rounds))
 }
 
 /// Rounds, until one changes nothing: the program then, and how many ran.
@@ -90,11 +109,11 @@ fn all_rounds(
         program,
         origins: Seq::new(alloc),
     };
-    let mut rounds: u32 = 1;
-    let mut left = round(alloc, first, outside, admitted)?;
-    'rounds: while left.count > 0 {
-        left = round(alloc, left.traced, outside, admitted)?;
-        rounds = rounds.saturating_add(1);
+    let (mut left, mut rounds) = rewriting_rounds(alloc, first, outside, admitted)?;
+    'rounds: while left.removed > 0 {
+        let (next, more) = rewriting_rounds(alloc, left.traced, outside, admitted)?;
+        left = next;
+        rounds = rounds.saturating_add(more);
     }
     Ok((left.traced, rounds))
 }

@@ -1,6 +1,7 @@
 //! Where the positions of a program come from, when one pass has followed another.
 
-ghost use Rattle.std.specs.Prelude.{◌≡◌, map};
+ghost use Rattle.std.specs.Prelude.{◌≡◌, ◌+◌, map};
+ghost use Rattle.program_model.specs.Cells.{capped};
 ghost use Rattle.pipeline.specs.Origins.{origin_by, row_at, AreAfter, Follow};
 
 use program_model::{Changed, Origin, Program};
@@ -14,11 +15,12 @@ pub struct Traced {
     pub origins: Seq<Seq<Origin>>,
 }
 
-/// What a pass left, and how many changes it counted.
+/// What passes left, how much they took away, and how much they only changed in place.
 #[derive(Debug, Drop)]
 pub struct Passed {
     pub traced: Traced,
-    pub count: u64,
+    pub removed: u64,
+    pub rewritten: u64,
 }
 
 /// The origins of a method's positions, none where there is no list.
@@ -80,10 +82,11 @@ fn origins_after(old: Seq<Seq<Origin>>, new: Seq<Seq<Origin>>) -> Seq<Seq<Origin
     rows
 }
 
-/// What a pass left of a program, by the origins that the program had.
-pub fn passed_on(old: Seq<Seq<Origin>>, changed: Changed) -> Passed
+/// What a pass that takes away left of a program, by the origins that the program had.
+pub fn taken_away(old: Seq<Seq<Origin>>, changed: Changed) -> Passed
     ensures program { result.traced.program ≡ changed.program }
-    ensures count { result.count ≡ changed.count }
+    ensures removed { result.removed ≡ changed.count }
+    ensures rewritten { result.rewritten ≡ 0 }
     ensures origins { Follow old changed.origins result.traced.origins }
 {
     let origins = origins_after(old, changed.origins);
@@ -92,6 +95,38 @@ pub fn passed_on(old: Seq<Seq<Origin>>, changed: Changed) -> Passed
             program: changed.program,
             origins,
         },
-        count: changed.count,
+        removed: changed.count,
+        rewritten: 0,
+    }
+}
+
+/// What a pass that changes bodies in place left of a program, by the origins that the program had.
+pub fn changed_in_place(old: Seq<Seq<Origin>>, changed: Changed) -> Passed
+    ensures program { result.traced.program ≡ changed.program }
+    ensures removed { result.removed ≡ 0 }
+    ensures rewritten { result.rewritten ≡ changed.count }
+    ensures origins { Follow old changed.origins result.traced.origins }
+{
+    let origins = origins_after(old, changed.origins);
+    Passed {
+        traced: Traced {
+            program: changed.program,
+            origins,
+        },
+        removed: 0,
+        rewritten: changed.count,
+    }
+}
+
+/// What passes left when the last of them left this, where those before it had taken away and changed so much.
+pub fn and_then(removed: u64, rewritten: u64, last: Passed) -> Passed
+    ensures traced { result.traced ≡ last.traced }
+    ensures removed { result.removed ≡ capped (removed + last.removed) }
+    ensures rewritten { result.rewritten ≡ capped (rewritten + last.rewritten) }
+{
+    Passed {
+        traced: last.traced,
+        removed: removed.saturating_add(last.removed),
+        rewritten: rewritten.saturating_add(last.rewritten),
     }
 }

@@ -1,5 +1,5 @@
 -- Where the rounds end nothing is left for the passes that thin bodies.
-use Rattle.std.proofs.Common.{◌≡◌, ◌⊎◌, inl, inr, ℕ, zero, suc, ◌<◌, Bool, true, List, [], refl, arith}
+use Rattle.std.proofs.Common.{◌≡◌, ◌⊎◌, inl, inr, ℕ, zero, suc, ◌<◌, Bool, true, false, true≢false, List, [], refl, sym, ◌∙◌, arith}
 use Rattle.program_model.specs.declared.body.Body.{Body}
 use Rattle.program_model.specs.declared.pass.Changed.{Changed}
 use Rattle.program_model.specs.declared.pass.Origin.{Origin}
@@ -16,7 +16,11 @@ use Rattle.hierarchy.specs.Shapes.{IsCause}
 use Rattle.hierarchy.specs.declared.fault.HierarchyFault.{HierarchyFault}
 use Rattle.hierarchy.specs.declared.fault.HierarchyFault.TheVariants as fault
 use Rattle.pipeline.specs.Graph.{HasGraphFault, IsFault}
-use Rattle.pipeline.specs.Passes.{Thins, IsCleaning, passes, AreStill}
+use Rattle.compact.specs.Narrow.{has_narrow_classes}
+use Rattle.compact.specs.Renamed.{IsCompactedProgram}
+use Rattle.compact_bridge.specs.Bridged.{AllPacked}
+use Rattle.compact_bridge.proofs.Settled.{program_settled}
+use Rattle.pipeline.specs.Passes.{Thins, IsCleaning, IsCompaction, passes, AreStill}
 use Rattle.rounds_bridge.specs.Owed.{IsSound}
 
 -- a thinning that leaves the program the same has counted nothing, since it would weigh less
@@ -48,3 +52,10 @@ module _ (o : Outside) (admitted : List Bool) (p : Program) (sound : IsSound p) 
       by : IsCleaning admitted p p [] → NoneDead (is_quiet_field p) admitted p
       by (inl h) = h.none_left (none_counted (AreCleaned (is_quiet_field p)) (NoneDead (is_quiet_field p) admitted p) admitted p [] h)
       by (inr none) = absurd (unfaulted p sound none.1)
+
+  pub all_packed : has_narrow_classes p ≡ true → AllPacked admitted p
+  all_packed narrow = let h : IsCompaction admitted p p [] = still.1.1.1.0 sound.formed in by h.compaction
+    where
+      by : ((has_narrow_classes p ≡ true) × IsCompactedProgram admitted p p) ⊎ ((p ≡ p) × (has_narrow_classes p ≡ false)) → AllPacked admitted p
+      by (inl c) = program_settled admitted p c.1
+      by (inr none) = absurd (true≢false (sym narrow ∙ none.1))

@@ -24,7 +24,10 @@ use Rattle.squeeze.specs.Skipping.{AreSkips}
 use Rattle.thin_bridge.specs.Kept.{AnyCode, IsKept}
 use Rattle.squeeze_bridge.proofs.Squeezes.{squeezed_kept}
 use Rattle.dead_bridge.proofs.Cleans.{cleaned_kept}
-use Rattle.pipeline.specs.Passes.{Pass, Reach, DeadCode, Squeeze, Removes, IsBarred, IsRemoval, Thins, IsCleaning}
+use Rattle.compact.specs.Narrow.{has_narrow_classes}
+use Rattle.compact.specs.Renamed.{IsCompactedProgram}
+use Rattle.kept_bridge.proofs.Compacted.{compacted_kept}
+use Rattle.pipeline.specs.Passes.{Pass, Reach, DeadCode, Squeeze, Compact, Removes, IsBarred, IsRemoval, Thins, IsCleaning, IsCompaction}
 use Rattle.reach_bridge.specs.Names.{family_of}
 use Rattle.reach_bridge.proofs.Kept.{kept_named}
 use Rattle.reach_bridge.proofs.Unshut.{unshut}
@@ -108,9 +111,20 @@ module _ (o : Outside) where
   pub dead_code_keeps : (admitted : List Bool) → Keeps o admitted DeadCode
   dead_code_keeps admitted = record { owes = cleaning_owes admitted }
 
+  compaction_owes : (admitted : List Bool) (p q : Program) (moved : List (List Origin)) → IsSound p → IsCompaction admitted p q moved → Owes o p q
+  compaction_owes admitted p q moved sound h = by h.compaction
+    where
+      by : ((has_narrow_classes p ≡ true) × IsCompactedProgram admitted p q) ⊎ ((q ≡ p) × (has_narrow_classes p ≡ false)) → Owes o p q
+      by (inl c) = bodies_owe p q sound (compacted_kept admitted p q sound.formed sound.once sound.typed c.0 c.1)
+      by (inr none) = subst (λ (x : Program). Owes o p x) (sym none.0) (owes_same o p sound)
+
+  pub compact_keeps : (admitted : List Bool) → Keeps o admitted Compact
+  compact_keeps admitted = record { owes = compaction_owes admitted }
+
   -- ---- every pass
 
   pub each_keeps : (admitted : List Bool) (pass : Pass) → Keeps o admitted pass
   each_keeps admitted Reach = reach_keeps admitted
   each_keeps admitted DeadCode = dead_code_keeps admitted
   each_keeps admitted Squeeze = squeeze_keeps admitted
+  each_keeps admitted Compact = compact_keeps admitted

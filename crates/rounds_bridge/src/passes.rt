@@ -2,7 +2,7 @@
 
 ghost use Rattle.std.specs.Prelude.{Bool, List};
 ghost use Rattle.program_model.specs.declared.pass.Outside.{Outside};
-ghost use Rattle.pipeline.specs.Passes.{Reach, DeadCode, Squeeze};
+ghost use Rattle.pipeline.specs.Passes.{Reach, DeadCode, Squeeze, Compact};
 ghost use Rattle.rounds_bridge.specs.Owed.{Keeps};
 
 /// A removal of what is not reached keeps what a pass owes, and so does a removal that is barred.
@@ -18,4 +18,9 @@ pub fn dead_code_keeps_law()
 /// Bodies without what does nothing keep what a pass owes.
 pub fn squeeze_keeps_law()
     ensures { (o : Outside) (admitted : List Bool) → Keeps o admitted Squeeze }
+{}
+
+/// Bodies whose registers have the least numbers that they can have keep what a pass owes.
+pub fn compact_keeps_law()
+    ensures { (o : Outside) (admitted : List Bool) → Keeps o admitted Compact }
 {}

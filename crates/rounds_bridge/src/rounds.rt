@@ -12,6 +12,8 @@ ghost use Rattle.verify.specs.Methods.{TypesAll};
 ghost use Rattle.dead_code.specs.Dead.{is_quiet_field};
 ghost use Rattle.dead_code.specs.Wishes.{NoneDead};
 ghost use Rattle.squeeze.specs.Needed.{NothingLeft};
+ghost use Rattle.compact.specs.Narrow.{has_narrow_classes};
+ghost use Rattle.compact_bridge.specs.Bridged.{AllPacked};
 ghost use Rattle.pipeline.specs.declared.traces.Traced.{Traced};
 ghost use Rattle.pipeline.specs.Rounds.{HaveRun, IsOptimised, Rounds};
 ghost use Rattle.rounds_bridge.specs.Owed.{IsSound, Owes};
@@ -35,9 +37,11 @@ pub fn optimised_law()
 {}
 
 /// Where the rounds end in a sound program, as they do where they began with one, no position of an admitted method is left that
-/// a squeeze takes out, and none that is dead. (`NothingLeft` and `NoneDead` speak of bodies whose positions and regions 32
+/// a squeeze takes out, and none that is dead, and its registers have the least numbers that they can have, unless some method of
+/// a wide type is named. (`NothingLeft` and `NoneDead` speak of bodies whose positions and regions 32
 /// bits number.)
 pub fn settled_law()
     ensures skips { (o : Outside) (admitted : List Bool) (p : Program) (t : Traced) (count : ℕ) → HaveRun o admitted p t count → IsSound t.program → NothingLeft admitted t.program }
     ensures dead { (o : Outside) (admitted : List Bool) (p : Program) (t : Traced) (count : ℕ) → HaveRun o admitted p t count → IsSound t.program → NoneDead (is_quiet_field t.program) admitted t.program }
+    ensures packed { (o : Outside) (admitted : List Bool) (p : Program) (t : Traced) (count : ℕ) → HaveRun o admitted p t count → IsSound t.program → has_narrow_classes t.program ≡ true → AllPacked admitted t.program }
 {}

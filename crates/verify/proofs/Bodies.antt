@@ -21,7 +21,7 @@ use Rattle.verify.specs.Entry.{begun}
 use Rattle.verify.specs.Flow.{places_of}
 use Rattle.program_model.specs.declared.program.MethodAt.{MethodAt}
 use Rattle.program_model.specs.Lookups.{method_at}
-use Rattle.verify.specs.Methods.{constructs, receiver_of, IsSettingOf, HasTyping, Refuses, Types, HasTypings, TypesAt, RefusesAt, RefusesIn, AllBelow, RefusesFirst, IsFor, TypesAll, RefusesOne}
+use Rattle.verify.specs.Methods.{constructs, receiver_of, IsSettingOf, HasTyping, Refuses, RefusesCode, Types, HasTypings, TypesAt, TypesWith, RefusesAt, RefusesWith, RefusesIn, AllBelow, RefusesFirst, IsFor, TypesAll, RefusesOne}
 use Rattle.hierarchy.specs.Shapes.{IsOf}
 use Rattle.hierarchy.specs.declared.Hierarchy.{Hierarchy}
 use Rattle.insn_set.specs.declared.form.Insn.{Insn}
@@ -50,13 +50,24 @@ module _ (v : Verifier) (c : Class) (at : ℕ) (m : Method) (b : Body) (s : Sett
   typed_from (Ok x) h = record { setting = s; is = is; finds = finds; least = subst (λ a. IsLeastTyping s b a (places_of x.states.items)) same h }
   typed_from (Err y) h = tt
 
-  fault_from : m.body ≡ Some b → (y : TypeFault) → RefusesBody s b (begun s b receiver kinds) m.name y → Refuses v c at m y
-  fault_from has fault.NoMemory h = tt
-  fault_from has (fault.IllTyped k n r) h = (h.0, record { setting = s; is = is; body = b; has = has; finds = finds; ill = subst (λ a. IsIllTyped s b a n r) same h.1 })
+  fault_from : (y : TypeFault) → RefusesBody s b (begun s b receiver kinds) m.name y → RefusesCode v c at m b y
+  fault_from fault.NoMemory h = tt
+  fault_from (fault.IllTyped k n r) h = (h.0, record { setting = s; is = is; finds = finds; ill = subst (λ a. IsIllTyped s b a n r) same h.1 })
 
-  pub refused_from : m.body ≡ Some b → (r : Result Typings TypeFault) → IfErr r (λ y. RefusesBody s b (begun s b receiver kinds) m.name y) → IfErr r (Refuses v c at m)
-  refused_from has (Ok x) h = tt
-  refused_from has (Err y) h = fault_from has y h
+  pub refused_from : (r : Result Typings TypeFault) → IfErr r (λ y. RefusesBody s b (begun s b receiver kinds) m.name y) → IfErr r (RefusesCode v c at m b)
+  refused_from (Ok x) h = tt
+  refused_from (Err y) h = fault_from y h
+
+-- ---- a method that has the code
+
+module _ (v : Verifier) (c : Class) (at : ℕ) (m : Method) (b : Body) (has : m.body ≡ Some b) where
+  own_fault : (y : TypeFault) → RefusesCode v c at m b y → Refuses v c at m y
+  own_fault fault.NoMemory h = tt
+  own_fault (fault.IllTyped k n r) h = (h.0, record { setting = h.1.setting; is = h.1.is; body = b; has = has; finds = h.1.finds; ill = h.1.ill })
+
+  pub refused_own : (r : Result Typings TypeFault) → IfErr r (RefusesCode v c at m b) → IfErr r (Refuses v c at m)
+  refused_own (Ok x) h = tt
+  refused_own (Err y) h = own_fault y h
 
 -- ---- the method at a place
 
@@ -71,6 +82,20 @@ module _ (v : Verifier) (at : MethodAt) (c : Class) (m : Method) (e : slice_get 
   pub refused_at : (r : Result Typings TypeFault) → IfErr r (Refuses v c at.class m) → IfErr r (RefusesAt v at)
   refused_at (Ok x) h = tt
   refused_at (Err y) h = record { class = c; method = m; is_class = e; is_method = f; refuses = h }
+
+-- ---- the method at a place with another body
+
+module _ (v : Verifier) (at : MethodAt) (b : Body) (c : Class) (m : Method) (e : slice_get v.program.now.classes at.class ≡ Some c) (f : method_at v.program.now at ≡ Some m) where
+  types_with : (x : Table) → HasTyping v c at.class m b x → TypesWith v at b x
+  types_with x h c' m' e' f' = subst (λ d. HasTyping v d at.class m' b x) (some_same c c' (sym e ∙ e')) (subst (λ d. HasTyping v c at.class d b x) (some_same m m' (sym f ∙ f')) h)
+
+  pub typed_with : (r : Result Typings TypeFault) → IfOk r (λ x. HasTyping v c at.class m b (places_of x.states.items)) → IfOk r (λ x. TypesWith v at b (places_of x.states.items))
+  typed_with (Ok x) h = types_with (places_of x.states.items) h
+  typed_with (Err y) h = tt
+
+  pub refused_with : (r : Result Typings TypeFault) → IfErr r (RefusesCode v c at.class m b) → IfErr r (RefusesWith v at b)
+  refused_with (Ok x) h = tt
+  refused_with (Err y) h = record { class = c; method = m; is_class = e; is_method = f; refuses = h }
 
 -- ---- all methods
 
@@ -109,6 +134,12 @@ nothing_at v at x e c m f g = let h : None ≡ Some c = sym e ∙ f in absurd (c
 
 pub nothing_in : (v : Verifier) (at : MethodAt) (x : Table) → method_at v.program.now at ≡ None → TypesAt v at x
 nothing_in v at x e c m f g = let h : None ≡ Some m = sym e ∙ g in absurd (cc)
+
+pub nothing_with : (v : Verifier) (at : MethodAt) (b : Body) (x : Table) → slice_get v.program.now.classes at.class ≡ None → TypesWith v at b x
+nothing_with v at b x e c m f g = let h : None ≡ Some c = sym e ∙ f in absurd (cc)
+
+pub nothing_with_in : (v : Verifier) (at : MethodAt) (b : Body) (x : Table) → method_at v.program.now at ≡ None → TypesWith v at b x
+nothing_with_in v at b x e c m f g = let h : None ≡ Some m = sym e ∙ g in absurd (cc)
 
 pub all_for : (p : Program) (h : Hierarchy) (v : Verifier) → IsFor p h v → length p.classes ≤ greatest → (length v.program.now.classes ≤ greatest → AllBelow v (length v.program.now.classes)) → TypesAll p h
 all_for p h v is few t = record { verifier = v; is = is; types = subst (λ q. length q.classes ≤ greatest → AllBelow v (length q.classes)) is.program t few }

@@ -69,6 +69,18 @@ abbrev pub Refuses : Verifier → Class → ℕ → Method → TypeFault → Typ
 Refuses v c at m fault.NoMemory = Unit
 Refuses v c at m (fault.IllTyped k n r) = (k ≡ m.name) × HasNone v c at m n r
 
+-- the code that a method is given has none, and its least flow breaks first at this position and register
+pub record HasNoTyping (v : Verifier) (c : Class) (at : ℕ) (m : Method) (b : Body) (n r : ℕ) : Type 0 where
+  pub setting : Setting
+  pub is : IsSettingOf v c at m setting
+  pub finds : IsOf v.program.now v.hierarchy.now → Finds v.program.now at b.insns setting.found.now
+  pub ill : IsIllTyped setting b (begun setting b (receiver_of c at m (constructs v.tables m)) (parameters_of v.program.now m.name)) n r
+
+-- what a refusal says of a method with the code that it is given
+abbrev pub RefusesCode : Verifier → Class → ℕ → Method → Body → TypeFault → Type 0
+RefusesCode v c at m b fault.NoMemory = Unit
+RefusesCode v c at m b (fault.IllTyped k n r) = (k ≡ m.name) × HasNoTyping v c at m b n r
+
 -- what an answer says of a method
 abbrev pub Types : Verifier → Class → ℕ → Method → Table → Type 0
 Types v c at m x = (b : Body) → m.body ≡ Some b → HasTyping v c at m b x
@@ -91,6 +103,18 @@ pub record RefusesAt (v : Verifier) (at : MethodAt) (e : TypeFault) : Type 0 whe
 -- the answer for the method at a place
 abbrev pub TypesAt : Verifier → MethodAt → Table → Type 0
 TypesAt v at x = (c : Class) (m : Method) → slice_get v.program.now.classes at.class ≡ Some c → method_at v.program.now at ≡ Some m → Types v c at.class m x
+
+-- the answer for the method at a place with another body
+abbrev pub TypesWith : Verifier → MethodAt → Body → Table → Type 0
+TypesWith v at b x = (c : Class) (m : Method) → slice_get v.program.now.classes at.class ≡ Some c → method_at v.program.now at ≡ Some m → HasTyping v c at.class m b x
+
+-- the method at a place is refused with another body
+pub record RefusesWith (v : Verifier) (at : MethodAt) (b : Body) (e : TypeFault) : Type 0 where
+  pub class : Class
+  pub method : Method
+  pub is_class : slice_get v.program.now.classes at.class ≡ Some class
+  pub is_method : method_at v.program.now at ≡ Some method
+  pub refuses : RefusesCode v class at.class method b e
 
 -- the first method of a class that is refused
 pub record RefusesIn (v : Verifier) (c : Class) (at : ℕ) (e : TypeFault) : Type 0 where

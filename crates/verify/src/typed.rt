@@ -7,7 +7,7 @@ ghost use Rattle.verify.specs.Flow.{greatest, places_of};
 ghost use Rattle.verify.specs.Typings.{IsShort, IsLeastTyping, Refuses as RefusesBody};
 ghost use Rattle.verify.specs.Meeting.{IsMeeting};
 ghost use Rattle.verify.specs.Names.{parameters_of, result_of};
-ghost use Rattle.verify.specs.Methods.{receiver_of, constructs, HasTyping, Refuses, Types, HasTypings, TypesAt, RefusesAt, RefusesIn, AllBelow, RefusesFirst, IsFor};
+ghost use Rattle.verify.specs.Methods.{receiver_of, constructs, HasTyping, Refuses, RefusesCode, Types, HasTypings, TypesAt, TypesWith, RefusesAt, RefusesWith, RefusesIn, AllBelow, RefusesFirst, IsFor};
 ghost use Rattle.verify.specs.Supers.{Serves};
 ghost use Rattle.verify.specs.Frames.{kinds_of};
 ghost use Rattle.verify.specs.Faults.{fault_of, fault_at, NoneBreaks};
@@ -219,7 +219,7 @@ impl<'a> Verifier<'a> {
         requires { IsMeeting self.now.tables }
         ensures serves { Serves self.now.hierarchy.now scratch.old.walk → OnOk result (Serves self.now.hierarchy.now scratch.new.walk) }
         ensures typed { Serves self.now.hierarchy.now scratch.old.walk → IfOk result (λ x. HasTyping self.now class.entry.0.now class.entry.1 method.now body.now (places_of x.states.items)) }
-        ensures refused { method.now.body ≡ Some body.now → Serves self.now.hierarchy.now scratch.old.walk → IfErr result (Refuses self.now class.entry.0.now class.entry.1 method.now) }
+        ensures refused { Serves self.now.hierarchy.now scratch.old.walk → IfErr result (RefusesCode self.now class.entry.0.now class.entry.1 method.now body.now) }
     {
         let calls = self.calls();
         let found = calls.search_all(alloc, scratch, class.1, body.insns.as_slice())?;
@@ -275,6 +275,38 @@ impl<'a> Verifier<'a> {
             }
         };
         self.of_method(alloc, &mut scratch, (class, method.class), found)
+    }
+
+    /// The typings that a method has with a body in place of its own: the least that there are. `IllTyped` stands where
+    /// there are none. There are no positions where no method stands at the place.
+    pub fn typings_with(
+        &self,
+        alloc: Global,
+        method: MethodAt,
+        body: &Body,
+    ) -> Result<Typings, TypeFault>
+        requires { IsMeeting self.now.tables }
+        ensures typed { IfOk result (λ x. TypesWith self.now method body.now (places_of x.states.items)) }
+        ensures refused { IfErr result (RefusesWith self.now method body.now) }
+    {
+        let mut scratch = Scratch::new(alloc);
+        let class = match self.class_at(method.class) {
+            Some(class) => class,
+            None => {
+                return Ok(Typings {
+                    states: Vec::new(alloc),
+                });
+            }
+        };
+        let found = match method_at(self.program, method) {
+            Some(found) => found,
+            None => {
+                return Ok(Typings {
+                    states: Vec::new(alloc),
+                });
+            }
+        };
+        self.of_body(alloc, &mut scratch, (class, method.class), found, body)
     }
 
     /// The typings of a method, if it has code.

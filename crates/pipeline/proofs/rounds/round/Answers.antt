@@ -1,21 +1,16 @@
-use Rattle.std.proofs.Common.{[], ◌∷◌, refl}
-use Rattle.pipeline.specs.declared.traces.Passed.{Passed}
-use Rattle.pipeline.specs.Passes.{passes, Reach, DeadCode, Squeeze, HavePassed}
-use Rattle.pipeline.proofs.Passing.{both_passed, no_more}
+use Rattle.std.proofs.Common.{[], ◌∷◌}
+use Rattle.pipeline.specs.Passes.{Reach, DeadCode, Squeeze, Compact, HavePassed}
+use Rattle.pipeline.proofs.Passing.{both_passed}
 use Rattle.pipeline.proofs.rounds.round.Goals as goal
 
-passed : goal.returns-clause-passed
-passed c =
+pub returns : goal.returns
+returns c =
     let o = c.args.outside.now in
     let admitted = c.args.admitted.now.methods.items in
-    let start = c.args.traced in
-    let two : Passed = record { traced = c.in_ok-cleaned.cleaned.traced; count = c.saturating_add-removed.result } in
-    let first : HavePassed o admitted (Reach ∷ DeadCode ∷ []) start two = both_passed o admitted (Reach ∷ []) (DeadCode ∷ []) start c.in_ok-reached.reached c.in_ok-cleaned.cleaned two
-    (c.in_ok-reached.ensures.passed admitted) (c.in_ok-cleaned.ensures c.in_ok-reached.ensures.graph o) refl c.saturating_add-removed.ensures in
-    both_passed o admitted (Reach ∷ DeadCode ∷ []) (Squeeze ∷ []) start two c.in_ok-squeezed.squeezed _ first (c.in_ok-squeezed.ensures o) refl c.saturating_add.ensures
-
-pub returns-clause-passed : goal.returns-clause-passed
-returns-clause-passed c = passed c
-
-pub returns-clause-falls : goal.returns-clause-falls
-returns-clause-falls c = no_more c.args.outside.now c.args.admitted.now.methods.items passes c.args.traced _ (passed c)
+    let t = c.args.traced in
+    let two : HavePassed o admitted (Reach ∷ DeadCode ∷ []) t c.and_then-cleaned.result = both_passed o admitted (Reach ∷ []) (DeadCode ∷ []) t c.in_ok-reached.reached c.in_ok-cleaned.cleaned c.and_then-cleaned.result
+    (c.in_ok-reached.ensures.passed admitted) (c.in_ok-cleaned.ensures c.in_ok-reached.ensures.graph o) c.and_then-cleaned.ensures.traced c.and_then-cleaned.ensures.removed c.and_then-cleaned.ensures.rewritten in
+    let three : HavePassed o admitted (Reach ∷ DeadCode ∷ Squeeze ∷ []) t c.and_then-squeezed.result = both_passed o admitted (Reach ∷ DeadCode ∷ []) (Squeeze ∷ []) t c.and_then-cleaned.result c.in_ok-squeezed.squeezed c.and_then-squeezed.result
+    two (c.in_ok-squeezed.ensures o) c.and_then-squeezed.ensures.traced c.and_then-squeezed.ensures.removed c.and_then-squeezed.ensures.rewritten in
+    both_passed o admitted (Reach ∷ DeadCode ∷ Squeeze ∷ []) (Compact ∷ []) t c.and_then-squeezed.result c.in_ok-compacted.compacted c.and_then.result
+    three (c.in_ok-compacted.ensures o) c.and_then.ensures.traced c.and_then.ensures.removed c.and_then.ensures.rewritten

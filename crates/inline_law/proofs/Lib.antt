@@ -1,0 +1,11 @@
+pub mod Lists
+pub mod Ways
+pub mod Pairs
+pub mod Inlining
+pub mod Meets
+pub mod Entering
+pub mod Programs
+pub mod Found
+pub mod Statics
+pub mod Passing
+pub mod Instance

@@ -126,7 +126,7 @@ module _ (t : Tables) where
       by true more = ap (λ o. map (λ (h : ℕ × Kind). h.0) (catches_in t o)) first ∙ firsts r.handlers r.rest
       by false more = more
 
-  caught_places : (b : Body) (i : Insn) (n : ℕ) → map (λ h. h.0) (catches t b i n) ≡ caught b i n
+  pub caught_places : (b : Body) (i : Insn) (n : ℕ) → map (λ h. h.0) (catches t b i n) ≡ caught b i n
   caught_places b i n = by (throws i)
     where
       by : (v : Bool) → map (λ h. h.0) (if v then catches_in t (flow.region_at b (place_covering b n)) else []) ≡ (if v then handlers_at b.regions n else [])

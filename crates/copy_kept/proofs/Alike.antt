@@ -1,11 +1,9 @@
 -- In the least typing of a method by names originals have the kinds of their copies.
-use Rattle.std.proofs.Common.{◌≡◌, ℕ, ◌<◌, ◌+◌, Bool, true, false, true≢false, List, length, Option, Some, None, refl, sym, ap, ◌∙◌, subst, arith}
-use Rattle.std.specs.Prelude.{not, slice_get, option_and_then, All}
-use Rattle.std.specs.List.{list_all}
+use Rattle.std.proofs.Common.{◌≡◌, ℕ, ◌<◌, ◌+◌, Bool, true, false, true≢false, List, length, Option, Some, None, refl, sym, ap, ◌∙◌, subst}
+use Rattle.std.specs.Prelude.{not, slice_get, All}
 use Rattle.std.specs.Option.{option_map}
 use Rattle.std.proofs.lemmas.List.Elements.{All-weaker}
 use Rattle.insn_set.specs.Widths.{is_wide_slot}
-use Rattle.insn_set.specs.declared.ops.InvokeKind.{InvokeKind}
 use Rattle.insn_set.specs.declared.form.Insn.TheVariants as insn
 use Rattle.program_model.specs.ProgramRules.{is_well_formed}
 use Rattle.program_model.specs.declared.body.Body.{Body}
@@ -27,7 +25,6 @@ use Rattle.pass_defs.specs.Typed.{state_at}
 use Rattle.pack_law.proofs.Widths.{narrow_kind}
 use Rattle.stuck_bridge.proofs.Listed.{some_same, none_same}
 use Rattle.insn_regs.specs.Wides.{is_wide_type}
-use Rattle.body_graph.specs.Walks.{insn_at}
 use Rattle.operand_bridge.proofs.Widths.{wide_same}
 use Rattle.compact.specs.Narrow.{has_narrow_classes}
 use Rattle.compact.specs.Renamed.{HasRegisters}

@@ -1,6 +1,6 @@
 -- A propagated program is well-formed.
-use Rattle.std.proofs.Common.{◌≡◌, ◌⊎◌, inl, inr, ℕ, suc, ◌+◌, ◌<◌, ◌≤◌, Bool, true, false, true≢false, List, [], ◌∷◌, ◌++◌, length, Option, Some, None, refl, sym, ap, ◌∙◌, subst, arith}
-use Rattle.std.specs.Prelude.{◌&&◌, ◌||◌, if◌then◌else◌, nat_eq, nat_le, map, slice_get, All}
+use Rattle.std.proofs.Common.{◌≡◌, ◌⊎◌, inl, inr, ℕ, suc, ◌+◌, Bool, true, false, true≢false, List, [], ◌∷◌, ◌++◌, length, Option, Some, None, refl, sym, ap, ◌∙◌, subst, arith}
+use Rattle.std.specs.Prelude.{◌&&◌, if◌then◌else◌, nat_eq, nat_le, map, slice_get, All}
 use Rattle.std.specs.List.{list_any}
 use Rattle.std.proofs.lemmas.List.Elements.{All-nil, All-cons, All-head, All-tail}
 use Rattle.insn_set.specs.Spelling.{is_encodable}
@@ -8,7 +8,6 @@ use Rattle.insn_set.specs.Widths.{is_wide_slot, compares_wide, binary_is_wide, s
 use Rattle.insn_set.specs.declared.ops.Slot.{Slot}
 use Rattle.insn_set.specs.declared.form.Insn.{Insn}
 use Rattle.insn_set.specs.declared.form.Insn.TheVariants as insn
-use Rattle.program_model.specs.BodyRules.{body_fits}
 use Rattle.program_model.specs.OperandRules.{registers_fit}
 use Rattle.program_model.specs.ProgramRules.{is_well_formed}
 use Rattle.program_model.specs.declared.body.Body.{Body}
@@ -33,7 +32,7 @@ use Rattle.copy_prop.specs.Rereading as pass
 use Rattle.copy_law.specs.Reread.{Copied, substituted}
 use Rattle.copy_prop.specs.Propagated.{IsPropagated, IsPropagatedMethod, IsPropagatedClass, IsPropagatedProgram}
 use Rattle.copy_prop.specs.Propagated as propagated
-use Rattle.place_rules.specs.Rewritten.{IsRewritten, RewritesBody, RewrittenMethod, Untouched, Rewritten, RewrittenClass, RewrittenProgram}
+use Rattle.place_rules.specs.Rewritten.{IsRewritten, RewritesBody, RewrittenMethod, Untouched, Rewritten, RewrittenClass}
 use Rattle.place_rules.proofs.Rewriting.{rewritten_formed}
 use Rattle.kept_bridge.proofs.Compacting.{has_registers}
 use Rattle.verify.specs.declared.kinds.Kind.{Kind}

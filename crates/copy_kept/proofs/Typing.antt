@@ -16,7 +16,6 @@ use Rattle.hierarchy.specs.Shapes.{IsResolved}
 use Rattle.hierarchy.specs.declared.build.Hierarchy.{Hierarchy}
 use Rattle.dalvik_defs.specs.Names.{is_wide}
 use Rattle.dalvik_defs.specs.Naming.{text_at, type_at, signature_at, form_of, body_of, named_method, named_class, named}
-use Rattle.dalvik_defs.specs.Naming as naming
 use Rattle.dalvik_defs.specs.Silence.{key_in}
 use Rattle.dalvik_defs.specs.declared.forms.Form.{Form}
 use Rattle.dalvik_defs.specs.declared.names.MethodKey.{MethodKey}
@@ -48,8 +47,7 @@ use Rattle.copy_bridge.specs.Rereads.{Rereads}
 use Rattle.copy_bridge.proofs.Forms.{IsOf, insn_for}
 use Rattle.copy_bridge.proofs.Programs.{others}
 use Rattle.verify.specs.declared.typed.Verifier.{Verifier}
-use Rattle.verify.specs.Methods.{IsFor, HasTypings, Types, TypesFor, TypesAll}
-use Rattle.verify.specs.Typings as by_number
+use Rattle.verify.specs.Methods.{HasTypings, Types, TypesFor, TypesAll}
 use Rattle.type_bridge.specs.Views.{method_table}
 use Rattle.type_bridge.proofs.Bodies.{got_short}
 use Rattle.type_bridge.proofs.Least.{least_method}

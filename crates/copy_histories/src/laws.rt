@@ -1,0 +1,18 @@
+//! The laws.
+
+ghost use Rattle.std.specs.Prelude.{◌≡◌, ◌≤◌, ℕ, suc, true, false, List};
+ghost use Rattle.insn_set.specs.declared.ops.Slot.{Slot};
+ghost use Rattle.program_model.specs.declared.body.Body.{Body};
+ghost use Rattle.copy_prop.specs.Stale.{IsCopy, in_copy, overlaps, instead, IsSpoilt};
+ghost use Rattle.copy_histories.specs.Histories.{Step, IsPath, moves, ReadsNoLater};
+
+/// Where a copy isn't spoilt, what it holds went through one Move more than its original, along each path from the entry.
+pub fn standing_law()
+    ensures { (b : Body) (at : ℕ) (slot : Slot) (to from : ℕ) → IsCopy b at slot to from → overlaps slot to from ≡ false → (ss : List Step) (n : ℕ) → IsPath b ss n
+        → (IsSpoilt b at slot to from n → ⊥) → (r : ℕ) → in_copy slot to r ≡ true → moves b ss r ≡ suc (moves b ss (instead slot to from r)) }
+{}
+
+/// So in a body that reads such registers no register holds what went through more Moves, along each path from the entry.
+pub fn fewer_law()
+    ensures { (b d : Body) → ReadsNoLater b d → (ss : List Step) (n : ℕ) → IsPath b ss n → (r : ℕ) → moves d ss r ≤ moves b ss r }
+{}

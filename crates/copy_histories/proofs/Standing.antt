@@ -14,10 +14,10 @@ use Rattle.body_graph.proofs.Links.{step_on, step_caught}
 use Rattle.copy_prop.specs.Stale.{IsCopy, in_copy, in_either, overlaps, instead, IsSpoilt}
 use Rattle.copy_histories.specs.Histories.{Step, IsPath, written, left_by, moves}
 
-clash : {A : Type 0} (b : Bool) → b ≡ true → b ≡ false → A
+pub clash : {A : Type 0} (b : Bool) → b ≡ true → b ≡ false → A
 clash b e f = absurd (true≢false (sym e ∙ f))
 
-untrue : (b : Bool) → (b ≡ true → ⊥) → b ≡ false
+pub untrue : (b : Bool) → (b ≡ true → ⊥) → b ≡ false
 untrue true h = absurd (h refl)
 untrue false h = refl
 
@@ -29,7 +29,7 @@ or_false : (x y : Bool) → (x || y) ≡ false → (x ≡ false) × (y ≡ false
 or_false false y e = (refl, e)
 or_false true y e = absurd (true≢false e)
 
-some_same : {A : Type 0} (x y : A) → Some x ≡ Some y → x ≡ y
+pub some_same : {A : Type 0} (x y : A) → Some x ≡ Some y → x ≡ y
 some_same x y e = ap (λ o. elim o as (λ o. _) [ Some z ↦ z | None ↦ x ]) e
 
 -- ---- walks
@@ -53,11 +53,11 @@ second_out to from e f = untrue (in_operand true to (from + 1)) (λ z. by (nat_e
     by true i z = clash (in_operand true from to) (or_right (nat_eq to from) (nat_eq to (from + 1)) (eq-eqb to (from + 1) (sym (eqb-true (from + 1) to i)))) f
     by false i z = let u = eqb-true (from + 1) (to + 1) z in clash (in_operand true to from) (or_left (nat_eq from to) (nat_eq from (to + 1)) (eq-eqb from to (omega (arith, u)))) e
 
-in_first : (v : Bool) (r : ℕ) → in_operand v r r ≡ true
+pub in_first : (v : Bool) (r : ℕ) → in_operand v r r ≡ true
 in_first true r = or_left (nat_eq r r) (nat_eq r (r + 1)) (eq-eqb r r refl)
 in_first false r = eq-eqb r r refl
 
-in_second : (r : ℕ) → in_operand true r (r + 1) ≡ true
+pub in_second : (r : ℕ) → in_operand true r (r + 1) ≡ true
 in_second r = or_right (nat_eq (r + 1) r) (nat_eq (r + 1) (r + 1)) (eq-eqb (r + 1) (r + 1) refl)
 
 -- where the original of a register is

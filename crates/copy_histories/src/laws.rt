@@ -1,9 +1,10 @@
 //! The laws.
 
-ghost use Rattle.std.specs.Prelude.{◌≡◌, ◌≤◌, ℕ, suc, true, false, List};
+ghost use Rattle.std.specs.Prelude.{◌≡◌, ◌≤◌, ℕ, suc, Bool, true, false, List};
 ghost use Rattle.insn_set.specs.declared.ops.Slot.{Slot};
 ghost use Rattle.program_model.specs.declared.body.Body.{Body};
 ghost use Rattle.copy_prop.specs.Stale.{IsCopy, in_copy, overlaps, instead, IsSpoilt};
+ghost use Rattle.copy_prop.specs.Propagated.{IsPropagated};
 ghost use Rattle.copy_histories.specs.Histories.{Step, IsPath, moves, ReadsNoLater};
 
 /// Where a copy isn't spoilt, what it holds went through one Move more than its original, along each path from the entry.
@@ -15,4 +16,10 @@ pub fn standing_law()
 /// So in a body that reads such registers no register holds what went through more Moves, along each path from the entry.
 pub fn fewer_law()
     ensures { (b d : Body) → ReadsNoLater b d → (ss : List Step) (n : ℕ) → IsPath b ss n → (r : ℕ) → moves d ss r ≤ moves b ss r }
+{}
+
+/// A propagated body is such a body, so along each path no register holds what went through more Moves.
+pub fn propagated_fewer_law()
+    ensures reads { (w : List (List Bool)) (b d : Body) → IsPropagated w b d → ReadsNoLater b d }
+    ensures holds { (w : List (List Bool)) (b d : Body) → IsPropagated w b d → (ss : List Step) (n : ℕ) → IsPath b ss n → (r : ℕ) → moves d ss r ≤ moves b ss r }
 {}

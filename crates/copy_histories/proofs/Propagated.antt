@@ -1,5 +1,5 @@
 -- A propagated body reads what went through no more Moves.
-use Rattle.std.proofs.Common.{◌≡◌, ℕ, suc, ◌+◌, ◌≤◌, Bool, true, false, true≢false, nat_eq, List, [], ◌∷◌, Option, Some, None, refl, sym, ap, ap₂, ◌∙◌, subst, arith, eqb-true, eq-eqb}
+use Rattle.std.proofs.Common.{◌≡◌, ◌⊎◌, inl, inr, ℕ, suc, ◌+◌, ◌<◌, ◌≤◌, Bool, true, false, true≢false, nat_eq, List, [], ◌∷◌, Option, Some, None, refl, sym, ap, ap₂, ◌∙◌, subst, arith, eqb-true, eq-eqb}
 use Rattle.std.specs.Prelude.{◌&&◌, ◌||◌, not, if◌then◌else◌, All}
 use Rattle.std.specs.List.{list_any}
 use Rattle.std.proofs.lemmas.List.Elements.{All-head, All-tail}
@@ -67,6 +67,22 @@ module _ {C : Type 0} (sub : List C → ℕ → ℕ) (at : C → ℕ) (slot : C 
             → moves b ss (if u then from c else if v && z then from c + 1 else sub cs r) ≤ moves b ss r
         by true v z i j k rest = subst (λ x. moves b ss (from c) ≤ moves b ss x) (sym (eqb-true r (to c) i)) (let e = low c head in omega (arith, e))
         by false true true i j k rest = subst (λ x. moves b ss (from c + 1) ≤ moves b ss x) (sym (eqb-true r (to c + 1) k)) (let e = high c head j in omega (arith, e))
+        by false true false i j k rest = rest
+        by false false z i j k rest = rest
+
+    -- what is read is the same, or went through fewer
+    pub same_or_fewer : (cs : List C) → All Among cs → (r : ℕ) → (sub cs r ≡ r) ⊎ (moves b ss (sub cs r) < moves b ss r)
+    same_or_fewer [] h r = inl (none r)
+    same_or_fewer (c ∷ cs) h r = subst (λ x. (x ≡ r) ⊎ (moves b ss x < moves b ss r)) (sym (more c cs r))
+        (by (nat_eq r (to c)) (is_wide_slot (slot c)) (nat_eq r (to c + 1)) refl refl refl (same_or_fewer cs (All-tail Among c cs h) r))
+      where
+        head : Among c
+        head = All-head Among c cs h
+
+        by : (u v z : Bool) → nat_eq r (to c) ≡ u → is_wide_slot (slot c) ≡ v → nat_eq r (to c + 1) ≡ z → (sub cs r ≡ r) ⊎ (moves b ss (sub cs r) < moves b ss r)
+            → ((if u then from c else if v && z then from c + 1 else sub cs r) ≡ r) ⊎ (moves b ss (if u then from c else if v && z then from c + 1 else sub cs r) < moves b ss r)
+        by true v z i j k rest = inr (subst (λ x. moves b ss (from c) < moves b ss x) (sym (eqb-true r (to c) i)) (let e = low c head in omega (arith, e)))
+        by false true true i j k rest = inr (subst (λ x. moves b ss (from c + 1) < moves b ss x) (sym (eqb-true r (to c + 1) k)) (let e = high c head j in omega (arith, e)))
         by false true false i j k rest = rest
         by false false z i j k rest = rest
 

@@ -1,7 +1,10 @@
 //! The laws.
 
-ghost use Rattle.std.specs.Prelude.{◌≡◌, ◌≤◌, ℕ, suc, Bool, true, false, List};
+ghost use Rattle.std.specs.Prelude.{◌≡◌, ◌<◌, ◌≤◌, ℕ, suc, Bool, true, false, List, Some, sum_by};
 ghost use Rattle.insn_set.specs.declared.ops.Slot.{Slot};
+ghost use Rattle.insn_set.specs.declared.form.Insn.{Insn};
+ghost use Rattle.insn_regs.specs.Remade.{operands_of};
+ghost use Rattle.body_graph.specs.Walks.{insn_at};
 ghost use Rattle.program_model.specs.declared.body.Body.{Body};
 ghost use Rattle.copy_prop.specs.Stale.{IsCopy, in_copy, overlaps, instead, IsSpoilt};
 ghost use Rattle.copy_prop.specs.Propagated.{IsPropagated};
@@ -22,4 +25,10 @@ pub fn fewer_law()
 pub fn propagated_fewer_law()
     ensures reads { (w : List (List Bool)) (b d : Body) → IsPropagated w b d → ReadsNoLater b d }
     ensures holds { (w : List (List Bool)) (b d : Body) → IsPropagated w b d → (ss : List Step) (n : ℕ) → IsPath b ss n → (r : ℕ) → moves d ss r ≤ moves b ss r }
+{}
+
+/// And what an instruction reads that changes went through fewer Moves in all, along each path to it.
+pub fn changed_law()
+    ensures { (w : List (List Bool)) (b d : Body) → IsPropagated w b d → (n : ℕ) (f g : Insn) → insn_at b n ≡ Some f → insn_at d n ≡ Some g → (g ≡ f → ⊥) → (ss : List Step) → IsPath b ss n
+        → sum_by (moves b ss) (operands_of g) < sum_by (moves b ss) (operands_of f) }
 {}

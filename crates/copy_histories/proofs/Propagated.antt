@@ -1,7 +1,6 @@
 -- A propagated body reads what went through no more Moves.
 use Rattle.std.proofs.Common.{◌≡◌, ◌⊎◌, inl, inr, ℕ, suc, ◌+◌, ◌<◌, ◌≤◌, Bool, true, false, true≢false, nat_eq, List, [], ◌∷◌, Option, Some, None, refl, sym, ap, ap₂, ◌∙◌, subst, arith, eqb-true, eq-eqb}
 use Rattle.std.specs.Prelude.{◌&&◌, ◌||◌, not, if◌then◌else◌, All}
-use Rattle.std.specs.List.{list_any}
 use Rattle.std.proofs.lemmas.List.Elements.{All-head, All-tail}
 use Rattle.insn_set.specs.Registers.{in_operand}
 use Rattle.insn_set.specs.Widths.{is_wide_slot}
@@ -13,7 +12,7 @@ use Rattle.program_model.specs.declared.body.Body.{Body}
 use Rattle.insn_regs.specs.Remade.{remade}
 use Rattle.insn_regs.specs.Wides.{reads_as}
 use Rattle.body_graph.specs.Walks.{insn_at}
-use Rattle.copy_prop.specs.Stale.{instead, IsStaleBy}
+use Rattle.copy_prop.specs.Stale.{IsStaleBy}
 use Rattle.copy_prop.specs.Rereading.{IsReread}
 use Rattle.copy_prop.specs.Rereading as pass
 use Rattle.copy_prop.specs.Propagated.{IsPropagated}

@@ -1,5 +1,5 @@
 -- A copy that stands went through one Move more than its original.
-use Rattle.std.proofs.Common.{◌≡◌, ℕ, suc, ◌+◌, Bool, true, false, true≢false, nat_eq, List, [], ◌∷◌, Option, Some, None, Contains, refl, sym, ap, ◌∙◌, subst, arith, eqb-true, eq-eqb}
+use Rattle.std.proofs.Common.{◌≡◌, ℕ, suc, ◌+◌, Bool, true, false, true≢false, nat_eq, List, ◌∷◌, Some, None, Contains, refl, sym, ap, ◌∙◌, subst, arith, eqb-true, eq-eqb}
 use Rattle.std.specs.Prelude.{◌&&◌, ◌||◌, if◌then◌else◌}
 use Rattle.std.proofs.lemmas.Bool.{or_left, or_right}
 use Rattle.insn_set.specs.Registers.{in_operand, writes_of}
@@ -9,7 +9,7 @@ use Rattle.insn_set.specs.declared.form.Insn.{Insn}
 use Rattle.insn_set.specs.declared.form.Insn.TheVariants as insn
 use Rattle.program_model.specs.declared.body.Body.{Body}
 use Rattle.flow_cfg.specs.Walks.{successors_of}
-use Rattle.body_graph.specs.Walks.{insn_at, onward, caught, Walk, IsReached}
+use Rattle.body_graph.specs.Walks.{insn_at, caught, Walk, IsReached}
 use Rattle.body_graph.proofs.Links.{step_on, step_caught}
 use Rattle.copy_prop.specs.Stale.{IsCopy, in_copy, in_either, overlaps, instead, IsSpoilt}
 use Rattle.copy_histories.specs.Histories.{Step, IsPath, written, left_by, moves}

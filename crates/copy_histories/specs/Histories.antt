@@ -1,5 +1,5 @@
 -- Through how many Moves what a register holds went, along a path through a body (this project's profile).
-use Rattle.std.specs.Prelude.{◌≡◌, ℕ, zero, suc, ◌+◌, ◌≤◌, Bool, true, false, List, [], ◌∷◌, Option, Some, None, Contains, if◌then◌else◌}
+use Rattle.std.specs.Prelude.{◌≡◌, ℕ, suc, ◌+◌, ◌≤◌, Bool, true, false, List, [], ◌∷◌, Option, Some, None, Contains, if◌then◌else◌}
 use Rattle.insn_set.specs.Registers.{writes_of}
 use Rattle.insn_set.specs.declared.ops.Slot.TheVariants.{Wide}
 use Rattle.insn_set.specs.declared.form.Insn.{Insn}

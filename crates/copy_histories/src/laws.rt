@@ -29,6 +29,7 @@ pub fn propagated_fewer_law()
 
 /// And what an instruction reads that changes went through fewer Moves in all, along each path to it.
 pub fn changed_law()
-    ensures { (w : List (List Bool)) (b d : Body) → IsPropagated w b d → (n : ℕ) (f g : Insn) → insn_at b n ≡ Some f → insn_at d n ≡ Some g → (g ≡ f → ⊥) → (ss : List Step) → IsPath b ss n
+    ensures { (w : List (List Bool)) (b d : Body) → IsPropagated w b d → (n : ℕ) (f g : Insn) → insn_at b n ≡ Some f → insn_at d n ≡ Some g
+        → (g ≡ f → ⊥) → (ss : List Step) → IsPath b ss n
         → sum_by (moves b ss) (operands_of g) < sum_by (moves b ss) (operands_of f) }
 {}

@@ -23,16 +23,19 @@ pub fn propagated_bulk_law()
 /// What copy propagation leaves of a well-formed program that the verifier finds well typed, and that names no method of a
 /// wide type, is typed, whatever methods are admitted.
 pub fn propagated_typed_law()
-    ensures { (p : Program) (h : Hierarchy) → is_well_formed p ≡ true → IsResolved p h → has_narrow_classes p ≡ true → TypesAll p h → (admitted : List Bool) (q : Program) → IsPropagatedProgram admitted p q → IsTyped (named q) }
+    ensures { (p : Program) (h : Hierarchy) → is_well_formed p ≡ true → IsResolved p h → has_narrow_classes p ≡ true → TypesAll p h
+        → (admitted : List Bool) (q : Program) → IsPropagatedProgram admitted p q → IsTyped (named q) }
 {}
 
 /// And it is well-formed.
 pub fn propagated_formed_law()
-    ensures { (p : Program) (h : Hierarchy) → is_well_formed p ≡ true → IsResolved p h → has_narrow_classes p ≡ true → TypesAll p h → (admitted : List Bool) (q : Program) → IsPropagatedProgram admitted p q → is_well_formed q ≡ true }
+    ensures { (p : Program) (h : Hierarchy) → is_well_formed p ≡ true → IsResolved p h → has_narrow_classes p ≡ true → TypesAll p h
+        → (admitted : List Bool) (q : Program) → IsPropagatedProgram admitted p q → is_well_formed q ≡ true }
 {}
 
 /// So it is kept: well-formed and typed, it has the same tables and the same classes and members but for bodies, and it shows
 /// the same, for every outside.
 pub fn propagated_kept_law()
-    ensures { (p : Program) (h : Hierarchy) → is_well_formed p ≡ true → IsResolved p h → has_narrow_classes p ≡ true → TypesAll p h → (admitted : List Bool) (q : Program) → IsPropagatedProgram admitted p q → IsKept p q }
+    ensures { (p : Program) (h : Hierarchy) → is_well_formed p ≡ true → IsResolved p h → has_narrow_classes p ≡ true → TypesAll p h
+        → (admitted : List Bool) (q : Program) → IsPropagatedProgram admitted p q → IsKept p q }
 {}

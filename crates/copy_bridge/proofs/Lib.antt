@@ -1,5 +1,5 @@
-mod Forms
+pub mod Forms
 mod Reading
-mod Stands
-mod Rereads
-mod Programs
+pub mod Stands
+pub mod Rereads
+pub mod Programs

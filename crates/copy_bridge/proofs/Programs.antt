@@ -47,7 +47,7 @@ same_reread b = record {
   ins = refl;
 }
 
-code_reread : (p : Program) (k : MethodKey) (a b : Option Body) → Propagates p k a b → Rereads k (option_map (body_of p) a) (option_map (body_of p) b)
+pub code_reread : (p : Program) (k : MethodKey) (a b : Option Body) → Propagates p k a b → Rereads k (option_map (body_of p) a) (option_map (body_of p) b)
 code_reread p k (Some b) (Some d) (inl c) = reads_by_number p b d c
 code_reread p k (Some b) (Some d) (inr e) = subst (λ x. AreReread (body_of p b) (body_of p x)) (sym e) (same_reread (body_of p b))
 code_reread p k (Some b) None h = absurd h
@@ -93,7 +93,7 @@ module _ (admitted : List Bool) (p : Program) where
   program_propagates q i = record { same = i.rest; classes = pairs (IsPropagatedClass (widths_of p) admitted) (OtherNumberedClass (Propagates p) p) class_propagates p.classes q.classes i.classes }
 
   module _ (q : Program) (well_formed : is_well_formed p ≡ true) (once : (class : ℕ) → IsTwice p class → ⊥) (propagated : IsPropagatedProgram admitted p q) where
-    others : OtherBodies Rereads (named p) (named q)
+    pub others : OtherBodies Rereads (named p) (named q)
     others = others_named (Propagates p) Rereads p (code_reread p) q (program_propagates q propagated)
 
     abbrev new : Change

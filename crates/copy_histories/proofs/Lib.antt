@@ -1,0 +1,4 @@
+pub mod Standing
+pub mod Fewer
+pub mod Propagated
+pub mod Falling

@@ -1,0 +1,4 @@
+pub mod Least
+pub mod Writes
+pub mod Shifts
+pub mod Copies

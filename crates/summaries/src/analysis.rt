@@ -7,16 +7,20 @@ ghost use Rattle.fact_graph.specs.Known.{ArePlaces};
 
 use crate::bodies::make_bodies;
 use crate::edges::Drawing;
-use crate::fill::{frames_by_number, frames_of};
 use crate::numbers::{Counts, Numbering, behind, number_nodes};
 use crate::quiet::Search;
+use crate::starts::{add_starts, no_lists};
 use call_graph::live_members;
 use call_targets::{Targets, targets};
 use dom_frame::Frame;
 use domains::Value;
-use fact_graph::{Arrival, Bodies, Code, Links, Network, blocks_of, classes_of, places_of, solved};
+use fact_graph::{
+    Arrival, Bodies, Code, Links, Network, blocks_of, classes_of, is_reached, places_of, solved,
+};
 use facts::Facts;
+use facts_check::{Known, Marks, Pools, Start, fill, holds};
 use hierarchy::Hierarchy;
+use pat_map::PatMap;
 use program_model::{Class, Method, Outside, Program};
 use seq::Seq;
 use std::alloc::{AllocError, Global};
@@ -147,12 +151,28 @@ fn fields_of(
     Ok(fields)
 }
 
-/// The table as it is filled in.
+/// The tables beside the frames, as they are filled in, and what is known where the blocks of bodies begin.
 #[derive(Drop)]
 struct Table {
-    frames: Vec<Seq<Option<Frame>>>,
+    starts: Vec<Seq<Start>>,
     parameters: Vec<Seq<Value>>,
     results: Vec<Value>,
+    entered: Vec<bool>,
+}
+
+/// Turns a mark on where a run comes to a node.
+fn mark_reached(marks: &mut [bool], number: u32, states: &[Arrival], node: u32) {
+    if let Some(mark) = marks.get_mut(number as usize) {
+        *mark = comes_to(states, node);
+    }
+}
+
+/// Whether a run comes to a node.
+fn comes_to(states: &[Arrival], node: u32) -> bool {
+    match states.get(node as usize) {
+        Some(arrival) => is_reached(arrival),
+        None => false,
+    }
 }
 
 impl Table {
@@ -168,11 +188,10 @@ impl Table {
     ) -> Result<(), AllocError> {
         let blocks = blocks_of(network.bodies, place as usize);
         let number = code.number as usize;
-        if let Some(frames) = self.frames.get_mut(number) {
-            *frames = Seq::of_vec(frames_of(alloc, network, code, blocks, states)?);
-        }
+        let entry = behind(numbering.entries, place);
+        add_starts(alloc, &mut self.starts, code, blocks, states)?;
+        mark_reached(&mut self.entered, code.number, states, entry);
         if let Some(words) = self.parameters.get_mut(number) {
-            let entry = behind(numbering.entries, place);
             *words = parameters_of(alloc, states, entry, code.body.ins)?;
         }
         if let Some(result) = self.results.get_mut(number) {
@@ -198,35 +217,188 @@ impl Table {
     }
 }
 
+/// What is known of all bodies but their frames.
+fn table_of(
+    alloc: Global,
+    network: &Network<'_>,
+    numbering: &Numbering,
+    states: &[Arrival],
+) -> Result<Table, AllocError> {
+    let program = network.program;
+    let methods = program.methods.len();
+    let mut table = Table {
+        starts: no_lists(alloc, methods)?,
+        parameters: first_parameters(alloc, program)?,
+        results: first_results(alloc, program)?,
+        entered: vec![in alloc; false; methods]?,
+    };
+    table.add_all(alloc, network, numbering, states)?;
+    Ok(table)
+}
+
+/// What has come to as many nodes, as registers.
+fn registers_of(
+    alloc: Global,
+    states: &[Arrival],
+    first: u32,
+    count: usize,
+) -> Result<Vec<PatMap<Value>>, AllocError> {
+    let mut all = Vec::with_capacity(alloc, count)?;
+    let mut node = first;
+    for _ in 0..count {
+        all.push(match states.get(node as usize) {
+            Some(arrival) => arrival.second.share()?,
+            None => PatMap::empty(),
+        })?;
+        node = behind(node, 1);
+    }
+    Ok(all)
+}
+
+/// The value of register 0 of what has come to as many nodes, nothing where there is none.
+fn values_of(
+    alloc: Global,
+    states: &[Arrival],
+    first: u32,
+    count: usize,
+) -> Result<Vec<Value>, AllocError> {
+    let mut values = Vec::with_capacity(alloc, count)?;
+    let mut node = first;
+    for _ in 0..count {
+        values.push(or_none(value_in(states, node, 0)))?;
+        node = behind(node, 1);
+    }
+    Ok(values)
+}
+
+/// What virtual and interface calls pass and get back.
+fn pools_of(
+    alloc: Global,
+    states: &[Arrival],
+    numbering: &Numbering,
+    methods: usize,
+) -> Result<Pools, AllocError> {
+    let calls = methods.saturating_mul(2);
+    Ok(Pools {
+        calls: registers_of(alloc, states, numbering.calls, calls)?,
+        answers: values_of(alloc, states, numbering.answers, calls)?,
+    })
+}
+
+/// Which classes are initialised, or run no code when they are, by the nodes that stand for them from one on.
+fn marks_from(
+    alloc: Global,
+    program: &Program,
+    hierarchy: &Hierarchy,
+    states: &[Arrival],
+    first: u32,
+) -> Result<Vec<bool>, AllocError> {
+    let mut marks = Vec::with_capacity(alloc, program.classes.len())?;
+    let mut place = 0u32;
+    for _ in 0..program.classes.len() {
+        let node = behind(first, place);
+        marks.push(comes_to(states, node) || hierarchy.trivially_initialised(program, place))?;
+        place = behind(place, 1);
+    }
+    Ok(marks)
+}
+
+/// All that a solved table says but what is inside blocks.
+struct Solved<'a> {
+    known: Known<'a>,
+    starts: &'a [Seq<Start>],
+    states: &'a [Arrival],
+}
+
+/// What is known with its frames, if that is closed.
+fn checked(
+    alloc: Global,
+    network: &Network<'_>,
+    search: &Search<'_>,
+    solved: &Solved<'_>,
+) -> Result<Option<(Vec<Seq<Option<Frame>>>, Vec<bool>)>, AllocError> {
+    let Some(frames) = fill(alloc, &solved.known, solved.starts)? else {
+        return Ok(None);
+    };
+    if !holds(alloc, &solved.known, &frames)? {
+        return Ok(None);
+    }
+    let quiet = search.quiet(alloc, network, network.bodies, solved.states, &frames)?;
+    Ok(Some((frames, quiet)))
+}
+
 /// What is known by the solved table.
 fn filled(
     alloc: Global,
     network: &Network<'_>,
     numbering: &Numbering,
     search: &Search<'_>,
+    outside: &Outside,
+    targets: &Targets,
     states: &[Arrival],
-) -> Result<Facts, AllocError> {
-    let program = network.program;
-    let mut table = Table {
-        frames: frames_by_number(alloc, program.methods.len())?,
-        parameters: first_parameters(alloc, program)?,
-        results: first_results(alloc, program)?,
-    };
-    table.add_all(alloc, network, numbering, states)?;
-    let quiet = search.quiet(alloc, network, network.bodies, states, &table.frames)?;
+) -> Result<Option<Facts>, AllocError> {
+    let (program, hierarchy) = (network.program, search.hierarchy);
     let Table {
-        frames,
+        starts,
         parameters,
         results,
-    } = table;
-    Ok(Facts {
-        frames,
+        entered,
+    } = table_of(alloc, network, numbering, states)?;
+    let facts = Facts {
+        frames: Vec::new(alloc),
         parameters,
         results,
         fields: fields_of(alloc, states, numbering.fields, program.fields.len())?,
-        quiet,
+        quiet: Vec::new(alloc),
         any: Value::any(),
-    })
+    };
+    let pools = pools_of(alloc, states, numbering, program.methods.len())?;
+    let marks = Marks {
+        entered,
+        needed: marks_from(alloc, program, hierarchy, states, numbering.classes)?,
+        listed: marks_from(alloc, program, hierarchy, states, numbering.lists)?,
+    };
+    let solved = Solved {
+        known: Known {
+            program,
+            hierarchy,
+            classes: network.classes,
+            outside,
+            targets,
+            facts: &facts,
+            pools: &pools,
+            marks: &marks,
+        },
+        starts: &starts,
+        states,
+    };
+    let found = checked(alloc, network, search, &solved)?;
+    Ok(with_frames(facts, found))
+}
+
+/// The facts with their frames and the quiet methods, if there are any.
+fn with_frames(
+    facts: Facts,
+    found: Option<(Vec<Seq<Option<Frame>>>, Vec<bool>)>,
+) -> Option<Facts> {
+    let Facts {
+        parameters,
+        results,
+        fields,
+        any,
+        ..
+    } = facts;
+    match found {
+        Some((frames, quiet)) => Some(Facts {
+            frames,
+            parameters,
+            results,
+            fields,
+            quiet,
+            any,
+        }),
+        None => None,
+    }
 }
 
 /// The graph of a program.
@@ -262,8 +434,10 @@ fn solved_facts<'a>(
     hierarchy: &'a Hierarchy,
     places: &'a [Option<u32>],
     bodies: &'a Bodies<'a>,
+    outside: &Outside,
+    found: &Targets,
     drawn: (Links, Vec<usize>),
-) -> Result<Facts, AllocError>
+) -> Result<Option<Facts>, AllocError>
     requires formed { is_well_formed program.now ≡ true }
     requires resolved { IsResolved program.now hierarchy.now }
     requires places { ArePlaces hierarchy.now (length program.now.types) places.now }
@@ -283,7 +457,9 @@ fn solved_facts<'a>(
         hierarchy,
         numbering,
     };
-    filled(alloc, &network, &numbering, &search, &states)
+    filled(
+        alloc, &network, &numbering, &search, outside, found, &states,
+    )
 }
 
 /// What is known of a program with these bodies.
@@ -295,13 +471,15 @@ fn facts_of_bodies<'a>(
     found: &Targets,
     places: &'a [Option<u32>],
     bodies: Bodies<'a>,
-) -> Result<Facts, AllocError>
+) -> Result<Option<Facts>, AllocError>
     requires formed { is_well_formed program.now ≡ true }
     requires resolved { IsResolved program.now hierarchy.now }
     requires places { ArePlaces hierarchy.now (length program.now.types) places.now }
 {
     let drawn = draw(alloc, program, hierarchy, outside, &bodies, found)?;
-    solved_facts(alloc, program, hierarchy, places, &bodies, drawn)
+    solved_facts(
+        alloc, program, hierarchy, places, &bodies, outside, found, drawn,
+    )
 }
 
 /// What is known of a program by the table of its classes.
@@ -311,7 +489,7 @@ fn facts_of_places<'a>(
     hierarchy: &'a Hierarchy,
     outside: &Outside,
     places: &'a [Option<u32>],
-) -> Result<Facts, AllocError>
+) -> Result<Option<Facts>, AllocError>
     requires formed { is_well_formed program.now ≡ true }
     requires resolved { IsResolved program.now hierarchy.now }
     requires places { ArePlaces hierarchy.now (length program.now.types) places.now }
@@ -330,7 +508,7 @@ pub fn analyse(
     program: &Program,
     hierarchy: &Hierarchy,
     outside: &Outside,
-) -> Result<Facts, AllocError>
+) -> Result<Option<Facts>, AllocError>
     requires formed { is_well_formed program.now ≡ true }
     requires resolved { IsResolved program.now hierarchy.now }
 {

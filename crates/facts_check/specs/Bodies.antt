@@ -52,7 +52,7 @@ module _ (k : Known) (class method : ℕ) (b : Body) (starts : List Start) where
 
   -- each position hands on what comes to the next one, and blocks begin with what is known there
   pub record IsFilled (frames : List (Option Frame)) : Type 0 where
-    pub kept : (j : ℕ) → j < length b.insns → IsKept frames j
+    pub kept : (j : ℕ) → IsKept frames j
     pub linked : (j : ℕ) → j < length b.insns → IsLinked frames j
 
 -- the frames of a method, by its number, in the class at a place

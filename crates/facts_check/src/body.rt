@@ -117,7 +117,7 @@ fn walk(
     ensures { IfOk result (IfSome (λ frames. IsFilled known.now site.now.class site.now.number site.now.body.now site.now.starts.now frames.items)) }
 {
     let count = site.body.insns.len();
-    if count >= 4294967296 {
+    if count >= 4294967296 || site.starts.len() != count {
         return Ok(None);
     }
     let mut frames = Vec::with_capacity(alloc, count)?;

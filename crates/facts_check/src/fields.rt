@@ -7,11 +7,14 @@ ghost use Rattle.program_model.specs.Texts.{letter_of, is_wide};
 ghost use Rattle.program_model.specs.MemberRules.{field_letter};
 ghost use Rattle.value_ops.specs.Numbers.{stored_value};
 ghost use Rattle.dom_frame.specs.Registers.{value_at};
+ghost use Rattle.domains.specs.Values.{any_value};
+ghost use Rattle.closed_facts.specs.Found.{own_number};
+ghost use Rattle.closed_facts.specs.Tables.{IsBelow, field_at};
 ghost use Rattle.closed_facts.specs.Fields.{zero_parts, layer_parts, first_parts, begun_parts};
 ghost use Rattle.program_model.specs.declared.value.EncValue.{out-EncValue};
 ghost use Rattle.facts_check.specs.Known.{AreKnown, is_marked};
 ghost use Rattle.facts_check.specs.Placed.{HoldsPut, HoldsPuts};
-ghost use Rattle.facts_check.specs.Tables.{IsHeld, AreHeld, AreAllHeld, AreKept};
+ghost use Rattle.facts_check.specs.Tables.{IsHeld, AreHeld, AreAllHeld};
 
 use crate::known::Known;
 use crate::looks::own_number;
@@ -19,7 +22,6 @@ use crate::order::{is_any, is_below, value_at};
 use domains::Value;
 use pat_map::PatMap;
 use program_model::{EncValue, Field, Flags, Insn, Program};
-use std::alloc::{AllocError, Global};
 use value_ops::{any_object, stored};
 
 /// Whether a field holds a value that is put into it by a number that names it.
@@ -145,49 +147,55 @@ pub(crate) fn is_on(marks: &[bool], number: u32) -> bool
     }
 }
 
-/// Whether what is known of a field holds of what it begins with, and of anything where it is kept.
-fn is_held(known: &Known<'_>, kept: &[bool], field: &Field) -> bool
-    ensures { result ≡ true → IsHeld known.now kept.now field.now }
+/// Whether what is known of a field holds of what it begins with.
+fn is_held(known: &Known<'_>, field: &Field) -> bool
+    ensures { result ≡ true → IsHeld known.now field.now }
 {
-    let value = known.facts.field(field.name);
-    is_below(&begun_of(known.program, field), value)
-        && (!is_on(kept, field.name) || is_any(value))
+    is_below(
+        &begun_of(known.program, field),
+        known.facts.field(field.name),
+    )
 }
 
 /// The same of all fields of a class.
-fn are_held(known: &Known<'_>, kept: &[bool], fields: &[Field]) -> bool
-    ensures { result ≡ true → AreHeld known.now kept.now fields.now }
+fn are_held(known: &Known<'_>, fields: &[Field]) -> bool
+    ensures { result ≡ true → AreHeld known.now fields.now }
 {
     for field in fields {
-        if !is_held(known, kept, field) {
+        if !is_held(known, field) {
             return false;
         }
     }
     true
 }
 
-/// Marks of the fields that are kept.
-fn kept_fields(alloc: Global, known: &Known<'_>) -> Result<Vec<bool>, AllocError>
-    ensures { IfOk result (λ kept. AreKept known.now.outside.now.fields kept.items) }
+/// The same of all fields of the program.
+fn firsts_hold(known: &Known<'_>) -> bool
+    ensures { result ≡ true → (c : ℕ) (class : Class) → slice_get known.now.program.now.classes c ≡ Some class → AreHeld known.now class.fields }
 {
-    let mut kept = vec![in alloc; false; known.program.fields.len()]?;
-    for field in known.outside.fields.as_slice() {
-        if let Some(mark) = kept.get_mut(*field as usize) {
-            *mark = true;
+    for class in known.program.classes.as_slice() {
+        if !are_held(known, class.fields.as_slice()) {
+            return false;
         }
     }
-    Ok(kept)
+    true
 }
 
-/// The same of all fields of the program.
-pub(crate) fn all_held(alloc: Global, known: &Known<'_>) -> Result<bool, AllocError>
-    ensures { IfOk result (λ b. b ≡ true → AreAllHeld known.now) }
+/// Whether what is kept may hold anything.
+fn kept_hold(known: &Known<'_>) -> bool
+    ensures { result ≡ true → (i n : ℕ) → slice_get known.now.outside.now.fields i ≡ Some n → IsBelow any_value (field_at known.now.facts.now n) }
 {
-    let kept = kept_fields(alloc, known)?;
-    for class in known.program.classes.as_slice() {
-        if !are_held(known, &kept, class.fields.as_slice()) {
-            return Ok(false);
+    for field in known.outside.fields.as_slice() {
+        if !is_any(known.facts.field(*field)) {
+            return false;
         }
     }
-    Ok(true)
+    true
+}
+
+/// Whether fields hold what they begin with, and anything where they are kept.
+pub(crate) fn fields_hold(known: &Known<'_>) -> bool
+    ensures { result ≡ true → AreAllHeld known.now }
+{
+    firsts_hold(known) && kept_hold(known)
 }

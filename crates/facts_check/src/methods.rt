@@ -3,12 +3,12 @@
 ghost use Rattle.std.specs.Prelude.{◌≡◌, true, false, ℕ, ◌+◌, ◌<◌, length, List, [], Some, None, IfOk, IfSome, OnOk, slice_get, slice_index_or};
 ghost use Rattle.facts_check.specs.Known.{AreKnown};
 ghost use Rattle.facts_check.specs.Bodies.{AreFrames};
-ghost use Rattle.facts_check.specs.Tables.{Adds, AddsIf, IsFilledTo, AreFilled};
+ghost use Rattle.facts_check.specs.Tables.{IsPut, Adds, IsFilledTo, AreFilled, Holds};
 
 use crate::body::fill_body;
 use crate::classes::classes_hold;
 use crate::entries::{entries_hold, links_hold};
-use crate::fields::{all_held, is_on};
+use crate::fields::{fields_hold, is_on};
 use crate::known::Known;
 use crate::positions::Site;
 use crate::starts::Start;
@@ -26,7 +26,6 @@ struct Table {
 
 /// So many empty lists.
 fn empty_frames(alloc: Global, count: usize) -> Result<Vec<Seq<Option<Frame>>>, AllocError>
-    ensures { IfOk result (λ frames. (n : ℕ) → slice_index_or frames.items n [] ≡ []) }
 {
     let mut frames: Vec<Seq<Option<Frame>>> = Vec::with_capacity(alloc, count)?;
     for _ in 0..count {
@@ -69,21 +68,21 @@ fn frames_from(
 
 impl Table {
     /// Puts the frames of a method in, unless its number has been seen.
-    fn put(&mut self, number: u32, frames: Vec<Option<Frame>>) -> bool {
+    fn put(&mut self, number: u32, frames: Vec<Option<Frame>>) -> bool
+        ensures { result ≡ true → IsPut self.old self.new number frames.items }
+    {
         if is_on(&self.seen, number) {
             return false;
         }
-        match (
-            self.frames.get_mut(number as usize),
-            self.seen.get_mut(number as usize),
-        ) {
-            (Some(entry), Some(mark)) => {
-                *entry = Seq::of_vec(frames);
-                *mark = true;
-                true
-            }
-            _ => false,
-        }
+        let Some(mark) = self.seen.get_mut(number as usize) else {
+            return false;
+        };
+        *mark = true;
+        let Some(entry) = self.frames.get_mut(number as usize) else {
+            return false;
+        };
+        *entry = Seq::of_vec(frames);
+        true
     }
 
     /// Fills in the frames of a method.
@@ -96,6 +95,7 @@ impl Table {
         starts: &[Seq<Start>],
     ) -> Result<bool, AllocError>
         requires { AreKnown known.now }
+        ensures { IfOk result (λ b. b ≡ true → Adds known.now class method.now.name method.now.body self.old self.new) }
     {
         let Some(body) = &method.body else {
             return Ok(true);
@@ -108,6 +108,7 @@ impl Table {
     }
 
     /// Fills in the frames of the methods of a class.
+    #[tactic(auto, using(crate::proofs::Tabling::one_added, crate::proofs::Tabling::class_added))]
     fn add_class(
         &mut self,
         alloc: Global,
@@ -116,7 +117,10 @@ impl Table {
         class: &Class,
         starts: &[Seq<Start>],
     ) -> Result<bool, AllocError>
-        requires { AreKnown known.now }
+        requires known { AreKnown known.now }
+        requires is { slice_get known.now.program.now.classes place ≡ Some class.now }
+        requires before { IsFilledTo known.now self.old place 0 }
+        ensures { IfOk result (λ b. b ≡ true → IsFilledTo known.now self.new (place + 1) 0) }
     {
         for method in class.methods.as_slice() {
             if !self.add(alloc, known, place, method, starts)? {
@@ -127,7 +131,16 @@ impl Table {
     }
 }
 
+/// The table without any frames.
+fn empty_table(alloc: Global, methods: usize) -> Result<Table, AllocError> {
+    Ok(Table {
+        frames: empty_frames(alloc, methods)?,
+        seen: vec![in alloc; false; methods]?,
+    })
+}
+
 /// The frames of all methods by number, from what is known where the blocks of each begin; none where that isn't closed.
+#[tactic(auto, using(crate::proofs::Tabling::none_added, crate::proofs::Tabling::all_added))]
 pub fn fill(
     alloc: Global,
     known: &Known<'_>,
@@ -136,11 +149,7 @@ pub fn fill(
     requires { AreKnown known.now }
     ensures { IfOk result (IfSome (λ frames. AreFilled known.now frames.items)) }
 {
-    let methods = known.program.methods.len();
-    let mut table = Table {
-        frames: empty_frames(alloc, methods)?,
-        seen: vec![in alloc; false; methods]?,
-    };
+    let mut table = empty_table(alloc, known.program.methods.len())?;
     let classes = known.program.classes.as_slice();
     if classes.len() >= 4294967296 {
         return Ok(None);
@@ -155,16 +164,12 @@ pub fn fill(
 }
 
 /// Whether all else is closed: entries, classes that are initialised, fields, and the pools of calls.
-pub fn holds(
-    alloc: Global,
-    known: &Known<'_>,
-    frames: &[Seq<Option<Frame>>],
-) -> Result<bool, AllocError>
-    requires known { AreKnown known.now }
-    requires filled { AreFilled known.now frames.now }
+pub fn holds(known: &Known<'_>, frames: &[Seq<Option<Frame>>]) -> bool
+    requires { AreKnown known.now }
+    ensures { result ≡ true → Holds known.now frames.now }
 {
-    if !entries_hold(known, frames) || !classes_hold(known) || !links_hold(known) {
-        return Ok(false);
-    }
-    all_held(alloc, known)
+    entries_hold(known, frames)
+        && classes_hold(known)
+        && links_hold(known)
+        && fields_hold(known)
 }

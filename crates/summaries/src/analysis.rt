@@ -304,6 +304,7 @@ fn marks_from(
 }
 
 /// All that a solved table says but what is inside blocks.
+#[derive(Clone, Copy)]
 struct Solved<'a> {
     known: Known<'a>,
     starts: &'a [Seq<Start>],
@@ -320,7 +321,7 @@ fn checked(
     let Some(frames) = fill(alloc, &solved.known, solved.starts)? else {
         return Ok(None);
     };
-    if !holds(alloc, &solved.known, &frames)? {
+    if !holds(&solved.known, &frames) {
         return Ok(None);
     }
     let quiet = search.quiet(alloc, network, network.bodies, solved.states, &frames)?;

@@ -40,7 +40,7 @@ use Rattle.closed_facts.specs.Closed.{Returns, LeavesOpen, AreClosed}
 use Rattle.facts_check.specs.declared.known.Known.{Known}
 use Rattle.facts_check.specs.declared.starts.Start.{Start}
 use Rattle.facts_check.specs.declared.starts.Start.TheVariants.{Comes}
-use Rattle.facts_check.specs.Known.{AreKnown, is_marked, pool_at, answer_at}
+use Rattle.facts_check.specs.Known.{AreKnown, is_marked, is_made, pool_at, answer_at}
 use Rattle.facts_check.specs.Landing.{Lands, EachLands, Goes, EachGoes}
 use Rattle.facts_check.specs.Placed.{are_needed, IsPassed, IsCalled, IsBoundCall, IsPooled, HoldsCall, HoldsCalls, HoldsPut, HoldsPuts, HoldsReturn, IsGiven, IsBoundResult, HoldsResult, HoldsResults, HoldsBehind, IsTaken, HoldsTaken, IsPlaced}
 use Rattle.facts_check.specs.Bodies.{registers_of, insn_before, IsStep, IsLinked, IsFilled, AreFrames}
@@ -136,8 +136,9 @@ module _ (k : Known) (class : ℕ) where
     by_link : (number : ℕ) (args : List ℕ) (x : Registers) (link : Link) → IsPooled k number args x → number ≡ link.call → Contains k.targets.now.links.items link → IsReceived link.method true args x
     by_link number args x link h e c =
         let l = link_at link c in
-        let words = λ (i r : ℕ) (s : slice_get args i ≡ Some r). below_trans (value_at x r) (value_at (pool_at k link.call) i) (parameter_at k.facts.now link.method i) (subst (λ n. IsBelow (value_at x r) (value_at (pool_at k n) i)) e (h.words i r s)) (l.passed i) in
-        record { words = words; on = words 0 (receiver args) h.on; entered = λ z. l.entered }
+        let made : is_made k link.call ≡ true = subst (λ n. is_made k n ≡ true) e h.made in
+        let words = λ (i r : ℕ) (s : slice_get args i ≡ Some r). below_trans (value_at x r) (value_at (pool_at k link.call) i) (parameter_at k.facts.now link.method i) (subst (λ n. IsBelow (value_at x r) (value_at (pool_at k n) i)) e (h.words i r s)) (l.passed made i) in
+        record { words = words; on = words 0 (receiver args) h.on; entered = λ z. l.entered made }
 
     pub received : (kind : InvokeKind) (method m : ℕ) (coded : Bool) (args : List ℕ) (x : Registers) → MayCall p k.targets.now class method kind m coded → HoldsCall k class kind method args x → IsReceived m coded args x
     received call.Static method m coded args x (Bound kind at md e f) h = by_name method call.Static args x at md h e f

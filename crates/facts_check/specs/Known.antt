@@ -19,6 +19,10 @@ pub record AreKnown (k : Known) : Type 0 where
 abbrev pub is_marked : List Bool → ℕ → Bool
 is_marked marks n = slice_index_or marks n false
 
+-- a run may come to a call of a number
+abbrev pub is_made : Known → ℕ → Bool
+is_made k call = is_marked k.pools.now.reached.items call
+
 -- what calls of a number pass, and what they get back
 abbrev pub pool_at : Known → ℕ → Registers
 pool_at k call = slice_index_or k.pools.now.calls.items call finite.empty

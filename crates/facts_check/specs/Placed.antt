@@ -24,7 +24,7 @@ use Rattle.closed_facts.specs.Found.{finds_bound, own_number, needs}
 use Rattle.closed_facts.specs.Edges.{edges}
 use Rattle.facts_check.specs.declared.known.Known.{Known}
 use Rattle.facts_check.specs.declared.starts.Start.{Start}
-use Rattle.facts_check.specs.Known.{is_marked, pool_at, answer_at}
+use Rattle.facts_check.specs.Known.{is_marked, is_made, pool_at, answer_at}
 use Rattle.facts_check.specs.Landing.{EachLands, EachGoes, Covers}
 
 module _ (k : Known) where
@@ -61,8 +61,9 @@ module _ (k : Known) where
   pub record IsBoundCall (class method : ℕ) (kind : InvokeKind) (args : List ℕ) (x : Registers) : Type 0 where
     pub calls : (at : MethodAt) (m : Method) → finds_bound k.program.now class method kind ≡ Finds at → method_at k.program.now at ≡ Some m → IsCalled m args x
 
-  -- the pool of a number is passed these registers, one of which is the receiver
+  -- the pool of a number to which a run may come is passed these registers, one of which is the receiver
   pub record IsPooled (number : ℕ) (args : List ℕ) (x : Registers) : Type 0 where
+    pub made : is_made k number ≡ true
     pub words : (i r : ℕ) → slice_get args i ≡ Some r → IsBelow (value_at x r) (value_at (pool_at k number) i)
     pub on : slice_get args 0 ≡ Some (receiver args)
 

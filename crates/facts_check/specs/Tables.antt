@@ -27,7 +27,7 @@ use Rattle.closed_facts.specs.Found.{field_in}
 use Rattle.facts_check.specs.declared.known.Known.{Known}
 use Rattle.facts_check.specs.declared.starts.Start.{Start}
 use Rattle.facts_check.specs.declared.methods.Table.{Table}
-use Rattle.facts_check.specs.Known.{is_marked, pool_at, answer_at}
+use Rattle.facts_check.specs.Known.{is_marked, is_made, pool_at, answer_at}
 use Rattle.facts_check.specs.Landing.{Lands, LandsIf, EachLands, EachGoes}
 use Rattle.facts_check.specs.Placed.{are_needed, HoldsPuts, HoldsReturn, HoldsCalls, HoldsTaken, IsPlaced}
 use Rattle.facts_check.specs.Bodies.{registers_of, AreFrames}
@@ -150,8 +150,8 @@ module _ (k : Known) where
   -- ---- calls on objects
 
   pub record IsLinkHeld (link : Link) : Type 0 where
-    pub entered : is_marked k.marks.now.entered.items link.method ≡ true
-    pub passed : (i : ℕ) → IsBelow (value_at (pool_at k link.call) i) (parameter_at k.facts.now link.method i)
+    pub entered : is_made k link.call ≡ true → is_marked k.marks.now.entered.items link.method ≡ true
+    pub passed : is_made k link.call ≡ true → (i : ℕ) → IsBelow (value_at (pool_at k link.call) i) (parameter_at k.facts.now link.method i)
     pub given : IsBelow (result_at k.facts.now link.method) (answer_at k link.call)
 
   pub record Links : Type 0 where

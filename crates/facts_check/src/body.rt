@@ -32,7 +32,7 @@ fn comes_below(next: Option<&PatMap<Value>>, known: &PatMap<Value>) -> bool
 }
 
 /// What comes to a position by what is known there and what is handed on to it; none where that isn't known.
-#[tactic(auto, using(crate::proofs::Filling::arrives_known, crate::proofs::Filling::arrives_inside))]
+#[tactic(auto, using(crate::proofs::Filling::arrives_known, crate::proofs::Filling::arrives_idle, crate::proofs::Filling::arrives_inside, crate::proofs::Filling::arrives_past))]
 fn arrived(
     start: Option<&Start>,
     next: Option<PatMap<Value>>,

@@ -102,7 +102,11 @@ fn is_pooled(known: &Known<'_>, number: u32, args: &[u16], registers: &PatMap<Va
     ensures { result ≡ true → IsPooled known.now number args.now registers.now }
 {
     match (known.pools.calls.as_slice().get(number as usize), args) {
-        (Some(pool), [_, ..]) => args.len() < 65536 && are_pooled(pool, args, registers),
+        (Some(pool), [_, ..]) => {
+            is_on(&known.pools.reached, number)
+                && args.len() < 65536
+                && are_pooled(pool, args, registers)
+        }
         _ => false,
     }
 }

@@ -148,8 +148,8 @@ fn words_hold(words: &[Value], pool: &PatMap<Value>) -> bool
     true
 }
 
-/// Whether a method that a call may enter is known to be entered, takes what is passed to the pool of the call, and gives what
-/// is among the call's answers.
+/// Whether a method that a call may enter, if a run comes to such a call, is known to be entered and takes what is passed to
+/// the pool of the call, and whether what it gives is among the call's answers.
 fn link_holds(known: &Known<'_>, link: &Link) -> bool
     requires { AreKnown known.now }
     ensures { result ≡ true → IsLinkHeld known.now link.now }
@@ -160,9 +160,10 @@ fn link_holds(known: &Known<'_>, link: &Link) -> bool
         pools.answers.as_slice().get(link.call as usize),
     ) {
         (Some(pool), Some(answer)) => {
-            is_on(&known.marks.entered, link.method)
-                && words_hold(words_of(known, link.method), pool)
-                && is_below(known.facts.result(link.method), answer)
+            is_below(known.facts.result(link.method), answer)
+                && (!is_on(&pools.reached, link.call)
+                    || (is_on(&known.marks.entered, link.method)
+                        && words_hold(words_of(known, link.method), pool)))
         }
         _ => false,
     }

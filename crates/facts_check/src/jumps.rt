@@ -1,13 +1,12 @@
 //! Where instructions go on.
 
-ghost use Rattle.std.specs.Prelude.{◌≡◌, true, ℕ, ◌+◌, ◌<◌, ◌^◌, length, Some, IfOk, IfSome, slice_get, ◌++◌};
-ghost use Rattle.std.specs.Option.{option_copied};
+ghost use Rattle.std.specs.Prelude.{◌≡◌, true, ℕ, ◌+◌, ◌<◌, ◌^◌, length, [], ◌∷◌, Some, IfOk, IfSome, option_to_list, ◌++◌};
 ghost use Rattle.insn_set.specs.Flow.{targets_of};
 ghost use Rattle.flow_cfg.specs.Walks.{covers, handlers_in, handlers_at, thrown_to};
-ghost use Rattle.dom_frame.specs.Steps.{after, branched, switched, unswitched};
-ghost use Rattle.closed_facts.specs.Edges.{arm, cases_from, edges};
+ghost use Rattle.dom_frame.specs.Steps.{after, unswitched};
+ghost use Rattle.closed_facts.specs.Edges.{arm, both_ways, cases_from, edges};
 ghost use Rattle.facts_check.specs.Known.{AreKnown};
-ghost use Rattle.facts_check.specs.Landing.{Lands, LandsIf, EachLands, EachGoes};
+ghost use Rattle.facts_check.specs.Landing.{EachLands, EachGoes};
 ghost use Rattle.facts_check.specs.Tables.{HandlersLand, CasesLand};
 
 use crate::known::Known;
@@ -158,7 +157,6 @@ fn behind_goto(starts: &[Start], target: u32, registers: &PatMap<Value>) -> Next
 }
 
 /// What any other instruction hands on.
-#[tactic(auto, using(crate::proofs::Landings::step_goes))]
 fn behind_step(
     alloc: Global,
     known: &Known<'_>,

@@ -9,9 +9,10 @@ use pat_map::PatMap;
 use program_model::{Outside, Program};
 
 /// What virtual and interface calls pass to all methods that they may find, and what they get back from them, by the number
-/// of the call.
+/// of the call, and whether a run may come to such a call.
 #[derive(Drop)]
 pub struct Pools {
+    pub reached: Vec<bool>,
     pub calls: Vec<PatMap<Value>>,
     pub answers: Vec<Value>,
 }

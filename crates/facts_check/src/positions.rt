@@ -1,13 +1,12 @@
 //! One position of a body.
 
-ghost use Rattle.std.specs.Prelude.{◌≡◌, true, ℕ, ◌+◌, ◌<◌, ◌^◌, length, Some, None, IfOk, IfSome, slice_get};
-ghost use Rattle.std.specs.Option.{option_copied};
+ghost use Rattle.std.specs.Prelude.{◌≡◌, true, ℕ, Some, None, IfOk, IfSome};
+ghost use Rattle.std.specs.Option.{option_copied, option_map};
 ghost use Rattle.std.specs.List.{list_all};
-ghost use Rattle.class_defs.specs.Finding.{beside};
-ghost use Rattle.closed_facts.specs.Found.{needs};
+ghost use Rattle.class_defs.specs.Finding.{beside, finds_static};
 ghost use Rattle.facts_check.specs.Known.{AreKnown, is_marked};
-ghost use Rattle.facts_check.specs.Placed.{are_needed, HoldsReturn, HoldsTaken, IsPlaced};
-ghost use Rattle.facts_check.specs.Tables.{IsHanded, PlacedIf};
+ghost use Rattle.facts_check.specs.Placed.{are_needed, HoldsReturn, IsPlaced};
+ghost use Rattle.facts_check.specs.Tables.{IsHanded, DoesKnown, PlacedIf};
 
 use crate::calls::holds_calls;
 use crate::fields::{holds_puts, is_on};
@@ -85,29 +84,6 @@ fn holds_return(known: &Known<'_>, method: u32, insn: &Insn, registers: &PatMap<
     }
 }
 
-/// What a move of a result hands on.
-fn behind_taker(
-    alloc: Global,
-    known: &Known<'_>,
-    class: u32,
-    before: Option<&Insn>,
-    insn: &Insn,
-    registers: &PatMap<Value>,
-) -> Result<Option<PatMap<Value>>, AllocError>
-    requires { AreKnown known.now }
-    ensures { IfOk result (λ next. HoldsTaken known.now class (option_copied before.entry) insn.now registers.now next) }
-{
-    let value = taken_behind(alloc, known, class, before)?;
-    step(alloc, &known.classes, registers, insn, &value)
-}
-
-/// Whether an instruction moves a result.
-fn takes(insn: &Insn) -> bool
-    ensures { result ≡ takes insn.now }
-{
-    matches!(insn, Insn::MoveResult { .. })
-}
-
 /// What an instruction hands on to the next position.
 fn handed(
     alloc: Global,
@@ -120,12 +96,12 @@ fn handed(
     requires { AreKnown known.now }
     ensures { (n : ℕ) → IfOk result (IfSome (λ next. IsHanded known.now site.now.class site.now.starts.now n (option_copied before.entry) insn.now registers.now next)) }
 {
-    if takes(insn) {
-        Ok(Some(behind_taker(
-            alloc, known, site.class, before, insn, registers,
-        )?))
-    } else {
-        behind(alloc, known, site.starts, insn, registers)
+    match insn {
+        Insn::MoveResult { .. } => {
+            let value = taken_behind(alloc, known, site.class, before)?;
+            Ok(Some(step(alloc, &known.classes, registers, insn, &value)?))
+        }
+        _ => behind(alloc, known, site.starts, insn, registers),
     }
 }
 

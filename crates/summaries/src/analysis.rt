@@ -1,9 +1,14 @@
 //! The analysis.
 
-ghost use Rattle.std.specs.Prelude.{◌≡◌, true, length};
+ghost use Rattle.std.specs.Prelude.{◌≡◌, true, length, IfOk, IfSome};
 ghost use Rattle.program_model.specs.ProgramRules.{is_well_formed};
 ghost use Rattle.hierarchy.specs.Shapes.{IsResolved};
+ghost use Rattle.domains.specs.Values.{any_value};
+ghost use Rattle.dom_frame.specs.Classes.{AreClasses};
 ghost use Rattle.fact_graph.specs.Known.{ArePlaces};
+ghost use Rattle.facts_check.specs.Known.{AreKnown};
+ghost use Rattle.facts_check.specs.Tables.{AreFilled, Holds};
+ghost use Rattle.summaries.specs.Certified.{IsCertified};
 
 use crate::bodies::make_bodies;
 use crate::edges::Drawing;
@@ -12,7 +17,7 @@ use crate::quiet::Search;
 use crate::starts::{add_starts, no_lists};
 use call_graph::live_members;
 use call_targets::{Targets, targets};
-use dom_frame::Frame;
+use dom_frame::{Classes, Frame};
 use domains::Value;
 use fact_graph::{
     Arrival, Bodies, Code, Links, Network, blocks_of, classes_of, is_reached, places_of, solved,
@@ -255,6 +260,22 @@ fn registers_of(
     Ok(all)
 }
 
+/// Whether a run comes to each of as many nodes.
+fn reached_of(
+    alloc: Global,
+    states: &[Arrival],
+    first: u32,
+    count: usize,
+) -> Result<Vec<bool>, AllocError> {
+    let mut all = Vec::with_capacity(alloc, count)?;
+    let mut node = first;
+    for _ in 0..count {
+        all.push(comes_to(states, node))?;
+        node = behind(node, 1);
+    }
+    Ok(all)
+}
+
 /// The value of register 0 of what has come to as many nodes, nothing where there is none.
 fn values_of(
     alloc: Global,
@@ -280,6 +301,7 @@ fn pools_of(
 ) -> Result<Pools, AllocError> {
     let calls = methods.saturating_mul(2);
     Ok(Pools {
+        reached: reached_of(alloc, states, numbering.calls, calls)?,
         calls: registers_of(alloc, states, numbering.calls, calls)?,
         answers: values_of(alloc, states, numbering.answers, calls)?,
     })
@@ -303,48 +325,48 @@ fn marks_from(
     Ok(marks)
 }
 
-/// All that a solved table says but what is inside blocks.
+/// What a solved table says, as it is checked: tables without frames, pools, marks, and what is known where blocks begin.
+#[derive(Drop)]
+struct Pieces {
+    facts: Facts,
+    pools: Pools,
+    marks: Marks,
+    starts: Vec<Seq<Start>>,
+}
+
+/// What facts are checked against.
 #[derive(Clone, Copy)]
-struct Solved<'a> {
-    known: Known<'a>,
-    starts: &'a [Seq<Start>],
-    states: &'a [Arrival],
+struct Bounds<'a> {
+    program: &'a Program,
+    hierarchy: &'a Hierarchy,
+    classes: Classes<'a>,
+    outside: &'a Outside,
+    found: &'a Targets,
 }
 
-/// What is known with its frames, if that is closed.
-fn checked(
-    alloc: Global,
-    network: &Network<'_>,
-    search: &Search<'_>,
-    solved: &Solved<'_>,
-) -> Result<Option<(Vec<Seq<Option<Frame>>>, Vec<bool>)>, AllocError> {
-    let Some(frames) = fill(alloc, &solved.known, solved.starts)? else {
-        return Ok(None);
-    };
-    if !holds(&solved.known, &frames) {
-        return Ok(None);
-    }
-    let quiet = search.quiet(alloc, network, network.bodies, solved.states, &frames)?;
-    Ok(Some((frames, quiet)))
-}
-
-/// What is known by the solved table.
-fn filled(
+/// What a solved table says.
+fn pieces_of(
     alloc: Global,
     network: &Network<'_>,
     numbering: &Numbering,
-    search: &Search<'_>,
-    outside: &Outside,
-    targets: &Targets,
+    hierarchy: &Hierarchy,
     states: &[Arrival],
-) -> Result<Option<Facts>, AllocError> {
-    let (program, hierarchy) = (network.program, search.hierarchy);
+) -> Result<Pieces, AllocError>
+    ensures { IfOk result (λ pieces. pieces.facts.any ≡ any_value) }
+{
+    let program = network.program;
     let Table {
         starts,
         parameters,
         results,
         entered,
     } = table_of(alloc, network, numbering, states)?;
+    let pools = pools_of(alloc, states, numbering, program.methods.len())?;
+    let marks = Marks {
+        entered,
+        needed: marks_from(alloc, program, hierarchy, states, numbering.classes)?,
+        listed: marks_from(alloc, program, hierarchy, states, numbering.lists)?,
+    };
     let facts = Facts {
         frames: Vec::new(alloc),
         parameters,
@@ -353,35 +375,40 @@ fn filled(
         quiet: Vec::new(alloc),
         any: Value::any(),
     };
-    let pools = pools_of(alloc, states, numbering, program.methods.len())?;
-    let marks = Marks {
-        entered,
-        needed: marks_from(alloc, program, hierarchy, states, numbering.classes)?,
-        listed: marks_from(alloc, program, hierarchy, states, numbering.lists)?,
-    };
-    let solved = Solved {
-        known: Known {
-            program,
-            hierarchy,
-            classes: network.classes,
-            outside,
-            targets,
-            facts: &facts,
-            pools: &pools,
-            marks: &marks,
-        },
-        starts: &starts,
-        states,
-    };
-    let found = checked(alloc, network, search, &solved)?;
-    Ok(with_frames(facts, found))
+    Ok(Pieces {
+        facts,
+        pools,
+        marks,
+        starts,
+    })
 }
 
-/// The facts with their frames and the quiet methods, if there are any.
-fn with_frames(
-    facts: Facts,
-    found: Option<(Vec<Seq<Option<Frame>>>, Vec<bool>)>,
-) -> Option<Facts> {
+/// The frames, if what is known is closed.
+fn checked(
+    alloc: Global,
+    known: &Known<'_>,
+    starts: &[Seq<Start>],
+) -> Result<Option<Vec<Seq<Option<Frame>>>>, AllocError>
+    requires { AreKnown known.now }
+    ensures filled { IfOk result (IfSome (λ frames. AreFilled known.now frames.items)) }
+    ensures holds { IfOk result (IfSome (λ frames. Holds known.now frames.items)) }
+{
+    match fill(alloc, known, starts)? {
+        Some(frames) => {
+            if holds(known, &frames) {
+                Ok(Some(frames))
+            } else {
+                Ok(None)
+            }
+        }
+        None => Ok(None),
+    }
+}
+
+/// The facts with their frames and the quiet methods.
+fn with_frames(facts: Facts, frames: Vec<Seq<Option<Frame>>>, quiet: Vec<bool>) -> Facts
+    ensures { result ≡ record facts { frames = frames; quiet = quiet } }
+{
     let Facts {
         parameters,
         results,
@@ -389,17 +416,53 @@ fn with_frames(
         any,
         ..
     } = facts;
-    match found {
-        Some((frames, quiet)) => Some(Facts {
-            frames,
-            parameters,
-            results,
-            fields,
-            quiet,
-            any,
-        }),
-        None => None,
+    Facts {
+        frames,
+        parameters,
+        results,
+        fields,
+        quiet,
+        any,
     }
+}
+
+/// The facts of a program by the pieces of a solved table, if they are closed.
+#[tactic(auto, using(facts_check::proofs::Closing::are_closed))]
+fn certified(
+    alloc: Global,
+    network: &Network<'_>,
+    search: &Search<'_>,
+    bounds: Bounds<'_>,
+    pieces: Pieces,
+    states: &[Arrival],
+) -> Result<Option<Facts>, AllocError>
+    requires formed { is_well_formed bounds.program.now ≡ true }
+    requires resolved { IsResolved bounds.program.now bounds.hierarchy.now }
+    requires classes { AreClasses bounds.program.now bounds.classes }
+    requires any { pieces.facts.any ≡ any_value }
+    ensures { IfOk result (IfSome (IsCertified bounds.program.now bounds.outside.now)) }
+{
+    let Pieces {
+        facts,
+        pools,
+        marks,
+        starts,
+    } = pieces;
+    let known = Known {
+        program: bounds.program,
+        hierarchy: bounds.hierarchy,
+        classes: bounds.classes,
+        outside: bounds.outside,
+        targets: bounds.found,
+        facts: &facts,
+        pools: &pools,
+        marks: &marks,
+    };
+    let Some(frames) = checked(alloc, &known, &starts)? else {
+        return Ok(None);
+    };
+    let quiet = search.quiet(alloc, network, network.bodies, states, &frames)?;
+    Ok(Some(with_frames(facts, frames, quiet)))
 }
 
 /// The graph of a program.
@@ -442,12 +505,14 @@ fn solved_facts<'a>(
     requires formed { is_well_formed program.now ≡ true }
     requires resolved { IsResolved program.now hierarchy.now }
     requires places { ArePlaces hierarchy.now (length program.now.types) places.now }
+    ensures { IfOk result (IfSome (IsCertified program.now outside.now)) }
 {
     let numbering = numbering_of(program, bodies);
     let (links, ranges) = drawn;
+    let classes = classes_of(program, hierarchy, places);
     let network = Network {
         program,
-        classes: classes_of(program, hierarchy, places),
+        classes,
         bodies,
         links,
         ranges,
@@ -458,9 +523,15 @@ fn solved_facts<'a>(
         hierarchy,
         numbering,
     };
-    filled(
-        alloc, &network, &numbering, &search, outside, found, &states,
-    )
+    let pieces = pieces_of(alloc, &network, &numbering, hierarchy, &states)?;
+    let bounds = Bounds {
+        program,
+        hierarchy,
+        classes,
+        outside,
+        found,
+    };
+    certified(alloc, &network, &search, bounds, pieces, &states)
 }
 
 /// What is known of a program with these bodies.
@@ -476,6 +547,7 @@ fn facts_of_bodies<'a>(
     requires formed { is_well_formed program.now ≡ true }
     requires resolved { IsResolved program.now hierarchy.now }
     requires places { ArePlaces hierarchy.now (length program.now.types) places.now }
+    ensures { IfOk result (IfSome (IsCertified program.now outside.now)) }
 {
     let drawn = draw(alloc, program, hierarchy, outside, &bodies, found)?;
     solved_facts(
@@ -494,6 +566,7 @@ fn facts_of_places<'a>(
     requires formed { is_well_formed program.now ≡ true }
     requires resolved { IsResolved program.now hierarchy.now }
     requires places { ArePlaces hierarchy.now (length program.now.types) places.now }
+    ensures { IfOk result (IfSome (IsCertified program.now outside.now)) }
 {
     let live = live_members(alloc, program, hierarchy, outside)?;
     let found = targets(alloc, program, hierarchy, outside, &live)?;
@@ -502,8 +575,9 @@ fn facts_of_places<'a>(
 }
 
 /// What is known of every run of a program that the framework begins as the table of the outside allows: of each position
-/// that a run may come to, of parameters, results and fields, and which methods are quiet. The hierarchy is that of the
-/// program's classes. The only error is want of memory.
+/// that a run may come to, of parameters, results and fields, and which methods are quiet. What is answered has been checked
+/// to be closed; where it weren't, nothing is answered. The hierarchy is that of the program's classes. The only error is
+/// want of memory.
 pub fn analyse(
     alloc: Global,
     program: &Program,
@@ -512,6 +586,7 @@ pub fn analyse(
 ) -> Result<Option<Facts>, AllocError>
     requires formed { is_well_formed program.now ≡ true }
     requires resolved { IsResolved program.now hierarchy.now }
+    ensures { IfOk result (IfSome (IsCertified program.now outside.now)) }
 {
     let places = places_of(alloc, hierarchy, program.types.len())?;
     facts_of_places(alloc, program, hierarchy, outside, &places)

@@ -1,9 +1,9 @@
 -- What is checked makes a table of facts closed.
-use Rattle.std.proofs.Common.{◌≡◌, ℕ, zero, suc, ◌+◌, ◌*◌, ◌-◌, ◌<◌, ◌≤◌, Bool, true, false, true≢false, List, [], ◌∷◌, Option, Some, None, ◌⊎◌, inl, inr, refl, sym, ap, ◌∙◌, subst, arith, add-one}
+use Rattle.std.proofs.Common.{◌≡◌, ℕ, zero, suc, ◌+◌, ◌*◌, ◌-◌, ◌<◌, ◌≤◌, Bool, true, false, true≢false, List, [], ◌∷◌, Option, Some, None, ◌⊎◌, inl, inr, refl, sym, ap, ◌∙◌, subst, arith, add-one, Vec, Global}
 use Rattle.std.specs.Prelude.{length, slice_get, slice_index_or, Contains, is_some, option_and_then, ◌&&◌}
 use Rattle.std.specs.List.{list_all}
 use Rattle.std.specs.Option.{option_map}
-use Rattle.std.proofs.lemmas.Option.{slice_get_within}
+use Rattle.std.proofs.lemmas.Option.{slice_get_within, get_or_from_slice_get}
 use Rattle.insn_set.specs.declared.ops.Slot.{Slot}
 use Rattle.insn_set.specs.declared.ops.Item.{Item}
 use Rattle.insn_set.specs.declared.ops.InvokeKind.{InvokeKind}
@@ -16,6 +16,7 @@ use Rattle.program_model.specs.declared.program.Field.{Field}
 use Rattle.program_model.specs.declared.program.Method.{Method}
 use Rattle.program_model.specs.declared.program.MethodAt.{MethodAt}
 use Rattle.program_model.specs.declared.program.Class.{Class}
+use Rattle.program_model.specs.declared.program.Program.{Program}
 use Rattle.program_model.specs.Lookups.{class_place, method_at}
 use Rattle.class_defs.specs.Finding.{Search, Nothing, Clash, Finds, is_037}
 use Rattle.class_defs.specs.Members.{is_interface}
@@ -42,10 +43,10 @@ use Rattle.facts_check.specs.declared.starts.Start.{Start}
 use Rattle.facts_check.specs.declared.starts.Start.TheVariants.{Comes}
 use Rattle.facts_check.specs.Known.{AreKnown, is_marked, is_made, pool_at, answer_at}
 use Rattle.facts_check.specs.Landing.{Lands, EachLands, Goes, EachGoes}
-use Rattle.facts_check.specs.Placed.{are_needed, IsPassed, IsCalled, IsBoundCall, IsPooled, HoldsCall, HoldsCalls, HoldsPut, HoldsPuts, HoldsReturn, IsGiven, IsBoundResult, HoldsResult, HoldsResults, HoldsBehind, IsTaken, HoldsTaken, IsPlaced}
+use Rattle.facts_check.specs.Placed.{are_needed, IsPassed, IsCalled, IsBoundCall, IsPooledWord, IsPooled, HoldsCall, HoldsCalls, HoldsPut, HoldsPuts, HoldsReturn, IsBoundResult, HoldsResult, HoldsResults, HoldsBehind, IsTaken, HoldsTaken, IsPlaced}
 use Rattle.facts_check.specs.Bodies.{registers_of, insn_before, IsStep, IsLinked, IsFilled, AreFrames}
-use Rattle.facts_check.specs.Tables.{AreFilled, Entries, Links, Classes as Started, AreAllHeld, Holds, IsStarted, IsLinkHeld}
-use Rattle.facts_check.proofs.Orders.{below_trans, any_above, same_below, below_all_trans, put_sized_below}
+use Rattle.facts_check.specs.Tables.{AreFilled, Entries, Links, Classes as Started, AreAllHeld, Holds, IsStarted, IsLinkHeld, IsOpenEnded}
+use Rattle.facts_check.proofs.Orders.{below_trans, below_all_trans, put_sized_below}
 use Rattle.facts_check.proofs.Landings.{IsLanded, landed, one_lands, one_goes}
 
 -- ---- lists
@@ -78,18 +79,18 @@ some_body a b e = cc
 -- ---- calls and results
 
 module _ (k : Known) (class : ℕ) where
-  abbrev p : _
+  abbrev p : Program
   p = k.program.now
 
-  module _ (links : Links k) where
+  module _ (links : Links k) (bare : (at : MethodAt) (m : Method) → method_at k.program.now at ≡ Some m → m.body ≡ None → IsOpenEnded k m.name) (any : k.facts.now.any ≡ any_value) where
     link_at : (link : Link) → Contains k.targets.now.links.items link → IsLinkHeld k link
     link_at link c = let at = place_of k.targets.now.links.items link c in links.linked at.place link at.is
 
     -- what a call may enter gives no more than is held to be its result
     called_below : (kind : InvokeKind) (method m : ℕ) (coded : Bool) (v : Parts) → MayCall p k.targets.now class method kind m coded → HoldsResult k class kind method v → IsBelow (result_at k.facts.now m) v
-    called_below call.Static method m coded v (Bound kind at md e f) h = (h.given at md e f).result
-    called_below call.Direct method m coded v (Bound kind at md e f) h = (h.given at md e f).result
-    called_below call.Super method m coded v (Bound kind at md e f) h = (h.given at md e f).result
+    called_below call.Static method m coded v (Bound kind at md e f) h = h.given at md e f
+    called_below call.Direct method m coded v (Bound kind at md e f) h = h.given at md e f
+    called_below call.Super method m coded v (Bound kind at md e f) h = h.given at md e f
     called_below call.Virtual method m coded v (Bound kind at md e f) h = absurd (cc)
     called_below call.Interface method m coded v (Bound kind at md e f) h = absurd (cc)
     called_below call.Static method m coded v (Linked kind link e c) h = absurd (cc)
@@ -106,9 +107,9 @@ module _ (k : Known) (class : ℕ) where
     left_below call.Super method v (Unfound kind b e) h = h.unfound e
     left_below call.Virtual method v (Unfound kind b e) h = absurd b
     left_below call.Interface method v (Unfound kind b e) h = absurd b
-    left_below call.Static method v (Bare kind at m e f g) h = (h.given at m e f).bare g
-    left_below call.Direct method v (Bare kind at m e f g) h = (h.given at m e f).bare g
-    left_below call.Super method v (Bare kind at m e f g) h = (h.given at m e f).bare g
+    left_below call.Static method v (Bare kind at m e f g) h = below_trans any_value (result_at k.facts.now m.name) v (bare at m f g).gives (h.given at m e f)
+    left_below call.Direct method v (Bare kind at m e f g) h = below_trans any_value (result_at k.facts.now m.name) v (bare at m f g).gives (h.given at m e f)
+    left_below call.Super method v (Bare kind at m e f g) h = below_trans any_value (result_at k.facts.now m.name) v (bare at m f g).gives (h.given at m e f)
     left_below call.Virtual method v (Bare kind at m e f g) h = absurd (cc)
     left_below call.Interface method v (Bare kind at m e f g) h = absurd (cc)
     left_below call.Static method v (Marked kind number e f) h = absurd (cc)
@@ -133,11 +134,29 @@ module _ (k : Known) (class : ℕ) where
     by_name : (method : ℕ) (kind : InvokeKind) (args : List ℕ) (x : Registers) (at : MethodAt) (m : Method) → IsBoundCall k class method kind args x → finds_bound p class method kind ≡ Finds at → method_at p at ≡ Some m → IsReceived m.name (is_some m.body) args x
     by_name method kind args x at m h e f = let c = h.calls at m e f in record { words = c.passed.words; on = c.passed.receiver_too; entered = c.entered }
 
+    -- a word of a pool comes to a parameter, or past them, where anything may come
+    word_below : (link : Link) (i : ℕ) (v : Parts) → IsPooledWord (pool_at k link.call) i v
+        → ((i : ℕ) (w : Parts) → slice_get (slice_index_or k.facts.now.parameters.items link.method []) i ≡ Some w → IsBelow (value_at (pool_at k link.call) i) w) → IsBelow v (parameter_at k.facts.now link.method i)
+    word_below link i v h f = by (slice_get words i) refl
+      where
+        words : List Parts
+        words = slice_index_or k.facts.now.parameters.items link.method []
+
+        by : (o : Option Parts) → slice_get words i ≡ o → IsBelow v (parameter_at k.facts.now link.method i)
+        by (Some w) e = subst (IsBelow v) (sym (get_or_from_slice_get words i w k.facts.now.any e)) (below_trans v (value_at (pool_at k link.call) i) w h.pooled (f i w e))
+        by None e = subst (IsBelow v) (sym (past words i k.facts.now.any e ∙ any)) h.fits
+
+        past : (xs : List Parts) (i : ℕ) (d : Parts) → slice_get xs i ≡ None → slice_index_or xs i d ≡ d
+        past [] i d e = refl
+        past (x ∷ xs) zero d e = absurd (cc)
+        past (x ∷ xs) (suc i) d e = past xs i d e
+
     by_link : (number : ℕ) (args : List ℕ) (x : Registers) (link : Link) → IsPooled k number args x → number ≡ link.call → Contains k.targets.now.links.items link → IsReceived link.method true args x
     by_link number args x link h e c =
         let l = link_at link c in
         let made : is_made k link.call ≡ true = subst (λ n. is_made k n ≡ true) e h.made in
-        let words = λ (i r : ℕ) (s : slice_get args i ≡ Some r). below_trans (value_at x r) (value_at (pool_at k link.call) i) (parameter_at k.facts.now link.method i) (subst (λ n. IsBelow (value_at x r) (value_at (pool_at k n) i)) e (h.words i r s)) (l.passed made i) in
+        let w = λ (i r : ℕ) (s : slice_get args i ≡ Some r). subst (λ n. IsPooledWord (pool_at k n) i (value_at x r)) e (h.words i r s) in
+        let words = λ (i r : ℕ) (s : slice_get args i ≡ Some r). word_below link i (value_at x r) (w i r s) (l.passed made) in
         record { words = words; on = words 0 (receiver args) h.on; entered = λ z. l.entered made }
 
     pub received : (kind : InvokeKind) (method m : ℕ) (coded : Bool) (args : List ℕ) (x : Registers) → MayCall p k.targets.now class method kind m coded → HoldsCall k class kind method args x → IsReceived m coded args x
@@ -160,9 +179,16 @@ puts_hold k item from field own i x Static e h = subst (λ o. HoldsPut k o (stor
 
 -- ---- all of it
 
-module _ (k : Known) (frames : _) (quiet : _) (known : AreKnown k) (filled : AreFilled k frames.items) (holds : Holds k frames.items) where
+module _ (k : Known) (frames : Vec (List (Option Frame)) Global) (quiet : Vec Bool Global) (known : AreKnown k) (filled : AreFilled k frames.items) (holds : Holds k frames.items) where
   abbrev t : Facts
   t = record k.facts.now { frames = frames; quiet = quiet }
+
+  open_ended : (at : MethodAt) (m : Method) → method_at k.program.now at ≡ Some m → m.body ≡ None → IsOpenEnded k m.name
+  open_ended at m e f = by (slice_get k.program.now.classes at.class) refl e
+    where
+      by : (o : Option Class) → slice_get k.program.now.classes at.class ≡ o → option_and_then (λ (c : Class). slice_get c.methods at.place) o ≡ Some m → IsOpenEnded k m.name
+      by None j g = absurd (cc)
+      by (Some c) j g = holds.entries.bare at.class c j at.place m g f
 
   module _ (at : MethodAt) (n : ℕ) (here : At k.program.now t at n) where
     own : AreFrames k at.class here.method.name here.body (slice_index_or frames.items here.method.name [])
@@ -194,7 +220,7 @@ module _ (k : Known) (frames : _) (quiet : _) (known : AreKnown k) (filled : Are
       let h : HoldsTaken k at.class (insn_before taker.body.insns (n + 1)) (insn.MoveResult s to) taker.registers l.next = subst (λ i. HoldsTaken k at.class (insn_before taker.body.insns (n + 1)) i taker.registers l.next) e (placed at (n + 1) taker).taken in
       let before : insn_before taker.body.insns (n + 1) ≡ Some here.insn = ap (insn_before taker.body.insns) add-one ∙ ap (λ (b : Body). slice_get b.insns n) (same_body at (n + 1) n taker here) ∙ here.has_insn in
       let behind : HoldsResults k at.class here.insn h.value = subst (λ o. HoldsBehind k at.class o h.value) before h.behind in
-      let below : IsBelow v h.value = results_below k at.class holds.links t (λ m. refl) here.insn v h.value r behind in
+      let below : IsBelow v h.value = results_below k at.class holds.links open_ended known.any t (λ m. refl) here.insn v h.value r behind in
       let on : Arrives (put_sized (is_wide_slot s) to h.value taker.registers) (registers_at t taker.method.name (n + 1 + 1)) = l.onto (put_sized (is_wide_slot s) to h.value taker.registers) h.handed in
       let names : taker.method.name ≡ here.method.name = ap (λ (m : Method). m.name) (same_method at (n + 1) n taker here) in
       let two : n + 1 + 1 ≡ n + 2 = omega arith in
@@ -213,8 +239,8 @@ module _ (k : Known) (frames : _) (quiet : _) (known : AreKnown k) (filled : Are
   }
 
   call_of : (at : MethodAt) (n method m : ℕ) (kind : InvokeKind) (args : List ℕ) (coded : Bool) (here : At k.program.now t at n) → here.insn ≡ insn.Invoke kind method args → MayCall k.program.now k.targets.now at.class method kind m coded
-      → IsReceived k at.class holds.links m coded args here.registers
-  call_of at n method m kind args coded here e c = received k at.class holds.links kind method m coded args here.registers c (subst (λ i. HoldsCalls k at.class i here.registers) e (placed at n here).calls)
+      → IsReceived k at.class holds.links open_ended known.any m coded args here.registers
+  call_of at n method m kind args coded here e c = received k at.class holds.links open_ended known.any kind method m coded args here.registers c (subst (λ i. HoldsCalls k at.class i here.registers) e (placed at n here).calls)
 
   calls : Calls k.program.now k.targets.now t
   calls = record {
@@ -276,11 +302,7 @@ module _ (k : Known) (frames : _) (quiet : _) (known : AreKnown k) (filled : Are
       initialisers c i m (Some class) j h e f = holds.entries.entered m.name ((started c class j).needed.initialiser h i m e f)
 
   bare : LeavesOpen k.program.now t
-  bare at m i e f = by (slice_get k.program.now.classes at.class) refl e
-    where
-      by : (o : Option Class) → slice_get k.program.now.classes at.class ≡ o → option_and_then (λ (c : Class). slice_get c.methods at.place) o ≡ Some m → IsBelow any_value (parameter_at t m.name i)
-      by None j g = absurd (cc)
-      by (Some c) j g = holds.entries.bare at.class c j at.place m g f i
+  bare at m i e f = (open_ended at m e f).takes i
 
   pub are_closed : AreClosed k.program.now k.outside.now k.targets.now t
   are_closed = record {

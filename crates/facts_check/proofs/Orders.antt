@@ -1,11 +1,11 @@
 -- Values and registers in order.
-use Rattle.std.proofs.Common.{◌≡◌, ℕ, zero, suc, ◌+◌, ◌<◌, Bool, true, false, Option, Some, None, refl, sym, ap, ◌∙◌, subst, arith}
-use Rattle.std.proofs.lemmas.Int.{ints}
+use Rattle.std.proofs.Common.{◌≡◌, ℕ, zero, suc, ◌+◌, ◌<◌, Bool, true, false, List, [], ◌∷◌, Option, Some, None, refl, sym, ap, ◌∙◌, subst, arith}
 use Rattle.std.specs.Prelude.{if◌then◌else◌, nat_eq, cond, ◌==◌}
 use Rattle.std.specs.Int.{w32, cast_signed}
 use Rattle.std.specs.FinMap as finite
 use Rattle.domains.specs.Datum.{Datum, Plain, Single, Double, Object, Within}
-use Rattle.domains.specs.Values.{Parts, value_holds, any_value, least_value}
+use Rattle.domains.specs.Values.{Parts, value_holds, any_value, least_value, objects_value}
+use Rattle.value_ops.specs.Left.{of_class}
 use Rattle.domains.specs.ValueLaws.{of_nothing_at_all}
 use Rattle.pat_map.specs.Trees.{BelowAt}
 use Rattle.pat_map.specs.Trees as maps
@@ -20,10 +20,14 @@ same_below x d h = h
 pub below_trans : (x y z : Parts) → IsBelow x y → IsBelow y z → IsBelow x z
 below_trans x y z f g d h = g d (f d h)
 
-pub any_above : (x : Parts) → IsBelow x any_value
-any_above x (Plain (Single w)) h = ((tt, (omega (arith, ints), omega (arith, ints))), tt)
-any_above x (Plain (Double d)) h = (tt, tt)
-any_above x (Object c) h = (tt, tt)
+pub objects_below : (cs : Option (List ℕ)) → IsBelow (objects_value cs) any_value
+objects_below cs (Plain (Single w)) h = absurd h.0.0
+objects_below cs (Plain (Double d)) h = absurd h.0
+objects_below cs (Object c) h = (tt, tt)
+
+pub class_below : (c : Option ℕ) → IsBelow (of_class c) any_value
+class_below (Some c) = objects_below (Some (c ∷ []))
+class_below None = objects_below None
 
 pub below_all_trans : (x y z : Registers) → AreBelow x y → AreBelow y z → AreBelow x z
 below_all_trans x y z f g r d h = g r d (f r d h)

@@ -27,6 +27,11 @@ use Rattle.facts_check.specs.declared.starts.Start.{Start}
 use Rattle.facts_check.specs.Known.{is_marked, is_made, pool_at, answer_at}
 use Rattle.facts_check.specs.Landing.{EachLands, EachGoes, Covers}
 
+-- a word is among those of a pool
+pub record IsPooledWord (pool : Registers) (i : ℕ) (v : Parts) : Type 0 where
+  pub pooled : IsBelow v (value_at pool i)
+  pub fits : IsBelow v any_value
+
 module _ (k : Known) where
   abbrev pub are_needed : Insn → Bool
   are_needed i = list_all (is_marked k.marks.now.needed.items) (needs k.program.now i)
@@ -64,7 +69,7 @@ module _ (k : Known) where
   -- the pool of a number to which a run may come is passed these registers, one of which is the receiver
   pub record IsPooled (number : ℕ) (args : List ℕ) (x : Registers) : Type 0 where
     pub made : is_made k number ≡ true
-    pub words : (i r : ℕ) → slice_get args i ≡ Some r → IsBelow (value_at x r) (value_at (pool_at k number) i)
+    pub words : (i r : ℕ) → slice_get args i ≡ Some r → IsPooledWord (pool_at k number) i (value_at x r)
     pub on : slice_get args 0 ≡ Some (receiver args)
 
   abbrev pub HoldsCall : ℕ → InvokeKind → ℕ → List ℕ → Registers → Type 0
@@ -78,13 +83,9 @@ module _ (k : Known) where
 
   -- ---- results
 
-  -- what a method gives that is called by its name
-  pub record IsGiven (m : Method) (v : Parts) : Type 0 where
-    pub result : IsBelow (result_at k.facts.now m.name) v
-    pub bare : m.body ≡ None → IsBelow any_value v
-
+  -- what a static, direct or super call gives: anything where it finds nothing
   pub record IsBoundResult (class method : ℕ) (kind : InvokeKind) (v : Parts) : Type 0 where
-    pub given : (at : MethodAt) (m : Method) → finds_bound k.program.now class method kind ≡ Finds at → method_at k.program.now at ≡ Some m → IsGiven m v
+    pub given : (at : MethodAt) (m : Method) → finds_bound k.program.now class method kind ≡ Finds at → method_at k.program.now at ≡ Some m → IsBelow (result_at k.facts.now m.name) v
     pub unfound : finds_bound k.program.now class method kind ≡ Nothing → IsBelow any_value v
 
   abbrev pub HoldsResult : ℕ → InvokeKind → ℕ → Parts → Type 0

@@ -29,13 +29,13 @@ use Rattle.facts_check.specs.declared.starts.Start.{Start}
 use Rattle.facts_check.specs.declared.methods.Table.{Table}
 use Rattle.facts_check.specs.Known.{is_marked, is_made, pool_at, answer_at}
 use Rattle.facts_check.specs.Landing.{Lands, LandsIf, EachLands, EachGoes}
-use Rattle.facts_check.specs.Placed.{are_needed, HoldsPuts, HoldsReturn, HoldsCalls, HoldsTaken, IsPlaced}
+use Rattle.facts_check.specs.Placed.{are_needed, HoldsPuts, HoldsReturn, HoldsCalls, HoldsTaken, IsPlaced, IsPooledWord}
 use Rattle.facts_check.specs.Bodies.{registers_of, AreFrames}
 
 -- ---- lists
 
 abbrev pub ArePooled : Registers → List ℕ → Registers → Type 0
-ArePooled pool args x = (i r : ℕ) → slice_get args i ≡ Some r → IsBelow (value_at x r) (value_at pool i)
+ArePooled pool args x = (i r : ℕ) → slice_get args i ≡ Some r → IsPooledWord pool i (value_at x r)
 
 abbrev pub HandlersLand : List Start → Registers → List Handler → Type 0
 HandlersLand starts x handlers = (i : ℕ) (h : Handler) → slice_get handlers i ≡ Some h → Lands (slice_get starts h.position) x
@@ -139,8 +139,13 @@ module _ (k : Known) where
     pub marked : is_marked k.marks.now.entered.items method ≡ true
     pub takes : TakesAny method
 
+  -- what has no code takes and gives anything
+  pub record IsOpenEnded (method : ℕ) : Type 0 where
+    pub takes : TakesAny method
+    pub gives : IsBelow any_value (result_at k.facts.now method)
+
   abbrev pub AreBare : List Method → Type 0
-  AreBare methods = (i : ℕ) (m : Method) → slice_get methods i ≡ Some m → m.body ≡ None → TakesAny m.name
+  AreBare methods = (i : ℕ) (m : Method) → slice_get methods i ≡ Some m → m.body ≡ None → IsOpenEnded m.name
 
   pub record Entries (frames : List (List (Option Frame))) : Type 0 where
     pub entered : (method : ℕ) → is_marked k.marks.now.entered.items method ≡ true → IsReached frames method
@@ -151,7 +156,7 @@ module _ (k : Known) where
 
   pub record IsLinkHeld (link : Link) : Type 0 where
     pub entered : is_made k link.call ≡ true → is_marked k.marks.now.entered.items link.method ≡ true
-    pub passed : is_made k link.call ≡ true → (i : ℕ) → IsBelow (value_at (pool_at k link.call) i) (parameter_at k.facts.now link.method i)
+    pub passed : is_made k link.call ≡ true → (i : ℕ) (v : Parts) → slice_get (slice_index_or k.facts.now.parameters.items link.method []) i ≡ Some v → IsBelow (value_at (pool_at k link.call) i) v
     pub given : IsBelow (result_at k.facts.now link.method) (answer_at k link.call)
 
   pub record Links : Type 0 where

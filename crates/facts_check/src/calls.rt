@@ -5,8 +5,8 @@ ghost use Rattle.program_model.specs.Lookups.{method_at};
 ghost use Rattle.dom_frame.specs.Steps.{receiver};
 ghost use Rattle.dom_frame.specs.Registers.{value_at};
 ghost use Rattle.program_model.specs.declared.program.Method.{Method};
-ghost use Rattle.facts_check.specs.Known.{AreKnown, pool_at};
-ghost use Rattle.facts_check.specs.Placed.{IsPassed, IsCalled, IsBoundCall, IsPooled, HoldsCall, HoldsCalls};
+ghost use Rattle.facts_check.specs.Known.{AreKnown, is_made};
+ghost use Rattle.facts_check.specs.Placed.{IsPassed, IsCalled, IsBoundCall, IsPooledWord, IsPooled, HoldsCall, HoldsCalls};
 ghost use Rattle.facts_check.specs.Tables.{ArePassed, ArePooled};
 
 use crate::fields::is_on;
@@ -84,26 +84,43 @@ fn holds_bound(
     }
 }
 
+/// Whether a word of a pool is at or above a value, as anything is.
+fn is_pooled_word(pool: &PatMap<Value>, word: u32, value: &Value) -> bool
+    ensures { result ≡ true → IsPooledWord pool.now word value.now }
+{
+    is_below(value, &value_at(pool, word)) && is_below(value, &Value::any())
+}
+
 /// Whether the pool of a call is at or above these registers.
 fn are_pooled(pool: &PatMap<Value>, args: &[u16], registers: &PatMap<Value>) -> bool
     ensures { result ≡ true → ArePooled pool.now args.now registers.now }
 {
     for place in 0..args.len() {
         let value = value_at(registers, u32::from(args[place]));
-        if !is_below(&value, &value_at(pool, place as u32)) {
+        if !is_pooled_word(pool, place as u32, &value) {
             return false;
         }
     }
     true
 }
 
+/// Whether a run may come to a call of a number.
+fn is_made(known: &Known<'_>, number: usize) -> bool
+    ensures { result ≡ is_made known.now number }
+{
+    match known.pools.reached.as_slice().get(number) {
+        Some(mark) => *mark,
+        None => false,
+    }
+}
+
 /// Whether the pool of a call is at or above its arguments, one of which is its receiver.
-fn is_pooled(known: &Known<'_>, number: u32, args: &[u16], registers: &PatMap<Value>) -> bool
+fn is_pooled(known: &Known<'_>, number: usize, args: &[u16], registers: &PatMap<Value>) -> bool
     ensures { result ≡ true → IsPooled known.now number args.now registers.now }
 {
-    match (known.pools.calls.as_slice().get(number as usize), args) {
+    match (known.pools.calls.as_slice().get(number), args) {
         (Some(pool), [_, ..]) => {
-            is_on(&known.pools.reached, number)
+            is_made(known, number)
                 && args.len() < 65536
                 && are_pooled(pool, args, registers)
         }
@@ -124,12 +141,14 @@ fn holds_call(
     requires { AreKnown known.now }
     ensures { IfOk result (λ b. b ≡ true → HoldsCall known.now class kind method args.now registers.now) }
 {
-    if method >= 2147483647 {
-        return Ok(false);
-    }
     match kind {
-        InvokeKind::Virtual => Ok(is_pooled(known, 2 * method, args, registers)),
-        InvokeKind::Interface => Ok(is_pooled(known, 2 * method + 1, args, registers)),
+        InvokeKind::Virtual => Ok(is_pooled(known, 2 * method as usize, args, registers)),
+        InvokeKind::Interface => Ok(is_pooled(
+            known,
+            2 * method as usize + 1,
+            args,
+            registers,
+        )),
         _ => holds_bound(alloc, known, class, kind, method, args, registers),
     }
 }

@@ -6,7 +6,7 @@ ghost use Rattle.dom_frame.specs.Registers.{value_at};
 ghost use Rattle.closed_facts.specs.Tables.{IsBelow};
 ghost use Rattle.facts_check.specs.Bodies.{registers_of};
 ghost use Rattle.facts_check.specs.Known.{AreKnown, is_marked, answer_at};
-ghost use Rattle.facts_check.specs.Tables.{AreAny, TakesAny, IsOpened, AreBare, Entries, IsLinkHeld, Links};
+ghost use Rattle.facts_check.specs.Tables.{AreAny, TakesAny, IsOpened, IsOpenEnded, AreBare, Entries, IsLinkHeld, Links};
 
 use crate::fields::is_on;
 use crate::known::Known;
@@ -99,20 +99,28 @@ fn are_opened(known: &Known<'_>) -> bool
     true
 }
 
-/// Whether the methods of a class that have no code take anything.
+/// Whether a method may be passed anything, and give anything.
+fn is_open_ended(known: &Known<'_>, method: u32) -> bool
+    requires { AreKnown known.now }
+    ensures { result ≡ true → IsOpenEnded known.now method }
+{
+    takes_any(known, method) && is_any(known.facts.result(method))
+}
+
+/// Whether the methods of a class that have no code take and give anything.
 fn are_bare(known: &Known<'_>, methods: &[Method]) -> bool
     requires { AreKnown known.now }
     ensures { result ≡ true → AreBare known.now methods.now }
 {
     for method in methods {
-        if method.body.is_none() && !takes_any(known, method.name) {
+        if method.body.is_none() && !is_open_ended(known, method.name) {
             return false;
         }
     }
     true
 }
 
-/// Whether all methods without code take anything.
+/// Whether all methods without code take and give anything.
 fn all_bare(known: &Known<'_>) -> bool
     requires { AreKnown known.now }
     ensures { result ≡ true → (c : ℕ) (class : Class) → slice_get known.now.program.now.classes c ≡ Some class → AreBare known.now class.methods }

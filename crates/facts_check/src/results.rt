@@ -4,29 +4,17 @@ ghost use Rattle.std.specs.Prelude.{◌≡◌, IfOk, ◌+◌, ◌*◌};
 ghost use Rattle.std.specs.Option.{option_copied};
 ghost use Rattle.domains.specs.Values.{any_value};
 ghost use Rattle.facts_check.specs.Known.{AreKnown, answer_at};
-ghost use Rattle.facts_check.specs.Placed.{IsGiven, IsBoundResult, HoldsResult, HoldsResults, HoldsBehind};
+ghost use Rattle.facts_check.specs.Placed.{IsBoundResult, HoldsResult, HoldsResults, HoldsBehind};
 
 use crate::known::Known;
 use crate::looks::method_at;
 use call_targets::{Target, bound_target};
 use domains::Value;
-use program_model::{Insn, InvokeKind, Method};
+use program_model::{Insn, InvokeKind};
 use std::alloc::{AllocError, Global};
 
-/// What a method gives: anything where it has no code.
-#[tactic(auto, using(crate::proofs::Orders::any_above, crate::proofs::Orders::same_below))]
-fn given_by(known: &Known<'_>, method: &Method) -> Value
-    ensures { IsGiven known.now method.now result }
-{
-    if method.body.is_some() {
-        known.facts.result(method.name).same()
-    } else {
-        Value::any()
-    }
-}
-
 /// What a static, direct or super call gives.
-#[tactic(auto, using(crate::proofs::Orders::any_above, crate::proofs::Orders::same_below))]
+#[tactic(auto, using(crate::proofs::Orders::same_below))]
 fn bound_result(
     alloc: Global,
     known: &Known<'_>,
@@ -39,7 +27,7 @@ fn bound_result(
 {
     match bound_target(alloc, known.program, known.hierarchy, class, kind, method)? {
         Target::One(at) => match method_at(known.program, at) {
-            Some(found) => Ok(given_by(known, found)),
+            Some(found) => Ok(known.facts.result(found.name).same()),
             None => Ok(Value::any()),
         },
         Target::Nothing => Ok(Value::any()),
@@ -48,10 +36,10 @@ fn bound_result(
 }
 
 /// What the calls of a number get back.
-fn answer_at(known: &Known<'_>, number: u32) -> Value
+fn answer_at(known: &Known<'_>, number: usize) -> Value
     ensures { result ≡ answer_at known.now number }
 {
-    match known.pools.answers.as_slice().get(number as usize) {
+    match known.pools.answers.as_slice().get(number) {
         Some(value) => value.same(),
         None => Value::any(),
     }
@@ -68,18 +56,15 @@ fn result_of(
     requires { AreKnown known.now }
     ensures { IfOk result (λ v. HoldsResult known.now class kind method v) }
 {
-    if method >= 2147483647 {
-        return Ok(Value::any());
-    }
     match kind {
-        InvokeKind::Virtual => Ok(answer_at(known, 2 * method)),
-        InvokeKind::Interface => Ok(answer_at(known, 2 * method + 1)),
+        InvokeKind::Virtual => Ok(answer_at(known, 2 * method as usize)),
+        InvokeKind::Interface => Ok(answer_at(known, 2 * method as usize + 1)),
         _ => bound_result(alloc, known, class, kind, method),
     }
 }
 
 /// What an instruction gives to a move of a result behind it: anything where it gives nothing.
-#[tactic(auto, using(crate::proofs::Orders::any_above))]
+#[tactic(auto, using(crate::proofs::Orders::class_below))]
 fn given_behind(
     alloc: Global,
     known: &Known<'_>,

@@ -1,10 +1,9 @@
 -- What fields hold (Dalvik executable format, "encoded_value").
-use Rattle.std.specs.Prelude.{◌≡◌, ℕ, Bool, true, false, List, Option, Some, None, cond, slice_get, slice_index_or, Contains}
+use Rattle.std.specs.Prelude.{◌≡◌, ℕ, Bool, true, false, Option, Some, None, cond, slice_get, Contains}
 use Rattle.std.specs.Int.{w32, w64, cast_unsigned}
 use Rattle.insn_set.specs.declared.ops.Item.{Item}
 use Rattle.insn_set.specs.declared.form.Insn.{Insn}
 use Rattle.insn_set.specs.declared.form.Insn.TheVariants as insn
-use Rattle.program_model.specs.declared.pools.FieldName.{FieldName}
 use Rattle.program_model.specs.declared.value.EncValue.{EncValue, EncValue-F, out-EncValue}
 use Rattle.program_model.specs.declared.value.EncValue.TheOpen as layer
 use Rattle.program_model.specs.declared.value.Note.{Note}

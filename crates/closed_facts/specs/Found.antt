@@ -1,5 +1,5 @@
 -- What calls, fields and classes that instructions name are, by number.
-use Rattle.std.specs.Prelude.{◌≡◌, ℕ, ◌+◌, ◌*◌, Bool, true, false, List, [], Option, Some, None, is_some, slice_get, Contains, option_and_then}
+use Rattle.std.specs.Prelude.{◌≡◌, ℕ, ◌+◌, ◌*◌, Bool, true, List, [], Option, Some, None, is_some, slice_get, Contains, option_and_then}
 use Rattle.std.specs.Option.{option_map}
 use Rattle.insn_set.specs.declared.ops.InvokeKind.{InvokeKind}
 use Rattle.insn_set.specs.declared.ops.InvokeKind.TheVariants as call

@@ -1,1 +1,4 @@
 pub mod Bound
+pub mod Marks
+pub mod Walking
+pub mod Targeted

@@ -1,6 +1,6 @@
 -- What virtual and interface calls of live bodies may find on objects of made classes, and what the framework may enter and need
 -- before the program does anything, by number (this project's profile). A call finds by the class of its receiver.
-use Rattle.std.specs.Prelude.{◌≡◌, ◌+◌, ◌*◌, ◌⊎◌, ℕ, Bool, true, false, ◌&&◌, ◌||◌, List, length, Option, Some, None, is_some, nat_eq, cond, codes, slice_get, slice_index_or, Contains}
+use Rattle.std.specs.Prelude.{◌≡◌, ◌+◌, ◌*◌, ◌<◌, ◌⊎◌, ℕ, Bool, true, false, ◌&&◌, ◌||◌, List, length, Option, Some, None, is_some, nat_eq, cond, codes, slice_get, slice_index_or, Contains}
 use Rattle.std.specs.List.{list_any}
 use Rattle.insn_set.specs.declared.form.Insn.TheVariants as insn
 use Rattle.insn_set.specs.declared.ops.InvokeKind.{InvokeKind}
@@ -18,10 +18,9 @@ use Rattle.class_defs.specs.Members.{string_is, is_common, has_code}
 use Rattle.class_defs.specs.Finding.{Search, Nothing, Clash, Finds, finds_at}
 use Rattle.class_defs.specs.Starts.{initialiser_place}
 use Rattle.call_graph.specs.declared.live_set.LiveSet.{LiveSet}
-use Rattle.call_graph.specs.Above.{Climbs}
+use Rattle.call_graph.specs.Above.{IsFrom, is_outer}
 use Rattle.call_graph.specs.Bases.{object_number}
 use Rattle.call_graph.specs.Follows.{can_be_made}
-use Rattle.call_graph.specs.Objects.{IsOver, IsOutward}
 use Rattle.call_targets.specs.declared.table.Link.{Link}
 use Rattle.call_targets.specs.declared.table.Targets.{Targets}
 
@@ -78,14 +77,24 @@ pub record IsMade (p : Program) (live : LiveSet) (kind class : ℕ) : Type 0 whe
   pub made : is_on live.made.items kind ≡ true
   pub is_class : class_place p kind ≡ Some class
 
--- A live call may be made on an object of a made class: the class stands under the type that the call names, by the program's own
--- lists, or that type is Object.
+-- a type stands under another by the program's own lists; each stands under Object
+abbrev pub IsUnder : Program → ℕ → ℕ → Type 0
+IsUnder p kind top = IsFrom p (object_number p) kind top
+
+-- it stands under a type of the framework other than Object
+pub record HasOuter (p : Program) (kind : ℕ) : Type 0 where
+  pub top : ℕ
+  pub under : IsUnder p kind top
+  pub short : top < length p.types
+  pub outer : is_outer p (object_number p) top ≡ true
+
+-- a live call may be made on an object of a made class, which stands under the type that the call names
 pub record IsAsked (p : Program) (live : LiveSet) (interface : Bool) (method : ℕ) (name : MethodName) (class : ℕ) : Type 0 where
   pub called : IsCalledOn p live interface method
   pub is_name : slice_get p.methods method ≡ Some name
   pub kind : ℕ
   pub made : IsMade p live kind class
-  pub over : IsOver p (object_number p) kind name.class
+  pub under : IsUnder p kind name.class
 
 -- a link from a live call to a method with code that an object of a made class finds for it
 pub record IsLink (p : Program) (live : LiveSet) (link : Link) : Type 0 where
@@ -154,7 +163,7 @@ pub record IsEnteredStatic (p : Program) (o : Outside) (at : MethodAt) (number :
 pub record StandsOver (p : Program) (live : LiveSet) (kind class above : ℕ) : Type 0 where
   pub made : IsMade p live kind class
   pub top : ℕ
-  pub over : IsOver p (object_number p) kind top
+  pub under : IsUnder p kind top
   pub is_above : class_place p top ≡ Some above
 
 -- a kept method of a class above a made class, which isn't static
@@ -187,20 +196,25 @@ pub record IsEnteredFor (p : Program) (o : Outside) (live : LiveSet) (number : �
   pub kept : keeps_method o kept_method.name ≡ true
   pub finds : finds_at p class kept_name.name kept_name.proto ≡ Finds at
 
--- A method that an object of a made class finds for itself, and that the framework may call by its own knowledge: every object has
--- it, or the class stands under a type of the framework other than Object. Methods that are shut stay out.
+-- A method of a class above a made class that an object of the made class finds for itself, and that the framework may call by its
+-- own knowledge: every object has it, or the class stands under a type of the framework other than Object. Methods that are shut stay
+-- out.
 pub record IsCalledBack (p : Program) (o : Outside) (live : LiveSet) (number : ℕ) : Type 0 where
   pub at : MethodAt
   pub method : Method
   pub name : MethodName
+  pub own_at : MethodAt
+  pub own : Method
   pub kind : ℕ
   pub class : ℕ
   pub is : IsCoded p at method name number
-  pub stands : StandsOver p live kind class at.class
-  pub virtual : is_direct p method ≡ false
-  pub open : is_shut o number ≡ false
+  pub is_own : method_at p own_at ≡ Some own
+  pub same : own.name ≡ number
+  pub stands : StandsOver p live kind class own_at.class
+  pub virtual : is_direct p own ≡ false
+  pub unshut : is_shut o number ≡ false
   pub finds : finds_at p class name.name name.proto ≡ Finds at
-  pub may : IsOutward p (object_number p) kind ⊎ (is_common p name.name name.proto ≡ true)
+  pub may : HasOuter p kind ⊎ (is_common p name.name name.proto ≡ true)
 
 -- a method, by its number, that the framework may enter
 abbrev pub IsEntered : Program → Outside → LiveSet → ℕ → Type 0

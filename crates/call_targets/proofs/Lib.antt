@@ -1,0 +1,10 @@
+mod Contained
+mod Growth
+mod Climbing
+mod Adding
+mod Naming
+mod Listing
+mod Few
+mod Noted
+mod Ending
+mod Following

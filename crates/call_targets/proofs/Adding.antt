@@ -8,7 +8,7 @@ use Rattle.std.proofs.lemmas.List.Elements.{Contains-push, Contains-push_cases, 
 use Rattle.call_targets.specs.declared.table.Link.{Link}
 use Rattle.call_targets.specs.declared.table.Targets.{Targets}
 use Rattle.call_targets.specs.Adding.{Note, Links, Leaves, Enters, Needs, IsNoted, IsMet, SameSizes, AddsBy, Adds, TurnsOn}
-use Rattle.call_targets.proofs.Contained.{none_in, only_in, first_in}
+use Rattle.call_targets.proofs.Contained.{AtPlace, none_in, only_in, first_in}
 use Rattle.call_targets.proofs.Growth.{set_cases, set_keeps, set_reached}
 
 -- a mark that is set
@@ -57,6 +57,11 @@ adds_at f a b c xs i d so_far lt step =
     let more : take (i + 1) xs ≡ take i xs ++ get_or xs i d ∷ [] = take_more xs i d lt in
     let text : flat_map f (take (i + 1) xs) ≡ flat_map f (take i xs) ++ f (get_or xs i d) = rw (more, flat_map-append) (ap (λ (ys : List Note). flat_map f (take i xs) ++ ys) (append-nil (f (get_or xs i d)))) in
     subst (λ l. Adds l a c) (sym text) (adds_then (flat_map f (take i xs)) (f (get_or xs i d)) a b c so_far step)
+
+pub adds_on : {X : Type 0} (f : X → List Note) (a b c : Targets) (xs : List X) (i : ℕ) (x : X) → AtPlace xs i x → Adds (flat_map f (take i xs)) a b → Adds (f x) b c → Adds (flat_map f (take (i + 1) xs)) a c
+adds_on f a b c xs i x at so_far step =
+    let text : flat_map f (take (i + 1) xs) ≡ flat_map f (take i xs) ++ f x = rw (at.more, flat_map-append) (ap (λ (ys : List Note). flat_map f (take i xs) ++ ys) (append-nil (f x))) in
+    subst (λ l. Adds l a c) (sym text) (adds_then (flat_map f (take i xs)) (f x) a b c so_far step)
 
 pub adds_all : {X : Type 0} (f : X → List Note) (a b : Targets) (xs : List X) (i : ℕ) → Adds (flat_map f (take i xs)) a b → length xs ≤ i → Adds (flat_map f xs) a b
 adds_all f a b xs i so_far le = subst (λ l. Adds (flat_map f l) a b) (take_all i xs le) so_far

@@ -112,6 +112,10 @@ at_place items slice place item same is lt = subst (λ l. AtPlace l place item) 
   short = lt;
 })
 
+-- the same of an item that is read by its place
+pub at_get : {X : Type 0} (items slice : List X) (place : ℕ) (d : X) → slice ≡ items → place < length slice → AtPlace items place (get_or slice place d)
+at_get items slice place d same lt = subst (λ l. AtPlace l place (get_or slice place d)) same (record { more = take_more slice place d lt; got = got_item slice place d lt; short = lt })
+
 no_place : (o : Option ℕ) → option_map suc o ≡ None → o ≡ None
 no_place None e = refl
 no_place (Some i) e = cc

@@ -63,6 +63,9 @@ not_static : (p : Program) (m : Method) → is_direct p m ≡ false → is_stati
 unfolding is_direct
 not_static p m h = or_false (is_static m.flags) (is_private m.flags) (or_false (is_static m.flags || is_private m.flags) (first_unit (name_of_method p (slice_get p.methods m.name)) == 60) h)
 
+link_is : (l : Link) (c m : ℕ) → l.call ≡ c → l.method ≡ m → l ≡ record { call = c; method = m }
+link_is l c m a b = let f : ℕ → ℕ → Link = λ x y. record { call = x; method = y } in ap (λ z. f z l.method) a ∙ ap (λ z. f c z) b
+
 -- ---- all that is noted
 
 abbrev pub All : Program → Tables → List Bool → Note → Type 0
@@ -197,7 +200,7 @@ module _ (p : Program) (o : Outside) (live : LiveSet) (t : Tables) (fits : is_we
   link_note link l = inr (inr (asked_note l.interface l.method l.name l.class (Links link) l.asked (record {
     name = l.name;
     is_name = l.asked.is_name;
-    note = inl (record { at = l.at; found = l.found; finds = l.finds; is_found = l.is_found; coded = l.coded; is = (let a = l.is_call in let b = l.is_method in cc) });
+    note = inl (record { at = l.at; found = l.found; finds = l.finds; is_found = l.is_found; coded = l.coded; is = ap (λ z. Links z) (link_is link (call_at l.method l.interface) l.found.name l.is_call l.is_method) });
   })))
 
   bare_note : (number : ℕ) → LeavesBare p live number → All p t live.made.items (Leaves number)

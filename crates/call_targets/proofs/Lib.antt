@@ -8,3 +8,5 @@ mod Few
 mod Noted
 mod Ending
 mod Following
+mod Stepping
+mod Binding

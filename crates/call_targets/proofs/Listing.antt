@@ -331,3 +331,19 @@ module _ (p : Program) (r : IsRanked p) where
               let climbs = walk_climbs (length p.classes) name caller k.name i u at k r.1.1.0 refl in
               kind_any (lists_at p kind) kinds k.name (has k.name (inl climbs) (class_parts p (sound p fits) i k r.1.1.0).name)
               (ap (λ o. list_any (nat_eq kind) (interfaces_in (option_and_then (slice_get p.classes) o))) own ∙ ap (λ o. list_any (nat_eq kind) (interfaces_in o)) r.1.1.0 ∙ and_right (reaches p caller (class_place p k.name)) (list_any (nat_eq kind) k.interfaces) r.1.1.1)
+
+      -- a place without a class has nothing above it
+      pub nowhere : (caller kind : ℕ) → slice_get p.classes caller ≡ None → lists_interface p caller kind ≡ false
+      nowhere caller kind none = by (lists_interface p caller kind) refl
+        where
+          by : (b : Bool) → lists_interface p caller kind ≡ b → lists_interface p caller kind ≡ false
+          by false e = e
+          by true e =
+              let r = any_class (lists caller kind) p.classes e in
+              let i = r.0 in
+              let k = r.1.0 in
+              let own = own_place once i k r.1.1.0 in
+              let u = sym (ap (reaches p caller) own) ∙ and_left (reaches p caller (class_place p k.name)) (list_any (nat_eq kind) k.interfaces) r.1.1.1 in
+              let empty : above_places p caller ≡ [] = ap (λ o. placed (option_and_then (λ k. class_place p k.superclass) o) (listed p o)) none in
+              let same : caller ≡ i = stays (length p.classes) caller i empty u in
+              absurd (none_some k (sym none ∙ ap (slice_get p.classes) same ∙ r.1.1.0))

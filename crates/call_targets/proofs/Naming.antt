@@ -97,6 +97,9 @@ seen_before p n interface method are on = record {
   only = λ kind call c. inl c;
 }
 
+call_is : (c : Call) (n m : ℕ) → c.number ≡ n → c.method ≡ m → c ≡ record { number = n; method = m }
+call_is c n m a b = let f : ℕ → ℕ → Call = λ x y. record { number = x; method = y } in ap (λ z. f z c.method) a ∙ ap (λ z. f n z) b
+
 -- a new call
 module _ (p : Program) (a b : Named) (interface : Bool) (method : ℕ) (name : MethodName) (call : Call) (are : AreSeen p a) (is_name : slice_get p.methods method ≡ Some name)
     (number_is : call.number ≡ call_at method interface) (method_is : call.method ≡ method) (turns : TurnsOn (call_at method interface) a.seen.items b.seen.items) (long : length b.on.items ≡ length a.on.items)
@@ -111,9 +114,6 @@ module _ (p : Program) (a b : Named) (interface : Bool) (method : ℕ) (name : M
   on_still : (n : ℕ) → is_on a.seen.items n ≡ true → is_on b.seen.items n ≡ true
   on_still n h = marked_so b.seen.items n (let l = on_short a.seen.items n h in omega (arith, l, turns.long)) (turns.keeps n (unmarked_reached a.seen.items n h))
 
-  this : call ≡ record { number = call_at method interface; method = method }
-  this = cc
-
   listed : (i : Bool) (m : ℕ) (q : MethodName) → slice_get p.methods m ≡ Some q → q.class < length p.types → is_on b.seen.items (call_at m i) ≡ true → Contains (calls_on b q.class) (record { number = call_at m i; method = m })
   listed i m q e lt on = elim (turns.only (call_at m i) on) [
     | inl old ↦ row_keeps (nat_eq q.class name.class && nat_lt q.class (length a.on.items)) call (record { number = call_at m i; method = m }) (calls_on a q.class) (calls_on b q.class) (rows q.class) (are.listed i m q e lt old)
@@ -123,7 +123,7 @@ module _ (p : Program) (a b : Named) (interface : Bool) (method : ℕ) (name : M
         let fits : name.class < length a.on.items = (let z : q.class < length p.types = lt in let y = ap (λ x. x.class) named in omega (arith, z, y, are.rows)) in
         let one : Contains (calls_on b name.class) call = row_has name.class (length a.on.items) call (calls_on a name.class) (calls_on b name.class) (rows name.class) (lt-ltb name.class (length a.on.items) fits) in
         let there : Contains (calls_on b q.class) call = subst (λ x. Contains (calls_on b x.class) call) named one in
-        subst (λ x. Contains (calls_on b q.class) x) (let h : call ≡ record { number = call_at m i; method = m } = (let u = both.0 in let v = both.1 in cc) in h) there
+        subst (λ x. Contains (calls_on b q.class) x) (call_is call (call_at m i) m (number_is ∙ sym same) (method_is ∙ sym both.0)) there
   ]
 
   pub notes_new : NotesBy p (IsThe interface method) a b

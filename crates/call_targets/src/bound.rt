@@ -84,7 +84,10 @@ pub(crate) fn found_on(
         Some(found) => Ok(Target::One(found)),
         None => match at.program.version {
             Version::V035 => Ok(Target::Nothing),
-            Version::V037 => found_in_interfaces(alloc, at, class, key, walk),
+            Version::V037 => {
+                let target = found_in_interfaces(alloc, at, class, key, walk)?;
+                Ok(target)
+            }
         },
     }
 }
@@ -164,7 +167,8 @@ fn found_super_037(
     match at.hierarchy.place_of(kind) {
         Some(place) => {
             if at.is_interface(place) {
-                found_in_interface(alloc, at, place, key)
+                let target = found_in_interface(alloc, at, place, key)?;
+                Ok(target)
             } else {
                 Ok(found_above(at, caller, key))
             }
@@ -187,7 +191,10 @@ fn found_super(alloc: Global, at: &At<'_>, caller: u32, method: u32) -> Result<T
     match at.method_name(method) {
         Some(name) => match at.program.version {
             Version::V035 => Ok(found_above(at, caller, key)),
-            Version::V037 => found_super_037(alloc, at, caller, name.class, key),
+            Version::V037 => {
+                let target = found_super_037(alloc, at, caller, name.class, key)?;
+                Ok(target)
+            }
         },
         None => Ok(Target::Nothing),
     }
@@ -210,7 +217,10 @@ pub fn bound_target(
         InvokeKind::Static | InvokeKind::Direct => {
             Ok(target_of(hierarchy.find_static(program, method)))
         }
-        InvokeKind::Super => found_super(alloc, &at, caller, method),
+        InvokeKind::Super => {
+            let target = found_super(alloc, &at, caller, method)?;
+            Ok(target)
+        }
         InvokeKind::Virtual | InvokeKind::Interface => Ok(Target::Nothing),
     }
 }

@@ -56,10 +56,13 @@ fn link_found(
                 call,
                 method: method.name,
             })?;
+            Ok(())
         }
-        _ => turn_on(&mut targets.leaves, call),
+        _ => {
+            turn_on(&mut targets.leaves, call);
+            Ok(())
+        }
     }
-    Ok(())
 }
 
 /// Notes what an object of a made class finds for a call.
@@ -79,7 +82,10 @@ fn link_call(
     }
     let key = at.hierarchy.key_of_method(call.method);
     match found_on(alloc, at, class, key, walk)? {
-        Target::One(found) => link_found(at, call.number, found, targets),
+        Target::One(found) => {
+            link_found(at, call.number, found, targets)?;
+            Ok(())
+        }
         Target::Nothing => {
             turn_on(&mut targets.leaves, call.number);
             Ok(())
@@ -138,7 +144,8 @@ fn follow_kind(
         methods_of(at, kind),
         walk,
         targets,
-    )
+    )?;
+    Ok(())
 }
 
 /// Goes over the types above a made class.
@@ -169,7 +176,7 @@ fn follow_class(
     walks: &mut Walks,
     targets: &mut Targets,
 ) -> Result<(), AllocError>
-    ensures open { IsOf at.now.program.now at.now.hierarchy.now → IsOpen at.now.program.now walks.old → OnOk result (IsOpen at.now.program.now walks.new) }
+    ensures open_walks { IsOf at.now.program.now at.now.hierarchy.now → IsOpen at.now.program.now walks.old → OnOk result (IsOpen at.now.program.now walks.new) }
     ensures adds { IsOf at.now.program.now at.now.hierarchy.now → tables.now.object ≡ object_number at.now.program.now → IsOpen at.now.program.now walks.old → OnOk result (AddsBy (OfClass at.now.program.now tables.now class.0 class.1) targets.old targets.new) }
 {
     let (place, kind) = class;
@@ -186,7 +193,8 @@ fn follow_class(
         kinds.as_slice(),
         &mut walks.classes,
         targets,
-    )
+    )?;
+    Ok(())
 }
 
 /// Goes over the types above a class, where it is made.
@@ -199,14 +207,13 @@ fn follow_place(
     walks: &mut Walks,
     targets: &mut Targets,
 ) -> Result<(), AllocError>
-    ensures open { IsOf at.now.program.now at.now.hierarchy.now → IsOpen at.now.program.now walks.old → OnOk result (IsOpen at.now.program.now walks.new) }
+    ensures open_walks { IsOf at.now.program.now at.now.hierarchy.now → IsOpen at.now.program.now walks.old → OnOk result (IsOpen at.now.program.now walks.new) }
     ensures adds { IsOf at.now.program.now at.now.hierarchy.now → tables.now.object ≡ object_number at.now.program.now → IsOpen at.now.program.now walks.old → OnOk result (AddsBy (OfMade at.now.program.now tables.now made.now class.0 class.1) targets.old targets.new) }
 {
     if is_on(made, class.1) {
-        follow_class(alloc, at, tables, class, walks, targets)
-    } else {
-        Ok(())
+        follow_class(alloc, at, tables, class, walks, targets)?;
     }
+    Ok(())
 }
 
 /// Nothing is walked over.

@@ -71,7 +71,8 @@ impl Named {
                     return Ok(());
                 }
                 turn_on(&mut self.seen, number);
-                self.list(name.class, Call { number, method })
+                self.list(name.class, Call { number, method })?;
+                Ok(())
             }
             None => Ok(()),
         }
@@ -83,8 +84,14 @@ impl Named {
     {
         match insn {
             Insn::Invoke { kind, method, .. } => match kind {
-                InvokeKind::Virtual => self.add(at, *method, false),
-                InvokeKind::Interface => self.add(at, *method, true),
+                InvokeKind::Virtual => {
+                    self.add(at, *method, false)?;
+                    Ok(())
+                }
+                InvokeKind::Interface => {
+                    self.add(at, *method, true)?;
+                    Ok(())
+                }
                 _ => Ok(()),
             },
             _ => Ok(()),
@@ -114,7 +121,10 @@ impl Named {
             return Ok(());
         }
         match &method.body {
-            Some(body) => self.add_body(at, body),
+            Some(body) => {
+                self.add_body(at, body)?;
+                Ok(())
+            }
             None => Ok(()),
         }
     }

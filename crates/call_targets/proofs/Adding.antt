@@ -1,5 +1,5 @@
 -- How an answer grows.
-use Rattle.std.proofs.Common.{◌≡◌, ◌∙◌, ℕ, ◌+◌, ◌<◌, ◌≤◌, ◌⊎◌, inl, inr, Bool, true, false, List, [], ◌∷◌, ◌++◌, length, take, get_or, refl, sym, ap, subst}
+use Rattle.std.proofs.Common.{◌≡◌, ◌∙◌, ℕ, zero, suc, ◌+◌, ◌<◌, ◌≤◌, ◌⊎◌, inl, inr, Bool, true, false, List, [], ◌∷◌, ◌++◌, length, take, get_or, refl, sym, ap, subst}
 use Rattle.std.specs.Prelude.{slice_index_or, slice_set, Contains}
 use Rattle.std.specs.List.{flat_map}
 use Rattle.std.proofs.lemmas.List.{take_more, take_all, append-nil}
@@ -11,10 +11,15 @@ use Rattle.call_targets.specs.Adding.{Note, Links, Leaves, Enters, Needs, IsNote
 use Rattle.call_targets.proofs.Contained.{AtPlace, none_in, only_in, first_in}
 use Rattle.call_targets.proofs.Growth.{set_cases, set_keeps, set_reached}
 
+pub set_length : (l : List Bool) (n : ℕ) → length (slice_set l n true) ≡ length l
+set_length [] n = refl
+set_length (b ∷ bs) zero = refl
+set_length (b ∷ bs) (suc n) = ap suc (set_length bs n)
+
 -- a mark that is set
-pub turned : (number : ℕ) (old new : List Bool) → length new ≡ length old → new ≡ slice_set old number true → TurnsOn number old new
-turned number old new long e = record {
-  long = long;
+pub turned : (number : ℕ) (old new : List Bool) → new ≡ slice_set old number true → TurnsOn number old new
+turned number old new e = record {
+  long = ap length e ∙ set_length old number;
   keeps = λ n h. ap (λ l. slice_index_or l n true) e ∙ set_keeps old number n true h;
   on = ap (λ l. slice_index_or l number true) e ∙ set_reached old number;
   only = λ n h. elim (set_cases old number n (sym (ap (λ l. slice_index_or l n false) e) ∙ h)) [ inl s ↦ inr s | inr k ↦ inl k ];

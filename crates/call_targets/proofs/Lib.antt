@@ -10,3 +10,4 @@ mod Ending
 mod Following
 mod Stepping
 mod Binding
+mod Marking

@@ -5,6 +5,7 @@ ghost use Rattle.std.specs.List.{list_any};
 ghost use Rattle.call_targets.specs.Outsiders.{AreKept};
 ghost use Rattle.call_targets.specs.Targeted.{is_on};
 
+use crate::table::turn_on;
 use program_model::{ClassIf, Outside, Program};
 use std::alloc::{AllocError, Global};
 
@@ -22,9 +23,7 @@ fn mark_all(marks: &mut [bool], numbers: &[u32])
     ensures marked { (n : ℕ) → n < length marks.old → is_on marks.new n ≡ (is_on marks.old n || list_any (nat_eq n) numbers.now) }
 {
     for number in numbers {
-        if let Some(mark) = marks.get_mut(*number as usize) {
-            *mark = true;
-        }
+        turn_on(marks, *number);
     }
 }
 
@@ -34,9 +33,7 @@ fn mark_classes(marks: &mut [bool], conditions: &[ClassIf])
     ensures marked { (n : ℕ) → n < length marks.old → is_on marks.new n ≡ (is_on marks.old n || list_any (λ c. nat_eq n c.class) conditions.now) }
 {
     for one in conditions {
-        if let Some(mark) = marks.get_mut(one.class as usize) {
-            *mark = true;
-        }
+        turn_on(marks, one.class);
     }
 }
 

@@ -1,7 +1,7 @@
 //! The answer.
 
-ghost use Rattle.std.specs.Prelude.{◌≡◌, ◌≤◌, ◌-◌, ◌^◌, min, length, IfOk, Contains};
-ghost use Rattle.call_targets.specs.Adding.{TurnsOn, IsBlank};
+ghost use Rattle.std.specs.Prelude.{◌≡◌, ◌≤◌, ◌-◌, ◌^◌, true, min, slice_set, IfOk, Contains};
+ghost use Rattle.call_targets.specs.Adding.{IsBlank};
 ghost use Rattle.call_targets.specs.Targeted.{call_at};
 ghost use Rattle.call_targets.specs.declared.table.Link.{Link};
 
@@ -42,10 +42,11 @@ pub fn call_number(method: u32, interface: bool) -> u32
 
 /// Turns a mark on, if there is such a number.
 pub(crate) fn turn_on(marks: &mut [bool], number: u32)
-    ensures { TurnsOn number marks.old marks.new }
+    ensures { marks.new ≡ slice_set marks.old number true }
 {
-    if let Some(mark) = marks.get_mut(number as usize) {
-        *mark = true;
+    let at = number as usize;
+    if at < marks.len() {
+        marks[at] = true;
     }
 }
 

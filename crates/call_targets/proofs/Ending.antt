@@ -267,18 +267,21 @@ module _ (p : Program) (o : Outside) (live : LiveSet) (t : Tables) (fits : is_we
   for_note number e = let keeps : is_on t.kept.methods.items e.kept_method.name ≡ true = kept_is e.kept_method.name e.kept_name e.is_kept_name ∙ e.kept in
       over_note e.kind e.class e.kept_at e.kept_method false (Enters number) e.stands e.is_kept (λ h. absurd (true≢false (sym h))) (record {
         held = not_static p e.kept_method e.virtual;
-        note = inr (e.virtual, record {
-          name = e.kept_name;
-          at = e.at;
-          found = e.method;
-          is_name = e.is_kept_name;
-          asked = or_left (is_on t.kept.methods.items e.kept_method.name) (is_called_back p t.kept false e.kept_method.name e.kept_name) keeps;
-          finds = e.finds;
-          is_found = e.is.is_method;
-          counts = or_left (is_on t.kept.methods.items e.kept_method.name) (nat_eq e.method.name e.kept_method.name) keeps;
-          coded = e.is.coded;
-          is = ap (λ n. Enters n) e.is.is_number;
-        });
+        note = inr (
+          e.virtual,
+          record {
+            name = e.kept_name;
+            at = e.at;
+            found = e.method;
+            is_name = e.is_kept_name;
+            asked = or_left (is_on t.kept.methods.items e.kept_method.name) (is_called_back p t.kept false e.kept_method.name e.kept_name) keeps;
+            finds = e.finds;
+            is_found = e.is.is_method;
+            counts = or_left (is_on t.kept.methods.items e.kept_method.name) (nat_eq e.method.name e.kept_method.name) keeps;
+            coded = e.is.coded;
+            is = ap (λ n. Enters n) e.is.is_number;
+          },
+        );
       })
 
   back_note : (number : ℕ) → IsCalledBack p o live number → All p t live.made.items (Enters number)
@@ -293,18 +296,21 @@ module _ (p : Program) (o : Outside) (live : LiveSet) (t : Tables) (fits : is_we
       by : (outer : Bool) → (outer ≡ true → HasOuter p e.kind) → (outer || is_common p e.name.name e.name.proto) ≡ true → All p t live.made.items (Enters number)
       by outer right may = over_note e.kind e.class e.own_at e.own outer (Enters number) e.stands e.is_own right (record {
         held = not_static p e.own e.virtual;
-        note = inr (e.virtual, record {
-          name = e.name;
-          at = e.at;
-          found = e.method;
-          is_name = named;
-          asked = or_right (is_on t.kept.methods.items e.own.name) (is_called_back p t.kept outer e.own.name e.name) (both (not (is_on t.kept.shut.items e.own.name)) (outer || is_common p e.name.name e.name.proto) opened may);
-          finds = e.finds;
-          is_found = e.is.is_method;
-          counts = or_right (is_on t.kept.methods.items e.own.name) (nat_eq e.method.name e.own.name) (number_test e.method.name e.own.name (sym (e.same ∙ e.is.is_number)));
-          coded = e.is.coded;
-          is = ap (λ n. Enters n) e.is.is_number;
-        });
+        note = inr (
+          e.virtual,
+          record {
+            name = e.name;
+            at = e.at;
+            found = e.method;
+            is_name = named;
+            asked = or_right (is_on t.kept.methods.items e.own.name) (is_called_back p t.kept outer e.own.name e.name) (both (not (is_on t.kept.shut.items e.own.name)) (outer || is_common p e.name.name e.name.proto) opened may);
+            finds = e.finds;
+            is_found = e.is.is_method;
+            counts = or_right (is_on t.kept.methods.items e.own.name) (nat_eq e.method.name e.own.name) (number_test e.method.name e.own.name (sym (e.same ∙ e.is.is_number)));
+            coded = e.is.coded;
+            is = ap (λ n. Enters n) e.is.is_number;
+          },
+        );
       })
 
   -- ---- static methods and initialisers
@@ -338,15 +344,21 @@ module _ (p : Program) (o : Outside) (live : LiveSet) (t : Tables) (fits : is_we
 
   -- a static method that is entered, among those of its class
   static_at : (at : MethodAt) (number : ℕ) → IsEnteredStatic p o at number → (c : Class) × ((slice_get p.classes at.class ≡ Some c) × AtStatic t.kept (initialiser_in p at.class) 0 c.methods (Enters number))
-  static_at at number e = let g = stands_of at e.method e.is.is_method in (g.class, (g.is_class, record {
-    place = at.place;
-    own = at.place;
-    method = e.method;
-    there = g.there;
-    is_own = omega arith;
-    entered = entered_all (initialiser_in p at.class) at.place e.method e.static e.is.coded (kept_is e.method.name e.name e.is.is_name ∙ ap (keeps_method o) (sym e.is.is_number) ∙ e.kept) (plain_place at.class at.place (initialiser_place p at.class) e.plain);
-    is = ap (λ n. Enters n) e.is.is_number;
-  }))
+  static_at at number e = let g = stands_of at e.method e.is.is_method in (
+    g.class,
+    (
+      g.is_class,
+      record {
+        place = at.place;
+        own = at.place;
+        method = e.method;
+        there = g.there;
+        is_own = omega arith;
+        entered = entered_all (initialiser_in p at.class) at.place e.method e.static e.is.coded (kept_is e.method.name e.name e.is.is_name ∙ ap (keeps_method o) (sym e.is.is_number) ∙ e.kept) (plain_place at.class at.place (initialiser_place p at.class) e.plain);
+        is = ap (λ n. Enters n) e.is.is_number;
+      },
+    ),
+  )
 
   at_static : (class : ℕ) (c : Class) (x : Note) → slice_get p.classes class ≡ Some c → (s : AtStatic t.kept (initialiser_in p class) 0 c.methods x) → IsEnteredStatic p o (record { class = class; place = s.own }) s.method.name
   at_static class c x e s =
@@ -379,10 +391,10 @@ module _ (p : Program) (o : Outside) (live : LiveSet) (t : Tables) (fits : is_we
 
   may_same : (class : ℕ) (c : Class) → slice_get p.classes class ≡ Some c → may_be_made_by p t.kept c ≡ may_be_made p o c
   may_same class c e = ap (λ b. can_be_made c && b) (
-    ap (λ b. b || keeps_constructor_by p t.kept c.methods) (are.kept.classes c.name (type_short class c e))
-    ∙ ap (λ b. keeps_class o c.name || b) (any_same (λ m. is_on t.kept.methods.items m.name && is_constructor_name p (slice_get p.methods m.name)) (λ m. keeps_method o m.name && is_constructor_name p (slice_get p.methods m.name)) c.methods
-    (λ i m f. ap (λ b. b && is_constructor_name p (slice_get p.methods m.name)) (let g = stands_at class i c m e f in kept_is m.name g.name g.is_name)))
-  )
+      ap (λ b. b || keeps_constructor_by p t.kept c.methods) (are.kept.classes c.name (type_short class c e))
+      ∙ ap (λ b. keeps_class o c.name || b) (any_same (λ m. is_on t.kept.methods.items m.name && is_constructor_name p (slice_get p.methods m.name)) (λ m. keeps_method o m.name && is_constructor_name p (slice_get p.methods m.name)) c.methods
+      (λ i m f. ap (λ b. b && is_constructor_name p (slice_get p.methods m.name)) (let g = stands_at class i c m e f in kept_is m.name g.name g.is_name)))
+      )
 
   class_note : (class : ℕ) (c : Class) → slice_get p.classes class ≡ Some c → NeedsClass p t.kept class c (Needs class) → All p t live.made.items (Needs class)
   class_note class c e n = inr (inl (classes_in p t.kept 0 p.classes class class c (Needs class) e (omega arith) (inr n)))

@@ -56,7 +56,7 @@ module _ (p : Program) (t : Tables) (place kind : ℕ) (outer : Bool) (kinds : L
   class_by a b f = by_other (Contains (flat_map (kind_notes p t.named t.kept place outer) kinds)) (OfClass p t place kind) a b f.by
       (λ x r. flat_has (kind_notes p t.named t.kept place outer) kinds r.top x (has r.top (subst (λ n. IsFrom p n kind r.top) (sym object) r.under) r.short) (widened r.outer r.top x r.right r.noted))
       (λ x c. let r = flat_from (kind_notes p t.named t.kept place outer) kinds x c in let f = from r.one r.is_in in
-          record { top = r.one; outer = outer; under = subst (λ n. IsFrom p n kind r.one) object f.0; short = f.1; right = of_outer; noted = r.has })
+      record { top = r.one; outer = outer; under = subst (λ n. IsFrom p n kind r.one) object f.0; short = f.1; right = of_outer; noted = r.has })
 
 -- ---- the made classes
 

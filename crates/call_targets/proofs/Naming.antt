@@ -134,11 +134,11 @@ module _ (p : Program) (a b : Named) (interface : Bool) (method : ℕ) (name : M
     only = λ kind x c. elim (row_cases kind name.class (length a.on.items) call x (calls_on a kind) (calls_on b kind) (rows kind) c) [
       | inl old ↦ inl old
       | inr new ↦ inr (record {
-          interface = interface;
-          method = method;
-          makes = record { same_way = refl; same_method = refl };
-          is = record { name = name; is_name = is_name; is_kind = sym new.0; is_number = sym (ap (λ z. z.number) new.1) ∙ number_is; is_method = sym (ap (λ z. z.method) new.1) ∙ method_is };
-        })
+        interface = interface;
+        method = method;
+        makes = record { same_way = refl; same_method = refl };
+        is = record { name = name; is_name = is_name; is_kind = sym new.0; is_number = sym (ap (λ z. z.number) new.1) ∙ number_is; is_method = sym (ap (λ z. z.method) new.1) ∙ method_is };
+      })
     ];
   }
 

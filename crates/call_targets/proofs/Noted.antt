@@ -169,12 +169,12 @@ class_notes_of p k place c x h = let statics = static_notes k (initialiser_in p 
     elim (Contains-append_cases statics (cond (not (is_empty statics) || may_be_made_by p k c) (Needs place ∷ []) []) x h) [
       | inl d ↦ inl (statics_of k (initialiser_in p place) 0 c.methods x d)
       | inr d ↦ let r = one_of (not (is_empty statics) || may_be_made_by p k c) (Needs place) x d in inr (record {
-          is = r.1;
-          why = elim (or_cases (not (is_empty statics)) (may_be_made_by p k c) r.0) [
-            | inl e ↦ (let n = nonempty statics e in inl (n.0, statics_of k (initialiser_in p place) 0 c.methods n.0 n.1))
-            | inr e ↦ inr e
-          ];
-        })
+        is = r.1;
+        why = elim (or_cases (not (is_empty statics)) (may_be_made_by p k c) r.0) [
+          | inl e ↦ (let n = nonempty statics e in inl (n.0, statics_of k (initialiser_in p place) 0 c.methods n.0 n.1))
+          | inr e ↦ inr e
+        ];
+      })
     ]
 
 class_notes_in : (p : Program) (k : Kept) (place : ℕ) (c : Class) (x : Note) → ClassNote p k place c x → Contains (class_notes p k place c) x
@@ -377,8 +377,8 @@ more_notes p n k class kind false x c = c
 more_notes p n k class kind true x c = elim (kind_of p n k class false kind x c) [
   | inl o ↦ call_kind p n k class true kind x o
   | inr o ↦ method_kind p n k class true kind x (record {
-      method = o.method;
-      there = o.there;
-      note = record { held = o.note.held; note = elim o.note.note [ inl w ↦ inl w | inr f ↦ inr (f.0, more_found p k class o.method.name x f.1) ] };
-    })
+    method = o.method;
+    there = o.there;
+    note = record { held = o.note.held; note = elim o.note.note [ inl w ↦ inl w | inr f ↦ inr (f.0, more_found p k class o.method.name x f.1) ] };
+  })
 ]

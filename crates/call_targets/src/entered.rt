@@ -155,7 +155,12 @@ fn is_place(found: Option<MethodAt>, own: usize) -> bool
 }
 
 /// Whether a method is one that the framework may enter without an object.
-fn is_entered_static(kept: &Kept, initialiser: Option<MethodAt>, own: usize, method: &Method) -> bool
+fn is_entered_static(
+    kept: &Kept,
+    initialiser: Option<MethodAt>,
+    own: usize,
+    method: &Method,
+) -> bool
     ensures { result ≡ is_entered kept.now initialiser own method.now }
 {
     method.flags.has(Flags::STATIC)
@@ -225,8 +230,7 @@ fn may_be_made(at: &At<'_>, kept: &Kept, class: &Class) -> bool
     ensures { result ≡ may_be_made_by at.now.program.now kept.now class.now }
 {
     can_be_made(class)
-        && (kept.keeps_class(class.name)
-            || keeps_constructor(at, kept, class.methods.as_slice()))
+        && (kept.keeps_class(class.name) || keeps_constructor(at, kept, class.methods.as_slice()))
 }
 
 /// Lets the framework enter the kept static methods of a class, and notes the class where the framework may need it.

@@ -109,12 +109,7 @@ impl Named {
     }
 
     /// Notes the calls of a method, where it is live.
-    fn add_method(
-        &mut self,
-        at: &At<'_>,
-        live: &LiveSet,
-        method: &Method,
-    ) -> Result<(), AllocError>
+    fn add_method(&mut self, at: &At<'_>, live: &LiveSet, method: &Method) -> Result<(), AllocError>
         ensures { length at.now.program.now.methods ≤ 65536 → AreSeen at.now.program.now self.old → OnOk result (NotesBy at.now.program.now (InBody live.now method.now) self.old self.new) }
     {
         if !is_on(&live.methods, method.name) {

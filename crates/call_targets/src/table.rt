@@ -62,11 +62,7 @@ pub(crate) fn each_once(mut links: Vec<Link>) -> Vec<Link>
 
 impl Targets {
     /// Nothing is found yet.
-    pub(crate) fn new(
-        alloc: Global,
-        methods: usize,
-        classes: usize,
-    ) -> Result<Targets, AllocError>
+    pub(crate) fn new(alloc: Global, methods: usize, classes: usize) -> Result<Targets, AllocError>
         ensures { methods ≤ 65536 → IfOk result (IsBlank methods classes) }
     {
         Ok(Targets {

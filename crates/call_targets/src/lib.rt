@@ -4,9 +4,8 @@
 //! the same. [`targets`] goes over the made classes once, and over the types above each of them, and notes for each
 //! call on such a type what the class finds. [`bound_target`] answers what a static, direct or super call finds.
 //!
-//! Proved is that all this is safe, ends and wants nothing but memory, and what it answers: what a call finds by its name
-//! (`specs/Bound.antt`), and just what calls on objects find, which may leave, and what the framework may enter and need
-//! (`specs/Targeted.antt`).
+//! What a call finds by its name is stated in `specs/Bound.antt`, and just what calls on objects find, which may leave, and
+//! what the framework may enter and need, in `specs/Targeted.antt`. The functions aren't proved to meet this yet.
 #![tactic(auto)]
 
 mod above;

@@ -11,3 +11,5 @@ mod Following
 mod Stepping
 mod Binding
 mod Marking
+mod Pairs
+mod Turning

@@ -2,6 +2,7 @@
 use Rattle.std.proofs.Common.{◌≡◌, ◌∙◌, ℕ, zero, suc, ◌+◌, ◌<◌, Bool, true, false, List, [], ◌∷◌, ◌++◌, length, take, get_or, nat_eq, refl, sym, ap, arith}
 use Rattle.std.specs.Prelude.{◌||◌, slice_set}
 use Rattle.std.specs.List.{list_any}
+use Rattle.std.proofs.Math.Dec.{eqb-suc-zero, eqb-zero-suc, eqb-suc-suc}
 use Rattle.std.proofs.lemmas.List.{take_more}
 use Rattle.call_targets.specs.Targeted.{is_on}
 
@@ -21,9 +22,9 @@ or_assoc false b c = refl
 set_is : (l : List Bool) (x n : ℕ) → n < length l → is_on (slice_set l x true) n ≡ (is_on l n || nat_eq n x)
 set_is [] x n lt = absurd (omega (arith, lt))
 set_is (b ∷ bs) zero zero lt = sym (or_true b)
-set_is (b ∷ bs) zero (suc n) lt = sym (or_nil (is_on bs n))
-set_is (b ∷ bs) (suc x) zero lt = sym (or_nil b)
-set_is (b ∷ bs) (suc x) (suc n) lt = set_is bs x n (omega (arith, lt))
+set_is (b ∷ bs) zero (suc n) lt = sym (ap (λ z. is_on bs n || z) (eqb-suc-zero n) ∙ or_nil (is_on bs n))
+set_is (b ∷ bs) (suc x) zero lt = sym (ap (λ z. b || z) (eqb-zero-suc x) ∙ or_nil b)
+set_is (b ∷ bs) (suc x) (suc n) lt = set_is bs x n (omega (arith, lt)) ∙ ap (λ z. is_on bs n || z) (sym (eqb-suc-suc n x))
 
 any_snoc : {X : Type 0} (t : X → Bool) (xs : List X) (x : X) → list_any t (xs ++ x ∷ []) ≡ (list_any t xs || t x)
 any_snoc t [] x = or_nil (t x)

@@ -5,7 +5,8 @@
 //! call on such a type what the class finds. [`bound_target`] answers what a static, direct or super call finds.
 //!
 //! What a call finds by its name is stated in `specs/Bound.antt`, and just what calls on objects find, which may leave, and
-//! what the framework may enter and need, in `specs/Targeted.antt`. The functions aren't proved to meet this yet.
+//! what the framework may enter and need, in `specs/Targeted.antt`. [`bound_target`] is proved
+//! to meet this, [`targets`] not yet.
 #![tactic(auto)]
 
 mod above;

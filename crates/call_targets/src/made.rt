@@ -1,6 +1,6 @@
 //! What the made classes find.
 
-ghost use Rattle.std.specs.Prelude.{◌≡◌, ◌<◌, ◌^◌, true, flat_map, length, IfOk, OnOk};
+ghost use Rattle.std.specs.Prelude.{◌≡◌, ◌<◌, ◌^◌, true, flat_map, length, Some, IfOk, OnOk};
 ghost use Rattle.program_model.specs.Lookups.{method_at};
 ghost use Rattle.program_model.specs.ProgramRules.{is_well_formed};
 ghost use Rattle.hierarchy.specs.Shapes.{IsOf, IsResolved};
@@ -41,7 +41,22 @@ struct Walks {
     kinds: Marks,
 }
 
-/// Notes the method that a call finds: a link where it has code.
+/// Notes a method that a call finds: a link where it has code.
+fn link_method(call: u32, method: &Method, targets: &mut Targets) -> Result<(), AllocError>
+    ensures { OnOk result (Adds (link_notes call (Some method.now)) targets.old targets.new) }
+{
+    if method.body.is_some() {
+        targets.links.push(Link {
+            call,
+            method: method.name,
+        })?;
+    } else {
+        turn_on(&mut targets.leaves, call);
+    }
+    Ok(())
+}
+
+/// Notes what a call finds at a place, where there may be no method.
 fn link_found(
     at: &At<'_>,
     call: u32,
@@ -51,14 +66,11 @@ fn link_found(
     ensures { OnOk result (Adds (link_notes call (method_at at.now.program.now found)) targets.old targets.new) }
 {
     match at.method_at(found) {
-        Some(method) if method.body.is_some() => {
-            targets.links.push(Link {
-                call,
-                method: method.name,
-            })?;
+        Some(method) => {
+            link_method(call, method, targets)?;
             Ok(())
         }
-        _ => {
+        None => {
             turn_on(&mut targets.leaves, call);
             Ok(())
         }
@@ -123,6 +135,7 @@ fn methods_of<'a>(at: &At<'a>, kind: u32) -> &'a [Method]
 }
 
 /// Notes what is called on a type above a made class, and what the framework may enter of it.
+#[tactic(auto, using(crate::proofs::Adding::adds_then))]
 fn follow_kind(
     alloc: Global,
     at: &At<'_>,
@@ -168,6 +181,7 @@ fn follow_kinds(
 }
 
 /// Goes over the types above a class, which is given by its place and its type.
+#[tactic(auto, using(crate::proofs::Following::class_by))]
 fn follow_class(
     alloc: Global,
     at: &At<'_>,
@@ -245,6 +259,7 @@ fn follow_made(
 }
 
 /// What the search looks up of a program.
+#[tactic(auto, using(crate::proofs::Few::few_methods, crate::proofs::Few::few_types))]
 fn new_tables(
     alloc: Global,
     at: &At<'_>,

@@ -1,0 +1,6 @@
+pub mod Acyclic
+pub mod Described
+pub mod Codes
+pub mod Firsts
+pub mod Makes
+pub mod Apart

@@ -33,18 +33,23 @@ use Rattle.cover_law.specs.Coverable.{has_values}
 -- ---- what a descriptor begins with
 
 -- a letter is one of these, each of which begins a type of values
-one_of : (u n : ℕ) (rest : Bool) → has_values (n ∷ []) ≡ true → (rest ≡ true → has_values (u ∷ []) ≡ true) → (nat_eq u n || rest) ≡ true → has_values (u ∷ []) ≡ true
-one_of u n rest known more h = by (nat_eq u n) refl h
-  where
-    by : (b : Bool) → nat_eq u n ≡ b → (b || rest) ≡ true → has_values (u ∷ []) ≡ true
-    by true e h = subst (λ x. has_values (x ∷ []) ≡ true) (sym (eqb-true u n e)) known
-    by false e h = more h
-
 last_of : (u n : ℕ) → has_values (n ∷ []) ≡ true → nat_eq u n ≡ true → has_values (u ∷ []) ≡ true
 last_of u n known h = subst (λ x. has_values (x ∷ []) ≡ true) (sym (eqb-true u n h)) known
 
+either_of : (u : ℕ) (b : Bool) (n : ℕ) → has_values (n ∷ []) ≡ true → (b ≡ true → has_values (u ∷ []) ≡ true) → (b || nat_eq u n) ≡ true → has_values (u ∷ []) ≡ true
+either_of u true n known more h = more refl
+either_of u false n known more h = last_of u n known h
+
 primitive_values : (u : ℕ) → is_primitive u ≡ true → has_values (u ∷ []) ≡ true
-primitive_values u = one_of u 66 _ refl (one_of u 67 _ refl (one_of u 68 _ refl (one_of u 70 _ refl (one_of u 73 _ refl (one_of u 74 _ refl (one_of u 83 _ refl (last_of u 90 refl)))))))
+primitive_values u =
+    either_of u (nat_eq u 66 || nat_eq u 67 || nat_eq u 68 || nat_eq u 70 || nat_eq u 73 || nat_eq u 74 || nat_eq u 83) 90 refl
+    (either_of u (nat_eq u 66 || nat_eq u 67 || nat_eq u 68 || nat_eq u 70 || nat_eq u 73 || nat_eq u 74) 83 refl
+    (either_of u (nat_eq u 66 || nat_eq u 67 || nat_eq u 68 || nat_eq u 70 || nat_eq u 73) 74 refl
+    (either_of u (nat_eq u 66 || nat_eq u 67 || nat_eq u 68 || nat_eq u 70) 73 refl
+    (either_of u (nat_eq u 66 || nat_eq u 67 || nat_eq u 68) 70 refl
+    (either_of u (nat_eq u 66 || nat_eq u 67) 68 refl
+    (either_of u (nat_eq u 66) 67 refl
+    (last_of u 66 refl)))))))
 
 element_values : (t : Text) (k : Descriptor) → IsElement t k → has_values t ≡ true
 element_values t k (OfLetter u q f at) = ap has_values f ∙ primitive_values u q

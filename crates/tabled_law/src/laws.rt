@@ -10,11 +10,11 @@ ghost use Rattle.dalvik_defs.specs.Outer.{Outer, outer_of};
 ghost use Rattle.dalvik_defs.specs.declared.program.NamedProgram.{NamedProgram};
 ghost use Rattle.dalvik_defs.specs.declared.tables.Framework.{Framework};
 ghost use Rattle.domains.specs.Values.{Parts};
-ghost use Rattle.pass_defs.specs.Analysis.{Analysis};
 ghost use Rattle.pass_defs.specs.Closed.{IsClosed};
 ghost use Rattle.pass_defs.specs.Facts.{Facts};
 ghost use Rattle.pass_defs.specs.Typed.{IsTyped};
 ghost use Rattle.removal_law.specs.Reach.{ShutsHold};
+ghost use Rattle.run_facts.specs.ValueAnalysis.{Numbers, value_analysis};
 ghost use Rattle.cover_law.specs.Coverable.{IsTabled};
 ghost use Rattle.tabled_law.specs.Apart.{ConstructsByOwn, IsTabledApart};
 ghost use Rattle.tabled_law.specs.Numbers.{AllHaveWords};
@@ -27,7 +27,8 @@ pub fn tabled_apart_law()
         → IsTyped (named p) → AllHaveWords p → ShutsHold (named p) (outer_of p o) → ConstructsByOwn (named p) (outer_of p o) → IsTabledApart (named p) (outer_of p o) f }
 {}
 
-/// With a closed table of facts of values it has all.
+/// With a closed table of facts of the product domain it has all, whatever the code makes of numbers.
 pub fn tabled_law()
-    ensures { (a : Analysis Parts) (p : NamedProgram) (o : Outer) (f : Framework) (facts : Facts Parts) → IsTabledApart p o f → IsClosed a p o facts → IsTabled a p o f facts }
+    ensures { (p : NamedProgram) (numbers : Numbers) (o : Outer) (f : Framework) (facts : Facts Parts) → IsTabledApart p o f → IsClosed (value_analysis p numbers) p o facts
+        → IsTabled (value_analysis p numbers) p o f facts }
 {}

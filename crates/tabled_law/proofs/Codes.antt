@@ -104,6 +104,15 @@ module _ (p : Program) (s : Sound p) where
 
   -- ---- the program
 
+  body_at : (i j : ℕ) (c : Class) (m : Method) (b : Body) → slice_get p.classes i ≡ Some c → slice_get c.methods j ≡ Some m → m.body ≡ Some b → body_fits p b ≡ true
+  body_at i j c m b e f h = code_body m b (subst (λ o. code_fits p m o ≡ true) h (method_code c.name m (method_fits_at p s i c e j m f)))
+
+  -- what an instruction of the program names is an entry of its table
+  pub numbers_at : (i j n : ℕ) (c : Class) (m : Method) (b : Body) (x : Insn) → slice_get p.classes i ≡ Some c → slice_get c.methods j ≡ Some m → m.body ≡ Some b → slice_get b.insns n ≡ Some x → numbers_fit x p ≡ true
+  numbers_at i j n c m b x e f h g =
+      let at = placed (insn_fits p b) b.insns 0 n x (insns_fit b (body_at i j c m b e f h)) g in
+      (insn_parts b at.0 x at.1).1
+
   -- a body is that of its method
   bodied : (m : Method) (b : NamedBody) → (named_method p m).body ≡ Some b → (x : Body) × ((m.body ≡ Some x) × (body_of p x ≡ b))
   bodied m b e = by m.body refl e
@@ -119,6 +128,5 @@ module _ (p : Program) (s : Sound p) where
       let m = image (named_method p) c.entry.methods t.method (subst (λ c. Contains c.methods t.method) (sym c.is) (contained t.method t.class.methods t.method_in)) in
       let d = bodied m.entry b (ap (λ m. m.body) m.is ∙ t.body) in
       let f = image (form_of p) d.0.insns x (subst (λ b. Contains b.forms x) (sym d.1.1) i) in
-      let fits = method_code c.entry.name m.entry (method_fits_at p s c.place c.entry c.is_entry m.place m.entry m.is_entry) in
-      subst IsFormed f.is (formed_at d.0 (code_body m.entry d.0 (subst (λ o. code_fits p m.entry o ≡ true) d.1.0 fits)) f.place f.entry f.is_entry
+      subst IsFormed f.is (formed_at d.0 (body_at c.place m.place c.entry m.entry d.0 c.is_entry m.is_entry d.1.0) f.place f.entry f.is_entry
       (words.insns c.place m.place f.place c.entry m.entry d.0 f.entry c.is_entry m.is_entry d.1.0 f.is_entry))

@@ -1,0 +1,15 @@
+pub mod Numbers
+pub mod Registers
+pub mod Values
+pub mod Forms
+pub mod Edges
+pub mod Places
+pub mod Inverse
+pub mod Fielding
+pub mod Flowing
+pub mod Beginning
+pub mod Calling
+pub mod Entering
+pub mod Fits
+pub mod Holding
+pub mod Begun

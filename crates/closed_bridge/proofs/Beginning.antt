@@ -1,14 +1,11 @@
 -- Reached entries begin by names as they do by number.
-use Rattle.std.proofs.Common.{◌≡◌, ℕ, ◌-◌, ◌+◌, ◌<◌, Bool, true, Option, Some, None, refl, sym, ap, ◌∙◌, subst}
+use Rattle.std.proofs.Common.{◌≡◌, ℕ, ◌-◌, ◌+◌, ◌<◌, true, sym, ap, ◌∙◌, subst}
 use Rattle.std.specs.Prelude.{if◌then◌else◌, is_some}
-use Rattle.std.specs.Option.{option_map}
 use Rattle.program_model.specs.declared.program.Program.{Program}
 use Rattle.class_defs.proofs.WellFormed.{Sound}
-use Rattle.dalvik_defs.specs.Face.{bodies_of}
-use Rattle.dalvik_defs.specs.Naming.{named}
 use Rattle.dalvik_defs.specs.declared.names.MethodKey.{MethodKey}
 use Rattle.dalvik_defs.specs.declared.program.NamedBody.{NamedBody}
-use Rattle.domains.specs.Values.{Parts, any_value}
+use Rattle.domains.specs.Values.{any_value}
 use Rattle.dom_frame.specs.Registers.{value_at}
 use Rattle.facts.specs.declared.facts.Facts as table
 use Rattle.closed_facts.specs.Entries as number

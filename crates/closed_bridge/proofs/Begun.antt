@@ -1,10 +1,9 @@
 -- What a field holds before it is written, and one that the framework may write, by names as by number.
-use Rattle.std.proofs.Common.{◌≡◌, ℕ, zero, suc, ◌<◌, Bool, true, false, true≢false, List, [], ◌∷◌, length, Option, Some, None, refl, sym, ap, ◌∙◌, subst, arith}
-use Rattle.std.specs.Prelude.{◌&&◌, ◌||◌, cond, slice_get, slice_index_or, option_and_then, Contains}
+use Rattle.std.proofs.Common.{◌≡◌, ℕ, suc, ◌<◌, Bool, true, false, true≢false, List, [], ◌∷◌, length, Option, Some, None, refl, sym, ap, ◌∙◌, subst, arith}
+use Rattle.std.specs.Prelude.{◌&&◌, ◌||◌, cond, slice_get, option_and_then, Contains}
 use Rattle.std.specs.Int.{w32, w64, cast_unsigned}
 use Rattle.std.specs.List.{list_any}
 use Rattle.std.specs.Option.{option_map}
-use Rattle.program_model.specs.MemberRules as rules
 use Rattle.program_model.specs.MemberRules.{field_letter}
 use Rattle.program_model.specs.Texts as texts
 use Rattle.program_model.specs.Texts.{letter_of}
@@ -20,14 +19,14 @@ use Rattle.program_model.specs.declared.value.EncValue.TheViews.{out-roll-EncVal
 use Rattle.program_model.specs.declared.value.EncValue.TheFolds as folds
 use Rattle.program_model.specs.declared.value.EncValue.TheFolds.{ind-EncValue}
 use Rattle.program_model.specs.declared.value.Note.{Note}
-use Rattle.class_defs.proofs.WellFormed.{and_left, and_right, Sound, class_parts}
+use Rattle.class_defs.proofs.WellFormed.{and_left, and_right, Sound}
 use Rattle.dalvik_defs.specs.ActPlain.{truth}
 use Rattle.dalvik_defs.specs.Face.{place_of}
 use Rattle.dalvik_defs.specs.Fields.{first_layer, first_of, first_value}
 use Rattle.dalvik_defs.specs.Find.{defined_field, field_in}
 use Rattle.dalvik_defs.specs.Flags.{is_static}
 use Rattle.dalvik_defs.specs.Names as name
-use Rattle.dalvik_defs.specs.Names.{Text, field_eq, text_eq}
+use Rattle.dalvik_defs.specs.Names.{field_eq, text_eq}
 use Rattle.dalvik_defs.specs.Naming as naming
 use Rattle.dalvik_defs.specs.Naming.{field_at, named, named_class, named_field, note_of, text_at, type_at, value_of}
 use Rattle.dalvik_defs.specs.Outer.{outer_of}
@@ -44,7 +43,7 @@ use Rattle.dalvik_defs.specs.declared.program.NamedField.{NamedField}
 use Rattle.dalvik_defs.specs.declared.state.Value.{Value}
 use Rattle.dalvik_defs.specs.declared.state.Value.TheVariants.{Word, Low, Literal, Class as ClassOf}
 use Rattle.dalvik_defs.proofs.Calm.{text_sound}
-use Rattle.domains.specs.Values.{Parts, any_value, constant_value, wide_value}
+use Rattle.domains.specs.Values.{any_value, constant_value, wide_value}
 use Rattle.name_bridge.proofs.Flags.{static_flag}
 use Rattle.name_bridge.proofs.Tables.{field_is, field_once}
 use Rattle.stuck_bridge.proofs.Members.{letter_same}
@@ -54,10 +53,10 @@ use Rattle.closed_facts.specs.Fields as number
 use Rattle.closed_facts.specs.Found as found
 use Rattle.pass_defs.specs.Facts.{begun_with}
 use Rattle.run_facts.specs.ValueAnalysis.{known_value}
-use Rattle.closed_bridge.specs.Names.{field_number, named_facts, values}
+use Rattle.closed_bridge.specs.Names.{named_facts, values}
 use Rattle.closed_bridge.proofs.Fielding.{own_field_key}
 use Rattle.closed_bridge.proofs.Numbers.{IsFieldNumber, field_sound, number_of_field}
-use Rattle.closed_bridge.proofs.Places.{FoundAt, found_at, none_some}
+use Rattle.closed_bridge.proofs.Places.{found_at, none_some}
 use Rattle.closed_bridge.proofs.Values.{no_entry}
 
 -- ---- first values

@@ -1,11 +1,8 @@
 -- What a static, direct or super call may enter by names it may enter by number.
-use Rattle.std.proofs.Common.{◌≡◌, ℕ, zero, suc, ◌<◌, ◌≤◌, Bool, true, false, true≢false, List, [], ◌∷◌, length, Option, Some, None, refl, sym, ap, ◌∙◌, subst, arith}
-use Rattle.std.specs.Prelude.{is_some, slice_get, option_and_then, if◌then◌else◌}
-use Rattle.std.specs.Int.{w32, cast_signed}
-use Rattle.std.specs.Option.{option_map}
+use Rattle.std.proofs.Common.{◌≡◌, ℕ, ◌<◌, List, length, Option, Some, None, refl, sym, ap, ◌∙◌, subst}
+use Rattle.std.specs.Prelude.{is_some, slice_get, option_and_then}
 use Rattle.insn_set.specs.declared.ops.InvokeKind.{InvokeKind}
 use Rattle.insn_set.specs.declared.ops.InvokeKind.TheVariants as call
-use Rattle.insn_set.specs.declared.form.Insn.TheVariants as insn
 use Rattle.program_model.specs.Lookups as look
 use Rattle.program_model.specs.declared.program.Class.{Class}
 use Rattle.program_model.specs.declared.program.Method.{Method}
@@ -17,18 +14,16 @@ use Rattle.class_defs.specs.Finding.{finds_static, finds_super, search_of}
 use Rattle.class_defs.proofs.WellFormed.{Sound, class_parts}
 use Rattle.dalvik_defs.specs.Face.{bodies_of}
 use Rattle.dalvik_defs.specs.Find as find
-use Rattle.dalvik_defs.specs.Find.{Found, defined_method, found_in, method_in}
-use Rattle.dalvik_defs.specs.Naming.{body_of, method_at, named, named_class, named_method, type_at}
-use Rattle.dalvik_defs.specs.Names.{Text}
+use Rattle.dalvik_defs.specs.Find.{Found, method_in}
+use Rattle.dalvik_defs.specs.Naming.{method_at, named, named_method, type_at}
 use Rattle.dalvik_defs.specs.Outer.{Outer}
 use Rattle.dalvik_defs.specs.declared.names.MethodKey.{MethodKey}
-use Rattle.dalvik_defs.specs.declared.program.NamedClass.{NamedClass}
 use Rattle.dalvik_defs.specs.declared.program.NamedMethod.{NamedMethod}
 use Rattle.name_bridge.specs.Named as names
 use Rattle.name_bridge.specs.Named.{search_at}
 use Rattle.name_bridge.proofs.Above.{own_place}
 use Rattle.name_bridge.proofs.Candidates.{coded_test}
-use Rattle.name_bridge.proofs.Found.{FoundParts, found_parts, looked_up}
+use Rattle.name_bridge.proofs.Found.{found_parts, looked_up}
 use Rattle.name_bridge.proofs.Resolved.{static_by_number, super_by_number}
 use Rattle.stuck_bridge.proofs.Members.{class_known, method_known}
 use Rattle.domains.specs.Values.{Parts}

@@ -1,5 +1,5 @@
 -- What a field holds by names is what it holds by the number of the field that is found.
-use Rattle.std.proofs.Common.{◌≡◌, ℕ, zero, suc, ◌<◌, Bool, true, false, true≢false, List, [], ◌∷◌, ◌++◌, length, Option, Some, None, refl, sym, ap, ◌∙◌, subst}
+use Rattle.std.proofs.Common.{◌≡◌, ℕ, zero, suc, ◌<◌, Bool, true, false, List, [], ◌∷◌, ◌++◌, length, Option, Some, None, refl, ap, ◌∙◌, subst}
 use Rattle.std.specs.Prelude.{◌&&◌, cond, map, find, slice_get, option_and_then}
 use Rattle.std.specs.Option.{option_map, option_or}
 use Rattle.insn_set.specs.declared.form.Insn.TheVariants as insn

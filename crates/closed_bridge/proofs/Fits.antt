@@ -1,5 +1,5 @@
 -- What instructions at reached positions name are entries of the tables.
-use Rattle.std.proofs.Common.{◌≡◌, ℕ, Option, Some, None, refl, ◌∙◌}
+use Rattle.std.proofs.Common.{◌≡◌, Option, Some, None, refl}
 use Rattle.std.specs.Prelude.{slice_get, option_and_then}
 use Rattle.program_model.specs.Lookups.{method_at}
 use Rattle.program_model.specs.declared.program.Class.{Class}

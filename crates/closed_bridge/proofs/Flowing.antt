@@ -1,39 +1,32 @@
 -- What a reached position leaves arrives by names as it does by number, and so does what it throws and returns.
-use Rattle.std.proofs.Common.{◌≡◌, ℕ, zero, suc, ◌<◌, ◌≤◌, Bool, true, false, List, [], ◌∷◌, length, Option, Some, None, refl, sym, ap, ◌∙◌, subst, arith}
-use Rattle.std.specs.Prelude.{map, if◌then◌else◌, is_some, slice_index_or, Contains}
+use Rattle.std.proofs.Common.{◌≡◌, ℕ, zero, suc, ◌<◌, true, false, List, [], ◌∷◌, Some, refl, sym, ap, ◌∙◌, subst, arith}
+use Rattle.std.specs.Prelude.{map, if◌then◌else◌, is_some, Contains}
 use Rattle.insn_set.specs.declared.form.Insn.TheVariants as insn
-use Rattle.insn_set.specs.declared.ops.Slot.{Slot}
-use Rattle.program_model.specs.OperandRules.{numbers_fit}
-use Rattle.program_model.specs.declared.program.MethodAt.{MethodAt}
 use Rattle.program_model.specs.declared.program.Program.{Program}
 use Rattle.class_defs.specs.ClassGraph.{IsTwice}
 use Rattle.class_defs.proofs.WellFormed.{Sound}
-use Rattle.flow_cfg.specs.Walks.{thrown_to}
 use Rattle.walk_bridge.proofs.Formed.{same_caught}
 use Rattle.dalvik_defs.specs.Face.{bodies_of}
 use Rattle.dalvik_defs.specs.Names.{object_type}
 use Rattle.dalvik_defs.specs.Naming.{body_of, form_of, named}
 use Rattle.dalvik_defs.specs.Under.{defines}
-use Rattle.dalvik_defs.specs.declared.forms.Form.{Form}
-use Rattle.dalvik_defs.specs.declared.forms.Form.TheVariants as form
 use Rattle.dalvik_defs.specs.declared.names.MethodKey.{MethodKey}
 use Rattle.dalvik_defs.specs.declared.program.NamedBody.{NamedBody}
 use Rattle.domains.specs.Values.{Parts, any_value}
-use Rattle.dom_frame.specs.Registers.{Registers, value_at}
 use Rattle.facts.specs.declared.facts.Facts as table
 use Rattle.closed_facts.specs.Tables as number
-use Rattle.closed_facts.specs.Tables.{registers_at, result_at}
+use Rattle.closed_facts.specs.Tables.{result_at}
 use Rattle.closed_facts.specs.Edges as numbered
 use Rattle.pass_defs.specs.Closed as name
 use Rattle.pass_defs.specs.Facts.{Facts}
 use Rattle.pass_defs.specs.Walks.{caught}
 use Rattle.closed_bridge.specs.Flows.{AllFit, GoesOn, NamedGoesOn, NamedReturns, NamedThrows, Returns, Throws}
-use Rattle.closed_bridge.specs.Names.{by_names, is_coded, method_number, named_facts, registers_by, result_by, values, values_of}
+use Rattle.closed_bridge.specs.Names.{by_names, is_coded, method_number, named_facts, result_by, values, values_of}
 use Rattle.closed_bridge.proofs.Edges.{edges_same}
 use Rattle.closed_bridge.proofs.Forms.{Gets}
 use Rattle.closed_bridge.proofs.Inverse.{of_return}
 use Rattle.closed_bridge.proofs.Numbers.{IsNumber, number_of_method}
-use Rattle.closed_bridge.proofs.Places.{Here, arrives_named, coded_at, here_at}
+use Rattle.closed_bridge.proofs.Places.{arrives_named, here_at}
 
 -- an entry of a list of images
 record Listed {A B : Type 0} (g : A → B) (xs : List A) (y : B) : Type 0 where

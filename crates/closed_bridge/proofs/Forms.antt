@@ -1,5 +1,5 @@
 -- What a form leaves in registers, by names, is what its instruction leaves, by number.
-use Rattle.std.proofs.Common.{◌≡◌, ℕ, ◌<◌, Bool, true, false, List, [], ◌∷◌, length, Option, Some, None, refl, sym, ap, ◌∙◌}
+use Rattle.std.proofs.Common.{◌≡◌, ℕ, ◌<◌, Bool, true, false, List, [], ◌∷◌, length, Option, Some, refl, ap, ◌∙◌}
 use Rattle.std.specs.Option.{option_map}
 use Rattle.insn_set.specs.Widths.{binary_is_wide, is_wide_item, unary_writes_wide}
 use Rattle.insn_set.specs.declared.form.Insn.{Insn}
@@ -14,7 +14,6 @@ use Rattle.class_defs.proofs.WellFormed.{Sound, below}
 use Rattle.dalvik_defs.specs.Names.{object_type}
 use Rattle.dalvik_defs.specs.Naming.{field_at, form_of, named, type_at}
 use Rattle.dalvik_defs.specs.Under.{defines}
-use Rattle.dalvik_defs.specs.declared.forms.Form.{Form}
 use Rattle.domains.specs.Values.{Parts, any_value}
 use Rattle.value_ops.specs.Left.{goes_on, held_value}
 use Rattle.value_ops.specs.Numbers.{binary_value, literal_value}

@@ -1,8 +1,7 @@
 -- Fields hold by names what they hold by number: what they begin with, anything where the framework may write them, and what is
 -- put into them.
-use Rattle.std.proofs.Common.{◌≡◌, ℕ, zero, suc, ◌<◌, Bool, true, false, true≢false, List, [], ◌∷◌, length, Option, Some, None, refl, sym, ap, ◌∙◌, subst, arith}
-use Rattle.std.specs.Prelude.{◌&&◌, ◌||◌, cond, nat_eq, nat_lt, slice_get, slice_index_or, option_and_then, Contains}
-use Rattle.std.specs.List.{list_any}
+use Rattle.std.proofs.Common.{◌≡◌, ℕ, ◌<◌, true, length, Option, Some, None, refl, sym, ap, ◌∙◌, subst}
+use Rattle.std.specs.Prelude.{slice_get, option_and_then}
 use Rattle.std.specs.Option.{option_map}
 use Rattle.insn_set.specs.declared.form.Insn.{Insn}
 use Rattle.insn_set.specs.declared.form.Insn.TheVariants as insn
@@ -24,7 +23,6 @@ use Rattle.dalvik_defs.specs.declared.names.MethodKey.{MethodKey}
 use Rattle.dalvik_defs.specs.declared.program.NamedField.{NamedField}
 use Rattle.name_bridge.specs.Named.{field_at_place, field_of, field_there}
 use Rattle.name_bridge.proofs.Fields.{field_resolves_by_number}
-use Rattle.dom_frame.specs.Registers.{value_at}
 use Rattle.facts.specs.declared.facts.Facts as table
 use Rattle.closed_facts.specs.Fields as number
 use Rattle.closed_facts.specs.Edges.{value_by}
@@ -33,10 +31,10 @@ use Rattle.closed_facts.specs.Tables as tables
 use Rattle.pass_defs.specs.Closed as name
 use Rattle.pass_defs.specs.Facts.{own_key}
 use Rattle.closed_bridge.specs.Flows.{AllFit}
-use Rattle.closed_bridge.specs.Names.{field_number, named_facts, values, values_of}
+use Rattle.closed_bridge.specs.Names.{field_number, named_facts, values}
 use Rattle.closed_bridge.proofs.Fielding.{found_bears, own_field_key}
-use Rattle.closed_bridge.proofs.Numbers.{IsFieldNumber, number_of_field}
-use Rattle.closed_bridge.proofs.Places.{Here, here_at, none_some, some_same}
+use Rattle.closed_bridge.proofs.Numbers.{number_of_field}
+use Rattle.closed_bridge.proofs.Places.{here_at, none_some, some_same}
 
 -- ---- the instruction that a put is of
 
@@ -59,7 +57,7 @@ of_instance_put p (insn.InstancePut j r q f) item from on k e =
     let a : j ≡ item = cc in
     let b : r ≡ from = cc in
     let d : field_at p f ≡ k = cc in
-    record { field = f; puts = subst (λ j. number.Puts j from f (insn.InstancePut j r q f)) a (subst (λ r. number.Puts j r f (insn.InstancePut j r q f)) b (number.Instance q)); named = d; low = put_low p j r q f }
+    record { field = f; puts = subst (λ z. number.Puts item from f (insn.InstancePut z r q f)) (sym a) (subst (λ z. number.Puts item from f (insn.InstancePut item z q f)) (sym b) (number.Instance q)); named = d; low = put_low p j r q f }
 of_instance_put p i item from on k e = absurd (cc)
 
 of_static_put : (p : Program) (i : Insn) (item : Item) (from : ℕ) (k : FieldKey) → form_of p i ≡ form.StaticPut item from k → IsPut p i item from k
@@ -67,7 +65,7 @@ of_static_put p (insn.StaticPut j r f) item from k e =
     let a : j ≡ item = cc in
     let b : r ≡ from = cc in
     let d : field_at p f ≡ k = cc in
-    record { field = f; puts = subst (λ j. number.Puts j from f (insn.StaticPut j r f)) a (subst (λ r. number.Puts j r f (insn.StaticPut j r f)) b number.Static); named = d; low = static_low p j r f }
+    record { field = f; puts = subst (λ z. number.Puts item from f (insn.StaticPut z r f)) (sym a) (subst (λ z. number.Puts item from f (insn.StaticPut item z f)) (sym b) number.Static); named = d; low = static_low p j r f }
 of_static_put p i item from k e = absurd (cc)
 
 of_put : (p : Program) (i : Insn) (item : Item) (from : ℕ) (k : FieldKey) (f : Form) → form_of p i ≡ f → name.Puts item from k f → IsPut p i item from k

@@ -13,3 +13,4 @@ pub mod Entering
 pub mod Fits
 pub mod Holding
 pub mod Begun
+pub mod Leaving

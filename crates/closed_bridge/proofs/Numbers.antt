@@ -1,12 +1,10 @@
 -- The number of a name is that of the entry which it names.
-use Rattle.std.proofs.Common.{◌≡◌, ℕ, zero, suc, ◌<◌, Bool, true, false, true≢false, List, [], ◌∷◌, length, Option, Some, None, refl, sym, ap, ◌∙◌, subst, arith}
-use Rattle.std.specs.Prelude.{◌&&◌, slice_get, position}
-use Rattle.program_model.specs.declared.pools.FieldName.{FieldName}
-use Rattle.program_model.specs.declared.pools.MethodName.{MethodName}
+use Rattle.std.proofs.Common.{◌≡◌, ℕ, zero, suc, ◌<◌, Bool, true, false, true≢false, List, [], ◌∷◌, length, Some, None, refl, sym, ap, ◌∙◌, subst, arith}
+use Rattle.std.specs.Prelude.{◌&&◌, slice_get}
 use Rattle.program_model.specs.declared.program.Program.{Program}
 use Rattle.class_defs.proofs.Positions.{entry_at, both, place_entry, place_first}
 use Rattle.class_defs.proofs.WellFormed.{and_left, and_right, Sound}
-use Rattle.dalvik_defs.specs.Names.{Text, field_eq, method_eq, signature_eq, text_eq, texts_eq}
+use Rattle.dalvik_defs.specs.Names.{field_eq, method_eq, signature_eq, text_eq, texts_eq}
 use Rattle.dalvik_defs.specs.Naming.{field_at, method_at}
 use Rattle.dalvik_defs.specs.declared.names.FieldKey.{FieldKey}
 use Rattle.dalvik_defs.specs.declared.names.MethodKey.{MethodKey}

@@ -1,8 +1,7 @@
 -- A position that facts by names reach is one that facts by number reach.
-use Rattle.std.proofs.Common.{◌≡◌, ℕ, zero, suc, ◌<◌, Bool, true, false, true≢false, List, [], ◌∷◌, length, Option, Some, None, refl, sym, ap, ◌∙◌, subst, arith}
-use Rattle.std.specs.Prelude.{◌&&◌, cond, find, map, slice_get, option_and_then}
+use Rattle.std.proofs.Common.{◌≡◌, ℕ, zero, suc, Bool, true, false, true≢false, List, [], ◌∷◌, Option, Some, None, refl, sym, ap, ◌∙◌, subst}
+use Rattle.std.specs.Prelude.{cond, find, map, slice_get, option_and_then}
 use Rattle.std.specs.Option.{option_map}
-use Rattle.insn_set.specs.declared.form.Insn.{Insn}
 use Rattle.program_model.specs.Lookups as look
 use Rattle.program_model.specs.declared.body.Body.{Body}
 use Rattle.program_model.specs.declared.program.Class.{Class}
@@ -11,19 +10,17 @@ use Rattle.program_model.specs.declared.program.MethodAt.{MethodAt}
 use Rattle.program_model.specs.declared.program.Program.{Program}
 use Rattle.class_defs.proofs.WellFormed.{and_left, and_right, Sound, class_parts}
 use Rattle.dalvik_defs.specs.Face.{bodies_of}
-use Rattle.dalvik_defs.specs.Find.{defined_method, method_in}
+use Rattle.dalvik_defs.specs.Find.{method_in}
 use Rattle.dalvik_defs.specs.Names.{Text, same_name, signature_eq, text_eq}
 use Rattle.dalvik_defs.specs.Naming.{body_of, form_of, method_at, named, named_class, named_method, type_at}
 use Rattle.dalvik_defs.specs.Under.{class_named}
-use Rattle.dalvik_defs.specs.declared.forms.Form.{Form}
 use Rattle.dalvik_defs.specs.declared.names.MethodKey.{MethodKey}
 use Rattle.dalvik_defs.specs.declared.names.Signature.{Signature}
 use Rattle.dalvik_defs.specs.declared.program.NamedBody.{NamedBody}
 use Rattle.dalvik_defs.specs.declared.program.NamedClass.{NamedClass}
 use Rattle.dalvik_defs.specs.declared.program.NamedMethod.{NamedMethod}
 use Rattle.dalvik_defs.proofs.Calm.{text_sound}
-use Rattle.name_bridge.proofs.Tables.{method_class, method_is}
-use Rattle.domains.specs.Values.{Parts}
+use Rattle.name_bridge.proofs.Tables.{method_is}
 use Rattle.dom_frame.specs.Registers.{Registers}
 use Rattle.facts.specs.declared.facts.Facts as table
 use Rattle.closed_facts.specs.Tables as number

@@ -1,5 +1,5 @@
 -- Registers that are written are the same functions, by number and by names.
-use Rattle.std.proofs.Common.{◌≡◌, ℕ, ◌+◌, Bool, true, false, List, [], ◌∷◌, Option, Some, None, refl, sym, ap, ◌∙◌}
+use Rattle.std.proofs.Common.{◌≡◌, ℕ, ◌+◌, Bool, true, false, Option, Some, None, refl, sym, ap, ◌∙◌}
 use std.Path.{fun_ext}
 use Rattle.std.specs.Option.{option_map}
 use Rattle.insn_set.specs.declared.ops.Slot.{Slot}

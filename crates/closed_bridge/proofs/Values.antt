@@ -1,25 +1,21 @@
 -- The analysis of a program by names makes of values what the steps by number make of them.
-use Rattle.std.proofs.Common.{◌≡◌, ℕ, zero, suc, ◌<◌, Bool, true, false, true≢false, List, [], ◌∷◌, length, Option, Some, None, refl, sym, ap, ◌∙◌, subst, arith, ltb-true, lt-ltb}
+use Rattle.std.proofs.Common.{◌≡◌, ℕ, zero, suc, ◌<◌, Bool, true, false, true≢false, List, [], ◌∷◌, length, Option, Some, None, refl, sym, ap, ◌∙◌, arith, ltb-true, lt-ltb}
 use Rattle.std.specs.Prelude.{◌&&◌, not, nat_eq, nat_lt, if◌then◌else◌, cond, map, filter, slice_get, position, option_and_then}
 use Rattle.std.specs.Option.{option_map}
 use std.Path.{fun_ext}
 use Rattle.program_model.specs.Lookups.{class_place}
-use Rattle.program_model.specs.Texts.{has_type, type_text}
-use Rattle.program_model.specs.MemberRules as rules
-use Rattle.program_model.specs.MemberRules.{class_fits, is_object, types_of_class_fit}
 use Rattle.program_model.specs.declared.program.Class.{Class}
 use Rattle.program_model.specs.declared.program.Program.{Program}
 use Rattle.class_defs.specs.Places.{is_under}
 use Rattle.class_defs.specs.ClassGraph.{IsTwice}
-use Rattle.class_defs.proofs.Positions.{find_place, position_none, position_step}
+use Rattle.class_defs.proofs.Positions.{position_step}
 use Rattle.class_defs.proofs.WellFormed.{Sound, class_parts}
-use Rattle.dalvik_defs.specs.Names.{Text, object_type, text_eq}
+use Rattle.dalvik_defs.specs.Names.{object_type, text_eq}
 use Rattle.dalvik_defs.specs.Naming.{named, named_class, type_at}
-use Rattle.dalvik_defs.specs.Under.{class_named, defines, is_own_under}
+use Rattle.dalvik_defs.specs.Under.{defines, is_own_under}
 use Rattle.dalvik_defs.proofs.Calm.{text_sound}
-use Rattle.dalvik_defs.specs.declared.program.NamedClass.{NamedClass}
 use Rattle.name_bridge.specs.Named.{class_at}
-use Rattle.name_bridge.proofs.Above.{Defined, defined, own_place, under_by_number}
+use Rattle.name_bridge.proofs.Above.{defined, own_place, under_by_number}
 use Rattle.name_bridge.proofs.Classes.{class_by_number, type_test}
 use Rattle.domains.specs.declared.nulls.Nullness.{Nullness}
 use Rattle.domains.specs.declared.nulls.Nullness.TheVariants.{Bottom, Null, NotNull, Any}

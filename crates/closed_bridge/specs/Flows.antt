@@ -1,14 +1,17 @@
 -- What facts by number promise of a reached position, and what the same facts by names promise, one by one: the parts of the
 -- closed tables of `closed_facts` and of pass_defs that this crate bridges.
-use Rattle.std.specs.Prelude.{◌≡◌, ℕ, true, Option, Some, Contains}
+use Rattle.std.specs.Prelude.{◌≡◌, ℕ, true, List, Some, slice_get, Contains}
 use Rattle.insn_set.specs.declared.form.Insn.TheVariants as insn
+use Rattle.insn_set.specs.declared.ops.InvokeKind.{InvokeKind}
 use Rattle.insn_set.specs.declared.ops.Slot.{Slot}
 use Rattle.program_model.specs.OperandRules.{numbers_fit}
 use Rattle.program_model.specs.declared.program.MethodAt.{MethodAt}
 use Rattle.program_model.specs.declared.program.Program.{Program}
 use Rattle.flow_cfg.specs.Walks.{thrown_to}
 use Rattle.dalvik_defs.specs.Face.{bodies_of}
+use Rattle.dalvik_defs.specs.Find.{Found}
 use Rattle.dalvik_defs.specs.Naming.{named}
+use Rattle.dalvik_defs.specs.Outer.{Outer}
 use Rattle.dalvik_defs.specs.declared.forms.Form.TheVariants as form
 use Rattle.dalvik_defs.specs.declared.names.MethodKey.{MethodKey}
 use Rattle.dalvik_defs.specs.declared.program.NamedBody.{NamedBody}
@@ -51,3 +54,12 @@ module _ (p : Program) (t : Facts) where
 
   abbrev pub NamedBegins : Type 0
   NamedBegins = (k : MethodKey) (b : NamedBody) (x : ℕ → Parts) → bodies_of (named p) k ≡ Some b → (named_facts p t).registers k 0 ≡ Some x → name.BeginsAt (values p) (named_facts p t) k b x
+
+  -- what a static, direct or super call passes comes to the method that it finds, and enters it where it has code
+  abbrev pub BoundPasses : Outer → Type 0
+  BoundPasses o = (k m : MethodKey) (n i r : ℕ) (kind : InvokeKind) (args : List ℕ) (g : Found) (at : name.At (values p) (named p) (named_facts p t) k n) → at.form ≡ form.Invoke kind m args → name.IsBound kind
+      → name.MayCall (values p) (named p) o k.class at.registers args kind m g → slice_get args i ≡ Some r → (values p).below (at.registers r) ((named_facts p t).parameters g.key i)
+
+  abbrev pub BoundEnters : Outer → Type 0
+  BoundEnters o = (k m : MethodKey) (n : ℕ) (kind : InvokeKind) (args : List ℕ) (g : Found) (at : name.At (values p) (named p) (named_facts p t) k n) → at.form ≡ form.Invoke kind m args → name.IsBound kind
+      → name.MayCall (values p) (named p) o k.class at.registers args kind m g → g.coded ≡ true → name.IsEntered (values p) (named_facts p t) g.key

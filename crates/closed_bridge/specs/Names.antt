@@ -1,6 +1,6 @@
 -- The facts of a program by names: what a table of facts says at the number of a name. Of a method without code, and of a name
 -- that no number has, nothing is known.
-use Rattle.std.specs.Prelude.{ℕ, Bool, true, false, if◌then◌else◌, List, Option, Some, None, is_some, position}
+use Rattle.std.specs.Prelude.{ℕ, Bool, if◌then◌else◌, Option, Some, None, is_some, position}
 use Rattle.std.specs.Option.{option_map}
 use Rattle.program_model.specs.declared.pools.FieldName.{FieldName}
 use Rattle.program_model.specs.declared.pools.MethodName.{MethodName}

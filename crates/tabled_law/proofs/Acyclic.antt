@@ -1,7 +1,6 @@
 -- Where the walk upwards from each type ends, no type stands above itself.
-use Rattle.std.proofs.Common.{◌≡◌, ℕ, zero, suc, ◌<◌, ◌≤◌, Bool, true, false, List, [], ◌∷◌, length, refl, sym, ap, ◌∙◌, arith, subst}
-use Rattle.std.specs.Prelude.{not}
-use Rattle.std.specs.List.{list_any, list_all}
+use Rattle.std.proofs.Common.{◌≡◌, ℕ, zero, suc, ◌<◌, ◌≤◌, Bool, true, false, [], length, refl, arith, subst}
+use Rattle.std.specs.List.{list_any}
 use Rattle.dalvik_defs.specs.Names.{Text, text_eq}
 use Rattle.dalvik_defs.specs.Under.{defines, own_above, walks}
 use Rattle.dalvik_defs.specs.declared.program.NamedProgram.{NamedProgram}

@@ -1,5 +1,5 @@
 -- The forms of a well-formed program whose numbers have the bits that they are given are formed as those of a file.
-use Rattle.std.proofs.Common.{◌≡◌, ℕ, zero, suc, ◌+◌, ◌-◌, ◌<◌, ◌≤◌, ◌^◌, Bool, true, false, List, [], ◌∷◌, length, Option, Some, None, refl, sym, ap, ◌∙◌, subst, ltb-true, leb-true, arith}
+use Rattle.std.proofs.Common.{◌≡◌, ℕ, zero, suc, ◌+◌, ◌-◌, ◌<◌, ◌≤◌, ◌^◌, Bool, true, false, List, [], ◌∷◌, length, Option, Some, None, refl, sym, ap, ◌∙◌, subst, leb-true, arith}
 use Rattle.std.specs.Prelude.{◌&&◌, ◌||◌, not, nat_lt, nat_le, slice_get, Contains}
 use Rattle.std.specs.List.{list_all, enumerate_from}
 use Rattle.std.specs.Option.{option_map}
@@ -12,22 +12,21 @@ use Rattle.program_model.specs.LineRules.{lines_fit}
 use Rattle.program_model.specs.MemberRules.{class_of_method, code_fits, frame_fits, is_class_number, lacks_code, method_fits}
 use Rattle.program_model.specs.Neighbours.{neighbours}
 use Rattle.program_model.specs.OperandRules.{numbers_fit, registers_fit}
-use Rattle.program_model.specs.ProgramRules.{is_well_formed}
 use Rattle.program_model.specs.RegionRules.{may_begin, regions_fit}
 use Rattle.program_model.specs.ValueRules.{marks_fit}
 use Rattle.program_model.specs.declared.body.Body.{Body}
 use Rattle.program_model.specs.declared.program.Method.{Method}
 use Rattle.program_model.specs.declared.program.Class.{Class}
 use Rattle.program_model.specs.declared.program.Program.{Program}
-use Rattle.class_defs.proofs.WellFormed.{and_left, and_right, below, Sound, sound}
+use Rattle.class_defs.proofs.WellFormed.{and_left, and_right, below, Sound}
 use Rattle.dalvik_defs.specs.Face.{bodies_of}
 use Rattle.dalvik_defs.specs.Naming.{body_of, form_of, named, named_class, named_method}
 use Rattle.dalvik_defs.specs.declared.forms.Form.{Form}
 use Rattle.dalvik_defs.specs.declared.names.MethodKey.{MethodKey}
 use Rattle.dalvik_defs.specs.declared.program.NamedBody.{NamedBody}
-use Rattle.removal_law.proofs.CallsLeft.{BodyIn, body_in}
+use Rattle.removal_law.proofs.CallsLeft.{body_in}
 use Rattle.removal_law.proofs.Lists.{contained}
-use Rattle.stuck_bridge.proofs.Listed.{Image, image, some_same, none_same, method_fits_at}
+use Rattle.stuck_bridge.proofs.Listed.{image, some_same, none_same, method_fits_at}
 use Rattle.cover_law.specs.Coverable.{IsFormed}
 use Rattle.cover_law.proofs.Ranges.{small_bits}
 use Rattle.tabled_law.specs.Numbers.{AllHaveWords, HasWords}

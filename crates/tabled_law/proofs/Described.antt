@@ -1,6 +1,6 @@
 -- The types in the tables of a well-formed program are descriptors, and those of fields are of values.
-use Rattle.std.proofs.Common.{◌≡◌, ℕ, zero, suc, ◌<◌, Bool, true, false, true≢false, List, [], ◌∷◌, ◌++◌, length, Option, Some, None, Result, Ok, Err, replicate, refl, sym, ap, ◌∙◌, subst, eqb-true, arith}
-use Rattle.std.specs.Prelude.{◌&&◌, ◌||◌, not, map, nat_eq, slice_get, is_ok, Contains}
+use Rattle.std.proofs.Common.{◌≡◌, ℕ, zero, suc, ◌<◌, Bool, true, false, true≢false, [], ◌∷◌, ◌++◌, length, Option, Some, None, Result, Ok, Err, replicate, refl, sym, ap, ◌∙◌, subst, eqb-true, arith}
+use Rattle.std.specs.Prelude.{◌||◌, not, map, nat_eq, slice_get, is_ok, Contains}
 use Rattle.dex_base.specs.Descriptor.{descriptor_of, is_primitive}
 use Rattle.dex_base.specs.Grammar.{IsElement, OfLetter, OfClass, IsDescriptor, OfVoid, OfElement, OfArray}
 use Rattle.dex_base.specs.declared.descriptor.Descriptor.{Descriptor}
@@ -8,14 +8,11 @@ use Rattle.dex_base.specs.declared.fault.BaseFault.{BaseFault}
 use Rattle.dex_base.proofs.Names.{descriptor_found}
 use Rattle.program_model.specs.Texts.{has_string, has_type, string_text}
 use Rattle.program_model.specs.TableRules.{type_fits}
-use Rattle.program_model.specs.declared.pools.FieldName.{FieldName}
 use Rattle.program_model.specs.declared.pools.Proto.{Proto}
 use Rattle.program_model.specs.declared.program.Program.{Program}
 use Rattle.dalvik_defs.specs.Names.{Text, is_void}
 use Rattle.dalvik_defs.specs.Naming.{text_at, type_at, signature_at, field_at, named_class, named_method, named}
 use Rattle.dalvik_defs.specs.declared.names.Signature.{Signature}
-use Rattle.dalvik_defs.specs.declared.program.NamedClass.{NamedClass}
-use Rattle.dalvik_defs.specs.declared.program.NamedMethod.{NamedMethod}
 use Rattle.name_bridge.proofs.Classes.{class_parts}
 use Rattle.name_bridge.proofs.Found.{text_same}
 use Rattle.name_bridge.proofs.Tables.{and_right, all_at, below, entry_at, Sound, field_is, field_kind, method_is, proto_parameters}
@@ -23,8 +20,7 @@ use Rattle.removal_law.specs.Left.{In}
 use Rattle.removal_law.specs.Reach.{IsDescribed}
 use Rattle.removal_law.proofs.Lists.{contained}
 use Rattle.removal_law.proofs.Trees.{class_in}
-use Rattle.stuck_law.specs.Regular.{reads_value}
-use Rattle.stuck_bridge.proofs.Listed.{Image, image}
+use Rattle.stuck_bridge.proofs.Listed.{image}
 use Rattle.stuck_bridge.proofs.Members.{reads_known}
 use Rattle.insn_set.specs.declared.form.Insn.TheVariants as insn
 use Rattle.insn_set.specs.declared.ops.Item.TheVariants as item

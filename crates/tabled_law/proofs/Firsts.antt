@@ -1,5 +1,5 @@
 -- A word that a field of a well-formed program begins with has 32 bits, where its first values have.
-use Rattle.std.proofs.Common.{◌≡◌, ℕ, pos, ◌<◌, ◌^◌, Bool, true, false, true≢false, Option, Some, None, refl, sym, ap, ◌∙◌, subst, arith}
+use Rattle.std.proofs.Common.{◌≡◌, ℕ, Bool, true, false, true≢false, Option, Some, None, refl, sym, ap, ◌∙◌, subst, arith}
 use Rattle.std.specs.Prelude.{◌&&◌, slice_get, Contains}
 use Rattle.std.specs.Option.{option_map}
 use Rattle.std.specs.Int.{w32, w64, cast_unsigned}
@@ -9,7 +9,7 @@ use Rattle.program_model.specs.declared.program.Field.{Field}
 use Rattle.program_model.specs.declared.program.Class.{Class}
 use Rattle.program_model.specs.declared.program.Program.{Program}
 use Rattle.program_model.specs.declared.value.Element.{Element, fold-Element}
-use Rattle.program_model.specs.declared.value.EncValue.{EncValue, EncValue-F, fold-roll-EncValue, roll-EncValue, out-EncValue}
+use Rattle.program_model.specs.declared.value.EncValue.{EncValue, EncValue-F, fold-roll-EncValue, roll-EncValue}
 use Rattle.program_model.specs.declared.value.EncValue.TheOpen as layer
 use Rattle.program_model.specs.declared.value.EncValue.TheViews.{out-roll-EncValue}
 use Rattle.program_model.specs.declared.value.EncValue.TheFolds as folds
@@ -38,7 +38,7 @@ use Rattle.dalvik_defs.specs.declared.state.Value.TheVariants.{Word, Low, Litera
 use Rattle.pass_defs.specs.Analysis.{IsRanged}
 use Rattle.removal_law.proofs.Lists.{contained, found_in}
 use Rattle.removal_law.proofs.Trees.{class_in}
-use Rattle.stuck_bridge.proofs.Listed.{Image, image, some_same, none_same, field_fits_at}
+use Rattle.stuck_bridge.proofs.Listed.{image, none_same, field_fits_at}
 use Rattle.cover_law.proofs.Ranges.{small_bits}
 use Rattle.tabled_law.specs.Numbers.{AllHaveWords, LayerHasWords, ValueHasWords}
 

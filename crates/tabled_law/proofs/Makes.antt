@@ -26,7 +26,7 @@ use Rattle.removal_law.specs.Reach.{AgreesInside}
 use Rattle.removal_law.proofs.Lists.{and_left, and_behind, found_in}
 use Rattle.removal_law.proofs.Members.{key_sound}
 use Rattle.removal_law.proofs.Outward.{any_here}
-use Rattle.removal_law.proofs.Trees.{class_name, none_some}
+use Rattle.removal_law.proofs.Trees.{class_name}
 use Rattle.tabled_law.specs.Apart.{ConstructsByOwn}
 
 both_true : (a b : Bool) → a ≡ true → b ≡ true → (a && b) ≡ true

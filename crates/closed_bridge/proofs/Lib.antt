@@ -14,3 +14,4 @@ pub mod Fits
 pub mod Holding
 pub mod Begun
 pub mod Leaving
+pub mod Taking

@@ -5,14 +5,12 @@ use Rattle.std.specs.Prelude.{if◌then◌else◌, slice_get}
 use Rattle.insn_set.specs.Widths.{is_wide_slot}
 use Rattle.insn_set.specs.declared.form.Insn.{Insn}
 use Rattle.insn_set.specs.declared.form.Insn.TheVariants as insn
-use Rattle.insn_set.specs.declared.ops.InvokeKind.{InvokeKind}
 use Rattle.insn_set.specs.declared.ops.Slot.{Slot}
 use Rattle.insn_set.specs.declared.ops.Slot.TheVariants as slot
 use Rattle.program_model.specs.OperandRules.{numbers_fit}
 use Rattle.program_model.specs.declared.program.Program.{Program}
 use Rattle.class_defs.specs.ClassGraph.{IsTwice}
 use Rattle.class_defs.proofs.WellFormed.{below, Sound}
-use Rattle.dalvik_defs.specs.Find.{Found}
 use Rattle.dalvik_defs.specs.Names.{Text}
 use Rattle.dalvik_defs.specs.Naming.{form_of, named, type_at}
 use Rattle.dalvik_defs.specs.Outer.{Outer}
@@ -27,7 +25,7 @@ use Rattle.closed_facts.specs.Flows as number
 use Rattle.closed_facts.specs.Tables as tables
 use Rattle.closed_facts.specs.Tables.{registers_at, result_at}
 use Rattle.pass_defs.specs.Closed as name
-use Rattle.closed_bridge.specs.Flows.{AllFit}
+use Rattle.closed_bridge.specs.Flows.{AllFit, TakesBound, TakesFilled}
 use Rattle.closed_bridge.specs.Names.{method_number, named_facts, result_by, values, values_of}
 use Rattle.closed_bridge.proofs.Entering.{bound_at}
 use Rattle.closed_bridge.proofs.Inverse.{of_call, of_taking}
@@ -94,9 +92,7 @@ module _ (p : Program) (s : Sound p) (t : table.Facts) where
     filled_low kind args h = below kind (length p.types) h
 
     module _ (fit : AllFit p t) where
-      pub taken_filled : (k : MethodKey) (n to : ℕ) (r : Slot) (kind : Text) (args : List ℕ) (at : name.At (values p) (named p) (named_facts p t) k n) (taker : name.At (values p) (named p) (named_facts p t) k (n + 1))
-          → taker.form ≡ form.MoveResult r to → at.form ≡ form.FilledNewArray kind args
-          → name.Arrives (values p) (name.put_sized (values p) (name.is_wide_slot (values p) r) to ((values p).made kind) taker.registers) ((named_facts p t).registers k (n + 2))
+      pub taken_filled : TakesFilled p t
       taken_filled k n to r kind args at taker e f =
           let h = here_at p s t k n at in
           let x = of_filled p h.here.insn kind args (h.form_is ∙ f) in
@@ -105,10 +101,7 @@ module _ (p : Program) (s : Sound p) (t : table.Facts) where
           (subst (λ i. number.Results p targets t h.code.at.class i ((values p).made kind)) (sym x.is)
           (subst (λ v. number.Results p targets t h.code.at.class (insn.FilledNewArray x.type x.args) v) (sym (made_same p s x.type low) ∙ ap (values p).made x.named) (number.Filled x.type x.args)))
 
-      pub taken_bound : (once : (class : ℕ) → IsTwice p class → ⊥) (o : Outer) (k m : MethodKey) (n to : ℕ) (r : Slot) (kind : InvokeKind) (args : List ℕ) (g : Found) (at : name.At (values p) (named p) (named_facts p t) k n)
-          (taker : name.At (values p) (named p) (named_facts p t) k (n + 1)) → taker.form ≡ form.MoveResult r to → at.form ≡ form.Invoke kind m args → name.IsBound kind
-          → name.MayCall (values p) (named p) o k.class at.registers args kind m g → g.coded ≡ true
-          → name.Arrives (values p) (name.put_sized (values p) (name.is_wide_slot (values p) r) to ((named_facts p t).results g.key) taker.registers) ((named_facts p t).registers k (n + 2))
+      pub taken_bound : (once : (class : ℕ) → IsTwice p class → ⊥) (o : Outer) → TakesBound p t o
       taken_bound once o k m n to r kind args g at taker e f b may coded =
           let h = here_at p s t k n at in
           let c = of_call p h.here.insn kind m args (h.form_is ∙ f) in

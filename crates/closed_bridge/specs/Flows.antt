@@ -1,6 +1,6 @@
 -- What facts by number promise of a reached position, and what the same facts by names promise, one by one: the parts of the
 -- closed tables of `closed_facts` and of pass_defs that this crate bridges.
-use Rattle.std.specs.Prelude.{◌≡◌, ℕ, true, List, Some, slice_get, Contains}
+use Rattle.std.specs.Prelude.{◌≡◌, ℕ, ◌+◌, true, List, Some, slice_get, Contains}
 use Rattle.insn_set.specs.declared.form.Insn.TheVariants as insn
 use Rattle.insn_set.specs.declared.ops.InvokeKind.{InvokeKind}
 use Rattle.insn_set.specs.declared.ops.Slot.{Slot}
@@ -10,6 +10,7 @@ use Rattle.program_model.specs.declared.program.Program.{Program}
 use Rattle.flow_cfg.specs.Walks.{thrown_to}
 use Rattle.dalvik_defs.specs.Face.{bodies_of}
 use Rattle.dalvik_defs.specs.Find.{Found}
+use Rattle.dalvik_defs.specs.Names.{Text}
 use Rattle.dalvik_defs.specs.Naming.{named}
 use Rattle.dalvik_defs.specs.Outer.{Outer}
 use Rattle.dalvik_defs.specs.declared.forms.Form.TheVariants as form
@@ -63,3 +64,14 @@ module _ (p : Program) (t : Facts) where
   abbrev pub BoundEnters : Outer → Type 0
   BoundEnters o = (k m : MethodKey) (n : ℕ) (kind : InvokeKind) (args : List ℕ) (g : Found) (at : name.At (values p) (named p) (named_facts p t) k n) → at.form ≡ form.Invoke kind m args → name.IsBound kind
       → name.MayCall (values p) (named p) o k.class at.registers args kind m g → g.coded ≡ true → name.IsEntered (values p) (named_facts p t) g.key
+
+  -- what a move of a result takes behind a filled array, and behind a static, direct or super call of a method with code
+  abbrev pub TakesFilled : Type 0
+  TakesFilled = (k : MethodKey) (n to : ℕ) (r : Slot) (kind : Text) (args : List ℕ) (at : name.At (values p) (named p) (named_facts p t) k n) (taker : name.At (values p) (named p) (named_facts p t) k (n + 1))
+      → taker.form ≡ form.MoveResult r to → at.form ≡ form.FilledNewArray kind args
+      → name.Arrives (values p) (name.put_sized (values p) (name.is_wide_slot (values p) r) to ((values p).made kind) taker.registers) ((named_facts p t).registers k (n + 2))
+
+  abbrev pub TakesBound : Outer → Type 0
+  TakesBound o = (k m : MethodKey) (n to : ℕ) (r : Slot) (kind : InvokeKind) (args : List ℕ) (g : Found) (at : name.At (values p) (named p) (named_facts p t) k n) (taker : name.At (values p) (named p) (named_facts p t) k (n + 1))
+      → taker.form ≡ form.MoveResult r to → at.form ≡ form.Invoke kind m args → name.IsBound kind → name.MayCall (values p) (named p) o k.class at.registers args kind m g → g.coded ≡ true
+      → name.Arrives (values p) (name.put_sized (values p) (name.is_wide_slot (values p) r) to ((named_facts p t).results g.key) taker.registers) ((named_facts p t).registers k (n + 2))

@@ -7,6 +7,7 @@ ghost use Rattle.closed_facts.specs.Calls.{Calls};
 ghost use Rattle.closed_facts.specs.Edges as number;
 ghost use Rattle.closed_facts.specs.Entries.{Begins};
 ghost use Rattle.closed_facts.specs.Fields as number_fields;
+ghost use Rattle.closed_facts.specs.Flows.{Flows};
 ghost use Rattle.dalvik_defs.specs.Names.{Text};
 ghost use Rattle.dalvik_defs.specs.Naming.{form_of, named};
 ghost use Rattle.dalvik_defs.specs.Outer.{Outer, outer_of};
@@ -24,7 +25,7 @@ ghost use Rattle.program_model.specs.ProgramRules.{is_well_formed};
 ghost use Rattle.program_model.specs.declared.pass.Outside.{Outside};
 ghost use Rattle.program_model.specs.declared.program.Program.{Program};
 ghost use Rattle.closed_bridge.specs.Names.{by_names, named_facts, values, values_of};
-ghost use Rattle.closed_bridge.specs.Flows.{BoundEnters, BoundPasses, GoesOn, NamedBegins, NamedGoesOn, NamedReturns, NamedThrows, Returns, Throws};
+ghost use Rattle.closed_bridge.specs.Flows.{BoundEnters, BoundPasses, GoesOn, NamedBegins, NamedGoesOn, NamedReturns, NamedThrows, Returns, TakesBound, TakesFilled, Throws};
 
 /// Of a well-formed program, of which no class is defined twice, a form goes on by names where its instruction goes on by
 /// number, with the same registers, where what is got from fields is told by the facts of the same table.
@@ -54,6 +55,13 @@ pub fn fields_law()
 pub fn bound_calls_law()
     ensures passes { (p : Program) → is_well_formed p ≡ true → ((class : ℕ) → IsTwice p class → ⊥) → (o : Outer) (targets : Targets) (t : Facts) → Calls p targets t → BoundPasses p t o }
     ensures enters { (p : Program) → is_well_formed p ≡ true → ((class : ℕ) → IsTwice p class → ⊥) → (o : Outer) (targets : Targets) (t : Facts) → Calls p targets t → BoundEnters p t o }
+{}
+
+/// What a move of a result takes behind a filled array, or behind a static, direct or super call of a method with code, arrives by
+/// names where what is taken by number arrives.
+pub fn taken_law()
+    ensures filled { (p : Program) → is_well_formed p ≡ true → (targets : Targets) (t : Facts) → Flows p targets t → TakesFilled p t }
+    ensures bound { (p : Program) → is_well_formed p ≡ true → ((class : ℕ) → IsTwice p class → ⊥) → (o : Outer) (targets : Targets) (t : Facts) → Flows p targets t → TakesBound p t o }
 {}
 
 /// By names, a virtual call on a receiver of which nothing is known may leave the program, whatever the objects of made classes

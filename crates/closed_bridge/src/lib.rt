@@ -7,13 +7,14 @@
 //!   the steps of `dom_frame`.
 //! - `Edges`: where a form goes on, and with what, is where its instruction goes on; switches key by key.
 //! - `Places`: a position that is reached by names is one that is reached by number.
-//! - `Fielding`: what a field holds that is got is what it holds by the number of the field that the name finds.
+//! - `Fielding`, `Holding`, `Begun`: what a field holds that is got, put into, begun with or open to the framework.
 //! - `Flowing`, `Beginning`: what goes on, is thrown and returned, and begins, arrives by names as by number.
-//! - `Calling`, `Entering`: what a static, direct or super call may enter by names it may enter by number; and what each call
-//!   passes and enters, where what an object finds with code is linked.
+//! - `Calling`, `Entering`, `Taking`: what a static, direct or super call may enter by names it may enter by number, what it passes,
+//!   and what is taken of its result.
+//! - `Leaving`: by names more virtual calls may leave the program than by number.
 //!
-//! Virtual and interface calls, what may leave the program, what the framework enters, and which classes are initialised, stand
-//! out. This crate declares no types of its own. Its functions have an empty body, and their contracts are the laws.
+//! Virtual and interface calls, what leaves the program, what the framework enters, and which classes are initialised, aren't
+//! bridged. This crate declares no types of its own. Its functions have an empty body, and their contracts are the laws.
 #![tactic(auto)]
 
 pub mod laws;

@@ -11,7 +11,7 @@ use Rattle.const_prop.specs.declared.numbers.Number.{Number}
 use Rattle.const_prop.specs.declared.numbers.Number.TheVariants.{Word, Wide}
 use Rattle.const_prop.specs.declared.choices.Way.{Way}
 use Rattle.const_prop.specs.declared.choices.Way.TheVariants.{Open, Next, To}
-use Rattle.const_prop.specs.Constants.{result_of, number_into, is_worth, worth, constant_into, constant_for, is_constant, is_result, IsConstantFor}
+use Rattle.const_prop.specs.Constants.{result_of, number_into, is_worth, worth, constant_into, constant_for, is_constant, constant_result, is_result, IsConstantFor}
 use Rattle.const_prop.specs.Choices.{is_choice, has_target, goto_or_nop, chosen}
 use Rattle.const_prop.specs.Folded.{MayBecome, Constant, Target, Next as Nopped}
 
@@ -38,8 +38,8 @@ both true true e = (refl, refl)
 both true false e = absurd (cc)
 both false b e = absurd (cc)
 
-kept : (f c g : Insn) (r : ℕ × Bool) → result_of f ≡ Some r → is_constant c ≡ true → ((n : ℕ) → writes_of c n ≡ in_operand r.1 r.0 n) → worth f (Some c) ≡ Some g → IsConstantFor f g
-kept f c g r s constant same h = by (is_worth f c) refl h
+kept : (f c g : Insn) (r : ℕ × Bool) → result_of f ≡ Some r → is_constant c ≡ true → constant_result c ≡ Some r → ((n : ℕ) → writes_of c n ≡ in_operand r.1 r.0 n) → worth f (Some c) ≡ Some g → IsConstantFor f g
+kept f c g r s constant result same h = by (is_worth f c) refl h
   where
     by : (v : Bool) → is_worth f c ≡ v → elim v [ true ↦ Some c | false ↦ None ] ≡ Some g → IsConstantFor f g
     by false w e = absurd (cc)
@@ -49,15 +49,16 @@ kept f c g r s constant same h = by (is_worth f c) refl h
         subst (IsConstantFor f) i (record {
           constant = constant;
           plain = ap is_result s;
+          result = result ∙ sym s;
           same = λ n. same n ∙ writes_result f r n s;
           encodable = p.0;
           short = leb-true (units_of c (pos 0)) (units_of f (pos 0)) p.1;
         })
 
 made : (f g : Insn) (to : ℕ) (wide : Bool) (n : Number) → result_of f ≡ Some (to, wide) → worth f (number_into to wide n) ≡ Some g → IsConstantFor f g
-made f g to false (Word n) s h = kept f (insn.Const to (cast_signed w32 n)) g (to, false) s refl (λ k. refl) h
+made f g to false (Word n) s h = kept f (insn.Const to (cast_signed w32 n)) g (to, false) s refl refl (λ k. refl) h
 made f g to true (Word n) s h = absurd (cc)
-made f g to true (Wide n) s h = kept f (insn.ConstWide to (cast_signed w64 n)) g (to, true) s refl (λ k. refl) h
+made f g to true (Wide n) s h = kept f (insn.ConstWide to (cast_signed w64 n)) g (to, true) s refl refl (λ k. refl) h
 made f g to false (Wide n) s h = absurd (cc)
 
 -- the constant of a number in place of a form is one for it

@@ -55,11 +55,18 @@ abbrev pub is_result : Option (ℕ × Bool) → Bool
 is_result None = false
 is_result (Some r) = true
 
+-- the register of a constant, and whether the next one is written too
+abbrev pub constant_result : Insn → Option (ℕ × Bool)
+constant_result (insn.Const to value) = Some (to, false)
+constant_result (insn.ConstWide to value) = Some (to, true)
+constant_result f = None
+
 -- A constant in place of a form that only writes a register: it writes just the registers that the form writes, is
 -- encodable, and is no longer.
 pub record IsConstantFor (f g : Insn) : Type 0 where
   pub constant : is_constant g ≡ true
   pub plain : is_result (result_of f) ≡ true
+  pub result : constant_result g ≡ result_of f
   pub same : (r : ℕ) → writes_of g r ≡ writes_of f r
   pub encodable : is_encodable g ≡ true
   pub short : units_of g (pos 0) ≤ units_of f (pos 0)

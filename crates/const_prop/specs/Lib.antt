@@ -1,3 +1,6 @@
 pub mod Choices
 pub mod Constants
+pub mod Known
+pub mod Given
 pub mod Folded
+pub mod Allowed

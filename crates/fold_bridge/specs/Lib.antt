@@ -1,0 +1,4 @@
+pub mod Known
+pub mod Folds
+pub mod Runs
+pub mod Measure

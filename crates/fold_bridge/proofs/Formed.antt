@@ -102,11 +102,11 @@ choice_onward f e = absurd (true≢false (sym e))
 
 any_test : (ts : List ℕ) (q : ℕ) (test : ℕ → Bool) → list_any (λ t. nat_eq t q) ts ≡ true → list_all test ts ≡ true → test q ≡ true
 any_test [] q test e h = absurd (true≢false (sym e))
-any_test (t ∷ ts) q test e h = by (nat_eq t q) refl e
+any_test (t ∷ ts) q test e h = by (any_test ts q test) (nat_eq t q) refl e
   where
-    by : (b : Bool) → nat_eq t q ≡ b → list_any (λ t. nat_eq t q) (t ∷ ts) ≡ true → test q ≡ true
-    by true i k = ap test (sym (eqb-true t q i)) ∙ and_left (test t) (list_all test ts) h
-    by false i k = any_test ts q test (sym (ap (λ c. if c then true else list_any (λ t. nat_eq t q) ts) i) ∙ k) (and_right (test t) (list_all test ts) h)
+    by : (list_any (λ t. nat_eq t q) ts ≡ true → list_all test ts ≡ true → test q ≡ true) → (b : Bool) → nat_eq t q ≡ b → list_any (λ t. nat_eq t q) (t ∷ ts) ≡ true → test q ≡ true
+    by more true i k = ap test (sym (eqb-true t q i)) ∙ and_left (test t) (list_all test ts) h
+    by more false i k = more (sym (ap (λ c. if c then true else list_any (λ t. nat_eq t q) ts) i) ∙ k) (and_right (test t) (list_all test ts) h)
 
 target_passes : (f : Insn) (q : ℕ) (test : ℕ → Bool) → has_target f q ≡ true → list_all test (targets_of f) ≡ true → test q ≡ true
 target_passes (insn.If t a b target) q test e h = ap test (sym (eqb-true target q e)) ∙ and_left (test target) true h

@@ -121,11 +121,11 @@ width_by p i r e = absurd (cc)
 
 pub any_in : (ts : List ℕ) (n : ℕ) → list_any (λ t. nat_eq t n) ts ≡ true → In n ts
 any_in [] n e = absurd (true≢false (sym e))
-any_in (t ∷ ts) n e = by (nat_eq t n) refl e
+any_in (t ∷ ts) n e = by (any_in ts n) (nat_eq t n) refl e
   where
-    by : (b : Bool) → nat_eq t n ≡ b → list_any (λ t. nat_eq t n) (t ∷ ts) ≡ true → In n (t ∷ ts)
-    by true i k = subst (λ z. In z (t ∷ ts)) (eqb-true t n i) (here ts)
-    by false i k = there t ts (any_in ts n (sym (ap (λ c. if c then true else list_any (λ t. nat_eq t n) ts) i) ∙ k))
+    by : (list_any (λ t. nat_eq t n) ts ≡ true → In n ts) → (b : Bool) → nat_eq t n ≡ b → list_any (λ t. nat_eq t n) (t ∷ ts) ≡ true → In n (t ∷ ts)
+    by more true i k = subst (λ z. In z (t ∷ ts)) (eqb-true t n i) (here ts)
+    by more false i k = there t ts (more (sym (ap (λ c. if c then true else list_any (λ t. nat_eq t n) ts) i) ∙ k))
 
 -- the instruction of a form
 record IsOf (p : Program) (b : Body) (n : ℕ) (y : Form) : Type 0 where

@@ -10,3 +10,4 @@ pub mod Planned
 pub mod Programs
 pub mod Measured
 pub mod Formed
+pub mod FormedPrograms

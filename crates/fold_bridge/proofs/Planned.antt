@@ -53,12 +53,12 @@ contains_at [] n x e = absurd (cc)
 contains_at (y ∷ xs) zero x e = (0, omega arith, some_is y x e)
 contains_at (y ∷ xs) (suc n) x e = let h : Contains xs x = contains_at xs n x e in (suc h.0, omega (arith, h.1), h.2)
 
-get_below : {A : Type 0} (xs : List A) (n : ℕ) (x : A) → slice_get xs n ≡ Some x → n < length xs
+pub get_below : {A : Type 0} (xs : List A) (n : ℕ) (x : A) → slice_get xs n ≡ Some x → n < length xs
 get_below [] n x e = absurd (cc)
 get_below (y ∷ xs) zero x e = omega arith
 get_below (y ∷ xs) (suc n) x e = let l : n < length xs = get_below xs n x e in omega (arith, l)
 
-pairs_by : {A E : Type 0} (by : List E → A → A) (R : A → A → Type 0) (xs : List A) (plan : List (List E)) → length plan ≡ length xs
+pub pairs_by : {A E : Type 0} (by : List E → A → A) (R : A → A → Type 0) (xs : List A) (plan : List (List E)) → length plan ≡ length xs
     → ((k : ℕ) (x : A) → slice_get xs k ≡ Some x → R x (by (slice_index_or plan k []) x)) → Pairwise R xs (each_by by plan xs)
 pairs_by by R [] [] l h = tt
 pairs_by by R [] (es ∷ plan) l h = absurd (omega (arith, l))

@@ -168,7 +168,7 @@ module _ (program : Program) (o : Outer) (f : Framework) (floats : Floats) (fact
         by item.Char e is = word e is
         by item.Short e is = word e is
 
-    frame_in : Effect → Outcome
+    abbrev frame_in : Effect → Outcome
     frame_in (Goes w1 f1) = Stays w1 f1 None
     frame_in e = Stays w g None
 

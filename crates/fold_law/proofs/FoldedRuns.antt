@@ -3,7 +3,8 @@ use Rattle.std.proofs.Common.{◌≡◌, ℕ, Bool, List, [], ◌∷◌, Some, N
 use Rattle.dalvik_defs.specs.Names.{Text}
 use Rattle.dalvik_defs.specs.Face.{Bodies, face_of, bodies_of}
 use Rattle.dalvik_defs.specs.Outer.{Outer}
-use Rattle.dalvik_defs.specs.State.{World, Classes, Outside, State, opening}
+use Rattle.dalvik_defs.specs.State.{World, Classes, State, opening}
+use Rattle.dalvik_defs.specs.declared.state.Waiting.TheVariants.{Outside}
 use Rattle.dalvik_defs.specs.Happens.{Setting}
 use Rattle.dalvik_defs.specs.Step.{setting_of, shows_from}
 use Rattle.dalvik_defs.specs.Quiet.{calm_opening}

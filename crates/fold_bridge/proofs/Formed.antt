@@ -106,7 +106,7 @@ any_test (t ∷ ts) q test e h = by (any_test ts q test) (nat_eq t q) refl e
   where
     by : (list_any (λ t. nat_eq t q) ts ≡ true → list_all test ts ≡ true → test q ≡ true) → (b : Bool) → nat_eq t q ≡ b → list_any (λ t. nat_eq t q) (t ∷ ts) ≡ true → test q ≡ true
     by more true i k = ap test (sym (eqb-true t q i)) ∙ and_left (test t) (list_all test ts) h
-    by more false i k = more (sym (ap (λ c. if c then true else list_any (λ t. nat_eq t q) ts) i) ∙ k) (and_right (test t) (list_all test ts) h)
+    by more false i k = more (sym (ap (λ c. c || list_any (λ t. nat_eq t q) ts) i) ∙ k) (and_right (test t) (list_all test ts) h)
 
 target_passes : (f : Insn) (q : ℕ) (test : ℕ → Bool) → has_target f q ≡ true → list_all test (targets_of f) ≡ true → test q ≡ true
 target_passes (insn.If t a b target) q test e h = ap test (sym (eqb-true target q e)) ∙ and_left (test target) true h

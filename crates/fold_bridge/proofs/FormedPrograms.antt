@@ -49,7 +49,7 @@ module _ (p : Program) (facts : Facts) (at : MethodAt) (m : Method) (b : Body) (
   h = folded_body p facts at m b es folds
 
   turned : Pairwise Turned b.insns d.insns
-  turned = pairs_at Turned b.insns d.insns (λ n f e. let r = h.insns n f e in (r.0, (r.1, by n f r.0 r.2))) h.ends
+  turned = pairs_at Turned b.insns d.insns (λ n f e. let r = h.insns n f e in (r.0, r.1, by n f r.0 r.2)) h.ends
     where
       by : (n : ℕ) (f g : Insn) → (g ≡ f) ⊎ IsAllowed p (given p facts at.class (insn_before b.insns n) f) (frame_at facts.frames.items m.name n) n f g → Turned f g
       by n f g (inl s) = inl s

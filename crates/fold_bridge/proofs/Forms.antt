@@ -1,6 +1,6 @@
 -- What is written over an instruction by what the facts allow does the same in each state that a run reaches.
 use Rattle.std.proofs.Common.{◌≡◌, ℕ, zero, suc, ◌+◌, ◌<◌, Bool, true, false, true≢false, List, [], ◌∷◌, length, Option, Some, None, ◌⊎◌, inl, inr, refl, sym, ap, ap₂, ◌∙◌, subst, arith, nat_eq}
-use Rattle.std.specs.Prelude.{if◌then◌else◌, slice_get, Contains}
+use Rattle.std.specs.Prelude.{◌||◌, if◌then◌else◌, slice_get, Contains}
 use Rattle.std.specs.List.{list_any}
 use Rattle.std.specs.Option.{option_map}
 use Rattle.std.specs.Int.{w32, w64, cast_unsigned}
@@ -125,7 +125,7 @@ any_in (t ∷ ts) n e = by (any_in ts n) (nat_eq t n) refl e
   where
     by : (list_any (λ t. nat_eq t n) ts ≡ true → In n ts) → (b : Bool) → nat_eq t n ≡ b → list_any (λ t. nat_eq t n) (t ∷ ts) ≡ true → In n (t ∷ ts)
     by more true i k = subst (λ z. In z (t ∷ ts)) (eqb-true t n i) (here ts)
-    by more false i k = there t ts (more (sym (ap (λ c. if c then true else list_any (λ t. nat_eq t n) ts) i) ∙ k))
+    by more false i k = there t ts (more (sym (ap (λ c. c || list_any (λ t. nat_eq t n) ts) i) ∙ k))
 
 -- the instruction of a form
 record IsOf (p : Program) (b : Body) (n : ℕ) (y : Form) : Type 0 where

@@ -82,12 +82,32 @@ result_onward f r e = absurd (cc)
 constant_turn : (f g : Insn) (n : Number) → number_written g ≡ Some n → IsConstantFor f g → Turn f g
 unfolding registers_fit numbers_fit
 constant_turn f (insn.Const to z) n e c = let o = result_onward f (to, false) (sym c.result) in record {
-  onward = o.0; silent = o.1; behind = λ h. refl; begins = refl; enters = refl; encodable = c.encodable;
-  registers = λ n h. room_of f (to, false) n (sym c.result) h; numbers = λ p. refl; targets = λ t h. refl; leaves = λ k. refl; caught = λ rs k. refl; entries = refl;
+  onward = o.0;
+  silent = o.1;
+  behind = λ h. refl;
+  begins = refl;
+  enters = refl;
+  encodable = c.encodable;
+  registers = λ n h. room_of f (to, false) n (sym c.result) h;
+  numbers = λ p. refl;
+  targets = λ t h. refl;
+  leaves = λ k. refl;
+  caught = λ rs k. refl;
+  entries = refl;
 }
 constant_turn f (insn.ConstWide to z) n e c = let o = result_onward f (to, true) (sym c.result) in record {
-  onward = o.0; silent = o.1; behind = λ h. refl; begins = refl; enters = refl; encodable = c.encodable;
-  registers = λ n h. room_of f (to, true) n (sym c.result) h; numbers = λ p. refl; targets = λ t h. refl; leaves = λ k. refl; caught = λ rs k. refl; entries = refl;
+  onward = o.0;
+  silent = o.1;
+  behind = λ h. refl;
+  begins = refl;
+  enters = refl;
+  encodable = c.encodable;
+  registers = λ n h. room_of f (to, true) n (sym c.result) h;
+  numbers = λ p. refl;
+  targets = λ t h. refl;
+  leaves = λ k. refl;
+  caught = λ rs k. refl;
+  entries = refl;
 }
 constant_turn f g n e c = absurd (cc)
 
@@ -125,15 +145,35 @@ target_chooses f q e = absurd (true≢false (sym e))
 nop_turn : (f : Insn) → is_choice f ≡ true → Turn f insn.Nop
 unfolding registers_fit numbers_fit
 nop_turn f e = let o = choice_onward f e in record {
-  onward = o.0; silent = o.1; behind = λ h. refl; begins = refl; enters = refl; encodable = refl;
-  registers = λ n h. refl; numbers = λ p. refl; targets = λ t h. refl; leaves = λ k. refl; caught = λ rs k. refl; entries = refl;
+  onward = o.0;
+  silent = o.1;
+  behind = λ h. refl;
+  begins = refl;
+  enters = refl;
+  encodable = refl;
+  registers = λ n h. refl;
+  numbers = λ p. refl;
+  targets = λ t h. refl;
+  leaves = λ k. refl;
+  caught = λ rs k. refl;
+  entries = refl;
 }
 
 goto_turn : (f : Insn) (q : ℕ) → has_target f q ≡ true → Turn f (insn.Goto q)
 unfolding registers_fit numbers_fit
 goto_turn f q e = let o = choice_onward f (target_chooses f q e) in record {
-  onward = o.0; silent = o.1; behind = λ h. refl; begins = refl; enters = refl; encodable = refl;
-  registers = λ n h. refl; numbers = λ p. refl; targets = λ t h. and_both (t q) true (target_passes f q t e h) refl; leaves = λ k. refl; caught = λ rs k. refl; entries = refl;
+  onward = o.0;
+  silent = o.1;
+  behind = λ h. refl;
+  begins = refl;
+  enters = refl;
+  encodable = refl;
+  registers = λ n h. refl;
+  numbers = λ p. refl;
+  targets = λ t h. and_both (t q) true (target_passes f q t e h) refl;
+  leaves = λ k. refl;
+  caught = λ rs k. refl;
+  entries = refl;
 }
 
 branch_turn : (f g : Insn) (next : ℕ) (way : Way) → chosen f next way ≡ Some g → Turn f g

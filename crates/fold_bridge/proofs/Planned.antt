@@ -83,10 +83,12 @@ module _ (p : Program) (facts : Facts) (at : MethodAt) (m : Method) (b : Body) w
         where
           by : (v : Bool) → nat_eq n e.position ≡ v → (g : Insn) × (slice_get is n ≡ Some g) × Stays n f g → (g : Insn) × (slice_get (slice_set is e.position e.insn) n ≡ Some g) × Stays n f g
           by false i r = (r.0, set_away is e.position n e.insn (λ j. true≢false (sym (eq-eqb n e.position j) ∙ i)) ∙ r.1, r.2)
-          by true i r = let same : n ≡ e.position = eqb-true n e.position i in
-              (e.insn, subst (λ q. slice_get (slice_set is q e.insn) n ≡ Some e.insn) same (set_here is n r.0 e.insn r.1),
-              inr (subst (λ z. IsAllowed p (given p facts at.class (insn_before b.insns n) z) (frame_at facts.frames.items m.name n) n z e.insn) (some_is x.form f (sym x.there ∙ (ap (slice_get b.insns) (sym same) ∙ k)))
-              (subst (λ q. IsAllowed p (given p facts at.class (insn_before b.insns q) x.form) (frame_at facts.frames.items m.name q) q x.form e.insn) (sym same) x.allowed)))
+          by true i r = let same : n ≡ e.position = eqb-true n e.position i in (
+            e.insn,
+            subst (λ q. slice_get (slice_set is q e.insn) n ≡ Some e.insn) same (set_here is n r.0 e.insn r.1),
+            inr (subst (λ z. IsAllowed p (given p facts at.class (insn_before b.insns n) z) (frame_at facts.frames.items m.name n) n z e.insn) (some_is x.form f (sym x.there ∙ (ap (slice_get b.insns) (sym same) ∙ k)))
+                (subst (λ q. IsAllowed p (given p facts at.class (insn_before b.insns q) x.form) (frame_at facts.frames.items m.name q) q x.form e.insn) (sym same) x.allowed)),
+          )
 
   all_edits : (es : List Edit) (is : List Insn) → Edits is → All (IsFold p facts at m b) es → Edits (edited es is)
   all_edits [] is h a = h

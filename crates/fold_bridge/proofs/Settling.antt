@@ -111,7 +111,7 @@ module _ (program : Program) (o : Outer) (f : Framework) (floats : Floats) (fact
     wide_move : (to from : ℕ) (num : Number) → H → I (form.Move slot.Wide to from) → number_of (value_at (put (to + 1) (value_at x (from + 1)) (put to (value_at x from) x)) to) true ≡ Some num → D num to (act (form.Move slot.Wide to from))
     wide_move to from num agree h e =
         let there : value_at (put (to + 1) (value_at x (from + 1)) (put to (value_at x from) x)) to ≡ value_at x from = value_put (to + 1) (value_at x (from + 1)) (put to (value_at x from) x) to
-            ∙ ap (λ c. if c then value_at x (from + 1) else value_at (put to (value_at x from) x) to) (next_apart to) ∙ put_there to (value_at x from) x in
+        ∙ ap (λ c. if c then value_at x (from + 1) else value_at (put to (value_at x from) x) to) (next_apart to) ∙ put_there to (value_at x from) x in
         let e1 : number_of (value_at x from) true ≡ Some num = ap (λ v. number_of v true) (sym there) ∙ e in
         let n : (n : ℕ) × (num ≡ Wide n) = number_width (value_at x from) true num e1 in
         let k = low_held p o f floats reg w cs g tw td from (and_left (meets p td.in_method.class td.kinds.registers from Pair) true h.allowed) in

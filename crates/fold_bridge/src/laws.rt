@@ -37,6 +37,11 @@ pub fn folded_run_law()
         → KeepsHalves (named p) o f floats script (calm_of (named p) f) → SameRun (named p) (named c.program) o f floats script }
 {}
 
+/// What is left of a well-formed program once instructions are folded is well-formed.
+pub fn folded_formed_law()
+    ensures { (p : Program) (facts : Facts) (admitted : List Bool) (c : Changed) → is_well_formed p ≡ true → IsRewrittenBy (λ at m b es. All (IsFold p facts at m b) es) admitted p c → is_well_formed c.program ≡ true }
+{}
+
 /// Where an instruction is folded, fewer are left other than constants, gotos and nops.
 pub fn folds_less_law()
     ensures { (p : Program) (facts : Facts) (admitted : List Bool) (c : Changed) → IsRewrittenBy (λ at m b es. All (IsFold p facts at m b) es) admitted p c → 0 < c.count → rank_of c.program < rank_of p }

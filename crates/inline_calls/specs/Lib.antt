@@ -1,0 +1,4 @@
+pub mod Asked
+pub mod Candidates
+pub mod Rooms
+pub mod Edited

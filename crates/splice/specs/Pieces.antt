@@ -1,6 +1,6 @@
 -- The body of a caller with the bodies of methods in place of some of its calls, by number: the definition of inlining, of
 -- numbered instructions. Counts of positions keep to 32 bits and registers to 16.
-use Rattle.std.specs.Prelude.{ℕ, zero, suc, ◌+◌, min, Bool, not, if◌then◌else◌, nat_eq, List, [], ◌∷◌, ◌++◌, map, length, Option, Some, None, is_some, slice_get, slice_index_or}
+use Rattle.std.specs.Prelude.{ℕ, suc, ◌+◌, not, if◌then◌else◌, nat_eq, List, [], ◌∷◌, ◌++◌, map, length, Option, Some, None, is_some, slice_get, slice_index_or}
 use Rattle.std.specs.List.{list_any}
 use Rattle.insn_set.specs.declared.form.Insn.{Insn}
 use Rattle.insn_set.specs.declared.form.Insn.TheVariants as insn
@@ -8,7 +8,6 @@ use Rattle.insn_regs.specs.Remade.{remade}
 use Rattle.program_model.specs.declared.body.Body.{Body}
 use Rattle.program_model.specs.declared.program.Method.{Method}
 use Rattle.program_model.specs.declared.program.Program.{Program}
-use Rattle.program_model.specs.declared.pass.Origin.{Origin}
 use Rattle.pass_defs.specs.Thinned.{insn_retargeted, region_moved}
 use Rattle.pass_defs.specs.Inlined.{copied_line}
 use Rattle.splice.specs.declared.callee.Callee.{Callee}

@@ -1,47 +1,40 @@
--- Lists whose items were edited in place, one after the other.
-use Rattle.std.proofs.Common.{◌≡◌, ℕ, zero, suc, ◌+◌, ◌<◌, ◌≤◌, List, [], ◌∷◌, length, get_or, Some, None, Option, refl, sym, ap, ◌∙◌, subst, arith, ◌⊎◌, inl, inr}
+-- Lists whose items are changed by what is at their places, one after the other.
+use Rattle.std.proofs.Common.{◌≡◌, ℕ, zero, suc, ◌+◌, ◌<◌, ◌≤◌, List, [], ◌∷◌, take, length, get_or, refl, ap, ap₂, ◌∙◌, sym, arith, Some, slice_get}
 use Rattle.std.proofs.Math.ListN.{set}
-use Rattle.std.specs.Prelude.{slice_get}
-use Rattle.std.proofs.lemmas.Bool.{cases_eq}
-use Rattle.std.proofs.lemmas.List.{length-set}
-use Rattle.std.proofs.lemmas.Option.{slice_get-get_or}
-use Rattle.inline_calls.specs.Edited.{AreEdited}
+use Rattle.std.proofs.Math.Seq.{take-nil}
+use Rattle.std.proofs.lemmas.List.{set-get_or}
+use Rattle.inline_calls.specs.Edited.{each_by}
 
-set_here : {A : Type 0} (xs : List A) (i : ℕ) (y : A) → i < length xs → slice_get (set xs i y) i ≡ Some y
-set_here [] i y lt = absurd (omega arith)
-set_here (x ∷ xs) zero y lt = refl
-set_here (x ∷ xs) (suc i) y lt = set_here xs i y (omega arith)
-
-set_there : {A : Type 0} (xs : List A) (i k : ℕ) (y : A) → (k ≡ i → ⊥) → slice_get (set xs i y) k ≡ slice_get xs k
-set_there [] i k y ne = refl
-set_there (x ∷ xs) zero zero y ne = absurd (ne refl)
-set_there (x ∷ xs) zero (suc k) y ne = refl
-set_there (x ∷ xs) (suc i) zero y ne = refl
-set_there (x ∷ xs) (suc i) (suc k) y ne = set_there xs i k y (λ e. ne (ap suc e))
-
-pub none_edited : {A : Type 0} (R : A → A → Type 0) (xs : List A) → AreEdited R 0 xs xs
-none_edited R xs = record { long = refl; done = λ k x lt h. absurd (omega arith); rest = λ k le. refl }
+step : {A E : Type 0} (by : E → A → A) (none : E) → ((x : A) → by none x ≡ x) → (es : List E) (xs : List A) (i : ℕ) (d : A) → i < length xs
+    → set (each_by by (take i es) xs) i (by (get_or es i none) (get_or (each_by by (take i es) xs) i d)) ≡ each_by by (take (suc i) es) xs
+step by none stays [] xs i d lt =
+    ap (λ p. set (each_by by p xs) i (by none (get_or (each_by by p xs) i d))) (take-nil i) ∙ ap (set xs i) (stays (get_or xs i d)) ∙ set-get_or xs i d
+step by none stays (e ∷ es) [] i d lt = absurd (omega arith)
+step by none stays (e ∷ es) (x ∷ xs) zero d lt = refl
+step by none stays (e ∷ es) (x ∷ xs) (suc i) d lt = ap (λ l. by e x ∷ l) (step by none stays es xs i d (omega arith))
 
 -- one item more
-module _ {A : Type 0} (R : A → A → Type 0) (old new : List A) (i : ℕ) (d x y : A) (lt : i < length new) (is : x ≡ get_or new i d) (was : AreEdited R i old new) (step : R x y) where
-  before : slice_get new i ≡ Some x
-  before = slice_get-get_or new i d lt ∙ ap Some (sym is)
+pub each_more : {A E : Type 0} (by : E → A → A) (none : E) (es : List E) (old new : List A) (i : ℕ) (d y : A) (e : E) → ((x : A) → by none x ≡ x) → i < length old → new ≡ each_by by (take i es) old
+    → e ≡ get_or es i none → y ≡ by e (get_or new i d) → set new i y ≡ each_by by (take (i + 1) es) old
+each_more by none es old new i d y e stays lt is at f =
+    let s : i + 1 ≡ suc i = omega arith in
+    ap (λ l. set l i y) is
+    ∙ ap (set (each_by by (take i es) old) i) (f ∙ ap (λ k. by k (get_or new i d)) at ∙ ap (λ l. by (get_or es i none) (get_or l i d)) is)
+    ∙ step by none stays es old i d lt
+    ∙ ap (λ k. each_by by (take k es) old) (sym s)
 
-  first : slice_get old i ≡ Some x
-  first = sym (was.rest i (omega arith)) ∙ before
+same_front : {A E : Type 0} (by : E → A → A) (es : List E) (xs : List A) (i : ℕ) → length xs ≤ i → each_by by (take i es) xs ≡ each_by by es xs
+same_front by [] xs i le = ap (λ p. each_by by p xs) (take-nil i)
+same_front by (e ∷ es) [] zero le = refl
+same_front by (e ∷ es) [] (suc i) le = refl
+same_front by (e ∷ es) (x ∷ xs) zero le = absurd (omega arith)
+same_front by (e ∷ es) (x ∷ xs) (suc i) le = ap (λ l. by e x ∷ l) (same_front by es xs i (omega arith))
 
-  done : (k : ℕ) (z : A) → k < i + 1 → slice_get old k ≡ Some z → (u : A) × (slice_get (set new i y) k ≡ Some u) × R z u
-  done k z le h = at (cases_eq k i)
-    where
-      at : (k ≡ i) ⊎ (k ≡ i → ⊥) → (u : A) × (slice_get (set new i y) k ≡ Some u) × R z u
-      at (inl e) =
-          let o : Some z ≡ Some x = sym h ∙ ap (slice_get old) e ∙ first in
-          let s : x ≡ z = cc in
-          (y, subst (λ j. slice_get (set new i y) j ≡ Some y) (sym e) (set_here new i y lt), subst (λ v. R v y) s step)
-      at (inr ne) = let u : (u : A) × (slice_get new k ≡ Some u) × R z u = was.done k z (omega arith) h in (u.0, set_there new i k y ne ∙ u.1, u.2)
+pub each_all : {A E : Type 0} (by : E → A → A) (es : List E) (old new : List A) (i : ℕ) → length old ≤ i → new ≡ each_by by (take i es) old → new ≡ each_by by es old
+each_all by es old new i le is = is ∙ same_front by es old i le
 
-  rest : (k : ℕ) → i + 1 ≤ k → slice_get (set new i y) k ≡ slice_get old k
-  rest k le = let ne : k ≡ i → ⊥ = λ e. omega arith in set_there new i k y ne ∙ was.rest k (omega arith)
-
-  pub one_edited : AreEdited R (i + 1) old (set new i y)
-  one_edited = record { long = length-set new i y ∙ was.long; done = done; rest = rest }
+-- where nothing changes an item, the list is the same
+pub each_same : {A E : Type 0} (by : E → A → A) (none : E) (es : List E) (xs : List A) → ((k : ℕ) (x : A) → slice_get xs k ≡ Some x → by (get_or es k none) x ≡ x) → each_by by es xs ≡ xs
+each_same by none [] xs h = refl
+each_same by none (e ∷ es) [] h = refl
+each_same by none (e ∷ es) (x ∷ xs) h = ap₂ (λ y ys. y ∷ ys) (h zero x refl) (each_same by none es xs (λ k z g. h (suc k) z g))

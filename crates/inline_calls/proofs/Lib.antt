@@ -1,3 +1,5 @@
-pub mod Asks
-pub mod Each
-pub mod Edits
+mod Accepting
+mod Asks
+mod Candidates
+mod Edits
+mod Planning

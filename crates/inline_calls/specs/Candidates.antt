@@ -1,5 +1,5 @@
 -- Calls that may be sites by themselves, by number: what is called and what is known at the call (this project's profile).
-use Rattle.std.specs.Prelude.{◌≡◌, ℕ, ◌+◌, min, Bool, true, false, ◌&&◌, not, nat_eq, nat_le, List, [], ◌∷◌, length, codes, Option, Some, None, is_some, is_empty, slice_get, slice_index_or}
+use Rattle.std.specs.Prelude.{◌≡◌, ℕ, ◌+◌, ◌<◌, min, Bool, true, false, ◌&&◌, not, nat_eq, nat_le, List, [], ◌∷◌, length, codes, Option, Some, None, is_some, slice_get, slice_index_or}
 use Rattle.std.specs.List.{list_any}
 use Rattle.insn_set.specs.declared.ops.InvokeKind.TheVariants as call
 use Rattle.insn_set.specs.declared.form.Insn.{Insn}
@@ -17,9 +17,10 @@ use Rattle.program_model.specs.declared.body.Region.{Region}
 use Rattle.program_model.specs.declared.program.Method.{Method}
 use Rattle.program_model.specs.declared.program.MethodAt.{MethodAt}
 use Rattle.program_model.specs.declared.program.Program.{Program}
-use Rattle.domains.specs.Values.{value_holds, Plain, Single}
+use Rattle.domains.specs.Datum.{Plain, Single}
+use Rattle.domains.specs.Values.{value_holds}
 use Rattle.dom_frame.specs.declared.frames.Frame.{Frame}
-use Rattle.dom_frame.specs.Frames.{value_at}
+use Rattle.dom_frame.specs.Registers.{value_at}
 use Rattle.facts.specs.Lent.{frame_at}
 use Rattle.facts.specs.declared.facts.Facts.{Facts}
 use Rattle.splice.specs.Callees.{chosen_at, taken_by, args_of}
@@ -47,7 +48,7 @@ result_stands_alone b n = is_some (taken_by (slice_get b.insns (n + 1))) && list
 
 -- at most 16 instructions, and no regions
 abbrev pub is_small : Body → Bool
-is_small b = nat_le (length b.insns) 16 && is_empty b.regions
+is_small b = nat_le (length b.insns) 16 && nat_eq (length b.regions) 0
 
 -- at most 16 registers together
 abbrev pub has_registers : Body → Body → Bool
@@ -110,3 +111,11 @@ pub record IsCandidate (k : Known) (c : Caller) (n : ℕ) (y : Callee) : Type 0 
 -- what is chosen at each position is a candidate there
 abbrev pub AreCandidates : Known → Caller → List (Option Callee) → Type 0
 AreCandidates k c chosen = (n : ℕ) (y : Callee) → chosen_at chosen n ≡ Some y → IsCandidate k c n y
+
+-- ---- what is chosen
+
+-- the same up to a position, at which a method more is chosen, the last one
+pub record IsWith (old : List (Option Callee)) (n : ℕ) (y : Callee) (new : List (Option Callee)) : Type 0 where
+  pub long : length new ≡ n + 1
+  pub before : (k : ℕ) → k < n → chosen_at new k ≡ chosen_at old k
+  pub here : chosen_at new n ≡ Some y

@@ -39,7 +39,7 @@ pub fn ask_about(
     panel: &mut Panel,
 ) -> Result<bool, AllocError>
     ensures asked { OnOk result (AreAsked (length panel.old.advisers.items) panel.old.answers.items panel.new.answers.items) }
-    ensures count { OnOk result (length panel.new.advisers.items ≡ length panel.old.advisers.items) }
+    ensures advisers { OnOk result (length panel.new.advisers.items ≡ length panel.old.advisers.items) }
 {
     let ask = ask_of(alloc, program, caller, position, callee)?;
     let yes = panel.ask(alloc, &ask)?;

@@ -1,7 +1,11 @@
 //! The sites of one caller.
 
-ghost use Rattle.std.specs.Prelude.{◌≡◌, length, OnOk};
+ghost use Rattle.std.specs.Prelude.{◌≡◌, ◌≤◌, ◌+◌, Some, length, slice_get, OnOk, IfOk, IfSome};
+ghost use Rattle.inline_calls.specs.Accepting.{HasNew, IsAccepted};
 ghost use Rattle.inline_calls.specs.Asked.{AreAsked};
+ghost use Rattle.inline_calls.specs.Candidates.{IsCandidate, AreCandidates, IsWith};
+ghost use Rattle.inline_calls.specs.Rooms.{IsNew};
+ghost use Rattle.splice.specs.Callees.{chosen_at};
 ghost use Rattle.verify.specs.Meeting.{IsMeeting};
 
 use crate::asking::ask_about;
@@ -26,43 +30,40 @@ pub struct Inliner<'p> {
 /// with all of these, and how many there are.
 #[derive(Drop)]
 pub struct Accepted<'p> {
-    chosen: Vec<Option<Callee<'p>>>,
-    spliced: Option<Spliced>,
+    pub chosen: Vec<Option<Callee<'p>>>,
+    pub spliced: Option<Spliced>,
     pub count: u64,
 }
 
-impl<'p> Accepted<'p> {
-    /// Nothing accepted.
-    fn none(alloc: Global) -> Accepted<'p> {
-        Accepted {
-            chosen: Vec::new(alloc),
-            spliced: None,
-            count: 0,
-        }
-    }
-
-    /// The new body, if anything was accepted.
-    pub fn into_spliced(self) -> Option<Spliced> {
-        let Accepted { spliced, .. } = self;
-        spliced
+/// The method that is chosen at a position, if there is one.
+fn chosen_at<'p>(chosen: &[Option<Callee<'p>>], position: usize) -> Option<Callee<'p>>
+    ensures { result ≡ chosen_at chosen.now position }
+{
+    match chosen.get(position) {
+        Some(callee) => *callee,
+        None => None,
     }
 }
 
-/// Chooses a method at a position behind those for which any was chosen.
-fn choose<'p>(
-    chosen: &mut Vec<Option<Callee<'p>>>,
+/// What is chosen with a method at a position more, behind those for which any was chosen.
+fn chosen_with<'p>(
+    alloc: Global,
+    chosen: &[Option<Callee<'p>>],
     position: usize,
     callee: Callee<'p>,
-) -> Result<(), AllocError> {
-    for _ in chosen.len()..position {
-        chosen.push(None)?;
+) -> Result<Vec<Option<Callee<'p>>>, AllocError>
+    ensures { IfOk result (λ new. IsWith chosen.now position callee.entry new.items) }
+{
+    let mut new = Vec::new(alloc);
+    for place in 0..position {
+        new.push(chosen_at(chosen, place))?;
     }
-    chosen.push(Some(callee))?;
-    Ok(())
+    new.push(Some(callee))?;
+    Ok(new)
 }
 
 impl<'p> Inliner<'p> {
-    /// The new body of a caller, where it has room in a program that has so many cells without it.
+    /// The caller with these methods copied, where it has room in a program that has so many cells without them.
     fn judged(
         &self,
         alloc: Global,
@@ -71,6 +72,7 @@ impl<'p> Inliner<'p> {
         cells: u64,
     ) -> Result<Option<Spliced>, AllocError>
         requires { IsMeeting self.now.verifier.tables }
+        ensures { IfOk result (λ new. IfSome new (IsNew self.now caller.entry chosen.now)) }
     {
         let plan = Plan {
             program: self.known.program,
@@ -102,8 +104,9 @@ impl<'p> Inliner<'p> {
         panel: &mut Panel,
     ) -> Result<Option<Spliced>, AllocError>
         requires { IsMeeting self.now.verifier.tables }
+        ensures new { IfOk result (λ new. IfSome new (IsNew self.now caller.entry chosen.now)) }
         ensures asked { OnOk result (AreAsked (length panel.old.advisers.items) panel.old.answers.items panel.new.answers.items) }
-        ensures count { OnOk result (length panel.new.advisers.items ≡ length panel.old.advisers.items) }
+        ensures advisers { OnOk result (length panel.new.advisers.items ≡ length panel.old.advisers.items) }
     {
         let spliced = match self.judged(alloc, caller, chosen, cells)? {
             Some(spliced) => spliced,
@@ -124,24 +127,25 @@ impl<'p> Inliner<'p> {
         position: usize,
         callee: Callee<'p>,
         cells: u64,
-        accepted: &mut Accepted<'p>,
+        accepted: Accepted<'p>,
         panel: &mut Panel,
-    ) -> Result<(), AllocError>
-        requires { IsMeeting self.now.verifier.tables }
+    ) -> Result<Accepted<'p>, AllocError>
+        requires meeting { IsMeeting self.now.verifier.tables }
+        requires candidate { IsCandidate self.now.known caller position callee }
+        requires accepted { IsAccepted self.now caller position accepted }
+        ensures new { IfOk result (IsAccepted self.now caller.entry (position + 1)) }
         ensures asked { OnOk result (AreAsked (length panel.old.advisers.items) panel.old.answers.items panel.new.answers.items) }
-        ensures count { OnOk result (length panel.new.advisers.items ≡ length panel.old.advisers.items) }
+        ensures advisers { OnOk result (length panel.new.advisers.items ≡ length panel.old.advisers.items) }
     {
-        let before = accepted.chosen.len();
-        choose(&mut accepted.chosen, position, callee)?;
-        let chosen = accepted.chosen.as_slice();
-        match self.asked(alloc, caller, position, callee, chosen, cells, panel)? {
-            Some(spliced) => {
-                accepted.spliced = Some(spliced);
-                accepted.count = accepted.count.saturating_add(1);
-            }
-            None => accepted.chosen.truncate(before),
+        let chosen = chosen_with(alloc, accepted.chosen.as_slice(), position, callee)?;
+        match self.asked(alloc, caller, position, callee, chosen.as_slice(), cells, panel)? {
+            Some(spliced) => Ok(Accepted {
+                chosen,
+                spliced: Some(spliced),
+                count: accepted.count.saturating_add(1),
+            }),
+            None => Ok(accepted),
         }
-        Ok(())
     }
 
     /// Asks about the call at a position of a caller, where it is a site.
@@ -151,26 +155,27 @@ impl<'p> Inliner<'p> {
         caller: Caller<'p>,
         position: usize,
         cells: u64,
-        accepted: &mut Accepted<'p>,
+        accepted: Accepted<'p>,
         panel: &mut Panel,
-    ) -> Result<(), AllocError>
-        requires { IsMeeting self.now.verifier.tables }
+    ) -> Result<Accepted<'p>, AllocError>
+        requires meeting { IsMeeting self.now.verifier.tables }
+        requires accepted { IsAccepted self.now caller position accepted }
+        ensures new { IfOk result (IsAccepted self.now caller.entry (position + 1)) }
         ensures asked { OnOk result (AreAsked (length panel.old.advisers.items) panel.old.answers.items panel.new.answers.items) }
-        ensures count { OnOk result (length panel.new.advisers.items ≡ length panel.old.advisers.items) }
+        ensures advisers { OnOk result (length panel.new.advisers.items ≡ length panel.old.advisers.items) }
     {
-        let insn = match caller.body.insns.items.get(position) {
+        let body = caller.body;
+        let insn = match body.insns.as_slice().get(position) {
             Some(insn) => insn,
-            None => return Ok(()),
+            None => return Ok(accepted),
         };
         match self.known.candidate(caller, position, insn) {
-            Some(callee) => {
-                self.try_site(alloc, caller, position, callee, cells, accepted, panel)
-            }
-            None => Ok(()),
+            Some(callee) => self.try_site(alloc, caller, position, callee, cells, accepted, panel),
+            None => Ok(accepted),
         }
     }
 
-    /// What is accepted of a caller, in a program that has so many cells.
+    /// What is accepted of a caller, in a program that has so many cells without it.
     pub fn accept(
         &self,
         alloc: Global,
@@ -179,13 +184,17 @@ impl<'p> Inliner<'p> {
         panel: &mut Panel,
     ) -> Result<Accepted<'p>, AllocError>
         requires { IsMeeting self.now.verifier.tables }
+        ensures new { IfOk result (IsAccepted self.now caller.entry (length caller.entry.body.now.insns)) }
         ensures asked { OnOk result (AreAsked (length panel.old.advisers.items) panel.old.answers.items panel.new.answers.items) }
-        ensures count { OnOk result (length panel.new.advisers.items ≡ length panel.old.advisers.items) }
+        ensures advisers { OnOk result (length panel.new.advisers.items ≡ length panel.old.advisers.items) }
     {
-        let positions = caller.body.insns.len();
-        let mut accepted = Accepted::none(alloc);
-        for position in 0..positions {
-            self.try_position(alloc, caller, position, cells, &mut accepted, panel)?;
+        let mut accepted = Accepted {
+            chosen: Vec::new(alloc),
+            spliced: None,
+            count: 0,
+        };
+        for position in 0..caller.body.insns.len() {
+            accepted = self.try_position(alloc, caller, position, cells, accepted, panel)?;
         }
         Ok(accepted)
     }

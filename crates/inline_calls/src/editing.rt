@@ -1,16 +1,19 @@
 //! New bodies put into a program.
 
-ghost use Rattle.std.specs.Prelude.{◌≡◌, length, false, slice_index_or};
-ghost use Rattle.inline_calls.specs.Edited.{IsEditedMethod, IsEditedClass, AreEdited, IsEdited};
+ghost use Rattle.std.specs.Prelude.{◌≡◌, [], None, false, OnOk, slice_index_or};
+ghost use Rattle.std.specs.Option.{option_copied};
+ghost use Rattle.inline_calls.specs.Edited.{method_by, each_by, class_by, program_by};
 
 use program_model::{Body, Class, Method, Program};
 use seq::Seq;
+use std::alloc::AllocError;
 
-/// A new body and its lines.
+/// A new body, its lines, and how many calls it has copies in place of.
 #[derive(Drop)]
 pub struct Edit {
     pub body: Body,
     pub lines: Seq<u32>,
+    pub count: u64,
 }
 
 /// Whether a number is marked.
@@ -23,65 +26,69 @@ pub fn is_on(marks: &[bool], number: u32) -> bool
     }
 }
 
-/// What a place of a list of edits holds, which is taken out.
-fn take_at<T: Drop>(row: &mut [Option<T>], place: usize) -> Option<T> {
-    match row.get_mut(place) {
-        Some(cell) => cell.take(),
-        None => None,
+/// The new body at a place of a row, if there is one.
+fn edit_at(row: &[Option<Edit>], place: usize) -> Option<&Edit>
+    ensures { option_copied result ≡ slice_index_or row.now place None }
+{
+    match row.get(place) {
+        Some(Some(edit)) => Some(edit),
+        _ => None,
     }
 }
 
-/// Puts a new body into a method, where the method is admitted and has code.
-fn put_method(admitted: &[bool], method: &mut Method, edit: Option<Edit>)
-    ensures { IsEditedMethod admitted.now method.old method.new }
+/// The row at a place, an empty one past the end.
+fn row_at(rows: &[Seq<Option<Edit>>], place: usize) -> &[Option<Edit>]
+    ensures { result.now ≡ slice_index_or rows.now place [] }
+{
+    match rows.get(place) {
+        Some(row) => row.as_slice(),
+        None => &[],
+    }
+}
+
+/// Puts a new body into a method, if there is one.
+fn put_method(method: &mut Method, edit: Option<&Edit>) -> Result<(), AllocError>
+    ensures { OnOk result (method.new ≡ method_by (option_copied edit.entry) method.old) }
 {
     if let Some(edit) = edit {
-        if is_on(admitted, method.name) && method.body.is_some() {
-            let Edit { body, lines } = edit;
-            method.body = Some(body);
-            method.lines = lines;
-        }
+        let body = edit.body.clone()?;
+        let lines = edit.lines.clone()?;
+        method.body = Some(body);
+        method.lines = lines;
     }
+    Ok(())
 }
 
 /// Puts new bodies into methods, by their places.
-fn put_methods(admitted: &[bool], methods: &mut [Method], row: &mut [Option<Edit>])
-    ensures { AreEdited (IsEditedMethod admitted.now) (length methods.old) methods.old methods.new }
+fn put_methods(methods: &mut [Method], row: &[Option<Edit>]) -> Result<(), AllocError>
+    ensures { OnOk result (methods.new ≡ each_by method_by row.now methods.old) }
 {
     for place in 0..methods.len() {
-        let edit = take_at(row, place);
-        put_method(admitted, &mut methods[place], edit);
+        put_method(&mut methods[place], edit_at(row, place))?;
     }
+    Ok(())
 }
 
-/// The same for a class.
-fn put_class(admitted: &[bool], class: &mut Class, row: Option<Vec<Option<Edit>>>)
-    ensures { IsEditedClass admitted.now class.old class.new }
+/// Puts new bodies into the methods of a class, by their places.
+fn put_class(class: &mut Class, row: &[Option<Edit>]) -> Result<(), AllocError>
+    ensures { OnOk result (class.new ≡ class_by row.now class.old) }
 {
-    let mut row = match row {
-        Some(row) => row,
-        None => return,
-    };
-    put_methods(
-        admitted,
-        class.methods.items.as_mut_slice(),
-        row.as_mut_slice(),
-    );
+    put_methods(class.methods.items.as_mut_slice(), row)
 }
 
 /// The same for classes.
-fn put_classes(admitted: &[bool], classes: &mut [Class], rows: &mut [Option<Vec<Option<Edit>>>])
-    ensures { AreEdited (IsEditedClass admitted.now) (length classes.old) classes.old classes.new }
+fn put_classes(classes: &mut [Class], rows: &[Seq<Option<Edit>>]) -> Result<(), AllocError>
+    ensures { OnOk result (classes.new ≡ each_by class_by rows.now classes.old) }
 {
     for place in 0..classes.len() {
-        let row = take_at(rows, place);
-        put_class(admitted, &mut classes[place], row);
+        put_class(&mut classes[place], row_at(rows, place))?;
     }
+    Ok(())
 }
 
 /// Puts new bodies into a program, by the places of their classes and methods.
-pub fn put_program(admitted: &[bool], program: &mut Program, rows: &mut [Option<Vec<Option<Edit>>>])
-    ensures { IsEdited admitted.now program.old program.new }
+pub fn put_program(program: &mut Program, rows: &[Seq<Option<Edit>>]) -> Result<(), AllocError>
+    ensures { OnOk result (program.new ≡ program_by rows.now program.old) }
 {
-    put_classes(admitted, program.classes.items.as_mut_slice(), rows);
+    put_classes(program.classes.items.as_mut_slice(), rows)
 }

@@ -3,6 +3,7 @@
 ghost use Rattle.std.specs.Prelude.{◌≡◌};
 ghost use Rattle.std.specs.Option.{option_copied};
 ghost use Rattle.program_model.specs.Lookups.{method_at};
+ghost use Rattle.inline_calls.specs.Plans.{word};
 
 use program_model::{Method, MethodAt, Program};
 
@@ -17,6 +18,8 @@ pub fn method_at(program: &Program, at: MethodAt) -> Option<&Method>
 }
 
 /// A length as a number of 32 bits, the greatest one for all above it.
-pub fn word(n: usize) -> u32 {
+pub fn word(n: usize) -> u32
+    ensures { result ≡ word n }
+{
     u32::try_from(n).unwrap_or(u32::MAX)
 }

@@ -1,8 +1,10 @@
 //! The pass over a program.
 
-ghost use Rattle.std.specs.Prelude.{◌≡◌, length, OnOk, IfOk};
+ghost use Rattle.std.specs.Prelude.{◌≡◌, length, IfOk, IfSome, OnOk};
+ghost use Rattle.program_model.specs.Cells.{capped};
+ghost use Rattle.inline_calls.specs.Accepting.{IsAccepted};
 ghost use Rattle.inline_calls.specs.Asked.{AreAsked};
-ghost use Rattle.inline_calls.specs.Edited.{IsEdited};
+ghost use Rattle.inline_calls.specs.Plans.{IsNewOf, IsEdit, HasRow, HasRows, IsFor, IsInlined, IsPlanned, edit_count, row_count, rows_count};
 ghost use Rattle.verify.specs.Meeting.{IsMeeting};
 
 use crate::caller::{Accepted, Inliner};
@@ -21,12 +23,10 @@ use splice::Spliced;
 use std::alloc::{AllocError, Global};
 use verify::Verifier;
 
-/// What was done so far: the cells of the program, how many calls are inlined, and where the instructions of each method
-/// come from.
+/// What was done so far: the cells of the program, and where the instructions of each method come from.
 #[derive(Drop)]
 struct Done {
     cells: u64,
-    count: u64,
     origins: Vec<Seq<Origin>>,
 }
 
@@ -39,24 +39,46 @@ impl Done {
         }
         Ok(Done {
             cells: count_cells(program),
-            count: 0,
             origins,
         })
     }
 
-    /// Notes what was accepted of a caller, and answers its new body, if it has one.
-    fn note(&mut self, caller: Caller<'_>, accepted: Accepted<'_>) -> Option<Edit> {
-        self.count = self.count.saturating_add(accepted.count);
+    /// Notes the cells and the origins of a new body.
+    fn note(&mut self, caller: Caller<'_>, spliced: Spliced, count: u64) -> Edit
+        ensures body { result.body ≡ spliced.body }
+        ensures lines { result.lines ≡ spliced.lines }
+        ensures count { result.count ≡ count }
+    {
         let Spliced {
             body,
             lines,
             origins,
-        } = accepted.into_spliced()?;
+        } = spliced;
         self.cells = cells_with(self.cells, caller.body, &body);
         if let Some(row) = self.origins.get_mut(caller.method.name as usize) {
             *row = origins;
         }
-        Some(Edit { body, lines })
+        Edit { body, lines, count }
+    }
+}
+
+/// The new body of a caller, if anything is accepted of it.
+fn edit_caller<'p>(
+    alloc: Global,
+    inliner: &Inliner<'p>,
+    caller: Caller<'p>,
+    done: &mut Done,
+    panel: &mut Panel,
+) -> Result<Option<Edit>, AllocError>
+    requires { IsMeeting inliner.now.verifier.tables }
+    ensures new { IfOk result (λ edit. IfSome edit (IsNewOf inliner.now caller.entry)) }
+    ensures asked { OnOk result (AreAsked (length panel.old.advisers.items) panel.old.answers.items panel.new.answers.items) }
+    ensures advisers { OnOk result (length panel.new.advisers.items ≡ length panel.old.advisers.items) }
+{
+    let Accepted { spliced, count, .. } = inliner.accept(alloc, caller, done.cells, panel)?;
+    match spliced {
+        Some(spliced) => Ok(Some(done.note(caller, spliced, count))),
+        None => Ok(None),
     }
 }
 
@@ -71,8 +93,9 @@ fn edit_method<'p>(
     panel: &mut Panel,
 ) -> Result<Option<Edit>, AllocError>
     requires { IsMeeting inliner.now.verifier.tables }
+    ensures new { IfOk result (λ edit. IfSome edit (IsEdit inliner.now class.now at method.now)) }
     ensures asked { OnOk result (AreAsked (length panel.old.advisers.items) panel.old.answers.items panel.new.answers.items) }
-    ensures count { OnOk result (length panel.new.advisers.items ≡ length panel.old.advisers.items) }
+    ensures advisers { OnOk result (length panel.new.advisers.items ≡ length panel.old.advisers.items) }
 {
     let body = match &method.body {
         Some(body) => body,
@@ -87,8 +110,7 @@ fn edit_method<'p>(
         method,
         body,
     };
-    let accepted = inliner.accept(alloc, caller, done.cells, panel)?;
-    Ok(done.note(caller, accepted))
+    edit_caller(alloc, inliner, caller, done, panel)
 }
 
 /// The new bodies of the methods of a class, by their places.
@@ -96,23 +118,25 @@ fn edit_class<'p>(
     alloc: Global,
     inliner: &Inliner<'p>,
     class: &'p Class,
-    place: u32,
+    class_place: u32,
     done: &mut Done,
     panel: &mut Panel,
-) -> Result<Vec<Option<Edit>>, AllocError>
+) -> Result<Seq<Option<Edit>>, AllocError>
     requires { IsMeeting inliner.now.verifier.tables }
+    ensures new { IfOk result (HasRow inliner.now class_place class.now) }
     ensures asked { OnOk result (AreAsked (length panel.old.advisers.items) panel.old.answers.items panel.new.answers.items) }
-    ensures count { OnOk result (length panel.new.advisers.items ≡ length panel.old.advisers.items) }
+    ensures advisers { OnOk result (length panel.new.advisers.items ≡ length panel.old.advisers.items) }
 {
     let mut row = Vec::new(alloc);
     for (number, method) in class.methods.as_slice().iter().enumerate() {
         let at = MethodAt {
-            class: place,
+            class: class_place,
             place: word(number),
         };
-        row.push(edit_method(alloc, inliner, class, at, method, done, panel)?)?;
+        let edit = edit_method(alloc, inliner, class, at, method, done, panel)?;
+        row.push(edit)?;
     }
-    Ok(row)
+    Ok(Seq::of_vec(row))
 }
 
 /// The new bodies of all methods, by the places of their classes and their own.
@@ -122,17 +146,18 @@ fn edit_classes<'p>(
     classes: &'p [Class],
     done: &mut Done,
     panel: &mut Panel,
-) -> Result<Vec<Option<Vec<Option<Edit>>>>, AllocError>
+) -> Result<Seq<Seq<Option<Edit>>>, AllocError>
     requires { IsMeeting inliner.now.verifier.tables }
+    ensures new { IfOk result (HasRows inliner.now (length classes.now) classes.now) }
     ensures asked { OnOk result (AreAsked (length panel.old.advisers.items) panel.old.answers.items panel.new.answers.items) }
-    ensures count { OnOk result (length panel.new.advisers.items ≡ length panel.old.advisers.items) }
+    ensures advisers { OnOk result (length panel.new.advisers.items ≡ length panel.old.advisers.items) }
 {
     let mut rows = Vec::new(alloc);
     for (place, class) in classes.iter().enumerate() {
         let row = edit_class(alloc, inliner, class, word(place), done, panel)?;
-        rows.push(Some(row))?;
+        rows.push(row)?;
     }
-    Ok(rows)
+    Ok(Seq::of_vec(rows))
 }
 
 /// The new bodies of all methods of a program.
@@ -144,8 +169,9 @@ fn edit_all(
     admitted: &[bool],
     done: &mut Done,
     panel: &mut Panel,
-) -> Result<Vec<Option<Vec<Option<Edit>>>>, AllocError>
-    ensures { OnOk result (AreAsked (length panel.old.advisers.items) panel.old.answers.items panel.new.answers.items) }
+) -> Result<Seq<Seq<Option<Edit>>>, AllocError>
+    ensures new { IfOk result (IsPlanned program.now hierarchy.now facts.now admitted.now) }
+    ensures asked { OnOk result (AreAsked (length panel.old.advisers.items) panel.old.answers.items panel.new.answers.items) }
 {
     let inliner = Inliner {
         known: Known {
@@ -158,6 +184,38 @@ fn edit_all(
         admitted,
     };
     edit_classes(alloc, &inliner, program.classes.as_slice(), done, panel)
+}
+
+/// How many calls a new body has copies in place of, none where there is no new body.
+fn edit_count(edit: &Option<Edit>) -> u64
+    ensures { result ≡ edit_count edit.now }
+{
+    match edit {
+        Some(edit) => edit.count,
+        None => 0,
+    }
+}
+
+/// How many calls of the methods of a class the copies stand in place of.
+fn row_count(row: &[Option<Edit>]) -> u64
+    ensures { result ≡ capped (row_count row.now) }
+{
+    let mut count: u64 = 0;
+    for edit in row {
+        count = count.saturating_add(edit_count(edit));
+    }
+    count
+}
+
+/// How many calls the copies stand in place of.
+fn rows_count(rows: &[Seq<Option<Edit>>]) -> u64
+    ensures { result ≡ capped (rows_count rows.now) }
+{
+    let mut count: u64 = 0;
+    for row in rows {
+        count = count.saturating_add(row_count(row.as_slice()));
+    }
+    count
 }
 
 /// Asks about each site of the admitted methods, in class and method order and by position, and inlines those where every
@@ -175,18 +233,17 @@ pub fn apply(
     admitted: &Admitted,
     panel: &mut Panel,
 ) -> Result<Changed, AllocError>
-    ensures edited { IfOk result (λ changed. IsEdited admitted.now.methods.items program changed.program) }
+    ensures new { IfOk result (λ changed. IsInlined program hierarchy.now facts.now admitted.now.methods.items changed.program changed.count) }
     ensures asked { OnOk result (AreAsked (length panel.old.advisers.items) panel.old.answers.items panel.new.answers.items) }
 {
     let mut program = program;
     let mut done = Done::new(alloc, &program)?;
     let marks = admitted.methods.as_slice();
-    let mut rows = edit_all(alloc, &program, hierarchy, facts, marks, &mut done, panel)?;
-    put_program(marks, &mut program, rows.as_mut_slice());
-    let Done { count, origins, .. } = done;
+    let rows = edit_all(alloc, &program, hierarchy, facts, marks, &mut done, panel)?;
+    put_program(&mut program, rows.as_slice())?;
     Ok(Changed {
         program,
-        count,
-        origins: Seq::of_vec(origins),
+        count: rows_count(rows.as_slice()),
+        origins: Seq::of_vec(done.origins),
     })
 }

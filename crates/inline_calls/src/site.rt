@@ -1,9 +1,10 @@
 //! Which calls are sites by themselves: what is called, and what is known at the call.
 
-ghost use Rattle.std.specs.Prelude.{◌≡◌, true, IfSome, slice_get};
+ghost use Rattle.std.specs.Prelude.{◌≡◌, true, Some, IfSome, slice_get};
 ghost use Rattle.std.specs.List.{list_any};
 ghost use Rattle.hierarchy.specs.Shapes.{IsOf};
-ghost use Rattle.inline_calls.specs.Candidates.{found_by, covers_alone, result_stands_alone, is_small, has_registers, is_plain, is_beside, starts_trivially, KnowsReceiver, receiver_in, EntersAtOnce, IsCandidate};
+ghost use Rattle.program_model.specs.Lookups.{method_at};
+ghost use Rattle.inline_calls.specs.Candidates.{found_by, covers_alone, result_stands_alone, is_small, has_registers, is_plain, is_beside, KnowsReceiver, receiver_in, EntersAtOnce, IsCandidate};
 
 use crate::found::{method_at, word};
 use crate::texts::{is_constructor_name, name_units};
@@ -144,7 +145,10 @@ impl<'p> Known<'p> {
     }
 
     /// The method with code at a place.
-    fn callee_at(&self, at: MethodAt) -> Option<Callee<'p>> {
+    fn callee_at(&self, at: MethodAt) -> Option<Callee<'p>>
+        ensures method { IfSome result (λ y. method_at self.now.program.now at ≡ Some y.method.now) }
+        ensures code { IfSome result (λ y. y.method.now.body ≡ Some y.body.now) }
+    {
         let method = method_at(self.program, at)?;
         match &method.body {
             Some(body) => Some(Callee { method, body }),
@@ -160,7 +164,8 @@ impl<'p> Known<'p> {
         position: usize,
         insn: &Insn,
     ) -> Option<Callee<'p>>
-        ensures { slice_get caller.body.now.insns position ≡ Some insn.now → IfSome result (IsCandidate self.now caller position) }
+        requires { slice_get caller.body.now.insns position ≡ Some insn.now }
+        ensures { IfSome result (IsCandidate self.now caller.entry position) }
     {
         let place = self.found(insn)?;
         let callee = self.callee_at(place)?;

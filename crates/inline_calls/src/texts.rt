@@ -1,6 +1,8 @@
 //! The texts of types, names and protos.
 
-ghost use Rattle.std.specs.Prelude.{◌≡◌};
+ghost use Rattle.std.specs.Prelude.{◌≡◌, codes};
+ghost use Rattle.dalvik_defs.specs.Names.{text_eq};
+ghost use Rattle.inline_calls.specs.Candidates.{name_units};
 ghost use Rattle.program_model.specs.Texts.{string_text, type_text};
 
 use dex_base::Text;
@@ -29,7 +31,9 @@ pub fn type_units(program: &Program, kind: u32) -> &[u16]
 }
 
 /// The units of the name of a method, none where there is no such method.
-pub fn name_units(program: &Program, method: u32) -> &[u16] {
+pub fn name_units(program: &Program, method: u32) -> &[u16]
+    ensures { result.now ≡ name_units program.now method }
+{
     match program.methods.items.get(method as usize) {
         Some(named) => string_units(program, named.name),
         None => &[],
@@ -37,7 +41,9 @@ pub fn name_units(program: &Program, method: u32) -> &[u16] {
 }
 
 /// Whether the units are `<init>`.
-pub fn is_constructor_name(units: &[u16]) -> bool {
+pub fn is_constructor_name(units: &[u16]) -> bool
+    ensures { result ≡ text_eq units.now (codes "<init>") }
+{
     let name: [u16; 6] = [60, 105, 110, 105, 116, 62];
     units == name.as_slice()
 }

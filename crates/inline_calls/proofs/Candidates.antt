@@ -39,12 +39,7 @@ none_candidates k c n y e = absurd (cc e)
 
 -- a candidate more
 module _ (k : Known) (c : Caller) (old new : List (Option Callee)) (n : ℕ) (y : Callee) (was : IsWith old n y new) (are : AreCandidates k c old) (is : IsCandidate k c n y) where
-  at : (j : ℕ) (z : Callee) → chosen_at new j ≡ Some z → (j < n) ⊎ (n ≤ j) → IsCandidate k c j z
   behind : (j : ℕ) (z : Callee) → chosen_at new j ≡ Some z → n ≤ j → (j ≡ n) ⊎ (j ≡ n → ⊥) → IsCandidate k c j z
-
-  at j z e (inl lt) = are j z (sym (was.before j lt) ∙ e)
-  at j z e (inr le) = behind j z e le (cases_eq j n)
-
   behind j z e le (inl s) =
       let same : Some y ≡ Some z = sym was.here ∙ ap (chosen_at new) (sym s) ∙ e in
       let v : y ≡ z = cc in
@@ -52,6 +47,10 @@ module _ (k : Known) (c : Caller) (old new : List (Option Callee)) (n : ℕ) (y 
   behind j z e le (inr ne) =
       let none : None ≡ Some z = sym (past new j None (omega (arith, was.long))) ∙ e in
       absurd (cc none)
+
+  at : (j : ℕ) (z : Callee) → chosen_at new j ≡ Some z → (j < n) ⊎ (n ≤ j) → IsCandidate k c j z
+  at j z e (inl lt) = are j z (sym (was.before j lt) ∙ e)
+  at j z e (inr le) = behind j z e le (cases_eq j n)
 
   pub more_candidates : AreCandidates k c new
   more_candidates j z e = at j z e (cases_lt j n)

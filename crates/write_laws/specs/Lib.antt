@@ -1,0 +1,5 @@
+pub mod Rising
+pub mod Placing
+pub mod Fits
+pub mod Kinds
+pub mod Listing

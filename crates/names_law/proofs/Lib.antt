@@ -1,0 +1,11 @@
+pub mod Placed
+pub mod Marking
+pub mod Ordering
+pub mod Closed
+pub mod Carried
+pub mod Ranges
+pub mod Bodies
+pub mod Values
+pub mod Keeping
+pub mod Owning
+pub mod Reordered

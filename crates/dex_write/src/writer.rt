@@ -1,6 +1,6 @@
 //! The whole writer: which items stand where.
 
-ghost use Rattle.std.specs.Prelude.{◌≡◌, length, map, slice_get, option_copied, IfOk, OnOk};
+ghost use Rattle.std.specs.Prelude.{◌≡◌, ◌<◌, ◌^◌, length, map, slice_get, option_copied, IfOk, OnOk};
 ghost use Rattle.std.specs.List.{flat_map};
 ghost use Rattle.dex_write.specs.Plans.{plan_in};
 ghost use Rattle.dex_write.specs.Codes.{IsPlan};
@@ -525,6 +525,7 @@ fn file_with(
 ) -> Result<Vec<u8>, AllocError>
     ensures is { IfOk result (λ v. v.items ≡ file_with program.now interner.now (map plan_in order.now) parts.now runs.now) }
     ensures sealed { IfOk result (λ v. IsSealed program.now.version v.items) }
+    ensures few { IfOk result (λ v. length v.items < 2 ^ 32) }
 {
     let counts = counts_of(interner, order)?;
     let tables = table_words(
@@ -620,6 +621,7 @@ fn file_for(
 ) -> Result<Vec<u8>, AllocError>
     ensures is { IfOk result (λ v. v.items ≡ file_for program.now interner.now (map plan_in order.now)) }
     ensures sealed { IfOk result (λ v. IsSealed program.now.version v.items) }
+    ensures few { IfOk result (λ v. length v.items < 2 ^ 32) }
 {
     let counts = counts_of(interner, order)?;
     let front = front_of(alloc, program, interner, order, starts_of(counts)?.data)?;
@@ -637,6 +639,7 @@ fn file_for(
 pub fn write_dex(alloc: Global, program: &Program) -> Result<Vec<u8>, AllocError>
     ensures is { IfOk result (λ v. IsWritten program.now v.items) }
     ensures sealed { IfOk result (λ v. IsSealed program.now.version v.items) }
+    ensures few { IfOk result (λ v. length v.items < 2 ^ 32) }
 {
     let interner = Interner::collect(alloc, program)?;
     let places = written_order(alloc, program)?;

@@ -4,12 +4,13 @@ A body has fixed registers: v0 to v3 hold ints, v4 and v6 longs, v8 an object, v
 loops, and the parameters stand behind them. Helpers call only helpers behind them, so every run ends. What a body does is
 seen by what it puts into the fields of the framework's class `LLog;`.
 """
-from small_dex import Class, Insn, Method, Offset, Payload, Ref
+from small_dex import Class, Insn, Method, Offset, Payload, Ref, places_of
 
 STATIC, PUBLIC, ABSTRACT, INTERFACE = 8, 1, 0x400, 0x200
 INTS, LONGS, OBJECT, OBJECT_A, ARRAY, COUNTER = [0, 1, 2, 3], [4, 6], 8, 9, 10, 11
 FIRST_PARAMETER = 12
 INT_OPS = ['add', 'sub', 'mul', 'div', 'rem', 'and', 'or', 'xor', 'shl', 'shr', 'ushr']
+LITERAL_OPS = [('add', 0xd8), ('mul', 0xda), ('div', 0xdb), ('rem', 0xdc), ('and', 0xdd), ('or', 0xde), ('xor', 0xdf), ('shl', 0xe0), ('shr', 0xe1), ('ushr', 0xe2)]
 TESTS = ['eq', 'ne', 'lt', 'ge', 'gt', 'le']
 THROWN = ['Ljava/lang/ArithmeticException;', 'Ljava/lang/NullPointerException;', 'Ljava/lang/RuntimeException;',
           'Ljava/lang/ArrayIndexOutOfBoundsException;', None]
@@ -101,18 +102,19 @@ class Body:
     # what a single statement does
 
     def int_op(self):
-        r, op = self.rng, self.rng.randrange(11)
-        if r.random() < 0.4:
+        r = self.rng
+        to, first, second = r.choice(INTS), r.choice(INTS), r.choice(INTS)
+        pick = r.random()
+        if pick < 0.4:
+            name, op = r.choice(LITERAL_OPS)
             value = r.choice([0, 1, 2, -1, 7, 31, -128, 127])
-            op = r.choice([0, 2, 3, 4, 5, 6, 7, 8, 9, 10])
-            names = ['add', 'rsub', 'mul', 'div', 'rem', 'and', 'or', 'xor', 'shl', 'shr', 'ushr']
-            self.add(Insn('%s-int/lit8 v%d, v%d, %d' % (names[op], *(pair := (r.choice(INTS), r.choice(INTS))), value),
-                          0xd8 + op | pair[0] << 8, pair[1] | (value & 0xff) << 8))
-        elif r.random() < 0.5:
-            a, b = r.choice(INTS), r.choice(INTS)
-            self.add(op12(INT_OPS[op] + '-int/2addr', 0xb0 + op, a, b))
+            self.add(Insn('%s-int/lit8 v%d, v%d, %d' % (name, to, first, value), op | to << 8, first | (value & 0xff) << 8))
+        elif pick < 0.7:
+            op = r.randrange(11)
+            self.add(op12(INT_OPS[op] + '-int/2addr', 0xb0 + op, to, first))
         else:
-            self.add(op23(INT_OPS[op] + '-int', 0x90 + op, r.choice(INTS), r.choice(INTS), r.choice(INTS)))
+            op = r.randrange(11)
+            self.add(op23(INT_OPS[op] + '-int', 0x90 + op, to, first, second))
 
     def long_op(self):
         r, op = self.rng, self.rng.randrange(8)
@@ -273,12 +275,13 @@ class Body:
 
     def switch(self, depth):
         r = self.rng
-        at, end = self.p.label(), self.p.label()
-        packed = r.random() < 0.5
-        keys = list(range(k := r.choice([-1, 0, 1]), k + r.choice([1, 2, 3]))) if packed else sorted(r.sample([-5, 0, 1, 2, 9], 2))
+        at, end, data = self.p.label(), self.p.label(), self.p.label()
+        packed, on = r.random() < 0.5, r.choice(INTS)
+        first = r.choice([-1, 0, 1])
+        keys = list(range(first, first + r.choice([1, 2, 3]))) if packed else sorted(r.sample([-5, 0, 1, 2, 9], 2))
         cases = [(key, self.p.label()) for key in keys]
-        data = self.p.label()
-        self.add(at, Insn('%s-switch v%d, %s' % ('packed' if packed else 'sparse', s := r.choice(INTS), data), (0x2b if packed else 0x2c) | s << 8, Offset(data, True)))
+        name, op = ('packed-switch', 0x2b) if packed else ('sparse-switch', 0x2c)
+        self.add(at, Insn('%s v%d, %s' % (name, on, data), op | on << 8, Offset(data, True)))
         self.tail.append((data, Payload(at, cases, packed)))
         self.some(depth - 1)
         for _, label in cases:
@@ -376,7 +379,6 @@ class Body:
 
 def align_payloads(method):
     """A payload's label stands behind the nop that may come in front of it."""
-    from small_dex import places_of
     code = []
     for item in method.code:
         if isinstance(item, Payload):

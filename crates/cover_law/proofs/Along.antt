@@ -41,7 +41,7 @@ use Rattle.pass_defs.specs.Demands.{is_equality}
 use Rattle.cover_law.specs.Sound.{AreSmall, IsSmall, IsSoundOn, IsWord, NumberOf, TestedOf}
 use Rattle.cover_law.proofs.Numbers.{cut}
 use Rattle.pass_defs.specs.Analysis.{Analysis, IsRanged, Holds, HoldsBoth, IsNone, IsReference, on_sort, on_number, read_item}
-use Rattle.pass_defs.specs.Closed.{put, put_wide, put_sized, moved, refined, refined_both, then_put, arm, cases, keys_of, switched, edges, packed_key, packed_keys}
+use Rattle.run_facts.specs.Closed.{put, put_wide, put_sized, moved, refined, refined_both, then_put, arm, cases, keys_of, switched, edges, packed_key, packed_keys}
 use Rattle.invariant_law.specs.Fine.{IsThere}
 use Rattle.invariant_law.specs.Holds.{Each}
 use Rattle.invariant_law.specs.Invariant.{Grows}

@@ -29,7 +29,7 @@ use Rattle.dalvik_defs.specs.declared.tables.Floats.{Floats}
 use Rattle.dalvik_defs.specs.declared.tables.Framework.{Framework}
 use Rattle.pass_defs.specs.Analysis.{Analysis, IsRanged}
 use Rattle.pass_defs.specs.Calls.{is_within}
-use Rattle.pass_defs.specs.Closed.{At, IsBound, IsEntered, MayBe, MayCall, Statically, Directly, Above, Virtually, ByInterface, MayLeave}
+use Rattle.run_facts.specs.Closed.{At, IsBound, IsEntered, MayBe, MayCall, Statically, Directly, Above, Virtually, ByInterface, MayLeave}
 use Rattle.pass_defs.specs.Facts.{Facts, IsEnteredOn, needs, static_class}
 use Rattle.pass_defs.specs.Kinds as kind
 use Rattle.pass_defs.specs.Live.{IsMade, unconditional}

@@ -21,7 +21,7 @@ use Rattle.dalvik_defs.specs.declared.program.NamedProgram.{NamedProgram}
 use Rattle.dalvik_defs.specs.declared.tables.Floats.{Floats}
 use Rattle.dalvik_defs.specs.declared.tables.Framework.{Framework}
 use Rattle.pass_defs.specs.Analysis.{Analysis}
-use Rattle.pass_defs.specs.Closed.{IsEntered, BeginsAt}
+use Rattle.run_facts.specs.Closed.{IsEntered, BeginsAt}
 use Rattle.pass_defs.specs.Demands.{is_allowed, result_fits}
 use Rattle.pass_defs.specs.Facts.{Facts}
 use Rattle.pass_defs.specs.Kinds.{Kind, is_below}

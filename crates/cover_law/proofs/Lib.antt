@@ -17,6 +17,7 @@ mod Moving
 pub mod Ranges
 mod RangedRuns
 mod Living
+mod Widths
 mod Ready
 mod Reaching
 pub mod Runs

@@ -26,7 +26,7 @@ use Rattle.dalvik_defs.specs.declared.program.NamedProgram.{NamedProgram}
 use Rattle.dalvik_defs.specs.declared.tables.Floats.{Floats}
 use Rattle.dalvik_defs.specs.declared.tables.Framework.{Framework}
 use Rattle.pass_defs.specs.Analysis.{Analysis, IsRanged}
-use Rattle.pass_defs.specs.Closed.{IsEntered, Enters, Makes}
+use Rattle.run_facts.specs.Closed.{IsEntered, Enters, Makes}
 use Rattle.pass_defs.specs.Facts.{Facts, Initialises, Itself, First, IsEnteredStatic, IsEnteredOn}
 use Rattle.invariant_law.specs.Fine.{IsThere}
 use Rattle.invariant_law.specs.Holds.{Each}

@@ -25,7 +25,7 @@ use Rattle.dalvik_defs.specs.declared.tables.Floats.{Floats}
 use Rattle.dalvik_defs.specs.declared.tables.Framework.{Framework}
 use Rattle.dalvik_defs.proofs.Calm.{text_sound}
 use Rattle.pass_defs.specs.Calls.{is_within}
-use Rattle.pass_defs.specs.Closed.{IsBound}
+use Rattle.run_facts.specs.Closed.{IsBound}
 use Rattle.pass_defs.specs.Facts.{IsEnteredOn, finds_itself, is_called_back, answers_kept as answers_by, keeps_virtual}
 use Rattle.pass_defs.specs.Live.{IsMade, KeepsAbove, everything, unconditional}
 use Rattle.stuck_law.proofs.Settled.{IsSettled, FindsRegularly, IsFound}

@@ -21,7 +21,7 @@ use Rattle.dalvik_defs.specs.declared.tables.Floats.{Floats}
 use Rattle.dalvik_defs.specs.declared.tables.Framework.{Framework}
 use Rattle.pass_defs.specs.Analysis.{Analysis, IsRanged}
 use Rattle.pass_defs.specs.Calls.{is_within}
-use Rattle.pass_defs.specs.Closed.{IsBound, IsClosed}
+use Rattle.run_facts.specs.Closed.{IsBound, IsClosed}
 use Rattle.pass_defs.specs.Facts.{Facts, IsEnteredOn, may_be_made}
 use Rattle.pass_defs.specs.Live.{IsMade, unconditional}
 use Rattle.silence_law.specs.Results.{AllTakeInPlace}

@@ -26,7 +26,7 @@ use Rattle.dalvik_defs.specs.declared.tables.Floats.{Floats}
 use Rattle.dalvik_defs.specs.declared.tables.Framework.{Framework}
 use Rattle.pass_defs.specs.Analysis.{Analysis, IsRanged, read_item}
 use Rattle.pass_defs.specs.Bare.{may_throw}
-use Rattle.pass_defs.specs.Closed.{Given, Left, Results, MayCall, MayLeave, called, refined, then_put, put_sized, arm, edges, field_value}
+use Rattle.run_facts.specs.Closed.{Given, Left, Results, MayCall, MayLeave, called, refined, then_put, put_sized, arm, edges, field_value}
 use Rattle.pass_defs.specs.Facts.{Facts, IsEnteredOn, own_key}
 use Rattle.pass_defs.specs.Kinds as kind
 use Rattle.pass_defs.specs.Typed.{receiver_register, is_static_call, words_of}

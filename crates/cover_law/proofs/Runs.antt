@@ -56,6 +56,7 @@ use Rattle.stuck_law.proofs.Worlds.{waiting_later}
 use Rattle.cover_law.specs.Coverable.{IsCoverable}
 use Rattle.cover_law.proofs.Ready.{IsReady}
 use Rattle.cover_law.proofs.Reaching.{reaches}
+use Rattle.cover_law.proofs.Widths.{ranged_moves}
 use Rattle.cover_law.specs.Known.{Always, KnownWorld, LiveThings, MaybeRanged, RangedMove, RangedWorld, ranged_states, live_states}
 use Rattle.cover_law.proofs.Living.{made_things, live_method, keeps_live}
 use Rattle.cover_law.proofs.RangedRuns.{keeps_ranged}
@@ -207,7 +208,7 @@ module _ {V : Type 0} (a : Analysis V) (p : NamedProgram) (o : Outer) (f : Frame
   }
 
 -- And for a framework and a script that fit the program.
-pub covered_regular : {V : Type 0} (a : Analysis V) (p : NamedProgram) (o : Outer) (f : Framework) (floats : Floats) (facts : Facts V) (script : List Move) (n : ℕ) → IsCoverable a p o f floats facts → Fit p o f script → Each RangedMove script
+pub covered_regular : {V : Type 0} (a : Analysis V) (p : NamedProgram) (o : Outer) (f : Framework) (floats : Floats) (facts : Facts V) (script : List Move) (n : ℕ) → IsCoverable a p o f floats facts → Fit p o f script
     → (after (setting_of p o f floats) (bodies_of p) (opening script) n ≡ Ended) ⊎ HoldsBy (both (both (both (typed_states p f o) ranged_states) (live_states p o)) (covering a p o facts)) (after (setting_of p o f floats) (bodies_of p) (opening script) n)
-covered_regular a p o f floats facts script n base fit ranged = let known = reg a p o f floats facts script base fit in
-    covered_always a p o f floats facts (ready a p o f floats facts script base fit) known (finds_regularly p f known) (keeps_live p o f floats (agrees a p o f floats facts script base fit)) script fit ranged n
+covered_regular a p o f floats facts script n base fit = let known = reg a p o f floats facts script base fit in
+    covered_always a p o f floats facts (ready a p o f floats facts script base fit) known (finds_regularly p f known) (keeps_live p o f floats (agrees a p o f floats facts script base fit)) script fit (ranged_moves script fit.ranged) n

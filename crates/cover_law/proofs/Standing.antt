@@ -26,7 +26,7 @@ use Rattle.pass_defs.specs.Walks.{form_at, handlers_at, handlers_of, region_at, 
 use Rattle.pass_defs.specs.Analysis.{Analysis}
 use Rattle.pass_defs.specs.Facts.{Facts, needs}
 use Rattle.pass_defs.specs.Registers.{kind_at}
-use Rattle.pass_defs.specs.Closed.{At, Arrives, put_sized, is_wide_slot, refined, refined_both, arm, cases, keys_of, switched, edges, after, packed_keys}
+use Rattle.run_facts.specs.Closed.{At, Arrives, put_sized, is_wide_slot, refined, refined_both, arm, cases, keys_of, switched, edges, after, packed_keys}
 use Rattle.invariant_law.specs.Fine.{IsThere}
 use Rattle.invariant_law.specs.Invariant.{Above, Begun, Grows}
 use Rattle.run_facts.specs.Covered.{SeesAll, Stands, TakesFrom, CoversTop, CoversWaiting}

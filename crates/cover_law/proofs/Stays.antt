@@ -25,7 +25,7 @@ use Rattle.dalvik_defs.specs.declared.tables.Floats.{Floats}
 use Rattle.dalvik_defs.specs.declared.tables.Framework.{Framework}
 use Rattle.pass_defs.specs.Analysis.{Analysis, IsRanged}
 use Rattle.pass_defs.specs.Bare.{may_throw}
-use Rattle.pass_defs.specs.Closed.{At, put_sized, is_wide_slot, edges, Filled}
+use Rattle.run_facts.specs.Closed.{At, put_sized, is_wide_slot, edges, Filled}
 use Rattle.pass_defs.specs.Facts.{Facts}
 use Rattle.pass_defs.specs.Kinds.{kind_eq, is_initialised}
 use Rattle.pass_defs.specs.Kinds as kind

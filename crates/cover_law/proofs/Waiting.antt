@@ -34,7 +34,7 @@ use Rattle.dalvik_defs.specs.declared.tables.Floats.{Floats}
 use Rattle.dalvik_defs.specs.declared.tables.Framework.{Framework}
 use Rattle.pass_defs.specs.Analysis.{Analysis, IsRanged, Holds}
 use Rattle.pass_defs.specs.Bare.{may_throw}
-use Rattle.pass_defs.specs.Closed.{At, Puts, Instance as PutsInstance, Static as PutsStatic, AtPosition, put, put_sized, refined, then_put, arm, edges, field_value}
+use Rattle.run_facts.specs.Closed.{At, Puts, Instance as PutsInstance, Static as PutsStatic, AtPosition, put, put_sized, refined, then_put, arm, edges, field_value}
 use Rattle.pass_defs.specs.Facts.{Facts, Itself, own_key, needs, field_class}
 use Rattle.pass_defs.specs.Demands.{meets, of_type, holds_field}
 use Rattle.pass_defs.specs.Registers.{kind_at}

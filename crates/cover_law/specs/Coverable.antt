@@ -20,7 +20,7 @@ use Rattle.dalvik_defs.specs.declared.program.NamedProgram.{NamedProgram}
 use Rattle.dalvik_defs.specs.declared.tables.Floats.{Floats}
 use Rattle.dalvik_defs.specs.declared.tables.Framework.{Framework}
 use Rattle.pass_defs.specs.Analysis.{Analysis, IsRanged}
-use Rattle.pass_defs.specs.Closed.{IsClosed}
+use Rattle.run_facts.specs.Closed.{IsClosed}
 use Rattle.pass_defs.specs.Facts.{Facts, may_be_made}
 use Rattle.removal_law.specs.Reach.{IsAcyclic, IsDescribed, IsSoundTable}
 use Rattle.silence_law.specs.Results.{AllTakeInPlace}

@@ -17,13 +17,12 @@ ghost use Rattle.pass_defs.specs.Analysis.{IsSound};
 ghost use Rattle.pass_defs.specs.Facts.{Facts};
 ghost use Rattle.pass_defs.specs.Flat.{Flat};
 ghost use Rattle.pass_defs.specs.FlatAnalysis.{flat_analysis};
-ghost use Rattle.invariant_law.specs.Holds.{Each, Holds};
+ghost use Rattle.invariant_law.specs.Holds.{Holds};
 ghost use Rattle.run_facts.specs.ValueAnalysis.{Numbers, value_analysis};
 ghost use Rattle.removal_law.specs.Reach.{IsAcyclic};
 ghost use Rattle.stuck_law.specs.Regular.{IsRegular};
 ghost use Rattle.cover_law.specs.Apart.{IsSoundApart};
 ghost use Rattle.cover_law.specs.Coverable.{IsCoverable, IsTabled};
-ghost use Rattle.cover_law.specs.Known.{RangedMove};
 ghost use Rattle.cover_law.specs.Sound.{IsSoundOn};
 ghost use Rattle.cover_law.specs.States.{covered_states};
 
@@ -32,14 +31,14 @@ ghost use Rattle.cover_law.specs.States.{covered_states};
 /// methods, classes that are initialised and classes of objects.
 pub fn constants_cover()
     ensures { (p : NamedProgram) (o : Outer) (f : Framework) (floats : Floats) (facts : Facts Flat) (script : List Move) (n : ℕ)
-        → IsTabled flat_analysis p o f facts → Fit p o f script → Each RangedMove script
+        → IsTabled flat_analysis p o f facts → Fit p o f script
         → let t = after (setting_of p o f floats) (bodies_of p) (opening script) n in (t ≡ Ended) ⊎ Holds (covered_states flat_analysis p o f facts) t }
 {}
 
 /// The same of facts of the product domain, where what the code makes of numbers is sound.
 pub fn values_cover()
     ensures { (p : NamedProgram) (numbers : Numbers) (o : Outer) (f : Framework) (floats : Floats) (facts : Facts Parts) (script : List Move) (n : ℕ)
-        → IsCoverable (value_analysis p numbers) p o f floats facts → Fit p o f script → Each RangedMove script
+        → IsCoverable (value_analysis p numbers) p o f floats facts → Fit p o f script
         → let t = after (setting_of p o f floats) (bodies_of p) (opening script) n in
         (t ≡ Ended) ⊎ Holds (covered_states (value_analysis p numbers) p o f facts) t }
 {}

@@ -89,6 +89,7 @@ module _ (p q : NamedProgram) (o : Outer) (less : (t : Text) → defines q t ≡
         (λ r. not_less (list_any (defines q) (named_by r)) (list_any (defines p) (named_by r)) (any_more (defines q) (defines p) less (named_by r))) f.rows h.rows;
     classes = false_less (list_any (defines q) reserved) (list_any (defines p) reserved) (any_more (defines q) (defines p) less reserved) h.classes;
     values = all_more (fit_move p o) (fit_move q o) move_fits script h.values;
+    ranged = h.ranged;
   }
 
 -- ---- showing the same

@@ -27,7 +27,6 @@ pub mod Loose
 pub mod Thinned
 pub mod Origins
 pub mod Analysis
-pub mod Closed
 pub mod FlatAnalysis
 pub mod PassExamples
 pub mod KeptExamples

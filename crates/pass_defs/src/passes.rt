@@ -1,7 +1,6 @@
 //! Examples of what the passes look for and write, on the programs of `specs/PassExamples.antt`.
 
-ghost use Rattle.std.specs.Prelude.{◌≡◌, pos, map, length, true, false, [], ◌∷◌, codes};
-ghost use Rattle.insn_set.specs.declared.ops.Test.TheVariants as test;
+ghost use Rattle.std.specs.Prelude.{◌≡◌, pos, length, true, false, [], ◌∷◌, codes};
 ghost use Rattle.insn_set.specs.declared.ops.Slot.TheVariants as slot;
 ghost use Rattle.insn_set.specs.declared.ops.Item.TheVariants as item;
 ghost use Rattle.insn_set.specs.declared.ops.LiteralOp.TheVariants as literal;
@@ -22,9 +21,6 @@ ghost use Rattle.pass_defs.specs.Stale.{IsStale};
 ghost use Rattle.pass_defs.specs.Packed.{IsPacked};
 ghost use Rattle.pass_defs.specs.Quiet.{IsPlainlyQuiet, IsDroppable};
 ghost use Rattle.pass_defs.specs.Covers.{Covers};
-ghost use Rattle.pass_defs.specs.Closed.{edges};
-ghost use Rattle.pass_defs.specs.FlatAnalysis.{flat_analysis};
-ghost use Rattle.pass_defs.specs.Examples.{two_and_three};
 ghost use Rattle.pass_defs.specs.Thinned.{Stays, Empties, Goes, body_thinned, origins_from};
 ghost use Rattle.pass_defs.specs.Origins.{composed};
 ghost use Rattle.pass_defs.specs.Loose.{KnowsCalls, AreLoose, is_alone, concerns, is_plain_call, new_key, shorty};
@@ -167,14 +163,6 @@ pub fn a_quiet_call_is_dropped()
 pub fn facts_cover_a_state()
     ensures covers { Covers flat says adds knows_sum (state_with 2) }
     ensures not_another { Covers flat says adds knows_sum (state_with 3) → ⊥ }
-{}
-
-/// A branch on known numbers goes one way, and a division by a known 0 goes nowhere.
-pub fn known_branches_go_one_way()
-    ensures taken { map (λ e. e.0) (edges flat_analysis adds knows_sum 3 (form.If test.Lt 0 1 7) two_and_three) ≡ 7 ∷ [] }
-    ensures not_taken { map (λ e. e.0) (edges flat_analysis adds knows_sum 3 (form.IfZero test.Eq 0 7) two_and_three) ≡ 4 ∷ [] }
-    ensures unknown { map (λ e. e.0) (edges flat_analysis adds knows_sum 3 (form.IfZero test.Eq 2 7) two_and_three) ≡ 4 ∷ 7 ∷ [] }
-    ensures division { map (λ e. e.0) (edges flat_analysis adds knows_sum 3 (form.Binary binary.DivInt 2 0 1) (λ r. KnownWord 0)) ≡ [] }
 {}
 
 /// The call in a second caller is a site, judged by the program in which the first caller's is inlined: its limits see both.

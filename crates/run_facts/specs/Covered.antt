@@ -24,7 +24,7 @@ use Rattle.pass_defs.specs.Typed.{receiver_register}
 use Rattle.pass_defs.specs.Facts.{Facts, Initialises, needs, IsEnteredOn}
 use Rattle.invariant_law.specs.Invariant.{Above, Callee, Begun, Owing, Invariant, Grows}
 use Rattle.pass_defs.specs.Analysis.{Analysis}
-use Rattle.pass_defs.specs.Closed.{At, MayCall, MayLeave, Results, IsNeeded}
+use Rattle.run_facts.specs.Closed.{At, MayCall, MayLeave, Results, IsNeeded}
 
 module _ {V : Type 0} (a : Analysis V) (p : NamedProgram) (o : Outer) (t : Facts V) where
   abbrev pub Sees : V → World → Value → Type 0

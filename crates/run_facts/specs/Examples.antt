@@ -7,7 +7,7 @@ use Rattle.dalvik_defs.specs.declared.program.NamedProgram.{NamedProgram}
 use Rattle.domains.specs.Values.{Parts, any_value}
 use Rattle.pass_defs.specs.Facts.{Facts}
 use Rattle.pass_defs.specs.Analysis.{Analysis}
-use Rattle.pass_defs.specs.Closed.{edges}
+use Rattle.run_facts.specs.Closed.{edges}
 use Rattle.run_facts.specs.ValueAnalysis.{Numbers, tested_values, value_analysis}
 
 -- LB; under LA;

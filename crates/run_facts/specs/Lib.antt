@@ -1,3 +1,4 @@
+pub mod Closed
 pub mod Covered
 pub mod ValueAnalysis
 pub mod Examples

@@ -10,7 +10,7 @@ use Rattle.dalvik_defs.specs.Outer.{Outer, outer_of}
 use Rattle.dalvik_defs.specs.declared.program.NamedProgram.{NamedProgram}
 use Rattle.dalvik_defs.specs.declared.tables.Framework.{Framework}
 use Rattle.pass_defs.specs.Analysis.{Analysis}
-use Rattle.pass_defs.specs.Closed.{IsClosed}
+use Rattle.run_facts.specs.Closed.{IsClosed}
 use Rattle.pass_defs.specs.Facts.{Facts}
 use Rattle.pass_defs.specs.Typed.{IsTyped}
 use Rattle.removal_law.specs.Reach.{ShutsHold}

@@ -10,7 +10,7 @@ ghost use Rattle.dalvik_defs.specs.Outer.{Outer, outer_of};
 ghost use Rattle.dalvik_defs.specs.declared.program.NamedProgram.{NamedProgram};
 ghost use Rattle.dalvik_defs.specs.declared.tables.Framework.{Framework};
 ghost use Rattle.domains.specs.Values.{Parts};
-ghost use Rattle.pass_defs.specs.Closed.{IsClosed};
+ghost use Rattle.run_facts.specs.Closed.{IsClosed};
 ghost use Rattle.pass_defs.specs.Facts.{Facts};
 ghost use Rattle.pass_defs.specs.Typed.{IsTyped};
 ghost use Rattle.removal_law.specs.Reach.{ShutsHold};

@@ -12,13 +12,12 @@ ghost use Rattle.dalvik_defs.specs.declared.script.Move.{Move};
 ghost use Rattle.dalvik_defs.specs.declared.tables.Floats.{Floats};
 ghost use Rattle.dalvik_defs.specs.declared.tables.Framework.{Framework};
 ghost use Rattle.domains.specs.Values.{Parts};
-ghost use Rattle.invariant_law.specs.Holds.{Each, Holds};
+ghost use Rattle.invariant_law.specs.Holds.{Holds};
 ghost use Rattle.pass_defs.specs.Facts.{Facts};
 ghost use Rattle.removal_law.specs.Reach.{IsAcyclic};
 ghost use Rattle.run_facts.specs.ValueAnalysis.{value_analysis};
 ghost use Rattle.stuck_law.specs.Regular.{IsRegular};
 ghost use Rattle.cover_law.specs.Coverable.{IsTabled};
-ghost use Rattle.cover_law.specs.Known.{RangedMove};
 ghost use Rattle.cover_law.specs.States.{covered_states};
 ghost use Rattle.cover_law.specs.Sound.{IsSoundOn};
 ghost use Rattle.value_law.specs.Operators.{operators};
@@ -34,6 +33,6 @@ pub fn values_are_sound()
 /// that fit, each state that a run of a typed, regular program reaches has ended, or the facts cover it.
 pub fn values_cover()
     ensures { (p : NamedProgram) (o : Outer) (f : Framework) (floats : Floats) (facts : Facts Parts) (script : List Move) (n : ℕ)
-        → IsTabled (value_analysis p operators) p o f facts → Fit p o f script → Each RangedMove script
+        → IsTabled (value_analysis p operators) p o f facts → Fit p o f script
         → let t = after (setting_of p o f floats) (bodies_of p) (opening script) n in (t ≡ Ended) ⊎ Holds (covered_states (value_analysis p operators) p o f facts) t }
 {}

@@ -18,6 +18,7 @@ pub mod Getting
 pub mod Holding
 pub mod Judged
 pub mod Kept
+pub mod Known
 pub mod Lattice
 pub mod Leaving
 pub mod Links

@@ -45,6 +45,14 @@ AtMost t (Some a) (Some b) = IsBelow t a b
 abbrev pub Table : Type 0
 Table = List (Option Kinds)
 
+-- the kind of a register before a position: undefined where the position has no state, or there is none
+abbrev pub kind_in : Option (Option Kinds) → ℕ → Kind
+kind_in (Some (Some a)) r = kind_at a.registers r
+kind_in x r = kind.Undefined
+
+abbrev pub kind_before : Table → ℕ → ℕ → Kind
+kind_before t n r = kind_in (slice_get t n) r
+
 -- each position of a table is at or below that of another one
 abbrev pub IsUnder : Tables → Table → Table → Type 0
 IsUnder t x y = (n : ℕ) → AtMost t (place_at x n) (place_at y n)

@@ -4,7 +4,7 @@ ghost use Rattle.std.specs.Prelude.{◌≡◌, ◌≤◌, true, length, slice_ge
 ghost use Rattle.std.specs.Option.{option_copied};
 ghost use Rattle.verify.specs.Entry.{begun};
 ghost use Rattle.verify.specs.Flow.{greatest, places_of};
-ghost use Rattle.verify.specs.Typings.{IsShort, IsLeastTyping, Refuses as RefusesBody};
+ghost use Rattle.verify.specs.Typings.{IsShort, IsLeastTyping, kind_before, Refuses as RefusesBody};
 ghost use Rattle.verify.specs.Meeting.{IsMeeting};
 ghost use Rattle.verify.specs.Names.{parameters_of, result_of};
 ghost use Rattle.verify.specs.Methods.{receiver_of, constructs, HasTyping, Refuses, RefusesCode, Types, HasTypings, TypesAt, TypesWith, RefusesAt, RefusesWith, RefusesIn, AllBelow, RefusesFirst, IsFor};
@@ -34,7 +34,10 @@ pub struct Typings {
 impl Typings {
     /// The kind of a register before the form at a position. It is undefined where the position has no state, since no
     /// walk from the entry reaches it, and past the last position and the last register. It takes no memory.
-    pub fn at(&self, position: u32, register: u32) -> Kind {
+    #[tactic(auto, using(crate::proofs::Known::known_place))]
+    pub fn at(&self, position: u32, register: u32) -> Kind
+        ensures { result ≡ kind_before (places_of self.now.states.items) position register }
+    {
         match self.states.as_slice().get(position as usize) {
             Some(Some(frame)) => frame.at(register),
             _ => Kind::Undefined,

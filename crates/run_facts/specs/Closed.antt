@@ -11,7 +11,7 @@ use Rattle.insn_set.specs.declared.ops.InvokeKind.TheVariants as call
 use Rattle.insn_set.specs.Widths.{is_wide_item, unary_writes_wide, binary_is_wide}
 use Rattle.dalvik_defs.specs.Names.{Text}
 use Rattle.dalvik_defs.specs.Under.{defines}
-use Rattle.dalvik_defs.specs.Find.{Found, Finds, finds_at, finds_super, finds_field, finds_statically, defined_field}
+use Rattle.dalvik_defs.specs.Find.{Found, Search, Nothing, Clash, Finds, interface_named, finds_at, finds_super, finds_field, finds_statically, defined_field}
 use Rattle.dalvik_defs.specs.Initialised.{initialiser_of}
 use Rattle.dalvik_defs.specs.Face.{bodies_of}
 use Rattle.dalvik_defs.specs.Outer.{Outer}
@@ -191,13 +191,28 @@ module _ {V : Type 0} (a : Analysis V) where
     Virtually : (k : MethodKey) (g : Found) (t : Text) → MayBe (x (receiver_register args)) t → IsMade p o unconditional t → is_within p t k.class ≡ true → finds_at p t k ≡ Finds g → MayCall p o class x args call.Virtual k g
     ByInterface : (k : MethodKey) (g : Found) (t : Text) → MayBe (x (receiver_register args)) t → IsMade p o unconditional t → is_within p t k.class ≡ true → finds_at p t k ≡ Finds g → MayCall p o class x args call.Interface k g
 
-  -- It may leave the program: what it finds has no code, the class that it names is the framework's, or its receiver may be
-  -- an object that finds no code for it, as one that isn't under the interface that it names.
+  -- nothing is found, or a method without code; where two methods clash the call throws, and stays
+  abbrev pub FindsNoCode : Search → Type 0
+  FindsNoCode Nothing = Unit {0}
+  FindsNoCode Clash = ⊥
+  FindsNoCode (Finds g) = g.coded ≡ false
+
+  -- the receiver may be an object of a made class under the one that is named, which finds no code
+  pub record MayFindNoCode (p : NamedProgram) (o : Outer) (v : V) (k : MethodKey) : Type 0 where
+    pub class : Text
+    pub may_be : MayBe v class
+    pub made : IsMade p o unconditional class
+    pub within : is_within p class k.class ≡ true
+    pub bare : FindsNoCode (finds_at p class k)
+
+  -- It may leave the program: by what it finds; on an object, where what it names is the framework's or an interface, which a
+  -- receiver needn't have, or where its receiver may find no code.
   abbrev pub MayLeave : NamedProgram → Outer → Text → Registers → List ℕ → InvokeKind → MethodKey → Type 0
-  MayLeave p o class x args call.Static k = (g : Found) → finds_statically p k ≡ Finds g → g.coded ≡ false
-  MayLeave p o class x args call.Direct k = (g : Found) → finds_statically p k ≡ Finds g → g.coded ≡ false
-  MayLeave p o class x args call.Super k = (g : Found) → finds_super p class k ≡ Finds g → g.coded ≡ false
-  MayLeave p o class x args kind k = (defines p k.class ≡ false) ⊎ ((t : Text) × MayBe (x (receiver_register args)) t × ((g : Found) → IsMade p o unconditional t → is_within p t k.class ≡ true → finds_at p t k ≡ Finds g → g.coded ≡ false))
+  MayLeave p o class x args call.Static k = FindsNoCode (finds_statically p k)
+  MayLeave p o class x args call.Direct k = FindsNoCode (finds_statically p k)
+  MayLeave p o class x args call.Super k = FindsNoCode (finds_super p class k)
+  MayLeave p o class x args call.Virtual k = (defines p k.class ≡ false) ⊎ (is_some (interface_named p k.class) ≡ true) ⊎ MayFindNoCode p o (x (receiver_register args)) k
+  MayLeave p o class x args call.Interface k = Unit {0}
 
   -- what the place of the last result may hold behind a form that was reached
   pub data Results (p : NamedProgram) (o : Outer) (t : Facts V) (k : MethodKey) (x : Registers) : Form → V → Type 0 where
@@ -241,11 +256,11 @@ module _ {V : Type 0} (a : Analysis V) where
     pub thrown : (k : MethodKey) (n q : ℕ) (at : At p t k n) → Contains (caught at.body at.form n) q → Arrives at.registers (t.registers k q)
 
   pub record Calls (p : NamedProgram) (o : Outer) (t : Facts V) : Type 0 where
-    -- each argument but a receiver of a virtual call, which only holds of the objects that find the method
+    -- each argument but a receiver by which the method is found, which only holds of the objects that find it
     pub passes : (k m : MethodKey) (n i r : ℕ) (kind : InvokeKind) (args : List ℕ) (g : Found) (at : At p t k n) → at.form ≡ form.Invoke kind m args
         → MayCall p o k.class at.registers args kind m g → slice_get args i ≡ Some r → (i ≡ 0 → IsBound kind) → a.below (at.registers r) (t.parameters g.key i)
     pub receives : (k m : MethodKey) (n : ℕ) (kind : InvokeKind) (args : List ℕ) (g : Found) (u : Text) (v : Value) (at : At p t k n) → at.form ≡ form.Invoke kind m args
-        → a.holds (at.registers (receiver_register args)) u v → is_null v ≡ false → finds_at p u m ≡ Finds g → MayCall p o k.class at.registers args kind m g → a.holds (t.parameters g.key 0) u v
+        → (IsBound kind → ⊥) → a.holds (at.registers (receiver_register args)) u v → is_null v ≡ false → finds_at p u m ≡ Finds g → MayCall p o k.class at.registers args kind m g → a.holds (t.parameters g.key 0) u v
     pub enters : (k m : MethodKey) (n : ℕ) (kind : InvokeKind) (args : List ℕ) (g : Found) (at : At p t k n) → at.form ≡ form.Invoke kind m args
         → MayCall p o k.class at.registers args kind m g → g.coded ≡ true → IsEntered t g.key
 

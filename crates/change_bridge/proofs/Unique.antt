@@ -5,6 +5,7 @@ use Rattle.std.specs.Option.{option_map}
 use Rattle.std.specs.List.{list_all}
 use Rattle.std.proofs.lemmas.Bool.{cases_order}
 use Rattle.std.proofs.lemmas.Option.{slice_get-map, slice_get_within}
+use Rattle.lemmas.proofs.Options.{before_map}
 use Rattle.program_model.specs.Distinct.{own_method_key, all_differ}
 use Rattle.program_model.specs.Neighbours.{neighbours}
 use Rattle.program_model.specs.ValueRules.{marks_fit}
@@ -29,12 +30,8 @@ use Rattle.change_bridge.specs.Unique.{IsUnique}
 use Rattle.change_bridge.proofs.Changing.{same_text}
 
 -- what a named item is named of
-before : {A B : Type 0} (f : A → B) (o : Option A) (y : B) → option_map f o ≡ Some y → (x : A) × ((o ≡ Some x) × (f x ≡ y))
-before f None y e = absurd (cc)
-before f (Some x) y e = (x, (refl, cc))
-
 there : {A B : Type 0} (f : A → B) (xs : List A) (i : ℕ) (y : B) → slice_get (map f xs) i ≡ Some y → (x : A) × ((slice_get xs i ≡ Some x) × (f x ≡ y))
-there f xs i y e = before f (slice_get xs i) y (sym (slice_get-map f xs i) ∙ e)
+there f xs i y e = before_map f (slice_get xs i) y (sym (slice_get-map f xs i) ∙ e)
 
 methods_differ : (p : Program) (c : Class) → class_fits p c ≡ true → all_differ own_method_key c.methods ≡ true
 unfolding class_fits methods_fit
@@ -48,8 +45,8 @@ module _ (p : Program) (s : Sound p) (once : (class : ℕ) → IsTwice p class �
   class_apart : (i j : ℕ) (c d : Class) → slice_get p.classes i ≡ Some c → slice_get p.classes j ≡ Some d → c.name ≡ d.name → i ≡ j
   class_apart i j c d h g e = elim (cases_order i j) [
     | inl same ↦ same
-    | inr (inl lt) ↦ absurd (once j (record { earlier = i; before = lt; one = c; other = d; is_one = h; is_other = g; same = e }))
-    | inr (inr gt) ↦ absurd (once i (record { earlier = j; before = gt; one = d; other = c; is_one = g; is_other = h; same = sym e }))
+    | inr (inl lt) ↦ absurd (once j (record { earlier = i; before_map = lt; one = c; other = d; is_one = h; is_other = g; same = e }))
+    | inr (inr gt) ↦ absurd (once i (record { earlier = j; before_map = gt; one = d; other = c; is_one = g; is_other = h; same = sym e }))
   ]
 
   classes : (i j : ℕ) (c d : NamedClass) → slice_get (named p).classes i ≡ Some c → slice_get (named p).classes j ≡ Some d → text_eq c.name d.name ≡ true → i ≡ j

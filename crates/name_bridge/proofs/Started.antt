@@ -3,7 +3,6 @@ use Rattle.std.proofs.Common.{◌≡◌, ℕ, zero, suc, ◌<◌, Bool, true, fa
 use Rattle.std.specs.Prelude.{◌&&◌, not, cond, codes, slice_get, position, option_and_then, is_some}
 use Rattle.std.specs.List.{list_all}
 use Rattle.std.specs.Option.{option_map}
-use Rattle.lemmas.proofs.Options.{mapped_some}
 use Rattle.program_model.specs.declared.pools.MethodName.{MethodName}
 use Rattle.program_model.specs.declared.program.Method.{Method}
 use Rattle.program_model.specs.declared.program.Class.{Class}
@@ -62,6 +61,10 @@ initialiser_by_number p k =
         (ap (λ b. b && is_some (named_method p r.entry).body) (sym (static_flag r.entry.flags)) ∙ ap (λ b. is_static r.entry.flags && b) (coded_test p r.entry.body))
         ∙ by_test i (runs (Some r.entry))
         ∙ sym (ap (λ o. option_map (λ i. initialiser_key (type_at p k.name)) (cond (runs o) (Some i) None)) r.is)
+
+mapped_some : {A B : Type 0} (f : A → B) (o : Option A) → is_some (option_map f o) ≡ is_some o
+mapped_some f None = refl
+mapped_some f (Some x) = refl
 
 module _ (p : Program) (s : Sound p) where
   -- whether the class of a type has an initialiser

@@ -7,7 +7,6 @@ pub use Rattle.class_defs.proofs.WellFormed.{and_left, and_right, all_at, Sound,
 use Rattle.std.specs.Cmp.Lexicographic.{pointwise, nat_list_eq_equiv}
 use Rattle.std.proofs.lemmas.Bool.{cases_lt}
 use Rattle.std.proofs.lemmas.List.Folds.{list_any-append}
-use Rattle.lemmas.proofs.Bools.{or_false_left, or_false_right}
 use Rattle.program_model.specs.declared.pools.Proto.{Proto}
 use Rattle.program_model.specs.declared.pools.FieldName.{FieldName}
 use Rattle.program_model.specs.declared.pools.MethodName.{MethodName}
@@ -26,6 +25,14 @@ use Rattle.dalvik_defs.specs.declared.names.Signature.{Signature}
 use Rattle.dalvik_defs.specs.declared.names.MethodKey.{MethodKey}
 use Rattle.dalvik_defs.specs.declared.names.FieldKey.{FieldKey}
 
+or_left : (a b : Bool) → (a || b) ≡ false → a ≡ false
+or_left true b e = e
+or_left false b e = refl
+
+or_right : (a b : Bool) → (a || b) ≡ false → b ≡ false
+or_right true b e = absurd (true≢false e)
+or_right false b e = e
+
 -- ---- entries of a list
 
 -- ---- entries that differ
@@ -40,14 +47,14 @@ module _ {X : Type 0} (key : X → List ℕ) where
   apart_before before [] i y h e = cc
   apart_before before (x ∷ xs) zero y h e = ap (λ z. list_any (λ b. same_entry key b z) before) (let s : y ≡ x = cc in s) ∙ (branch _ _ h).0
   apart_before before (x ∷ xs) (suc i) y h e =
-      or_false_left _ _ (sym (list_any-append (λ b. same_entry key b y) before (x ∷ [])) ∙ apart_before (before ++ x ∷ []) xs i y (branch _ _ h).1 e)
+      or_left _ _ (sym (list_any-append (λ b. same_entry key b y) before (x ∷ [])) ∙ apart_before (before ++ x ∷ []) xs i y (branch _ _ h).1 e)
 
   apart : (before xs : List X) (i j : ℕ) (x y : X) → differ_from key before xs ≡ true → slice_get xs i ≡ Some x → slice_get xs j ≡ Some y → i < j → same_entry key x y ≡ false
   apart before [] i j x y h e f lt = cc
   apart before (z ∷ zs) zero zero x y h e f lt = absurd (omega arith)
   apart before (z ∷ zs) zero (suc j) x y h e f lt =
-      let a = or_false_right (list_any (λ b. same_entry key b y) before) _ (sym (list_any-append (λ b. same_entry key b y) before (z ∷ [])) ∙ apart_before (before ++ z ∷ []) zs j y (branch _ _ h).1 f) in
-      ap (λ w. same_entry key w y) (let s : x ≡ z = cc in s) ∙ or_false_left _ _ a
+      let a = or_right (list_any (λ b. same_entry key b y) before) _ (sym (list_any-append (λ b. same_entry key b y) before (z ∷ [])) ∙ apart_before (before ++ z ∷ []) zs j y (branch _ _ h).1 f) in
+      ap (λ w. same_entry key w y) (let s : x ≡ z = cc in s) ∙ or_left _ _ a
   apart before (z ∷ zs) (suc i) zero x y h e f lt = absurd (omega arith)
   apart before (z ∷ zs) (suc i) (suc j) x y h e f lt = apart (before ++ z ∷ []) zs i j x y (branch _ _ h).1 e f (omega arith)
 

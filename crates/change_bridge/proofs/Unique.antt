@@ -45,8 +45,8 @@ module _ (p : Program) (s : Sound p) (once : (class : ℕ) → IsTwice p class �
   class_apart : (i j : ℕ) (c d : Class) → slice_get p.classes i ≡ Some c → slice_get p.classes j ≡ Some d → c.name ≡ d.name → i ≡ j
   class_apart i j c d h g e = elim (cases_order i j) [
     | inl same ↦ same
-    | inr (inl lt) ↦ absurd (once j (record { earlier = i; before_map = lt; one = c; other = d; is_one = h; is_other = g; same = e }))
-    | inr (inr gt) ↦ absurd (once i (record { earlier = j; before_map = gt; one = d; other = c; is_one = g; is_other = h; same = sym e }))
+    | inr (inl lt) ↦ absurd (once j (record { earlier = i; before = lt; one = c; other = d; is_one = h; is_other = g; same = e }))
+    | inr (inr gt) ↦ absurd (once i (record { earlier = j; before = gt; one = d; other = c; is_one = g; is_other = h; same = sym e }))
   ]
 
   classes : (i j : ℕ) (c d : NamedClass) → slice_get (named p).classes i ≡ Some c → slice_get (named p).classes j ≡ Some d → text_eq c.name d.name ≡ true → i ≡ j

@@ -77,9 +77,9 @@ module _ (w : List (List Bool)) (g h k : ℕ → ℕ) where
       let ws = first_if (is_wide_slot slot) to in
       let rs = first_if (is_wide_slot slot) from in
       ap suc (ap h (source_same g (is_wide_slot slot) to from r
-              (λ v. paired to (any_front to ws rs (wide_one (is_wide_slot slot) to v)))
-              (λ v. paired from (any_back from ws rs (wide_one (is_wide_slot slot) from v))) e)
-          ∙ same (source (is_wide_slot slot) to from r) (source_read (is_wide_slot slot) to from r e))
+      (λ v. paired to (any_front to ws rs (wide_one (is_wide_slot slot) to v)))
+      (λ v. paired from (any_back from ws rs (wide_one (is_wide_slot slot) from v))) e)
+      ∙ same (source (is_wide_slot slot) to from r) (source_read (is_wide_slot slot) to from r e))
   written_same insn.Nop r paired e same = refl
   written_same f r paired e same = refl
 
@@ -144,8 +144,8 @@ module _ (w : List (List Bool)) (b d : Body) (c : IsCompacted w b d) where
   same_history _ _ (IsPath.On ss n m f p e i) r h =
       ap (λ o. left_by o (moves d ss) (c.new r)) (at_place n f e)
       ∙ left_same w c.new (moves d ss) (moves b ss) f r (paired n f e)
-          (λ q z. same_history ss n p q (n, IsReadAt.Here n f e z))
-          (λ z. (same_history ss n p r (h.0, IsReadAt.Onward n m h.0 f e z i h.1), unwritten n m r f e i h z))
+      (λ q z. same_history ss n p q (n, IsReadAt.Here n f e z))
+      (λ z. (same_history ss n p r (h.0, IsReadAt.Onward n m h.0 f e z i h.1), unwritten n m r f e i h z))
       ∙ sym (ap (λ o. left_by o (moves b ss) r) e)
   same_history _ _ (IsPath.Thrown ss n m f p e i) r h = same_history ss n p r (h.0, IsReadAt.Caught n m h.0 f e i h.1)
 

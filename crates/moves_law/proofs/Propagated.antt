@@ -85,7 +85,7 @@ module _ (w : List (List Bool)) (b d : Body) (x : IsPropagated w b d) where
       let u = get_some b.insns n lt in
       let v = x.insns n u.0 u.1 in
       let sums : moved_along d (path_to b n) (Some v.0) ≡ moved_along b (path_to b n) (Some u.0) =
-          sym (ap (moved_along d (path_to b n)) v.1) ∙ sym (sum_is n) ∙ s ∙ ap (moved_along b (path_to b n)) u.1 in
+      sym (ap (moved_along d (path_to b n)) v.1) ∙ sym (sum_is n) ∙ s ∙ ap (moved_along b (path_to b n)) u.1 in
       v.1 ∙ ap Some (unchanged n u.0 v.0 u.1 v.1 v.2 (path_to b n) refl sums) ∙ sym u.1
 
   body_falls : NoMore body_moves (Some b) (Some d)

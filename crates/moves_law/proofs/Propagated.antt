@@ -17,7 +17,6 @@ use Rattle.body_graph.proofs.Members.{get_some}
 use Rattle.copy_prop.specs.Rereading.{IsReread, substituted, substitutes}
 use Rattle.copy_prop.specs.Searches.{IsAmong}
 use Rattle.copy_prop.specs.Propagated.{IsPropagated, AreEach, RewritesBody, IsPropagatedMethod, IsPropagatedClass, IsPropagatedProgram}
-use Rattle.copy_prop.specs.declared.copied.Copied.{Copied}
 use Rattle.copy_histories.specs.Histories.{Step, IsPath, moves, ReadsNoLater}
 use Rattle.copy_histories.proofs.Fewer as histories
 use Rattle.copy_histories.proofs.Propagated.{reads_no_later}
@@ -32,6 +31,10 @@ use Rattle.moves_law.proofs.Sums.{NoMore, itself, fewer, added, mapped_most, som
 operands_map : (s : ℕ → ℕ) (f : Insn) → operands_of (remade s (λ r. r) f) ≡ map s (operands_of f)
 operands_map s insn.Nop = refl
 operands_map s f = refl
+
+none_or_some : {C : Type 0} (xs : List C) → (xs ≡ []) ⊎ ((c : C) × (cs : List C) × (xs ≡ c ∷ cs))
+none_or_some [] = inl refl
+none_or_some (c ∷ cs) = inr (c, cs, refl)
 
 module _ (w : List (List Bool)) (b d : Body) (x : IsPropagated w b d) where
   abbrev reads : ReadsNoLater b d
@@ -64,11 +67,10 @@ module _ (w : List (List Bool)) (b d : Body) (x : IsPropagated w b d) where
 
   -- without a path nothing is stale
   unreached : (n : ℕ) (f g : Insn) → path_to b n ≡ None → IsReread w b n f g → g ≡ f
-  unreached n f g e y = y.form ∙ by y.copies y.stale
-    where
-      by : (cs : List Copied) → All (IsAmong w b n f) cs → substitutes cs f ≡ f
-      by [] h = kept (substituted []) f (map-id (operands_of f))
-      by (c ∷ cs) h = let u = has_path b n (All-head (IsAmong w b n f) c cs h).stands.reached in no_some u.0 (sym e ∙ u.1)
+  unreached n f g e y = elim (none_or_some y.copies) [
+    | inl i ↦ y.form ∙ ap (λ cs. substitutes cs f) i ∙ kept (substituted []) f (map-id (operands_of f))
+    | inr i ↦ (let u = has_path b n (All-head (IsAmong w b n f) i.0 i.1 (subst (λ cs. All (IsAmong w b n f) cs) i.2 y.stale)).stands.reached in no_some u.0 (sym e ∙ u.1))
+  ]
 
   -- where the sum doesn't fall, nothing changes
   unchanged : (n : ℕ) (f g : Insn) → insn_at b n ≡ Some f → insn_at d n ≡ Some g → IsReread w b n f g → (o : Option (List Step)) → path_to b n ≡ o → moved_along d o (Some g) ≡ moved_along b o (Some f) → g ≡ f

@@ -1,13 +1,11 @@
 -- Other numbers of registers leave the sum of the Moves the same, since no two registers whose values are read share one.
-use Rattle.std.proofs.Common.{◌≡◌, inl, inr, ℕ, zero, suc, ◌+◌, Bool, true, false, true≢false, nat_eq, List, [], ◌∷◌, ◌++◌, length, map, Option, Some, None, Contains, refl, sym, ap, ap₂, ◌∙◌, subst, arith, eqb-true, eq-eqb}
+use Rattle.std.proofs.Common.{◌≡◌, ℕ, zero, suc, ◌+◌, Bool, true, false, true≢false, nat_eq, List, [], ◌∷◌, length, map, Option, Some, None, Contains, refl, sym, ap, ◌∙◌, subst, arith, eqb-true, eq-eqb}
 use Rattle.std.specs.Prelude.{◌&&◌, if◌then◌else◌, sum_by, slice_get}
-use Rattle.std.specs.List.{list_any}
 use Rattle.std.proofs.lemmas.Bool.{or_right}
 use Rattle.std.proofs.lemmas.List.{length-map}
 use Rattle.std.proofs.lemmas.List.Sums.{sum_by-cons}
 use Rattle.insn_set.specs.Registers.{in_operand, reads_of, writes_of}
 use Rattle.insn_set.specs.Widths.{is_wide_slot}
-use Rattle.insn_set.specs.declared.ops.Slot.{Slot}
 use Rattle.insn_set.specs.declared.form.Insn.{Insn}
 use Rattle.insn_set.specs.declared.form.Insn.TheVariants as insn
 use Rattle.program_model.specs.declared.body.Body.{Body}
@@ -15,15 +13,13 @@ use Rattle.program_model.specs.declared.program.Method.{Method}
 use Rattle.program_model.specs.declared.program.Class.{Class}
 use Rattle.program_model.specs.declared.program.Program.{Program}
 use Rattle.insn_regs.specs.Remade.{remade, operands_of}
-use Rattle.insn_regs.specs.Wides.{first_if, wides_read, widths_of}
+use Rattle.insn_regs.specs.Wides.{first_if, widths_of}
 use Rattle.walk_marks.specs.Walks.{is_on}
 use Rattle.body_graph.specs.Walks.{insn_at, onward, IsReadAt, IsRead}
 use Rattle.body_graph.proofs.Members.{first, there}
-use Rattle.copy_prop.specs.Stale.{in_copy, instead}
 use Rattle.copy_histories.specs.Histories as history
 use Rattle.copy_histories.specs.Histories.{Step, IsPath, left_by, moves}
-use Rattle.compact.specs.Packed.{wides_written, Clobbers, Conflict}
-use Rattle.compact.specs.Packed as packed
+use Rattle.compact.specs.Packed.{Conflict}
 use Rattle.compact.specs.Renamed.{IsCompacted, AreEach, RewritesBody, IsCompactedMethod, IsCompactedClass, IsCompactedProgram}
 use Rattle.moves_law.specs.Paths.{path_to}
 use Rattle.moves_law.specs.Measure.{moved_along, moves_at, moves_below, body_moves, method_moves, class_moves, moves_in}

@@ -12,7 +12,7 @@ use Rattle.program_model.specs.declared.program.Program.{Program}
 use Rattle.insn_regs.specs.Remade.{remade, operands_of}
 use Rattle.insn_regs.specs.Wides.{widths_of}
 use Rattle.walk_marks.specs.Walks.{is_on}
-use Rattle.body_graph.specs.Walks.{insn_at, IsReached}
+use Rattle.body_graph.specs.Walks.{insn_at}
 use Rattle.body_graph.proofs.Members.{get_some}
 use Rattle.copy_prop.specs.Rereading.{IsReread, substituted, substitutes}
 use Rattle.copy_prop.specs.Searches.{IsAmong}

@@ -1,5 +1,5 @@
 -- A body whose instructions name other registers has the same paths.
-use Rattle.std.proofs.Common.{◌≡◌, ◌≤◌, inl, inr, ℕ, zero, suc, Bool, List, [], length, nat_eq, Option, Some, None, refl, sym, ap, ap₂, ◌∙◌, subst}
+use Rattle.std.proofs.Common.{◌≡◌, ◌≤◌, inl, inr, ℕ, zero, suc, [], length, nat_eq, Option, Some, None, refl, sym, ap, ap₂, ◌∙◌, subst}
 use Rattle.std.specs.Prelude.{if◌then◌else◌}
 use Rattle.std.specs.List.{list_any}
 use Rattle.std.proofs.lemmas.Bool.{cases_lt}
@@ -8,10 +8,9 @@ use Rattle.insn_set.specs.declared.form.Insn.{Insn}
 use Rattle.insn_set.specs.declared.form.Insn.TheVariants as insn
 use Rattle.program_model.specs.declared.body.Body.{Body}
 use Rattle.flow_cfg.specs.Walks.{handlers_at}
-use Rattle.insn_regs.specs.Remade.{remade, operands_of}
+use Rattle.insn_regs.specs.Remade.{remade}
 use Rattle.body_graph.specs.Walks.{insn_at, onward, caught}
 use Rattle.body_graph.proofs.Members.{get_past, get_some}
-use Rattle.copy_histories.specs.Histories.{Step}
 use Rattle.moves_law.specs.Paths.{leaving, one_step, joined, or_else, between, path_to}
 use Rattle.moves_law.proofs.Lists.{no_some}
 

@@ -12,7 +12,7 @@ use Rattle.insn_regs.specs.Remade.{remade, operands_of}
 use Rattle.insn_regs.specs.Wides.{first_if, wides_read}
 use Rattle.body_graph.proofs.Members.{none, split}
 use Rattle.compact.specs.Packed.{wides_written, wides_of}
-use Rattle.moves_law.proofs.Lists.{untrue, either, is_in, in_it}
+use Rattle.moves_law.proofs.Lists.{either, is_in, in_it}
 
 -- ---- operands
 

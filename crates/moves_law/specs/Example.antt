@@ -1,5 +1,5 @@
 -- A copy of a copy that is returned, and the same with the original returned.
-use Rattle.std.specs.Prelude.{ℕ, pos, List, [], ◌∷◌}
+use Rattle.std.specs.Prelude.{pos, List, [], ◌∷◌}
 use Rattle.insn_set.specs.declared.ops.Slot.TheVariants.{Word}
 use Rattle.insn_set.specs.declared.form.Insn.{Insn}
 use Rattle.insn_set.specs.declared.form.Insn.TheVariants.{Move, Const, Return}

@@ -287,7 +287,7 @@ module _ {V : Type 0} (a : Analysis V) (p : NamedProgram) (o : Outer) (f : Frame
       abbrev u : Text
       u = kind_of w (register g r)
 
-      maybe : (ik : InvokeKind) → I (form.Invoke ik k (r ∷ rs)) → is_null (register g r) ≡ false → MayBe a (x r) u
+      abbrev maybe : (ik : InvokeKind) → I (form.Invoke ik k (r ∷ rs)) → is_null (register g r) ≡ false → MayBe a (x r) u
       maybe ik h z = record { object = register g r; there = z; held = seen_at ik k (r ∷ rs) h (r ∷ rs) (looks a p o f floats facts base reg w cs g tw kw cw t kg top (form.Invoke ik k (r ∷ rs)) h) 0 r refl }
 
       -- ---- what a virtual call finds

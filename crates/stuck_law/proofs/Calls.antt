@@ -1,6 +1,6 @@
 -- What calls leave, and what is entered.
 use Rattle.std.proofs.Common.{◌≡◌, ℕ, suc, ◌+◌, ◌-◌, Bool, true, false, true≢false, List, [], ◌∷◌, ◌++◌, Option, Some, None, ◌⊎◌, inl, inr, refl, sym, ap, ◌∙◌, subst, arith}
-use Rattle.std.specs.Prelude.{◌&&◌, ◌||◌, not, nat_eq, length, map, drop, replicate, codes, slice_get, is_some, Contains, if◌then◌else◌}
+use Rattle.std.specs.Prelude.{◌&&◌, ◌||◌, not, nat_eq, length, map, drop, codes, slice_get, is_some, Contains, if◌then◌else◌}
 use Rattle.std.proofs.lemmas.Bool.{eqb-true}
 use Rattle.std.specs.List.{list_all}
 use Rattle.std.specs.Option.{option_and_then}
@@ -47,7 +47,7 @@ use Rattle.invariant_law.proofs.Fine.{each_map}
 use Rattle.stuck_law.specs.TypedStates.{AllHold, CaughtHolds, IsObject, KindHolds, RefFits, StateHolds, TypedFrame, TypedWorld}
 use Rattle.stuck_law.specs.Regular.{taken}
 use Rattle.stuck_law.proofs.Settled.{IsSettled, IsFound, FindsRegularly}
-use Rattle.stuck_law.proofs.Registers.{IsWhole, KeepsHalves, whole_keeps, no_low, and_left, and_right, there_held, all_map, all_behind, all_long}
+use Rattle.stuck_law.proofs.Registers.{IsNoHalf, KeepsHalves, whole_keeps, no_low, and_left, and_right, there_held, all_map, all_behind, all_long}
 use Rattle.stuck_law.proofs.Sorts.{RefSort, AnArray, APlain, AnAny, ref_sort, Sorted, OfWord, OfWide, OfReference, OfNone, sorted, class_alone, no_half, not_wide}
 use Rattle.stuck_law.proofs.Climbs.{under_self, plain_below, step_up, defined_by, plain_by, or_cases}
 use Rattle.stuck_law.proofs.Arrays.{true_false, under_fits}
@@ -138,14 +138,14 @@ module _ (p : NamedProgram) (o : Outer) (f : Framework) (floats : Floats) (reg :
       by (OfWide q x b k l) = true_false (class_alone u e).0 b
       by (OfNone q x b k l) = true_false (class_alone u e).0 b
 
-  replaced_held : (c : Text) (w : World) (old new : Kind) → ((v : Value) → KindHolds p f c w old v → KindHolds p f c w new v × IsWhole new) → (k : Kind) (v : Value) → KindHolds p f c w k v → KindHolds p f c w (replaced old new k) v × KeepsHalves k (replaced old new k)
+  replaced_held : (c : Text) (w : World) (old new : Kind) → ((v : Value) → KindHolds p f c w old v → KindHolds p f c w new v × IsNoHalf new) → (k : Kind) (v : Value) → KindHolds p f c w k v → KindHolds p f c w (replaced old new k) v × KeepsHalves k (replaced old new k)
   replaced_held c w old new to k v h = by (kind_eq k old) refl
     where
       by : (b : Bool) → kind_eq k old ≡ b → KindHolds p f c w (elim b as (λ b. Kind) [ true ↦ new | false ↦ k ]) v × KeepsHalves k (elim b as (λ b. Kind) [ true ↦ new | false ↦ k ])
       by true e = let h1 = to v (subst (λ k. KindHolds p f c w k v) (kind_sound k old e) h) in (h1.0, whole_keeps k new h1.1)
       by false e = (h, (λ i. i, λ i. i))
 
-  class_whole : (u : Text) → is_class_type u ≡ true → IsWhole (kind.kind_of p u)
+  class_whole : (u : Text) → is_class_type u ≡ true → IsNoHalf (kind.kind_of p u)
   class_whole u i = no_half p u (not_wide u (class_alone u i).0)
 
   own_type : (c : NamedClass) → Contains p.classes c → is_class_type c.name ≡ true

@@ -38,14 +38,14 @@ wrong : {A : Type 0} (b : Bool) → b ≡ true → b ≡ false → A
 wrong b i j = absurd (true≢false (sym i ∙ j))
 
 -- a kind that is no half of a wide
-abbrev pub IsWhole : Kind → Type 0
-IsWhole k = (kind_eq k kind.Low ≡ false) × (kind_eq k kind.High ≡ false)
+abbrev pub IsNoHalf : Kind → Type 0
+IsNoHalf k = (kind_eq k kind.Low ≡ false) × (kind_eq k kind.High ≡ false)
 
 -- a kind is a half of a wide only where another is the same half
 abbrev pub KeepsHalves : Kind → Kind → Type 0
 KeepsHalves k l = (kind_eq l kind.Low ≡ true → kind_eq k kind.Low ≡ true) × (kind_eq l kind.High ≡ true → kind_eq k kind.High ≡ true)
 
-pub whole_keeps : (k l : Kind) → IsWhole l → KeepsHalves k l
+pub whole_keeps : (k l : Kind) → IsNoHalf l → KeepsHalves k l
 whole_keeps k l h = (λ i. wrong (kind_eq l kind.Low) i h.0, λ i. wrong (kind_eq l kind.High) i h.1)
 
 pub no_low : (k : Kind) (v : Value) (ks : List Kind) (vs : List Value) → kind_eq k kind.Low ≡ false → AreHalves k v ks vs

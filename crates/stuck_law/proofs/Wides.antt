@@ -1,5 +1,5 @@
 -- A typed state has its wides whole.
-use Rattle.std.proofs.Common.{◌≡◌, ℕ, suc, ◌+◌, Bool, true, List, [], ◌∷◌, Option, Some, None, ◌⊎◌, inl, inr, refl, sym, ap, ◌∙◌, subst, arith}
+use Rattle.std.proofs.Common.{◌≡◌, ℕ, suc, ◌+◌, true, List, [], ◌∷◌, Option, Some, None, ◌⊎◌, inl, inr, sym, ap, ◌∙◌, subst, arith}
 use Rattle.dalvik_defs.specs.Effect.{register}
 use Rattle.dalvik_defs.specs.Face.{bodies_of}
 use Rattle.dalvik_defs.specs.Names.{Text, is_wide}
@@ -7,7 +7,6 @@ use Rattle.dalvik_defs.specs.Outer.{Outer}
 use Rattle.dalvik_defs.specs.Shown.{Fit}
 use Rattle.dalvik_defs.specs.State.{World, Classes, Thing, Instance, Items, State, On, Ended, opening, word_of}
 use Rattle.dalvik_defs.specs.Step.{after, setting_of}
-use Rattle.dalvik_defs.specs.declared.names.FieldKey.{FieldKey}
 use Rattle.dalvik_defs.specs.declared.program.NamedProgram.{NamedProgram}
 use Rattle.dalvik_defs.specs.declared.script.Move.{Move}
 use Rattle.dalvik_defs.specs.declared.state.Frame.{Frame}
@@ -23,8 +22,8 @@ use Rattle.pass_defs.specs.Registers.{kind_at}
 use Rattle.invariant_law.specs.Holds.{Each, Holds, Pends, Stacks, Waits}
 use Rattle.invariant_law.specs.Invariant.{Above, Callee, Begun, Owing, Invariant}
 use Rattle.stuck_law.specs.Regular.{IsRegular}
-use Rattle.stuck_law.specs.TypedStates.{KindHolds, ItemOf, TypedFrame, TypedThing, TypedWorld, item_kind, typed_states}
-use Rattle.stuck_law.specs.Wides.{IsWhole, HoldsWides, WideFields, WideThing, WideWorld, wide_states}
+use Rattle.stuck_law.specs.TypedStates.{KindHolds, ItemOf, TypedFrame, TypedThing, TypedWorld, typed_states}
+use Rattle.stuck_law.specs.Wides.{IsWhole, HoldsWides, WideThing, WideWorld, wide_states}
 use Rattle.stuck_law.proofs.Registers.{all_at, all_halves}
 use Rattle.stuck_law.proofs.Runs.{typed_regular}
 use Rattle.stuck_law.proofs.Sorts.{Sorted, OfWord, OfWide, OfReference, OfNone, sorted}
@@ -99,7 +98,7 @@ module _ (p : NamedProgram) (f : Framework) where
       things (t ∷ ts) h = (wide_thing w t h.0, things ts h.1)
 
   -- the two registers of a wide
-  pub wide_registers : (w : World) (g : Frame) (t : TypedFrame p f w g) → HoldsWides t.kinds.registers g
+  wide_registers : (w : World) (g : Frame) (t : TypedFrame p f w g) (r : ℕ) → kind_at t.kinds.registers r ≡ kind.Low → kind_at t.kinds.registers (r + 1) ≡ kind.High → (n : ℕ) × ((register g r ≡ Low n) × (register g (r + 1) ≡ High n))
   wide_registers w g t r e i = (low.0, (low.1, high.1 ∙ ap High same))
     where
       own : Text
@@ -124,9 +123,12 @@ module _ (p : NamedProgram) (f : Framework) where
       same : high.0 ≡ low.0
       same = sym (ap word_of high.1) ∙ (sym halves ∙ ap word_of low.1)
 
+  pub wides_held : (w : World) (g : Frame) (t : TypedFrame p f w g) → HoldsWides t.kinds g
+  wides_held w g t = record { registers = λ r e i. wide_registers w g t r e i; result = λ e. subst (λ k. KindHolds p f t.in_method.class.name w k g.result) e t.holds.result }
+
   pub wide_holds : (o : Outer) (t : State) → Holds (typed_states p f o) t → Holds (wide_states p f o) t
-  wide_holds o t h = holds_to (typed_states p f o) (wide_states p f o) (λ w c h. wide_world w h) (λ w c g h. record { typed = h; wides = wide_registers w g h })
-      (λ w a g h. record { typed = h; wides = wide_registers w g h.frame }) (λ u h. h) (λ x h. h) (λ h. h) t h
+  wide_holds o t h = holds_to (typed_states p f o) (wide_states p f o) (λ w c h. wide_world w h) (λ w c g h. record { typed = h; wides = wides_held w g h })
+      (λ w a g h. record { typed = h; wides = wides_held w g h.frame }) (λ u h. h) (λ x h. h) (λ h. h) t h
 
 -- Each state that a run of a regular program reaches has its wides whole.
 pub wides_regular : (p : NamedProgram) (o : Outer) (f : Framework) (floats : Floats) (script : List Move) (n : ℕ) → IsRegular p → Fit p o f script

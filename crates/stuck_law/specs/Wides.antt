@@ -1,8 +1,8 @@
--- That a wide is whole, as an invariant: its two registers hold the two halves of one number, and fields and items of arrays
--- hold all of it in one place (Dalvik bytecode, "General Design": a wide takes a pair of adjacent registers).
-use Rattle.std.specs.Prelude.{◌≡◌, ℕ, ◌+◌, true, List, Option, Some}
+-- That a wide is whole, as an invariant: its two registers hold the two halves of one number, and the place of the last result,
+-- fields and items of arrays hold all of it (Dalvik bytecode, "General Design": a wide takes a pair of adjacent registers).
+use Rattle.std.specs.Prelude.{◌≡◌, ℕ, ◌+◌, true, Option, Some}
 use Rattle.dalvik_defs.specs.Effect.{register}
-use Rattle.dalvik_defs.specs.Names.{Text, is_wide}
+use Rattle.dalvik_defs.specs.Names.{is_wide}
 use Rattle.dalvik_defs.specs.Outer.{Outer}
 use Rattle.dalvik_defs.specs.State.{World, Thing, Instance, Items}
 use Rattle.dalvik_defs.specs.declared.names.FieldKey.{FieldKey}
@@ -11,9 +11,8 @@ use Rattle.dalvik_defs.specs.declared.state.Frame.{Frame}
 use Rattle.dalvik_defs.specs.declared.state.Value.{Value}
 use Rattle.dalvik_defs.specs.declared.state.Value.TheVariants.{Low, High}
 use Rattle.dalvik_defs.specs.declared.tables.Framework.{Framework}
-use Rattle.pass_defs.specs.Kinds.{Kind}
 use Rattle.pass_defs.specs.Kinds as kind
-use Rattle.pass_defs.specs.Registers.{kind_at}
+use Rattle.pass_defs.specs.Registers.{Kinds, kind_at}
 use Rattle.invariant_law.specs.Holds.{Each}
 use Rattle.invariant_law.specs.Invariant.{Above, Invariant}
 use Rattle.stuck_law.specs.TypedStates.{TypedFrame, TypedWaiting, typed_states}
@@ -22,9 +21,11 @@ use Rattle.stuck_law.specs.TypedStates.{TypedFrame, TypedWaiting, typed_states}
 abbrev pub IsWhole : Value → Type 0
 IsWhole v = (n : ℕ) × (v ≡ Low n)
 
--- where the kinds have the low half of a wide in front of a high one, the registers hold both halves of one number
-abbrev pub HoldsWides : List Kind → Frame → Type 0
-HoldsWides ks g = (r : ℕ) → kind_at ks r ≡ kind.Low → kind_at ks (r + 1) ≡ kind.High → (n : ℕ) × ((register g r ≡ Low n) × (register g (r + 1) ≡ High n))
+-- Where the kinds have the low half of a wide in front of a high one, the registers hold both halves of one number; where they
+-- have a wide as the last result, it is whole.
+pub record HoldsWides (a : Kinds) (g : Frame) : Type 0 where
+  pub registers : (r : ℕ) → kind_at a.registers r ≡ kind.Low → kind_at a.registers (r + 1) ≡ kind.High → (n : ℕ) × ((register g r ≡ Low n) × (register g (r + 1) ≡ High n))
+  pub result : a.result ≡ kind.Low → IsWhole g.result
 
 -- fields and items of a wide type
 abbrev pub WideFields : (FieldKey → Option Value) → Type 0
@@ -42,11 +43,11 @@ module _ (p : NamedProgram) (f : Framework) where
   -- a frame with kinds of a typing that hold of it, and its wides
   pub record WideFrame (w : World) (g : Frame) : Type 0 where
     pub typed : TypedFrame p f w g
-    pub wides : HoldsWides typed.kinds.registers g
+    pub wides : HoldsWides typed.kinds g
 
   pub record WideWaiting (w : World) (a : Above) (g : Frame) : Type 0 where
     pub typed : TypedWaiting p f w a g
-    pub wides : HoldsWides typed.frame.kinds.registers g
+    pub wides : HoldsWides typed.frame.kinds g
 
   abbrev pub wide_states : Outer → Invariant
   wide_states o = record (typed_states p f o) { outside = λ w c. WideWorld w; top = λ w c g. WideFrame w g; waits = WideWaiting }

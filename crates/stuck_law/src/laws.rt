@@ -29,9 +29,9 @@ pub fn typed_always()
         → let t = after (setting_of p o f a) (bodies_of p) (opening script) n in (t ≡ Ended) ⊎ Holds (typed_states p f o) t }
 {}
 
-/// Nor does a wide fall apart: in each state that such a run reaches, where a typing has the low half of a wide in a register and a
-/// high half in the next one, of the frame on top or of one that waits, these hold the two halves of one number; and fields and
-/// items of arrays of a wide type hold the whole number.
+/// Nor does a wide fall apart: in each state that such a run reaches, where a typing of the frame on top, or of one that waits, has
+/// the low half of a wide in a register and a high half in the next one, these hold the two halves of one number; and the place
+/// of the last result, fields and items of arrays hold the whole number where they hold a wide.
 pub fn wides_whole()
     ensures { (p : NamedProgram) (o : Outer) (f : Framework) (a : Floats) (script : List Move) (n : ℕ) → IsRegular p → Fit p o f script
         → let t = after (setting_of p o f a) (bodies_of p) (opening script) n in (t ≡ Ended) ⊎ Holds (wide_states p f o) t }

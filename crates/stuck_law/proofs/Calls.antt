@@ -212,9 +212,11 @@ module _ (p : NamedProgram) (o : Outer) (f : Framework) (floats : Floats) (reg :
         wide k [] i j more = absurd (omega (arith, j))
         wide k (s ∷ rs) i j more = let pr = low_held p o f floats reg w cs g tw t r (and_left (meets p t.in_method.class a.registers r Pair) (nat_eq s (r + 1) && list_all met (passed ts rs)) i) in
             let rest = and_right (meets p t.in_method.class a.registers r Pair) (nat_eq s (r + 1) && list_all met (passed ts rs)) i in
-            subst (λ ks. AllHold p f d w (ks ++ parameter_kinds p ts) (register g r ∷ register g s ∷ map (register g) rs)) (sym (ap halves (wide_kind p f reg u k)))
-            (pr.0, (subst (λ q. KindHolds p f d w kind.High (register g q)) (sym (eqb-true s (r + 1) (and_left (nat_eq s (r + 1)) (list_all met (passed ts rs)) rest))) pr.1, more rs (and_right (nat_eq s (r + 1)) (list_all met (passed ts rs)) rest) (omega (arith, j)), no_low kind.High (register g s) (parameter_kinds p ts) (map (register g) rs) refl),
-            λ x. halves_held p o f floats reg w cs g tw t r (and_left (meets p t.in_method.class a.registers r Pair) (nat_eq s (r + 1) && list_all met (passed ts rs)) i) ∙ ap (λ q. word_of (register g q)) (sym (eqb-true s (r + 1) (and_left (nat_eq s (r + 1)) (list_all met (passed ts rs)) rest))))
+            subst (λ ks. AllHold p f d w (ks ++ parameter_kinds p ts) (register g r ∷ register g s ∷ map (register g) rs)) (sym (ap halves (wide_kind p f reg u k))) (
+              pr.0,
+              (subst (λ q. KindHolds p f d w kind.High (register g q)) (sym (eqb-true s (r + 1) (and_left (nat_eq s (r + 1)) (list_all met (passed ts rs)) rest))) pr.1, more rs (and_right (nat_eq s (r + 1)) (list_all met (passed ts rs)) rest) (omega (arith, j)), no_low kind.High (register g s) (parameter_kinds p ts) (map (register g) rs) refl),
+              λ x. halves_held p o f floats reg w cs g tw t r (and_left (meets p t.in_method.class a.registers r Pair) (nat_eq s (r + 1) && list_all met (passed ts rs)) i) ∙ ap (λ q. word_of (register g q)) (sym (eqb-true s (r + 1) (and_left (nat_eq s (r + 1)) (list_all met (passed ts rs)) rest))),
+            )
 
         by : (b : Bool) → is_wide u ≡ b → list_all met (elim b as (λ b. List (ℕ × Demand)) [ true ↦ passed_wide r rs ++ passed ts (drop 1 rs) | false ↦ (r, Fits u) ∷ passed ts rs ]) ≡ true → suc (length rs) ≡ (if b then 2 else 1) + words_of ts
             → ((qs : List ℕ) → list_all met (passed ts qs) ≡ true → length qs ≡ words_of ts → AllHold p f d w (parameter_kinds p ts) (map (register g) qs))

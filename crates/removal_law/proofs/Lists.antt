@@ -4,7 +4,6 @@ use Rattle.std.specs.Prelude.{◌||◌, ◌&&◌, ◌++◌, ◌⊎◌, cond, Som
 use Rattle.std.specs.List.{list_any, list_all}
 use Rattle.lemmas.proofs.Bools.{or_false_left, or_false_right}
 use Rattle.dalvik_defs.proofs.Same.{or_more}
-
 pub use Rattle.removal_law.specs.Left.{In, here, there}
 
 pub clash : (b : Bool) {A : Type 0} → b ≡ true → b ≡ false → A

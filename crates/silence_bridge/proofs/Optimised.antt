@@ -22,10 +22,11 @@ use Rattle.dead_code.specs.Dead.{is_quiet_field}
 use Rattle.dead_code.specs.Wishes.{NoneDead}
 use Rattle.compact.specs.Narrow.{has_narrow_classes}
 use Rattle.compact_bridge.specs.Bridged.{AllPacked}
+use Rattle.copy_bridge.specs.Bridged.{AllFresh}
 use Rattle.squeeze.specs.Needed.{NothingLeft}
 use Rattle.pipeline.specs.Rounds.{first_of, IsOptimised}
 use Rattle.rounds_bridge.specs.Owed.{IsSound, Owes}
-use Rattle.rounds_bridge.proofs.Ends.{none_skipped, none_dead, all_packed}
+use Rattle.rounds_bridge.proofs.Ends.{none_skipped, none_dead, all_fresh, all_packed}
 use Rattle.rounds_bridge.proofs.Parts.{Part, mapped_head, mapped_part, still_once, still_grounded}
 use Rattle.rounds_bridge.proofs.Splits.{whole_left}
 use Rattle.rounds_bridge.proofs.Repeated.{all_rounds_owe}
@@ -102,6 +103,9 @@ module _ (p : Program) (h : Hierarchy) (formed : is_well_formed p ≡ true) (res
 
       pub optimised_dead : NoneDead (is_quiet_field r) done.admitted r
       optimised_dead = none_dead o done.admitted r rounds.sound done.ran.ends
+
+      pub optimised_fresh : has_narrow_classes r ≡ true → AllFresh done.admitted r
+      optimised_fresh narrow = all_fresh o done.admitted r rounds.sound done.ran.ends narrow
 
       pub optimised_packed : has_narrow_classes r ≡ true → AllPacked done.admitted r
       optimised_packed narrow = all_packed o done.admitted r rounds.sound done.ran.ends narrow

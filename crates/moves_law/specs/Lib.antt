@@ -1,2 +1,3 @@
 pub mod Paths
 pub mod Measure
+pub mod Example

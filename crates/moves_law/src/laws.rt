@@ -8,12 +8,20 @@ ghost use Rattle.compact.specs.Renamed.{IsCompactedProgram};
 ghost use Rattle.copy_prop.specs.Propagated.{IsPropagatedProgram};
 ghost use Rattle.copy_histories.specs.Histories.{Step, IsPath};
 ghost use Rattle.moves_law.specs.Paths.{path_to};
-ghost use Rattle.moves_law.specs.Measure.{moves_in};
+ghost use Rattle.moves_law.specs.Measure.{body_moves, moves_in};
+ghost use Rattle.moves_law.specs.Example.{returns_copy, returns_original};
 
 /// What is chosen for a position is a path to it, and there is one to each position that a walk reaches.
 pub fn path_law()
     ensures sound { (b : Body) (n : ℕ) (ss : List Step) → path_to b n ≡ Some ss → IsPath b ss n }
     ensures found { (b : Body) (n : ℕ) → IsReached b n → (ss : List Step) × (path_to b n ≡ Some ss) }
+{}
+
+/// A copy of a copy is returned: the second Move reads what went through one, the Return what went through two. Where both
+/// read the original, nothing that is read went through any.
+pub fn example_law()
+    ensures copy { body_moves (Some returns_copy) ≡ 3 }
+    ensures original { body_moves (Some returns_original) ≡ 0 }
 {}
 
 /// Where stale reads read originals, what is read went through no more Moves in all, and through fewer where anything changed.

@@ -95,7 +95,7 @@ pub record IsCounted {A : Type 0} (count : ℕ) (old new : A) : Type 0 where
 
 -- the relation holds of the first items beside themselves
 abbrev pub AreSettled : {A : Type 0} → (A → A → Type 0) → ℕ → List A → Type 0
-AreSettled R upto xs = (k : ℕ) (x : A) → k < upto → slice_get xs k ≡ Some x → R x x
+AreSettled {A = A} R upto xs = (k : ℕ) (x : A) → k < upto → slice_get xs k ≡ Some x → R x x
 
 -- some item of a list is such
 pub record HasSome {A : Type 0} (P : A → Type 0) (xs : List A) : Type 0 where

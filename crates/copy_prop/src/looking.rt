@@ -112,10 +112,8 @@ pub fn has_stale(alloc: Global, program: &Program, admitted: &Admitted) -> Resul
     ensures some { IfOk result (λ some. some ≡ true → HasStale admitted.now.methods.items program.now) }
 {
     let widths = widths_of(alloc, program)?;
-    has_stale_class(
-        alloc,
-        widths.as_slice(),
-        admitted.methods.as_slice(),
-        program.classes.as_slice(),
-    )
+    let marks = admitted.methods.as_slice();
+    let classes = program.classes.as_slice();
+    let some = has_stale_class(alloc, widths.as_slice(), marks, classes)?;
+    Ok(some)
 }

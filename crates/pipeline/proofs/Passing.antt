@@ -1,5 +1,5 @@
 -- Passes, one after another.
-use Rattle.std.proofs.Common.{◌≡◌, ℕ, zero, suc, ◌<◌, ◌≤◌, ◌+◌, ◌-◌, ◌^◌, Bool, true, false, List, [], ◌∷◌, ◌++◌, length, min, refl, sym, ap, ◌∙◌, subst, inl, inr, arith}
+use Rattle.std.proofs.Common.{◌≡◌, ◌⊎◌, ℕ, zero, suc, ◌<◌, ◌≤◌, ◌+◌, ◌-◌, ◌^◌, Bool, true, false, List, [], ◌∷◌, ◌++◌, length, min, refl, sym, ap, ◌∙◌, subst, inl, inr, arith}
 use Rattle.std.specs.Prelude.{nat_eq, if◌then◌else◌}
 use Rattle.program_model.specs.declared.body.Body.{Body}
 use Rattle.program_model.specs.declared.pass.Changed.{Changed}
@@ -32,14 +32,16 @@ use Rattle.copy_prop.specs.Propagated.{IsCounted, IsPropagatedProgram}
 use Rattle.moves_law.specs.Measure.{moves_in}
 use Rattle.moves_law.proofs.Propagated.{propagated_fewer}
 use Rattle.moves_law.proofs.Compacted.{compacted_same as compacted_moves}
-use Rattle.verify.specs.Methods.{TypesAll}
+use Rattle.verify.specs.Methods.{RefusesOne, TypesAll}
+use Rattle.verify.specs.declared.fault.TypeFault.{TypeFault}
+use Rattle.verify.specs.declared.fault.TypeFault.TheVariants as fault
 use Rattle.pipeline.specs.declared.traces.Changes.{Changes}
 use Rattle.pipeline.specs.declared.traces.Passed.{Passed}
 use Rattle.pipeline.specs.declared.traces.Traced.{Traced}
 use Rattle.pipeline.specs.Changes.{no_changes, total_of, bulk_of, rank_of, Falls}
 use Rattle.pipeline.specs.Graph.{HasGraph, HasGraphFault}
 use Rattle.pipeline.specs.Origins.{Follow}
-use Rattle.pipeline.specs.Passes.{Pass, Reach, CopyProp, DeadCode, Squeeze, Compact, Removes, KeepsReads, Does, Steps, Last, Then, AreStill, HavePassed}
+use Rattle.pipeline.specs.Passes.{Pass, Reach, CopyProp, DeadCode, Squeeze, Compact, Removes, IsIllTyped, KeepsReads, Does, Steps, Last, Then, AreStill, HavePassed}
 use Rattle.pipeline.proofs.Few.{few_fields}
 use Rattle.pipeline.proofs.Bulk.{removal_less, propagated_same, thinned_less, compacted_same}
 
@@ -182,6 +184,18 @@ module _ (o : Outside) (admitted : List Bool) (pass : Pass) (t : Traced) where
       still = λ z. (still_does (none_counted z), tt);
       falls = subst (λ (x : Changes). Falls x r.traced.program t.program) (sym h.changes) (subst (λ (x : Program). Falls made x t.program) (sym h.program) falls);
     }
+
+-- what passes left whatever lies outside, where they changed nothing
+some_outside : Outside
+some_outside = record { classes = []; methods = []; fields = []; methods_if = []; fields_if = []; classes_if = []; shrink = false; optimise = false; silent = []; shut = [] }
+
+pub same_program : (admitted : List Bool) (some : List Pass) (t : Traced) (r : Passed) → ((o : Outside) → HavePassed o admitted some t r) → total_of r.changes ≡ 0 → r.traced.program ≡ t.program
+same_program admitted some t r passed none = ap (λ (x : Traced). x.program) ((passed some_outside).same none)
+
+-- the refusal of a body
+pub ill_typed : (p : Program) (h : Hierarchy) (e : TypeFault) (method position register : ℕ) → e ≡ fault.IllTyped method position register → (e ≡ fault.NoMemory) ⊎ RefusesOne p h e → IsIllTyped p h
+ill_typed p h e method position register is (inl none) = absurd (let no : fault.IllTyped method position register ≡ fault.NoMemory = sym is ∙ none in cc)
+ill_typed p h e method position register is (inr refused) = record { method = method; position = position; register = register; refused = subst (RefusesOne p h) is refused }
 
 -- ---- removal
 

@@ -93,6 +93,7 @@ pub fn remove_unreached(
 }
 
 /// Whether every body of a program is well typed. The only error is want of memory.
+#[tactic(auto, using(crate::proofs::Passing::ill_typed))]
 fn is_typed(alloc: Global, program: &Program, hierarchy: &Hierarchy) -> Result<bool, AllocError>
     ensures typed { IfOk result (λ typed. typed ≡ true → TypesAll program.now hierarchy.now) }
     ensures ill_typed { IfOk result (λ typed. typed ≡ false → IsIllTyped program.now hierarchy.now) }

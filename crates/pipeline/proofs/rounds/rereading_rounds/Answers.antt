@@ -21,6 +21,3 @@ rounds-preserved c = record {
 
 pub rounds-smaller : goal.rounds-smaller
 rounds-smaller c = less_to_reread c.rounds.left c.in_ok-next.next (omega arith) (omega arith) c.in_ok-next.ensures.fewer
-
-pub returns-clause-settled : goal.returns-clause-settled
-returns-clause-settled c = λ none. omega (arith, none, c.rounds.invariant.settled none (omega (arith, none)))

@@ -17,6 +17,7 @@ ghost use Rattle.compact_bridge.specs.Bridged.{AllPacked};
 ghost use Rattle.copy_bridge.specs.Bridged.{AllFresh};
 ghost use Rattle.pipeline.specs.declared.traces.Traced.{Traced};
 ghost use Rattle.pipeline.specs.Rounds.{HaveRun, IsOptimised, Rounds};
+ghost use Rattle.stay_law.specs.Stays.{Stays};
 ghost use Rattle.rounds_bridge.specs.Owed.{IsSound, Owes};
 
 /// A well-formed program of which a hierarchy was built, and of which the verifier has a typing of each method, is sound.
@@ -25,9 +26,10 @@ pub fn accepted_sound_law()
 {}
 
 /// What any number of rounds leave of a sound program is sound, and shows the same as the program before all of them, where
-/// no method is shut, as in what rules alone give.
+/// no method is shut, as in what rules alone give. A method that isn't admitted stays whole, and no body has more registers.
 pub fn rounds_law()
-    ensures { (o : Outside) (admitted : List Bool) (n : ℕ) (t u : Traced) → Rounds o admitted n t u → IsSound t.program → Owes o t.program u.program }
+    ensures owes { (o : Outside) (admitted : List Bool) (n : ℕ) (t u : Traced) → Rounds o admitted n t u → IsSound t.program → Owes o t.program u.program }
+    ensures stays { (o : Outside) (admitted : List Bool) (n : ℕ) (t u : Traced) → Rounds o admitted n t u → IsSound t.program → Stays admitted t.program u.program }
 {}
 
 /// What `optimise` leaves of a sound program is sound, and shows the same where no method is shut, where no call is silent: the

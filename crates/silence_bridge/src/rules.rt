@@ -28,9 +28,9 @@ ghost use Rattle.silence_bridge.specs.Admitted.{admitted_in};
 /// the methods that were admitted, and is sound, where the hierarchy was built of the program, the verifier has a typing of each
 /// method, and no method is shut, as in what rules alone give. What the rounds begin with is, by names, the
 /// program without these calls. Nothing is left in the admitted methods that does nothing or is dead; and unless the program
-/// names a method of a wide type, no read of theirs is stale, and their registers are packed. A method that wasn't admitted stays whole, and no
-/// body has more registers than before. The premises are what
-/// `Hierarchy::build`, `verify_all` and `optimise` say where they accept.
+/// names a method of a wide type, no read of theirs is stale, and their registers are packed. A method that wasn't
+/// admitted stays whole, and no body has more registers than before. The premises are what `Hierarchy::build`,
+/// `verify_all` and `optimise` say where they accept.
 pub fn all_rules_law()
     ensures silenced { (p r : Program) (origins : List (List Origin)) (h : Hierarchy) (o : Outside) (advisers spared rounds : ℕ) (before after : List Bool) → is_well_formed p ≡ true → IsResolved p h → IsAcyclic p → NoSplit p
         → (done : IsOptimised o p advisers before after spared r origins rounds) → named done.silenced ≡ silenced (named p) (outer_of p o) (admitted_in p done.admitted) }

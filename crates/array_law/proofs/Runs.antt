@@ -3,6 +3,7 @@ use Rattle.std.proofs.Common.{◌≡◌, ℕ, zero, suc, Bool, true, false, List
 use Rattle.std.specs.Prelude.{◌&&◌, ◌||◌, not, Option, Some, None, slice_get, codes}
 use Rattle.std.specs.List.{list_all}
 use Rattle.std.specs.Option.{option_and_then}
+use Rattle.lemmas.proofs.Options.{some_same}
 use Rattle.dalvik_defs.specs.Names.{Text, text_eq, is_array, is_reference, item_of}
 use Rattle.dalvik_defs.specs.Face.{Face, face_of, bodies_of}
 use Rattle.dalvik_defs.specs.Outer.{Outer}
@@ -32,7 +33,6 @@ use Rattle.pass_defs.specs.Typed.{is_wrong, wrong_filled, IsTyped}
 use Rattle.removal_law.specs.Left.{In}
 use Rattle.removal_law.specs.Agree.{sieved, CalmDone, Agree}
 use Rattle.removal_law.proofs.Lists.{clash, in_front, in_back}
-use Rattle.removal_law.proofs.Trees.{some_same}
 use Rattle.removal_law.proofs.TypedCode.{not_not}
 use Rattle.removal_law.proofs.Trivial.{AnyType, AnyMethod, AnyForm, itself}
 use Rattle.removal_law.proofs.Stacks.{StateOk}

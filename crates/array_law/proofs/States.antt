@@ -2,6 +2,7 @@
 use Rattle.std.proofs.Common.{◌≡◌, ℕ, Bool, true, false, List, [], ◌∷◌, ◌++◌, length, refl, sym, ap, ◌∙◌, subst}
 use Rattle.std.specs.Prelude.{not, Option, Some, None, map, if◌then◌else◌}
 use Rattle.std.specs.List.{list_all}
+use Rattle.lemmas.proofs.Lists.{got_short, map_append}
 use Rattle.dalvik_defs.specs.Face.{bodies_of}
 use Rattle.dalvik_defs.specs.declared.names.MethodKey.{MethodKey}
 use Rattle.dalvik_defs.specs.declared.forms.Form.{Form}
@@ -17,9 +18,8 @@ use Rattle.pass_defs.specs.Registers.{Kinds, state_below}
 use Rattle.pass_defs.specs.Typed.{Table, state_at, at_state, arrives, after, catch_all, catches_in, catches, edges, is_wrong, begun, IsTyping, IsTyped}
 use Rattle.removal_law.specs.Left.{In, here, there}
 use Rattle.removal_law.proofs.Lists.{clash, all_in, contained}
-use Rattle.removal_law.proofs.Supers.{map_append}
 use Rattle.removal_law.proofs.CallsLeft.{body_in}
-use Rattle.removal_law.proofs.TypedCode.{place_below, each_at}
+use Rattle.removal_law.proofs.TypedCode.{each_at}
 
 -- A body of a program has a typing with a state at a position.
 pub record HasState (p : NamedProgram) (b : NamedBody) (n : ℕ) : Type 0 where
@@ -100,11 +100,11 @@ module _ (p : NamedProgram) (c : NamedClass) (m : NamedMethod) (b : NamedBody) (
   state_behind : (n u : ℕ) (f : Form) (a : Kinds) → form_at b n ≡ Some f → state_at t n ≡ Some a → In u (onward f n ++ caught b f n) → HasState p b u
   state_behind n u f a i j k =
       let d = paired u (edges p c b n f a) (subst (In u) (sym (edge_firsts p c b n f a)) k) in
-      let e = each_at (length b.forms) (λ n. at_state b t (λ f a. list_all (arrives p t) (edges p c b n f a)) n) typing.edges n (place_below b.forms n f i) in
+      let e = each_at (length b.forms) (λ n. at_state b t (λ f a. list_all (arrives p t) (edges p c b n f a)) n) typing.edges n (got_short b.forms n f i) in
       subst (HasState p b) d.1.1 (state_above d.0.1 d.0.0 (all_in (arrives p t) (edges p c b n f a) (holds_at (λ n f a. list_all (arrives p t) (edges p c b n f a)) n f a i j e) d.0 d.1.0))
 
   right_at : (n : ℕ) (f : Form) (a : Kinds) → form_at b n ≡ Some f → state_at t n ≡ Some a → not (is_wrong p c m a f) ≡ true
-  right_at n f a i j = holds_at (λ n f a. not (is_wrong p c m a f)) n f a i j (each_at (length b.forms) (at_state b t (λ f a. not (is_wrong p c m a f))) typing.right n (place_below b.forms n f i))
+  right_at n f a i j = holds_at (λ n f a. not (is_wrong p c m a f)) n f a i j (each_at (length b.forms) (at_state b t (λ f a. not (is_wrong p c m a f))) typing.right n (got_short b.forms n f i))
 
 -- a body of a typed program has a state at its entry
 pub entry_state : (p : NamedProgram) (k : MethodKey) (b : NamedBody) → IsTyped p → bodies_of p k ≡ Some b → HasState p b 0

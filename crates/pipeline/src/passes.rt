@@ -93,7 +93,6 @@ pub fn remove_unreached(
 }
 
 /// Whether every body of a program is well typed. The only error is want of memory.
-#[tactic(auto, using(crate::proofs::Passing::ill_typed))]
 fn is_typed(alloc: Global, program: &Program, hierarchy: &Hierarchy) -> Result<bool, AllocError>
     ensures typed { IfOk result (λ typed. typed ≡ true → TypesAll program.now hierarchy.now) }
     ensures ill_typed { IfOk result (λ typed. typed ≡ false → IsIllTyped program.now hierarchy.now) }
@@ -120,10 +119,12 @@ fn is_propagated(
     if !compact::has_narrow_classes(program) {
         return Ok(false);
     }
-    if !copy_prop::has_stale(alloc, program, admitted)? {
+    let stale = copy_prop::has_stale(alloc, program, admitted)?;
+    if !stale {
         return Ok(false);
     }
-    is_typed(alloc, program, hierarchy)
+    let typed = is_typed(alloc, program, hierarchy)?;
+    Ok(typed)
 }
 
 /// Lets stale reads of admitted methods read originals, by a program's hierarchy. The only error is want of memory.
@@ -135,7 +136,8 @@ fn propagate_by(
 ) -> Result<Passed, AllocError>
     ensures { IsGraph traced.program (Some hierarchy.now) → IfOk result (λ passed. (outside : Outside) → HavePassed outside admitted.now.methods.items (CopyProp ∷ []) traced passed) }
 {
-    if !is_propagated(alloc, &traced.program, hierarchy, admitted)? {
+    let propagated = is_propagated(alloc, &traced.program, hierarchy, admitted)?;
+    if !propagated {
         return Ok(unchanged(traced));
     }
     let changed = copy_prop::apply(alloc, traced.program, admitted)?;

@@ -16,8 +16,8 @@ returns-in_ok-graph-in-Some-clause-graph c = λ graph.
     (same_program c.args.admitted.now.methods.items (CopyProp ∷ []) c.args.traced c.in_ok-passed-in-Some.passed (c.in_ok-passed-in-Some.ensures here))
 
 pub returns-in-None-clause-passed : goal.returns-in-None-clause-passed
-returns-in-None-clause-passed c = λ graph outside. kept_reads_passed outside c.args.admitted.now.methods.items c.args.traced c.unchanged-in-None.result c.unchanged-in-None.ensures.traced c.unchanged-in-None.ensures.changes
+returns-in-None-clause-passed c = λ graph outside. kept_reads_passed outside c.args.admitted.now.methods.items c.args.traced c.unchanged.result c.unchanged.ensures.traced c.unchanged.ensures.changes
     (λ formed. Faulty (found_fault c.args.traced.program c.args.graph (graph formed) c.in-None.is))
 
 pub returns-in-None-clause-graph : goal.returns-in-None-clause-graph
-returns-in-None-clause-graph c = λ graph. subst (λ (x : Traced). IsGraph x.program c.args.graph) (sym c.unchanged-in-None.ensures.traced) graph
+returns-in-None-clause-graph c = λ graph. subst (λ (x : Traced). IsGraph x.program c.args.graph) (sym c.unchanged.ensures.traced) graph

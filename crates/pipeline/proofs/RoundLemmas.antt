@@ -15,11 +15,11 @@ use Rattle.call_graph.specs.Closed.{IsClosedSet}
 use Rattle.moves_law.specs.Measure.{moves_in}
 use Rattle.pipeline.specs.Advised.{IsAdvised}
 use Rattle.pipeline.specs.Asks.{Verdict, asked, no_verdict, AreAnswered}
-use Rattle.pipeline.specs.Changes.{total_of, bulk_of, rank_of, IsLess, Falls}
+use Rattle.pipeline.specs.Changes.{total_of, rank_of, IsLess, Falls}
 use Rattle.pipeline.specs.Counts.{counted}
 use Rattle.pipeline.specs.Graph.{HasGraph, HasGraphFault}
 use Rattle.pipeline.specs.Silence.{IsSilent, is_quiet, silenced_body, silenced_method, silenced_class, silenced}
-use Rattle.pipeline.specs.Passes.{passes, Steps, AreStill, HavePassed}
+use Rattle.pipeline.specs.Passes.{passes, AreStill, HavePassed}
 use Rattle.pipeline.specs.Rounds.{Rounds, Ended, Next, Rounding, first_of, HaveRun, IsOptimised}
 use Rattle.pipeline.specs.declared.traces.Changes.{Changes}
 use Rattle.pipeline.specs.declared.traces.Passed.{Passed}

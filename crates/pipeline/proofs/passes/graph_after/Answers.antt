@@ -1,5 +1,5 @@
-use Rattle.std.proofs.Common.{◌≡◌, ◌∙◌, true, sym, subst, eqb-true}
-use Rattle.std.specs.Prelude.{Some, nat_eq}
+use Rattle.std.proofs.Common.{◌≡◌, ◌∙◌, sym, subst, eqb-true}
+use Rattle.std.specs.Prelude.{Some}
 use Rattle.program_model.specs.declared.program.Program.{Program}
 use Rattle.pipeline.specs.Changes.{total_of}
 use Rattle.pipeline.specs.Graph.{IsGraph}

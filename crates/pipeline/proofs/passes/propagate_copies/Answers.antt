@@ -20,4 +20,5 @@ returns-in-None-clause-passed c = λ graph outside. kept_reads_passed outside c.
     (λ formed. Faulty (found_fault c.args.traced.program c.args.graph (graph formed) c.in-None.is))
 
 pub returns-in-None-clause-graph : goal.returns-in-None-clause-graph
-returns-in-None-clause-graph c = λ graph. subst (λ (x : Traced). IsGraph x.program c.args.graph) (sym c.unchanged.ensures.traced) graph
+returns-in-None-clause-graph c = λ graph. subst (IsGraph c.unchanged.result.traced.program) c.in-None.is
+    (subst (λ (x : Traced). IsGraph x.program c.args.graph) (sym c.unchanged.ensures.traced) graph)

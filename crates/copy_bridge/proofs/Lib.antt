@@ -3,3 +3,4 @@ mod Reading
 pub mod Stands
 pub mod Rereads
 pub mod Programs
+pub mod Settled

@@ -8,7 +8,7 @@ ghost use Rattle.dalvik_defs.specs.Naming.{named};
 ghost use Rattle.dalvik_defs.specs.Outer.{Outer};
 ghost use Rattle.dalvik_defs.specs.Shown.{SameShown};
 ghost use Rattle.copy_prop.specs.Propagated.{IsPropagatedProgram};
-ghost use Rattle.copy_bridge.specs.Bridged.{ReadsByNumber, StaleByNumber, SettlesByNumber, PairsByNumber};
+ghost use Rattle.copy_bridge.specs.Bridged.{ReadsByNumber, StaleByNumber, SettlesByNumber, PairsByNumber, AllFresh};
 
 /// A body that was propagated by number has forms that read originals, by name.
 pub fn reread_by_number_law()
@@ -35,4 +35,10 @@ pub fn pairs_law()
 pub fn propagated_program_law()
     ensures { (admitted : List Bool) (p q : Program) → is_well_formed p ≡ true → ((class : ℕ) → IsTwice p class → ⊥) → IsPropagatedProgram admitted p q
         → (o : Outer) → SameShown (named p) (named q) o }
+{}
+
+/// In a well-formed program that propagation leaves the same, no read in an admitted method is stale by name. (Each body has
+/// fewer than 2 ^ 16 registers.)
+pub fn fresh_law()
+    ensures { (admitted : List Bool) (p : Program) → is_well_formed p ≡ true → IsPropagatedProgram admitted p p → AllFresh admitted p }
 {}

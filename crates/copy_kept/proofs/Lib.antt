@@ -1,4 +1,3 @@
-pub mod Bulk
 pub mod Alike
 pub mod Typing
 pub mod Registers

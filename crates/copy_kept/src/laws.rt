@@ -7,18 +7,10 @@ ghost use Rattle.hierarchy.specs.Shapes.{IsResolved};
 ghost use Rattle.hierarchy.specs.declared.build.Hierarchy.{Hierarchy};
 ghost use Rattle.dalvik_defs.specs.Naming.{named};
 ghost use Rattle.pass_defs.specs.Typed.{IsTyped};
-ghost use Rattle.reach.specs.Kept.{size_of};
-ghost use Rattle.thin_pass.specs.Weights.{weight_of};
 ghost use Rattle.thin_bridge.specs.Kept.{IsKept};
 ghost use Rattle.verify.specs.Methods.{TypesAll};
 ghost use Rattle.compact.specs.Narrow.{has_narrow_classes};
 ghost use Rattle.copy_prop.specs.Propagated.{IsPropagatedProgram};
-
-/// A program in which stale reads read originals has as many classes and members, and instructions that weigh as much.
-pub fn propagated_bulk_law()
-    ensures size { (admitted : List Bool) (p q : Program) → IsPropagatedProgram admitted p q → size_of q ≡ size_of p }
-    ensures weight { (admitted : List Bool) (p q : Program) → IsPropagatedProgram admitted p q → weight_of q ≡ weight_of p }
-{}
 
 /// What copy propagation leaves of a well-formed program that the verifier finds well typed, and that names no method of a
 /// wide type, is typed, whatever methods are admitted.

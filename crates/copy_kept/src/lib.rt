@@ -1,7 +1,6 @@
 //! A program whose stale reads read originals is kept: what `copy_prop` leaves of a well-formed program that the verifier
 //! finds well typed is well-formed and typed, has the same tables and the same classes and members but for bodies, and shows
-//! the same. It has as many classes and members, and instructions that weigh as much, since each instruction only reads other
-//! registers.
+//! the same.
 //!
 //! In the least typing by names an original has the kind of its copy (`proofs/Alike.antt`), so a body that reads originals is
 //! typed (`proofs/Typing.antt`), and no wide copy begins at the second register of a wide that is read

@@ -11,3 +11,4 @@ mod Table
 mod Reread
 mod Edited
 mod Programs
+mod Settled

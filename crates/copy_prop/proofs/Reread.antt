@@ -131,7 +131,7 @@ none_within [] n lt h = omega arith
 none_within (x ∷ xs) zero lt h = cc
 none_within (x ∷ xs) (suc n) lt h = none_within xs n (omega arith) h
 
-insn_within : (xs : List Insn) (n : ℕ) → n < length xs → (f : Insn) × (slice_get xs n ≡ Some f)
+pub insn_within : (xs : List Insn) (n : ℕ) → n < length xs → (f : Insn) × (slice_get xs n ≡ Some f)
 insn_within [] n lt = absurd (omega arith)
 insn_within (x ∷ xs) zero lt = (x, refl)
 insn_within (x ∷ xs) (suc n) lt = insn_within xs n (omega arith)

@@ -90,3 +90,35 @@ pub record AreEdited {A : Type 0} (R : A → A → Type 0) (upto count : ℕ) (o
 pub record IsCounted {A : Type 0} (count : ℕ) (old new : A) : Type 0 where
   pub same : count ≡ 0 → new ≡ old
   pub differs : 0 < count → new ≡ old → ⊥
+
+-- ---- what is stale in a program
+
+-- the relation holds of the first items beside themselves
+abbrev pub AreSettled : {A : Type 0} → (A → A → Type 0) → ℕ → List A → Type 0
+AreSettled {A = A} R upto xs = (k : ℕ) (x : A) → k < upto → slice_get xs k ≡ Some x → R x x
+
+-- some item of a list is such
+pub record HasSome {A : Type 0} (P : A → Type 0) (xs : List A) : Type 0 where
+  pub place : ℕ
+  pub item : A
+  pub stands : slice_get xs place ≡ Some item
+  pub is : P item
+
+-- the read at some position is stale
+pub record HasStaleRead (w : List (List Bool)) (b : Body) : Type 0 where
+  pub position : ℕ
+  pub stale : IsStale w b position
+
+-- a method that may be rewritten has such a body
+pub record HasStaleMethod (w : List (List Bool)) (admitted : List Bool) (m : Method) : Type 0 where
+  pub admits : is_on admitted m.name ≡ true
+  pub body : Body
+  pub has : m.body ≡ Some body
+  pub reads : HasStaleRead w body
+
+abbrev pub HasStaleClass : List (List Bool) → List Bool → Class → Type 0
+HasStaleClass w admitted c = HasSome (HasStaleMethod w admitted) c.methods
+
+-- a read of some method that may be rewritten is stale
+abbrev pub HasStale : List Bool → Program → Type 0
+HasStale admitted p = HasSome (HasStaleClass (widths_of p) admitted) p.classes

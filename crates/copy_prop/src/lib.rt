@@ -6,10 +6,11 @@
 //! original (`specs/Stale.antt`; the instructions are those of Dalvik bytecode, "Summary of bytecode set").
 //!
 //! The meaning stays, since at such a read both registers hold the same value. Where [`apply`] changes nothing, no read in
-//! an admitted method is stale.
+//! an admitted method is stale; [`has_stale`] tells this without a change.
 #![tactic(auto)]
 
 mod copied;
+mod looking;
 mod moves;
 mod pass;
 mod reading;
@@ -18,4 +19,5 @@ mod stale;
 mod steps;
 mod walking;
 
+pub use looking::has_stale;
 pub use pass::apply;

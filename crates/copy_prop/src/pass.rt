@@ -54,7 +54,7 @@ fn reread_body(alloc: Global, body: &mut Body, table: &[Seq<Copied>]) -> Result<
 }
 
 /// Whether 32 bits count the positions and regions of a body.
-fn is_countable(body: &Body) -> bool
+pub(crate) fn is_countable(body: &Body) -> bool
     ensures few { IsTrue result → length body.now.insns + 1 < 2 ^ 32 }
     ensures regions { IsTrue result → length body.now.insns + length body.now.regions < 2 ^ 32 }
 {

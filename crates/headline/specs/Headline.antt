@@ -15,7 +15,9 @@ use Rattle.dead_code.specs.Wishes.{NoneDead}
 use Rattle.squeeze.specs.Needed.{NothingLeft}
 use Rattle.compact.specs.Narrow.{has_narrow_classes}
 use Rattle.compact_bridge.specs.Bridged.{AllPacked}
+use Rattle.copy_bridge.specs.Bridged.{AllFresh}
 use Rattle.pipeline.specs.Advised.{IsAdvised}
+use Rattle.stay_law.specs.Stays.{Stays}
 use Rattle.silence_bridge.specs.Admitted.{admitted_in}
 use Rattle.command_line.specs.declared.command.CommandWords.TheVariants.{Optimise}
 use Rattle.command_line.specs.declared.command.OptimiseWords.{OptimiseWords}
@@ -27,7 +29,9 @@ use Rattle.redex_cli.specs.Finished.{IsRuled}
 -- framework, under every script and float table that fit, and is well-formed and typed. Some advisers were asked which methods
 -- may be rewritten: these are admitted. In their bodies, whose positions and regions 32 bits number, every position is reached, is no
 -- goto to the next one and no nop, but where the branch behind it goes to it, and none computes what nobody reads; and unless
--- the program names a method of a wide type, no register could have a lower number (`IsPacked` of pass_defs).
+-- the program names a method of a wide type, no read of a copy could be one of the original (`IsStale` of pass_defs; 16 bits
+-- number the body's registers), and no register could have a lower number (`IsPacked`). Every class, method
+-- and field is one that the program has; a method that isn't admitted stays as it was, and no body has more registers (`Stays`).
 pub record KeepsMeaning (program : Program) (outside : Outside) (left : Program) : Type 0 where
   pub admitted : List Bool
   pub advisers : ℕ
@@ -40,7 +44,9 @@ pub record KeepsMeaning (program : Program) (outside : Outside) (left : Program)
   pub typed : IsTyped (named left)
   pub squeezed : NothingLeft admitted left
   pub cleaned : NoneDead (is_quiet_field left) admitted left
+  pub fresh : has_narrow_classes left ≡ true → AllFresh admitted left
   pub packed : has_narrow_classes left ≡ true → AllPacked admitted left
+  pub stays : Stays admitted program left
 
 -- The file spells a program, the rules have a table for it, and the output is the file that is written for a program that
 -- keeps its meaning. Not said yet: how the table comes of the rules, and that the written file spells that program and is

@@ -1,3 +1,4 @@
 pub mod Thinned
 pub mod Removed
 pub mod Compacted
+pub mod Propagated

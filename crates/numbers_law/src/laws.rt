@@ -9,6 +9,7 @@ ghost use Rattle.thin_pass.specs.Plans.{program_by};
 ghost use Rattle.thin_pass.specs.Weights.{weight_of};
 ghost use Rattle.compact.specs.Measure.{numbers_in};
 ghost use Rattle.compact.specs.Renamed.{IsCompactedProgram};
+ghost use Rattle.copy_prop.specs.Propagated.{IsPropagatedProgram};
 
 /// A program without some positions has no more registers, and its instructions name no more numbers. A plan has the fates of
 /// the positions.
@@ -25,4 +26,10 @@ pub fn removed_numbers_law()
 pub fn compacted_bulk_law()
     ensures size { (admitted : List Bool) (p q : Program) → IsCompactedProgram admitted p q → size_of q ≡ size_of p }
     ensures weight { (admitted : List Bool) (p q : Program) → IsCompactedProgram admitted p q → weight_of q ≡ weight_of p }
+{}
+
+/// A program in which stale reads read originals has as many classes and members, and instructions that weigh as much.
+pub fn propagated_bulk_law()
+    ensures size { (admitted : List Bool) (p q : Program) → IsPropagatedProgram admitted p q → size_of q ≡ size_of p }
+    ensures weight { (admitted : List Bool) (p q : Program) → IsPropagatedProgram admitted p q → weight_of q ≡ weight_of p }
 {}

@@ -14,8 +14,10 @@ use Rattle.body_edit.specs.declared.fate.Fate.{Fate}
 use Rattle.thin_pass.specs.Plans.{methods_by, class_by, classes_by, IsThinnedBy}
 use Rattle.thin_pass.specs.Weights.{method_weight, class_weight, weight_of}
 use Rattle.compact.specs.Renamed.{IsCompactedProgram}
+use Rattle.copy_prop.specs.Propagated.{IsPropagatedProgram}
 use Rattle.numbers_law.proofs.Compacted.{compacted_size, compacted_weight}
-use Rattle.pipeline.specs.Passes.{bulk_of}
+use Rattle.numbers_law.proofs.Propagated.{propagated_size, propagated_weight}
+use Rattle.pipeline.specs.Changes.{bulk_of}
 
 -- ---- removal
 
@@ -59,4 +61,12 @@ pub compacted_same : (admitted : List Bool) (p q : Program) → IsCompactedProgr
 compacted_same admitted p q h =
     let size : size_of q ≡ size_of p = compacted_size admitted p q h in
     let weight : weight_of q ≡ weight_of p = compacted_weight admitted p q h in
+    omega (arith, size, weight)
+
+-- ---- propagation of copies
+
+pub propagated_same : (admitted : List Bool) (p q : Program) → IsPropagatedProgram admitted p q → bulk_of q ≡ bulk_of p
+propagated_same admitted p q h =
+    let size : size_of q ≡ size_of p = propagated_size admitted p q h in
+    let weight : weight_of q ≡ weight_of p = propagated_weight admitted p q h in
     omega (arith, size, weight)

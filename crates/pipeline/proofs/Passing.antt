@@ -1,5 +1,5 @@
 -- Passes, one after another.
-use Rattle.std.proofs.Common.{◌≡◌, ℕ, zero, suc, ◌<◌, ◌≤◌, ◌+◌, ◌-◌, ◌^◌, Bool, true, false, List, [], ◌∷◌, ◌++◌, length, min, refl, sym, ap, ◌∙◌, subst, inl, inr, arith}
+use Rattle.std.proofs.Common.{◌≡◌, ◌⊎◌, ℕ, zero, suc, ◌<◌, ◌≤◌, ◌+◌, ◌-◌, ◌^◌, Bool, true, false, List, [], ◌∷◌, ◌++◌, length, min, refl, sym, ap, ◌∙◌, subst, inl, inr, arith}
 use Rattle.std.specs.Prelude.{nat_eq, if◌then◌else◌}
 use Rattle.program_model.specs.declared.body.Body.{Body}
 use Rattle.program_model.specs.declared.pass.Changed.{Changed}
@@ -26,14 +26,24 @@ use Rattle.thin_pass.specs.Weights.{weight_of}
 use Rattle.thin_pass.proofs.Lighter.{not_capped}
 use Rattle.compact.specs.Measure.{numbers_in}
 use Rattle.compact.specs.Narrow.{has_narrow_classes}
-use Rattle.compact.specs.Renamed.{IsCompactedProgram, IsCounted}
+use Rattle.compact.specs.Renamed.{IsCompactedProgram}
+use Rattle.compact.specs.Renamed as compact
+use Rattle.copy_prop.specs.Propagated.{IsCounted, IsPropagatedProgram}
+use Rattle.moves_law.specs.Measure.{moves_in}
+use Rattle.moves_law.proofs.Propagated.{propagated_fewer}
+use Rattle.moves_law.proofs.Compacted.{compacted_same as compacted_moves}
+use Rattle.verify.specs.Methods.{RefusesOne, TypesAll}
+use Rattle.verify.specs.declared.fault.TypeFault.{TypeFault}
+use Rattle.verify.specs.declared.fault.TypeFault.TheVariants as fault
+use Rattle.pipeline.specs.declared.traces.Changes.{Changes}
 use Rattle.pipeline.specs.declared.traces.Passed.{Passed}
 use Rattle.pipeline.specs.declared.traces.Traced.{Traced}
+use Rattle.pipeline.specs.Changes.{no_changes, total_of, bulk_of, rank_of, Falls}
 use Rattle.pipeline.specs.Graph.{HasGraph, HasGraphFault}
 use Rattle.pipeline.specs.Origins.{Follow}
-use Rattle.pipeline.specs.Passes.{Pass, Reach, DeadCode, Squeeze, Compact, Removes, Does, Steps, Last, Then, AreStill, bulk_of, rank_of, HavePassed}
+use Rattle.pipeline.specs.Passes.{Pass, Reach, CopyProp, DeadCode, Squeeze, Compact, Removes, IsIllTyped, KeepsReads, Does, Steps, Last, Then, AreStill, HavePassed}
 use Rattle.pipeline.proofs.Few.{few_fields}
-use Rattle.pipeline.proofs.Bulk.{removal_less, thinned_less, compacted_same}
+use Rattle.pipeline.proofs.Bulk.{removal_less, propagated_same, thinned_less, compacted_same}
 
 -- ---- any passes
 
@@ -48,87 +58,108 @@ module _ (o : Outside) (admitted : List Bool) where
 
   -- more passes after these
   module _ (xs ys : List Pass) (t : Traced) (a b r : Passed) (one : HavePassed o admitted xs t a) (two : HavePassed o admitted ys a.traced b) (left : r.traced ≡ b.traced)
-      (removed : r.removed ≡ capped (a.removed + b.removed)) (rewritten : r.rewritten ≡ capped (a.rewritten + b.rewritten)) where
-    same_both : r.removed ≡ 0 → r.rewritten ≡ 0 → r.traced ≡ t
-    same_both h k = left ∙ two.same (omega (arith, removed, h)) (omega (arith, rewritten, k)) ∙ one.same (omega (arith, removed, h)) (omega (arith, rewritten, k))
+      (removed : r.changes.removed ≡ capped (a.changes.removed + b.changes.removed)) (reread : r.changes.reread ≡ capped (a.changes.reread + b.changes.reread)) (renamed : r.changes.renamed ≡ capped (a.changes.renamed + b.changes.renamed)) where
+    none_first : total_of r.changes ≡ 0 → total_of a.changes ≡ 0
+    none_first z = omega (arith, removed, reread, renamed, z)
 
-    still_both : r.removed ≡ 0 → r.rewritten ≡ 0 → AreStill o admitted (xs ++ ys) t.program
-    still_both h k = both_still xs ys t.program (one.still (omega (arith, removed, h)) (omega (arith, rewritten, k)))
-        (subst (λ (x : Traced). AreStill o admitted ys x.program) (one.same (omega (arith, removed, h)) (omega (arith, rewritten, k))) (two.still (omega (arith, removed, h)) (omega (arith, rewritten, k))))
+    none_then : total_of r.changes ≡ 0 → total_of b.changes ≡ 0
+    none_then z = omega (arith, removed, reread, renamed, z)
+
+    same_both : total_of r.changes ≡ 0 → r.traced ≡ t
+    same_both z = left ∙ two.same (none_then z) ∙ one.same (none_first z)
+
+    still_both : total_of r.changes ≡ 0 → AreStill o admitted (xs ++ ys) t.program
+    still_both z = both_still xs ys t.program (one.still (none_first z)) (subst (λ (x : Traced). AreStill o admitted ys x.program) (one.same (none_first z)) (two.still (none_then z)))
 
     bulk_left : bulk_of r.traced.program ≡ bulk_of b.traced.program
     bulk_left = ap (λ (x : Traced). bulk_of x.program) left
 
+    moves_left : moves_in r.traced.program ≡ moves_in b.traced.program
+    moves_left = ap (λ (x : Traced). moves_in x.program) left
+
     rank_left : rank_of r.traced.program ≡ rank_of b.traced.program
     rank_left = ap (λ (x : Traced). rank_of x.program) left
 
-    less_both : 0 < r.removed → bulk_of r.traced.program < bulk_of t.program
-    less_both h = by a.removed refl
-      where
-        by : (n : ℕ) → a.removed ≡ n → bulk_of r.traced.program < bulk_of t.program
-        by zero e = omega (arith, bulk_left, one.no_more, two.less (omega (arith, removed, e, h)))
-        by (suc n) e = omega (arith, bulk_left, two.no_more, one.less (omega (arith, e)))
+    none_removed : r.changes.removed ≡ 0 → (a.changes.removed ≡ 0) × (b.changes.removed ≡ 0)
+    none_removed z = (omega (arith, removed, z), omega (arith, removed, z))
 
-    lower_both : r.removed ≡ 0 → 0 < r.rewritten → rank_of r.traced.program < rank_of t.program
-    lower_both h k = by a.rewritten refl
-      where
-        none : a.removed ≡ 0
-        none = omega (arith, removed, h)
+    none_reread : r.changes.reread ≡ 0 → (a.changes.reread ≡ 0) × (b.changes.reread ≡ 0)
+    none_reread z = (omega (arith, reread, z), omega (arith, reread, z))
 
-        nothing : b.removed ≡ 0
-        nothing = omega (arith, removed, h)
+    fewer_both : r.changes.removed ≡ 0 → moves_in r.traced.program + min r.changes.reread 1 ≤ moves_in t.program
+    fewer_both z = omega (arith, moves_left, reread, one.falls.fewer (none_removed z).0, two.falls.fewer (none_removed z).1)
 
-        by : (n : ℕ) → a.rewritten ≡ n → rank_of r.traced.program < rank_of t.program
-        by zero e = omega (arith, rank_left, one.no_higher none, two.lower nothing (omega (arith, rewritten, e, k)))
-        by (suc n) e = omega (arith, rank_left, two.no_higher nothing, one.lower none (omega (arith, e)))
+    lower_both : r.changes.removed ≡ 0 → r.changes.reread ≡ 0 → rank_of r.traced.program + min r.changes.renamed 1 ≤ rank_of t.program
+    lower_both z y = omega (arith, rank_left, renamed, one.falls.lower (none_removed z).0 (none_reread y).0, two.falls.lower (none_removed z).1 (none_reread y).1)
 
     pub both_passed : HavePassed o admitted (xs ++ ys) t r
     both_passed = record {
       steps = subst (λ (x : Traced). Steps o admitted (xs ++ ys) t x) (sym left) (both_steps xs ys t a.traced b.traced one.steps two.steps);
       same = same_both;
       still = still_both;
-      no_more = omega (arith, bulk_left, one.no_more, two.no_more);
-      less = less_both;
-      no_higher = λ h. omega (arith, rank_left, one.no_higher (omega (arith, removed, h)), two.no_higher (omega (arith, removed, h)));
-      lower = lower_both;
+      falls = record { less = omega (arith, bulk_left, removed, one.falls.less, two.falls.less); fewer = fewer_both; lower = lower_both };
     }
 
 -- ---- one pass
 
--- what a pass left is its program, with the origins that follow
-pub record IsPassed (old : List (List Origin)) (c : Changed) (r : Passed) : Type 0 where
+-- what a pass left is its program, with the origins that follow, and it made these changes
+pub record IsPassed (old : List (List Origin)) (c : Changed) (made : Changes) (r : Passed) : Type 0 where
   pub program : r.traced.program ≡ c.program
+  pub changes : r.changes ≡ made
   pub origins : Follow old c.origins r.traced.origins
 
--- it took so much away, or changed so much in place
-pub record IsTaken (old : List (List Origin)) (c : Changed) (r : Passed) : Type 0 where
-  pub passed : IsPassed old c r
-  pub removed : r.removed ≡ c.count
-  pub rewritten : r.rewritten ≡ 0
+abbrev pub removes : ℕ → Changes
+removes n = record { removed = n; reread = 0; renamed = 0 }
 
-pub record IsRewritten (old : List (List Origin)) (c : Changed) (r : Passed) : Type 0 where
-  pub passed : IsPassed old c r
-  pub removed : r.removed ≡ 0
-  pub rewritten : r.rewritten ≡ c.count
+abbrev pub rereads : ℕ → Changes
+rereads n = record { removed = 0; reread = n; renamed = 0 }
+
+abbrev pub renames : ℕ → Changes
+renames n = record { removed = 0; reread = 0; renamed = n }
+
+-- what is as much, or less where a number isn't 0
+one_less : (x y n : ℕ) → (n ≡ 0 → x ≡ y) → (0 < n → x < y) → x + min n 1 ≤ y
+one_less x y zero same less = omega (arith, same refl)
+one_less x y (suc n) same less = omega (arith, less (omega arith))
+
+-- how a pass falls that only takes away, only lets reads read originals, or only gives registers other numbers
+removed_falls : (q p : Program) (n : ℕ) → (n ≡ 0 → q ≡ p) → (0 < n → bulk_of q < bulk_of p) → Falls (removes n) q p
+removed_falls q p n same less = record {
+  less = one_less (bulk_of q) (bulk_of p) n (λ z. ap bulk_of (same z)) less;
+  fewer = λ z. omega (arith, ap moves_in (same z));
+  lower = λ z _. omega (arith, ap rank_of (same z));
+}
+
+reread_falls : (q p : Program) (n : ℕ) → (n ≡ 0 → q ≡ p) → bulk_of q ≡ bulk_of p → (0 < n → moves_in q < moves_in p) → Falls (rereads n) q p
+reread_falls q p n same bulk less = record {
+  less = omega (arith, bulk);
+  fewer = λ _. one_less (moves_in q) (moves_in p) n (λ z. ap moves_in (same z)) less;
+  lower = λ _ z. omega (arith, ap rank_of (same z));
+}
+
+renamed_falls : (q p : Program) (n : ℕ) → (n ≡ 0 → q ≡ p) → bulk_of q ≡ bulk_of p → moves_in q ≡ moves_in p → (0 < n → rank_of q < rank_of p) → Falls (renames n) q p
+renamed_falls q p n same bulk moves less = record {
+  less = omega (arith, bulk);
+  fewer = λ _. omega (arith, moves);
+  lower = λ _ _. one_less (rank_of q) (rank_of p) n (λ z. ap rank_of (same z)) less;
+}
 
 module _ (o : Outside) (admitted : List Bool) (pass : Pass) (t : Traced) where
   -- nothing changed
-  pub none_passed : (r : Passed) → (is_well_formed t.program ≡ true → Does o admitted pass t.program t.program []) → r.traced ≡ t → r.removed ≡ 0 → r.rewritten ≡ 0 → HavePassed o admitted (pass ∷ []) t r
-  none_passed r does same none nothing =
-      let bulk : bulk_of r.traced.program ≡ bulk_of t.program = ap (λ (x : Traced). bulk_of x.program) same in
-      let rank : rank_of r.traced.program ≡ rank_of t.program = ap (λ (x : Traced). rank_of x.program) same in
-      record {
-        steps = subst (λ (x : Traced). Steps o admitted (pass ∷ []) t x) (sym same) (Then pass [] t t t (record { moved = []; does = does; follow = refl }) (Last t));
-        same = λ _ _. same;
-        still = λ _ _. (does, tt);
-        no_more = omega (arith, bulk);
-        less = λ some. absurd (omega (arith, some, none));
-        no_higher = λ _. omega (arith, rank);
-        lower = λ _ some. absurd (omega (arith, some, nothing));
-      }
+  pub none_passed : (r : Passed) → (is_well_formed t.program ≡ true → Does o admitted pass t.program t.program []) → r.traced ≡ t → r.changes ≡ no_changes → HavePassed o admitted (pass ∷ []) t r
+  none_passed r does same none = record {
+    steps = subst (λ (x : Traced). Steps o admitted (pass ∷ []) t x) (sym same) (Then pass [] t t t (record { moved = []; does = does; follow = refl }) (Last t));
+    same = λ _. same;
+    still = λ _. (does, tt);
+    falls = subst (λ (x : Changes). Falls x r.traced.program t.program) (sym none)
+        (removed_falls r.traced.program t.program 0 (λ _. ap (λ (x : Traced). x.program) same) (λ some. absurd (omega (arith, some))));
+  }
 
-  module _ (c : Changed) (r : Passed) (h : IsPassed t.origins c r) (does : is_well_formed t.program ≡ true → Does o admitted pass t.program c.program c.origins)
-      (same : c.count ≡ 0 → c.program ≡ t.program) (unmoved : c.count ≡ 0 → c.origins ≡ []) where
+  module _ (c : Changed) (made : Changes) (r : Passed) (h : IsPassed t.origins c made r) (does : is_well_formed t.program ≡ true → Does o admitted pass t.program c.program c.origins)
+      (total : total_of made ≡ c.count) (same : c.count ≡ 0 → c.program ≡ t.program) (unmoved : c.count ≡ 0 → c.origins ≡ []) (falls : Falls made c.program t.program) where
+    none_counted : total_of r.changes ≡ 0 → c.count ≡ 0
+    none_counted z = sym total ∙ ap total_of (sym h.changes) ∙ z
+
     same_origins : c.count ≡ 0 → r.traced.origins ≡ t.origins
     same_origins z = subst (λ (m : List (List Origin)). Follow t.origins m r.traced.origins) (unmoved z) h.origins
 
@@ -146,58 +177,39 @@ module _ (o : Outside) (admitted : List Bool) (pass : Pass) (t : Traced) where
       follow = h.origins;
     }) (Last r.traced)
 
-    bulk_is : bulk_of r.traced.program ≡ bulk_of c.program
-    bulk_is = ap bulk_of h.program
-
-    rank_is : rank_of r.traced.program ≡ rank_of c.program
-    rank_is = ap rank_of h.program
-
-    same_bulk : c.count ≡ 0 → bulk_of c.program ≡ bulk_of t.program
-    same_bulk z = ap bulk_of (same z)
-
-    same_rank : c.count ≡ 0 → rank_of c.program ≡ rank_of t.program
-    same_rank z = ap rank_of (same z)
-
-    -- a pass that takes away
-    pub taken_passed : r.removed ≡ c.count → r.rewritten ≡ 0 → (0 < c.count → bulk_of c.program < bulk_of t.program) → HavePassed o admitted (pass ∷ []) t r
-    taken_passed removed rewritten less = record {
+    pub changed_passed : HavePassed o admitted (pass ∷ []) t r
+    changed_passed = record {
       steps = steps;
-      same = λ z _. same_traced (omega (arith, removed, z));
-      still = λ z _. (still_does (omega (arith, removed, z)), tt);
-      no_more = more c.count refl;
-      less = λ some. let l : bulk_of c.program < bulk_of t.program = less (omega (arith, some, removed)) in omega (arith, bulk_is, l);
-      no_higher = λ z. omega (arith, rank_is, same_rank (omega (arith, removed, z)));
-      lower = λ _ some. absurd (omega (arith, some, rewritten));
+      same = λ z. same_traced (none_counted z);
+      still = λ z. (still_does (none_counted z), tt);
+      falls = subst (λ (x : Changes). Falls x r.traced.program t.program) (sym h.changes) (subst (λ (x : Program). Falls made x t.program) (sym h.program) falls);
     }
-      where
-        more : (n : ℕ) → c.count ≡ n → bulk_of r.traced.program ≤ bulk_of t.program
-        more zero e = omega (arith, bulk_is, same_bulk e)
-        more (suc n) e = let l : bulk_of c.program < bulk_of t.program = less (omega (arith, e)) in omega (arith, bulk_is, l)
 
-    -- a pass that changes in place
-    pub rewritten_passed : r.removed ≡ 0 → r.rewritten ≡ c.count → bulk_of c.program ≤ bulk_of t.program → (0 < c.count → rank_of c.program < rank_of t.program) → HavePassed o admitted (pass ∷ []) t r
-    rewritten_passed removed rewritten more lower = record {
-      steps = steps;
-      same = λ _ z. same_traced (omega (arith, rewritten, z));
-      still = λ _ z. (still_does (omega (arith, rewritten, z)), tt);
-      no_more = omega (arith, bulk_is, more);
-      less = λ some. absurd (omega (arith, some, removed));
-      no_higher = λ _. higher c.count refl;
-      lower = λ _ some. let l : rank_of c.program < rank_of t.program = lower (omega (arith, some, rewritten)) in omega (arith, rank_is, l);
-    }
-      where
-        higher : (n : ℕ) → c.count ≡ n → rank_of r.traced.program ≤ rank_of t.program
-        higher zero e = omega (arith, rank_is, same_rank e)
-        higher (suc n) e = let l : rank_of c.program < rank_of t.program = lower (omega (arith, e)) in omega (arith, rank_is, l)
+-- what passes left whatever lies outside, where they changed nothing
+some_outside : Outside
+some_outside = record { classes = []; methods = []; fields = []; methods_if = []; fields_if = []; classes_if = []; shrink = false; optimise = false; silent = []; shut = [] }
+
+pub same_program : (admitted : List Bool) (some : List Pass) (t : Traced) (r : Passed) → ((o : Outside) → HavePassed o admitted some t r) → total_of r.changes ≡ 0 → r.traced.program ≡ t.program
+same_program admitted some t r passed none = ap (λ (x : Traced). x.program) ((passed some_outside).same none)
+
+-- the refusal of a body
+pub ill_typed : (p : Program) (h : Hierarchy) (e : TypeFault) (method position register : ℕ) → e ≡ fault.IllTyped method position register → (e ≡ fault.NoMemory) ⊎ RefusesOne p h e → IsIllTyped p h
+ill_typed p h e method position register is (inl none) = absurd (let no : fault.IllTyped method position register ≡ fault.NoMemory = sym is ∙ none in cc)
+ill_typed p h e method position register is (inr refused) = record { method = method; position = position; register = register; refused = subst (RefusesOne p h) is refused }
 
 -- ---- removal
 
 module _ (o : Outside) (admitted : List Bool) (t : Traced) (r : Passed) where
-  pub barred_passed : r.traced ≡ t → r.removed ≡ 0 → r.rewritten ≡ 0 → o.shrink ≡ false → HavePassed o admitted (Reach ∷ []) t r
-  barred_passed same none nothing e = none_passed o admitted Reach t r (λ _. record { removal = inr (refl, inl e); still = refl }) same none nothing
+  -- a pass that takes away
+  taken_passed : (pass : Pass) (c : Changed) → IsPassed t.origins c (removes c.count) r → (is_well_formed t.program ≡ true → Does o admitted pass t.program c.program c.origins)
+      → (c.count ≡ 0 → c.program ≡ t.program) → (c.count ≡ 0 → c.origins ≡ []) → (0 < c.count → bulk_of c.program < bulk_of t.program) → HavePassed o admitted (pass ∷ []) t r
+  taken_passed pass c passed does same unmoved less = changed_passed o admitted pass t c (removes c.count) r passed does (omega arith) same unmoved (removed_falls c.program t.program c.count same less)
 
-  pub fault_passed : r.traced ≡ t → r.removed ≡ 0 → r.rewritten ≡ 0 → (is_well_formed t.program ≡ true → HasGraphFault t.program) → HavePassed o admitted (Reach ∷ []) t r
-  fault_passed same none nothing fault = none_passed o admitted Reach t r (λ formed. record { removal = inr (refl, inr (fault formed)); still = refl }) same none nothing
+  pub barred_passed : r.traced ≡ t → r.changes ≡ no_changes → o.shrink ≡ false → HavePassed o admitted (Reach ∷ []) t r
+  barred_passed same none e = none_passed o admitted Reach t r (λ _. record { removal = inr (refl, inl e); still = refl }) same none
+
+  pub fault_passed : r.traced ≡ t → r.changes ≡ no_changes → (is_well_formed t.program ≡ true → HasGraphFault t.program) → HavePassed o admitted (Reach ∷ []) t r
+  fault_passed same none fault = none_passed o admitted Reach t r (λ formed. record { removal = inr (refl, inr (fault formed)); still = refl }) same none
 
   removed : (q : Program) (h : Hierarchy) → o.shrink ≡ true → is_well_formed t.program ≡ true → HasGraph t.program h
       → (is_well_formed t.program ≡ true → IsResolved t.program h → (s : LiveSet) × Fits t.program s × IsClosedSet t.program o s × (q ≡ kept_of s t.program)) → Removes o t.program q
@@ -210,12 +222,23 @@ module _ (o : Outside) (admitted : List Bool) (t : Traced) (r : Passed) where
         left = kept.3;
       }
 
-  pub removal_passed : (c : Changed) (h : Hierarchy) → IsTaken t.origins c r → o.shrink ≡ true → (is_well_formed t.program ≡ true → HasGraph t.program h) → c.origins ≡ []
+  pub removal_passed : (c : Changed) (h : Hierarchy) → IsPassed t.origins c (removes c.count) r → o.shrink ≡ true → (is_well_formed t.program ≡ true → HasGraph t.program h) → c.origins ≡ []
       → (is_well_formed t.program ≡ true → IsResolved t.program h → (s : LiveSet) × Fits t.program s × IsClosedSet t.program o s × (c.program ≡ kept_of s t.program))
       → (s : LiveSet) × Fits t.program s × (c.program ≡ kept_of s t.program) → (c.count ≡ 0 → c.program ≡ t.program) → (0 < c.count → size_of c.program < size_of t.program)
       → HavePassed o admitted (Reach ∷ []) t r
-  removal_passed c h passed allowed graph unmoved closed kept same less = taken_passed o admitted Reach t c r passed.passed
-      (λ formed. record { removal = inl (removed c.program h allowed formed (graph formed) closed); still = unmoved }) same (λ _. unmoved) passed.removed passed.rewritten (λ some. removal_less kept.0 t.program c.program kept.2 (less some))
+  removal_passed c h passed allowed graph unmoved closed kept same less = taken_passed Reach c passed
+      (λ formed. record { removal = inl (removed c.program h allowed formed (graph formed) closed); still = unmoved }) same (λ _. unmoved) (λ some. removal_less kept.0 t.program c.program kept.2 (less some))
+
+  -- ---- propagation of copies
+
+  pub kept_reads_passed : r.traced ≡ t → r.changes ≡ no_changes → (is_well_formed t.program ≡ true → KeepsReads admitted t.program) → HavePassed o admitted (CopyProp ∷ []) t r
+  kept_reads_passed same none keeps = none_passed o admitted CopyProp t r (λ formed. record { propagation = inr (refl, keeps formed); still = refl }) same none
+
+  pub copies_passed : (c : Changed) (h : Hierarchy) → IsPassed t.origins c (rereads c.count) r → (is_well_formed t.program ≡ true → HasGraph t.program h) → has_narrow_classes t.program ≡ true → TypesAll t.program h
+      → c.origins ≡ [] → IsPropagatedProgram admitted t.program c.program → IsCounted c.count t.program c.program → HavePassed o admitted (CopyProp ∷ []) t r
+  copies_passed c h passed graph narrow typed still propagated counts = changed_passed o admitted CopyProp t c (rereads c.count) r passed
+      (λ formed. record { propagation = inl (record { narrow = narrow; hierarchy = h; resolved = (graph formed).resolved; typed = typed; propagated = propagated }); still = still })
+      (omega arith) counts.same (λ _. still) (reread_falls c.program t.program c.count counts.same (propagated_same admitted t.program c.program propagated) (λ some. propagated_fewer admitted t.program c.program propagated (counts.differs some)))
 
   -- ---- squeezing
 
@@ -225,36 +248,34 @@ module _ (o : Outside) (admitted : List Bool) (t : Traced) (r : Passed) where
   unmoved : (wishes : Body → List Fate → Type 0) (c : Changed) → IsThinnedBy wishes admitted t.program c → c.count ≡ 0 → c.origins ≡ []
   unmoved wishes c h none = h.origins ∙ if_zero (all_changes h.plan) _ (not_capped (all_changes h.plan) (sym h.count ∙ none))
 
-  pub squeeze_passed : (c : Changed) → IsTaken t.origins c r → IsThinnedBy AreSkips admitted t.program c → (c.count ≡ 0 → c.program ≡ t.program) → (0 < c.count → weight_of c.program < weight_of t.program)
+  pub squeeze_passed : (c : Changed) → IsPassed t.origins c (removes c.count) r → IsThinnedBy AreSkips admitted t.program c → (c.count ≡ 0 → c.program ≡ t.program) → (0 < c.count → weight_of c.program < weight_of t.program)
       → (c.count ≡ 0 → NothingLeft admitted t.program) → HavePassed o admitted (Squeeze ∷ []) t r
-  squeeze_passed c passed h same less none = taken_passed o admitted Squeeze t c r passed.passed
-      (λ _. record { count = c.count; thinned = h; none_left = none }) same (unmoved AreSkips c h) passed.removed passed.rewritten (λ some. thinned_less AreSkips admitted t.program c h (less some))
+  squeeze_passed c passed h same less none = taken_passed Squeeze c passed
+      (λ _. record { count = c.count; thinned = h; none_left = none }) same (unmoved AreSkips c h) (λ some. thinned_less AreSkips admitted t.program c h (less some))
 
   -- ---- cleaning
 
-  pub clean_fault_passed : r.traced ≡ t → r.removed ≡ 0 → r.rewritten ≡ 0 → (is_well_formed t.program ≡ true → HasGraphFault t.program) → HavePassed o admitted (DeadCode ∷ []) t r
-  clean_fault_passed same none nothing fault = none_passed o admitted DeadCode t r (λ formed. inr (refl, fault formed)) same none nothing
+  pub clean_fault_passed : r.traced ≡ t → r.changes ≡ no_changes → (is_well_formed t.program ≡ true → HasGraphFault t.program) → HavePassed o admitted (DeadCode ∷ []) t r
+  clean_fault_passed same none fault = none_passed o admitted DeadCode t r (λ formed. inr (refl, fault formed)) same none
 
-  pub many_fields_passed : r.traced ≡ t → r.removed ≡ 0 → r.rewritten ≡ 0 → 2 ^ 32 - 1 < length t.program.fields → HavePassed o admitted (DeadCode ∷ []) t r
-  many_fields_passed same none nothing many = none_passed o admitted DeadCode t r
-      (λ formed. let few : length t.program.fields < 2 ^ 32 = few_fields t.program formed in absurd (omega (arith, many, few))) same none nothing
+  pub many_fields_passed : r.traced ≡ t → r.changes ≡ no_changes → 2 ^ 32 - 1 < length t.program.fields → HavePassed o admitted (DeadCode ∷ []) t r
+  many_fields_passed same none many = none_passed o admitted DeadCode t r
+      (λ formed. let few : length t.program.fields < 2 ^ 32 = few_fields t.program formed in absurd (omega (arith, many, few))) same none
 
-  pub clean_passed : (c : Changed) (h : Hierarchy) → IsTaken t.origins c r → (is_well_formed t.program ≡ true → HasGraph t.program h) → IsCleaned h admitted t.program c
+  pub clean_passed : (c : Changed) (h : Hierarchy) → IsPassed t.origins c (removes c.count) r → (is_well_formed t.program ≡ true → HasGraph t.program h) → IsCleaned h admitted t.program c
       → (IsResolved t.program h → IsThinnedBy (AreCleaned (is_quiet_field t.program)) admitted t.program c) → (IsResolved t.program h → c.count ≡ 0 → NoneDead (is_quiet_field t.program) admitted t.program)
       → (c.count ≡ 0 → c.program ≡ t.program) → (0 < c.count → weight_of c.program < weight_of t.program) → HavePassed o admitted (DeadCode ∷ []) t r
-  clean_passed c h passed graph cleaned resolved none same less = taken_passed o admitted DeadCode t c r passed.passed
-      (λ formed. inl (record { count = c.count; thinned = resolved (graph formed).resolved; none_left = none (graph formed).resolved })) same (unmoved (AreCleaned (is_on cleaned.quiet)) c cleaned.thinned) passed.removed passed.rewritten
+  clean_passed c h passed graph cleaned resolved none same less = taken_passed DeadCode c passed
+      (λ formed. inl (record { count = c.count; thinned = resolved (graph formed).resolved; none_left = none (graph formed).resolved })) same (unmoved (AreCleaned (is_on cleaned.quiet)) c cleaned.thinned)
       (λ some. thinned_less (AreCleaned (is_on cleaned.quiet)) admitted t.program c cleaned.thinned (less some))
 
   -- ---- compaction
 
-  pub wide_passed : r.traced ≡ t → r.removed ≡ 0 → r.rewritten ≡ 0 → has_narrow_classes t.program ≡ false → HavePassed o admitted (Compact ∷ []) t r
-  wide_passed same none nothing wide = none_passed o admitted Compact t r (λ _. record { compaction = inr (refl, wide); still = refl }) same none nothing
+  pub wide_passed : r.traced ≡ t → r.changes ≡ no_changes → has_narrow_classes t.program ≡ false → HavePassed o admitted (Compact ∷ []) t r
+  wide_passed same none wide = none_passed o admitted Compact t r (λ _. record { compaction = inr (refl, wide); still = refl }) same none
 
-  pub compact_passed : (c : Changed) → IsRewritten t.origins c r → has_narrow_classes t.program ≡ true → c.origins ≡ [] → IsCompactedProgram admitted t.program c.program → IsCounted c.count t.program c.program
+  pub compact_passed : (c : Changed) → IsPassed t.origins c (renames c.count) r → has_narrow_classes t.program ≡ true → c.origins ≡ [] → IsCompactedProgram admitted t.program c.program → compact.IsCounted c.count t.program c.program
       → (0 < c.count → numbers_in c.program < numbers_in t.program) → HavePassed o admitted (Compact ∷ []) t r
-  compact_passed c passed narrow still h counts less = rewritten_passed o admitted Compact t c r passed.passed
-      (λ _. record { compaction = inl (narrow, h); still = still }) counts.same (λ _. still) passed.removed passed.rewritten (omega (arith, same)) less
-    where
-      same : bulk_of c.program ≡ bulk_of t.program
-      same = compacted_same admitted t.program c.program h
+  compact_passed c passed narrow still h counts less = changed_passed o admitted Compact t c (renames c.count) r passed
+      (λ _. record { compaction = inl (narrow, h); still = still }) (omega arith) counts.same (λ _. still)
+      (renamed_falls c.program t.program c.count counts.same (compacted_same admitted t.program c.program h) (compacted_moves admitted t.program c.program h) less)

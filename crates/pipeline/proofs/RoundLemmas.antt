@@ -12,63 +12,74 @@ use Rattle.hierarchy.specs.declared.build.Hierarchy.{Hierarchy}
 use Rattle.call_graph.specs.declared.live_set.LiveSet.{LiveSet}
 use Rattle.call_graph.specs.Facts.{Fits}
 use Rattle.call_graph.specs.Closed.{IsClosedSet}
+use Rattle.moves_law.specs.Measure.{moves_in}
 use Rattle.pipeline.specs.Advised.{IsAdvised}
 use Rattle.pipeline.specs.Asks.{Verdict, asked, no_verdict, AreAnswered}
+use Rattle.pipeline.specs.Changes.{total_of, rank_of, IsLess, Falls}
 use Rattle.pipeline.specs.Counts.{counted}
 use Rattle.pipeline.specs.Graph.{HasGraph, HasGraphFault}
 use Rattle.pipeline.specs.Silence.{IsSilent, is_quiet, silenced_body, silenced_method, silenced_class, silenced}
-use Rattle.pipeline.specs.Passes.{passes, Steps, AreStill, bulk_of, rank_of, IsLess, HavePassed}
+use Rattle.pipeline.specs.Passes.{passes, AreStill, HavePassed}
 use Rattle.pipeline.specs.Rounds.{Rounds, Ended, Next, Rounding, first_of, HaveRun, IsOptimised}
+use Rattle.pipeline.specs.declared.traces.Changes.{Changes}
 use Rattle.pipeline.specs.declared.traces.Passed.{Passed}
 use Rattle.pipeline.specs.declared.traces.Traced.{Traced}
 
 -- ---- all rounds
 
--- the rank, and whether something was changed, where nothing was taken away
-abbrev pub left_to_do : ℕ → Passed → ℕ
-left_to_do zero r = rank_of r.traced.program + min r.rewritten 1 + 1
-left_to_do (suc n) r = 0
+-- the rank, and whether registers got other numbers, where no more than that was changed
+abbrev pub left_to_rename : ℕ → Passed → ℕ
+left_to_rename zero r = rank_of r.traced.program + min r.changes.renamed 1
+left_to_rename (suc n) r = 0
+
+-- through how many Moves what is read went, and whether a read was changed, where nothing was taken away
+abbrev pub left_to_reread : ℕ → Passed → ℕ
+left_to_reread zero r = moves_in r.traced.program + min r.changes.reread 1
+left_to_reread (suc n) r = 0
+
+-- what falls by changes is less, where there are some
+falls_less : (c : Changes) (q p : Program) → Falls c q p → 0 < total_of c → IsLess q p
+falls_less c q p f some = by c.removed refl
+  where
+    behind : (n : ℕ) → c.removed ≡ 0 → c.reread ≡ n → (moves_in q < moves_in p) ⊎ ((moves_in q ≤ moves_in p) × (rank_of q < rank_of p))
+    behind zero none e = inr (omega (arith, f.fewer none), omega (arith, f.lower none e, none, e, some))
+    behind (suc n) none e = inl (omega (arith, f.fewer none, e))
+
+    by : (n : ℕ) → c.removed ≡ n → IsLess q p
+    by zero e = inr (omega (arith, f.less), behind c.reread e refl)
+    by (suc n) e = inl (omega (arith, f.less, e))
+
+-- rounds behind one that took nothing away and let reads read originals leave fewer Moves
+pub less_to_reread : (b c : Passed) → b.changes.removed ≡ 0 → 0 < b.changes.reread → (c.changes.removed ≡ 0 → moves_in c.traced.program + min c.changes.reread 1 ≤ moves_in b.traced.program)
+    → left_to_reread c.changes.removed c < left_to_reread b.changes.removed b
+less_to_reread b c none some fewer = subst (λ (n : ℕ). left_to_reread c.changes.removed c < left_to_reread n b) (sym none) (by c.changes.removed refl)
+  where
+    by : (n : ℕ) → c.changes.removed ≡ n → left_to_reread n c < left_to_reread 0 b
+    by zero e = omega (arith, fewer e, some)
+    by (suc n) e = omega (arith, some)
 
 module _ (o : Outside) (admitted : List Bool) where
-  -- what a round leaves that changed something is less
-  round_less : (t : Traced) (r : Passed) → HavePassed o admitted passes t r → 0 < r.removed + r.rewritten → IsLess r.traced.program t.program
-  round_less t r h some = by r.removed refl
+  -- a round behind one that only gave registers other numbers leaves fewer to give
+  pub less_to_rename : (b c : Passed) → HavePassed o admitted passes b.traced c → b.changes.removed + b.changes.reread ≡ 0 → 0 < b.changes.renamed
+      → left_to_rename (c.changes.removed + c.changes.reread) c < left_to_rename (b.changes.removed + b.changes.reread) b
+  less_to_rename b c h none some = subst (λ (n : ℕ). left_to_rename (c.changes.removed + c.changes.reread) c < left_to_rename n b) (sym none) (by (c.changes.removed + c.changes.reread) refl)
     where
-      by : (n : ℕ) → r.removed ≡ n → IsLess r.traced.program t.program
-      by zero e = inr (h.no_more, h.lower e (omega (arith, e, some)))
-      by (suc n) e = inl (h.less (omega (arith, e)))
-
-  pub falls : (t : Traced) (r : Passed) → HavePassed o admitted passes t r → bulk_of r.traced.program + min r.removed 1 ≤ bulk_of t.program
-  falls t r h = by r.removed refl
-    where
-      by : (n : ℕ) → r.removed ≡ n → bulk_of r.traced.program + min r.removed 1 ≤ bulk_of t.program
-      by zero e = omega (arith, e, h.no_more)
-      by (suc n) e = omega (arith, h.less (omega (arith, e)))
-
-  -- a round behind one that took nothing away leaves less to do
-  pub less_to_do : (b c : Passed) → HavePassed o admitted passes b.traced c → b.removed ≡ 0 → 0 < b.rewritten → left_to_do c.removed c < left_to_do b.removed b
-  less_to_do b c h none some = subst (λ (n : ℕ). left_to_do c.removed c < left_to_do n b) (sym none) (by c.removed refl)
-    where
-      as_high : (n : ℕ) → c.removed ≡ 0 → c.rewritten ≡ n → left_to_do 0 c < left_to_do 0 b
-      as_high zero e i = omega (arith, h.no_higher e, i, some)
-      as_high (suc n) e i = omega (arith, h.lower e (omega (arith, i)), i, some)
-
-      by : (n : ℕ) → c.removed ≡ n → left_to_do n c < left_to_do 0 b
-      by zero e = as_high c.rewritten e refl
-      by (suc n) e = omega arith
+      by : (n : ℕ) → c.changes.removed + c.changes.reread ≡ n → left_to_rename n c < left_to_rename 0 b
+      by zero e = omega (arith, h.falls.lower (omega (arith, e)) (omega (arith, e)), some)
+      by (suc n) e = omega (arith, some)
 
   more_rounds : (m n : ℕ) (t u v : Traced) → Rounds o admitted m t u → Rounds o admitted n u v → Rounds o admitted (m + n) t v
   more_rounds m n t u v (Ended x) others = subst (λ (k : ℕ). Rounds o admitted k x v) (omega arith) others
   more_rounds m n t u v (Next k x y z first less rest) others = subst (λ (j : ℕ). Rounds o admitted j x v) (omega arith) (Next (k + n) x y v first less (more_rounds k n y z v rest others))
 
-  one_round : (t : Traced) (r : Passed) → HavePassed o admitted passes t r → 0 < r.removed + r.rewritten → Rounds o admitted 1 t r.traced
-  one_round t r h some = Next zero t r.traced r.traced h.steps (round_less t r h some) (Ended r.traced)
+  one_round : (t : Traced) (r : Passed) → HavePassed o admitted passes t r → 0 < total_of r.changes → Rounds o admitted 1 t r.traced
+  one_round t r h some = Next zero t r.traced r.traced h.steps (falls_less r.changes r.traced.program t.program h.falls some) (Ended r.traced)
 
   pub begun : (t : Traced) (r : Passed) → HavePassed o admitted passes t r → Rounding o admitted t r 1
   begun t r one = record { before = t; changing = zero; rounds = Ended t; one = one; count_is = refl }
 
   -- rounds that changed something, and others behind them
-  pub further : (t : Traced) (b c : Passed) (n k m : ℕ) → 0 < b.removed + b.rewritten → Rounding o admitted t b n → Rounding o admitted b.traced c k → m ≡ counted (n + k) → Rounding o admitted t c m
+  pub further : (t : Traced) (b c : Passed) (n k m : ℕ) → 0 < total_of b.changes → Rounding o admitted t b n → Rounding o admitted b.traced c k → m ≡ counted (n + k) → Rounding o admitted t c m
   further t b c n k m some so more e = record {
     before = more.before;
     changing = so.changing + 1 + more.changing;
@@ -78,11 +89,11 @@ module _ (o : Outside) (admitted : List Bool) where
   }
 
   -- a round that changes nothing is the last
-  pub ended : (p : Program) (t : Traced) (r : Passed) (n : ℕ) → t ≡ first_of p → Rounding o admitted t r n → r.removed ≡ 0 → r.rewritten ≡ 0 → HaveRun o admitted p r.traced n
-  ended p t r n e so none nothing = record {
+  pub ended : (p : Program) (t : Traced) (r : Passed) (n : ℕ) → t ≡ first_of p → Rounding o admitted t r n → total_of r.changes ≡ 0 → HaveRun o admitted p r.traced n
+  ended p t r n e so none = record {
     changing = so.changing;
-    rounds = subst (λ (x : Traced). Rounds o admitted so.changing x r.traced) e (subst (λ (x : Traced). Rounds o admitted so.changing t x) (sym (so.one.same none nothing)) so.rounds);
-    ends = subst (λ (x : Traced). AreStill o admitted passes x.program) (sym (so.one.same none nothing)) (so.one.still none nothing);
+    rounds = subst (λ (x : Traced). Rounds o admitted so.changing x r.traced) e (subst (λ (x : Traced). Rounds o admitted so.changing t x) (sym (so.one.same none)) so.rounds);
+    ends = subst (λ (x : Traced). AreStill o admitted passes x.program) (sym (so.one.same none)) (so.one.still none);
     count_is = so.count_is;
   }
 

@@ -1,38 +1,43 @@
 -- What the passes of a round do to a program, by number (this project's profile).
-use Rattle.std.specs.Prelude.{◌≡◌, ◌⊎◌, ◌<◌, ◌≤◌, ◌+◌, ℕ, Bool, true, false, List, [], ◌∷◌}
+use Rattle.std.specs.Prelude.{◌≡◌, ◌⊎◌, ℕ, Bool, true, false, List, [], ◌∷◌}
 use Rattle.program_model.specs.declared.body.Body.{Body}
 use Rattle.program_model.specs.declared.pass.Origin.{Origin}
 use Rattle.program_model.specs.declared.pass.Outside.{Outside}
 use Rattle.program_model.specs.declared.program.Program.{Program}
 use Rattle.program_model.specs.ProgramRules.{is_well_formed}
+use Rattle.hierarchy.specs.Shapes.{IsResolved}
+use Rattle.hierarchy.specs.declared.build.Hierarchy.{Hierarchy}
 use Rattle.call_graph.specs.declared.live_set.LiveSet.{LiveSet}
-use Rattle.reach.specs.Kept.{kept_of, size_of}
+use Rattle.reach.specs.Kept.{kept_of}
 use Rattle.reach.specs.Marked.{IsMarked}
 use Rattle.body_edit.specs.declared.fate.Fate.{Fate}
 use Rattle.thin_pass.specs.Plans.{IsThinnedBy}
-use Rattle.thin_pass.specs.Weights.{weight_of}
+use Rattle.verify.specs.Methods.{RefusesOne, TypesAll}
+use Rattle.verify.specs.declared.fault.TypeFault.TheVariants as fault
+use Rattle.copy_prop.specs.Propagated.{IsPropagatedProgram}
 use Rattle.dead_code.specs.Dead.{is_quiet_field}
 use Rattle.dead_code.specs.Wishes.{AreCleaned, NoneDead}
 use Rattle.squeeze.specs.Needed.{NothingLeft}
 use Rattle.squeeze.specs.Skipping.{AreSkips}
-use Rattle.compact.specs.Measure.{numbers_in}
 use Rattle.compact.specs.Narrow.{has_narrow_classes}
 use Rattle.compact.specs.Renamed.{IsCompactedProgram}
 use Rattle.pipeline.specs.declared.traces.Passed.{Passed}
 use Rattle.pipeline.specs.declared.traces.Traced.{Traced}
+use Rattle.pipeline.specs.Changes.{total_of, Falls}
 use Rattle.pipeline.specs.Graph.{HasGraphFault}
 use Rattle.pipeline.specs.Origins.{Follow}
 
 -- The passes.
 pub data Pass : Type 0 where
   Reach : Pass
+  CopyProp : Pass
   DeadCode : Pass
   Squeeze : Pass
   Compact : Pass
 
 -- The passes of a round, in their order.
 abbrev pub passes : List Pass
-passes = Reach ∷ DeadCode ∷ Squeeze ∷ Compact ∷ []
+passes = Reach ∷ CopyProp ∷ DeadCode ∷ Squeeze ∷ Compact ∷ []
 
 -- ---- what each pass does to a well-formed program
 
@@ -50,6 +55,33 @@ IsBarred o p = (o.shrink ≡ false) ⊎ HasGraphFault p
 -- A removal, or nothing where it is barred. No position moves.
 pub record IsRemoval (o : Outside) (p q : Program) (moved : List (List Origin)) : Type 0 where
   pub removal : Removes o p q ⊎ ((q ≡ p) × IsBarred o p)
+  pub still : moved ≡ []
+
+-- The verifier refuses some body.
+pub record IsIllTyped (p : Program) (h : Hierarchy) : Type 0 where
+  pub method : ℕ
+  pub position : ℕ
+  pub register : ℕ
+  pub refused : RefusesOne p h (fault.IllTyped method position register)
+
+-- Every body is typed, no method of a wide type is named, and stale reads in admitted methods read originals.
+pub record Propagates (admitted : List Bool) (p q : Program) : Type 0 where
+  pub narrow : has_narrow_classes p ≡ true
+  pub hierarchy : Hierarchy
+  pub resolved : IsResolved p hierarchy
+  pub typed : TypesAll p hierarchy
+  pub propagated : IsPropagatedProgram admitted p q
+
+-- Why no read is changed: none is stale, a method of a wide type is named, the class graph has a fault, or some body is ill typed.
+pub data KeepsReads (admitted : List Bool) (p : Program) : Type 0 where
+  NoneStale : IsPropagatedProgram admitted p p → KeepsReads admitted p
+  Wide : has_narrow_classes p ≡ false → KeepsReads admitted p
+  Faulty : HasGraphFault p → KeepsReads admitted p
+  IllTyped : (h : Hierarchy) → IsResolved p h → IsIllTyped p h → KeepsReads admitted p
+
+-- Stale reads in admitted methods read originals, or nothing changes. No position moves.
+pub record IsPropagation (admitted : List Bool) (p q : Program) (moved : List (List Origin)) : Type 0 where
+  pub propagation : Propagates admitted p q ⊎ ((q ≡ p) × KeepsReads admitted p)
   pub still : moved ≡ []
 
 -- The bodies of admitted methods as a pass that thins them wishes. Where it counts nothing, nothing is left for it.
@@ -71,6 +103,7 @@ pub record IsCompaction (admitted : List Bool) (p q : Program) (moved : List (Li
 -- What a pass makes of a program, and where it says that positions come from.
 abbrev pub Does : Outside → List Bool → Pass → Program → Program → List (List Origin) → Type 0
 Does o admitted Reach p q moved = IsRemoval o p q moved
+Does o admitted CopyProp p q moved = IsPropagation admitted p q moved
 Does o admitted DeadCode p q moved = IsCleaning admitted p q moved
 Does o admitted Squeeze p q moved = Thins AreSkips (NothingLeft admitted p) admitted p q moved
 Does o admitted Compact p q moved = IsCompaction admitted p q moved
@@ -93,27 +126,10 @@ abbrev pub AreStill : Outside → List Bool → List Pass → Program → Type 0
 AreStill o admitted [] p = Unit {0}
 AreStill o admitted (pass ∷ rest) p = (is_well_formed p ≡ true → Does o admitted pass p p []) × AreStill o admitted rest p
 
--- How much of a program there is: its classes and members, and its instructions, a nop counting 1 and every other one 2. No pass
--- makes it more.
-abbrev pub bulk_of : Program → ℕ
-bulk_of p = size_of p + weight_of p
-
--- What its bodies name: their registers, and the numbers of those that instructions name. A pass that takes nothing away and changes
--- bodies in place makes it less.
-abbrev pub rank_of : Program → ℕ
-rank_of p = numbers_in p
-
--- There is less of a program, or as much and what is left ranks lower.
-abbrev pub IsLess : Program → Program → Type 0
-IsLess q p = (bulk_of q < bulk_of p) ⊎ ((bulk_of q ≤ bulk_of p) × (rank_of q < rank_of p))
-
--- Some passes ran, and counted what they took away and what they changed in place: nothing where each of them left the program the
--- same. Where something was taken away there is less of the program, and where something was only changed it ranks lower.
+-- Some passes ran, and counted what they changed: nothing where each of them left the program the same. What is left falls by what
+-- they counted.
 pub record HavePassed (o : Outside) (admitted : List Bool) (some : List Pass) (t : Traced) (r : Passed) : Type 0 where
   pub steps : Steps o admitted some t r.traced
-  pub same : r.removed ≡ 0 → r.rewritten ≡ 0 → r.traced ≡ t
-  pub still : r.removed ≡ 0 → r.rewritten ≡ 0 → AreStill o admitted some t.program
-  pub no_more : bulk_of r.traced.program ≤ bulk_of t.program
-  pub less : 0 < r.removed → bulk_of r.traced.program < bulk_of t.program
-  pub no_higher : r.removed ≡ 0 → rank_of r.traced.program ≤ rank_of t.program
-  pub lower : r.removed ≡ 0 → 0 < r.rewritten → rank_of r.traced.program < rank_of t.program
+  pub same : total_of r.changes ≡ 0 → r.traced ≡ t
+  pub still : total_of r.changes ≡ 0 → AreStill o admitted some t.program
+  pub falls : Falls r.changes r.traced.program t.program

@@ -7,11 +7,12 @@ use Rattle.program_model.specs.ProgramRules.{is_well_formed}
 use Rattle.pipeline.specs.declared.traces.Passed.{Passed}
 use Rattle.pipeline.specs.declared.traces.Traced.{Traced}
 use Rattle.pipeline.specs.Advised.{IsAdvised}
+use Rattle.pipeline.specs.Changes.{IsLess}
 use Rattle.pipeline.specs.Counts.{counted}
-use Rattle.pipeline.specs.Passes.{passes, Steps, AreStill, IsLess, HavePassed}
+use Rattle.pipeline.specs.Passes.{passes, Steps, AreStill, HavePassed}
 use Rattle.pipeline.specs.Silence.{IsSilent}
 
--- So many rounds, one after another, each of which leaves less, or what ranks lower.
+-- So many rounds, one after another, each of which leaves less.
 pub data Rounds (o : Outside) (admitted : List Bool) : ℕ → Traced → Traced → Type 0 where
   Ended : (t : Traced) → Rounds o admitted zero t t
   Next : (n : ℕ) (t u v : Traced) → Steps o admitted passes t u → IsLess u.program t.program → Rounds o admitted n u v → Rounds o admitted (suc n) t v

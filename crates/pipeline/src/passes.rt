@@ -1,25 +1,28 @@
 //! The passes of a round, each over a whole program.
 
-ghost use Rattle.std.specs.Prelude.{◌≡◌, ◌∷◌, [], Bool, true, List, Some, IfOk};
+ghost use Rattle.std.specs.Prelude.{◌≡◌, ◌∷◌, [], Bool, true, false, List, Some, IfOk};
+ghost use Rattle.hierarchy.specs.Shapes.{IsResolved};
+ghost use Rattle.verify.specs.Methods.{TypesAll};
+ghost use Rattle.compact.specs.Narrow.{has_narrow_classes};
+ghost use Rattle.pipeline.specs.Changes.{no_changes, total_of};
 ghost use Rattle.pipeline.specs.Graph.{IsGraph};
-ghost use Rattle.pipeline.specs.Passes.{Reach, DeadCode, Squeeze, Compact, HavePassed};
+ghost use Rattle.pipeline.specs.Passes.{Reach, CopyProp, DeadCode, Squeeze, Compact, IsIllTyped, KeepsReads, HavePassed};
 
 use crate::graph::hierarchy_of;
-use crate::traces::{Passed, Traced, changed_in_place, taken_away};
+use crate::traces::{Changes, Passed, Traced, left_by};
 use hierarchy::Hierarchy;
 use program_model::{Admitted, Outside, Program};
 use std::alloc::{AllocError, Global};
+use verify::{TypeFault, verify_all};
 
 /// The program as it is, with nothing changed.
 fn unchanged(traced: Traced) -> Passed
     ensures traced { result.traced ≡ traced }
-    ensures removed { result.removed ≡ 0 }
-    ensures rewritten { result.rewritten ≡ 0 }
+    ensures changes { result.changes ≡ no_changes }
 {
     Passed {
         traced,
-        removed: 0,
-        rewritten: 0,
+        changes: Changes::none(),
     }
 }
 
@@ -29,15 +32,13 @@ fn graph_after(
     hierarchy: Hierarchy,
     passed: &Passed,
 ) -> Result<Option<Hierarchy>, AllocError>
-    ensures { (p : Program) → IsGraph p (Some hierarchy) → (passed.now.removed ≡ 0 → passed.now.rewritten ≡ 0 → passed.now.traced.program ≡ p) → IfOk result (IsGraph passed.now.traced.program) }
+    ensures { (p : Program) → IsGraph p (Some hierarchy) → (total_of passed.now.changes ≡ 0 → passed.now.traced.program ≡ p) → IfOk result (IsGraph passed.now.traced.program) }
 {
-    if passed.removed > 0 {
-        return Ok(hierarchy_of(alloc, &passed.traced.program)?);
+    if passed.changes.is_none() {
+        Ok(Some(hierarchy))
+    } else {
+        Ok(hierarchy_of(alloc, &passed.traced.program)?)
     }
-    if passed.rewritten > 0 {
-        return Ok(hierarchy_of(alloc, &passed.traced.program)?);
-    }
-    Ok(Some(hierarchy))
 }
 
 /// Removes what is not reached by a program's hierarchy. The only error is want of memory.
@@ -51,7 +52,8 @@ fn remove_by(
     ensures { IsGraph traced.program (Some hierarchy.now) → IfOk result (λ passed. (admitted : List Bool) → HavePassed outside.now admitted (Reach ∷ []) traced passed) }
 {
     let changed = reach::apply(alloc, traced.program, hierarchy, outside)?;
-    Ok(taken_away(traced.origins, changed))
+    let changes = Changes::removed(changed.count);
+    Ok(left_by(traced.origins, changed, changes))
 }
 
 /// The same, with the hierarchy of what is left.
@@ -90,6 +92,80 @@ pub fn remove_unreached(
     }
 }
 
+/// Whether every body of a program is well typed. The only error is want of memory.
+fn is_typed(alloc: Global, program: &Program, hierarchy: &Hierarchy) -> Result<bool, AllocError>
+    ensures typed { IfOk result (λ typed. typed ≡ true → TypesAll program.now hierarchy.now) }
+    ensures ill_typed { IfOk result (λ typed. typed ≡ false → IsIllTyped program.now hierarchy.now) }
+{
+    match verify_all(alloc, program, hierarchy) {
+        Ok(()) => Ok(true),
+        Err(TypeFault::NoMemory) => Err(AllocError),
+        Err(TypeFault::IllTyped { .. }) => Ok(false),
+    }
+}
+
+/// Whether stale reads are to read originals. The verifier is asked only where some read is stale. The only error is want
+/// of memory.
+fn is_propagated(
+    alloc: Global,
+    program: &Program,
+    hierarchy: &Hierarchy,
+    admitted: &Admitted,
+) -> Result<bool, AllocError>
+    ensures narrow { IfOk result (λ is. is ≡ true → has_narrow_classes program.now ≡ true) }
+    ensures typed { IfOk result (λ is. is ≡ true → TypesAll program.now hierarchy.now) }
+    ensures kept { IsResolved program.now hierarchy.now → IfOk result (λ is. is ≡ false → KeepsReads admitted.now.methods.items program.now) }
+{
+    if !compact::has_narrow_classes(program) {
+        return Ok(false);
+    }
+    let stale = copy_prop::has_stale(alloc, program, admitted)?;
+    if !stale {
+        return Ok(false);
+    }
+    let typed = is_typed(alloc, program, hierarchy)?;
+    Ok(typed)
+}
+
+/// Lets stale reads of admitted methods read originals, by a program's hierarchy. The only error is want of memory.
+fn propagate_by(
+    alloc: Global,
+    traced: Traced,
+    hierarchy: &Hierarchy,
+    admitted: &Admitted,
+) -> Result<Passed, AllocError>
+    ensures { IsGraph traced.program (Some hierarchy.now) → IfOk result (λ passed. (outside : Outside) → HavePassed outside admitted.now.methods.items (CopyProp ∷ []) traced passed) }
+{
+    let propagated = is_propagated(alloc, &traced.program, hierarchy, admitted)?;
+    if !propagated {
+        return Ok(unchanged(traced));
+    }
+    let changed = copy_prop::apply(alloc, traced.program, admitted)?;
+    let changes = Changes::reread(changed.count);
+    Ok(left_by(traced.origins, changed, changes))
+}
+
+/// Lets stale reads of admitted methods read originals, unless the class graph has a fault, the program names a method of a
+/// wide type, or some body is ill typed; with the hierarchy of what is left. The only error is want of memory.
+pub fn propagate_copies(
+    alloc: Global,
+    traced: Traced,
+    graph: Option<Hierarchy>,
+    admitted: &Admitted,
+) -> Result<(Passed, Option<Hierarchy>), AllocError>
+    ensures passed { IsGraph traced.program graph → IfOk result (λ left. (outside : Outside) → HavePassed outside admitted.now.methods.items (CopyProp ∷ []) traced left.0) }
+    ensures graph { IsGraph traced.program graph → IfOk result (λ left. IsGraph left.0.traced.program left.1) }
+{
+    match graph {
+        Some(hierarchy) => {
+            let passed = propagate_by(alloc, traced, &hierarchy, admitted)?;
+            let graph = graph_after(alloc, hierarchy, &passed)?;
+            Ok((passed, graph))
+        }
+        None => Ok((unchanged(traced), None)),
+    }
+}
+
 /// Takes what computes what nobody reads out of the bodies of admitted methods, unless the class graph has a fault. A
 /// program with more fields than 32 bits number stays, which no well-formed one has. The only error is want of memory.
 pub fn clean_bodies(
@@ -106,7 +182,8 @@ pub fn clean_bodies(
     match graph {
         Some(hierarchy) => {
             let changed = dead_code::apply(alloc, traced.program, hierarchy, admitted)?;
-            Ok(taken_away(traced.origins, changed))
+            let changes = Changes::removed(changed.count);
+            Ok(left_by(traced.origins, changed, changes))
         }
         None => Ok(unchanged(traced)),
     }
@@ -121,7 +198,8 @@ pub fn squeeze_bodies(
     ensures { IfOk result (λ passed. (outside : Outside) → HavePassed outside admitted.now.methods.items (Squeeze ∷ []) traced passed) }
 {
     let changed = squeeze::apply(alloc, traced.program, admitted)?;
-    Ok(taken_away(traced.origins, changed))
+    let changes = Changes::removed(changed.count);
+    Ok(left_by(traced.origins, changed, changes))
 }
 
 /// Gives the registers of admitted methods the least numbers that they can have, unless the program names a method of a wide
@@ -137,5 +215,6 @@ pub fn compact_bodies(
         return Ok(unchanged(traced));
     }
     let changed = compact::apply(alloc, traced.program, admitted)?;
-    Ok(changed_in_place(traced.origins, changed))
+    let changes = Changes::renamed(changed.count);
+    Ok(left_by(traced.origins, changed, changes))
 }

@@ -4,14 +4,18 @@ ghost use Rattle.std.specs.Prelude.{◌≡◌, ◌≤◌, ◌-◌, ◌+◌, min,
 ghost use Rattle.program_model.specs.Cells.{capped};
 ghost use Rattle.program_model.specs.ProgramRules.{is_well_formed};
 ghost use Rattle.pipeline.specs.Advised.{IsAdvised, verdict};
+ghost use Rattle.moves_law.specs.Measure.{moves_in};
+ghost use Rattle.pipeline.specs.Changes.{bulk_of, total_of};
 ghost use Rattle.pipeline.specs.Counts.{members_of, insns_of};
-ghost use Rattle.pipeline.specs.Passes.{passes, bulk_of, HavePassed};
+ghost use Rattle.pipeline.specs.Passes.{passes, HavePassed};
 ghost use Rattle.pipeline.specs.Rounds.{HaveRun, IsOptimised, Rounding};
 
 use crate::asks::{Advice, ask_all, no_advice};
 use crate::counts::{count_instructions, count_members};
 use crate::graph::hierarchy_of;
-use crate::passes::{clean_bodies, compact_bodies, remove_unreached, squeeze_bodies};
+use crate::passes::{
+    clean_bodies, compact_bodies, propagate_copies, remove_unreached, squeeze_bodies,
+};
 use crate::silent::silence;
 use crate::traces::{Passed, Traced, and_then};
 use call_graph::live_members;
@@ -66,31 +70,58 @@ fn round(
     ensures { IfOk result (HavePassed outside.now admitted.now.methods.items passes traced) }
 {
     let (reached, graph) = remove_unreached(alloc, traced, outside)?;
-    let cleaned = clean_bodies(alloc, reached.traced, &graph, admitted)?;
-    let cleaned = and_then(reached.removed, reached.rewritten, cleaned);
+    let (copied, graph) = propagate_copies(alloc, reached.traced, graph, admitted)?;
+    let copied = and_then(reached.changes, copied);
+    let cleaned = clean_bodies(alloc, copied.traced, &graph, admitted)?;
+    let cleaned = and_then(copied.changes, cleaned);
     let squeezed = squeeze_bodies(alloc, cleaned.traced, admitted)?;
-    let squeezed = and_then(cleaned.removed, cleaned.rewritten, squeezed);
+    let squeezed = and_then(cleaned.changes, squeezed);
     let compacted = compact_bodies(alloc, squeezed.traced, admitted)?;
-    Ok(and_then(squeezed.removed, squeezed.rewritten, compacted))
+    Ok(and_then(squeezed.changes, compacted))
 }
 
-/// Rounds, until one takes something away or changes nothing: what the last one left, and how many ran.
-fn rewriting_rounds(
+/// Rounds, until one changes more than the numbers of registers, or nothing: what the last one left, and how many ran.
+fn renaming_rounds(
     alloc: Global,
     traced: Traced,
     outside: &Outside,
     admitted: &Admitted,
 ) -> Result<(Passed, u32), AllocError>
     ensures run { IfOk result (λ r. Rounding outside.now admitted.now.methods.items traced r.0 r.1) }
-    ensures settled { IfOk result (λ r. r.0.removed ≡ 0 → r.0.rewritten ≡ 0) }
-    ensures falls { IfOk result (λ r. bulk_of r.0.traced.program + min r.0.removed 1 ≤ bulk_of traced.program) }
+    ensures settled { IfOk result (λ r. r.0.changes.removed ≡ 0 → r.0.changes.reread ≡ 0 → r.0.changes.renamed ≡ 0) }
+    ensures less { IfOk result (λ r. bulk_of r.0.traced.program + min r.0.changes.removed 1 ≤ bulk_of traced.program) }
+    ensures fewer { IfOk result (λ r. r.0.changes.removed ≡ 0 → moves_in r.0.traced.program + min r.0.changes.reread 1 ≤ moves_in traced.program) }
     ensures count { IfOk result (λ r. 1 ≤ r.1) }
 {
     let mut rounds: u32 = 1;
     let mut left = round(alloc, traced, outside, admitted)?;
-    'rounds: while left.removed == 0 && left.rewritten > 0 {
+    'rounds: while left.changes.removed == 0
+        && left.changes.reread == 0
+        && left.changes.renamed > 0
+    {
         left = round(alloc, left.traced, outside, admitted)?;
         rounds = rounds.saturating_add(1);
+    }
+    Ok((left, rounds))
+}
+
+/// Rounds, until one takes something away or changes nothing: what the last one left, and how many ran.
+fn rereading_rounds(
+    alloc: Global,
+    traced: Traced,
+    outside: &Outside,
+    admitted: &Admitted,
+) -> Result<(Passed, u32), AllocError>
+    ensures run { IfOk result (λ r. Rounding outside.now admitted.now.methods.items traced r.0 r.1) }
+    ensures settled { IfOk result (λ r. r.0.changes.removed ≡ 0 → total_of r.0.changes ≡ 0) }
+    ensures less { IfOk result (λ r. bulk_of r.0.traced.program + min r.0.changes.removed 1 ≤ bulk_of traced.program) }
+    ensures count { IfOk result (λ r. 1 ≤ r.1) }
+{
+    let (mut left, mut rounds) = renaming_rounds(alloc, traced, outside, admitted)?;
+    'rounds: while left.changes.removed == 0 && left.changes.reread > 0 {
+        let (next, more) = renaming_rounds(alloc, left.traced, outside, admitted)?;
+        left = next;
+        rounds = rounds.saturating_add(more);
     }
     Ok((left, rounds))
 }
@@ -109,9 +140,9 @@ fn all_rounds(
         program,
         origins: Seq::new(alloc),
     };
-    let (mut left, mut rounds) = rewriting_rounds(alloc, first, outside, admitted)?;
-    'rounds: while left.removed > 0 {
-        let (next, more) = rewriting_rounds(alloc, left.traced, outside, admitted)?;
+    let (mut left, mut rounds) = rereading_rounds(alloc, first, outside, admitted)?;
+    'rounds: while left.changes.removed > 0 {
+        let (next, more) = rereading_rounds(alloc, left.traced, outside, admitted)?;
         left = next;
         rounds = rounds.saturating_add(more);
     }

@@ -1,7 +1,8 @@
 //! Where the positions of a program come from, when one pass has followed another.
 
-ghost use Rattle.std.specs.Prelude.{◌≡◌, ◌+◌, map};
+ghost use Rattle.std.specs.Prelude.{◌≡◌, ◌+◌, map, nat_eq};
 ghost use Rattle.program_model.specs.Cells.{capped};
+ghost use Rattle.pipeline.specs.Changes.{no_changes, total_of};
 ghost use Rattle.pipeline.specs.Origins.{origin_by, row_at, AreAfter, Follow};
 
 use program_model::{Changed, Origin, Program};
@@ -15,12 +16,73 @@ pub struct Traced {
     pub origins: Seq<Seq<Origin>>,
 }
 
-/// What passes left, how much they took away, and how much they only changed in place.
+/// How much passes took away, how many instructions they let read originals in place of copies, and in how many bodies they
+/// gave registers other numbers.
+#[derive(Clone, Copy, Debug, Drop)]
+pub struct Changes {
+    pub removed: u64,
+    pub reread: u64,
+    pub renamed: u64,
+}
+
+impl Changes {
+    /// No changes.
+    pub fn none() -> Changes
+        ensures { result ≡ no_changes }
+    {
+        Changes {
+            removed: 0,
+            reread: 0,
+            renamed: 0,
+        }
+    }
+
+    /// So much was taken away.
+    pub fn removed(count: u64) -> Changes
+        ensures { result ≡ record { removed = count; reread = 0; renamed = 0 } }
+    {
+        Changes {
+            removed: count,
+            reread: 0,
+            renamed: 0,
+        }
+    }
+
+    /// So many instructions read originals.
+    pub fn reread(count: u64) -> Changes
+        ensures { result ≡ record { removed = 0; reread = count; renamed = 0 } }
+    {
+        Changes {
+            removed: 0,
+            reread: count,
+            renamed: 0,
+        }
+    }
+
+    /// In so many bodies registers got other numbers.
+    pub fn renamed(count: u64) -> Changes
+        ensures { result ≡ record { removed = 0; reread = 0; renamed = count } }
+    {
+        Changes {
+            removed: 0,
+            reread: 0,
+            renamed: count,
+        }
+    }
+
+    /// Whether nothing was changed.
+    pub fn is_none(&self) -> bool
+        ensures { result ≡ nat_eq (total_of self.now) 0 }
+    {
+        self.removed == 0 && self.reread == 0 && self.renamed == 0
+    }
+}
+
+/// What passes left, and what they changed.
 #[derive(Debug, Drop)]
 pub struct Passed {
     pub traced: Traced,
-    pub removed: u64,
-    pub rewritten: u64,
+    pub changes: Changes,
 }
 
 /// The origins of a method's positions, none where there is no list.
@@ -82,11 +144,10 @@ fn origins_after(old: Seq<Seq<Origin>>, new: Seq<Seq<Origin>>) -> Seq<Seq<Origin
     rows
 }
 
-/// What a pass that takes away left of a program, by the origins that the program had.
-pub fn taken_away(old: Seq<Seq<Origin>>, changed: Changed) -> Passed
+/// What a pass left of a program with these changes, by the origins that the program had.
+pub fn left_by(old: Seq<Seq<Origin>>, changed: Changed, changes: Changes) -> Passed
     ensures program { result.traced.program ≡ changed.program }
-    ensures removed { result.removed ≡ changed.count }
-    ensures rewritten { result.rewritten ≡ 0 }
+    ensures changes { result.changes ≡ changes }
     ensures origins { Follow old changed.origins result.traced.origins }
 {
     let origins = origins_after(old, changed.origins);
@@ -95,38 +156,24 @@ pub fn taken_away(old: Seq<Seq<Origin>>, changed: Changed) -> Passed
             program: changed.program,
             origins,
         },
-        removed: changed.count,
-        rewritten: 0,
+        changes,
     }
 }
 
-/// What a pass that changes bodies in place left of a program, by the origins that the program had.
-pub fn changed_in_place(old: Seq<Seq<Origin>>, changed: Changed) -> Passed
-    ensures program { result.traced.program ≡ changed.program }
-    ensures removed { result.removed ≡ 0 }
-    ensures rewritten { result.rewritten ≡ changed.count }
-    ensures origins { Follow old changed.origins result.traced.origins }
-{
-    let origins = origins_after(old, changed.origins);
-    Passed {
-        traced: Traced {
-            program: changed.program,
-            origins,
-        },
-        removed: 0,
-        rewritten: changed.count,
-    }
-}
-
-/// What passes left when the last of them left this, where those before it had taken away and changed so much.
-pub fn and_then(removed: u64, rewritten: u64, last: Passed) -> Passed
+/// What passes left when the last of them left this, where those before it had made these changes.
+pub fn and_then(before: Changes, last: Passed) -> Passed
     ensures traced { result.traced ≡ last.traced }
-    ensures removed { result.removed ≡ capped (removed + last.removed) }
-    ensures rewritten { result.rewritten ≡ capped (rewritten + last.rewritten) }
+    ensures removed { result.changes.removed ≡ capped (before.removed + last.changes.removed) }
+    ensures reread { result.changes.reread ≡ capped (before.reread + last.changes.reread) }
+    ensures renamed { result.changes.renamed ≡ capped (before.renamed + last.changes.renamed) }
 {
+    let more = last.changes;
     Passed {
         traced: last.traced,
-        removed: removed.saturating_add(last.removed),
-        rewritten: rewritten.saturating_add(last.rewritten),
+        changes: Changes {
+            removed: before.removed.saturating_add(more.removed),
+            reread: before.reread.saturating_add(more.reread),
+            renamed: before.renamed.saturating_add(more.renamed),
+        },
     }
 }

@@ -1,4 +1,4 @@
--- Where the rounds end nothing is left for the passes that thin bodies.
+-- Where the rounds end nothing is left for the passes on bodies.
 use Rattle.std.proofs.Common.{◌≡◌, ◌⊎◌, inl, inr, ℕ, zero, suc, ◌<◌, Bool, true, false, true≢false, List, [], refl, sym, ◌∙◌, arith}
 use Rattle.program_model.specs.declared.body.Body.{Body}
 use Rattle.program_model.specs.declared.pass.Changed.{Changed}
@@ -20,7 +20,11 @@ use Rattle.compact.specs.Narrow.{has_narrow_classes}
 use Rattle.compact.specs.Renamed.{IsCompactedProgram}
 use Rattle.compact_bridge.specs.Bridged.{AllPacked}
 use Rattle.compact_bridge.proofs.Settled.{program_settled}
-use Rattle.pipeline.specs.Passes.{Thins, IsCleaning, IsCompaction, passes, AreStill}
+use Rattle.copy_prop.specs.Propagated.{IsPropagatedProgram}
+use Rattle.copy_bridge.specs.Bridged.{AllFresh}
+use Rattle.copy_bridge.proofs.Settled.{program_settled as copies_settled}
+use Rattle.type_bridge.proofs.Refused.{refused_program}
+use Rattle.pipeline.specs.Passes.{Propagates, KeepsReads, NoneStale, Wide, Faulty, IllTyped, IsPropagation, Thins, IsCleaning, IsCompaction, passes, AreStill}
 use Rattle.rounds_bridge.specs.Owed.{IsSound}
 
 -- a thinning that leaves the program the same has counted nothing, since it would weigh less
@@ -44,18 +48,32 @@ unfaulted p sound x = by x.fault x.is x.cause
 
 module _ (o : Outside) (admitted : List Bool) (p : Program) (sound : IsSound p) (still : AreStill o admitted passes p) where
   pub none_skipped : NothingLeft admitted p
-  none_skipped = let h : Thins AreSkips (NothingLeft admitted p) admitted p p [] = still.1.1.0 sound.formed in h.none_left (none_counted AreSkips (NothingLeft admitted p) admitted p [] h)
+  none_skipped = let h : Thins AreSkips (NothingLeft admitted p) admitted p p [] = still.1.1.1.0 sound.formed in h.none_left (none_counted AreSkips (NothingLeft admitted p) admitted p [] h)
 
   pub none_dead : NoneDead (is_quiet_field p) admitted p
-  none_dead = by (still.1.0 sound.formed)
+  none_dead = by (still.1.1.0 sound.formed)
     where
       by : IsCleaning admitted p p [] → NoneDead (is_quiet_field p) admitted p
       by (inl h) = h.none_left (none_counted (AreCleaned (is_quiet_field p)) (NoneDead (is_quiet_field p) admitted p) admitted p [] h)
       by (inr none) = absurd (unfaulted p sound none.1)
 
   pub all_packed : has_narrow_classes p ≡ true → AllPacked admitted p
-  all_packed narrow = let h : IsCompaction admitted p p [] = still.1.1.1.0 sound.formed in by h.compaction
+  all_packed narrow = let h : IsCompaction admitted p p [] = still.1.1.1.1.0 sound.formed in by h.compaction
     where
       by : ((has_narrow_classes p ≡ true) × IsCompactedProgram admitted p p) ⊎ ((p ≡ p) × (has_narrow_classes p ≡ false)) → AllPacked admitted p
       by (inl c) = program_settled admitted p c.1
       by (inr none) = absurd (true≢false (sym narrow ∙ none.1))
+
+  -- no read is stale, since the program has a class graph and is typed
+  still_fresh : has_narrow_classes p ≡ true → KeepsReads admitted p → IsPropagatedProgram admitted p p
+  still_fresh narrow (NoneStale same) = same
+  still_fresh narrow (Wide wide) = absurd (true≢false (sym narrow ∙ wide))
+  still_fresh narrow (Faulty graph) = absurd (unfaulted p sound graph)
+  still_fresh narrow (IllTyped h resolved ill) = absurd (refused_program p h sound.formed resolved ill.method ill.position ill.register ill.refused sound.typed)
+
+  pub all_fresh : has_narrow_classes p ≡ true → AllFresh admitted p
+  all_fresh narrow = let h : IsPropagation admitted p p [] = still.1.0 sound.formed in copies_settled admitted p sound.formed (by h.propagation)
+    where
+      by : Propagates admitted p p ⊎ ((p ≡ p) × KeepsReads admitted p) → IsPropagatedProgram admitted p p
+      by (inl c) = c.propagated
+      by (inr none) = still_fresh narrow none.1

@@ -27,7 +27,8 @@ use Rattle.dead_bridge.proofs.Cleans.{cleaned_kept}
 use Rattle.compact.specs.Narrow.{has_narrow_classes}
 use Rattle.compact.specs.Renamed.{IsCompactedProgram}
 use Rattle.kept_bridge.proofs.Compacted.{compacted_kept}
-use Rattle.pipeline.specs.Passes.{Pass, Reach, DeadCode, Squeeze, Compact, Removes, IsBarred, IsRemoval, Thins, IsCleaning, IsCompaction}
+use Rattle.copy_kept.proofs.Kept.{propagated_kept}
+use Rattle.pipeline.specs.Passes.{Pass, Reach, CopyProp, DeadCode, Squeeze, Compact, Removes, IsBarred, IsRemoval, Propagates, KeepsReads, IsPropagation, Thins, IsCleaning, IsCompaction}
 use Rattle.reach_bridge.specs.Names.{family_of}
 use Rattle.reach_bridge.proofs.Kept.{kept_named}
 use Rattle.reach_bridge.proofs.Unshut.{unshut}
@@ -96,6 +97,16 @@ module _ (o : Outside) where
     shown = λ none. kept.shown (outer_of p o);
   }
 
+  propagation_owes : (admitted : List Bool) (p q : Program) (moved : List (List Origin)) → IsSound p → IsPropagation admitted p q moved → Owes o p q
+  propagation_owes admitted p q moved sound h = by h.propagation
+    where
+      by : Propagates admitted p q ⊎ ((q ≡ p) × KeepsReads admitted p) → Owes o p q
+      by (inl c) = bodies_owe p q sound (propagated_kept p c.hierarchy sound.formed c.resolved c.narrow c.typed admitted q c.propagated)
+      by (inr none) = subst (λ (x : Program). Owes o p x) (sym none.0) (owes_same o p sound)
+
+  pub copy_prop_keeps : (admitted : List Bool) → Keeps o admitted CopyProp
+  copy_prop_keeps admitted = record { owes = propagation_owes admitted }
+
   squeezing_owes : (admitted : List Bool) (p q : Program) (moved : List (List Origin)) → IsSound p → Thins AreSkips (NothingLeft admitted p) admitted p q moved → Owes o p q
   squeezing_owes admitted p q moved sound h = bodies_owe p q sound
       (squeezed_kept admitted p (record { program = q; count = h.count; origins = moved }) sound.formed sound.typed h.thinned sound.once sound.grounded)
@@ -125,6 +136,7 @@ module _ (o : Outside) where
 
   pub each_keeps : (admitted : List Bool) (pass : Pass) → Keeps o admitted pass
   each_keeps admitted Reach = reach_keeps admitted
+  each_keeps admitted CopyProp = copy_prop_keeps admitted
   each_keeps admitted DeadCode = dead_code_keeps admitted
   each_keeps admitted Squeeze = squeeze_keeps admitted
   each_keeps admitted Compact = compact_keeps admitted

@@ -5,3 +5,4 @@ pub mod Owing
 pub mod Parts
 pub mod Repeated
 pub mod Splits
+pub mod Staying

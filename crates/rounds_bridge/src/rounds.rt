@@ -14,8 +14,10 @@ ghost use Rattle.dead_code.specs.Wishes.{NoneDead};
 ghost use Rattle.squeeze.specs.Needed.{NothingLeft};
 ghost use Rattle.compact.specs.Narrow.{has_narrow_classes};
 ghost use Rattle.compact_bridge.specs.Bridged.{AllPacked};
+ghost use Rattle.copy_bridge.specs.Bridged.{AllFresh};
 ghost use Rattle.pipeline.specs.declared.traces.Traced.{Traced};
 ghost use Rattle.pipeline.specs.Rounds.{HaveRun, IsOptimised, Rounds};
+ghost use Rattle.stay_law.specs.Stays.{Stays};
 ghost use Rattle.rounds_bridge.specs.Owed.{IsSound, Owes};
 
 /// A well-formed program of which a hierarchy was built, and of which the verifier has a typing of each method, is sound.
@@ -24,9 +26,10 @@ pub fn accepted_sound_law()
 {}
 
 /// What any number of rounds leave of a sound program is sound, and shows the same as the program before all of them, where
-/// no method is shut, as in what rules alone give.
+/// no method is shut, as in what rules alone give. A method that isn't admitted stays whole, and no body has more registers.
 pub fn rounds_law()
-    ensures { (o : Outside) (admitted : List Bool) (n : ℕ) (t u : Traced) → Rounds o admitted n t u → IsSound t.program → Owes o t.program u.program }
+    ensures owes { (o : Outside) (admitted : List Bool) (n : ℕ) (t u : Traced) → Rounds o admitted n t u → IsSound t.program → Owes o t.program u.program }
+    ensures stays { (o : Outside) (admitted : List Bool) (n : ℕ) (t u : Traced) → Rounds o admitted n t u → IsSound t.program → Stays admitted t.program u.program }
 {}
 
 /// What `optimise` leaves of a sound program is sound, and shows the same where no method is shut, where no call is silent: the
@@ -37,11 +40,12 @@ pub fn optimised_law()
 {}
 
 /// Where the rounds end in a sound program, as they do where they began with one, no position of an admitted method is left that
-/// a squeeze takes out, and none that is dead, and its registers have the least numbers that they can have, unless some method of
-/// a wide type is named. (`NothingLeft` and `NoneDead` speak of bodies whose positions and regions 32
-/// bits number.)
+/// a squeeze takes out, and none that is dead; and unless some method of a wide type is named, no read of it is stale, and its
+/// registers have the least numbers that they can have. (`NothingLeft` and `NoneDead` speak of bodies whose positions and
+/// regions 32 bits number, `AllFresh` of those whose registers 16 bits number.)
 pub fn settled_law()
     ensures skips { (o : Outside) (admitted : List Bool) (p : Program) (t : Traced) (count : ℕ) → HaveRun o admitted p t count → IsSound t.program → NothingLeft admitted t.program }
     ensures dead { (o : Outside) (admitted : List Bool) (p : Program) (t : Traced) (count : ℕ) → HaveRun o admitted p t count → IsSound t.program → NoneDead (is_quiet_field t.program) admitted t.program }
+    ensures fresh { (o : Outside) (admitted : List Bool) (p : Program) (t : Traced) (count : ℕ) → HaveRun o admitted p t count → IsSound t.program → has_narrow_classes t.program ≡ true → AllFresh admitted t.program }
     ensures packed { (o : Outside) (admitted : List Bool) (p : Program) (t : Traced) (count : ℕ) → HaveRun o admitted p t count → IsSound t.program → has_narrow_classes t.program ≡ true → AllPacked admitted t.program }
 {}

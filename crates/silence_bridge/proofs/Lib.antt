@@ -2,4 +2,5 @@ pub mod Listed
 pub mod Sought
 pub mod Silenced
 pub mod Unfaulted
+pub mod Staying
 pub mod Optimised

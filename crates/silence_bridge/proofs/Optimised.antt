@@ -22,17 +22,22 @@ use Rattle.dead_code.specs.Dead.{is_quiet_field}
 use Rattle.dead_code.specs.Wishes.{NoneDead}
 use Rattle.compact.specs.Narrow.{has_narrow_classes}
 use Rattle.compact_bridge.specs.Bridged.{AllPacked}
+use Rattle.copy_bridge.specs.Bridged.{AllFresh}
 use Rattle.squeeze.specs.Needed.{NothingLeft}
 use Rattle.pipeline.specs.Rounds.{first_of, IsOptimised}
 use Rattle.rounds_bridge.specs.Owed.{IsSound, Owes}
-use Rattle.rounds_bridge.proofs.Ends.{none_skipped, none_dead, all_packed}
+use Rattle.rounds_bridge.proofs.Ends.{none_skipped, none_dead, all_fresh, all_packed}
 use Rattle.rounds_bridge.proofs.Parts.{Part, mapped_head, mapped_part, still_once, still_grounded}
 use Rattle.rounds_bridge.proofs.Splits.{whole_left}
 use Rattle.rounds_bridge.proofs.Repeated.{all_rounds_owe}
+use Rattle.rounds_bridge.proofs.Staying.{rounds_stay}
+use Rattle.stay_law.specs.Stays.{Stays}
+use Rattle.stay_law.proofs.Staying.{stays_on}
 use Rattle.silence_law.proofs.Silenced.{silenced_typed}
 use Rattle.silence_law.proofs.WellFormed.{well_placed}
 use Rattle.silence_bridge.specs.Admitted.{admitted_in}
 use Rattle.silence_bridge.proofs.Silenced.{silenced_named}
+use Rattle.silence_bridge.proofs.Staying.{silent_stays}
 use Rattle.silence_bridge.proofs.Unfaulted.{unfaulted}
 
 module _ (p : Program) (h : Hierarchy) (formed : is_well_formed p ≡ true) (resolved : IsResolved p h) (acyclic : IsAcyclic p) (whole : NoSplit p) (o : Outside) where
@@ -103,5 +108,12 @@ module _ (p : Program) (h : Hierarchy) (formed : is_well_formed p ≡ true) (res
       pub optimised_dead : NoneDead (is_quiet_field r) done.admitted r
       optimised_dead = none_dead o done.admitted r rounds.sound done.ran.ends
 
+      pub optimised_fresh : has_narrow_classes r ≡ true → AllFresh done.admitted r
+      optimised_fresh narrow = all_fresh o done.admitted r rounds.sound done.ran.ends narrow
+
       pub optimised_packed : has_narrow_classes r ≡ true → AllPacked done.admitted r
       optimised_packed narrow = all_packed o done.admitted r rounds.sound done.ran.ends narrow
+
+      pub optimised_stays : Stays done.admitted p r
+      optimised_stays = stays_on done.admitted p done.silenced r (silent_stays o.silent done.admitted p done.silenced done.silent)
+          (rounds_stay o done.admitted done.ran.changing (first_of done.silenced) (record { program = r; origins = origins }) done.ran.rounds (silent_sound done.admitted done.silenced done.silent done.formed))

@@ -17,16 +17,20 @@ ghost use Rattle.dead_code.specs.Dead.{is_quiet_field};
 ghost use Rattle.dead_code.specs.Wishes.{NoneDead};
 ghost use Rattle.compact.specs.Narrow.{has_narrow_classes};
 ghost use Rattle.compact_bridge.specs.Bridged.{AllPacked};
+ghost use Rattle.copy_bridge.specs.Bridged.{AllFresh};
 ghost use Rattle.squeeze.specs.Needed.{NothingLeft};
 ghost use Rattle.pipeline.specs.Rounds.{IsOptimised};
 ghost use Rattle.rounds_bridge.specs.Owed.{IsSound};
+ghost use Rattle.stay_law.specs.Stays.{Stays};
 ghost use Rattle.silence_bridge.specs.Admitted.{admitted_in};
 
 /// What `optimise` leaves of a well-formed program for any rules shows what the program shows without its silent calls in
 /// the methods that were admitted, and is sound, where the hierarchy was built of the program, the verifier has a typing of each
 /// method, and no method is shut, as in what rules alone give. What the rounds begin with is, by names, the
-/// program without these calls. Nothing is left in the admitted methods that does nothing or
-/// is dead, and their registers are packed, unless the program names a method of a wide type. The premises are what `Hierarchy::build`, `verify_all` and `optimise` say where they accept.
+/// program without these calls. Nothing is left in the admitted methods that does nothing or is dead; and unless the program
+/// names a method of a wide type, no read of theirs is stale, and their registers are packed. A method that wasn't
+/// admitted stays whole, and no body has more registers than before. The premises are what `Hierarchy::build`,
+/// `verify_all` and `optimise` say where they accept.
 pub fn all_rules_law()
     ensures silenced { (p r : Program) (origins : List (List Origin)) (h : Hierarchy) (o : Outside) (advisers spared rounds : ℕ) (before after : List Bool) → is_well_formed p ≡ true → IsResolved p h → IsAcyclic p → NoSplit p
         → (done : IsOptimised o p advisers before after spared r origins rounds) → named done.silenced ≡ silenced (named p) (outer_of p o) (admitted_in p done.admitted) }
@@ -38,6 +42,10 @@ pub fn all_rules_law()
         → (done : IsOptimised o p advisers before after spared r origins rounds) → NothingLeft done.admitted r }
     ensures dead { (p r : Program) (origins : List (List Origin)) (h : Hierarchy) (o : Outside) (advisers spared rounds : ℕ) (before after : List Bool) → is_well_formed p ≡ true → IsResolved p h → IsAcyclic p → NoSplit p → TypesAll p h
         → (done : IsOptimised o p advisers before after spared r origins rounds) → NoneDead (is_quiet_field r) done.admitted r }
+    ensures fresh { (p r : Program) (origins : List (List Origin)) (h : Hierarchy) (o : Outside) (advisers spared rounds : ℕ) (before after : List Bool) → is_well_formed p ≡ true → IsResolved p h → IsAcyclic p → NoSplit p → TypesAll p h
+        → (done : IsOptimised o p advisers before after spared r origins rounds) → has_narrow_classes r ≡ true → AllFresh done.admitted r }
     ensures packed { (p r : Program) (origins : List (List Origin)) (h : Hierarchy) (o : Outside) (advisers spared rounds : ℕ) (before after : List Bool) → is_well_formed p ≡ true → IsResolved p h → IsAcyclic p → NoSplit p → TypesAll p h
         → (done : IsOptimised o p advisers before after spared r origins rounds) → has_narrow_classes r ≡ true → AllPacked done.admitted r }
+    ensures stays { (p r : Program) (origins : List (List Origin)) (h : Hierarchy) (o : Outside) (advisers spared rounds : ℕ) (before after : List Bool) → is_well_formed p ≡ true → IsResolved p h → IsAcyclic p → NoSplit p → TypesAll p h
+        → (done : IsOptimised o p advisers before after spared r origins rounds) → Stays done.admitted p r }
 {}

@@ -6,4 +6,4 @@ pub returns-clause-passed : goal.returns-clause-passed
 returns-clause-passed c = c.in_ok-passed.ensures
 
 pub returns-clause-graph : goal.returns-clause-graph
-returns-clause-graph c = λ graph. c.in_ok-graph.ensures c.args.traced.program graph (λ none nothing. ap (λ (x : Traced). x.program) ((c.in_ok-passed.ensures graph []).same none nothing))
+returns-clause-graph c = λ graph. c.in_ok-graph.ensures c.args.traced.program graph (λ none. ap (λ (x : Traced). x.program) ((c.in_ok-passed.ensures graph []).same none))

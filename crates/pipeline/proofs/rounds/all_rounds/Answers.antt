@@ -20,4 +20,4 @@ rounds-preserved c = record {
 }
 
 pub returns-clause-run : goal.returns-clause-run
-returns-clause-run c = ended c.args.outside.now c.args.admitted.now.methods.items c.args.program (first_of c.args.program) c.rounds.left c.rounds.rounds refl c.rounds.invariant.rounding (omega arith) (c.rounds.invariant.settled (omega arith))
+returns-clause-run c = ended c.args.outside.now c.args.admitted.now.methods.items c.args.program (first_of c.args.program) c.rounds.left c.rounds.rounds refl c.rounds.invariant.rounding (c.rounds.invariant.settled (omega arith))

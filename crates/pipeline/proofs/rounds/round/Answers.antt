@@ -1,5 +1,7 @@
-use Rattle.std.proofs.Common.{[], ◌∷◌}
-use Rattle.pipeline.specs.Passes.{Reach, DeadCode, Squeeze, Compact, HavePassed}
+use Rattle.std.proofs.Common.{[], ◌∷◌, sym, subst}
+use Rattle.pipeline.specs.declared.traces.Traced.{Traced}
+use Rattle.pipeline.specs.Graph.{IsGraph}
+use Rattle.pipeline.specs.Passes.{Reach, CopyProp, DeadCode, Squeeze, Compact, HavePassed}
 use Rattle.pipeline.proofs.Passing.{both_passed}
 use Rattle.pipeline.proofs.rounds.round.Goals as goal
 
@@ -8,9 +10,11 @@ returns c =
     let o = c.args.outside.now in
     let admitted = c.args.admitted.now.methods.items in
     let t = c.args.traced in
-    let two : HavePassed o admitted (Reach ∷ DeadCode ∷ []) t c.and_then-cleaned.result = both_passed o admitted (Reach ∷ []) (DeadCode ∷ []) t c.in_ok-reached.reached c.in_ok-cleaned.cleaned c.and_then-cleaned.result
-    (c.in_ok-reached.ensures.passed admitted) (c.in_ok-cleaned.ensures c.in_ok-reached.ensures.graph o) c.and_then-cleaned.ensures.traced c.and_then-cleaned.ensures.removed c.and_then-cleaned.ensures.rewritten in
-    let three : HavePassed o admitted (Reach ∷ DeadCode ∷ Squeeze ∷ []) t c.and_then-squeezed.result = both_passed o admitted (Reach ∷ DeadCode ∷ []) (Squeeze ∷ []) t c.and_then-cleaned.result c.in_ok-squeezed.squeezed c.and_then-squeezed.result
-    two (c.in_ok-squeezed.ensures o) c.and_then-squeezed.ensures.traced c.and_then-squeezed.ensures.removed c.and_then-squeezed.ensures.rewritten in
-    both_passed o admitted (Reach ∷ DeadCode ∷ Squeeze ∷ []) (Compact ∷ []) t c.and_then-squeezed.result c.in_ok-compacted.compacted c.and_then.result
-    three (c.in_ok-compacted.ensures o) c.and_then.ensures.traced c.and_then.ensures.removed c.and_then.ensures.rewritten
+    let two : HavePassed o admitted (Reach ∷ CopyProp ∷ []) t c.and_then-copied.result = both_passed o admitted (Reach ∷ []) (CopyProp ∷ []) t c.in_ok-reached.reached c.in_ok-copied.copied c.and_then-copied.result
+    (c.in_ok-reached.ensures.passed admitted) (c.in_ok-copied.ensures.passed c.in_ok-reached.ensures.graph o) c.and_then-copied.ensures.traced c.and_then-copied.ensures.removed c.and_then-copied.ensures.reread c.and_then-copied.ensures.renamed in
+    let three : HavePassed o admitted (Reach ∷ CopyProp ∷ DeadCode ∷ []) t c.and_then-cleaned.result = both_passed o admitted (Reach ∷ CopyProp ∷ []) (DeadCode ∷ []) t c.and_then-copied.result c.in_ok-cleaned.cleaned c.and_then-cleaned.result
+    two (c.in_ok-cleaned.ensures (subst (λ (x : Traced). IsGraph x.program c.in_ok-copied.graph) (sym c.and_then-copied.ensures.traced) (c.in_ok-copied.ensures.graph c.in_ok-reached.ensures.graph)) o) c.and_then-cleaned.ensures.traced c.and_then-cleaned.ensures.removed c.and_then-cleaned.ensures.reread c.and_then-cleaned.ensures.renamed in
+    let four : HavePassed o admitted (Reach ∷ CopyProp ∷ DeadCode ∷ Squeeze ∷ []) t c.and_then-squeezed.result = both_passed o admitted (Reach ∷ CopyProp ∷ DeadCode ∷ []) (Squeeze ∷ []) t c.and_then-cleaned.result c.in_ok-squeezed.squeezed c.and_then-squeezed.result
+    three (c.in_ok-squeezed.ensures o) c.and_then-squeezed.ensures.traced c.and_then-squeezed.ensures.removed c.and_then-squeezed.ensures.reread c.and_then-squeezed.ensures.renamed in
+    both_passed o admitted (Reach ∷ CopyProp ∷ DeadCode ∷ Squeeze ∷ []) (Compact ∷ []) t c.and_then-squeezed.result c.in_ok-compacted.compacted c.and_then.result
+    four (c.in_ok-compacted.ensures o) c.and_then.ensures.traced c.and_then.ensures.removed c.and_then.ensures.reread c.and_then.ensures.renamed

@@ -1,4 +1,4 @@
-use Rattle.rounds_bridge.proofs.Ends.{none_skipped, none_dead, all_packed}
+use Rattle.rounds_bridge.proofs.Ends.{none_skipped, none_dead, all_fresh, all_packed}
 use Rattle.rounds_bridge.proofs.rounds.settled_law.Goals as goal
 
 pub returns-clause-skips : goal.returns-clause-skips
@@ -6,6 +6,9 @@ returns-clause-skips c = λ o admitted p t count ran sound. none_skipped o admit
 
 pub returns-clause-dead : goal.returns-clause-dead
 returns-clause-dead c = λ o admitted p t count ran sound. none_dead o admitted t.program sound ran.ends
+
+pub returns-clause-fresh : goal.returns-clause-fresh
+returns-clause-fresh c = λ o admitted p t count ran sound narrow. all_fresh o admitted t.program sound ran.ends narrow
 
 pub returns-clause-packed : goal.returns-clause-packed
 returns-clause-packed c = λ o admitted p t count ran sound narrow. all_packed o admitted t.program sound ran.ends narrow

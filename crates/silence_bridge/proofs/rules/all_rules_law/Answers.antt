@@ -1,4 +1,4 @@
-use Rattle.silence_bridge.proofs.Optimised.{silent_named, optimised_shows, optimised_sound, optimised_skips, optimised_dead, optimised_packed}
+use Rattle.silence_bridge.proofs.Optimised.{silent_named, optimised_shows, optimised_sound, optimised_skips, optimised_dead, optimised_fresh, optimised_packed, optimised_stays}
 use Rattle.silence_bridge.proofs.rules.all_rules_law.Goals as goal
 
 pub returns-clause-silenced : goal.returns-clause-silenced
@@ -20,6 +20,14 @@ pub returns-clause-dead : goal.returns-clause-dead
 returns-clause-dead c = λ p r origins h o advisers spared rounds before after formed resolved acyclic whole types done.
     optimised_dead p h formed resolved acyclic whole o types r origins advisers spared rounds before after done
 
+pub returns-clause-fresh : goal.returns-clause-fresh
+returns-clause-fresh c = λ p r origins h o advisers spared rounds before after formed resolved acyclic whole types done narrow.
+    optimised_fresh p h formed resolved acyclic whole o types r origins advisers spared rounds before after done narrow
+
 pub returns-clause-packed : goal.returns-clause-packed
 returns-clause-packed c = λ p r origins h o advisers spared rounds before after formed resolved acyclic whole types done narrow.
     optimised_packed p h formed resolved acyclic whole o types r origins advisers spared rounds before after done narrow
+
+pub returns-clause-stays : goal.returns-clause-stays
+returns-clause-stays c = λ p r origins h o advisers spared rounds before after formed resolved acyclic whole types done.
+    optimised_stays p h formed resolved acyclic whole o types r origins advisers spared rounds before after done

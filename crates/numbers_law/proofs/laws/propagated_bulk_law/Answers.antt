@@ -1,5 +1,5 @@
-use Rattle.copy_kept.proofs.Bulk.{propagated_size, propagated_weight}
-use Rattle.copy_kept.proofs.laws.propagated_bulk_law.Goals as goal
+use Rattle.numbers_law.proofs.Propagated.{propagated_size, propagated_weight}
+use Rattle.numbers_law.proofs.laws.propagated_bulk_law.Goals as goal
 
 pub returns-clause-size : goal.returns-clause-size
 returns-clause-size c = λ admitted p q i. propagated_size admitted p q i

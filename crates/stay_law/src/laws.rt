@@ -1,0 +1,29 @@
+//! The laws.
+
+ghost use Rattle.std.specs.Prelude.{ℕ, Bool, List};
+ghost use Rattle.program_model.specs.declared.pass.Changed.{Changed};
+ghost use Rattle.program_model.specs.declared.program.Program.{Program};
+ghost use Rattle.call_graph.specs.declared.live_set.LiveSet.{LiveSet};
+ghost use Rattle.reach.specs.Kept.{kept_of};
+ghost use Rattle.thin_pass.specs.Plans.{IsThinnedBy};
+ghost use Rattle.dead_code.specs.Wishes.{AreCleaned};
+ghost use Rattle.squeeze.specs.Skipping.{AreSkips};
+ghost use Rattle.copy_prop.specs.Propagated.{IsPropagatedProgram};
+ghost use Rattle.compact.specs.Renamed.{IsCompactedProgram};
+ghost use Rattle.stay_law.specs.Stays.{Stays};
+
+/// A program stays where nothing is done, and where it stays twice, it stays.
+pub fn stays_law()
+    ensures same { (admitted : List Bool) (p : Program) → Stays admitted p p }
+    ensures twice { (admitted : List Bool) (p q r : Program) → Stays admitted p q → Stays admitted q r → Stays admitted p r }
+{}
+
+/// It stays where classes and members go, where positions go, where reads read originals, and where registers get other
+/// numbers, whatever methods are admitted.
+pub fn passes_stay_law()
+    ensures removed { (admitted : List Bool) (marks : LiveSet) (p : Program) → Stays admitted p (kept_of marks p) }
+    ensures cleaned { (admitted : List Bool) (quiet : ℕ → Bool) (p : Program) (c : Changed) → IsThinnedBy (AreCleaned quiet) admitted p c → Stays admitted p c.program }
+    ensures squeezed { (admitted : List Bool) (p : Program) (c : Changed) → IsThinnedBy AreSkips admitted p c → Stays admitted p c.program }
+    ensures propagated { (admitted : List Bool) (p q : Program) → IsPropagatedProgram admitted p q → Stays admitted p q }
+    ensures compacted { (admitted : List Bool) (p q : Program) → IsCompactedProgram admitted p q → Stays admitted p q }
+{}

@@ -1,6 +1,6 @@
 -- What the notes of an answer are, one by one.
 use Rattle.std.proofs.Common.{◌≡◌, ◌∙◌, ℕ, zero, suc, ◌+◌, ◌⊎◌, inl, inr, Bool, true, false, true≢false, List, [], ◌∷◌, ◌++◌, length, refl, sym, ap, subst, arith, Some, None, Option}
-use Rattle.std.specs.Prelude.{◌&&◌, ◌||◌, not, is_some, nat_eq, cond, slice_get, Contains}
+use Rattle.std.specs.Prelude.{◌&&◌, ◌||◌, not, is_some, nat_eq, cond, option_and_then, slice_get, Contains}
 use Rattle.std.specs.List.{flat_map}
 use Rattle.std.proofs.lemmas.List.Elements.{Contains-append_left, Contains-append_right, Contains-append_cases}
 use Rattle.program_model.specs.declared.pools.MethodName.{MethodName}
@@ -10,7 +10,7 @@ use Rattle.program_model.specs.declared.program.MethodAt.{MethodAt}
 use Rattle.program_model.specs.declared.program.Program.{Program}
 use Rattle.program_model.specs.Lookups.{class_place, method_at, method_or}
 use Rattle.program_model.specs.MemberRules.{is_static, is_direct}
-use Rattle.class_defs.specs.Members.{is_common, has_code}
+use Rattle.class_defs.specs.Members.{is_common, is_interface, has_code}
 use Rattle.class_defs.specs.Finding.{Search, Nothing, Clash, Finds, finds_at}
 use Rattle.class_defs.specs.Starts.{initialiser_place}
 use Rattle.class_defs.proofs.Positions.{both, number_test, number_of}
@@ -22,9 +22,9 @@ use Rattle.call_targets.specs.declared.named.Named.{Named}
 use Rattle.call_targets.specs.Adding.{Note, Links, Leaves, Enters, Needs}
 use Rattle.call_targets.specs.Called.{calls_on}
 use Rattle.call_targets.specs.Beginning.{is_place, is_entered, static_notes, is_empty, may_be_made_by, class_notes, all_class_notes}
-use Rattle.call_targets.specs.Leaving.{name_notes, all_name_notes}
+use Rattle.call_targets.specs.Leaving.{admits_any, name_notes, all_name_notes}
 use Rattle.call_targets.specs.Noting.{link_notes, search_notes, call_notes_of, call_notes, enter_notes, answer_notes, found_notes, is_called_back, virtual_notes_of, virtual_notes, method_notes, methods_of, kind_notes}
-use Rattle.call_targets.specs.Targeted.{is_on, call_at, IsBare}
+use Rattle.call_targets.specs.Targeted.{is_on, call_at, names_interface, IsBare}
 use Rattle.call_targets.proofs.Contained.{none_in, only_in, first_in, later_in, first_or, flat_has, flat_from, get_in, got_short}
 
 -- ---- tests
@@ -82,23 +82,38 @@ unless_in false ys x h c = c
 pub record NameNote (p : Program) (method : ℕ) (q : MethodName) (x : Note) : Type 0 where
   pub interface : Bool
   pub is : x ≡ Leaves (call_at method interface)
-  pub why : (interface ≡ true) ⊎ (class_place p q.class ≡ None)
+  pub why : (interface ≡ true) ⊎ ((class_place p q.class ≡ None) ⊎ (names_interface p q.class ≡ true))
+
+-- why the receiver of a virtual call needn't stand under a type
+admits_of : (p : Program) (kind : ℕ) → admits_any p (class_place p kind) ≡ true → (class_place p kind ≡ None) ⊎ (names_interface p kind ≡ true)
+admits_of p kind h = by (class_place p kind) refl h
+  where
+    by : (o : Option ℕ) → class_place p kind ≡ o → admits_any p o ≡ true → (class_place p kind ≡ None) ⊎ (names_interface p kind ≡ true)
+    by None e a = inl e
+    by (Some c) e a = inr (ap (λ o. is_interface (option_and_then (slice_get p.classes) o)) e ∙ a)
+
+admits_in : (p : Program) (kind : ℕ) → (class_place p kind ≡ None) ⊎ (names_interface p kind ≡ true) → admits_any p (class_place p kind) ≡ true
+admits_in p kind (inl e) = ap (admits_any p) e
+admits_in p kind (inr h) = by (class_place p kind) refl h
+  where
+    by : (o : Option ℕ) → class_place p kind ≡ o → is_interface (option_and_then (slice_get p.classes) o) ≡ true → admits_any p (class_place p kind) ≡ true
+    by None e a = absurd (true≢false (sym a))
+    by (Some c) e a = ap (admits_any p) e ∙ a
+
+-- the notes behind the first
+abbrev virtual_note : Program → ℕ → MethodName → List Note
+virtual_note p method q = cond (admits_any p (class_place p q.class)) (Leaves (call_at method false) ∷ []) []
 
 name_of : (p : Program) (method : ℕ) (q : MethodName) (x : Note) → Contains (name_notes p method q) x → NameNote p method q x
-name_of p method q x c = elim (first_or (Leaves (call_at method true)) (cond (is_some (class_place p q.class)) [] (Leaves (call_at method false) ∷ [])) x c) [
+name_of p method q x c = elim (first_or (Leaves (call_at method true)) (virtual_note p method q) x c) [
   | inl e ↦ record { interface = true; is = sym e; why = inl refl }
-  | inr d ↦ by (class_place p q.class) refl d
+  | inr d ↦ (let r = one_of (admits_any p (class_place p q.class)) (Leaves (call_at method false)) x d in record { interface = false; is = r.1; why = inr (admits_of p q.class r.0) })
 ]
-  where
-    by : (o : Option ℕ) → class_place p q.class ≡ o → Contains (cond (is_some o) [] (Leaves (call_at method false) ∷ [])) x → NameNote p method q x
-    by None e d = record { interface = false; is = sym (only_in (Leaves (call_at method false)) x d); why = inr e }
-    by (Some k) e d = absurd (none_in x d)
 
-name_in : (p : Program) (method : ℕ) (q : MethodName) (x : Note) (i : Bool) → x ≡ Leaves (call_at method i) → (i ≡ true) ⊎ (class_place p q.class ≡ None) → Contains (name_notes p method q) x
-name_in p method q x true e why = subst (Contains (name_notes p method q)) (sym e) (first_in (Leaves (call_at method true)) (cond (is_some (class_place p q.class)) [] (Leaves (call_at method false) ∷ [])))
+name_in : (p : Program) (method : ℕ) (q : MethodName) (x : Note) (i : Bool) → x ≡ Leaves (call_at method i) → (i ≡ true) ⊎ ((class_place p q.class ≡ None) ⊎ (names_interface p q.class ≡ true)) → Contains (name_notes p method q) x
+name_in p method q x true e why = subst (Contains (name_notes p method q)) (sym e) (first_in (Leaves (call_at method true)) (virtual_note p method q))
 name_in p method q x false e (inl h) = absurd (true≢false (sym h))
-name_in p method q x false e (inr h) = later_in (Leaves (call_at method true)) (cond (is_some (class_place p q.class)) [] (Leaves (call_at method false) ∷ [])) x
-    (subst (λ o. Contains (cond (is_some o) [] (Leaves (call_at method false) ∷ [])) x) (sym h) (subst (Contains (Leaves (call_at method false) ∷ [])) (sym e) (first_in (Leaves (call_at method false)) [])))
+name_in p method q x false e (inr h) = later_in (Leaves (call_at method true)) (virtual_note p method q) x (one_in (admits_any p (class_place p q.class)) (Leaves (call_at method false)) x (admits_in p q.class h) e)
 
 pub record AtName (p : Program) (start : ℕ) (qs : List MethodName) (x : Note) : Type 0 where
   pub place : ℕ

@@ -22,7 +22,7 @@ use Rattle.call_targets.specs.declared.table.Targets.{Targets}
 use Rattle.call_targets.specs.Adding.{Note, Links, Leaves, Enters, Needs, Adds, TurnsOn}
 use Rattle.call_targets.specs.Beginning.{is_entered, static_notes, is_empty, may_be_made_by, class_notes}
 use Rattle.call_targets.specs.Bound.{target_found}
-use Rattle.call_targets.specs.Leaving.{name_notes}
+use Rattle.call_targets.specs.Leaving.{admits_any, name_notes}
 use Rattle.call_targets.specs.Noting.{link_notes, search_notes, call_notes_of, call_notes, enter_notes, answer_notes, found_notes, is_called_back, virtual_notes_of, virtual_notes, method_notes}
 use Rattle.call_targets.specs.Targeted.{is_on, call_at}
 use Rattle.call_targets.proofs.Adding.{turned, set_length, adds_none, adds_then, adds_same}
@@ -44,13 +44,11 @@ turn_in v number at slice marks e s l a = subst (TurnsOn number v.items) (sym (w
 module _ (a b : Targets) where
   -- ---- calls that leave by their name
 
-  pub name_two : (p : Program) (m : ℕ) (q : MethodName) (o : Option ℕ) → o ≡ class_place p q.class → is_some o ≡ false → Adds (Leaves (call_at m true) ∷ Leaves (call_at m false) ∷ []) a b → Adds (name_notes p m q) a b
-  name_two p m q None e h f = adds_same (Leaves (call_at m true) ∷ Leaves (call_at m false) ∷ []) (name_notes p m q) a b (ap (λ z. Leaves (call_at m true) ∷ cond (is_some z) [] (Leaves (call_at m false) ∷ [])) e) f
-  name_two p m q (Some k) e h f = absurd (true≢false h)
+  pub name_two : (p : Program) (m : ℕ) (q : MethodName) (any : Bool) → any ≡ admits_any p (class_place p q.class) → any ≡ true → Adds (Leaves (call_at m true) ∷ Leaves (call_at m false) ∷ []) a b → Adds (name_notes p m q) a b
+  name_two p m q any e h f = adds_same (Leaves (call_at m true) ∷ Leaves (call_at m false) ∷ []) (name_notes p m q) a b (ap (λ z. Leaves (call_at m true) ∷ cond z (Leaves (call_at m false) ∷ []) []) (sym h ∙ e)) f
 
-  pub name_one : (p : Program) (m : ℕ) (q : MethodName) (o : Option ℕ) → o ≡ class_place p q.class → is_some o ≡ true → Adds (Leaves (call_at m true) ∷ []) a b → Adds (name_notes p m q) a b
-  name_one p m q None e h f = absurd (true≢false (sym h))
-  name_one p m q (Some k) e h f = adds_same (Leaves (call_at m true) ∷ []) (name_notes p m q) a b (ap (λ z. Leaves (call_at m true) ∷ cond (is_some z) [] (Leaves (call_at m false) ∷ [])) e) f
+  pub name_one : (p : Program) (m : ℕ) (q : MethodName) (any : Bool) → any ≡ admits_any p (class_place p q.class) → any ≡ false → Adds (Leaves (call_at m true) ∷ []) a b → Adds (name_notes p m q) a b
+  name_one p m q any e h f = adds_same (Leaves (call_at m true) ∷ []) (name_notes p m q) a b (ap (λ z. Leaves (call_at m true) ∷ cond z (Leaves (call_at m false) ∷ []) []) (sym h ∙ e)) f
 
   -- ---- methods that are entered
 

@@ -14,13 +14,13 @@ use Rattle.program_model.specs.declared.program.MethodAt.{MethodAt}
 use Rattle.program_model.specs.declared.program.Program.{Program}
 use Rattle.program_model.specs.Lookups.{class_place, method_at}
 use Rattle.program_model.specs.MemberRules.{is_static, is_direct}
-use Rattle.class_defs.specs.Members.{string_is, is_common, has_code}
+use Rattle.class_defs.specs.Members.{string_is, is_common, is_interface, has_code}
 use Rattle.class_defs.specs.Finding.{Search, Nothing, Clash, Finds, finds_at}
 use Rattle.class_defs.specs.Starts.{initialiser_place}
 use Rattle.call_graph.specs.declared.live_set.LiveSet.{LiveSet}
 use Rattle.call_graph.specs.Above.{IsFrom, is_outer}
 use Rattle.call_graph.specs.Bases.{object_number}
-use Rattle.call_graph.specs.Follows.{can_be_made}
+use Rattle.call_graph.specs.Follows.{class_of, can_be_made}
 use Rattle.call_targets.specs.declared.table.Link.{Link}
 use Rattle.call_targets.specs.declared.table.Targets.{Targets}
 
@@ -117,14 +117,18 @@ IsBare p Nothing = Unit {0}
 IsBare p Clash = ⊥
 IsBare p (Finds at) = has_code (method_at p at) ≡ false
 
+-- the type is an interface of the program
+abbrev pub names_interface : Program → ℕ → Bool
+names_interface p kind = is_interface (class_of p kind)
+
 -- A call leaves by its name alone, where it is one of an interface, which an object needn't have, or where it names a class that
--- isn't the program's.
+-- isn't the program's or an interface: types of interfaces admit any object, so the receiver needn't stand under it.
 pub record LeavesByName (p : Program) (number : ℕ) : Type 0 where
   pub interface : Bool
   pub method : ℕ
   pub name : MethodName
   pub is_name : slice_get p.methods method ≡ Some name
-  pub why : (interface ≡ true) ⊎ (class_place p name.class ≡ None)
+  pub why : (interface ≡ true) ⊎ ((class_place p name.class ≡ None) ⊎ (names_interface p name.class ≡ true))
   pub is_call : number ≡ call_at method interface
 
 -- an object of a made class finds no code for a live call

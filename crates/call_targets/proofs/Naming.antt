@@ -6,6 +6,8 @@ use Rattle.std.proofs.lemmas.List.{take_more, take_all}
 use Rattle.std.proofs.lemmas.List.Elements.{Contains-push, Contains-push_cases, Contains-append_left}
 use Rattle.insn_set.specs.declared.form.Insn.{Insn}
 use Rattle.insn_set.specs.declared.form.Insn.TheVariants as insn
+use Rattle.insn_set.specs.declared.ops.InvokeKind.{InvokeKind}
+use Rattle.program_model.specs.declared.body.Body.{Body}
 use Rattle.program_model.specs.declared.pools.MethodName.{MethodName}
 use Rattle.program_model.specs.declared.program.Class.{Class}
 use Rattle.program_model.specs.declared.program.Method.{Method}
@@ -15,8 +17,8 @@ use Rattle.call_graph.specs.declared.live_set.LiveSet.{LiveSet}
 use Rattle.call_targets.specs.declared.named.Call.{Call}
 use Rattle.call_targets.specs.declared.named.Named.{Named}
 use Rattle.call_targets.specs.Adding.{TurnsOn}
-use Rattle.call_targets.specs.Called.{calls_on, AreSeen, NotesBy, IsThe, Makes, AmongInsns, InBody, AmongMethods, AmongClasses, AreNamed}
-use Rattle.call_targets.specs.Targeted.{is_on, call_at, IsCalledOn}
+use Rattle.call_targets.specs.Called.{calls_on, AreSeen, NotesBy, IsThe, Makes, call_by, object_call, AmongInsns, InBody, AmongMethods, AmongClasses, AreNamed}
+use Rattle.call_targets.specs.Targeted.{is_on, call_at, interface_of, IsCalledOn}
 use Rattle.call_targets.proofs.Contained.{none_in, got_short, below_or}
 
 -- nothing is noted where nothing is called
@@ -88,6 +90,9 @@ row_cases k at size call x row row' e c = by (nat_eq k at) (nat_lt k size) refl 
 row_has : (k size : ℕ) (call : Call) (row row' : List Call) → row' ≡ cond (nat_eq k k && nat_lt k size) (row ++ call ∷ []) row → nat_lt k size ≡ true → Contains row' call
 row_has k size call row row' e lt = subst (λ l. Contains l call) (sym (e ∙ ap (λ t. cond (t && nat_lt k size) (row ++ call ∷ []) row) (number_test k k refl) ∙ ap (λ t. cond t (row ++ call ∷ []) row) lt)) (Contains-push row call)
 
+pair_same : (a b : Bool) (m n : ℕ) → ◌≡◌ {A = Bool × ℕ} (a, m) (b, n) → (a ≡ b) × (m ≡ n)
+pair_same a b m n e = (ap (λ z. z.0) e, ap (λ z. z.1) e)
+
 -- a call that was seen before
 pub seen_before : (p : Program) (n : Named) (interface : Bool) (method : ℕ) → AreSeen p n → is_on n.seen.items (call_at method interface) ≡ true → NotesBy p (IsThe interface method) n n
 seen_before p n interface method are on = record {
@@ -142,6 +147,28 @@ module _ (p : Program) (a b : Named) (interface : Bool) (method : ℕ) (name : M
     ];
   }
 
+-- ---- the call of an instruction
+
+call_by_makes : (k : InvokeKind) (method : ℕ) (args : List ℕ) (o : Option Bool) (i : Bool) (m : ℕ) → interface_of k ≡ o → call_by o method ≡ Some (i, m) → Makes (insn.Invoke k method args) i m
+call_by_makes k method args None i m e h = absurd (none_some {X = Bool × ℕ} (i, m) h)
+call_by_makes k method args (Some b) i m e h = let s = pair_same b i method m (some_same {X = Bool × ℕ} (b, method) (i, m) h) in
+    record { kind = k; args = args; is = ap (λ z. insn.Invoke k z args) s.1; finds_by_object = e ∙ ap (λ z. Some z) s.0 }
+
+call_makes : (one : Insn) (i : Bool) (m : ℕ) → object_call one ≡ Some (i, m) → Makes one i m
+call_makes (insn.Invoke k method args) i m h = call_by_makes k method args (interface_of k) i m refl h
+call_makes one i m h = absurd (none_some {X = Bool × ℕ} (i, m) h)
+
+makes_call : (one : Insn) (i : Bool) (m : ℕ) → Makes one i m → object_call one ≡ Some (i, m)
+makes_call one i m k = ap object_call k.is ∙ ap (λ o. call_by o m) k.finds_by_object
+
+pub insn_called : (p : Program) (a b : Named) (one : Insn) (i : Bool) (m : ℕ) → object_call one ≡ Some (i, m) → NotesBy p (IsThe i m) a b → NotesBy p (Makes one) a b
+insn_called p a b one i m h f = notes_other p (IsThe i m) (Makes one) a b f
+    (λ j n k. let s = pair_same j i n m (some_same {X = Bool × ℕ} (j, n) (i, m) (sym (makes_call one j n k) ∙ h)) in record { same_way = s.0; same_method = s.1 })
+    (λ j n k. subst (λ z. Makes one z n) (sym k.same_way) (subst (Makes one i) (sym k.same_method) (call_makes one i m h)))
+
+pub insn_silent : (p : Program) (a : Named) (one : Insn) → object_call one ≡ None → AreSeen p a → NotesBy p (Makes one) a a
+insn_silent p a one h are = notes_none p (Makes one) a are (λ i m name k e. none_some {X = Bool × ℕ} (i, m) (sym h ∙ makes_call one i m k))
+
 -- ---- one more of a list
 
 pub insns_at : (p : Program) (a b c : Named) (xs : List Insn) (i : ℕ) (x : Insn) → take (i + 1) xs ≡ take i xs ++ x ∷ [] → NotesBy p (AmongInsns (take i xs)) a b → NotesBy p (Makes x) b c → NotesBy p (AmongInsns (take (i + 1) xs)) a c
@@ -157,6 +184,21 @@ pub insns_all : (p : Program) (a b : Named) (xs : List Insn) (i : ℕ) → lengt
 insns_all p a b xs i le f = subst (λ l. NotesBy p (AmongInsns l) a b) (take_all i xs le) f
 
 module _ (live : LiveSet) where
+  -- ---- the body of a method
+
+  pub body_dead : (p : Program) (m : Method) (a : Named) → AreSeen p a → is_on live.methods.items m.name ≡ false → NotesBy p (InBody live m) a a
+  body_dead p m a are h = notes_none p (InBody live m) a are (λ i k name r e. true≢false (sym r.live_caller ∙ h))
+
+  pub body_none : (p : Program) (m : Method) (a : Named) → AreSeen p a → m.body ≡ None → NotesBy p (InBody live m) a a
+  body_none p m a are h = notes_none p (InBody live m) a are (λ i k name r e. none_some r.body (sym h ∙ r.has_body))
+
+  pub body_some : (p : Program) (m : Method) (body : Body) (a b : Named) → is_on live.methods.items m.name ≡ true → m.body ≡ Some body → NotesBy p (AmongInsns body.insns) a b → NotesBy p (InBody live m) a b
+  body_some p m body a b on h f = notes_other p (AmongInsns body.insns) (InBody live m) a b f
+      (λ i k r. subst (λ z. AmongInsns z.insns i k) (some_same r.body body (sym r.has_body ∙ h)) r.makes)
+      (λ i k r. record { body = body; live_caller = on; has_body = h; makes = r })
+
+  -- ---- one more of a list of members
+
   pub methods_at : (p : Program) (a b c : Named) (xs : List Method) (i : ℕ) (x : Method) → slice_get xs i ≡ Some x → NotesBy p (AmongMethods live i xs) a b → NotesBy p (InBody live x) b c → NotesBy p (AmongMethods live (i + 1) xs) a c
   methods_at p a b c xs i x got f g = notes_join p (AmongMethods live i xs) (InBody live x) (AmongMethods live (i + 1) xs) a b c f g
       (λ w m r. elim (below_or r.place i r.before) [

@@ -62,6 +62,16 @@ pub record Makes (one : Insn) (interface : Bool) (method : ℕ) : Type 0 where
   pub is : one ≡ insn.Invoke kind method args
   pub finds_by_object : interface_of kind ≡ Some interface
 
+-- the call that the kind of an Invoke and its method number make on an object
+abbrev pub call_by : Option Bool → ℕ → Option (Bool × ℕ)
+call_by None method = None
+call_by (Some interface) method = Some (interface, method)
+
+-- the call that an instruction makes on an object: whether it is one of an interface, and the method that it names
+abbrev pub object_call : Insn → Option (Bool × ℕ)
+object_call (insn.Invoke kind method args) = call_by (interface_of kind) method
+object_call one = None
+
 -- one of some instructions does
 pub record AmongInsns (insns : List Insn) (interface : Bool) (method : ℕ) : Type 0 where
   pub one : Insn

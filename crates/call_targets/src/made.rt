@@ -1,6 +1,7 @@
 //! What the made classes find.
 
-ghost use Rattle.std.specs.Prelude.{◌≡◌, ◌<◌, ◌^◌, true, flat_map, length, Some, IfOk, OnOk};
+ghost use Rattle.std.specs.Prelude.{◌≡◌, ◌<◌, ◌^◌, true, flat_map, length, slice_get, Some, IfOk, OnOk};
+ghost use Rattle.program_model.specs.declared.pools.MethodName.{MethodName};
 ghost use Rattle.program_model.specs.Lookups.{method_at};
 ghost use Rattle.program_model.specs.ProgramRules.{is_well_formed};
 ghost use Rattle.hierarchy.specs.Shapes.{IsOf, IsResolved};
@@ -77,8 +78,8 @@ fn link_found(
     }
 }
 
-/// Notes what an object of a made class finds for a call.
-fn link_call(
+/// Notes what an object of a made class finds for a call that names a method of the table.
+fn link_named(
     alloc: Global,
     at: &At<'_>,
     class: u32,
@@ -87,11 +88,8 @@ fn link_call(
     targets: &mut Targets,
 ) -> Result<(), AllocError>
     ensures ready { IsReady at.now.program.now walk.old → IsReady at.now.program.now walk.new }
-    ensures adds { IsOf at.now.program.now at.now.hierarchy.now → IsReady at.now.program.now walk.old → OnOk result (Adds (call_notes at.now.program.now class call) targets.old targets.new) }
+    ensures adds { IsOf at.now.program.now at.now.hierarchy.now → IsReady at.now.program.now walk.old → (q : MethodName) → slice_get at.now.program.now.methods call.method ≡ Some q → OnOk result (Adds (call_notes at.now.program.now class call) targets.old targets.new) }
 {
-    if at.method_name(call.method).is_none() {
-        return Ok(());
-    }
     let key = at.hierarchy.key_of_method(call.method);
     match found_on(alloc, at, class, key, walk)? {
         Target::One(found) => {
@@ -103,6 +101,24 @@ fn link_call(
             Ok(())
         }
         Target::Clash => Ok(()),
+    }
+}
+
+/// Notes what an object of a made class finds for a call, nothing past the table.
+fn link_call(
+    alloc: Global,
+    at: &At<'_>,
+    class: u32,
+    call: Call,
+    walk: &mut Walk,
+    targets: &mut Targets,
+) -> Result<(), AllocError>
+    ensures ready { IsReady at.now.program.now walk.old → IsReady at.now.program.now walk.new }
+    ensures adds { IsOf at.now.program.now at.now.hierarchy.now → IsReady at.now.program.now walk.old → OnOk result (Adds (call_notes at.now.program.now class call) targets.old targets.new) }
+{
+    match at.method_name(call.method) {
+        Some(_) => link_named(alloc, at, class, call, walk, targets),
+        None => Ok(()),
     }
 }
 
@@ -181,7 +197,6 @@ fn follow_kinds(
 }
 
 /// Goes over the types above a class, which is given by its place and its type.
-#[tactic(auto, using(crate::proofs::Following::class_by))]
 fn follow_class(
     alloc: Global,
     at: &At<'_>,

@@ -1,7 +1,8 @@
 //! The methods that virtual and interface calls name.
 
 ghost use Rattle.std.specs.Prelude.{◌≡◌, ◌≤◌, ◌++◌, ◌∷◌, [], ◌&&◌, nat_eq, nat_lt, ℕ, true, cond, slice_get, length, IfOk, OnOk};
-ghost use Rattle.call_targets.specs.Called.{row_in, calls_on, AreSeen, NotesBy, IsThe, Makes, AmongInsns, InBody, AmongMethods, AmongClasses, AreNamed};
+ghost use Rattle.call_targets.specs.Called.{row_in, calls_on, AreSeen, NotesBy, IsThe, Makes, object_call, AmongInsns, InBody, AmongMethods, AmongClasses, AreNamed};
+ghost use Rattle.call_targets.specs.Targeted.{interface_of};
 
 use crate::kept::is_on;
 use crate::looks::At;
@@ -35,6 +36,30 @@ fn empty_lists(alloc: Global, count: usize) -> Result<Vec<Seq<Call>>, AllocError
         lists.push(Seq::new(alloc))?;
     }
     Ok(lists)
+}
+
+/// Whether calls of a kind find by the class of their receiver, and then whether they are those of an interface.
+fn interface_of(kind: InvokeKind) -> Option<bool>
+    ensures { result ≡ interface_of kind }
+{
+    match kind {
+        InvokeKind::Virtual => Some(false),
+        InvokeKind::Interface => Some(true),
+        _ => None,
+    }
+}
+
+/// The call that an instruction makes on an object: whether it is one of an interface, and the method that it names.
+fn object_call(insn: &Insn) -> Option<(bool, u32)>
+    ensures { result ≡ object_call insn.now }
+{
+    match insn {
+        Insn::Invoke { kind, method, .. } => match interface_of(*kind) {
+            Some(interface) => Some((interface, *method)),
+            None => None,
+        },
+        _ => None,
+    }
 }
 
 impl Named {
@@ -82,19 +107,12 @@ impl Named {
     fn add_insn(&mut self, at: &At<'_>, insn: &Insn) -> Result<(), AllocError>
         ensures { length at.now.program.now.methods ≤ 65536 → AreSeen at.now.program.now self.old → OnOk result (NotesBy at.now.program.now (Makes insn.now) self.old self.new) }
     {
-        match insn {
-            Insn::Invoke { kind, method, .. } => match kind {
-                InvokeKind::Virtual => {
-                    self.add(at, *method, false)?;
-                    Ok(())
-                }
-                InvokeKind::Interface => {
-                    self.add(at, *method, true)?;
-                    Ok(())
-                }
-                _ => Ok(()),
-            },
-            _ => Ok(()),
+        match object_call(insn) {
+            Some(call) => {
+                self.add(at, call.1, call.0)?;
+                Ok(())
+            }
+            None => Ok(()),
         }
     }
 

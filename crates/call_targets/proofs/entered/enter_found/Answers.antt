@@ -21,7 +21,7 @@ returns-in-One-clause-adds c = λ is r q e.
     let class = c.args.made.class in
     let old = c.args.targets.now in
     let new = c.enter_answer.new.targets in
-    let found : target.One c.in-One.found ≡ target_found (finds_at p class q.name q.proto) = rw c.in-One.is at (c.in_ok-found.ensures.is is r q.name q.proto (c.key_of_method-key.ensures.is p q e)) in
+    let found : target.One c.in-One.found ≡ target_found (finds_at p class q.name q.proto) = sym c.in-One.is ∙ c.in_ok-found.ensures.is is r q.name q.proto (c.key_of_method-key.ensures.is p q e) in
     let any : (is_on k.methods.items number || is_called_back p k outer number q) ≡ true = elim c.then-keeps.branch [
       | then-keeps-via-then-keeps w ↦ or_left (is_on k.methods.items number) (is_called_back p k outer number q) (sym c.keeps_method-keeps.ensures ∙ w.if-keeps.true)
       | then-keeps-via-else-keeps+then-is_called_back w ↦ or_right (is_on k.methods.items number) (is_called_back p k outer number q) (sym (w.is_called_back.ensures is q e) ∙ w.if-is_called_back.true)

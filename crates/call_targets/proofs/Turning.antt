@@ -69,7 +69,6 @@ module _ (a b : Targets) where
 
 -- ---- what a target says of a search
 
-
 pub one_found : (s : Search) (at : MethodAt) → target.One at ≡ target_found s → s ≡ Finds at
 one_found Nothing at e = cc
 one_found Clash at e = cc

@@ -5,8 +5,8 @@
 //! call on such a type what the class finds. [`bound_target`] answers what a static, direct or super call finds.
 //!
 //! What a call finds by its name is stated in `specs/Bound.antt`, and just what calls on objects find, which may leave, and
-//! what the framework may enter and need, in `specs/Targeted.antt`. [`bound_target`] is proved
-//! to meet this, [`targets`] not yet.
+//! what the framework may enter and need, in `specs/Targeted.antt`. What each function adds to an answer is a list of notes
+//! (`Adds` of `specs/Adding.antt`), and `proofs/Ending.antt` shows that the notes of all made classes are just these.
 #![tactic(auto)]
 
 mod above;

@@ -1,7 +1,10 @@
 //! What the made classes find.
 
 ghost use Rattle.std.specs.Prelude.{◌≡◌, ◌<◌, ◌^◌, true, flat_map, length, slice_get, Some, IfOk, OnOk};
+ghost use Rattle.program_model.specs.declared.pass.Outside.{Outside};
 ghost use Rattle.program_model.specs.declared.pools.MethodName.{MethodName};
+ghost use Rattle.program_model.specs.declared.program.Program.{Program};
+ghost use Rattle.call_graph.specs.declared.live_set.LiveSet.{LiveSet};
 ghost use Rattle.program_model.specs.Lookups.{method_at};
 ghost use Rattle.program_model.specs.ProgramRules.{is_well_formed};
 ghost use Rattle.hierarchy.specs.Shapes.{IsOf, IsResolved};
@@ -151,7 +154,6 @@ fn methods_of<'a>(at: &At<'a>, kind: u32) -> &'a [Method]
 }
 
 /// Notes what is called on a type above a made class, and what the framework may enter of it.
-#[tactic(auto, using(crate::proofs::Adding::adds_then))]
 fn follow_kind(
     alloc: Global,
     at: &At<'_>,
@@ -308,6 +310,24 @@ fn search(
     Ok(targets)
 }
 
+/// The same with the links in order, each once.
+fn in_order(found: Targets) -> Targets
+    ensures { (p : Program) (o : Outside) (live : LiveSet) → IsTargeted p o live found → IsTargeted p o live result }
+{
+    let Targets {
+        links,
+        leaves,
+        entered,
+        begun,
+    } = found;
+    Targets {
+        links: each_once(links),
+        leaves,
+        entered,
+        begun,
+    }
+}
+
 /// What virtual and interface calls of live bodies may find on objects of made classes, and what the framework may
 /// enter and need. A class is under another by the program's own lists, and each is under `Ljava/lang/Object;`. The only
 /// error is want of memory.
@@ -321,16 +341,5 @@ pub fn targets(
     ensures { is_well_formed program.now ≡ true → IsResolved program.now hierarchy.now → IfOk result (λ t. IsTargeted program.now outside.now live.now t) }
 {
     let at = At { program, hierarchy };
-    let Targets {
-        links,
-        leaves,
-        entered,
-        begun,
-    } = search(alloc, &at, outside, live)?;
-    Ok(Targets {
-        links: each_once(links),
-        leaves,
-        entered,
-        begun,
-    })
+    Ok(in_order(search(alloc, &at, outside, live)?))
 }

@@ -13,7 +13,7 @@ returns c = λ fits is.
     let few = few_methods p fits in
     let small : c.len-methods.result ≤ 65536 = subst (λ n. n ≤ 65536) (sym c.len-methods.ensures) few in
     let blank : IsBlank (length p.methods) (length p.classes) c.in_ok-targets.targets =
-        subst (λ n. IsBlank n (length p.classes) c.in_ok-targets.targets) c.len-methods.ensures (subst (λ n. IsBlank c.len-methods.result n c.in_ok-targets.targets) c.len-classes.ensures (c.in_ok-targets.ensures small)) in
+    subst (λ n. IsBlank n (length p.classes) c.in_ok-targets.targets) c.len-methods.ensures (subst (λ n. IsBlank c.len-methods.result n c.in_ok-targets.targets) c.len-classes.ensures (c.in_ok-targets.ensures small)) in
     let are = c.in_ok-tables.ensures fits in
     targeted p c.args.outside.now c.args.live.now t fits is.of.once are c.follow_made.new.targets
     (noted_all p t c.args.live.now.made.items c.in_ok-targets.targets c.note_leaving.new.targets c.begin.new.targets c.follow_made.new.targets blank (c.note_leaving.ensures is.of (few_methods p fits)) (c.begin.ensures (few_classes p fits) is)

@@ -1,10 +1,9 @@
 -- What a call finds, case by case.
-use Rattle.std.proofs.Common.{◌≡◌, ◌∙◌, ℕ, zero, suc, Bool, true, false, List, [], ◌∷◌, length, refl, sym, ap, Option, Some, None}
+use Rattle.std.proofs.Common.{◌≡◌, ◌∙◌, ℕ, zero, suc, true, false, List, [], ◌∷◌, length, refl, sym, ap, Option, Some, None}
 use Rattle.std.specs.Prelude.{cond, ◌&&◌, not, slice_get, flat_map}
 use Rattle.program_model.specs.declared.pools.MethodName.{MethodName}
 use Rattle.program_model.specs.declared.program.MethodAt.{MethodAt}
 use Rattle.program_model.specs.declared.program.Program.{Program}
-use Rattle.program_model.specs.declared.program.Version.{Version}
 use Rattle.program_model.specs.declared.program.Version.TheVariants.{V035, V037}
 use Rattle.program_model.specs.Lookups.{class_place}
 use Rattle.class_defs.specs.Members.{is_common, is_interface, own_method}

@@ -1,5 +1,5 @@
 -- What is noted of a program is what its calls may find, and what the framework may enter and need.
-use Rattle.std.proofs.Common.{◌≡◌, ◌∙◌, ℕ, zero, suc, ◌+◌, ◌*◌, ◌<◌, ◌≤◌, ◌^◌, ◌⊎◌, inl, inr, Bool, true, false, true≢false, List, [], ◌∷◌, length, refl, sym, ap, subst, arith, Some, None, Option}
+use Rattle.std.proofs.Common.{◌≡◌, ◌∙◌, ℕ, zero, suc, ◌*◌, ◌<◌, ◌⊎◌, inl, inr, Bool, true, false, true≢false, List, [], ◌∷◌, length, refl, sym, ap, subst, arith, Some, None, Option}
 use Rattle.std.specs.Prelude.{◌&&◌, ◌||◌, ◌==◌, not, is_some, nat_eq, nat_lt, slice_get, slice_index_or, option_and_then, Contains}
 use Rattle.std.specs.List.{list_any}
 use Rattle.program_model.specs.declared.pass.Outside.{Outside}
@@ -15,28 +15,24 @@ use Rattle.program_model.specs.Texts.{first_unit, has_proto, has_string}
 use Rattle.program_model.specs.ProgramRules.{is_well_formed}
 use Rattle.class_defs.specs.ClassGraph.{IsTwice}
 use Rattle.class_defs.specs.Members.{is_common}
-use Rattle.class_defs.specs.Finding.{finds_at, Finds}
 use Rattle.class_defs.specs.Starts.{initialiser_place}
 use Rattle.class_defs.proofs.Positions.{both, number_test, number_of, place_entry, place_first}
 use Rattle.class_defs.proofs.WellFormed.{sound, class_parts, and_left, and_right, all_at, below}
 use Rattle.call_graph.specs.declared.live_set.LiveSet.{LiveSet}
-use Rattle.call_graph.specs.Bases.{object_number}
 use Rattle.call_graph.specs.Follows.{class_of, can_be_made}
-use Rattle.call_targets.specs.declared.kept.Kept.{Kept}
 use Rattle.call_targets.specs.declared.made.Tables.{Tables}
 use Rattle.call_targets.specs.declared.named.Call.{Call}
 use Rattle.call_targets.specs.declared.table.Link.{Link}
 use Rattle.call_targets.specs.declared.table.Targets.{Targets}
 use Rattle.call_targets.specs.Adding.{Note, Links, Leaves, Enters, Needs, IsNoted, IsMet, AddsBy, Adds, IsBlank}
 use Rattle.call_targets.specs.Beginning.{is_place, is_entered, keeps_constructor_by, may_be_made_by, all_class_notes}
-use Rattle.call_targets.specs.Called.{ListedOf, IsListed}
-use Rattle.call_targets.specs.Following.{AreTables, OfClass, OfMade, OfPlaces}
+use Rattle.call_targets.specs.Called.{ListedOf}
+use Rattle.call_targets.specs.Following.{AreTables, OfClass, OfPlaces}
 use Rattle.call_targets.specs.Leaving.{all_name_notes}
-use Rattle.call_targets.specs.Noting.{is_called_back, methods_of, kind_notes}
-use Rattle.call_targets.specs.Outsiders.{AreKept}
-use Rattle.call_targets.specs.Targeted.{is_on, call_at, AreJust, keeps_class, keeps_method, is_shut, is_constructor_name, keeps_constructor, may_be_made, IsCalledOn, IsMade, IsUnder, HasOuter, IsAsked, IsLink, LeavesByName, LeavesBare, MayLeave, IsCoded, IsEnteredStatic, StandsOver, IsEnteredKept, IsEnteredFor, IsCalledBack, IsEntered, IsMadeOutside, IsEnteredAt, IsBegun, IsTargeted}
+use Rattle.call_targets.specs.Noting.{is_called_back, methods_of}
+use Rattle.call_targets.specs.Targeted.{is_on, call_at, AreJust, keeps_class, keeps_method, is_shut, is_constructor_name, may_be_made, IsCalledOn, IsMade, IsUnder, HasOuter, IsAsked, IsLink, LeavesByName, LeavesBare, MayLeave, IsCoded, IsEnteredStatic, StandsOver, IsEnteredKept, IsEnteredFor, IsCalledBack, IsEntered, IsBegun, IsTargeted}
 use Rattle.call_targets.proofs.Contained.{get_in, got_short, none_in, first_or}
-use Rattle.call_targets.proofs.Noted.{or_cases, or_left, or_right, not_false, false_not, NameNote, AtName, names_of, names_in, AtStatic, initialiser_in, NeedsClass, ClassNote, AtClass, classes_of, classes_in, LinkNote, BareNote, CallNote, OwnNote, FoundNote, MethodNote, OnCall, OnMethod, kind_of, call_kind, method_kind}
+use Rattle.call_targets.proofs.Noted.{or_cases, or_left, or_right, not_false, false_not, names_of, names_in, AtStatic, initialiser_in, NeedsClass, classes_of, classes_in, CallNote, OwnNote, FoundNote, MethodNote, OnCall, kind_of, call_kind, method_kind}
 
 some_same : {X : Type 0} (x y : X) → Some x ≡ Some y → x ≡ y
 some_same x y e = cc

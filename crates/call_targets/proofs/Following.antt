@@ -1,5 +1,5 @@
 -- What is noted of made classes, type by type and class by class.
-use Rattle.std.proofs.Common.{◌≡◌, ◌∙◌, ℕ, zero, suc, ◌+◌, ◌<◌, ◌≤◌, ◌⊎◌, inl, inr, Bool, true, false, true≢false, List, [], ◌∷◌, length, refl, sym, ap, subst, arith, Some}
+use Rattle.std.proofs.Common.{◌≡◌, ◌∙◌, ℕ, ◌+◌, ◌≤◌, inl, inr, Bool, true, false, true≢false, List, [], ◌∷◌, length, refl, sym, ap, subst, arith, Some}
 use Rattle.std.specs.Prelude.{◌||◌, slice_get, Contains}
 use Rattle.std.specs.List.{list_any, flat_map}
 use Rattle.program_model.specs.declared.program.Class.{Class}

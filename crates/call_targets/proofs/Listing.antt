@@ -15,8 +15,7 @@ use Rattle.class_defs.proofs.Positions.{both, number_test, number_of, place_entr
 use Rattle.class_defs.proofs.WellFormed.{sound, class_parts, and_left, and_right}
 use Rattle.hierarchy.specs.Climbing.{In}
 use Rattle.hierarchy.specs.Ranks.{is_lower, is_lower_all, IsRanked}
-use Rattle.call_graph.specs.Above.{above_of, above_kinds, Climbs, IsFrom, AllFrom}
-use Rattle.call_graph.specs.Follows.{class_of}
+use Rattle.call_graph.specs.Above.{above_of, above_kinds, Climbs, AllFrom}
 use Rattle.call_graph.specs.Supers.{interfaces_in, lists_at}
 use Rattle.call_targets.specs.Walking.{HasFrom}
 use Rattle.call_targets.proofs.Contained.{none_in, first_or, first_in, later_in, got_short}

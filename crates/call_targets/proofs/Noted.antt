@@ -1,5 +1,5 @@
 -- What the notes of an answer are, one by one.
-use Rattle.std.proofs.Common.{◌≡◌, ◌∙◌, ℕ, zero, suc, ◌+◌, ◌⊎◌, inl, inr, Bool, true, false, true≢false, List, [], ◌∷◌, ◌++◌, length, refl, sym, ap, subst, arith, Some, None, Option}
+use Rattle.std.proofs.Common.{◌≡◌, ◌∙◌, ℕ, zero, suc, ◌+◌, ◌⊎◌, inl, inr, Bool, true, false, true≢false, List, [], ◌∷◌, ◌++◌, refl, sym, ap, subst, arith, Some, None, Option}
 use Rattle.std.specs.Prelude.{◌&&◌, ◌||◌, not, is_some, nat_eq, cond, option_and_then, slice_get, Contains}
 use Rattle.std.specs.List.{flat_map}
 use Rattle.std.proofs.lemmas.List.Elements.{Contains-append_left, Contains-append_right, Contains-append_cases}
@@ -13,19 +13,17 @@ use Rattle.program_model.specs.MemberRules.{is_static, is_direct}
 use Rattle.class_defs.specs.Members.{is_common, is_interface, has_code}
 use Rattle.class_defs.specs.Finding.{Search, Nothing, Clash, Finds, finds_at}
 use Rattle.class_defs.specs.Starts.{initialiser_place}
-use Rattle.class_defs.proofs.Positions.{both, number_test, number_of}
-use Rattle.class_defs.proofs.WellFormed.{and_left, and_right}
 use Rattle.call_graph.specs.Follows.{class_of}
 use Rattle.call_targets.specs.declared.kept.Kept.{Kept}
 use Rattle.call_targets.specs.declared.named.Call.{Call}
 use Rattle.call_targets.specs.declared.named.Named.{Named}
 use Rattle.call_targets.specs.Adding.{Note, Links, Leaves, Enters, Needs}
 use Rattle.call_targets.specs.Called.{calls_on}
-use Rattle.call_targets.specs.Beginning.{is_place, is_entered, static_notes, is_empty, may_be_made_by, class_notes, all_class_notes}
+use Rattle.call_targets.specs.Beginning.{is_entered, static_notes, is_empty, may_be_made_by, class_notes, all_class_notes}
 use Rattle.call_targets.specs.Leaving.{admits_any, name_notes, all_name_notes}
 use Rattle.call_targets.specs.Noting.{link_notes, search_notes, call_notes_of, call_notes, enter_notes, answer_notes, found_notes, is_called_back, virtual_notes_of, virtual_notes, method_notes, methods_of, kind_notes}
 use Rattle.call_targets.specs.Targeted.{is_on, call_at, names_interface, IsBare}
-use Rattle.call_targets.proofs.Contained.{none_in, only_in, first_in, later_in, first_or, flat_has, flat_from, get_in, got_short}
+use Rattle.call_targets.proofs.Contained.{none_in, only_in, first_in, later_in, first_or, flat_has, flat_from}
 
 -- ---- tests
 

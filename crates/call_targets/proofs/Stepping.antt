@@ -1,6 +1,6 @@
 -- One more of a list whose notes go by their place.
 use Rattle.std.proofs.Common.{◌≡◌, ◌∙◌, ℕ, zero, suc, ◌+◌, ◌<◌, ◌≤◌, Bool, true, false, List, [], ◌∷◌, ◌++◌, length, take, refl, sym, ap, subst, arith, Option}
-use Rattle.std.specs.Prelude.{◌||◌, not, is_some, cond}
+use Rattle.std.specs.Prelude.{◌||◌, not, cond}
 use Rattle.std.proofs.lemmas.List.{take_all, append-nil, append_assoc}
 use Rattle.program_model.specs.declared.pools.MethodName.{MethodName}
 use Rattle.program_model.specs.declared.program.Class.{Class}

@@ -1,20 +1,18 @@
 -- What one step notes.
-use Rattle.std.proofs.Common.{◌≡◌, ◌∙◌, ℕ, ◌+◌, ◌*◌, ◌-◌, ◌^◌, ◌≤◌, Bool, true, false, true≢false, List, [], ◌∷◌, ◌++◌, length, vec_len, min, nat_eq, refl, sym, ap, subst, arith, Some, None, Option}
-use Rattle.std.specs.Prelude.{◌&&◌, ◌||◌, not, is_some, cond, slice_get, slice_set, Vec}
-use Rattle.std.specs.Option.{option_copied}
+use Rattle.std.proofs.Common.{◌≡◌, ◌∙◌, ℕ, ◌-◌, ◌^◌, ◌≤◌, Bool, true, false, List, [], ◌∷◌, ◌++◌, length, vec_len, min, nat_eq, refl, sym, ap, subst, arith, Some, None, Option}
+use Rattle.std.specs.Prelude.{◌||◌, not, is_some, cond, slice_get, slice_set, Vec}
 use Rattle.std.specs.Vec.{with_items}
 use Rattle.std.proofs.Math.Nat.{min-eq_left}
-use Rattle.std.proofs.lemmas.List.{append-nil, with_items_is}
+use Rattle.std.proofs.lemmas.List.{with_items_is}
 use Rattle.program_model.specs.declared.pools.MethodName.{MethodName}
 use Rattle.program_model.specs.declared.program.Class.{Class}
 use Rattle.program_model.specs.declared.program.Method.{Method}
 use Rattle.program_model.specs.declared.program.MethodAt.{MethodAt}
 use Rattle.program_model.specs.declared.program.Program.{Program}
-use Rattle.program_model.specs.Lookups.{class_place, method_at, method_or}
+use Rattle.program_model.specs.Lookups.{class_place, method_or}
 use Rattle.program_model.specs.MemberRules.{is_static, is_direct}
 use Rattle.class_defs.specs.Finding.{Search, Nothing, Clash, Finds, finds_at}
 use Rattle.class_defs.specs.Starts.{initialiser_place}
-use Rattle.call_targets.specs.declared.bound.Target.{Target}
 use Rattle.call_targets.specs.declared.bound.Target.TheVariants as target
 use Rattle.call_targets.specs.declared.kept.Kept.{Kept}
 use Rattle.call_targets.specs.declared.named.Call.{Call}
@@ -25,7 +23,7 @@ use Rattle.call_targets.specs.Bound.{target_found}
 use Rattle.call_targets.specs.Leaving.{admits_any, name_notes}
 use Rattle.call_targets.specs.Noting.{link_notes, search_notes, call_notes_of, call_notes, enter_notes, answer_notes, found_notes, is_called_back, virtual_notes_of, virtual_notes, method_notes}
 use Rattle.call_targets.specs.Targeted.{is_on, call_at}
-use Rattle.call_targets.proofs.Adding.{turned, set_length, adds_none, adds_then, adds_same}
+use Rattle.call_targets.proofs.Adding.{turned, set_length, adds_same}
 
 -- ---- marks
 

@@ -1,4 +1,4 @@
-use Rattle.std.proofs.Common.{◌≡◌, ◌∙◌, Bool, true, sym, subst}
+use Rattle.std.proofs.Common.{◌≡◌, ◌∙◌, true, sym, subst}
 use Rattle.std.specs.Prelude.{◌||◌}
 use Rattle.program_model.specs.Lookups.{method_at}
 use Rattle.class_defs.specs.Finding.{Finds, finds_at}

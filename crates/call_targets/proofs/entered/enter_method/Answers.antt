@@ -1,4 +1,4 @@
-use Rattle.std.proofs.Common.{◌∙◌, [], true, false, sym, subst}
+use Rattle.std.proofs.Common.{◌∙◌, true, false, sym, subst}
 use Rattle.call_targets.specs.Adding.{Adds}
 use Rattle.call_targets.specs.Noting.{enter_notes, virtual_notes}
 use Rattle.call_targets.proofs.Adding.{adds_then}

@@ -1,4 +1,4 @@
-use Rattle.std.proofs.Common.{◌≡◌, ◌∙◌, Bool, List, ℕ, ap, subst}
+use Rattle.std.proofs.Common.{◌∙◌, Bool, List, ℕ, ap, subst}
 use Rattle.std.specs.List.{flat_map}
 use Rattle.call_graph.specs.Above.{has_outer}
 use Rattle.call_targets.specs.Adding.{Adds}

@@ -1,4 +1,4 @@
-use Rattle.std.proofs.Common.{◌≡◌, ◌≤◌, Bool, List, length, subst, sym}
+use Rattle.std.proofs.Common.{◌≤◌, Bool, List, length, subst, sym}
 use Rattle.class_defs.proofs.WellFormed.{few_classes}
 use Rattle.call_targets.specs.Adding.{AddsBy, IsBlank}
 use Rattle.call_targets.specs.Following.{OfPlaces}

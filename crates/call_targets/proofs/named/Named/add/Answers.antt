@@ -1,4 +1,4 @@
-use Rattle.std.proofs.Common.{◌≡◌, ◌≤◌, subst, sym, refl, length, arith}
+use Rattle.std.proofs.Common.{◌≤◌, subst, sym, refl, arith}
 use Rattle.call_targets.specs.Adding.{TurnsOn}
 use Rattle.call_targets.specs.Targeted.{call_at}
 use Rattle.call_targets.proofs.Contained.{got_short}

@@ -1,5 +1,5 @@
 use Rattle.std.proofs.Common.{◌≤◌, length}
-use Rattle.call_targets.specs.Called.{AreSeen, NotesBy, AmongClasses}
+use Rattle.call_targets.specs.Called.{NotesBy, AmongClasses}
 use Rattle.call_targets.proofs.named.Named.new.Given as goal
 
 abbrev pub invariant-loop-class : goal.invariant-loop-class

@@ -1,1 +1,11 @@
 pub mod Bound
+pub mod Marks
+pub mod Walking
+pub mod Targeted
+pub mod Adding
+pub mod Outsiders
+pub mod Called
+pub mod Noting
+pub mod Beginning
+pub mod Leaving
+pub mod Following

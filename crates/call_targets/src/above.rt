@@ -1,94 +1,77 @@
-//! The types above a class by the program's own lists.
+//! The types above a type by the program's own lists.
+
+ghost use Rattle.std.specs.Prelude.{◌≡◌, ◌<◌, ℕ, [], true, length, IfOk, OnOk, Contains, vec_len};
+ghost use Rattle.hierarchy.specs.Shapes.{IsOf};
+ghost use Rattle.call_targets.specs.Marks.{Swells, Keeps, WaitsFrom};
+ghost use Rattle.call_graph.specs.Above.{above_kinds, AllFrom, has_outer};
+ghost use Rattle.call_targets.specs.Walking.{is_met, is_marked, IsClean, IsWalked, HasFrom};
 
 use crate::looks::At;
+use crate::marks::Marks;
 use std::alloc::{AllocError, Global};
 
-/// The types that stand above a class, with its own and `Ljava/lang/Object;`. It is made once and serves many classes.
-#[derive(Drop)]
-pub(crate) struct Above {
-    marks: Vec<bool>,
-    kinds: Vec<u32>,
+/// Marks the types directly above one.
+#[tactic(auto, using(crate::proofs::Climbing::marked_both, crate::proofs::Growth::keeps_then, crate::proofs::Growth::keeps_same, crate::proofs::Climbing::waits_both, crate::proofs::Climbing::waits_none))]
+fn mark_above(at: &At<'_>, marks: &mut Marks, kind: u32) -> Result<(), AllocError>
+    ensures swells { OnOk result (Swells marks.old marks.new) }
+    ensures keeps { OnOk result (Keeps marks.old marks.new) }
+    ensures marked { IsOf at.now.program.now at.now.hierarchy.now → OnOk result ((u : ℕ) → Contains (above_kinds at.now.program.now kind) u → is_met marks.new u ≡ true) }
+    ensures from { IsOf at.now.program.now at.now.hierarchy.now → OnOk result (WaitsFrom marks.old marks.new (above_kinds at.now.program.now kind)) }
+{
+    match at.class_of(kind) {
+        Some(class) => {
+            marks.mark(class.superclass)?;
+            marks.mark_all(class.interfaces.as_slice())?;
+            Ok(())
+        }
+        None => Ok(()),
+    }
 }
 
-impl Above {
-    /// For types below this number.
-    pub(crate) fn new(alloc: Global, types: usize) -> Result<Above, AllocError> {
-        Ok(Above {
-            marks: vec![in alloc; false; types]?,
-            kinds: Vec::new(alloc),
-        })
+/// Walks on from the types that wait, and lists all types that it meets.
+fn walk_up(alloc: Global, at: &At<'_>, marks: &mut Marks) -> Result<Vec<u32>, AllocError>
+    ensures size { OnOk result (vec_len marks.new.marks ≡ vec_len marks.old.marks) }
+    ensures idle { OnOk result (marks.new.waiting.items ≡ []) }
+    ensures met { OnOk result ((n : ℕ) → is_met marks.old n ≡ true → is_met marks.new n ≡ true) }
+    ensures from { IsOf at.now.program.now at.now.hierarchy.now → vec_len marks.old.marks ≡ length at.now.program.now.types → (x y : ℕ) → AllFrom at.now.program.now x y marks.old.waiting.items → IfOk result (λ out. AllFrom at.now.program.now x y out.items) }
+    ensures walked { IsOf at.now.program.now at.now.hierarchy.now → ((n : ℕ) → is_marked marks.old n ≡ true → Contains marks.old.waiting.items n) → IfOk result (λ out. IsWalked at.now.program.now marks.new out.items) }
+{
+    let mut out = Vec::new(alloc);
+    while let Some(one) = marks.pop() {
+        out.push(one)?;
+        mark_above(at, marks, one)?;
     }
+    Ok(out)
+}
 
-    /// The types.
-    pub(crate) fn kinds(&self) -> &[u32] {
-        self.kinds.as_slice()
-    }
+/// The types above a type, with it and with another one and those above that. No mark stays.
+pub(crate) fn climb(
+    alloc: Global,
+    at: &At<'_>,
+    marks: &mut Marks,
+    object: u32,
+    kind: u32,
+) -> Result<Vec<u32>, AllocError>
+    ensures size { OnOk result (vec_len marks.new.marks ≡ vec_len marks.old.marks) }
+    ensures clean { IsOf at.now.program.now at.now.hierarchy.now → IsClean marks.old → OnOk result (IsClean marks.new) }
+    ensures above { IsOf at.now.program.now at.now.hierarchy.now → vec_len marks.old.marks ≡ length at.now.program.now.types → IsClean marks.old → IfOk result (λ out. HasFrom at.now.program.now object kind out.items) }
+    ensures from { IsOf at.now.program.now at.now.hierarchy.now → vec_len marks.old.marks ≡ length at.now.program.now.types → IsClean marks.old → IfOk result (λ out. AllFrom at.now.program.now object kind out.items) }
+{
+    marks.mark(object)?;
+    marks.mark(kind)?;
+    let above = walk_up(alloc, at, marks)?;
+    marks.clear(above.as_slice());
+    Ok(above)
+}
 
-    /// Takes all types away. It costs as much as there are.
-    fn clear(&mut self) {
-        for kind in self.kinds.as_slice() {
-            if let Some(mark) = self.marks.get_mut(*kind as usize) {
-                *mark = false;
-            }
-        }
-        self.kinds.clear();
-    }
-
-    /// Adds a type that isn't there yet.
-    fn add(&mut self, kind: u32) -> Result<(), AllocError> {
-        match self.marks.get_mut(kind as usize) {
-            Some(mark) => {
-                if !*mark {
-                    *mark = true;
-                    self.kinds.push(kind)?;
-                }
-                Ok(())
-            }
-            None => Ok(()),
-        }
-    }
-
-    /// Adds the types.
-    fn add_all(&mut self, kinds: &[u32]) -> Result<(), AllocError> {
-        for kind in kinds {
-            self.add(*kind)?;
-        }
-        Ok(())
-    }
-
-    /// Adds the types directly above one.
-    fn add_above(&mut self, at: &At<'_>, kind: u32) -> Result<(), AllocError> {
-        match at.class_of(kind) {
-            Some(class) => {
-                self.add(class.superclass)?;
-                self.add_all(class.interfaces.as_slice())
-            }
-            None => Ok(()),
+/// Whether a type of the framework other than `Ljava/lang/Object;` is among these.
+pub(crate) fn has_outer(at: &At<'_>, object: u32, kinds: &[u32]) -> bool
+    ensures { IsOf at.now.program.now at.now.hierarchy.now → result ≡ has_outer at.now.program.now object kinds.now }
+{
+    for kind in kinds {
+        if at.class_of(*kind).is_none() && *kind != object {
+            return true;
         }
     }
-
-    /// Begins anew with the types above one, and with another one, which has none above it.
-    pub(crate) fn climb(&mut self, at: &At<'_>, kind: u32, object: u32) -> Result<(), AllocError> {
-        self.clear();
-        self.add(object)?;
-        self.add(kind)?;
-        for next in 0..at.program.types.len() {
-            let Some(one) = self.kinds.get(next) else {
-                break;
-            };
-            let one = *one;
-            self.add_above(at, one)?;
-        }
-        Ok(())
-    }
-
-    /// Whether a framework type other than `Ljava/lang/Object;` is among them.
-    pub(crate) fn has_outer(&self, at: &At<'_>, object: u32) -> bool {
-        for kind in self.kinds.as_slice() {
-            if *kind != object && at.hierarchy.place_of(*kind).is_none() {
-                return true;
-            }
-        }
-        false
-    }
+    false
 }

@@ -1,5 +1,10 @@
 //! The answer.
 
+ghost use Rattle.std.specs.Prelude.{◌≡◌, ◌≤◌, ◌-◌, ◌^◌, true, min, slice_set, IfOk, Contains};
+ghost use Rattle.call_targets.specs.Adding.{IsBlank};
+ghost use Rattle.call_targets.specs.Targeted.{call_at};
+ghost use Rattle.call_targets.specs.declared.table.Link.{Link};
+
 use std::alloc::{AllocError, Global};
 
 /// A call by its number, and the number of a method with code that it may find.
@@ -23,8 +28,10 @@ pub struct Targets {
     pub begun: Vec<bool>,
 }
 
-/// The number of the virtual or interface calls that name a method: they are counted two by two.
-pub fn call_number(method: u32, interface: bool) -> u32 {
+/// The number of the virtual or interface calls that name a method: they are counted two by two, as far as 32 bits go.
+pub fn call_number(method: u32, interface: bool) -> u32
+    ensures { result ≡ min (call_at method interface) (2 ^ 32 - 1) }
+{
     let first = method.saturating_mul(2);
     if interface {
         first.saturating_add(1)
@@ -34,14 +41,20 @@ pub fn call_number(method: u32, interface: bool) -> u32 {
 }
 
 /// Turns a mark on, if there is such a number.
-pub(crate) fn turn_on(marks: &mut [bool], number: u32) {
-    if let Some(mark) = marks.get_mut(number as usize) {
-        *mark = true;
+pub(crate) fn turn_on(marks: &mut [bool], number: u32)
+    ensures { marks.new ≡ slice_set marks.old number true }
+{
+    let at = number as usize;
+    if at < marks.len() {
+        marks[at] = true;
     }
 }
 
 /// The pairs in order, each once.
-pub(crate) fn each_once(mut links: Vec<Link>) -> Vec<Link> {
+pub(crate) fn each_once(mut links: Vec<Link>) -> Vec<Link>
+    ensures kept { (l : Link) → Contains links.items l → Contains result.items l }
+    ensures from { (l : Link) → Contains result.items l → Contains links.items l }
+{
     links.sort_unstable();
     links.dedup();
     links
@@ -49,11 +62,9 @@ pub(crate) fn each_once(mut links: Vec<Link>) -> Vec<Link> {
 
 impl Targets {
     /// Nothing is found yet.
-    pub(crate) fn new(
-        alloc: Global,
-        methods: usize,
-        classes: usize,
-    ) -> Result<Targets, AllocError> {
+    pub(crate) fn new(alloc: Global, methods: usize, classes: usize) -> Result<Targets, AllocError>
+        ensures { methods ≤ 65536 → IfOk result (IsBlank methods classes) }
+    {
         Ok(Targets {
             links: Vec::new(alloc),
             leaves: vec![in alloc; false; methods.saturating_mul(2)]?,

@@ -1,0 +1,15 @@
+mod Contained
+mod Growth
+mod Climbing
+mod Adding
+mod Naming
+mod Listing
+mod Few
+mod Noted
+mod Ending
+mod Following
+mod Stepping
+mod Binding
+mod Marking
+mod Pairs
+mod Turning

@@ -30,7 +30,7 @@ use Rattle.dom_frame.specs.Steps.{receiver}
 use Rattle.facts.specs.declared.facts.Facts.{Facts}
 use Rattle.call_targets.specs.declared.table.Link.{Link}
 use Rattle.closed_facts.specs.Tables.{IsBelow, AreBelow, Arrives, At, IsEntered, IsOpen, registers_at, parameter_at, result_at, field_at}
-use Rattle.closed_facts.specs.Found.{MayCall, Bound, Linked, MayLeave, Unfound, Bare, Marked, IsBound, finds_bound, call_number, own_number, field_in, needs}
+use Rattle.closed_facts.specs.Found.{MayCall, Bound, Linked, MayLeave, Unfound, Bare, ByInterface, Marked, IsBound, finds_bound, call_number, own_number, field_in, needs}
 use Rattle.closed_facts.specs.Edges.{edges}
 use Rattle.closed_facts.specs.Entries.{Starts, OpensEntries, Begins, has_default}
 use Rattle.value_ops.specs.Numbers.{stored_value}
@@ -43,10 +43,10 @@ use Rattle.facts_check.specs.declared.starts.Start.{Start}
 use Rattle.facts_check.specs.declared.starts.Start.TheVariants.{Comes}
 use Rattle.facts_check.specs.Known.{AreKnown, is_marked, is_made, pool_at, answer_at}
 use Rattle.facts_check.specs.Landing.{Lands, EachLands, Goes, EachGoes}
-use Rattle.facts_check.specs.Placed.{are_needed, IsPassed, IsCalled, IsBoundCall, IsPooledWord, IsPooled, HoldsCall, HoldsCalls, HoldsPut, HoldsPuts, HoldsReturn, IsBoundResult, HoldsResult, HoldsResults, HoldsBehind, IsTaken, HoldsTaken, IsPlaced}
+use Rattle.facts_check.specs.Placed.{are_needed, IsCalled, IsBoundCall, IsPooled, HoldsCall, HoldsCalls, HoldsPut, HoldsPuts, HoldsReturn, IsBoundResult, IsVirtualResult, HoldsResult, HoldsResults, HoldsBehind, IsTaken, HoldsTaken, IsPlaced}
 use Rattle.facts_check.specs.Bodies.{registers_of, insn_before, IsStep, IsLinked, IsFilled, AreFrames}
 use Rattle.facts_check.specs.Tables.{AreFilled, Entries, Links, Classes as Started, AreAllHeld, Holds, IsStarted, IsLinkHeld, IsOpenEnded}
-use Rattle.facts_check.proofs.Orders.{below_trans, below_all_trans, put_sized_below}
+use Rattle.facts_check.proofs.Orders.{below_any, below_trans, below_all_trans, put_sized_below}
 use Rattle.facts_check.proofs.Landings.{IsLanded, landed, one_lands, one_goes}
 
 -- ---- lists
@@ -97,7 +97,7 @@ module _ (k : Known) (class : ℕ) where
     called_below call.Direct method m coded v (Linked kind link e c) h = absurd (cc)
     called_below call.Super method m coded v (Linked kind link e c) h = absurd (cc)
     called_below call.Virtual method m coded v (Linked kind link e c) h = let i : 2 * method ≡ link.call = cc in
-        below_trans (result_at k.facts.now link.method) (answer_at k link.call) v (link_at link c).given (subst (λ n. IsBelow (answer_at k n) v) i h)
+        below_trans (result_at k.facts.now link.method) (answer_at k link.call) v (link_at link c).given (subst (λ n. IsBelow (answer_at k n) v) i h.answered)
     called_below call.Interface method m coded v (Linked kind link e c) h = let i : 2 * method + 1 ≡ link.call = cc in
         below_trans (result_at k.facts.now link.method) (answer_at k link.call) v (link_at link c).given (subst (λ n. IsBelow (answer_at k n) v) i h)
 
@@ -115,8 +115,9 @@ module _ (k : Known) (class : ℕ) where
     left_below call.Static method v (Marked kind number e f) h = absurd (cc)
     left_below call.Direct method v (Marked kind number e f) h = absurd (cc)
     left_below call.Super method v (Marked kind number e f) h = absurd (cc)
+    left_below call.Virtual method v (ByInterface e) h = h.unlisted e
     left_below call.Virtual method v (Marked kind number e f) h = let i : 2 * method ≡ number = cc in
-        below_trans any_value (answer_at k number) v (links.left number f) (subst (λ n. IsBelow (answer_at k n) v) i h)
+        below_trans any_value (answer_at k number) v (links.left number f) (subst (λ n. IsBelow (answer_at k n) v) i h.answered)
     left_below call.Interface method v (Marked kind number e f) h = let i : 2 * method + 1 ≡ number = cc in
         below_trans any_value (answer_at k number) v (links.left number f) (subst (λ n. IsBelow (answer_at k n) v) i h)
 
@@ -128,14 +129,13 @@ module _ (k : Known) (class : ℕ) where
     -- what it may enter is passed its arguments, and is entered where it has code
     pub record IsReceived (m : ℕ) (coded : Bool) (args : List ℕ) (x : Registers) : Type 0 where
       pub words : (i r : ℕ) → slice_get args i ≡ Some r → IsBelow (value_at x r) (parameter_at k.facts.now m i)
-      pub on : IsBelow (value_at x (receiver args)) (parameter_at k.facts.now m 0)
       pub entered : coded ≡ true → is_marked k.marks.now.entered.items m ≡ true
 
     by_name : (method : ℕ) (kind : InvokeKind) (args : List ℕ) (x : Registers) (at : MethodAt) (m : Method) → IsBoundCall k class method kind args x → finds_bound p class method kind ≡ Finds at → method_at p at ≡ Some m → IsReceived m.name (is_some m.body) args x
-    by_name method kind args x at m h e f = let c = h.calls at m e f in record { words = c.passed.words; on = c.passed.receiver_too; entered = c.entered }
+    by_name method kind args x at m h e f = let c = h.calls at m e f in record { words = c.passed; entered = c.entered }
 
     -- a word of a pool comes to a parameter, or past them, where anything may come
-    word_below : (link : Link) (i : ℕ) (v : Parts) → IsPooledWord (pool_at k link.call) i v
+    word_below : (link : Link) (i : ℕ) (v : Parts) → IsBelow v (value_at (pool_at k link.call) i)
         → ((i : ℕ) (w : Parts) → slice_get (slice_index_or k.facts.now.parameters.items link.method []) i ≡ Some w → IsBelow (value_at (pool_at k link.call) i) w) → IsBelow v (parameter_at k.facts.now link.method i)
     word_below link i v h f = by (slice_get words i) refl
       where
@@ -143,8 +143,8 @@ module _ (k : Known) (class : ℕ) where
         words = slice_index_or k.facts.now.parameters.items link.method []
 
         by : (o : Option Parts) → slice_get words i ≡ o → IsBelow v (parameter_at k.facts.now link.method i)
-        by (Some w) e = subst (IsBelow v) (sym (get_or_from_slice_get words i w k.facts.now.any e)) (below_trans v (value_at (pool_at k link.call) i) w h.pooled (f i w e))
-        by None e = subst (IsBelow v) (sym (past words i k.facts.now.any e ∙ any)) h.fits
+        by (Some w) e = subst (IsBelow v) (sym (get_or_from_slice_get words i w k.facts.now.any e)) (below_trans v (value_at (pool_at k link.call) i) w h (f i w e))
+        by None e = subst (IsBelow v) (sym (past words i k.facts.now.any e ∙ any)) (below_any v)
 
         past : (xs : List Parts) (i : ℕ) (d : Parts) → slice_get xs i ≡ None → slice_index_or xs i d ≡ d
         past [] i d e = refl
@@ -155,9 +155,8 @@ module _ (k : Known) (class : ℕ) where
     by_link number args x link h e c =
         let l = link_at link c in
         let made : is_made k link.call ≡ true = subst (λ n. is_made k n ≡ true) e h.made in
-        let w = λ (i r : ℕ) (s : slice_get args i ≡ Some r). subst (λ n. IsPooledWord (pool_at k n) i (value_at x r)) e (h.words i r s) in
-        let words = λ (i r : ℕ) (s : slice_get args i ≡ Some r). word_below link i (value_at x r) (w i r s) (l.passed made) in
-        record { words = words; on = words 0 (receiver args) h.on; entered = λ z. l.entered made }
+        let w = λ (i r : ℕ) (s : slice_get args i ≡ Some r). subst (λ n. IsBelow (value_at x r) (value_at (pool_at k n) i)) e (h.words i r s) in
+        record { words = λ i r s. word_below link i (value_at x r) (w i r s) (l.passed made); entered = λ z. l.entered made }
 
     pub received : (kind : InvokeKind) (method m : ℕ) (coded : Bool) (args : List ℕ) (x : Registers) → MayCall p k.targets.now class method kind m coded → HoldsCall k class kind method args x → IsReceived m coded args x
     received call.Static method m coded args x (Bound kind at md e f) h = by_name method call.Static args x at md h e f
@@ -170,6 +169,15 @@ module _ (k : Known) (class : ℕ) where
     received call.Super method m coded args x (Linked kind link e c) h = absurd (cc)
     received call.Virtual method m coded args x (Linked kind link e c) h = by_link (2 * method) args x link h (cc) c
     received call.Interface method m coded args x (Linked kind link e c) h = by_link (2 * method + 1) args x link h (cc) c
+
+    -- a call that finds by an object has a receiver, which is passed too
+    pub received_on : (kind : InvokeKind) (method m : ℕ) (coded : Bool) (args : List ℕ) (x : Registers) → (IsBound kind → ⊥) → MayCall p k.targets.now class method kind m coded → HoldsCall k class kind method args x
+        → IsBelow (value_at x (receiver args)) (parameter_at k.facts.now m 0)
+    received_on call.Static method m coded args x b c h = absurd (b tt)
+    received_on call.Direct method m coded args x b c h = absurd (b tt)
+    received_on call.Super method m coded args x b c h = absurd (b tt)
+    received_on call.Virtual method m coded args x b c h = (received call.Virtual method m coded args x c h).words 0 (receiver args) h.on
+    received_on call.Interface method m coded args x b c h = (received call.Interface method m coded args x c h).words 0 (receiver args) h.on
 
 -- ---- puts
 
@@ -238,14 +246,17 @@ module _ (k : Known) (frames : Vec (List (Option Frame)) Global) (quiet : Vec Bo
     thrown = λ at n q here c. lands at n here q here.registers (one_lands (own at n here).starts here.registers (thrown_to here.body.regions n here.insn) q (placed at n here).thrown c);
   }
 
+  calls_hold : (at : MethodAt) (n method : ℕ) (kind : InvokeKind) (args : List ℕ) (here : At k.program.now t at n) → here.insn ≡ insn.Invoke kind method args → HoldsCall k at.class kind method args here.registers
+  calls_hold at n method kind args here e = subst (λ i. HoldsCalls k at.class i here.registers) e (placed at n here).calls
+
   call_of : (at : MethodAt) (n method m : ℕ) (kind : InvokeKind) (args : List ℕ) (coded : Bool) (here : At k.program.now t at n) → here.insn ≡ insn.Invoke kind method args → MayCall k.program.now k.targets.now at.class method kind m coded
       → IsReceived k at.class holds.links open_ended known.any m coded args here.registers
-  call_of at n method m kind args coded here e c = received k at.class holds.links open_ended known.any kind method m coded args here.registers c (subst (λ i. HoldsCalls k at.class i here.registers) e (placed at n here).calls)
+  call_of at n method m kind args coded here e c = received k at.class holds.links open_ended known.any kind method m coded args here.registers c (calls_hold at n method kind args here e)
 
   calls : Calls k.program.now k.targets.now t
   calls = record {
     passes = λ at n i r method m kind args coded here e c s. (call_of at n method m kind args coded here e c).words i r s;
-    receives = λ at n method m kind args coded here e c. (call_of at n method m kind args coded here e c).on;
+    receives = λ at n method m kind args coded here e b c. received_on k at.class holds.links open_ended known.any kind method m coded args here.registers b c (calls_hold at n method kind args here e);
     enters = λ at n method m kind args here e c. holds.entries.entered m ((call_of at n method m kind args true here e c).entered refl);
   }
 
@@ -304,9 +315,10 @@ module _ (k : Known) (frames : Vec (List (Option Frame)) Global) (quiet : Vec Bo
   bare : LeavesOpen k.program.now t
   bare at m i e f = (open_ended at m e f).takes i
 
-  pub are_closed : AreClosed k.program.now k.outside.now k.targets.now t
+  pub are_closed : AreClosed k.program.now k.outside.now k.live.now k.targets.now t
   are_closed = record {
     any = known.any;
+    reached_live = λ at n here. (own at n here).live n here.registers here.reached;
     entries = record {
       opens = λ m e. let o = holds.entries.opened m e in record { entered = holds.entries.entered m o.marked; parameters = o.takes };
       starts = starts;

@@ -1,5 +1,5 @@
 -- When the frames of a body are filled in.
-use Rattle.std.specs.Prelude.{◌≡◌, ℕ, zero, suc, ◌+◌, ◌<◌, List, Option, Some, None, length, slice_get, slice_index_or}
+use Rattle.std.specs.Prelude.{◌≡◌, ℕ, zero, suc, ◌+◌, ◌<◌, true, List, Option, Some, None, length, slice_get, slice_index_or}
 use Rattle.std.specs.Option.{option_map}
 use Rattle.insn_set.specs.declared.form.Insn.{Insn}
 use Rattle.program_model.specs.declared.body.Body.{Body}
@@ -10,6 +10,7 @@ use Rattle.closed_facts.specs.Entries.{BeginsAt}
 use Rattle.facts_check.specs.declared.known.Known.{Known}
 use Rattle.facts_check.specs.declared.starts.Start.{Start}
 use Rattle.facts_check.specs.declared.starts.Start.TheVariants.{Comes}
+use Rattle.facts_check.specs.Known.{is_marked}
 use Rattle.facts_check.specs.Placed.{IsPlaced}
 
 abbrev pub registers_in : Option Frame → Option Registers
@@ -55,8 +56,9 @@ module _ (k : Known) (class method : ℕ) (b : Body) (starts : List Start) where
     pub kept : (j : ℕ) → IsKept frames j
     pub linked : (j : ℕ) → j < length b.insns → IsLinked frames j
 
--- the frames of a method, by its number, in the class at a place
+-- the frames of a method, by its number, in the class at a place: of a live one, where any position is reached
 pub record AreFrames (k : Known) (class method : ℕ) (b : Body) (frames : List (Option Frame)) : Type 0 where
   pub starts : List Start
   pub filled : IsFilled k class method b starts frames
   pub begins : (x : Registers) → registers_of frames 0 ≡ Some x → BeginsAt k.facts.now method b x
+  pub live : (n : ℕ) (x : Registers) → registers_of frames n ≡ Some x → is_marked k.live.now.methods.items method ≡ true

@@ -20,17 +20,12 @@ use Rattle.dom_frame.specs.Registers.{Registers, value_at, put_sized}
 use Rattle.dom_frame.specs.Steps.{receiver}
 use Rattle.facts.specs.declared.facts.Facts.{Facts}
 use Rattle.closed_facts.specs.Tables.{IsBelow, AreBelow, parameter_at, result_at, field_at}
-use Rattle.closed_facts.specs.Found.{finds_bound, own_number, needs}
+use Rattle.closed_facts.specs.Found.{finds_bound, names_interface, own_number, needs}
 use Rattle.closed_facts.specs.Edges.{edges}
 use Rattle.facts_check.specs.declared.known.Known.{Known}
 use Rattle.facts_check.specs.declared.starts.Start.{Start}
 use Rattle.facts_check.specs.Known.{is_marked, is_made, pool_at, answer_at}
 use Rattle.facts_check.specs.Landing.{EachLands, EachGoes, Covers}
-
--- a word is among those of a pool
-pub record IsPooledWord (pool : Registers) (i : ℕ) (v : Parts) : Type 0 where
-  pub pooled : IsBelow v (value_at pool i)
-  pub fits : IsBelow v any_value
 
 module _ (k : Known) where
   abbrev pub are_needed : Insn → Bool
@@ -53,14 +48,9 @@ module _ (k : Known) where
 
   -- ---- calls
 
-  -- a method is passed these registers
-  pub record IsPassed (method : ℕ) (args : List ℕ) (x : Registers) : Type 0 where
-    pub words : (i r : ℕ) → slice_get args i ≡ Some r → IsBelow (value_at x r) (parameter_at k.facts.now method i)
-    pub receiver_too : IsBelow (value_at x (receiver args)) (parameter_at k.facts.now method 0)
-
-  -- and where it has code, its entry is marked
+  -- a method is passed these registers, and where it has code, its entry is marked
   pub record IsCalled (m : Method) (args : List ℕ) (x : Registers) : Type 0 where
-    pub passed : IsPassed m.name args x
+    pub passed : (i r : ℕ) → slice_get args i ≡ Some r → IsBelow (value_at x r) (parameter_at k.facts.now m.name i)
     pub entered : is_some m.body ≡ true → is_marked k.marks.now.entered.items m.name ≡ true
 
   pub record IsBoundCall (class method : ℕ) (kind : InvokeKind) (args : List ℕ) (x : Registers) : Type 0 where
@@ -69,7 +59,7 @@ module _ (k : Known) where
   -- the pool of a number to which a run may come is passed these registers, one of which is the receiver
   pub record IsPooled (number : ℕ) (args : List ℕ) (x : Registers) : Type 0 where
     pub made : is_made k number ≡ true
-    pub words : (i r : ℕ) → slice_get args i ≡ Some r → IsPooledWord (pool_at k number) i (value_at x r)
+    pub words : (i r : ℕ) → slice_get args i ≡ Some r → IsBelow (value_at x r) (value_at (pool_at k number) i)
     pub on : slice_get args 0 ≡ Some (receiver args)
 
   abbrev pub HoldsCall : ℕ → InvokeKind → ℕ → List ℕ → Registers → Type 0
@@ -88,8 +78,13 @@ module _ (k : Known) where
     pub given : (at : MethodAt) (m : Method) → finds_bound k.program.now class method kind ≡ Finds at → method_at k.program.now at ≡ Some m → IsBelow (result_at k.facts.now m.name) v
     pub unfound : finds_bound k.program.now class method kind ≡ Nothing → IsBelow any_value v
 
+  -- what a virtual call gives: anything where it names an interface
+  pub record IsVirtualResult (method : ℕ) (v : Parts) : Type 0 where
+    pub answered : IsBelow (answer_at k (2 * method)) v
+    pub unlisted : names_interface k.program.now method ≡ true → IsBelow any_value v
+
   abbrev pub HoldsResult : ℕ → InvokeKind → ℕ → Parts → Type 0
-  HoldsResult class call.Virtual method v = IsBelow (answer_at k (2 * method)) v
+  HoldsResult class call.Virtual method v = IsVirtualResult method v
   HoldsResult class call.Interface method v = IsBelow (answer_at k (2 * method + 1)) v
   HoldsResult class kind method v = IsBoundResult class method kind v
 

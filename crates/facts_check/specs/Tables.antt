@@ -29,13 +29,13 @@ use Rattle.facts_check.specs.declared.starts.Start.{Start}
 use Rattle.facts_check.specs.declared.methods.Table.{Table}
 use Rattle.facts_check.specs.Known.{is_marked, is_made, pool_at, answer_at}
 use Rattle.facts_check.specs.Landing.{Lands, LandsIf, EachLands, EachGoes}
-use Rattle.facts_check.specs.Placed.{are_needed, HoldsPuts, HoldsReturn, HoldsCalls, HoldsTaken, IsPlaced, IsPooledWord}
+use Rattle.facts_check.specs.Placed.{are_needed, HoldsPuts, HoldsReturn, HoldsCalls, HoldsTaken, IsPlaced}
 use Rattle.facts_check.specs.Bodies.{registers_of, AreFrames}
 
 -- ---- lists
 
 abbrev pub ArePooled : Registers → List ℕ → Registers → Type 0
-ArePooled pool args x = (i r : ℕ) → slice_get args i ≡ Some r → IsPooledWord pool i (value_at x r)
+ArePooled pool args x = (i r : ℕ) → slice_get args i ≡ Some r → IsBelow (value_at x r) (value_at pool i)
 
 abbrev pub HandlersLand : List Start → Registers → List Handler → Type 0
 HandlersLand starts x handlers = (i : ℕ) (h : Handler) → slice_get handlers i ≡ Some h → Lands (slice_get starts h.position) x

@@ -11,6 +11,7 @@ ghost use Rattle.facts_check.specs.Known.{AreKnown};
 ghost use Rattle.facts_check.specs.Bodies.{registers_in, registers_of, insn_before, IsArrived, IsStep, IsFilling, IsFilled, AreFrames};
 ghost use Rattle.facts_check.specs.Tables.{ComesBelow, TakesParameters, LeavesFree, BeginsWhere};
 
+use crate::fields::is_on;
 use crate::known::Known;
 use crate::order::{are_below, is_any, is_below, value_at};
 use crate::positions::{Site, placed};
@@ -188,7 +189,8 @@ fn begins(known: &Known<'_>, number: u32, body: &Body, frames: &[Option<Frame>])
     }
 }
 
-/// The frames of the code of a method from what is known where its blocks begin; none where that isn't closed.
+/// The frames of the code of a method from what is known where its blocks begin; none where that isn't closed, or the
+/// method isn't live.
 pub(crate) fn fill_body(
     alloc: Global,
     known: &Known<'_>,
@@ -197,6 +199,9 @@ pub(crate) fn fill_body(
     requires { AreKnown known.now }
     ensures { IfOk result (IfSome (λ frames. AreFrames known.now site.now.class site.now.number site.now.body.now frames.items)) }
 {
+    if !is_on(&known.live.methods, site.number) {
+        return Ok(None);
+    }
     match walk(alloc, known, site)? {
         Some(frames) => {
             if begins(known, site.number, site.body, &frames) {

@@ -1,12 +1,11 @@
 //! What calls pass.
 
-ghost use Rattle.std.specs.Prelude.{◌≡◌, true, IfOk, Some, ◌<◌, ◌+◌, ◌*◌, slice_get};
+ghost use Rattle.std.specs.Prelude.{◌≡◌, true, IfOk, Some, ◌<◌, ◌+◌, ◌*◌, length, slice_get};
 ghost use Rattle.program_model.specs.Lookups.{method_at};
-ghost use Rattle.dom_frame.specs.Steps.{receiver};
 ghost use Rattle.dom_frame.specs.Registers.{value_at};
 ghost use Rattle.program_model.specs.declared.program.Method.{Method};
 ghost use Rattle.facts_check.specs.Known.{AreKnown, is_made};
-ghost use Rattle.facts_check.specs.Placed.{IsPassed, IsCalled, IsBoundCall, IsPooledWord, IsPooled, HoldsCall, HoldsCalls};
+ghost use Rattle.facts_check.specs.Placed.{IsCalled, IsBoundCall, IsPooled, HoldsCall, HoldsCalls};
 ghost use Rattle.facts_check.specs.Tables.{ArePassed, ArePooled};
 
 use crate::fields::is_on;
@@ -19,18 +18,9 @@ use pat_map::PatMap;
 use program_model::{Insn, InvokeKind, Method};
 use std::alloc::{AllocError, Global};
 
-/// The first of some registers, 0 where there is none.
-fn receiver(args: &[u16]) -> u16
-    ensures { result ≡ receiver args.now }
-{
-    match args {
-        [first, ..] => *first,
-        [] => 0,
-    }
-}
-
 /// Whether the parameters of a method are at or above these registers.
 fn are_passed(known: &Known<'_>, method: u32, args: &[u16], registers: &PatMap<Value>) -> bool
+    requires { length args.now < 65536 }
     ensures { result ≡ true → ArePassed known.now method args.now registers.now }
 {
     for place in 0..args.len() {
@@ -42,23 +32,12 @@ fn are_passed(known: &Known<'_>, method: u32, args: &[u16], registers: &PatMap<V
     true
 }
 
-/// The same, and its receiver too.
-fn is_passed(known: &Known<'_>, method: u32, args: &[u16], registers: &PatMap<Value>) -> bool
-    ensures { result ≡ true → IsPassed known.now method args.now registers.now }
-{
-    args.len() < 65536
-        && are_passed(known, method, args, registers)
-        && is_below(
-            &value_at(registers, u32::from(receiver(args))),
-            known.facts.parameter(method, 0),
-        )
-}
-
 /// Whether a method is passed these registers, and is known to be entered where it has code.
 fn is_called(known: &Known<'_>, method: &Method, args: &[u16], registers: &PatMap<Value>) -> bool
     ensures { result ≡ true → IsCalled known.now method.now args.now registers.now }
 {
-    is_passed(known, method.name, args, registers)
+    args.len() < 65536
+        && are_passed(known, method.name, args, registers)
         && (method.body.is_none() || is_on(&known.marks.entered, method.name))
 }
 
@@ -84,20 +63,14 @@ fn holds_bound(
     }
 }
 
-/// Whether a word of a pool is at or above a value, as anything is.
-fn is_pooled_word(pool: &PatMap<Value>, word: u32, value: &Value) -> bool
-    ensures { result ≡ true → IsPooledWord pool.now word value.now }
-{
-    is_below(value, &value_at(pool, word)) && is_below(value, &Value::any())
-}
-
 /// Whether the pool of a call is at or above these registers.
 fn are_pooled(pool: &PatMap<Value>, args: &[u16], registers: &PatMap<Value>) -> bool
+    requires { length args.now < 65536 }
     ensures { result ≡ true → ArePooled pool.now args.now registers.now }
 {
     for place in 0..args.len() {
         let value = value_at(registers, u32::from(args[place]));
-        if !is_pooled_word(pool, place as u32, &value) {
+        if !is_below(&value, &value_at(pool, place as u32)) {
             return false;
         }
     }

@@ -1,5 +1,6 @@
 //! What is known beside the frames.
 
+use call_graph::LiveSet;
 use call_targets::Targets;
 use dom_frame::Classes;
 use domains::Value;
@@ -26,13 +27,15 @@ pub struct Marks {
     pub listed: Vec<bool>,
 }
 
-/// A program with all that is known of its runs but the frames, of which `facts` has none.
+/// A program with all that is known of its runs but the frames, of which `facts` has none. `targets` tells of the calls of
+/// live methods.
 #[derive(Clone, Copy)]
 pub struct Known<'a> {
     pub program: &'a Program,
     pub hierarchy: &'a Hierarchy,
     pub classes: Classes<'a>,
     pub outside: &'a Outside,
+    pub live: &'a LiveSet,
     pub targets: &'a Targets,
     pub facts: &'a Facts,
     pub pools: &'a Pools,

@@ -1,16 +1,17 @@
 //! What names find.
 
-ghost use Rattle.std.specs.Prelude.{◌≡◌, IfOk};
+ghost use Rattle.std.specs.Prelude.{◌≡◌, slice_get};
 ghost use Rattle.std.specs.Option.{option_copied, option_map};
 ghost use Rattle.program_model.specs.Lookups.{method_at};
 ghost use Rattle.class_defs.specs.Finding.{resolves_field};
-ghost use Rattle.closed_facts.specs.Found.{field_in, own_number};
+ghost use Rattle.class_defs.specs.Members.{is_interface};
+ghost use Rattle.closed_facts.specs.Found.{field_in, names_interface, own_number};
 ghost use Rattle.closed_facts.specs.Edges.{field_value, given};
 ghost use Rattle.facts_check.specs.Known.{AreKnown};
 
 use crate::known::Known;
 use domains::Value;
-use program_model::{Field, Insn, Method, MethodAt, Program};
+use program_model::{Field, Flags, Insn, Method, MethodAt, Program};
 
 /// The method at a place.
 pub(crate) fn method_at(program: &Program, at: MethodAt) -> Option<&Method>
@@ -29,6 +30,30 @@ fn field_in(program: &Program, at: (u32, u32)) -> Option<&Field>
     match program.classes.as_slice().get(at.0 as usize) {
         Some(class) => class.fields.as_slice().get(at.1 as usize),
         None => None,
+    }
+}
+
+/// Whether the class at a place is an interface.
+fn is_interface(program: &Program, place: u32) -> bool
+    ensures { result ≡ is_interface (slice_get program.now.classes place) }
+{
+    match program.classes.as_slice().get(place as usize) {
+        Some(class) => class.flags.has(Flags::INTERFACE),
+        None => false,
+    }
+}
+
+/// Whether the class that a method number names is an interface of the program.
+pub(crate) fn names_interface(known: &Known<'_>, method: u32) -> bool
+    requires { AreKnown known.now }
+    ensures { result ≡ names_interface known.now.program.now method }
+{
+    match known.program.methods.as_slice().get(method as usize) {
+        Some(name) => match known.hierarchy.place_of(name.class) {
+            Some(place) => is_interface(known.program, place),
+            None => false,
+        },
+        None => false,
     }
 }
 

@@ -4,10 +4,10 @@ ghost use Rattle.std.specs.Prelude.{◌≡◌, IfOk, ◌+◌, ◌*◌};
 ghost use Rattle.std.specs.Option.{option_copied};
 ghost use Rattle.domains.specs.Values.{any_value};
 ghost use Rattle.facts_check.specs.Known.{AreKnown, answer_at};
-ghost use Rattle.facts_check.specs.Placed.{IsBoundResult, HoldsResult, HoldsResults, HoldsBehind};
+ghost use Rattle.facts_check.specs.Placed.{IsBoundResult, IsVirtualResult, HoldsResult, HoldsResults, HoldsBehind};
 
 use crate::known::Known;
-use crate::looks::method_at;
+use crate::looks::{method_at, names_interface};
 use call_targets::{Target, bound_target};
 use domains::Value;
 use program_model::{Insn, InvokeKind};
@@ -45,6 +45,18 @@ fn answer_at(known: &Known<'_>, number: usize) -> Value
     }
 }
 
+/// What a virtual call gives: anything where it names an interface, which its receiver needn't have.
+fn virtual_result(known: &Known<'_>, method: u32) -> Value
+    requires { AreKnown known.now }
+    ensures { IsVirtualResult known.now method result }
+{
+    if names_interface(known, method) {
+        Value::any()
+    } else {
+        answer_at(known, 2 * method as usize)
+    }
+}
+
 /// What a call gives.
 fn result_of(
     alloc: Global,
@@ -57,14 +69,13 @@ fn result_of(
     ensures { IfOk result (λ v. HoldsResult known.now class kind method v) }
 {
     match kind {
-        InvokeKind::Virtual => Ok(answer_at(known, 2 * method as usize)),
+        InvokeKind::Virtual => Ok(virtual_result(known, method)),
         InvokeKind::Interface => Ok(answer_at(known, 2 * method as usize + 1)),
         _ => bound_result(alloc, known, class, kind, method),
     }
 }
 
 /// What an instruction gives to a move of a result behind it: anything where it gives nothing.
-#[tactic(auto, using(crate::proofs::Orders::class_below))]
 fn given_behind(
     alloc: Global,
     known: &Known<'_>,

@@ -8,6 +8,7 @@ ghost use Rattle.dom_frame.specs.Classes.{AreClasses};
 ghost use Rattle.fact_graph.specs.Known.{ArePlaces};
 ghost use Rattle.facts_check.specs.Known.{AreKnown};
 ghost use Rattle.facts_check.specs.Tables.{AreFilled, Holds};
+ghost use Rattle.closed_facts.specs.Closed.{AreClosed};
 ghost use Rattle.summaries.specs.Certified.{IsCertified};
 
 use crate::bodies::make_bodies;
@@ -15,7 +16,7 @@ use crate::edges::Drawing;
 use crate::numbers::{Counts, Numbering, behind, number_nodes};
 use crate::quiet::Search;
 use crate::starts::{add_starts, no_lists};
-use call_graph::live_members;
+use call_graph::{LiveSet, live_members};
 use call_targets::{Targets, targets};
 use dom_frame::{Classes, Frame};
 use domains::Value;
@@ -341,6 +342,7 @@ struct Bounds<'a> {
     hierarchy: &'a Hierarchy,
     classes: Classes<'a>,
     outside: &'a Outside,
+    live: &'a LiveSet,
     found: &'a Targets,
 }
 
@@ -440,7 +442,7 @@ fn certified(
     requires resolved { IsResolved bounds.program.now bounds.hierarchy.now }
     requires classes { AreClasses bounds.program.now bounds.classes }
     requires any { pieces.facts.any ≡ any_value }
-    ensures { IfOk result (IfSome (IsCertified bounds.program.now bounds.outside.now)) }
+    ensures { IfOk result (IfSome (AreClosed bounds.program.now bounds.outside.now bounds.live.now bounds.found.now)) }
 {
     let Pieces {
         facts,
@@ -453,6 +455,7 @@ fn certified(
         hierarchy: bounds.hierarchy,
         classes: bounds.classes,
         outside: bounds.outside,
+        live: bounds.live,
         targets: bounds.found,
         facts: &facts,
         pools: &pools,
@@ -499,13 +502,14 @@ fn solved_facts<'a>(
     places: &'a [Option<u32>],
     bodies: &'a Bodies<'a>,
     outside: &Outside,
+    live: &LiveSet,
     found: &Targets,
     drawn: (Links, Vec<usize>),
 ) -> Result<Option<Facts>, AllocError>
     requires formed { is_well_formed program.now ≡ true }
     requires resolved { IsResolved program.now hierarchy.now }
     requires places { ArePlaces hierarchy.now (length program.now.types) places.now }
-    ensures { IfOk result (IfSome (IsCertified program.now outside.now)) }
+    ensures { IfOk result (IfSome (AreClosed program.now outside.now live.now found.now)) }
 {
     let numbering = numbering_of(program, bodies);
     let (links, ranges) = drawn;
@@ -529,6 +533,7 @@ fn solved_facts<'a>(
         hierarchy,
         classes,
         outside,
+        live,
         found,
     };
     certified(alloc, &network, &search, bounds, pieces, &states)
@@ -540,6 +545,7 @@ fn facts_of_bodies<'a>(
     program: &'a Program,
     hierarchy: &'a Hierarchy,
     outside: &Outside,
+    live: &LiveSet,
     found: &Targets,
     places: &'a [Option<u32>],
     bodies: Bodies<'a>,
@@ -547,11 +553,11 @@ fn facts_of_bodies<'a>(
     requires formed { is_well_formed program.now ≡ true }
     requires resolved { IsResolved program.now hierarchy.now }
     requires places { ArePlaces hierarchy.now (length program.now.types) places.now }
-    ensures { IfOk result (IfSome (IsCertified program.now outside.now)) }
+    ensures { IfOk result (IfSome (AreClosed program.now outside.now live.now found.now)) }
 {
     let drawn = draw(alloc, program, hierarchy, outside, &bodies, found)?;
     solved_facts(
-        alloc, program, hierarchy, places, &bodies, outside, found, drawn,
+        alloc, program, hierarchy, places, &bodies, outside, live, found, drawn,
     )
 }
 
@@ -571,7 +577,9 @@ fn facts_of_places<'a>(
     let live = live_members(alloc, program, hierarchy, outside)?;
     let found = targets(alloc, program, hierarchy, outside, &live)?;
     let bodies = make_bodies(alloc, program, &live)?;
-    facts_of_bodies(alloc, program, hierarchy, outside, &found, places, bodies)
+    facts_of_bodies(
+        alloc, program, hierarchy, outside, &live, &found, places, bodies,
+    )
 }
 
 /// What is known of every run of a program that the framework begins as the table of the outside allows: of each position

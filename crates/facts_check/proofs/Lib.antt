@@ -1,4 +1,6 @@
 pub mod Orders
+pub mod Loops
+pub mod Bound
 pub mod Landings
 pub mod Filling
 pub mod Tabling

@@ -61,6 +61,14 @@ AreAny values = (i : ℕ) (v : Parts) → slice_get values i ≡ Some v → IsBe
 abbrev pub IsBefore : ℕ → ℕ → MethodAt → Type 0
 IsBefore class place at = at.class < class ⊎ ((at.class ≡ class) × (at.place < place))
 
+-- the frames of a method whose number has not been seen are put into a table, and all others stay
+pub record IsPut (old new : Table) (method : ℕ) (frames : List (Option Frame)) : Type 0 where
+  pub fresh : is_marked old.seen.items method ≡ false
+  pub own : slice_index_or new.frames.items method [] ≡ frames
+  pub seen : is_marked new.seen.items method ≡ true
+  pub others : (n : ℕ) → (n ≡ method → ⊥) → slice_index_or new.frames.items n [] ≡ slice_index_or old.frames.items n []
+  pub kept : (n : ℕ) → (n ≡ method → ⊥) → is_marked new.seen.items n ≡ is_marked old.seen.items n
+
 module _ (k : Known) where
   abbrev pub ArePassed : ℕ → List ℕ → Registers → Type 0
   ArePassed method args x = (i r : ℕ) → slice_get args i ≡ Some r → IsBelow (value_at x r) (parameter_at k.facts.now method i)
@@ -106,14 +114,6 @@ module _ (k : Known) where
   pub record IsIn (t : Table) (class method : ℕ) (b : Body) : Type 0 where
     pub frames : AreFrames k class method b (slice_index_or t.frames.items method [])
     pub seen : is_marked t.seen.items method ≡ true
-
-  -- the frames of a method whose number has not been seen are put into a table, and all others stay
-  pub record IsPut (old new : Table) (method : ℕ) (frames : List (Option Frame)) : Type 0 where
-    pub fresh : is_marked old.seen.items method ≡ false
-    pub own : slice_index_or new.frames.items method [] ≡ frames
-    pub seen : is_marked new.seen.items method ≡ true
-    pub others : (n : ℕ) → (n ≡ method → ⊥) → slice_index_or new.frames.items n [] ≡ slice_index_or old.frames.items n []
-    pub kept : (n : ℕ) → (n ≡ method → ⊥) → is_marked new.seen.items n ≡ is_marked old.seen.items n
 
   pub record IsAdded (class method : ℕ) (b : Body) (old new : Table) : Type 0 where
     pub frames : List (Option Frame)

@@ -38,7 +38,7 @@ fn arrived(
     start: Option<&Start>,
     next: Option<PatMap<Value>>,
 ) -> Result<Option<Option<PatMap<Value>>>, AllocError>
-    ensures { IfOk result (IfSome (λ here. IsArrived (option_copied start.entry) next here)) }
+    ensures { IfOk result (λ o. IfSome o (λ here. IsArrived (option_copied start.entry) next here)) }
 {
     match start {
         Some(Start::Comes(known)) => {
@@ -80,7 +80,7 @@ fn handed_on(
 ) -> Result<Option<Option<PatMap<Value>>>, AllocError>
     requires known { AreKnown known.now }
     requires short { position < 2 ^ 32 }
-    ensures { IfOk result (IfSome (λ next. IsStep known.now site.now.class site.now.number site.now.body.now site.now.starts.now position (option_copied here.entry) next)) }
+    ensures { IfOk result (λ o. IfSome o (λ next. IsStep known.now site.now.class site.now.number site.now.body.now site.now.starts.now position (option_copied here.entry) next)) }
 {
     let insns = site.body.insns.as_slice();
     match insns.get(position) {
@@ -115,7 +115,7 @@ fn walk(
     site: &Site<'_>,
 ) -> Result<Option<Vec<Option<Frame>>>, AllocError>
     requires { AreKnown known.now }
-    ensures { IfOk result (IfSome (λ frames. IsFilled known.now site.now.class site.now.number site.now.body.now site.now.starts.now frames.items)) }
+    ensures { IfOk result (λ o. IfSome o (λ frames. IsFilled known.now site.now.class site.now.number site.now.body.now site.now.starts.now frames.items)) }
 {
     let count = site.body.insns.len();
     if count >= 4294967296 || site.starts.len() != count {
@@ -197,7 +197,7 @@ pub(crate) fn fill_body(
     site: &Site<'_>,
 ) -> Result<Option<Vec<Option<Frame>>>, AllocError>
     requires { AreKnown known.now }
-    ensures { IfOk result (IfSome (λ frames. AreFrames known.now site.now.class site.now.number site.now.body.now frames.items)) }
+    ensures { IfOk result (λ o. IfSome o (λ frames. AreFrames known.now site.now.class site.now.number site.now.body.now frames.items)) }
 {
     if !is_on(&known.live.methods, site.number) {
         return Ok(None);

@@ -119,7 +119,7 @@ fn behind_switch(
     registers: &PatMap<Value>,
 ) -> Result<Next, AllocError>
     requires { targets_of insn.now ≡ targets.now }
-    ensures { (n : ℕ) → IfOk result (IfSome (λ next. EachGoes starts.now n next (arm (n + 1) (unswitched insn.now registers.now) ++ cases_from 0 insn.now targets.now registers.now))) }
+    ensures { (n : ℕ) → IfOk result (λ o. IfSome o (λ next. EachGoes starts.now n next (arm (n + 1) (unswitched insn.now registers.now) ++ cases_from 0 insn.now targets.now registers.now))) }
 {
     if targets.len() >= 4294967296 || !cases_land(alloc, starts, insn, targets, registers)? {
         return Ok(None);
@@ -136,7 +136,7 @@ fn behind_branch(
     target: u32,
     registers: &PatMap<Value>,
 ) -> Result<Next, AllocError>
-    ensures { (n : ℕ) → IfOk result (IfSome (λ next. EachGoes starts.now n next (both_ways n insn.now target registers.now))) }
+    ensures { (n : ℕ) → IfOk result (λ o. IfSome o (λ next. EachGoes starts.now n next (both_ways n insn.now target registers.now))) }
 {
     let taken = branch(alloc, registers, insn, true)?;
     if !lands_if(starts, target, taken.as_ref()) {
@@ -180,7 +180,7 @@ pub(crate) fn behind(
     registers: &PatMap<Value>,
 ) -> Result<Next, AllocError>
     requires { AreKnown known.now }
-    ensures { (n : ℕ) → IfOk result (IfSome (λ next. EachGoes starts.now n next (edges known.now.program.now known.now.facts.now n insn.now registers.now))) }
+    ensures { (n : ℕ) → IfOk result (λ o. IfSome o (λ next. EachGoes starts.now n next (edges known.now.program.now known.now.facts.now n insn.now registers.now))) }
 {
     match insn {
         Insn::Goto { target } => Ok(behind_goto(starts, *target, registers)),

@@ -52,7 +52,7 @@ fn frames_from(
     starts: &[Start],
 ) -> Result<Option<Vec<Option<Frame>>>, AllocError>
     requires { AreKnown known.now }
-    ensures { IfOk result (IfSome (λ frames. AreFrames known.now class number body.now frames.items)) }
+    ensures { IfOk result (λ o. IfSome o (λ frames. AreFrames known.now class number body.now frames.items)) }
 {
     if starts.is_empty() {
         return Ok(Some(Vec::new(alloc)));
@@ -147,7 +147,7 @@ pub fn fill(
     starts: &[Seq<Start>],
 ) -> Result<Option<Vec<Seq<Option<Frame>>>>, AllocError>
     requires { AreKnown known.now }
-    ensures { IfOk result (IfSome (λ frames. AreFilled known.now frames.items)) }
+    ensures { IfOk result (λ o. IfSome o (λ frames. AreFilled known.now frames.items)) }
 {
     let mut table = empty_table(alloc, known.program.methods.len())?;
     let classes = known.program.classes.as_slice();

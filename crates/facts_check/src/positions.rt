@@ -94,7 +94,7 @@ fn handed(
     registers: &PatMap<Value>,
 ) -> Result<Next, AllocError>
     requires { AreKnown known.now }
-    ensures { (n : ℕ) → IfOk result (IfSome (λ next. IsHanded known.now site.now.class site.now.starts.now n (option_copied before.entry) insn.now registers.now next)) }
+    ensures { (n : ℕ) → IfOk result (λ o. IfSome o (λ next. IsHanded known.now site.now.class site.now.starts.now n (option_copied before.entry) insn.now registers.now next)) }
 {
     match insn {
         Insn::MoveResult { .. } => {
@@ -138,7 +138,7 @@ fn placed_at(
     registers: &PatMap<Value>,
 ) -> Result<Next, AllocError>
     requires { AreKnown known.now }
-    ensures { IfOk result (IfSome (λ next. IsPlaced known.now site.now.class site.now.number site.now.body.now site.now.starts.now position (option_copied before.entry) insn.now registers.now next)) }
+    ensures { IfOk result (λ o. IfSome o (λ next. IsPlaced known.now site.now.class site.now.number site.now.body.now site.now.starts.now position (option_copied before.entry) insn.now registers.now next)) }
 {
     if is_known(alloc, known, site, position, insn, registers)? {
         handed(alloc, known, site, before, insn, registers)
@@ -158,7 +158,7 @@ pub(crate) fn placed(
     registers: Option<&PatMap<Value>>,
 ) -> Result<Next, AllocError>
     requires { AreKnown known.now }
-    ensures { IfOk result (IfSome (λ next. PlacedIf known.now site.now.class site.now.number site.now.body.now site.now.starts.now position (option_copied before.entry) insn.now (option_copied registers.entry) next)) }
+    ensures { IfOk result (λ o. IfSome o (λ next. PlacedIf known.now site.now.class site.now.number site.now.body.now site.now.starts.now position (option_copied before.entry) insn.now (option_copied registers.entry) next)) }
 {
     match registers {
         Some(registers) => {

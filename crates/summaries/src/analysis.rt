@@ -392,8 +392,8 @@ fn checked(
     starts: &[Seq<Start>],
 ) -> Result<Option<Vec<Seq<Option<Frame>>>>, AllocError>
     requires { AreKnown known.now }
-    ensures filled { IfOk result (IfSome (λ frames. AreFilled known.now frames.items)) }
-    ensures holds { IfOk result (IfSome (λ frames. Holds known.now frames.items)) }
+    ensures filled { IfOk result (λ o. IfSome o (λ frames. AreFilled known.now frames.items)) }
+    ensures holds { IfOk result (λ o. IfSome o (λ frames. Holds known.now frames.items)) }
 {
     match fill(alloc, known, starts)? {
         Some(frames) => {
@@ -442,7 +442,7 @@ fn certified(
     requires resolved { IsResolved bounds.program.now bounds.hierarchy.now }
     requires classes { AreClasses bounds.program.now bounds.classes }
     requires any { pieces.facts.any ≡ any_value }
-    ensures { IfOk result (IfSome (AreClosed bounds.program.now bounds.outside.now bounds.live.now bounds.found.now)) }
+    ensures { IfOk result (λ o. IfSome o (AreClosed bounds.program.now bounds.outside.now bounds.live.now bounds.found.now)) }
 {
     let Pieces {
         facts,
@@ -509,7 +509,7 @@ fn solved_facts<'a>(
     requires formed { is_well_formed program.now ≡ true }
     requires resolved { IsResolved program.now hierarchy.now }
     requires places { ArePlaces hierarchy.now (length program.now.types) places.now }
-    ensures { IfOk result (IfSome (AreClosed program.now outside.now live.now found.now)) }
+    ensures { IfOk result (λ o. IfSome o (AreClosed program.now outside.now live.now found.now)) }
 {
     let numbering = numbering_of(program, bodies);
     let (links, ranges) = drawn;
@@ -553,7 +553,7 @@ fn facts_of_bodies<'a>(
     requires formed { is_well_formed program.now ≡ true }
     requires resolved { IsResolved program.now hierarchy.now }
     requires places { ArePlaces hierarchy.now (length program.now.types) places.now }
-    ensures { IfOk result (IfSome (AreClosed program.now outside.now live.now found.now)) }
+    ensures { IfOk result (λ o. IfSome o (AreClosed program.now outside.now live.now found.now)) }
 {
     let drawn = draw(alloc, program, hierarchy, outside, &bodies, found)?;
     solved_facts(
@@ -572,7 +572,7 @@ fn facts_of_places<'a>(
     requires formed { is_well_formed program.now ≡ true }
     requires resolved { IsResolved program.now hierarchy.now }
     requires places { ArePlaces hierarchy.now (length program.now.types) places.now }
-    ensures { IfOk result (IfSome (IsCertified program.now outside.now)) }
+    ensures { IfOk result (λ o. IfSome o (IsCertified program.now outside.now)) }
 {
     let live = live_members(alloc, program, hierarchy, outside)?;
     let found = targets(alloc, program, hierarchy, outside, &live)?;
@@ -594,7 +594,7 @@ pub fn analyse(
 ) -> Result<Option<Facts>, AllocError>
     requires formed { is_well_formed program.now ≡ true }
     requires resolved { IsResolved program.now hierarchy.now }
-    ensures { IfOk result (IfSome (IsCertified program.now outside.now)) }
+    ensures { IfOk result (λ o. IfSome o (IsCertified program.now outside.now)) }
 {
     let places = places_of(alloc, hierarchy, program.types.len())?;
     facts_of_places(alloc, program, hierarchy, outside, &places)

@@ -1,10 +1,10 @@
 //! What calls pass.
 
-ghost use Rattle.std.specs.Prelude.{◌≡◌, true, IfOk, Some, ◌<◌, ◌+◌, ◌*◌, length, slice_get};
+ghost use Rattle.std.specs.Prelude.{◌≡◌, true, IfOk, Some, ◌<◌, ◌+◌, ◌*◌, is_some, length, slice_get};
 ghost use Rattle.program_model.specs.Lookups.{method_at};
 ghost use Rattle.dom_frame.specs.Registers.{value_at};
 ghost use Rattle.program_model.specs.declared.program.Method.{Method};
-ghost use Rattle.facts_check.specs.Known.{AreKnown, is_made};
+ghost use Rattle.facts_check.specs.Known.{AreKnown, is_made, is_marked};
 ghost use Rattle.facts_check.specs.Placed.{IsCalled, IsBoundCall, IsPooled, HoldsCall, HoldsCalls};
 ghost use Rattle.facts_check.specs.Tables.{ArePassed, ArePooled};
 
@@ -32,13 +32,27 @@ fn are_passed(known: &Known<'_>, method: u32, args: &[u16], registers: &PatMap<V
     true
 }
 
+/// Whether a method is known to be entered, if it has code.
+fn enters(known: &Known<'_>, method: &Method) -> bool
+    ensures { result ≡ true → is_some method.now.body ≡ true → is_marked known.now.marks.now.entered.items method.now.name ≡ true }
+{
+    match &method.body {
+        Some(_) => is_on(&known.marks.entered, method.name),
+        None => true,
+    }
+}
+
 /// Whether a method is passed these registers, and is known to be entered where it has code.
 fn is_called(known: &Known<'_>, method: &Method, args: &[u16], registers: &PatMap<Value>) -> bool
     ensures { result ≡ true → IsCalled known.now method.now args.now registers.now }
 {
-    args.len() < 65536
-        && are_passed(known, method.name, args, registers)
-        && (method.body.is_none() || is_on(&known.marks.entered, method.name))
+    if args.len() >= 65536 {
+        return false;
+    }
+    if !are_passed(known, method.name, args, registers) {
+        return false;
+    }
+    enters(known, method)
 }
 
 /// Whether what a static, direct or super call finds is passed its arguments.

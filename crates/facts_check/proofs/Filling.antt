@@ -102,10 +102,10 @@ module _ (k : Known) (class method : ℕ) (b : Body) (starts : List Start) where
     linked = λ j lt. elim (cases_lt (j + 1) n) [
       | inl below ↦ link_more frames n f h.long j below (h.linked j below)
       | inr above ↦ let i : n ≡ j + 1 = omega arith in record {
-          next = next;
-          step = subst (λ o. Step j o next) (sym (front frames n f h.long j (omega arith))) (h.last j (sym i));
-          onto = λ c t. subst (λ m. Arrives c (registers_of (frames ++ f ∷ []) m)) i (subst (Arrives c) (sym (seam frames n f h.long ∙ e)) (a.onto c t));
-        }
+        next = next;
+        step = subst (λ o. Step j o next) (sym (front frames n f h.long j (omega arith))) (h.last j (sym i));
+        onto = λ c t. subst (λ m. Arrives c (registers_of (frames ++ f ∷ []) m)) i (subst (Arrives c) (sym (seam frames n f h.long ∙ e)) (a.onto c t));
+      }
     ];
     last = λ j t. let i : n ≡ j = omega arith in subst (λ m. Step m (registers_of (frames ++ f ∷ []) m) after) i (subst (λ o. Step n o after) (sym (seam frames n f h.long ∙ e)) s);
   }
@@ -121,9 +121,9 @@ module _ (k : Known) (class method : ℕ) (b : Body) (starts : List Start) where
     linked = λ j lt. elim (cases_lt (j + 1) n) [
       | inl below ↦ h.linked j below
       | inr above ↦ record {
-          next = next;
-          step = h.last j (let below : j < n = subst (λ m. j < m) e lt in omega arith);
-          onto = λ c t. absurd (let q : Some c ≡ None = sym t ∙ none in cc);
-        }
+        next = next;
+        step = h.last j (let below : j < n = subst (λ m. j < m) e lt in omega arith);
+        onto = λ c t. absurd (let q : Some c ≡ None = sym t ∙ none in cc);
+      }
     ];
   }

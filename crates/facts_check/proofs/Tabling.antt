@@ -35,13 +35,15 @@ module _ (k : Known) where
       let s : Some n ≡ Some m = sym h ∙ o in cc
 
   pub one_added : (old new : Table) (c i : ℕ) (class : Class) (m : Method) → slice_get k.program.now.classes c ≡ Some class → slice_get class.methods i ≡ Some m → Adds k c m.name m.body old new → IsFilledTo k old c i → IsFilledTo k new c (i + 1)
-  one_added old new c i class m e l a h = record { has = λ at n b before f g. elim before [
-    | inl lt ↦ stays at n b (inl lt) f g
-    | inr s ↦ elim (cases_lt at.place i) [
-      | inl below ↦ stays at n b (inr (s.0, below)) f g
-      | inr above ↦ own at n b s.0 (let lt = s.1 in omega (arith, lt)) f g
-    ]
-  ] }
+  one_added old new c i class m e l a h = record {
+    has = λ at n b before f g. elim before [
+      | inl lt ↦ stays at n b (inl lt) f g
+      | inr s ↦ elim (cases_lt at.place i) [
+        | inl below ↦ stays at n b (inr (s.0, below)) f g
+        | inr above ↦ own at n b s.0 (let lt = s.1 in omega (arith, lt)) f g
+      ]
+    ];
+  }
     where
       keeps : (o : Option Body) → Adds k c m.name o old new → (d number : ℕ) (b : Body) → IsIn k old d number b → IsIn k new d number b
       keeps None a d number b q = subst (λ t. IsIn k t d number b) (sym a) q
@@ -62,17 +64,19 @@ module _ (k : Known) where
 
   -- the methods of a class are all of those at its place
   pub class_added : (t : Table) (c n : ℕ) (class : Class) → slice_get k.program.now.classes c ≡ Some class → length class.methods ≤ n → IsFilledTo k t c n → IsFilledTo k t (c + 1) 0
-  class_added t c n class e l h = record { has = λ at m b before f g. elim before [
-    | inl lt ↦ elim (cases_lt at.class c) [
-      | inl below ↦ h.has at m b (inl below) f g
-      | inr above ↦
-          let s : at.class ≡ c = omega arith in
-          let o : method_at k.program.now at ≡ slice_get class.methods at.place = ap (option_and_then (λ (c : Class). slice_get c.methods at.place)) (ap (slice_get k.program.now.classes) s ∙ e) in
-          let w : at.place < length class.methods = slice_get_within class.methods at.place m (sym o ∙ f) in
-          h.has at m b (inr (s, omega arith)) f g
-    ]
-    | inr s ↦ absurd (let lt = s.1 in omega (arith, lt))
-  ] }
+  class_added t c n class e l h = record {
+    has = λ at m b before f g. elim before [
+      | inl lt ↦ elim (cases_lt at.class c) [
+        | inl below ↦ h.has at m b (inl below) f g
+        | inr above ↦
+            let s : at.class ≡ c = omega arith in
+            let o : method_at k.program.now at ≡ slice_get class.methods at.place = ap (option_and_then (λ (c : Class). slice_get c.methods at.place)) (ap (slice_get k.program.now.classes) s ∙ e) in
+            let w : at.place < length class.methods = slice_get_within class.methods at.place m (sym o ∙ f) in
+            h.has at m b (inr (s, omega arith)) f g
+      ]
+      | inr s ↦ absurd (let lt = s.1 in omega (arith, lt))
+    ];
+  }
 
   pub all_added : (t : Table) (n : ℕ) → length k.program.now.classes ≤ n → IsFilledTo k t n 0 → AreFilled k t.frames.items
   all_added t n l h = record { has = λ at m b f g. (h.has at m b (inl (within at m f)) f g).frames }

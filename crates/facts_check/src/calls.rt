@@ -107,9 +107,7 @@ fn is_pooled(known: &Known<'_>, number: usize, args: &[u16], registers: &PatMap<
 {
     match (known.pools.calls.as_slice().get(number), args) {
         (Some(pool), [_, ..]) => {
-            is_made(known, number)
-                && args.len() < 65536
-                && are_pooled(pool, args, registers)
+            is_made(known, number) && args.len() < 65536 && are_pooled(pool, args, registers)
         }
         _ => false,
     }
@@ -130,12 +128,7 @@ fn holds_call(
 {
     match kind {
         InvokeKind::Virtual => Ok(is_pooled(known, 2 * method as usize, args, registers)),
-        InvokeKind::Interface => Ok(is_pooled(
-            known,
-            2 * method as usize + 1,
-            args,
-            registers,
-        )),
+        InvokeKind::Interface => Ok(is_pooled(known, 2 * method as usize + 1, args, registers)),
         _ => holds_bound(alloc, known, class, kind, method, args, registers),
     }
 }

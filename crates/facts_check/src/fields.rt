@@ -42,7 +42,10 @@ pub(crate) fn holds_puts(known: &Known<'_>, insn: &Insn, registers: &PatMap<Valu
 {
     match insn {
         Insn::InstancePut {
-            item, from, field, ..
+            item,
+            from,
+            field,
+            ..
         }
         | Insn::StaticPut { item, from, field } => {
             let value = stored(*item, &value_at(registers, u32::from(*from)));

@@ -191,12 +191,6 @@ pub(crate) fn behind(
             behind_switch(alloc, starts, insn, targets.as_slice(), registers)
         }
         Insn::MoveResult { .. } => Ok(None),
-        _ => Ok(Some(behind_step(
-            alloc,
-            known,
-            insn,
-            &given(known, insn),
-            registers,
-        )?)),
+        _ => Ok(Some(behind_step(alloc, known, insn, &given(known, insn), registers)?)),
     }
 }

@@ -25,8 +25,7 @@ struct Table {
 }
 
 /// So many empty lists.
-fn empty_frames(alloc: Global, count: usize) -> Result<Vec<Seq<Option<Frame>>>, AllocError>
-{
+fn empty_frames(alloc: Global, count: usize) -> Result<Vec<Seq<Option<Frame>>>, AllocError> {
     let mut frames: Vec<Seq<Option<Frame>>> = Vec::with_capacity(alloc, count)?;
     for _ in 0..count {
         frames.push(Seq::new(alloc))?;
@@ -168,8 +167,5 @@ pub fn holds(known: &Known<'_>, frames: &[Seq<Option<Frame>>]) -> bool
     requires { AreKnown known.now }
     ensures { result ≡ true → Holds known.now frames.now }
 {
-    entries_hold(known, frames)
-        && classes_hold(known)
-        && links_hold(known)
-        && fields_hold(known)
+    entries_hold(known, frames) && classes_hold(known) && links_hold(known) && fields_hold(known)
 }

@@ -161,9 +161,7 @@ pub(crate) fn placed(
     ensures { IfOk result (λ o. IfSome o (λ next. PlacedIf known.now site.now.class site.now.number site.now.body.now site.now.starts.now position (option_copied before.entry) insn.now (option_copied registers.entry) next)) }
 {
     match registers {
-        Some(registers) => {
-            placed_at(alloc, known, site, position, before, insn, registers)
-        }
+        Some(registers) => { placed_at(alloc, known, site, position, before, insn, registers) }
         None => Ok(Some(None)),
     }
 }

@@ -28,11 +28,7 @@ pub(crate) fn lands(starts: &[Start], target: u32, registers: &PatMap<Value>) ->
 }
 
 /// The same, if there are any registers.
-pub(crate) fn lands_if(
-    starts: &[Start],
-    target: u32,
-    registers: Option<&PatMap<Value>>,
-) -> bool
+pub(crate) fn lands_if(starts: &[Start], target: u32, registers: Option<&PatMap<Value>>) -> bool
     ensures { result ≡ true → LandsIf (slice_get starts.now target) (option_copied registers.entry) }
 {
     match registers {

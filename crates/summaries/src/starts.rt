@@ -1,7 +1,7 @@
 //! What is known where blocks begin.
 
-use facts_check::Start;
 use fact_graph::{Arrival, Block, Code, is_reached};
+use facts_check::Start;
 use seq::Seq;
 use std::alloc::{AllocError, Global};
 

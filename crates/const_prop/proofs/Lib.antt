@@ -1,2 +1,4 @@
-mod Constants
-mod Found
+pub mod Constants
+pub mod Found
+pub mod Measured
+pub mod Plans

@@ -1,5 +1,6 @@
 -- What is found by a name has it.
 use Rattle.std.proofs.Common.{◌≡◌, true, true≢false, List, [], ◌∷◌, sym}
+use Rattle.lemmas.proofs.Bools.{and_right}
 use Rattle.dalvik_defs.specs.Names.{Text, text_eq, texts_eq, signature_eq, same_name}
 use Rattle.dalvik_defs.specs.Silence.{key_in}
 use Rattle.dalvik_defs.specs.declared.names.Signature.{Signature}
@@ -7,7 +8,7 @@ use Rattle.dalvik_defs.specs.declared.names.MethodKey.{MethodKey}
 use Rattle.dalvik_defs.specs.declared.program.NamedMethod.{NamedMethod}
 use Rattle.dalvik_defs.specs.declared.program.NamedClass.{NamedClass}
 use Rattle.dalvik_defs.proofs.Calm.{text_sound}
-use Rattle.silence_law.proofs.Lists.{and_left, and_right}
+use Rattle.silence_law.proofs.Lists.{and_left}
 
 texts_sound : (ts us : List Text) → texts_eq ts us ≡ true → ts ≡ us
 texts_sound [] [] e = λ i. []

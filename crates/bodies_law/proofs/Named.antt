@@ -2,6 +2,7 @@
 use Rattle.std.proofs.Common.{◌≡◌, List, [], ◌∷◌, refl, sym, ap, ◌∙◌, subst}
 use Rattle.std.specs.Prelude.{Option, Some, None, map, is_some}
 use Rattle.std.specs.Option.{option_map}
+use Rattle.lemmas.proofs.Options.{mapped_some}
 use Rattle.program_model.specs.declared.body.Body.{Body}
 use Rattle.program_model.specs.declared.program.Method.{Method}
 use Rattle.program_model.specs.declared.program.Class.{Class}
@@ -26,10 +27,6 @@ pairwise_mapped R S f g h (x ∷ xs) (y ∷ ys) r = (h x y r.0, pairwise_mapped 
 pub pairwise_self : {A : Type 0} (R : A → A → Type 0) (f : A → A) → ((x : A) → R x (f x)) → (xs : List A) → Pairwise R xs (map f xs)
 pairwise_self R f h [] = tt
 pairwise_self R f h (x ∷ xs) = (h x, pairwise_self R f h xs)
-
-mapped_some : {A B : Type 0} (f : A → B) (o : Option A) → is_some (option_map f o) ≡ is_some o
-mapped_some f None = refl
-mapped_some f (Some x) = refl
 
 module _ (N : NumberedCodes) (R : Codes) (p : Program) (names : (k : MethodKey) (a b : Option Body) → N k a b → R k (option_map (body_of p) a) (option_map (body_of p) b)) where
   named_methods : (c : Class) (m n : Method) → OtherNumberedMethod N p c m n → OtherMethod R (named_class p c) (named_method p m) (named_method p n)

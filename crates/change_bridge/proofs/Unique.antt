@@ -5,6 +5,7 @@ use Rattle.std.specs.Option.{option_map}
 use Rattle.std.specs.List.{list_all}
 use Rattle.std.proofs.lemmas.Bool.{cases_order}
 use Rattle.std.proofs.lemmas.Option.{slice_get-map, slice_get_within}
+use Rattle.lemmas.proofs.Options.{before_map}
 use Rattle.program_model.specs.Distinct.{own_method_key, all_differ}
 use Rattle.program_model.specs.Neighbours.{neighbours}
 use Rattle.program_model.specs.ValueRules.{marks_fit}
@@ -29,12 +30,8 @@ use Rattle.change_bridge.specs.Unique.{IsUnique}
 use Rattle.change_bridge.proofs.Changing.{same_text}
 
 -- what a named item is named of
-before : {A B : Type 0} (f : A → B) (o : Option A) (y : B) → option_map f o ≡ Some y → (x : A) × ((o ≡ Some x) × (f x ≡ y))
-before f None y e = absurd (cc)
-before f (Some x) y e = (x, (refl, cc))
-
 there : {A B : Type 0} (f : A → B) (xs : List A) (i : ℕ) (y : B) → slice_get (map f xs) i ≡ Some y → (x : A) × ((slice_get xs i ≡ Some x) × (f x ≡ y))
-there f xs i y e = before f (slice_get xs i) y (sym (slice_get-map f xs i) ∙ e)
+there f xs i y e = before_map f (slice_get xs i) y (sym (slice_get-map f xs i) ∙ e)
 
 methods_differ : (p : Program) (c : Class) → class_fits p c ≡ true → all_differ own_method_key c.methods ≡ true
 unfolding class_fits methods_fit

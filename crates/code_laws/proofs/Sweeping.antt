@@ -5,6 +5,8 @@ use Rattle.std.specs.Option.{option_map, option_and_then}
 use Rattle.std.specs.List.{AllByRecursion}
 use Rattle.std.proofs.lemmas.Bool.{ltb-true, leb-true}
 use Rattle.std.proofs.lemmas.List.{length-take-le, length-drop, drop-drop, get_or-drop}
+use Rattle.lemmas.proofs.Bools.{not_false, or_false_left}
+use Rattle.lemmas.proofs.Options.{some_same}
 use Rattle.class_defs.proofs.WellFormed.{and_left, and_right}
 use Rattle.insn_set.specs.declared.format.Format.{Format}
 use Rattle.insn_set.specs.Formats.{format_units}
@@ -49,17 +51,6 @@ pub record Swept (units : List ℕ) (at : ℕ) (ps : List Piece) (stop : ℕ) : 
   pub to : PiecesTo units at ps stop
   pub lie : AllByRecursion (Lies units) ps
   pub few : at + length ps ≤ stop
-
-some_is : (a b : ℕ) → Some a ≡ Some b → a ≡ b
-some_is a b e = cc
-
-not_false : (b : Bool) → not b ≡ false → b ≡ true
-not_false true e = refl
-not_false false e = absurd cc
-
-or_none : (a b : Bool) → (a || b) ≡ false → a ≡ false
-or_none true b e = absurd cc
-or_none false b e = refl
 
 by_kind : (b : Bool) (x y : Option ℕ) (n : ℕ) → b ≡ true → cond b x y ≡ Some n → x ≡ Some n
 by_kind true x y n e h = h
@@ -128,7 +119,7 @@ by_format : (u : ℕ) (us : List ℕ) (p : Piece) (read : Option Format) → rea
     → first_unit p ≡ u → HasFields p (unwrap_or (option_and_then (λ format. fields_in format (u ∷ us)) read) (no_fields 0 0 0 0))
 by_format u us p None e size few text first = absurd (none_size (length p.text) size)
 by_format u us p (Some format) e size few text first =
-    let n : format_units format ≡ length p.text = some_is (format_units format) (length p.text) size in
+    let n : format_units format ≡ length p.text = some_same (format_units format) (length p.text) size in
     let f = front_fields format (u ∷ us) (omega (arith, n, few)) in
     record {
       format = format;
@@ -161,7 +152,7 @@ pub are_instructed : (units : List ℕ) (ps : List Piece) → AllByRecursion (Li
 are_instructed units [] h = tt
 are_instructed units (p ∷ ps) h =
     let rest = are_instructed units ps h.1 in
-    by_fills (AllByRecursion (Instructed units)) (only_fills (p ∷ ps)) (instructions ps) (p ∷ instructions ps) (λ e. rest) (λ e. (instructed units p h.0 (or_none (is_payload p) (is_nop p && only_fills ps) e), rest))
+    by_fills (AllByRecursion (Instructed units)) (only_fills (p ∷ ps)) (instructions ps) (p ∷ instructions ps) (λ e. rest) (λ e. (instructed units p h.0 (or_false_left (is_payload p) (is_nop p && only_fills ps) e), rest))
 
 pub fewer : (ps : List Piece) → length (instructions ps) ≤ length ps
 fewer [] = omega arith

@@ -188,7 +188,7 @@ module _ (w : List (List Bool)) (b : Body) (used : List Bool) (low : List ℕ) (
     frame = λ le. omega (arith, le, c.is_shift, c.is_floor.low);
     live = c.is_clash.live;
     is_live = c.is_clash.is_live;
-    apart = λ has r s d e. apart r s d e;
+    apart = apart;
     pairs = pairs;
     room = λ has n r f h u. room has r (any_at (λ i. uses i r) b.insns n f h u);
     plain = plain;
@@ -212,7 +212,7 @@ module _ (w : List (List Bool)) (b : Body) (used : List Bool) (low : List ℕ) (
     frame = λ le. le;
     live = c.is_clash.live;
     is_live = c.is_clash.is_live;
-    apart = λ has r s d e. e;
+    apart = λ r s d e. e;
     pairs = λ n at f h e. refl;
     room = λ has n r f h u. has n r f h u;
     plain = λ r lt d. lt;

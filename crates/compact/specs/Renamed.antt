@@ -35,7 +35,7 @@ pub record IsCompacted (w : List (List Bool)) (b d : Body) : Type 0 where
   pub frame : b.ins ≤ b.registers → d.ins ≤ d.registers
   pub live : ℕ → ℕ → Bool
   pub is_live : (n r : ℕ) → r < b.registers → (live n r ≡ true) ↔ IsRead b r n
-  pub apart : HasRegisters b → (r s : ℕ) → Conflict b r s → new r ≡ new s → r ≡ s
+  pub apart : (r s : ℕ) → Conflict b r s → new r ≡ new s → r ≡ s
   pub pairs : (n at : ℕ) (f : Insn) → insn_at b n ≡ Some f → list_any (nat_eq at) (wides_of w f) ≡ true → new (at + 1) ≡ new at + 1
   pub room : HasRegisters b → (n r : ℕ) (f : Insn) → insn_at b n ≡ Some f → uses f r ≡ true → new r < d.registers
   pub plain : (r : ℕ) → r < locals b → IsRead b r 0 → new r < locals d

@@ -25,7 +25,7 @@ renamed_by_number p b d has c = (
     forms = ap (map (form_of p)) c.insns ∙ all_remade p c.new b.insns;
     regions = ap (map (region_of p)) c.regions;
     ins = c.ins;
-    apart = λ r s k e. c.apart has r s (conflict_to p b r s k) e;
+    apart = λ r s k e. c.apart r s (conflict_to p b r s k) e;
     pairs = λ n f w h e. let i : IsOf p b n f = insn_for p b n f h in c.pairs n w i.insn i.has_insn (ap (list_any (nat_eq w)) (sym (wides_same p i.insn) ∙ ap named.wides_of i.same) ∙ e);
     room = λ n f r h e. let i : IsOf p b n f = insn_for p b n f h in c.room has n r i.insn i.has_insn (sym (uses_same p r i.insn) ∙ ap (λ g. named.uses g r) i.same ∙ e);
     plain = λ r lt k. c.plain r lt ((read_by_number p b r 0).0 k);

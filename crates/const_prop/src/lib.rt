@@ -21,4 +21,6 @@ mod kinds;
 mod numbers;
 mod results;
 
+pub use choices::Way;
 pub use folding::apply;
+pub use numbers::Number;

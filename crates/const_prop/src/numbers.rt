@@ -7,7 +7,7 @@ use insn_set::Insn;
 
 /// A number that a register, or a pair of registers, is known to hold.
 #[derive(Clone, Copy, PartialEq, Eq, Debug, Drop)]
-pub(crate) enum Number {
+pub enum Number {
     Word(u32),
     Wide(u64),
 }

@@ -32,7 +32,7 @@ module _ (s : ℕ → ℕ) where
   operands_map f = refl
 
   -- an instruction that reads the same is the same
-  kept : (f : Insn) → map s (operands_of f) ≡ operands_of f → remade s (λ r. r) f ≡ f
+  pub kept : (f : Insn) → map s (operands_of f) ≡ operands_of f → remade s (λ r. r) f ≡ f
   kept (insn.Move slot to from) e = ap (λ x. insn.Move slot to x) (ap first e)
   kept (insn.Return slot from) e = ap (λ x. insn.Return slot x) (ap first e)
   kept (insn.MonitorEnter on) e = ap (λ x. insn.MonitorEnter x) (ap first e)
@@ -72,16 +72,24 @@ module _ (s : ℕ → ℕ) where
         by (inr k) (inl j) = inr (let e = ap (sum_by m) j in omega (arith, e, k, sum_by-cons m (s x) (map s xs), sum_by-cons m x xs))
         by (inr k) (inr l) = inr (omega (arith, k, l, sum_by-cons m (s x) (map s xs), sum_by-cons m x xs))
 
-pub falls : (w : List (List Bool)) (b d : Body) → IsPropagated w b d → (n : ℕ) (f g : Insn) → insn_at b n ≡ Some f → insn_at d n ≡ Some g → (g ≡ f → ⊥) → (ss : List Step) → IsPath b ss n
-    → sum_by (moves b ss) (operands_of g) < sum_by (moves b ss) (operands_of f)
-falls w b d x n f g e i differs ss path =
+-- an instruction stays the same, or what it reads went through fewer Moves
+pub same_or_falls : (w : List (List Bool)) (b d : Body) → IsPropagated w b d → (n : ℕ) (f g : Insn) → insn_at b n ≡ Some f → insn_at d n ≡ Some g → (ss : List Step) → IsPath b ss n
+    → (g ≡ f) ⊎ (sum_by (moves b ss) (operands_of g) < sum_by (moves b ss) (operands_of f))
+same_or_falls w b d x n f g e i ss path =
     let u = x.insns n f e in
     let y : IsReread w b n f u.0 = u.2 in
     let s = pass.substituted y.copies in
     let same : u.0 ≡ g = some_same u.0 g (sym u.1 ∙ i) in
     let each = same_or_fewer pass.substituted (λ c. c.at) (λ c. c.slot) (λ c. c.to) (λ c. c.from) (λ r. refl) (λ c cs r. refl) w b n f ss path y.copies y.stale in
-    elim (same_or_less s (moves b ss) each (operands_of f)) as (λ t. sum_by (moves b ss) (operands_of g) < sum_by (moves b ss) (operands_of f)) [
-      | inl k ↦ absurd (differs (sym same ∙ y.form ∙ kept s f k))
-      | inr l ↦ subst (λ h. sum_by (moves b ss) (operands_of h) < sum_by (moves b ss) (operands_of f)) (sym y.form ∙ same)
-          (subst (λ os. sum_by (moves b ss) os < sum_by (moves b ss) (operands_of f)) (sym (operands_map s f)) l)
+    elim (same_or_less s (moves b ss) each (operands_of f)) [
+      | inl k ↦ inl (sym same ∙ y.form ∙ kept s f k)
+      | inr l ↦ inr (subst (λ h. sum_by (moves b ss) (operands_of h) < sum_by (moves b ss) (operands_of f)) (sym y.form ∙ same)
+          (subst (λ os. sum_by (moves b ss) os < sum_by (moves b ss) (operands_of f)) (sym (operands_map s f)) l))
     ]
+
+pub falls : (w : List (List Bool)) (b d : Body) → IsPropagated w b d → (n : ℕ) (f g : Insn) → insn_at b n ≡ Some f → insn_at d n ≡ Some g → (g ≡ f → ⊥) → (ss : List Step) → IsPath b ss n
+    → sum_by (moves b ss) (operands_of g) < sum_by (moves b ss) (operands_of f)
+falls w b d x n f g e i differs ss path = elim (same_or_falls w b d x n f g e i ss path) [
+  | inl k ↦ absurd (differs k)
+  | inr l ↦ l
+]

@@ -2,6 +2,8 @@
 use Rattle.std.proofs.Common.{◌≡◌, ℕ, suc, ◌+◌, ◌-◌, ◌<◌, Bool, true, false, true≢false, nat_eq, List, [], ◌∷◌, ◌++◌, map, length, Option, Some, None, inl, inr, refl, sym, ap, ◌∙◌, subst, arith, eqb-true, eq-eqb}
 use Rattle.std.specs.Prelude.{◌&&◌, ◌||◌, if◌then◌else◌, slice_get, option_and_then, option_to_list, All, Contains}
 use Rattle.std.proofs.lemmas.List.Elements.{All-weaker, All-contains_itself, Contains-append_left, Contains-append_right, Contains-append_cases}
+use Rattle.lemmas.proofs.Bools.{and_both, and_left, and_right, clash, neither_of, or_left, or_right, untrue}
+use Rattle.lemmas.proofs.Options.{some_same}
 use Rattle.insn_set.specs.Flow.{throws, targets_of}
 use Rattle.insn_set.specs.Registers.{in_operand, reads_of, writes_of}
 use Rattle.insn_set.specs.Widths.{is_wide_slot}
@@ -40,37 +42,6 @@ use Rattle.copy_kinds.specs.Alike.{is_half, IsNarrow, IsAlike, AreAlike}
 use Rattle.copy_kinds.proofs.Least.{Edge, onward_all, least_has}
 use Rattle.copy_kinds.proofs.Shifts.{touches, Shifts, shifts}
 use Rattle.copy_kinds.proofs.Writes.{is_low, IsLeft, one_is, pair_is, one_here, pair_low, pair_high, written_at}
-
-clash : {A : Type 0} (b : Bool) → b ≡ true → b ≡ false → A
-clash b e f = absurd (true≢false (sym e ∙ f))
-
-untrue : (b : Bool) → (b ≡ true → ⊥) → b ≡ false
-untrue true h = absurd (h refl)
-untrue false h = refl
-
-or_left : (a b : Bool) → a ≡ true → (a || b) ≡ true
-or_left true b e = refl
-or_left false b e = absurd (true≢false (sym e))
-
-or_right : (a b : Bool) → b ≡ true → (a || b) ≡ true
-or_right true b e = refl
-or_right false b e = e
-
-or_false : (x y : Bool) → (x || y) ≡ false → (x ≡ false) × (y ≡ false)
-or_false false y e = (refl, e)
-or_false true y e = absurd (true≢false e)
-
-both : (a b : Bool) → a ≡ true → b ≡ true → (a && b) ≡ true
-both true b e f = f
-both false b e f = absurd (true≢false (sym e))
-
-left_true : (a b : Bool) → (a && b) ≡ true → a ≡ true
-left_true true b e = refl
-left_true false b e = e
-
-right_true : (a b : Bool) → (a && b) ≡ true → b ≡ true
-right_true true b e = e
-right_true false b e = absurd (true≢false (sym e))
 
 -- ---- halves
 
@@ -171,8 +142,8 @@ module _ (to from : ℕ) (ks : List Kind) where
 
   two_move : is_pair ks from ≡ true → in_operand true to from ≡ false → in_operand true from to ≡ false → to + 1 < length ks → ((kind_at pair to ≡ WideLow) × (kind_at pair (to + 1) ≡ WideHigh)) × ((kind_at pair from ≡ WideLow) × (kind_at pair (from + 1) ≡ WideHigh))
   two_move e out back lt =
-      let low = same_is (kind_at ks from) WideLow (left_true (same_kind (kind_at ks from) WideLow) (same_kind (kind_at ks (from + 1)) WideHigh) e) in
-      let high = same_is (kind_at ks (from + 1)) WideHigh (right_true (same_kind (kind_at ks from) WideLow) (same_kind (kind_at ks (from + 1)) WideHigh) e) in
+      let low = same_is (kind_at ks from) WideLow (and_left (same_kind (kind_at ks from) WideLow) (same_kind (kind_at ks (from + 1)) WideHigh) e) in
+      let high = same_is (kind_at ks (from + 1)) WideHigh (and_right (same_kind (kind_at ks from) WideLow) (same_kind (kind_at ks (from + 1)) WideHigh) e) in
       let second = second_out to from out back in
       let back_one : from + 1 - 1 ≡ from = omega arith in (
         (ap (λ l. kind_at l to) (pair_is to WideLow ks low_first) ∙ pair_low to ks (omega (arith, lt)), ap (λ l. kind_at l (to + 1)) (pair_is to WideLow ks low_first) ∙ pair_high to ks lt),
@@ -189,9 +160,6 @@ module _ (to from : ℕ) (ks : List Kind) where
           }) ∙ high,
         ),
       )
-
-some_same : {A : Type 0} (x y : A) → Some x ≡ Some y → x ≡ y
-some_same x y e = ap (λ o. elim o as (λ o. _) [ Some z ↦ z | None ↦ x ]) e
 
 module _ (s : Setting) (b : Body) (m : IsMeeting s.tables.now) (narrow : IsNarrow s b) where
   -- a position that is reached, and at which originals have the kinds of copies
@@ -254,15 +222,15 @@ module _ (s : Setting) (b : Body) (m : IsMeeting s.tables.now) (narrow : IsNarro
         by : (v : Slot) → fault_of s n a (insn.Move v to from) ≡ None → insn_at b n ≡ Some (insn.Move v to from) → overlaps v to from ≡ false → IsAlike v to from (written_kinds to (moved v (kind_at ks from)) ks)
         by slots.Wide f h o =
             let e = unless_true (is_pair ks from) from (no_fault s n a (insn.Move slots.Wide to from) f).1 in
-            let out = or_false (in_operand true to from) (in_operand true from to) o in
+            let out = neither_of (in_operand true to from) (in_operand true from to) o in
             record { narrow = λ w. absurd (true≢false w); wide = λ w. two_move to from ks e out.0 out.1 (in_room slots.Wide (to + 1) h (in_second to)) }
         by slots.Word f h o =
             let e = unless_true (is_moved (kind_at ks from)) from (no_fault s n a (insn.Move slots.Word to from) f).1 in
-            let out = or_false (in_operand false to from) (in_operand false from to) o in
+            let out = neither_of (in_operand false to from) (in_operand false from to) o in
             record { narrow = λ w. one_moves to from ks (kind_at ks from) refl e out.0 (in_room slots.Word to h (in_first false to)); wide = λ w. absurd (true≢false (sym w)) }
         by slots.Object f h o =
             let e = unless_true (is_moved (kind_at ks from)) from (no_fault s n a (insn.Move slots.Object to from) f).1 in
-            let out = or_false (in_operand false to from) (in_operand false from to) o in
+            let out = neither_of (in_operand false to from) (in_operand false from to) o in
             record { narrow = λ w. one_moves to from ks (kind_at ks from) refl e out.0 (in_room slots.Object to h (in_first false to)); wide = λ w. absurd (true≢false (sym w)) }
 
     -- registers of a copy that aren't touched
@@ -323,8 +291,8 @@ module _ (s : Setting) (b : Body) (m : IsMeeting s.tables.now) (narrow : IsNarro
             none r z = untrue (touches i r) (λ y. touched (writes_of i r) refl y)
               where
                 touched : (v : Bool) → writes_of i r ≡ v → (v || casts i r) ≡ true → ⊥
-                touched true w y = kept (IsSpoilt.Written n q r i e p.reached is (both (in_either slot to from r) (writes_of i r) z w) j)
-                touched false w y = kept (IsSpoilt.Cast n q r i p.reached is (both (in_either slot to from r) (casts i r) z y) (step_on b n q i is j))
+                touched true w y = kept (IsSpoilt.Written n q r i e p.reached is (and_both (in_either slot to from r) (writes_of i r) z w) j)
+                touched false w y = kept (IsSpoilt.Cast n q r i p.reached is (and_both (in_either slot to from r) (casts i r) z y) (step_on b n q i is j))
 
     -- to a handler
     caught_fine : (q : ℕ) → Contains (caught b i n) q → Fine q ks

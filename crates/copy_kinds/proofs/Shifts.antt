@@ -3,6 +3,7 @@
 use Rattle.std.proofs.Common.{◌≡◌, ℕ, zero, suc, ◌+◌, ◌-◌, Bool, true, false, true≢false, nat_eq, List, [], ◌∷◌, map, length, Option, Some, None, refl, sym, ap, ◌∙◌, arith, eqb-true}
 use Rattle.std.specs.Prelude.{◌||◌, not, if◌then◌else◌}
 use Rattle.std.proofs.lemmas.Bool.{ne_eqb}
+use Rattle.lemmas.proofs.Bools.{clash, neither_of, not_false, or_left, or_right, untrue}
 use Rattle.insn_set.specs.Registers.{in_operand, writes_of}
 use Rattle.insn_set.specs.Widths.{is_wide_slot, is_wide_item, unary_writes_wide, binary_is_wide}
 use Rattle.insn_set.specs.declared.form.Insn.{Insn}
@@ -38,25 +39,6 @@ use Rattle.verify.proofs.Lattice.{same_is}
 use Rattle.verify.proofs.Reading.{unless_true, lower_left, no_fault}
 use Rattle.copy_kinds.specs.Alike.{is_half}
 use Rattle.copy_kinds.proofs.Writes.{is_low, IsLeft, written_at}
-
-clash : {A : Type 0} (b : Bool) → b ≡ true → b ≡ false → A
-clash b e f = absurd (true≢false (sym e ∙ f))
-
-untrue : (b : Bool) → (b ≡ true → ⊥) → b ≡ false
-untrue true h = absurd (h refl)
-untrue false h = refl
-
-or_left : (a b : Bool) → a ≡ true → (a || b) ≡ true
-or_left true b e = refl
-or_left false b e = absurd (true≢false (sym e))
-
-or_right : (a b : Bool) → b ≡ true → (a || b) ≡ true
-or_right true b e = refl
-or_right false b e = e
-
-or_false : (x y : Bool) → (x || y) ≡ false → (x ≡ false) × (y ≡ false)
-or_false false y e = (refl, e)
-or_false true y e = absurd (true≢false e)
 
 -- what a form writes or casts
 abbrev pub touches : Insn → ℕ → Bool
@@ -130,18 +112,14 @@ array_narrow : (h : Shape) → is_array h ≡ true → is_wide h ≡ false
 array_narrow shape.Wide e = absurd (true≢false (sym e))
 array_narrow h e = refl
 
-not_false : (b : Bool) → not b ≡ false → b ≡ true
-not_false true e = refl
-not_false false e = absurd (true≢false e)
-
 item_width : (i : Item) (h : Shape) → wrong_item i h ≡ false → is_low (kind_of_shape h) ≡ is_wide_item i
 item_width item.Wide h e = wide_shape h (not_false (is_wide h) e)
 item_width item.Object h e = narrow_shape h (reference_narrow h (not_false (is_reference h) e))
-item_width item.Plain h e = narrow_shape h (or_false (is_wide h) (is_reference h) e).0
-item_width item.Boolean h e = narrow_shape h (or_false (is_wide h) (is_reference h) e).0
-item_width item.Byte h e = narrow_shape h (or_false (is_wide h) (is_reference h) e).0
-item_width item.Char h e = narrow_shape h (or_false (is_wide h) (is_reference h) e).0
-item_width item.Short h e = narrow_shape h (or_false (is_wide h) (is_reference h) e).0
+item_width item.Plain h e = narrow_shape h (neither_of (is_wide h) (is_reference h) e).0
+item_width item.Boolean h e = narrow_shape h (neither_of (is_wide h) (is_reference h) e).0
+item_width item.Byte h e = narrow_shape h (neither_of (is_wide h) (is_reference h) e).0
+item_width item.Char h e = narrow_shape h (neither_of (is_wide h) (is_reference h) e).0
+item_width item.Short h e = narrow_shape h (neither_of (is_wide h) (is_reference h) e).0
 
 -- ---- kinds that all change
 
@@ -231,7 +209,7 @@ module _ (s : Setting) (m : IsMeeting s.tables.now) (own : is_half (kind_of s.ta
   -- a call on a receiver passes a register
   passes : (n : ℕ) (k : InvokeKind) (method : ℕ) → is_static_call k ≡ false → wrong_call s n k method 0 ≡ false → ⊥
   passes n k method p e =
-      let g = (or_false (differ (is_static_call k) (static_method s method) || wrong_super s n k method) (not (nat_eq 0 (passed_words s k method))) e).1 in
+      let g = (neither_of (differ (is_static_call k) (static_method s method) || wrong_super s n k method) (not (nat_eq 0 (passed_words s k method))) e).1 in
       let w : passed_words s k method ≡ parameter_words s method + 1 = ap (λ x. parameter_words s method + (if x then 0 else 1)) p in
       let z : nat_eq 0 (passed_words s k method) ≡ false = ne_eqb 0 (passed_words s k method) (λ q. omega (arith, q, w)) in
       clash (not (nat_eq 0 (passed_words s k method))) (ap not z) g
@@ -249,9 +227,9 @@ module _ (s : Setting) (m : IsMeeting s.tables.now) (own : is_half (kind_of s.ta
 
     no_super : (method words : ℕ) → wrong_call s n call.Super method words ≡ false → is_constructor s.tables.now method ≡ true → ⊥
     no_super method words e c =
-        let f = (or_false (differ false (static_method s method) || wrong_super s n call.Super method) (not (nat_eq words (passed_words s call.Super method))) e).0 in
-        let g = (or_false (differ false (static_method s method)) (is_constructor s.tables.now method || finds_static (found_at s n)) f).1 in
-        clash (is_constructor s.tables.now method) c (or_false (is_constructor s.tables.now method) (finds_static (found_at s n)) g).0
+        let f = (neither_of (differ false (static_method s method) || wrong_super s n call.Super method) (not (nat_eq words (passed_words s call.Super method))) e).0 in
+        let g = (neither_of (differ false (static_method s method)) (is_constructor s.tables.now method || finds_static (found_at s n)) f).1 in
+        clash (is_constructor s.tables.now method) c (neither_of (is_constructor s.tables.now method) (finds_static (found_at s n)) g).0
 
     called : (k : InvokeKind) (method : ℕ) (args : List ℕ) → wrong_call s n k method (length args) ≡ false → refused_call s n a.registers k method args ≡ None → is_half (kind_of s.tables.now (method_class s.program.now method)) ≡ false
         → Shifts w a.registers (called_by k s.program.now s.tables.now s.kind method args a).registers
@@ -289,7 +267,7 @@ module _ (s : Setting) (m : IsMeeting s.tables.now) (own : is_half (kind_of s.ta
     got_narrow item.Short array index e = refl
 
     field_narrow : (static : Bool) (i : Item) (field : ℕ) → wrong_access s static i field ≡ false → is_low (kind_of s.tables.now (field_kind s.program.now field)) ≡ is_wide_item i
-    field_narrow static i field e = item_width i (shape_of s.tables.now (field_kind s.program.now field)) (or_false (wrong_item i (shape_of s.tables.now (field_kind s.program.now field))) (differ static (static_field s field)) e).0
+    field_narrow static i field e = item_width i (shape_of s.tables.now (field_kind s.program.now field)) (neither_of (wrong_item i (shape_of s.tables.now (field_kind s.program.now field))) (differ static (static_field s field)) e).0
 
     first_word : is_low Word ≡ false
     first_word = refl
@@ -323,7 +301,7 @@ module _ (s : Setting) (m : IsMeeting s.tables.now) (own : is_half (kind_of s.ta
     shifts_by (insn.FilledNewArray type args) c w e = itself (touches (insn.FilledNewArray type args)) ks
     shifts_by (insn.ArrayGet i to array index) c w e = puts (is_wide_item i) to (got s.tables.now i (kind_at ks array)) (touches (insn.ArrayGet i to array index)) ks (got_narrow i array index e) (at_writes (insn.ArrayGet i to array index) (is_wide_item i) to (λ q. refl))
     shifts_by (insn.InstanceGet i to on field) c w e = puts (is_wide_item i) to (kind_of s.tables.now (field_kind s.program.now field)) (touches (insn.InstanceGet i to on field)) ks (field_narrow false i field w) (at_writes (insn.InstanceGet i to on field) (is_wide_item i) to (λ q. refl))
-    shifts_by (insn.StaticGet i to field) c w e = puts (is_wide_item i) to (kind_of s.tables.now (field_kind s.program.now field)) (touches (insn.StaticGet i to field)) ks (field_narrow true i field (or_false (wrong_access s true i field) (wrong_first s field) w).0) (at_writes (insn.StaticGet i to field) (is_wide_item i) to (λ q. refl))
+    shifts_by (insn.StaticGet i to field) c w e = puts (is_wide_item i) to (kind_of s.tables.now (field_kind s.program.now field)) (touches (insn.StaticGet i to field)) ks (field_narrow true i field (neither_of (wrong_access s true i field) (wrong_first s field) w).0) (at_writes (insn.StaticGet i to field) (is_wide_item i) to (λ q. refl))
     shifts_by (insn.Invoke k method args) c w e = called n a (touches (insn.Invoke k method args)) k method args w e (c method k args refl)
     shifts_by i c w e = itself (touches i) ks
 

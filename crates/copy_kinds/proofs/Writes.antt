@@ -3,14 +3,12 @@ use Rattle.std.proofs.Common.{◌≡◌, ℕ, zero, suc, ◌+◌, ◌-◌, ◌<�
 use Rattle.std.specs.Prelude.{◌||◌, slice_set, if◌then◌else◌}
 use Rattle.std.proofs.Math.ListN.{length-set}
 use Rattle.std.proofs.lemmas.Bool.{eq-eqb}
+use Rattle.lemmas.proofs.Bools.{clash, or_left, or_right, untrue}
 use Rattle.insn_set.specs.Registers.{in_operand}
 use Rattle.verify.specs.declared.kinds.Kind.{Kind}
 use Rattle.verify.specs.declared.kinds.Kind.TheVariants.{Undefined, WideLow, WideHigh}
 use Rattle.verify.specs.Frames.{kind_at, cleared, split, written_one, written_pair, written_kinds}
 use Rattle.verify.specs.Kinds.{same_kind}
-
-clash : {A : Type 0} (b : Bool) → b ≡ true → b ≡ false → A
-clash b e f = absurd (true≢false (sym e ∙ f))
 
 pub set_other : (ks : List Kind) (r q : ℕ) (k : Kind) → (q ≡ r → ⊥) → kind_at (slice_set ks r k) q ≡ kind_at ks q
 set_other ks r q k n = get_or-set_other ks r q k Undefined n
@@ -92,18 +90,6 @@ pub record IsLeft (w : ℕ → Bool) (ks : List Kind) (q : ℕ) : Type 0 where
   pub here : w q ≡ false
   pub low : same_kind (kind_at ks q) WideLow ≡ true → w (q + 1) ≡ false
   pub high : same_kind (kind_at ks q) WideHigh ≡ true → w (q - 1) ≡ false
-
-untrue : (b : Bool) → (b ≡ true → ⊥) → b ≡ false
-untrue true h = absurd (h refl)
-untrue false h = refl
-
-or_left : (a b : Bool) → a ≡ true → (a || b) ≡ true
-or_left true b e = refl
-or_left false b e = absurd (true≢false (sym e))
-
-or_right : (a b : Bool) → b ≡ true → (a || b) ≡ true
-or_right true b e = refl
-or_right false b e = e
 
 module _ (wide : Bool) (r : ℕ) (ks : List Kind) (q : ℕ) (h : IsLeft (in_operand wide r) ks q) where
   first_in : (v : Bool) (y : ℕ) → y ≡ r → in_operand v r y ≡ true

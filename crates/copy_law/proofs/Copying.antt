@@ -2,6 +2,7 @@
 use Rattle.std.proofs.Common.{◌≡◌, ℕ, zero, suc, ◌+◌, ◌-◌, ◌<◌, Bool, true, false, List, [], Some, None, refl, sym, ap, ap₂, ◌∙◌, subst, subst₂, inl, arith}
 use Rattle.std.specs.Prelude.{◌||◌, ◌&&◌, ◌++◌, nat_eq, replicate, slice_index_or, Contains}
 use Rattle.std.proofs.lemmas.Bool.{eq-eqb, eqb-true}
+use Rattle.lemmas.proofs.Bools.{and_both, or_left}
 use Rattle.insn_set.specs.Registers.{in_operand}
 use Rattle.insn_set.specs.Widths.{is_wide_slot}
 use Rattle.dalvik_defs.specs.Face.{Bodies, bodies_of}
@@ -28,7 +29,7 @@ use Rattle.silence_law.specs.Bodies.{Change, changed}
 use Rattle.silence_law.proofs.Faces.{face_same}
 use Rattle.form_law.specs.Changes.{In, destination, width_if, width}
 use Rattle.form_law.proofs.Forms.{form_law}
-use Rattle.form_law.proofs.Uses.{or_left, or_right, same_reads, writes_at, writes_from, remade_destination}
+use Rattle.form_law.proofs.Uses.{or_right, same_reads, writes_at, writes_from, remade_destination}
 use Rattle.place_law.specs.Rewriting.{Claims, frame_size, Holds, Unwritten, Comes, Writes, Keeps, Fits, IsInPlace}
 use Rattle.place_law.specs.Rewriting.{Copies as Moves}
 use Rattle.place_law.specs.Solid.{IsSolid, AllSolid}
@@ -55,9 +56,6 @@ meets true to from zero (suc zero) a c e = or_left _ _ (or_right (nat_eq from to
 meets true to from (suc zero) zero a c e = or_right (in_operand true to from) (in_operand true from to) (or_right (nat_eq to from) (nat_eq to (from + 1)) (eq-eqb to (from + 1) (omega (arith, e))))
 meets true to from (suc (suc i)) j a c e = absurd (omega (arith, a))
 meets true to from i (suc (suc j)) a c e = absurd (omega (arith, c))
-
-both : (a b : Bool) → a ≡ true → b ≡ true → (a && b) ≡ true
-both a b e i = ap (λ x. x && b) e ∙ i
 
 module _ (s : Setting) (find other : Bodies) where
   abbrev I : State → Type 0
@@ -106,7 +104,7 @@ module _ (s : Setting) (find other : Bodies) where
       not_written m o y c i j r u = by (writes f r) refl
         where
           by : (v : Bool) → writes f r ≡ v → writes f r ≡ false
-          by true z = absurd (c.kept (IsSpoilt.Written n m r f i reached x (both (in_either c.slot c.to c.from r) (writes f r) u z) (contained m (onward f n) j)))
+          by true z = absurd (c.kept (IsSpoilt.Written n m r f i reached x (and_both (in_either c.slot c.to c.from r) (writes f r) u z) (contained m (onward f n) j)))
           by false z = z
 
       -- the Move itself

@@ -2,6 +2,7 @@
 use Rattle.std.proofs.Common.{◌≡◌, ℕ, suc, ◌+◌, ◌<◌, Bool, true, false, List, [], ◌∷◌, Option, Some, None, refl, sym, ap, ap₂, ◌∙◌, subst, arith}
 use Rattle.std.specs.Prelude.{◌&&◌, ◌||◌, not, nat_eq, if◌then◌else◌, All}
 use Rattle.std.proofs.lemmas.Bool.{eq-eqb, eqb-true}
+use Rattle.lemmas.proofs.Options.{some_same}
 use Rattle.insn_set.specs.Registers.{in_operand}
 use Rattle.insn_set.specs.Widths.{is_wide_slot}
 use Rattle.insn_set.specs.declared.ops.Slot.{Slot}
@@ -13,7 +14,7 @@ use Rattle.pass_defs.specs.Remade.{remade}
 use Rattle.pass_defs.specs.Stale.{reads_as}
 use Rattle.pass_defs.specs.Walks.{form_at}
 use Rattle.form_law.specs.Changes.{width_if, TakesPair}
-use Rattle.place_law.proofs.Onward.{clash, some_same}
+use Rattle.place_law.proofs.Onward.{clash}
 use Rattle.copy_law.specs.Copied.{Stands, Itself, Original, ReadsOriginals}
 use Rattle.copy_law.specs.Reread.{Copied, substituted, StandsThere, AreReread}
 

@@ -2,6 +2,7 @@
 use Rattle.std.proofs.Common.{◌≡◌, ℕ, zero, suc, Bool, true, List, [], ◌∷◌, ◌++◌, length, Option, Some, None, refl, sym, ap, ap₂, ◌∙◌, subst}
 use Rattle.std.specs.Prelude.{◌&&◌, ◌||◌, map, not, nat_eq, if◌then◌else◌, is_some, slice_get, Contains}
 use Rattle.std.specs.List.{list_all}
+use Rattle.lemmas.proofs.Bools.{and_left}
 use Rattle.dalvik_defs.specs.declared.forms.Form.{Form}
 use Rattle.dalvik_defs.specs.declared.forms.Form.TheVariants as form
 use Rattle.dalvik_defs.specs.declared.program.NamedBody.{NamedBody}
@@ -17,7 +18,7 @@ use Rattle.pass_defs.specs.Demands.{is_constructor_name, is_allowed}
 use Rattle.pass_defs.specs.Typed.{is_static_call, constructed, Table, state_at, at_state, each, arrives, after, moved, got, is_wrong, passed_words, wrong_method, wrong_super, catches_in, edges, begun, IsTyping, IsTyped}
 use Rattle.silence_law.specs.Bodies.{Change, changed}
 use Rattle.silence_law.proofs.Moved.{moved_typed}
-use Rattle.form_law.proofs.Demanded.{allowed_named, and_left, and_behind}
+use Rattle.form_law.proofs.Demanded.{allowed_named, and_behind}
 use Rattle.place_law.proofs.Onward.{clash}
 use Rattle.copy_law.specs.Copied.{ReadsOriginals}
 use Rattle.copy_law.specs.TypedCopies.{Leaves, SameAt, AllReadAlike}

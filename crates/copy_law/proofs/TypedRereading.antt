@@ -2,6 +2,7 @@
 use Rattle.std.proofs.Common.{◌≡◌, ℕ, suc, ◌+◌, Bool, true, false, List, [], ◌∷◌, Some, refl, sym, ap, ap₂, ◌∙◌, subst, arith, eqb-true, eq-eqb}
 use Rattle.std.specs.Prelude.{◌&&◌, ◌||◌, not, nat_eq, if◌then◌else◌, All}
 use Rattle.std.specs.List.{list_any, list_all}
+use Rattle.lemmas.proofs.Bools.{and_left, or_left}
 use Rattle.insn_set.specs.Registers.{in_operand}
 use Rattle.insn_set.specs.Widths.{is_wide_slot}
 use Rattle.insn_set.specs.declared.ops.Slot.{Slot}
@@ -22,8 +23,8 @@ use Rattle.pass_defs.specs.Typed.{state_at, IsTyped}
 use Rattle.silence_law.specs.Bodies.{Change, changed}
 use Rattle.form_law.specs.Changes.{In}
 use Rattle.form_law.specs.Kinds.{Held}
-use Rattle.form_law.proofs.Uses.{or_left, or_right}
-use Rattle.form_law.proofs.Demanded.{and_left, and_behind}
+use Rattle.form_law.proofs.Uses.{or_right}
+use Rattle.form_law.proofs.Demanded.{and_behind}
 use Rattle.form_law.proofs.Asked.{all_in}
 use Rattle.form_law.proofs.Asking.{low_is, high_is, all_same, first_same}
 use Rattle.form_law.proofs.Typings.{allowed_at, right_at}

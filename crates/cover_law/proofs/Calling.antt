@@ -1,15 +1,15 @@
 -- Calls keep a frame covered: what they enter is covered at its entry, and what leaves the program is awaited.
 use Rattle.std.proofs.Common.{◌≡◌, ℕ, zero, suc, ◌+◌, ◌<◌, Bool, true, false, true≢false, List, [], ◌∷◌, Option, Some, None, ◌⊎◌, inl, inr, refl, sym, ap, ◌∙◌, subst, arith}
-use Rattle.std.specs.Prelude.{codes, ◌&&◌, not, length, map, flat_map, slice_get, is_some, Contains, if◌then◌else◌}
-use Rattle.std.specs.List.{list_any}
+use Rattle.std.specs.Prelude.{codes, ◌&&◌, not, map, slice_get, is_some, Contains, if◌then◌else◌}
+use Rattle.std.specs.List.{list_all}
 use Rattle.insn_set.specs.declared.ops.InvokeKind.{InvokeKind}
 use Rattle.insn_set.specs.declared.ops.InvokeKind.TheVariants as call
 use Rattle.dalvik_defs.proofs.Calm.{text_sound}
-use Rattle.dalvik_defs.specs.Names.{Text, text_eq, texts_eq, signature_eq, method_eq, object_type, object_constructor, is_common}
-use Rattle.dalvik_defs.specs.Flags.{is_static, is_native}
+use Rattle.dalvik_defs.specs.Names.{Text, text_eq, texts_eq, signature_eq, method_eq, object_type, object_constructor}
+use Rattle.dalvik_defs.specs.Flags.{is_static, is_native, is_interface}
 use Rattle.dalvik_defs.specs.Known.{null_pointer, abstract_method, class_change}
-use Rattle.dalvik_defs.specs.Under.{class_named, defines, own_above, walks, is_own_under, is_under}
-use Rattle.dalvik_defs.specs.Find.{Found, Search, Nothing, Clash, Finds, finds_statically, finds_super, finds_at, finds_among, chain_from, is_037, verdict, lowest, without_repeats, candidates_from, first_method, is_virtual_method}
+use Rattle.dalvik_defs.specs.Under.{class_named, defines, is_under}
+use Rattle.dalvik_defs.specs.Find.{Found, Search, Nothing, Clash, Finds, finds_statically, finds_super, finds_at}
 use Rattle.dalvik_defs.specs.Face.{face_of, bodies_of, finds_virtually}
 use Rattle.dalvik_defs.specs.Outer.{Outer}
 use Rattle.dalvik_defs.specs.State.{World, Classes, Thing, Instance, Items, is_null, kind_of, kind_of_thing}
@@ -29,28 +29,32 @@ use Rattle.dalvik_defs.specs.declared.tables.Floats.{Floats}
 use Rattle.dalvik_defs.specs.declared.tables.Framework.{Framework}
 use Rattle.pass_defs.specs.Analysis.{Analysis, IsRanged}
 use Rattle.pass_defs.specs.Calls.{is_within}
-use Rattle.run_facts.specs.Closed.{At, IsBound, IsEntered, MayBe, MayCall, Statically, Directly, Above, Virtually, ByInterface, MayLeave}
+use Rattle.run_facts.specs.Closed.{At, IsBound, IsEntered, MayBe, MayCall, Statically, Directly, Above, Virtually, ByInterface, FindsNoCode, MayFindNoCode, MayLeave}
 use Rattle.pass_defs.specs.Facts.{Facts, IsEnteredOn, needs, static_class}
+use Rattle.pass_defs.specs.Kinds.{is_plain}
 use Rattle.pass_defs.specs.Kinds as kind
 use Rattle.pass_defs.specs.Live.{IsMade, unconditional}
 use Rattle.pass_defs.specs.Typed.{finds_static, is_static_call, words_of}
-use Rattle.pass_defs.specs.Demands.{is_constructor_name}
+use Rattle.pass_defs.specs.Demands.{Constructed, Fits, is_constructed, is_constructor_name, meets, passed}
+use Rattle.pass_defs.specs.Registers.{kind_at}
 use Rattle.invariant_law.specs.Invariant.{Callee, Owing}
 use Rattle.invariant_law.proofs.Fine.{each_get, each_or}
 use Rattle.invariant_law.proofs.Growing.{grows_same}
 use Rattle.invariant_law.proofs.Stacked.{EnteredOver}
 use Rattle.run_facts.specs.Covered.{Sees, CoversTop, CoversWorld, AwaitsCall, Used}
-use Rattle.stuck_law.specs.TypedStates.{TypedFrame, TypedWorld}
+use Rattle.stuck_law.specs.TypedStates.{KindHolds, TypedFrame, TypedWorld}
 use Rattle.stuck_law.proofs.Settled.{IsSettled, IsFound, FindsRegularly}
 use Rattle.stuck_law.proofs.Registers.{and_left, and_right}
-use Rattle.stuck_law.proofs.Climbs.{none_some, some_one, or_cases, under_self, step_up, defined_by, Up}
+use Rattle.stuck_law.proofs.Climbs.{none_some, some_one, or_cases, under_self, step_up, defined_by, plain_by, plain_defined}
 use Rattle.stuck_law.proofs.Arrays.{true_false}
 use Rattle.stuck_law.proofs.Calls.{right_method, right_super, own_class, virtual_object, virtual_flags}
-use Rattle.stuck_law.proofs.Forms.{first_in, or_right}
+use Rattle.stuck_law.proofs.FieldForms.{fitting}
+use Rattle.stuck_law.proofs.Forms.{first_in, or_right, reg_held}
 use Rattle.stuck_law.proofs.Here.{setting, get_contains}
 use Rattle.cover_law.proofs.Ready.{IsReady}
 use Rattle.cover_law.specs.Known.{KnownFrame, KnownWorld, MadeThing}
 use Rattle.cover_law.proofs.Along.{Looks}
+use Rattle.cover_law.proofs.Given.{defined_under, made_under}
 use Rattle.cover_law.proofs.Reading.{enough}
 use Rattle.cover_law.proofs.Standing.{gone_on}
 use Rattle.cover_law.proofs.Entering.{Passes, entry_top, nothing_behind}
@@ -58,60 +62,14 @@ use Rattle.cover_law.proofs.Worlds.{same_world, same_all}
 use Rattle.cover_law.proofs.Stays.{below, covers, Leads, Is, kept, there, arrays, here, faulted, looks}
 use Rattle.cover_law.proofs.Waiting.{waits, readied, used_on}
 
--- ---- what stands above by a program's own lists
+-- ---- look-ups
 
-any_in : {A : Type 0} (test : A → Bool) (xs : List A) → list_any test xs ≡ true → (x : A) × (Contains xs x × (test x ≡ true))
-any_in test [] e = absurd (true≢false (sym e))
-any_in {A} test (y ∷ ys) e = by (or_cases (test y) (list_any test ys) e) (λ i. any_in test ys i)
+some_named : (p : NamedProgram) (t : Text) → defines p t ≡ true → is_some (class_named p t) ≡ true
+some_named p t e = by (class_named p t) e
   where
-    by : (test y ≡ true) ⊎ (list_any test ys ≡ true) → (list_any test ys ≡ true → (x : A) × (Contains ys x × (test x ≡ true))) → (x : A) × (Contains (y ∷ ys) x × (test x ≡ true))
-    by (inl i) more = (y, ((0, omega arith, refl), i))
-    by (inr i) more = let h = more i in let c = h.1.0 in (h.0, ((suc c.0, omega (arith, c.1), c.2), h.1.1))
-
-module _ (p : NamedProgram) (f : Framework) (reg : IsSettled p) where
-  -- a walk by the program's own lists to a class that it defines
-  walk_up : (n : ℕ) (s t : Text) → defines p t ≡ true → walks (own_above p) n s t ≡ true → (defines p s ≡ true) × Up p f reg s t
-  walk_up zero s t d e = same (text_sound s t e)
-    where
-      same : s ≡ t → (defines p s ≡ true) × Up p f reg s t
-      same i = (subst (λ s. defines p s ≡ true) (sym i) d, subst (λ s. Up p f reg s t) (sym i) (λ z u. u))
-  walk_up (suc n) s t d e = by (text_eq s t) refl e (λ v i. walk_up n v t d i)
-    where
-      named : (o : Option NamedClass) → class_named p s ≡ o → (v : Text) → Contains (elim o as (λ o. List Text) [ Some c ↦ c.superclass ∷ c.interfaces | None ↦ [] ]) v → (defines p v ≡ true) × Up p f reg v t → (defines p s ≡ true) × Up p f reg s t
-      named None i v c h = let l : c.0 < 0 = c.1 in absurd (omega (arith, l))
-      named (Some k) i v c h = (defined_by p s (Some k) i, λ z u. h.1 z (step_up p f reg s v k i c h.0 z u))
-
-      by : (b : Bool) → text_eq s t ≡ b → (elim b as (λ b. Bool) [ true ↦ true | false ↦ list_any (λ u. walks (own_above p) n u t) (own_above p s) ]) ≡ true → ((v : Text) → walks (own_above p) n v t ≡ true → (defines p v ≡ true) × Up p f reg v t) → (defines p s ≡ true) × Up p f reg s t
-      by true i j more = (subst (λ s. defines p s ≡ true) (sym (text_sound s t i)) d, subst (λ s. Up p f reg s t) (sym (text_sound s t i)) (λ z u. u))
-      by false i j more = let h = any_in (λ u. walks (own_above p) n u t) (own_above p s) j in named (class_named p s) refl h.0 h.1.0 (more h.0 h.1.1)
-
-  pub within_under : (s t : Text) → defines p t ≡ true → is_within p s t ≡ true → is_under p f s t ≡ true
-  within_under s t d e = by (or_cases (text_eq t object_type) (is_own_under p s t) e)
-    where
-      by : (text_eq t object_type ≡ true) ⊎ (is_own_under p s t ≡ true) → is_under p f s t ≡ true
-      by (inl i) = true_false (subst (λ u. defines p u ≡ true) (text_sound t object_type i) d) reg.objects
-      by (inr i) = let h = walk_up (length p.classes) s t d i in h.1 s (under_self p f reg s (reg.regular.class_types s h.0))
-
-  -- an object of no class of the program finds nothing
-  none_above : (n : ℕ) (s : Text) → class_named p s ≡ None → chain_from n p s ≡ []
-  none_above zero s e = refl
-  none_above (suc n) s e = ap (λ o. elim o as (λ o. List NamedClass) [ Some c ↦ c ∷ chain_from n p c.superclass | None ↦ [] ]) e
-
-  found_named : (s : Text) (k : MethodKey) (d : Found) → finds_at p s k ≡ Finds d → is_some (class_named p s) ≡ true
-  found_named s k d e = by (class_named p s) refl
-    where
-      nothing : (b : Bool) (n : ℕ) → verdict (lowest p (elim b as (λ b. List Found) [ true ↦ without_repeats (candidates_from n p k.name k.signature []) | false ↦ [] ])) ≡ Nothing
-      nothing true zero = refl
-      nothing true (suc n) = refl
-      nothing false n = refl
-
-      clash : {A : Type 0} → Nothing ≡ Finds d → A
-      clash e = absurd (true≢false (ap (λ y. elim y as (λ y. Bool) [ Nothing ↦ true | Clash ↦ true | Finds d ↦ false ]) e))
-
-      by : (o : Option NamedClass) → class_named p s ≡ o → is_some o ≡ true
-      by (Some c) i = refl
-      by None i = clash (sym (ap (λ cs. elim (first_method is_virtual_method k.name k.signature cs) as (λ o. Search) [ Some f ↦ Finds f | None ↦ finds_among p (flat_map (λ c. c.interfaces) cs) k.name k.signature ]) (none_above (length p.classes) s i)
-          ∙ nothing (is_037 p.version && not (is_common k.name k.signature)) (length p.classes)) ∙ e)
+    by : (y : Option NamedClass) → (elim y as (λ y. Bool) [ Some c ↦ true | None ↦ false ]) ≡ true → is_some y ≡ true
+    by (Some c) i = refl
+    by None i = absurd (true≢false (sym i))
 
 -- ---- made objects
 
@@ -254,11 +212,9 @@ module _ {V : Type 0} (a : Analysis V) (p : NamedProgram) (o : Outer) (f : Frame
     null_or true = inr refl
     null_or false = inl refl
 
-    no_found : {A : Type 0} (s : Search) (d : Found) → s ≡ Nothing → s ≡ Finds d → A
-    no_found s d i j = absurd (true≢false (ap (λ y. elim y as (λ y. Bool) [ Nothing ↦ true | Clash ↦ true | Finds d ↦ false ]) (sym i ∙ j)))
-
-    same_coded : (s : Search) (d e : Found) → s ≡ Finds d → s ≡ Finds e → d.coded ≡ false → e.coded ≡ false
-    same_coded s d e i j l = sym (ap (λ y. elim y as (λ y. Bool) [ Nothing ↦ false | Clash ↦ false | Finds d ↦ d.coded ]) (sym i ∙ j)) ∙ l
+    -- a look-up that finds no code
+    bare : (s y : Search) → s ≡ y → FindsNoCode a y → FindsNoCode a s
+    bare s y e h = subst (FindsNoCode a) (sym e) h
 
     found_signature : (k : MethodKey) (d : Found) → IsFound p k d → d.key.signature ≡ k.signature
     found_signature k d is = ap (λ (d : Found). d.key.signature) is.is ∙ is.signature
@@ -272,11 +228,11 @@ module _ {V : Type 0} (a : Analysis V) (p : NamedProgram) (o : Outer) (f : Frame
     pub static_calls : (k : MethodKey) (args : List ℕ) → I (form.Invoke call.Static k args) → L (calls (face_of p f) need call.Static k (map (register g) args) w g)
     static_calls k args h = let src = finds_statically p k in
         searched call.Static k args h src past
-        (λ i. outs call.Static k args h past (λ d e. no_found src d i e) call.Static true k refl)
+        (λ i. outs call.Static k args h past (bare src Nothing i tt) call.Static true k refl)
         (λ d e. found_signature k d (finds.statically k d e).0)
         (λ d e st. subst (λ s. Contains (static_class s) d.key.class) (sym e) (subst (λ b. Contains (elim b as (λ b. List Text) [ true ↦ d.key.class ∷ [] | false ↦ [] ]) d.key.class) (sym st) (0, omega arith, refl)))
         (λ d e. may_enter call.Static k args h d (Statically k d e) (λ v l b. b tt))
-        (λ d e c d1 e1. same_coded src d d1 e e1 c)
+        (λ d e c. bare src (Finds d) e c)
       where
         past : (r : ℕ) → Contains [] r → is_null (register g r) ≡ false
         past r c = let l : c.0 < 0 = c.1 in absurd (omega (arith, l))
@@ -308,21 +264,21 @@ module _ {V : Type 0} (a : Analysis V) (p : NamedProgram) (o : Outer) (f : Frame
           (λ d e. found_signature k d (finds.statically k d e).0)
           (λ d e st. true_false st (right_method p o f floats reg finds w cs g tw t call.Direct k (r ∷ rs) h d (finds.resolved k d e).0))
           (λ d e. may_enter call.Direct k (r ∷ rs) h d (Directly k d e) (λ v l b. b tt))
-          (λ d e c d1 e1. same_coded src d d1 e e1 c))
+          (λ d e c. bare src (Finds d) e c))
         where
           none : is_null (register g r) ≡ false → finds_statically p k ≡ Nothing → (b : Bool) → method_eq k object_constructor ≡ b → L (elim b as (λ b. Outcome) [ true ↦ Stays w (next (record g { result = Word 0 })) None | false ↦ calls_out call.Direct false k (map (register g) (r ∷ rs)) w ])
           none z i true e = object_made h z e
-          none z i false e = outs call.Direct k (r ∷ rs) h (λ q c. past_one r q z c) (λ d j. no_found (finds_statically p k) d i j) call.Direct false k refl
+          none z i false e = outs call.Direct k (r ∷ rs) h (λ q c. past_one r q z c) (bare (finds_statically p k) Nothing i tt) call.Direct false k refl
 
       super_on : I (form.Invoke call.Super k (r ∷ rs)) → L (calls (face_of p f) need call.Super k (map (register g) (r ∷ rs)) w g)
       super_on h = let src = finds_super p class k in
           guarded call.Super k (r ∷ rs) h src (null_or (is_null (register g r))) (λ z.
           searched call.Super k (r ∷ rs) h src (λ q c. past_one r q z c)
-          (λ i. outs call.Super k (r ∷ rs) h (λ q c. past_one r q z c) (λ d e. no_found src d i e) call.Super false k refl)
+          (λ i. outs call.Super k (r ∷ rs) h (λ q c. past_one r q z c) (bare src Nothing i tt) call.Super false k refl)
           (λ d e. found_signature k d (finds.super class k d e))
           (λ d e st. true_false st (flags d e))
           (λ d e. may_enter call.Super k (r ∷ rs) h d (Above k d e) (λ v l b. b tt))
-          (λ d e c d1 e1. same_coded src d d1 e e1 c))
+          (λ d e c. bare src (Finds d) e c))
         where
           flags : (d : Found) → finds_super p class k ≡ Finds d → is_static d.flags ≡ false
           flags d e = sym (ap finds_static (sym (ap (λ c. finds_super p c k) (own_class p o f floats reg finds w cs g tw t)) ∙ e))
@@ -331,57 +287,98 @@ module _ {V : Type 0} (a : Analysis V) (p : NamedProgram) (o : Outer) (f : Frame
       abbrev u : Text
       u = kind_of w (register g r)
 
+      abbrev maybe : (ik : InvokeKind) → I (form.Invoke ik k (r ∷ rs)) → is_null (register g r) ≡ false → MayBe a (x r) u
+      maybe ik h z = record { object = register g r; there = z; held = seen_at ik k (r ∷ rs) h (r ∷ rs) (looks a p o f floats facts base reg w cs g tw kw cw t kg top (form.Invoke ik k (r ∷ rs)) h) 0 r refl }
+
+      -- ---- what a virtual call finds
+
+      -- the receiver of a virtual call stands under the class that is named, where the program has it and it is no interface
+      stands_under : I (form.Invoke call.Virtual k (r ∷ rs)) → is_null (register g r) ≡ false → is_plain p k.class ≡ true → is_under p f u k.class ≡ true
+      stands_under h z plain = by (is_constructor_name k.name) (and_left (asked (is_constructor_name k.name)) (list_all (λ d. meets p t.in_method.class t.kinds.registers d.0 d.1) (passed k.signature.parameters rs)) h.allowed)
+        where
+          asked : Bool → Bool
+          asked b = meets p t.in_method.class t.kinds.registers r (if b then Constructed k.class else Fits k.class)
+
+          own : Text
+          own = t.in_method.class.name
+
+          there : defines p k.class ≡ true
+          there = plain_defined p k.class plain
+
+          -- an object whose constructor is called
+          made : (q : kind.Kind) → is_constructed t.in_method.class k.class q ≡ true → KindHolds p f own w q (register g r) → is_under p f u k.class ≡ true
+          made (kind.Fresh s j) i q = subst (λ y. is_under p f y k.class ≡ true) (sym (q.1.0 ∙ text_sound s k.class i)) (under_self p f reg k.class (reg.regular.class_types k.class there))
+          made kind.FreshThis i q = one (or_cases (text_eq own k.class) (text_eq t.in_method.class.superclass k.class) i)
+            where
+              one : (text_eq own k.class ≡ true) ⊎ (text_eq t.in_method.class.superclass k.class ≡ true) → is_under p f u k.class ≡ true
+              one (inl j) = subst (λ y. is_under p f u y ≡ true) (text_sound own k.class j) q.1
+              one (inr j) = step_up p f reg own k.class t.in_method.class (reg.regular.named t.in_method.class t.in_method.class_in)
+                  (subst (λ y. Contains (t.in_method.class.superclass ∷ t.in_method.class.interfaces) y) (text_sound t.in_method.class.superclass k.class j) (0, omega arith, refl)) there u q.1
+          made q i s = absurd (true≢false (sym i))
+
+          by : (b : Bool) → meets p t.in_method.class t.kinds.registers r (if b then Constructed k.class else Fits k.class) ≡ true → is_under p f u k.class ≡ true
+          by true i = made (kind_at t.kinds.registers r) i (reg_held p o f floats reg w cs g tw t r)
+          by false i = (fitting p o f floats reg w cs g tw t k.class plain r i z).1
+
+      -- what finds no code may leave the program
+      leaves_virtually : I (form.Invoke call.Virtual k (r ∷ rs)) → is_null (register g r) ≡ false → FindsNoCode a (finds_virtually p f u k) → MayLeave a p o class x (r ∷ rs) call.Virtual k
+      leaves_virtually h z none = by (class_named p k.class) refl
+        where
+          of_made : is_plain p k.class ≡ true → MayFindNoCode a p o (x r) k
+          of_made plain = let there = plain_defined p k.class plain in let up = stands_under h z plain in let named = defined_under p o f floats reg finds w tw (register g r) k.class up there in record {
+            class = u;
+            may_be = maybe call.Virtual h z;
+            made = made_under p o f floats reg finds w tw kw (register g r) k.class up there;
+            within = base.reaches.within u k.class named there up;
+            bare = subst (FindsNoCode a) (ap (λ b. elim b as (λ b. Search) [ true ↦ finds_at p u k | false ↦ Nothing ]) (ap (λ b. b && is_under p f u k.class) (some_named p u named) ∙ up)) none;
+          }
+
+          by_flags : (c : NamedClass) → class_named p k.class ≡ Some c → (b : Bool) → is_interface c.flags ≡ b → MayLeave a p o class x (r ∷ rs) call.Virtual k
+          by_flags c i true j = inr (inl (ap (λ y. is_some (elim y as (λ y. Option NamedClass) [ Some c ↦ elim (is_interface c.flags) as (λ b. Option NamedClass) [ true ↦ Some c | false ↦ None ] | None ↦ None ])) i
+              ∙ ap (λ b. is_some (elim b as (λ b. Option NamedClass) [ true ↦ Some c | false ↦ None ])) j))
+          by_flags c i false j = inr (inr (of_made (plain_by p k.class (Some c) i ∙ ap not j)))
+
+          by : (y : Option NamedClass) → class_named p k.class ≡ y → MayLeave a p o class x (r ∷ rs) call.Virtual k
+          by None i = inl (defined_by p k.class None i)
+          by (Some c) i = by_flags c i (is_interface c.flags) refl
+
       -- A virtual call, and one of an interface: on what a made object finds.
       on_object : (ik : InvokeKind) (h : I (form.Invoke ik k (r ∷ rs))) → (IsBound ik → ⊥) → (is_static_call ik ≡ false)
           → ((d : Found) → MayBe a (x r) u → IsMade p o unconditional u → is_within p u k.class ≡ true → finds_at p u k ≡ Finds d → MayCall a p o class x (r ∷ rs) ik k d)
-          → ((defines p k.class ≡ false) ⊎ ((s : Text) × MayBe a (x r) s × ((d : Found) → IsMade p o unconditional s → is_within p s k.class ≡ true → finds_at p s k ≡ Finds d → d.coded ≡ false)) → MayLeave a p o class x (r ∷ rs) ik k)
+          → (is_null (register g r) ≡ false → FindsNoCode a (finds_virtually p f u k) → MayLeave a p o class x (r ∷ rs) ik k)
+          → (defines p k.class ≡ false → MayLeave a p o class x (r ∷ rs) ik k)
           → ((q : ℕ) → Contains (Used a p o facts (form.Invoke ik k (r ∷ rs))) q → Contains (r ∷ []) q)
-          → (MayLeave a p o class x (r ∷ rs) ik k → finds_virtually p f u k ≡ Nothing → is_null (register g r) ≡ false → L (calls_unfound ik k (map (register g) (r ∷ rs)) w g))
+          → (MayLeave a p o class x (r ∷ rs) ik k → is_null (register g r) ≡ false → L (calls_unfound ik k (map (register g) (r ∷ rs)) w g))
           → is_null (register g r) ≡ false → L (calls_by need ik k (map (register g) (r ∷ rs)) w g (finds_virtually p f u k))
-      on_object ik h unbound dynamic calls_it leaves_it used_it out z = let src = finds_virtually p f u k in
+      on_object ik h unbound dynamic calls_it leaves_it outside used_it out z = let src = finds_virtually p f u k in
           searched ik k (r ∷ rs) h src (λ q c. past_one r q z (used_it q c))
-          (λ i. out (leaves_it (unfound i)) i z)
+          (λ i. out (leaves_it z (bare src Nothing i tt)) z)
           (λ d e. found_signature k d (finds.virtually u k d (at_of d e).0).0)
           (λ d e st. true_false st (virtual_flags p o f floats reg finds w cs g tw t d.flags d.key.name (finds.virtually u k d (at_of d e).0).1.0).0)
           (λ d e c. enter d e c (base.reaches.virtually g.method t.in_method.body ik k (r ∷ rs) u d (ap (bodies_of p) t.of ∙ t.in_method.has_body) (get_contains t.in_method.body.forms g.position (form.Invoke ik k (r ∷ rs)) h.has) unbound (made d e) e))
-          (λ d e c. leaves_it (inr (u, maybe, (λ d1 m i j. same_coded (finds_at p u k) d d1 (at_of d e).0 j c))))
+          (λ d e c. leaves_it z (bare src (Finds d) e c))
         where
-          maybe : MayBe a (x r) u
-          maybe = record { object = register g r; there = z; held = seen_at ik k (r ∷ rs) h (r ∷ rs) (looks a p o f floats facts base reg w cs g tw kw cw t kg top (form.Invoke ik k (r ∷ rs)) h) 0 r refl }
-
           at_of : (d : Found) → finds_virtually p f u k ≡ Finds d → (finds_at p u k ≡ Finds d) × (defines p u ≡ true)
           at_of d e = virtual_object p o f floats reg finds w cs g tw t r k d e
 
           made : (d : Found) → finds_virtually p f u k ≡ Finds d → IsMade p o unconditional u
           made d e = made_kind p o reg w kw (register g r) (at_of d e).1
 
-          -- nothing is found where the object isn't under the class, or finds nothing
-          unfound : finds_virtually p f u k ≡ Nothing → (defines p k.class ≡ false) ⊎ ((s : Text) × MayBe a (x r) s × ((d : Found) → IsMade p o unconditional s → is_within p s k.class ≡ true → finds_at p s k ≡ Finds d → d.coded ≡ false))
-          unfound i = by (defines p k.class) refl
-            where
-              both : (d : Found) → defines p k.class ≡ true → is_within p u k.class ≡ true → finds_at p u k ≡ Finds d → finds_virtually p f u k ≡ Finds d
-              both d df wi e = subst (λ b. (elim (b && is_under p f u k.class) as (λ b. Search) [ true ↦ finds_at p u k | false ↦ Nothing ]) ≡ Finds d) (sym (found_named p f reg u k d e))
-                  (subst (λ b. (elim b as (λ b. Search) [ true ↦ finds_at p u k | false ↦ Nothing ]) ≡ Finds d) (sym (within_under p f reg u k.class df wi)) e)
-
-              by : (b : Bool) → defines p k.class ≡ b → (defines p k.class ≡ false) ⊎ ((s : Text) × MayBe a (x r) s × ((d : Found) → IsMade p o unconditional s → is_within p s k.class ≡ true → finds_at p s k ≡ Finds d → d.coded ≡ false))
-              by false df = inl df
-              by true df = inr (u, maybe, (λ d m wi e. no_found (finds_virtually p f u k) d i (both d df wi e)))
-
           -- the receiver is passed by what it is
           enter : (d : Found) → finds_virtually p f u k ≡ Finds d → d.coded ≡ true → (is_within p u k.class ≡ true) ⊎ ((defines p k.class ≡ false) × (d.coded ≡ true → IsEnteredOn p o d.key)) → Enters_by ik k (r ∷ rs) h d
-          enter d e c (inl wi) = let m = calls_it d maybe (made d e) wi (at_of d e).0 in
+          enter d e c (inl wi) = let m = calls_it d (maybe ik h z) (made d e) wi (at_of d e).0 in
               may_enter ik k (r ∷ rs) h d m (λ v l b. subst (S (facts.parameters d.key 0) w) (some_one (register g r) v l)
-              (base.closed.calls.receives g.method k g.position ik (r ∷ rs) d u (register g r) (at_y ik k (r ∷ rs) h) refl maybe.held z (at_of d e).0 m)) c
+              (base.closed.calls.receives g.method k g.position ik (r ∷ rs) d u (register g r) (at_y ik k (r ∷ rs) h) refl unbound (maybe ik h z).held z (at_of d e).0 m)) c
           enter d e c (inr n) = let eo = n.1 c in let op = base.closed.entries.methods d.key eo in
-              ((ik, k, r ∷ rs, refl, inr (leaves_it (inl n.0), eo)), (op.entered, passed_open ik k (r ∷ rs) h d.key op.parameters))
+              ((ik, k, r ∷ rs, refl, inr (outside n.0, eo)), (op.entered, passed_open ik k (r ∷ rs) h d.key op.parameters))
 
       virtual_on : I (form.Invoke call.Virtual k (r ∷ rs)) → L (calls (face_of p f) need call.Virtual k (map (register g) (r ∷ rs)) w g)
-      virtual_on h = guarded call.Virtual k (r ∷ rs) h (finds_virtually p f u k) (null_or (is_null (register g r))) (λ z. on_object call.Virtual h (λ b. b) refl (λ d m i j e. Virtually k d u m i j e) (λ l. l) (λ q c. c)
-          (λ l i z. outs call.Virtual k (r ∷ rs) h (λ q c. past_one r q z c) l call.Virtual false k refl) z)
+      virtual_on h = guarded call.Virtual k (r ∷ rs) h (finds_virtually p f u k) (null_or (is_null (register g r))) (λ z. on_object call.Virtual h (λ b. b) refl (λ d m i j e. Virtually k d u m i j e) (λ y n. leaves_virtually h y n) (λ d. inl d) (λ q c. c)
+          (λ l z. outs call.Virtual k (r ∷ rs) h (λ q c. past_one r q z c) l call.Virtual false k refl) z)
 
       interface_on : I (form.Invoke call.Interface k (r ∷ rs)) → L (calls (face_of p f) need call.Interface k (map (register g) (r ∷ rs)) w g)
-      interface_on h = guarded call.Interface k (r ∷ rs) h (finds_virtually p f u k) (null_or (is_null (register g r))) (λ z. on_object call.Interface h (λ b. b) refl (λ d m i j e. ByInterface k d u m i j e) (λ l. l) (λ q c. c)
-          (λ l i z. outs call.Interface k (r ∷ rs) h (λ q c. past_one r q z c) l call.Interface false k refl) z)
+      interface_on h = guarded call.Interface k (r ∷ rs) h (finds_virtually p f u k) (null_or (is_null (register g r))) (λ z. on_object call.Interface h (λ b. b) refl (λ d m i j e. ByInterface k d u m i j e) (λ y n. tt) (λ d. tt) (λ q c. c)
+          (λ l z. outs call.Interface k (r ∷ rs) h (λ q c. past_one r q z c) l call.Interface false k refl) z)
 
     -- each call with a receiver has one
     none_left : {A : Type 0} (ik : InvokeKind) (k : MethodKey) → is_static_call ik ≡ false → I (form.Invoke ik k []) → A

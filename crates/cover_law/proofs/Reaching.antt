@@ -286,5 +286,8 @@ module _ (p : NamedProgram) (o : Outer) (f : Framework) (floats : Floats) (reg :
       subst (λ (z : Found). IsEnteredOn p o z.key) x.is (on_made x.class x.method x.class_in x.method_in t there made (ap (λ (z : Found). is_under p f t z.key.class) x.is ∙ u)
       (ap (λ (z : Found). may_reach (face_of p f) o t z) x.is ∙ l) (ap (λ (z : Found). z.coded) x.is ∙ coded) (ap (λ (z : Found). is_static z.flags) x.is ∙ held))
 
+  within : (t u : Text) → defines p t ≡ true → defines p u ≡ true → is_under p f t u ≡ true → is_within p t u ≡ true
+  within t u d e i = second_holds (text_eq u object_type) (is_own_under p t u) (own_under p f none regular t u d e i)
+
   pub reaches : Reaches p o f
-  reaches = record { virtually = virtually; entered = entered }
+  reaches = record { virtually = virtually; within = within; entered = entered }

@@ -35,6 +35,8 @@ pub record Reaches (p : NamedProgram) (o : Outer) (f : Framework) : Type 0 where
   pub virtually : (m : MethodKey) (b : NamedBody) (kind : InvokeKind) (k : MethodKey) (args : List ℕ) (t : Text) (g : Found)
       → bodies_of p m ≡ Some b → Contains b.forms (form.Invoke kind k args) → (IsBound kind → ⊥)
       → IsMade p o unconditional t → finds_virtually p f t k ≡ Finds g → (is_within p t k.class ≡ true) ⊎ ((defines p k.class ≡ false) × (g.coded ≡ true → IsEnteredOn p o g.key))
+  -- a class that stands under one of the program does so by the program's lists
+  pub within : (t u : Text) → defines p t ≡ true → defines p u ≡ true → is_under p f t u ≡ true → is_within p t u ≡ true
   -- what the framework calls on a made object
   pub entered : (c n q t : Text) (g : Found) → declared_in p c n q ≡ Some g → defines p t ≡ true → IsMade p o unconditional t
       → is_under p f t g.key.class ≡ true → may_reach (face_of p f) o t g ≡ true → g.coded ≡ true

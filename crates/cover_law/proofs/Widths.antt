@@ -1,6 +1,6 @@
 -- The words of a script that fits have 32 bits, and its arrays fewer than 2^31 items.
-use Rattle.std.proofs.Common.{◌≡◌, true, List, [], ◌∷◌, Option, Some, None, sym, ◌∙◌}
-use Rattle.std.specs.Prelude.{ℕ, ◌<◌, ◌&&◌, nat_lt}
+use Rattle.std.proofs.Common.{◌≡◌, true, List, [], ◌∷◌, Option, Some, None}
+use Rattle.std.specs.Prelude.{ℕ, ◌<◌, ◌^◌, nat_lt}
 use Rattle.std.specs.List.{list_all}
 use Rattle.std.proofs.lemmas.Bool.{ltb-true}
 use Rattle.dalvik_defs.specs.Shown.{is_ranged_given, is_ranged_option, is_ranged_move}

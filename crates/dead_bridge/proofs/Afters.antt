@@ -3,6 +3,7 @@ use Rattle.std.proofs.Common.{◌≡◌, ◌⊎◌, inl, inr, ℕ, zero, suc, �
 use Rattle.std.specs.Prelude.{◌&&◌, ◌||◌, not}
 use Rattle.std.specs.List.{list_any}
 use Rattle.std.proofs.lemmas.Bool.{eqb-true, or_cases}
+use Rattle.lemmas.proofs.Bools.{or_false_left, or_false_right}
 use Rattle.insn_set.specs.Registers.{in_operand}
 use Rattle.insn_set.specs.Widths.{is_wide_slot, is_wide_item, unary_writes_wide, binary_is_wide}
 use Rattle.insn_set.specs.declared.ops.Slot.{Slot}
@@ -23,7 +24,7 @@ use Rattle.pass_defs.specs.Kinds.{Kind, Undefined, Word, Low, Reference, Array, 
 use Rattle.pass_defs.specs.Registers.{Kinds, kind_at, written, written_kinds, replaced, replace, forgotten, forget}
 use Rattle.pass_defs.specs.Demands.{is_constructor_name, result_fits, place_allowed, is_allowed}
 use Rattle.pass_defs.specs.Typed.{number_kind, constant_kind, got, moved, constructed, receiver_register, is_static_call, called, after, wrong_item, wrong_field, wrong_first, words_of, passed_words, wrong_method, wrong_super, is_wrong}
-use Rattle.silence_law.proofs.Lists.{clash, and_left, and_right}
+use Rattle.silence_law.proofs.Lists.{and_left}
 use Rattle.dead_bridge.proofs.Agreeing.{AgreeOn, same_or, pair_agree, kinds_agree, fewer_agree, map_agree}
 
 -- ---- kinds that are the low half of a wide
@@ -58,14 +59,6 @@ wide_word (u ∷ us) e = elim (or_cases (nat_eq u 74) (nat_eq u 68) e) [
 pub wide_kind : (p : NamedProgram) (t : Text) → is_wide t ≡ true → kind_of p t ≡ Low
 wide_kind p t e = ap (λ b. if b then Word else if is_wide t then Low else if is_reference t then kind_of_reference p t else Undefined) (wide_word t e)
     ∙ ap (λ b. if b then Low else if is_reference t then kind_of_reference p t else Undefined) e
-
-or_false_left : (a b : Bool) → (a || b) ≡ false → a ≡ false
-or_false_left false b e = refl
-or_false_left true b e = e
-
-or_false_right : (a b : Bool) → (a || b) ≡ false → b ≡ false
-or_false_right false b e = e
-or_false_right true b e = absurd (true≢false e)
 
 item_low : (p : NamedProgram) (i : Item) (t : Text) → is_wide_item i ≡ true → wrong_item i t ≡ false → kind_of p t ≡ Low
 item_low p item.Wide t e d = wide_kind p t (by (is_wide t) d)

@@ -3,6 +3,8 @@ use Rattle.std.proofs.Common.{◌≡◌, ◌⊎◌, inl, inr, ℕ, zero, suc, �
 use Rattle.std.specs.Prelude.{◌&&◌, ◌||◌, not}
 use Rattle.std.specs.List.{list_all, list_any}
 use Rattle.std.proofs.lemmas.Bool.{eqb-true}
+use Rattle.lemmas.proofs.Bools.{and_right}
+use Rattle.lemmas.proofs.Lists.{all_append, all_first, all_last}
 use Rattle.insn_set.specs.declared.ops.InvokeKind.{InvokeKind}
 use Rattle.insn_set.specs.declared.ops.InvokeKind.TheVariants as call
 use Rattle.dalvik_defs.specs.Names.{Text, is_wide}
@@ -15,7 +17,7 @@ use Rattle.pass_defs.specs.Kinds.{Kind, Low, High, kind_eq, is_number, is_initia
 use Rattle.pass_defs.specs.Registers.{kind_at}
 use Rattle.pass_defs.specs.Demands.{Demand, Moved, Number, Pair, Behind, Initialised, Either, Fits, Receiver, Holder, Constructed, AnArray, ArrayOf, Filled, meets, is_moved, holds_field, is_constructed, is_array_where, item_eq, has_width, is_constructor_name, found_class, passed_wide, passed, receiver_demands, call_demands}
 use Rattle.pass_defs.specs.Typed.{is_static_call, words_of, passed_words}
-use Rattle.silence_law.proofs.Lists.{and_left, and_right, and_both, all_map, all_front, all_back, all_joined}
+use Rattle.silence_law.proofs.Lists.{and_left, and_both, all_map}
 
 module _ (p : NamedProgram) (c : NamedClass) (ks ls : List Kind) where
   -- a demand on a register that holds the same, of a wide both halves
@@ -110,6 +112,6 @@ module _ (p : NamedProgram) (c : NamedClass) (ks ls : List Kind) where
       passed_there k.signature.parameters rs (omega (arith, l)) h e
   call_there kind k [] w h e = refl
   call_there kind k (r ∷ rs) w h e = let l : suc (length rs) ≡ 1 + words_of k.signature.parameters = eqb-true (length (r ∷ rs)) (passed_words kind k) (not_false (nat_eq (length (r ∷ rs)) (passed_words kind k)) w) in
-      all_joined met_there (map (λ d. (r, d)) (receiver_demands p c kind k)) (passed k.signature.parameters rs)
-      (receivers_there r (receiver_demands p c kind k) (receiver_no_pair kind k) (first_same r rs h) (all_front met (map (λ d. (r, d)) (receiver_demands p c kind k)) (passed k.signature.parameters rs) e))
-      (passed_there k.signature.parameters rs (omega (arith, l)) (rest_same r rs h) (all_back met (map (λ d. (r, d)) (receiver_demands p c kind k)) (passed k.signature.parameters rs) e))
+      all_append met_there (map (λ d. (r, d)) (receiver_demands p c kind k)) (passed k.signature.parameters rs)
+      (receivers_there r (receiver_demands p c kind k) (receiver_no_pair kind k) (first_same r rs h) (all_first met (map (λ d. (r, d)) (receiver_demands p c kind k)) (passed k.signature.parameters rs) e))
+      (passed_there k.signature.parameters rs (omega (arith, l)) (rest_same r rs h) (all_last met (map (λ d. (r, d)) (receiver_demands p c kind k)) (passed k.signature.parameters rs) e))

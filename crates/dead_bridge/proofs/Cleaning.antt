@@ -5,6 +5,9 @@ use Rattle.std.specs.List.{list_any}
 use Rattle.std.specs.Option.{option_map}
 use Rattle.std.proofs.lemmas.Bool.{eqb-true, leb-true, cases_lt, le-ltb}
 use Rattle.std.proofs.lemmas.List.{length-map}
+use Rattle.lemmas.proofs.Bools.{and_right, clash}
+use Rattle.lemmas.proofs.Lists.{contains_here, contains_there}
+use Rattle.lemmas.proofs.Numbers.{next_is}
 use Rattle.insn_set.specs.Flow.{goes_on, targets_of}
 use Rattle.insn_set.specs.Registers.{reads_of, writes_of}
 use Rattle.insn_set.specs.declared.form.Insn.{Insn}
@@ -39,9 +42,8 @@ use Rattle.walk_marks.specs.Walks.{is_on}
 use Rattle.body_graph.specs.Walks.{IsRead, IsReadAfter}
 use Rattle.body_graph.proofs.Members.{get_inside, get_some}
 use Rattle.body_graph.proofs.Links.{step_on, step_caught}
-use Rattle.frame_laws.proofs.Lists.{contains_here, contains_there}
 use Rattle.live_regs.specs.Live.{is_live}
-use Rattle.silence_law.proofs.Lists.{clash, and_left, and_right, and_both}
+use Rattle.silence_law.proofs.Lists.{and_left, and_both}
 use Rattle.thin_law.specs.Squeezing.{IsSkipped, Nop}
 use Rattle.thin_law.specs.Cleaning.{IsDropped, Unread, IsCleaning}
 use Rattle.thin_types.specs.Squeezed.{IsTransitive, SqueezesMarked, squeezed_table}
@@ -107,9 +109,6 @@ any_of t (y ∷ xs) x (suc k, l, e) h = by (t y) (any_of t xs x (k, omega (arith
     by : (b : Bool) → list_any t xs ≡ true → (b || list_any t xs) ≡ true
     by true i = refl
     by false i = i
-
-next_is : (n : ℕ) → n + 1 ≡ suc n
-next_is n = omega arith
 
 module _ (p : Program) (fit : is_well_formed p ≡ true) (twice : (class : ℕ) → IsTwice p class → ⊥) (b : Body) (fits : body_fits p b ≡ true) (ws : List Fate) (s : AreCleaned (is_quiet_field p) b ws) where
   abbrev quiet : ℕ → Bool

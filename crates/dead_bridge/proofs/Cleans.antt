@@ -1,6 +1,7 @@
 -- A program without its dead code is kept.
 use Rattle.std.proofs.Common.{◌≡◌, ◌⊎◌, inl, inr, ℕ, suc, ◌<◌, Bool, true, false, true≢false, List, [], ◌∷◌, length, map, Option, Some, None, slice_get, Contains, refl, sym, ap, ◌∙◌, subst, arith}
 use Rattle.std.specs.Option.{option_map}
+use Rattle.lemmas.proofs.Options.{some_same}
 use Rattle.program_model.specs.ProgramRules.{is_well_formed}
 use Rattle.program_model.specs.declared.body.Body.{Body}
 use Rattle.program_model.specs.declared.program.Class.{Class}
@@ -30,7 +31,6 @@ use Rattle.bodies_law.specs.Numbered.{OtherNumberedBodies}
 use Rattle.bodies_law.proofs.Typed.{others_typed}
 use Rattle.formed_law.proofs.Formed.{recoded_formed}
 use Rattle.frame_laws.specs.Alike.{gets_void}
-use Rattle.frame_laws.proofs.Lists.{some_same}
 use Rattle.kind_law.proofs.Transitive.{transitive}
 use Rattle.place_law.specs.Solid.{IsSolid}
 use Rattle.place_law.proofs.WellFormed.{well_formed_solid}

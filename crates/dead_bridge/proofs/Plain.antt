@@ -4,6 +4,7 @@ use Rattle.std.specs.Prelude.{◌&&◌, ◌||◌, not, ℤ, pos, List, [], ◌�
 use Rattle.std.specs.List.{list_all}
 use Rattle.std.specs.Ordering.{int_eq}
 use Rattle.std.proofs.lemmas.Bool.{eqb-true, or_cases}
+use Rattle.lemmas.proofs.Bools.{not_false, or_false_left}
 use Rattle.insn_set.specs.Registers.{in_operand}
 use Rattle.insn_set.specs.Widths.{is_wide_slot, is_wide_item, unary_writes_wide, binary_is_wide}
 use Rattle.insn_set.specs.declared.ops.Slot.{Slot}
@@ -22,7 +23,7 @@ use Rattle.pass_defs.specs.Registers.{Kinds, kind_at, written, written_kinds}
 use Rattle.pass_defs.specs.Demands.{meets, demands, slot_demand, is_moved, result_fits, place_allowed, is_allowed}
 use Rattle.pass_defs.specs.Pure.{is_pure}
 use Rattle.pass_defs.specs.Typed.{number_kind, constant_kind, moved, after, wrong_item, wrong_field, wrong_first, is_wrong}
-use Rattle.silence_law.proofs.Lists.{and_left, and_right}
+use Rattle.silence_law.proofs.Lists.{and_left}
 use Rattle.dead_bridge.proofs.Agreeing.{written_or, written_long}
 
 pub record Keeps (f : Form) (a b : Kinds) : Type 0 where
@@ -72,14 +73,6 @@ wide_reference (u ∷ us) e d = elim (or_cases (nat_eq u 74) (nat_eq u 68) e) [
   | inl z ↦ (let f : is_reference (u ∷ us) ≡ false = subst (λ (v : ℕ). is_reference (v ∷ us) ≡ false) (sym (eqb-true u 74 z)) refl in true≢false (sym d ∙ f))
   | inr z ↦ (let f : is_reference (u ∷ us) ≡ false = subst (λ (v : ℕ). is_reference (v ∷ us) ≡ false) (sym (eqb-true u 68 z)) refl in true≢false (sym d ∙ f))
 ]
-
-not_false : (b : Bool) → not b ≡ false → b ≡ true
-not_false true e = refl
-not_false false e = absurd (true≢false e)
-
-or_false_left : (a b : Bool) → (a || b) ≡ false → a ≡ false
-or_false_left false b e = refl
-or_false_left true b e = e
 
 item_wide : (p : NamedProgram) (i : Item) (t : Text) → wrong_item i t ≡ false → kind_of p t ≡ Low → is_wide_item i ≡ true
 item_wide p item.Wide t e l = refl

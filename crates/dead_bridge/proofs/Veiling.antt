@@ -4,6 +4,8 @@ use Rattle.std.specs.Prelude.{◌&&◌, ◌||◌, not, nat_eq, Option, Some, Non
 use Rattle.std.specs.List.{list_all}
 use Rattle.std.specs.Option.{option_map}
 use Rattle.std.proofs.lemmas.List.Elements.{Contains-append_left, Contains-append_right}
+use Rattle.lemmas.proofs.Bools.{and_right, or_false_right}
+use Rattle.lemmas.proofs.Lists.{all_append, all_first, all_in, all_last, contains_here, contains_there, got_short}
 use Rattle.dalvik_defs.specs.declared.forms.Form.{Form}
 use Rattle.dalvik_defs.specs.declared.forms.Form.TheVariants as form
 use Rattle.dalvik_defs.specs.declared.program.NamedHandler.{NamedHandler}
@@ -23,10 +25,9 @@ use Rattle.pass_defs.specs.Typed.{begun, after, is_wrong, catch_all, catches_in,
 use Rattle.pass_defs.specs.Walks.{form_at, region_at, onward, caught, listed, handlers_of, handlers_at}
 use Rattle.form_law.specs.Kinds.{HasNarrowClass, Held}
 use Rattle.form_law.proofs.Asking.{allowed_held}
-use Rattle.form_law.proofs.Typings.{each_at, get_below, tested, allowed_at, right_at}
-use Rattle.frame_laws.proofs.Lists.{contains_here, contains_there}
+use Rattle.form_law.proofs.Typings.{each_at, tested, allowed_at, right_at}
 use Rattle.frame_laws.proofs.Walks.{goes_next}
-use Rattle.silence_law.proofs.Lists.{and_left, and_right, and_both, all_map, all_front, all_back, all_joined}
+use Rattle.silence_law.proofs.Lists.{and_left, and_both, all_map}
 use Rattle.dead_bridge.specs.Veiled.{Hides, veil, veiled, veiled_table, or_nop, emptied_forms, emptied}
 use Rattle.dead_bridge.proofs.Agreeing.{AgreeOn}
 use Rattle.dead_bridge.proofs.Afters.{SameAfter, after_same}
@@ -40,18 +41,9 @@ all_with f g [] h e = refl
 all_with f g (x ∷ xs) h e = and_both (g x) (list_all g xs) (h x (contains_here x xs) (and_left (f x) (list_all f xs) e))
     (all_with f g xs (λ y i k. h y (contains_there x xs y i) k) (and_right (f x) (list_all f xs) e))
 
-all_at : {A : Type 0} (f : A → Bool) (xs : List A) (x : A) → Contains xs x → list_all f xs ≡ true → f x ≡ true
-all_at f [] x (k, l, e) h = let g : ⊥ = omega (arith, l) in absurd g
-all_at f (y ∷ ys) x (zero, l, e) h = ap f (sym e) ∙ and_left (f y) (list_all f ys) h
-all_at f (y ∷ ys) x (suc k, l, e) h = all_at f ys x (k, omega (arith, l), e) (and_right (f y) (list_all f ys) h)
-
 each_all : (n : ℕ) (f : ℕ → Bool) → ((k : ℕ) → f k ≡ true) → each n f ≡ true
 each_all zero f h = refl
 each_all (suc n) f h = and_both (each n f) (f n) (each_all n f h) (h n)
-
-or_false_right : (a b : Bool) → (a || b) ≡ false → b ≡ false
-or_false_right false b e = e
-or_false_right true b e = absurd (true≢false e)
 
 -- ---- veils
 
@@ -166,15 +158,15 @@ module _ (p : NamedProgram) (c : NamedClass) (m : NamedMethod) (b : NamedBody) (
 
     all_arrive : list_all (arrives p t) (edges p c b n f a) ≡ true
     all_arrive = tested p c m b t typing n f a x y (λ f a. list_all (arrives p t) (edges p c b n f a))
-        (each_at (length b.forms) (λ n. at_state b t (λ f a. list_all (arrives p t) (edges p c b n f a)) n) n (get_below b.forms n f x) typing.edges)
+        (each_at (length b.forms) (λ n. at_state b t (λ f a. list_all (arrives p t) (edges p c b n f a)) n) n (got_short b.forms n f x) typing.edges)
 
     onward_arrives : list_all (λ q. arrives p t (q, after p c n f a)) (onward f n) ≡ true
     onward_arrives = sym (all_map (arrives p t) (λ q. (q, after p c n f a)) (onward f n))
-        ∙ all_front (arrives p t) (map (λ q. (q, after p c n f a)) (onward f n)) (map (λ z. (z.0, record a { caught = z.1 })) (catches p b n f)) all_arrive
+        ∙ all_first (arrives p t) (map (λ q. (q, after p c n f a)) (onward f n)) (map (λ z. (z.0, record a { caught = z.1 })) (catches p b n f)) all_arrive
 
     caught_arrives : list_all (λ (z : ℕ × Kind). arrives p t (z.0, record a { caught = z.1 })) (catches p b n f) ≡ true
     caught_arrives = sym (all_map (arrives p t) (λ (z : ℕ × Kind). (z.0, record a { caught = z.1 })) (catches p b n f))
-        ∙ all_back (arrives p t) (map (λ q. (q, after p c n f a)) (onward f n)) (map (λ z. (z.0, record a { caught = z.1 })) (catches p b n f)) all_arrive
+        ∙ all_last (arrives p t) (map (λ q. (q, after p c n f a)) (onward f n)) (map (λ z. (z.0, record a { caught = z.1 })) (catches p b n f)) all_arrive
 
     abbrev Live_here : ℕ → Type 0
     Live_here r = live n r ≡ true
@@ -234,16 +226,16 @@ module _ (p : NamedProgram) (c : NamedClass) (m : NamedMethod) (b : NamedBody) (
 
     region_veil : (o : Option NamedRegion) → ((q : ℕ) → Contains (handlers_of o) q → Contains (caught b f n) q) → list_all Q (catches_in p o) ≡ true → list_all P (catches_in p o) ≡ true
     region_veil None i e = refl
-    region_veil (Some r) i e = all_joined P (map (λ z. (z.position, kind_of p z.kind)) r.handlers) (catch_all r.rest)
-        (handlers_veil r.handlers (λ q j. i q (Contains-append_left (map (λ z. z.position) r.handlers) (listed r.rest) q j)) (all_front Q (map (λ z. (z.position, kind_of p z.kind)) r.handlers) (catch_all r.rest) e))
-        (rest_veil r.rest (λ q j. i q (Contains-append_right (map (λ z. z.position) r.handlers) (listed r.rest) q j)) (all_back Q (map (λ z. (z.position, kind_of p z.kind)) r.handlers) (catch_all r.rest) e))
+    region_veil (Some r) i e = all_append P (map (λ z. (z.position, kind_of p z.kind)) r.handlers) (catch_all r.rest)
+        (handlers_veil r.handlers (λ q j. i q (Contains-append_left (map (λ z. z.position) r.handlers) (listed r.rest) q j)) (all_first Q (map (λ z. (z.position, kind_of p z.kind)) r.handlers) (catch_all r.rest) e))
+        (rest_veil r.rest (λ q j. i q (Contains-append_right (map (λ z. z.position) r.handlers) (listed r.rest) q j)) (all_last Q (map (λ z. (z.position, kind_of p z.kind)) r.handlers) (catch_all r.rest) e))
 
     catches_veil : (z : Bool) → may_throw f ≡ z → list_all Q (if z then catches_in p (region_at b n) else []) ≡ true → list_all P (if z then catches_in p (region_at b n) else []) ≡ true
     catches_veil false e i = refl
     catches_veil true e i = region_veil (region_at b n) (λ q j. subst (λ z. Contains (elim z as (λ z. List ℕ) [ true ↦ handlers_at b n | false ↦ [] ]) q) (sym e) j) i
 
     stays_edges : list_all (arrives p u) (edges p c d n f v) ≡ true
-    stays_edges = all_joined (arrives p u) (map (λ q. (q, after p c n f v)) (onward f n)) (map (λ z. (z.0, record v { caught = z.1 })) (catches p d n f))
+    stays_edges = all_append (arrives p u) (map (λ q. (q, after p c n f v)) (onward f n)) (map (λ z. (z.0, record v { caught = z.1 })) (catches p d n f))
         (all_map (arrives p u) (λ q. (q, after p c n f v)) (onward f n)
         ∙ all_with (λ q. arrives p t (q, after p c n f a)) (λ q. arrives p u (q, after p c n f v)) (onward f n) after_veil onward_arrives)
         (all_map (arrives p u) (λ (z : ℕ × Kind). (z.0, record v { caught = z.1 })) (catches p d n f) ∙ catches_veil (may_throw f) refl caught_arrives)
@@ -257,7 +249,7 @@ module _ (p : NamedProgram) (c : NamedClass) (m : NamedMethod) (b : NamedBody) (
         let k = pure_keeps p c m n a f g allowed right in
         and_both (arrives p u (n + 1, v)) true
         (arrive (n + 1) (after p c n f a) v (veil_long (live n) a.registers ∙ sym k.long) (lower k i) (sym k.result) (sym k.caught) (sym k.receiver)
-        (all_at (λ q. arrives p t (q, after p c n f a)) (onward f n) (n + 1) i onward_arrives)) refl
+        (all_in (λ q. arrives p t (q, after p c n f a)) (onward f n) (n + 1) i onward_arrives)) refl
       where
         unwritten : (r : ℕ) → live (n + 1) r ≡ true → writes f r ≡ false
         unwritten r j = by (writes f r) refl

@@ -4,6 +4,7 @@ use Rattle.std.specs.Prelude.{◌&&◌, ◌||◌}
 use Rattle.std.specs.Int.{w16, from_le_bytes}
 use Rattle.std.proofs.Math.Nat.{min-le_left}
 use Rattle.std.proofs.lemmas.Bool.{ltb-true, eqb-true, eq-eqb}
+use Rattle.lemmas.proofs.Bools.{or_cases}
 use Rattle.dex_base.specs.Decides.{Each}
 use Rattle.dex_base.specs.Reading.{raise}
 use Rattle.dex_base.specs.Word.{Is16, Is32}
@@ -37,18 +38,14 @@ unfolding index_at
 founds_entry bytes at size may = weaker (index_at bytes at size may) (next (known (finds_word bytes at)) (λ n _. when _ (done n)))
     (λ y p. subst (IsEntry bytes at size may) (sym p.2.1) (record { is = p.1; inside = p.2.0 }))
 
-by_entry : (a b : Bool) → (a || b) ≡ true → (a ≡ true) ⊎ (b ≡ true)
-by_entry true b h = inl refl
-by_entry false b h = inr h
-
 must : (n size : ℕ) → (ltb n (min size 4294967295) || (false && eqb n none)) ≡ true → n < size
-must n size h = elim (by_entry (ltb n (min size 4294967295)) (false && eqb n none) h) [
+must n size h = elim (or_cases (ltb n (min size 4294967295)) (false && eqb n none) h) [
   | inl e ↦ omega (arith, ltb-true n (min size 4294967295) e, min-le_left size 4294967295)
   | inr e ↦ absurd (true≢false (sym e))
 ]
 
 may_be : (n size : ℕ) → (ltb n (min size 4294967295) || (true && eqb n none)) ≡ true → (n ≡ none → ⊥) → n < size
-may_be n size h other = elim (by_entry (ltb n (min size 4294967295)) (true && eqb n none) h) [
+may_be n size h other = elim (or_cases (ltb n (min size 4294967295)) (true && eqb n none) h) [
   | inl e ↦ omega (arith, ltb-true n (min size 4294967295) e, min-le_left size 4294967295)
   | inr e ↦ absurd (other (eqb-true n none e))
 ]

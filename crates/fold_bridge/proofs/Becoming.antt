@@ -46,14 +46,13 @@ use Rattle.const_prop.specs.Given.{given}
 use Rattle.const_prop.specs.Known.{is_always_pure, way_by}
 use Rattle.const_prop.specs.Allowed.{insn_before, IsAllowed, Constant, Branch}
 use Rattle.fold_bridge.specs.Folds.{AreNamed}
-use Rattle.fold_bridge.specs.Runs.{KeepsHalves}
 use Rattle.fold_bridge.proofs.Branches.{if_follows, zero_follows, packed_follows, sparse_follows}
 use Rattle.fold_bridge.proofs.Steps.{suited, first_seen, second_seen}
 use Rattle.fold_bridge.proofs.Forms.{calm, settled, based, Reaches, any_in, Stands, Chooses, F, constant, turned, goes_so}
 
 module _ (program : Program) (o : Outer) (f : Framework) (floats : Floats) (facts : Facts) (t : by_name.Facts Parts) (script : List Move) (base : IsCoverable (value_analysis (named program) operators) (named program) o f floats t)
     (fit : Fit (named program) o f script) (ranged : Each RangedMove script) (ends : (u : Text) → EndsWithin (named program) (length (named program).classes) u)
-    (names : AreNamed program o facts t) (halves : KeepsHalves (named program) o f floats script (calm program o f floats facts t script base fit ranged ends))
+    (names : AreNamed program o facts t)
     (quiet : (field : ℕ) (i : _) (to : ℕ) → is_always_pure program (insn.StaticGet i to field) ≡ true → is_quiet_field (named program) (field_at program field) ≡ true)
     (class : ℕ) (c : Class) (m : Method) (b : Body) (k : MethodKey) (n : ℕ)
     (is_class : slice_get program.classes class ≡ Some c) (in_class : Contains c.methods m) (has_code : m.body ≡ Some b) (is_key : k ≡ key_in (named_class program c) (named_method program m))
@@ -68,20 +67,20 @@ module _ (program : Program) (o : Outer) (f : Framework) (floats : Floats) (fact
   K y z = Known (setting_of (named program) o f floats) (Reaches program o f floats facts t script base fit ranged ends) k n y z
 
   branch_known : (i g : Insn) → slice_get b.insns n ≡ Some i → chosen i (n + 1) (way_by (frame_at facts.frames.items m.name n) i) ≡ Some g → K (form_of program i) (form_of program g)
-  branch_known (insn.If test r q2 target) next has_insn e = turned program o f floats facts t script base fit ranged ends names halves quiet class c m b k n (insn.If test r q2 target) is_class in_class has_code is_key has_body has_insn (way_by (frame_at facts.frames.items m.name n) (insn.If test r q2 target)) next
+  branch_known (insn.If test r q2 target) next has_insn e = turned program o f floats facts t script base fit ranged ends names quiet class c m b k n (insn.If test r q2 target) is_class in_class has_code is_key has_body has_insn (way_by (frame_at facts.frames.items m.name n) (insn.If test r q2 target)) next
       (record { onward = refl; narrow = refl; nowhere = refl; aims = λ q h. subst (λ z. In z (target ∷ [])) (eqb-true target q h) (here []) }) e
-      (goes_so program o f floats facts t script base fit ranged ends names halves quiet class c m b k n (insn.If test r q2 target) is_class in_class has_code is_key has_body has_insn refl (λ w cs g st. let l : Suits g (form.If test r q2 target) = (suited program o f floats t based0 settled0 w cs g st.tw st.kw st.cw st.td st.kg st.top st.values.registers st.stands (form.If test r q2 target) st.at) in if_follows (named program) (face_of (named program) f).under floats based0.sound w g st.values.registers test r q2 target l.0 l.1 (first_seen program o f floats t based0 settled0 w cs g st.tw st.kw st.cw st.td st.kg st.top st.values.registers st.stands (form.If test r q2 target) st.at r (q2 ∷ []) refl) (second_seen program o f floats t based0 settled0 w cs g st.tw st.kw st.cw st.td st.kg st.top st.values.registers st.stands (form.If test r q2 target) st.at r q2 [] refl)))
-  branch_known (insn.IfZero test r target) next has_insn e = turned program o f floats facts t script base fit ranged ends names halves quiet class c m b k n (insn.IfZero test r target) is_class in_class has_code is_key has_body has_insn (way_by (frame_at facts.frames.items m.name n) (insn.IfZero test r target)) next
+      (goes_so program o f floats facts t script base fit ranged ends names quiet class c m b k n (insn.If test r q2 target) is_class in_class has_code is_key has_body has_insn refl (λ w cs g st. let l : Suits g (form.If test r q2 target) = (suited program o f floats t based0 settled0 w cs g st.tw st.kw st.cw st.td st.kg st.top st.values.registers st.stands (form.If test r q2 target) st.at) in if_follows (named program) (face_of (named program) f).under floats based0.sound w g st.values.registers test r q2 target l.0 l.1 (first_seen program o f floats t based0 settled0 w cs g st.tw st.kw st.cw st.td st.kg st.top st.values.registers st.stands (form.If test r q2 target) st.at r (q2 ∷ []) refl) (second_seen program o f floats t based0 settled0 w cs g st.tw st.kw st.cw st.td st.kg st.top st.values.registers st.stands (form.If test r q2 target) st.at r q2 [] refl)))
+  branch_known (insn.IfZero test r target) next has_insn e = turned program o f floats facts t script base fit ranged ends names quiet class c m b k n (insn.IfZero test r target) is_class in_class has_code is_key has_body has_insn (way_by (frame_at facts.frames.items m.name n) (insn.IfZero test r target)) next
       (record { onward = refl; narrow = refl; nowhere = refl; aims = λ q h. subst (λ z. In z (target ∷ [])) (eqb-true target q h) (here []) }) e
-      (goes_so program o f floats facts t script base fit ranged ends names halves quiet class c m b k n (insn.IfZero test r target) is_class in_class has_code is_key has_body has_insn refl (λ w cs g st. zero_follows (named program) (face_of (named program) f).under floats based0.sound w g st.values.registers test r target (suited program o f floats t based0 settled0 w cs g st.tw st.kw st.cw st.td st.kg st.top st.values.registers st.stands (form.IfZero test r target) st.at) (first_seen program o f floats t based0 settled0 w cs g st.tw st.kw st.cw st.td st.kg st.top st.values.registers st.stands (form.IfZero test r target) st.at r [] refl)))
-  branch_known (insn.PackedSwitch on first targets) next has_insn e = turned program o f floats facts t script base fit ranged ends names halves quiet class c m b k n (insn.PackedSwitch on first targets) is_class in_class has_code is_key has_body has_insn (way_by (frame_at facts.frames.items m.name n) (insn.PackedSwitch on first targets)) next
+      (goes_so program o f floats facts t script base fit ranged ends names quiet class c m b k n (insn.IfZero test r target) is_class in_class has_code is_key has_body has_insn refl (λ w cs g st. zero_follows (named program) (face_of (named program) f).under floats based0.sound w g st.values.registers test r target (suited program o f floats t based0 settled0 w cs g st.tw st.kw st.cw st.td st.kg st.top st.values.registers st.stands (form.IfZero test r target) st.at) (first_seen program o f floats t based0 settled0 w cs g st.tw st.kw st.cw st.td st.kg st.top st.values.registers st.stands (form.IfZero test r target) st.at r [] refl)))
+  branch_known (insn.PackedSwitch on first targets) next has_insn e = turned program o f floats facts t script base fit ranged ends names quiet class c m b k n (insn.PackedSwitch on first targets) is_class in_class has_code is_key has_body has_insn (way_by (frame_at facts.frames.items m.name n) (insn.PackedSwitch on first targets)) next
       (record { onward = refl; narrow = refl; nowhere = refl; aims = λ q h. any_in targets q h }) e
-      (goes_so program o f floats facts t script base fit ranged ends names halves quiet class c m b k n (insn.PackedSwitch on first targets) is_class in_class has_code is_key has_body has_insn refl (λ w cs g st. packed_follows (named program) (face_of (named program) f).under floats based0.sound w g st.values.registers on first targets (first_seen program o f floats t based0 settled0 w cs g st.tw st.kw st.cw st.td st.kg st.top st.values.registers st.stands (form.PackedSwitch on first targets) st.at on [] refl)))
-  branch_known (insn.SparseSwitch on keys targets) next has_insn e = turned program o f floats facts t script base fit ranged ends names halves quiet class c m b k n (insn.SparseSwitch on keys targets) is_class in_class has_code is_key has_body has_insn (way_by (frame_at facts.frames.items m.name n) (insn.SparseSwitch on keys targets)) next
+      (goes_so program o f floats facts t script base fit ranged ends names quiet class c m b k n (insn.PackedSwitch on first targets) is_class in_class has_code is_key has_body has_insn refl (λ w cs g st. packed_follows (named program) (face_of (named program) f).under floats based0.sound w g st.values.registers on first targets (first_seen program o f floats t based0 settled0 w cs g st.tw st.kw st.cw st.td st.kg st.top st.values.registers st.stands (form.PackedSwitch on first targets) st.at on [] refl)))
+  branch_known (insn.SparseSwitch on keys targets) next has_insn e = turned program o f floats facts t script base fit ranged ends names quiet class c m b k n (insn.SparseSwitch on keys targets) is_class in_class has_code is_key has_body has_insn (way_by (frame_at facts.frames.items m.name n) (insn.SparseSwitch on keys targets)) next
       (record { onward = refl; narrow = refl; nowhere = refl; aims = λ q h. any_in targets q h }) e
-      (goes_so program o f floats facts t script base fit ranged ends names halves quiet class c m b k n (insn.SparseSwitch on keys targets) is_class in_class has_code is_key has_body has_insn refl (λ w cs g st. let l : Suits g (form.SparseSwitch on keys targets) = (suited program o f floats t based0 settled0 w cs g st.tw st.kw st.cw st.td st.kg st.top st.values.registers st.stands (form.SparseSwitch on keys targets) st.at) in sparse_follows (named program) (face_of (named program) f).under floats based0.sound w g st.values.registers on keys targets l.0 (first_seen program o f floats t based0 settled0 w cs g st.tw st.kw st.cw st.td st.kg st.top st.values.registers st.stands (form.SparseSwitch on keys targets) st.at on [] refl)))
+      (goes_so program o f floats facts t script base fit ranged ends names quiet class c m b k n (insn.SparseSwitch on keys targets) is_class in_class has_code is_key has_body has_insn refl (λ w cs g st. let l : Suits g (form.SparseSwitch on keys targets) = (suited program o f floats t based0 settled0 w cs g st.tw st.kw st.cw st.td st.kg st.top st.values.registers st.stands (form.SparseSwitch on keys targets) st.at) in sparse_follows (named program) (face_of (named program) f).under floats based0.sound w g st.values.registers on keys targets l.0 (first_seen program o f floats t based0 settled0 w cs g st.tw st.kw st.cw st.td st.kg st.top st.values.registers st.stands (form.SparseSwitch on keys targets) st.at on [] refl)))
   branch_known i next has_insn e = absurd (cc)
 
   pub becomes : (i g : Insn) → slice_get b.insns n ≡ Some i → IsAllowed program (given program facts class (insn_before b.insns n) i) (frame_at facts.frames.items m.name n) n i g → K (form_of program i) (form_of program g)
-  becomes i _ has_insn (Constant num g e w h) = constant program o f floats facts t script base fit ranged ends names halves quiet class c m b k n i is_class in_class has_code is_key has_body has_insn num g e w h
+  becomes i _ has_insn (Constant num g e w h) = constant program o f floats facts t script base fit ranged ends names quiet class c m b k n i is_class in_class has_code is_key has_body has_insn num g e w h
   becomes i _ has_insn (Branch g e) = branch_known i g has_insn e

@@ -77,7 +77,7 @@ use Rattle.const_prop.specs.Known.{is_always_pure, number_by, number_in, way_by,
 use Rattle.const_prop.specs.Allowed.{insn_before, IsAllowed, Constant, Branch}
 use Rattle.fold_bridge.specs.Folds.{AreNamed, StandsAt}
 use Rattle.fold_bridge.specs.Known.{values_of}
-use Rattle.fold_bridge.specs.Runs.{KeepsHalves, GoesBy}
+use Rattle.fold_bridge.specs.Runs.{GoesBy}
 use Rattle.fold_bridge.proofs.Branches.{Follows, if_follows, zero_follows, packed_follows, sparse_follows}
 use Rattle.fold_bridge.proofs.Covered.{one_more, reg, ready, covered_calm}
 use Rattle.fold_bridge.proofs.Settling.{Asks, Settled, number_settles}
@@ -189,7 +189,7 @@ module _ (program : Program) (o : Outer) (f : Framework) (floats : Floats) (fact
       by (inl e) = let k : On w c (waiting.Method g ∷ rest) moves ≡ Ended = r.at ∙ e in absurd (cc)
       by (inr h) = subst (HoldsBy (covered_states A p o f t)) (sym r.at) h
 
-  module _ (names : AreNamed program o facts t) (halves : KeepsHalves p o f floats script calm) (quiet : (field : ℕ) (i : _) (to : ℕ) → is_always_pure program (insn.StaticGet i to field) ≡ true → is_quiet_field p (field_at program field) ≡ true)
+  module _ (names : AreNamed program o facts t) (quiet : (field : ℕ) (i : _) (to : ℕ) → is_always_pure program (insn.StaticGet i to field) ≡ true → is_quiet_field p (field_at program field) ≡ true)
       (class : ℕ) (c : Class) (m : Method) (b : Body) (k : MethodKey) (n : ℕ) (i : Insn)
       (is_class : slice_get program.classes class ≡ Some c) (in_class : Contains c.methods m) (has_code : m.body ≡ Some b) (is_key : k ≡ key_in (named_class program c) (named_method program m))
       (has_body : bodies_of (named program) k ≡ Some (body_of program b)) (has_insn : slice_get b.insns n ≡ Some i) where
@@ -249,7 +249,6 @@ module _ (program : Program) (o : Outer) (f : Framework) (floats : Floats) (fact
 
     asks : (w : World) (cs : Classes) (g : Frame) (rest : List Waiting) (moves : List Move) → Reaches (On w cs (waiting.Method g ∷ rest) moves) → g.method ≡ k → g.position ≡ n → (st : Stands w cs g) → (j : Insn) → i ≡ j
         → Asks program o f floats t based settled ends w cs g st.tw st.kw st.cw st.td st.kg st.top st.values.registers st.stands (given program facts class (insn_before b.insns n) j) j
-    asks w cs g rest moves r gm gp st (insn.Move slot to from) e = halves.agree r.count w cs g rest moves (sym r.at)
     asks w cs g rest moves r gm gp st (insn.MoveResult slot to) e = λ tk. result tk
       where
         result : (tk : TakesFrom A p o t w g) → Within value_holds tk.value (behind program facts class (insn_before b.insns n))

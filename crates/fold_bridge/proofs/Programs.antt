@@ -54,7 +54,6 @@ use Rattle.const_prop.specs.Given.{given}
 use Rattle.const_prop.specs.Allowed.{IsAllowed, insn_before}
 use Rattle.facts.specs.Lent.{frame_at}
 use Rattle.fold_bridge.specs.Folds.{AreNamed, IsFoldedBody, FoldsCode, NoCode, Same, Folded, FoldsNamed}
-use Rattle.fold_bridge.specs.Runs.{KeepsHalves}
 use Rattle.fold_bridge.proofs.Forms.{calm, is_calm, Reaches, begins, keeps}
 use Rattle.fold_bridge.proofs.Becoming.{becomes}
 
@@ -98,7 +97,7 @@ module _ (program : Program) (q : Program) (facts : Facts) (fits : is_well_forme
 
   module _ (o : Outer) (f : Framework) (floats : Floats) (t : by_name.Facts Parts) (script : List Move) (base : IsCoverable (value_analysis (named program) operators) (named program) o f floats t)
       (fit : Fit (named program) o f script) (ranged : Each RangedMove script) (ends : (u : Text) → EndsWithin (named program) (length (named program).classes) u)
-      (names : AreNamed program o facts t) (halves : KeepsHalves (named program) o f floats script (calm program o f floats facts t script base fit ranged ends))
+      (names : AreNamed program o facts t)
       (quiet : (field : ℕ) (i : _) (to : ℕ) → is_always_pure program (insn.StaticGet i to field) ≡ true → is_quiet_field (named program) (field_at program field) ≡ true) where
     abbrev s : Setting
     s = setting_of (named program) o f floats
@@ -131,7 +130,7 @@ module _ (program : Program) (q : Program) (facts : Facts) (fits : is_well_forme
           where
             by : (g : Insn) → (g ≡ i) ⊎ IsAllowed program (given program facts class (insn_before b.insns n) i) (frame_at facts.frames.items m.name n) n i g → Becomes s I k n y (form_of program g)
             by g (inl w) = law.Same (ap (form_of program) w ∙ same)
-            by g (inr w) = subst (λ y. Becomes s I k n y (form_of program g)) same (law.Folds (becomes program o f floats facts t script base fit ranged ends names halves quiet class c m b k n is_class in_class has_code is_key has_body i g e w))
+            by g (inr w) = subst (λ y. Becomes s I k n y (form_of program g)) same (law.Folds (becomes program o f floats facts t script base fit ranged ends names quiet class c m b k n is_class in_class has_code is_key has_body i g e w))
 
         forms : (n : ℕ) (y : Form) → form_at (body_of program b) n ≡ Some y → IsReached (body_of program b) n → (z : Form) × ((form_at (body_of program d) n ≡ Some z) × Becomes s I k n y z)
         forms n y e r = by (slice_get b.insns n) refl (sym (form_there program b n) ∙ e)

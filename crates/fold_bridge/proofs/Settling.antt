@@ -52,7 +52,7 @@ use Rattle.run_facts.specs.ValueAnalysis.{datum_of, value_analysis}
 use Rattle.stuck_law.specs.TypedStates.{TypedFrame, TypedWorld}
 use Rattle.stuck_law.proofs.Settled.{IsSettled}
 use Rattle.stuck_law.proofs.Registers.{and_left}
-use Rattle.stuck_law.proofs.Forms.{low_held, or_left, or_right}
+use Rattle.stuck_law.proofs.Forms.{low_held, halves_held, or_left, or_right}
 use Rattle.cover_law.specs.Known.{KnownFrame, KnownWorld}
 use Rattle.cover_law.proofs.Ready.{IsReady}
 use Rattle.cover_law.proofs.Fields.{static_seen}
@@ -65,7 +65,7 @@ use Rattle.fold_bridge.specs.Known.{values_of, IsNumber, Only}
 use Rattle.fold_bridge.proofs.Only.{only, number_width}
 use Rattle.fold_bridge.proofs.Acts.{Does}
 use Rattle.fold_bridge.proofs.Branches.{put_there}
-use Rattle.fold_bridge.proofs.Steps.{At, S, acts, Brought, HalvesAgree, sized_there, first_seen, chosen, narrow_move, results, unaries, compares, binaries, literals, no_number}
+use Rattle.fold_bridge.proofs.Steps.{At, S, acts, Brought, sized_there, first_seen, chosen, narrow_move, results, unaries, compares, binaries, literals, no_number}
 
 module _ (program : Program) (o : Outer) (f : Framework) (floats : Floats) (facts : Facts Parts) (base : IsReady (value_analysis (named program) operators) (named program) o f floats facts) (reg : IsSettled (named program))
     (ends : (t : Text) → EndsWithin (named program) (length (named program).classes) t) where
@@ -100,24 +100,22 @@ module _ (program : Program) (o : Outer) (f : Framework) (floats : Floats) (fact
     abbrev B : Parts → Type 0
     B = Brought program o f floats facts base reg w cs g tw kw cw td kg top x stands
 
-    abbrev H : Type 0
-    H = HalvesAgree program o f floats facts base reg w cs g tw kw cw td kg top x stands
-
     settles : (num : Number) (y : Form) → D num (destination y) (act y) → Settled num y
     settles num y e = ap (λ z. outcome (face_of p f) need z w g) e
 
     -- ---- both halves of a wide that is moved
 
-    wide_move : (to from : ℕ) (num : Number) → H → I (form.Move slot.Wide to from) → number_of (value_at (put (to + 1) (value_at x (from + 1)) (put to (value_at x from) x)) to) true ≡ Some num → D num to (act (form.Move slot.Wide to from))
-    wide_move to from num agree h e =
+    wide_move : (to from : ℕ) (num : Number) → I (form.Move slot.Wide to from) → number_of (value_at (put (to + 1) (value_at x (from + 1)) (put to (value_at x from) x)) to) true ≡ Some num → D num to (act (form.Move slot.Wide to from))
+    wide_move to from num h e =
         let there : value_at (put (to + 1) (value_at x (from + 1)) (put to (value_at x from) x)) to ≡ value_at x from = value_put (to + 1) (value_at x (from + 1)) (put to (value_at x from) x) to
         ∙ ap (λ c. if c then value_at x (from + 1) else value_at (put to (value_at x from) x) to) (next_apart to) ∙ put_there to (value_at x from) x in
         let e1 : number_of (value_at x from) true ≡ Some num = ap (λ v. number_of v true) (sym there) ∙ e in
         let n : (n : ℕ) × (num ≡ Wide n) = number_width (value_at x from) true num e1 in
-        let k = low_held p o f floats reg w cs g tw td from (and_left (meets p td.in_method.class td.kinds.registers from Pair) true h.allowed) in
+        let pair = and_left (meets p td.in_method.class td.kinds.registers from Pair) true h.allowed in
+        let k = low_held p o f floats reg w cs g tw td from pair in
         let is : IsNumber num (register g from) = only p (value_at x from) true num e1 (kind_of w (register g from)) (register g from) (first_seen program o f floats facts base reg w cs g tw kw cw td kg top x stands (form.Move slot.Wide to from) h from ((from + 1) ∷ []) refl) in
         let low : k.0.0 ≡ n.0 = subst₂is n.0 num (register g from) k.0.0 n.1 k.0.1 is in
-        let high : k.1.0 ≡ n.0 = agree from k.0.0 k.1.0 k.0.1 k.1.1 ∙ low in
+        let high : k.1.0 ≡ n.0 = sym (ap word_of k.1.1) ∙ (sym (halves_held p o f floats reg w cs g tw td from pair) ∙ (ap word_of k.0.1 ∙ low)) in
         subst (λ z. D z to (act (form.Move slot.Wide to from))) (sym n.1)
         (ap₂ (λ a b. Goes w (next (write (write g to a) (to + 1) b))) (k.0.1 ∙ ap machine.Low low) (k.1.1 ∙ ap machine.High high))
       where
@@ -198,9 +196,8 @@ module _ (program : Program) (o : Outer) (f : Framework) (floats : Floats) (fact
 
     -- ---- all forms
 
-    -- what is asked beside what the frame says: of a result and of a field what the facts say that they bring, of a wide that its halves agree
+    -- what is asked beside what the frame says: of a result and of a field what the facts say that they bring
     abbrev pub Asks : Parts → Insn → Type 0
-    Asks given (insn.Move slot to from) = H
     Asks given (insn.MoveResult slot to) = B given
     Asks given (insn.StaticGet item to field) = FieldWithin (field_at program field) given × (is_always_pure program (insn.StaticGet item to field) ≡ true → is_quiet_field p (field_at program field) ≡ true)
     Asks given i = Unit {0}
@@ -210,7 +207,7 @@ module _ (program : Program) (o : Outer) (f : Framework) (floats : Floats) (fact
         (first_seen program o f floats facts base reg w cs g tw kw cw td kg top x stands (form.Move slot.Word to from) h from [] refl) e)
     number_settles done (insn.Move slot.Object to from) num given a h e = settles num (form.Move slot.Object to from) (narrow_move program o f floats facts base reg w cs g tw kw cw td kg top x stands to from num
         (first_seen program o f floats facts base reg w cs g tw kw cw td kg top x stands (form.Move slot.Object to from) h from [] refl) e)
-    number_settles done (insn.Move slot.Wide to from) num given a h e = settles num (form.Move slot.Wide to from) (wide_move to from num a h e)
+    number_settles done (insn.Move slot.Wide to from) num given a h e = settles num (form.Move slot.Wide to from) (wide_move to from num h e)
     number_settles done (insn.MoveResult s to) num given a h e = settles num (form.MoveResult s to) (results program o f floats facts base reg w cs g tw kw cw td kg top x stands s to num given h a e)
     number_settles done (insn.MoveException to) num given a h e = no_number program o f floats facts base reg w cs g tw kw cw td kg top x stands to any_object num refl e
     number_settles done (insn.ConstString to string) num given a h e = no_number program o f floats facts base reg w cs g tw kw cw td kg top x stands to any_object num refl e

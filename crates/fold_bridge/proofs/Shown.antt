@@ -25,22 +25,20 @@ use Rattle.dead_bridge.proofs.Quieting.{pure_named}
 use Rattle.fold_law.specs.Known.{SameRun}
 use Rattle.const_prop.specs.Folds.{IsFoldedBy}
 use Rattle.fold_bridge.specs.Folds.{AreNamed}
-use Rattle.fold_bridge.specs.Runs.{KeepsHalves, AllKeepHalves, calm_of}
 use Rattle.fold_bridge.proofs.Planned.{rewritten_others}
 use Rattle.fold_bridge.proofs.Programs.{folded_shown}
 
 module _ (p : Program) (h : Hierarchy) (o : Outer) (facts : Facts) (t : by_name.Facts Parts) (admitted : List Bool) (c : Changed) (fits : is_well_formed p ≡ true)
     (twice : (class : ℕ) → IsTwice p class → ⊥) (ancestor : (class : ℕ) → IsAncestor p class class → ⊥) (changed : IsFoldedBy p h facts admitted c) (names : AreNamed p o facts t) where
   -- in one run
-  pub same_run : (f : Framework) (floats : Floats) (script : List Move) → IsTabled (value_analysis (named p) operators) (named p) o f t → Fit (named p) o f script
-      → KeepsHalves (named p) o f floats script (calm_of (named p) f) → SameRun (named p) (named c.program) o f floats script
-  same_run f floats script tabled fit halves = folded_shown p c.program facts fits (rewritten_others p h facts admitted fits c changed) o f floats t script
+  pub same_run : (f : Framework) (floats : Floats) (script : List Move) → IsTabled (value_analysis (named p) operators) (named p) o f t → Fit (named p) o f script → SameRun (named p) (named c.program) o f floats script
+  same_run f floats script tabled fit = folded_shown p c.program facts fits (rewritten_others p h facts admitted fits c changed) o f floats t script
       (record { tabled = tabled; sound = value_sound (named p) o f floats script tabled.regular tabled.acyclic fit }) fit (ranged_moves script fit.ranged)
-      (rooted p fits twice ancestor).ends names halves (λ field i to. pure_named p fits twice (insn.StaticGet i to field))
+      (rooted p fits twice ancestor).ends names (λ field i to. pure_named p fits twice (insn.StaticGet i to field))
 
   -- in all runs
-  pub same_shown : ((f : Framework) → IsTabled (value_analysis (named p) operators) (named p) o f t) → AllKeepHalves (named p) o → SameShown (named p) (named c.program) o
-  same_shown tabled halves = record {
-    there = λ f floats script n fit. (same_run f floats script (tabled f) fit (halves f floats script fit)).there n;
-    back = λ f floats script n fit. (same_run f floats script (tabled f) fit (halves f floats script fit)).back n;
+  pub same_shown : ((f : Framework) → IsTabled (value_analysis (named p) operators) (named p) o f t) → SameShown (named p) (named c.program) o
+  same_shown tabled = record {
+    there = λ f floats script n fit. (same_run f floats script (tabled f) fit).there n;
+    back = λ f floats script n fit. (same_run f floats script (tabled f) fit).back n;
   }

@@ -200,7 +200,3 @@ module _ (program : Program) (o : Outer) (f : Framework) (floats : Floats) (fact
     -- an object, and an answer of 0 or 1, is no number that is known
     pub no_number : (to : ℕ) (v : Parts) (num : Number) {C : Type 0} → number_of v false ≡ None → number_of (value_at (put to v x) to) false ≡ Some num → C
     no_number to v num e i = let j : None ≡ Some num = sym e ∙ (ap (λ y. number_of y false) (sym (put_there to v x)) ∙ i) in absurd (cc)
-
-    -- halves of a wide that stand beside each other are of one number
-    abbrev pub HalvesAgree : Type 0
-    HalvesAgree = (r n m : ℕ) → register g r ≡ machine.Low n → register g (r + 1) ≡ machine.High m → m ≡ n

@@ -23,23 +23,20 @@ ghost use Rattle.thin_pass.specs.Weights.{weight_of};
 ghost use Rattle.fold_law.specs.Known.{SameRun};
 ghost use Rattle.const_prop.specs.Folds.{IsFoldedBy};
 ghost use Rattle.fold_bridge.specs.Folds.{AreNamed};
-ghost use Rattle.fold_bridge.specs.Runs.{KeepsHalves, AllKeepHalves, calm_of};
 
 /// A well-formed program, of which no class is defined twice or is its own ancestor, shows the same in a run once
-/// instructions are folded by facts: facts by number that say what facts by name say, which are closed. The halves of the
-/// run's wides agree.
+/// instructions are folded by facts: facts by number that say what facts by name say, which are closed.
 pub fn folded_run_law()
     ensures { (p : Program) (h : Hierarchy) (o : Outer) (facts : Facts) (t : by_name.Facts Parts) (admitted : List Bool) (c : Changed) (f : Framework) (floats : Floats) (script : List Move)
         → is_well_formed p ≡ true → ((class : ℕ) → IsTwice p class → ⊥) → ((class : ℕ) → IsAncestor p class class → ⊥) → IsFoldedBy p h facts admitted c → AreNamed p o facts t
-        → IsTabled (value_analysis (named p) operators) (named p) o f t → Fit (named p) o f script
-        → KeepsHalves (named p) o f floats script (calm_of (named p) f) → SameRun (named p) (named c.program) o f floats script }
+        → IsTabled (value_analysis (named p) operators) (named p) o f t → Fit (named p) o f script → SameRun (named p) (named c.program) o f floats script }
 {}
 
-/// So it shows the same, where the facts are closed for every framework, and the halves of wides agree in every run.
+/// So it shows the same, where the facts are closed for every framework.
 pub fn folded_shown_law()
     ensures { (p : Program) (h : Hierarchy) (o : Outer) (facts : Facts) (t : by_name.Facts Parts) (admitted : List Bool) (c : Changed)
         → is_well_formed p ≡ true → ((class : ℕ) → IsTwice p class → ⊥) → ((class : ℕ) → IsAncestor p class class → ⊥) → IsFoldedBy p h facts admitted c → AreNamed p o facts t
-        → ((f : Framework) → IsTabled (value_analysis (named p) operators) (named p) o f t) → AllKeepHalves (named p) o → SameShown (named p) (named c.program) o }
+        → ((f : Framework) → IsTabled (value_analysis (named p) operators) (named p) o f t) → SameShown (named p) (named c.program) o }
 {}
 
 /// What is left of a well-formed program once instructions are folded is well-formed.

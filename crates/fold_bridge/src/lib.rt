@@ -2,10 +2,8 @@
 //! well-formed program, by facts whose named form is closed, does in each state that a run reaches what was there. It is
 //! well-formed, and its instructions weigh no more than before.
 //!
-//! `specs/Folds.antt` says what a folded body is and what facts by number owe to facts by name, `specs/Runs.antt` what is asked
-//! of runs: that halves of wides that stand beside each other are of one number, which isn't proved here. That the folded
-//! program is typed isn't either. This crate declares no types of its own. Its functions have an empty body, and their
-//! contracts are the laws.
+//! `specs/Folds.antt` says what a folded body is and what facts by number owe to facts by name. That the folded program is typed
+//! isn't proved here. This crate declares no types of its own. Its functions have an empty body, and their contracts are the laws.
 #![tactic(auto)]
 
 pub mod laws;

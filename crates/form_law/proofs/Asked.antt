@@ -2,6 +2,8 @@
 use Rattle.std.proofs.Common.{◌≡◌, ℕ, ◌+◌, Bool, true, false, true≢false, List, [], ◌∷◌, ◌++◌, length, refl, sym, ap, ◌∙◌, subst, arith, eqb-true}
 use Rattle.std.specs.Prelude.{◌||◌, not, nat_eq, map, drop, if◌then◌else◌}
 use Rattle.std.specs.List.{list_any, list_all}
+use Rattle.lemmas.proofs.Bools.{and_left, clash, neither_of, not_false, or_left}
+use Rattle.lemmas.proofs.Numbers.{same_number}
 use Rattle.insn_set.specs.Registers.{in_operand}
 use Rattle.insn_set.specs.Widths.{is_wide_slot, is_wide_item, compares_wide, unary_reads_wide, unary_writes_wide, binary_is_wide, second_is_wide}
 use Rattle.insn_set.specs.declared.ops.Slot.{Slot}
@@ -27,19 +29,8 @@ use Rattle.pass_defs.specs.Registers.{kind_at}
 use Rattle.pass_defs.specs.Typed.{is_static_call, words_of, passed_words, wrong_item, wrong_return, ends_early, wrong_field, wrong_method, wrong_super, is_wrong}
 use Rattle.form_law.specs.Changes.{In, here, there, destination, width_if, width, TakesPair}
 use Rattle.form_law.specs.Kinds.{IsAsked, HasNarrowClass}
-use Rattle.form_law.proofs.Uses.{or_left, or_right, own, in_own}
-use Rattle.form_law.proofs.Demanded.{and_left, and_behind}
-
-pub clash : (b : Bool) {A : Type 0} → b ≡ true → b ≡ false → A
-clash b e f = absurd (true≢false (sym e ∙ f))
-
-neither : (a b : Bool) → (a || b) ≡ false → (a ≡ false) × (b ≡ false)
-neither true b e = clash true refl e
-neither false b e = (refl, e)
-
-not_false : (b : Bool) → not b ≡ false → b ≡ true
-not_false true e = refl
-not_false false e = clash true refl e
+use Rattle.form_law.proofs.Uses.{or_right, in_own}
+use Rattle.form_law.proofs.Demanded.{and_behind}
 
 pub either : (a b : Bool) {C : Type 0} → (a || b) ≡ true → (a ≡ true → C) → (b ≡ true → C) → C
 either true b e f g = f refl
@@ -69,11 +60,11 @@ word_narrow t e = by (is_wide t) refl
 pub item_width : (i : Item) (t : Text) → wrong_item i t ≡ false → is_wide t ≡ is_wide_item i
 item_width item.Wide t e = not_false (is_wide t) e
 item_width item.Object t e = reference_narrow t (not_false (is_reference t) e)
-item_width item.Plain t e = (neither (is_wide t) (is_reference t) e).0
-item_width item.Boolean t e = (neither (is_wide t) (is_reference t) e).0
-item_width item.Byte t e = (neither (is_wide t) (is_reference t) e).0
-item_width item.Char t e = (neither (is_wide t) (is_reference t) e).0
-item_width item.Short t e = (neither (is_wide t) (is_reference t) e).0
+item_width item.Plain t e = (neither_of (is_wide t) (is_reference t) e).0
+item_width item.Boolean t e = (neither_of (is_wide t) (is_reference t) e).0
+item_width item.Byte t e = (neither_of (is_wide t) (is_reference t) e).0
+item_width item.Char t e = (neither_of (is_wide t) (is_reference t) e).0
+item_width item.Short t e = (neither_of (is_wide t) (is_reference t) e).0
 
 return_width : (s : Slot) (t : Text) → wrong_return s t ≡ false → is_wide t ≡ is_wide_slot s
 return_width slot.Wide t e = not_false (is_wide t) e
@@ -106,10 +97,10 @@ all_in f (y ∷ xs) x e (there z zs i) = all_in f xs x (and_behind (f y) (list_a
 
 -- what holds of a wide operand
 second : (x : ℕ) → in_operand true x (x + 1) ≡ true
-second x = or_right (nat_eq (x + 1) x) (nat_eq (x + 1) (x + 1)) (own (x + 1))
+second x = or_right (nat_eq (x + 1) x) (nat_eq (x + 1) (x + 1)) (same_number (x + 1))
 
 alone : (x : ℕ) → list_any (nat_eq x) (first_if true x) ≡ true
-alone x = or_left (nat_eq x x) false (own x)
+alone x = or_left (nat_eq x x) false (same_number x)
 
 -- ---- demands
 
@@ -133,21 +124,21 @@ module _ (f : Form) (all : List (ℕ × Demand)) where
   -- an operand, wide or not
   operand : (b : Bool) (x : ℕ) (q : Demand) → (b ≡ true → list_any (nat_eq x) (wides_read f) ≡ true) → ((r : ℕ) → in_operand b x r ≡ true → reads f r ≡ true) → (reads f x ≡ true → IsAsked f all x q) → IsAsked f all x (wide_or b q)
   operand true x q wide read plain = (wide refl, (read x (in_own true x), read (x + 1) (second x)))
-  operand false x q wide read plain = plain (read x (own x))
+  operand false x q wide read plain = plain (read x (same_number x))
 
   slot_asked : (s : Slot) (x : ℕ) → (is_wide_slot s ≡ true → list_any (nat_eq x) (wides_read f) ≡ true) → ((r : ℕ) → in_operand (is_wide_slot s) x r ≡ true → reads f r ≡ true) → IsAsked f all x (slot_demand s)
   slot_asked slot.Wide x wide read = (wide refl, (read x (in_own true x), read (x + 1) (second x)))
-  slot_asked slot.Word x wide read = read x (own x)
-  slot_asked slot.Object x wide read = read x (own x)
+  slot_asked slot.Word x wide read = read x (same_number x)
+  slot_asked slot.Object x wide read = read x (same_number x)
 
   item_asked : (i : Item) (x : ℕ) → (is_wide_item i ≡ true → list_any (nat_eq x) (wides_read f) ≡ true) → ((r : ℕ) → in_operand (is_wide_item i) x r ≡ true → reads f r ≡ true) → IsAsked f all x (put_item i)
   item_asked item.Wide x wide read = (wide refl, (read x (in_own true x), read (x + 1) (second x)))
-  item_asked item.Object x wide read = read x (own x)
-  item_asked item.Plain x wide read = read x (own x)
-  item_asked item.Boolean x wide read = read x (own x)
-  item_asked item.Byte x wide read = read x (own x)
-  item_asked item.Char x wide read = read x (own x)
-  item_asked item.Short x wide read = read x (own x)
+  item_asked item.Object x wide read = read x (same_number x)
+  item_asked item.Plain x wide read = read x (same_number x)
+  item_asked item.Boolean x wide read = read x (same_number x)
+  item_asked item.Byte x wide read = read x (same_number x)
+  item_asked item.Char x wide read = read x (same_number x)
+  item_asked item.Short x wide read = read x (same_number x)
 
   -- an operand that is never wide
   tested_asked : (b : Bool) (x : ℕ) → reads f x ≡ true → IsAsked f all x (tested b)
@@ -195,7 +186,7 @@ module _ (f : Form) (all : List (ℕ × Demand)) where
           two [] l read wide inside next = absurd (omega (arith, l))
           two (s ∷ rs) l read wide inside next =
               let e = eqb-true s (r + 1) (behind s r (inside (s, Behind r) (there (r, Pair) ((s, Behind r) ∷ passed ts rs) (here (passed ts rs))))) in (
-                (wide r (or_left (nat_eq r r) (list_any (nat_eq r) (wide_arguments ts rs)) (own r)), (read r (here (s ∷ rs)), subst (λ x. reads f x ≡ true) e (read s (there r (s ∷ rs) (here rs))))),
+                (wide r (or_left (nat_eq r r) (list_any (nat_eq r) (wide_arguments ts rs)) (same_number r)), (read r (here (s ∷ rs)), subst (λ x. reads f x ≡ true) e (read s (there r (s ∷ rs) (here rs))))),
                 (
                   inside (r, Pair) (here ((s, Behind r) ∷ passed ts rs)),
                   next s rs (omega (arith, l)) (λ x i. read x (there r (s ∷ rs) (there s rs i))) (λ w i. wide w (or_right (nat_eq w r) (list_any (nat_eq w) (wide_arguments ts rs)) i))
@@ -207,7 +198,7 @@ module _ (f : Form) (all : List (ℕ × Demand)) where
 
 read_args : (xs : List ℕ) (r : ℕ) → In r xs → list_any (λ a. nat_eq a r) xs ≡ true
 read_args [] r i = elim i [ ]
-read_args (x ∷ xs) r (here zs) = or_left (nat_eq r r) (list_any (λ a. nat_eq a r) xs) (own r)
+read_args (x ∷ xs) r (here zs) = or_left (nat_eq r r) (list_any (λ a. nat_eq a r) xs) (same_number r)
 read_args (x ∷ xs) r (there z zs i) = or_right (nat_eq x r) (list_any (λ a. nat_eq a r) xs) (read_args xs r i)
 
 wide_of : (b : Bool) (x : ℕ) → b ≡ true → list_any (nat_eq x) (first_if b x) ≡ true
@@ -221,7 +212,7 @@ module _ (p : NamedProgram) (c : NamedClass) (m : NamedMethod) (a : Kinds) where
   behind_met f e x r i = all_in (λ d. meets p c a.registers d.0 d.1) (asks f) (x, Behind r) (and_behind (place_allowed a f) (list_all (λ d. meets p c a.registers d.0 d.1) (asks f)) e) i
 
   right_length : (kind : InvokeKind) (k : MethodKey) (rs : List ℕ) → is_wrong p c m a (form.Invoke kind k rs) ≡ false → length rs ≡ passed_words kind k
-  right_length kind k rs e = eqb-true (length rs) (passed_words kind k) (not_false (nat_eq (length rs) (passed_words kind k)) (neither (wrong_method p kind k || wrong_super p c kind k) (not (nat_eq (length rs) (passed_words kind k))) e).1)
+  right_length kind k rs e = eqb-true (length rs) (passed_words kind k) (not_false (nat_eq (length rs) (passed_words kind k)) (neither_of (wrong_method p kind k || wrong_super p c kind k) (not (nat_eq (length rs) (passed_words kind k))) e).1)
 
   -- a receiver, and what is passed with it
   with_receiver : (kind : InvokeKind) (k : MethodKey) (r : ℕ) (rs : List ℕ) → is_static_call kind ≡ false → length (r ∷ rs) ≡ passed_words kind k → is_wide k.class ≡ false
@@ -269,44 +260,44 @@ module _ (p : NamedProgram) (c : NamedClass) (m : NamedMethod) (a : Kinds) where
   pub all_asked : (f : Form) → HasNarrowClass f → is_allowed p c m a f ≡ true → is_wrong p c m a f ≡ false → AllAsked f (asks f) (asks f)
   all_asked (form.Move slot to from) n e w = let f = form.Move slot to from in (slot_asked f (asks f) slot from (wide_of (is_wide_slot slot) from) (λ r h. h), tt)
   all_asked (form.Return slot from) n e w = let f = form.Return slot from in
-      (typed_operand f (asks f) m.signature.result (is_wide_slot slot) from (return_width slot m.signature.result (neither (wrong_return slot m.signature.result) (ends_early p c m a) w).0) (wide_of (is_wide_slot slot) from) (λ r h. h), tt)
-  all_asked (form.MonitorEnter on) n e w = (own on, tt)
-  all_asked (form.MonitorExit on) n e w = (own on, tt)
-  all_asked (form.CheckCast on kind) n e w = (own on, tt)
-  all_asked (form.InstanceOf to from kind) n e w = (own from, tt)
-  all_asked (form.ArrayLength to from) n e w = (own from, tt)
-  all_asked (form.NewArray to size kind) n e w = (own size, tt)
+      (typed_operand f (asks f) m.signature.result (is_wide_slot slot) from (return_width slot m.signature.result (neither_of (wrong_return slot m.signature.result) (ends_early p c m a) w).0) (wide_of (is_wide_slot slot) from) (λ r h. h), tt)
+  all_asked (form.MonitorEnter on) n e w = (same_number on, tt)
+  all_asked (form.MonitorExit on) n e w = (same_number on, tt)
+  all_asked (form.CheckCast on kind) n e w = (same_number on, tt)
+  all_asked (form.InstanceOf to from kind) n e w = (same_number from, tt)
+  all_asked (form.ArrayLength to from) n e w = (same_number from, tt)
+  all_asked (form.NewArray to size kind) n e w = (same_number size, tt)
   all_asked (form.FilledNewArray kind args) n e w = let f = form.FilledNewArray kind args in filled_asked f (asks f) (item_of kind) args (read_args args)
-  all_asked (form.FillArray on width items) n e w = (own on, tt)
-  all_asked (form.Throw on) n e w = (own on, tt)
-  all_asked (form.PackedSwitch on first targets) n e w = (own on, tt)
-  all_asked (form.SparseSwitch on keys targets) n e w = (own on, tt)
+  all_asked (form.FillArray on width items) n e w = (same_number on, tt)
+  all_asked (form.Throw on) n e w = (same_number on, tt)
+  all_asked (form.PackedSwitch on first targets) n e w = (same_number on, tt)
+  all_asked (form.SparseSwitch on keys targets) n e w = (same_number on, tt)
   all_asked (form.Cmp op to x y) n e w = let f = form.Cmp op to x y in let b = compares_wide op in (
     operand f (asks f) b x Number (λ i. any_front x (first_if b x) (first_if b y) (wide_of b x i)) (λ r h. or_left (in_operand b x r) (in_operand b y r) h) (λ h. h),
     (operand f (asks f) b y Number (λ i. any_back y (first_if b x) (first_if b y) (wide_of b y i)) (λ r h. or_right (in_operand b x r) (in_operand b y r) h) (λ h. h), tt),
   )
   all_asked (form.If test x y target) n e w = let f = form.If test x y target in
-      (tested_asked f (asks f) (is_equality test) x (or_left (nat_eq x x) (nat_eq x y) (own x)), (like_asked f (asks f) (is_equality test) (kind_at a.registers x) y (or_right (nat_eq y x) (nat_eq y y) (own y)), tt))
-  all_asked (form.IfZero test x target) n e w = let f = form.IfZero test x target in (tested_asked f (asks f) (is_equality test) x (own x), tt)
-  all_asked (form.ArrayGet item to array index) n e w = (or_left (nat_eq array array) (nat_eq array index) (own array), (or_right (nat_eq index array) (nat_eq index index) (own index), tt))
+      (tested_asked f (asks f) (is_equality test) x (or_left (nat_eq x x) (nat_eq x y) (same_number x)), (like_asked f (asks f) (is_equality test) (kind_at a.registers x) y (or_right (nat_eq y x) (nat_eq y y) (same_number y)), tt))
+  all_asked (form.IfZero test x target) n e w = let f = form.IfZero test x target in (tested_asked f (asks f) (is_equality test) x (same_number x), tt)
+  all_asked (form.ArrayGet item to array index) n e w = (or_left (nat_eq array array) (nat_eq array index) (same_number array), (or_right (nat_eq index array) (nat_eq index index) (same_number index), tt))
   all_asked (form.ArrayPut item from array index) n e w = let f = form.ArrayPut item from array index in let b = is_wide_item item in (
     item_asked f (asks f) item from (wide_of b from) (λ r h. or_left (in_operand b from r || nat_eq r array) (nat_eq r index) (or_left (in_operand b from r) (nat_eq r array) h)),
-    (or_left (in_operand b from array || nat_eq array array) (nat_eq array index) (or_right (in_operand b from array) (nat_eq array array) (own array)), (or_right (in_operand b from index || nat_eq index array) (nat_eq index index) (own index), tt)),
+    (or_left (in_operand b from array || nat_eq array array) (nat_eq array index) (or_right (in_operand b from array) (nat_eq array array) (same_number array)), (or_right (in_operand b from index || nat_eq index array) (nat_eq index index) (same_number index), tt)),
   )
-  all_asked (form.InstanceGet item to on field) n e w = (own on, tt)
+  all_asked (form.InstanceGet item to on field) n e w = (same_number on, tt)
   all_asked (form.InstancePut item from on field) n e w = let f = form.InstancePut item from on field in let b = is_wide_item item in (
-    typed_operand f (asks f) field.kind b from (item_width item field.kind (neither (wrong_item item field.kind) (wrong_field p false field) w).0) (wide_of b from) (λ r h. or_left (in_operand b from r) (nat_eq r on) h),
-    (or_right (in_operand b from on) (nat_eq on on) (own on), tt),
+    typed_operand f (asks f) field.kind b from (item_width item field.kind (neither_of (wrong_item item field.kind) (wrong_field p false field) w).0) (wide_of b from) (λ r h. or_left (in_operand b from r) (nat_eq r on) h),
+    (or_right (in_operand b from on) (nat_eq on on) (same_number on), tt),
   )
   all_asked (form.StaticPut item from field) n e w = let f = form.StaticPut item from field in let b = is_wide_item item in
-      (typed_operand f (asks f) field.kind b from (item_width item field.kind (neither (wrong_item item field.kind) (wrong_field p true field) w).0) (wide_of b from) (λ r h. h), tt)
+      (typed_operand f (asks f) field.kind b from (item_width item field.kind (neither_of (wrong_item item field.kind) (wrong_field p true field) w).0) (wide_of b from) (λ r h. h), tt)
   all_asked (form.Invoke kind method args) n e w = call_asked kind method args n (right_length kind method args w) e
   all_asked (form.Unary op to from) n e w = let f = form.Unary op to from in let b = unary_reads_wide op in (operand f (asks f) b from Number (wide_of b from) (λ r h. h) (λ h. h), tt)
   all_asked (form.Binary op to x y) n e w = let f = form.Binary op to x y in let b = binary_is_wide op in let d = second_is_wide op in (
     operand f (asks f) b x Number (λ i. any_front x (first_if b x) (first_if d y) (wide_of b x i)) (λ r h. or_left (in_operand b x r) (in_operand d y r) h) (λ h. h),
     (operand f (asks f) d y Number (λ i. any_back y (first_if b x) (first_if d y) (wide_of d y i)) (λ r h. or_right (in_operand b x r) (in_operand d y r) h) (λ h. h), tt),
   )
-  all_asked (form.Literal op to x value) n e w = (own x, tt)
+  all_asked (form.Literal op to x value) n e w = (same_number x, tt)
   all_asked f n e w = tt
 
   -- what a form that is right and allowed asks for it reads

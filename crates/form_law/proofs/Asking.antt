@@ -2,6 +2,8 @@
 use Rattle.std.proofs.Common.{◌≡◌, ℕ, ◌+◌, Bool, true, false, List, [], ◌∷◌, refl, sym, ap, ◌∙◌, subst, eqb-true}
 use Rattle.std.specs.Prelude.{nat_eq, if◌then◌else◌}
 use Rattle.std.specs.List.{list_any, list_all}
+use Rattle.lemmas.proofs.Bools.{and_left, clash, or_left}
+use Rattle.lemmas.proofs.Numbers.{same_number}
 use Rattle.dalvik_defs.specs.Names.{Text, is_word, is_array}
 use Rattle.dalvik_defs.specs.Items.{item_of_type}
 use Rattle.dalvik_defs.specs.declared.names.FieldKey.{FieldKey}
@@ -19,9 +21,8 @@ use Rattle.pass_defs.specs.Registers.{Kinds, kind_at}
 use Rattle.pass_defs.specs.Demands.{Demand, Moved, Number, Pair, Behind, Initialised, Either, Fits, Receiver, Holder, Constructed, AnArray, ArrayOf, Filled, item_eq, has_width, is_constructed, is_equality, holds_field, is_moved, is_array_where, meets, tested, demands, place_allowed, is_allowed}
 use Rattle.form_law.specs.Changes.{In, here, there}
 use Rattle.form_law.specs.Kinds.{AtFirst, SameKinds, AllSame, IsAsked, HasNarrowClass, is_whole, Held}
-use Rattle.form_law.proofs.Uses.{own, or_left}
-use Rattle.form_law.proofs.Demanded.{allowed_named, and_left, and_behind}
-use Rattle.form_law.proofs.Asked.{clash, either, all_in, asked_read}
+use Rattle.form_law.proofs.Demanded.{allowed_named, and_behind}
+use Rattle.form_law.proofs.Asked.{either, all_in, asked_read}
 
 pub moved_whole : (k : Kind) → is_moved k ≡ true → is_whole k ≡ true
 moved_whole Undefined e = e
@@ -162,14 +163,14 @@ module _ (p : NamedProgram) (c : NamedClass) (m : NamedMethod) (f : Form) (new :
 -- the first operand of an If has the kind that it had
 pub first_same : (p : NamedProgram) (c : NamedClass) (m : NamedMethod) (f : Form) (new : ℕ → ℕ) (live : ℕ → Bool) (a a' : Kinds) → Held new live a.registers a'.registers → ((o : ℕ) → reads f o ≡ true → live o ≡ true)
     → is_allowed p c m a f ≡ true → AtFirst new a.registers a'.registers f
-first_same p c m (form.If test x y target) new live a a' held used allowed = held.whole x (used x (or_left (nat_eq x x) (nat_eq x y) (own x))) (by (is_equality test) (and_left (meets p c a.registers x (tested (is_equality test))) _ allowed))
+first_same p c m (form.If test x y target) new live a a' held used allowed = held.whole x (used x (or_left (nat_eq x x) (nat_eq x y) (same_number x))) (by (is_equality test) (and_left (meets p c a.registers x (tested (is_equality test))) _ allowed))
   where
     by : (b : Bool) → meets p c a.registers x (tested b) ≡ true → is_whole (kind_at a.registers x) ≡ true
     by true e = either (is_number (kind_at a.registers x)) (is_initialised (kind_at a.registers x)) e (number_whole (kind_at a.registers x)) (initialised_whole (kind_at a.registers x))
     by false e = number_whole (kind_at a.registers x) e
 first_same p c m f new live a a' held used allowed = tt
 
--- what is allowed of a form is allowed of it with the registers that stand for its own
+-- what is allowed of a form is allowed of it with the registers that stand for its same_number
 pub allowed_held : (p : NamedProgram) (c : NamedClass) (m : NamedMethod) (f : Form) (new : ℕ → ℕ) (live : ℕ → Bool) (a a' : Kinds) → Held new live a.registers a'.registers → a'.result ≡ a.result → a'.caught ≡ a.caught
     → ((o : ℕ) → reads f o ≡ true → live o ≡ true) → HasNarrowClass f → is_wrong p c m a f ≡ false → ((w : ℕ) → In (w, Pair) (demands p c m a.registers f) → list_any (nat_eq w) (wides_read f) ≡ true → new (w + 1) ≡ new w + 1)
     → is_allowed p c m a f ≡ true → is_allowed p c m a' (remade new new (λ t. t) f) ≡ true

@@ -3,6 +3,8 @@ use Rattle.std.proofs.Common.{◌≡◌, ℕ, ◌+◌, Bool, true, false, true�
 use Rattle.std.specs.Prelude.{◌&&◌, ◌||◌, map, drop, if◌then◌else◌}
 use Rattle.std.specs.List.{list_all}
 use Rattle.std.proofs.lemmas.Bool.{eq-eqb, eqb-true}
+use Rattle.lemmas.proofs.Bools.{and_left}
+use Rattle.lemmas.proofs.Lists.{map_append}
 use Rattle.insn_set.specs.declared.ops.Slot.{Slot}
 use Rattle.insn_set.specs.declared.ops.Slot.TheVariants as slot
 use Rattle.insn_set.specs.declared.ops.Item.{Item}
@@ -24,14 +26,6 @@ use Rattle.pass_defs.specs.Registers.{Kinds, kind_at}
 use Rattle.pass_defs.specs.Remade.{remade}
 use Rattle.form_law.specs.Kinds.{renamed, AtFirst, SameKinds, AllSame}
 use Rattle.pass_defs.specs.Demands.{wide_or, tested, like, put_item, result_fits, Demand, Moved, Number, Pair, Behind, Initialised, Either, Fits, Receiver, Holder, Constructed, AnArray, ArrayOf, Filled, meets, is_moved, holds_field, is_constructed, is_array_where, item_eq, has_width, slot_demand, second_tested, is_equality, is_constructor_name, passed_wide, passed, found_class, receiver_demands, call_demands, demands, place_allowed, is_allowed}
-
-map_on : {A B : Type 0} (f : A → B) (xs ys : List A) → map f (xs ++ ys) ≡ map f xs ++ map f ys
-map_on f [] ys = refl
-map_on f (x ∷ xs) ys = ap (λ l. f x ∷ l) (map_on f xs ys)
-
-pub and_left : (a b : Bool) → (a && b) ≡ true → a ≡ true
-and_left true b e = refl
-and_left false b e = e
 
 pub and_behind : (a b : Bool) → (a && b) ≡ true → b ≡ true
 and_behind true b e = e
@@ -57,7 +51,7 @@ module _ (p : NamedProgram) (c : NamedClass) (m : NamedMethod) (r d t : ℕ → 
       by : (b : Bool) → passed ts (map r (drop 1 rs)) ≡ map named (passed ts (drop 1 rs)) → passed ts (map r rs) ≡ map named (passed ts rs)
           → (elim b as (λ b. List (ℕ × Demand)) [ true ↦ passed_wide (r x) (map r rs) ++ passed ts (drop 1 (map r rs)) | false ↦ (r x, Fits u) ∷ passed ts (map r rs) ])
           ≡ map named (elim b as (λ b. List (ℕ × Demand)) [ true ↦ passed_wide x rs ++ passed ts (drop 1 rs) | false ↦ (x, Fits u) ∷ passed ts rs ])
-      by true h k = ap₂ (λ a b. a ++ b) (wide_named x rs) (ap (passed ts) (drop_map r rs) ∙ h) ∙ sym (map_on named (passed_wide x rs) (passed ts (drop 1 rs)))
+      by true h k = ap₂ (λ a b. a ++ b) (wide_named x rs) (ap (passed ts) (drop_map r rs) ∙ h) ∙ sym (map_append named (passed_wide x rs) (passed ts (drop 1 rs)))
       by false h k = ap (λ l. (r x, Fits u) ∷ l) k
 
   fits_named : (x : ℕ) (ts : List Text) → map (λ y. (r x, y)) (map Fits ts) ≡ map named (map (λ y. (x, y)) (map Fits ts))
@@ -76,7 +70,7 @@ module _ (p : NamedProgram) (c : NamedClass) (m : NamedMethod) (r d t : ℕ → 
   call_named call.Static k rs = passed_named k.signature.parameters rs
   call_named kind k [] = refl
   call_named kind k (x ∷ rs) = ap₂ (λ a b. a ++ b) (receiver_named kind k x) (passed_named k.signature.parameters rs)
-      ∙ sym (map_on named (map (λ y. (x, y)) (receiver_demands p c kind k)) (passed k.signature.parameters rs))
+      ∙ sym (map_append named (map (λ y. (x, y)) (receiver_demands p c kind k)) (passed k.signature.parameters rs))
 
   -- the demands are the same, of the other registers
   module _ (ks ks' : List Kind) where

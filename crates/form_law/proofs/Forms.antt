@@ -16,6 +16,7 @@ use Rattle.insn_set.specs.declared.ops.LiteralOp.TheVariants as literal
 use Rattle.dalvik_defs.specs.Names.{Text, item_of}
 use Rattle.dalvik_defs.specs.Known.{out_of_bounds, null_pointer, bad_cast, bad_monitor}
 use Rattle.std.specs.Option.{option_map}
+use Rattle.lemmas.proofs.Lists.{get_map}
 use Rattle.dalvik_defs.specs.Arith.{Kind, Div, Rem, signed, passes, answer, literal_answer}
 use Rattle.dalvik_defs.specs.Operators.{sort_of, unary_answer, comparison, Sort, OnWord, OnWide, Shifts, OnFloat, OnDouble, float_word, float_wide, Number, OneWord, OneWide}
 use Rattle.dalvik_defs.specs.Items.{stored, fill}
@@ -114,11 +115,6 @@ in_targets : (ts : List ℕ) (i n : ℕ) → slice_get ts i ≡ Some n → In n 
 in_targets [] i n e = some_none n (sym e)
 in_targets (x ∷ ts) zero n e = subst (λ y. In y (x ∷ ts)) (ap (λ o. elim o as (λ o. ℕ) [ Some y ↦ y | None ↦ x ]) e) (here ts)
 in_targets (x ∷ ts) (suc i) n e = there x ts (in_targets ts i n e)
-
-get_map : (t : ℕ → ℕ) (ts : List ℕ) (i : ℕ) → slice_get (map t ts) i ≡ option_map t (slice_get ts i)
-get_map t [] i = refl
-get_map t (x ∷ ts) zero = refl
-get_map t (x ∷ ts) (suc i) = get_map t ts i
 
 key_map : (t : ℕ → ℕ) (z : ℤ) (ks : List ℤ) (ts : List ℕ) → switch_target z ks (map t ts) ≡ option_map t (switch_target z ks ts)
 key_map t z [] ts = refl

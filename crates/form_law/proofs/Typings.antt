@@ -1,6 +1,9 @@
 -- What a typing says of a position with a form and a state.
 use Rattle.std.proofs.Common.{◌≡◌, ℕ, zero, suc, ◌<◌, Bool, true, false, List, [], ◌∷◌, length, Some, None, refl, sym, ap, ◌∙◌, arith, eqb-true}
 use Rattle.std.specs.Prelude.{not, nat_eq, slice_get}
+use Rattle.lemmas.proofs.Bools.{and_left, clash}
+use Rattle.lemmas.proofs.Lists.{got_short}
+use Rattle.lemmas.proofs.Numbers.{same_number}
 use Rattle.dalvik_defs.specs.declared.forms.Form.{Form}
 use Rattle.dalvik_defs.specs.declared.program.NamedBody.{NamedBody}
 use Rattle.dalvik_defs.specs.declared.program.NamedClass.{NamedClass}
@@ -10,9 +13,7 @@ use Rattle.pass_defs.specs.Walks.{form_at}
 use Rattle.pass_defs.specs.Registers.{Kinds}
 use Rattle.pass_defs.specs.Demands.{is_allowed}
 use Rattle.pass_defs.specs.Typed.{is_wrong, Table, state_at, each, at_state, IsTyping}
-use Rattle.form_law.proofs.Uses.{own}
-use Rattle.form_law.proofs.Demanded.{and_left, and_behind}
-use Rattle.form_law.proofs.Asked.{clash}
+use Rattle.form_law.proofs.Demanded.{and_behind}
 
 pub each_at : (n : ℕ) (test : ℕ → Bool) (i : ℕ) → i < n → each n test ≡ true → test i ≡ true
 each_at zero test i lt e = absurd (omega (arith, lt))
@@ -25,12 +26,7 @@ each_at (suc n) test i lt e = by (λ l. each_at n test i l (and_left (each n tes
 
     by : (i < n → test i ≡ true) → (b : Bool) → nat_eq i n ≡ b → test i ≡ true
     by more true j = ap test (eqb-true i n j) ∙ and_behind (each n test) (test n) e
-    by more false j = more (less i n lt (λ z. clash (nat_eq i n) (ap (nat_eq i) (sym z) ∙ own i) j))
-
-pub get_below : {A : Type 0} (xs : List A) (n : ℕ) (x : A) → slice_get xs n ≡ Some x → n < length xs
-get_below [] n x e = clash true refl (ap (λ o. elim o as (λ o. Bool) [ Some y ↦ false | None ↦ true ]) e)
-get_below (y ∷ xs) zero x e = omega arith
-get_below (y ∷ xs) (suc n) x e = let h = get_below xs n x e in omega (arith, h)
+    by more false j = more (less i n lt (λ z. clash (nat_eq i n) (ap (nat_eq i) (sym z) ∙ same_number i) j))
 
 module _ (p : NamedProgram) (c : NamedClass) (m : NamedMethod) (b : NamedBody) (t : Table) (typing : IsTyping p c m b t) where
   -- what a typing says of a position with a form and a state
@@ -40,7 +36,7 @@ module _ (p : NamedProgram) (c : NamedClass) (m : NamedMethod) (b : NamedBody) (
         ∙ ap (λ o. elim o as (λ o. Bool) [ Some f ↦ elim (state_at t n) as (λ s. Bool) [ Some a ↦ test f a | None ↦ true ] | None ↦ true ]) (sym x) ∙ e
 
     lower : n < length b.forms
-    lower = get_below b.forms n f x
+    lower = got_short b.forms n f x
 
     pub allowed_at : is_allowed p c m a f ≡ true
     allowed_at = tested (λ f a. is_allowed p c m a f) (each_at (length b.forms) (at_state b t (λ f a. is_allowed p c m a f)) n lower typing.reads)

@@ -3,6 +3,8 @@ use Rattle.std.proofs.Common.{◌≡◌, ℕ, ◌+◌, ◌≤◌, true, List, []
 use Rattle.std.specs.Prelude.{◌&&◌, not, nat_le, Some, slice_get}
 use Rattle.std.specs.List.{list_all}
 use Rattle.std.proofs.lemmas.Bool.{leb-true, le-leb}
+use Rattle.lemmas.proofs.Bools.{and_right}
+use Rattle.lemmas.proofs.Numbers.{itself}
 use Rattle.program_model.specs.Neighbours.{neighbours}
 use Rattle.program_model.specs.Distinct.{own_method_key, all_differ}
 use Rattle.program_model.specs.BodyRules.{body_fits}
@@ -17,14 +19,11 @@ use Rattle.program_model.specs.declared.body.Body.{Body}
 use Rattle.program_model.specs.declared.program.Method.{Method}
 use Rattle.program_model.specs.declared.program.Class.{Class}
 use Rattle.program_model.specs.declared.program.Program.{Program}
-use Rattle.silence_law.proofs.Lists.{and_left, and_right, and_both}
+use Rattle.silence_law.proofs.Lists.{and_left, and_both}
 use Rattle.table_rules.proofs.Tables.{tables_kept, class_same}
 use Rattle.bodies_law.specs.Others.{Pairwise}
 use Rattle.formed_law.specs.Recoded.{Recodes, RecodedMethod, Untouched, Recoded, RecodedClass, RecodedProgram}
 use Rattle.formed_law.proofs.Pairs.{length_pairs, all_pairs, order_pairs, sum_pairs, differ_pairs}
-
-itself : (n : ℕ) → n ≤ n
-itself n = omega arith
 
 no_more : (a b : ℕ) → a ≡ b → a ≤ b
 no_more a b e = omega (arith, e)

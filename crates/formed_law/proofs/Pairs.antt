@@ -4,9 +4,10 @@ use Rattle.std.specs.Prelude.{◌&&◌, ◌||◌, if◌then◌else◌, nat_eq, s
 use Rattle.std.specs.Cmp.Lexicographic.{pointwise}
 use Rattle.std.specs.List.{list_all, list_any}
 use Rattle.std.proofs.lemmas.List.Sums.{sum_by-cons}
+use Rattle.lemmas.proofs.Bools.{and_right}
 use Rattle.program_model.specs.Neighbours.{neighbours}
 use Rattle.program_model.specs.Distinct.{same_entry, differ_from}
-use Rattle.silence_law.proofs.Lists.{and_left, and_right, and_both}
+use Rattle.silence_law.proofs.Lists.{and_left, and_both}
 use Rattle.bodies_law.specs.Others.{Pairwise}
 
 module _ {A : Type 0} (R : A → A → Type 0) where

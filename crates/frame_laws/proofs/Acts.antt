@@ -5,6 +5,10 @@ use Rattle.std.specs.Prelude.{◌||◌, Option, Some, None, nat_lt, nat_eq, leng
 use Rattle.std.specs.List.{list_any}
 use Rattle.std.specs.Option.{option_map}
 use Rattle.std.specs.Int.{w32, w64, cast_unsigned}
+use Rattle.lemmas.proofs.Bools.{or_left, or_right}
+use Rattle.lemmas.proofs.Lists.{contains_here, contains_there, get_map}
+use Rattle.lemmas.proofs.Numbers.{same_number}
+use Rattle.lemmas.proofs.Options.{none_some, some_same}
 use lib.Dec.{eqb-suc-suc}
 use Rattle.insn_set.specs.Registers.{in_operand}
 use Rattle.insn_set.specs.Widths.{is_wide_item, is_wide_slot, binary_is_wide, second_is_wide, unary_reads_wide, unary_writes_wide, compares_wide}
@@ -39,21 +43,9 @@ use Rattle.pass_defs.specs.Bare.{reads, may_throw, continues, targets}
 use Rattle.pass_defs.specs.Remade.{remade}
 use Rattle.silence_law.specs.Results.{gives_result}
 use Rattle.frame_laws.specs.Alike.{Holds, Only, Plain, Nothing, Accepts, Alike, Going, Faulting, Throwing, Giving, Making, Calling, Reading, Writing, Locking, Unlocking, Sticking}
-use Rattle.frame_laws.proofs.Lists.{no_some, some_same, contains_here, contains_there}
 use Rattle.frame_laws.proofs.Alike.{accepts_item}
 
 -- ---- registers that are read
-
-pub same_number : (n : ℕ) → nat_eq n n ≡ true
-same_number zero = refl
-same_number (suc n) = eqb-suc-suc n n ∙ same_number n
-
-or_left : (a b : Bool) → a ≡ true → (a || b) ≡ true
-or_left a b e = ap (λ z. z || b) e
-
-or_right : (a b : Bool) → b ≡ true → (a || b) ≡ true
-or_right true b e = refl
-or_right false b e = e
 
 pub own : (wide : Bool) (n : ℕ) → in_operand wide n n ≡ true
 own false n = same_number n
@@ -273,23 +265,18 @@ module _ (under : Text → Text → Bool) (floats : Floats) (w : World) (f g : F
 -- ---- targets
 
 slice_target : (ts : List ℕ) (i u : ℕ) → slice_get ts i ≡ Some u → Contains ts u
-slice_target [] i u e = no_some u e
+slice_target [] i u e = none_some u e
 slice_target (t ∷ ts) zero u e = subst (λ z. Contains (t ∷ ts) z) (some_same t u e) (contains_here t ts)
 slice_target (t ∷ ts) (suc i) u e = contains_there t ts u (slice_target ts i u e)
 
 switched : (z : ℤ) (ks : List ℤ) (ts : List ℕ) (u : ℕ) → switch_target z ks ts ≡ Some u → Contains ts u
-switched z [] ts u e = no_some u e
-switched z (k ∷ ks) [] u e = no_some u e
+switched z [] ts u e = none_some u e
+switched z (k ∷ ks) [] u e = none_some u e
 switched z (k ∷ ks) (t ∷ ts) u e = by (int_lt z k || int_lt k z) e (switched z ks ts u)
   where
     by : (b : Bool) → (elim b as (λ b. Option ℕ) [ true ↦ switch_target z ks ts | false ↦ Some t ]) ≡ Some u → (switch_target z ks ts ≡ Some u → Contains ts u) → Contains (t ∷ ts) u
     by true i h = contains_there t ts u (h i)
     by false i h = subst (λ z. Contains (t ∷ ts) z) (some_same t u i) (contains_here t ts)
-
-slice_moved : (t : ℕ → ℕ) (ts : List ℕ) (i : ℕ) → slice_get (map t ts) i ≡ option_map t (slice_get ts i)
-slice_moved t [] i = refl
-slice_moved t (u ∷ ts) zero = refl
-slice_moved t (u ∷ ts) (suc i) = slice_moved t ts i
 
 switch_moved : (t : ℕ → ℕ) (z : ℤ) (ks : List ℤ) (ts : List ℕ) → switch_target z ks (map t ts) ≡ option_map t (switch_target z ks ts)
 switch_moved t z [] ts = refl
@@ -335,7 +322,7 @@ module _ (under : Text → Text → Bool) (floats : Floats) (w : World) (f g : F
       (subst (λ y. Alike (form.Throw on) f g G (Throws (register f on)) (Throws y)) (sym (h.reads on (own false on))) (Throwing (register f on) refl))
   acts (form.Goto target) h a = jumps under floats w f g r ω t G _ a target (contains_here target []) (λ n. refl) refl
   acts (form.PackedSwitch on first targets) h a = goes_there under floats w f g r ω t G _ a (packed_target (number f on) first targets) _ (refl, refl) (λ n. refl) (λ u e. slice_target targets _ u e)
-      (ap (λ y. packed_target (word_of y) first (map t targets)) (h.reads on (own false on)) ∙ slice_moved t targets _)
+      (ap (λ y. packed_target (word_of y) first (map t targets)) (h.reads on (own false on)) ∙ get_map t targets _)
   acts (form.SparseSwitch on keys targets) h a = goes_there under floats w f g r ω t G _ a (switch_target (signed false (number f on)) keys targets) _ (refl, refl) (λ n. refl) (λ u e. switched (signed false (number f on)) keys targets u e)
       (ap (λ y. switch_target (signed false (word_of y)) keys (map t targets)) (h.reads on (own false on)) ∙ switch_moved t (signed false (number f on)) keys targets)
   acts (form.Cmp op to m n) h a = puts under floats w f g r ω t G _ a w to _ _ (refl, refl) (λ n. refl)

@@ -3,6 +3,8 @@ use Rattle.std.proofs.Common.{◌≡◌, ℕ, ◌+◌, Bool, true, false, List, 
 use Rattle.std.specs.Prelude.{Option, Some, None, find, Contains, map}
 use Rattle.std.specs.Option.{option_and_then}
 use Rattle.std.proofs.lemmas.List.Elements.{Contains-append_left, Contains-append_right}
+use Rattle.lemmas.proofs.Lists.{contains_here, contains_there}
+use Rattle.lemmas.proofs.Options.{none_some, some_same}
 use mathlib.Core.Bool.{cond}
 use Rattle.dalvik_defs.specs.Names.{Text}
 use Rattle.dalvik_defs.specs.Stack.{covers, handler_in, handler_at}
@@ -12,7 +14,6 @@ use Rattle.dalvik_defs.specs.declared.program.NamedRegion.{NamedRegion}
 use Rattle.dalvik_defs.specs.declared.program.NamedHandler.{NamedHandler}
 use Rattle.pass_defs.specs.Bare.{may_throw, continues, targets}
 use Rattle.pass_defs.specs.Walks.{form_at, onward, caught, successors, next_position, handlers_at, handlers_of, listed, region_at, Walk, Stays as Arrives, Goes as Steps}
-use Rattle.frame_laws.proofs.Lists.{no_some, some_same, contains_here, contains_there}
 
 pub walk_on : (succ : ℕ → List ℕ) (a n m : ℕ) → Walk succ a n → Contains (succ n) m → Walk succ a m
 walk_on succ a n m (Arrives _) i = Steps n m m i (Arrives m)
@@ -35,7 +36,7 @@ goes_there x n m i = Contains-append_right (next_position (continues x) n) (targ
 
 handler_listed : (above : Text → Bool) (rest : Option ℕ) (hs : List NamedHandler) (m : ℕ)
     → elim (find (λ h. above h.kind) hs) as (λ o. Option ℕ) [ Some h ↦ Some h.position | None ↦ rest ] ≡ Some m → Contains (map (λ h. h.position) hs ++ listed rest) m
-handler_listed above None [] m e = no_some m e
+handler_listed above None [] m e = none_some m e
 handler_listed above (Some k) [] m e = subst (λ z. Contains (k ∷ []) z) (some_same k m e) (contains_here k [])
 handler_listed above rest (h ∷ hs) m e = by (above h.kind) e (handler_listed above rest hs m)
   where
@@ -49,7 +50,7 @@ pub handler_caught : (above : Text → Bool) (b : NamedBody) (n : ℕ) (x : Form
 handler_caught above b n x m t e = subst (λ z. Contains (elim z as (λ z. List ℕ) [ true ↦ handlers_at b n | false ↦ [] ]) m) (sym t) (by (region_at b n) e)
   where
     by : (o : Option NamedRegion) → option_and_then (handler_in above) o ≡ Some m → Contains (handlers_of o) m
-    by None e = no_some m e
+    by None e = none_some m e
     by (Some r) e = handler_listed above r.rest r.handlers m e
 
 pub no_handler : (above : Text → Bool) (b : NamedBody) (n : ℕ) → b.regions ≡ [] → handler_at above n b ≡ None

@@ -4,6 +4,7 @@ use Rattle.std.specs.Prelude.{◌||◌, Option, Some, None, is_some, nat_eq, len
 use Rattle.std.specs.Option.{option_or, option_map, option_and_then}
 use Rattle.std.proofs.lemmas.Bool.{eqb-true}
 use Rattle.std.proofs.Math.Nat.{le-max_left, le-max_right}
+use Rattle.lemmas.proofs.Options.{none_some, some_same}
 use Rattle.insn_set.specs.declared.ops.InvokeKind.TheVariants as call
 use Rattle.dalvik_defs.specs.Names.{Text, text_eq, signature_eq, same_name}
 use Rattle.dalvik_defs.specs.Under.{class_named}
@@ -25,7 +26,6 @@ use Rattle.pass_defs.specs.Inlined.{Callee, with_body, callee_found, callee_of, 
 use Rattle.frame_laws.specs.Alike.{gets_void}
 use Rattle.inline_law.specs.Inlining.{IsNeed, IsCallee}
 use Rattle.inline_law.specs.Sound.{Finding, FindsStatic, FindsDirect, IsSoundCallee}
-use Rattle.frame_laws.proofs.Lists.{no_some, some_same}
 use Rattle.bodies_law.proofs.Keys.{key_found}
 use Rattle.inline_law.proofs.Lists.{find_passes, text_same}
 
@@ -41,7 +41,7 @@ module _ (p : NamedProgram) where
     same : found_in class method ≡ g
 
   first_found : (n : Text) (s : Signature) (l : ℕ) (t : Text) (g : Found) → first_method (λ m. true) n s (chain_from l p t) ≡ Some g → InClass n s g
-  first_found n s zero t g e = no_some g e
+  first_found n s zero t g e = none_some g e
   first_found n s (suc l) t g e = by_class (class_named p t) refl e (λ u. first_found n s l u g)
     where
       by_method : (c : NamedClass) → class_named p c.name ≡ Some c → (o : Option NamedMethod) → method_in c n s ≡ o → (first_method (λ m. true) n s (chain_from l p c.superclass) ≡ Some g → InClass n s g)
@@ -51,7 +51,7 @@ module _ (p : NamedProgram) where
 
       by_class : (o : Option NamedClass) → class_named p t ≡ o → first_method (λ m. true) n s (elim o as (λ o. List NamedClass) [ Some c ↦ c ∷ chain_from l p c.superclass | None ↦ [] ]) ≡ Some g
           → ((u : Text) → first_method (λ m. true) n s (chain_from l p u) ≡ Some g → InClass n s g) → InClass n s g
-      by_class None i e more = no_some g e
+      by_class None i e more = none_some g e
       by_class (Some c) i e more = by_method c (ap (class_named p) (text_sound c.name t (find_passes (λ x. text_eq x.name t) p.classes c i)) ∙ i) (method_in c n s) refl (more c.superclass) e
 
   found_by : (k : MethodKey) (g : Found) → finds_statically p k ≡ Finds g → InClass k.name k.signature g
@@ -62,7 +62,7 @@ module _ (p : NamedProgram) where
       taken t = None
 
       by : (o : Option Found) → first_method (λ m. true) k.name k.signature (chain_of p k.class) ≡ o → search_of o ≡ Finds g → InClass k.name k.signature g
-      by None i e = no_some g (ap taken e)
+      by None i e = none_some g (ap taken e)
       by (Some h) i e = first_found k.name k.signature (length p.classes) k.class g (i ∙ ap taken e)
 
   defined_found : (n : Text) (s : Signature) (g : Found) → InClass n s g → (m : NamedMethod) × ((defined_method p g.key ≡ Some m) × ((g.flags ≡ m.flags) × (g.coded ≡ is_some m.body)))
@@ -94,13 +94,13 @@ module _ (p : NamedProgram) where
     where
       by_body : (g : Found) (m : NamedMethod) → defined_method p g.key ≡ Some m → g.flags ≡ m.flags → g.coded ≡ is_some m.body → (o : Option NamedBody) → m.body ≡ o
           → option_map (λ b. record { key = g.key; method = m; body = b; args = args }) o ≡ Some y → Answer args g y
-      by_body g m d i j None q e = no_some y e
+      by_body g m d i j None q e = none_some y e
       by_body g m d i j (Some b) q e = subst (Answer args g) (some_same (record { key = g.key; method = m; body = b; args = args }) y e)
           (refl, (j ∙ ap (λ o. is_some o) q, (i, (refl, ap (option_and_then (λ m. m.body)) d ∙ q))))
 
       by : (t : Search) → finds_statically p k ≡ t → callee_found p args t ≡ Some y → (g : Found) × ((t ≡ Finds g) × Answer args g y)
-      by Nothing i e = no_some y e
-      by Clash i e = no_some y e
+      by Nothing i e = none_some y e
+      by Clash i e = none_some y e
       by (Finds g) i e =
           let d = defined_found k.name k.signature g (found_by k g i) in
           (g, (refl, by_body g d.0 d.1.0 d.1.1.0 d.1.1.1 d.0.body refl (sym (ap (with_body g.key args) d.1.0) ∙ e)))
@@ -112,7 +112,7 @@ module _ (p : NamedProgram) where
   callee_finds (form.Invoke call.Direct k args) y e =
       let r = finds_callee args k y e in
       (subst (λ a. Finding p y (form.Invoke call.Direct k a)) (sym r.1.1.1.1.1.0) (FindsDirect k r.0 r.1.0 r.1.1.0 r.1.1.1.0 r.1.1.1.1.0), r.1.1.1.1.1.1)
-  callee_finds x y e = no_some y e
+  callee_finds x y e = none_some y e
 
   -- ---- registers that fit
 
@@ -130,7 +130,7 @@ module _ (p : NamedProgram) where
     where
       by : (t : Bool) → (if t then callee_of p (form_at b n) else None) ≡ Some y → (t ≡ true) × (callee_of p (form_at b n) ≡ Some y)
       by true e = (refl, e)
-      by false e = no_some y e
+      by false e = none_some y e
 
   -- ---- a sound callee
 

@@ -1,6 +1,9 @@
 -- The law of inlining: a program shows the same where bodies of callees stand in place of calls.
 use Rattle.std.proofs.Common.{◌≡◌, ℕ, zero, suc, ◌+◌, ◌<◌, ◌≤◌, ◌-◌, Bool, true, false, true≢false, List, [], ◌∷◌, ◌++◌, length, refl, sym, ap, ◌∙◌, subst, arith}
 use Rattle.std.specs.Prelude.{Option, Some, None, slice_set, slice_index_or, if◌then◌else◌, replicate, map, drop, nat_eq, Contains}
+use Rattle.lemmas.proofs.Lists.{contains_here}
+use Rattle.lemmas.proofs.Numbers.{same_number}
+use Rattle.lemmas.proofs.Options.{none_some, some_same}
 use Rattle.insn_set.specs.Widths.{is_wide_slot}
 use Rattle.insn_set.specs.declared.ops.Slot.{Slot}
 use Rattle.insn_set.specs.declared.ops.Slot.TheVariants as slot
@@ -39,8 +42,7 @@ use Rattle.dalvik_defs.proofs.Blocks.{Block, alone, with_top, under, stacked, Gl
 use Rattle.inline_law.proofs.Lists.{index_high, set_low, set_length, append_length, cut, overwritten, overwritten_length, agree_entry}
 use Rattle.frame_laws.proofs.Walks.{walk_on, goes_onward}
 use Rattle.inline_law.proofs.Ways.{onward_untaken}
-use Rattle.frame_laws.proofs.Lists.{no_some, some_same, contains_here}
-use Rattle.frame_laws.proofs.Acts.{own, same_number}
+use Rattle.frame_laws.proofs.Acts.{own}
 use Rattle.frame_laws.specs.Standing.{Goes, Stands, Past, Leaps, Later, Entries, Neither, Both, GoAlike}
 use Rattle.frame_laws.proofs.Blocks.{block_none, block_on, step_stays}
 use Rattle.frame_laws.proofs.Standing.{standing_shown}
@@ -211,10 +213,10 @@ module _ (find other : Bodies) (need : MethodKey → ℕ → ℕ → Type 0) (si
 
       behind_none : (t : Taken) (end : ℕ) → Behind b at f.position t end → t ≡ None → (takes_result (form_at b (f.position + 1)) ≡ false) × (end ≡ at (f.position + 1))
       behind_none _ _ (Untaken e) q = (e, refl)
-      behind_none _ _ (TakenBy r to e) q = no_some (r, to) (sym q)
+      behind_none _ _ (TakenBy r to e) q = none_some (r, to) (sym q)
 
       behind_some : (t : Taken) (end : ℕ) → Behind b at f.position t end → (r : Slot) (to : ℕ) → t ≡ Some (r, to) → (form_at b (f.position + 1) ≡ Some (form.MoveResult r to)) × (end ≡ at (f.position + 2))
-      behind_some _ _ (Untaken e) r to q = no_some (r, to) q
+      behind_some _ _ (Untaken e) r to q = none_some (r, to) q
       behind_some _ _ (TakenBy r' to' e) r to q = (subst (λ z. form_at b (f.position + 1) ≡ Some (form.MoveResult z.0 z.1)) (some_same (r', to') (r, to) q) e, refl)
 
       -- nobody takes the result

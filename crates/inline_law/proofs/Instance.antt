@@ -3,6 +3,7 @@ use Rattle.std.proofs.Common.{◌≡◌, ℕ, zero, suc, ◌+◌, ◌-◌, ◌<�
 use Rattle.std.specs.Prelude.{Option, Some, None, nat_eq, Contains}
 use Rattle.std.specs.List.{list_all}
 use Rattle.std.proofs.lemmas.Bool.{eqb-true}
+use Rattle.lemmas.proofs.Options.{none_some, some_same}
 use Rattle.dalvik_defs.specs.declared.forms.Form.{Form}
 use Rattle.pass_defs.specs.Bare.{reads, writes}
 use Rattle.pass_defs.specs.Walks.{form_at, onward, caught, IsReadAt, Here, Onward, Caught}
@@ -11,13 +12,12 @@ use Rattle.frame_laws.specs.Alike.{gets_void}
 use Rattle.inline_law.specs.Inlining.{PassesNone}
 use Rattle.inline_law.specs.Sound.{IsSoundCallee}
 use Rattle.inline_law.specs.Examples.{five, gives, body, caller_key, callee}
-use Rattle.frame_laws.proofs.Lists.{no_some, some_same}
 use Rattle.inline_law.proofs.Ways.{in_one}
 
 both_forms : (P : ℕ → Form → Type 0) → P 0 five → P 1 gives → (n : ℕ) (x : Form) → form_at body n ≡ Some x → P n x
 both_forms P a b zero x e = subst (P 0) (some_same five x e) a
 both_forms P a b (suc zero) x e = subst (P 1) (some_same gives x e) b
-both_forms P a b (suc (suc n)) x e = no_some x e
+both_forms P a b (suc (suc n)) x e = none_some x e
 
 no_one : (n : ℕ) {A : Type 0} → n ≡ 0 → n ≡ 1 → A
 no_one n e d = let f : ⊥ = omega (arith, e, d) in absurd f

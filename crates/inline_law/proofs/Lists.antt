@@ -1,16 +1,16 @@
 -- What a search finds; registers in front of others, and arguments that are written one by one.
 use Rattle.std.proofs.Common.{◌≡◌, Bool, true, false, ℕ, zero, suc, ◌+◌, ◌<◌, ◌≤◌, List, [], ◌∷◌, ◌++◌, length, refl, sym, ap, ◌∙◌, subst, arith}
 use Rattle.std.specs.Prelude.{Some, cond, find, nat_eq, slice_set, slice_index_or, replicate}
+use Rattle.lemmas.proofs.Numbers.{same_number}
+use Rattle.lemmas.proofs.Options.{none_some, some_same}
 use Rattle.dalvik_defs.specs.Names.{Text, text_eq}
 use Rattle.dalvik_defs.specs.declared.state.Value.{Value}
 use Rattle.silence_law.proofs.Lists.{and_both}
 use Rattle.frame_laws.specs.Agree.{Agree}
-use Rattle.frame_laws.proofs.Acts.{same_number}
-use Rattle.frame_laws.proofs.Lists.{no_some, some_same}
 use Rattle.frame_laws.proofs.Agree.{agree_refl}
 
 pub find_passes : {X : Type 0} (test : X → Bool) (xs : List X) (x : X) → find test xs ≡ Some x → test x ≡ true
-find_passes test [] x e = no_some x e
+find_passes test [] x e = none_some x e
 find_passes {X} test (y ∷ xs) x e = by (test y) refl e (find_passes test xs x)
   where
     by : (b : Bool) → test y ≡ b → cond b (Some y) (find test xs) ≡ Some x → (find test xs ≡ Some x → test x ≡ true) → test x ≡ true

@@ -4,6 +4,8 @@ use Rattle.std.specs.Prelude.{◌⊎◌, ◌&&◌, Option, Some, None, is_some, 
 use Rattle.std.specs.Option.{option_map, option_and_then}
 use Rattle.std.proofs.lemmas.Bool.{le-leb, lt-ltb}
 use Rattle.std.proofs.lemmas.Bool.Decides.{leb_tells}
+use Rattle.lemmas.proofs.Numbers.{next_is}
+use Rattle.lemmas.proofs.Options.{none_some, some_same}
 use mathlib.Core.Bool.{cond}
 use Rattle.dalvik_defs.specs.Names.{Text}
 use Rattle.dalvik_defs.specs.Face.{Bodies}
@@ -22,12 +24,8 @@ use Rattle.pass_defs.specs.Walks.{form_at}
 use Rattle.pass_defs.specs.Inlined.{Callee, Taken, Piece, taken_by, is_taken, is_among, callee_of, callee_at, greatest, moves_of, copy_size, copy_place, copied, is_dropped, size_of, place_of, piece, copy_piece, copies, inlined_call, pieces_at, pieces_from, placed_handler, placed_region, inlined}
 use Rattle.inline_law.specs.Inlining.{Lives, Behind, Untaken, TakenBy, Stand, stays_form, Copied, Kept, Ended, Dropped, Handed, IsCopied, Went, Past, Stood, Replaced, IsInlined}
 use Rattle.inline_law.specs.Accepted.{Suits, AreAccepted}
-use Rattle.frame_laws.proofs.Lists.{no_some, some_same}
 
 -- ---- lists
-
-pub one_suc : (n : ℕ) → n + 1 ≡ suc n
-one_suc n = omega arith
 
 plus_zero : (n : ℕ) → n + 0 ≡ n
 plus_zero n = omega arith
@@ -98,7 +96,7 @@ stays_copied k (Some t) end place (form.Return s from) e = absurd (true≢false 
 stays_copied k (Some t) end place f e = refl
 
 copy_next : (t : Taken) (fs : List Form) (j : ℕ) (f : Form) → slice_get fs j ≡ Some f → copy_place t fs (suc j) ≡ copy_place t fs j + copy_size t f
-copy_next t [] j f e = no_some f e
+copy_next t [] j f e = none_some f e
 copy_next t (x ∷ xs) zero f e = plus_first xs ∙ ap (copy_size t) (some_same x f e) ∙ sym (zero_plus (copy_size t f))
   where
     plus_first : (xs : List Form) → copy_size t x + copy_place t xs 0 ≡ copy_size t x
@@ -110,7 +108,7 @@ copy_next t (x ∷ xs) (suc j) f e = let h = copy_next t xs j f e in ap (λ n. c
     assoc a b c = omega arith
 
 copy_within : (t : Taken) (fs : List Form) (j : ℕ) (f : Form) → slice_get fs j ≡ Some f → copy_place t fs j < copy_place t fs (length fs)
-copy_within t [] j f e = no_some f e
+copy_within t [] j f e = none_some f e
 copy_within t (x ∷ xs) zero f e = let a = size_one t x in omega (arith, a)
 copy_within t (x ∷ xs) (suc j) f e = let h = copy_within t xs j f e in omega (arith, h)
 
@@ -173,7 +171,7 @@ module _ (p : NamedProgram) (k : MethodKey) (m : NamedMethod) (b : NamedBody) (a
       (ap (λ z. place n + z) (sym (any_length (λ q. q.form) (pieces_at p k m b accepted n x (sites n)) ∙ piece_size n x (sites n))))
 
   walk : (l : List Form) (fs : List Form) (n i to : ℕ) (f : Form) → slice_get fs i ≡ Some f → to ≡ n + i → Tail l (place n) (forms (pieces_from p k m b accepted n fs)) → Placed to f l
-  walk l [] n i to f e q t = no_some f e
+  walk l [] n i to f e q t = none_some f e
   walk l (x ∷ xs) n zero to f e q t = let z : n ≡ to = omega (arith, q) in
       subst (λ z. Placed z f l) z (subst (λ z. Placed n z l) (some_same x f e) (forms (pieces_from p k m b accepted (suc n) xs), first_piece l n x xs t))
   walk l (x ∷ xs) n (suc i) to f e q t = walk l xs (suc n) i to f e (omega (arith, q)) (next_piece l n x xs t)
@@ -183,7 +181,7 @@ module _ (p : NamedProgram) (k : MethodKey) (m : NamedMethod) (b : NamedBody) (a
     where
       by : (u v : ℕ) → u ≤ v → Tail l u [] → slice_get l v ≡ None
       by u v a t = let z : v ≡ u + (v - u) = omega (arith, a) in ap (slice_get l) z ∙ t (v - u)
-  walk_past l (x ∷ xs) n zero to e q t = no_some x (sym e)
+  walk_past l (x ∷ xs) n zero to e q t = none_some x (sym e)
   walk_past l (x ∷ xs) n (suc i) to e q t = walk_past l xs (suc n) i to e (omega (arith, q)) (next_piece l n x xs t)
 
   all_forms : Tail new.forms (place 0) (forms (pieces_from p k m b accepted 0 b.forms))
@@ -210,7 +208,7 @@ module _ (p : NamedProgram) (k : MethodKey) (m : NamedMethod) (b : NamedBody) (a
 
     copy_at : (fs : List Form) (i j : ℕ) (f : Form) → slice_get fs j ≡ Some f → (r : List Form) (at : ℕ) → Tail new.forms at (forms (copies p k m b accepted c n first end t i fs) ++ r)
         → (r' : List Form) × Tail new.forms (at + copy_place t fs j) (copied shift t end inner f ++ r')
-    copy_at [] i j f e r at h = no_some f e
+    copy_at [] i j f e r at h = none_some f e
     copy_at (x ∷ xs) i zero f e r at h =
         let here : forms (copies p k m b accepted c n first end t i (x ∷ xs)) ≡ copied shift t end inner x ++ forms (copies p k m b accepted c n first end t (suc i) xs) =
         map_append (λ q. q.form) (map (copy_piece p k m b accepted c n i) (copied shift t end inner x)) (copies p k m b accepted c n first end t (suc i) xs)
@@ -245,7 +243,7 @@ module _ (p : NamedProgram) (k : MethodKey) (m : NamedMethod) (b : NamedBody) (a
 
     inner_next : (j : ℕ) (f : Form) → slice_get c.body.forms j ≡ Some f → stays_form f ≡ true → inner (j + 1) ≡ inner j + 1
     inner_next j f e s =
-        let a : copy_place t c.body.forms (j + 1) ≡ copy_place t c.body.forms j + 1 = ap (copy_place t c.body.forms) (one_suc j) ∙ copy_next t c.body.forms j f e ∙ ap (λ z. copy_place t c.body.forms j + z) (stays_size t f s) in
+        let a : copy_place t c.body.forms (j + 1) ≡ copy_place t c.body.forms j + 1 = ap (copy_place t c.body.forms) (next_is j) ∙ copy_next t c.body.forms j f e ∙ ap (λ z. copy_place t c.body.forms j + z) (stays_size t f s) in
         omega (arith, a)
 
   -- ---- handlers
@@ -316,7 +314,7 @@ module _ (p : NamedProgram) (k : MethodKey) (m : NamedMethod) (b : NamedBody) (a
       where
         by : (t : Bool) → (if t then callee_of p (form_at b n) else None) ≡ Some y → t ≡ true
         by true d = refl
-        by false d = no_some y d
+        by false d = none_some y d
 
     no_site : (n : ℕ) → callee_of p (form_at b n) ≡ None → sites n ≡ None
     no_site n = by (is_among accepted n)
@@ -343,9 +341,9 @@ module _ (p : NamedProgram) (k : MethodKey) (m : NamedMethod) (b : NamedBody) (a
         by : (o : Option Form) → form_at b (n + 1) ≡ o → Behind b place n (taken_by o) (place (n + 1))
         by None e = Untaken (ap takes_result e)
         by (Some (form.MoveResult s to)) e =
-            let e' : form_at b (suc n) ≡ Some (form.MoveResult s to) = ap (form_at b) (sym (one_suc n)) ∙ e in
+            let e' : form_at b (suc n) ≡ Some (form.MoveResult s to) = ap (form_at b) (sym (next_is n)) ∙ e in
             let gone : is_dropped b accepted (suc n) ≡ true = ap (λ z. is_among accepted n && is_taken (taken_by z)) e' ∙ ap (λ z. z && true) (among n y d) in
-            let q : place (n + 2) ≡ place (n + 1) = ap place (two_suc n) ∙ dropped_size (suc n) gone (no_site (suc n) (ap (callee_of p) e')) ∙ ap place (sym (one_suc n)) in
+            let q : place (n + 2) ≡ place (n + 1) = ap place (two_suc n) ∙ dropped_size (suc n) gone (no_site (suc n) (ap (callee_of p) e')) ∙ ap place (sym (next_is n)) in
             subst (λ z. Behind b place n (Some (s, to)) z) q (TakenBy s to e)
         by (Some f) e = Untaken (ap takes_result e)
 
@@ -393,7 +391,7 @@ module _ (p : NamedProgram) (k : MethodKey) (m : NamedMethod) (b : NamedBody) (a
       where
         by : (t : Bool) → is_among accepted n ≡ t → (t && is_taken (taken_by (form_at b (suc n)))) ≡ false
         by false e = refl
-        by true e = untaken_by (form_at b (suc n)) (h n (sym (one_suc n)) (ap (λ z. is_some (if z then callee_of p (form_at b n) else None)) e ∙ ok.sites n e))
+        by true e = untaken_by (form_at b (suc n)) (h n (sym (next_is n)) (ap (λ z. is_some (if z then callee_of p (form_at b n) else None)) e ∙ ok.sites n e))
 
     kept_here : (n : ℕ) (x : Form) → form_at b n ≡ Some x → sites n ≡ None → is_dropped b accepted n ≡ false → form_at new (place n) ≡ Some (remade up up place x)
     kept_here n x e d g = let placed = placed_at n x e in
@@ -405,12 +403,12 @@ module _ (p : NamedProgram) (k : MethodKey) (m : NamedMethod) (b : NamedBody) (a
       where
         by : (o : Option Form) (c : Option Callee) → form_at b n ≡ o → sites n ≡ c → Went find need k b new place up shift n o c
         by None None e d = Past (past_at n e)
-        by None (Some y) e d = no_some y (sym (no_site n (ap (callee_of p) e)) ∙ d)
+        by None (Some y) e d = none_some y (sym (no_site n (ap (callee_of p) e)) ∙ d)
         by (Some x) (Some y) e d = Replaced x y (ok.callees n x y e d) (is_copied n x y e d)
         by (Some x) None e d =
             let g = undropped n lives in
             let a : place (suc n) ≡ place n + 1 = kept_size n g d in
-            Stood x (kept_here n x e d g) (ap place (one_suc n) ∙ a) (λ t above. handlers_same n (place n) (omega arith) (omega (arith, a)) above)
+            Stood x (kept_here n x e d g) (ap place (next_is n) ∙ a) (λ t above. handlers_same n (place n) (omega arith) (omega (arith, a)) above)
 
     -- the body of the definition is one with inlined calls
     pub inlined_is : IsInlined find need k sites b new

@@ -3,6 +3,7 @@
 use Rattle.std.proofs.Common.{◌≡◌, ℕ, ◌+◌, ◌<◌, Bool, true, false, true≢false, List, [], ◌∷◌, ◌++◌, length, refl, sym, ap, ◌∙◌, subst, arith}
 use Rattle.std.specs.Prelude.{◌||◌, Option, Some, None, slice_get, slice_set, slice_index_or, nat_eq, Contains}
 use Rattle.std.specs.Option.{option_map, option_and_then}
+use Rattle.lemmas.proofs.Numbers.{same_number}
 use Rattle.insn_set.specs.Registers.{in_operand}
 use Rattle.dalvik_defs.specs.Names.{Text}
 use Rattle.dalvik_defs.specs.Face.{Bodies}
@@ -32,7 +33,7 @@ use Rattle.inline_law.proofs.Lists.{index_low, index_high, set_low, set_high, se
 use Rattle.frame_laws.proofs.Walks.{walk_on, goes_onward, goes_caught, goes_next, goes_there, handler_caught, no_handler}
 use Rattle.inline_law.proofs.Ways.{onward_untaken, caught_untaken, lives_onward, lives_caught}
 use Rattle.frame_laws.specs.Alike.{is_return, Nothing, Only, Holds, Accepts}
-use Rattle.frame_laws.proofs.Acts.{same_number, own}
+use Rattle.frame_laws.proofs.Acts.{own}
 use Rattle.frame_laws.specs.Standing.{Land, Nowhere, Caught, Standing}
 
 pub form_of : (find : Bodies) (f : Frame) (b : NamedBody) (o : Option Form) → find f.method ≡ Some b → form_at b f.position ≡ o → form_here find f ≡ o

@@ -3,6 +3,7 @@ use Rattle.std.proofs.Common.{◌≡◌, ℕ, ◌+◌, Bool, true, false, List, 
 use Rattle.std.specs.Prelude.{◌&&◌, drop, nat_eq, if◌then◌else◌}
 use Rattle.std.specs.List.{list_all}
 use Rattle.std.proofs.lemmas.Bool.{eqb-true}
+use Rattle.lemmas.proofs.Bools.{and_right}
 use Rattle.dalvik_defs.specs.Names.{Text, is_wide}
 use Rattle.dalvik_defs.specs.declared.program.NamedProgram.{NamedProgram}
 use Rattle.dalvik_defs.specs.declared.program.NamedClass.{NamedClass}
@@ -10,7 +11,7 @@ use Rattle.pass_defs.specs.Kinds.{Kind}
 use Rattle.pass_defs.specs.Demands.{Demand, Pair, Fits, meets, passed, passed_wide}
 use Rattle.pass_defs.specs.Typed.{words_of}
 use Rattle.inline_law.specs.Inlining.{Passes, PassesNone, PassesOne, PassesTwo}
-use Rattle.silence_law.proofs.Lists.{and_left, and_right}
+use Rattle.silence_law.proofs.Lists.{and_left}
 
 module _ (p : NamedProgram) (c : NamedClass) (ks : List Kind) where
   abbrev all_met : List (ℕ × Demand) → Bool

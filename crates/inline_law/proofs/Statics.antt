@@ -2,6 +2,7 @@
 use Rattle.std.proofs.Common.{◌≡◌, ℕ, suc, true≢false, List, ◌∷◌, length, refl, sym, ap, ◌∙◌, subst}
 use Rattle.std.specs.Prelude.{Option, Some, None, slice_get}
 use Rattle.std.specs.Option.{option_and_then}
+use Rattle.lemmas.proofs.Options.{none_some, some_same}
 use Rattle.insn_set.specs.declared.ops.InvokeKind.TheVariants as call
 use Rattle.dalvik_defs.specs.Flags.{is_static}
 use Rattle.dalvik_defs.specs.Face.{face_of, bodies_of}
@@ -23,7 +24,6 @@ use Rattle.bodies_law.specs.Others.{OtherBodies}
 use Rattle.inline_law.specs.Entered.{Enterable, Statically, AcceptedIn, sites_in, sites_of}
 use Rattle.inline_law.specs.Programs.{Inlines, IsInlining}
 use Rattle.inline_law.specs.Sound.{Finding, FindsStatic, FindsDirect, IsSoundCaller, IsStaticInlining}
-use Rattle.frame_laws.proofs.Lists.{no_some, some_same}
 use Rattle.inline_law.proofs.Found.{callee_finds, at_site, sound_callee, reading}
 use Rattle.inline_law.proofs.Inlining.{Any}
 use Rattle.inline_law.proofs.Programs.{inlining_shown}
@@ -56,11 +56,11 @@ module _ (p q : NamedProgram) (accepted : AcceptedIn) (h : IsStaticInlining p ac
   site_at k n y e = by (bodies_of p k) refl e
     where
       by_form : (b : NamedBody) → bodies_of p k ≡ Some b → callee_at p b (accepted k) n ≡ Some y → (o : Option Form) → form_at b n ≡ o → callee_of p o ≡ Some y → At k n y
-      by_form b d e None i j = no_some y j
+      by_form b d e None i j = none_some y j
       by_form b d e (Some x) i j = let f = callee_finds p x y j in record { body = b; has = d; site = e; form = x; here = i; finds = f.0; found = f.1 }
 
       by : (o : Option NamedBody) → bodies_of p k ≡ o → sites_in p (accepted k) o n ≡ Some y → At k n y
-      by None d e = no_some y e
+      by None d e = none_some y e
       by (Some b) d e = by_form b d e (form_at b n) refl (at_site p b (accepted k) n y e).1
 
   abbrev level : ℕ

@@ -4,6 +4,7 @@ use Rattle.std.specs.Prelude.{Option, Some, None, is_some, not, find, ◌&&◌, 
 use Rattle.std.specs.Option.{option_and_then}
 use Rattle.std.specs.List.{list_all}
 use Rattle.std.proofs.lemmas.List.Elements.{Contains-append_left, Contains-append_right}
+use Rattle.lemmas.proofs.Bools.{and_right}
 use mathlib.Core.Bool.{cond}
 use Rattle.dalvik_defs.specs.Names.{Text}
 use Rattle.dalvik_defs.specs.Stack.{covers, handler_in, handler_at}
@@ -17,9 +18,8 @@ use Rattle.pass_defs.specs.Inlined.{Callee}
 use Rattle.pass_defs.specs.Quiet.{takes_result}
 use Rattle.pass_defs.specs.Walks.{form_at, onward, caught, successors, next_position, handlers_at, handlers_of, listed, region_at, Walk, Stays as Arrives, Goes as Steps}
 use Rattle.silence_law.specs.Results.{gives_result, takes_none, TakesInPlace}
-use Rattle.silence_law.proofs.Lists.{and_left, and_right}
+use Rattle.silence_law.proofs.Lists.{and_left}
 use Rattle.inline_law.specs.Inlining.{Lives}
-use Rattle.frame_laws.proofs.Lists.{no_some, some_same, contains_here, contains_there}
 
 all_there : (p : ℕ → Bool) (l : List ℕ) (m : ℕ) → list_all p l ≡ true → Contains l m → p m ≡ true
 all_there p [] m e (k, l, q) = let f : ⊥ = omega (arith, l) in absurd f

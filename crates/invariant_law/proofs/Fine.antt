@@ -1,6 +1,7 @@
 -- What is put, made, given or shown leaves references to what there is alone.
 use Rattle.std.proofs.Common.{◌≡◌, ℕ, zero, suc, Bool, true, false, true≢false, List, [], ◌∷◌, ◌++◌, Option, Some, None, refl, sym, ap, ◌∙◌, subst, arith}
 use Rattle.std.specs.Prelude.{nat_eq, length, map, drop, replicate, slice_get, slice_set, slice_index_or, is_some}
+use Rattle.lemmas.proofs.Options.{none_some, some_same}
 use Rattle.insn_set.specs.declared.ops.Item.{Item}
 use Rattle.insn_set.specs.declared.ops.Item.TheVariants as item
 use Rattle.dalvik_defs.specs.Names.{Text, is_wide}
@@ -20,12 +21,6 @@ use Rattle.invariant_law.specs.Holds.{Each}
 use Rattle.invariant_law.specs.Fine.{IsThere, FineThing, FineWorld, FineFrame}
 use Rattle.invariant_law.proofs.Growing.{grows_same, grows_with, grows_put, grows_over, show_heap, there_later}
 
-none_some : {A B : Type 0} (x : A) → None ≡ Some x → B
-none_some x e = absurd (true≢false (ap (λ o. elim o as (λ o. Bool) [ Some z ↦ false | None ↦ true ]) e))
-
-some_one : {A : Type 0} (x y : A) → Some x ≡ Some y → x ≡ y
-some_one x y e = ap (λ o. elim o [ Some z ↦ z | None ↦ x ]) e
-
 -- ---- lists
 
 module _ {A : Type 0} (P : A → Type 0) where
@@ -40,7 +35,7 @@ module _ {A : Type 0} (P : A → Type 0) where
 
   pub each_get : (xs : List A) (n : ℕ) (x : A) → Each P xs → slice_get xs n ≡ Some x → P x
   each_get [] n x h e = none_some x e
-  each_get (y ∷ xs) zero x h e = subst P (some_one y x e) h.0
+  each_get (y ∷ xs) zero x h e = subst P (some_same y x e) h.0
   each_get (y ∷ xs) (suc n) x h e = each_get xs n x h.1 e
 
   pub each_join : (xs ys : List A) → Each P xs → Each P ys → Each P (xs ++ ys)
@@ -141,7 +136,7 @@ pub put_there : (w : World) (k : FieldKey) (v : Value) (fields : FieldKey → Op
 put_there w k v fields h i j u e = by (field_eq j k) e
   where
     by : (b : Bool) → (elim b as (λ b. Option Value) [ true ↦ Some v | false ↦ fields j ]) ≡ Some u → IsThere w u
-    by true e = subst (IsThere w) (some_one v u e) i
+    by true e = subst (IsThere w) (some_same v u e) i
     by false e = h j u e
 
 -- ---- showing

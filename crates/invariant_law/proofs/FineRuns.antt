@@ -2,6 +2,7 @@
 use Rattle.std.proofs.Common.{◌≡◌, ℕ, ◌+◌, ◌-◌, Bool, true, false, true≢false, List, [], ◌∷◌, Option, Some, None, ◌⊎◌, refl, ap, subst}
 use Rattle.std.specs.Prelude.{length, replicate, slice_get, slice_set, nat_lt}
 use Rattle.std.specs.Option.{option_map, option_and_then}
+use Rattle.lemmas.proofs.Options.{none_some, some_same}
 use Rattle.insn_set.specs.declared.ops.Item.{Item}
 use Rattle.insn_set.specs.declared.ops.Item.TheVariants as item
 use Rattle.dalvik_defs.specs.Names.{Text, throwable_type}
@@ -39,15 +40,9 @@ use Rattle.invariant_law.proofs.Fine.{frame_later, fine_with, fine_put, fine_put
 use Rattle.invariant_law.proofs.FineFirsts.{firsts_there}
 use Rattle.invariant_law.proofs.FineSteps.{OutcomeFine, step_fine}
 
-none_some : {A B : Type 0} (x : A) → None ≡ Some x → B
-none_some x e = absurd (true≢false (ap (λ o. elim o as (λ o. Bool) [ Some z ↦ false | None ↦ true ]) e))
-
-some_one : {A : Type 0} (x y : A) → Some x ≡ Some y → x ≡ y
-some_one x y e = ap (λ o. elim o [ Some z ↦ z | None ↦ x ]) e
-
 maybe : (w : World) (o : Option Value) → MaybeThere w o → (v : Value) → o ≡ Some v → IsThere w v
 maybe w None h v e = none_some v e
-maybe w (Some u) h v e = subst (IsThere w) (some_one u v e) h
+maybe w (Some u) h v e = subst (IsThere w) (some_same u v e) h
 
 -- ---- values that are given
 

@@ -12,6 +12,7 @@ use Rattle.dalvik_defs.specs.Flags.{is_static, is_native}
 use Rattle.dalvik_defs.specs.Known.{null_pointer, bad_cast, out_of_bounds, bad_monitor, abstract_method, class_change, no_class}
 use Rattle.dalvik_defs.specs.Arith.{signed, passes, answer, literal_answer}
 use Rattle.std.specs.Int.{w32, w64, cast_unsigned}
+use Rattle.lemmas.proofs.Options.{none_some, some_same}
 use Rattle.dalvik_defs.specs.declared.events.Event.TheVariants as event
 use Rattle.dalvik_defs.specs.Operators.{Number, OneWord, OneWide, Sort, unary_answer, sort_of, OnWord, OnWide, Shifts, OnFloat, OnDouble, float_word, float_wide, comparison}
 use Rattle.dalvik_defs.specs.Items.{fill, filled, stored, item_of_type}
@@ -41,12 +42,6 @@ use Rattle.invariant_law.specs.Holds.{Each}
 use Rattle.invariant_law.specs.Fine.{IsThere, MaybeThere, FineThing, FineWorld, FineFrame}
 use Rattle.invariant_law.proofs.Growing.{grows_same, grows_with, grows_put, show_heap, option_heap, there_later}
 use Rattle.invariant_law.proofs.Fine.{frame_later, fine_with, fine_put, new_there, at_there, fine_show, fine_option, fine_all, zero_there, stored_there, fresh_fine, zeros_fine, put_there, each_set, each_get, each_or, each_join, each_drop, each_map}
-
-none_some : {A B : Type 0} (x : A) → None ≡ Some x → B
-none_some x e = absurd (true≢false (ap (λ o. elim o as (λ o. Bool) [ Some z ↦ false | None ↦ true ]) e))
-
-some_one : {A : Type 0} (x y : A) → Some x ≡ Some y → x ≡ y
-some_one x y e = ap (λ o. elim o [ Some z ↦ z | None ↦ x ]) e
 
 module _ (w : World) (f : Frame) (fw : FineWorld w) (ff : FineFrame w f) where
   abbrev pub EffectFine : Effect → Type 0
@@ -303,7 +298,7 @@ module _ (w : World) (f : Frame) (fw : FineWorld w) (ff : FineFrame w f) where
 
   maybe : (o : Option Value) → MaybeThere w o → (v : Value) → o ≡ Some v → IsThere w v
   maybe None h v e = none_some v e
-  maybe (Some u) h v e = subst (IsThere w) (some_one u v e) h
+  maybe (Some u) h v e = subst (IsThere w) (some_same u v e) h
 
   or_there : (o : Option Value) (z : Value) → ((v : Value) → o ≡ Some v → IsThere w v) → IsThere w z → IsThere w (written_or o z)
   or_there (Some v) z h k = h v refl

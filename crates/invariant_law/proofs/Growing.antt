@@ -41,9 +41,6 @@ use Rattle.dalvik_defs.specs.declared.tables.Floats.{Floats}
 use Rattle.invariant_law.specs.Invariant.{HasKind, Longer, Grows}
 use Rattle.invariant_law.specs.Fine.{IsThere}
 
-clash : (b : Bool) {A : Type 0} → b ≡ true → b ≡ false → A
-clash b e f = absurd (true≢false (sym e ∙ f))
-
 -- ---- things
 
 longer_append : (xs : List Thing) (t : Thing) → Longer xs (xs ++ t ∷ [])

@@ -3,6 +3,8 @@ use Rattle.std.proofs.Common.{◌≡◌, ℕ, zero, suc, ◌+◌, ◌<◌, Bool,
 use Rattle.std.specs.Prelude.{◌&&◌, ◌||◌, slice_get, nat_eq, length, ◌-◌}
 use Rattle.std.specs.List.{list_all, list_any, enumerate_from}
 use Rattle.std.proofs.lemmas.Bool.{or_left, or_right}
+use Rattle.lemmas.proofs.Bools.{and_right}
+use Rattle.lemmas.proofs.Options.{some_same}
 use Rattle.insn_set.specs.Registers.{reads_of, writes_of}
 use Rattle.insn_set.specs.Spelling.{is_encodable}
 use Rattle.insn_set.specs.declared.form.Insn.{Insn}
@@ -15,11 +17,10 @@ use Rattle.program_model.specs.declared.body.Body.{Body}
 use Rattle.program_model.specs.declared.program.Class.{Class}
 use Rattle.program_model.specs.declared.program.Method.{Method}
 use Rattle.program_model.specs.declared.program.Program.{Program}
-use Rattle.silence_law.proofs.Lists.{and_left, and_right}
+use Rattle.silence_law.proofs.Lists.{and_left}
 use Rattle.bodies_law.specs.Others.{Pairwise}
 use Rattle.form_law.proofs.Asked.{any_front, any_back}
 use Rattle.place_law.proofs.Operands.{either, reads_below, writes_below}
-use Rattle.place_law.proofs.Onward.{some_same}
 use Rattle.insn_regs.specs.Remade.{remade}
 use Rattle.insn_regs.specs.Wides.{widths_of, wides_read}
 use Rattle.walk_marks.specs.Walks.{is_on}

@@ -4,6 +4,8 @@ use Rattle.std.specs.Prelude.{◌&&◌, ◌||◌, not, nat_lt, slice_get}
 use Rattle.std.specs.List.{list_all}
 use Rattle.std.specs.Option.{option_map}
 use Rattle.std.proofs.lemmas.Bool.{or_left}
+use Rattle.lemmas.proofs.Bools.{and_right, not_true}
+use Rattle.lemmas.proofs.Lists.{all_at}
 use Rattle.insn_set.specs.declared.form.Insn.{Insn}
 use Rattle.insn_set.specs.declared.form.Insn.TheVariants as insn
 use Rattle.program_model.specs.declared.body.Body.{Body}
@@ -15,10 +17,9 @@ use Rattle.dalvik_defs.specs.declared.forms.Form.{Form}
 use Rattle.dalvik_defs.specs.declared.names.MethodKey.{MethodKey}
 use Rattle.pass_defs.specs.Bare.{reads, writes}
 use Rattle.pass_defs.specs.Walks.{form_at, IsRead}
-use Rattle.silence_law.proofs.Lists.{and_left, and_right, and_both}
+use Rattle.silence_law.proofs.Lists.{and_left, and_both}
 use Rattle.form_law.specs.Kinds.{HasNarrowClass}
 use Rattle.place_law.specs.Solid.{HasRoom}
-use Rattle.place_law.proofs.Onward.{some_same}
 use Rattle.pack_law.proofs.Reading.{reads_some}
 use Rattle.pack_law.specs.TypedRegisters.{Marks}
 use Rattle.insn_regs.specs.Wides.{is_wide_type, widths_of}
@@ -40,22 +41,13 @@ key_for p o = elim o [
   | None ↦ record { class = []; name = []; signature = record { parameters = []; result = [] } }
 ]
 
-got : {A : Type 0} (f : A → Bool) (xs : List A) (n : ℕ) (x : A) → list_all f xs ≡ true → slice_get xs n ≡ Some x → f x ≡ true
-got f [] n x h e = absurd (cc)
-got f (y ∷ ys) zero x h e = subst (λ z. f z ≡ true) (some_same y x e) (and_left (f y) (list_all f ys) h)
-got f (y ∷ ys) (suc n) x h e = got f ys n x (and_right (f y) (list_all f ys) h) e
-
-not_true : (b : Bool) → not b ≡ true → b ≡ false
-not_true true e = absurd (true≢false (sym e))
-not_true false e = refl
-
 module _ (p : Program) (narrow : has_narrow_classes p ≡ true) where
   narrow_for : (o : Option MethodName) → ((m : MethodName) → o ≡ Some m → is_wide_type p m.class ≡ false) → is_wide (key_for p o).class ≡ false
   narrow_for None h = refl
   narrow_for (Some m) h = wide_same p m.class ∙ h m refl
 
   narrow_class : (k : ℕ) → is_wide (method_at p k).class ≡ false
-  narrow_class k = narrow_for (slice_get p.methods k) (λ m e. not_true (is_wide_type p m.class) (got (λ m. not (is_wide_type p m.class)) p.methods k m narrow e))
+  narrow_class k = narrow_for (slice_get p.methods k) (λ m e. not_true (is_wide_type p m.class) (all_at (λ m. not (is_wide_type p m.class)) p.methods k m narrow e))
 
   narrow_insn : (i : Insn) → HasNarrowClass (form_of p i)
   narrow_insn (insn.Invoke kind method args) = narrow_class method

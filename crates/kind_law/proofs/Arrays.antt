@@ -2,18 +2,17 @@
 use Rattle.std.proofs.Common.{◌≡◌, ℕ, zero, suc, Bool, true, false, true≢false, [], ◌∷◌, refl, sym, ap, ◌∙◌, subst, eqb-true, eq-eqb, nat_eq}
 use Rattle.std.specs.Prelude.{◌&&◌, ◌||◌, not, Option, Some, None, if◌then◌else◌}
 use Rattle.std.specs.Cmp.Lexicographic.{bytes_decides}
+use Rattle.lemmas.proofs.Bools.{and_false}
+use Rattle.lemmas.proofs.Options.{none_some}
 use Rattle.dalvik_defs.specs.Names.{Text, text_eq, is_class_type, is_reference, base_of}
 use Rattle.dalvik_defs.specs.declared.program.NamedProgram.{NamedProgram}
 use Rattle.dalvik_defs.proofs.Calm.{text_sound}
 use Rattle.pass_defs.specs.Kinds.{Kind, Array, Reference, kind_eq, depth, arrays_of, nearest, is_flat, object_array, joined_deep, joined_items, joined_arrays}
 use Rattle.kind_law.specs.Rooted.{IsRooted}
-use Rattle.kind_law.proofs.Lines.{no_some, near_trans, near_named, from_named, none_to_object, none_from_object}
+use Rattle.kind_law.proofs.Lines.{near_trans, near_named, from_named, none_to_object, none_from_object}
 
 pub text_same : (t : Text) → text_eq t t ≡ true
 text_same t = (bytes_decides t t).1 refl
-
-clash : {A : Type 0} (b : Bool) → b ≡ true → b ≡ false → A
-clash b e f = absurd (true≢false (sym e ∙ f))
 
 -- a class's name has no brackets
 class_depth : (c : Text) → is_class_type c ≡ true → depth c ≡ 0
@@ -31,10 +30,6 @@ arrays_base (suc n) c e = arrays_base n c e
 class_reference : (c : Text) → is_class_type c ≡ true → is_reference c ≡ true
 class_reference [] e = e
 class_reference (u ∷ us) e = ap (λ b. b || nat_eq u 91) e
-
-false_and : (b : Bool) → (b && false) ≡ false
-false_and true = refl
-false_and false = refl
 
 module _ (p : NamedProgram) (regular : IsRooted p) where
   -- how an array's type fits another, which it isn't
@@ -84,11 +79,11 @@ module _ (p : NamedProgram) (regular : IsRooted p) where
   own_base s t c n a = ap base_of (sym a) ∙ arrays_base (depth s) c (near_named p regular (base_of s) (base_of t) c n)
 
   not_flat : (s t c : Text) → nearest p (base_of s) (base_of t) ≡ Some c → is_flat s ≡ false
-  not_flat s t c n = ap (λ b. nat_eq (depth s) 1 && not b) (class_reference (base_of s) (from_named p regular (base_of s) (base_of t) c n)) ∙ false_and (nat_eq (depth s) 1)
+  not_flat s t c n = ap (λ b. nat_eq (depth s) 1 && not b) (class_reference (base_of s) (from_named p regular (base_of s) (base_of t) c n)) ∙ and_false (nat_eq (depth s) 1)
 
   pub up_trans : (s t v : Text) → Up s t → Up t v → kind_eq (joined_arrays p s v) (Array v) ≡ true
   up_trans s t v (Deep e i) (Deep f j) = subst (λ z. kind_eq (joined_arrays p s z) (Array z) ≡ true) j (deep_fits s e)
-  up_trans s t v (Deep e i) (Items c d n a) = no_some c (sym (ap (λ z. nearest p (base_of z) (base_of v)) (sym i) ∙ none_from_object p regular (base_of v)) ∙ n)
+  up_trans s t v (Deep e i) (Items c d n a) = none_some c (sym (ap (λ z. nearest p (base_of z) (base_of v)) (sym i) ∙ none_from_object p regular (base_of v)) ∙ n)
   up_trans s t v (Items c d n a) (Deep f j) = subst (λ z. kind_eq (joined_arrays p s z) (Array z) ≡ true) j (deep_fits s (not_flat s t c n))
   up_trans s t v (Items c d n a) (Items x f m b) =
       let first : nearest p (base_of s) (base_of t) ≡ Some (base_of t) = n ∙ ap Some (sym (own_base s t c n a)) in

@@ -3,6 +3,8 @@ use Rattle.std.proofs.Common.{◌≡◌, ℕ, zero, suc, Bool, true, false, true
 use Rattle.std.specs.Prelude.{◌||◌, Option, Some, None, find, if◌then◌else◌}
 use Rattle.std.specs.List.{list_any}
 use Rattle.std.specs.Option.{option_map}
+use Rattle.lemmas.proofs.Lists.{any_right}
+use Rattle.lemmas.proofs.Options.{none_some, some_same}
 use mathlib.Core.Bool.{cond}
 use Rattle.dalvik_defs.specs.Names.{Text, text_eq, is_class_type, object_type}
 use Rattle.dalvik_defs.specs.Flags.{is_interface}
@@ -14,14 +16,8 @@ use Rattle.dalvik_defs.proofs.Calm.{text_sound}
 use Rattle.pass_defs.specs.Kinds.{line_from, line_of, nearest}
 use Rattle.kind_law.specs.Rooted.{IsRooted}
 
-pub no_some : {X : Type 0} {A : Type 0} (x : X) → None ≡ Some x → A
-no_some x e = absurd (true≢false (sym (ap (λ o. elim o as (λ o. Bool) [ Some z ↦ true | None ↦ false ]) e)))
-
-pub some_same : {X : Type 0} (x y : X) → Some x ≡ Some y → x ≡ y
-some_same x y e = ap (λ o. elim o as (λ o. _) [ Some z ↦ z | None ↦ x ]) e
-
 find_passes : {X : Type 0} (test : X → Bool) (xs : List X) (x : X) → find test xs ≡ Some x → test x ≡ true
-find_passes test [] x e = no_some x e
+find_passes test [] x e = none_some x e
 find_passes {X} test (y ∷ xs) x e = by (test y) refl e (find_passes test xs x)
   where
     by : (b : Bool) → test y ≡ b → cond b (Some y) (find test xs) ≡ Some x → (find test xs ≡ Some x → test x ≡ true) → test x ≡ true
@@ -35,14 +31,6 @@ find_behind {X} f (q ∷ ps) xs e = by (f q) e (find_behind f ps xs)
     by : (b : Bool) → (b || list_any f ps) ≡ false → (list_any f ps ≡ false → find f (ps ++ xs) ≡ find f xs) → cond b (Some q) (find f (ps ++ xs)) ≡ find f xs
     by true e h = absurd (true≢false e)
     by false e h = h e
-
-any_behind : {X : Type 0} (f : X → Bool) (ps xs : List X) → list_any f xs ≡ true → list_any f (ps ++ xs) ≡ true
-any_behind f [] xs e = e
-any_behind f (q ∷ ps) xs e = by (f q) (any_behind f ps xs e)
-  where
-    by : (b : Bool) → list_any f (ps ++ xs) ≡ true → (b || list_any f (ps ++ xs)) ≡ true
-    by true h = refl
-    by false h = h
 
 none_more : {X : Type 0} (f g : X → Bool) (xs : List X) → ((x : X) → g x ≡ true → f x ≡ true) → list_any f xs ≡ false → list_any g xs ≡ false
 none_more f g [] h e = refl
@@ -86,14 +74,14 @@ module _ (p : NamedProgram) (regular : IsRooted p) where
     pub found : class_named p x.name ≡ Some x
 
   splits : (n : ℕ) (t : Text) → EndsWithin p n t → (f : NamedClass → Bool) (x : NamedClass) → find f (line_from n p t) ≡ Some x → Splits f (line_from n p t) x
-  splits zero t h f x e = no_some x e
+  splits zero t h f x e = none_some x e
   splits (suc n) t h f x e = by (class_named p t) refl e (λ u k d. splits n u k f x d)
     where
       Again : Type 0
       Again = (u : Text) → EndsWithin p n u → find f (line_from n p u) ≡ Some x → Splits f (line_from n p u) x
 
       further : (c : NamedClass) (b : Bool) → f c ≡ false → EndsWithin p n c.superclass → find f (tail n c b) ≡ Some x → Again → Splits f (c ∷ tail n c b) x
-      further c true g k d again = no_some x d
+      further c true g k d again = none_some x d
       further c false g k d again = let r = again c.superclass k d in
           record { front = c ∷ r.front; none = ap (λ b. b || list_any f r.front) g ∙ r.none; same = ap (λ l. c ∷ l) r.same; found = r.found }
 
@@ -110,7 +98,7 @@ module _ (p : NamedProgram) (regular : IsRooted p) where
       by_test c e false g d again = further c (is_interface c.flags) g (h c e) d again
 
       by : (o : Option NamedClass) → class_named p t ≡ o → find f (line_by n o) ≡ Some x → Again → Splits f (line_by n o) x
-      by None e d again = no_some x d
+      by None e d again = none_some x d
       by (Some c) e d again = by_test c e (f c) refl d again
 
   abbrev shares : Text → NamedClass → Bool
@@ -130,7 +118,7 @@ module _ (p : NamedProgram) (regular : IsRooted p) where
   nearest_class s t c e = by (find (shares t) (line_of p s)) refl e
     where
       by : (o : Option NamedClass) → find (shares t) (line_of p s) ≡ o → option_map (λ (c : NamedClass). c.name) o ≡ Some c → Nearest s t c
-      by None i d = no_some c d
+      by None i d = none_some c d
       by (Some x) i d = record { class = x; finds = i; name = some_same x.name c d; split = splits (length p.classes) s (regular.ends s) (shares t) x i }
 
   pub near_trans : (s t v : Text) → Near s t → Near t v → Near s v
@@ -141,7 +129,7 @@ module _ (p : NamedProgram) (regular : IsRooted p) where
       let below : line_of p t ≡ b.split.front ++ line_of p v = b.split.same ∙ ap (λ u. b.split.front ++ line_of p u) b.name in
       ap (λ l. option_map (λ (c : NamedClass). c.name) (find (shares v) l)) line
       ∙ ap (option_map (λ (c : NamedClass). c.name)) (find_behind (shares v) a.split.front (line_of p t)
-      (none_more (shares t) (shares v) a.split.front (λ c i. ap (list_any (λ d. text_eq c.name d.name)) below ∙ any_behind (λ d. text_eq c.name d.name) b.split.front (line_of p v) i) a.split.none))
+      (none_more (shares t) (shares v) a.split.front (λ c i. ap (list_any (λ d. text_eq c.name d.name)) below ∙ any_right (λ d. text_eq c.name d.name) b.split.front (line_of p v) i) a.split.none))
       ∙ d
 
   -- what has something near is a class's name, and so is what is near
@@ -156,7 +144,7 @@ module _ (p : NamedProgram) (regular : IsRooted p) where
   from_named s t c e = by (class_named p s) refl
     where
       by : (o : Option NamedClass) → class_named p s ≡ o → is_class_type s ≡ true
-      by None i = no_some c (sym (ap (λ l. option_map (λ (c : NamedClass). c.name) (find (shares t) l)) (no_line (length p.classes) s i)) ∙ e)
+      by None i = none_some c (sym (ap (λ l. option_map (λ (c : NamedClass). c.name) (find (shares t) l)) (no_line (length p.classes) s i)) ∙ e)
       by (Some x) i = regular.named s x i
 
   none_found : (xs : List NamedClass) → find (λ (c : NamedClass). false) xs ≡ None

@@ -1,17 +1,15 @@
 -- The order of kinds is transitive.
 use Rattle.std.proofs.Common.{◌≡◌, ℕ, Bool, true, false, true≢false, refl, sym, ap, ◌∙◌, subst, eqb-true, nat_eq}
 use Rattle.std.specs.Prelude.{Option, Some, None, if◌then◌else◌}
+use Rattle.lemmas.proofs.Bools.{and_right}
 use Rattle.dalvik_defs.specs.Names.{Text, text_eq}
 use Rattle.dalvik_defs.specs.declared.program.NamedProgram.{NamedProgram}
 use Rattle.dalvik_defs.proofs.Calm.{text_sound}
 use Rattle.pass_defs.specs.Kinds.{Kind, Undefined, Zero, Word, Low, High, Null, Class, Array, Reference, Fresh, FreshThis, kind_eq, nearest, class_or_reference, joined_arrays, is_below}
-use Rattle.silence_law.proofs.Lists.{and_left, and_right}
+use Rattle.silence_law.proofs.Lists.{and_left}
 use Rattle.kind_law.specs.Rooted.{IsRooted}
 use Rattle.kind_law.proofs.Lines.{near_trans}
 use Rattle.kind_law.proofs.Arrays.{text_same, Up, up_of, up_trans}
-
-clash : {A : Type 0} (b : Bool) → b ≡ true → b ≡ false → A
-clash b e f = absurd (true≢false (sym e ∙ f))
 
 eq_sound : (a b : Kind) → kind_eq a b ≡ true → a ≡ b
 eq_sound (Class s) (Class t) e = ap Class (text_sound s t e)

@@ -2,7 +2,7 @@
 
 use crate::names::{class_text, defined_text, method, place, tables_of};
 use hierarchy::{Hierarchy, HierarchyFault};
-use program_model::Program;
+use program_model::{MethodAt, Program};
 use program_text::method_text;
 use row_text::{Texts, Trouble};
 use std::alloc::{AllocError, Global};
@@ -27,13 +27,31 @@ pub fn fault(alloc: Global, program: &Program) -> Result<String, AllocError> {
     }
 }
 
+/// The places of the other classes under the one at a place.
+fn classes_under(alloc: Global, program: &Program, place: u32) -> Result<Vec<u32>, Trouble> {
+    let tables = tables_of(alloc, program)?;
+    Ok(tables.own_subclasses(alloc, place)?)
+}
+
+/// Adds the classes at these places.
+fn add_classes(
+    alloc: Global,
+    program: &Program,
+    places: &[u32],
+    texts: &mut Texts,
+) -> Result<(), AllocError> {
+    for place in places {
+        texts.add(class_text(alloc, program, *place)?.as_str())?;
+    }
+    Ok(())
+}
+
 /// The other classes under a class, in file order.
 pub fn subclasses(alloc: Global, program: &Program, word: &str) -> Result<String, Trouble> {
-    let tables = tables_of(alloc, program)?;
+    let place = place(alloc, program, word)?;
+    let under = classes_under(alloc, program, place)?;
     let mut texts = Texts::new(alloc);
-    for class in &tables.own_subclasses(alloc, place(alloc, program, word)?)? {
-        texts.add(class_text(alloc, program, *class)?.as_str())?;
-    }
+    add_classes(alloc, program, under.as_slice(), &mut texts)?;
     Ok(texts.said(alloc)?)
 }
 
@@ -61,15 +79,21 @@ pub fn resolved(alloc: Global, program: &Program, word: &str) -> Result<String, 
     )
 }
 
+/// Where the methods stand that override the one to which a number resolves.
+fn methods_over(alloc: Global, program: &Program, number: u32) -> Result<Vec<MethodAt>, Trouble> {
+    let tables = tables_of(alloc, program)?;
+    match tables.resolve_method(program, number) {
+        Some(at) => Ok(tables.overriders(alloc, program, at)?),
+        None => Err(Trouble::Words),
+    }
+}
+
 /// The methods that override the one to which a name resolves.
 pub fn overriders(alloc: Global, program: &Program, word: &str) -> Result<String, Trouble> {
     let number = method(alloc, program, word)?;
-    let tables = tables_of(alloc, program)?;
-    let at = tables
-        .resolve_method(program, number)
-        .ok_or(Trouble::Words)?;
+    let over = methods_over(alloc, program, number)?;
     let mut texts = Texts::new(alloc);
-    for one in &tables.overriders(alloc, program, at)? {
+    for one in &over {
         texts.add(defined_text(alloc, program, *one)?.as_str())?;
     }
     Ok(texts.said(alloc)?)

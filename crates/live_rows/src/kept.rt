@@ -22,28 +22,97 @@ fn nothing(alloc: Global) -> Outside {
     }
 }
 
-/// Keeps a member, or keeps it on the condition that its class is live.
-fn keep_member(
+/// What a word of a line says.
+enum Said<'a> {
+    Class(&'a str),
+    ClassIf(&'a str, &'a str),
+    Member(&'a str),
+    MemberIf(&'a str),
+    Silent(&'a str),
+    Shut(&'a str),
+    NoShrink,
+    NoOptimise,
+}
+
+/// Reads a word that names no member.
+fn read_class(word: &str) -> Said<'_> {
+    if word == "noshrink" {
+        return Said::NoShrink;
+    }
+    if word == "nooptimise" {
+        return Said::NoOptimise;
+    }
+    match word.split_once('<') {
+        Some((class, owner)) => Said::ClassIf(class, owner),
+        None => Said::Class(word),
+    }
+}
+
+/// Reads a word.
+fn read(word: &str) -> Said<'_> {
+    if let Some(member) = word.strip_prefix('?') {
+        return Said::MemberIf(member);
+    }
+    if let Some(method) = word.strip_prefix("silent:") {
+        return Said::Silent(method);
+    }
+    if let Some(method) = word.strip_prefix("shut:") {
+        return Said::Shut(method);
+    }
+    if word.contains("->") {
+        return Said::Member(word);
+    }
+    read_class(word)
+}
+
+/// Adds the number of a method.
+fn add_method(
     alloc: Global,
     program: &Program,
-    outside: &mut Outside,
     word: &str,
-    is_if: bool,
+    methods: &mut Seq<u32>,
 ) -> Result<(), Trouble> {
-    if !word.contains('(') {
-        let field = field(alloc, program, word)?;
-        return Ok(if is_if {
-            outside.fields_if.push(field)?
-        } else {
-            outside.fields.push(field)?
-        });
+    let number = method(alloc, program, word)?;
+    Ok(methods.push(number)?)
+}
+
+/// Adds the number of a member: a method's name has its parameters.
+fn add_member(
+    alloc: Global,
+    program: &Program,
+    word: &str,
+    fields: &mut Seq<u32>,
+    methods: &mut Seq<u32>,
+) -> Result<(), Trouble> {
+    if word.contains('(') {
+        return add_method(alloc, program, word, methods);
     }
-    let method = method(alloc, program, word)?;
-    Ok(if is_if {
-        outside.methods_if.push(method)?
-    } else {
-        outside.methods.push(method)?
-    })
+    let number = field(alloc, program, word)?;
+    Ok(fields.push(number)?)
+}
+
+/// Adds the number of a class.
+fn add_class(
+    alloc: Global,
+    program: &Program,
+    word: &str,
+    classes: &mut Seq<u32>,
+) -> Result<(), Trouble> {
+    let number = kind(alloc, program, word)?;
+    Ok(classes.push(number)?)
+}
+
+/// Adds a class that is kept where its owner is live.
+fn add_class_if(
+    alloc: Global,
+    program: &Program,
+    class: &str,
+    owner: &str,
+    classes: &mut Seq<ClassIf>,
+) -> Result<(), Trouble> {
+    let class = kind(alloc, program, class)?;
+    let owner = kind(alloc, program, owner)?;
+    Ok(classes.push(ClassIf { class, owner })?)
 }
 
 /// Keeps what a word says.
@@ -53,34 +122,35 @@ fn keep(
     outside: &mut Outside,
     word: &str,
 ) -> Result<(), Trouble> {
-    if let Some(member) = word.strip_prefix('?') {
-        return keep_member(alloc, program, outside, member, true);
-    }
-    if let Some(method_name) = word.strip_prefix("silent:") {
-        return Ok(outside.silent.push(method(alloc, program, method_name)?)?);
-    }
-    if let Some(method_name) = word.strip_prefix("shut:") {
-        return Ok(outside.shut.push(method(alloc, program, method_name)?)?);
-    }
-    if word.contains("->") {
-        return keep_member(alloc, program, outside, word, false);
-    }
-    match word.split_once('<') {
-        Some((class, owner)) => Ok(
-            outside.classes_if.push(ClassIf {
-                class: kind(alloc, program, class)?,
-                owner: kind(alloc, program, owner)?,
-            })?,
+    match read(word) {
+        Said::Class(class) => add_class(alloc, program, class, &mut outside.classes),
+        Said::ClassIf(class, owner) => {
+            add_class_if(alloc, program, class, owner, &mut outside.classes_if)
+        }
+        Said::Member(member) => add_member(
+            alloc,
+            program,
+            member,
+            &mut outside.fields,
+            &mut outside.methods,
         ),
-        None if word == "noshrink" => {
+        Said::MemberIf(member) => add_member(
+            alloc,
+            program,
+            member,
+            &mut outside.fields_if,
+            &mut outside.methods_if,
+        ),
+        Said::Silent(method) => add_method(alloc, program, method, &mut outside.silent),
+        Said::Shut(method) => add_method(alloc, program, method, &mut outside.shut),
+        Said::NoShrink => {
             outside.shrink = false;
             Ok(())
         }
-        None if word == "nooptimise" => {
+        Said::NoOptimise => {
             outside.optimise = false;
             Ok(())
         }
-        None => Ok(outside.classes.push(kind(alloc, program, word)?)?),
     }
 }
 

@@ -2,9 +2,9 @@
 
 use crate::kept::kept;
 use crate::names::{defined_text, tables_of};
-use call_graph::{callees, live_members};
-use pipeline::optimise;
-use program_model::{MethodAt, Program};
+use call_graph::{Edge, LiveSet, callees, live_members};
+use pipeline::{Outcome, optimise};
+use program_model::{Changed, MethodAt, Outside, Program};
 use program_text::{field_text, method_text, print, type_text};
 use reach::{apply, close};
 use redex_outside::Panel;
@@ -68,87 +68,156 @@ fn add_methods(
     Ok(())
 }
 
-/// What is live: classes, fields and methods by number, with `!` behind a class of which objects are made.
-pub fn live(alloc: Global, program: &Program, line: &str) -> Result<String, Trouble> {
-    let outside = kept(alloc, program, line)?;
-    let live = live_members(alloc, program, &tables_of(alloc, program)?, &outside)?;
-    let mut texts = Texts::new(alloc);
+/// The live members of a program. What they are is said where call_graph is; here only their names are printed.
+fn live_set(alloc: Global, program: &Program, outside: &Outside) -> Result<LiveSet, Trouble> {
+    let tables = tables_of(alloc, program)?;
+    Ok(live_members(alloc, program, &tables, outside)?)
+}
+
+/// Adds what is live: classes, fields and methods by number, with `!` behind a class of which objects are made.
+fn add_live(
+    alloc: Global,
+    program: &Program,
+    live: &LiveSet,
+    texts: &mut Texts,
+) -> Result<(), AllocError> {
     let types = marked(alloc, live.classes.as_slice())?;
     add_types(
         alloc,
         program,
         types.as_slice(),
         live.made.as_slice(),
-        &mut texts,
+        texts,
     )?;
     let fields = marked(alloc, live.fields.as_slice())?;
-    add_fields(alloc, program, fields.as_slice(), &mut texts)?;
+    add_fields(alloc, program, fields.as_slice(), texts)?;
     let methods = marked(alloc, live.methods.as_slice())?;
-    add_methods(alloc, program, methods.as_slice(), &mut texts)?;
+    add_methods(alloc, program, methods.as_slice(), texts)
+}
+
+/// What is live: classes, fields and methods by number, with `!` behind a class of which objects are made.
+pub fn live(alloc: Global, program: &Program, line: &str) -> Result<String, Trouble> {
+    let outside = kept(alloc, program, line)?;
+    let live = live_set(alloc, program, &outside)?;
+    let mut texts = Texts::new(alloc);
+    add_live(alloc, program, &live, &mut texts)?;
     Ok(texts.said(alloc)?)
+}
+
+/// The calls of the first method of the first class.
+fn first_calls(alloc: Global, program: &Program, outside: &Outside) -> Result<Vec<Edge>, Trouble> {
+    let live = live_set(alloc, program, outside)?;
+    let tables = tables_of(alloc, program)?;
+    let first = MethodAt { class: 0, place: 0 };
+    Ok(callees(alloc, program, &tables, &live, first)?)
+}
+
+/// Adds calls, each target behind the position of its call.
+fn add_calls(
+    alloc: Global,
+    program: &Program,
+    calls: &[Edge],
+    texts: &mut Texts,
+) -> Result<(), AllocError> {
+    for edge in calls {
+        let position = edge.position;
+        let target = defined_text(alloc, program, edge.target)?;
+        texts.add(format!(in alloc; "{position}:{target}")?.as_str())?;
+    }
+    Ok(())
 }
 
 /// What the first method of the first class may call, each behind the position of the call, where this is live.
 pub fn calls(alloc: Global, program: &Program, line: &str) -> Result<String, Trouble> {
     let outside = kept(alloc, program, line)?;
-    let tables = tables_of(alloc, program)?;
-    let live = live_members(alloc, program, &tables, &outside)?;
+    let calls = first_calls(alloc, program, &outside)?;
     let mut texts = Texts::new(alloc);
-    for edge in &callees(
-        alloc,
-        program,
-        &tables,
-        &live,
-        MethodAt { class: 0, place: 0 },
-    )? {
-        let position = edge.position;
-        let target = defined_text(alloc, program, edge.target)?;
-        texts.add(format!(in alloc; "{position}:{target}")?.as_str())?;
-    }
+    add_calls(alloc, program, calls.as_slice(), &mut texts)?;
     Ok(texts.said(alloc)?)
+}
+
+/// An outside with its conditions closed.
+fn closed_by(alloc: Global, program: &Program, outside: &Outside) -> Result<Outside, Trouble> {
+    let tables = tables_of(alloc, program)?;
+    Ok(close(alloc, program, &tables, outside)?)
+}
+
+/// Adds what an outside keeps.
+fn add_kept(
+    alloc: Global,
+    program: &Program,
+    kept: &Outside,
+    texts: &mut Texts,
+) -> Result<(), AllocError> {
+    add_types(alloc, program, kept.classes.as_slice(), &[], texts)?;
+    add_fields(alloc, program, kept.fields.as_slice(), texts)?;
+    add_methods(alloc, program, kept.methods.as_slice(), texts)
+}
+
+/// Adds what an outside forbids, and what it says is silent.
+fn add_forbidden(
+    alloc: Global,
+    program: &Program,
+    outside: &Outside,
+    texts: &mut Texts,
+) -> Result<(), AllocError> {
+    if !outside.shrink {
+        texts.add("noshrink")?;
+    }
+    if !outside.optimise {
+        texts.add("nooptimise")?;
+    }
+    if !outside.silent.is_empty() {
+        texts.add("silent")?;
+    }
+    add_methods(alloc, program, outside.silent.as_slice(), texts)
 }
 
 /// What is kept without conditions.
 pub fn closed(alloc: Global, program: &Program, line: &str) -> Result<String, Trouble> {
     let outside = kept(alloc, program, line)?;
-    let closed = close(alloc, program, &tables_of(alloc, program)?, &outside)?;
+    let closed = closed_by(alloc, program, &outside)?;
     let mut texts = Texts::new(alloc);
-    add_types(alloc, program, closed.classes.as_slice(), &[], &mut texts)?;
-    add_fields(alloc, program, closed.fields.as_slice(), &mut texts)?;
-    add_methods(alloc, program, closed.methods.as_slice(), &mut texts)?;
-    if !closed.shrink {
-        texts.add("noshrink")?;
-    }
-    if !closed.optimise {
-        texts.add("nooptimise")?;
-    }
-    if !closed.silent.is_empty() {
-        texts.add("silent")?;
-    }
-    add_methods(alloc, program, closed.silent.as_slice(), &mut texts)?;
+    add_kept(alloc, program, &closed, &mut texts)?;
+    add_forbidden(alloc, program, &closed, &mut texts)?;
     Ok(texts.said(alloc)?)
+}
+
+/// What removal leaves.
+fn removed(alloc: Global, program: Program, outside: &Outside) -> Result<Changed, Trouble> {
+    let tables = tables_of(alloc, &program)?;
+    Ok(apply(alloc, program, &tables, outside)?)
+}
+
+/// How much changed, and the program that is left where it isn't the one before.
+fn change_said(alloc: Global, before: &Program, changed: &Changed) -> Result<String, AllocError> {
+    let count = changed.count;
+    if changed.program == *before {
+        return format!(in alloc; "{count}, and the program is the same");
+    }
+    let printed = print(alloc, &changed.program)?;
+    let text = printed.trim_end();
+    format!(in alloc; "{count}, and what is left is\n{text}")
 }
 
 /// How many classes and members go, and the program that is left.
 pub fn left(alloc: Global, program: Program, line: &str) -> Result<String, Trouble> {
     let outside = kept(alloc, &program, line)?;
-    let tables = tables_of(alloc, &program)?;
     let before = program.clone()?;
-    let changed = apply(alloc, program, &tables, &outside)?;
-    let count = changed.count;
-    if changed.program == before {
-        return Ok(format!(in alloc; "{count}, and the program is the same")?);
-    }
-    let printed = print(alloc, &changed.program)?;
-    let text = printed.trim_end();
-    Ok(format!(in alloc; "{count}, and what is left is\n{text}")?)
+    let changed = removed(alloc, program, &outside)?;
+    Ok(change_said(alloc, &before, &changed)?)
+}
+
+/// What the optimisation leaves, with no adviser.
+fn optimised(alloc: Global, program: Program, outside: &Outside) -> Result<Outcome, AllocError> {
+    let mut panel = Panel::new(alloc, Vec::new(alloc));
+    optimise(alloc, program, outside, &mut panel)
 }
 
 /// How many rounds the optimisation takes, what it removes, and how many methods are spared.
 pub fn rounds(alloc: Global, program: Program, line: &str) -> Result<String, Trouble> {
     let outside = kept(alloc, &program, line)?;
-    let mut panel = Panel::new(alloc, Vec::new(alloc));
-    let outcome = optimise(alloc, program, &outside, &mut panel)?;
+    let outcome = optimised(alloc, program, &outside)?;
     let (rounds, members) = (outcome.rounds, outcome.removed_members);
     let (insns, spared) = (outcome.removed_instructions, outcome.spared);
     Ok(format!(in alloc;

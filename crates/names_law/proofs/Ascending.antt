@@ -14,6 +14,7 @@ use Rattle.std.proofs.lemmas.List.Sorted.{sum_by-IsPermutation}
 use Rattle.std.proofs.lemmas.List.Folds.{list_any-append}
 use Rattle.std.proofs.lemmas.Map.Text.{is_eq-slice_cmp}
 use Rattle.std.proofs.lemmas.Option.{get_or_from_slice_get}
+use Rattle.lemmas.proofs.Options.{some_same}
 use Rattle.dex_pools.specs.declared.interner.Interner.{Interner}
 use Rattle.dex_pools.specs.Finds.{Ascends}
 use Rattle.dex_pools.specs.Interned.{IsInterned}
@@ -117,9 +118,6 @@ module _ {X Y : Type 0} (f : X → Y) (table : List X) (key : ℕ → List ℕ) 
       subst (λ o. Ascends below (one_entry f o ++ entries f table (m ∷ rest))) (sym s.is) (subst (λ o. Ascends below (f s.x ∷ (one_entry f o ++ entries f table rest))) (sym t.is) (less, others))
 
 -- ---- entries that differ
-
-pub some_same : {X : Type 0} (a b : X) → Some a ≡ Some b → a ≡ b
-some_same a b t = cc
 
 clear : {X : Type 0} (key : X → List ℕ) (before xs : List X) (m : ℕ) (y : X) → differ_from key before xs ≡ true → slice_get xs m ≡ Some y → list_any (λ w. same_entry key w y) before ≡ false
 clear key before [] m y h e = absurd cc

@@ -6,6 +6,7 @@ use Rattle.std.specs.List.{AllByRecursion, list_any}
 use Rattle.std.proofs.lemmas.List.{get_or_past, length-replicate}
 use Rattle.std.proofs.lemmas.List.Sorted.{list_any-IsPermutation, length_permutation}
 use Rattle.std.proofs.lemmas.Option.{slice_get-get_or, slice_get_past, slice_get_cases}
+use Rattle.lemmas.proofs.Options.{some_same}
 use Rattle.dex_pools.specs.declared.interner.Interner.{Interner}
 use Rattle.dex_pools.specs.declared.used.Named.TheVariants as named
 use Rattle.dex_pools.specs.declared.used.Used.{Used}
@@ -41,13 +42,10 @@ pub entry : {X : Type 0} (table : List X) (n : ℕ) → n < length table → Sta
 entry [] n lt = absurd (omega (arith, lt))
 entry (x ∷ xs) n lt = record { x = get_or (x ∷ xs) n x; is = slice_get-get_or (x ∷ xs) n x lt }
 
-same_some : {X : Type 0} (x y : X) → Some x ≡ Some y → x ≡ y
-same_some x y e = cc
-
 pub entries_at : {X Y : Type 0} (f : X → Y) (table : List X) (order : List ℕ) (k n : ℕ) → AllIn table order → slice_get order k ≡ Some n → slice_get (entries f table order) k ≡ option_map f (slice_get table n)
 entries_at f table [] k n fit e = absurd cc
 entries_at f table (m ∷ ms) zero n fit e =
-    let same : m ≡ n = same_some m n e in
+    let same : m ≡ n = some_same m n e in
     let s : Stands table m = entry table m fit.0 in
     subst (λ j. slice_get (entries f table (m ∷ ms)) zero ≡ option_map f (slice_get table j)) same (rw s.is refl)
 entries_at f table (m ∷ ms) (suc k) n fit e = let s : Stands table m = entry table m fit.0 in rw s.is (entries_at f table ms k n fit.1 e)

@@ -5,6 +5,7 @@ use Rattle.std.specs.List.{AllByRecursion, list_all}
 use Rattle.std.proofs.lemmas.Bool.{and_parts}
 use Rattle.std.proofs.lemmas.List.Sorted.{All-permutation}
 use Rattle.std.proofs.lemmas.List.Elements.{All-from_recursion, recursion_from_All}
+use Rattle.lemmas.proofs.Lists.{all_at}
 use Rattle.dex_pools.specs.declared.interner.Interner.{Interner}
 use Rattle.dex_pools.specs.Interned.{IsInterned}
 use Rattle.dex_pools.specs.Numbering.{numbers_from, numbers_of, used_in, string_key, type_key, proto_key, field_key, method_key, IsNumbered}
@@ -68,14 +69,6 @@ all_entries {X = X} f table Q P (n ∷ ns) each h = by_entry (slice_get table n)
     by_entry None e rest = rw e rest
     by_entry (Some x) e rest = rw e (each n x e h.0, rest)
 
-pub one_fits : {X : Type 0} (test : X → Bool) (xs : List X) (n : ℕ) (x : X) → list_all test xs ≡ true → slice_get xs n ≡ Some x → test x ≡ true
-one_fits test [] n x h e = absurd cc
-one_fits test (y ∷ ys) zero x h e = let same : y ≡ x = same_some y x e in subst (λ z. test z ≡ true) same (and_parts (test y) (list_all test ys) h).0
-  where
-    same_some : {X : Type 0} (a b : X) → Some a ≡ Some b → a ≡ b
-    same_some a b s = cc
-one_fits test (y ∷ ys) (suc n) x h e = one_fits test ys n x (and_parts (test y) (list_all test ys) h).1 e
-
 module _ (p : Program) (i : Interner) (few : IsShort p) (h : IsInterned p i) (fit : entries_fit p ≡ true) where
   abbrev q : Program
   q = written_by i p
@@ -113,12 +106,12 @@ module _ (p : Program) (i : Interner) (few : IsShort p) (h : IsInterned p i) (fi
 
   own_type : (n string : ℕ) → slice_get p.types n ≡ Some string → IsUsed u (named.Kind n) → new_string i.numbers string < length q.strings
   own_type n string e used =
-      let t = and_parts (has_string p string) _ (one_fits (type_fits p) p.types n string parts.types e) in
+      let t = and_parts (has_string p string) _ (all_at (type_fits p) p.types n string parts.types e) in
       string_in string (closed.types n string e used) t.0
 
   own_proto : (n : ℕ) (x : Proto) → slice_get p.protos n ≡ Some x → IsUsed u (named.Proto n) → OwnsProto q (written_proto i.numbers x)
   own_proto n x e used =
-      let t = and_parts (has_string p x.shorty && has_type p x.result) (list_all (has_type p) x.parameters && is_shorty p (string_text p x.shorty) x.result x.parameters) (one_fits (proto_fits p) p.protos n x parts.protos e) in
+      let t = and_parts (has_string p x.shorty && has_type p x.result) (list_all (has_type p) x.parameters && is_shorty p (string_text p x.shorty) x.result x.parameters) (all_at (proto_fits p) p.protos n x parts.protos e) in
       let a = and_parts (has_string p x.shorty) (has_type p x.result) t.0 in
       let b = and_parts (list_all (has_type p) x.parameters) (is_shorty p (string_text p x.shorty) x.result x.parameters) t.1 in
       let uses : UsesProto u x = closed.protos n x e used in
@@ -126,7 +119,7 @@ module _ (p : Program) (i : Interner) (few : IsShort p) (h : IsInterned p i) (fi
 
   own_field : (n : ℕ) (x : FieldName) → slice_get p.fields n ≡ Some x → IsUsed u (named.Field n) → OwnsField q (written_field_name i.numbers x)
   own_field n x e used =
-      let t = and_parts (has_type p x.class && has_type p x.kind) _ (one_fits (field_id_fits p) p.fields n x parts.fields e) in
+      let t = and_parts (has_type p x.class && has_type p x.kind) _ (all_at (field_id_fits p) p.fields n x parts.fields e) in
       let a = and_parts (has_type p x.class) (has_type p x.kind) t.0 in
       let b = and_parts (has_string p x.name) _ t.1 in
       let uses : UsesField u x = closed.fields n x e used in
@@ -134,7 +127,7 @@ module _ (p : Program) (i : Interner) (few : IsShort p) (h : IsInterned p i) (fi
 
   own_method : (n : ℕ) (x : MethodName) → slice_get p.methods n ≡ Some x → IsUsed u (named.Method n) → OwnsMethod q (written_method_name i.numbers x)
   own_method n x e used =
-      let t = and_parts (has_type p x.class) (has_proto p x.proto && has_string p x.name) (one_fits (method_id_fits p) p.methods n x parts.methods e) in
+      let t = and_parts (has_type p x.class) (has_proto p x.proto && has_string p x.name) (all_at (method_id_fits p) p.methods n x parts.methods e) in
       let a = and_parts (has_proto p x.proto) (has_string p x.name) t.1 in
       let uses : UsesMethod u x = closed.methods n x e used in
       record {

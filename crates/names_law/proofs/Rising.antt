@@ -8,6 +8,7 @@ use Rattle.std.specs.declared.cmp.Ordering.{Ordering}
 use Rattle.std.specs.declared.cmp.Ordering.TheVariants.{Less, Equal, Greater}
 use Rattle.std.proofs.lemmas.Bool.{and_parts}
 use Rattle.std.proofs.lemmas.Option.{get_or_from_slice_get}
+use Rattle.lemmas.proofs.Lists.{all_at}
 use Rattle.dex_pools.specs.declared.interner.Interner.{Interner}
 use Rattle.dex_pools.specs.Finds.{Ascends}
 use Rattle.dex_pools.specs.Interned.{IsInterned}
@@ -31,8 +32,8 @@ use Rattle.names_law.specs.Ascending.{AllAscend}
 use Rattle.names_law.proofs.Ordering.{AsMany, used_marked, orders_in}
 use Rattle.names_law.proofs.Closed.{used_closed}
 use Rattle.names_law.proofs.Carried.{Stands, entry}
-use Rattle.names_law.proofs.Owning.{order_set, one_fits}
-use Rattle.names_law.proofs.Ascending.{Uses, both_in, one_number, one_place, once, ascending, some_same, strings_ascend}
+use Rattle.names_law.proofs.Owning.{order_set}
+use Rattle.names_law.proofs.Ascending.{Uses, both_in, one_number, one_place, once, ascending, strings_ascend}
 
 -- ---- one number before another, or the same and the rest before the rest
 
@@ -137,7 +138,7 @@ module _ (p : Program) (i : Interner) (few : IsShort p) (h : IsInterned p i) (fi
   -- ---- types
 
   type_text_there : (n s : ℕ) → slice_get p.types n ≡ Some s → IsSet u.types n → UsesText s
-  type_text_there n s e used = text_there s (closed.types n s e used) (and_parts (has_string p s) _ (one_fits (type_fits p) p.types n s fit.types e)).0
+  type_text_there n s e used = text_there s (closed.types n s e used) (and_parts (has_string p s) _ (all_at (type_fits p) p.types n s fit.types e)).0
 
   type_is : (n s : ℕ) → slice_get p.types n ≡ Some s → type_key i.numbers.strings.items p.types n ≡ new_string i.numbers s ∷ []
   type_is n s e = ap (λ k. renumbered i.numbers.strings.items k ∷ []) (get_or_from_slice_get p.types n s 4294967295 e)
@@ -179,7 +180,7 @@ module _ (p : Program) (i : Interner) (few : IsShort p) (h : IsInterned p i) (fi
 
   proto_there : (n : ℕ) (x : Proto) → slice_get p.protos n ≡ Some x → IsSet u.protos n → ProtoThere x
   proto_there n x e used =
-      let t = and_parts (has_string p x.shorty && has_type p x.result) (list_all (has_type p) x.parameters && is_shorty p (string_text p x.shorty) x.result x.parameters) (one_fits (proto_fits p) p.protos n x fit.protos e) in
+      let t = and_parts (has_string p x.shorty && has_type p x.result) (list_all (has_type p) x.parameters && is_shorty p (string_text p x.shorty) x.result x.parameters) (all_at (proto_fits p) p.protos n x fit.protos e) in
       let a = and_parts (has_string p x.shorty) (has_type p x.result) t.0 in
       let b = and_parts (list_all (has_type p) x.parameters) (is_shorty p (string_text p x.shorty) x.result x.parameters) t.1 in
       let uses : UsesProto u x = closed.protos n x e used in
@@ -226,7 +227,7 @@ module _ (p : Program) (i : Interner) (few : IsShort p) (h : IsInterned p i) (fi
 
   field_there : (n : ℕ) (x : FieldName) → slice_get p.fields n ≡ Some x → IsSet u.fields n → FieldThere x
   field_there n x e used =
-      let t = and_parts (has_type p x.class && has_type p x.kind) _ (one_fits (field_id_fits p) p.fields n x fit.fields e) in
+      let t = and_parts (has_type p x.class && has_type p x.kind) _ (all_at (field_id_fits p) p.fields n x fit.fields e) in
       let a = and_parts (has_type p x.class) (has_type p x.kind) t.0 in
       let b = and_parts (has_string p x.name) _ t.1 in
       let uses : UsesField u x = closed.fields n x e used in
@@ -274,7 +275,7 @@ module _ (p : Program) (i : Interner) (few : IsShort p) (h : IsInterned p i) (fi
 
   method_there : (n : ℕ) (x : MethodName) → slice_get p.methods n ≡ Some x → IsSet u.methods n → MethodThere x
   method_there n x e used =
-      let t = and_parts (has_type p x.class) (has_proto p x.proto && has_string p x.name) (one_fits (method_id_fits p) p.methods n x fit.methods e) in
+      let t = and_parts (has_type p x.class) (has_proto p x.proto && has_string p x.name) (all_at (method_id_fits p) p.methods n x fit.methods e) in
       let a = and_parts (has_proto p x.proto) (has_string p x.name) t.1 in
       let uses : UsesMethod u x = closed.methods n x e used in
       record { class = kind_there x.class uses.class t.0; proto = (ltb-true x.proto (length p.protos) a.0, uses.proto); name = text_there x.name uses.name a.1 }

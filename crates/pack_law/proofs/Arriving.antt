@@ -2,6 +2,7 @@
 use Rattle.std.proofs.Common.{◌≡◌, ℕ, ◌+◌, ◌-◌, Bool, true, false, List, [], ◌∷◌, length, Option, Some, None, refl, sym, ◌∙◌, inl, inr}
 use Rattle.std.specs.Prelude.{◌&&◌, map, if◌then◌else◌}
 use Rattle.std.specs.List.{list_all}
+use Rattle.lemmas.proofs.Lists.{got_short}
 use Rattle.dalvik_defs.specs.declared.forms.Form.{Form}
 use Rattle.dalvik_defs.specs.declared.program.NamedBody.{NamedBody}
 use Rattle.dalvik_defs.specs.declared.program.NamedClass.{NamedClass}
@@ -22,7 +23,7 @@ use Rattle.pack_law.specs.TypedRegisters.{IsTypedRenamed}
 use Rattle.pack_law.proofs.Held.{is_known}
 use Rattle.pack_law.proofs.Selecting.{Unique, each_below, as_long}
 use Rattle.pack_law.proofs.Sequences.{split_in, in_map, all_in}
-use Rattle.form_law.proofs.Typings.{each_at, get_below, tested, allowed_at, right_at}
+use Rattle.form_law.proofs.Typings.{each_at, tested, allowed_at, right_at}
 use Rattle.pack_law.proofs.Held.{known_above}
 use Rattle.pack_law.proofs.Knowing.{after_known}
 
@@ -49,7 +50,7 @@ catches_at p n (Some r) i = elim (split_in n (map (λ (h : NamedHandler). h.posi
 module _ (p : NamedProgram) (c : NamedClass) (m : NamedMethod) (b : NamedBody) (t : Table) (typing : IsTyping p c m b t) where
   module _ (n : ℕ) (f : Form) (a : Kinds) (x : form_at b n ≡ Some f) (y : state_at t n ≡ Some a) where
     edges_at : list_all (arrives p t) (edges p c b n f a) ≡ true
-    edges_at = tested p c m b t typing n f a x y (λ f a. list_all (arrives p t) (edges p c b n f a)) (each_at (length b.forms) (λ n. at_state b t (λ f a. list_all (arrives p t) (edges p c b n f a)) n) n (get_below b.forms n f x) typing.edges)
+    edges_at = tested p c m b t typing n f a x y (λ f a. list_all (arrives p t) (edges p c b n f a)) (each_at (length b.forms) (λ n. at_state b t (λ f a. list_all (arrives p t) (edges p c b n f a)) n) n (got_short b.forms n f x) typing.edges)
 
     -- where an edge arrives
     Arrival : ℕ → Kinds → Type 0

@@ -2,6 +2,7 @@
 use Rattle.std.proofs.Common.{◌≡◌, ℕ, ◌+◌, Bool, true, false, List, refl, sym, ap, ◌∙◌, subst, inl, inr, arith}
 use Rattle.std.specs.Prelude.{◌⊎◌, ◌&&◌, ◌||◌, not, map, slice_set, if◌then◌else◌}
 use Rattle.std.specs.List.{list_all}
+use Rattle.lemmas.proofs.Bools.{and_left, neither_of}
 use Rattle.insn_set.specs.Widths.{is_wide_item, unary_writes_wide, binary_is_wide}
 use Rattle.insn_set.specs.declared.ops.Slot.TheVariants as slot
 use Rattle.insn_set.specs.declared.ops.InvokeKind.{InvokeKind}
@@ -27,7 +28,7 @@ use Rattle.form_law.proofs.Asking.{moved_whole, number_whole, initialised_whole}
 use Rattle.pack_law.proofs.Widths.{Takes, whole_takes, constant_takes, number_takes, reference_whole, type_takes, item_width, got_takes}
 use Rattle.form_law.proofs.Asking.{low_is}
 use Rattle.form_law.specs.Kinds.{is_whole}
-use Rattle.pack_law.proofs.Stepping.{one_kind, neither, first_true}
+use Rattle.pack_law.proofs.Stepping.{one_kind}
 
 -- what is known of a register beside a write was known
 one_known : (r : ℕ) (k : Kind) (ks : List Kind) (o : ℕ) → (o ≡ r → ⊥) → is_known (kind_at (written_one r k ks) o) ≡ true → is_known (kind_at ks o) ≡ true
@@ -101,13 +102,13 @@ module _ (p : NamedProgram) (c : NamedClass) (n : ℕ) (a : Kinds) (o : ℕ) whe
 
     -- what is known behind a form that is right of a register that it doesn't write was known before
     pub after_known : (f : Form) → is_allowed p c m a f ≡ true → is_wrong p c m a f ≡ false → writes f o ≡ false → Known (after p c n f a) → Known a
-    after_known (form.Move slot.Word to from) x y = does (form.Move slot.Word to from) (Writes (kind_at a.registers from) (moved_does to from (kind_at a.registers from) (first_true (is_moved (kind_at a.registers from)) true (asked (form.Move slot.Word to from) x))) refl)
-    after_known (form.Move slot.Object to from) x y = does (form.Move slot.Object to from) (Writes (kind_at a.registers from) (moved_does to from (kind_at a.registers from) (first_true (is_moved (kind_at a.registers from)) true (asked (form.Move slot.Object to from) x))) refl)
+    after_known (form.Move slot.Word to from) x y = does (form.Move slot.Word to from) (Writes (kind_at a.registers from) (moved_does to from (kind_at a.registers from) (and_left (is_moved (kind_at a.registers from)) true (asked (form.Move slot.Word to from) x))) refl)
+    after_known (form.Move slot.Object to from) x y = does (form.Move slot.Object to from) (Writes (kind_at a.registers from) (moved_does to from (kind_at a.registers from) (and_left (is_moved (kind_at a.registers from)) true (asked (form.Move slot.Object to from) x))) refl)
     after_known (form.Move slot.Wide to from) x y = does (form.Move slot.Wide to from) (Writes Low (inr (refl, refl)) refl)
-    after_known (form.MoveResult slot.Word to) x y = does (form.MoveResult slot.Word to) (Writes a.result (whole_takes a.result (number_whole a.result (first_true (is_number a.result) true x))) refl)
-    after_known (form.MoveResult slot.Object to) x y = does (form.MoveResult slot.Object to) (Writes a.result (whole_takes a.result (initialised_whole a.result (first_true (is_initialised a.result) true x))) refl)
-    after_known (form.MoveResult slot.Wide to) x y = does (form.MoveResult slot.Wide to) (Writes a.result (inr (low_is a.result (first_true (kind_eq a.result Low) true x), refl)) refl)
-    after_known (form.MoveException to) x y = does (form.MoveException to) (Writes a.caught (whole_takes a.caught (initialised_whole a.caught (first_true (is_initialised a.caught) true x))) refl)
+    after_known (form.MoveResult slot.Word to) x y = does (form.MoveResult slot.Word to) (Writes a.result (whole_takes a.result (number_whole a.result (and_left (is_number a.result) true x))) refl)
+    after_known (form.MoveResult slot.Object to) x y = does (form.MoveResult slot.Object to) (Writes a.result (whole_takes a.result (initialised_whole a.result (and_left (is_initialised a.result) true x))) refl)
+    after_known (form.MoveResult slot.Wide to) x y = does (form.MoveResult slot.Wide to) (Writes a.result (inr (low_is a.result (and_left (kind_eq a.result Low) true x), refl)) refl)
+    after_known (form.MoveException to) x y = does (form.MoveException to) (Writes a.caught (whole_takes a.caught (initialised_whole a.caught (and_left (is_initialised a.caught) true x))) refl)
     after_known (form.Const to value) x y = does (form.Const to value) (Writes (constant_kind value) (constant_takes value) refl)
     after_known (form.ConstWide to value) x y = does (form.ConstWide to value) (Writes Low (inr (refl, refl)) refl)
     after_known (form.ConstString to text) x y = does (form.ConstString to text) (Writes Reference (inl (refl, refl)) refl)
@@ -119,7 +120,7 @@ module _ (p : NamedProgram) (c : NamedClass) (n : ℕ) (a : Kinds) (o : ℕ) whe
         narrow k e = refl
 
         cast : (o ≡ on) ⊎ (o ≡ on → ⊥) → Known (after p c n (form.CheckCast on kind) a) → Known a
-        cast (inl e) h = ap (λ z. is_known (kind_at a.registers z)) e ∙ whole_known (kind_at a.registers on) (initialised_whole (kind_at a.registers on) (first_true (is_initialised (kind_at a.registers on)) true (asked (form.CheckCast on kind) x)))
+        cast (inl e) h = ap (λ z. is_known (kind_at a.registers z)) e ∙ whole_known (kind_at a.registers on) (initialised_whole (kind_at a.registers on) (and_left (is_initialised (kind_at a.registers on)) true (asked (form.CheckCast on kind) x)))
         cast (inr ne) h = one_known on (kind_of_reference p kind) a.registers o ne (sym (ap (λ z. is_known (kind_at z o)) (one_kind on (kind_of_reference p kind) a.registers (narrow (kind_of_reference p kind) (reference_whole p kind)))) ∙ h)
     after_known (form.InstanceOf to from kind) x y = does (form.InstanceOf to from kind) (Writes Word (inl (refl, refl)) refl)
     after_known (form.ArrayLength to from) x y = does (form.ArrayLength to from) (Writes Word (inl (refl, refl)) refl)
@@ -128,11 +129,11 @@ module _ (p : NamedProgram) (c : NamedClass) (n : ℕ) (a : Kinds) (o : ℕ) whe
     after_known (form.FilledNewArray kind args) x y = λ w h. h
     after_known (form.Cmp op to u v) x y = does (form.Cmp op to u v) (Writes Word (inl (refl, refl)) refl)
     after_known (form.ArrayGet item to array index) x y = does (form.ArrayGet item to array index) (Writes (got p item (kind_at a.registers array))
-        (got_takes p item (kind_at a.registers array) (first_true (is_array_where (λ t. item_eq (item_of_type t) item) (kind_at a.registers array)) _ (asked (form.ArrayGet item to array index) x))) refl)
+        (got_takes p item (kind_at a.registers array) (and_left (is_array_where (λ t. item_eq (item_of_type t) item) (kind_at a.registers array)) _ (asked (form.ArrayGet item to array index) x))) refl)
     after_known (form.InstanceGet item to on field) x y = does (form.InstanceGet item to on field) (Writes (kind_of p field.kind)
-        (type_takes p field.kind (is_wide_item item) (item_width p item field.kind (neither (wrong_item item field.kind) (wrong_field p false field) y).0)) refl)
+        (type_takes p field.kind (is_wide_item item) (item_width p item field.kind (neither_of (wrong_item item field.kind) (wrong_field p false field) y).0)) refl)
     after_known (form.StaticGet item to field) x y = does (form.StaticGet item to field) (Writes (kind_of p field.kind)
-        (type_takes p field.kind (is_wide_item item) (item_width p item field.kind (neither (wrong_item item field.kind) (wrong_field p true field) (neither (wrong_item item field.kind || wrong_field p true field) (wrong_first p field) y).0).0)) refl)
+        (type_takes p field.kind (is_wide_item item) (item_width p item field.kind (neither_of (wrong_item item field.kind) (wrong_field p true field) (neither_of (wrong_item item field.kind || wrong_field p true field) (wrong_first p field) y).0).0)) refl)
     after_known (form.Invoke kind method args) x y = λ w. called_known kind method args
     after_known (form.Unary op to from) x y = does (form.Unary op to from) (Writes (number_kind (unary_writes_wide op)) (number_takes (unary_writes_wide op)) refl)
     after_known (form.Binary op to u v) x y = does (form.Binary op to u v) (Writes (number_kind (binary_is_wide op)) (number_takes (binary_is_wide op)) refl)

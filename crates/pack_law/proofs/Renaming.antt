@@ -2,6 +2,8 @@
 use Rattle.std.proofs.Common.{◌≡◌, ℕ, zero, suc, ◌+◌, ◌<◌, Bool, true, false, List, [], ◌∷◌, ◌++◌, Option, Some, None, refl, sym, ap, ◌∙◌, subst, subst₂, inl, inr, arith}
 use Rattle.std.specs.Prelude.{◌⊎◌, map, slice_get, slice_index_or, replicate}
 use Rattle.std.specs.Option.{option_map}
+use Rattle.lemmas.proofs.Bools.{or_left}
+use Rattle.lemmas.proofs.Lists.{get_map}
 use Rattle.dalvik_defs.specs.Face.{Bodies, bodies_of}
 use Rattle.dalvik_defs.specs.Outer.{Outer}
 use Rattle.dalvik_defs.specs.State.{State}
@@ -25,7 +27,7 @@ use Rattle.silence_law.proofs.Faces.{face_same}
 use Rattle.form_law.specs.Changes.{In, destination, width}
 use Rattle.form_law.proofs.Forms.{form_law}
 use Rattle.form_law.proofs.Asked.{any_front, any_back, pair_taken, pair_written}
-use Rattle.form_law.proofs.Uses.{or_left, or_right, same_reads, narrow, writes_at, writes_from, remade_destination}
+use Rattle.form_law.proofs.Uses.{or_right, same_reads, narrow, writes_at, writes_from, remade_destination}
 use Rattle.place_law.specs.Rewriting.{Claims, frame_size, Comes, Writes, Keeps, Fits, IsInPlace}
 use Rattle.place_law.specs.Solid.{IsSolid, AllSolid}
 use Rattle.place_law.proofs.Onward.{clash, contained}
@@ -52,11 +54,6 @@ below_or (suc n) zero = inl (omega arith)
 below_or (suc n) (suc o) = elim (below_or n o) [ inl lt ↦ inl (omega (arith, lt)) | inr h ↦ let e = h.1 in inr (h.0, omega (arith, e)) ]
 
 -- ---- what is read
-
-get_map : {A B : Type 0} (t : A → B) (xs : List A) (i : ℕ) → slice_get (map t xs) i ≡ option_map t (slice_get xs i)
-get_map t [] i = refl
-get_map t (x ∷ xs) zero = refl
-get_map t (x ∷ xs) (suc i) = get_map t xs i
 
 module _ (s : Setting) (find other : Bodies) (new : MethodKey → ℕ → ℕ) where
   abbrev I : State → Type 0

@@ -1,11 +1,12 @@
 -- The kinds that are selected for other registers: they are those that are held, and what is held is at or below them.
 use Rattle.std.proofs.Common.{◌≡◌, ℕ, zero, suc, ◌+◌, ◌-◌, ◌<◌, Bool, true, false, List, [], ◌∷◌, length, Option, Some, None, refl, sym, ap, ap₂, ◌∙◌, subst, inl, inr, arith, eqb-true, eq-eqb}
 use Rattle.std.specs.Prelude.{◌⊎◌, ◌&&◌, ◌||◌, nat_eq, if◌then◌else◌}
+use Rattle.lemmas.proofs.Bools.{or_left}
 use Rattle.dalvik_defs.specs.declared.program.NamedProgram.{NamedProgram}
 use Rattle.pass_defs.specs.Kinds.{Kind, Undefined, Low, High, kind_eq, is_below}
 use Rattle.pass_defs.specs.Registers.{kind_at, all_below}
 use Rattle.pass_defs.proofs.Writes.{left_true, right_true, both_true}
-use Rattle.form_law.proofs.Uses.{or_left, or_right}
+use Rattle.form_law.proofs.Uses.{or_right}
 use Rattle.form_law.proofs.Asking.{low_is, high_is}
 use Rattle.place_law.proofs.Onward.{clash}
 use Rattle.place_law.proofs.Operands.{either}

@@ -31,15 +31,6 @@ pub all_map : {A B : Type 0} (f : B → Bool) (g : A → B) (xs : List A) → ((
 all_map f g [] h = refl
 all_map f g (x ∷ xs) h = both_true (f (g x)) (list_all f (map g xs)) (h x (here xs)) (all_map f g xs (λ y i. h y (there x xs i)))
 
-pub all_both : {A : Type 0} (f : A → Bool) (xs ys : List A) → list_all f xs ≡ true → list_all f ys ≡ true → list_all f (xs ++ ys) ≡ true
-all_both f [] ys d e = e
-all_both f (x ∷ xs) ys d e = both_true (f x) (list_all f (xs ++ ys)) (left_true (f x) (list_all f xs) d) (all_both f xs ys (right_true (f x) (list_all f xs) d) e)
-
 pub all_each : (n : ℕ) (test : ℕ → Bool) → ((i : ℕ) → test i ≡ true) → each n test ≡ true
 all_each zero test h = refl
 all_each (suc n) test h = both_true (each n test) (test n) (all_each n test h) (h n)
-
-pub get_map : {A B : Type 0} (g : A → B) (xs : List A) (n : ℕ) → slice_get (map g xs) n ≡ option_map g (slice_get xs n)
-get_map g [] n = refl
-get_map g (x ∷ xs) zero = refl
-get_map g (x ∷ xs) (suc n) = get_map g xs n

@@ -3,6 +3,9 @@ use Rattle.std.proofs.Common.{◌≡◌, ℕ, zero, suc, ◌+◌, ◌<◌, Bool,
 use Rattle.std.specs.Prelude.{◌⊎◌, ◌&&◌, ◌||◌, not, nat_eq, map, if◌then◌else◌}
 use Rattle.std.specs.List.{list_any, list_all}
 use Rattle.std.specs.Cmp.Lexicographic.{bytes_decides}
+use Rattle.lemmas.proofs.Bools.{and_left, neither_of, or_left}
+use Rattle.lemmas.proofs.Lists.{map_long}
+use Rattle.lemmas.proofs.Numbers.{same_number}
 use Rattle.insn_set.specs.Widths.{is_wide_item, unary_writes_wide, binary_is_wide}
 use Rattle.insn_set.specs.declared.ops.Slot.TheVariants as slot
 use Rattle.insn_set.specs.declared.ops.InvokeKind.{InvokeKind}
@@ -23,7 +26,7 @@ use Rattle.pass_defs.specs.Demands.{Constructed, Fits, is_moved, item_eq, is_arr
 use Rattle.pass_defs.specs.Typed.{got, number_kind, constant_kind, constructed, receiver_register, is_static_call, called, after, passed_words, words_of, wrong_item, wrong_field, wrong_first, wrong_method, wrong_super, is_wrong}
 use Rattle.pass_defs.proofs.Writes.{right_true}
 use Rattle.form_law.specs.Changes.{destination, width}
-use Rattle.form_law.proofs.Uses.{own, or_left, writes_from}
+use Rattle.form_law.proofs.Uses.{writes_from}
 use Rattle.place_law.proofs.Onward.{clash}
 use Rattle.form_law.specs.Kinds.{is_whole, Held}
 use Rattle.pack_law.proofs.Held.{is_known, whole_known, fewer, held_one, held_two, Changes, held_map, one_long, pair_long}
@@ -32,17 +35,9 @@ use Rattle.form_law.proofs.Asking.{low_is}
 use Rattle.form_law.proofs.Asking.{moved_whole, number_whole, initialised_whole, array_whole}
 use Rattle.pack_law.proofs.Widths.{Takes, whole_takes, constant_takes, number_takes, reference_whole, narrow_kind, type_takes, item_width, got_takes}
 
-pub map_long : {A B : Type 0} (g : A → B) (xs : List A) → length (map g xs) ≡ length xs
-map_long g [] = refl
-map_long g (x ∷ xs) = ap suc (map_long g xs)
-
 pub one_kind : (r : ℕ) (k : Kind) (ks : List Kind) → kind_eq k Low ≡ false → written_kinds r k ks ≡ written_one r k ks
 one_kind r Low ks e = clash true refl e
 one_kind r k ks e = refl
-
-pub neither : (a b : Bool) → (a || b) ≡ false → (a ≡ false) × (b ≡ false)
-neither true b e = clash true refl e
-neither false b e = (refl, e)
 
 -- what is forgotten, and what a constructor changes, make no halves
 forgets : (n : ℕ) → Changes (forgotten n)
@@ -80,12 +75,8 @@ makes old new w u l h nl nh same = record {
     whole k false i e = e
 
     from : (k half : Kind) → kind_eq new half ≡ false → kind_eq half half ≡ true → (b : Bool) → (elim b as (λ b. Kind) [ true ↦ new | false ↦ k ]) ≡ half → k ≡ half
-    from k half n own true e = clash (kind_eq half half) own (ap (λ x. kind_eq x half) (sym e) ∙ n)
-    from k half n own false e = e
-
-pub first_true : (x y : Bool) → (x && y) ≡ true → x ≡ true
-first_true true y e = refl
-first_true false y e = clash false e refl
+    from k half n same_number true e = clash (kind_eq half half) same_number (ap (λ x. kind_eq x half) (sym e) ∙ n)
+    from k half n same_number false e = e
 
 pub fresh_only : (t : Text) (m : ℕ) (k : Kind) → kind_eq k (Fresh t m) ≡ true → is_whole k ≡ true
 fresh_only t m (Fresh s n) e = refl
@@ -216,10 +207,10 @@ module _ (p : NamedProgram) (c : NamedClass) (m : NamedMethod) (n : ℕ) (new : 
   -- ---- the forms
 
   moved_from : (to from : ℕ) (b : Before (form.Move slot.Word to from)) → is_whole (kind_at a.registers from) ≡ true
-  moved_from to from b = moved_whole (kind_at a.registers from) (first_true (is_moved (kind_at a.registers from)) true (asked (form.Move slot.Word to from) b))
+  moved_from to from b = moved_whole (kind_at a.registers from) (and_left (is_moved (kind_at a.registers from)) true (asked (form.Move slot.Word to from) b))
 
   moved_object : (to from : ℕ) (b : Before (form.Move slot.Object to from)) → is_whole (kind_at a.registers from) ≡ true
-  moved_object to from b = moved_whole (kind_at a.registers from) (first_true (is_moved (kind_at a.registers from)) true (asked (form.Move slot.Object to from) b))
+  moved_object to from b = moved_whole (kind_at a.registers from) (and_left (is_moved (kind_at a.registers from)) true (asked (form.Move slot.Object to from) b))
 
   -- a cast writes a register that it reads
   cast : (on : ℕ) (kind : Text) → Before (form.CheckCast on kind) → After (form.CheckCast on kind)
@@ -244,13 +235,13 @@ module _ (p : NamedProgram) (c : NamedClass) (m : NamedMethod) (n : ℕ) (new : 
           at (inr h) = let w = h.1 in absurd (omega (arith, w))
 
       room : (on < length a.registers) × (new on < length a'.registers)
-      room = b.read_room on (own on)
+      room = b.read_room on (same_number on)
 
       known : is_known (kind_at a.registers on) ≡ true
-      known = whole_known (kind_at a.registers on) (initialised_whole (kind_at a.registers on) (first_true (is_initialised (kind_at a.registers on)) true (asked (form.CheckCast on kind) b)))
+      known = whole_known (kind_at a.registers on) (initialised_whole (kind_at a.registers on) (and_left (is_initialised (kind_at a.registers on)) true (asked (form.CheckCast on kind) b)))
 
       apart : (o : ℕ) → live' o ≡ true → (o ≡ on → ⊥) → (live o ≡ true) × (is_known (kind_at a.registers o) ≡ true → new o ≡ new on → ⊥)
-      apart o l ne = let u = b.unwritten o l refl in (u.0, λ h z. ne (b.unique o on u.0 (b.used on (own on)) h known z))
+      apart o l ne = let u = b.unwritten o l refl in (u.0, λ h z. ne (b.unique o on u.0 (b.used on (same_number on)) h known z))
 
   -- an object that is made was never initialised before
   made : (to : ℕ) (kind : Text) → Before (form.NewInstance to kind) → After (form.NewInstance to kind)
@@ -303,8 +294,8 @@ module _ (p : NamedProgram) (c : NamedClass) (m : NamedMethod) (n : ℕ) (new : 
 
   call_right : (kind : InvokeKind) (k : MethodKey) (rs : List ℕ) → is_wrong p c m a (form.Invoke kind k rs) ≡ false → (wrong_super p c kind k ≡ false) × (length rs ≡ passed_words kind k)
   call_right kind k rs e =
-      let x = neither (wrong_method p kind k || wrong_super p c kind k) (not (nat_eq (length rs) (passed_words kind k))) e in
-      ((neither (wrong_method p kind k) (wrong_super p c kind k) x.0).1, eqb-true (length rs) (passed_words kind k) (not_false (nat_eq (length rs) (passed_words kind k)) x.1))
+      let x = neither_of (wrong_method p kind k || wrong_super p c kind k) (not (nat_eq (length rs) (passed_words kind k))) e in
+      ((neither_of (wrong_method p kind k) (wrong_super p c kind k) x.0).1, eqb-true (length rs) (passed_words kind k) (not_false (nat_eq (length rs) (passed_words kind k)) x.1))
     where
       not_false : (b : Bool) → not b ≡ false → b ≡ true
       not_false true e = refl
@@ -314,8 +305,8 @@ module _ (p : NamedProgram) (c : NamedClass) (m : NamedMethod) (n : ℕ) (new : 
   built_receiver : (kind : InvokeKind) (k : MethodKey) (r : ℕ) (rs : List ℕ) → is_constructor_name k.name ≡ true → is_static_call kind ≡ false → wrong_super p c kind k ≡ false
       → list_all (λ d. meets p c a.registers d.0 d.1) (call_demands p c kind k (r ∷ rs)) ≡ true → is_constructed c k.class (kind_at a.registers r) ≡ true
   built_receiver call.Static k r rs i s w e = clash true refl s
-  built_receiver call.Super k r rs i s w e = clash (is_constructor_name k.name) i (neither (is_constructor_name k.name) _ w).0
-  built_receiver kind k r rs i s w e = first_true (is_constructed c k.class (kind_at a.registers r)) _
+  built_receiver call.Super k r rs i s w e = clash (is_constructor_name k.name) i (neither_of (is_constructor_name k.name) _ w).0
+  built_receiver kind k r rs i s w e = and_left (is_constructed c k.class (kind_at a.registers r)) _
       (subst (λ b. list_all (λ d. meets p c a.registers d.0 d.1) (map (λ d. (r, d)) ((if b then Constructed k.class else Fits k.class) ∷ []) ++ passed k.signature.parameters rs) ≡ true) i e)
 
   constructs : (kind : InvokeKind) (k : MethodKey) (rs : List ℕ) → Before (form.Invoke kind k rs) → is_constructor_name k.name ≡ true → is_static_call kind ≡ false
@@ -327,7 +318,7 @@ module _ (p : NamedProgram) (c : NamedClass) (m : NamedMethod) (n : ℕ) (new : 
   constructs kind k (r ∷ rs) b i s =
       let f = form.Invoke kind k (r ∷ rs) in
       let is = built_receiver kind k r rs i s (call_right kind k (r ∷ rs) b.right).0 (asked f b) in
-      let same = whole_read f b r (or_left (nat_eq r r) (list_any (λ a. nat_eq a r) rs) (own r)) (fresh_whole k.class (kind_at a.registers r) is) in
+      let same = whole_read f b r (or_left (nat_eq r r) (list_any (λ a. nat_eq a r) rs) (same_number r)) (fresh_whole k.class (kind_at a.registers r) is) in
       subst (λ x. Built (constructed p c (kind_at a.registers r) a) (constructed p c x a')) (sym same)
       (builds k.class (kind_at a.registers r) (b.calls kind k (r ∷ rs) refl) b.class is (unbuilt b.held b.caught b.receiver))
 
@@ -363,14 +354,14 @@ module _ (p : NamedProgram) (c : NamedClass) (m : NamedMethod) (n : ℕ) (new : 
   pub stepped : (f : Form) → Before f → After f
   stepped form.Nop b = quiet form.Nop b (λ o. refl) refl refl
   stepped (form.Move slot.Word to from) b = let w = moved_from to from b in
-      writing (form.Move slot.Word to from) b (kind_at a.registers from) (kind_at a'.registers (new from)) (whole_read (form.Move slot.Word to from) b from (own from) w) (whole_takes (kind_at a.registers from) w) refl refl
+      writing (form.Move slot.Word to from) b (kind_at a.registers from) (kind_at a'.registers (new from)) (whole_read (form.Move slot.Word to from) b from (same_number from) w) (whole_takes (kind_at a.registers from) w) refl refl
   stepped (form.Move slot.Object to from) b = let w = moved_object to from b in
-      writing (form.Move slot.Object to from) b (kind_at a.registers from) (kind_at a'.registers (new from)) (whole_read (form.Move slot.Object to from) b from (own from) w) (whole_takes (kind_at a.registers from) w) refl refl
+      writing (form.Move slot.Object to from) b (kind_at a.registers from) (kind_at a'.registers (new from)) (whole_read (form.Move slot.Object to from) b from (same_number from) w) (whole_takes (kind_at a.registers from) w) refl refl
   stepped (form.Move slot.Wide to from) b = writing (form.Move slot.Wide to from) b Low Low refl (inr (refl, refl)) refl refl
-  stepped (form.MoveResult slot.Word to) b = writing (form.MoveResult slot.Word to) b a.result a'.result b.result (whole_takes a.result (number_whole a.result (first_true (is_number a.result) true b.allowed))) refl refl
-  stepped (form.MoveResult slot.Object to) b = writing (form.MoveResult slot.Object to) b a.result a'.result b.result (whole_takes a.result (initialised_whole a.result (first_true (is_initialised a.result) true b.allowed))) refl refl
-  stepped (form.MoveResult slot.Wide to) b = writing (form.MoveResult slot.Wide to) b a.result a'.result b.result (inr (low_is a.result (first_true (kind_eq a.result Low) true b.allowed), refl)) refl refl
-  stepped (form.MoveException to) b = writing (form.MoveException to) b a.caught a'.caught b.caught (whole_takes a.caught (initialised_whole a.caught (first_true (is_initialised a.caught) true b.allowed))) refl refl
+  stepped (form.MoveResult slot.Word to) b = writing (form.MoveResult slot.Word to) b a.result a'.result b.result (whole_takes a.result (number_whole a.result (and_left (is_number a.result) true b.allowed))) refl refl
+  stepped (form.MoveResult slot.Object to) b = writing (form.MoveResult slot.Object to) b a.result a'.result b.result (whole_takes a.result (initialised_whole a.result (and_left (is_initialised a.result) true b.allowed))) refl refl
+  stepped (form.MoveResult slot.Wide to) b = writing (form.MoveResult slot.Wide to) b a.result a'.result b.result (inr (low_is a.result (and_left (kind_eq a.result Low) true b.allowed), refl)) refl refl
+  stepped (form.MoveException to) b = writing (form.MoveException to) b a.caught a'.caught b.caught (whole_takes a.caught (initialised_whole a.caught (and_left (is_initialised a.caught) true b.allowed))) refl refl
   stepped (form.Const to value) b = writing (form.Const to value) b (constant_kind value) (constant_kind value) refl (constant_takes value) refl refl
   stepped (form.ConstWide to value) b = writing (form.ConstWide to value) b Low Low refl (inr (refl, refl)) refl refl
   stepped (form.ConstString to text) b = writing (form.ConstString to text) b Reference Reference refl (inl (refl, refl)) refl refl
@@ -391,14 +382,14 @@ module _ (p : NamedProgram) (c : NamedClass) (m : NamedMethod) (n : ℕ) (new : 
   stepped (form.Cmp op to x y) b = writing (form.Cmp op to x y) b Word Word refl (inl (refl, refl)) refl refl
   stepped (form.ArrayGet item to array index) b =
       let f = form.ArrayGet item to array index in
-      let e = first_true (is_array_where (λ t. item_eq (item_of_type t) item) (kind_at a.registers array)) _ (asked f b) in
-      let same = whole_read f b array (or_left (nat_eq array array) (nat_eq array index) (own array)) (array_whole (λ t. item_eq (item_of_type t) item) (kind_at a.registers array) e) in
+      let e = and_left (is_array_where (λ t. item_eq (item_of_type t) item) (kind_at a.registers array)) _ (asked f b) in
+      let same = whole_read f b array (or_left (nat_eq array array) (nat_eq array index) (same_number array)) (array_whole (λ t. item_eq (item_of_type t) item) (kind_at a.registers array) e) in
       writing f b (got p item (kind_at a.registers array)) (got p item (kind_at a'.registers (new array))) (ap (got p item) same) (got_takes p item (kind_at a.registers array) e) refl refl
   stepped (form.InstanceGet item to on field) b =
-      let e = item_width p item field.kind (neither (wrong_item item field.kind) (wrong_field p false field) b.right).0 in
+      let e = item_width p item field.kind (neither_of (wrong_item item field.kind) (wrong_field p false field) b.right).0 in
       writing (form.InstanceGet item to on field) b (kind_of p field.kind) (kind_of p field.kind) refl (type_takes p field.kind (is_wide_item item) e) refl refl
   stepped (form.StaticGet item to field) b =
-      let e = item_width p item field.kind (neither (wrong_item item field.kind) (wrong_field p true field) (neither (wrong_item item field.kind || wrong_field p true field) (wrong_first p field) b.right).0).0 in
+      let e = item_width p item field.kind (neither_of (wrong_item item field.kind) (wrong_field p true field) (neither_of (wrong_item item field.kind || wrong_field p true field) (wrong_first p field) b.right).0).0 in
       writing (form.StaticGet item to field) b (kind_of p field.kind) (kind_of p field.kind) refl (type_takes p field.kind (is_wide_item item) e) refl refl
   stepped (form.Invoke kind method args) b = calls kind method args b
   stepped (form.Unary op to from) b = writing (form.Unary op to from) b (number_kind (unary_writes_wide op)) (number_kind (unary_writes_wide op)) refl (number_takes (unary_writes_wide op)) refl refl

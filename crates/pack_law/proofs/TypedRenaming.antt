@@ -4,6 +4,8 @@ use Rattle.std.specs.Prelude.{◌⊎◌, ◌&&◌, ◌||◌, not, nat_eq, map, i
 use Rattle.std.specs.List.{list_all}
 use Rattle.std.specs.Option.{option_map}
 use Rattle.std.proofs.lemmas.List.{length-append, length-replicate}
+use Rattle.lemmas.proofs.Bools.{or_left}
+use Rattle.lemmas.proofs.Lists.{all_append, get_map, map_long}
 use Rattle.dalvik_defs.specs.declared.forms.Form.{Form}
 use Rattle.dalvik_defs.specs.declared.forms.Form.TheVariants as form
 use Rattle.dalvik_defs.specs.declared.program.NamedBody.{NamedBody}
@@ -21,18 +23,18 @@ use Rattle.pass_defs.specs.Packed.{wides_written, wides_read, locals}
 use Rattle.silence_law.specs.Bodies.{Change, changed}
 use Rattle.silence_law.proofs.Moved.{moved_typed}
 use Rattle.form_law.specs.Changes.{In, destination}
-use Rattle.form_law.proofs.Uses.{or_left, or_right, writes_at}
-use Rattle.place_law.proofs.Onward.{clash, contained, in_front, in_back, some_same, walk_on}
+use Rattle.form_law.proofs.Uses.{or_right, writes_at}
+use Rattle.place_law.proofs.Onward.{clash, contained, in_front, in_back, walk_on}
 use Rattle.form_law.specs.Kinds.{Held}
 use Rattle.pack_law.specs.TypedRegisters.{selected, listed, renamed_kinds, renamed_from, IsTypedRenamed, AllTypedRenamed}
 use Rattle.pack_law.proofs.Held.{is_known, whole_known, fewer}
 use Rattle.pack_law.proofs.Selecting.{known_below, each_below, as_long, listed_long, held_selected, below_selected}
-use Rattle.pack_law.proofs.Sequences.{in_contains, split_in, all_map, all_both, all_each, get_map}
+use Rattle.pack_law.proofs.Sequences.{in_contains, split_in, all_map, all_each}
 use Rattle.pack_law.proofs.Held.{known_above}
 use Rattle.form_law.proofs.Asking.{allowed_held}
 use Rattle.form_law.proofs.Typings.{allowed_at, right_at}
 use Rattle.form_law.proofs.Asked.{any_front, any_back, pair_written}
-use Rattle.pack_law.proofs.Stepping.{Before, After, stepped, map_long}
+use Rattle.pack_law.proofs.Stepping.{Before, After, stepped}
 use Rattle.pack_law.proofs.Apart.{all_apart, apart_all, all_are_apart}
 use Rattle.pack_law.proofs.Arriving.{onward_arrives, catch_arrives, At, first_below, catch_caught, live_onward, live_caught, live_read, names_apart, goes_on, goes_caught}
 use Rattle.pack_law.proofs.Reading.{reads_some}
@@ -285,7 +287,7 @@ module _ (p : NamedProgram) (c : NamedClass) (m : NamedMethod) (b d : NamedBody)
     same_catches = ap₂ (λ z rs. if z then catches_in p (region_at (record d { regions = rs }) n) else []) (same_throws new f) h.renamed.regions
 
     all_arrive : list_all (arrives p table) (edges p c d n (named new f) (renewed n a)) ≡ true
-    all_arrive = all_both (arrives p table) (map (λ q. (q, after p c n (named new f) (renewed n a))) (onward (named new f) n)) (map (λ h. (h.0, record (renewed n a) { caught = h.1 })) (catches p d n (named new f)))
+    all_arrive = all_append (arrives p table) (map (λ q. (q, after p c n (named new f) (renewed n a))) (onward (named new f) n)) (map (λ h. (h.0, record (renewed n a) { caught = h.1 })) (catches p d n (named new f)))
         (ap (λ qs. list_all (arrives p table) (map (λ q. (q, after p c n (named new f) (renewed n a))) qs)) (same_onward new f n)
         ∙ all_map (arrives p table) (λ q. (q, after p c n (named new f) (renewed n a))) (onward f n) onward_renewed)
         (ap (λ hs. list_all (arrives p table) (map (λ (h : ℕ × Kind). (h.0, record (renewed n a) { caught = h.1 })) hs)) same_catches

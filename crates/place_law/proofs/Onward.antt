@@ -35,9 +35,6 @@ pub walk_on : (step : ℕ → List ℕ) (a n m : ℕ) → Walk step a n → Cont
 walk_on step a n m (Walk.Stays k) c = Walk.Goes k m m c (Walk.Stays m)
 walk_on step a n m (Walk.Goes k j l d r) c = Walk.Goes k j m d (walk_on step j l m r c)
 
-pub some_same : {A : Type 0} (x y : A) → Some x ≡ Some y → x ≡ y
-some_same x y e = ap (λ o. elim o [ Some z ↦ z | None ↦ x ]) e
-
 -- the next position is onward where the form goes on
 pub next_onward : (f : Form) (n : ℕ) → continues f ≡ true → In (n + 1) (onward f n)
 next_onward f n e = in_front (n + 1) (next_position (continues f) n) (targets f) (subst (λ b. In (n + 1) (next_position b n)) (sym e) (here []))

@@ -2,12 +2,13 @@
 use Rattle.std.proofs.Common.{◌≡◌, ℕ, ◌+◌, ◌<◌, Bool, true, false, List, [], ◌∷◌, refl, ltb-true, eqb-true, arith}
 use Rattle.std.specs.Prelude.{◌&&◌, ◌||◌, nat_eq, nat_lt}
 use Rattle.std.specs.List.{list_any}
+use Rattle.lemmas.proofs.Bools.{and_right, clash}
 use Rattle.insn_set.specs.Registers.{in_operand, reads_of, writes_of}
 use Rattle.insn_set.specs.Widths.{is_wide_slot, is_wide_item, compares_wide, unary_reads_wide, unary_writes_wide, binary_is_wide, second_is_wide}
 use Rattle.insn_set.specs.declared.form.Insn.{Insn}
 use Rattle.insn_set.specs.declared.form.Insn.TheVariants as insn
 use Rattle.program_model.specs.OperandRules.{has_room, are_registers, registers_fit}
-use Rattle.silence_law.proofs.Lists.{clash, and_left, and_right}
+use Rattle.silence_law.proofs.Lists.{and_left}
 
 pub either : (a b : Bool) {C : Type 0} → (a || b) ≡ true → (a ≡ true → C) → (b ≡ true → C) → C
 either true b e f g = f refl

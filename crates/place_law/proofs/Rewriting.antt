@@ -3,6 +3,7 @@ use Rattle.std.proofs.Common.{◌≡◌, ℕ, zero, suc, ◌+◌, ◌-◌, ◌<�
 use Rattle.std.specs.Prelude.{◌&&◌, slice_get, slice_index_or, replicate}
 use Rattle.std.specs.Option.{option_map, option_and_then}
 use Rattle.std.proofs.lemmas.List.{length-append, length-replicate}
+use Rattle.lemmas.proofs.Options.{some_same}
 use Rattle.insn_set.specs.declared.ops.Slot.{Slot}
 use Rattle.insn_set.specs.declared.ops.Slot.TheVariants as slot
 use Rattle.insn_set.specs.declared.ops.Item.{Item}
@@ -43,7 +44,7 @@ use Rattle.pass_defs.specs.Walks.{form_at, handlers_at, next_position, onward, c
 use Rattle.form_law.specs.Changes.{In, destination, Change, Sets, Jumps, Results, written, changed, aimed, width_if, width, Possible, Waits, TakesResult, TakesItem, Alike}
 use Rattle.form_law.proofs.Runs.{written_method, written_position, written_result, written_caught, written_long, written_other, written_there}
 use Rattle.place_law.specs.Rewriting.{Claims, frame_size, ReadsFields, Holds, Comes as Follows, Writes as Wrote, Copies, Keeps, Settles, Fits, IsInPlace}
-use Rattle.place_law.proofs.Onward.{clash, in_front, in_back, contained, walk_on, some_same, next_onward, caught_in}
+use Rattle.place_law.proofs.Onward.{clash, in_front, in_back, contained, walk_on, next_onward, caught_in}
 
 glide : (s : Setting) (find : Bodies) (w : World) (c : Classes) (g : Frame) → Glides s find w c g 0 w c g
 glide s find w c g = record { ends = λ rest script. refl; silent = λ rest script. refl }

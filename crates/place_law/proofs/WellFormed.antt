@@ -3,6 +3,9 @@ use Rattle.std.proofs.Common.{◌≡◌, ℕ, zero, suc, ◌+◌, ◌-◌, ◌<�
 use Rattle.std.specs.Prelude.{◌&&◌, not, map, Contains, slice_get, slice_index_or}
 use Rattle.std.specs.List.{list_all, enumerate_from}
 use Rattle.std.specs.Option.{option_map}
+use Rattle.lemmas.proofs.Bools.{and_right, clash}
+use Rattle.lemmas.proofs.Lists.{get_map}
+use Rattle.lemmas.proofs.Options.{before_map, none_some, some_same}
 use Rattle.insn_set.specs.Registers.{reads_of, writes_of}
 use Rattle.insn_set.specs.Spelling.{is_encodable}
 use Rattle.insn_set.specs.declared.form.Insn.{Insn}
@@ -29,28 +32,15 @@ use Rattle.dalvik_defs.specs.declared.names.FieldKey.{FieldKey}
 use Rattle.dalvik_defs.specs.declared.program.NamedBody.{NamedBody}
 use Rattle.dalvik_defs.specs.declared.program.NamedMethod.{NamedMethod}
 use Rattle.pass_defs.specs.Bare.{reads, writes}
-use Rattle.silence_law.proofs.Lists.{clash, and_left, and_right}
+use Rattle.silence_law.proofs.Lists.{and_left}
 use Rattle.silence_law.proofs.Moved.{image}
 use Rattle.form_law.specs.Changes.{field_of}
 use Rattle.place_law.specs.Solid.{IsSolid, AllSolid}
 use Rattle.place_law.proofs.Operands.{either, reads_below, writes_below}
-use Rattle.place_law.proofs.Onward.{some_same}
 
 -- ---- lists
 
-none_some : {A B : Type 0} (y : A) → None ≡ Some y → B
-none_some y e = absurd (true≢false (ap (λ o. elim o as (λ o. Bool) [ Some z ↦ false | None ↦ true ]) e))
-
 -- what is changed to something is something
-before_map : {A B : Type 0} (g : A → B) (o : Option A) (y : B) → option_map g o ≡ Some y → (x : A) × ((o ≡ Some x) × (g x ≡ y))
-before_map g None y e = none_some y e
-before_map g (Some x) y e = (x, (refl, some_same (g x) y e))
-
-get_map : {A B : Type 0} (g : A → B) (xs : List A) (n : ℕ) → slice_get (map g xs) n ≡ option_map g (slice_get xs n)
-get_map g [] n = refl
-get_map g (x ∷ xs) zero = refl
-get_map g (x ∷ xs) (suc n) = get_map g xs n
-
 all_at : {A : Type 0} (f : A → Bool) (xs : List A) (x : A) (k : ℕ) → k < length xs → slice_index_or xs k x ≡ x → list_all f xs ≡ true → f x ≡ true
 all_at f [] x k lt e h = absurd (omega (arith, lt))
 all_at f (y ∷ ys) x zero lt e h = ap f (sym e) ∙ and_left (f y) (list_all f ys) h

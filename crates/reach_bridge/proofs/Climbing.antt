@@ -3,6 +3,7 @@ use Rattle.std.proofs.Common.{◌≡◌, ℕ, zero, suc, ◌<◌, Bool, true, fa
 use Rattle.std.specs.Prelude.{◌&&◌, ◌||◌, not, is_some, Contains, slice_get, position, option_and_then}
 use Rattle.std.specs.List.{list_any}
 use Rattle.std.specs.Option.{option_map}
+use Rattle.lemmas.proofs.Lists.{got_short}
 use Rattle.program_model.specs.declared.program.Class.{Class}
 use Rattle.program_model.specs.declared.program.Program.{Program}
 use Rattle.program_model.specs.declared.pass.Outside.{Outside}
@@ -32,7 +33,7 @@ use Rattle.removal_law.proofs.Outward.{any_where}
 use Rattle.removal_law.proofs.Declared.{not_false}
 use Rattle.removal_law.proofs.Trees.{defined}
 use Rattle.reach.specs.Marked.{IsMarked}
-use Rattle.reach_bridge.proofs.Kept.{other_number, place_below}
+use Rattle.reach_bridge.proofs.Kept.{other_number}
 use Rattle.reach_bridge.proofs.Held.{of_image}
 use Rattle.reach_bridge.proofs.Based.{S, few_types}
 use Rattle.reach_bridge.proofs.Upward.{own_class}
@@ -102,7 +103,7 @@ module _ (p : Program) (o : Outside) (s : LiveSet) (g : IsMarked p o s) where
       let x = entry_at p.types k lt in
       let f = place_first is_object p.types k x.0 x.1 (ap (λ t. same_text t object_text) (sym (type_text_at k x.0 x.1) ∙ e) ∙ walk.text_same object_text) in
       let r = place_entry is_object p.types f.place f.is in
-      ap or_none f.is ∙ type_once p (S p o s g) f.place k (place_below p.types f.place r.entry r.is) lt (type_text_at f.place r.entry r.is ∙ text_sound (string_text p r.entry) object_text r.passes ∙ sym e)
+      ap or_none f.is ∙ type_once p (S p o s g) f.place k (got_short p.types f.place r.entry r.is) lt (type_text_at f.place r.entry r.is ∙ text_sound (string_text p r.entry) object_text r.passes ∙ sym e)
 
   -- a type of another name has another number
   not_object : (k : ℕ) → k < length p.types → text_eq (type_at p k) object_type ≡ false → nat_eq k (object_number p) ≡ false

@@ -2,6 +2,7 @@
 use Rattle.std.proofs.Common.{◌≡◌, ℕ, ◌⊎◌, inl, inr, true, List, [], ◌∷◌, ◌++◌, length, map, Option, Some, None, refl, sym, ap, ◌∙◌, subst}
 use Rattle.std.specs.Prelude.{flat_map, Contains, option_and_then}
 use Rattle.std.specs.Option.{option_map}
+use Rattle.lemmas.proofs.Options.{none_some, some_same}
 use Rattle.insn_set.specs.declared.form.Insn.{Insn}
 use Rattle.insn_set.specs.declared.form.Insn.TheVariants as insn
 use Rattle.insn_set.specs.declared.ops.InvokeKind.{InvokeKind}
@@ -34,7 +35,6 @@ use Rattle.pass_defs.specs.Mentions.{types_of, types_in, fields_in, types_in_bod
 use Rattle.pass_defs.specs.Live.{HasBody, KeepsTypes, KeepsResolved}
 use Rattle.removal_law.proofs.Lists.{In, here, there, contained, in_front, in_back, in_either}
 use Rattle.removal_law.proofs.Finds.{in_flat, out_of_flat}
-use Rattle.removal_law.proofs.Trees.{none_some, some_same}
 use Rattle.reach_bridge.specs.Names.{family_of}
 use Rattle.reach.specs.Marked.{IsMarked}
 use Rattle.reach_bridge.proofs.Held.{stands, of_image, ByNumber, field_number, method_number}

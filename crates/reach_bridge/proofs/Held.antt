@@ -1,6 +1,7 @@
 -- A mark on a number is one on its name, and a mark on a name is one on a number of this name.
 use Rattle.std.proofs.Common.{◌≡◌, ℕ, zero, suc, ◌<◌, ◌⊎◌, inl, inr, Bool, true, false, List, [], ◌∷◌, length, map, Some, refl, sym, ap, ◌∙◌, subst, arith}
 use Rattle.std.specs.Prelude.{◌&&◌, ◌||◌, Contains, slice_get, slice_index_or}
+use Rattle.lemmas.proofs.Bools.{and_both}
 use Rattle.program_model.specs.declared.program.Program.{Program}
 use Rattle.call_graph.specs.declared.facts.Fact.TheVariants as fact
 use Rattle.call_graph.specs.declared.live_set.LiveSet.{LiveSet}
@@ -83,10 +84,6 @@ within [] n lt e = absurd (omega (arith, lt))
 within (b ∷ bs) zero lt e = e
 within (b ∷ bs) (suc n) lt e = within bs n (omega (arith, lt)) e
 
-both : (a b : Bool) → a ≡ true → b ≡ true → (a && b) ≡ true
-both true b e f = f
-both false b e f = e
-
 -- a marked number of a name
 pub record ByNumber {K : Type 0} (marks : List Bool) (size : ℕ) (name : ℕ → K) (k : K) : Type 0 where
   pub number : ℕ
@@ -117,19 +114,19 @@ module _ (p : Program) (s : LiveSet) where
     pub class_met : (n : ℕ) → n < length p.types → is_met s (fact.Class n) ≡ true → (family_of p s).classes (type_at p n) ≡ true
     class_met n lt e = let long = sized.classes in
         any_has (length p.types) (λ k. is_marked s.classes.items k && text_eq (type_at p k) (type_at p n)) n lt
-        (both (is_marked s.classes.items n) (text_eq (type_at p n) (type_at p n)) (within s.classes.items n (omega (arith, lt, long, s.classes.ok)) e) (text_same (type_at p n)))
+        (and_both (is_marked s.classes.items n) (text_eq (type_at p n) (type_at p n)) (within s.classes.items n (omega (arith, lt, long, s.classes.ok)) e) (text_same (type_at p n)))
 
     pub made_met : (n : ℕ) → n < length p.types → is_met s (fact.Made n) ≡ true → (family_of p s).made (type_at p n) ≡ true
     made_met n lt e = let long = sized.made in
         any_has (length p.types) (λ k. is_marked s.made.items k && text_eq (type_at p k) (type_at p n)) n lt
-        (both (is_marked s.made.items n) (text_eq (type_at p n) (type_at p n)) (within s.made.items n (omega (arith, lt, long, s.made.ok)) e) (text_same (type_at p n)))
+        (and_both (is_marked s.made.items n) (text_eq (type_at p n) (type_at p n)) (within s.made.items n (omega (arith, lt, long, s.made.ok)) e) (text_same (type_at p n)))
 
     pub field_met : (n : ℕ) → n < length p.fields → is_met s (fact.Field n) ≡ true → (family_of p s).fields (field_at p n) ≡ true
     field_met n lt e = let long = sized.fields in
         any_has (length p.fields) (λ k. is_marked s.fields.items k && field_eq (field_at p k) (field_at p n)) n lt
-        (both (is_marked s.fields.items n) (field_eq (field_at p n) (field_at p n)) (within s.fields.items n (omega (arith, lt, long, s.fields.ok)) e) (field_itself (field_at p n)))
+        (and_both (is_marked s.fields.items n) (field_eq (field_at p n) (field_at p n)) (within s.fields.items n (omega (arith, lt, long, s.fields.ok)) e) (field_itself (field_at p n)))
 
     pub method_met : (n : ℕ) → n < length p.methods → is_met s (fact.Method n) ≡ true → (family_of p s).methods (method_at p n) ≡ true
     method_met n lt e = let long = sized.methods in
         any_has (length p.methods) (λ k. is_marked s.methods.items k && method_eq (method_at p k) (method_at p n)) n lt
-        (both (is_marked s.methods.items n) (method_eq (method_at p n) (method_at p n)) (within s.methods.items n (omega (arith, lt, long, s.methods.ok)) e) (method_same (method_at p n)))
+        (and_both (is_marked s.methods.items n) (method_eq (method_at p n) (method_at p n)) (within s.methods.items n (omega (arith, lt, long, s.methods.ok)) e) (method_same (method_at p n)))

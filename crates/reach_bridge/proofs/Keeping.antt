@@ -5,6 +5,8 @@ use Rattle.std.specs.List.{list_any}
 use Rattle.std.specs.Option.{option_map}
 use Rattle.std.proofs.lemmas.Bool.{cases_lt}
 use Rattle.std.proofs.lemmas.Option.{slice_get_past}
+use Rattle.lemmas.proofs.Bools.{or_cases}
+use Rattle.lemmas.proofs.Options.{none_some}
 use Rattle.program_model.specs.declared.pools.FieldName.{FieldName}
 use Rattle.program_model.specs.declared.pools.MethodName.{MethodName}
 use Rattle.program_model.specs.declared.pass.ClassIf.{ClassIf}
@@ -49,7 +51,7 @@ use Rattle.removal_law.proofs.Finds.{in_flat}
 use Rattle.removal_law.proofs.Walks as walk
 use Rattle.removal_law.proofs.Outward.{any_where}
 use Rattle.removal_law.proofs.Declared.{none_there, method_sound}
-use Rattle.removal_law.proofs.Trees.{none_some, defined, defines_class}
+use Rattle.removal_law.proofs.Trees.{defined, defines_class}
 use Rattle.reach_bridge.specs.Names.{family_of}
 use Rattle.reach.specs.Marked.{IsMarked}
 use Rattle.reach_bridge.specs.Reached.{AreDefined, KeepsOwners}
@@ -60,10 +62,6 @@ use Rattle.reach_bridge.proofs.Mentioned.{empty_class, met_front, met_back, met_
 use Rattle.reach_bridge.proofs.Owned.{OwnMethod, own_method, own_field}
 use Rattle.reach_bridge.proofs.Coded.{field_facts_met, body_facts_met, conditional_met}
 use Rattle.reach_bridge.proofs.Upward.{OwnClass, own_class, class_held}
-
-or_cases : (a b : Bool) → (a || b) ≡ true → (a ≡ true) ⊎ (b ≡ true)
-or_cases true b e = inl refl
-or_cases false b e = inr e
 
 swap : (a b : Bool) → (a && b) ≡ true → (b && a) ≡ true
 swap true true e = refl

@@ -1,6 +1,8 @@
 -- What marks leave of a program is what is left of it by the names of the marked numbers.
 use Rattle.std.proofs.Common.{◌≡◌, ℕ, zero, suc, ◌<◌, Bool, true, false, List, [], ◌∷◌, length, refl, sym, ap, ◌∙◌, subst, arith}
 use Rattle.std.specs.Prelude.{◌&&◌, ◌||◌, cond, Some, map, filter, slice_get, nat_eq}
+use Rattle.lemmas.proofs.Bools.{and_false, or_none}
+use Rattle.lemmas.proofs.Lists.{got_short}
 use Rattle.program_model.specs.declared.program.Field.{Field}
 use Rattle.program_model.specs.declared.program.Method.{Method}
 use Rattle.program_model.specs.declared.program.Class.{Class}
@@ -26,7 +28,6 @@ use Rattle.pass_defs.specs.Live.{Family, Conditions, IsClosedFamily}
 use Rattle.removal_law.specs.Left.{field_key, left_in, left_of}
 use Rattle.removal_law.proofs.Lists.{clash, and_left, and_behind}
 use Rattle.removal_law.proofs.Walks.{text_same}
-use Rattle.removal_law.proofs.Trees.{none_some}
 use Rattle.removal_law.proofs.Declared.{method_sound, method_same}
 use Rattle.removal_bridge.proofs.Formed.{method_of, key_of, entry_below, removed_program}
 use Rattle.reach_bridge.specs.Names.{any_below, family_of}
@@ -68,17 +69,9 @@ other_number k j lt = by (nat_eq k j) refl
     by true e = let i = number_of k j e in absurd (omega (arith, lt, i))
     by false e = e
 
-or_false : (b : Bool) → (b || false) ≡ b
-or_false true = refl
-or_false false = refl
-
 and_true : (b : Bool) → (b && true) ≡ b
 and_true true = refl
 and_true false = refl
-
-and_false : (b : Bool) → (b && false) ≡ false
-and_false true = refl
-and_false false = refl
 
 any_is : (n : ℕ) (m e : ℕ → Bool) (j : ℕ) → j < n → ((k : ℕ) → k < n → e k ≡ nat_eq k j) → any_below n (λ k. m k && e k) ≡ m j
 any_is zero m e j lt h = absurd (omega (arith, lt))
@@ -88,7 +81,7 @@ any_is (suc n) m e j lt h = by (nat_eq n j) refl (λ l. any_is n m e j l (λ k i
     by true i ih = let same = number_of n j i in
         ap (λ b. (m n && b) || any_below n (λ k. m k && e k)) (h n (omega arith) ∙ i)
         ∙ ap (λ b. (m n && true) || b) (any_none n (λ k. m k && e k) (λ k l. ap (λ b. m k && b) (h k (omega (arith, l)) ∙ other_number k j (subst (λ z. k < z) same l)) ∙ and_false (m k)))
-        ∙ or_false (m n && true) ∙ and_true (m n) ∙ ap m same
+        ∙ or_none (m n && true) ∙ and_true (m n) ∙ ap m same
     by false i ih = ap (λ b. (m n && b) || any_below n (λ k. m k && e k)) (h n (omega arith) ∙ i) ∙ ap (λ b. b || any_below n (λ k. m k && e k)) (and_false (m n))
         ∙ ih (less n j lt i)
       where
@@ -112,11 +105,6 @@ field_sound a b e =
 
 pub field_itself : (k : FieldKey) → field_eq k k ≡ true
 field_itself k = ap (λ b. b && text_eq k.name k.name && text_eq k.kind k.kind) (text_same k.class) ∙ ap (λ b. b && text_eq k.kind k.kind) (text_same k.name) ∙ text_same k.kind
-
-pub place_below : {A : Type 0} (xs : List A) (n : ℕ) (x : A) → slice_get xs n ≡ Some x → n < length xs
-place_below [] n x e = none_some x e
-place_below (y ∷ xs) zero x e = omega arith
-place_below (y ∷ xs) (suc n) x e = let h = place_below xs n x e in omega (arith, h)
 
 module _ (p : Program) (s : LiveSet) (fits : is_well_formed p ≡ true) where
   S : Sound p
@@ -149,7 +137,7 @@ module _ (p : Program) (s : LiveSet) (fits : is_well_formed p ≡ true) where
     field_mark : (j : ℕ) (x : Field) → slice_get c.fields j ≡ Some x → F.fields (field_key (type_at p c.name) (named_field p x)) ≡ is_marked s.fields.items x.name
     field_mark j x f =
         let g = (class_parts p S i c e).fields j x f in
-        let l : x.name < length p.fields = place_below p.fields x.name g.entry g.is in
+        let l : x.name < length p.fields = got_short p.fields x.name g.entry g.is in
         ap F.fields (sym (field_name j x f))
         ∙ any_is (length p.fields) (is_marked s.fields.items) (λ n. field_eq (field_at p n) (field_at p x.name)) x.name l
         (λ n lt. same_test _ _ (λ h. number_test n x.name (field_once p S n x.name lt l (field_sound (field_at p n) (field_at p x.name) h)))

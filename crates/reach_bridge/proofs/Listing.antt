@@ -3,6 +3,7 @@ use Rattle.std.proofs.Common.{◌≡◌, ℕ, suc, ◌<◌, Bool, true, false, n
 use Rattle.std.specs.Prelude.{◌&&◌, Contains, Decides, slice_get, option_and_then}
 use Rattle.std.specs.List.{list_any}
 use Rattle.std.specs.Option.{option_map}
+use Rattle.lemmas.proofs.Options.{some_same}
 use Rattle.program_model.specs.declared.program.Class.{Class}
 use Rattle.program_model.specs.declared.program.Program.{Program}
 use Rattle.program_model.specs.declared.pass.Outside.{Outside}
@@ -22,7 +23,6 @@ use Rattle.name_bridge.proofs.Above.{defined, own_place, under_by_number}
 use Rattle.removal_law.proofs.Lists.{In, clash, in_map, and_left, and_behind}
 use Rattle.removal_law.proofs.Walks.{choice, text_same}
 use Rattle.removal_law.proofs.Climbs.{climb_under as walk_under}
-use Rattle.removal_law.proofs.Trees.{some_same}
 use Rattle.removal_law.proofs.Outward.{any_here, any_where}
 use Rattle.reach_bridge.specs.Names.{family_of}
 use Rattle.reach.specs.Marked.{IsMarked}

@@ -4,6 +4,8 @@ use Rattle.std.specs.Prelude.{◌&&◌, slice_get, flat_map, option_and_then}
 use Rattle.std.specs.Option.{option_map, option_or}
 use Rattle.std.proofs.lemmas.Bool.{cases_lt}
 use Rattle.std.proofs.lemmas.Option.{slice_get_past}
+use Rattle.lemmas.proofs.Lists.{got_short}
+use Rattle.lemmas.proofs.Options.{none_some, some_same}
 use Rattle.program_model.specs.declared.pools.Proto.{Proto}
 use Rattle.program_model.specs.declared.pools.FieldName.{FieldName}
 use Rattle.program_model.specs.declared.pools.MethodName.{MethodName}
@@ -41,11 +43,11 @@ use Rattle.name_bridge.proofs.Found.{looked_up, found_parts}
 use Rattle.removal_law.proofs.Lists as list
 use Rattle.removal_law.proofs.Lists.{In, here, there, clash, and_left, and_behind, in_front, in_back, in_either}
 use Rattle.removal_law.proofs.Finds.{in_flat}
-use Rattle.removal_law.proofs.Trees.{none_some, some_same, defined}
+use Rattle.removal_law.proofs.Trees.{defined}
 use Rattle.removal_bridge.proofs.Formed.{method_of, key_of, entry_below}
 use Rattle.reach_bridge.specs.Names.{family_of}
 use Rattle.reach.specs.Marked.{IsMarked}
-use Rattle.reach_bridge.proofs.Kept.{place_below, field_name}
+use Rattle.reach_bridge.proofs.Kept.{field_name}
 use Rattle.reach_bridge.proofs.Held.{of_image, field_met, method_met}
 use Rattle.reach_bridge.proofs.Based.{Met, Held, S, empty_undefined, empty_held, kind_held}
 
@@ -263,7 +265,7 @@ module _ (p : Program) (o : Outside) (s : LiveSet) (g : IsMarked p o s) where
       ∙ ap (λ z. record { class = f.0; name = (field_at p n).name; kind = z }) names.1 in
       let there : follow.field_at p at ≡ Some r.field = ap (option_and_then (λ c. slice_get c.fields at.1)) r.is_class ∙ r.is_field in
       ap (family_of p s).fields (sym same)
-      ∙ field_met p s g.sized r.field.name (place_below p.fields r.field.name w.entry w.is) (met (fact.Field r.field.name) (subst (In (fact.Field r.field.name)) (sym (ap field_fact there)) (here [])))
+      ∙ field_met p s g.sized r.field.name (got_short p.fields r.field.name w.entry w.is) (met (fact.Field r.field.name) (subst (In (fact.Field r.field.name)) (sym (ap field_fact there)) (here [])))
 
   field_nothing : (k : FieldKey) (f : Text × NamedField) → k.class ≡ [] → finds_field (named p) k ≡ Some f → ⊥
   field_nothing k f e h = found_nowhere (named p) k f (ap (class_named (named p)) e ∙ empty_class) h

@@ -2,6 +2,8 @@
 use Rattle.std.proofs.Common.{◌≡◌, ℕ, zero, suc, ◌<◌, true, nat_eq, List, ◌∷◌, ◌++◌, length, Option, Some, None, refl, sym, ap, ◌∙◌, arith}
 use Rattle.std.specs.Prelude.{cond, slice_get, position, option_and_then, flat_map}
 use Rattle.std.specs.Option.{option_map, option_or}
+use Rattle.lemmas.proofs.Lists.{got_short}
+use Rattle.lemmas.proofs.Options.{none_some, some_same}
 use Rattle.program_model.specs.declared.pools.FieldName.{FieldName}
 use Rattle.program_model.specs.declared.pools.MethodName.{MethodName}
 use Rattle.program_model.specs.declared.program.Field.{Field}
@@ -31,9 +33,7 @@ use Rattle.name_bridge.proofs.Tables.{method_is, method_class, method_name, meth
 use Rattle.name_bridge.proofs.Classes.{class_by_number, method_by_number}
 use Rattle.name_bridge.proofs.Defined.{fields_of, field_defined_known}
 use Rattle.removal_law.proofs.Lists.{In, and_left, and_behind}
-use Rattle.removal_law.proofs.Trees.{none_some, some_same}
 use Rattle.reach.specs.Marked.{IsMarked}
-use Rattle.reach_bridge.proofs.Kept.{place_below}
 use Rattle.reach_bridge.proofs.Held.{at_stands}
 use Rattle.reach_bridge.proofs.Based.{S}
 
@@ -43,7 +43,7 @@ chain_head up zero c lt = absurd (omega (arith, lt))
 chain_head up (suc n) c lt = (chain_from up n (up c), refl)
 
 some_classes : (p : Program) (c : ℕ) (k : Class) → slice_get p.classes c ≡ Some k → 0 < length p.classes
-some_classes p c k e = let h = place_below p.classes c k e in omega (arith, h)
+some_classes p c k e = let h = got_short p.classes c k e in omega (arith, h)
 
 -- the names of an entry
 names_are : (n q : ℕ) (e : MethodName) → names_method n q (Some e) ≡ true → (e.name ≡ n) × (e.proto ≡ q)
@@ -94,7 +94,7 @@ module _ (p : Program) (o : Outside) (s : LiveSet) (g : IsMarked p o s) where
         let d = above.defined p e.class c at in
         let names = names_are e.name e.proto w.entry (sym (ap (names_method e.name e.proto) w.is) ∙ t) in
         let class : w.entry.class ≡ e.class = w.owner ∙ ap (λ x. x.name) (some_same k d.class (sym f ∙ d.is)) ∙ d.named in
-        let numbered : m.name ≡ n = method_once p (S p o s g) m.name n (place_below p.methods m.name w.entry w.is) (place_below p.methods n e is)
+        let numbered : m.name ≡ n = method_once p (S p o s g) m.name n (got_short p.methods m.name w.entry w.is) (got_short p.methods n e is)
         (method_is p (S p o s g) m.name w.entry w.is
         ∙ ap (λ z. record { class = type_at p z; name = text_at p w.entry.name; signature = signature_at p w.entry.proto }) class
         ∙ ap (λ z. record { class = type_at p e.class; name = text_at p z; signature = signature_at p w.entry.proto }) names.0
@@ -155,7 +155,7 @@ module _ (p : Program) (o : Outside) (s : LiveSet) (g : IsMarked p o s) where
         let d = above.defined p e.class c at in
         let names = field_names_are e.name e.kind w.entry (sym (ap (names_field e.name e.kind) w.is) ∙ t) in
         let class : w.entry.class ≡ e.class = w.owner ∙ ap (λ x. x.name) (some_same k d.class (sym f ∙ d.is)) ∙ d.named in
-        let numbered : m.name ≡ n = field_once p (S p o s g) m.name n (place_below p.fields m.name w.entry w.is) (place_below p.fields n e is)
+        let numbered : m.name ≡ n = field_once p (S p o s g) m.name n (got_short p.fields m.name w.entry w.is) (got_short p.fields n e is)
         (field_is p (S p o s g) m.name w.entry w.is
         ∙ ap (λ z. record { class = type_at p z; name = text_at p w.entry.name; kind = type_at p w.entry.kind }) class
         ∙ ap (λ z. record { class = type_at p e.class; name = text_at p z; kind = type_at p w.entry.kind }) names.0

@@ -2,6 +2,7 @@
 use Rattle.std.proofs.Common.{◌≡◌, ℕ, ◌<◌, Bool, true, false, [], ◌∷◌, ◌++◌, length, Option, Some, None, refl, sym, ap, ◌∙◌, subst}
 use Rattle.std.specs.Prelude.{◌&&◌, cond, is_some, not, slice_get, position, option_and_then, codes, flat_map}
 use Rattle.std.specs.Option.{option_map}
+use Rattle.lemmas.proofs.Options.{none_some, some_same}
 use Rattle.program_model.specs.declared.pools.MethodName.{MethodName}
 use Rattle.program_model.specs.declared.program.Method.{Method}
 use Rattle.program_model.specs.declared.program.Class.{Class}
@@ -37,7 +38,6 @@ use Rattle.name_bridge.proofs.Started.{initialiser_by_number}
 use Rattle.removal_law.proofs.Lists.{In, here, there, clash}
 use Rattle.removal_law.proofs.Outward.{no_bracket}
 use Rattle.removal_law.proofs.Members.{key_sound}
-use Rattle.removal_law.proofs.Trees.{none_some, some_same}
 use Rattle.removal_bridge.proofs.Formed.{method_of, key_of, entry_below}
 use Rattle.reach_bridge.specs.Names.{family_of}
 use Rattle.reach.specs.Marked.{IsMarked}

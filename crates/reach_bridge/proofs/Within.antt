@@ -1,6 +1,8 @@
 -- The marks' family without the members of classes that the program doesn't define is closed, and leaves the same.
 use Rattle.std.proofs.Common.{◌≡◌, ℕ, zero, suc, ◌⊎◌, inl, inr, Bool, true, false, List, [], ◌∷◌, ◌++◌, length, map, Option, Some, None, refl, sym, ap, ◌∙◌, subst}
 use Rattle.std.specs.Prelude.{◌&&◌, filter, flat_map, is_some}
+use Rattle.lemmas.proofs.Bools.{and_both}
+use Rattle.lemmas.proofs.Options.{none_some, some_same}
 use Rattle.insn_set.specs.declared.ops.InvokeKind.{InvokeKind}
 use Rattle.insn_set.specs.declared.ops.InvokeKind.TheVariants as call
 use Rattle.program_model.specs.declared.program.Program.{Program}
@@ -37,7 +39,7 @@ use Rattle.removal_law.proofs.Declared.{none_there}
 use Rattle.removal_law.proofs.Finds.{filter_same, out_of_flat, first_where, where_key, in_unfiltered, among_in}
 use Rattle.removal_law.proofs.Fields as member
 use Rattle.removal_law.proofs.Virtuals.{candidate, answer}
-use Rattle.removal_law.proofs.Trees.{none_some, some_same, class_name, defined, chain_named}
+use Rattle.removal_law.proofs.Trees.{class_name, defined, chain_named}
 use Rattle.removal_bridge.proofs.Formed.{removed_program, typed_program}
 use Rattle.reach_bridge.specs.Names.{family_of, within}
 use Rattle.reach.specs.Marked.{IsMarked}
@@ -52,10 +54,6 @@ use Rattle.reach_bridge.proofs.Answered.{keeps_virtual, keeps_entered, keeps_cal
 use Rattle.reach_bridge.proofs.Keeping.{class_kept, field_kept, method_kept, constructed_live, keeps_owners}
 use Rattle.reach_bridge.proofs.Making.{keeps_made}
 use Rattle.reach_bridge.proofs.Annotated.{keeps_mentions}
-
-both : (a b : Bool) → a ≡ true → b ≡ true → (a && b) ≡ true
-both true b e f = f
-both false b e f = e
 
 all_above : (p : NamedProgram) → KeepsAbove p everything
 all_above p = record { above = λ t c i l u j d. refl; initialisers = λ t k l e. refl; defaults = λ t c m v i l j e a b. refl }
@@ -175,10 +173,10 @@ module _ (p : Program) (o : Outside) (s : LiveSet) (g : IsMarked p o s) where
   R = regular p o s g
 
   method_in : (k : MethodKey) → F.methods k ≡ true → defines (named p) k.class ≡ true → W.methods k ≡ true
-  method_in k e d = both (F.methods k) (defines (named p) k.class) e d
+  method_in k e d = and_both (F.methods k) (defines (named p) k.class) e d
 
   field_in : (k : FieldKey) → F.fields k ≡ true → defines (named p) k.class ≡ true → W.fields k ≡ true
-  field_in k e d = both (F.fields k) (defines (named p) k.class) e d
+  field_in k e d = and_both (F.fields k) (defines (named p) k.class) e d
 
   method_out : (k : MethodKey) → W.methods k ≡ true → F.methods k ≡ true
   method_out k e = and_left (F.methods k) (defines (named p) k.class) e

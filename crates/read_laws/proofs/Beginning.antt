@@ -1,8 +1,10 @@
--- Fields with their annotations and first values, as they are read.
+-- Fields with their annotations and_both first values, as they are read.
 use Rattle.std.proofs.Common.{◌≡◌, ◌<◌, ℕ, zero, suc, Bool, true, false, cond, not, List, [], ◌∷◌, ◌++◌, map, length, Option, Some, None, Ok, refl, sym, ap, subst, ◌∙◌, arith}
 use Rattle.std.specs.Prelude.{slice_get}
 use Rattle.std.specs.List.{list_all}
 use Rattle.std.proofs.lemmas.Bool.{ltb-true}
+use Rattle.lemmas.proofs.Bools.{and_both, and_parts, not_false}
+use Rattle.lemmas.proofs.Lists.{all_more}
 use Rattle.dex_base.specs.Reading.{raise}
 use Rattle.program_model.specs.MemberRules.{is_static, field_letter, first_value_fits}
 use Rattle.program_model.specs.ValueRules.{marks_fit, names_fit, value_fits, layer_fits}
@@ -26,10 +28,10 @@ use Rattle.dex_read.specs.Tables.{sizes_in}
 use Rattle.dex_read.specs.Word.{number_at}
 use Rattle.dex_read.specs.declared.class_data.Listed.{Listed}
 use Rattle.dex_read.specs.declared.class_data.Members.{Members}
-use Rattle.read_laws.proofs.FieldReading.{FieldsAre, AreListed, own_field, change_keeps, change_all, reads_steps, all_more}
+use Rattle.read_laws.proofs.FieldReading.{FieldsAre, AreListed, own_field, change_keeps, change_all, reads_steps}
 use Rattle.read_laws.proofs.MarkReading.{reads_set, reads_value}
 use Rattle.read_laws.proofs.MemberOrder.{Own, own}
-use Rattle.read_laws.proofs.Readings.{Reads, anything, weaker, done, when, either, next, lifted, both, and}
+use Rattle.read_laws.proofs.Readings.{Reads, anything, weaker, done, when, either, next, lifted}
 
 -- ---- annotations
 
@@ -53,22 +55,18 @@ reads_mark_field bytes p class listed at xs i s h = weaker (mark_field bytes p c
 
 -- ---- first values
 
-twice : (b : Bool) → not b ≡ false → b ≡ true
-twice true h = refl
-twice false h = absurd cc
-
 layer_begins : (inner : EncValue → Bool) (p : Program) (letter : ℕ) (x : EncValue-F EncValue Element Note) → layer_is_of letter x ≡ true → layer_is_zero x ≡ false → names_fit inner p x ≡ true
     → layer_fits p letter x ≡ true
-layer_begins inner p letter (layer.Byte n) h z k = and _ _ h (ap not z)
-layer_begins inner p letter (layer.Short n) h z k = and _ _ h (ap not z)
-layer_begins inner p letter (layer.Char n) h z k = and _ _ h (ap not z)
-layer_begins inner p letter (layer.Int n) h z k = and _ _ h (ap not z)
-layer_begins inner p letter (layer.Long n) h z k = and _ _ h (ap not z)
-layer_begins inner p letter (layer.Float n) h z k = and _ _ h (ap not z)
-layer_begins inner p letter (layer.Double n) h z k = and _ _ h (ap not z)
-layer_begins inner p letter (layer.Bool b) h z k = and _ _ h (twice b z)
-layer_begins inner p letter (layer.Str n) h z k = and _ _ h k
-layer_begins inner p letter (layer.Class n) h z k = and _ _ h k
+layer_begins inner p letter (layer.Byte n) h z k = and_both _ _ h (ap not z)
+layer_begins inner p letter (layer.Short n) h z k = and_both _ _ h (ap not z)
+layer_begins inner p letter (layer.Char n) h z k = and_both _ _ h (ap not z)
+layer_begins inner p letter (layer.Int n) h z k = and_both _ _ h (ap not z)
+layer_begins inner p letter (layer.Long n) h z k = and_both _ _ h (ap not z)
+layer_begins inner p letter (layer.Float n) h z k = and_both _ _ h (ap not z)
+layer_begins inner p letter (layer.Double n) h z k = and_both _ _ h (ap not z)
+layer_begins inner p letter (layer.Bool b) h z k = and_both _ _ h (not_false b z)
+layer_begins inner p letter (layer.Str n) h z k = and_both _ _ h k
+layer_begins inner p letter (layer.Class n) h z k = and_both _ _ h k
 layer_begins inner p letter layer.Null h z k = absurd cc
 layer_begins inner p letter (layer.Field n) h z k = absurd cc
 layer_begins inner p letter (layer.Method n) h z k = absurd cc
@@ -79,7 +77,7 @@ layer_begins inner p letter (layer.Annotation n) h z k = absurd cc
 by_zero : (p : Program) (f : Field) (v : EncValue) (b : Bool) → layer_is_zero (out-EncValue v) ≡ b → is_static f.flags ≡ true → is_of (field_letter p (slice_get p.fields f.name)) v ≡ true
     → value_fits 64 p v ≡ true → first_value_fits p f.flags f.name (cond b None (Some v)) ≡ true
 by_zero p f v true z s h k = refl
-by_zero p f v false z s h k = and _ _ s (layer_begins (value_fits 63 p) p (field_letter p (slice_get p.fields f.name)) (out-EncValue v) h z k)
+by_zero p f v false z s h k = and_both _ _ s (layer_begins (value_fits 63 p) p (field_letter p (slice_get p.fields f.name)) (out-EncValue v) h z k)
 
 pub begins : (p : Program) (f : Field) (v : EncValue) → is_static f.flags ≡ true → is_of (field_letter p (slice_get p.fields f.name)) v ≡ true → value_fits 64 p v ≡ true
     → first_value_fits p f.flags f.name (first_of v) ≡ true
@@ -97,12 +95,12 @@ begin_static : (statics others : List Listed) → list_all (λ e. agree (is_stat
 begin_static [] others h i x lt e = absurd (omega (arith, lt))
 begin_static (s ∷ ss) others h zero x lt e =
     let is : own s ≡ x = ap (λ o. or_else o (own s)) e in
-    subst (λ (y : Own). is_static y.1 ≡ true) is (agreed (is_static s.flags) (both _ _ h).0)
+    subst (λ (y : Own). is_static y.1 ≡ true) is (agreed (is_static s.flags) (and_parts _ _ h).0)
   where
     agreed : (a : Bool) → agree a true ≡ true → a ≡ true
     agreed true h = refl
     agreed false h = absurd cc
-begin_static (s ∷ ss) others h (suc i) x lt e = begin_static ss others (both _ _ h).1 i x (omega (arith, lt)) e
+begin_static (s ∷ ss) others h (suc i) x lt e = begin_static ss others (and_parts _ _ h).1 i x (omega (arith, lt)) e
 
 abbrev own_of : Option Field → Option Own
 own_of None = None
@@ -128,7 +126,7 @@ reads_give : (bytes : List ℕ) (p : Program) (count : ℕ) (xs : List Own) → 
 unfolding give_first whole_value_at
 reads_give bytes p count xs are i s h = weaker (give_first bytes p count i s)
     (next (lifted of_pool (reads_value 64 bytes p s.1)) (λ v _. when _ (done (change_at (with_first v.0) i s.0, v.1))))
-    (λ y q. let t = both _ _ q.2.0 in
+    (λ y q. let t = and_parts _ _ q.2.0 in
     subst (λ (r : State). FieldsAre p xs r.0) (sym q.2.1) (begun_fields p xs count s.0 q.0.0 i are h (ltb-true i count t.0) t.1 q.1))
 
 reads_firsts : (bytes : List ℕ) (p : Program) (at count : ℕ) (xs : List Own) (fields : List Field) (left : ℕ) → BeginStatic count xs → FieldsAre p xs fields
@@ -146,7 +144,7 @@ unfolding begun_at
 reads_begun {class = class} bytes p offset listed fields left a h =
     let xs = map own (listed.statics ++ listed.instances) in
     let are : BeginStatic (length listed.statics) xs = begin_static listed.statics listed.instances
-    (all_more (field_suits p class true []) (λ e. agree (is_static e.flags) true) (λ e t. (both _ _ (both _ _ t).1).0) listed.statics a.statics.suit) in
+    (all_more (field_suits p class true []) (λ e. agree (is_static e.flags) true) (λ e t. (and_parts _ _ (and_parts _ _ t).1).0) listed.statics a.statics.suit) in
     either
     (λ _. weaker (Ok (fields, left)) (done (fields, left)) (λ y e. subst (λ (r : List Field × ℕ). FieldsAre p xs r.0) (sym e) h))
     (λ _. reads_firsts bytes p offset (length listed.statics) xs fields left are h)

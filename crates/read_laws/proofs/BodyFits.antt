@@ -2,6 +2,7 @@
 use Rattle.std.proofs.Common.{◌≡◌, ℕ, ◌<◌, ◌-◌, true, List, length}
 use Rattle.std.specs.Prelude.{◌&&◌, ◌^◌, slice_get, Some, Ok}
 use Rattle.std.specs.List.{list_all, enumerate_from}
+use Rattle.lemmas.proofs.Bools.{and_both}
 use Rattle.insn_set.specs.Spelling.{is_encodable}
 use Rattle.insn_set.specs.declared.form.Insn.{Insn}
 use Rattle.program_model.specs.Neighbours.{neighbours}
@@ -13,7 +14,7 @@ use Rattle.program_model.specs.declared.program.Program.{Program}
 use Rattle.code_read.specs.declared.sizes.Sizes.{Sizes}
 use Rattle.code_read.specs.Sweep.{Places, sweep_of}
 use Rattle.read_laws.specs.Tables.{AreWithin}
-use Rattle.read_laws.proofs.BodyLists.{and_both, each, item_of, all_each}
+use Rattle.read_laws.proofs.BodyLists.{each, item_of, all_each}
 use Rattle.read_laws.proofs.BodyParts.{Parts}
 use Rattle.read_laws.proofs.BodyLaws.{body_ends, body_begins, body_follows, body_targets, body_catches, body_operands, body_regions, body_leaves}
 use Rattle.read_laws.proofs.FieldBounds.{AreUnits}

@@ -2,6 +2,8 @@
 use Rattle.std.proofs.Common.{◌≡◌, ℕ, ◌<◌, ◌≤◌, ◌-◌, arith, true, false, List, [], ◌∷◌, length, refl, sym, subst}
 use Rattle.std.specs.Prelude.{◌&&◌, ◌^◌, slice_get, Option, Some, None, Ok}
 use Rattle.std.specs.List.{list_all, enumerate_from}
+use Rattle.lemmas.proofs.Bools.{clash}
+use Rattle.lemmas.proofs.Lists.{all_more}
 use Rattle.insn_set.specs.declared.form.Insn.{Insn}
 use Rattle.program_model.specs.Neighbours.{neighbours}
 use Rattle.program_model.specs.BodyRules as rule
@@ -15,7 +17,7 @@ use Rattle.code_read.specs.Sweep.{Places, sweep_of}
 use Rattle.program_model.specs.OperandRules.{registers_fit, numbers_fit}
 use Rattle.program_model.specs.declared.program.Program.{Program}
 use Rattle.read_laws.specs.Tables.{AreWithin}
-use Rattle.read_laws.proofs.BodyLists.{clash, all_each, all_items, all_by, item_of}
+use Rattle.read_laws.proofs.BodyLists.{all_each, all_items, item_of}
 use Rattle.read_laws.proofs.BodyParts.{Parts}
 use Rattle.read_laws.proofs.Caught.{all_right}
 use Rattle.read_laws.proofs.Fewer.{few_starts}
@@ -51,7 +53,7 @@ module _ {tries : List ℕ} {sizes : Sizes} {places : Places} {b : Body} (parts 
 
   pub body_operands : (p : Program) → AreWithin p sizes → list_all (λ (insn : Insn). registers_fit insn b.registers && numbers_fit insn p) b.insns ≡ true
   body_operands p is = subst (λ (n : ℕ). list_all (λ (insn : Insn). registers_fit insn n && numbers_fit insn p) b.insns ≡ true) (sym parts.registers)
-      (all_by (operands_inside sizes) (λ (insn : Insn). registers_fit insn sizes.registers && numbers_fit insn p) (operands_fit p sizes is) b.insns (each_inside places sizes b.insns parts.insns))
+      (all_more (operands_inside sizes) (λ (insn : Insn). registers_fit insn sizes.registers && numbers_fit insn p) (operands_fit p sizes is) b.insns (each_inside places sizes b.insns parts.insns))
 
   pub body_regions : (p : Program) → AreWithin p sizes → region.regions_fit p b.insns b.regions ≡ true
   body_regions p is = regions_fit p sizes is b.insns b.regions places.starts

@@ -2,29 +2,10 @@
 use Rattle.std.proofs.Common.{◌≡◌, ℕ, zero, suc, ◌+◌, ◌<◌, length, Bool, true, false, true≢false, List, [], ◌∷◌, refl, sym, ap, subst, ◌∙◌, arith}
 use Rattle.std.specs.Prelude.{◌&&◌, cond, slice_get, Some, None, Result, Ok, Err}
 use Rattle.std.specs.List.{list_all, enumerate_from}
+use Rattle.lemmas.proofs.Bools.{and_both, and_left, and_right}
+use Rattle.lemmas.proofs.Options.{none_some, some_same}
 use Rattle.dex_base.specs.Reading.{◌>>=◌}
 use Rattle.program_model.specs.Neighbours.{neighbours}
-
-pub clash : (b : Bool) {A : Type 0} → b ≡ true → b ≡ false → A
-clash b e f = absurd (true≢false (sym e ∙ f))
-
-pub and_left : (a b : Bool) → (a && b) ≡ true → a ≡ true
-and_left true b e = refl
-and_left false b e = e
-
-pub and_right : (a b : Bool) → (a && b) ≡ true → b ≡ true
-and_right true b e = e
-and_right false b e = clash false e refl
-
-pub and_both : (a b : Bool) → a ≡ true → b ≡ true → (a && b) ≡ true
-and_both true b e f = f
-and_both false b e f = e
-
-pub some_same : {A : Type 0} (x y : A) → Some x ≡ Some y → x ≡ y
-some_same {A} x y e = ap (λ o. elim o as (λ o. A) [ Some z ↦ z | None ↦ x ]) e
-
-pub none_some : {A B : Type 0} (y : A) → None ≡ Some y → B
-none_some y e = absurd (true≢false (ap (λ o. elim o as (λ o. Bool) [ Some z ↦ false | None ↦ true ]) e))
 
 pub none_there : {A : Type 0} (xs : List A) (k : ℕ) → k < length xs → None ≡ slice_get xs k → ⊥
 none_there [] k lt e = omega (arith, lt)
@@ -130,6 +111,3 @@ pairs_of f (x ∷ []) h = refl
 pairs_of f (x ∷ (y ∷ ys)) h = and_both (f (x, y)) (list_all f (neighbours (y ∷ ys))) (h zero x y refl refl) (pairs_of f (y ∷ ys) (λ k a b d e. h (suc k) a b d e))
 
 -- a test that follows from another, of each item
-pub all_by : {A : Type 0} (f g : A → Bool) → ((x : A) → f x ≡ true → g x ≡ true) → (xs : List A) → list_all f xs ≡ true → list_all g xs ≡ true
-all_by f g step [] e = refl
-all_by f g step (x ∷ xs) e = and_both (g x) (list_all g xs) (step x (and_left (f x) (list_all f xs) e)) (all_by f g step xs (and_right (f x) (list_all f xs) e))

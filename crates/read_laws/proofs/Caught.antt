@@ -13,10 +13,12 @@ use Rattle.code_read.specs.Regions as read
 use Rattle.code_read.specs.declared.fault.CodeFault.{CodeFault}
 use Rattle.code_read.specs.declared.fault.CodeFault.TheVariants as fault
 use Rattle.std.specs.Result.{result_ok}
+use Rattle.lemmas.proofs.Bools.{and_both, and_right, or_true}
+use Rattle.lemmas.proofs.Options.{none_some, some_same}
 use Rattle.dex_base.specs.Word.{u16_at, u32_at}
 use Rattle.code_read.specs.declared.sizes.Sizes.{Sizes}
 use Rattle.code_read.specs.Sweep.{Places}
-use Rattle.read_laws.proofs.BodyLists.{and_right, and_both, some_same, none_some, Found, weaker, done, failed, when, either, next}
+use Rattle.read_laws.proofs.BodyLists.{Found, weaker, done, failed, when, either, next}
 
 -- ---- look-ups that find something
 
@@ -78,10 +80,6 @@ sees_rest : (bytes starts : List ℕ) (has : Bool) (at : ℕ) → Sees (IsRest s
 sees_rest bytes starts true at = seeing (rest_at bytes starts true at) (seen_then (sees_address bytes starts at) (λ address _. here (Some address.0)))
     (λ y p. subst (IsRest starts true) p.2 (lt-ltb p.0.0 (length starts) p.1, refl))
 sees_rest bytes starts false at = seeing (rest_at bytes starts false at) (here None) (λ y p. subst (IsRest starts false) p (refl, refl))
-
-or_true : (b : Bool) → (b || true) ≡ true
-or_true true = refl
-or_true false = refl
 
 -- a list without a catch-all has a size that is positive
 sized : (z : ℤ) (n : ℕ) (has : Bool) → n ≡ unsigned_abs z → has ≡ has_rest z → (not (nat_eq n 0) || has) ≡ true

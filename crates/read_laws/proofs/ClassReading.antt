@@ -1,9 +1,10 @@
--- A class that is read: its parts, and its types and its source.
+-- A class that is read: its parts, and_both its types and_both its source.
 use Rattle.std.proofs.Common.{◌≡◌, ℕ, suc, ◌+◌, ◌*◌, Bool, true, false, cond, not, ltb, eqb, List, [], ◌∷◌, ◌++◌, map, length, min, Some, None, Ok, refl, sym, ap, subst, arith}
 use Rattle.std.specs.Prelude.{◌&&◌, ◌||◌}
 use Rattle.std.specs.List.{list_all}
 use Rattle.std.proofs.Math.Nat.{min-le_left}
 use Rattle.std.proofs.lemmas.Bool.{ltb-true, lt-ltb}
+use Rattle.lemmas.proofs.Bools.{and_both, and_parts}
 use Rattle.program_model.specs.Texts.{letter_of, type_text, is_class}
 use Rattle.program_model.specs.MemberRules.{is_class_type, is_object, types_of_class_fit, source_fits}
 use Rattle.program_model.specs.declared.program.Class.{Class}
@@ -23,7 +24,7 @@ use Rattle.dex_read.specs.Faults.{of_pool}
 use Rattle.dex_read.specs.Tables.{sizes_in}
 use Rattle.dex_pools.specs.Word.{half_at, half_index_at}
 use Rattle.dex_read.specs.Word.{word_at}
-use Rattle.read_laws.proofs.Readings.{Reads, anything, itself, weaker, done, when, either, next, lifted, reads_run, both, and}
+use Rattle.read_laws.proofs.Readings.{Reads, anything, itself, weaker, done, when, either, next, lifted, reads_run}
 
 -- ---- the parts of a class that is read
 
@@ -119,7 +120,7 @@ reads_listed bytes at size i left = weaker (listed_at bytes at size i left)
 pub all_of : {X S : Type 0} (test : X → Bool) (Is : ℕ → S → X × S → Type 0) → ((i : ℕ) (s : S) (r : X × S) → Is i s r → test r.0 ≡ true) → (from : ℕ) (s : S) (xs : List X) (stop : S)
     → RunOf Is from s xs stop → list_all test xs ≡ true
 all_of test Is to from s [] stop h = refl
-all_of test Is to from s (x ∷ xs) stop h = and (test x) (list_all test xs) (to from s (x, h.0) h.1) (all_of test Is to (suc from) h.0 xs stop h.2)
+all_of test Is to from s (x ∷ xs) stop h = and_both (test x) (list_all test xs) (to from s (x, h.0) h.1) (all_of test Is to (suc from) h.0 xs stop h.2)
 
 reads_types : (bytes : List ℕ) (at size left : ℕ) → Reads (λ r. list_all (λ n. ltb n size) r.0 ≡ true) (type_list_at bytes at size left)
 unfolding type_list_at
@@ -133,7 +134,7 @@ reads_interfaces bytes p offset left = either
     (λ e. weaker (Ok ([], left)) (done ([], left)) (λ y h. subst (λ (r : List ℕ × ℕ). list_all (λ n. ltb n (sizes_in p).types) r.0 ≡ true) (sym h) refl))
     (λ e. lifted of_pool (reads_types bytes offset (sizes_in p).types left))
 
--- ---- types and source
+-- ---- types and_both source
 
 record IsRooted (p : Program) (d : ClassDef) (interfaces : List ℕ) : Type 0 where
   has_superclass : not (eqb d.superclass none) ≡ true
@@ -145,13 +146,13 @@ record IsRooted (p : Program) (d : ClassDef) (interfaces : List ℕ) : Type 0 wh
 reads_root : (p : Program) (d : ClassDef) (interfaces : List ℕ) (place : ℕ) → Reads (λ u. IsRooted p d interfaces) (root_at p d interfaces place)
 unfolding root_at
 reads_root p d interfaces place = weaker (root_at p d interfaces place) (when _ (done tt))
-    (λ y q. let a = both _ _ q.0 in let b = both _ _ a.1 in let c = both _ _ b.1 in let e = both _ _ c.1 in
+    (λ y q. let a = and_parts _ _ q.0 in let b = and_parts _ _ a.1 in let c = and_parts _ _ b.1 in let e = and_parts _ _ c.1 in
     record { has_superclass = a.0; no_object = b.0; class = c.0; superclass = e.0; interfaces_are = e.1 })
 
 class_types : (p : Program) (types : List ℕ) → list_all (λ n. ltb n (sizes_in p).types) types ≡ true → list_all (classes.is_class_type p) types ≡ true → list_all (is_class_type p) types ≡ true
 class_types p [] h g = refl
-class_types p (n ∷ ns) h g = let a = both _ _ h in let b = both _ _ g in
-    and _ _ (and _ _ (in_table n (length p.types) a.0) b.0) (class_types p ns a.1 b.1)
+class_types p (n ∷ ns) h g = let a = and_parts _ _ h in let b = and_parts _ _ g in
+    and_both _ _ (and_both _ _ (in_table n (length p.types) a.0) b.0) (class_types p ns a.1 b.1)
 
 must : (n size : ℕ) → (ltb n size || (false && eqb n none)) ≡ true → ltb n size ≡ true
 must n size h = must_be (ltb n size) h
@@ -175,8 +176,8 @@ types_fit bytes p at place left r q =
     let i = (reads_interfaces bytes p q.def.interfaces left.items).found q.interfaces q.interfaces_are in
     let o = (reads_root p q.def q.interfaces.0 place).found tt q.root_is in
     subst (λ (c : Class). types_of_class_fit p c ≡ true) (sym q.is)
-    (and _ _ (and _ _ (and _ _ (in_table q.def.class (length p.types) (must q.def.class (sizes_in p).types n.class)) o.class) o.no_object)
-    (and _ _ (and _ _ (in_table q.def.superclass (length p.types) (may q.def.superclass (sizes_in p).types n.superclass o.has_superclass)) o.superclass)
+    (and_both _ _ (and_both _ _ (and_both _ _ (in_table q.def.class (length p.types) (must q.def.class (sizes_in p).types n.class)) o.class) o.no_object)
+    (and_both _ _ (and_both _ _ (in_table q.def.superclass (length p.types) (may q.def.superclass (sizes_in p).types n.superclass o.has_superclass)) o.superclass)
     (class_types p q.interfaces.0 i o.interfaces_are)))
 
 by_source : (p : Program) (n : ℕ) (b : Bool) → (ltb n (sizes_in p).strings || b) ≡ true → source_fits p (cond b None (Some n)) ≡ true

@@ -3,6 +3,10 @@ use Rattle.std.proofs.Common.{◌≡◌, ℕ, zero, suc, ◌≤◌, ◌<◌, Boo
 use Rattle.std.specs.Prelude.{◌&&◌, ◌||◌, nat_eq, nat_lt, nat_le, Option, Some, None, slice_get}
 use Rattle.std.specs.List.{list_all, list_any}
 use Rattle.std.proofs.lemmas.Bool.{ltb-true, lt-ltb, le-leb}
+use Rattle.lemmas.proofs.Bools.{and_both, and_left, and_right, or_left, or_right}
+use Rattle.lemmas.proofs.Lists.{any_at}
+use Rattle.lemmas.proofs.Numbers.{same_number}
+use Rattle.lemmas.proofs.Options.{none_some, some_same}
 use Rattle.insn_set.specs.declared.form.Insn.{Insn}
 use Rattle.program_model.specs.Neighbours.{neighbours}
 use Rattle.program_model.specs.RegionRules as rule
@@ -14,18 +18,10 @@ use Rattle.code_read.specs.Order.{all_placed}
 use Rattle.code_read.specs.Regions as read
 use Rattle.code_read.specs.declared.sizes.Sizes.{Sizes}
 use Rattle.read_laws.specs.Tables.{AreWithin}
-use Rattle.read_laws.proofs.BodyLists.{and_left, and_right, and_both, some_same, none_some, item_of, all_items}
+use Rattle.read_laws.proofs.BodyLists.{item_of, all_items}
 use Rattle.read_laws.proofs.Operands.{below_more}
-use Rattle.read_laws.proofs.Standing.{any_of, same_number, handler_begins}
+use Rattle.read_laws.proofs.Standing.{handler_begins}
 use Rattle.read_laws.proofs.Caught.{Right, AllRight}
-
-or_left : (a b : Bool) → a ≡ true → (a || b) ≡ true
-or_left true b h = refl
-or_left false b h = absurd (let bad : false ≡ true = h in cc)
-
-or_right : (a b : Bool) → b ≡ true → (a || b) ≡ true
-or_right true b h = refl
-or_right false b h = h
 
 -- ---- each ends before the one behind it begins
 
@@ -47,11 +43,11 @@ module _ (p : Program) (sizes : Sizes) (is : AreWithin p sizes) (insns : List In
   begins k lt h = handler_begins insns regions placed k (subst (λ (n : ℕ). k < n) as_many (ltb-true k (length starts) lt)) h
 
   has_handler : (j : ℕ) (r : Region) → slice_get regions j ≡ Some r → (m : ℕ) (h : Handler) → slice_get r.handlers m ≡ Some h → is_handler regions h.position ≡ true
-  has_handler j r e m h d = any_of (catches_at h.position) regions j r e (or_left (list_any (λ (g : Handler). nat_eq g.position h.position) r.handlers) (is_rest r.rest h.position)
-      (any_of (λ (g : Handler). nat_eq g.position h.position) r.handlers m h d (same_number h.position)))
+  has_handler j r e m h d = any_at (catches_at h.position) regions j r e (or_left (list_any (λ (g : Handler). nat_eq g.position h.position) r.handlers) (is_rest r.rest h.position)
+      (any_at (λ (g : Handler). nat_eq g.position h.position) r.handlers m h d (same_number h.position)))
 
   has_rest : (j : ℕ) (r : Region) → slice_get regions j ≡ Some r → (k : ℕ) → r.rest ≡ Some k → is_handler regions k ≡ true
-  has_rest j r e k d = any_of (catches_at k) regions j r e (or_right (list_any (λ (g : Handler). nat_eq g.position k) r.handlers) (is_rest r.rest k)
+  has_rest j r e k d = any_at (catches_at k) regions j r e (or_right (list_any (λ (g : Handler). nat_eq g.position k) r.handlers) (is_rest r.rest k)
       (ap (λ (o : Option ℕ). is_rest o k) d ∙ same_number k))
 
   handlers_fit : (j : ℕ) (r : Region) → slice_get regions j ≡ Some r → list_all (read.handler_inside sizes.types (length starts)) r.handlers ≡ true → list_all (rule.handler_fits p insns) r.handlers ≡ true

@@ -8,6 +8,7 @@ use Rattle.std.specs.declared.cmp.Ordering.TheVariants.{Less, Equal, Greater}
 use Rattle.std.specs.Cmp.Lexicographic.{pointwise, slice_cmp, nat_list_cmp_total}
 use Rattle.std.proofs.lemmas.Bool.{eqb-true, eq-eqb, le-ltb}
 use Rattle.std.proofs.lemmas.List.Folds.{list_all-append}
+use Rattle.lemmas.proofs.Bools.{and_both, and_parts, or_cases}
 use Rattle.program_model.specs.Distinct.{same_entry, differ_from, all_differ, text_key, type_key, proto_key, field_key, method_key}
 use Rattle.program_model.specs.declared.pools.Proto.{Proto}
 use Rattle.program_model.specs.declared.pools.FieldName.{FieldName}
@@ -15,7 +16,6 @@ use Rattle.program_model.specs.declared.pools.MethodName.{MethodName}
 use Rattle.program_model.proofs.Apart.{tied_is_same}
 use Rattle.dex_pools.specs.Finds.{Ascends}
 use Rattle.dex_pools.specs.Order.{is_less, list_below, three_below, proto_below, field_below, method_below}
-use Rattle.read_laws.proofs.Booleans.{parts, both}
 
 -- ---- keys in their order
 
@@ -43,21 +43,21 @@ below_differs a b h = sym (tied_is_same a b) ∙ ap is_eq (less (slice_cmp nat_c
 none_same : {X : Type 0} (key : X → List ℕ) (x : X) (ys : List X) → list_all (λ y. stands_below (key y) (key x)) ys ≡ true → list_any (λ y. same_entry key y x) ys ≡ false
 none_same key x [] h = refl
 none_same key x (y ∷ ys) h =
-    let p = parts (stands_below (key y) (key x)) (list_all (λ z. stands_below (key z) (key x)) ys) h in
+    let p = and_parts (stands_below (key y) (key x)) (list_all (λ z. stands_below (key z) (key x)) ys) h in
     ap (λ b. b || list_any (λ z. same_entry key z x) ys) (below_differs (key y) (key x) p.0) ∙ none_same key x ys p.1
 
 further : {X : Type 0} (key : X → List ℕ) (x y : X) (before : List X) → stands_below (key x) (key y) ≡ true → list_all (λ z. stands_below (key z) (key x)) before ≡ true
     → list_all (λ z. stands_below (key z) (key y)) before ≡ true
 further key x y [] lt h = refl
 further key x y (z ∷ before) lt h =
-    let p = parts (stands_below (key z) (key x)) (list_all (λ w. stands_below (key w) (key x)) before) h in
-    both (stands_below (key z) (key y)) (list_all (λ w. stands_below (key w) (key y)) before) (below_both (key z) (key x) (key y) p.0 lt) (further key x y before lt p.1)
+    let p = and_parts (stands_below (key z) (key x)) (list_all (λ w. stands_below (key w) (key x)) before) h in
+    and_both (stands_below (key z) (key y)) (list_all (λ w. stands_below (key w) (key y)) before) (below_both (key z) (key x) (key y) p.0 lt) (further key x y before lt p.1)
 
 one_more : {X : Type 0} (key : X → List ℕ) (x y : X) (before : List X) → stands_below (key x) (key y) ≡ true → list_all (λ z. stands_below (key z) (key x)) before ≡ true
     → list_all (λ z. stands_below (key z) (key y)) (before ++ x ∷ []) ≡ true
 one_more key x y before lt h =
     list_all-append (λ z. stands_below (key z) (key y)) before (x ∷ [])
-    ∙ both (list_all (λ z. stands_below (key z) (key y)) before) (stands_below (key x) (key y) && true) (further key x y before lt h) (both (stands_below (key x) (key y)) true lt refl)
+    ∙ and_both (list_all (λ z. stands_below (key z) (key y)) before) (stands_below (key x) (key y) && true) (further key x y before lt h) (and_both (stands_below (key x) (key y)) true lt refl)
 
 -- all of these stand below the first of those
 abbrev BelowFirst : {X : Type 0} → (X → List ℕ) → List X → List X → Type 0
@@ -90,14 +90,10 @@ rest_below a b us vs e h = subst (λ n. stands_below (a ∷ us) (n ∷ vs) ≡ t
     (ap (λ (t : Bool). is_lt (ordering_then (cond t Less (cond (eqb a a) Equal Greater)) (slice_cmp nat_cmp us vs))) (le-ltb a a (omega arith))
     ∙ ap (λ (t : Bool). is_lt (ordering_then (cond t Equal Greater) (slice_cmp nat_cmp us vs))) (eq-eqb a a refl) ∙ h)
 
-either : (a b : Bool) → (a || b) ≡ true → (a ≡ true) ⊎ (b ≡ true)
-either true b h = inl refl
-either false b h = inr h
-
 by_first : (a b : ℕ) (us vs : List ℕ) (rest : Bool) → (rest ≡ true → stands_below us vs ≡ true) → (nat_lt a b || (nat_eq a b && rest)) ≡ true → stands_below (a ∷ us) (b ∷ vs) ≡ true
-by_first a b us vs rest to h = elim (either (nat_lt a b) (nat_eq a b && rest) h) [
+by_first a b us vs rest to h = elim (or_cases (nat_lt a b) (nat_eq a b && rest) h) [
   | inl lt ↦ first_below a b us vs lt
-  | inr e ↦ rest_below a b us vs (parts (nat_eq a b) rest e).0 (to (parts (nat_eq a b) rest e).1)
+  | inr e ↦ rest_below a b us vs (and_parts (nat_eq a b) rest e).0 (to (and_parts (nat_eq a b) rest e).1)
 ]
 
 list_stands : (a b : List ℕ) → list_below a b ≡ true → stands_below a b ≡ true

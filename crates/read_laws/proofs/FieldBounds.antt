@@ -4,6 +4,7 @@ use Rattle.std.specs.Prelude.{◌==◌, nat_le, slice_index, unwrap_or, Option, 
 use Rattle.std.specs.List.{list_all}
 use Rattle.std.specs.Option.{option_and_then}
 use Rattle.std.proofs.lemmas.Bool.{eqb-true, eqb-false, leb-true}
+use Rattle.lemmas.proofs.Bools.{and_left, and_right, clash}
 use Rattle.insn_set.specs.declared.format.Format.{Format}
 use Rattle.insn_set.specs.declared.format.Format.TheVariants.{F12x, F11n, F20t, F23x, F22b, F22t, F22s, F22c, F32x}
 use Rattle.insn_set.specs.Formats.{format_units}
@@ -11,7 +12,6 @@ use Rattle.code_read.specs.declared.fields.Fields.{Fields}
 use Rattle.code_read.specs.Decoded.{opcode_at, fields_at}
 use Rattle.code_read.specs.Fields.{fields, in_one, in_two, in_three, in_five, of_units, fields_in}
 use Rattle.code_read.specs.Opcodes.{from_to, format_at}
-use Rattle.read_laws.proofs.BodyLists.{clash, and_left, and_right}
 
 -- each of these is a unit
 abbrev pub AreUnits : List ℕ → Type 0

@@ -1,8 +1,10 @@
--- The members of class data as they are read, and fields with their annotations and first values.
+-- The members of class data as they are read, and_both fields with their annotations and_both first values.
 use Rattle.std.proofs.Common.{◌≡◌, ℕ, zero, suc, Bool, true, false, List, [], ◌∷◌, ◌++◌, map, Some, is_none, Result, Ok, refl, sym, ap, subst, ◌∙◌}
 use Rattle.std.specs.Prelude.{slice_get}
 use Rattle.std.specs.List.{list_all}
 use Rattle.std.proofs.lemmas.List.Folds.{list_all-map, list_all-append}
+use Rattle.lemmas.proofs.Bools.{and_both, and_parts}
+use Rattle.lemmas.proofs.Lists.{all_more}
 use Rattle.program_model.specs.Neighbours.{neighbours}
 use Rattle.program_model.specs.Distinct.{own_field_key, all_differ, differ_from}
 use Rattle.program_model.specs.MemberRules.{is_static, class_of_field, is_class_number, first_value_fits, field_fits, fields_in_order, fields_fit}
@@ -22,7 +24,7 @@ use Rattle.dex_read.specs.declared.class_data.Members.{Members}
 use Rattle.dex_read.specs.declared.members.Owner.{Owner}
 use Rattle.read_laws.proofs.ClassReading.{all_of}
 use Rattle.read_laws.proofs.MemberOrder.{Own, own, key, grouped, Group, Apart, two_groups, lists_differ, map_neighbours, map_differ}
-use Rattle.read_laws.proofs.Readings.{Reads, anything, weaker, done, when, either, next, reads_run, both, and}
+use Rattle.read_laws.proofs.Readings.{Reads, anything, weaker, done, when, either, next, reads_run}
 
 -- ---- entries
 
@@ -99,10 +101,6 @@ reads_listed bytes p owner offset = either
 
 -- ---- what the lists of fields are
 
-pub all_more : {X : Type 0} (t u : X → Bool) → ((x : X) → t x ≡ true → u x ≡ true) → (xs : List X) → list_all t xs ≡ true → list_all u xs ≡ true
-all_more t u to [] h = refl
-all_more t u to (x ∷ xs) h = let a = both _ _ h in and _ _ (to x a.0) (all_more t u to xs a.1)
-
 abbrev pub of_class : Program → ℕ → Own → Bool
 of_class p class x = is_class_number (class_of_field (slice_get p.fields x.0)) class
 
@@ -112,7 +110,7 @@ static_own x = is_static x.1
 abbrev pub own_field : Field → Own
 own_field f = (f.name, f.flags)
 
--- what is known of the fields of a class by their numbers and flags
+-- what is known of the fields of a class by their numbers and_both flags
 pub record OwnFields (p : Program) (class : ℕ) (xs : List Own) : Type 0 where
   pub of_the_class : list_all (of_class p class) xs ≡ true
   pub order : list_all (grouped static_own) (neighbours xs) ≡ true
@@ -121,19 +119,19 @@ pub record OwnFields (p : Program) (class : ℕ) (xs : List Own) : Type 0 where
 pub own_fields : (p : Program) (class : ℕ) (m : Members) → AreListed p class m → OwnFields p class (map own (m.statics ++ m.instances))
 own_fields p class m a =
     let mine : (static : Bool) (earlier es : List Listed) → list_all (field_suits p class static earlier) es ≡ true → list_all (λ e. of_class p class (own e)) es ≡ true
-    = λ static earlier es h. all_more (field_suits p class static earlier) (λ e. of_class p class (own e)) (λ e t. (both _ _ t).0) es h in
+    = λ static earlier es h. all_more (field_suits p class static earlier) (λ e. of_class p class (own e)) (λ e t. (and_parts _ _ t).0) es h in
     let grouping : (static : Bool) (earlier es : List Listed) → list_all (field_suits p class static earlier) es ≡ true → Group static_own static es
-    = λ static earlier es h. all_more (field_suits p class static earlier) (λ e. agree (static_own (own e)) static) (λ e t. (both _ _ (both _ _ t).1).0) es h in
+    = λ static earlier es h. all_more (field_suits p class static earlier) (λ e. agree (static_own (own e)) static) (λ e t. (and_parts _ _ (and_parts _ _ t).1).0) es h in
     let apart : Apart m.statics m.instances
-    = all_more (field_suits p class false m.statics) (λ e. is_none (place_in e.number m.statics)) (λ e t. (both _ _ (both _ _ t).1).1) m.instances a.instances.suit in
+    = all_more (field_suits p class false m.statics) (λ e. is_none (place_in e.number m.statics)) (λ e t. (and_parts _ _ (and_parts _ _ t).1).1) m.instances a.instances.suit in
     record {
       of_the_class = list_all-map (of_class p class) own (m.statics ++ m.instances) ∙ list_all-append (λ e. of_class p class (own e)) m.statics m.instances
-          ∙ and _ _ (mine true [] m.statics a.statics.suit) (mine false m.statics m.instances a.instances.suit);
+          ∙ and_both _ _ (mine true [] m.statics a.statics.suit) (mine false m.statics m.instances a.instances.suit);
       order = two_groups static_own 0 0 m.statics m.instances (grouping true [] m.statics a.statics.suit) (grouping false m.statics m.instances a.instances.suit) a.statics.ascend.rises a.instances.ascend;
       differ = lists_differ m.statics m.instances a.statics.ascend a.instances.ascend apart;
     }
 
--- fields that have these numbers and flags, and whose annotations and first values fit
+-- fields that have these numbers and_both flags, and_both whose annotations and_both first values fit
 pub record FieldsAre (p : Program) (xs : List Own) (fields : List Field) : Type 0 where
   pub own : map own_field fields ≡ xs
   pub marks : list_all (λ f. marks_fit p f.marks) fields ≡ true
@@ -143,8 +141,8 @@ each_fits : (p : Program) (class : ℕ) (fields : List Field) → list_all (λ f
     → list_all (λ f. marks_fit p f.marks) fields ≡ true → list_all (field_fits p class) fields ≡ true
 unfolding field_fits
 each_fits p class [] h g k = refl
-each_fits p class (f ∷ fs) h g k = let a = both _ _ h in let b = both _ _ g in let c = both _ _ k in
-    and _ _ (and _ _ a.0 (and _ _ b.0 c.0)) (each_fits p class fs a.1 b.1 c.1)
+each_fits p class (f ∷ fs) h g k = let a = and_parts _ _ h in let b = and_parts _ _ g in let c = and_parts _ _ k in
+    and_both _ _ (and_both _ _ a.0 (and_both _ _ b.0 c.0)) (each_fits p class fs a.1 b.1 c.1)
 
 pub fields_that_are : (p : Program) (class : ℕ) (xs : List Own) (fields : List Field) → OwnFields p class xs → FieldsAre p xs fields → fields_fit p class fields ≡ true
 unfolding fields_fit
@@ -155,7 +153,7 @@ fields_that_are p class xs fields o f =
     = map_neighbours own_field (grouped static_own) fields ∙ ap (λ ys. list_all (grouped static_own) (neighbours ys)) f.own ∙ o.order in
     let differ : all_differ own_field_key fields ≡ true
     = map_differ own_field key [] fields ∙ ap (λ ys. differ_from key [] ys) f.own ∙ o.differ in
-    and _ _ (each_fits p class fields mine f.firsts f.marks) (and _ _ order differ)
+    and_both _ _ (each_fits p class fields mine f.firsts f.marks) (and_both _ _ order differ)
 
 -- fields as they are listed
 pub no_marks : (p : Program) → marks_fit p [] ≡ true
@@ -165,7 +163,7 @@ no_marks p = refl
 pub plain_fields : (p : Program) (es : List Listed) → FieldsAre p (map own es) (map field_with es)
 plain_fields p [] = record { own = refl; marks = refl; firsts = refl }
 plain_fields p (e ∷ es) = let rest = plain_fields p es in
-    record { own = ap (λ ys. own e ∷ ys) rest.own; marks = and _ _ (no_marks p) rest.marks; firsts = rest.firsts }
+    record { own = ap (λ ys. own e ∷ ys) rest.own; marks = and_both _ _ (no_marks p) rest.marks; firsts = rest.firsts }
 
 -- ---- one entry changed
 
@@ -177,8 +175,8 @@ change_keeps g change same (suc place) (x ∷ xs) = ap (λ ys. g x ∷ ys) (chan
 pub change_all : {X : Type 0} (t : X → Bool) (change : X → X) (place : ℕ) (xs : List X) → ((x : X) → slice_get xs place ≡ Some x → t x ≡ true → t (change x) ≡ true)
     → list_all t xs ≡ true → list_all t (change_at change place xs) ≡ true
 change_all t change place [] to h = refl
-change_all t change zero (x ∷ xs) to h = let a = both _ _ h in and _ _ (to x refl a.0) a.1
-change_all t change (suc place) (x ∷ xs) to h = let a = both _ _ h in and _ _ a.0 (change_all t change place xs (λ y e. to y e) a.1)
+change_all t change zero (x ∷ xs) to h = let a = and_parts _ _ h in and_both _ _ (to x refl a.0) a.1
+change_all t change (suc place) (x ∷ xs) to h = let a = and_parts _ _ h in and_both _ _ a.0 (change_all t change place xs (λ y e. to y e) a.1)
 
 -- steps that keep something of a state
 pub reads_steps : {S F : Type 0} (Is : S → Type 0) (f : ℕ → S → Result S F) → ((i : ℕ) (s : S) → Is s → Reads Is (f i s)) → (from n : ℕ) (s : S) → Is s → Reads Is (steps f from n s)

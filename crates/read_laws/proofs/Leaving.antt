@@ -8,6 +8,8 @@ use Rattle.std.proofs.Math.IntN.{+ℤ-neg_ℤ_cancel, +ℤ_comm, +ℤ_invr}
 use Rattle.std.proofs.lemmas.Bool.{ltb-true, eqb-true, ne_eqb}
 use Rattle.std.proofs.lemmas.List.Quantifiers.{position-Some}
 use Rattle.std.proofs.lemmas.Option.{slice_get-get_or}
+use Rattle.lemmas.proofs.Bools.{and_left, clash}
+use Rattle.lemmas.proofs.Options.{some_same}
 use Rattle.insn_set.specs.Flow.{targets_of}
 use Rattle.insn_set.specs.declared.form.Insn.{Insn}
 use Rattle.insn_set.specs.declared.form.Insn.TheVariants.{Goto, If, IfZero}
@@ -22,7 +24,7 @@ use Rattle.code_read.specs.Opcodes.{from_to, test_at}
 use Rattle.code_read.specs.Payloads.{has_payload, table_form}
 use Rattle.code_read.specs.Positions.{no_less, position_of, position_at, target_from, nowhere}
 use Rattle.code_read.specs.Sweep.{Places}
-use Rattle.read_laws.proofs.BodyLists.{clash, and_left, some_same, Found, weaker, done, when, either}
+use Rattle.read_laws.proofs.BodyLists.{Found, weaker, done, when, either}
 
 -- ---- where an offset leads
 

@@ -6,6 +6,8 @@ use Rattle.std.specs.Option.{option_map}
 use Rattle.std.proofs.lemmas.Bool.{leb-true, le-leb, eqb-true, eqb-false, eq-eqb}
 use Rattle.std.proofs.lemmas.List.{length-append, length-replicate, length-drop}
 use Rattle.std.proofs.lemmas.List.Folds.{list_all-append}
+use Rattle.lemmas.proofs.Bools.{and_both, or_right}
+use Rattle.lemmas.proofs.Options.{none_some, some_same}
 use Rattle.dex_base.specs.declared.fault.BaseFault.{BaseFault}
 use Rattle.line_tables.specs.declared.opcode.Effect.{Effect}
 use Rattle.line_tables.specs.declared.opcode.Kind.{Kind}
@@ -18,8 +20,7 @@ use Rattle.line_tables.specs.Text.{Lined}
 use Rattle.program_model.specs.LineRules.{goes_on_with_lines, lines_fit}
 use Rattle.program_model.specs.Neighbours.{neighbours}
 use Rattle.dex_read.specs.Code.{kept_lines, counted_lines, lined_at}
-use Rattle.read_laws.proofs.BodyLists.{none_some, some_same}
-use Rattle.read_laws.proofs.Readings.{Reads, weaker, done, when, either, and}
+use Rattle.read_laws.proofs.Readings.{Reads, weaker, done, when, either}
 
 abbrev most : ℕ
 most = 2147483647
@@ -42,7 +43,7 @@ mapped f (Some x) y e = (x, refl, some_same (f x) y e)
 
 all_low : (n line : ℕ) → line ≤ most → list_all (λ l. nat_le l most) (replicate n line) ≡ true
 all_low zero line le = refl
-all_low (suc n) line le = and (nat_le line most) (list_all (λ l. nat_le l most) (replicate n line)) (le-leb line most le) (all_low n line le)
+all_low (suc n) line le = and_both (nat_le line most) (list_all (λ l. nat_le l most) (replicate n line)) (le-leb line most le) (all_low n line le)
 
 same_line : (n line : ℕ) → Lined line (replicate n line)
 same_line zero line = tt
@@ -64,7 +65,7 @@ pair_goes_on x y h = by (nat_eq x 0) (nat_eq y 0) refl refl
 go_on : (shown : ℕ) (lines : List ℕ) → Lined shown lines → list_all goes_on_with_lines (neighbours lines) ≡ true
 go_on shown [] h = refl
 go_on shown (x ∷ []) h = refl
-go_on shown (x ∷ (y ∷ ys)) h = and (goes_on_with_lines (x, y)) (list_all goes_on_with_lines (neighbours (y ∷ ys))) (pair_goes_on x y h.1.0) (go_on x (y ∷ ys) h.1)
+go_on shown (x ∷ (y ∷ ys)) h = and_both (goes_on_with_lines (x, y)) (list_all goes_on_with_lines (neighbours (y ∷ ys))) (pair_goes_on x y h.1.0) (go_on x (y ∷ ys) h.1)
 
 -- ---- where an opcode leads
 
@@ -129,7 +130,7 @@ behind_entry n line starts next read few low some rest = record {
       let r = rest.found m.0 m.1 in
       subst (Given starts line) m.2 (record {
         long = omega (arith, length-append (replicate n line) m.0, length-replicate n line, r.long, length-drop n starts, few);
-        low = list_all-append (λ l. nat_le l most) (replicate n line) m.0 ∙ and _ _ (all_low n line low) r.low;
+        low = list_all-append (λ l. nat_le l most) (replicate n line) m.0 ∙ and_both _ _ (all_low n line low) r.low;
         lined = lined_behind n line next.line m.0 some r.lined;
       });
 }
@@ -179,15 +180,11 @@ no_lines : (n : ℕ) → lines_fit n [] ≡ true
 unfolding lines_fit
 no_lines n = refl
 
-there : (a b : Bool) → b ≡ true → (a || b) ≡ true
-there true b h = refl
-there false b h = h
-
 given_fit : (starts lines : List ℕ) → Given starts 0 lines → list_any (λ line. not (nat_eq line 0)) lines ≡ true → lines_fit (length starts) lines ≡ true
 unfolding lines_fit
-given_fit starts lines g some = there (nat_eq (length lines) 0)
+given_fit starts lines g some = or_right (nat_eq (length lines) 0)
     ((nat_eq (length lines) (length starts) && list_any (λ line. not (nat_eq line 0)) lines) && (list_all (λ line. nat_le line most) lines && list_all goes_on_with_lines (neighbours lines)))
-    (and _ _ (and _ _ (eq-eqb (length lines) (length starts) g.long) some) (and _ _ g.low (go_on 0 lines g.lined)))
+    (and_both _ _ (and_both _ _ (eq-eqb (length lines) (length starts) g.long) some) (and_both _ _ g.low (go_on 0 lines g.lined)))
 
 kept_fit : (starts : List ℕ) (o : Option (List ℕ)) → ((lines : List ℕ) → o ≡ Some lines → Given starts 0 lines) → lines_fit (length starts) (kept_lines o) ≡ true
 kept_fit starts None g = no_lines (length starts)

@@ -1,9 +1,10 @@
--- Values and annotations that are read fit.
+-- Values and_both annotations that are read fit.
 use Rattle.std.proofs.Common.{◌≡◌, ℕ, zero, suc, ◌+◌, ◌*◌, ◌/◌, ◌%◌, Bool, true, false, cond, ltb, List, [], ◌∷◌, length, Result, Ok, Err, refl, sym, ap, subst}
 use Rattle.std.specs.Prelude.{◌&&◌, ◌==◌, Some}
 use Rattle.std.specs.Int.{w32}
 use Rattle.std.specs.List.{list_all}
 use Rattle.std.proofs.lemmas.Bool.{eqb-true}
+use Rattle.lemmas.proofs.Bools.{and_both}
 use Rattle.dex_base.specs.Reading.{◌>>=◌}
 use Rattle.program_model.specs.Neighbours.{neighbours}
 use Rattle.program_model.specs.ValueRules.{element_fits, named_in_order, note_fits, names_fit, value_fits, mark_fits, typed_in_order, marks_fit}
@@ -27,7 +28,7 @@ use Rattle.dex_read.specs.Directory.{set_at, sets_at}
 use Rattle.dex_read.specs.Faults.{of_pool}
 use Rattle.dex_read.specs.Tables.{sizes_in}
 use Rattle.read_laws.proofs.ClassReading.{in_table, all_of}
-use Rattle.read_laws.proofs.Readings.{Reads, anything, itself, weaker, done, failed, when, either, next, lifted, reads_run, and}
+use Rattle.read_laws.proofs.Readings.{Reads, anything, itself, weaker, done, failed, when, either, next, lifted, reads_run}
 
 -- ---- lists that ascend
 
@@ -42,7 +43,7 @@ orders : {X : Type 0} (below : X → X → Bool) (table : Table) (x : X) (place 
     → list_all (in_order below) (neighbours (x ∷ xs)) ≡ true
 orders below table x place [] u h = refl
 orders below table x place (y ∷ ys) u h = let a = tested (below x y) (ascends_from below table (Some y) (suc place) ys) _ u h in
-    and (below x y) (list_all (in_order below) (neighbours (y ∷ ys))) a.0 (orders below table y (suc place) ys u a.1)
+    and_both (below x y) (list_all (in_order below) (neighbours (y ∷ ys))) a.0 (orders below table y (suc place) ys u a.1)
 
 pub ordered : {X : Type 0} (below : X → X → Bool) (table : Table) (xs : List X) (u : Unit {0}) → ascends_in below table xs ≡ Ok u → list_all (in_order below) (neighbours xs) ≡ true
 ordered below table [] u h = refl
@@ -124,7 +125,7 @@ reads_element fits inner all bytes p i s = weaker (element_in inner bytes (sizes
     (next (anything (spend Items 1 s.1)) (λ behind _. next (reads_index bytes s.0 (sizes_in p).strings) (λ name _. next (all (name.1, behind)) (λ v _.
     done (record { name = name.0; value = v.0 }, v.1)))))
     (λ y q. let n = q.2 in let v = n.2 in
-    subst (λ (r : Element × (ℕ × ℕ)). element_fits fits p r.0 ≡ true) (sym v.2) (and _ _ (in_table n.0.0 (length p.strings) n.1) v.1))
+    subst (λ (r : Element × (ℕ × ℕ)). element_fits fits p r.0 ≡ true) (sym v.2) (and_both _ _ (in_table n.0.0 (length p.strings) n.1) v.1))
 
 pub reads_note : (fits : EncValue → Bool) (inner : Inner) → AllRead fits inner → (bytes : List ℕ) (p : Program) (s : ℕ × ℕ)
     → Reads (λ r. note_fits fits p r.0 ≡ true) (note_in inner bytes (sizes_in p) s)
@@ -136,7 +137,7 @@ reads_note fits inner all bytes p s = weaker (note_in inner bytes (sizes_in p) s
     (λ y q. let count = q.2 in let elements = count.2 in let order = elements.2 in
     let note : Note-F EncValue Element Note = record { class = q.0.0; elements = elements.0.0 } in
     let fit : ((ltb q.0.0 (length p.types)) && (list_all (element_fits fits p) elements.0.0 && list_all named_in_order (neighbours elements.0.0))) ≡ true
-    = and _ _ (in_table q.0.0 (length p.types) q.1) (and _ _
+    = and_both _ _ (in_table q.0.0 (length p.types) q.1) (and_both _ _
     (all_of (element_fits fits p) (λ i s r. element_fits fits p r.0 ≡ true) (λ i s r h. h) 0 (count.0.1, s.1) elements.0.0 elements.0.1 elements.1)
     (ordered element_below Members elements.0.0 order.0 order.1)) in
     subst (λ (r : Note × (ℕ × ℕ)). note_fits fits p r.0 ≡ true) (sym order.2)
@@ -204,7 +205,7 @@ reads_marks bytes p at left = weaker (marks_at bytes (sizes_in p) at left)
     next (itself (ascends_in mark_below Members marks.0)) (λ order _. done marks))))
     (λ y q. let marks = q.2 in let order = marks.2 in
     subst (λ (r : List Mark × ℕ). (list_all (mark_fits p) r.0 && list_all typed_in_order (neighbours r.0)) ≡ true) (sym order.2)
-    (and _ _ (all_of (mark_fits p) (λ i s r. mark_fits p r.0 ≡ true) (λ i s r h. h) 0 left marks.0.0 marks.0.1 marks.1)
+    (and_both _ _ (all_of (mark_fits p) (λ i s r. mark_fits p r.0 ≡ true) (λ i s r h. h) 0 left marks.0.0 marks.0.1 marks.1)
     (ordered mark_below Members marks.0.0 order.0 order.1)))
 
 no_marks : (p : Program) → marks_fit p [] ≡ true

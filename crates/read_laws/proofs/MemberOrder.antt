@@ -1,9 +1,10 @@
--- Members whose numbers ascend in two groups stand in order, and differ.
+-- Members whose numbers ascend in two groups stand in order, and_both differ.
 use Rattle.std.proofs.Common.{◌≡◌, ◌≤◌, ◌<◌, ◌⊎◌, inl, inr, ℕ, suc, Bool, true, false, cond, ltb, leb, eqb, List, [], ◌∷◌, ◌++◌, map, Option, Some, None, option_map, is_none, refl, sym, ap, subst, ◌∙◌, arith}
 use Rattle.std.specs.Prelude.{◌&&◌, ◌||◌}
 use Rattle.std.specs.List.{list_all, list_any}
 use Rattle.std.proofs.lemmas.Bool.{lt-ltb, le-leb, leb-true, ne_eqb}
 use Rattle.std.proofs.lemmas.List.Folds.{list_any-append, list_all-append}
+use Rattle.lemmas.proofs.Bools.{and_both, and_parts, none_or}
 use Rattle.program_model.specs.Distinct.{same_entry, differ_from}
 use Rattle.program_model.specs.MemberRules.{in_groups}
 use Rattle.program_model.specs.Neighbours.{neighbours}
@@ -12,9 +13,8 @@ use Rattle.dex_read.proofs.Changes.{map_both}
 use Rattle.dex_read.specs.Ascending.{Rises, Ascends}
 use Rattle.dex_read.specs.ClassData.{agree, place_in}
 use Rattle.dex_read.specs.declared.class_data.Listed.{Listed}
-use Rattle.read_laws.proofs.Readings.{both, and}
 
--- the number and the flags of a member
+-- the number and_both the flags of a member
 abbrev pub Own : Type 0
 Own = ℕ × Flags
 
@@ -76,8 +76,8 @@ strictly place before n (inr l) = l
 one_group : (d : Own → Bool) (b : Bool) (place : ℕ) (e : Listed) (es : List Listed) → Group d b (e ∷ es) → Rises (suc place) e.number es
     → list_all (grouped d) (neighbours (map own (e ∷ es))) ≡ true
 one_group d b place e [] h r = refl
-one_group d b place e (f ∷ fs) h r = let h1 = both _ _ h in let h2 = both _ _ h1.1 in
-    and (grouped d (own e, own f)) (list_all (grouped d) (neighbours (map own (f ∷ fs))))
+one_group d b place e (f ∷ fs) h r = let h1 = and_parts _ _ h in let h2 = and_parts _ _ h1.1 in
+    and_both (grouped d (own e, own f)) (list_all (grouped d) (neighbours (map own (f ∷ fs))))
     (in_one (d (own e)) (d (own f)) b (ltb e.number f.number) (agree_is _ _ h1.0) (agree_is _ _ h2.0) (lt-ltb _ _ (strictly place e.number f.number r.0)))
     (one_group d b (suc place) f fs h1.1 r.1)
 
@@ -87,11 +87,11 @@ two_groups d place before [] [] h g r a = refl
 two_groups d place before [] (y ∷ ys) h g r a = one_group d false 0 y ys g a.rises.1
 two_groups d place before (x ∷ []) [] h g r a = refl
 two_groups d place before (x ∷ []) (y ∷ ys) h g r a =
-    and (grouped d (own x, own y)) (list_all (grouped d) (neighbours (map own (y ∷ ys))))
-    (in_two (d (own x)) (d (own y)) (ltb x.number y.number) (agree_is _ _ (both _ _ h).0) (agree_is _ _ (both _ _ g).0))
+    and_both (grouped d (own x, own y)) (list_all (grouped d) (neighbours (map own (y ∷ ys))))
+    (in_two (d (own x)) (d (own y)) (ltb x.number y.number) (agree_is _ _ (and_parts _ _ h).0) (agree_is _ _ (and_parts _ _ g).0))
     (one_group d false 0 y ys g a.rises.1)
-two_groups d place before (x ∷ z ∷ zs) ys h g r a = let h1 = both _ _ h in let h2 = both _ _ h1.1 in
-    and (grouped d (own x, own z)) (list_all (grouped d) (neighbours (map own ((z ∷ zs) ++ ys))))
+two_groups d place before (x ∷ z ∷ zs) ys h g r a = let h1 = and_parts _ _ h in let h2 = and_parts _ _ h1.1 in
+    and_both (grouped d (own x, own z)) (list_all (grouped d) (neighbours (map own ((z ∷ zs) ++ ys))))
     (in_one (d (own x)) (d (own z)) true (ltb x.number z.number) (agree_is _ _ h1.0) (agree_is _ _ h2.0) (lt-ltb _ _ (strictly place x.number z.number r.1.0)))
     (two_groups d (suc place) x.number (z ∷ zs) ys h1.1 g r.1 a)
 
@@ -111,25 +111,25 @@ Low last es = list_all (λ e. leb e.number last) es ≡ true
 
 none_same : (last : ℕ) (passed : List Listed) (x : Listed) → Low last passed → last < x.number → list_any (λ y. same y x) passed ≡ false
 none_same last [] x h lt = refl
-none_same last (y ∷ ys) x h lt = let h1 = both _ _ h in let le : y.number ≤ last = leb-true _ _ h1.0 in
+none_same last (y ∷ ys) x h lt = let h1 = and_parts _ _ h in let le : y.number ≤ last = leb-true _ _ h1.0 in
     rw (other y.number x.number (λ e. omega (arith, e, le, lt))) (none_same last ys x h1.1 lt)
 
 lower : (last next : ℕ) (passed : List Listed) → Low last passed → last < next → Low next passed
 lower last next [] h lt = refl
-lower last next (y ∷ ys) h lt = let h1 = both _ _ h in let le : y.number ≤ last = leb-true _ _ h1.0 in
-    and _ _ (le-leb y.number next (omega (arith, le, lt))) (lower last next ys h1.1 lt)
+lower last next (y ∷ ys) h lt = let h1 = and_parts _ _ h in let le : y.number ≤ last = leb-true _ _ h1.0 in
+    and_both _ _ (le-leb y.number next (omega (arith, le, lt))) (lower last next ys h1.1 lt)
 
 rising_differ : (place last : ℕ) (passed xs : List Listed) → Low last passed → Rises (suc place) last xs → differ_from number_key passed xs ≡ true
 rising_differ place last passed [] h r = refl
 rising_differ place last passed (x ∷ xs) h r =
     let lt : last < x.number = strictly place last x.number r.0 in
     let here : Low x.number (passed ++ x ∷ []) = list_all-append (λ e. leb e.number x.number) passed (x ∷ [])
-    ∙ and _ _ (lower last x.number passed h lt) (and _ _ (le-leb x.number x.number (omega arith)) refl) in
+    ∙ and_both _ _ (lower last x.number passed h lt) (and_both _ _ (le-leb x.number x.number (omega arith)) refl) in
     ap (λ b. cond b false (differ_from number_key (passed ++ x ∷ []) xs)) (none_same last passed x h lt) ∙ rising_differ (suc place) x.number (passed ++ x ∷ []) xs here r.1
 
 ascending_differ : (xs : List Listed) → Ascends xs → differ_from number_key [] xs ≡ true
 ascending_differ [] a = refl
-ascending_differ (x ∷ xs) a = rising_differ 0 x.number (x ∷ []) xs (and _ _ (le-leb x.number x.number (omega arith)) refl) a.rises.1
+ascending_differ (x ∷ xs) a = rising_differ 0 x.number (x ∷ []) xs (and_both _ _ (le-leb x.number x.number (omega arith)) refl) a.rises.1
 
 assoc : (xs ys zs : List Listed) → (xs ++ ys) ++ zs ≡ xs ++ (ys ++ zs)
 assoc [] ys zs = refl
@@ -152,10 +152,6 @@ unplaced x (y ∷ ys) h = by_place (eqb y.number x.number) (place_in x.number ys
     by_place false None h f = f refl
     by_place false (Some k) h f = absurd cc
 
-neither : (a b : Bool) → a ≡ false → b ≡ false → (a || b) ≡ false
-neither false b h g = g
-neither true b h g = absurd cc
-
 first_differs : (b : Bool) {rest : Bool} → cond b false rest ≡ true → (b ≡ false) × (rest ≡ true)
 first_differs true h = absurd cc
 first_differs false h = (refl, h)
@@ -163,9 +159,9 @@ first_differs false h = (refl, h)
 behind_differ : (before passed xs : List Listed) → Apart before xs → differ_from number_key passed xs ≡ true → differ_from number_key (before ++ passed) xs ≡ true
 behind_differ before passed [] h g = refl
 behind_differ before passed (x ∷ xs) h g =
-    let h1 = both _ _ h in
+    let h1 = and_parts _ _ h in
     let g1 = first_differs (list_any (λ y. same y x) passed) g in
-    let none : list_any (λ y. same y x) (before ++ passed) ≡ false = list_any-append (λ y. same y x) before passed ∙ neither _ _ (unplaced x before h1.0) g1.0 in
+    let none : list_any (λ y. same y x) (before ++ passed) ≡ false = list_any-append (λ y. same y x) before passed ∙ none_or _ _ (unplaced x before h1.0) g1.0 in
     ap (λ b. cond b false (differ_from number_key ((before ++ passed) ++ x ∷ []) xs)) none
     ∙ ap (λ ys. differ_from number_key ys xs) (assoc before passed (x ∷ [])) ∙ behind_differ before (passed ++ x ∷ []) xs h1.1 g1.1
 

@@ -1,5 +1,6 @@
 -- The members of a class that is read fit the rules.
 use Rattle.std.proofs.Common.{◌≡◌, ℕ, ◌+◌, ◌*◌, true, List, [], ◌++◌, map, Ok, sym, subst}
+use Rattle.lemmas.proofs.Bools.{and_both}
 use Rattle.program_model.specs.MemberRules.{fields_fit, methods_fit, class_fits}
 use Rattle.program_model.specs.ValueRules.{marks_fit}
 use Rattle.program_model.specs.declared.program.Class.{Class}
@@ -19,7 +20,7 @@ use Rattle.read_laws.proofs.FieldReading.{AreListed, FieldsAre, no_marks, own_fi
 use Rattle.read_laws.proofs.MarkReading.{reads_set}
 use Rattle.read_laws.proofs.MemberOrder.{Own, own}
 use Rattle.read_laws.proofs.MethodReading.{MethodsAre, reads_mark_method, reads_mark_parameters, reads_methods_of, methods_that_are}
-use Rattle.read_laws.proofs.Readings.{Reads, anything, weaker, done, either, next, and}
+use Rattle.read_laws.proofs.Readings.{Reads, anything, weaker, done, either, next}
 
 record IsMarked (bytes : List ℕ) (p : Program) (xs ys : List Own) (m : Marked) : Type 0 where
   marks : marks_fit p m.marks ≡ true
@@ -91,4 +92,4 @@ unfolding class_fits
 class_is bytes p at place left r h are =
     let q : IsRead bytes p at place left r = (class_read bytes p at place left).found r h in
     let m : Fit bytes p r.0 = members_are bytes p at place left r q in
-    and _ _ (and _ _ (types_fit bytes p at place left r q) (and _ _ (source_is bytes p at place left r q) m.marks)) (and _ _ m.fields (m.methods are))
+    and_both _ _ (and_both _ _ (types_fit bytes p at place left r q) (and_both _ _ (source_is bytes p at place left r q) m.marks)) (and_both _ _ m.fields (m.methods are))

@@ -1,8 +1,10 @@
--- Methods as they are read, and the directory of annotations.
+-- Methods as they are read, and_both the directory of annotations.
 use Rattle.std.proofs.Common.{◌≡◌, ℕ, Bool, true, false, not, leb, List, [], ◌∷◌, ◌++◌, map, Option, Some, None, is_none, Ok, refl, sym, ap, subst, ◌∙◌}
 use Rattle.std.specs.Prelude.{◌&&◌, ◌||◌, ◌==◌, slice_get}
 use Rattle.std.specs.List.{list_all}
 use Rattle.std.proofs.lemmas.List.Folds.{list_all-map, list_all-append}
+use Rattle.lemmas.proofs.Bools.{and_both, and_parts}
+use Rattle.lemmas.proofs.Lists.{all_more}
 use Rattle.program_model.specs.Neighbours.{neighbours}
 use Rattle.program_model.specs.Distinct.{own_method_key, all_differ, differ_from}
 use Rattle.program_model.specs.LineRules.{lines_fit}
@@ -25,11 +27,11 @@ use Rattle.dex_read.specs.declared.code.CodeItem.{CodeItem}
 use Rattle.dex_read.specs.declared.members.Budget.{Budget}
 use Rattle.read_laws.proofs.Bounds.{AreBytes}
 use Rattle.read_laws.proofs.CodeReading.{HasFrame, reads_item, reads_body}
-use Rattle.read_laws.proofs.FieldReading.{AreListed, change_keeps, change_all, all_more, no_marks}
+use Rattle.read_laws.proofs.FieldReading.{AreListed, change_keeps, change_all, no_marks}
 use Rattle.read_laws.proofs.LineReading.{reads_lined}
 use Rattle.read_laws.proofs.MarkReading.{reads_set, reads_sets}
 use Rattle.read_laws.proofs.MemberOrder.{Own, own, key, grouped, Group, Apart, two_groups, lists_differ, map_neighbours, map_differ}
-use Rattle.read_laws.proofs.Readings.{Reads, anything, weaker, done, when, either, next, both, and}
+use Rattle.read_laws.proofs.Readings.{Reads, anything, weaker, done, when, either, next}
 
 abbrev pub own_method : Method → Own
 own_method m = (m.name, m.flags)
@@ -42,7 +44,7 @@ reads_frame p e item = weaker (frame_at p e item) (when _ (done tt)) (λ y q. q.
 
 -- ---- methods by their entries
 
--- methods that have these numbers and flags, and whose annotations fit; and their code does, where these are bytes
+-- methods that have these numbers and_both flags, and_both whose annotations fit; and_both their code does, where these are bytes
 pub record MethodsAre (bytes : List ℕ) (p : Program) (xs : List Own) (methods : List Method) : Type 0 where
   pub own : map own_method methods ≡ xs
   pub marks : list_all (λ m. marks_fit p m.marks) methods ≡ true
@@ -83,28 +85,28 @@ reads_coded bytes p e left has = weaker (coded_at bytes p e left)
       own = refl;
       marks = no_marks p;
       parameters = refl;
-      codes = λ are. and _ _ has (and _ _ (framed p e b.0.0 lines.0.0 q.0.registers q.0.ins b.1.frame frame.1) (and _ _ (b.1.fit are)
+      codes = λ are. and_both _ _ has (and_both _ _ (framed p e b.0.0 lines.0.0 q.0.registers q.0.ins b.1.frame frame.1) (and_both _ _ (b.1.fit are)
           (subst (λ (n : ℕ). lines_fit n lines.0.0 ≡ true) (sym b.1.as_many) lines.1)));
     }))
 
 reads_one : (bytes : List ℕ) (p : Program) (e : Listed) (left : Budget) → agree (e.code == 0) (lacks_code e.flags) ≡ true → Reads (λ r. IsMethod bytes p e r.0) (method_at bytes p e left)
 reads_one bytes p e left h = either
     (λ z. weaker (Ok (method_with e None [], left)) (done (method_with e None [], left)) (λ y i. subst (λ (r : Method × Budget). IsMethod bytes p e r.0) (sym i)
-    (record { own = refl; marks = no_marks p; parameters = refl; codes = λ are. and _ _ (agreed_true (e.code == 0) (lacks_code e.flags) z h) no_lines })))
+    (record { own = refl; marks = no_marks p; parameters = refl; codes = λ are. and_both _ _ (agreed_true (e.code == 0) (lacks_code e.flags) z h) no_lines })))
     (λ z. reads_coded bytes p e left (agreed_false (e.code == 0) (lacks_code e.flags) z h))
 
 reads_each : (bytes : List ℕ) (p : Program) (es : List Listed) (left : Budget) → list_all (λ e. agree (e.code == 0) (lacks_code e.flags)) es ≡ true
     → Reads (λ r. MethodsAre bytes p (map own es) r.0) (for_each (method_at bytes p) es left)
 reads_each bytes p [] left h = weaker (for_each (method_at bytes p) [] left) (done ([], left))
     (λ y i. subst (λ (r : List Method × Budget). MethodsAre bytes p [] r.0) (sym i) (record { own = refl; marks = refl; parameters = refl; codes = λ are. refl }))
-reads_each bytes p (e ∷ es) left h = let h1 = both _ _ h in weaker (for_each (method_at bytes p) (e ∷ es) left)
+reads_each bytes p (e ∷ es) left h = let h1 = and_parts _ _ h in weaker (for_each (method_at bytes p) (e ∷ es) left)
     (next (reads_one bytes p e left h1.0) (λ y _. next (reads_each bytes p es y.1 h1.1) (λ ys _. done (y.0 ∷ ys.0, ys.1))))
     (λ y q. let rest = q.2 in
     subst (λ (r : List Method × Budget). MethodsAre bytes p (map own (e ∷ es)) r.0) (sym rest.2) (record {
       own = ap (λ x. x ∷ map own_method rest.0.0) q.1.own ∙ ap (λ xs. own e ∷ xs) rest.1.own;
-      marks = and _ _ q.1.marks rest.1.marks;
-      parameters = and _ _ q.1.parameters rest.1.parameters;
-      codes = λ are. and _ _ (q.1.codes are) (rest.1.codes are);
+      marks = and_both _ _ q.1.marks rest.1.marks;
+      parameters = and_both _ _ q.1.parameters rest.1.parameters;
+      codes = λ are. and_both _ _ (q.1.codes are) (rest.1.codes are);
     }))
 
 pub reads_methods_of : {class : ℕ} (bytes : List ℕ) (p : Program) (listed : Members) (left : Budget) → AreListed p class listed
@@ -112,9 +114,9 @@ pub reads_methods_of : {class : ℕ} (bytes : List ℕ) (p : Program) (listed : 
 unfolding methods_of
 reads_methods_of {class = class} bytes p listed left a =
     let coded : (direct : Bool) (earlier es : List Listed) → list_all (method_suits p class direct earlier) es ≡ true → list_all (λ e. agree (e.code == 0) (lacks_code e.flags)) es ≡ true
-    = λ direct earlier es h. all_more (method_suits p class direct earlier) (λ e. agree (e.code == 0) (lacks_code e.flags)) (λ e t. (both _ _ (both _ _ (both _ _ t).1).1).0) es h in
+    = λ direct earlier es h. all_more (method_suits p class direct earlier) (λ e. agree (e.code == 0) (lacks_code e.flags)) (λ e t. (and_parts _ _ (and_parts _ _ (and_parts _ _ t).1).1).0) es h in
     reads_each bytes p (listed.directs ++ listed.virtuals) left
-    (list_all-append (λ e. agree (e.code == 0) (lacks_code e.flags)) listed.directs listed.virtuals ∙ and _ _ (coded true [] listed.directs a.directs.suit) (coded false listed.directs listed.virtuals a.virtuals.suit))
+    (list_all-append (λ e. agree (e.code == 0) (lacks_code e.flags)) listed.directs listed.virtuals ∙ and_both _ _ (coded true [] listed.directs a.directs.suit) (coded false listed.directs listed.virtuals a.virtuals.suit))
 
 -- ---- their annotations
 
@@ -164,7 +166,7 @@ abbrev direct_own : Program → Own → Bool
 direct_own p x = (is_static x.1 || is_private x.1) || first_unit (name_of_method p (slice_get p.methods x.0)) == 60
 
 last_of_four : (a b c d : Bool) → (a && (b && (c && d))) ≡ true → d ≡ true
-last_of_four a b c d h = (both c d (both b (c && d) (both a (b && (c && d)) h).1).1).1
+last_of_four a b c d h = (and_parts c d (and_parts b (c && d) (and_parts a (b && (c && d)) h).1).1).1
 
 each_fits : (p : Program) (class : ℕ) (methods : List Method) → list_all (λ m. of_class p class (own_method m)) methods ≡ true → list_all (λ m. marks_fit p m.marks) methods ≡ true
     → list_all (λ m. list_all (marks_fit p) m.parameter_marks) methods ≡ true → list_all (λ m. code_fits p m m.body) methods ≡ true
@@ -172,23 +174,23 @@ each_fits : (p : Program) (class : ℕ) (methods : List Method) → list_all (λ
 unfolding method_fits
 each_fits p class [] h1 h2 h3 h4 = refl
 each_fits p class (m ∷ ms) h1 h2 h3 h4 =
-    let a = both _ _ h1 in let b = both _ _ h2 in let c = both _ _ h3 in let d = both _ _ h4 in
-    and _ _ (and _ _ (and _ _ a.0 d.0) (and _ _ b.0 c.0)) (each_fits p class ms a.1 b.1 c.1 d.1)
+    let a = and_parts _ _ h1 in let b = and_parts _ _ h2 in let c = and_parts _ _ h3 in let d = and_parts _ _ h4 in
+    and_both _ _ (and_both _ _ (and_both _ _ a.0 d.0) (and_both _ _ b.0 c.0)) (each_fits p class ms a.1 b.1 c.1 d.1)
 
 pub methods_that_are : {class : ℕ} (bytes : List ℕ) (p : Program) (m : Members) (methods : List Method) → AreListed p class m → MethodsAre bytes p (map own (m.directs ++ m.virtuals)) methods
     → AreBytes bytes → methods_fit p class methods ≡ true
 unfolding methods_fit is_direct
 methods_that_are {class = class} bytes p m methods a f are =
     let mine : (direct : Bool) (earlier es : List Listed) → list_all (method_suits p class direct earlier) es ≡ true → list_all (λ e. of_class p class (own e)) es ≡ true
-    = λ direct earlier es h. all_more (method_suits p class direct earlier) (λ e. of_class p class (own e)) (λ e t. (both _ _ t).0) es h in
+    = λ direct earlier es h. all_more (method_suits p class direct earlier) (λ e. of_class p class (own e)) (λ e t. (and_parts _ _ t).0) es h in
     let grouping : (direct : Bool) (earlier es : List Listed) → list_all (method_suits p class direct earlier) es ≡ true → Group (direct_own p) direct es
-    = λ direct earlier es h. all_more (method_suits p class direct earlier) (λ e. agree (direct_own p (own e)) direct) (λ e t. (both _ _ (both _ _ t).1).0) es h in
+    = λ direct earlier es h. all_more (method_suits p class direct earlier) (λ e. agree (direct_own p (own e)) direct) (λ e t. (and_parts _ _ (and_parts _ _ t).1).0) es h in
     let apart : Apart m.directs m.virtuals
     = all_more (method_suits p class false m.directs) (λ e. is_none (place_in e.number m.directs))
     (λ e t. last_of_four (of_class p class (own e)) (agree (is_direct_entry p e) false) (agree (e.code == 0) (lacks_code e.flags)) (is_none (place_in e.number m.directs)) t) m.virtuals a.virtuals.suit in
     let all_mine : list_all (of_class p class) (map own (m.directs ++ m.virtuals)) ≡ true
     = list_all-map (of_class p class) own (m.directs ++ m.virtuals) ∙ list_all-append (λ e. of_class p class (own e)) m.directs m.virtuals
-    ∙ and _ _ (mine true [] m.directs a.directs.suit) (mine false m.directs m.virtuals a.virtuals.suit) in
+    ∙ and_both _ _ (mine true [] m.directs a.directs.suit) (mine false m.directs m.virtuals a.virtuals.suit) in
     let in_order : list_all (grouped (direct_own p)) (neighbours (map own (m.directs ++ m.virtuals))) ≡ true
     = two_groups (direct_own p) 0 0 m.directs m.virtuals (grouping true [] m.directs a.directs.suit) (grouping false m.directs m.virtuals a.virtuals.suit) a.directs.ascend.rises a.virtuals.ascend in
     let own_mine : list_all (λ g. of_class p class (own_method g)) methods ≡ true
@@ -197,4 +199,4 @@ methods_that_are {class = class} bytes p m methods a f are =
     = map_neighbours own_method (grouped (direct_own p)) methods ∙ ap (λ ys. list_all (grouped (direct_own p)) (neighbours ys)) f.own ∙ in_order in
     let differ : all_differ own_method_key methods ≡ true
     = map_differ own_method key [] methods ∙ ap (λ ys. differ_from key [] ys) f.own ∙ lists_differ m.directs m.virtuals a.directs.ascend a.virtuals.ascend apart in
-    and _ _ (each_fits p class methods own_mine f.marks f.parameters (f.codes are)) (and _ _ order differ)
+    and_both _ _ (each_fits p class methods own_mine f.marks f.parameters (f.codes are)) (and_both _ _ order differ)

@@ -3,6 +3,8 @@ use Rattle.std.proofs.Common.{◌≡◌, ℕ, zero, suc, ◌≤◌, Bool, true, 
 use Rattle.std.proofs.lemmas.Bool.{ltb-true, lt-ltb}
 use Rattle.std.specs.Prelude.{◌&&◌, nat_lt, slice_get, Some, Ok}
 use Rattle.std.specs.List.{list_all}
+use Rattle.lemmas.proofs.Bools.{and_both, and_left, and_right}
+use Rattle.lemmas.proofs.Options.{none_some, some_same}
 use Rattle.insn_set.specs.declared.form.Insn.{Insn}
 use Rattle.insn_set.specs.declared.form.Insn.TheVariants.{Move, MoveResult, Return, ConstWide, ConstString, ConstClass, CheckCast, InstanceOf, NewInstance, NewArray, FilledNewArray, Cmp, ArrayGet, ArrayPut, InstanceGet, InstancePut, StaticGet, StaticPut, Invoke, Unary, Binary}
 use Rattle.insn_set.specs.Widths.{is_wide_slot, is_wide_item, compares_wide, unary_reads_wide, unary_writes_wide, binary_is_wide, second_is_wide}
@@ -13,7 +15,7 @@ use Rattle.code_read.specs.Checks as read
 use Rattle.code_read.specs.Decoded.{insn_at, checked_at, insns_from, insns_of}
 use Rattle.code_read.specs.Sweep.{Places}
 use Rattle.read_laws.specs.Tables.{AreWithin}
-use Rattle.read_laws.proofs.BodyLists.{and_left, and_right, and_both, some_same, none_some, Found, weaker, done, as_read, when, next}
+use Rattle.read_laws.proofs.BodyLists.{Found, weaker, done, as_read, when, next}
 
 -- ---- what the checks of the reader ask, the rules do
 

@@ -52,14 +52,6 @@ reads_run Is f d from (suc n) s = weaker (run f from (suc n) s)
 
 -- ---- tests
 
-pub both : (a b : Bool) → (a && b) ≡ true → (a ≡ true) × (b ≡ true)
-both true b h = (refl, h)
-both false b h = absurd cc
-
-pub and : (a b : Bool) → a ≡ true → b ≡ true → (a && b) ≡ true
-and true b h g = g
-and false b h g = absurd cc
-
 -- what is read, by its reading alone
 pub itself : {Y F : Type 0} (read : Result Y F) → Reads (λ y. read ≡ Ok y) read
 itself read = record { found = λ y h. h }

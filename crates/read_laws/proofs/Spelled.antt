@@ -3,6 +3,7 @@ use Rattle.std.proofs.Common.{◌≡◌, ℕ, zero, suc, ◌<◌, ◌≤◌, ◌
 use Rattle.std.specs.Prelude.{◌&&◌, ◌||◌, ◌==◌, nat_eq, nat_lt, nat_le, Option}
 use Rattle.std.specs.List.{list_all}
 use Rattle.std.proofs.lemmas.Bool.{lt-ltb, ltb-true, ltb-false, le-leb, eq-eqb, eqb-true}
+use Rattle.lemmas.proofs.Bools.{and_both, and_left, and_right, clash, none_or, or_left, or_right}
 use Rattle.insn_set.specs.Spelling.{fits_byte, takes_short, are_adjacent, fit_nibbles, fit_call, is_encodable}
 use Rattle.insn_set.specs.declared.form.Insn.{Insn}
 use Rattle.code_read.specs.declared.fields.Fields.{Fields}
@@ -10,7 +11,6 @@ use Rattle.code_read.specs.Branches.{is_branch, is_call, is_range, nibbles_form,
 use Rattle.code_read.specs.Forms.{byte, move_form, const_form, wide_form, object_form, array_form, field_form, operation_form, plain}
 use Rattle.code_read.specs.Opcodes.{from_to, format_at, literal_at}
 use Rattle.code_read.specs.Payloads.{has_payload}
-use Rattle.read_laws.proofs.BodyLists.{clash, and_left, and_right, and_both}
 use Rattle.read_laws.proofs.FieldBounds.{Narrow, Bytes, First, Third, is_narrow, has_bytes, has_first, of_span, format_passes}
 
 pub record Spelled (insn : Insn) : Type 0 where
@@ -37,18 +37,6 @@ lt_three k m l n h g e = and_both (nat_lt k n) (nat_lt m n && nat_lt l n) (lt k 
 pub behind : (a b : Bool) → (a || b) ≡ true → a ≡ false → b ≡ true
 behind true b h e = clash true refl e
 behind false b h e = h
-
-pub neither : (a b : Bool) → a ≡ false → b ≡ false → (a || b) ≡ false
-neither true b e g = e
-neither false b e g = g
-
-or_here : (a b : Bool) → a ≡ true → (a || b) ≡ true
-or_here true b e = refl
-or_here false b e = clash false e refl
-
-or_there : (a b : Bool) → b ≡ true → (a || b) ≡ true
-or_there true b e = refl
-or_there false b e = e
 
 -- numbers from the lower on and not below the upper
 range : (low high op : ℕ) → low ≤ op → op ≤ high → from_to op low high ≡ true
@@ -120,7 +108,7 @@ module _ (op : ℕ) (f : Fields) (low : op < 256) (narrow : format_passes is_nar
   array : 0x28 ≤ op → op < 0x52 → is_branch op ≡ false → has_payload op ≡ false → Spelled (array_form op f)
   unfolding format_at
   array lo hi no_branch no_payload =
-      let b = bytes (behind (is_branch op || has_payload op) (format_passes has_bytes op) (of_span arrays 0x28 0x51 op refl (range 0x28 0x51 op lo (omega (arith, hi)))) (neither (is_branch op) (has_payload op) no_branch no_payload)) in
+      let b = bytes (behind (is_branch op || has_payload op) (format_passes has_bytes op) (of_span arrays 0x28 0x51 op refl (range 0x28 0x51 op lo (omega (arith, hi)))) (none_or (is_branch op) (has_payload op) no_branch no_payload)) in
       let all : (nat_lt f.a 256 && (nat_lt f.b 256 && nat_lt f.c 256)) ≡ true = lt_three f.a f.b f.c 256 b.a b.b b.c in
       or (from_to op 0x2d 0x31) (λ e. of all) (λ e. or (from_to op 0x44 0x4a) (λ e. of all) (λ e. of all))
 
@@ -142,12 +130,12 @@ module _ (op : ℕ) (f : Fields) (low : op < 256) (narrow : format_passes is_nar
       or (from_to op 0x90 0xaf) (λ e. of (all (bytes (of_span (format_passes has_bytes) 0x90 0xaf op refl e)))) (λ _.
       or (from_to op 0xb0 0xcf) (λ e. of (wider (narrow (of_span (format_passes is_narrow) 0xb0 0xcf op refl e)))) (λ not_two.
       or (from_to op 0xd0 0xd7) (λ e. let n = narrow (of_span (format_passes is_narrow) 0xd0 0xd7 op refl e) in
-      of (or_there _ (nat_lt f.a 16 && (nat_lt f.b 16 && shorts op)) (and_both (nat_lt f.a 16) (nat_lt f.b 16 && shorts op) (lt f.a 16 n.a) (and_both (nat_lt f.b 16) (shorts op) (lt f.b 16 n.b) (of_span shorts 0xd0 0xd7 op refl e)))))
+      of (or_right _ (nat_lt f.a 16 && (nat_lt f.b 16 && shorts op)) (and_both (nat_lt f.a 16) (nat_lt f.b 16 && shorts op) (lt f.a 16 n.a) (and_both (nat_lt f.b 16) (shorts op) (lt f.b 16 n.b) (of_span shorts 0xd0 0xd7 op refl e)))))
       (λ not_three.
       let b = bytes (behind (is_call op || (from_to op 0x7b 0x8f || (from_to op 0xb0 0xcf || from_to op 0xd0 0xd7))) (format_passes has_bytes op) there
-      (neither (is_call op) (from_to op 0x7b 0x8f || (from_to op 0xb0 0xcf || from_to op 0xd0 0xd7)) no_call
-      (neither (from_to op 0x7b 0x8f) (from_to op 0xb0 0xcf || from_to op 0xd0 0xd7) not_one (neither (from_to op 0xb0 0xcf) (from_to op 0xd0 0xd7) not_two not_three)))) in
-      of (or_here (nat_lt f.a 256 && (nat_lt f.b 256 && small f.c)) _ (and_both (nat_lt f.a 256) (nat_lt f.b 256 && small f.c) (lt f.a 256 b.a) (and_both (nat_lt f.b 256) (small f.c) (lt f.b 256 b.b) (small_byte f.c b.c))))))))
+      (none_or (is_call op) (from_to op 0x7b 0x8f || (from_to op 0xb0 0xcf || from_to op 0xd0 0xd7)) no_call
+      (none_or (from_to op 0x7b 0x8f) (from_to op 0xb0 0xcf || from_to op 0xd0 0xd7) not_one (none_or (from_to op 0xb0 0xcf) (from_to op 0xd0 0xd7) not_two not_three)))) in
+      of (or_left (nat_lt f.a 256 && (nat_lt f.b 256 && small f.c)) _ (and_both (nat_lt f.a 256) (nat_lt f.b 256 && small f.c) (lt f.a 256 b.a) (and_both (nat_lt f.b 256) (small f.c) (lt f.b 256 b.b) (small_byte f.c b.c))))))))
 
   pub plain_spelled : is_call op ≡ false → is_branch op ≡ false → has_payload op ≡ false → Spelled (plain op f)
   unfolding plain
@@ -207,9 +195,9 @@ module _ (op : ℕ) (f : Fields) (low : op < 256) (narrow : format_passes is_nar
       and_both (nat_eq (suc r) (r + 1)) (are_adjacent (registers_from (suc r) (suc n))) one (follow (suc r) (suc n))
 
   by_range : (b : Bool) → (b ≡ true → f.a < 256) → fit_call (cond b (registers_from f.c f.a) (nibbles_form f)) ≡ true
-  by_range true h = or_there (fit_nibbles (registers_from f.c f.a)) (nat_lt (length (registers_from f.c f.a)) 256 && are_adjacent (registers_from f.c f.a))
+  by_range true h = or_right (fit_nibbles (registers_from f.c f.a)) (nat_lt (length (registers_from f.c f.a)) 256 && are_adjacent (registers_from f.c f.a))
       (and_both (nat_lt (length (registers_from f.c f.a)) 256) (are_adjacent (registers_from f.c f.a)) (lt _ 256 (subst (λ (n : ℕ). n < 256) (sym (many f.c f.a)) (h refl))) (follow f.c f.a))
-  by_range false h = or_here (fit_nibbles (nibbles_form f)) (nat_lt (length (nibbles_form f)) 256 && are_adjacent (nibbles_form f)) nibbles
+  by_range false h = or_left (fit_nibbles (nibbles_form f)) (nat_lt (length (nibbles_form f)) 256 && are_adjacent (nibbles_form f)) nibbles
 
   range_first : is_range op ≡ true → format_passes has_first op ≡ true
   unfolding format_at

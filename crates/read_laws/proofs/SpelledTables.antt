@@ -3,6 +3,8 @@ use Rattle.std.proofs.Common.{◌≡◌, ℕ, zero, suc, ◌<◌, ◌+◌, ◌-�
 use Rattle.std.specs.Prelude.{◌&&◌, ◌||◌, ◌==◌, nat_eq, nat_lt, ℤ, Option, Some, None, slice_get, slice_index, Ok}
 use Rattle.std.specs.List.{list_all}
 use Rattle.std.proofs.lemmas.Bool.{eqb-true, eq-eqb}
+use Rattle.lemmas.proofs.Bools.{and_both, and_right, clash, none_or}
+use Rattle.lemmas.proofs.Options.{none_some, some_same}
 use Rattle.insn_set.specs.Spelling.{fits_width, is_width, keys_ascend, is_encodable}
 use Rattle.insn_set.specs.declared.form.Insn.{Insn}
 use Rattle.code_read.specs.declared.fields.Fields.{Fields}
@@ -14,10 +16,10 @@ use Rattle.code_read.specs.Opcodes.{format_at}
 use Rattle.code_read.specs.Payloads.{double_in, signed_in, entries, bytes_in, item_in, items_in, keys_in, targets_in, has_payload, size_of, is_right, table_form}
 use Rattle.code_read.specs.Positions.{payload_at, unit_from, target_from}
 use Rattle.code_read.specs.Sweep.{Places, places_of, sweep_of}
-use Rattle.read_laws.proofs.BodyLists.{clash, and_right, and_both, none_some, some_same, all_items, Found, weaker, done, failed, as_read, when, either, next}
+use Rattle.read_laws.proofs.BodyLists.{all_items, Found, weaker, done, failed, as_read, when, either, next}
 use Rattle.read_laws.proofs.FieldBounds.{AreUnits, units_behind, has_first, format_passes, narrow_at, bytes_at, first_at, third_at}
 use Rattle.read_laws.proofs.Operands.{are_read, start_of}
-use Rattle.read_laws.proofs.Spelled.{Spelled, of, or, lt, behind, neither, plain_spelled, branch_spelled, call_spelled}
+use Rattle.read_laws.proofs.Spelled.{Spelled, of, or, lt, behind, plain_spelled, branch_spelled, call_spelled}
 
 -- ---- payloads
 
@@ -53,7 +55,7 @@ pick P w n false e h g = g e
 by_width : (P : ℕ → Type 0) (w : ℕ) → is_width w ≡ true → P 1 → P 2 → P 4 → P 8 → P w
 by_width P w h one two four eight =
     pick P w 1 (nat_eq w 1) refl one (λ e1. pick P w 2 (nat_eq w 2) refl two (λ e2. pick P w 4 (nat_eq w 4) refl four (λ e4.
-    subst P (sym (eqb-true w 8 (behind (nat_eq w 4) (nat_eq w 8) (behind (nat_eq w 1 || nat_eq w 2) (nat_eq w 4 || nat_eq w 8) h (neither (nat_eq w 1) (nat_eq w 2) e1 e2)) e4))) eight)))
+    subst P (sym (eqb-true w 8 (behind (nat_eq w 4) (nat_eq w 8) (behind (nat_eq w 1 || nat_eq w 2) (nat_eq w 4 || nat_eq w 8) h (none_or (nat_eq w 1) (nat_eq w 2) e1 e2)) e4))) eight)))
 
 abbrev ItemsFit : ℕ → List ℕ → ℕ → Type 0
 ItemsFit n us w = (is_width (w % 256) ≡ true) × (length (items_in w n us) ≡ n) × (list_all (λ item. fits_width (w % 256) item) (items_in w n us) ≡ true)

@@ -4,6 +4,9 @@ use Rattle.std.specs.Prelude.{◌||◌, not, nat_eq, nat_lt, replicate, slice_ge
 use Rattle.std.specs.List.{list_all, list_any}
 use Rattle.std.proofs.lemmas.Option.{slice_get_within}
 use Rattle.std.proofs.lemmas.Bool.{ltb-true, eq-eqb, ne_eqb}
+use Rattle.lemmas.proofs.Bools.{and_left, and_right, clash, not_true}
+use Rattle.lemmas.proofs.Lists.{any_at}
+use Rattle.lemmas.proofs.Numbers.{same_number}
 use Rattle.insn_set.specs.Flow.{targets_of}
 use Rattle.insn_set.specs.declared.form.Insn.{Insn}
 use Rattle.insn_set.specs.declared.form.Insn.TheVariants.{MoveResult, MoveException}
@@ -16,23 +19,7 @@ use Rattle.code_read.specs.Checks.{targets_inside}
 use Rattle.code_read.specs.Marks.{set_targets, set_regions, is_marked, goes_to, is_target, is_rest, catches_at, is_handler}
 use Rattle.code_read.specs.Order as read
 use Rattle.code_read.proofs.MarkLaws.{targets_say, handlers_say}
-use Rattle.read_laws.proofs.BodyLists.{clash, and_left, and_right, some_same, none_some, none_there, each, item_of, all_items, pairs_of}
-
-not_true : (b : Bool) → not b ≡ true → b ≡ false
-not_true true e = sym e
-not_true false e = refl
-
-pub any_of : {A : Type 0} (f : A → Bool) (xs : List A) (k : ℕ) (x : A) → slice_get xs k ≡ Some x → f x ≡ true → list_any f xs ≡ true
-any_of f [] k x e h = none_some x e
-any_of f (y ∷ ys) zero x e h = ap (λ (b : Bool). b || list_any f ys) (ap f (some_same y x e) ∙ h)
-any_of f (y ∷ ys) (suc k) x e h = either_one (f y) (list_any f ys) (any_of f ys k x e h)
-  where
-    either_one : (a b : Bool) → b ≡ true → (a || b) ≡ true
-    either_one true b h = refl
-    either_one false b h = h
-
-pub same_number : (n : ℕ) → nat_eq n n ≡ true
-same_number n = eq-eqb n n refl
+use Rattle.read_laws.proofs.BodyLists.{none_there, each, item_of, all_items, pairs_of}
 
 module _ (insns : List Insn) (regions : List Region) (placed : read.all_placed insns regions ≡ true) where
   abbrev targets : List Bool
@@ -123,4 +110,4 @@ module _ (insns : List Insn) (regions : List Region) (placed : read.all_placed i
   pub targets_enter : (inside : list_all (targets_inside (length insns)) insns ≡ true) (k : ℕ) (i : Insn) → slice_get insns k ≡ Some i → rule.targets_fit insns i ≡ true
   targets_enter inside k i e = all_items (λ target. rule.may_enter (slice_get insns target)) (targets_of i) (λ j t d.
       no_target t (slice_get insns t) refl (ltb-true t (length insns) (item_of (λ t. nat_lt t (length insns)) (targets_of i) (item_of (targets_inside (length insns)) insns inside k i e) j t d))
-      (any_of (goes_to t) insns k i e (any_of (λ u. nat_eq u t) (targets_of i) j t d (same_number t))))
+      (any_at (goes_to t) insns k i e (any_at (λ u. nat_eq u t) (targets_of i) j t d (same_number t))))

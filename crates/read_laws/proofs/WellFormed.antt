@@ -2,6 +2,7 @@
 use Rattle.std.proofs.Common.{◌≡◌, ℕ, ◌+◌, ◌*◌, true, List, [], Ok, refl, sym, subst, ◌∙◌}
 use Rattle.std.specs.List.{list_all}
 use Rattle.std.proofs.lemmas.Bool.{le-leb}
+use Rattle.lemmas.proofs.Lists.{all_more}
 use Rattle.program_model.specs.Cells.{cells_of}
 use Rattle.program_model.specs.Items.{items_of}
 use Rattle.program_model.specs.MemberRules.{class_fits}
@@ -18,7 +19,6 @@ use Rattle.read_laws.proofs.Bounds.{AreBytes}
 use Rattle.read_laws.proofs.ClassReading.{all_of}
 use Rattle.read_laws.proofs.Conjuncts.{all_tables_fit}
 use Rattle.read_laws.proofs.Counting.{few_cells}
-use Rattle.read_laws.proofs.FieldReading.{all_more}
 use Rattle.read_laws.proofs.Interfaces.{all_stand_free}
 use Rattle.read_laws.proofs.ItemCounting.{few_items}
 use Rattle.read_laws.proofs.MemberReading.{class_is}

@@ -2,6 +2,7 @@
 use Rattle.std.proofs.Common.{◌≡◌, ℕ, zero, suc, ◌<◌, Bool, true, false, List, [], ◌∷◌, length, refl, sym, ap, ◌∙◌, subst, inl, inr, arith, lt-ltb}
 use Rattle.std.specs.Prelude.{◌⊎◌, ◌&&◌, ◌||◌, not, Option, Some, None, map, slice_get, nat_eq, is_ok}
 use Rattle.std.specs.List.{list_any, list_all}
+use Rattle.lemmas.proofs.Options.{none_some, some_same}
 use Rattle.dex_base.specs.Descriptor.{descriptor_of}
 use Rattle.program_model.specs.declared.program.Method.{Method}
 use Rattle.program_model.specs.declared.program.Class.{Class}
@@ -40,7 +41,7 @@ use Rattle.removal_law.proofs.Walks.{choice, text_same as text_itself}
 use Rattle.removal_law.proofs.Declared.{none_there, not_false}
 use Rattle.removal_law.proofs.LeftTyped.{typed_left}
 use Rattle.removal_law.proofs.Outward.{any_where}
-use Rattle.removal_law.proofs.Trees.{class_name, class_in, defines_class, some_same, none_some}
+use Rattle.removal_law.proofs.Trees.{class_name, class_in, defines_class}
 use Rattle.removal_law.proofs.Acyclic.{regular}
 use Rattle.removal_law.proofs.Protos.{told_apart, protos_told}
 

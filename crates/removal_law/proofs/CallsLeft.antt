@@ -3,6 +3,7 @@ use Rattle.std.proofs.Common.{◌≡◌, ℕ, Bool, true, false, List, [], ◌�
 use Rattle.std.specs.Prelude.{◌&&◌, ◌||◌, not, Option, Some, None, is_some, flat_map, map}
 use Rattle.std.specs.List.{list_any}
 use Rattle.std.specs.Option.{option_and_then}
+use Rattle.lemmas.proofs.Options.{none_some}
 use Rattle.insn_set.specs.declared.ops.InvokeKind.{InvokeKind}
 use Rattle.insn_set.specs.declared.ops.InvokeKind.TheVariants as call
 use Rattle.dalvik_defs.specs.Names.{Text, text_eq, object_type, same_name, is_common}
@@ -29,7 +30,7 @@ use Rattle.removal_law.specs.Reach.{OkType, MadeType, LiveMethod, Says, IsRegula
 use Rattle.removal_law.proofs.Lists.{clash, In, here, contained, in_front, in_back, found_in}
 use Rattle.removal_law.proofs.Classes.{Kept}
 use Rattle.removal_law.proofs.Under.{under_same}
-use Rattle.removal_law.proofs.Trees.{none_some, class_in, defined, defines_same}
+use Rattle.removal_law.proofs.Trees.{class_in, defined, defines_same}
 use Rattle.removal_law.proofs.Finds.{in_flat}
 use Rattle.removal_law.proofs.Searches.{nothing_finds, along_defined, statically_left, super_left, at_left, at_in}
 use Rattle.removal_law.proofs.Virtuals.{IsMethodOf, answer}

@@ -2,6 +2,7 @@
 use Rattle.std.proofs.Common.{◌≡◌, ℕ, Bool, true, false, List, [], ◌∷◌, length, refl, sym, ap, ◌∙◌, subst, inl, inr}
 use Rattle.std.specs.Prelude.{◌⊎◌, ◌&&◌, ◌||◌, not, cond, Option, Some, None, is_some, filter, find, flat_map}
 use Rattle.std.specs.Option.{option_map}
+use Rattle.lemmas.proofs.Options.{none_some, some_same}
 use Rattle.dalvik_defs.specs.Names.{Text, text_eq, texts_eq, signature_eq, method_eq, same_name, is_common, base_of, proto_text, object_type}
 use Rattle.dalvik_defs.specs.Flags.{is_interface, is_virtual}
 use Rattle.dalvik_defs.specs.Under.{class_named, defines, is_under, is_outward, is_own_under}
@@ -30,7 +31,7 @@ use Rattle.removal_law.proofs.Under.{under_same}
 use Rattle.removal_law.proofs.Members.{key, key_sound, signature_sound}
 use Rattle.removal_law.proofs.Outward.{any_where, Up, inside, through, object, under_up}
 use Rattle.removal_law.proofs.Levels.{undefined_ends}
-use Rattle.removal_law.proofs.Trees.{some_same, none_some, class_name, class_in, class_kept, defined, undefined, defines_class, ends_same, own_under_left}
+use Rattle.removal_law.proofs.Trees.{class_name, class_in, class_kept, defined, undefined, defines_class, ends_same, own_under_left}
 use Rattle.removal_law.proofs.Finds.{in_filter, in_unfiltered}
 use Rattle.removal_law.proofs.Searches.{nothing_finds, at_left, at_some, at_in}
 use Rattle.removal_law.proofs.Virtuals.{IsMethodOf, inherited, answer, candidate_interface, candidate_version}

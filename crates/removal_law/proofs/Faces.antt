@@ -3,6 +3,7 @@ use Rattle.std.proofs.Common.{◌≡◌, ◌++◌, ℕ, zero, suc, Bool, true, f
 use Rattle.std.specs.Prelude.{Contains, ◌&&◌, ◌||◌, not, Option, Some, None, is_some, slice_get, nat_eq}
 use Rattle.std.specs.List.{list_any, list_all}
 use Rattle.std.specs.Option.{option_map}
+use Rattle.lemmas.proofs.Options.{none_some, some_same}
 use Rattle.dalvik_defs.specs.Names.{Text, text_eq, is_array, base_of, item_of, array_of}
 use Rattle.dalvik_defs.specs.Flags.{is_interface, is_abstract}
 use Rattle.dalvik_defs.specs.Under.{class_named, defines}
@@ -35,7 +36,7 @@ use Rattle.removal_law.proofs.Classes.{Kept, class_left, dead_found}
 use Rattle.removal_law.proofs.Fits.{in_by_test}
 use Rattle.removal_law.proofs.Members.{body_left}
 use Rattle.removal_law.proofs.Under.{under_same}
-use Rattle.removal_law.proofs.Trees.{some_same, none_some, class_name, defined, undefined}
+use Rattle.removal_law.proofs.Trees.{class_name, defined, undefined}
 use Rattle.removal_law.proofs.Finds.{in_flat}
 use Rattle.removal_law.proofs.Fields.{finds_left, found_defined, defined_left, dead_field}
 use Rattle.removal_law.proofs.Firsts.{initialiser_class, initialiser_left, initialiser_lives, first_left, first_stands}

@@ -2,6 +2,7 @@
 use Rattle.std.proofs.Common.{◌≡◌, ℕ, zero, suc, Bool, true, false, List, [], ◌∷◌, ◌++◌, length, refl, sym, ap, ◌∙◌, subst, inl, inr}
 use Rattle.std.specs.Prelude.{◌&&◌, Option, Some, None, map, filter}
 use Rattle.std.specs.Option.{option_map, option_or}
+use Rattle.lemmas.proofs.Options.{none_some, some_same}
 use Rattle.dalvik_defs.specs.Names.{Text, text_eq}
 use Rattle.dalvik_defs.specs.Under.{class_named, defines}
 use Rattle.dalvik_defs.specs.Find.{field_in, first_field, field_from, finds_field, defined_field}
@@ -16,7 +17,7 @@ use Rattle.removal_law.specs.Reach.{IsRegular}
 use Rattle.removal_law.proofs.Lists.{clash, In, here, there, in_either, and_left, and_behind, not_found}
 use Rattle.removal_law.proofs.Classes.{Kept, class_left}
 use Rattle.removal_law.proofs.Members.{find_filter}
-use Rattle.removal_law.proofs.Trees.{Tree, absent, present, some_same, none_some, class_name, defined, tree}
+use Rattle.removal_law.proofs.Trees.{Tree, absent, present, class_name, defined, tree}
 use Rattle.removal_law.proofs.Finds.{in_filter, Follow, follow_itself, follow_same, follow_or}
 
 abbrev named : Text → FieldKey → FieldKey

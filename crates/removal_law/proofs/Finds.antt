@@ -2,6 +2,7 @@
 use Rattle.std.proofs.Common.{◌≡◌, ℕ, zero, suc, Bool, true, false, List, [], ◌∷◌, ◌++◌, length, refl, sym, ap, ◌∙◌, subst, inl, inr}
 use Rattle.std.specs.Prelude.{◌⊎◌, ◌&&◌, not, cond, Option, Some, None, map, filter, flat_map}
 use Rattle.std.specs.Option.{option_map, option_or}
+use Rattle.lemmas.proofs.Options.{none_some, some_same}
 use Rattle.dalvik_defs.specs.Names.{Text, text_eq, same_name, is_common}
 use Rattle.dalvik_defs.specs.Flags.{is_interface}
 use Rattle.dalvik_defs.specs.Under.{class_named, is_own_under}
@@ -18,7 +19,7 @@ use Rattle.removal_law.specs.Reach.{IsRegular}
 use Rattle.removal_law.proofs.Lists.{clash, In, here, there, any_same, in_front, in_back, in_either, found_in, not_found}
 use Rattle.removal_law.proofs.Classes.{Kept}
 use Rattle.removal_law.proofs.Members.{key, key_sound, method_left}
-use Rattle.removal_law.proofs.Trees.{Tree, absent, present, some_same, none_some, tree, chain_left, own_under_left}
+use Rattle.removal_law.proofs.Trees.{Tree, absent, present, tree, chain_left, own_under_left}
 
 -- ---- lists
 

@@ -3,6 +3,7 @@ use Rattle.std.proofs.Common.{◌≡◌, ℕ, zero, suc, Bool, true, false, List
 use Rattle.std.specs.Prelude.{◌⊎◌, ◌&&◌, ◌||◌, not, cond, Option, Some, None, is_some, is_none, filter, flat_map}
 use Rattle.std.specs.List.{list_any}
 use Rattle.std.specs.Option.{option_map}
+use Rattle.lemmas.proofs.Options.{none_some, some_same}
 use Rattle.dalvik_defs.specs.Names.{Text, text_eq, void, initialiser_name}
 use Rattle.dalvik_defs.specs.Flags.{is_interface}
 use Rattle.dalvik_defs.specs.Under.{class_named, defines}
@@ -21,7 +22,7 @@ use Rattle.dalvik_defs.specs.Silence.{key_in}
 use Rattle.removal_law.proofs.Lists.{clash, In, here, there, in_either, contained}
 use Rattle.removal_law.proofs.Classes.{Kept, class_left, dead_found}
 use Rattle.removal_law.proofs.Members.{method_left}
-use Rattle.removal_law.proofs.Trees.{Tree, absent, some_same, none_some, class_name, class_kept, up_kept, defined, tree, defines_same}
+use Rattle.removal_law.proofs.Trees.{Tree, absent, class_name, class_kept, up_kept, defined, tree, defines_same}
 use Rattle.removal_law.proofs.Finds.{in_unfiltered, flat_same, flat_none, out_of_flat, dead_method, interface_left, interface_class, trees_up, Trees}
 
 -- a test that only kept elements pass

@@ -2,6 +2,7 @@
 use Rattle.std.proofs.Common.{◌≡◌, Bool, true, false, List, [], ◌∷◌, refl, sym, ap, ◌∙◌, inl, inr, subst}
 use Rattle.std.specs.Prelude.{◌||◌, ◌⊎◌, not}
 use Rattle.std.specs.List.{list_any, list_all}
+use Rattle.lemmas.proofs.Bools.{not_true}
 use Rattle.dalvik_defs.specs.Names.{Text, text_eq, object_type}
 use Rattle.dalvik_defs.specs.Known.{known_rows}
 use Rattle.dalvik_defs.specs.Under.{defines}
@@ -34,10 +35,6 @@ is_reserved u = list_any (text_eq u) reserved
 known : list_all (λ r. list_all is_reserved (named_by r)) known_rows ≡ true
 known = refl
 
-not_false : (b : Bool) → not b ≡ true → b ≡ false
-not_false true e = clash true refl (sym e)
-not_false false e = refl
-
 pub fit_names_none : (p : NamedProgram) (o : Outer) (f : Framework) (script : List Move) → Fit p o f script → NamesNone p f
 fit_names_none p o f script fit = record {
   rows = λ r c. by r (in_either r known_rows f.rows c);
@@ -46,4 +43,4 @@ fit_names_none p o f script fit = record {
   where
     by : (r : FrameworkType) → In r known_rows ⊎ In r f.rows → list_any (defines p) (named_by r) ≡ false
     by r (inl c) = any_none (defines p) (named_by r) (λ u d. none_in (defines p) reserved fit.classes u (in_by_test u reserved (all_in is_reserved (named_by r) (all_in (λ r. list_all is_reserved (named_by r)) known_rows known r c) u d)))
-    by r (inr c) = not_false (list_any (defines p) (named_by r)) (all_in (λ r. not (list_any (defines p) (named_by r))) f.rows fit.rows r c)
+    by r (inr c) = not_true (list_any (defines p) (named_by r)) (all_in (λ r. not (list_any (defines p) (named_by r))) f.rows fit.rows r c)

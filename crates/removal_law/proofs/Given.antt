@@ -2,6 +2,7 @@
 use Rattle.std.proofs.Common.{◌≡◌, ℕ, Bool, true, false, List, [], ◌∷◌, refl, sym, ap, ◌∙◌}
 use Rattle.std.specs.Prelude.{◌&&◌, ◌||◌, not, Option, Some, None, is_some}
 use Rattle.std.specs.List.{list_all}
+use Rattle.lemmas.proofs.Bools.{not_true}
 use Rattle.dalvik_defs.specs.Names.{Text, is_reference, is_class_type, is_array, is_wide, is_word, base_of, throwable_type}
 use Rattle.dalvik_defs.specs.Flags.{is_static, is_interface}
 use Rattle.dalvik_defs.specs.Find.{Found}
@@ -33,10 +34,6 @@ and_same false d b e i h = ap (λ x. x && e) i
 pub and_false : (a b : Bool) → (a ≡ true → b ≡ false) → (a && b) ≡ false
 and_false true b h = h refl
 and_false false b h = refl
-
-not_true : (b : Bool) → not b ≡ true → b ≡ false
-not_true true e = clash true refl (sym e)
-not_true false e = refl
 
 pub if_same : {A : Type 0} (b d : Bool) (x x' y y' : A) → b ≡ d → x ≡ x' → y ≡ y' → (elim b as (λ b. A) [ true ↦ x | false ↦ y ]) ≡ (elim d as (λ b. A) [ true ↦ x' | false ↦ y' ])
 if_same {A} true d x x' y y' e h k = h ∙ ap (λ z. elim z as (λ b. A) [ true ↦ x' | false ↦ y' ]) e

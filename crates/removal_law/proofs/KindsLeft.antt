@@ -5,6 +5,7 @@ use Rattle.std.specs.Prelude.{◌&&◌, ◌||◌, not, cond, nat_eq, Option, Som
 use Rattle.std.specs.List.{list_any}
 use Rattle.std.proofs.lemmas.Bool.{eq-eqb}
 use Rattle.std.specs.Option.{option_map}
+use Rattle.lemmas.proofs.Options.{none_some, some_same}
 use Rattle.dalvik_defs.specs.Names.{Text, text_eq, object_type, is_word, is_wide, is_reference, is_array, is_class_type, base_of}
 use Rattle.dalvik_defs.specs.Flags.{is_interface}
 use Rattle.dalvik_defs.specs.Under.{class_named, defines}
@@ -19,7 +20,7 @@ use Rattle.removal_law.specs.Reach.{IsRegular, OkType}
 use Rattle.removal_law.proofs.Lists.{clash, found_in}
 use Rattle.removal_law.proofs.Walks.{text_same}
 use Rattle.removal_law.proofs.Classes.{Kept, class_left}
-use Rattle.removal_law.proofs.Trees.{some_same, none_some, chain_named, chain_kept, defined}
+use Rattle.removal_law.proofs.Trees.{chain_named, chain_kept, defined}
 use Rattle.removal_law.proofs.Lines.{line_same, line_in_chain}
 use Rattle.removal_law.proofs.Outward.{no_bracket}
 

@@ -2,6 +2,7 @@
 use Rattle.std.proofs.Common.{◌≡◌, ℕ, suc, ◌+◌, ◌<◌, ◌≤◌, Bool, true, false, true≢false, List, [], ◌∷◌, length, refl, sym, ap, ◌∙◌, arith, inl, inr, subst}
 use Rattle.std.specs.Prelude.{◌||◌, ◌&&◌, ◌++◌, ◌⊎◌, cond, Some, None, Contains, map, find}
 use Rattle.std.specs.List.{list_any, list_all}
+use Rattle.lemmas.proofs.Bools.{or_false_left, or_false_right}
 use Rattle.dalvik_defs.proofs.Same.{or_more}
 pub use Rattle.removal_law.specs.Left.{In, here, there}
 
@@ -64,18 +65,10 @@ any_more f g h [] e = e
 any_more f g h (x ∷ xs) e = or_more (f x) (list_any f xs) (g x) (list_any g xs) (h x) (any_more f g h xs) e
 
 -- no element passes where none does
-or_left : (a b : Bool) → (a || b) ≡ false → a ≡ false
-or_left true b e = e
-or_left false b e = refl
-
-or_behind : (a b : Bool) → (a || b) ≡ false → b ≡ false
-or_behind true b e = clash true refl e
-or_behind false b e = e
-
 pub none_in : {A : Type 0} (f : A → Bool) (xs : List A) → list_any f xs ≡ false → (x : A) → In x xs → f x ≡ false
 none_in f [] e x c = elim c [ ]
-none_in f (y ∷ xs) e x (here ys) = or_left (f y) (list_any f xs) e
-none_in f (y ∷ xs) e x (there z ys c) = none_in f xs (or_behind (f y) (list_any f xs) e) x c
+none_in f (y ∷ xs) e x (here ys) = or_false_left (f y) (list_any f xs) e
+none_in f (y ∷ xs) e x (there z ys c) = none_in f xs (or_false_right (f y) (list_any f xs) e) x c
 
 pub and_left : (a b : Bool) → (a && b) ≡ true → a ≡ true
 and_left true b e = refl

@@ -2,6 +2,7 @@
 use Rattle.std.proofs.Common.{◌≡◌, ℕ, Bool, true, false, List, [], ◌∷◌, refl, sym, ap, ◌∙◌, subst, inl, inr}
 use Rattle.std.specs.Prelude.{◌⊎◌, ◌||◌, cond, map, filter}
 use Rattle.std.specs.List.{list_any}
+use Rattle.lemmas.proofs.Bools.{or_right}
 use Rattle.program_model.specs.declared.program.Program.{Program}
 use Rattle.program_model.specs.declared.pass.Outside.{Outside}
 use Rattle.dalvik_defs.specs.Names.{Text, text_eq, signature_eq, method_eq, same_name}
@@ -20,10 +21,6 @@ use Rattle.removal_law.proofs.Declared.{method_same}
 first_or_rest : {A : Type 0} (x z : A) (xs : List A) → In x (z ∷ xs) → (x ≡ z) ⊎ In x xs
 first_or_rest x z xs (here ys) = inl refl
 first_or_rest x z xs (there y ys i) = inr i
-
-either : (a b : Bool) → b ≡ true → (a || b) ≡ true
-either true b e = refl
-either false b e = e
 
 -- a key of a name and a signature
 named_key : (k : MethodKey) (n : Text) (g : Signature) → same_name k.name k.signature n g ≡ true → k ≡ key k.class n g
@@ -44,9 +41,9 @@ keeper_kept p t n g (x ∷ ns) i = by (same_name (method_at p x).name (method_at
     by true e j ih = elim (first_or_rest t (method_at p x).class (map (λ k. k.class) (named_among p ns n g)) j) [
       | inl h ↦ ap (λ b. b || list_any (λ i. method_eq (method_at p i) (key t n g)) ns)
           (subst (λ z. method_eq (method_at p x) z ≡ true) (named_key (method_at p x) n g e ∙ ap (λ z. key z n g) (sym h)) (method_same (method_at p x)))
-      | inr h ↦ either (method_eq (method_at p x) (key t n g)) (list_any (λ i. method_eq (method_at p i) (key t n g)) ns) (ih h)
+      | inr h ↦ or_right (method_eq (method_at p x) (key t n g)) (list_any (λ i. method_eq (method_at p i) (key t n g)) ns) (ih h)
     ]
-    by false e j ih = either (method_eq (method_at p x) (key t n g)) (list_any (λ i. method_eq (method_at p i) (key t n g)) ns) (ih j)
+    by false e j ih = or_right (method_eq (method_at p x) (key t n g)) (list_any (λ i. method_eq (method_at p i) (key t n g)) ns) (ih j)
 
 pub tables_agree : (p : Program) (o : Outside) → AgreesInside (outer_of p o)
 tables_agree p o = record {

@@ -2,6 +2,8 @@
 use Rattle.std.proofs.Common.{◌≡◌, ℕ, zero, suc, Bool, true, false, length, refl, sym, ap, ◌∙◌}
 use Rattle.std.specs.Prelude.{◌&&◌, ◌||◌, not, is_some}
 use Rattle.std.specs.List.{list_all}
+use Rattle.lemmas.proofs.Bools.{not_true}
+use Rattle.lemmas.proofs.Options.{some_same}
 use Rattle.dalvik_defs.specs.Names.{is_common, same_name, text_eq}
 use Rattle.dalvik_defs.specs.Flags.{is_interface}
 use Rattle.dalvik_defs.specs.Under.{class_named, is_own_under}
@@ -16,7 +18,6 @@ use Rattle.dalvik_defs.proofs.Same.{all_more, or_more, and_more}
 use Rattle.removal_law.specs.Left.{In}
 use Rattle.removal_law.specs.Reach.{ShutsHold, IsNarrowed}
 use Rattle.removal_law.proofs.Lists.{clash, and_left, and_behind, all_in}
-use Rattle.removal_law.proofs.Trees.{some_same}
 
 pub nothing_shut : (p : NamedProgram) (o : Outer) → ((k : MethodKey) → o.shut k ≡ false) → ShutsHold p o
 nothing_shut p o h = record {
@@ -24,10 +25,6 @@ nothing_shut p o h = record {
   others = λ k m d e x i a b j f g u v w. clash (o.shut k) i (h k);
   plain = λ k c v i e. clash (o.shut k) i (h k);
 }
-
-not_false : (b : Bool) → not b ≡ true → b ≡ false
-not_false true e = clash true refl (sym e)
-not_false false e = refl
 
 -- of two tests the first of which fails
 or_rest : (a b : Bool) → (not a || b) ≡ true → a ≡ true → b ≡ true
@@ -106,13 +103,13 @@ module _ (p : NamedProgram) (o : Outer) (l : Library) where
     narrowed = record {
       uncalled = λ k i. let n = narrow.only k i in
           ap (λ z. called_outside p z.name z.signature) (sym n.1.1.1.0)
-          ∙ not_false (called_outside p n.1.0.name n.1.0.signature) (and_behind (is_virtual_method n.1.0 && not (o.methods (key_of n.0 n.1.0)) && not (is_common n.1.0.name n.1.0.signature) && not (is_037 p.version && is_interface n.0.flags)) (not (called_outside p n.1.0.name n.1.0.signature))
+          ∙ not_true (called_outside p n.1.0.name n.1.0.signature) (and_behind (is_virtual_method n.1.0 && not (o.methods (key_of n.0 n.1.0)) && not (is_common n.1.0.name n.1.0.signature) && not (is_037 p.version && is_interface n.0.flags)) (not (called_outside p n.1.0.name n.1.0.signature))
           (and_left (basic n.0 n.1.0) (list_all (at_class (length p.classes) n.0 n.1.0) p.classes) n.1.1.1.1));
       others = others;
       plain = λ k c v i e. let n = narrow.only k i in
           let same : n.0 ≡ c = some_same n.0 c (sym n.1.1.0 ∙ ap (λ z. class_named p z.class) n.1.1.1.0 ∙ e) in
           ap (λ z. is_interface z.flags) (sym same)
-          ∙ and_no (is_037 p.version) (is_interface n.0.flags) (not_false (is_037 p.version && is_interface n.0.flags)
+          ∙ and_no (is_037 p.version) (is_interface n.0.flags) (not_true (is_037 p.version && is_interface n.0.flags)
           (and_behind (is_virtual_method n.1.0 && not (o.methods (key_of n.0 n.1.0)) && not (is_common n.1.0.name n.1.0.signature)) (not (is_037 p.version && is_interface n.0.flags))
           (and_left (is_virtual_method n.1.0 && not (o.methods (key_of n.0 n.1.0)) && not (is_common n.1.0.name n.1.0.signature) && not (is_037 p.version && is_interface n.0.flags)) (not (called_outside p n.1.0.name n.1.0.signature))
           (and_left (basic n.0 n.1.0) (list_all (at_class (length p.classes) n.0 n.1.0) p.classes) n.1.1.1.1)))) v;

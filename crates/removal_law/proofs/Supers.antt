@@ -1,6 +1,7 @@
 -- What a super call finds is of a class of the program; and what a name resolves to in what is left of a program.
 use Rattle.std.proofs.Common.{◌≡◌, ℕ, zero, suc, Bool, true, false, List, [], ◌∷◌, ◌++◌, length, refl, sym, ap, ◌∙◌}
 use Rattle.std.specs.Prelude.{Option, Some, None, map, flat_map}
+use Rattle.lemmas.proofs.Lists.{map_append}
 use Rattle.dalvik_defs.specs.Names.{Text}
 use Rattle.dalvik_defs.specs.Flags.{is_interface}
 use Rattle.dalvik_defs.specs.Under.{class_named, defines}
@@ -18,10 +19,6 @@ use Rattle.removal_law.proofs.Trees.{Tree, absent, present, tree, defined, undef
 use Rattle.removal_law.proofs.Finds.{flat_none, Trees, LiveFound, follow_same, first_follows, chain_same, among_in, zero_left, zero_right}
 use Rattle.removal_law.proofs.Searches.{nothing_finds, along_defined, interfaces_kept, interfaces_same}
 use Rattle.removal_law.proofs.Virtuals.{candidate}
-
-pub map_append : {A B : Type 0} (g : A → B) (xs ys : List A) → map g (xs ++ ys) ≡ map g xs ++ map g ys
-map_append g [] ys = refl
-map_append g (x ∷ xs) ys = ap (λ zs. g x ∷ zs) (map_append g xs ys)
 
 flat_mapped : {A B C : Type 0} (f : A → List C) (h : A → List B) (g : B → C) (xs : List A) → ((x : A) → In x xs → f x ≡ map g (h x)) → flat_map f xs ≡ map g (flat_map h xs)
 flat_mapped f h g [] e = refl

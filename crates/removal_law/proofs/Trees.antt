@@ -17,12 +17,6 @@ use Rattle.removal_law.proofs.Walks.{choice, choice_false}
 use Rattle.removal_law.proofs.Classes.{Kept, class_left, left_less}
 use Rattle.removal_law.proofs.Levels.{all_same, enough_steps}
 
-pub some_same : {A : Type 0} (x y : A) → Some x ≡ Some y → x ≡ y
-some_same {A} x y e = ap (λ o. elim o as (λ o. A) [ Some z ↦ z | None ↦ x ]) e
-
-pub none_some : {A B : Type 0} (x : A) → None ≡ Some x → B
-none_some x e = clash true refl (ap (λ o. elim o as (λ o. Bool) [ Some z ↦ false | None ↦ true ]) e)
-
 pub class_name : (p : NamedProgram) (t : Text) (c : NamedClass) → class_named p t ≡ Some c → c.name ≡ t
 class_name p t c e = text_sound c.name t (found_in (λ c. text_eq c.name t) p.classes c e).passes
 

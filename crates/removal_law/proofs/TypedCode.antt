@@ -2,6 +2,7 @@
 use Rattle.std.proofs.Common.{◌≡◌, ℕ, zero, suc, ◌<◌, Bool, true, false, List, [], ◌∷◌, ◌++◌, length, refl, sym, ap, ◌∙◌, subst, arith, inl, inr}
 use Rattle.std.specs.Prelude.{◌&&◌, ◌||◌, ◌⊎◌, not, Option, Some, None, map, slice_get, slice_index_or, if◌then◌else◌, codes}
 use Rattle.std.specs.List.{list_all}
+use Rattle.lemmas.proofs.Lists.{got_short}
 use Rattle.dalvik_defs.specs.Names.{Text, text_eq, is_array, is_class_type, is_reference, item_of}
 use Rattle.dalvik_defs.specs.Flags.{is_interface, is_abstract}
 use Rattle.dalvik_defs.specs.Under.{class_named, defines}
@@ -24,7 +25,6 @@ use Rattle.pass_defs.specs.Typed.{Table, state_at, each, at_state, arrives, afte
 use Rattle.removal_law.specs.Left.{In, here, there}
 use Rattle.removal_law.specs.Reach.{TellsApart, TellsProtos, IsSoundCode}
 use Rattle.removal_law.proofs.Lists.{clash, and_left, and_behind, all_in, in_front, in_back, in_either, in_map, contained}
-use Rattle.removal_law.proofs.Trees.{none_some}
 use Rattle.removal_law.proofs.CallsLeft.{body_in}
 
 -- what stands at a place of a list stands in it
@@ -34,11 +34,6 @@ from_contained (y ∷ xs) x zero lt e = subst (λ z. In z (y ∷ xs)) e (here xs
 from_contained (y ∷ xs) x (suc k) lt e = there y xs (from_contained xs x k (omega (arith, lt)) e)
 
 -- a place at which there is something
-pub place_below : {A : Type 0} (xs : List A) (n : ℕ) (x : A) → slice_get xs n ≡ Some x → n < length xs
-place_below [] n x e = none_some x e
-place_below (y ∷ xs) zero x e = omega arith
-place_below (y ∷ xs) (suc n) x e = let h = place_below xs n x e in omega (arith, h)
-
 -- a test of each number below a bound
 pub each_at : (n : ℕ) (test : ℕ → Bool) → each n test ≡ true → (k : ℕ) → k < n → test k ≡ true
 each_at zero test e k lt = absurd (omega (arith, lt))
@@ -71,7 +66,7 @@ module _ (p : NamedProgram) (c : NamedClass) (m : NamedMethod) (b : NamedBody) (
   edge_state n f a i j e k = has_above e.1 e.0 (state_at t e.0) refl (all_in (arrives p t) (edges p c b n f a)
       (sym (ap (λ o. elim o as (λ o. Bool) [ Some f ↦ elim (state_at t n) as (λ s. Bool) [ Some a ↦ list_all (arrives p t) (edges p c b n f a) | None ↦ true ] | None ↦ true ]) i
       ∙ ap (λ s. elim s as (λ s. Bool) [ Some a ↦ list_all (arrives p t) (edges p c b n f a) | None ↦ true ]) j)
-      ∙ each_at (length b.forms) (λ n. at_state b t (λ f a. list_all (arrives p t) (edges p c b n f a)) n) typing.edges n (place_below b.forms n f i)) e k)
+      ∙ each_at (length b.forms) (λ n. at_state b t (λ f a. list_all (arrives p t) (edges p c b n f a)) n) typing.edges n (got_short b.forms n f i)) e k)
 
   onward_edge : (n u : ℕ) (f : Form) (a : Kinds) → In u (onward f n) → In {A = ℕ × Kinds} (u, after p c n f a) (edges p c b n f a)
   onward_edge n u f a i = in_front {A = ℕ × Kinds} (u, after p c n f a) (map (λ q. (q, after p c n f a)) (onward f n)) (map (λ h. (h.0, record a { caught = h.1 })) (catches p b n f)) (in_map (λ q. (q, after p c n f a)) u (onward f n) i)
@@ -143,7 +138,7 @@ module _ (p : NamedProgram) (c : NamedClass) (m : NamedMethod) (b : NamedBody) (
     s.0,
     sym (ap (λ o. elim o as (λ o. Bool) [ Some f ↦ elim (state_at t n) as (λ s. Bool) [ Some a ↦ not (is_wrong p c m a f) | None ↦ true ] | None ↦ true ]) i
         ∙ ap (λ s. elim s as (λ s. Bool) [ Some a ↦ not (is_wrong p c m a f) | None ↦ true ]) s.1)
-        ∙ each_at (length b.forms) (at_state b t (λ f a. not (is_wrong p c m a f))) typing.right n (place_below b.forms n f i),
+        ∙ each_at (length b.forms) (at_state b t (λ f a. not (is_wrong p c m a f))) typing.right n (got_short b.forms n f i),
   )
 
 pub not_not : (b : Bool) → not (not b) ≡ true → b ≡ true

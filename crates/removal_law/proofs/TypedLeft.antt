@@ -3,6 +3,7 @@ use Rattle.std.proofs.Common.{◌≡◌, ℕ, zero, suc, ◌-◌, ◌<◌, Bool,
 use Rattle.std.specs.Prelude.{◌&&◌, not, Option, Some, None, map, replicate, if◌then◌else◌}
 use Rattle.std.specs.List.{list_all}
 use Rattle.std.specs.Option.{option_map}
+use Rattle.lemmas.proofs.Lists.{map_append, map_long, map_replicate}
 use Rattle.dalvik_defs.specs.Names.{Text, object_type}
 use Rattle.dalvik_defs.specs.Flags.{is_static, is_interface}
 use Rattle.dalvik_defs.specs.Under.{defines}
@@ -31,17 +32,8 @@ use Rattle.removal_law.proofs.AllowedLeft.{allowed_left}
 use Rattle.removal_law.proofs.WrongLeft.{right_left}
 use Rattle.removal_law.proofs.AfterLeft.{after_left}
 use Rattle.removal_law.proofs.WritesLeft.{left_kinds, Stands, stands_itself, stands_same, state_left}
-use Rattle.removal_law.proofs.Supers.{map_append}
 
 -- ---- lists
-
-length_map : {A B : Type 0} (g : A → B) (xs : List A) → length (map g xs) ≡ length xs
-length_map g [] = refl
-length_map g (x ∷ xs) = ap suc (length_map g xs)
-
-map_replicate : {A B : Type 0} (g : A → B) (n : ℕ) (x : A) → map g (replicate n x) ≡ replicate n (g x)
-map_replicate g zero x = refl
-map_replicate g (suc n) x = ap (λ ys. g x ∷ ys) (map_replicate g n x)
 
 -- a test of all images
 all_images : {A B C : Type 0} (f : B → Bool) (g : C → Bool) (h : A → B) (k : A → C) → ((x : A) → f (h x) ≡ true → g (k x) ≡ true) → (xs : List A) → list_all f (map h xs) ≡ true → list_all g (map k xs) ≡ true
@@ -222,7 +214,7 @@ module _ (p : NamedProgram) (s : Family) (above : KeepsAbove p s) (regular : IsR
 
   pub typing_left : (b : NamedBody) (t : Table) → BodyLeft b → IsTyping p c m b t → IsTyping q (left_in s c) m b (left_table t)
   typing_left b t h typing = record {
-    long = length_map (option_map lefts) t ∙ typing.long;
+    long = map_long (option_map lefts) t ∙ typing.long;
     entry = arrives_left t 0 (begun p c m b) (begun q (left_in s c) m b) (stands_same p s above regular none (begun p c m b) (begun q (left_in s c) m b) (begun_left b h.class h.parameters)) typing.entry;
     reads = each_below (length b.forms) (at_state b (left_table t) (λ f a. is_allowed q (left_in s c) m a f))
         (λ n lt. test_left b t n (λ f a. is_allowed q (left_in s c) m a f) (λ f a i j. allowed_left p s above regular none c m a f (h.forms n f i) (right n f a lt i j) (reads n f a lt i j)));

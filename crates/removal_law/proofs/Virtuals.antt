@@ -1,6 +1,7 @@
 -- What an object of a class answers to: a virtual method of a class of the program, of the name and signature.
 use Rattle.std.proofs.Common.{◌≡◌, ℕ, zero, suc, Bool, true, false, List, [], ◌∷◌, ◌++◌, length, refl, sym, ap, ◌∙◌, subst, inl, inr}
 use Rattle.std.specs.Prelude.{◌⊎◌, ◌&&◌, not, Option, Some, None, flat_map}
+use Rattle.lemmas.proofs.Options.{none_some}
 use Rattle.dalvik_defs.specs.Names.{Text, same_name, is_common}
 use Rattle.dalvik_defs.specs.Flags.{is_interface}
 use Rattle.dalvik_defs.specs.Under.{class_named}
@@ -14,7 +15,7 @@ use Rattle.pass_defs.specs.Calls.{inherits, candidates_of}
 use Rattle.removal_law.specs.Reach.{IsRegular}
 use Rattle.removal_law.proofs.Lists.{In, here, there, in_either, found_in}
 use Rattle.removal_law.proofs.Members.{key}
-use Rattle.removal_law.proofs.Trees.{none_some, class_name, chain_named}
+use Rattle.removal_law.proofs.Trees.{class_name, chain_named}
 use Rattle.removal_law.proofs.Finds.{out_of_flat, Where, first_where, where_key, passed, interface_class, repeats_in}
 
 -- a virtual method of a class

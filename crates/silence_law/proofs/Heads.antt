@@ -4,6 +4,7 @@ use std.Path.{fun_ext}
 use Rattle.std.specs.Prelude.{◌&&◌, not, Option, Some, None, map, filter, find, flat_map, if◌then◌else◌}
 use Rattle.std.specs.List.{list_any}
 use Rattle.std.specs.Option.{option_map, option_or}
+use Rattle.lemmas.proofs.Lists.{map_append, map_long}
 use Rattle.dalvik_defs.specs.Names.{Text, text_eq, same_name, is_common}
 use Rattle.dalvik_defs.specs.Flags.{is_interface}
 use Rattle.dalvik_defs.specs.Under.{class_named, walks, own_above, is_own_under}
@@ -17,7 +18,7 @@ use Rattle.dalvik_defs.specs.declared.program.NamedClass.{NamedClass}
 use Rattle.dalvik_defs.specs.declared.program.NamedProgram.{NamedProgram}
 use Rattle.pass_defs.specs.Kinds.{is_plain, is_program_interface, line_from, line_of, nearest}
 use Rattle.silence_law.specs.Bodies.{Change, method_changed, class_changed, changed, KeepsCode}
-use Rattle.silence_law.proofs.Lists.{length_same, map_both, find_same, any_map, flat_same, flat_mapped}
+use Rattle.silence_law.proofs.Lists.{find_same, any_map, flat_same, flat_mapped}
 
 -- what is said of a class that was looked up
 abbrev pub class_case : {X : Type 0} → (NamedClass → X) → X → Option NamedClass → X
@@ -43,7 +44,7 @@ module _ (new : Change) (p : NamedProgram) where
   at_class f g z h t = ap (class_case f z) (class_same t) ∙ case_same f g z h (class_named p t)
 
   pub count : length q.classes ≡ length p.classes
-  count = length_same other p.classes
+  count = map_long other p.classes
 
   pub plain_same : is_plain q ≡ is_plain p
   plain_same = fun_ext (at_class (λ c. not (is_interface c.flags)) (λ c. not (is_interface c.flags)) false (λ c. refl))
@@ -231,7 +232,7 @@ module _ (new : Change) (p : NamedProgram) where
         ∙ ap (λ ts. first_method (λ m. true) k.name k.signature (map other (chain_of p k.class) ++ interfaces_from (length q.classes) q ts)) (flat_same (λ c. c.interfaces) other (λ c. refl) (chain_of p k.class))
         ∙ ap (λ n. first_method (λ m. true) k.name k.signature (map other (chain_of p k.class) ++ interfaces_from n q (flat_map (λ c. c.interfaces) (chain_of p k.class)))) count
         ∙ ap (λ f. first_method (λ m. true) k.name k.signature (map other (chain_of p k.class) ++ f (flat_map (λ c. c.interfaces) (chain_of p k.class)))) (interfaces_same (length p.classes))
-        ∙ ap (first_method (λ m. true) k.name k.signature) (sym (map_both other (chain_of p k.class) (interfaces_from (length p.classes) p (flat_map (λ c. c.interfaces) (chain_of p k.class)))))
+        ∙ ap (first_method (λ m. true) k.name k.signature) (sym (map_append other (chain_of p k.class) (interfaces_from (length p.classes) p (flat_map (λ c. c.interfaces) (chain_of p k.class)))))
         ∙ first_same (λ m. true) (λ c m. refl) k.name k.signature (chain_of p k.class ++ interfaces_from (length p.classes) p (flat_map (λ c. c.interfaces) (chain_of p k.class)))
 
     pub resolves_same : resolves_method q ≡ resolves_method p

@@ -3,29 +3,16 @@ use Rattle.std.proofs.Common.{◌≡◌, suc, Bool, true, false, true≢false, L
 use Rattle.std.specs.Prelude.{◌&&◌, ◌||◌, cond, Some, map, find, flat_map}
 use Rattle.std.specs.List.{list_any, list_all}
 use Rattle.std.specs.Option.{option_map}
-
-pub clash : (b : Bool) {A : Type 0} → b ≡ true → b ≡ false → A
-clash b e f = absurd (true≢false (sym e ∙ f))
+use Rattle.lemmas.proofs.Bools.{and_right}
+use Rattle.lemmas.proofs.Lists.{map_append}
 
 pub and_left : (a b : Bool) → (a && b) ≡ true → a ≡ true
 and_left true b e = refl
 and_left false b e = e
 
-pub and_right : (a b : Bool) → (a && b) ≡ true → b ≡ true
-and_right true b e = e
-and_right false b e = clash false e refl
-
 pub and_both : (a b : Bool) → a ≡ true → b ≡ true → (a && b) ≡ true
 and_both true b e f = f
 and_both false b e f = e
-
-pub length_same : {A B : Type 0} (g : A → B) (xs : List A) → length (map g xs) ≡ length xs
-length_same g [] = refl
-length_same g (x ∷ xs) = ap suc (length_same g xs)
-
-pub map_both : {A B : Type 0} (g : A → B) (xs ys : List A) → map g (xs ++ ys) ≡ map g xs ++ map g ys
-map_both g [] ys = refl
-map_both g (x ∷ xs) ys = ap (λ zs. g x ∷ zs) (map_both g xs ys)
 
 -- a search whose test looks at nothing that changes
 pub find_same : {A : Type 0} (g : A → A) (f : A → Bool) → ((x : A) → f (g x) ≡ f x) → (xs : List A) → find f (map g xs) ≡ option_map g (find f xs)
@@ -51,21 +38,9 @@ flat_same f g h (x ∷ xs) = ap (λ ys. ys ++ flat_map f (map g xs)) (h x) ∙ a
 -- a list of what is flat
 pub flat_mapped : {A B : Type 0} (f : A → List B) (g : B → B) (xs : List A) → flat_map (λ x. map g (f x)) xs ≡ map g (flat_map f xs)
 flat_mapped f g [] = refl
-flat_mapped f g (x ∷ xs) = ap (λ ys. map g (f x) ++ ys) (flat_mapped f g xs) ∙ sym (map_both g (f x) (flat_map f xs))
+flat_mapped f g (x ∷ xs) = ap (λ ys. map g (f x) ++ ys) (flat_mapped f g xs) ∙ sym (map_append g (f x) (flat_map f xs))
 
 -- ---- tests of all items
-
-pub all_front : {A : Type 0} (f : A → Bool) (xs ys : List A) → list_all f (xs ++ ys) ≡ true → list_all f xs ≡ true
-all_front f [] ys e = refl
-all_front f (x ∷ xs) ys e = and_both (f x) (list_all f xs) (and_left (f x) (list_all f (xs ++ ys)) e) (all_front f xs ys (and_right (f x) (list_all f (xs ++ ys)) e))
-
-pub all_back : {A : Type 0} (f : A → Bool) (xs ys : List A) → list_all f (xs ++ ys) ≡ true → list_all f ys ≡ true
-all_back f [] ys e = e
-all_back f (x ∷ xs) ys e = all_back f xs ys (and_right (f x) (list_all f (xs ++ ys)) e)
-
-pub all_joined : {A : Type 0} (f : A → Bool) (xs ys : List A) → list_all f xs ≡ true → list_all f ys ≡ true → list_all f (xs ++ ys) ≡ true
-all_joined f [] ys d e = e
-all_joined f (x ∷ xs) ys d e = and_both (f x) (list_all f (xs ++ ys)) (and_left (f x) (list_all f xs) d) (all_joined f xs ys (and_right (f x) (list_all f xs) d) e)
 
 -- a test that follows from two
 pub all_from : {A : Type 0} (f g h : A → Bool) → ((x : A) → f x ≡ true → g x ≡ true → h x ≡ true) → (xs : List A) → list_all f xs ≡ true → list_all g xs ≡ true → list_all h xs ≡ true

@@ -4,6 +4,8 @@ use Rattle.std.proofs.Common.{◌≡◌, ℕ, zero, suc, ◌+◌, Bool, true, fa
 use Rattle.std.specs.Prelude.{◌&&◌, not, Option, Some, None, map, if◌then◌else◌, slice_get}
 use Rattle.std.specs.List.{list_all}
 use Rattle.std.specs.Option.{option_map}
+use Rattle.lemmas.proofs.Bools.{and_right, clash, not_true}
+use Rattle.lemmas.proofs.Lists.{all_append, all_first, all_last}
 use Rattle.insn_set.specs.declared.ops.InvokeKind.{InvokeKind}
 use Rattle.insn_set.specs.declared.ops.InvokeKind.TheVariants as call
 use Rattle.dalvik_defs.specs.Outer.{Outer}
@@ -26,14 +28,7 @@ use Rattle.pass_defs.specs.Registers.{Kinds, kind_at, state_below, all_below}
 use Rattle.pass_defs.specs.Demands.{meets, demands, place_allowed, is_allowed, is_constructor_name}
 use Rattle.pass_defs.specs.Typed.{begun, constructed, receiver_register, is_static_call, called, after, is_wrong, catch_all, catches_in, catches, edges, Table, state_at, each, at_state, arrives, IsTyping}
 use Rattle.silence_law.specs.Results.{gives_result, takes_none, TakesInPlace}
-use Rattle.silence_law.proofs.Lists.{clash, and_left, and_right, and_both, all_map, all_front, all_back, all_joined, all_from}
-
-not_true : (b : Bool) → not b ≡ true → b ≡ false
-not_true true e = clash false e refl
-not_true false e = refl
-
-not_false : (b : Bool) → b ≡ false → not b ≡ true
-not_false b e = ap not e
+use Rattle.silence_law.proofs.Lists.{and_left, and_both, all_map, all_from}
 
 -- ---- kinds whose result is undefined where it isn't taken
 
@@ -181,11 +176,11 @@ module _ (p : NamedProgram) where
 
       region_places : (o : Option NamedRegion) → list_all (takes_none b) (handlers_of o) ≡ true → list_all (λ (h : ℕ × Kind). takes_none b h.0) (catches_in p o) ≡ true
       region_places None e = refl
-      region_places (Some r) e = all_joined (λ (h : ℕ × Kind). takes_none b h.0) (map (λ h. (h.position, kind_of p h.kind)) r.handlers) (catch_all r.rest)
+      region_places (Some r) e = all_append (λ (h : ℕ × Kind). takes_none b h.0) (map (λ h. (h.position, kind_of p h.kind)) r.handlers) (catch_all r.rest)
           (all_map (λ (h : ℕ × Kind). takes_none b h.0) (λ (h : NamedHandler). (h.position, kind_of p h.kind)) r.handlers
           ∙ sym (all_map (takes_none b) (λ (h : NamedHandler). h.position) r.handlers)
-          ∙ all_front (takes_none b) (map (λ h. h.position) r.handlers) (listed r.rest) e)
-          (rest_places r.rest ∙ all_back (takes_none b) (map (λ h. h.position) r.handlers) (listed r.rest) e)
+          ∙ all_first (takes_none b) (map (λ h. h.position) r.handlers) (listed r.rest) e)
+          (rest_places r.rest ∙ all_last (takes_none b) (map (λ h. h.position) r.handlers) (listed r.rest) e)
 
       caught_places : (n : ℕ) (f : Form) → list_all (takes_none b) (caught b f n) ≡ true → list_all (λ (h : ℕ × Kind). takes_none b h.0) (catches p b n f) ≡ true
       caught_places n f e = by (may_throw f) e
@@ -207,11 +202,11 @@ module _ (p : NamedProgram) where
       edges_kept takes n f a i w e =
           let before : List (ℕ × Kinds) = map (goes_to (after p c n f a)) (onward f n) in
           let thrown : List (ℕ × Kinds) = map (caught_with a) (catches p b n f) in
-          all_joined (arrives p u) (map (goes_to (after p c n f (raise takes a))) (onward f n)) (map (caught_with (raise takes a)) (catches p b n f))
+          all_append (arrives p u) (map (goes_to (after p c n f (raise takes a))) (onward f n)) (map (caught_with (raise takes a)) (catches p b n f))
           (all_map (arrives p u) (goes_to (after p c n f (raise takes a))) (onward f n)
-          ∙ onward_kept takes (gives_result f) n f a i w refl (sym (all_map (arrives p t) (goes_to (after p c n f a)) (onward f n)) ∙ all_front (arrives p t) before thrown e))
+          ∙ onward_kept takes (gives_result f) n f a i w refl (sym (all_map (arrives p t) (goes_to (after p c n f a)) (onward f n)) ∙ all_first (arrives p t) before thrown e))
           (all_map (arrives p u) (caught_with (raise takes a)) (catches p b n f)
-          ∙ caught_kept takes n f a i (sym (all_map (arrives p t) (caught_with a) (catches p b n f)) ∙ all_back (arrives p t) before thrown e))
+          ∙ caught_kept takes n f a i (sym (all_map (arrives p t) (caught_with a) (catches p b n f)) ∙ all_last (arrives p t) before thrown e))
 
       -- ---- a silent call
 

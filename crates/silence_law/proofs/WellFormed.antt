@@ -3,6 +3,9 @@ use Rattle.std.proofs.Common.{◌≡◌, ℕ, zero, suc, ◌+◌, ◌-◌, ◌<�
 use Rattle.std.specs.Prelude.{◌&&◌, not, cond, nat_le, nat_lt, Option, Some, None, map, find, Contains, slice_get, slice_index_or}
 use Rattle.std.specs.List.{list_all, enumerate_from}
 use Rattle.std.specs.Option.{option_map}
+use Rattle.lemmas.proofs.Bools.{and_right, clash}
+use Rattle.lemmas.proofs.Lists.{all_append, get_map}
+use Rattle.lemmas.proofs.Options.{before_map, none_some, some_same}
 use Rattle.insn_set.specs.Spelling.{is_encodable}
 use Rattle.insn_set.specs.Flow.{targets_of}
 use Rattle.insn_set.specs.declared.form.Insn.{Insn}
@@ -34,27 +37,12 @@ use Rattle.pass_defs.specs.Bare.{may_throw, continues, targets}
 use Rattle.pass_defs.specs.Quiet.{takes_result}
 use Rattle.pass_defs.specs.Walks.{is_covered, form_at, next_position, onward, caught, listed, handlers_of, handlers_at}
 use Rattle.silence_law.specs.Results.{gives_result, takes_none, TakesInPlace, AllTakeInPlace}
-use Rattle.silence_law.proofs.Lists.{clash, and_left, and_right, and_both, all_map, all_joined, all_from}
+use Rattle.silence_law.proofs.Lists.{and_left, and_both, all_map, all_from}
 use Rattle.silence_law.proofs.Moved.{image}
 
 -- ---- lists
 
-some_same : {A : Type 0} (x y : A) → Some x ≡ Some y → x ≡ y
-some_same {A} x y e = ap (λ o. elim o as (λ o. A) [ Some z ↦ z | None ↦ x ]) e
-
-none_some : {A B : Type 0} (y : A) → None ≡ Some y → B
-none_some y e = absurd (true≢false (ap (λ o. elim o as (λ o. Bool) [ Some z ↦ false | None ↦ true ]) e))
-
 -- what is changed to something is something
-before_map : {A B : Type 0} (g : A → B) (o : Option A) (y : B) → option_map g o ≡ Some y → (x : A) × ((o ≡ Some x) × (g x ≡ y))
-before_map g None y e = none_some y e
-before_map g (Some x) y e = (x, (refl, some_same (g x) y e))
-
-get_map : {A B : Type 0} (g : A → B) (xs : List A) (n : ℕ) → slice_get (map g xs) n ≡ option_map g (slice_get xs n)
-get_map g [] n = refl
-get_map g (x ∷ xs) zero = refl
-get_map g (x ∷ xs) (suc n) = get_map g xs n
-
 all_at : {A : Type 0} (f : A → Bool) (xs : List A) (x : A) (k : ℕ) → k < length xs → slice_index_or xs k x ≡ x → list_all f xs ≡ true → f x ≡ true
 all_at f [] x k lt e h = absurd (omega (arith, lt))
 all_at f (y ∷ ys) x zero lt e h = ap f (sym e) ∙ and_left (f y) (list_all f ys) h
@@ -146,7 +134,7 @@ module _ (p : Program) where
         ∙ at_place (suc n) (none_behind i (slice_get b.insns (suc n)) (subst (λ o. Follow o (slice_get b.insns (suc n))) e (follow b.insns n neighbours_fit)) h)
 
     insn_onward : (n : ℕ) (i : Insn) → slice_get b.insns n ≡ Some i → has_result i ≡ false → list_all (takes_none code) (onward (form_of p i) n) ≡ true
-    insn_onward n i e h = all_joined (takes_none code) (next_position (continues (form_of p i)) n) (targets (form_of p i)) (next (continues (form_of p i)))
+    insn_onward n i e h = all_append (takes_none code) (next_position (continues (form_of p i)) n) (targets (form_of p i)) (next (continues (form_of p i)))
         (ap (list_all (takes_none code)) (targets_same i)
         ∙ all_from (λ t. may_enter (slice_get b.insns t)) (λ t. may_enter (slice_get b.insns t)) (takes_none code) (λ t d x. at_place t (none_enters (slice_get b.insns t) d)) (targets_of i) (targets_at b.insns 0 n i insns_fit e) (targets_at b.insns 0 n i insns_fit e))
       where
@@ -172,7 +160,7 @@ module _ (p : Program) where
     region_none r e =
         let inner = and_right (catches r) (list_all (handler_fits p b.insns) r.handlers && rest_fits b.insns r.rest) (and_right (nat_lt r.first r.end && nat_le r.end (length b.insns)) (catches r && (list_all (handler_fits p b.insns) r.handlers && rest_fits b.insns r.rest)) e) in
         let hs = and_left (list_all (handler_fits p b.insns) r.handlers) (rest_fits b.insns r.rest) inner in
-        all_joined (takes_none code) (map (λ h. h.position) (map (handler_of p) r.handlers)) (listed r.rest)
+        all_append (takes_none code) (map (λ h. h.position) (map (handler_of p) r.handlers)) (listed r.rest)
         (all_map (takes_none code) (λ (h : NamedHandler). h.position) (map (handler_of p) r.handlers)
         ∙ all_map (λ (h : NamedHandler). takes_none code h.position) (handler_of p) r.handlers
         ∙ all_from (handler_fits p b.insns) (handler_fits p b.insns) (λ (h : Handler). takes_none code h.position) (λ h d x. handler_none h d) r.handlers hs hs)

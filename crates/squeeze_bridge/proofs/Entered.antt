@@ -2,6 +2,7 @@
 use Rattle.std.proofs.Common.{◌≡◌, ℕ, zero, suc, ◌<◌, Bool, true, false, true≢false, List, [], ◌∷◌, length, refl, sym, ap, ◌∙◌, subst, arith}
 use Rattle.std.specs.Prelude.{◌&&◌, not, Option, Some, None, slice_get}
 use Rattle.std.specs.List.{list_all}
+use Rattle.lemmas.proofs.Bools.{and_right}
 use Rattle.dalvik_defs.specs.declared.forms.Form.{Form}
 use Rattle.dalvik_defs.specs.declared.forms.Form.TheVariants as form
 use Rattle.dalvik_defs.specs.declared.program.NamedBody.{NamedBody}
@@ -13,7 +14,7 @@ use Rattle.pass_defs.specs.Registers.{Kinds, all_below, kinds_below, state_below
 use Rattle.pass_defs.specs.Demands.{meets, demands, place_allowed, is_allowed}
 use Rattle.pass_defs.specs.Typed.{begun, Table, state_at, each, at_state, IsTyping}
 use Rattle.pass_defs.specs.Walks.{form_at}
-use Rattle.silence_law.proofs.Lists.{clash, and_left, and_right}
+use Rattle.silence_law.proofs.Lists.{and_left}
 
 first_of : (n : ℕ) (test : ℕ → Bool) → each (suc n) test ≡ true → test 0 ≡ true
 first_of zero test e = and_right true (test 0) e

@@ -4,6 +4,7 @@ use Rattle.std.specs.Prelude.{nat_eq, nat_le, nat_lt}
 use Rattle.std.specs.Option.{option_map}
 use Rattle.std.proofs.lemmas.Bool.{eqb-true, leb-true}
 use Rattle.std.proofs.lemmas.List.{length-map}
+use Rattle.lemmas.proofs.Bools.{and_right}
 use Rattle.insn_set.specs.Flow.{throws, goes_on, targets_of}
 use Rattle.insn_set.specs.declared.form.Insn.{Insn}
 use Rattle.insn_set.specs.declared.form.Insn.TheVariants as insn
@@ -28,7 +29,7 @@ use Rattle.body_graph.specs.Walks as walk
 use Rattle.body_graph.specs.Graph.{covering}
 use Rattle.body_graph.proofs.Members.{get_inside}
 use Rattle.body_graph.proofs.Links.{step_on, step_caught}
-use Rattle.silence_law.proofs.Lists.{clash, and_left, and_right, and_both}
+use Rattle.silence_law.proofs.Lists.{and_left, and_both}
 use Rattle.thin_law.specs.Squeezing.{IsSkipped, Nop, Over}
 use Rattle.thin_types.specs.Squeezed.{SqueezesMarked}
 use Rattle.thin_pass.specs.Wishing.{wish_at, goes, is_to_go, is_held}

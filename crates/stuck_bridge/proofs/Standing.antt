@@ -4,6 +4,7 @@ use Rattle.std.specs.Prelude.{◌&&◌, ◌||◌, not, nat_eq, map, slice_get, o
 use Rattle.std.specs.List.{list_all, list_any}
 use Rattle.std.specs.Option.{option_map}
 use Rattle.std.proofs.lemmas.Bool.{and_parts}
+use Rattle.lemmas.proofs.Bools.{neither_of, not_true}
 use Rattle.program_model.specs.InterfaceRules.{is_plain_class, defines_so, defines_plain, stands_free, interfaces_stand_free}
 use Rattle.program_model.specs.Lookups.{class_place}
 use Rattle.program_model.specs.Texts.{has_type}
@@ -27,14 +28,6 @@ use Rattle.stuck_bridge.proofs.Listed.{Image, image}
 
 -- ---- tests
 
-denied : (b : Bool) → not b ≡ true → b ≡ false
-denied true h = absurd (true≢false (sym h))
-denied false h = refl
-
-neither : (a b : Bool) → (a || b) ≡ false → (a ≡ false) × (b ≡ false)
-neither false b e = (refl, e)
-neither true b e = absurd (true≢false e)
-
 otherwise : (a b : Bool) → a ≡ false → (a || b) ≡ true → b ≡ true
 otherwise false b e h = h
 otherwise true b e h = absurd (true≢false e)
@@ -42,8 +35,8 @@ otherwise true b e h = absurd (true≢false e)
 -- what is true of no entry is true of none of them
 none_at : {X : Type 0} (t : X → Bool) (xs : List X) (i : ℕ) (x : X) → list_any t xs ≡ false → slice_get xs i ≡ Some x → t x ≡ false
 none_at t [] i x h e = cc
-none_at t (y ∷ ys) zero x h e = let s : x ≡ y = cc in ap t s ∙ (neither (t y) (list_any t ys) h).0
-none_at t (y ∷ ys) (suc i) x h e = none_at t ys i x (neither (t y) (list_any t ys) h).1 e
+none_at t (y ∷ ys) zero x h e = let s : x ≡ y = cc in ap t s ∙ (neither_of (t y) (list_any t ys) h).0
+none_at t (y ∷ ys) (suc i) x h e = none_at t ys i x (neither_of (t y) (list_any t ys) h).1 e
 
 module _ (p : Program) (s : Sound p) where
   abbrev plain_in : Option NamedClass → Bool
@@ -51,7 +44,7 @@ module _ (p : Program) (s : Sound p) where
 
   -- a class that defines a type that none that is no interface defines is an interface
   is_other : (k n : ℕ) (d : Class) → slice_get p.classes n ≡ Some d → nat_eq d.name k ≡ true → not (defines_plain p k) ≡ true → is_plain_class d ≡ false
-  is_other k n d e same h = ap (λ b. b && is_plain_class d) (sym same) ∙ none_at (defines_so k) p.classes n d (denied (defines_plain p k) h) e
+  is_other k n d e same h = ap (λ b. b && is_plain_class d) (sym same) ∙ none_at (defines_so k) p.classes n d (not_true (defines_plain p k) h) e
 
   not_plain : (k : ℕ) → k < length p.types → not (defines_plain p k) ≡ true → is_plain (named p) (type_at p k) ≡ false
   not_plain k lt h = ap plain_in (class_by_number p s k lt) ∙ by (class_place p k) refl

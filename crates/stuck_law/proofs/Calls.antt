@@ -1,6 +1,6 @@
 -- What calls leave, and what is entered.
 use Rattle.std.proofs.Common.{◌≡◌, ℕ, suc, ◌+◌, ◌-◌, Bool, true, false, true≢false, List, [], ◌∷◌, ◌++◌, Option, Some, None, ◌⊎◌, inl, inr, refl, sym, ap, ◌∙◌, subst, arith}
-use Rattle.std.specs.Prelude.{◌&&◌, ◌||◌, not, nat_eq, length, map, drop, replicate, codes, slice_get, is_some, Contains, if◌then◌else◌}
+use Rattle.std.specs.Prelude.{◌&&◌, ◌||◌, not, nat_eq, length, map, drop, codes, slice_get, is_some, Contains, if◌then◌else◌}
 use Rattle.std.proofs.lemmas.Bool.{eqb-true}
 use Rattle.std.specs.List.{list_all}
 use Rattle.std.specs.Option.{option_and_then}
@@ -17,7 +17,7 @@ use Rattle.dalvik_defs.specs.Silence.{key_in}
 use Rattle.dalvik_defs.specs.Stack.{entry_frame}
 use Rattle.dalvik_defs.specs.Outer.{Outer}
 use Rattle.dalvik_defs.specs.Show.{show_all}
-use Rattle.dalvik_defs.specs.State.{World, Classes, Thing, is_null, kind_of, kind_of_thing}
+use Rattle.dalvik_defs.specs.State.{World, Classes, Thing, is_null, kind_of, kind_of_thing, word_of}
 use Rattle.dalvik_defs.specs.Effect.{register, next}
 use Rattle.dalvik_defs.specs.Outcome.{is_direct, Outcome, Stays, Need, need_of, faults, when_ready, Enters, on_receiver, takes_no_receiver, native_kind, passed_types, calls_out, calls_uncoded, calls_found, calls_ready, calls_unfound, calls_by, calls}
 use Rattle.dalvik_defs.specs.declared.program.NamedClass.{NamedClass}
@@ -47,16 +47,25 @@ use Rattle.invariant_law.proofs.Fine.{each_map}
 use Rattle.stuck_law.specs.TypedStates.{AllHold, CaughtHolds, IsObject, KindHolds, RefFits, StateHolds, TypedFrame, TypedWorld}
 use Rattle.stuck_law.specs.Regular.{taken}
 use Rattle.stuck_law.proofs.Settled.{IsSettled, IsFound, FindsRegularly}
-use Rattle.stuck_law.proofs.Registers.{and_left, and_right, there_held, all_map, all_join, all_unknown, all_long}
-use Rattle.stuck_law.proofs.Sorts.{RefSort, AnArray, APlain, AnAny, ref_sort, Sorted, OfWord, OfWide, OfReference, OfNone, sorted, class_alone}
+use Rattle.stuck_law.proofs.Registers.{IsNoHalf, KeepsHalves, whole_keeps, no_low, and_left, and_right, there_held, all_map, all_behind, all_long}
+use Rattle.stuck_law.proofs.Sorts.{RefSort, AnArray, APlain, AnAny, ref_sort, Sorted, OfWord, OfWide, OfReference, OfNone, sorted, class_alone, no_half, not_wide}
 use Rattle.stuck_law.proofs.Climbs.{under_self, plain_below, step_up, defined_by, plain_by, or_cases}
 use Rattle.stuck_law.proofs.Arrays.{true_false, under_fits}
 use Rattle.stuck_law.proofs.Orders.{kind_sound, ref_held, ref_fits, fits_held}
 use Rattle.stuck_law.proofs.Worlds.{typed_all}
 use Rattle.stuck_law.proofs.Here.{state_above, setting, states}
-use Rattle.stuck_law.proofs.Forms.{wide_kind, first_in, or_left, or_right, any_class, Leads, Is, reg_held, low_held, stays, throws_new}
+use Rattle.stuck_law.proofs.Forms.{wide_kind, first_in, or_left, or_right, any_class, Leads, Is, reg_held, low_held, halves_held, stays, throws_new}
 use Rattle.stuck_law.proofs.ArrayForms.{untrue2}
 use Rattle.stuck_law.proofs.FieldForms.{waits, waits_in, readied, fitting}
+
+-- a receiver is no low half of a wide
+pub receiver_whole : (c : NamedClass) (m : NamedMethod) → kind_eq (receiver_kind c m) kind.Low ≡ false
+receiver_whole c m = by (is_constructor m) (is_interface c.flags)
+  where
+    by : (a b : Bool) → kind_eq (if a then kind.FreshThis else if b then kind.Reference else kind.Class c.name) kind.Low ≡ false
+    by true b = refl
+    by false true = refl
+    by false false = refl
 
 module _ (p : NamedProgram) (o : Outer) (f : Framework) (floats : Floats) (reg : IsSettled p) where
   -- ---- how many registers arguments take
@@ -105,7 +114,7 @@ module _ (p : NamedProgram) (o : Outer) (f : Framework) (floats : Floats) (reg :
       typing = (reg.regular.typed.bodies c m b ci mi mb).1
 
       start : StateHolds p f c.name w (begun p c m b) (entry_frame k vs b)
-      start = record { registers = all_join p f c.name w (replicate (b.registers - b.ins) kind.Undefined) (argument_kinds p c m) (replicate (b.registers - b.ins) (Word 0)) vs (all_unknown p f c.name w (b.registers - b.ins)) h; result = tt; caught = record { there = tt; object = λ i. absurd (true≢false (sym i)); held = λ i. absurd (true≢false (sym i)) } }
+      start = record { registers = all_behind p f c.name w (b.registers - b.ins) (argument_kinds p c m) vs h; result = tt; caught = record { there = tt; object = λ i. absurd (true≢false (sym i)); held = λ i. absurd (true≢false (sym i)) } }
 
       by : (y : Option Kinds) → state_at table 0 ≡ y → state_below p (Some (begun p c m b)) (state_at table 0) ≡ true → TypedFrame p f w (entry_frame k vs b)
       by None i j = absurd (true≢false (sym j ∙ ap (state_below p (Some (begun p c m b))) i))
@@ -129,16 +138,22 @@ module _ (p : NamedProgram) (o : Outer) (f : Framework) (floats : Floats) (reg :
       by (OfWide q x b k l) = true_false (class_alone u e).0 b
       by (OfNone q x b k l) = true_false (class_alone u e).0 b
 
-  replaced_held : (c : Text) (w : World) (old new : Kind) → ((v : Value) → KindHolds p f c w old v → KindHolds p f c w new v) → (k : Kind) (v : Value) → KindHolds p f c w k v → KindHolds p f c w (replaced old new k) v
+  replaced_held : (c : Text) (w : World) (old new : Kind) → ((v : Value) → KindHolds p f c w old v → KindHolds p f c w new v × IsNoHalf new) → (k : Kind) (v : Value) → KindHolds p f c w k v → KindHolds p f c w (replaced old new k) v × KeepsHalves k (replaced old new k)
   replaced_held c w old new to k v h = by (kind_eq k old) refl
     where
-      by : (b : Bool) → kind_eq k old ≡ b → KindHolds p f c w (elim b as (λ b. Kind) [ true ↦ new | false ↦ k ]) v
-      by true e = to v (subst (λ k. KindHolds p f c w k v) (kind_sound k old e) h)
-      by false e = h
+      by : (b : Bool) → kind_eq k old ≡ b → KindHolds p f c w (elim b as (λ b. Kind) [ true ↦ new | false ↦ k ]) v × KeepsHalves k (elim b as (λ b. Kind) [ true ↦ new | false ↦ k ])
+      by true e = let h1 = to v (subst (λ k. KindHolds p f c w k v) (kind_sound k old e) h) in (h1.0, whole_keeps k new h1.1)
+      by false e = (h, (λ i. i, λ i. i))
+
+  class_whole : (u : Text) → is_class_type u ≡ true → IsNoHalf (kind.kind_of p u)
+  class_whole u i = no_half p u (not_wide u (class_alone u i).0)
+
+  own_type : (c : NamedClass) → Contains p.classes c → is_class_type c.name ≡ true
+  own_type c ci = reg.regular.class_types c.name (defined_by p c.name (Some c) (reg.regular.named c ci))
 
   constructed_held : (w : World) (c : NamedClass) → Contains p.classes c → (k : Kind) (a : Kinds) (vs : List Value) → AllHold p f c.name w a.registers vs → AllHold p f c.name w (constructed p c k a).registers vs
-  constructed_held w c ci (kind.Fresh u m) a vs h = all_map p f c.name w (replaced (kind.Fresh u m) (kind.kind_of p u)) (replaced_held c.name w (kind.Fresh u m) (kind.kind_of p u) (λ v i. fresh_held c.name w u v i.1.1 i.0 (subst (λ z. (face_of p f).under z u ≡ true) (sym i.1.0) (under_self p f reg u i.1.1)))) a.registers vs h
-  constructed_held w c ci kind.FreshThis a vs h = all_map p f c.name w (replaced kind.FreshThis (kind.kind_of p c.name)) (replaced_held c.name w kind.FreshThis (kind.kind_of p c.name) (λ v i. fresh_held c.name w c.name v (reg.regular.class_types c.name (defined_by p c.name (Some c) (reg.regular.named c ci))) i.0 i.1)) a.registers vs h
+  constructed_held w c ci (kind.Fresh u m) a vs h = all_map p f c.name w (replaced (kind.Fresh u m) (kind.kind_of p u)) (replaced_held c.name w (kind.Fresh u m) (kind.kind_of p u) (λ v i. (fresh_held c.name w u v i.1.1 i.0 (subst (λ z. (face_of p f).under z u ≡ true) (sym i.1.0) (under_self p f reg u i.1.1)), class_whole u i.1.1))) a.registers vs h
+  constructed_held w c ci kind.FreshThis a vs h = all_map p f c.name w (replaced kind.FreshThis (kind.kind_of p c.name)) (replaced_held c.name w kind.FreshThis (kind.kind_of p c.name) (λ v i. (fresh_held c.name w c.name v (own_type c ci) i.0 i.1, class_whole c.name (own_type c ci)))) a.registers vs h
   constructed_held w c ci k a vs h = h
 
   constructed_places : (w : World) (c : NamedClass) (k : Kind) (a : Kinds) → (constructed p c k a).caught ≡ a.caught
@@ -197,8 +212,11 @@ module _ (p : NamedProgram) (o : Outer) (f : Framework) (floats : Floats) (reg :
         wide k [] i j more = absurd (omega (arith, j))
         wide k (s ∷ rs) i j more = let pr = low_held p o f floats reg w cs g tw t r (and_left (meets p t.in_method.class a.registers r Pair) (nat_eq s (r + 1) && list_all met (passed ts rs)) i) in
             let rest = and_right (meets p t.in_method.class a.registers r Pair) (nat_eq s (r + 1) && list_all met (passed ts rs)) i in
-            subst (λ ks. AllHold p f d w (ks ++ parameter_kinds p ts) (register g r ∷ register g s ∷ map (register g) rs)) (sym (ap halves (wide_kind p f reg u k)))
-            (pr.0, (subst (λ q. KindHolds p f d w kind.High (register g q)) (sym (eqb-true s (r + 1) (and_left (nat_eq s (r + 1)) (list_all met (passed ts rs)) rest))) pr.1, more rs (and_right (nat_eq s (r + 1)) (list_all met (passed ts rs)) rest) (omega (arith, j))))
+            subst (λ ks. AllHold p f d w (ks ++ parameter_kinds p ts) (register g r ∷ register g s ∷ map (register g) rs)) (sym (ap halves (wide_kind p f reg u k))) (
+              pr.0,
+              (subst (λ q. KindHolds p f d w kind.High (register g q)) (sym (eqb-true s (r + 1) (and_left (nat_eq s (r + 1)) (list_all met (passed ts rs)) rest))) pr.1, more rs (and_right (nat_eq s (r + 1)) (list_all met (passed ts rs)) rest) (omega (arith, j)), no_low kind.High (register g s) (parameter_kinds p ts) (map (register g) rs) refl),
+              λ x. halves_held p o f floats reg w cs g tw t r (and_left (meets p t.in_method.class a.registers r Pair) (nat_eq s (r + 1) && list_all met (passed ts rs)) i) ∙ ap (λ q. word_of (register g q)) (sym (eqb-true s (r + 1) (and_left (nat_eq s (r + 1)) (list_all met (passed ts rs)) rest))),
+            )
 
         by : (b : Bool) → is_wide u ≡ b → list_all met (elim b as (λ b. List (ℕ × Demand)) [ true ↦ passed_wide r rs ++ passed ts (drop 1 rs) | false ↦ (r, Fits u) ∷ passed ts rs ]) ≡ true → suc (length rs) ≡ (if b then 2 else 1) + words_of ts
             → ((qs : List ℕ) → list_all met (passed ts qs) ≡ true → length qs ≡ words_of ts → AllHold p f d w (parameter_kinds p ts) (map (register g) qs))
@@ -207,6 +225,7 @@ module _ (p : NamedProgram) (o : Outer) (f : Framework) (floats : Floats) (reg :
         by false k i j more = subst (λ ks. AllHold p f d w (ks ++ parameter_kinds p ts) (register g r ∷ map (register g) rs)) (sym (halves_single u k)) (
           any_class p f reg class d w u (register g r) (fits_held p f reg class w (kind_at a.registers r) u (register g r) k (and_left (fits p (kind_at a.registers r) u) (list_all met (passed ts rs)) i) (reg_held p o f floats reg w cs g tw t r)),
           more rs (and_right (fits p (kind_at a.registers r) u) (list_all met (passed ts rs)) i) (omega (arith, j)),
+          no_low (kind.kind_of p u) (register g r) (parameter_kinds p ts) (map (register g) rs) (no_half p u k).0,
         )
 
     pub there_all : (rs : List ℕ) → Each (IsThere w) (map (register g) rs)
@@ -268,7 +287,7 @@ module _ (p : NamedProgram) (o : Outer) (f : Framework) (floats : Floats) (reg :
     static_args c m vs e h = subst (λ b. AllHold p f c.name w (elim b as (λ b. List Kind) [ true ↦ parameter_kinds p m.signature.parameters | false ↦ receiver_kind c m ∷ parameter_kinds p m.signature.parameters ]) vs) (sym e) h
 
     instance_args : (c : NamedClass) (m : NamedMethod) (v : Value) (vs : List Value) → is_static m.flags ≡ false → KindHolds p f c.name w (receiver_kind c m) v → AllHold p f c.name w (parameter_kinds p m.signature.parameters) vs → AllHold p f c.name w (argument_kinds p c m) (v ∷ vs)
-    instance_args c m v vs e i h = subst (λ b. AllHold p f c.name w (elim b as (λ b. List Kind) [ true ↦ parameter_kinds p m.signature.parameters | false ↦ receiver_kind c m ∷ parameter_kinds p m.signature.parameters ]) (v ∷ vs)) (sym e) (i, h)
+    instance_args c m v vs e i h = subst (λ b. AllHold p f c.name w (elim b as (λ b. List Kind) [ true ↦ parameter_kinds p m.signature.parameters | false ↦ receiver_kind c m ∷ parameter_kinds p m.signature.parameters ]) (v ∷ vs)) (sym e) (i, h, no_low (receiver_kind c m) v (parameter_kinds p m.signature.parameters) vs (receiver_whole c m))
 
     ordinary : (c : NamedClass) (m : NamedMethod) (v : Value) → is_constructor m ≡ false → IsObject w v → (is_interface c.flags ≡ false → (face_of p f).under (kind_of w v) c.name ≡ true) → KindHolds p f c.name w (receiver_kind c m) v
     ordinary c m v e ob more = subst (λ b. KindHolds p f c.name w (if b then kind.FreshThis else if is_interface c.flags then kind.Reference else kind.Class c.name) v) (sym e) (by (is_interface c.flags) refl)

@@ -45,7 +45,7 @@ use Rattle.invariant_law.specs.Fine.{IsThere}
 use Rattle.invariant_law.proofs.Growing.{grows_same, grows_with, show_heap, option_heap, there_later}
 use Rattle.stuck_law.specs.TypedStates.{IsObject, KindHolds, ValueOf, StateHolds, AskedOf, IsUnder, TypedFrame, TypedWaiting, TypedWorld}
 use Rattle.stuck_law.proofs.Settled.{IsSettled}
-use Rattle.stuck_law.proofs.Registers.{and_left, and_right, there_held, all_written, all_map, IsSingle}
+use Rattle.stuck_law.proofs.Registers.{KeepsHalves, and_left, and_right, there_held, all_written, all_map, IsSingle}
 use Rattle.stuck_law.proofs.Sorts.{RefSort, AnArray, APlain, AnAny, ref_sort, Sorted, OfWord, OfWide, OfReference, OfNone, sorted, class_alone, not_wide}
 use Rattle.stuck_law.proofs.Climbs.{plain_defined, defined_by, plain_by, none_some, some_one}
 use Rattle.stuck_law.proofs.Arrays.{true_false}
@@ -56,13 +56,13 @@ use Rattle.stuck_law.proofs.FirstValues.{first_held}
 use Rattle.stuck_law.proofs.Forms.{wide_kind, typed_value, shown, first_in, or_left, or_right, Leads, Does, Is, reg_held, stays, puts, puts_wide, held, changes, throws_new}
 use Rattle.stuck_law.proofs.ArrayForms.{kind_new, untrue2}
 
-forget_held : (p : NamedProgram) (f : Framework) (c : Text) (w : World) (m : ℕ) (k : Kind) (v : Value) → KindHolds p f c w k v → KindHolds p f c w (forgotten m k) v
+forget_held : (p : NamedProgram) (f : Framework) (c : Text) (w : World) (m : ℕ) (k : Kind) (v : Value) → KindHolds p f c w k v → KindHolds p f c w (forgotten m k) v × KeepsHalves k (forgotten m k)
 forget_held p f c w m (kind.Fresh u q) v h = by (nat_eq m q)
   where
-    by : (b : Bool) → KindHolds p f c w (elim b as (λ b. Kind) [ true ↦ kind.Undefined | false ↦ kind.Fresh u q ]) v
-    by true = object_there w v h.0
-    by false = h
-forget_held p f c w m k v h = h
+    by : (b : Bool) → KindHolds p f c w (elim b as (λ b. Kind) [ true ↦ kind.Undefined | false ↦ kind.Fresh u q ]) v × KeepsHalves (kind.Fresh u q) (elim b as (λ b. Kind) [ true ↦ kind.Undefined | false ↦ kind.Fresh u q ])
+    by true = (object_there w v h.0, (λ i. i, λ i. i))
+    by false = (h, (λ i. i, λ i. i))
+forget_held p f c w m k v h = (h, (λ i. i, λ i. i))
 
 module _ (p : NamedProgram) (o : Outer) (f : Framework) (floats : Floats) (reg : IsSettled p) where
   holder : (c : NamedClass) (k : FieldKey) (q : Kind) → holds_field p c k q ≡ true → (q ≡ kind.FreshThis) ⊎ (fits_holder p q k.class ≡ true)

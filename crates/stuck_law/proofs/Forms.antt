@@ -52,7 +52,7 @@ use Rattle.invariant_law.proofs.Growing.{grows_same, grows_put, show_heap}
 use Rattle.invariant_law.proofs.Plain.{LeadsPlainly}
 use Rattle.stuck_law.specs.TypedStates.{KindHolds, ValueOf, StateHolds, TypedFrame, TypedThing, TypedWorld}
 use Rattle.stuck_law.proofs.Settled.{IsSettled}
-use Rattle.stuck_law.proofs.Registers.{and_left, and_right, there_held, all_at, all_pair, all_written, all_known, IsSingle}
+use Rattle.stuck_law.proofs.Registers.{and_left, and_right, there_held, all_at, all_halves, all_pair, all_written, all_known, IsSingle}
 use Rattle.stuck_law.proofs.Sorts.{RefSort, AnArray, APlain, AnAny, ref_sort, Sorted, OfWord, OfWide, OfReference, OfNone, sorted}
 use Rattle.stuck_law.proofs.Climbs.{none_some, or_cases}
 use Rattle.stuck_law.proofs.Arrays.{true_false, under_fits}
@@ -202,6 +202,15 @@ module _ (p : NamedProgram) (o : Outer) (f : Framework) (floats : Floats) (reg :
       subst (λ k. H k (register g (r + 1))) (kind_sound (kind_at a.registers (r + 1)) kind.High (and_right (kind_eq (kind_at a.registers r) kind.Low) (kind_eq (kind_at a.registers (r + 1)) kind.High) e)) (reg_held (r + 1)),
     )
 
+    -- the two registers of a wide hold halves of one number
+    pub halves_held : (r : ℕ) → meets p t.in_method.class a.registers r Pair ≡ true → word_of (register g r) ≡ word_of (register g (r + 1))
+    halves_held r e = subst (λ s. kind_eq (kind_at a.registers s) kind.High ≡ true → word_of (register g r) ≡ word_of (register g s)) next
+        (all_halves p f class w a.registers g.registers r t.holds.registers (and_left (kind_eq (kind_at a.registers r) kind.Low) (kind_eq (kind_at a.registers (r + 1)) kind.High) e))
+        (and_right (kind_eq (kind_at a.registers r) kind.Low) (kind_eq (kind_at a.registers (r + 1)) kind.High) e)
+      where
+        next : suc r ≡ r + 1
+        next = omega arith
+
     -- ---- frames that go on
 
     module _ (x : Form) (h : Is x) where
@@ -224,12 +233,12 @@ module _ (p : NamedProgram) (o : Outer) (f : Framework) (floats : Floats) (reg :
       pub puts : (to : ℕ) (k : Kind) (v : Value) → left x ≡ written to k a → Contains (onward x n) (n + 1) → IsSingle p f class w k → H k v → Does (sets w g to v)
       puts to k v l i s v_held = stays (n + 1) i w tw (next (write g to v)) None t.of refl (subst (λ b. StateHolds p f class w b (next (write g to v))) (sym l) (record { registers = all_written p f class w a.registers g.registers to k v s t.holds.registers v_held; result = t.holds.result; caught = t.holds.caught }))
 
-      pub puts_pair : (to : ℕ) (u v : Value) → left x ≡ written to kind.Low a → Contains (onward x n) (n + 1) → H kind.Low u → H kind.High v → Does (Goes w (next (write (write g to u) (to + 1) v)))
-      puts_pair to u v l i u_held v_held = stays (n + 1) i w tw (next (write (write g to u) (to + 1) v)) None t.of refl (subst (λ b. StateHolds p f class w b (next (write (write g to u) (to + 1) v))) (sym l)
-          (record { registers = all_pair p f class w a.registers g.registers to u v t.holds.registers u_held v_held; result = t.holds.result; caught = t.holds.caught }))
+      pub puts_pair : (to : ℕ) (u v : Value) → left x ≡ written to kind.Low a → Contains (onward x n) (n + 1) → H kind.Low u → H kind.High v → word_of u ≡ word_of v → Does (Goes w (next (write (write g to u) (to + 1) v)))
+      puts_pair to u v l i u_held v_held same = stays (n + 1) i w tw (next (write (write g to u) (to + 1) v)) None t.of refl (subst (λ b. StateHolds p f class w b (next (write (write g to u) (to + 1) v))) (sym l)
+          (record { registers = all_pair p f class w a.registers g.registers to u v t.holds.registers u_held v_held same; result = t.holds.result; caught = t.holds.caught }))
 
       pub puts_wide : (to m : ℕ) → left x ≡ written to kind.Low a → Contains (onward x n) (n + 1) → Does (sets_wide w g to m)
-      puts_wide to m l i = puts_pair to (Low m) (High m) l i (m, refl) (m, refl)
+      puts_wide to m l i = puts_pair to (Low m) (High m) l i (m, refl) (m, refl) refl
 
       pub held : (v : Value) (e : Effect) → may_throw x ≡ true → (is_null v ≡ false → Does e) → Does (unless_null v e)
       held v e k more = by (is_null v) refl
@@ -263,8 +272,8 @@ module _ (p : NamedProgram) (o : Outer) (f : Framework) (floats : Floats) (reg :
     pub moves : (s : Slot) (to from : ℕ) → Is (form.Move s to from) → Does (act (face_of p f).under floats (form.Move s to from) w g)
     moves slot.Word to from h = puts (form.Move slot.Word to from) h to (kind_at a.registers from) (register g from) refl (first_in (n + 1) []) (moved_single p f class w (kind_at a.registers from) (and_left (is_moved (kind_at a.registers from)) true h.allowed)) (reg_held from)
     moves slot.Object to from h = puts (form.Move slot.Object to from) h to (kind_at a.registers from) (register g from) refl (first_in (n + 1) []) (moved_single p f class w (kind_at a.registers from) (and_left (is_moved (kind_at a.registers from)) true h.allowed)) (reg_held from)
-    moves slot.Wide to from h = let k = low_held from (and_left (meets p t.in_method.class a.registers from Pair) true h.allowed) in
-        puts_pair (form.Move slot.Wide to from) h to (register g from) (register g (from + 1)) refl (first_in (n + 1) []) k.0 k.1
+    moves slot.Wide to from h = let e = and_left (meets p t.in_method.class a.registers from Pair) true h.allowed in let k = low_held from e in
+        puts_pair (form.Move slot.Wide to from) h to (register g from) (register g (from + 1)) refl (first_in (n + 1) []) k.0 k.1 (halves_held from e)
 
     pub results : (s : Slot) (to : ℕ) → Is (form.MoveResult s to) → Does (act (face_of p f).under floats (form.MoveResult s to) w g)
     results slot.Word to h = puts (form.MoveResult slot.Word to) h to a.result g.result refl (first_in (n + 1) []) (number_single p f class w a.result (and_left (is_number a.result) true h.allowed)) t.holds.result

@@ -30,11 +30,11 @@ use Rattle.invariant_law.proofs.Growing.{grows_same}
 use Rattle.invariant_law.proofs.Plain.{all_grow}
 use Rattle.stuck_law.specs.TypedStates.{AllHold, IsObject, KindHolds, TypedWorld}
 use Rattle.stuck_law.proofs.Settled.{IsSettled, FindsRegularly}
-use Rattle.stuck_law.proofs.Registers.{and_left, and_right}
+use Rattle.stuck_law.proofs.Registers.{no_low, and_left, and_right}
 use Rattle.stuck_law.proofs.Sorts.{class_alone, not_wide}
 use Rattle.stuck_law.proofs.Climbs.{found_in_list, class_in, defined_by, none_some, some_one}
 use Rattle.stuck_law.proofs.Worlds.{typed_with, typed_show, fresh_typed, new_object, object_there}
-use Rattle.stuck_law.proofs.Calls.{Enter, entered}
+use Rattle.stuck_law.proofs.Calls.{Enter, entered, receiver_whole}
 use Rattle.stuck_law.proofs.Given.{GivenTyped, gets_typed, gives_first, given_typed, all_given}
 
 pub untrue : (b : Bool) → not b ≡ true → b ≡ false
@@ -103,7 +103,7 @@ module _ (p : NamedProgram) (o : Outer) (f : Framework) (floats : Floats) (reg :
           args_on st (g ∷ gs) k = (
             rest.0,
             subst (λ b. AllHold p f c.name w2 (elim b as (λ b. List Kind) [ true ↦ parameter_kinds p m.signature.parameters | false ↦ receiver_kind c m ∷ parameter_kinds p m.signature.parameters ]) (spread (v ∷ vs))) (sym st)
-                (subst (AllHold p f c.name w2 (receiver_kind c m ∷ parameter_kinds p m.signature.parameters)) (sym (v_typed.alone (not_wide c.name (class_alone c.name named).0) vs)) (receiver_held w2 c m v ob (and_right (not (is_null v)) ((face_of p f).under (kind_of w2 v) c.name) on), rest.1 c.name)),
+                (subst (AllHold p f c.name w2 (receiver_kind c m ∷ parameter_kinds p m.signature.parameters)) (sym (v_typed.alone (not_wide c.name (class_alone c.name named).0) vs)) (receiver_held w2 c m v ob (and_right (not (is_null v)) ((face_of p f).under (kind_of w2 v) c.name) on), rest.1 c.name, no_low (receiver_kind c m) v (parameter_kinds p m.signature.parameters) (spread vs) (receiver_whole c m))),
           )
             where
               w2 : World

@@ -16,7 +16,7 @@ use Rattle.dalvik_defs.specs.Moves.{got as given_option}
 use Rattle.dalvik_defs.specs.Show.{with_given}
 use Rattle.dalvik_defs.specs.declared.program.NamedClass.{NamedClass}
 use Rattle.dalvik_defs.specs.declared.state.Value.{Value}
-use Rattle.dalvik_defs.specs.declared.state.Value.TheVariants.{Word, Low, Object, Literal, Class}
+use Rattle.dalvik_defs.specs.declared.state.Value.TheVariants.{Word, Low, High, Object, Literal, Class}
 use Rattle.dalvik_defs.specs.declared.tables.Floats.{Floats}
 use Rattle.dalvik_defs.specs.declared.tables.Framework.{Framework}
 use Rattle.dalvik_defs.specs.declared.program.NamedProgram.{NamedProgram}
@@ -32,8 +32,8 @@ use Rattle.invariant_law.proofs.Plain.{all_grow}
 use Rattle.invariant_law.proofs.Fine.{each_append}
 use Rattle.stuck_law.specs.TypedStates.{AllHold, IsObject, KindHolds, ValueOf, ItemOf, RefFits, MaybeOf, TypedThing, TypedWorld, ArrayFits}
 use Rattle.stuck_law.proofs.Settled.{IsSettled}
-use Rattle.stuck_law.proofs.Registers.{and_left, and_right}
-use Rattle.stuck_law.proofs.Sorts.{Sorted, OfWord, OfWide, OfReference, OfNone, sorted, class_alone, array_reference}
+use Rattle.stuck_law.proofs.Registers.{no_low, and_left, and_right}
+use Rattle.stuck_law.proofs.Sorts.{Sorted, OfWord, OfWide, OfReference, OfNone, sorted, class_alone, array_reference, no_half}
 use Rattle.stuck_law.proofs.Climbs.{plain_defined, or_cases}
 use Rattle.stuck_law.proofs.Arrays.{true_false, to_cond, under_fits}
 use Rattle.stuck_law.proofs.Orders.{ref_held, ref_fits}
@@ -148,11 +148,11 @@ module _ (p : NamedProgram) (o : Outer) (f : Framework) (floats : Floats) (reg :
   one_spread w u v ts vs d h more = by (is_wide u) refl
     where
       low : (x : ℕ) × (v ≡ Low x) → AllHold p f d w (kind.Low ∷ kind.High ∷ parameter_kinds p ts) (spread (v ∷ vs))
-      low (x, e) = subst (λ v. AllHold p f d w (kind.Low ∷ kind.High ∷ parameter_kinds p ts) (spread (v ∷ vs))) (sym e) ((x, refl), ((x, refl), more))
+      low (x, e) = subst (λ v. AllHold p f d w (kind.Low ∷ kind.High ∷ parameter_kinds p ts) (spread (v ∷ vs))) (sym e) ((x, refl), ((x, refl), more, no_low kind.High (High x) (parameter_kinds p ts) (spread vs) refl), λ i. refl)
 
       by : (b : Bool) → is_wide u ≡ b → AllHold p f d w (halves (kind.kind_of p u) ++ parameter_kinds p ts) (spread (v ∷ vs))
       by true e = subst (λ k. AllHold p f d w (halves k ++ parameter_kinds p ts) (spread (v ∷ vs))) (sym (wide_kind p f reg u e)) (low (subst (λ k. KindHolds p f d w k v) (wide_kind p f reg u e) (h.value d)))
-      by false e = subst (λ ks. AllHold p f d w (ks ++ parameter_kinds p ts) (spread (v ∷ vs))) (sym (halves_single p o f floats reg u e)) (subst (AllHold p f d w (kind.kind_of p u ∷ parameter_kinds p ts)) (sym (h.alone e vs)) (h.value d, more))
+      by false e = subst (λ ks. AllHold p f d w (ks ++ parameter_kinds p ts) (spread (v ∷ vs))) (sym (halves_single p o f floats reg u e)) (subst (AllHold p f d w (kind.kind_of p u ∷ parameter_kinds p ts)) (sym (h.alone e vs)) (h.value d, more, no_low (kind.kind_of p u) v (parameter_kinds p ts) (spread vs) (no_half p u e).0))
 
   pub all_given : (gs : List Given) (w w1 : World) (ts : List Text) → TypedWorld p f w → Grows (gets_all w gs).0 w1 → all_fit (face_of p f) o w w1 gs (gets_all w gs).1 ts ≡ true → TypedWorld p f (gets_all w gs).0 × ((d : Text) → AllHold p f d w1 (parameter_kinds p ts) (spread (gets_all w gs).1))
   all_given [] w w1 [] tw gr e = (tw, λ d. tt)

@@ -19,3 +19,4 @@ pub mod Given
 pub mod Framework
 pub mod Runs
 pub mod Searches
+pub mod Wides

@@ -1,12 +1,12 @@
 -- That the kinds of a typing hold of the states of a run, as an invariant.
-use Rattle.std.specs.Prelude.{◌≡◌, ℕ, Bool, true, false, ◌⊎◌, if◌then◌else◌, nat_eq, List, [], ◌∷◌, Option, Some, None, is_some, slice_get, Contains}
+use Rattle.std.specs.Prelude.{◌≡◌, ℕ, Bool, true, false, ◌&&◌, ◌⊎◌, if◌then◌else◌, nat_eq, List, [], ◌∷◌, Option, Some, None, is_some, slice_get, Contains}
 use Rattle.insn_set.specs.declared.ops.InvokeKind.{InvokeKind}
 use Rattle.dalvik_defs.specs.Names.{Text, is_void, is_wide, is_reference, is_array, is_class_type}
 use Rattle.dalvik_defs.specs.Silence.{key_in}
 use Rattle.dalvik_defs.specs.Face.{face_of, bodies_of}
 use Rattle.dalvik_defs.specs.Outer.{Outer}
 use Rattle.dalvik_defs.specs.Shown.{fit_move}
-use Rattle.dalvik_defs.specs.State.{World, Thing, Instance, Items, kind_of}
+use Rattle.dalvik_defs.specs.State.{World, Thing, Instance, Items, kind_of, word_of}
 use Rattle.dalvik_defs.specs.declared.state.Value.{Value}
 use Rattle.dalvik_defs.specs.declared.state.Value.TheVariants.{Word, Low, High, Object, Literal, Class}
 use Rattle.dalvik_defs.specs.declared.state.Frame.{Frame}
@@ -39,6 +39,19 @@ IsObject w v = ⊥
 -- how items of an array are held: a type of no value counts as a word
 abbrev pub item_kind : NamedProgram → Text → Kind
 item_kind p t = if is_wide t then kind.Low else if is_reference t then kind.kind_of_reference p t else kind.Word
+
+-- whether the first of some kinds is the high half of a wide
+abbrev pub begins_high : List Kind → Bool
+begins_high [] = false
+begins_high (k ∷ ks) = kind.kind_eq k kind.High
+
+abbrev pub first_number : List Value → ℕ
+first_number [] = 0
+first_number (v ∷ vs) = word_of v
+
+-- where a low half of a wide stands in front of a high one, they are halves of one number
+abbrev pub AreHalves : Kind → Value → List Kind → List Value → Type 0
+AreHalves k v ks vs = (kind.kind_eq k kind.Low && begins_high ks) ≡ true → word_of v ≡ first_number vs
 
 module _ (p : NamedProgram) (f : Framework) where
   abbrev pub under : Text → Text → Bool
@@ -90,10 +103,10 @@ module _ (p : NamedProgram) (f : Framework) where
   MaybeOf w t None = is_void t ≡ true
   MaybeOf w t (Some v) = ValueOf w t v
 
-  -- kinds hold of values, one by one
+  -- kinds hold of values, one by one, and the two halves of a wide are of one number
   abbrev pub AllHold : Text → World → List Kind → List Value → Type 0
   AllHold c w [] [] = Unit {0}
-  AllHold c w (k ∷ ks) (v ∷ vs) = KindHolds c w k v × AllHold c w ks vs
+  AllHold c w (k ∷ ks) (v ∷ vs) = KindHolds c w k v × AllHold c w ks vs × AreHalves k v ks vs
   AllHold c w ks vs = ⊥
 
   -- The caught object is there. Only a form that wants an initialised reference reads it, so its kind is asked for where it

@@ -14,6 +14,7 @@ ghost use Rattle.invariant_law.specs.Holds.{Holds};
 ghost use Rattle.stuck_law.specs.NeverStuck.{IsNeverStuck};
 ghost use Rattle.stuck_law.specs.Regular.{IsRegular};
 ghost use Rattle.stuck_law.specs.TypedStates.{typed_states};
+ghost use Rattle.stuck_law.specs.Wides.{wide_states};
 
 /// A regular program under a framework and a script that fit it ends only at the end of the script or at a move that isn't
 /// legal: no frame is without a step.
@@ -26,4 +27,12 @@ pub fn never_stuck()
 pub fn typed_always()
     ensures { (p : NamedProgram) (o : Outer) (f : Framework) (a : Floats) (script : List Move) (n : ℕ) → IsRegular p → Fit p o f script
         → let t = after (setting_of p o f a) (bodies_of p) (opening script) n in (t ≡ Ended) ⊎ Holds (typed_states p f o) t }
+{}
+
+/// Nor does a wide fall apart: in each state that such a run reaches, where a typing of the frame on top, or of one that waits, has
+/// the low half of a wide in a register and a high half in the next one, these hold the two halves of one number; and the place
+/// of the last result, fields and items of arrays hold the whole number where they hold a wide.
+pub fn wides_whole()
+    ensures { (p : NamedProgram) (o : Outer) (f : Framework) (a : Floats) (script : List Move) (n : ℕ) → IsRegular p → Fit p o f script
+        → let t = after (setting_of p o f a) (bodies_of p) (opening script) n in (t ≡ Ended) ⊎ Holds (wide_states p f o) t }
 {}

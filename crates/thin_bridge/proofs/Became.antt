@@ -2,6 +2,7 @@
 use Rattle.std.proofs.Common.{◌≡◌, ℕ, Bool, true, false, if◌then◌else◌, List, [], ◌∷◌, length, refl, sym, ap, ◌∙◌, subst, nat_eq}
 use Rattle.std.specs.Prelude.{Option, Some, None, is_some, slice_index_or, Contains}
 use Rattle.std.specs.List.{AllZip}
+use Rattle.lemmas.proofs.Lists.{contains_here, contains_there}
 use Rattle.program_model.specs.ProgramRules.{is_well_formed}
 use Rattle.program_model.specs.LineRules.{lines_fit}
 use Rattle.program_model.specs.BodyRules.{body_fits}
@@ -18,7 +19,6 @@ use Rattle.body_edit.specs.Fates.{fates_of}
 use Rattle.body_edit.specs.declared.fate.Fate.{Fate}
 use Rattle.bodies_law.specs.Others.{Pairwise}
 use Rattle.bodies_law.specs.Numbered.{NumberedCodes, OtherNumberedMethod, OtherNumberedClass, OtherNumberedBodies}
-use Rattle.frame_laws.proofs.Lists.{contains_here, contains_there}
 use Rattle.thin_law.specs.Thins.{Right, ThinsNumbered, NoBody, SameBody, ThinnedBody}
 use Rattle.thin_pass.specs.Wishing.{is_small, fates_from, FatesIf, HasFates}
 use Rattle.thin_pass.specs.Plans.{changed_in, lines_left, method_thinned, method_by, methods_by, class_by, classes_by, program_by, AreFor, AreForClasses, IsThinnedBy}

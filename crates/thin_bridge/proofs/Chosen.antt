@@ -4,6 +4,7 @@ use Rattle.std.specs.Prelude.{not, ◌&&◌, Option, Some, None, slice_get, map}
 use Rattle.std.specs.Option.{option_map}
 use Rattle.std.proofs.lemmas.List.{length-map}
 use Rattle.std.proofs.lemmas.Option.{slice_get-map}
+use Rattle.lemmas.proofs.Lists.{get_there, got_short}
 use Rattle.insn_set.specs.declared.form.Insn.{Insn}
 use Rattle.insn_set.specs.declared.form.Insn.TheVariants as insn
 use Rattle.pass_defs.specs.Thinned.{Fate as Meant, stays}
@@ -14,7 +15,6 @@ use Rattle.body_edit.specs.declared.fate.Fate.TheVariants.{Stays, Empties, Goes}
 use Rattle.thin_pass.specs.Wishing.{wish_at, goes, is_to_go, leads_into, holds, is_held, emptied, fate_if, fates_from}
 use Rattle.thin_pass.specs.Wishing.{fate_of as chosen}
 use Rattle.thin_pass.proofs.Fated.{IsRun, IsFateAt, fate_is, long_upto}
-use Rattle.thin_rules.proofs.Places.{get_within, get_there}
 
 emptied_left : (i : Insn) → fate_of (emptied i) ≡ MeantGoes → ⊥
 emptied_left insn.Nop e = cc
@@ -74,11 +74,11 @@ module _ (is : List Insn) (ws : List Fate) where
 
   -- each instruction has a fate
   pub fate_there : (n : ℕ) (i : Insn) → slice_get is n ≡ Some i → (f : Meant) × ((slice_get chosen_fates n ≡ Some f) × Chosen n i f)
-  fate_there n i e = let f = get_there chosen_fates n (subst (λ (k : ℕ). n < k) (sym long) (get_within is n i e)) in (f.0, (f.1, chosen_at n i f.0 e f.1))
+  fate_there n i e = let f = get_there chosen_fates n (subst (λ (k : ℕ). n < k) (sym long) (got_short is n i e)) in (f.0, (f.1, chosen_at n i f.0 e f.1))
 
   -- each fate is one of an instruction
   pub insn_there : (n : ℕ) (f : Meant) → slice_get chosen_fates n ≡ Some f → (i : Insn) × ((slice_get is n ≡ Some i) × Chosen n i f)
-  insn_there n f d = let i = get_there is n (subst (λ (k : ℕ). n < k) long (get_within chosen_fates n f d)) in (i.0, (i.1, chosen_at n i.0 f i.1 d))
+  insn_there n f d = let i = get_there is n (subst (λ (k : ℕ). n < k) long (got_short chosen_fates n f d)) in (i.0, (i.1, chosen_at n i.0 f i.1 d))
 
   pub kept : (n : ℕ) (i : Insn) → slice_get is n ≡ Some i → wish_at ws n ≡ Stays → slice_get chosen_fates n ≡ Some MeantStays
   kept n i e w = let f = fate_there n i e in f.1.0 ∙ ap Some (f.1.1.is_it ∙ ap (λ v. fate_of (chosen v (is_held is ws f.1.1.start n) i)) w)

@@ -5,6 +5,9 @@ use Rattle.std.specs.List.{list_any}
 use Rattle.std.proofs.lemmas.Bool.{leb-true}
 use Rattle.std.proofs.lemmas.List.{length-map}
 use Rattle.std.proofs.lemmas.List.Elements.{Contains-append_cases, Contains-append_left, Contains-append_right}
+use Rattle.lemmas.proofs.Bools.{clash}
+use Rattle.lemmas.proofs.Lists.{contains_here, contains_there}
+use Rattle.lemmas.proofs.Options.{some_same}
 use Rattle.insn_set.specs.Flow.{throws, goes_on, targets_of}
 use Rattle.insn_set.specs.declared.form.Insn.{Insn}
 use Rattle.program_model.specs.BodyRules.{is_rest, handles_at, body_fits, may_enter}
@@ -20,9 +23,8 @@ use Rattle.body_graph.specs.Walks as walk
 use Rattle.body_graph.specs.Graph.{covering}
 use Rattle.body_graph.proofs.Members.{first, there, get_inside}
 use Rattle.body_graph.proofs.Links.{step_insn, step_on, step_caught, caught_of, caught_by}
-use Rattle.frame_laws.proofs.Lists.{some_same, contains_here, contains_there}
 use Rattle.pass_defs.specs.Walks as named
-use Rattle.silence_law.proofs.Lists.{clash, and_left, and_right}
+use Rattle.silence_law.proofs.Lists.{and_left}
 use Rattle.thin_rules.proofs.Kept.{enter_begin}
 use Rattle.thin_rules.proofs.Rules.{first_begins, next_there, target_there, may_begin_at, rest_of}
 use Rattle.walk_bridge.proofs.Walked.{reached_by_number}

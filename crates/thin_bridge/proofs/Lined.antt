@@ -3,11 +3,12 @@ use Rattle.std.proofs.Common.{◌≡◌, ◌⊎◌, inl, inr, ℕ, zero, suc, Bo
 use Rattle.std.specs.Prelude.{not, ◌&&◌, ◌||◌, nat_eq, nat_le}
 use Rattle.std.specs.List.{list_any, list_all}
 use Rattle.std.proofs.lemmas.Bool.{eqb-true}
+use Rattle.lemmas.proofs.Bools.{and_right}
 use Rattle.insn_set.specs.declared.form.Insn.{Insn}
 use Rattle.program_model.specs.Neighbours.{neighbours}
 use Rattle.program_model.specs.LineRules.{goes_on_with_lines, lines_fit}
 use Rattle.pass_defs.specs.Thinned.{Fate as Meant, Stays, Empties, Goes, left, insns_left}
-use Rattle.silence_law.proofs.Lists.{and_left, and_right, and_both}
+use Rattle.silence_law.proofs.Lists.{and_left, and_both}
 use Rattle.thin_pass.specs.Plans.{lines_of}
 
 abbrev is_line : ℕ → Bool

@@ -3,6 +3,9 @@ use Rattle.std.proofs.Common.{◌≡◌, ◌⊎◌, inl, inr, ℕ, zero, suc, �
 use Rattle.std.specs.Prelude.{not, ◌&&◌, ◌||◌, nat_eq, nat_le, Option, Some, None, slice_get, Contains}
 use Rattle.std.specs.List.{list_any}
 use Rattle.std.proofs.lemmas.Bool.{cases_lt, eqb-true, leb-true, le-leb}
+use Rattle.lemmas.proofs.Bools.{and_right}
+use Rattle.lemmas.proofs.Lists.{contains_here, contains_there, get_there, got_short}
+use Rattle.lemmas.proofs.Numbers.{next_is}
 use Rattle.insn_set.specs.Flow.{goes_on, targets_of}
 use Rattle.insn_set.specs.declared.form.Insn.{Insn}
 use Rattle.insn_set.specs.declared.form.Insn.TheVariants as insn
@@ -15,13 +18,12 @@ use Rattle.pass_defs.specs.Thinned.{Stays as MeantStays, Empties as MeantEmpties
 use Rattle.body_edit.specs.Fates.{fate_of}
 use Rattle.body_edit.specs.declared.fate.Fate.{Fate}
 use Rattle.body_edit.specs.declared.fate.Fate.TheVariants.{Stays, Empties, Goes}
-use Rattle.frame_laws.proofs.Lists.{contains_here, contains_there}
-use Rattle.silence_law.proofs.Lists.{and_left, and_right, and_both}
+use Rattle.silence_law.proofs.Lists.{and_left, and_both}
 use Rattle.thin_law.proofs.Places.{IsLeft, place_next, place_gone}
 use Rattle.thin_pass.specs.Wishing.{wish_at, goes, is_to_go, is_between, leads_into, holds, is_held}
 use Rattle.thin_pass.specs.Wishing.{fate_of as chosen}
 use Rattle.thin_rules.specs.Tidy.{Passes, On, Over, Catches, IsTidy}
-use Rattle.thin_rules.proofs.Places.{get_within, get_there, place_rises}
+use Rattle.thin_rules.proofs.Places.{place_rises}
 use Rattle.thin_rules.proofs.Rules.{leaves_at}
 use Rattle.thin_bridge.specs.Right.{fates_by, PassesOn, On as PassesNext, Next, StillCatches, AreRight}
 use Rattle.thin_bridge.proofs.Chosen.{Chosen, long, goes_by, left_by, lost_by, stays_by, chosen_at, fate_there, insn_there, kept, not_gone, holds_next}
@@ -45,9 +47,6 @@ to_range first last t (u ∷ ts) (suc k, l, e) a b = by (is_between first last u
     by : (x : Bool) → list_any (is_between first last) ts ≡ true → (x || list_any (is_between first last) ts) ≡ true
     by true h = refl
     by false h = h
-
-next_is : (n : ℕ) → n + 1 ≡ suc n
-next_is n = omega arith
 
 steps_to : (t n : ℕ) → t ≤ n → t + (n - t) ≡ n
 steps_to t n l = omega arith
@@ -82,7 +81,7 @@ module _ (p : Program) (marks : ℕ → Bool) (ws : List Fate) (b : Body) (fits 
       by : (i : Insn) → slice_get b.insns n ≡ Some i → Chosen b.insns ws n i f → marks n ≡ true
       by i e a = elim (left_by (wish_at ws n) (is_held b.insns ws a.start n) i (λ g. l (a.is_it ∙ g))) [
         | inl d ↦ right.left n i e d
-        | inr d ↦ held_marked n a.start (get_within b.insns n i e) a.run.all d
+        | inr d ↦ held_marked n a.start (got_short b.insns n i e) a.run.all d
       ]
 
   passing : (n : ℕ) (i : Insn) (f : Meant) → marks n ≡ true → slice_get b.insns n ≡ Some i → slice_get fs n ≡ Some f → stays f ≡ false → Passes fs n i
@@ -94,7 +93,7 @@ module _ (p : Program) (marks : ℕ → Bool) (ws : List Fate) (b : Body) (fits 
 
   results : (n to : ℕ) (s : Slot) → slice_get fs (suc n) ≡ Some MeantStays → slice_get b.insns (suc n) ≡ Some (insn.MoveResult s to) → slice_get fs n ≡ Some MeantStays
   results n to s h e =
-      let l = get_within b.insns (suc n) (insn.MoveResult s to) e in
+      let l = got_short b.insns (suc n) (insn.MoveResult s to) e in
       let i = get_there b.insns n (omega (arith, l)) in
       kept b.insns ws n i.0 i.1 (right.results n to s i.0 (left_marked (suc n) MeantStays h (λ g. cc)) e i.1)
 
@@ -133,7 +132,7 @@ module _ (p : Program) (marks : ℕ → Bool) (ws : List Fate) (b : Body) (fits 
       before : (n : ℕ) → t < n → slice_get fs n ≡ Some MeantStays → slice_get b.insns n ≡ Some i → place fs t ≡ place fs n → ⊥
       before zero l h e s = omega (arith, l)
       before (suc k) l h e s =
-          let m = get_within b.insns (suc k) i e in
+          let m = got_short b.insns (suc k) i e in
           let gone : (j : ℕ) → t ≤ j → j < suc k → slice_get fs j ≡ Some MeantGoes = all_gone t (suc k) l m s in
           let a = insn_there b.insns ws k MeantGoes (gone k (omega (arith, l)) (omega arith)) in
           let w = goes_by (wish_at ws k) (is_held b.insns ws a.1.1.start k) a.0 (sym a.1.1.is_it) in

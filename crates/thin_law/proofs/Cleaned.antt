@@ -21,7 +21,6 @@ use Rattle.pass_defs.specs.Thinned.{Fate}
 use Rattle.pass_defs.specs.Walks.{form_at, Here, Onward, Caught, IsRead}
 use Rattle.silence_law.specs.Results.{gives_result}
 use Rattle.frame_laws.specs.Alike.{gets_void}
-use Rattle.frame_laws.proofs.Lists.{no_some}
 use Rattle.frame_laws.proofs.Walks.{goes_next, goes_onward}
 use Rattle.thin_law.specs.Thin.{IsNeed}
 use Rattle.thin_law.specs.Fates.{MayGo, AreFates}

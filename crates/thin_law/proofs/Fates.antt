@@ -2,6 +2,8 @@
 use Rattle.std.proofs.Common.{◌≡◌, ℕ, zero, suc, ◌+◌, ◌<◌, ◌≤◌, true, false, List, [], ◌∷◌, length, refl, sym, ap, ◌∙◌, subst, arith}
 use Rattle.std.specs.Prelude.{Option, Some, None, slice_get, map, Contains}
 use Rattle.std.specs.Option.{option_map}
+use Rattle.lemmas.proofs.Lists.{get_there, got_short}
+use Rattle.lemmas.proofs.Numbers.{next_is}
 use Rattle.dalvik_defs.specs.declared.forms.Form.{Form}
 use Rattle.dalvik_defs.specs.declared.forms.Form.TheVariants as form
 use Rattle.dalvik_defs.specs.declared.program.NamedBody.{NamedBody}
@@ -9,22 +11,11 @@ use Rattle.pass_defs.specs.Remade.{retargeted}
 use Rattle.pass_defs.specs.Thinned.{Fate, Stays, Empties, Goes, place, forms_left, thinned}
 use Rattle.pass_defs.specs.Bare.{may_throw}
 use Rattle.pass_defs.specs.Walks.{form_at, successors, handlers_at, IsReached}
-use Rattle.frame_laws.proofs.Lists.{no_some}
 use Rattle.frame_laws.proofs.Walks.{walk_on, goes_onward, goes_caught}
 use Rattle.thin_law.specs.Thin.{Went, Past, Stood, Emptied, Gone, IsThin}
 use Rattle.thin_law.specs.Fates.{AreFates}
-use Rattle.thin_law.proofs.Places.{IsLeft, next_suc, place_next, place_gone, left_as, form_left, form_past, fate_known}
+use Rattle.thin_law.proofs.Places.{IsLeft, place_next, place_gone, left_as, form_left, form_past, fate_known}
 use Rattle.thin_law.proofs.Regions.{AreBefore, end_of, handlers_same}
-
-pub get_within : {A : Type 0} (xs : List A) (n : ℕ) (x : A) → slice_get xs n ≡ Some x → n < length xs
-get_within [] n x e = no_some x e
-get_within (y ∷ ys) zero x e = omega arith
-get_within (y ∷ ys) (suc n) x e = let l = get_within ys n x e in omega (arith, l)
-
-pub get_there : {A : Type 0} (xs : List A) (n : ℕ) → n < length xs → (x : A) × (slice_get xs n ≡ Some x)
-get_there [] n l = let f : ⊥ = omega (arith, l) in absurd f
-get_there (y ∷ ys) zero l = (y, refl)
-get_there (y ∷ ys) (suc n) l = get_there ys n (omega (arith, l))
 
 no_room : {A : Type 0} (a n : ℕ) → a ≤ n + 0 → n < a → A
 no_room a n l m = let f : ⊥ = omega arith in absurd f
@@ -54,13 +45,13 @@ module _ (fs : List Fate) (b : NamedBody) (long : length fs ≡ length b.forms) 
       Again = (n : ℕ) → length b.forms ≤ n + k → P n → place fs n < end_of fs b
 
       stands : (x : Form) → form_at b n ≡ Some x → (f : Fate) → slice_get fs n ≡ Some f → IsLeft (Some f) → place fs n < end_of fs b
-      stands x e f d j = get_within (forms_left (place fs) fs b.forms) (place fs n) (left_as (place fs) f x) (form_left (place fs) fs b.forms n f x d e j)
+      stands x e f d j = got_short (forms_left (place fs) fs b.forms) (place fs n) (left_as (place fs) f x) (form_left (place fs) fs b.forms n f x d e j)
 
       by : (x : Form) → form_at b n ≡ Some x → (f : Fate) → slice_get fs n ≡ Some f → Again → place fs n < end_of fs b
       by x e Stays d again = stands x e Stays d tt
       by x e Empties d again = stands x e Empties d tt
       by x e Goes d again = let g = goes n x i e d in
-          subst (λ q. q < end_of fs b) (g.beside ∙ ap (place fs) (next_suc n) ∙ place_gone fs n d) (again g.to (jump_room (length b.forms) n k g.to l g.ahead) g.there)
+          subst (λ q. q < end_of fs b) (g.beside ∙ ap (place fs) (next_is n) ∙ place_gone fs n d) (again g.to (jump_room (length b.forms) n k g.to l g.ahead) g.there)
 
   pub comes_before : (n : ℕ) → P n → place fs n < end_of fs b
   comes_before n i = lands_within (length b.forms) n (fits_in n (length b.forms)) i
@@ -85,13 +76,13 @@ module _ (need : ℕ → ℕ → Type 0) (wants : ℕ → Type 0) (loses : ℕ �
   went n i (Some x) e = let k = fate_known fs b.forms n x h.long e in by k.0 k.1
     where
       after : IsLeft (slice_get fs n) → place fs (n + 1) ≡ place fs n + 1
-      after l = ap (place fs) (next_suc n) ∙ place_next fs n l ∙ sym (next_suc (place fs n))
+      after l = ap (place fs) (next_is n) ∙ place_next fs n l ∙ sym (next_is (place fs n))
 
       by : (f : Fate) → slice_get fs n ≡ Some f → Went b (thinned fs b) (place fs) need wants loses n (Some x)
       by Stays k = let l : IsLeft (slice_get fs n) = subst IsLeft (sym k) tt in Stood x (form_left (place fs) fs b.forms n Stays x k e tt) (after l) (λ t above. handlers_same fs b n l (handlers_land n x i e t) above)
       by Empties k = let l : IsLeft (slice_get fs n) = subst IsLeft (sym k) tt in let g = h.leaves n x Empties i e k refl in
           Emptied x g.to (form_left (place fs) fs b.forms n Empties x k e tt) (g.beside ∙ after l) g.loses_it g.onward g.unneeded g.untaken
-      by Goes k = let g = h.leaves n x Goes i e k refl in Gone x g.to g.ahead (g.beside ∙ ap (place fs) (next_suc n) ∙ place_gone fs n k) g.loses_it g.onward g.unneeded g.untaken
+      by Goes k = let g = h.leaves n x Goes i e k refl in Gone x g.to g.ahead (g.beside ∙ ap (place fs) (next_is n) ∙ place_gone fs n k) g.loses_it g.onward g.unneeded g.untaken
 
   pub fated_thin : IsThin need wants loses b (thinned fs b)
   fated_thin = record { at = place fs; registers = refl; ins = refl; entry = entry_place fs; went = λ n i. went n i (form_at b n) refl }

@@ -1,19 +1,16 @@
 -- Where positions go, and the forms that are left.
 use Rattle.std.proofs.Common.{◌≡◌, ℕ, zero, suc, ◌+◌, Bool, true, false, true≢false, List, [], ◌∷◌, length, refl, sym, ap, ◌∙◌, subst, arith}
 use Rattle.std.specs.Prelude.{Option, Some, None, slice_get, nat_lt, nat_le}
+use Rattle.lemmas.proofs.Options.{none_some, some_same}
 use lib.Dec.{leb-zero, leb-suc-zero, leb-suc-suc}
 use Rattle.dalvik_defs.specs.declared.forms.Form.{Form}
 use Rattle.dalvik_defs.specs.declared.forms.Form.TheVariants as form
 use Rattle.pass_defs.specs.Remade.{retargeted}
 use Rattle.pass_defs.specs.Thinned.{Fate, Stays, Empties, Goes, place, forms_left}
-use Rattle.frame_laws.proofs.Lists.{no_some, some_same}
 
 abbrev pub IsLeft : Option Fate → Type 0
 IsLeft (Some Goes) = ⊥
 IsLeft o = Unit {0}
-
-pub next_suc : (n : ℕ) → n + 1 ≡ suc n
-next_suc n = omega arith
 
 pub place_next : (fs : List Fate) (n : ℕ) → IsLeft (slice_get fs n) → place fs (suc n) ≡ suc (place fs n)
 place_next [] n h = refl
@@ -27,7 +24,7 @@ place_next (Empties ∷ fs) (suc n) h = ap suc (place_next fs n h)
 place_next (Goes ∷ fs) (suc n) h = place_next fs n h
 
 pub place_gone : (fs : List Fate) (n : ℕ) → slice_get fs n ≡ Some Goes → place fs (suc n) ≡ place fs n
-place_gone [] n h = no_some Goes h
+place_gone [] n h = none_some Goes h
 place_gone (Goes ∷ []) zero h = refl
 place_gone (Goes ∷ m ∷ fs) zero h = refl
 place_gone (Stays ∷ fs) zero h = absurd (true≢false (ap (λ o. elim o as (λ o. Bool) [ Some m ↦ elim m as (λ m. Bool) [ Goes ↦ false | Stays ↦ true | Empties ↦ true ] | None ↦ true ]) h))
@@ -67,8 +64,8 @@ left_as at Empties x = form.Nop
 left_as at Goes x = x
 
 pub form_left : (at : ℕ → ℕ) (fs : List Fate) (xs : List Form) (n : ℕ) (m : Fate) (x : Form) → slice_get fs n ≡ Some m → slice_get xs n ≡ Some x → IsLeft (Some m) → slice_get (forms_left at fs xs) (place fs n) ≡ Some (left_as at m x)
-form_left at [] xs n m x h e l = no_some m h
-form_left at (k ∷ fs) [] n m x h e l = no_some x e
+form_left at [] xs n m x h e l = none_some m h
+form_left at (k ∷ fs) [] n m x h e l = none_some x e
 form_left at (Stays ∷ fs) (y ∷ xs) zero m x h e l = ap Some (ap (λ z. retargeted at z) (some_same y x e) ∙ ap (λ k. left_as at k x) (some_same Stays m h))
 form_left at (Empties ∷ fs) (y ∷ xs) zero m x h e l = ap (λ k. Some (left_as at k x)) (some_same Empties m h)
 form_left at (Goes ∷ fs) (y ∷ xs) zero m x h e l = absurd (subst (λ k. IsLeft (Some k)) (sym (some_same Goes m h)) l)
@@ -79,13 +76,13 @@ form_left at (Goes ∷ fs) (y ∷ xs) (suc n) m x h e l = form_left at fs xs n m
 pub form_past : (at : ℕ → ℕ) (fs : List Fate) (xs : List Form) (n : ℕ) → length fs ≡ length xs → slice_get xs n ≡ None → slice_get (forms_left at fs xs) (place fs n) ≡ None
 form_past at fs [] n h e = refl
 form_past at [] (y ∷ xs) n h e = refl
-form_past at (k ∷ fs) (y ∷ xs) zero h e = no_some y (sym e)
+form_past at (k ∷ fs) (y ∷ xs) zero h e = none_some y (sym e)
 form_past at (Stays ∷ fs) (y ∷ xs) (suc n) h e = form_past at fs xs n (omega (arith, h)) e
 form_past at (Empties ∷ fs) (y ∷ xs) (suc n) h e = form_past at fs xs n (omega (arith, h)) e
 form_past at (Goes ∷ fs) (y ∷ xs) (suc n) h e = form_past at fs xs n (omega (arith, h)) e
 
 pub fate_known : (fs : List Fate) (xs : List Form) (n : ℕ) (x : Form) → length fs ≡ length xs → slice_get xs n ≡ Some x → (m : Fate) × (slice_get fs n ≡ Some m)
-fate_known fs [] n x h e = no_some x e
+fate_known fs [] n x h e = none_some x e
 fate_known [] (y ∷ xs) n x h e = let f : ⊥ = omega (arith, h) in absurd f
 fate_known (m ∷ fs) (y ∷ xs) zero x h e = (m, refl)
 fate_known (m ∷ fs) (y ∷ xs) (suc n) x h e = fate_known fs xs n x (omega (arith, h)) e

@@ -4,6 +4,7 @@ use Rattle.std.specs.Prelude.{Option, Some, None, nat_eq, not, ◌||◌, slice_s
 use Rattle.std.specs.Option.{option_map}
 use Rattle.std.specs.Ordering.{int_eq}
 use Rattle.std.specs.Int.{w32, cast_unsigned}
+use Rattle.lemmas.proofs.Bools.{clash, not_true}
 use Rattle.insn_set.specs.Registers.{in_operand}
 use Rattle.insn_set.specs.Flow.{divides, divides_by_literal}
 use Rattle.insn_set.specs.declared.ops.Item.{Item}
@@ -46,13 +47,6 @@ use Rattle.frame_laws.proofs.Agree.{agree_refl, agree_on, agree_write}
 use Rattle.frame_laws.proofs.Acts.{wide_sort, is_division, divides_sort, sort_width, sort_divides, wide_number, unary_width}
 use Rattle.thin_law.specs.Cleaning.{IsFine}
 use Rattle.thin_law.proofs.Thinning.{Leaps, leap_by}
-
-clash : {A : Type 0} (b : Bool) → b ≡ true → b ≡ false → A
-clash b e f = absurd (true≢false (sym e ∙ f))
-
-not_true : (b : Bool) → not b ≡ true → b ≡ false
-not_true false e = refl
-not_true true e = absurd (true≢false (sym e))
 
 answered : (k : Kind) (wide : Bool) (a b : ℕ) → is_division k ≡ false → (n : ℕ) × (answer k wide a b ≡ Some n)
 answered Div wide a b e = clash true refl e

@@ -6,6 +6,7 @@ use Rattle.std.specs.Option.{option_map, option_and_then}
 use mathlib.Core.Bool.{cond}
 use Rattle.std.proofs.lemmas.Bool.{leb-true, le-leb}
 use Rattle.std.proofs.lemmas.List.Elements.{Contains-append_left, Contains-append_right}
+use Rattle.lemmas.proofs.Lists.{contains_here, contains_there}
 use Rattle.dalvik_defs.specs.Names.{Text}
 use Rattle.dalvik_defs.specs.Stack.{covers, handler_in, handler_at}
 use Rattle.dalvik_defs.specs.declared.program.NamedBody.{NamedBody}
@@ -13,7 +14,6 @@ use Rattle.dalvik_defs.specs.declared.program.NamedRegion.{NamedRegion}
 use Rattle.dalvik_defs.specs.declared.program.NamedHandler.{NamedHandler}
 use Rattle.pass_defs.specs.Thinned.{Fate, place, forms_left, moved_handler, moved, rest_before, has_room, thinned}
 use Rattle.pass_defs.specs.Walks.{listed, handlers_of, handlers_at}
-use Rattle.frame_laws.proofs.Lists.{contains_here, contains_there}
 use Rattle.silence_law.proofs.Lists.{and_both}
 use Rattle.thin_law.proofs.Places.{IsLeft, at_least, before}
 

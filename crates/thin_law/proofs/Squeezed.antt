@@ -1,5 +1,6 @@
 -- What a squeeze removes does nothing that is seen.
 use Rattle.std.proofs.Common.{◌≡◌, ℕ, ◌+◌, ◌<◌, false, true≢false, List, [], Some, None, refl, sym, ap, ◌∙◌, arith}
+use Rattle.lemmas.proofs.Lists.{contains_here}
 use Rattle.dalvik_defs.specs.Face.{Bodies}
 use Rattle.dalvik_defs.specs.State.{World, Classes}
 use Rattle.dalvik_defs.specs.Outcome.{outcome, need_of, Stays}
@@ -12,7 +13,6 @@ use Rattle.dalvik_defs.specs.declared.program.NamedBody.{NamedBody}
 use Rattle.pass_defs.specs.Bare.{writes}
 use Rattle.pass_defs.specs.Thinned.{Fate}
 use Rattle.frame_laws.proofs.Agree.{agree_refl}
-use Rattle.frame_laws.proofs.Lists.{contains_here}
 use Rattle.frame_laws.proofs.Walks.{goes_next}
 use Rattle.thin_law.specs.Thin.{IsNeed}
 use Rattle.thin_law.specs.Fates.{MayGo, AreFates}

@@ -2,6 +2,7 @@
 use Rattle.std.proofs.Common.{◌≡◌, ℕ, zero, suc, ◌+◌, ◌<◌, ◌≤◌, eq-eqb, ◌-◌, Bool, true, false, true≢false, List, [], ◌∷◌, ◌++◌, length, refl, sym, ap, ◌∙◌, subst, arith}
 use Rattle.std.specs.Prelude.{Option, Some, None, slice_get, find, ◌||◌, nat_eq, Contains, replicate, slice_set}
 use Rattle.std.specs.Option.{option_map, option_and_then}
+use Rattle.lemmas.proofs.Options.{none_some, some_same}
 use Rattle.dalvik_defs.specs.Names.{Text}
 use Rattle.dalvik_defs.specs.Face.{Bodies, face_of, bodies_of}
 use Rattle.dalvik_defs.specs.Outer.{Outer}
@@ -38,7 +39,6 @@ use Rattle.dalvik_defs.proofs.Frames.{Glides as FrameGlides, now}
 use Rattle.dalvik_defs.proofs.Glides.{glide_stay}
 use Rattle.frame_laws.specs.Alike.{Holds, Only, Accepts, gets_void}
 use Rattle.thin_law.specs.Thin.{IsNeed, Went, Past as WasPast, Stood, Emptied, Gone, IsThin, AreThin, Neither, Both}
-use Rattle.frame_laws.proofs.Lists.{no_some, some_same}
 use Rattle.dalvik_defs.proofs.Blocks.{Block, alone, stacked, caught_or, catches, Glides}
 use Rattle.dalvik_defs.proofs.Singles.{Single, One}
 use Rattle.frame_laws.proofs.Walks.{walk_on, goes_onward, goes_caught, goes_next, goes_there, handler_caught}
@@ -236,7 +236,7 @@ module _ (need : MethodKey → ℕ → ℕ → Type 0) (wants : MethodKey → �
     past_end b n x l e = by b.forms n l e
       where
         by : (xs : List Form) (n : ℕ) {A : Type 0} → length xs ≤ n → slice_get xs n ≡ Some x → A
-        by [] n l e = no_some x e
+        by [] n l e = none_some x e
         by (y ∷ ys) zero l e = let f : ⊥ = omega (arith, l) in absurd f
         by (y ∷ ys) (suc n) l e = by ys n (omega (arith, l)) e
 

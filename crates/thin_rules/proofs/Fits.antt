@@ -3,6 +3,9 @@ use Rattle.std.proofs.Common.{◌≡◌, ◌⊎◌, inl, inr, ℕ, zero, suc, �
 use Rattle.std.specs.Prelude.{◌&&◌, not, Option, Some, None, slice_get, Contains, nat_lt, nat_le, map}
 use Rattle.std.specs.List.{list_all, enumerate_from}
 use Rattle.std.specs.Option.{option_map}
+use Rattle.lemmas.proofs.Bools.{and_right, clash}
+use Rattle.lemmas.proofs.Lists.{all_in, all_of, get_there, got_short}
+use Rattle.lemmas.proofs.Options.{some_same}
 use Rattle.insn_set.specs.Flow.{goes_on, targets_of}
 use Rattle.insn_set.specs.Spelling.{is_encodable}
 use Rattle.insn_set.specs.declared.form.Insn.{Insn}
@@ -18,12 +21,11 @@ use Rattle.program_model.specs.declared.body.Region.{Region}
 use Rattle.program_model.specs.declared.body.Body.{Body}
 use Rattle.program_model.specs.declared.program.Program.{Program}
 use Rattle.pass_defs.specs.Thinned.{Fate, Stays, Empties, Goes, place, insn_retargeted, insns_left, handler_moved, region_moved, rest_before, body_thinned}
-use Rattle.frame_laws.proofs.Lists.{some_same}
-use Rattle.silence_law.proofs.Lists.{clash, and_left, and_right, and_both, all_map}
+use Rattle.silence_law.proofs.Lists.{and_left, and_both, all_map}
 use Rattle.thin_law.proofs.Places.{IsLeft, place_next}
 use Rattle.thin_rules.specs.Tidy.{Catches, IsTidy}
 use Rattle.thin_rules.proofs.Kept.{encodable, registers, numbers, gives, enters, begins, aims, enter_begin}
-use Rattle.thin_rules.proofs.Places.{get_within, get_there, all_at, all_of, all_with, all_numbered, all_beside, left_insn, insn_left, From, come_from, place_same, place_rises}
+use Rattle.thin_rules.proofs.Places.{all_with, all_numbered, all_beside, left_insn, insn_left, From, come_from, place_same, place_rises}
 use Rattle.thin_rules.proofs.Regions.{has_room, handlers_begin, rest_begins, kept_all, kept_any, handles_there, each_region_fits, regions_left}
 use Rattle.thin_rules.proofs.Rules.{first_begins, all_regions_fit, operands_at, targets_at, follows_at, rest_of, may_begin_at}
 use Rattle.thin_rules.proofs.Lands.{left_at, Lands, lands, target_lands, is_marked, Falls, falls}
@@ -122,7 +124,7 @@ module _ (p : Program) (marks : ℕ → Bool) (fs : List Fate) (b : Body) (fits 
       let r = come_from at fs b.insns j y e in
       let w = falls p marks fs b fits tidy r.position r.fate r.insn r.has_fate r.is_left r.has_insn (ap goes_on (sym r.same) ∙ g) in
       subst (λ k. k < length new) (w.behind ∙ ap suc r.there)
-      (get_within new (at w.lands.to) (left_insn at w.lands.fate w.lands.insn) (insn_left at fs b.insns w.lands.to w.lands.fate w.lands.insn w.lands.has_fate w.lands.has_insn w.lands.is_left))
+      (got_short new (at w.lands.to) (left_insn at w.lands.fate w.lands.insn) (insn_left at fs b.insns w.lands.to w.lands.fate w.lands.insn w.lands.has_fate w.lands.has_insn w.lands.is_left))
 
   last : slice_get new 0 ≡ None → ⊥
   last e = absurd (true≢false (sym first ∙ ap may_begin e))
@@ -137,7 +139,7 @@ module _ (p : Program) (marks : ℕ → Bool) (fs : List Fate) (b : Body) (fits 
       some_left : (o : Option Insn) → slice_get new 0 ≡ o → ends (slice_get new (length new - 1)) ≡ true
       some_left None e = absurd (last e)
       some_left (Some y) e =
-          let l = get_within new 0 y e in
+          let l = got_short new 0 y e in
           let z = get_there new (length new - 1) (before_end (length new) l) in
           ap ends z.1 ∙ stops z.0 z.1 l (goes_on z.0) refl
 
@@ -154,7 +156,7 @@ module _ (p : Program) (marks : ℕ → Bool) (fs : List Fate) (b : Body) (fits 
       taken zero slot to h k s = absurd (not_zero j (sym (entry_place fs) ∙ s))
       taken (suc n) slot to h k s =
           let giver = tidy.results n to slot h k in
-          let i = get_there b.insns n (less n (length b.insns) (get_within b.insns (suc n) (insn.MoveResult slot to) k)) in
+          let i = get_there b.insns n (less n (length b.insns) (got_short b.insns (suc n) (insn.MoveResult slot to) k)) in
           result n i.0 giver i.1 (same_suc (at n) j (sym (place_next fs n (subst IsLeft (sym giver) tt)) ∙ s)) (follows_at p b fits n i.0 (insn.MoveResult slot to) i.1 k)
 
       never : (m to : ℕ) → slice_get fs m ≡ Some Stays → slice_get b.insns m ≡ Some (insn.MoveException to) → at m ≡ suc j → From at fs b.insns j x → goes_on x ≡ true → ⊥
@@ -195,7 +197,7 @@ module _ (p : Program) (marks : ℕ → Bool) (fs : List Fate) (b : Body) (fits 
     where
       by_form : (o : Option Insn) → slice_get b.insns n ≡ o → may_begin o ≡ true → nat_lt (at n) (length new) ≡ true
       by_form None e h = clash true refl (sym h)
-      by_form (Some i) e h = let l = lands p marks fs b fits tidy n i m e in lt-ltb (at n) (length new) (get_within new (at n) (left_insn at l.fate l.insn) (stands n l))
+      by_form (Some i) e h = let l = lands p marks fs b fits tidy n i m e in lt-ltb (at n) (length new) (got_short new (at n) (left_insn at l.fate l.insn) (stands n l))
 
   covers_still : (n : ℕ) (r : Catches marks fs b n) → at r.region.first < at r.region.end
   covers_still n r = between (at r.region.first) (at r.covered) (at r.region.end) (place_rises fs r.region.first r.covered r.first)
@@ -294,7 +296,7 @@ module _ (p : Program) (marks : ℕ → Bool) (fs : List Fate) (b : Body) (fits 
   handlers_there : (r : Region) → Contains b.regions r → has_room p b.insns fs r ≡ true → handlers_begin new (region_moved at r) ≡ true
   handlers_there r c e = all_map (λ (h : Handler). may_begin (slice_get new h.position)) (handler_moved at) r.handlers
       ∙ all_of (λ (h : Handler). may_begin (slice_get new (at h.position))) r.handlers (λ h i. begins_within h.position (may_begin_at p b fits r c h i)
-      (ltb-true (at h.position) (length new) (all_at (λ (h : Handler). nat_lt (at h.position) (length new)) r.handlers h i (handlers_inside r e))))
+      (ltb-true (at h.position) (length new) (all_in (λ (h : Handler). nat_lt (at h.position) (length new)) r.handlers h i (handlers_inside r e))))
 
   rest_there : (r : Region) → Contains b.regions r → has_room p b.insns fs r ≡ true → rest_begins new (region_moved at r) ≡ true
   rest_there r c e = by r.rest (rest_of p b fits r c) (rest_inside r e)

@@ -1,6 +1,8 @@
 -- What an instruction with other targets keeps.
 use Rattle.std.proofs.Common.{◌≡◌, ℕ, true, false, true≢false, length, refl, sym, ap, ◌∙◌}
 use Rattle.std.specs.Prelude.{◌&&◌, not, Option, Some, None, map, nat_eq, nat_lt}
+use Rattle.lemmas.proofs.Bools.{clash}
+use Rattle.lemmas.proofs.Lists.{map_long}
 use Rattle.insn_set.specs.Flow.{goes_on, targets_of}
 use Rattle.insn_set.specs.Spelling.{is_encodable, keys_ascend}
 use Rattle.insn_set.specs.declared.form.Insn.{Insn}
@@ -10,12 +12,11 @@ use Rattle.program_model.specs.OperandRules.{registers_fit, numbers_fit}
 use Rattle.program_model.specs.RegionRules.{may_begin}
 use Rattle.program_model.specs.declared.program.Program.{Program}
 use Rattle.pass_defs.specs.Thinned.{insn_retargeted}
-use Rattle.silence_law.proofs.Lists.{clash, length_same}
 
 module _ (t : ℕ → ℕ) where
   pub encodable : (i : Insn) → is_encodable (insn_retargeted t i) ≡ is_encodable i
-  encodable (insn.PackedSwitch on first targets) = ap (λ n. nat_lt on 256 && nat_lt n 65536) (length_same t targets)
-  encodable (insn.SparseSwitch on keys targets) = ap (λ n. nat_lt on 256 && (nat_lt n 65536 && (nat_eq (length keys) n && keys_ascend keys))) (length_same t targets)
+  encodable (insn.PackedSwitch on first targets) = ap (λ n. nat_lt on 256 && nat_lt n 65536) (map_long t targets)
+  encodable (insn.SparseSwitch on keys targets) = ap (λ n. nat_lt on 256 && (nat_lt n 65536 && (nat_eq (length keys) n && keys_ascend keys))) (map_long t targets)
   encodable (insn.Goto target) = refl
   encodable i = refl
 

@@ -2,6 +2,8 @@
 use Rattle.std.proofs.Common.{◌≡◌, ◌⊎◌, inl, inr, ℕ, zero, suc, ◌+◌, ◌-◌, ◌<◌, ◌≤◌, Bool, true, true≢false, List, [], length, refl, sym, ap, ◌∙◌, subst, arith}
 use Rattle.std.specs.Prelude.{◌&&◌, not, Option, Some, None, slice_get, Contains}
 use Rattle.std.specs.List.{list_all, enumerate_from}
+use Rattle.lemmas.proofs.Lists.{contains_here, get_there, got_short}
+use Rattle.lemmas.proofs.Options.{some_same}
 use Rattle.insn_set.specs.Flow.{goes_on, targets_of}
 use Rattle.insn_set.specs.Spelling.{is_encodable}
 use Rattle.insn_set.specs.declared.form.Insn.{Insn}
@@ -13,13 +15,12 @@ use Rattle.program_model.specs.BodyRules.{ends, may_follow, follows, may_enter, 
 use Rattle.program_model.specs.declared.body.Body.{Body}
 use Rattle.program_model.specs.declared.program.Program.{Program}
 use Rattle.pass_defs.specs.Thinned.{Fate, Stays, Empties, Goes, place}
-use Rattle.frame_laws.proofs.Lists.{some_same, contains_here}
-use Rattle.silence_law.proofs.Lists.{clash, and_left, and_right}
+use Rattle.silence_law.proofs.Lists.{and_left}
 use Rattle.thin_law.proofs.Places.{IsLeft, place_next, place_gone}
 use Rattle.thin_rules.specs.Tidy.{Passes, On, Over, IsTidy}
 use Rattle.thin_rules.proofs.Kept.{flows_on, follow_enter}
 use Rattle.thin_rules.proofs.Rules.{next_there, target_there}
-use Rattle.thin_rules.proofs.Places.{get_within, get_there, get_none, all_at, numbered_at, beside, left_insn}
+use Rattle.thin_rules.proofs.Places.{get_none, numbered_at, beside, left_insn}
 
 no_room : {A : Type 0} (a n : ℕ) → a ≤ n + 0 → n < a → A
 no_room a n l m = let f : ⊥ = omega arith in absurd f
@@ -59,9 +60,9 @@ module _ (p : Program) (marks : ℕ → Bool) (fs : List Fate) (b : Body) (fits 
       by (inr d) = d
 
   lands_within : (k n : ℕ) → length b.insns ≤ n + k → marks n ≡ true → (i : Insn) → slice_get b.insns n ≡ Some i → Lands n
-  lands_within zero n l m i e = no_room (length b.insns) n l (get_within b.insns n i e)
+  lands_within zero n l m i e = no_room (length b.insns) n l (got_short b.insns n i e)
   lands_within (suc k) n l m i e =
-      let w : n < length fs = subst (λ x. n < x) (sym tidy.long) (get_within b.insns n i e) in
+      let w : n < length fs = subst (λ x. n < x) (sym tidy.long) (got_short b.insns n i e) in
       let f = get_there fs n w in by f.0 f.1 (lands_within k)
     where
       Again : Type 0

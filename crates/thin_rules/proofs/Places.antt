@@ -2,29 +2,21 @@
 use Rattle.std.proofs.Common.{◌≡◌, ℕ, zero, suc, ◌+◌, ◌<◌, ◌≤◌, Bool, true, List, [], ◌∷◌, length, refl, sym, ap, ◌∙◌, subst, arith}
 use Rattle.std.specs.Prelude.{Some, None, slice_get, Contains}
 use Rattle.std.specs.List.{list_all, enumerate_from}
+use Rattle.lemmas.proofs.Bools.{and_right}
+use Rattle.lemmas.proofs.Lists.{contains_here, contains_there}
+use Rattle.lemmas.proofs.Options.{none_some, some_same}
 use Rattle.insn_set.specs.declared.form.Insn.{Insn}
 use Rattle.insn_set.specs.declared.form.Insn.TheVariants as insn
 use Rattle.program_model.specs.Neighbours.{neighbours}
 use Rattle.pass_defs.specs.Thinned.{Fate, Stays, Empties, Goes, place, insn_retargeted, insns_left}
-use Rattle.frame_laws.proofs.Lists.{no_some, some_same, contains_here, contains_there}
-use Rattle.silence_law.proofs.Lists.{and_left, and_right, and_both}
+use Rattle.silence_law.proofs.Lists.{and_left, and_both}
 use Rattle.thin_law.proofs.Places.{IsLeft}
 
 -- ---- entries of lists
 
-pub get_within : {A : Type 0} (xs : List A) (n : ℕ) (x : A) → slice_get xs n ≡ Some x → n < length xs
-get_within [] n x e = no_some x e
-get_within (y ∷ ys) zero x e = omega arith
-get_within (y ∷ ys) (suc n) x e = let l = get_within ys n x e in omega (arith, l)
-
-pub get_there : {A : Type 0} (xs : List A) (n : ℕ) → n < length xs → (x : A) × (slice_get xs n ≡ Some x)
-get_there [] n l = let f : ⊥ = omega (arith, l) in absurd f
-get_there (y ∷ ys) zero l = (y, refl)
-get_there (y ∷ ys) (suc n) l = get_there ys n (omega (arith, l))
-
 pub get_none : {A : Type 0} (xs : List A) (n : ℕ) → slice_get xs n ≡ None → length xs ≤ n
 get_none [] n e = omega arith
-get_none (y ∷ ys) zero e = no_some y (sym e)
+get_none (y ∷ ys) zero e = none_some y (sym e)
 get_none (y ∷ ys) (suc n) e = let l = get_none ys n e in omega (arith, l)
 
 pub all_with : {A : Type 0} (f g : A → Bool) (xs : List A) → ((x : A) → Contains xs x → f x ≡ true → g x ≡ true) → list_all f xs ≡ true → list_all g xs ≡ true
@@ -32,18 +24,9 @@ all_with f g [] h e = refl
 all_with f g (x ∷ xs) h e = and_both (g x) (list_all g xs) (h x (contains_here x xs) (and_left (f x) (list_all f xs) e))
     (all_with f g xs (λ y i k. h y (contains_there x xs y i) k) (and_right (f x) (list_all f xs) e))
 
-pub all_of : {A : Type 0} (f : A → Bool) (xs : List A) → ((x : A) → Contains xs x → f x ≡ true) → list_all f xs ≡ true
-all_of f [] h = refl
-all_of f (x ∷ xs) h = and_both (f x) (list_all f xs) (h x (contains_here x xs)) (all_of f xs (λ y i. h y (contains_there x xs y i)))
-
-pub all_at : {A : Type 0} (f : A → Bool) (xs : List A) (x : A) → Contains xs x → list_all f xs ≡ true → f x ≡ true
-all_at f [] x (k, l, e) h = let g : ⊥ = omega (arith, l) in absurd g
-all_at f (y ∷ ys) x (zero, l, e) h = ap f (sym e) ∙ and_left (f y) (list_all f ys) h
-all_at f (y ∷ ys) x (suc k, l, e) h = all_at f ys x (k, omega (arith, l), e) (and_right (f y) (list_all f ys) h)
-
 -- with their numbers
 pub numbered_at : {A : Type 0} (f : ℕ × A → Bool) (xs : List A) (k n : ℕ) (x : A) → list_all f (enumerate_from k xs) ≡ true → slice_get xs n ≡ Some x → f (k + n, x) ≡ true
-numbered_at f [] k n x h e = no_some x e
+numbered_at f [] k n x h e = none_some x e
 numbered_at f (y ∷ ys) k zero x h e = ap (λ i. f (i, x)) (plus_none k) ∙ ap (λ z. f (k, z)) (sym (some_same y x e)) ∙ and_left (f (k, y)) (list_all f (enumerate_from (k + 1) ys)) h
   where
     plus_none : (k : ℕ) → k + 0 ≡ k
@@ -66,8 +49,8 @@ all_numbered f (y ∷ ys) k h = and_both (f (k, y)) (list_all f (enumerate_from 
 
 -- with those behind them
 pub beside : {A : Type 0} (f : A × A → Bool) (xs : List A) (n : ℕ) (x y : A) → list_all f (neighbours xs) ≡ true → slice_get xs n ≡ Some x → slice_get xs (suc n) ≡ Some y → f (x, y) ≡ true
-beside f [] n x y h e d = no_some x e
-beside f (a ∷ []) n x y h e d = no_some y d
+beside f [] n x y h e d = none_some x e
+beside f (a ∷ []) n x y h e d = none_some y d
 beside f (a ∷ (b ∷ bs)) zero x y h e d = ap (λ z. f (z, y)) (sym (some_same a x e)) ∙ ap (λ z. f (a, z)) (sym (some_same b y d)) ∙ and_left (f (a, b)) (list_all f (neighbours (b ∷ bs))) h
 beside f (a ∷ (b ∷ bs)) (suc n) x y h e d = beside f (b ∷ bs) n x y (and_right (f (a, b)) (list_all f (neighbours (b ∷ bs))) h) e d
 
@@ -85,8 +68,8 @@ left_insn at Goes i = i
 
 pub insn_left : (at : ℕ → ℕ) (fs : List Fate) (xs : List Insn) (n : ℕ) (f : Fate) (i : Insn) → slice_get fs n ≡ Some f → slice_get xs n ≡ Some i → IsLeft (Some f)
     → slice_get (insns_left at fs xs) (place fs n) ≡ Some (left_insn at f i)
-insn_left at [] xs n f i h e l = no_some f h
-insn_left at (k ∷ fs) [] n f i h e l = no_some i e
+insn_left at [] xs n f i h e l = none_some f h
+insn_left at (k ∷ fs) [] n f i h e l = none_some i e
 insn_left at (Stays ∷ fs) (y ∷ xs) zero f i h e l = ap Some (ap (λ z. insn_retargeted at z) (some_same y i e) ∙ ap (λ k. left_insn at k i) (some_same Stays f h))
 insn_left at (Empties ∷ fs) (y ∷ xs) zero f i h e l = ap (λ k. Some (left_insn at k i)) (some_same Empties f h)
 insn_left at (Goes ∷ fs) (y ∷ xs) zero f i h e l = absurd (subst (λ k. IsLeft (Some k)) (sym (some_same Goes f h)) l)
@@ -106,8 +89,8 @@ pub record From (at : ℕ → ℕ) (fs : List Fate) (xs : List Insn) (j : ℕ) (
   pub same : y ≡ left_insn at fate insn
 
 pub come_from : (at : ℕ → ℕ) (fs : List Fate) (xs : List Insn) (j : ℕ) (y : Insn) → slice_get (insns_left at fs xs) j ≡ Some y → From at fs xs j y
-come_from at fs [] j y e = no_some y e
-come_from at [] (x ∷ xs) j y e = no_some y e
+come_from at fs [] j y e = none_some y e
+come_from at [] (x ∷ xs) j y e = none_some y e
 come_from at (Stays ∷ fs) (x ∷ xs) zero y e = record { position = 0; fate = Stays; insn = x; has_fate = refl; has_insn = refl; is_left = tt; there = refl; same = sym (some_same (insn_retargeted at x) y e) }
 come_from at (Stays ∷ fs) (x ∷ xs) (suc j) y e = let r = come_from at fs xs j y e in
     record { position = suc r.position; fate = r.fate; insn = r.insn; has_fate = r.has_fate; has_insn = r.has_insn; is_left = r.is_left; there = ap suc r.there; same = r.same }

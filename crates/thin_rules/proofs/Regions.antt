@@ -4,6 +4,9 @@ use Rattle.std.specs.Prelude.{◌&&◌, ◌||◌, not, Option, Some, None, map, 
 use Rattle.std.specs.List.{list_all, list_any}
 use Rattle.std.specs.Option.{option_map}
 use Rattle.std.proofs.lemmas.Bool.{leb-true, le-leb, eqb-true}
+use Rattle.lemmas.proofs.Bools.{and_right}
+use Rattle.lemmas.proofs.Lists.{contains_here, contains_there, map_long}
+use Rattle.lemmas.proofs.Numbers.{itself}
 use mathlib.Core.Bool.{cond}
 use Rattle.insn_set.specs.declared.form.Insn.{Insn}
 use Rattle.program_model.specs.Neighbours.{neighbours}
@@ -14,8 +17,7 @@ use Rattle.program_model.specs.declared.body.Handler.{Handler}
 use Rattle.program_model.specs.declared.body.Region.{Region}
 use Rattle.program_model.specs.declared.program.Program.{Program}
 use Rattle.pass_defs.specs.Thinned.{Fate, place, insns_left, handler_moved, region_moved, rest_before, region_has_room}
-use Rattle.frame_laws.proofs.Lists.{contains_here, contains_there}
-use Rattle.silence_law.proofs.Lists.{and_left, and_right, and_both, length_same}
+use Rattle.silence_law.proofs.Lists.{and_left, and_both}
 use Rattle.thin_rules.proofs.Places.{place_rises, place_end}
 
 -- a region's handlers begin where handlers may
@@ -38,9 +40,6 @@ Begins low (r ∷ rs) = low ≤ r.first
 
 least : (n : ℕ) → 0 ≤ n
 least n = omega arith
-
-itself : (n : ℕ) → n ≤ n
-itself n = omega arith
 
 upwards : (a b c : ℕ) → a ≤ b → b ≤ c → a ≤ c
 upwards a b c l m = omega arith
@@ -171,7 +170,7 @@ module _ (p : Program) (old : List Insn) (fs : List Fate) where
   still_some (Some n) = refl
 
   catches_same : (r : Region) → catches (region_moved at r) ≡ catches r
-  catches_same r = ap (λ n. not (nat_eq n 0) || is_some (option_map at r.rest)) (length_same (handler_moved at) r.handlers)
+  catches_same r = ap (λ n. not (nat_eq n 0) || is_some (option_map at r.rest)) (map_long (handler_moved at) r.handlers)
       ∙ ap (λ b. not (nat_eq (length r.handlers) 0) || b) (still_some r.rest)
 
   module _ (long : length fs ≡ length old) where

@@ -2,6 +2,8 @@
 use Rattle.std.proofs.Common.{◌≡◌, ℕ, suc, ◌+◌, ◌-◌, ◌<◌, ◌≤◌, Bool, true, true≢false, List, length, refl, sym, ap, ◌∙◌, arith}
 use Rattle.std.specs.Prelude.{◌&&◌, not, Option, Some, None, slice_get, Contains, nat_lt, nat_le}
 use Rattle.std.specs.List.{list_all, enumerate_from}
+use Rattle.lemmas.proofs.Bools.{and_right, clash}
+use Rattle.lemmas.proofs.Lists.{all_in, got_short}
 use Rattle.insn_set.specs.Flow.{goes_on, targets_of}
 use Rattle.insn_set.specs.Spelling.{is_encodable}
 use Rattle.insn_set.specs.declared.form.Insn.{Insn}
@@ -14,8 +16,8 @@ use Rattle.program_model.specs.declared.body.Body.{Body}
 use Rattle.program_model.specs.declared.body.Handler.{Handler}
 use Rattle.program_model.specs.declared.body.Region.{Region}
 use Rattle.program_model.specs.declared.program.Program.{Program}
-use Rattle.silence_law.proofs.Lists.{clash, and_left, and_right}
-use Rattle.thin_rules.proofs.Places.{get_within, get_none, all_at, numbered_at, beside}
+use Rattle.silence_law.proofs.Lists.{and_left}
+use Rattle.thin_rules.proofs.Places.{get_none, numbered_at, beside}
 
 none_plus : (n : ℕ) → n ≡ 0 + n
 none_plus n = omega arith
@@ -83,7 +85,7 @@ module _ (p : Program) (b : Body) (fits : body_fits p b ≡ true) where
   each_region = and_left (list_all (region_fits p b.insns) b.regions) (list_all are_apart (neighbours b.regions)) all_regions_fit
 
   pub region_at : (r : Region) → Contains b.regions r → region_fits p b.insns r ≡ true
-  region_at r c = all_at (region_fits p b.insns) b.regions r c each_region
+  region_at r c = all_in (region_fits p b.insns) b.regions r c each_region
 
   pub covers_at : (r : Region) → Contains b.regions r → (nat_lt r.first r.end && nat_le r.end (length b.insns)) ≡ true
   covers_at r c = and_left (nat_lt r.first r.end && nat_le r.end (length b.insns)) (catches r && (list_all (handler_fits p b.insns) r.handlers && rest_fits b.insns r.rest)) (region_at r c)
@@ -97,7 +99,7 @@ module _ (p : Program) (b : Body) (fits : body_fits p b ≡ true) where
 
   pub may_begin_at : (r : Region) → Contains b.regions r → (h : Handler) → Contains r.handlers h → may_begin (slice_get b.insns h.position) ≡ true
   may_begin_at r c h i = and_right (has_type p h.kind) (may_begin (slice_get b.insns h.position))
-      (all_at (handler_fits p b.insns) r.handlers h i (and_left (list_all (handler_fits p b.insns) r.handlers) (rest_fits b.insns r.rest) (inner r c)))
+      (all_in (handler_fits p b.insns) r.handlers h i (and_left (list_all (handler_fits p b.insns) r.handlers) (rest_fits b.insns r.rest) (inner r c)))
 
   -- ---- one after another
 
@@ -112,9 +114,9 @@ module _ (p : Program) (b : Body) (fits : body_fits p b ≡ true) where
       by : (o : Option Insn) → slice_get b.insns (suc n) ≡ o → (j : Insn) × ((o ≡ Some j) × (may_follow i j ≡ true))
       by (Some j) d = (j, (refl, beside follows b.insns n i j follow_fits e d))
       by None d =
-          let inside = get_within b.insns n i e in
+          let inside = got_short b.insns n i e in
           let outside = get_none b.insns (suc n) d in
           absurd (true≢false (sym last_ends ∙ ap ends (ap (slice_get b.insns) (at_end (length b.insns) n inside outside) ∙ e) ∙ ap not g))
 
   pub target_there : (n t : ℕ) (i : Insn) → slice_get b.insns n ≡ Some i → Contains (targets_of i) t → (j : Insn) × ((slice_get b.insns t ≡ Some j) × (may_enter (Some j) ≡ true))
-  target_there n t i e m = entered (slice_get b.insns t) (all_at (λ target. may_enter (slice_get b.insns target)) (targets_of i) t m (targets_at n i e))
+  target_there n t i e m = entered (slice_get b.insns t) (all_in (λ target. may_enter (slice_get b.insns target)) (targets_of i) t m (targets_at n i e))

@@ -5,6 +5,9 @@ use Rattle.std.specs.List.{list_all}
 use Rattle.std.specs.Option.{option_map}
 use Rattle.std.proofs.Math.Nat.{mul-le-mul_left}
 use Rattle.std.proofs.lemmas.List.Sums.{sum_by-cons}
+use Rattle.lemmas.proofs.Bools.{and_right}
+use Rattle.lemmas.proofs.Lists.{all_in, map_long}
+use Rattle.lemmas.proofs.Numbers.{itself}
 use mathlib.Core.Bool.{cond}
 use Rattle.insn_set.specs.declared.form.Insn.{Insn}
 use Rattle.insn_set.specs.declared.form.Insn.TheVariants as insn
@@ -24,18 +27,14 @@ use Rattle.program_model.specs.declared.program.Method.{Method}
 use Rattle.program_model.specs.declared.program.Class.{Class}
 use Rattle.program_model.specs.declared.program.Program.{Program}
 use Rattle.pass_defs.specs.Thinned.{Fate, Stays, Empties, Goes, place, insn_retargeted, insns_left, handler_moved, region_moved, region_has_room, body_thinned}
-use Rattle.silence_law.proofs.Lists.{and_left, and_right, length_same}
+use Rattle.silence_law.proofs.Lists.{and_left}
 use Rattle.bodies_law.specs.Others.{Pairwise}
 use Rattle.formed_law.specs.Recoded.{Recodes, RecodedMethod, Untouched as StillUntouched, Recoded, RecodedClass, RecodedProgram}
 use Rattle.thin_rules.specs.Tidy.{IsTidy}
 use Rattle.thin_rules.specs.Tidied.{TidiedMethod, Untouched, Tidied, TidiedClass, TidiedProgram}
 use Rattle.thin_rules.proofs.Fits.{thinned_fits}
-use Rattle.thin_rules.proofs.Places.{all_at}
 
 -- ---- room
-
-itself : (n : ℕ) → n ≤ n
-itself n = omega arith
 
 longer : (a b : ℕ) → a ≤ b → suc a ≤ suc b
 longer a b l = omega arith
@@ -54,8 +53,8 @@ behind a b c l = omega arith
 
 module _ (at : ℕ → ℕ) where
   entries_same : (i : Insn) → entries_of (insn_retargeted at i) ≡ entries_of i
-  entries_same (insn.PackedSwitch on first targets) = length_same at targets
-  entries_same (insn.SparseSwitch on keys targets) = length_same at targets
+  entries_same (insn.PackedSwitch on first targets) = map_long at targets
+  entries_same (insn.SparseSwitch on keys targets) = map_long at targets
   entries_same (insn.Goto target) = refl
   entries_same i = refl
 
@@ -90,7 +89,7 @@ module _ (at : ℕ → ℕ) where
   rest_same (Some n) = refl
 
   region_same : (r : Region) → region_items (region_moved at r) ≡ region_items r
-  region_same r = ap (λ n. n + rest_items (option_map at r.rest)) (length_same (handler_moved at) r.handlers) ∙ ap (λ n. length r.handlers + n) (rest_same r.rest)
+  region_same r = ap (λ n. n + rest_items (option_map at r.rest)) (map_long (handler_moved at) r.handlers) ∙ ap (λ n. length r.handlers + n) (rest_same r.rest)
 
   regions_fall : (end : ℕ) (rs : List Region) → sum_by region_items (filter (region_has_room end) (map (region_moved at) rs)) ≤ sum_by region_items rs
   regions_fall end [] = itself 0
@@ -158,8 +157,8 @@ module _ (p : Program) where
   -- the rules of a method's code
   pub code_rules : (c : Class) (m : Method) (b : Body) → is_well_formed p ≡ true → Contains p.classes c → Contains c.methods m → m.body ≡ Some b → (body_fits p b ≡ true) × (lines_fit (length b.insns) m.lines ≡ true)
   code_rules c m b h i j e =
-      let class = all_at (class_fits p) p.classes c i (all_classes h) in
-      let code = code_of c.name m b e (all_at (method_fits p c.name) c.methods m j (class_methods c class)) in
+      let class = all_in (class_fits p) p.classes c i (all_classes h) in
+      let code = code_of c.name m b e (all_in (method_fits p c.name) c.methods m j (class_methods c class)) in
       let rest = and_right (frame_fits p m b) (body_fits p b && lines_fit (length b.insns) m.lines) (and_right (not (lacks_code m.flags)) (frame_fits p m b && (body_fits p b && lines_fit (length b.insns) m.lines)) code) in
       (and_left (body_fits p b) (lines_fit (length b.insns) m.lines) rest, and_right (body_fits p b) (lines_fit (length b.insns) m.lines) rest)
 

@@ -1,6 +1,7 @@
 -- What a form leaves of renamed kinds is what it leaves, renamed.
 use Rattle.std.proofs.Common.{◌≡◌, ℕ, zero, suc, ◌+◌, ◌-◌, Bool, true, false, List, [], ◌∷◌, ◌++◌, refl, sym, ap, ap₂, ◌∙◌}
 use Rattle.std.specs.Prelude.{◌&&◌, not, map, nat_eq, if◌then◌else◌, slice_set, replicate}
+use Rattle.lemmas.proofs.Lists.{map_append}
 use Rattle.insn_set.specs.Widths.{is_wide_item, unary_writes_wide, binary_is_wide}
 use Rattle.insn_set.specs.declared.ops.Slot.{Slot}
 use Rattle.insn_set.specs.declared.ops.Slot.TheVariants as slot
@@ -21,7 +22,6 @@ use Rattle.pass_defs.specs.Registers.{Kinds, kind_at, cleared, split, written_on
 use Rattle.pass_defs.specs.Demands.{is_constructor_name}
 use Rattle.pass_defs.specs.Remade.{retargeted}
 use Rattle.pass_defs.specs.Typed.{is_constructor, receiver_kind, halves, parameter_kinds, argument_kinds, begun, number_kind, constant_kind, got, moved, constructed, receiver_register, is_static_call, called, after}
-use Rattle.silence_law.proofs.Lists.{map_both}
 use Rattle.thin_types.specs.Renamed.{KeepsApart, renamed, kinds_renamed}
 use Rattle.thin_types.proofs.Orders.{eq_kept, eq_plain, fixed_if, reference_fixed, kind_fixed, at_kept}
 
@@ -171,7 +171,7 @@ module _ (s : ℕ → ℕ) (apart : KeepsApart s) where
 
     parameters_fixed : (ts : List Text) → map mv (parameter_kinds p ts) ≡ parameter_kinds p ts
     parameters_fixed [] = refl
-    parameters_fixed (t ∷ ts) = map_both mv (halves (kind_of p t)) (parameter_kinds p ts) ∙ ap₂ (λ x y. x ++ y) (halves_kept (kind_of p t) ∙ ap halves (kind_fixed s apart p t)) (parameters_fixed ts)
+    parameters_fixed (t ∷ ts) = map_append mv (halves (kind_of p t)) (parameter_kinds p ts) ∙ ap₂ (λ x y. x ++ y) (halves_kept (kind_of p t) ∙ ap halves (kind_fixed s apart p t)) (parameters_fixed ts)
 
     receiver_fixed : (m : NamedMethod) → mv (receiver_kind c m) ≡ receiver_kind c m
     receiver_fixed m = fixed_if s apart (is_constructor m) FreshThis (if is_interface c.flags then Reference else Class c.name) refl (fixed_if s apart (is_interface c.flags) Reference (Class c.name) refl refl)
@@ -190,5 +190,5 @@ module _ (s : ℕ → ℕ) (apart : KeepsApart s) where
 
     pub begun_kept : (m : NamedMethod) (b : NamedBody) → mvs (begun p c m b) ≡ begun p c m b
     begun_kept m b = ap₂ (λ l k. record (begun p c m b) { registers = l; receiver = k })
-        (map_both mv (replicate (b.registers - b.ins) Undefined) (argument_kinds p c m) ∙ ap₂ (λ x y. x ++ y) (undefined_fixed (b.registers - b.ins)) (arguments_fixed m))
+        (map_append mv (replicate (b.registers - b.ins) Undefined) (argument_kinds p c m) ∙ ap₂ (λ x y. x ++ y) (undefined_fixed (b.registers - b.ins)) (arguments_fixed m))
         (fixed_if s apart (is_constructor m) FreshThis Undefined refl refl)

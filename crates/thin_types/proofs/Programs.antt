@@ -2,6 +2,7 @@
 use Rattle.std.proofs.Common.{◌≡◌, ◌⊎◌, inl, inr, ℕ, Bool, true, false, true≢false, List, [], ◌++◌, Option, Some, None, refl, sym, ap, subst, arith}
 use Rattle.std.specs.Prelude.{Contains}
 use Rattle.std.proofs.lemmas.List.Elements.{Contains-append_cases}
+use Rattle.lemmas.proofs.Options.{some_same}
 use Rattle.dalvik_defs.specs.Outer.{Outer}
 use Rattle.dalvik_defs.specs.Shown.{SameShown}
 use Rattle.dalvik_defs.specs.Silence.{key_in}
@@ -17,7 +18,6 @@ use Rattle.pass_defs.specs.Walks.{form_at, onward, caught, successors, Walk, Sta
 use Rattle.bodies_law.specs.Others.{OtherBodies}
 use Rattle.bodies_law.proofs.Named.{others_weaker}
 use Rattle.bodies_law.proofs.Typed.{others_typed}
-use Rattle.frame_laws.proofs.Lists.{some_same}
 use Rattle.thin_law.specs.Squeezing.{IsSqueezing}
 use Rattle.thin_law.specs.Thins.{Thins, NoCode, Same, Thinned}
 use Rattle.thin_law.proofs.Programs.{squeezed_shown}

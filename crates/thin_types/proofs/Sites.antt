@@ -2,12 +2,12 @@
 use Rattle.std.proofs.Common.{◌≡◌, ℕ, zero, suc, ◌+◌, ◌<◌, Bool, true, false, true≢false, List, [], ◌∷◌, length, refl, sym, ap, ◌∙◌, subst, arith, eq-eqb, eqb-true, nat_eq}
 use Rattle.std.specs.Prelude.{Some, None, slice_get, map, if◌then◌else◌}
 use Rattle.std.specs.Option.{option_map}
+use Rattle.lemmas.proofs.Options.{none_some, some_same}
 use Rattle.dalvik_defs.specs.declared.forms.Form.{Form}
 use Rattle.dalvik_defs.specs.declared.forms.Form.TheVariants as form
 use Rattle.pass_defs.specs.Registers.{Kinds}
 use Rattle.pass_defs.specs.Thinned.{Fate, Stays, Empties, Goes, place, left, forms_left}
 use Rattle.pass_defs.specs.Typed.{Table, state_at}
-use Rattle.frame_laws.proofs.Lists.{no_some, some_same}
 use Rattle.thin_law.proofs.Places.{IsLeft}
 use Rattle.thin_types.specs.Renamed.{KeepsApart}
 use Rattle.thin_types.specs.Squeezed.{is_left, site, marked}
@@ -80,7 +80,7 @@ mapped_at g (a ∷ t) zero = refl
 mapped_at g (a ∷ t) (suc n) = mapped_at g t n
 
 pub left_state : (fs : List Fate) (t : Table) (n : ℕ) (f : Fate) → slice_get fs n ≡ Some f → IsLeft (Some f) → state_at (left fs t) (place fs n) ≡ state_at t n
-left_state [] t n f h l = no_some f h
+left_state [] t n f h l = none_some f h
 left_state (k ∷ fs) [] n f h l = refl
 left_state (Stays ∷ fs) (a ∷ t) zero f h l = refl
 left_state (Empties ∷ fs) (a ∷ t) zero f h l = refl

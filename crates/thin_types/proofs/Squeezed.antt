@@ -3,6 +3,10 @@ use Rattle.std.proofs.Common.{◌≡◌, ◌⊎◌, inl, inr, ℕ, zero, suc, �
 use Rattle.std.specs.Prelude.{◌&&◌, not, Option, Some, None, slice_get, map, if◌then◌else◌, Contains}
 use Rattle.std.specs.List.{list_all}
 use Rattle.std.specs.Option.{option_map}
+use Rattle.lemmas.proofs.Bools.{and_right}
+use Rattle.lemmas.proofs.Lists.{all_append, all_first, all_in, all_last, all_of, contains_here, get_there, got_short, map_append}
+use Rattle.lemmas.proofs.Numbers.{next_is}
+use Rattle.lemmas.proofs.Options.{none_some}
 use Rattle.dalvik_defs.specs.declared.forms.Form.{Form}
 use Rattle.dalvik_defs.specs.declared.forms.Form.TheVariants as form
 use Rattle.dalvik_defs.specs.declared.program.NamedHandler.{NamedHandler}
@@ -19,11 +23,10 @@ use Rattle.pass_defs.specs.Remade.{retargeted}
 use Rattle.pass_defs.specs.Thinned.{Fate, Stays, Empties, Goes, place, moved_handler, moved, thinned}
 use Rattle.pass_defs.specs.Typed.{begun, after, is_wrong, catch_all, catches_in, catches, edges, Table, state_at, each, at_state, arrives, IsTyping}
 use Rattle.pass_defs.specs.Walks.{form_at, region_at, onward, caught, next_position, listed, handlers_of, handlers_at}
-use Rattle.frame_laws.proofs.Lists.{no_some, contains_here, contains_there}
 use Rattle.frame_laws.proofs.Walks.{goes_next}
-use Rattle.silence_law.proofs.Lists.{and_left, and_right, and_both, all_map, map_both, all_front, all_back, all_joined}
+use Rattle.silence_law.proofs.Lists.{and_left, and_both, all_map}
 use Rattle.thin_law.specs.Squeezing.{IsSkipped, Nop, Over}
-use Rattle.thin_law.proofs.Places.{IsLeft, next_suc, place_next, place_gone, left_as, form_left}
+use Rattle.thin_law.proofs.Places.{IsLeft, place_next, place_gone, left_as, form_left}
 use Rattle.thin_law.proofs.Regions.{end_of, region_before, region_same}
 use Rattle.thin_law.proofs.Fates.{Further, comes_before}
 use Rattle.thin_types.specs.Renamed.{renamed, kinds_renamed}
@@ -35,27 +38,8 @@ use Rattle.thin_types.proofs.Sites.{sites_apart, site_left, marked_at, mapped_at
 
 -- ---- lists and numbers
 
-all_of : {A : Type 0} (f : A → Bool) (xs : List A) → ((x : A) → Contains xs x → f x ≡ true) → list_all f xs ≡ true
-all_of f [] h = refl
-all_of f (x ∷ xs) h = and_both (f x) (list_all f xs) (h x (contains_here x xs)) (all_of f xs (λ y i. h y (contains_there x xs y i)))
-
-all_at : {A : Type 0} (f : A → Bool) (xs : List A) (x : A) → Contains xs x → list_all f xs ≡ true → f x ≡ true
-all_at f [] x (k, l, e) h = let g : ⊥ = omega (arith, l) in absurd g
-all_at f (y ∷ ys) x (zero, l, e) h = ap f (sym e) ∙ and_left (f y) (list_all f ys) h
-all_at f (y ∷ ys) x (suc k, l, e) h = all_at f ys x (k, omega (arith, l), e) (and_right (f y) (list_all f ys) h)
-
-get_within : {A : Type 0} (xs : List A) (n : ℕ) (x : A) → slice_get xs n ≡ Some x → n < length xs
-get_within [] n x e = no_some x e
-get_within (y ∷ ys) zero x e = omega arith
-get_within (y ∷ ys) (suc n) x e = let l = get_within ys n x e in omega (arith, l)
-
-get_there : {A : Type 0} (xs : List A) (n : ℕ) → n < length xs → (x : A) × (slice_get xs n ≡ Some x)
-get_there [] n l = let f : ⊥ = omega (arith, l) in absurd f
-get_there (y ∷ ys) zero l = (y, refl)
-get_there (y ∷ ys) (suc n) l = get_there ys n (omega (arith, l))
-
 state_within : (t : Table) (n : ℕ) (a : Kinds) → state_at t n ≡ Some a → n < length t
-state_within [] n a e = no_some a e
+state_within [] n a e = none_some a e
 state_within (x ∷ t) zero a e = omega arith
 state_within (x ∷ t) (suc n) a e = let l = state_within t n a e in omega (arith, l)
 
@@ -183,21 +167,21 @@ module _ (p : NamedProgram) (above : IsTransitive p) (c : NamedClass) (m : Named
 
   test_at : (test : ℕ → Form → Kinds → Bool) → each (length b.forms) (λ n. at_state b t (test n) n) ≡ true → (n : ℕ) (f : Form) (a : Kinds) → form_at b n ≡ Some f → state_at t n ≡ Some a → test n f a ≡ true
   test_at test k n f a e d = sym (ap (λ o. elim o as (λ o. Bool) [ Some f ↦ elim (state_at t n) as (λ o. Bool) [ Some a ↦ test n f a | None ↦ true ] | None ↦ true ]) e
-      ∙ ap (λ o. elim o as (λ o. Bool) [ Some a ↦ test n f a | None ↦ true ]) d) ∙ each_at (length b.forms) (λ n. at_state b t (test n) n) n k (get_within b.forms n f e)
+      ∙ ap (λ o. elim o as (λ o. Bool) [ Some a ↦ test n f a | None ↦ true ]) d) ∙ each_at (length b.forms) (λ n. at_state b t (test n) n) n k (got_short b.forms n f e)
 
   edges_at : (n : ℕ) (f : Form) (a : Kinds) → form_at b n ≡ Some f → state_at t n ≡ Some a → list_all (arrives p t) (edges p c b n f a) ≡ true
   edges_at n f a e d = test_at (λ n f a. list_all (arrives p t) (edges p c b n f a)) typing.edges n f a e d
 
   onward_at : (n : ℕ) (f : Form) (a : Kinds) → form_at b n ≡ Some f → state_at t n ≡ Some a → list_all (λ q. arrives p t (q, after p c n f a)) (onward f n) ≡ true
   onward_at n f a e d = sym (all_map (arrives p t) (λ q. (q, after p c n f a)) (onward f n))
-      ∙ all_front (arrives p t) (map (λ q. (q, after p c n f a)) (onward f n)) (map (λ x. (x.0, record a { caught = x.1 })) (catches p b n f)) (edges_at n f a e d)
+      ∙ all_first (arrives p t) (map (λ q. (q, after p c n f a)) (onward f n)) (map (λ x. (x.0, record a { caught = x.1 })) (catches p b n f)) (edges_at n f a e d)
 
   caught_at : (n : ℕ) (f : Form) (a : Kinds) → form_at b n ≡ Some f → state_at t n ≡ Some a → list_all (λ (x : ℕ × Kind). arrives p t (x.0, record a { caught = x.1 })) (catches p b n f) ≡ true
   caught_at n f a e d = sym (all_map (arrives p t) (λ (x : ℕ × Kind). (x.0, record a { caught = x.1 })) (catches p b n f))
-      ∙ all_back (arrives p t) (map (λ q. (q, after p c n f a)) (onward f n)) (map (λ x. (x.0, record a { caught = x.1 })) (catches p b n f)) (edges_at n f a e d)
+      ∙ all_last (arrives p t) (map (λ q. (q, after p c n f a)) (onward f n)) (map (λ x. (x.0, record a { caught = x.1 })) (catches p b n f)) (edges_at n f a e d)
 
   skipped_at : (n : ℕ) (f : Form) (a : Kinds) → form_at b n ≡ Some f → state_at t n ≡ Some a → (k : Skip p c fs n f) → state_below p (Some a) (state_at t k.to) ≡ true
-  skipped_at n f a e d k = ap (λ x. state_below p (Some x) (state_at t k.to)) (sym (k.same a)) ∙ all_at (λ q. arrives p t (q, after p c n f a)) (onward f n) k.to k.goes (onward_at n f a e d)
+  skipped_at n f a e d k = ap (λ x. state_below p (Some x) (state_at t k.to)) (sym (k.same a)) ∙ all_in (λ q. arrives p t (q, after p c n f a)) (onward f n) k.to k.goes (onward_at n f a e d)
 
   -- ---- what arrives
 
@@ -223,7 +207,7 @@ module _ (p : NamedProgram) (above : IsTransitive p) (c : NamedClass) (m : Named
       by a d v f y Empties i again = stands Empties i tt
       by a d v f y Goes i again =
           let j = skip p c fs n f (h.skipped n f Goes mk y i refl) in
-          subst (λ q. state_below p (Some (mvs x)) (state_at u q) ≡ true) (j.beside ∙ ap at (next_suc n) ∙ place_gone fs n i)
+          subst (λ q. state_below p (Some (mvs x)) (state_at u q) ≡ true) (j.beside ∙ ap at (next_is n) ∙ place_gone fs n i)
           (again j.to (jump_room (length b.forms) n k j.to l j.ahead) (h.onward n j.to f mk y j.goes) x (kinds_above p above x a (state_at t j.to) v (skipped_at n f a y d j)))
 
   arrive : (n : ℕ) → marks n ≡ true → (x : Kinds) → state_below p (Some x) (state_at t n) ≡ true → state_below p (Some (mvs x)) (state_at u (at n)) ≡ true
@@ -261,17 +245,17 @@ module _ (p : NamedProgram) (above : IsTransitive p) (c : NamedClass) (m : Named
 
     region_caught : (o : Option NamedRegion) → list_all marks (handlers_of o) ≡ true → list_all Q (catches_in p o) ≡ true → list_all P (catches_in p (option_map (moved at) o)) ≡ true
     region_caught None i j = refl
-    region_caught (Some r) i j = all_joined P (map (λ x. (x.position, kind_of p x.kind)) (map (moved_handler at) r.handlers)) (catch_all (option_map at r.rest))
-        (handlers_caught r.handlers (all_front marks (map (λ x. x.position) r.handlers) (listed r.rest) i) (all_front Q (map (λ x. (x.position, kind_of p x.kind)) r.handlers) (catch_all r.rest) j))
-        (rest_caught r.rest (all_back marks (map (λ x. x.position) r.handlers) (listed r.rest) i) (all_back Q (map (λ x. (x.position, kind_of p x.kind)) r.handlers) (catch_all r.rest) j))
+    region_caught (Some r) i j = all_append P (map (λ x. (x.position, kind_of p x.kind)) (map (moved_handler at) r.handlers)) (catch_all (option_map at r.rest))
+        (handlers_caught r.handlers (all_first marks (map (λ x. x.position) r.handlers) (listed r.rest) i) (all_first Q (map (λ x. (x.position, kind_of p x.kind)) r.handlers) (catch_all r.rest) j))
+        (rest_caught r.rest (all_last marks (map (λ x. x.position) r.handlers) (listed r.rest) i) (all_last Q (map (λ x. (x.position, kind_of p x.kind)) r.handlers) (catch_all r.rest) j))
 
     module _ (is_left : IsLeft (slice_get fs n)) where
       onward_same : onward (retargeted at f) (at n) ≡ map at (onward f n)
       onward_same = ap (λ l. next_position (continues (retargeted at f)) (at n) ++ l) (targets_same at f) ∙ ap (λ x. next_position x (at n) ++ map at (targets f)) (continues_same at f)
-          ∙ ap (λ l. l ++ map at (targets f)) (next (continues f)) ∙ sym (map_both at (next_position (continues f) n) (targets f))
+          ∙ ap (λ l. l ++ map at (targets f)) (next (continues f)) ∙ sym (map_append at (next_position (continues f) n) (targets f))
         where
           next : (x : Bool) → next_position x (at n) ≡ map at (next_position x n)
-          next true = ap (λ q. q ∷ []) (sym (ap at (next_suc n) ∙ place_next fs n is_left ∙ sym (next_suc (at n))))
+          next true = ap (λ q. q ∷ []) (sym (ap at (next_is n) ∙ place_next fs n is_left ∙ sym (next_is (at n))))
           next false = refl
 
       caught_left : (x : Bool) → may_throw f ≡ x → list_all Q (if x then catches_in p (region_at b n) else []) ≡ true → list_all P (if x then catches_in p (region_at thin (at n)) else []) ≡ true
@@ -285,10 +269,10 @@ module _ (p : NamedProgram) (above : IsTransitive p) (c : NamedClass) (m : Named
       edges_left : after p c (at n) (retargeted at f) (mvs a) ≡ mvs (after p c n f a) → list_all (arrives p u) (edges p c thin (at n) (retargeted at f) (mvs a)) ≡ true
       edges_left same =
           let x = after p c (at n) (retargeted at f) (mvs a) in
-          all_joined (arrives p u) (map (λ q. (q, x)) (onward (retargeted at f) (at n))) (map (λ y. (y.0, record (mvs a) { caught = y.1 })) (catches p thin (at n) (retargeted at f)))
+          all_append (arrives p u) (map (λ q. (q, x)) (onward (retargeted at f) (at n))) (map (λ y. (y.0, record (mvs a) { caught = y.1 })) (catches p thin (at n) (retargeted at f)))
           (all_map (arrives p u) (λ q. (q, x)) (onward (retargeted at f) (at n)) ∙ ap (list_all (λ q. arrives p u (q, x))) onward_same ∙ all_map (λ q. arrives p u (q, x)) at (onward f n)
           ∙ all_of (λ q. arrives p u (at q, x)) (onward f n) (λ q i. ap (λ z. arrives p u (at q, z)) same
-          ∙ arrive q (h.onward n q f mk here i) (after p c n f a) (all_at (λ q. arrives p t (q, after p c n f a)) (onward f n) q i (onward_at n f a here has))))
+          ∙ arrive q (h.onward n q f mk here i) (after p c n f a) (all_in (λ q. arrives p t (q, after p c n f a)) (onward f n) q i (onward_at n f a here has))))
           (all_map (arrives p u) (λ (y : ℕ × Kind). (y.0, record (mvs a) { caught = y.1 })) (catches p thin (at n) (retargeted at f))
           ∙ ap (λ z. list_all P (if z then catches_in p (region_at thin (at n)) else [])) (throws_same at f) ∙ caught_left (may_throw f) refl (caught_at n f a here has))
 
@@ -324,7 +308,7 @@ module _ (p : NamedProgram) (above : IsTransitive p) (c : NamedClass) (m : Named
   edge_step n Empties f a i l e d =
       let j = skip p c fs n f (h.skipped n f Empties (is_marked n Empties i l) e i refl) in
       and_both (arrives p u (at n + 1, mvs a)) true
-      (subst (λ q. arrives p u (q, mvs a) ≡ true) (j.beside ∙ ap at (next_suc n) ∙ place_next fs n (subst IsLeft (sym i) tt) ∙ sym (next_suc (at n)))
+      (subst (λ q. arrives p u (q, mvs a) ≡ true) (j.beside ∙ ap at (next_is n) ∙ place_next fs n (subst IsLeft (sym i) tt) ∙ sym (next_is (at n)))
       (arrive j.to (h.onward n j.to f (is_marked n Empties i l) e j.goes) a (skipped_at n f a e d j))) refl
   edge_step n Goes f a i l e d = absurd l
 

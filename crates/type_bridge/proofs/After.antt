@@ -4,6 +4,7 @@ use Rattle.std.specs.Prelude.{◌&&◌, ◌||◌, not, slice_get, ℤ, pos, if�
 use Rattle.std.specs.Ordering.{int_eq}
 use Rattle.std.proofs.lemmas.Bool.{cases_lt}
 use Rattle.std.proofs.lemmas.Option.{slice_get_within}
+use Rattle.lemmas.proofs.Bools.{neither_of, not_false}
 use Rattle.class_defs.proofs.Positions.{number_test, number_of, same_test}
 use Rattle.insn_set.specs.Widths.{unary_writes_wide, binary_is_wide}
 use Rattle.insn_set.specs.declared.form.Insn.{Insn}
@@ -66,7 +67,7 @@ use Rattle.type_bridge.proofs.Members.{field_is, field_kind_is, MethodIs, method
 use Rattle.type_bridge.proofs.Asked.{item_is}
 use Rattle.type_bridge.proofs.Grounds.{IsSet, get_fits, static_get_fits, invoke_fits}
 use Rattle.type_bridge.proofs.Spelled.{nonempty}
-use Rattle.type_bridge.proofs.Wrong.{or_none, untrue, static_same}
+use Rattle.type_bridge.proofs.Wrong.{static_same}
 
 -- ---- kinds of types
 
@@ -443,15 +444,15 @@ module _ (s : Setting) (c : Class) (m : Method) (i : IsSet s c m) (n : ℕ) (a :
   -- a call of a constructor is one on a receiver that it may make
   pub receives : (k : InvokeKind) (q : ℕ) (args : List ℕ) → is_static_call k ≡ false → is_constructor s.tables.now q ≡ true → is_wrong s n a (insn.Invoke k q args) ≡ false → refused s n a (insn.Invoke k q args) ≡ None
       → is_constructed s (kind_at a.registers (receiver_register args)) (method_class s.program.now q) ≡ true
-  receives k q [] e f g h = absurd (no_words (parameter_words s q) (passed_words s k q) (ap (λ b. parameter_words s q + (if b then 0 else 1)) e) (or_none (differ (is_static_call k) (static_method s q) || wrong_super s n k q) (not (nat_eq 0 (passed_words s k q))) g).1)
+  receives k q [] e f g h = absurd (no_words (parameter_words s q) (passed_words s k q) (ap (λ b. parameter_words s q + (if b then 0 else 1)) e) (neither_of (differ (is_static_call k) (static_method s q) || wrong_super s n k q) (not (nat_eq 0 (passed_words s k q))) g).1)
     where
       no_words : (x y : ℕ) → y ≡ x + 1 → not (nat_eq 0 y) ≡ false → ⊥
-      no_words x y e f = let q = number_of 0 y (untrue (nat_eq 0 y) f) in omega (arith, q, e)
+      no_words x y e f = let q = number_of 0 y (not_false (nat_eq 0 y) f) in omega (arith, q, e)
   receives call.Static q (r ∷ rs) e f g h = absurd (true≢false e)
   receives call.Super q (r ∷ rs) e f g h =
-      let x = or_none (differ (is_static_call call.Super) (static_method s q) || wrong_super s n call.Super q) (not (nat_eq (length (r ∷ rs)) (passed_words s call.Super q))) g in
-      let y = or_none (differ (is_static_call call.Super) (static_method s q)) (wrong_super s n call.Super q) x.0 in
-      let z = or_none (is_constructor s.tables.now q) (finds_static (found_at s n)) y.1 in
+      let x = neither_of (differ (is_static_call call.Super) (static_method s q) || wrong_super s n call.Super q) (not (nat_eq (length (r ∷ rs)) (passed_words s call.Super q))) g in
+      let y = neither_of (differ (is_static_call call.Super) (static_method s q)) (wrong_super s n call.Super q) x.0 in
+      let z = neither_of (is_constructor s.tables.now q) (finds_static (found_at s n)) y.1 in
       absurd (true≢false (sym f ∙ z.0))
   receives call.Virtual q (r ∷ rs) e f g h = sym (ap (λ b. if b then is_constructed s (kind_at a.registers r) (method_class s.program.now q) else fits s.tables.now (kind_at a.registers r) (method_class s.program.now q)) f) ∙ unless_true (is_receiver s n a.registers call.Virtual q r) r (lower_left (unless (is_receiver s n a.registers call.Virtual q r) r) (refused_arguments s a.registers (parameters_of s.program.now q) rs) h)
   receives call.Direct q (r ∷ rs) e f g h = sym (ap (λ b. if b then is_constructed s (kind_at a.registers r) (method_class s.program.now q) else fits s.tables.now (kind_at a.registers r) (method_class s.program.now q)) f) ∙ unless_true (is_receiver s n a.registers call.Direct q r) r (lower_left (unless (is_receiver s n a.registers call.Direct q r) r) (refused_arguments s a.registers (parameters_of s.program.now q) rs) h)
@@ -526,8 +527,8 @@ module _ (s : Setting) (c : Class) (m : Method) (i : IsSet s c m) (n : ℕ) (a :
   leaves (insn.InstanceOf to from type) b f g e h = leaves_same (insn.InstanceOf to from type) b h (wrote to _ kind.Word refl)
   leaves (insn.ArrayLength to from) b f g e h = leaves_same (insn.ArrayLength to from) b h (wrote to _ kind.Word refl)
   leaves (insn.NewInstance to type) b f g e h = leaves_same (insn.NewInstance to type) b h (forgot type to)
-  leaves (insn.NewArray to size type) b f g e h = leaves_same (insn.NewArray to size type) b h (wrote to _ (kind_of s.tables.now type) (sym (array_named s.program.now s.tables.now i.told type (untrue _ g))))
-  leaves (insn.FilledNewArray type args) b f g e h = leaves_same (insn.FilledNewArray type args) b h (ap (λ k. record before { result = k }) (sym (array_named s.program.now s.tables.now i.told type (filled_array (shape_of s.tables.now type) (untrue _ g)))))
+  leaves (insn.NewArray to size type) b f g e h = leaves_same (insn.NewArray to size type) b h (wrote to _ (kind_of s.tables.now type) (sym (array_named s.program.now s.tables.now i.told type (not_false _ g))))
+  leaves (insn.FilledNewArray type args) b f g e h = leaves_same (insn.FilledNewArray type args) b h (ap (λ k. record before { result = k }) (sym (array_named s.program.now s.tables.now i.told type (filled_array (shape_of s.tables.now type) (not_false _ g)))))
   leaves (insn.Cmp op to x y) b f g e h = leaves_same (insn.Cmp op to x y) b h (wrote to _ kind.Word refl)
   leaves (insn.ArrayGet x to array index) b f g e h = array_got x to array index b (array_two x array index e) h
   leaves (insn.InstanceGet x to on field) b f g e h = leaves_same (insn.InstanceGet x to on field) b h (wrote to _ (kind_of s.tables.now (field_kind s.program.now field)) (field_named field (get_fits s.program.now x to on field f)))

@@ -2,6 +2,7 @@
 use Rattle.std.proofs.Common.{◌≡◌, ℕ, zero, suc, ◌+◌, Bool, true, false, true≢false, nat_eq, List, [], ◌∷◌, ◌++◌, map, Option, Some, None, refl, sym, ap, ◌∙◌, subst}
 use Rattle.std.specs.Prelude.{◌&&◌, ◌||◌, drop, slice_get, if◌then◌else◌}
 use Rattle.std.specs.List.{list_all}
+use Rattle.lemmas.proofs.Lists.{all_append}
 use Rattle.class_defs.proofs.Positions.{number_of, both}
 use Rattle.class_defs.proofs.WellFormed.{and_left, and_right}
 use Rattle.class_defs.specs.Finding as finding
@@ -97,10 +98,6 @@ two_of a b e f = both a (b && true) e (one_of b f)
 
 pub three_of : (a b c : Bool) → a ≡ true → b ≡ true → c ≡ true → (a && (b && (c && true))) ≡ true
 three_of a b c e f g = both a (b && (c && true)) e (two_of b c f g)
-
-pub all_append : {A : Type 0} (f : A → Bool) (xs ys : List A) → list_all f xs ≡ true → list_all f ys ≡ true → list_all f (xs ++ ys) ≡ true
-all_append f [] ys h k = k
-all_append f (x ∷ xs) ys h k = both (f x) (list_all f (xs ++ ys)) (and_left (f x) (list_all f xs) h) (all_append f xs ys (and_right (f x) (list_all f xs) h) k)
 
 -- ---- kinds
 

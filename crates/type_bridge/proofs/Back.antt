@@ -3,6 +3,7 @@
 use Rattle.std.proofs.Common.{◌≡◌, ℕ, zero, suc, ◌+◌, ◌<◌, Bool, true, false, true≢false, nat_eq, nat_lt, [], length, Option, Some, None, refl, sym, ap, ◌∙◌, subst, arith, lt-ltb}
 use Rattle.std.specs.Prelude.{◌&&◌, ◌||◌, is_some, if◌then◌else◌}
 use Rattle.std.specs.Option.{option_map}
+use Rattle.lemmas.proofs.Lists.{got_short}
 use Rattle.class_defs.proofs.Positions.{number_of, both, entry_at, place_entry, PlaceFits}
 use Rattle.class_defs.proofs.WellFormed.{class_parts}
 use Rattle.program_model.specs.Texts.{string_text}
@@ -26,7 +27,7 @@ use Rattle.type_bridge.proofs.Lines.{nearest_none}
 use Rattle.type_bridge.proofs.Numbers.{kind_is, type_named, item_number, array_number, kind_number}
 use Rattle.type_bridge.proofs.Numbering.{same_number_itself, below_numbered}
 use Rattle.type_bridge.proofs.Told.{Told}
-use Rattle.type_bridge.proofs.Texts.{First, first_of, few_types, class_text, text_of_type, item_named_text, got_short, depth_is, base_is, base_stays, base_bare, arrays_back}
+use Rattle.type_bridge.proofs.Texts.{First, first_of, few_types, class_text, text_of_type, item_named_text, depth_is, base_is, base_stays, base_bare, arrays_back}
 
 -- ---- the kind by numbers of a kind by names
 

@@ -2,6 +2,7 @@
 use Rattle.std.proofs.Common.{◌≡◌, ℕ, zero, suc, ◌<◌, Bool, true, false, true≢false, nat_eq, List, [], ◌∷◌, length, Option, Some, None, ◌⊎◌, inl, inr, refl, sym, ap, ◌∙◌, subst}
 use Rattle.std.specs.Prelude.{◌-◌, ◌&&◌, ◌||◌, not, slice_get, nat_lt, ℤ, pos, if◌then◌else◌}
 use Rattle.std.specs.Ordering.{int_eq}
+use Rattle.lemmas.proofs.Bools.{not_false}
 use Rattle.class_defs.proofs.Positions.{number_of, both}
 use Rattle.class_defs.proofs.WellFormed.{and_left}
 use Rattle.insn_set.specs.Widths.{unary_writes_wide, binary_is_wide}
@@ -53,7 +54,7 @@ use Rattle.type_bridge.proofs.BackFrames.{kinds_numbered, moved_back, at_back, w
 use Rattle.type_bridge.proofs.Fits.{array_is, deeper, less}
 use Rattle.type_bridge.proofs.Grounds.{IsSet, type_fits_class, get_fits, static_get_fits, invoke_fits}
 use Rattle.type_bridge.proofs.Members.{field_is, field_kind_is, MethodIs, method_is, method_class_small, result_is, constructor_is}
-use Rattle.type_bridge.proofs.Wrong.{untrue, static_same}
+use Rattle.type_bridge.proofs.Wrong.{static_same}
 
 -- ---- references
 
@@ -328,8 +329,8 @@ module _ (s : Setting) (c : Class) (m : Method) (i : IsSet s c m) (n : ℕ) (a :
   leaves_back (insn.InstanceOf to from type) b f w g e h = leaves_same (insn.InstanceOf to from type) b h (wrote to _ Word refl)
   leaves_back (insn.ArrayLength to from) b f w g e h = leaves_same (insn.ArrayLength to from) b h (wrote to _ Word refl)
   leaves_back (insn.NewInstance to type) b f w g e h = leaves_same (insn.NewInstance to type) b h (new_same type to (type_fits_class p to type f))
-  leaves_back (insn.NewArray to size type) b f w g e h = leaves_same (insn.NewArray to size type) b h (wrote to _ (Array (type_at p type)) (array_same type (untrue _ g)))
-  leaves_back (insn.FilledNewArray type args) b f w g e h = leaves_same (insn.FilledNewArray type args) b h (ap (λ k. record before { result = k }) (array_same type (filled_array s c m i n before (shape_of s.tables.now type) (untrue _ g))))
+  leaves_back (insn.NewArray to size type) b f w g e h = leaves_same (insn.NewArray to size type) b h (wrote to _ (Array (type_at p type)) (array_same type (not_false _ g)))
+  leaves_back (insn.FilledNewArray type args) b f w g e h = leaves_same (insn.FilledNewArray type args) b h (ap (λ k. record before { result = k }) (array_same type (filled_array s c m i n before (shape_of s.tables.now type) (not_false _ g))))
   leaves_back (insn.Cmp op to x y) b f w g e h = leaves_same (insn.Cmp op to x y) b h (wrote to _ Word refl)
   leaves_back (insn.ArrayGet x to array index) b f w g e h = array_left x to array index b (and_left (asked.meets (named p) (named_class p c) a.registers array (asked.ArrayOf x)) (asked.meets (named p) (named_class p c) a.registers index asked.Number && true) w) h
   leaves_back (insn.InstanceGet x to on field) b f w g e h = leaves_same (insn.InstanceGet x to on field) b h (wrote to _ _ (field_same field (get_fits p x to on field f)))

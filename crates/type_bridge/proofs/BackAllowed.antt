@@ -1,6 +1,7 @@
 -- A form whose reads are allowed by name has them allowed.
 use Rattle.std.proofs.Common.{◌≡◌, ℕ, Bool, true, false, List, None, refl, ◌∙◌}
 use Rattle.std.specs.Prelude.{◌&&◌, ◌||◌, not, codes}
+use Rattle.lemmas.proofs.Bools.{neither_of, not_false}
 use Rattle.class_defs.proofs.WellFormed.{and_left, and_right}
 use Rattle.insn_set.specs.Widths.{compares_wide, unary_reads_wide, binary_is_wide, second_is_wide}
 use Rattle.insn_set.specs.declared.form.Insn.{Insn}
@@ -34,7 +35,6 @@ use Rattle.type_bridge.proofs.BackFrames.{kinds_numbered, low_back, number_back,
 use Rattle.type_bridge.proofs.BackReads.{unless_none, lower_none, met_number, met_made, met_receiver, met_wide, met_type, met_slot, met_item, met_tested, met_tested_with, met_array, met_filled, met_any_array, met_holder, items_none, call_none}
 use Rattle.type_bridge.proofs.Grounds.{IsSet, get_fits, put_fits, static_put_fits, invoke_fits, result_named}
 use Rattle.type_bridge.proofs.Members.{field_is, field_kind_is, method_is}
-use Rattle.type_bridge.proofs.Wrong.{or_none, untrue}
 
 module _ (s : Setting) (c : Class) (m : Method) (i : IsSet s c m) (n : ℕ) (a : by_name.Kinds) where
   abbrev p : Program
@@ -85,7 +85,7 @@ module _ (s : Setting) (c : Class) (m : Method) (i : IsSet s c m) (n : ℕ) (a :
   reads_back (insn.ArrayLength to from) f g w e = one (demands.is_any_array (kind_at registers from)) from (met_any_array s i.told i.resolved c i.class a.registers from (and_left (meets from asked.AnArray) true e))
   reads_back (insn.NewInstance to type) f g w e = refl
   reads_back (insn.NewArray to size type) f g w e = one (kinds.is_number (kind_at registers size)) size (met_number s i.told i.resolved c i.class a.registers size (and_left (meets size Number) true e))
-  reads_back (insn.FilledNewArray type args) f g w e = items_none s i.told i.resolved c i.class a.registers i.kind i.superclass None type args (untrue (text.is_array (type_at p type)) (or_none (not (text.is_array (type_at p type))) (not (text_eq (text.item_of (type_at p type)) (codes "I") || text.is_reference (text.item_of (type_at p type)))) w).0) refl e
+  reads_back (insn.FilledNewArray type args) f g w e = items_none s i.told i.resolved c i.class a.registers i.kind i.superclass None type args (not_false (text.is_array (type_at p type)) (neither_of (not (text.is_array (type_at p type))) (not (text_eq (text.item_of (type_at p type)) (codes "I") || text.is_reference (text.item_of (type_at p type)))) w).0) refl e
   reads_back (insn.FillArray on width items) f g w e = one (is_array_filled s (kind_at registers on) width) on (met_filled s i.told i.resolved c i.class a.registers width on (and_left (meets on (asked.Filled width)) true e))
   reads_back (insn.Throw on) f g w e = one (kinds.is_initialised (kind_at registers on)) on (met_made s i.told i.resolved c i.class a.registers on (and_left (meets on asked.Initialised) true e))
   reads_back (insn.Goto target) f g w e = refl

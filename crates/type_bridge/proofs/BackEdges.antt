@@ -4,6 +4,7 @@ use Rattle.std.specs.Prelude.{find, All, if◌then◌else◌}
 use Rattle.std.specs.List.{list_all}
 use Rattle.std.specs.Option.{option_map}
 use Rattle.std.proofs.lemmas.List.Elements.{All-nil, All-cons, All-append}
+use Rattle.lemmas.proofs.Lists.{all_first, all_last}
 use Rattle.class_defs.proofs.WellFormed.{and_left, and_right}
 use Rattle.insn_set.specs.Flow.{throws, goes_on, targets_of}
 use Rattle.insn_set.specs.declared.form.Insn.{Insn}
@@ -28,7 +29,6 @@ use Rattle.verify.specs.Types.{kind_of}
 use Rattle.verify.specs.Typings.{next_if, onward, covers, place_covering, catch_rest, catches_in, region_at, catches}
 use Rattle.type_bridge.proofs.Back.{numbered}
 use Rattle.type_bridge.proofs.BackFits.{type_of_back}
-use Rattle.type_bridge.proofs.BackReads.{all_first, all_last}
 use Rattle.type_bridge.proofs.Edges.{goes_same, targets_same, throws_same, regions_behind, region_found}
 use Rattle.type_bridge.proofs.Grounds.{IsSet}
 

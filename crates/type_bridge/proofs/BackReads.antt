@@ -2,6 +2,8 @@
 use Rattle.std.proofs.Common.{◌≡◌, ℕ, zero, suc, ◌+◌, ◌<◌, Bool, true, false, true≢false, nat_eq, List, [], ◌∷◌, ◌++◌, map, length, Option, Some, None, refl, sym, ap, ◌∙◌, subst}
 use Rattle.std.specs.Prelude.{◌&&◌, ◌||◌, drop, slice_get, if◌then◌else◌}
 use Rattle.std.specs.List.{list_all}
+use Rattle.lemmas.proofs.Bools.{or_left}
+use Rattle.lemmas.proofs.Lists.{all_first, all_last}
 use Rattle.class_defs.proofs.Positions.{number_of, number_test}
 use Rattle.class_defs.proofs.WellFormed.{and_left, and_right, class_parts}
 use Rattle.class_defs.specs.Finding as finding
@@ -50,7 +52,7 @@ use Rattle.type_bridge.proofs.Asked.{width_same, equality_same}
 use Rattle.type_bridge.proofs.Back.{or_null, numbered, for_class, for_array, Sense, known, no_class, no_array, no_type, sense}
 use Rattle.type_bridge.proofs.BackFits.{fits_back, fits_holder_back, fits_item_back}
 use Rattle.type_bridge.proofs.BackFrames.{number_back, made_back, moved_back, at_back, pair_back, fresh_text}
-use Rattle.type_bridge.proofs.Fits.{either_true, or_first, array_is, stored_named}
+use Rattle.type_bridge.proofs.Fits.{either_true, array_is, stored_named}
 use Rattle.type_bridge.proofs.Members.{FieldIs, field_class_is, MethodIs, method_class_is, method_class_small, parameters_is, constructor_is, defines_back, SameFound, found_same}
 
 -- ---- tests
@@ -61,14 +63,6 @@ unless_none false r e = absurd (true≢false (sym e))
 
 pub lower_none : (x y : Option ℕ) → x ≡ None → y ≡ None → lower x y ≡ None
 lower_none x y e f = ap (λ x. lower x y) e ∙ f
-
-pub all_first : {A : Type 0} (f : A → Bool) (xs ys : List A) → list_all f (xs ++ ys) ≡ true → list_all f xs ≡ true
-all_first f [] ys e = refl
-all_first f (x ∷ xs) ys e = ap (λ b. b && list_all f xs) (and_left (f x) (list_all f (xs ++ ys)) e) ∙ all_first f xs ys (and_right (f x) (list_all f (xs ++ ys)) e)
-
-pub all_last : {A : Type 0} (f : A → Bool) (xs ys : List A) → list_all f (xs ++ ys) ≡ true → list_all f ys ≡ true
-all_last f [] ys e = e
-all_last f (x ∷ xs) ys e = all_last f xs ys (and_right (f x) (list_all f (xs ++ ys)) e)
 
 items_same : (a b : Item) → same_item a b ≡ asked.item_eq a b
 items_same item.Plain item.Plain = refl
@@ -177,7 +171,7 @@ module _ (s : Setting) (d : Told s.program.now s.tables.now) (h : IsResolved s.p
 
   one_tested : (b : Bool) (r : ℕ) → Meets r (asked.tested b) → (kinds.is_number (kind_at numbers r) || (b && kinds.is_initialised (kind_at numbers r))) ≡ true
   one_tested true r e = met_either r e
-  one_tested false r e = or_first (kinds.is_number (kind_at numbers r)) false (met_number r e)
+  one_tested false r e = or_left (kinds.is_number (kind_at numbers r)) false (met_number r e)
 
   pub met_tested : (x : Test) (r : ℕ) → Meets r (asked.tested (asked.is_equality x)) → demands.is_tested x (kind_at numbers r) ≡ true
   met_tested x r e = one_tested (demands.is_equality x) r (subst (λ b. Meets r (asked.tested b)) (equality_same x) e)

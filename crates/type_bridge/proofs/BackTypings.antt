@@ -5,6 +5,8 @@ use Rattle.std.specs.List.{list_all}
 use Rattle.std.specs.Option.{option_map}
 use Rattle.std.proofs.lemmas.Bool.{cases_lt}
 use Rattle.std.proofs.lemmas.Option.{slice_get-map}
+use Rattle.lemmas.proofs.Bools.{not_true}
+use Rattle.lemmas.proofs.Lists.{map_long}
 use Rattle.class_defs.proofs.Positions.{number_of, number_test}
 use Rattle.class_defs.proofs.WellFormed.{and_left, and_right}
 use Rattle.insn_set.specs.declared.form.Insn.{Insn}
@@ -46,7 +48,6 @@ use Rattle.type_bridge.proofs.BackWrong.{right_back}
 use Rattle.type_bridge.proofs.Bodies.{IsCode, got_short}
 use Rattle.type_bridge.proofs.Entries.{begun_named, begun_numbered}
 use Rattle.type_bridge.proofs.Grounds.{IsSet}
-use Rattle.type_bridge.proofs.Judged.{map_long}
 
 -- ---- tables
 
@@ -61,10 +62,6 @@ each_at (suc n) k test l e = elim (cases_lt k n) [
   | inl g ↦ each_at n k test g (and_left (typed.each n test) (test n) e)
   | inr g ↦ (let q : n ≡ k = omega (arith, l, g) in subst (λ z. test z ≡ true) q (and_right (typed.each n test) (test n) e))
 ]
-
-truth_of : (b : Bool) → not b ≡ true → b ≡ false
-truth_of true e = absurd (true≢false (sym e))
-truth_of false e = refl
 
 abbrev pub kept_if : Program → Bool → by_name.Kinds → Option Kinds
 kept_if p true a = Some (kinds_numbered p a)
@@ -151,7 +148,7 @@ module _ (s : Setting) (c : Class) (m : Method) (i : IsSet s c m) (b : Body) (co
 
   pub truth_of_tests : (test : ℕ → Form → by_name.Kinds → Bool) (n : ℕ) (y : Insn) (a : by_name.Kinds) → slice_get b.insns n ≡ Some y → typed.state_at x n ≡ Some a
       → typed.each (length (body_of p b).forms) (λ n. typed.at_state (body_of p b) x (λ f a. not (test n f a)) n) ≡ true → test n (form_of p y) a ≡ false
-  truth_of_tests test n y a is at e = truth_of (test n (form_of p y) a) (tested (λ n f a. not (test n f a)) n y a is at e)
+  truth_of_tests test n y a is at e = not_true (test n (form_of p y) a) (tested (λ n f a. not (test n f a)) n y a is at e)
 
   module _ (n : ℕ) (y : Insn) (a : by_name.Kinds) (is : slice_get b.insns n ≡ Some y) (wide : length a.registers ≡ b.registers) where
     abbrev pub left : by_name.Kinds

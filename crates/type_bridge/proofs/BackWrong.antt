@@ -1,6 +1,7 @@
 -- A position that isn't wrong by name isn't wrong.
 use Rattle.std.proofs.Common.{◌≡◌, ℕ, zero, suc, Bool, true, false, true≢false, nat_eq, [], ◌∷◌, Option, Some, None, refl, sym, ap, ◌∙◌, subst}
 use Rattle.std.specs.Prelude.{◌&&◌, ◌||◌, not, slice_get, option_and_then, codes}
+use Rattle.lemmas.proofs.Bools.{neither_of, none_or, not_false}
 use Rattle.class_defs.proofs.Positions.{number_of}
 use Rattle.insn_set.specs.declared.form.Insn.{Insn}
 use Rattle.insn_set.specs.declared.form.Insn.TheVariants as insn
@@ -47,7 +48,7 @@ use Rattle.type_bridge.proofs.Members.{field_is, method_is}
 use Rattle.type_bridge.proofs.Numbers.{kind_is}
 use Rattle.type_bridge.proofs.Told.{Told}
 use Rattle.type_bridge.proofs.Texts.{Sorts, sorts, item_sorts, class_by_text, class_unit, text_of_type, index_map, base_is}
-use Rattle.type_bridge.proofs.Wrong.{or_none, none_or, untrue, result_same, unmade, access_same, static_get_same, call_same}
+use Rattle.type_bridge.proofs.Wrong.{result_same, unmade, access_same, static_get_same, call_same}
 
 -- ---- letters
 
@@ -100,7 +101,7 @@ module _ (s : Setting) (c : Class) (m : Method) (i : IsSet s c m) (n : ℕ) (a :
     where
       by : (b : Bool) → (b && not (kind_eq a.receiver own)) ≡ false → (b && not (is_initialised (numbered p a.receiver))) ≡ false
       by false e = refl
-      by true e = ap (λ k. not (is_initialised (numbered p k))) (kind_is a.receiver own (untrue (kind_eq a.receiver own) e)) ∙ ap not own_made
+      by true e = ap (λ k. not (is_initialised (numbered p k))) (kind_is a.receiver own (not_false (kind_eq a.receiver own) e)) ∙ ap not own_made
 
   void_back : text.is_void (method_at p m.name).signature.result ≡ true → shapes.is_void (shape_of s.tables.now s.result) ≡ true
   void_back e = void_shape p (type_at p s.result) (shape_of s.tables.now s.result) (sorts p s.tables.now i.told s.result) (ap text.is_void (result_named s c m i) ∙ e)
@@ -111,10 +112,10 @@ module _ (s : Setting) (c : Class) (m : Method) (i : IsSet s c m) (n : ℕ) (a :
   is_bad o = elim o as (λ o. Bool) [ Some c ↦ remainder.is_abstract c.flags || remainder.is_interface c.flags | None ↦ false ]
 
   instance_back : (k : ℕ) (x : Shape) → Sorts p (type_at p k) x → typed.wrong_instance (named p) (type_at p k) ≡ false → wrong_instance s x ≡ false
-  instance_back k x w e = by x w (untrue (text.is_class_type (type_at p k)) both_parts.0) both_parts.1
+  instance_back k x w e = by x w (not_false (text.is_class_type (type_at p k)) both_parts.0) both_parts.1
     where
       both_parts : (not (text.is_class_type (type_at p k)) ≡ false) × (is_bad (under.class_named (named p) (type_at p k)) ≡ false)
-      both_parts = or_none (not (text.is_class_type (type_at p k))) (is_bad (under.class_named (named p) (type_at p k))) e
+      both_parts = neither_of (not (text.is_class_type (type_at p k))) (is_bad (under.class_named (named p) (type_at p k))) e
 
       by : (x : Shape) → Sorts p (type_at p k) x → text.is_class_type (type_at p k) ≡ true → is_bad (under.class_named (named p) (type_at p k)) ≡ false → wrong_instance s x ≡ false
       by (shape.Class None b) w f g = refl
@@ -144,10 +145,10 @@ module _ (s : Setting) (c : Class) (m : Method) (i : IsSet s c m) (n : ℕ) (a :
   fillable u = text_eq (text.item_of u) (codes "I") || text.is_reference (text.item_of u)
 
   filled_back : (k : ℕ) (x : Shape) → Sorts p (type_at p k) x → typed.wrong_filled (type_at p k) ≡ false → is_fillable_shape s.tables.now x ≡ true
-  filled_back k x w e = by x w (untrue (text.is_array (type_at p k)) parts.0) (untrue (fillable (type_at p k)) parts.1)
+  filled_back k x w e = by x w (not_false (text.is_array (type_at p k)) parts.0) (not_false (fillable (type_at p k)) parts.1)
     where
       parts : (not (text.is_array (type_at p k)) ≡ false) × (not (fillable (type_at p k)) ≡ false)
-      parts = or_none (not (text.is_array (type_at p k))) (not (fillable (type_at p k))) e
+      parts = neither_of (not (text.is_array (type_at p k))) (not (fillable (type_at p k))) e
 
       by : (x : Shape) → Sorts p (type_at p k) x → text.is_array (type_at p k) ≡ true → fillable (type_at p k) ≡ true → is_fillable_shape s.tables.now x ≡ true
       by (shape.Array zero j) w f g = absurd (no_array p s.tables.now i.told (type_at p k) j w)
@@ -166,10 +167,10 @@ module _ (s : Setting) (c : Class) (m : Method) (i : IsSet s c m) (n : ℕ) (a :
 
   pub right_back : (x : Insn) → numbers_fit x p ≡ true → found_at s n ≡ super_search p s.class x → Right x → is_wrong s n (kinds_numbered p a) x ≡ false
   right_back insn.ReturnVoid f g e =
-      let r = or_none (not (text.is_void (method_at p m.name).signature.result)) (typed.ends_early (named p) (named_class p c) (named_method p m) a) e in
-      none_or _ _ (ap not (void_back (untrue _ r.0))) (early_back r.1)
+      let r = neither_of (not (text.is_void (method_at p m.name).signature.result)) (typed.ends_early (named p) (named_class p c) (named_method p m) a) e in
+      none_or _ _ (ap not (void_back (not_false _ r.0))) (early_back r.1)
   right_back (insn.Return x from) f g e =
-      let r = or_none (typed.wrong_return x (method_at p m.name).signature.result) (typed.ends_early (named p) (named_class p c) (named_method p m) a) e in
+      let r = neither_of (typed.wrong_return x (method_at p m.name).signature.result) (typed.ends_early (named p) (named_class p c) (named_method p m) a) e in
       none_or _ _ (result_same x p (type_at p s.result) (shape_of s.tables.now s.result) (sorts p s.tables.now i.told s.result) ∙ ap (typed.wrong_return x) (result_named s c m i) ∙ r.0) (early_back r.1)
   right_back (insn.NewInstance to type) f g e = instance_back type (shape_of s.tables.now type) (sorts p s.tables.now i.told type) e
   right_back (insn.NewArray to size type) f g e = ap not (sym (sorts p s.tables.now i.told type).array) ∙ e

@@ -3,6 +3,7 @@ use Rattle.std.proofs.Common.{◌≡◌, ℕ, zero, suc, ◌+◌, ◌<◌, Bool,
 use Rattle.std.specs.Prelude.{◌&&◌, slice_get, find, cond, All, option_and_then, if◌then◌else◌}
 use Rattle.std.specs.List.{list_all}
 use Rattle.std.specs.Option.{option_map}
+use Rattle.lemmas.proofs.Lists.{all_append, map_append}
 use Rattle.class_defs.proofs.Positions.{both}
 use Rattle.class_defs.proofs.WellFormed.{and_left, and_right}
 use Rattle.insn_set.specs.Flow.{throws, goes_on, targets_of}
@@ -71,14 +72,6 @@ each_last P (x ∷ xs) ys h = each_last P xs ys h.1
 each_map : {A B : Type 0} (P : B → Type 0) (f : A → B) (xs : List A) → Each P (map f xs) → Each (λ x. P (f x)) xs
 each_map P f [] h = tt
 each_map P f (x ∷ xs) h = (h.0, each_map P f xs h.1)
-
-all_append : {A : Type 0} (f : A → Bool) (xs ys : List A) → list_all f xs ≡ true → list_all f ys ≡ true → list_all f (xs ++ ys) ≡ true
-all_append f [] ys h k = k
-all_append f (x ∷ xs) ys h k = both (f x) (list_all f (xs ++ ys)) (and_left (f x) (list_all f xs) h) (all_append f xs ys (and_right (f x) (list_all f xs) h) k)
-
-map_append : {A B : Type 0} (f : A → B) (xs ys : List A) → map f (xs ++ ys) ≡ map f xs ++ map f ys
-map_append f [] ys = refl
-map_append f (x ∷ xs) ys = ap (λ zs. f x ∷ zs) (map_append f xs ys)
 
 -- ---- regions
 

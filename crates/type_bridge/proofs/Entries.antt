@@ -5,6 +5,7 @@ use Rattle.std.specs.Prelude.{slice_get, slice_set, nat_le, sum_by, is_some, if�
 use Rattle.std.specs.List.{list_all}
 use Rattle.std.proofs.Math.Nat.{min-eq_left}
 use Rattle.std.proofs.lemmas.Bool.{leb-true}
+use Rattle.lemmas.proofs.Lists.{all_append, map_append}
 use Rattle.class_defs.proofs.Positions.{number_of, both}
 use Rattle.class_defs.proofs.WellFormed.{and_left, and_right}
 use Rattle.program_model.specs.MemberRules.{has_flag, frame_fits, takes_words, receiver_words, words_of}
@@ -33,7 +34,6 @@ use Rattle.verify.specs.Shapes as shapes
 use Rattle.verify.specs.Types.{shape_of, kind_of, kind_of_shape}
 use Rattle.type_bridge.specs.Numbered.{is_numbered}
 use Rattle.type_bridge.specs.Views.{class_kind, kind_named, receiver_named, kinds_named}
-use Rattle.type_bridge.proofs.Asked.{all_append}
 use Rattle.type_bridge.proofs.BackFits.{type_numbered}
 use Rattle.type_bridge.proofs.Told.{Told}
 use Rattle.type_bridge.proofs.Texts.{sorts, kind_is}
@@ -142,10 +142,6 @@ replicate_long (suc n) = ap suc (replicate_long n)
 map_replicate : (p : Program) (n : ℕ) → map (kind_named p) (replicate n kind.Undefined) ≡ replicate n name.Undefined
 map_replicate p zero = refl
 map_replicate p (suc n) = ap (λ l. name.Undefined ∷ l) (map_replicate p n)
-
-map_append : {A B : Type 0} (f : A → B) (xs ys : List A) → map f (xs ++ ys) ≡ map f xs ++ map f ys
-map_append f [] ys = refl
-map_append f (x ∷ xs) ys = ap (λ zs. f x ∷ zs) (map_append f xs ys)
 
 halves_named : (p : Program) (k : number.Kind) → map (kind_named p) (halves k) ≡ typed.halves (kind_named p k)
 halves_named p (kind.Program c) = by (slice_get p.classes c)

@@ -1,6 +1,7 @@
 -- A kind that fits a type fits it by name.
 use Rattle.std.proofs.Common.{◌≡◌, ℕ, zero, suc, ◌-◌, Bool, true, false, true≢false, nat_eq, [], Option, Some, None, refl, sym, ap, ◌∙◌, subst, arith, lt-ltb}
 use Rattle.std.specs.Prelude.{◌&&◌, ◌||◌, not, slice_get, nat_lt, if◌then◌else◌}
+use Rattle.lemmas.proofs.Bools.{not_of_false, or_left, or_right}
 use Rattle.class_defs.proofs.Positions.{number_of, both}
 use Rattle.class_defs.proofs.WellFormed.{and_left, and_right}
 use Rattle.program_model.specs.declared.program.Class.{Class}
@@ -37,19 +38,9 @@ deeper n = lt-ltb 1 (suc (suc n)) (omega arith)
 pub less : (n : ℕ) → suc n ≡ suc (suc n) - 1
 less n = omega arith
 
-not_false : (b : Bool) → b ≡ false → not b ≡ true
-not_false b e = ap not e
-
-pub or_first : (a b : Bool) → a ≡ true → (a || b) ≡ true
-or_first a b e = ap (λ x. x || b) e
-
-pub or_second : (a b : Bool) → b ≡ true → (a || b) ≡ true
-or_second true b e = refl
-or_second false b e = e
-
 pub either_true : (a b c d : Bool) → (a ≡ true → c ≡ true) → (b ≡ true → d ≡ true) → (a || b) ≡ true → (c || d) ≡ true
-either_true true b c d f g e = or_first c d (f refl)
-either_true false b c d f g e = or_second c d (g e)
+either_true true b c d f g e = or_left c d (f refl)
+either_true false b c d f g e = or_right c d (g e)
 
 pub array_is : (s u : Text) → Array s ≡ Array u → s ≡ u
 array_is s u e = ap text_in e
@@ -109,14 +100,14 @@ module _ (p : Program) (t : Tables) (d : Told p t) where
       plain s g = (item_sorts p t d upper).plain ∙ ap shapes.is_plain g
 
       free : name.is_plain (named p) (item_text p upper) ≡ false → (not (name.is_plain (named p) (item_text p upper)) || is_below (named p) (name.kind_of (named p) (item_text p i)) (ClassKind (item_text p upper))) ≡ true
-      free g = or_first (not (name.is_plain (named p) (item_text p upper))) (is_below (named p) (name.kind_of (named p) (item_text p i)) (ClassKind (item_text p upper))) (not_false (name.is_plain (named p) (item_text p upper)) g)
+      free g = or_left (not (name.is_plain (named p) (item_text p upper))) (is_below (named p) (name.kind_of (named p) (item_text p i)) (ClassKind (item_text p upper))) (not_of_false (name.is_plain (named p) (item_text p upper)) g)
 
       lone : (s : Shape) → item_shape t upper ≡ s → shapes.place_of s ≡ None → name.is_plain (named p) (item_text p upper) ≡ false
       lone s g h = (item_sorts p t d upper).plain ∙ (item_sorts p t d upper).lone (ap shapes.place_of g ∙ h)
 
       by : (s : Shape) → item_shape t upper ≡ s → reference_fits t (item_shape t i) s ≡ true → (not (name.is_plain (named p) (item_text p upper)) || is_below (named p) (name.kind_of (named p) (item_text p i)) (ClassKind (item_text p upper))) ≡ true
       by (shape.Class (Some c) false) g e = free (plain (shape.Class (Some c) false) g)
-      by (shape.Class (Some c) true) g e = or_second (not (name.is_plain (named p) (item_text p upper))) (is_below (named p) (name.kind_of (named p) (item_text p i)) (ClassKind (item_text p upper)))
+      by (shape.Class (Some c) true) g e = or_right (not (name.is_plain (named p) (item_text p upper))) (is_below (named p) (name.kind_of (named p) (item_text p i)) (ClassKind (item_text p upper)))
           (class_item i c (item_text p upper) (item_class p t d upper c true g) e)
       by (shape.Class None pl) g e = free (lone (shape.Class None pl) g refl)
       by shape.Void g e = free (plain shape.Void g)

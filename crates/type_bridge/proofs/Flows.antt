@@ -3,6 +3,7 @@ use Rattle.std.proofs.Common.{◌≡◌, ℕ, zero, suc, ◌<◌, Bool, true, fa
 use Rattle.std.specs.Prelude.{◌&&◌, not, slice_get, replicate, All}
 use Rattle.std.specs.List.{list_all}
 use Rattle.std.proofs.lemmas.List.{length-replicate}
+use Rattle.lemmas.proofs.Lists.{map_long, map_replicate}
 use Rattle.class_defs.proofs.Positions.{both}
 use Rattle.class_defs.proofs.WellFormed.{and_left, and_right}
 use Rattle.insn_set.specs.declared.form.Insn.{Insn}
@@ -42,17 +43,13 @@ use Rattle.type_bridge.proofs.Bodies.{IsCode}
 use Rattle.type_bridge.proofs.Edges.{edges_named}
 use Rattle.type_bridge.proofs.Frames.{at_named, all_at, close}
 use Rattle.type_bridge.proofs.Grounds.{IsSet}
-use Rattle.type_bridge.proofs.Judged.{arrived, entered_named, goes_named, caught_one, reads_at, right_at, at_positions, long_named, map_long}
+use Rattle.type_bridge.proofs.Judged.{arrived, entered_named, goes_named, caught_one, reads_at, right_at, at_positions, long_named}
 use Rattle.type_bridge.proofs.Long.{after_long}
 use Rattle.type_bridge.proofs.Order.{undefined_above}
 
 all_map : {A B : Type 0} (test : B → Bool) (f : A → B) (xs : List A) → list_all test (map f xs) ≡ list_all (λ x. test (f x)) xs
 all_map test f [] = refl
 all_map test f (x ∷ xs) = ap (λ b. test (f x) && b) (all_map test f xs)
-
-map_replicate : {A B : Type 0} (f : A → B) (n : ℕ) (x : A) → map f (replicate n x) ≡ replicate n (f x)
-map_replicate f zero x = refl
-map_replicate f (suc n) x = ap (λ l. f x ∷ l) (map_replicate f n x)
 
 nothing_at : (m r : ℕ) → kind_at (replicate m kind.Undefined) r ≡ kind.Undefined
 nothing_at zero r = refl

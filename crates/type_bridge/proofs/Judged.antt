@@ -4,6 +4,7 @@ use Rattle.std.specs.Prelude.{not, slice_get}
 use Rattle.std.specs.List.{list_all}
 use Rattle.std.specs.Option.{option_map}
 use Rattle.std.proofs.lemmas.Option.{slice_get-map}
+use Rattle.lemmas.proofs.Lists.{map_long}
 use Rattle.class_defs.proofs.Positions.{both}
 use Rattle.insn_set.specs.declared.form.Insn.{Insn}
 use Rattle.program_model.specs.OperandRules.{numbers_fit}
@@ -41,10 +42,6 @@ use Rattle.type_bridge.proofs.Entries.{begun_named}
 use Rattle.type_bridge.proofs.Edges.{edges_named}
 
 -- ---- lists
-
-pub map_long : {A B : Type 0} (f : A → B) (xs : List A) → length (map f xs) ≡ length xs
-map_long f [] = refl
-map_long f (x ∷ xs) = ap suc (map_long f xs)
 
 tests : (n : ℕ) (test : ℕ → Bool) → ((k : ℕ) → k < n → test k ≡ true) → typed.each n test ≡ true
 tests zero test h = refl

@@ -3,6 +3,7 @@ use Rattle.std.proofs.Common.{◌≡◌, ℕ, suc, ◌+◌, ◌<◌, ◌≤◌, 
 use Rattle.std.specs.Prelude.{slice_get, option_and_then, if◌then◌else◌}
 use Rattle.std.specs.Option.{option_map}
 use Rattle.std.proofs.lemmas.Option.{slice_get_past}
+use Rattle.lemmas.proofs.Lists.{map_long}
 use Rattle.class_defs.proofs.Positions.{both}
 use Rattle.hierarchy.specs.Shapes.{IsResolved}
 use Rattle.hierarchy.specs.declared.build.Hierarchy.{Hierarchy}
@@ -51,7 +52,7 @@ use Rattle.type_bridge.proofs.BackTypings.{kept_if, kept, table_numbered, typing
 use Rattle.type_bridge.proofs.Bodies.{IsCode}
 use Rattle.type_bridge.proofs.Frames.{at_named, all_at, close}
 use Rattle.type_bridge.proofs.Grounds.{IsSet}
-use Rattle.type_bridge.proofs.Judged.{typing_named, state_is, map_long}
+use Rattle.type_bridge.proofs.Judged.{typing_named, state_is}
 use Rattle.type_bridge.proofs.Numbers.{type_named}
 use Rattle.type_bridge.proofs.Order.{zero_below, null_below, itself_below, below_named}
 use Rattle.type_bridge.proofs.Programs.{program, ground, body, found, entry_same}

@@ -2,6 +2,7 @@
 use Rattle.std.proofs.Common.{◌≡◌, ℕ, zero, suc, ◌<◌, Bool, true, false, true≢false, List, [], ◌∷◌, ◌++◌, map, length, Option, Some, None, refl, sym, ap, ◌∙◌, subst}
 use Rattle.std.specs.Prelude.{not, slice_get, option_and_then, position, codes}
 use Rattle.std.specs.Option.{option_map, option_or}
+use Rattle.lemmas.proofs.Lists.{got_map}
 use Rattle.class_defs.proofs.Positions.{entry_at, number_of, number_test, place_entry}
 use Rattle.class_defs.proofs.WellFormed.{class_parts}
 use Rattle.class_defs.specs.Finding as finding
@@ -48,11 +49,6 @@ use Rattle.verify.specs.Wrong as wrong
 use Rattle.verify.proofs.Descriptions.{text_same as same_text}
 use Rattle.type_bridge.proofs.FirstValues.{first_same}
 use Rattle.type_bridge.proofs.Told.{Told}
-
-got_map : {X Y : Type 0} (f : X → Y) (xs : List X) (i : ℕ) (x : X) → slice_get xs i ≡ Some x → slice_get (map f xs) i ≡ Some (f x)
-got_map f [] i x e = cc
-got_map f (y ∷ ys) zero x e = let s : y ≡ x = cc in ap (λ z. Some (f z)) s
-got_map f (y ∷ ys) (suc i) x e = got_map f ys i x e
 
 -- ---- keys
 

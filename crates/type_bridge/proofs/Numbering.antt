@@ -1,6 +1,7 @@
 -- Joins of kinds that stand for one kind by names alone do so too, and their order by names is that by numbers.
 use Rattle.std.proofs.Common.{◌≡◌, ℕ, zero, suc, Bool, true, false, true≢false, nat_eq, nat_lt, List, [], ◌∷◌, Option, Some, None, refl, sym, ap, ◌∙◌}
 use Rattle.std.specs.Prelude.{◌&&◌, ◌||◌, map, slice_get, option_and_then, is_some, if◌then◌else◌}
+use Rattle.lemmas.proofs.Lists.{got_map}
 use Rattle.class_defs.proofs.Positions.{number_test, both, entry_at}
 use Rattle.class_defs.proofs.WellFormed.{class_parts}
 use Rattle.program_model.specs.Texts.{string_text}
@@ -34,11 +35,6 @@ use Rattle.type_bridge.proofs.Texts.{First, first_of, few_types, base_is, base_s
 pub same_number_itself : (o : Option ℕ) → same_number o o ≡ true
 same_number_itself None = refl
 same_number_itself (Some n) = number_test n n refl
-
-got_map : {X Y : Type 0} (f : X → Y) (xs : List X) (i : ℕ) (x : X) → slice_get xs i ≡ Some x → slice_get (map f xs) i ≡ Some (f x)
-got_map f [] i x e = absurd (cc)
-got_map f (y ∷ ys) zero x e = let s : y ≡ x = cc in ap (λ z. Some (f z)) s
-got_map f (y ∷ ys) (suc i) x e = got_map f ys i x e
 
 module _ (p : Program) (t : Tables) (d : Told p t) where
   -- ---- items

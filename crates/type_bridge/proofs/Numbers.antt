@@ -4,6 +4,7 @@ use Rattle.std.specs.Prelude.{slice_get, position, is_some, if◌then◌else◌}
 use Rattle.std.specs.Option.{option_map}
 use Rattle.std.specs.Cmp.Lexicographic.{bytes_decides}
 use Rattle.std.proofs.lemmas.Bool.{eqb-true, ltb-true}
+use Rattle.lemmas.proofs.Lists.{got_short}
 use Rattle.class_defs.proofs.Positions.{same_test, entry_at, place_first, FirstPlace, place_entry, PlaceFits}
 use Rattle.program_model.specs.declared.program.Class.{Class}
 use Rattle.program_model.specs.declared.program.Program.{Program}
@@ -23,7 +24,7 @@ use Rattle.type_bridge.specs.Views.{item_text, class_kind, kind_named}
 use Rattle.type_bridge.specs.Numbered.{is_numbered}
 use Rattle.type_bridge.proofs.Lines.{placed_at}
 use Rattle.type_bridge.proofs.Told.{Told}
-use Rattle.type_bridge.proofs.Texts.{depth_of, base_under, item_bare, got_short}
+use Rattle.type_bridge.proofs.Texts.{depth_of, base_under, item_bare}
 
 pub kind_is : (a b : Kind) → kind_eq a b ≡ true → a ≡ b
 kind_is Undefined Undefined e = refl

@@ -1,6 +1,7 @@
 -- Where a form breaks by number, it does by name: at the same register its read is refused, or it is wrong and the register is 0.
 use Rattle.std.proofs.Common.{◌≡◌, ℕ, Bool, true, false, true≢false, nat_eq, List, [], ◌∷◌, map, Some, None, ◌⊎◌, inl, inr, refl, sym, ap, ◌∙◌}
 use Rattle.std.specs.Prelude.{◌&&◌, ◌||◌, not, codes, if◌then◌else◌}
+use Rattle.lemmas.proofs.Bools.{neither_of, not_false, or_left, or_right}
 use Rattle.insn_set.specs.Widths.{compares_wide, unary_reads_wide, binary_is_wide, second_is_wide}
 use Rattle.insn_set.specs.declared.form.Insn.{Insn}
 use Rattle.insn_set.specs.declared.form.Insn.TheVariants as insn
@@ -41,8 +42,8 @@ use Rattle.type_bridge.proofs.BackFrames.{kinds_numbered, low_back, number_back,
 use Rattle.type_bridge.proofs.BackWrong.{right_back}
 use Rattle.type_bridge.proofs.Grounds.{IsSet, get_fits, put_fits, static_put_fits, invoke_fits, result_named}
 use Rattle.type_bridge.proofs.Members.{field_is, field_kind_is, method_is}
-use Rattle.type_bridge.proofs.Unmet.{left_of, right_of, either_lower, unmet_by, Unmet, one, two, rest, down_number, down_made, down_receiver, down_wide, down_type, down_slot, down_item, down_tested, down_tested_with, down_array, down_filled, down_any_array, down_holder, items_unmet, call_unmet}
-use Rattle.type_bridge.proofs.Wrong.{or_none, untrue, right}
+use Rattle.type_bridge.proofs.Unmet.{either_lower, unmet_by, Unmet, one, two, rest, down_number, down_made, down_receiver, down_wide, down_type, down_slot, down_item, down_tested, down_tested_with, down_array, down_filled, down_any_array, down_holder, items_unmet, call_unmet}
+use Rattle.type_bridge.proofs.Wrong.{right}
 
 module _ (s : Setting) (c : Class) (m : Method) (i : IsSet s c m) (n : ℕ) (a : Kinds) where
   abbrev p : Program
@@ -80,7 +81,7 @@ module _ (s : Setting) (c : Class) (m : Method) (i : IsSet s c m) (n : ℕ) (a :
 
     -- a place that may not be read
     at_place : (test other : Bool) (to r : ℕ) → (other ≡ true → test ≡ true) → unless test to ≡ Some r → ((not other && nat_eq to r) || false) ≡ true
-    at_place test other to r f e = left_of (not other && nat_eq to r) false (swaps (nat_eq to r) (not other) (unmet_by test other to r f e))
+    at_place test other to r f e = or_left (not other && nat_eq to r) false (swaps (nat_eq to r) (not other) (unmet_by test other to r f e))
       where
         swaps : (x y : Bool) → (x && y) ≡ true → (y && x) ≡ true
         swaps true true e = refl
@@ -160,7 +161,7 @@ module _ (s : Setting) (c : Class) (m : Method) (i : IsSet s c m) (n : ℕ) (a :
         (down_holder s i.told i.resolved c i.class a.registers up.registers field on k) e
     refused_named (insn.FilledNewArray type args) f g w r e =
         let v : typed.wrong_filled (type_at p type) ≡ false = right s c m i n a (insn.FilledNewArray type args) f g w in
-        let u : text.is_array (type_at p type) ≡ true = untrue (text.is_array (type_at p type)) (or_none (not (text.is_array (type_at p type))) (not (text_eq (text.item_of (type_at p type)) (codes "I") || text.is_reference (text.item_of (type_at p type)))) v).0 in
+        let u : text.is_array (type_at p type) ≡ true = not_false (text.is_array (type_at p type)) (neither_of (not (text.is_array (type_at p type))) (not (text_eq (text.item_of (type_at p type)) (codes "I") || text.is_reference (text.item_of (type_at p type)))) v).0 in
         last (items_unmet s i.told i.resolved c i.class a.registers up.registers None type args r u e)
       where
         Items : Type 0
@@ -190,5 +191,5 @@ module _ (s : Setting) (c : Class) (m : Method) (i : IsSet s c m) (n : ℕ) (a :
         by : (b : Bool) → is_wrong s n a y ≡ b → (if b then Some 0 else refused s n a y) ≡ Some r → (refusal || (Wrongly y && nat_eq r 0)) ≡ true
         by true h e =
             let z : 0 ≡ r = cc in
-            right_of refusal (Wrongly y && nat_eq r 0) (ap (λ b. b && nat_eq r 0) (wrong_named y f g h) ∙ ap (λ r. nat_eq r 0) (sym z))
-        by false h e = left_of refusal (Wrongly y && nat_eq r 0) (refused_named y f g h r e)
+            or_right refusal (Wrongly y && nat_eq r 0) (ap (λ b. b && nat_eq r 0) (wrong_named y f g h) ∙ ap (λ r. nat_eq r 0) (sym z))
+        by false h e = or_left refusal (Wrongly y && nat_eq r 0) (refused_named y f g h r e)

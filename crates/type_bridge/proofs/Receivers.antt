@@ -3,6 +3,7 @@
 use Rattle.std.proofs.Common.{◌≡◌, ℕ, ◌<◌, Bool, true, false, List, map, Option, Some, None, refl, sym, ap, ◌∙◌, subst}
 use Rattle.std.specs.Prelude.{◌||◌, All, slice_get, if◌then◌else◌}
 use Rattle.std.proofs.lemmas.List.Elements.{All-weaker}
+use Rattle.lemmas.proofs.Lists.{map_long}
 use Rattle.insn_set.specs.declared.form.Insn.{Insn}
 use Rattle.insn_set.specs.declared.form.Insn.TheVariants as insn
 use Rattle.insn_set.specs.declared.ops.InvokeKind.{InvokeKind}
@@ -30,7 +31,6 @@ use Rattle.verify.proofs.Raises.{kind_itself, below_itself, below_on}
 use Rattle.verify.proofs.Ranks.{lattice_of}
 use Rattle.verify.proofs.Throws.{below_undefined}
 use Rattle.type_bridge.proofs.BackTypings.{place_map}
-use Rattle.type_bridge.proofs.Judged.{map_long}
 
 -- ---- the test
 

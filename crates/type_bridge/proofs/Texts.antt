@@ -5,6 +5,7 @@ use Rattle.std.specs.List.{list_all}
 use Rattle.std.specs.Option.{option_map}
 use Rattle.std.proofs.Math.Nat.{min-eq_left}
 use Rattle.std.proofs.lemmas.List.Sums.{sum_by-cons}
+use Rattle.lemmas.proofs.Lists.{got_short}
 use Rattle.class_defs.proofs.Positions.{number_test, number_of, find_place, place_entry, PlaceFits, place_first, FirstPlace}
 use Rattle.class_defs.proofs.WellFormed.{and_left, and_right, all_at, few_classes}
 use Rattle.program_model.specs.MemberRules.{class_fits, types_of_class_fit, is_class_type, is_object, source_fits, fields_fit, methods_fit}
@@ -129,11 +130,6 @@ index_past : {X Y : Type 0} (f : X → Y) (xs : List X) (i : ℕ) (d : Y) → sl
 index_past f [] i d e = refl
 index_past f (y ∷ ys) zero d e = absurd (cc)
 index_past f (y ∷ ys) (suc i) d e = index_past f ys i d e
-
-pub got_short : {X : Type 0} (xs : List X) (i : ℕ) (x : X) → slice_get xs i ≡ Some x → i < length xs
-got_short [] i x e = cc
-got_short (y ∷ ys) zero x e = omega arith
-got_short (y ∷ ys) (suc i) x e = let h = got_short ys i x e in omega (arith, h)
 
 tables_of : (p : Program) → is_well_formed p ≡ true → tables_fit p ≡ true
 tables_of p h = (formed p h).tables

@@ -3,6 +3,8 @@
 use Rattle.std.proofs.Common.{◌≡◌, ℕ, zero, suc, ◌+◌, Bool, true, false, true≢false, nat_eq, List, [], ◌∷◌, ◌++◌, map, Option, Some, None, ◌⊎◌, inl, inr, refl, sym, ap, ◌∙◌, subst, arith}
 use Rattle.std.specs.Prelude.{◌&&◌, ◌||◌, not, min, drop, slice_get, if◌then◌else◌}
 use Rattle.std.specs.List.{list_any}
+use Rattle.lemmas.proofs.Bools.{or_left, or_right}
+use Rattle.lemmas.proofs.Lists.{any_right}
 use Rattle.class_defs.proofs.Positions.{number_test}
 use Rattle.class_defs.specs.Finding as finding
 use Rattle.hierarchy.specs.Shapes.{IsResolved}
@@ -54,14 +56,6 @@ use Rattle.type_bridge.proofs.Told.{Told}
 
 -- ---- lists
 
-pub left_of : (a b : Bool) → a ≡ true → (a || b) ≡ true
-left_of true b e = refl
-left_of false b e = absurd (true≢false (sym e))
-
-pub right_of : (a b : Bool) → b ≡ true → (a || b) ≡ true
-right_of true b e = refl
-right_of false b e = e
-
 any_left : {A : Type 0} (f : A → Bool) (xs ys : List A) → list_any f xs ≡ true → list_any f (xs ++ ys) ≡ true
 any_left f [] ys e = absurd (true≢false (sym e))
 any_left f (x ∷ xs) ys e = by (f x) (any_left f xs ys) e
@@ -69,10 +63,6 @@ any_left f (x ∷ xs) ys e = by (f x) (any_left f xs ys) e
     by : (b : Bool) → (list_any f xs ≡ true → list_any f (xs ++ ys) ≡ true) → (b || list_any f xs) ≡ true → (b || list_any f (xs ++ ys)) ≡ true
     by true more e = refl
     by false more e = more e
-
-any_right : {A : Type 0} (f : A → Bool) (xs ys : List A) → list_any f ys ≡ true → list_any f (xs ++ ys) ≡ true
-any_right f [] ys e = e
-any_right f (x ∷ xs) ys e = right_of (f x) (list_any f (xs ++ ys)) (any_right f xs ys e)
 
 -- ---- the lower of two registers
 
@@ -139,10 +129,10 @@ module _ (s : Setting) (d : Told s.program.now s.tables.now) (h : IsResolved s.p
   Unmet ds r = list_any (unmet r) ds ≡ true
 
   first : (x : ℕ × Demand) (xs : List (ℕ × Demand)) (r : ℕ) → unmet r x ≡ true → Unmet (x ∷ xs) r
-  first x xs r e = left_of (unmet r x) (list_any (unmet r) xs) e
+  first x xs r e = or_left (unmet r x) (list_any (unmet r) xs) e
 
   pub rest : (x : ℕ × Demand) (xs : List (ℕ × Demand)) (r : ℕ) → Unmet xs r → Unmet (x ∷ xs) r
-  rest x xs r e = right_of (unmet r x) (list_any (unmet r) xs) e
+  rest x xs r e = or_right (unmet r x) (list_any (unmet r) xs) e
 
   pub one : (test : Bool) (q r : ℕ) (x : Demand) (xs : List (ℕ × Demand)) → (Meets q x → test ≡ true) → unless test q ≡ Some r → Unmet ((q, x) ∷ xs) r
   one test q r x xs f e = first (q, x) xs r (unmet_by test (meets q x) q r f e)
@@ -201,8 +191,8 @@ module _ (s : Setting) (d : Told s.program.now s.tables.now) (h : IsResolved s.p
     down_either r e = by (name.is_number (by_name.kind_at names r)) refl e
       where
         by : (b : Bool) → name.is_number (by_name.kind_at names r) ≡ b → (b || name.is_initialised (by_name.kind_at names r)) ≡ true → (kinds.is_number (kind_at ks r) || kinds.is_initialised (kind_at ks r)) ≡ true
-        by true f g = left_of (kinds.is_number (kind_at ks r)) (kinds.is_initialised (kind_at ks r)) (down_number r f)
-        by false f g = right_of (kinds.is_number (kind_at ks r)) (kinds.is_initialised (kind_at ks r)) (down_made r g)
+        by true f g = or_left (kinds.is_number (kind_at ks r)) (kinds.is_initialised (kind_at ks r)) (down_number r f)
+        by false f g = or_right (kinds.is_number (kind_at ks r)) (kinds.is_initialised (kind_at ks r)) (down_made r g)
 
     down_like : (k : number.Kind) (r : ℕ) → Meets r (asked.like (kind_named p k)) → demands.is_like k (kind_at ks r) ≡ true
     down_like kind.Zero r e = down_either r e

@@ -3,6 +3,7 @@ use Rattle.std.proofs.Common.{◌≡◌, ℕ, zero, suc, ◌+◌, ◌<◌, Bool,
 use Rattle.std.specs.Prelude.{◌&&◌, ◌||◌, not, slice_get, option_and_then, codes, if◌then◌else◌}
 use Rattle.std.specs.Option.{option_map}
 use Rattle.std.proofs.Math.Nat.{add_comm}
+use Rattle.lemmas.proofs.Bools.{neither_of, none_or, not_false}
 use Rattle.class_defs.specs.Finding as finding
 use Rattle.insn_set.specs.declared.form.Insn.{Insn}
 use Rattle.insn_set.specs.declared.form.Insn.TheVariants as insn
@@ -51,18 +52,6 @@ use Rattle.type_bridge.proofs.Members.{FieldIs, field_is, field_kind_is, field_f
 use Rattle.type_bridge.proofs.Grounds.{IsSet, filled_type_fits, get_fits, put_fits, static_get_fits, static_put_fits, invoke_fits, constructs_is, result_named, result_small}
 use Rattle.type_bridge.proofs.Spelled.{void_text, int_array, words_are}
 
-pub or_none : (a b : Bool) → (a || b) ≡ false → (a ≡ false) × (b ≡ false)
-or_none true b e = absurd (true≢false e)
-or_none false b e = (refl, e)
-
-pub none_or : (a b : Bool) → a ≡ false → b ≡ false → (a || b) ≡ false
-none_or true b e f = e
-none_or false b e f = f
-
-pub untrue : (b : Bool) → not b ≡ false → b ≡ true
-untrue true e = refl
-untrue false e = absurd (true≢false e)
-
 -- what is wrong with an item's or a result's width goes by its type's sort
 pub item_same : (i : Item) (p : Program) (u : Text) (s : Shape) → Sorts p u s → wrong_item i s ≡ typed.wrong_item i u
 item_same item.Wide p u s h = ap not (sym h.wide)
@@ -105,7 +94,7 @@ module _ (s : Setting) (c : Class) (m : Method) (i : IsSet s c m) (n : ℕ) (a :
     where
       by : (b : Bool) → (b && not (is_initialised a.receiver)) ≡ false → (b && not (kind_eq (receiver_named made a.receiver) made)) ≡ false
       by false e = refl
-      by true e = ap (λ k. not (kind_eq k made)) (made_receiver s.program.now s.tables.now i.told made a.receiver (untrue (is_initialised a.receiver) e)) ∙ ap not (same_kind made)
+      by true e = ap (λ k. not (kind_eq k made)) (made_receiver s.program.now s.tables.now i.told made a.receiver (not_false (is_initialised a.receiver) e)) ∙ ap not (same_kind made)
 
   void_result : shapes.is_void (shape_of s.tables.now s.result) ≡ true → text.is_void (method_at s.program.now m.name).signature.result ≡ true
   void_result e = ap text.is_void (sym (result_named s c m i)) ∙ void_text s.program.now s.tables.now i.told s.result (result_small s c m i) e
@@ -234,14 +223,14 @@ module _ (s : Setting) (c : Class) (m : Method) (i : IsSet s c m) (n : ℕ) (a :
 
   pub right : (x : Insn) → numbers_fit x s.program.now ≡ true → found_at s n ≡ super_search s.program.now s.class x → is_wrong s n a x ≡ false → Right x
   right insn.ReturnVoid f g e =
-      let r = or_none (not (shapes.is_void (shape_of s.tables.now s.result))) (ends_early s a) e in
-      none_or _ _ (ap not (void_result (untrue _ r.0))) (early r.1)
+      let r = neither_of (not (shapes.is_void (shape_of s.tables.now s.result))) (ends_early s a) e in
+      none_or _ _ (ap not (void_result (not_false _ r.0))) (early r.1)
   right (insn.Return x from) f g e =
-      let r = or_none (wrong_result x (shape_of s.tables.now s.result)) (ends_early s a) e in
+      let r = neither_of (wrong_result x (shape_of s.tables.now s.result)) (ends_early s a) e in
       none_or _ _ (ap (typed.wrong_return x) (sym (result_named s c m i)) ∙ sym (result_same x s.program.now (type_at s.program.now s.result) (shape_of s.tables.now s.result) (sorts s.program.now s.tables.now i.told s.result)) ∙ r.0) (early r.1)
   right (insn.NewInstance to type) f g e = instance_of type (shape_of s.tables.now type) (sorts s.program.now s.tables.now i.told type) e
   right (insn.NewArray to size type) f g e = ap not (sorts s.program.now s.tables.now i.told type).array ∙ e
-  right (insn.FilledNewArray type args) f g e = filled_of type (shape_of s.tables.now type) (filled_type_fits s.program.now type args f) (sorts s.program.now s.tables.now i.told type) (untrue _ e)
+  right (insn.FilledNewArray type args) f g e = filled_of type (shape_of s.tables.now type) (filled_type_fits s.program.now type args f) (sorts s.program.now s.tables.now i.told type) (not_false _ e)
   right (insn.InstanceGet x to on field) f g e = access false x field (field_is s.program.now s.tables.now i.told field (get_fits s.program.now x to on field f)) e
   right (insn.InstancePut x from on field) f g e = access false x field (field_is s.program.now s.tables.now i.told field (put_fits s.program.now x from on field f)) e
   right (insn.StaticGet x to field) f g e = static_get_same x field (field_is s.program.now s.tables.now i.told field (static_get_fits s.program.now x to field f)) ∙ e

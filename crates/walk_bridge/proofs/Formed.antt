@@ -2,6 +2,7 @@
 use Rattle.std.proofs.Common.{◌≡◌, ℕ, zero, suc, ◌+◌, Bool, true, false, if◌then◌else◌, cond, List, [], ◌∷◌, ◌++◌, map, Option, Some, None, slice_get, refl, sym, ap, ◌∙◌}
 use Rattle.std.specs.Prelude.{option_to_list, find, nat_le, nat_lt, ◌&&◌}
 use Rattle.std.specs.Option.{option_map}
+use Rattle.lemmas.proofs.Lists.{get_map}
 use Rattle.insn_set.specs.declared.form.Insn.{Insn}
 use Rattle.insn_set.specs.declared.form.Insn.TheVariants as insn
 use Rattle.insn_set.specs.Registers.{reads_of, writes_of}
@@ -80,11 +81,6 @@ pub same_caught : (p : Program) (b : Body) (i : Insn) (n : ℕ) → named.caught
 same_caught p b i n = ap (thrown_if p b n) (same_throws p i) ∙ thrown_is p b n (throws i)
 
 -- ---- what stands at a position
-
-pub get_map : {A B : Type 0} (f : A → B) (xs : List A) (n : ℕ) → slice_get (map f xs) n ≡ option_map f (slice_get xs n)
-get_map f [] n = refl
-get_map f (x ∷ xs) zero = refl
-get_map f (x ∷ xs) (suc n) = get_map f xs n
 
 pub form_there : (p : Program) (b : Body) (n : ℕ) → named.form_at (body_of p b) n ≡ option_map (form_of p) (numbered.insn_at b n)
 form_there p b n = get_map (form_of p) b.insns n

@@ -4,6 +4,7 @@ use Rattle.std.specs.Prelude.{slice_get, Some, if◌then◌else◌}
 use Rattle.std.specs.Cmp.Lexicographic.{bytes_decides}
 use Rattle.std.specs.List.{list_any, position_or_len}
 use Rattle.std.proofs.lemmas.Option.{slice_get-get_or, slice_get_within}
+use Rattle.lemmas.proofs.Lists.{got_short}
 use Rattle.dex_write.specs.Lists.{is_same, with_list, index_of, all_lists, indexes_of, used_offset, list_starts, padded_text}
 use Rattle.dex_defs.specs.Arranged.{Both, LeadsTo, ToNone, ToOne}
 
@@ -60,15 +61,12 @@ found list (x ∷ xs) = by_test (is_same list x) refl (found list xs)
 
 -- ---- the offsets of uses
 
-within : {X : Type 0} (xs : List X) (k : ℕ) (x : X) → slice_get xs k ≡ Some x → k < length xs
-within xs k x e = slice_get_within xs k x e
-
 one_leads : (all : List (List ℕ)) (starts : List ℕ) (lists : List (List ℕ)) (one : List ℕ) → length starts ≡ length all → Grown (with_list lists one) all → LeadsTo all starts one (used_offset starts (index_of lists one))
 one_leads all starts lists [] many g = ToNone refl refl
 one_leads all starts lists (n ∷ ns) many g =
     let k : ℕ = position_or_len (is_same (n ∷ ns)) lists in
     let e : slice_get all k ≡ Some (n ∷ ns) = get_grown (with_list lists (n ∷ ns)) all k (n ∷ ns) g (found (n ∷ ns) lists) in
-    ToOne k (omega arith) e (slice_get-get_or starts k 0 (omega (arith, many, within all k (n ∷ ns) e)))
+    ToOne k (omega arith) e (slice_get-get_or starts k 0 (omega (arith, many, got_short all k (n ∷ ns) e)))
 
 pub uses_lead : (all : List (List ℕ)) (starts : List ℕ) (lists uses : List (List ℕ)) → length starts ≡ length all → Grown (all_lists lists uses) all → Both (LeadsTo all starts) uses (map (used_offset starts) (indexes_of lists uses))
 uses_lead all starts lists [] many g = tt

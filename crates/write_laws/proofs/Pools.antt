@@ -3,6 +3,7 @@ use Rattle.std.proofs.Common.{◌≡◌, ◌≤◌, ◌<◌, ◌+◌, ◌*◌, �
 use Rattle.std.specs.Prelude.{slice_get, Some}
 use Rattle.std.specs.Int.{w16, to_le_bytes}
 use Rattle.std.specs.List.{AllByRecursion, flat_map}
+use Rattle.lemmas.proofs.Options.{some_same}
 use Rattle.dex_base.specs.Decides.{Each}
 use Rattle.dex_pools.specs.declared.header.Extents.{Extents}
 use Rattle.dex_pools.specs.Spelled.{IsString, IsType, IsTypeList, AreParameters, AreExtents, IsProto, IsField, IsMethod, SpellsPools}
@@ -35,16 +36,13 @@ one_stands : (bytes : List ℕ) (from offset : ℕ) (list : List ℕ) (stop : �
 one_stands bytes from offset list stop (Nothing a b c) = absurd (omega (arith, ap length b, length-append (defs.words (length list ∷ [])) (flat_map (to_le_bytes w16) list)))
 one_stands bytes from offset list stop (Something a b c d e f) = record { some = a; here = e }
 
-same_some : {X : Type 0} (x y : X) → Some x ≡ Some y → x ≡ y
-same_some x y e = cc
-
 pub lies_at : (bytes : List ℕ) (from : ℕ) (starts : List ℕ) (lists : List (List ℕ)) (to k offset : ℕ) (list : List ℕ) → Lie bytes 4 from starts (map type_list_text lists) to → slice_get lists k ≡ Some list → slice_get starts k ≡ Some offset → StandsAt bytes offset list
 lies_at bytes from [] [] to k offset list h e f = absurd cc
 lies_at bytes from [] (x ∷ xs) to k offset list h e f = absurd h
 lies_at bytes from (o ∷ os) [] to k offset list h e f = absurd h
 lies_at bytes from (o ∷ os) (x ∷ xs) to zero offset list h e f =
-    let a : x ≡ list = same_some x list e in
-    let b : o ≡ offset = same_some o offset f in
+    let a : x ≡ list = some_same x list e in
+    let b : o ≡ offset = some_same o offset f in
     subst (λ l. StandsAt bytes offset l) a (subst (λ n. StandsAt bytes n x) b (one_stands bytes from o x h.0 h.1))
 lies_at bytes from (o ∷ os) (x ∷ xs) to (suc k) offset list h e f = lies_at bytes h.0 os xs to k offset list h.2 e f
 

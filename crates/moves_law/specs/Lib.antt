@@ -1,0 +1,3 @@
+pub mod Paths
+pub mod Measure
+pub mod Example

@@ -19,7 +19,8 @@ use Rattle.program_model.specs.declared.body.Region.{Region}
 use Rattle.program_model.specs.declared.program.Program.{Program}
 use Rattle.domains.specs.Values.{Parts}
 use Rattle.dom_frame.specs.declared.frames.Frame.{Frame}
-use Rattle.silence_law.proofs.Lists.{and_left, and_right, and_both}
+use Rattle.lemmas.proofs.Bools.{and_right}
+use Rattle.silence_law.proofs.Lists.{and_left, and_both}
 use Rattle.bodies_law.specs.Others.{Pairwise}
 use Rattle.formed_law.proofs.Pairs.{length_pairs, all_pairs, sum_pairs}
 use Rattle.const_prop.specs.declared.choices.Way.{Way}

@@ -59,6 +59,7 @@ fn word(place: usize) -> u32
 
 impl Results<'_> {
     /// The constant of a number that is written over an instruction at a position, behind another one, where one fits.
+    #[tactic(auto, using(crate::proofs::Found::constant_found))]
     fn constant(
         &self,
         position: u32,

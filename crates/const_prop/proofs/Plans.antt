@@ -66,6 +66,6 @@ module _ (p : Program) (h : Hierarchy) (facts : Facts) (admitted : List Bool) wh
   none_left c r e k j d m b ec em adm has =
       let empty : all_edits r.plan ≡ 0 = none_counted (all_edits r.plan) (sym r.written.count ∙ e) in
       let x : AreFolds p h facts (record { class = word k; place = word j }) m b (slice_index_or (slice_index_or r.plan k []) j []) =
-          coded (record { class = word k; place = word j }) m b (slice_index_or admitted m.name false) m.body (slice_index_or (slice_index_or r.plan k []) j []) adm has
-          ((r.asked.each k d (get_below p.classes k d ec) ec).each j m (get_below d.methods j m em) em) in
+      coded (record { class = word k; place = word j }) m b (slice_index_or admitted m.name false) m.body (slice_index_or (slice_index_or r.plan k []) j []) adm has
+      ((r.asked.each k d (get_below p.classes k d ec) ec).each j m (get_below d.methods j m em) em) in
       record { table = x.table; judged = x.judged; none = sym x.are ∙ none_at r.plan empty k j }

@@ -183,12 +183,7 @@ fn known_way(frame: &Frame, insn: &Insn) -> Way
 }
 
 /// Whether the test of a conditional branch can't answer so.
-fn is_closed(
-    alloc: Global,
-    frame: &Frame,
-    insn: &Insn,
-    taken: bool,
-) -> Result<bool, AllocError>
+fn is_closed(alloc: Global, frame: &Frame, insn: &Insn, taken: bool) -> Result<bool, AllocError>
     ensures { IfOk result (λ closed. closed ≡ is_closed taken frame.now.registers insn.now) }
 {
     let left = refine_branch(alloc, frame, insn, taken)?;

@@ -62,12 +62,7 @@ impl<'a> Results<'a> {
     }
 
     /// What is known with what one more method can give.
-    fn with_found(
-        &self,
-        alloc: Global,
-        known: &Value,
-        found: MethodAt,
-    ) -> Result<Value, AllocError>
+    fn with_found(&self, alloc: Global, known: &Value, found: MethodAt) -> Result<Value, AllocError>
         ensures { IfOk result (λ v. v ≡ with_found self.now.program.now self.now.facts.now known.now found) }
     {
         let more = self.of_found(alloc, Some(found))?;

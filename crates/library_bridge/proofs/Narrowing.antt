@@ -1,13 +1,12 @@
 -- A narrowed table by number is one by names.
-use Rattle.std.proofs.Common.{◌≡◌, ℕ, zero, suc, ◌+◌, ◌<◌, inl, inr, Bool, true, false, true≢false, nat_eq, List, [], ◌∷◌, ◌++◌, map, length, Option, Some, None, refl, sym, ap, subst, ◌∙◌, arith}
-use Rattle.std.specs.Prelude.{◌⊎◌, ◌&&◌, ◌||◌, not, is_some, slice_get, option_and_then, if◌then◌else◌}
+use Rattle.std.proofs.Common.{◌≡◌, ℕ, zero, suc, ◌<◌, inl, inr, Bool, true, false, true≢false, nat_eq, List, [], ◌∷◌, map, length, Option, Some, None, refl, sym, ap, subst, ◌∙◌, arith}
+use Rattle.std.specs.Prelude.{◌⊎◌, ◌&&◌, ◌||◌, not, slice_get, option_and_then, if◌then◌else◌}
 use Rattle.std.specs.Option.{option_map}
-use Rattle.std.specs.List.{list_any, list_all}
+use Rattle.std.specs.List.{list_all}
 use Rattle.std.proofs.Math.Path.{fun_ext}
 use Rattle.std.proofs.lemmas.Option.{slice_get-map, slice_get_within}
 use Rattle.program_model.specs.Lookups.{method_place}
 use Rattle.program_model.specs.ProgramRules.{is_well_formed}
-use Rattle.program_model.specs.declared.pools.MethodName.{MethodName}
 use Rattle.program_model.specs.declared.pass.Outside.{Outside}
 use Rattle.program_model.specs.declared.program.Method.{Method}
 use Rattle.program_model.specs.declared.program.MethodAt.{MethodAt}
@@ -15,9 +14,9 @@ use Rattle.program_model.specs.declared.program.Class.{Class}
 use Rattle.program_model.specs.declared.program.Program.{Program}
 use Rattle.class_defs.specs.ClassGraph.{IsTwice}
 use Rattle.class_defs.specs.Places.{is_under}
-use Rattle.class_defs.proofs.Positions.{number_of, number_test}
-use Rattle.dalvik_defs.specs.Names.{Text, method_eq}
-use Rattle.dalvik_defs.specs.Naming.{type_at, method_at, named_class, named_method, named}
+use Rattle.class_defs.proofs.Positions.{number_test}
+use Rattle.dalvik_defs.specs.Names.{method_eq}
+use Rattle.dalvik_defs.specs.Naming.{method_at, named_class, named_method, named}
 use Rattle.dalvik_defs.specs.Outer.{outer_of, methods_in}
 use Rattle.dalvik_defs.specs.Under.{class_named}
 use Rattle.dalvik_defs.specs.Shut as shut
@@ -27,7 +26,7 @@ use Rattle.dalvik_defs.specs.declared.program.NamedClass.{NamedClass}
 use Rattle.dalvik_defs.specs.declared.program.NamedMethod.{NamedMethod}
 use Rattle.name_bridge.specs.Named.{class_at}
 use Rattle.name_bridge.proofs.Tables.{Sound, sound}
-use Rattle.name_bridge.proofs.Classes.{ClassFits, MethodFits, class_parts, class_by_number}
+use Rattle.name_bridge.proofs.Classes.{MethodFits, class_parts, class_by_number}
 use Rattle.name_bridge.proofs.Above.{length_map, own_place}
 use Rattle.removal_law.specs.Left as left
 use Rattle.removal_law.specs.Reach.{IsNarrowed, ShutsHold}
@@ -36,8 +35,8 @@ use Rattle.stub_library.specs.Shut as number
 use Rattle.stub_library.specs.Shut.{each_class, if_entry, finds_it, is_kept, is_other, is_loose, is_clear_at, is_shut, shut_at, shut_number, passing_below}
 use Rattle.stub_library.specs.Lists.{In}
 use Rattle.stub_library.specs.declared.library.Library.{Library}
-use Rattle.stub_library.proofs.Lists.{in_either, in_left, in_right, in_got, any_in, any_from}
-use Rattle.stub_library.proofs.Unique.{Owns, Placed, from_some, shut_here}
+use Rattle.stub_library.proofs.Lists.{in_either, in_left, in_right, any_in, any_from}
+use Rattle.stub_library.proofs.Unique.{Owns, from_some, shut_here}
 use Rattle.library_bridge.specs.Libraries.{library_of}
 use Rattle.library_bridge.proofs.Same.{among, own_key, sound_key, shut_is}
 
@@ -122,11 +121,20 @@ module _ (p : Program) (wf : is_well_formed p ≡ true) (once : (class : ℕ) �
       by n k t None f = absurd (true≢false (sym t ∙ ap (shut_at (suc (length p.classes)) p o l) f))
       by n k t (Some at) f =
           let w = from_some p.classes 0 n at f in
-          let owns : Owns p w.place w.class at.place w.method = record { is_class = w.is_class; is_method = w.is_method } in
-          (named_class p w.class, (named_method p w.method, (class_once w.place w.class w.is_class,
-          (sym (own_key p s once new l w.place at.place w.class w.method w.is_class w.is_method) ∙ ap (method_at p) w.named ∙ k,
-          at_length (named_class p w.class) (named_method p w.method) ∙ named_is (suc (length p.classes)) w.place at.place w.class w.method w.is_class w.is_method
-          ∙ sym (shut_here p wf once (suc (length p.classes)) o l w.place at.place w.class w.method owns) ∙ ap (shut_number p o l) w.named ∙ t))))
+          let owns : Owns p w.place w.class at.place w.method = record { is_class = w.is_class; is_method = w.is_method } in (
+            named_class p w.class,
+            (
+              named_method p w.method,
+              (
+                class_once w.place w.class w.is_class,
+                (
+                  sym (own_key p s once new l w.place at.place w.class w.method w.is_class w.is_method) ∙ ap (method_at p) w.named ∙ k,
+                  at_length (named_class p w.class) (named_method p w.method) ∙ named_is (suc (length p.classes)) w.place at.place w.class w.method w.is_class w.is_method
+                      ∙ sym (shut_here p wf once (suc (length p.classes)) o l w.place at.place w.class w.method owns) ∙ ap (shut_number p o l) w.named ∙ t,
+                ),
+              ),
+            ),
+          )
 
   all : (c : NamedClass) (m : NamedMethod) → left.In c (named p).classes → left.In m c.methods → shut.shut (named p) (outer_of p new) (library_of l) c m ≡ true → (outer_of p new).shut (key_of c m) ≡ true
   all c m i j e =

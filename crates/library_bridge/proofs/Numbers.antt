@@ -1,5 +1,5 @@
 -- The numbers of the methods that the code of a well-formed program calls are those of its table, and class names aren't empty.
-use Rattle.std.proofs.Common.{◌≡◌, ℕ, zero, suc, ◌+◌, ◌<◌, Bool, true, false, true≢false, nat_eq, List, [], ◌∷◌, length, Option, Some, None, refl, sym, ap, ◌∙◌, arith}
+use Rattle.std.proofs.Common.{◌≡◌, ℕ, zero, suc, ◌+◌, ◌<◌, true, false, List, [], ◌∷◌, length, Some, sym, ap, ◌∙◌, arith}
 use Rattle.std.specs.Prelude.{◌&&◌, ◌-◌, not, slice_get}
 use Rattle.std.specs.List.{list_all, enumerate_from}
 use Rattle.insn_set.specs.Spelling.{is_encodable}

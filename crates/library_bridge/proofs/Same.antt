@@ -1,6 +1,6 @@
 -- Whether a method is shut, by number and by names.
-use Rattle.std.proofs.Common.{◌≡◌, ℕ, zero, suc, ◌+◌, ◌<◌, inl, inr, Bool, true, false, true≢false, nat_eq, List, [], ◌∷◌, ◌++◌, map, length, Option, Some, None, refl, sym, ap, subst, ◌∙◌, arith}
-use Rattle.std.specs.Prelude.{◌⊎◌, ◌&&◌, ◌||◌, not, is_some, is_none, slice_get, option_and_then}
+use Rattle.std.proofs.Common.{◌≡◌, ℕ, zero, suc, ◌+◌, ◌<◌, Bool, true, false, true≢false, nat_eq, List, [], ◌∷◌, map, length, Option, Some, None, refl, sym, ap, ◌∙◌, arith}
+use Rattle.std.specs.Prelude.{◌&&◌, ◌||◌, not, is_some, is_none, slice_get, option_and_then}
 use Rattle.std.specs.Option.{option_map}
 use Rattle.std.specs.List.{list_any, list_all}
 use Rattle.std.proofs.lemmas.Option.{slice_get_within}
@@ -24,7 +24,7 @@ use Rattle.class_defs.specs.Members as number
 use Rattle.class_defs.specs.Members.{names_method}
 use Rattle.class_defs.specs.Finding as look
 use Rattle.class_defs.specs.Finding.{Search}
-use Rattle.class_defs.proofs.Positions.{same_test, both, number_of, number_test}
+use Rattle.class_defs.proofs.Positions.{same_test, number_of, number_test}
 use Rattle.class_defs.proofs.WellFormed.{and_left, and_right, all_at}
 use Rattle.dalvik_defs.specs.Flags as remainder
 use Rattle.dalvik_defs.specs.Find as find
@@ -33,30 +33,29 @@ use Rattle.dalvik_defs.specs.Names as spelled
 use Rattle.dalvik_defs.specs.Names.{Text, text_eq, signature_eq, method_eq, same_name, is_common, object_type}
 use Rattle.dalvik_defs.specs.Naming.{text_at, type_at, signature_at, method_at, form_of, body_of, named_class, named_method, named}
 use Rattle.dalvik_defs.specs.Outer.{Outer, outer_of, methods_in}
-use Rattle.dalvik_defs.specs.Under.{class_named, defines, is_own_under}
+use Rattle.dalvik_defs.specs.Under.{defines, is_own_under}
 use Rattle.dalvik_defs.specs.Shut as shut
 use Rattle.dalvik_defs.specs.Shut.{key_of, is_found_as, names_outside}
-use Rattle.dalvik_defs.specs.declared.forms.Form.{Form}
 use Rattle.dalvik_defs.specs.declared.names.Signature.{Signature}
 use Rattle.dalvik_defs.specs.declared.names.MethodKey.{MethodKey}
 use Rattle.dalvik_defs.specs.declared.program.NamedBody.{NamedBody}
 use Rattle.dalvik_defs.specs.declared.program.NamedClass.{NamedClass}
 use Rattle.dalvik_defs.specs.declared.program.NamedMethod.{NamedMethod}
 use Rattle.dalvik_defs.proofs.Calm.{text_sound}
-use Rattle.name_bridge.specs.Named.{class_at, found_at, search_at, finds}
+use Rattle.name_bridge.specs.Named.{class_at, search_at, finds}
 use Rattle.name_bridge.proofs.Tables.{Sound, method_is, method_class, method_name, method_proto, method_once}
 use Rattle.name_bridge.proofs.Classes.{ClassFits, MethodFits, class_parts, text_test, type_test, signature_test, class_by_number}
-use Rattle.name_bridge.proofs.Above.{length_map, defined, own_place, under_by_number}
+use Rattle.name_bridge.proofs.Above.{defined, own_place, under_by_number}
 use Rattle.name_bridge.proofs.Candidates.{common_test, version_test, coded_test, finds_at_by_number}
 use Rattle.name_bridge.proofs.Found.{text_same, type_same, virtual_test, IsThere, found_there_is}
 use Rattle.name_bridge.proofs.Flags.{interface_flag}
 use Rattle.removal_law.proofs.Members.{signature_sound}
 use Rattle.removal_law.proofs.Declared.{method_same}
-use Rattle.stub_library.specs.Shut.{each_class, some_class, if_entry, type_clear, types_clear, is_found_in, finds_it, is_outside, calls_outside, called_outside, is_kept, keeps_name, keeper_over, is_other, is_loose, is_clear_at, is_shut, walk_clear}
+use Rattle.stub_library.specs.Shut.{each_class, if_entry, type_clear, types_clear, is_found_in, finds_it, is_outside, calls_outside, called_outside, is_kept, keeps_name, keeper_over, is_other, is_loose, is_clear_at, is_shut, walk_clear}
 use Rattle.stub_library.specs.Stubs.{proto_text}
 use Rattle.stub_library.specs.declared.library.Library.{Library}
 use Rattle.library_bridge.specs.Libraries.{library_of}
-use Rattle.library_bridge.proofs.Tests.{all_same, all_named, any_named, each_named, some_named, proto_named, walk_named}
+use Rattle.library_bridge.proofs.Tests.{all_named, any_named, each_named, some_named, proto_named, walk_named}
 use Rattle.stub_library.proofs.Finds.{OwnVirtual}
 use Rattle.library_bridge.proofs.Numbers as fit
 use Rattle.library_bridge.proofs.Owned.{own_found}
@@ -68,7 +67,6 @@ sound_key a b t =
     let y : a.name ≡ b.name = text_sound a.name b.name (and_right (text_eq a.class b.class) (text_eq a.name b.name) two) in
     let z : a.signature ≡ b.signature = signature_sound a.signature b.signature (and_right (text_eq a.class b.class && text_eq a.name b.name) (signature_eq a.signature b.signature) t) in
     ap (λ (w : Text). record { class = w; name = a.name; signature = a.signature }) x ∙ ap (λ (w : Text). record { class = b.class; name = w; signature = a.signature }) y ∙ ap (λ (w : Signature). record { class = b.class; name = b.name; signature = w }) z
-
 
 module _ (p : Program) (s : Sound p) (once : (class : ℕ) → IsTwice p class → ⊥) (o : Outside) (l : Library) where
   abbrev O : Outer

@@ -1,5 +1,5 @@
 -- What classes find, by method numbers.
-use Rattle.std.proofs.Common.{◌≡◌, ℕ, zero, suc, ◌+◌, ◌<◌, inl, inr, Bool, true, false, true≢false, nat_eq, List, [], ◌∷◌, ◌++◌, length, Option, Some, None, refl, sym, ap, subst, ◌∙◌, arith}
+use Rattle.std.proofs.Common.{◌≡◌, ℕ, zero, suc, inl, inr, Bool, true, false, true≢false, nat_eq, List, [], ◌∷◌, ◌++◌, length, Option, Some, None, refl, sym, ap, subst, ◌∙◌}
 use Rattle.std.specs.Prelude.{◌⊎◌, ◌&&◌, not, cond, slice_get, position, option_and_then, filter, flat_map}
 use Rattle.std.specs.Option.{option_map, option_or}
 use Rattle.program_model.specs.declared.pools.MethodName.{MethodName}
@@ -8,12 +8,12 @@ use Rattle.program_model.specs.declared.program.MethodAt.{MethodAt}
 use Rattle.program_model.specs.declared.program.Class.{Class}
 use Rattle.program_model.specs.declared.program.Program.{Program}
 use Rattle.program_model.specs.Lookups.{method_at}
-use Rattle.program_model.specs.MemberRules.{has_flag, is_direct}
+use Rattle.program_model.specs.MemberRules.{has_flag}
 use Rattle.program_model.specs.ProgramRules.{is_well_formed}
 use Rattle.class_defs.specs.ClassGraph.{IsTwice}
 use Rattle.class_defs.specs.Places.{interface_places, chain_of}
 use Rattle.class_defs.specs.Members.{names_method, is_method, is_virtual, method_of_class, own_method, virtual_only, own_virtual, has_code, is_interface, is_common}
-use Rattle.class_defs.specs.Finding.{Search, first_among, finds_virtual, one_or_none, candidates_from, without_repeats, is_037, candidates, is_lowest, lowest, verdict, finds_among, found_or, finds_at, by_entry}
+use Rattle.class_defs.specs.Finding.{first_among, finds_virtual, one_or_none, candidates_from, without_repeats, is_037, candidates, is_lowest, lowest, verdict, finds_among, found_or, by_entry}
 use Rattle.class_defs.proofs.Positions.{place_entry, number_of, number_test, both}
 use Rattle.class_defs.proofs.WellFormed.{and_left, and_right}
 use Rattle.stub_library.specs.Marking.{number_at, found_by}

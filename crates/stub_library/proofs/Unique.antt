@@ -1,5 +1,5 @@
 -- A method number is defined once, and names a method of its class.
-use Rattle.std.proofs.Common.{◌≡◌, ℕ, zero, suc, ◌+◌, ◌<◌, inl, inr, Bool, true, false, true≢false, nat_eq, List, [], ◌∷◌, length, Option, Some, None, refl, sym, ap, subst, ◌∙◌, arith}
+use Rattle.std.proofs.Common.{◌≡◌, ℕ, zero, suc, ◌+◌, inl, inr, Bool, true, false, nat_eq, List, [], ◌∷◌, Option, Some, None, refl, sym, ap, subst, ◌∙◌, arith}
 use Rattle.std.specs.Prelude.{◌&&◌, slice_get, position}
 use Rattle.std.proofs.lemmas.Bool.{cases_order}
 use Rattle.program_model.specs.declared.pools.MethodName.{MethodName}
@@ -13,8 +13,8 @@ use Rattle.program_model.specs.MemberRules.{class_fits}
 use Rattle.program_model.specs.ProgramRules.{is_well_formed}
 use Rattle.class_defs.specs.ClassGraph.{IsTwice}
 use Rattle.class_defs.specs.Members.{names_method}
-use Rattle.class_defs.proofs.Positions.{PlaceFits, FirstPlace, place_entry, place_first, number_of, number_test}
-use Rattle.class_defs.proofs.WellFormed.{Sound, ClassFits, MethodFits, sound, class_parts, all_at, and_left, and_right}
+use Rattle.class_defs.proofs.Positions.{place_entry, place_first, number_of, number_test}
+use Rattle.class_defs.proofs.WellFormed.{MethodFits, sound, class_parts, all_at, and_left, and_right}
 use Rattle.stub_library.proofs.Differ.{methods_differ, same_number}
 use Rattle.stub_library.specs.Shut.{is_shut, shut_there, shut_at}
 use Rattle.stub_library.specs.declared.library.Library.{Library}

@@ -7,7 +7,7 @@ use Rattle.std.specs.Cmp.Lexicographic.{pointwise}
 use Rattle.insn_set.specs.declared.form.Insn.{Insn}
 use Rattle.insn_set.specs.declared.form.Insn.TheVariants as insn
 use Rattle.insn_set.specs.declared.ops.InvokeKind.TheVariants as call
-use Rattle.program_model.specs.Lookups.{class_place, method_at, method_place}
+use Rattle.program_model.specs.Lookups.{class_place, method_place}
 use Rattle.program_model.specs.MemberRules.{has_flag, is_direct, is_object}
 use Rattle.program_model.specs.Texts.{string_text, type_text}
 use Rattle.program_model.specs.declared.pools.MethodName.{MethodName}

@@ -15,6 +15,8 @@ ghost use Rattle.library_bridge.specs.Libraries.{library_of};
 /// The table that narrowing answers shuts, by names, what the definition of shut methods says for the library's types, so it
 /// holds what a table of shut methods owes.
 pub fn narrowed_by_number_law()
-    ensures narrowed { (p : Program) (o new : Outside) (l : Library) → is_well_formed p ≡ true → ((class : ℕ) → IsTwice p class → ⊥) → number.IsNarrowed p o l new → IsNarrowed (named p) (outer_of p new) (library_of l) }
-    ensures holds { (p : Program) (o new : Outside) (l : Library) → is_well_formed p ≡ true → ((class : ℕ) → IsTwice p class → ⊥) → number.IsNarrowed p o l new → ShutsHold (named p) (outer_of p new) }
+    ensures narrowed { (p : Program) (o new : Outside) (l : Library) → is_well_formed p ≡ true → ((class : ℕ) → IsTwice p class → ⊥) → number.IsNarrowed p o l new
+        → IsNarrowed (named p) (outer_of p new) (library_of l) }
+    ensures holds { (p : Program) (o new : Outside) (l : Library) → is_well_formed p ≡ true → ((class : ℕ) → IsTwice p class → ⊥) → number.IsNarrowed p o l new
+        → ShutsHold (named p) (outer_of p new) }
 {}

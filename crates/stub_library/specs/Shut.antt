@@ -123,7 +123,8 @@ is_shut (suc n) p o l c k m = if_entry (λ q.
     is_loose p o q k m
     && each_class (λ d _. not (finds_it p c q d)
     || (is_clear_at p o l q d
-    && each_class (λ e u. not (is_under p d e) || list_all (λ x. not (is_other p c q e x) || is_kept o x.name || is_shut n p o l e u x) u.methods) 0 p.classes)) 0 p.classes) (slice_get p.methods m.name)
+    && each_class (λ e u. not (is_under p d e) || list_all (λ x. not (is_other p c q e x) || is_kept o x.name || is_shut n p o l e u x) u.methods) 0 p.classes)) 0 p.classes)
+    (slice_get p.methods m.name)
 
 -- whether the method of a number is shut
 abbrev pub shut_there : ℕ → Program → Outside → Library → ℕ → ℕ → Option Class → Bool

@@ -1,6 +1,17 @@
 pub mod Shut
 pub mod Numbers
+pub mod Steps
 pub mod Lists
+pub mod ByText
+pub mod Marked
+pub mod Below
 pub mod Differ
 pub mod Unique
 pub mod Finds
+pub mod Spells
+pub mod Declares
+pub mod Adding
+pub mod Walks
+pub mod Opened
+pub mod Calls
+pub mod Shutting

@@ -15,3 +15,4 @@ pub mod Walks
 pub mod Opened
 pub mod Calls
 pub mod Shutting
+pub mod Done

@@ -1,0 +1,5 @@
+mod Tests
+mod Numbers
+mod Owned
+mod Same
+mod Narrowing

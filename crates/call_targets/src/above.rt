@@ -33,8 +33,10 @@ fn walk_up(alloc: Global, at: &At<'_>, marks: &mut Marks) -> Result<Vec<u32>, Al
     ensures size { OnOk result (vec_len marks.new.marks ≡ vec_len marks.old.marks) }
     ensures idle { OnOk result (marks.new.waiting.items ≡ []) }
     ensures met { OnOk result ((n : ℕ) → is_met marks.old n ≡ true → is_met marks.new n ≡ true) }
-    ensures from { IsOf at.now.program.now at.now.hierarchy.now → vec_len marks.old.marks ≡ length at.now.program.now.types → (x y : ℕ) → AllFrom at.now.program.now x y marks.old.waiting.items → IfOk result (λ out. AllFrom at.now.program.now x y out.items) }
-    ensures walked { IsOf at.now.program.now at.now.hierarchy.now → ((n : ℕ) → is_marked marks.old n ≡ true → Contains marks.old.waiting.items n) → IfOk result (λ out. IsWalked at.now.program.now marks.new out.items) }
+    ensures from { IsOf at.now.program.now at.now.hierarchy.now → vec_len marks.old.marks ≡ length at.now.program.now.types → (x y : ℕ)
+        → AllFrom at.now.program.now x y marks.old.waiting.items → IfOk result (λ out. AllFrom at.now.program.now x y out.items) }
+    ensures walked { IsOf at.now.program.now at.now.hierarchy.now → ((n : ℕ) → is_marked marks.old n ≡ true → Contains marks.old.waiting.items n)
+        → IfOk result (λ out. IsWalked at.now.program.now marks.new out.items) }
 {
     let mut out = Vec::new(alloc);
     while let Some(one) = marks.pop() {
@@ -54,8 +56,10 @@ pub(crate) fn climb(
 ) -> Result<Vec<u32>, AllocError>
     ensures size { OnOk result (vec_len marks.new.marks ≡ vec_len marks.old.marks) }
     ensures clean { IsOf at.now.program.now at.now.hierarchy.now → IsClean marks.old → OnOk result (IsClean marks.new) }
-    ensures above { IsOf at.now.program.now at.now.hierarchy.now → vec_len marks.old.marks ≡ length at.now.program.now.types → IsClean marks.old → IfOk result (λ out. HasFrom at.now.program.now object kind out.items) }
-    ensures from { IsOf at.now.program.now at.now.hierarchy.now → vec_len marks.old.marks ≡ length at.now.program.now.types → IsClean marks.old → IfOk result (λ out. AllFrom at.now.program.now object kind out.items) }
+    ensures above { IsOf at.now.program.now at.now.hierarchy.now → vec_len marks.old.marks ≡ length at.now.program.now.types → IsClean marks.old
+        → IfOk result (λ out. HasFrom at.now.program.now object kind out.items) }
+    ensures from { IsOf at.now.program.now at.now.hierarchy.now → vec_len marks.old.marks ≡ length at.now.program.now.types → IsClean marks.old
+        → IfOk result (λ out. AllFrom at.now.program.now object kind out.items) }
 {
     marks.mark(object)?;
     marks.mark(kind)?;

@@ -60,7 +60,9 @@ fn found_in_interfaces(
     walk: &mut Walk,
 ) -> Result<Target, AllocError>
     ensures ready { IsReady at.now.program.now walk.old → IsReady at.now.program.now walk.new }
-    ensures is { IsOf at.now.program.now at.now.hierarchy.now → IsReady at.now.program.now walk.old → (name proto : ℕ) → IsKey at.now.program.now at.now.hierarchy.now key name proto → IfOk result (λ t. t ≡ target_found (finds_among at.now.program.now (flat_map (interface_places at.now.program.now) (chain_of at.now.program.now (Some class))) name proto)) }
+    ensures is { IsOf at.now.program.now at.now.hierarchy.now → IsReady at.now.program.now walk.old → (name proto : ℕ)
+        → IsKey at.now.program.now at.now.hierarchy.now key name proto
+        → IfOk result (λ t. t ≡ target_found (finds_among at.now.program.now (flat_map (interface_places at.now.program.now) (chain_of at.now.program.now (Some class))) name proto)) }
 {
     let mut candidates = Vec::new(alloc);
     at.hierarchy
@@ -78,7 +80,8 @@ pub(crate) fn found_on(
     walk: &mut Walk,
 ) -> Result<Target, AllocError>
     ensures ready { IsReady at.now.program.now walk.old → IsReady at.now.program.now walk.new }
-    ensures is { IsOf at.now.program.now at.now.hierarchy.now → IsReady at.now.program.now walk.old → (name proto : ℕ) → IsKey at.now.program.now at.now.hierarchy.now key name proto → IfOk result (λ t. t ≡ target_found (finds_at at.now.program.now class name proto)) }
+    ensures is { IsOf at.now.program.now at.now.hierarchy.now → IsReady at.now.program.now walk.old → (name proto : ℕ)
+        → IsKey at.now.program.now at.now.hierarchy.now key name proto → IfOk result (λ t. t ≡ target_found (finds_at at.now.program.now class name proto)) }
 {
     match at.hierarchy.find_virtual(at.program, class, key) {
         Some(found) => Ok(Target::One(found)),
@@ -94,7 +97,8 @@ pub(crate) fn found_on(
 
 /// The first method with a key along the superclasses of a class.
 fn found_above(at: &At<'_>, caller: u32, key: u32) -> Target
-    ensures { IsOf at.now.program.now at.now.hierarchy.now → (name proto : ℕ) → IsKey at.now.program.now at.now.hierarchy.now key name proto → result ≡ target_found (search_of (finds_from at.now.program.now name proto (super_place at.now.program.now caller))) }
+    ensures { IsOf at.now.program.now at.now.hierarchy.now → (name proto : ℕ) → IsKey at.now.program.now at.now.hierarchy.now key name proto
+        → result ≡ target_found (search_of (finds_from at.now.program.now name proto (super_place at.now.program.now caller))) }
 {
     match at.hierarchy.super_of(caller) {
         Some(above) => target_of(at.hierarchy.find_from(above, key)),
@@ -109,7 +113,8 @@ fn found_in_interface(
     interface: u32,
     key: u32,
 ) -> Result<Target, AllocError>
-    ensures { IsOf at.now.program.now at.now.hierarchy.now → (name proto : ℕ) → IsKey at.now.program.now at.now.hierarchy.now key name proto → IfOk result (λ t. t ≡ target_found (finds_among at.now.program.now (interface ∷ []) name proto)) }
+    ensures { IsOf at.now.program.now at.now.hierarchy.now → (name proto : ℕ) → IsKey at.now.program.now at.now.hierarchy.now key name proto
+        → IfOk result (λ t. t ≡ target_found (finds_among at.now.program.now (interface ∷ []) name proto)) }
 {
     let mut walk = at.hierarchy.walk(alloc)?;
     let mut candidates = Vec::new(alloc);
@@ -162,7 +167,9 @@ fn found_super_037(
     kind: u32,
     key: u32,
 ) -> Result<Target, AllocError>
-    ensures { is_well_formed at.now.program.now ≡ true → IsOf at.now.program.now at.now.hierarchy.now → (q : MethodName) → IsKey at.now.program.now at.now.hierarchy.now key q.name q.proto → q.class ≡ kind → IfOk result (λ t. t ≡ target_found (finds_super_037 at.now.program.now caller q (class_place at.now.program.now kind))) }
+    ensures { is_well_formed at.now.program.now ≡ true → IsOf at.now.program.now at.now.hierarchy.now → (q : MethodName)
+        → IsKey at.now.program.now at.now.hierarchy.now key q.name q.proto → q.class ≡ kind
+        → IfOk result (λ t. t ≡ target_found (finds_super_037 at.now.program.now caller q (class_place at.now.program.now kind))) }
 {
     match at.hierarchy.place_of(kind) {
         Some(place) => {

@@ -37,7 +37,8 @@ fn enter(targets: &mut Targets, method: &Method)
 
 /// Whether the framework may call a virtual method by its own knowledge of a made class.
 fn is_called_back(at: &At<'_>, kept: &Kept, made: Made, number: u32) -> bool
-    ensures { IsOf at.now.program.now at.now.hierarchy.now → (q : MethodName) → slice_get at.now.program.now.methods number ≡ Some q → result ≡ is_called_back at.now.program.now kept.now made.outer number q }
+    ensures { IsOf at.now.program.now at.now.hierarchy.now → (q : MethodName) → slice_get at.now.program.now.methods number ≡ Some q
+        → result ≡ is_called_back at.now.program.now kept.now made.outer number q }
 {
     !kept.is_shut(number)
         && (made.outer
@@ -69,7 +70,8 @@ fn enter_found(
     targets: &mut Targets,
 ) -> Result<(), AllocError>
     ensures ready { IsReady at.now.program.now walk.old → IsReady at.now.program.now walk.new }
-    ensures adds { IsOf at.now.program.now at.now.hierarchy.now → IsReady at.now.program.now walk.old → (q : MethodName) → slice_get at.now.program.now.methods number ≡ Some q → OnOk result (Adds (virtual_notes at.now.program.now kept.now made.class made.outer number) targets.old targets.new) }
+    ensures adds { IsOf at.now.program.now at.now.hierarchy.now → IsReady at.now.program.now walk.old → (q : MethodName) → slice_get at.now.program.now.methods number ≡ Some q
+        → OnOk result (Adds (virtual_notes at.now.program.now kept.now made.class made.outer number) targets.old targets.new) }
 {
     let keeps = kept.keeps_method(number);
     if keeps || is_called_back(at, kept, made, number) {
@@ -92,7 +94,8 @@ fn enter_virtual(
     targets: &mut Targets,
 ) -> Result<(), AllocError>
     ensures ready { IsReady at.now.program.now walk.old → IsReady at.now.program.now walk.new }
-    ensures adds { IsOf at.now.program.now at.now.hierarchy.now → IsReady at.now.program.now walk.old → OnOk result (Adds (virtual_notes at.now.program.now kept.now made.class made.outer number) targets.old targets.new) }
+    ensures adds { IsOf at.now.program.now at.now.hierarchy.now → IsReady at.now.program.now walk.old
+        → OnOk result (Adds (virtual_notes at.now.program.now kept.now made.class made.outer number) targets.old targets.new) }
 {
     match at.method_name(number) {
         Some(_) => enter_found(alloc, at, kept, made, number, walk, targets),
@@ -111,7 +114,8 @@ fn enter_method(
     targets: &mut Targets,
 ) -> Result<(), AllocError>
     ensures ready { IsReady at.now.program.now walk.old → IsReady at.now.program.now walk.new }
-    ensures adds { IsOf at.now.program.now at.now.hierarchy.now → IsReady at.now.program.now walk.old → OnOk result (Adds (method_notes at.now.program.now kept.now made.class made.outer method.now) targets.old targets.new) }
+    ensures adds { IsOf at.now.program.now at.now.hierarchy.now → IsReady at.now.program.now walk.old
+        → OnOk result (Adds (method_notes at.now.program.now kept.now made.class made.outer method.now) targets.old targets.new) }
 {
     if method.flags.has(Flags::STATIC) {
         return Ok(());
@@ -136,7 +140,8 @@ pub(crate) fn enter_methods(
     targets: &mut Targets,
 ) -> Result<(), AllocError>
     ensures ready { IsReady at.now.program.now walk.old → IsReady at.now.program.now walk.new }
-    ensures adds { IsOf at.now.program.now at.now.hierarchy.now → IsReady at.now.program.now walk.old → OnOk result (Adds (flat_map (method_notes at.now.program.now kept.now made.class made.outer) methods.now) targets.old targets.new) }
+    ensures adds { IsOf at.now.program.now at.now.hierarchy.now → IsReady at.now.program.now walk.old
+        → OnOk result (Adds (flat_map (method_notes at.now.program.now kept.now made.class made.outer) methods.now) targets.old targets.new) }
 {
     for method in methods {
         enter_method(alloc, at, kept, made, method, walk, targets)?;
@@ -246,7 +251,8 @@ fn begin_class(at: &At<'_>, kept: &Kept, place: u32, class: &Class, targets: &mu
 
 /// Lets the framework enter the kept static methods, and notes the classes that it may need.
 pub(crate) fn begin(at: &At<'_>, kept: &Kept, targets: &mut Targets)
-    ensures { length at.now.program.now.classes < 2 ^ 32 → IsResolved at.now.program.now at.now.hierarchy.now → Adds (all_class_notes at.now.program.now kept.now 0 at.now.program.now.classes) targets.old targets.new }
+    ensures { length at.now.program.now.classes < 2 ^ 32 → IsResolved at.now.program.now at.now.hierarchy.now
+        → Adds (all_class_notes at.now.program.now kept.now 0 at.now.program.now.classes) targets.old targets.new }
 {
     for (place, class) in at.program.classes.as_slice().iter().enumerate() {
         begin_class(at, kept, word(place), class, targets);

@@ -91,7 +91,8 @@ fn link_named(
     targets: &mut Targets,
 ) -> Result<(), AllocError>
     ensures ready { IsReady at.now.program.now walk.old → IsReady at.now.program.now walk.new }
-    ensures adds { IsOf at.now.program.now at.now.hierarchy.now → IsReady at.now.program.now walk.old → (q : MethodName) → slice_get at.now.program.now.methods call.method ≡ Some q → OnOk result (Adds (call_notes at.now.program.now class call) targets.old targets.new) }
+    ensures adds { IsOf at.now.program.now at.now.hierarchy.now → IsReady at.now.program.now walk.old → (q : MethodName) → slice_get at.now.program.now.methods call.method ≡ Some q
+        → OnOk result (Adds (call_notes at.now.program.now class call) targets.old targets.new) }
 {
     let key = at.hierarchy.key_of_method(call.method);
     match found_on(alloc, at, class, key, walk)? {
@@ -135,7 +136,8 @@ fn link_calls(
     targets: &mut Targets,
 ) -> Result<(), AllocError>
     ensures ready { IsReady at.now.program.now walk.old → IsReady at.now.program.now walk.new }
-    ensures adds { IsOf at.now.program.now at.now.hierarchy.now → IsReady at.now.program.now walk.old → OnOk result (Adds (flat_map (call_notes at.now.program.now class) calls.now) targets.old targets.new) }
+    ensures adds { IsOf at.now.program.now at.now.hierarchy.now → IsReady at.now.program.now walk.old
+        → OnOk result (Adds (flat_map (call_notes at.now.program.now class) calls.now) targets.old targets.new) }
 {
     for call in calls {
         link_call(alloc, at, class, *call, walk, targets)?;
@@ -164,7 +166,8 @@ fn follow_kind(
     targets: &mut Targets,
 ) -> Result<(), AllocError>
     ensures ready { IsReady at.now.program.now walk.old → IsReady at.now.program.now walk.new }
-    ensures adds { IsOf at.now.program.now at.now.hierarchy.now → IsReady at.now.program.now walk.old → OnOk result (Adds (kind_notes at.now.program.now tables.now.named tables.now.kept made.class made.outer kind) targets.old targets.new) }
+    ensures adds { IsOf at.now.program.now at.now.hierarchy.now → IsReady at.now.program.now walk.old
+        → OnOk result (Adds (kind_notes at.now.program.now tables.now.named tables.now.kept made.class made.outer kind) targets.old targets.new) }
 {
     link_calls(alloc, at, made.class, tables.named.on(kind), walk, targets)?;
     enter_methods(
@@ -190,7 +193,8 @@ fn follow_kinds(
     targets: &mut Targets,
 ) -> Result<(), AllocError>
     ensures ready { IsReady at.now.program.now walk.old → IsReady at.now.program.now walk.new }
-    ensures adds { IsOf at.now.program.now at.now.hierarchy.now → IsReady at.now.program.now walk.old → OnOk result (Adds (flat_map (kind_notes at.now.program.now tables.now.named tables.now.kept made.class made.outer) kinds.now) targets.old targets.new) }
+    ensures adds { IsOf at.now.program.now at.now.hierarchy.now → IsReady at.now.program.now walk.old
+        → OnOk result (Adds (flat_map (kind_notes at.now.program.now tables.now.named tables.now.kept made.class made.outer) kinds.now) targets.old targets.new) }
 {
     for kind in kinds {
         follow_kind(alloc, at, tables, made, *kind, walk, targets)?;
@@ -208,7 +212,8 @@ fn follow_class(
     targets: &mut Targets,
 ) -> Result<(), AllocError>
     ensures open_walks { IsOf at.now.program.now at.now.hierarchy.now → IsOpen at.now.program.now walks.old → OnOk result (IsOpen at.now.program.now walks.new) }
-    ensures adds { IsOf at.now.program.now at.now.hierarchy.now → tables.now.object ≡ object_number at.now.program.now → IsOpen at.now.program.now walks.old → OnOk result (AddsBy (OfClass at.now.program.now tables.now class.0 class.1) targets.old targets.new) }
+    ensures adds { IsOf at.now.program.now at.now.hierarchy.now → tables.now.object ≡ object_number at.now.program.now → IsOpen at.now.program.now walks.old
+        → OnOk result (AddsBy (OfClass at.now.program.now tables.now class.0 class.1) targets.old targets.new) }
 {
     let (place, kind) = class;
     let kinds = climb(alloc, at, &mut walks.kinds, tables.object, kind)?;
@@ -239,7 +244,8 @@ fn follow_place(
     targets: &mut Targets,
 ) -> Result<(), AllocError>
     ensures open_walks { IsOf at.now.program.now at.now.hierarchy.now → IsOpen at.now.program.now walks.old → OnOk result (IsOpen at.now.program.now walks.new) }
-    ensures adds { IsOf at.now.program.now at.now.hierarchy.now → tables.now.object ≡ object_number at.now.program.now → IsOpen at.now.program.now walks.old → OnOk result (AddsBy (OfMade at.now.program.now tables.now made.now class.0 class.1) targets.old targets.new) }
+    ensures adds { IsOf at.now.program.now at.now.hierarchy.now → tables.now.object ≡ object_number at.now.program.now → IsOpen at.now.program.now walks.old
+        → OnOk result (AddsBy (OfMade at.now.program.now tables.now made.now class.0 class.1) targets.old targets.new) }
 {
     if is_on(made, class.1) {
         follow_class(alloc, at, tables, class, walks, targets)?;
@@ -265,7 +271,8 @@ fn follow_made(
     made: &[bool],
     targets: &mut Targets,
 ) -> Result<(), AllocError>
-    ensures { IsOf at.now.program.now at.now.hierarchy.now → length at.now.program.now.classes < 2 ^ 32 → tables.now.object ≡ object_number at.now.program.now → OnOk result (AddsBy (OfPlaces at.now.program.now tables.now made.now (length at.now.program.now.classes)) targets.old targets.new) }
+    ensures { IsOf at.now.program.now at.now.hierarchy.now → length at.now.program.now.classes < 2 ^ 32 → tables.now.object ≡ object_number at.now.program.now
+        → OnOk result (AddsBy (OfPlaces at.now.program.now tables.now made.now (length at.now.program.now.classes)) targets.old targets.new) }
 {
     let mut walks = new_walks(alloc, at)?;
     for (place, class) in at.program.classes.as_slice().iter().enumerate() {

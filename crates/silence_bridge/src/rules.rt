@@ -32,20 +32,28 @@ ghost use Rattle.silence_bridge.specs.Admitted.{admitted_in};
 /// admitted stays whole, and no body has more registers than before. The premises are what `Hierarchy::build`,
 /// `verify_all` and `optimise` say where they accept.
 pub fn all_rules_law()
-    ensures silenced { (p r : Program) (origins : List (List Origin)) (h : Hierarchy) (o : Outside) (advisers spared rounds : ℕ) (before after : List Bool) → is_well_formed p ≡ true → IsResolved p h → IsAcyclic p → NoSplit p
+    ensures silenced { (p r : Program) (origins : List (List Origin)) (h : Hierarchy) (o : Outside) (advisers spared rounds : ℕ) (before after : List Bool)
+        → is_well_formed p ≡ true → IsResolved p h → IsAcyclic p → NoSplit p
         → (done : IsOptimised o p advisers before after spared r origins rounds) → named done.silenced ≡ silenced (named p) (outer_of p o) (admitted_in p done.admitted) }
-    ensures shown { (p r : Program) (origins : List (List Origin)) (h : Hierarchy) (o : Outside) (advisers spared rounds : ℕ) (before after : List Bool) → is_well_formed p ≡ true → IsResolved p h → IsAcyclic p → NoSplit p → TypesAll p h
+    ensures shown { (p r : Program) (origins : List (List Origin)) (h : Hierarchy) (o : Outside) (advisers spared rounds : ℕ) (before after : List Bool) → is_well_formed p ≡ true
+        → IsResolved p h → IsAcyclic p → NoSplit p → TypesAll p h
         → (done : IsOptimised o p advisers before after spared r origins rounds) → o.shut ≡ [] → SameShown (silenced (named p) (outer_of p o) (admitted_in p done.admitted)) (named r) (outer_of p o) }
-    ensures sound { (p r : Program) (origins : List (List Origin)) (h : Hierarchy) (o : Outside) (advisers spared rounds : ℕ) (before after : List Bool) → is_well_formed p ≡ true → IsResolved p h → IsAcyclic p → NoSplit p → TypesAll p h
+    ensures sound { (p r : Program) (origins : List (List Origin)) (h : Hierarchy) (o : Outside) (advisers spared rounds : ℕ) (before after : List Bool) → is_well_formed p ≡ true
+        → IsResolved p h → IsAcyclic p → NoSplit p → TypesAll p h
         → IsOptimised o p advisers before after spared r origins rounds → IsSound r }
-    ensures skips { (p r : Program) (origins : List (List Origin)) (h : Hierarchy) (o : Outside) (advisers spared rounds : ℕ) (before after : List Bool) → is_well_formed p ≡ true → IsResolved p h → IsAcyclic p → NoSplit p → TypesAll p h
+    ensures skips { (p r : Program) (origins : List (List Origin)) (h : Hierarchy) (o : Outside) (advisers spared rounds : ℕ) (before after : List Bool) → is_well_formed p ≡ true
+        → IsResolved p h → IsAcyclic p → NoSplit p → TypesAll p h
         → (done : IsOptimised o p advisers before after spared r origins rounds) → NothingLeft done.admitted r }
-    ensures dead { (p r : Program) (origins : List (List Origin)) (h : Hierarchy) (o : Outside) (advisers spared rounds : ℕ) (before after : List Bool) → is_well_formed p ≡ true → IsResolved p h → IsAcyclic p → NoSplit p → TypesAll p h
+    ensures dead { (p r : Program) (origins : List (List Origin)) (h : Hierarchy) (o : Outside) (advisers spared rounds : ℕ) (before after : List Bool) → is_well_formed p ≡ true
+        → IsResolved p h → IsAcyclic p → NoSplit p → TypesAll p h
         → (done : IsOptimised o p advisers before after spared r origins rounds) → NoneDead (is_quiet_field r) done.admitted r }
-    ensures fresh { (p r : Program) (origins : List (List Origin)) (h : Hierarchy) (o : Outside) (advisers spared rounds : ℕ) (before after : List Bool) → is_well_formed p ≡ true → IsResolved p h → IsAcyclic p → NoSplit p → TypesAll p h
+    ensures fresh { (p r : Program) (origins : List (List Origin)) (h : Hierarchy) (o : Outside) (advisers spared rounds : ℕ) (before after : List Bool) → is_well_formed p ≡ true
+        → IsResolved p h → IsAcyclic p → NoSplit p → TypesAll p h
         → (done : IsOptimised o p advisers before after spared r origins rounds) → has_narrow_classes r ≡ true → AllFresh done.admitted r }
-    ensures packed { (p r : Program) (origins : List (List Origin)) (h : Hierarchy) (o : Outside) (advisers spared rounds : ℕ) (before after : List Bool) → is_well_formed p ≡ true → IsResolved p h → IsAcyclic p → NoSplit p → TypesAll p h
+    ensures packed { (p r : Program) (origins : List (List Origin)) (h : Hierarchy) (o : Outside) (advisers spared rounds : ℕ) (before after : List Bool) → is_well_formed p ≡ true
+        → IsResolved p h → IsAcyclic p → NoSplit p → TypesAll p h
         → (done : IsOptimised o p advisers before after spared r origins rounds) → has_narrow_classes r ≡ true → AllPacked done.admitted r }
-    ensures stays { (p r : Program) (origins : List (List Origin)) (h : Hierarchy) (o : Outside) (advisers spared rounds : ℕ) (before after : List Bool) → is_well_formed p ≡ true → IsResolved p h → IsAcyclic p → NoSplit p → TypesAll p h
+    ensures stays { (p r : Program) (origins : List (List Origin)) (h : Hierarchy) (o : Outside) (advisers spared rounds : ℕ) (before after : List Bool) → is_well_formed p ≡ true
+        → IsResolved p h → IsAcyclic p → NoSplit p → TypesAll p h
         → (done : IsOptimised o p advisers before after spared r origins rounds) → Stays done.admitted p r }
 {}

@@ -1,2 +1,4 @@
+pub mod Fits
 pub mod Marks
 pub mod Outside
+pub mod Table

@@ -1,6 +1,12 @@
 //! Which conditions hold of a class or a member.
 
-ghost use Rattle.std.specs.Prelude.{◌≡◌, not, if◌then◌else◌};
+ghost use Rattle.std.specs.Prelude.{◌≡◌, ◌||◌, ℕ, List, [], true, false, not, map, if◌then◌else◌, IfOk, IfSome, IfNone};
+ghost use Rattle.dalvik_defs.specs.Naming.{mark_of};
+ghost use Rattle.rule_text.specs.Tokens.{Word};
+ghost use Rattle.rule_text.specs.Rules.{Condition};
+ghost use Rattle.rule_text.specs.Related.{AreEach, IsPatternOf, IsConditionOf};
+ghost use Rattle.rule_defs.specs.Members.{common_holds, field_holds, method_holds, access_holds, asks_visibility, condition_holds, has_mark, is_visibility};
+ghost use Rattle.keep_rules.specs.Fits.{role_of, is_mark, sees_of, others_hold, words_hold, mark_holds, marks_hold};
 
 use crate::fit::class_fits;
 use crate::view::descriptor;
@@ -17,7 +23,10 @@ pub enum Role {
 }
 
 /// Whether a word that classes know as well, or who may see a member, holds of the flags.
-fn common_holds(access: Access, flags: Flags) -> bool {
+#[tactic(auto, using(crate::proofs::AccessLemmas::bits))]
+fn common_holds(access: Access, flags: Flags) -> bool
+    ensures { result ≡ common_holds access flags.0 }
+{
     match access {
         Access::Public => flags.has(Flags::PUBLIC),
         Access::Private => flags.has(Flags::PRIVATE),
@@ -31,7 +40,10 @@ fn common_holds(access: Access, flags: Flags) -> bool {
 }
 
 /// Whether a word of methods holds of the flags.
-fn method_holds(access: Access, flags: Flags) -> bool {
+#[tactic(auto, using(crate::proofs::AccessLemmas::bits))]
+fn method_holds(access: Access, flags: Flags) -> bool
+    ensures { result ≡ method_holds access flags.0 }
+{
     match access {
         Access::Synchronized => {
             flags.has(Flags::SYNCHRONIZED) || flags.has(Flags::DECLARED_SYNCHRONIZED)
@@ -44,16 +56,26 @@ fn method_holds(access: Access, flags: Flags) -> bool {
     }
 }
 
+/// Whether a word of fields holds of the flags.
+#[tactic(auto, using(crate::proofs::AccessLemmas::bits))]
+fn field_holds(access: Access, flags: Flags) -> bool
+    ensures { result ≡ field_holds access flags.0 }
+{
+    match access {
+        Access::Volatile => flags.has(Flags::VOLATILE),
+        Access::Transient => flags.has(Flags::TRANSIENT),
+        _ => common_holds(access, flags),
+    }
+}
+
 /// Whether the access word holds of what has these flags.
-fn access_holds(access: Access, role: Role, flags: Flags) -> bool {
+fn access_holds(access: Access, role: Role, flags: Flags) -> bool
+    ensures { result ≡ access_holds (role_of role) access flags.0 }
+{
     match role {
         Role::Class => common_holds(access, flags),
         Role::Method => method_holds(access, flags),
-        Role::Field => match access {
-            Access::Volatile => flags.has(Flags::VOLATILE),
-            Access::Transient => flags.has(Flags::TRANSIENT),
-            _ => common_holds(access, flags),
-        },
+        Role::Field => field_holds(access, flags),
     }
 }
 
@@ -70,37 +92,100 @@ pub fn mark_holds(
     program: &Program,
     marks: &[Mark],
     row: &mut Vec<bool>,
-) -> Result<bool, AllocError> {
+) -> Result<bool, AllocError>
+    ensures { (w : Word) → IsPatternOf pattern.now w → IfOk result (λ holds. holds ≡ has_mark w (map (mark_of program.now) marks.now)) }
+{
     for mark in marks {
-        if class_fits(pattern, descriptor(program, mark.note.class), row)? {
+        let fits = class_fits(pattern, descriptor(program, mark.note.class), row)?;
+        if fits {
             return Ok(true);
         }
     }
     Ok(false)
 }
 
-/// Whether the words say who may see the member.
-fn is_visibility(access: Access) -> bool {
+/// Whether the word says who may see the member.
+fn is_visibility(access: Access) -> bool
+    ensures { result ≡ is_visibility access }
+{
     matches!(access, Access::Public | Access::Private | Access::Protected)
+}
+
+/// Whether a word that says who may see the member holds, none where the condition is another.
+fn sees(condition: &Condition, role: Role, flags: Flags) -> Option<bool>
+    ensures some { (c : Condition) → IsConditionOf condition.now c → IfSome result (λ holds. (asks_visibility c ≡ true) × (holds ≡ condition_holds (role_of role) flags.0 [] c)) }
+    ensures none { (c : Condition) → IsConditionOf condition.now c → IfNone result (asks_visibility c ≡ false) }
+{
+    match condition {
+        Condition::Access { negated, access } if is_visibility(*access) && !*negated => {
+            Some(access_holds(*access, role, flags))
+        }
+        _ => None,
+    }
+}
+
+/// Whether of `public`, `private` and `protected` one that stands without `!` holds, where there are any.
+fn is_seen(conditions: &[Condition], role: Role, flags: Flags) -> bool
+    ensures { (cs : List Condition) → AreEach IsConditionOf conditions.now cs → result ≡ sees_of (role_of role) flags.0 false false cs }
+{
+    let mut asked = false;
+    let mut seen = false;
+    for condition in conditions {
+        if let Some(holds) = sees(condition, role, flags) {
+            asked = true;
+            seen = seen || holds;
+        }
+    }
+    seen || !asked
+}
+
+/// Whether a condition holds that is neither an annotation nor a word that says who may see the member.
+fn other_holds(condition: &Condition, role: Role, flags: Flags) -> bool
+    ensures { (c : Condition) → IsConditionOf condition.now c → result ≡ (asks_visibility c || (is_mark c || condition_holds (role_of role) flags.0 [] c)) }
+{
+    match condition {
+        Condition::Mark(_) => true,
+        Condition::Access { negated, access } => {
+            is_visibility(*access) && !*negated
+                || word_holds(access_holds(*access, role, flags), *negated)
+        }
+    }
+}
+
+/// Whether every word holds that doesn't say who may see the member.
+fn others_hold(conditions: &[Condition], role: Role, flags: Flags) -> bool
+    ensures { (cs : List Condition) → AreEach IsConditionOf conditions.now cs → result ≡ others_hold (role_of role) flags.0 cs }
+{
+    for condition in conditions {
+        let holds = other_holds(condition, role, flags);
+        if !holds {
+            return false;
+        }
+    }
+    true
 }
 
 /// Whether the words that are asked of the flags hold: of `public`, `private` and `protected` one that stands without
 /// `!`, where there are any, and every other word, where one with `!` holds as the word itself doesn't.
-pub fn access_fits(conditions: &[Condition], role: Role, flags: Flags) -> bool {
-    let mut asked = false;
-    let mut seen = false;
-    for condition in conditions {
-        if let Condition::Access { negated, access } = condition {
-            let holds = word_holds(access_holds(*access, role, flags), *negated);
-            if is_visibility(*access) && !*negated {
-                asked = true;
-                seen = seen || holds;
-            } else if !holds {
-                return false;
-            }
-        }
+pub fn access_fits(conditions: &[Condition], role: Role, flags: Flags) -> bool
+    ensures { (cs : List Condition) → AreEach IsConditionOf conditions.now cs → result ≡ words_hold (role_of role) flags.0 cs }
+{
+    is_seen(conditions, role, flags) && others_hold(conditions, role, flags)
+}
+
+/// Whether the annotation is there, if the condition asks for one.
+fn mark_fits(
+    condition: &Condition,
+    program: &Program,
+    marks: &[Mark],
+    row: &mut Vec<bool>,
+) -> Result<bool, AllocError>
+    ensures { (c : Condition) → IsConditionOf condition.now c → IfOk result (λ holds. holds ≡ mark_holds (map (mark_of program.now) marks.now) c) }
+{
+    match condition {
+        Condition::Mark(pattern) => mark_holds(pattern, program, marks, row),
+        Condition::Access { .. } => Ok(true),
     }
-    seen || !asked
 }
 
 /// Whether for each annotation that is asked for there is one that matches.
@@ -109,12 +194,13 @@ pub fn marks_fit(
     program: &Program,
     marks: &[Mark],
     row: &mut Vec<bool>,
-) -> Result<bool, AllocError> {
+) -> Result<bool, AllocError>
+    ensures { (cs : List Condition) → AreEach IsConditionOf conditions.now cs → IfOk result (λ fits. fits ≡ marks_hold (map (mark_of program.now) marks.now) cs) }
+{
     for condition in conditions {
-        if let Condition::Mark(pattern) = condition {
-            if !mark_holds(pattern, program, marks, row)? {
-                return Ok(false);
-            }
+        let fits = mark_fits(condition, program, marks, row)?;
+        if !fits {
+            return Ok(false);
         }
     }
     Ok(true)

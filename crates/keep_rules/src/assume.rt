@@ -1,5 +1,9 @@
 //! Which methods are assumed to do nothing.
 
+ghost use Rattle.std.specs.Prelude.{◌≡◌, OnOk};
+ghost use Rattle.program_model.specs.declared.program.Program.{Program};
+ghost use Rattle.keep_rules.specs.Marks.{HasOwn};
+
 use crate::fit::some_class_fits;
 use crate::marks::{Marks, mark};
 use crate::members::method_named;
@@ -31,7 +35,9 @@ fn silence_methods(
     numbers: &[u32],
     marks: &mut Marks,
     row: &mut Vec<bool>,
-) -> Result<(), AllocError> {
+) -> Result<(), AllocError>
+    ensures { (p : Program) → HasOwn p marks.old → OnOk result (HasOwn p marks.new) }
+{
     let program = view.program;
     for number in numbers {
         if let Some(method) = program.methods.items.get(*number as usize) {
@@ -50,7 +56,9 @@ fn silence_type(
     kind: u32,
     marks: &mut Marks,
     row: &mut Vec<bool>,
-) -> Result<(), AllocError> {
+) -> Result<(), AllocError>
+    ensures { (p : Program) → HasOwn p marks.old → OnOk result (HasOwn p marks.new) }
+{
     let Some(numbers) = view.methods.get(kind as usize) else {
         return Ok(());
     };
@@ -70,7 +78,9 @@ pub fn silence_by(
     view: &View<'_>,
     marks: &mut Marks,
     row: &mut Vec<bool>,
-) -> Result<(), AllocError> {
+) -> Result<(), AllocError>
+    ensures { (p : Program) → HasOwn p marks.old → OnOk result (HasOwn p marks.new) }
+{
     match named_types(alloc, view, rule.names.as_slice())? {
         Some(kinds) => {
             for kind in kinds.iter() {

@@ -1,5 +1,9 @@
 //! The classes of the descriptors of kept members.
 
+ghost use Rattle.std.specs.Prelude.{◌≡◌, OnOk};
+ghost use Rattle.program_model.specs.declared.program.Program.{Program};
+ghost use Rattle.keep_rules.specs.Marks.{HasOwn};
+
 use crate::marks::{Marks, is_marked, mark};
 use crate::view::{View, descriptor};
 use program_model::Class;
@@ -77,7 +81,9 @@ fn classes_of(
 }
 
 /// Keeps the classes in the descriptors of kept members, where a rule asks for it.
-pub fn keep_described(alloc: Global, view: &View<'_>, marks: &mut Marks) -> Result<(), AllocError> {
+pub fn keep_described(alloc: Global, view: &View<'_>, marks: &mut Marks) -> Result<(), AllocError>
+    ensures { (p : Program) → HasOwn p marks.old → OnOk result (HasOwn p marks.new) }
+{
     let program = view.program;
     for class in program.classes.items.iter() {
         let kinds = classes_of(

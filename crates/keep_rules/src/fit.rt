@@ -1,14 +1,29 @@
 //! What patterns match: classes, types and arguments.
 
+ghost use Rattle.std.specs.Prelude.{◌≡◌, ◌<◌, ℕ, List, [], ◌∷◌, true, false, length, map, Some, None, IfSome, IfNone, IfOk};
+ghost use Rattle.rule_text.specs.Tokens.{Word};
+ghost use Rattle.rule_text.specs.Related.{AreEach, IsPatternOf, IsItemOf, IsTypeOf, AreArgumentsOf};
+ghost use Rattle.rule_text.specs.Pieces.{ends_in_brackets};
+ghost use Rattle.rule_text.specs.Rules.{Arguments};
+ghost use Rattle.dalvik_defs.specs.Names.{text_eq, is_class_type, item_of};
+ghost use Rattle.dalvik_defs.specs.Naming.{type_at};
+ghost use Rattle.rule_defs.specs.Patterns.{inner, class_name_fits, some_name_fits, is_primitive, item_fits, type_fits, types_fit, arguments_fit};
+ghost use Rattle.keep_rules.specs.Fits.{behind_of};
+
 use crate::view::descriptor;
 use program_model::Program;
+use rule_match::{is_star, matches};
 use rule_text::{Arguments, ItemPattern, NamePattern, Named, TypePattern};
 use std::alloc::AllocError;
 
 /// The name of a class in its descriptor.
-pub fn class_name(descriptor: &[u16]) -> Option<&[u16]> {
+pub fn class_name(descriptor: &[u16]) -> Option<&[u16]>
+    ensures some { IfSome result (λ name. (is_class_type descriptor.now ≡ true) × (name.now ≡ inner (item_of descriptor.now))) }
+    ensures none { IfNone result (is_class_type descriptor.now ≡ false) }
+{
     match descriptor {
-        [76, name @ .., 59] => Some(name),
+        [76, name @ .., _] => Some(name),
+        [76] => Some(&[]),
         _ => None,
     }
 }
@@ -18,12 +33,17 @@ pub fn class_fits(
     pattern: &NamePattern,
     descriptor: &[u16],
     row: &mut Vec<bool>,
-) -> Result<bool, AllocError> {
-    match class_name(descriptor) {
-        Some(_) if pattern.is_star() => Ok(true),
-        Some(name) => pattern.matches(Named::Class, name, row),
-        None => Ok(false),
+) -> Result<bool, AllocError>
+    ensures { (w : Word) → IsPatternOf pattern.now w → IfOk result (λ fits. fits ≡ class_name_fits w descriptor.now) }
+{
+    let name = match class_name(descriptor) {
+        Some(name) => name,
+        None => return Ok(false),
+    };
+    if is_star(pattern) {
+        return Ok(true);
     }
+    matches(pattern, Named::Class, name, row)
 }
 
 /// Whether one of the patterns matches the class.
@@ -31,9 +51,12 @@ pub fn some_class_fits(
     patterns: &[NamePattern],
     descriptor: &[u16],
     row: &mut Vec<bool>,
-) -> Result<bool, AllocError> {
+) -> Result<bool, AllocError>
+    ensures { (ws : List Word) → AreEach IsPatternOf patterns.now ws → IfOk result (λ fits. fits ≡ some_name_fits ws descriptor.now) }
+{
     for pattern in patterns {
-        if class_fits(pattern, descriptor, row)? {
+        let fits = class_fits(pattern, descriptor, row)?;
+        if fits {
             return Ok(true);
         }
     }
@@ -41,20 +64,34 @@ pub fn some_class_fits(
 }
 
 /// The descriptor behind so many brackets.
-fn behind_brackets(descriptor: &[u16], depth: usize) -> Option<&[u16]> {
+fn behind_brackets(descriptor: &[u16], depth: usize) -> Option<&[u16]>
+    ensures some { IfSome result (λ item. behind_of depth descriptor.now ≡ Some item.now) }
+    ensures none { IfNone result (behind_of depth descriptor.now ≡ None) }
+{
     let mut rest = descriptor;
-    for _ in 0..depth {
+    let mut left = depth;
+    while left > 0 {
         match rest {
             [91, behind @ ..] => rest = behind,
             _ => return None,
         }
+        left -= 1;
     }
     Some(rest)
 }
 
 /// Whether the descriptor is that of a primitive type.
-fn is_primitive(descriptor: &[u16]) -> bool {
+fn is_primitive(descriptor: &[u16]) -> bool
+    ensures { result ≡ is_primitive descriptor.now }
+{
     matches!(descriptor, [66 | 67 | 68 | 70 | 73 | 74 | 83 | 90])
+}
+
+/// Whether the descriptor is the letter alone.
+fn is_letter(descriptor: &[u16], letter: u16) -> bool
+    ensures { result ≡ text_eq (letter ∷ []) descriptor.now }
+{
+    matches!(descriptor, [unit] if *unit == letter)
 }
 
 /// Whether the pattern matches the item. Wildcards other than `***` match classes alone.
@@ -62,13 +99,15 @@ fn item_fits(
     item: &ItemPattern,
     descriptor: &[u16],
     row: &mut Vec<bool>,
-) -> Result<bool, AllocError> {
+) -> Result<bool, AllocError>
+    ensures { (w : Word) → IsItemOf item.now w → IfOk result (λ fits. fits ≡ item_fits w descriptor.now) }
+{
     match item {
         ItemPattern::Any => Ok(true),
         ItemPattern::Primitive => Ok(is_primitive(descriptor)),
-        ItemPattern::Letter(letter) => Ok(matches!(descriptor, [unit] if unit == letter)),
+        ItemPattern::Letter(letter) => Ok(is_letter(descriptor, *letter)),
         ItemPattern::Class(pattern) => match class_name(descriptor) {
-            Some(name) => pattern.matches(Named::Class, name, row),
+            Some(name) => matches(pattern, Named::Class, name, row),
             None => Ok(false),
         },
     }
@@ -79,11 +118,36 @@ pub fn type_fits(
     pattern: &TypePattern,
     descriptor: &[u16],
     row: &mut Vec<bool>,
-) -> Result<bool, AllocError> {
+) -> Result<bool, AllocError>
+    ensures { (w : Word) → IsTypeOf pattern.now w → IfOk result (λ fits. fits ≡ type_fits w descriptor.now) }
+{
     match behind_brackets(descriptor, pattern.depth) {
         Some(item) => item_fits(&pattern.item, item, row),
         None => Ok(false),
     }
+}
+
+/// Whether the patterns match the types, one each.
+fn types_fit(
+    patterns: &[TypePattern],
+    program: &Program,
+    kinds: &[u32],
+    row: &mut Vec<bool>,
+) -> Result<bool, AllocError>
+    ensures { (ws : List Word) → AreEach IsTypeOf patterns.now ws → IfOk result (λ fits. fits ≡ types_fit ws (map (type_at program.now) kinds.now)) }
+{
+    let mut rest = kinds;
+    for pattern in patterns {
+        let [kind, behind @ ..] = rest else {
+            return Ok(false);
+        };
+        let fits = type_fits(pattern, descriptor(program, *kind), row)?;
+        if !fits {
+            return Ok(false);
+        }
+        rest = behind;
+    }
+    Ok(rest.is_empty())
 }
 
 /// Whether the patterns match the parameters, one each.
@@ -92,18 +156,11 @@ pub fn arguments_fit(
     program: &Program,
     parameters: &[u32],
     row: &mut Vec<bool>,
-) -> Result<bool, AllocError> {
-    let patterns = match arguments {
-        Arguments::Any => return Ok(true),
-        Arguments::These(patterns) => patterns,
-    };
-    if patterns.len() != parameters.len() {
-        return Ok(false);
+) -> Result<bool, AllocError>
+    ensures { (meant : Arguments) → AreArgumentsOf arguments.now meant → IfOk result (λ fits. fits ≡ arguments_fit meant (map (type_at program.now) parameters.now)) }
+{
+    match arguments {
+        Arguments::Any => Ok(true),
+        Arguments::These(patterns) => types_fit(patterns.as_slice(), program, parameters, row),
     }
-    for (pattern, kind) in patterns.iter().zip(parameters) {
-        if !type_fits(pattern, descriptor(program, *kind), row)? {
-            return Ok(false);
-        }
-    }
-    Ok(true)
 }

@@ -1,9 +1,19 @@
 //! What a keep rule keeps.
 
+ghost use Rattle.std.specs.Prelude.{◌≡◌, ℕ, Some, true, slice_get, not, IfOk, OnOk};
+ghost use Rattle.program_model.specs.declared.program.Program.{Program};
+ghost use Rattle.dalvik_defs.specs.Naming.{named_class};
+ghost use Rattle.rule_text.specs.Rules.{ClassRule, KeepRule};
+ghost use Rattle.rule_text.specs.Related.{AreEach, IsMemberOf, IsClassOf, IsKeepOf};
+ghost use Rattle.rule_defs.specs.Kept.{is_of_kind, is_conditional, is_complete, lines_of};
+ghost use Rattle.keep_rules.specs.Fits.{has_names};
+ghost use Rattle.keep_rules.specs.Marks.{is_always, HasOwn, PassMembers};
+ghost use Rattle.keep_rules.specs.Table.{defines_field, defines_method};
+
 use crate::above::classes_under;
 use crate::access::{Role, access_fits, marks_fit};
 use crate::fit::some_class_fits;
-use crate::marks::{Hold, Marks, is_marked, mark};
+use crate::marks::{Hold, Marks, MemberMarks, is_marked, mark_where};
 use crate::members::{has_each_line, some_line_of_field, some_line_of_method};
 use crate::names::named_types;
 use crate::view::{View, descriptor};
@@ -12,7 +22,10 @@ use rule_text::{ClassKind, ClassRule, KeepKind, KeepRule, MemberRule, Modifier};
 use std::alloc::{AllocError, Global};
 
 /// Whether the class is of the kind.
-fn is_of_kind(kind: ClassKind, flags: Flags) -> bool {
+#[tactic(auto, using(crate::proofs::AccessLemmas::bits))]
+fn is_of_kind(kind: ClassKind, flags: Flags) -> bool
+    ensures { result ≡ is_of_kind kind flags.0 }
+{
     match kind {
         ClassKind::Class => true,
         ClassKind::Interface => flags.has(Flags::INTERFACE),
@@ -41,7 +54,9 @@ fn class_matches(
 }
 
 /// The lines of a rule.
-fn lines_of(rule: &ClassRule) -> &[MemberRule] {
+fn lines_of(rule: &ClassRule) -> &[MemberRule]
+    ensures { (k : ClassRule) → IsClassOf rule.now k → AreEach IsMemberOf result.now (lines_of k) }
+{
     match &rule.members {
         Some(lines) => lines.as_slice(),
         None => &[],
@@ -72,14 +87,15 @@ fn keep_fields(
     program: &Program,
     class: &Class,
     hold: Hold,
-    marks: &mut Marks,
+    marks: &mut MemberMarks,
     row: &mut Vec<bool>,
-) -> Result<(), AllocError> {
+) -> Result<(), AllocError>
+    ensures { (place : ℕ) → slice_get program.now.classes place ≡ Some class.now → PassMembers (defines_field program.now) marks.old → OnOk result (PassMembers (defines_field program.now) marks.new) }
+{
     let described = describes(rule);
     for field in class.fields.items.iter() {
-        if some_line_of_field(lines_of(&rule.class), program, field, row)? {
-            marks.fields.keep(field.name, hold, described);
-        }
+        let fits = some_line_of_field(lines_of(&rule.class), program, field, row)?;
+        marks.keep_where(fits, field.name, hold, described);
     }
     Ok(())
 }
@@ -90,15 +106,57 @@ fn keep_methods(
     program: &Program,
     class: &Class,
     hold: Hold,
-    marks: &mut Marks,
+    marks: &mut MemberMarks,
     row: &mut Vec<bool>,
-) -> Result<(), AllocError> {
+) -> Result<(), AllocError>
+    ensures { (place : ℕ) → slice_get program.now.classes place ≡ Some class.now → PassMembers (defines_method program.now) marks.old → OnOk result (PassMembers (defines_method program.now) marks.new) }
+{
     let described = describes(rule);
     for method in class.methods.items.iter() {
-        if some_line_of_method(lines_of(&rule.class), program, method, row)? {
-            marks.methods.keep(method.name, hold, described);
-        }
+        let fits = some_line_of_method(lines_of(&rule.class), program, method, row)?;
+        marks.keep_where(fits, method.name, hold, described);
     }
+    Ok(())
+}
+
+/// Whether a rule keeps members at all events, or where their class is live.
+fn hold_of(kind: KeepKind) -> Hold
+    ensures { is_always result ≡ not (is_conditional kind) }
+{
+    match kind {
+        KeepKind::ClassMembers => Hold::Live,
+        _ => Hold::Always,
+    }
+}
+
+/// Whether each line of a rule that asks for it matches some member of the class.
+fn is_complete(
+    rule: &KeepRule,
+    program: &Program,
+    class: &Class,
+    row: &mut Vec<bool>,
+) -> Result<bool, AllocError>
+    ensures { (k : KeepRule) → has_names program.now class.now ≡ true → IsKeepOf rule.now k → IfOk result (λ complete. complete ≡ is_complete k (named_class program.now class.now)) }
+{
+    match rule.kind {
+        KeepKind::ClassesWithMembers => has_each_line(lines_of(&rule.class), program, class, row),
+        _ => Ok(true),
+    }
+}
+
+/// Keeps the members of a class that some line matches.
+fn keep_members(
+    rule: &KeepRule,
+    program: &Program,
+    class: &Class,
+    marks: &mut Marks,
+    row: &mut Vec<bool>,
+) -> Result<(), AllocError>
+    ensures { (place : ℕ) → slice_get program.now.classes place ≡ Some class.now → HasOwn program.now marks.old → OnOk result (HasOwn program.now marks.new) }
+{
+    let hold = hold_of(rule.kind);
+    keep_fields(rule, program, class, hold, &mut marks.fields, row)?;
+    keep_methods(rule, program, class, hold, &mut marks.methods, row)?;
     Ok(())
 }
 
@@ -109,21 +167,16 @@ fn keep_class(
     class: &Class,
     marks: &mut Marks,
     row: &mut Vec<bool>,
-) -> Result<(), AllocError> {
-    let hold = match rule.kind {
-        KeepKind::ClassMembers => Hold::Live,
-        _ => Hold::Always,
-    };
-    if matches!(rule.kind, KeepKind::ClassesWithMembers)
-        && !has_each_line(lines_of(&rule.class), program, class, row)?
-    {
+) -> Result<(), AllocError>
+    ensures { (place : ℕ) → slice_get program.now.classes place ≡ Some class.now → HasOwn program.now marks.old → OnOk result (HasOwn program.now marks.new) }
+{
+    let complete = is_complete(rule, program, class, row)?;
+    if !complete {
         return Ok(());
     }
-    if matches!(hold, Hold::Always) {
-        mark(&mut marks.classes, class.name);
-    }
-    keep_fields(rule, program, class, hold, marks, row)?;
-    keep_methods(rule, program, class, hold, marks, row)
+    let always = matches!(hold_of(rule.kind), Hold::Always);
+    mark_where(&mut marks.classes, always, class.name);
+    keep_members(rule, program, class, marks, row)
 }
 
 /// Keeps what the rule keeps of the class at a place, if it matches it.
@@ -134,7 +187,9 @@ fn keep_place(
     under: Option<&[bool]>,
     marks: &mut Marks,
     row: &mut Vec<bool>,
-) -> Result<(), AllocError> {
+) -> Result<(), AllocError>
+    ensures { HasOwn program.now marks.old → OnOk result (HasOwn program.now marks.new) }
+{
     if let Some(under) = under {
         if !is_marked(under, place) {
             return Ok(());
@@ -157,7 +212,9 @@ fn keep_places(
     under: Option<&[bool]>,
     marks: &mut Marks,
     row: &mut Vec<bool>,
-) -> Result<(), AllocError> {
+) -> Result<(), AllocError>
+    ensures { HasOwn view.now.program.now marks.old → OnOk result (HasOwn view.now.program.now marks.new) }
+{
     match named_types(alloc, view, rule.class.names.as_slice())? {
         Some(kinds) => {
             for kind in kinds.iter() {
@@ -182,7 +239,9 @@ pub fn keep_by(
     view: &View<'_>,
     marks: &mut Marks,
     row: &mut Vec<bool>,
-) -> Result<(), AllocError> {
+) -> Result<(), AllocError>
+    ensures { HasOwn view.now.program.now marks.old → OnOk result (HasOwn view.now.program.now marks.new) }
+{
     if !keeps(rule) {
         return Ok(());
     }

@@ -1,7 +1,8 @@
 //! What is kept so far, as marks by number.
 
 ghost use Rattle.std.specs.Prelude.{◌≡◌, ◌<◌, ◌^◌, true, false, length, slice_set, slice_index_or, filter, if◌then◌else◌, ◌&&◌, IfOk, not, vec_len};
-ghost use Rattle.keep_rules.specs.Marks.{is_always, numbers_of};
+ghost use Rattle.std.specs.Prelude.{ℕ, Bool, replicate};
+ghost use Rattle.keep_rules.specs.Marks.{is_always, numbers_of, PassMembers, HasOwn};
 
 use program_model::Program;
 use seq::Seq;
@@ -34,7 +35,9 @@ pub enum Hold {
 }
 
 /// No marks.
-pub fn unmarked(alloc: Global, size: usize) -> Result<Vec<bool>, AllocError> {
+pub fn unmarked(alloc: Global, size: usize) -> Result<Vec<bool>, AllocError>
+    ensures { IfOk result (λ marks. marks.items ≡ replicate size false) }
+{
     let mut marks = Vec::new(alloc);
     marks.resize(size, false)?;
     Ok(marks)
@@ -49,6 +52,15 @@ pub fn mark(marks: &mut Vec<bool>, number: u32)
     }
 }
 
+/// Marks a number, if it is wanted.
+pub fn mark_where(marks: &mut Vec<bool>, wanted: bool, number: u32)
+    ensures { marks.new.items ≡ (if wanted then slice_set marks.old.items number true else marks.old.items) }
+{
+    if wanted {
+        mark(marks, number);
+    }
+}
+
 /// Whether a number is marked.
 pub fn is_marked(marks: &[bool], number: u32) -> bool
     ensures { result ≡ slice_index_or marks.now number false }
@@ -58,7 +70,10 @@ pub fn is_marked(marks: &[bool], number: u32) -> bool
 
 impl MemberMarks {
     /// No marks.
-    fn new(alloc: Global, size: usize) -> Result<MemberMarks, AllocError> {
+    #[tactic(auto, using(crate::proofs::MarkLemmas::none_pass))]
+    fn new(alloc: Global, size: usize) -> Result<MemberMarks, AllocError>
+        ensures { (test : ℕ → Bool) → IfOk result (PassMembers test) }
+    {
         Ok(MemberMarks {
             kept: unmarked(alloc, size)?,
             live: unmarked(alloc, size)?,
@@ -91,9 +106,23 @@ impl MemberMarks {
     }
 }
 
+impl MemberMarks {
+    /// Marks a member, and its descriptor where that is wanted, if it is to be kept.
+    #[tactic(auto, using(crate::proofs::MarkLemmas::kept_passes))]
+    pub fn keep_where(&mut self, wanted: bool, number: u32, hold: Hold, described: bool)
+        ensures { (test : ℕ → Bool) → (wanted ≡ true → test number ≡ true) → PassMembers test self.old → PassMembers test self.new }
+    {
+        if wanted {
+            self.keep(number, hold, described);
+        }
+    }
+}
+
 impl Marks {
     /// No marks.
-    pub fn new(alloc: Global, program: &Program) -> Result<Marks, AllocError> {
+    pub fn new(alloc: Global, program: &Program) -> Result<Marks, AllocError>
+        ensures { IfOk result (HasOwn program.now) }
+    {
         Ok(Marks {
             classes: unmarked(alloc, program.types.len())?,
             fields: MemberMarks::new(alloc, program.fields.len())?,

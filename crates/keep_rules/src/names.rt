@@ -1,6 +1,7 @@
 //! Which types a pattern is to be tried on.
 
 use crate::view::View;
+use rule_match::is_plain;
 use rule_text::NamePattern;
 use std::alloc::{AllocError, Global};
 
@@ -33,7 +34,7 @@ pub fn candidates_of(
     view: &View<'_>,
     pattern: &NamePattern,
 ) -> Result<Candidates, AllocError> {
-    if !pattern.is_plain() {
+    if !is_plain(pattern) {
         return Ok(Candidates::All);
     }
     match descriptor_of(alloc, pattern.head.as_slice())? {

@@ -2,6 +2,8 @@
 
 ghost use Rattle.std.specs.Prelude.{◌≡◌, ◌<◌, ◌^◌, [], length, IfOk, All};
 ghost use Rattle.keep_rules.specs.Outside.{IsWithin};
+ghost use Rattle.keep_rules.specs.Marks.{HasOwn};
+ghost use Rattle.keep_rules.specs.Table.{OwnMembers};
 
 use crate::assume::silence_by;
 use crate::describe::{described_pairs, keep_described};
@@ -44,7 +46,9 @@ fn has_setting(rules: &Rules, wanted: SettingName) -> bool {
 }
 
 /// Marks what all rules keep.
-fn mark_all(alloc: Global, rules: &Rules, view: &View<'_>) -> Result<Marks, AllocError> {
+fn mark_all(alloc: Global, rules: &Rules, view: &View<'_>) -> Result<Marks, AllocError>
+    ensures { IfOk result (HasOwn view.now.program.now) }
+{
     let mut marks = Marks::new(alloc, view.program)?;
     let mut row = Vec::new(alloc);
     for entry in rules.entries.iter() {
@@ -71,6 +75,7 @@ pub fn outside_of(
     requires methods { length program.now.methods < 2 ^ 32 }
     requires classes { length program.now.classes < 2 ^ 32 }
     ensures within { IfOk result (IsWithin program.now) }
+    ensures members { IfOk result (OwnMembers program.now) }
     ensures shut { IfOk result (λ outside. outside.shut ≡ []) }
 {
     let view = View::new(alloc, program, hierarchy)?;

@@ -1,6 +1,7 @@
 //! What rules ask of a program again and again, as tables that are made once.
 
 ghost use Rattle.std.specs.Prelude.{◌≡◌, ◌<◌, ◌^◌, length};
+ghost use Rattle.dalvik_defs.specs.Naming.{text_at, type_at};
 
 use hierarchy::Hierarchy;
 use program_model::{Class, Program};
@@ -21,7 +22,9 @@ pub struct View<'p> {
 }
 
 /// The units of a string, none where the table has no such string.
-pub fn string_units(program: &Program, string: u32) -> &[u16] {
+pub fn string_units(program: &Program, string: u32) -> &[u16]
+    ensures { result.now ≡ text_at program.now string }
+{
     match program.strings.items.get(string as usize) {
         Some(text) => text.units(),
         None => &[],
@@ -29,7 +32,9 @@ pub fn string_units(program: &Program, string: u32) -> &[u16] {
 }
 
 /// The descriptor of a type.
-pub fn descriptor(program: &Program, kind: u32) -> &[u16] {
+pub fn descriptor(program: &Program, kind: u32) -> &[u16]
+    ensures { result.now ≡ type_at program.now kind }
+{
     match program.types.items.get(kind as usize) {
         Some(string) => string_units(program, *string),
         None => &[],

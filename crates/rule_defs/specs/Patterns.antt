@@ -24,7 +24,7 @@ inner (u ∷ []) = []
 inner (u ∷ v ∷ us) = u ∷ inner (v ∷ us)
 
 abbrev pub is_star : Word → Bool
-is_star w = word_eq w (codes "*")
+is_star w = word_eq (characters w) (codes "*")
 
 -- whether a name matches the class of a descriptor
 abbrev pub class_name_fits : Word → Text → Bool

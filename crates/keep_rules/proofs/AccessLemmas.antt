@@ -1,22 +1,29 @@
 -- Conditions: the access words and the annotations apart.
-use Rattle.std.proofs.Common.{◌≡◌, ℕ, zero, suc, ◌+◌, ◌*◌, ◌<◌, Bool, true, false, true≢false, List, [], ◌∷◌, length, nat_eq, refl, sym, ap, ◌∙◌, arith, eqb-true, eq-eqb}
+use Rattle.std.proofs.Common.{map, subst, ◌≡◌, ℕ, zero, suc, ◌*◌, ◌<◌, Bool, true, false, true≢false, List, [], ◌∷◌, length, nat_eq, refl, sym, ap, ◌∙◌, arith, eqb-true, eq-eqb}
 use Rattle.std.specs.Prelude.{◌&&◌, ◌||◌, ◌==◌, not, filter, if◌then◌else◌}
 use Rattle.std.specs.List.{list_any, list_all}
 use Rattle.std.specs.Int.RustNames.{bit_and}
 use Rattle.std.specs.Int.{bit_at}
 use Rattle.std.proofs.lemmas.Nat.Bits.{and_pow, bit_at-lt}
+use Rattle.dalvik_defs.specs.Names.{Text}
 use Rattle.dalvik_defs.specs.Flags.{has_bit}
 use Rattle.dalvik_defs.specs.declared.encoded.NamedMark.{NamedMark}
 use Rattle.dalvik_defs.specs.declared.encoded.NamedValue.{NamedValue}
 use Rattle.dalvik_defs.specs.declared.encoded.NamedElement.{NamedElement}
-use Rattle.dalvik_defs.specs.declared.encoded.NamedNote.{NamedNote}
+use Rattle.dalvik_defs.specs.declared.encoded.NamedNote.{NamedNote, fold-roll-NamedNote}
 use Rattle.dalvik_defs.specs.Naming.{type_at, note_of, value_layer, element_layer, note_layer}
+use Rattle.program_model.specs.declared.value.Element.{fold-Element}
 use Rattle.program_model.specs.declared.value.Note.{Note, out-Note, fold_out-Note}
 use Rattle.program_model.specs.declared.program.Program.{Program}
+use Rattle.rule_text.specs.declared.pattern.NamePattern.{NamePattern}
+use Rattle.rule_text.specs.declared.rules.Access.{Access}
+use Rattle.rule_text.specs.declared.rules.Condition.{Condition as ReadCondition}
+use Rattle.rule_text.specs.declared.rules.Condition.TheVariants as condition
+use Rattle.rule_text.specs.Related.{IsConditionOf, OfMark, OfAccess}
 use Rattle.rule_text.specs.Rules.{Condition, Mark, Has}
-use Rattle.rule_defs.specs.Members.{Role, asks_visibility, type_of_note, has_mark, condition_holds, some_holds, conditions_hold}
+use Rattle.rule_defs.specs.Members.{Role, access_holds, asks_visibility, is_visibility, type_of_note, has_mark, condition_holds, some_holds, conditions_hold}
 use Rattle.name_bridge.proofs.Lists.{same_test}
-use Rattle.keep_rules.specs.Fits.{is_mark, sees_of, others_hold, words_hold, mark_holds, marks_hold}
+use Rattle.keep_rules.specs.Fits.{is_seen, other_holds, others_hold, sees, words_hold, marks_hold}
 
 -- ---- flags
 
@@ -77,41 +84,30 @@ pub ruleset bits = (bit_0, bit_1, bit_2, bit_3, bit_4, bit_5, bit_6, bit_7, bit_
 
 -- ---- conditions are access words and annotations
 
-abbrev seen_by : Role → ℕ → Bool → Bool → List Condition → Bool
-seen_by role flags asked seen cs = (seen || list_any (condition_holds role flags []) (filter asks_visibility cs)) || (not asked && nat_eq (length (filter asks_visibility cs)) 0)
-
-sees_all : (role : Role) (flags : ℕ) (asked seen : Bool) (cs : List Condition) → sees_of role flags asked seen cs ≡ seen_by role flags asked seen cs
-sees_all role flags asked seen [] = ends asked seen
+any_filtered : (f g : Condition → Bool) (cs : List Condition) → list_any f (filter g cs) ≡ list_any (λ c. g c && f c) cs
+any_filtered f g [] = refl
+any_filtered f g (c ∷ cs) = step (any_filtered f g cs) (g c)
   where
-    ends : (a s : Bool) → (s || not a) ≡ ((s || false) || (not a && true))
-    ends true true = refl
-    ends true false = refl
-    ends false true = refl
-    ends false false = refl
-sees_all role flags asked seen (c ∷ cs) = step (sees_all role flags true (seen || condition_holds role flags [] c) cs) (sees_all role flags asked seen cs) (asks_visibility c)
+    step : list_any f (filter g cs) ≡ list_any (λ d. g d && f d) cs → (v : Bool) → list_any f (if v then c ∷ filter g cs else filter g cs) ≡ ((v && f c) || list_any (λ d. g d && f d) cs)
+    step r true = ap (λ b. f c || b) r
+    step r false = r
+
+none_filtered : (g : Condition → Bool) (cs : List Condition) → nat_eq (length (filter g cs)) 0 ≡ not (list_any g cs)
+none_filtered g [] = refl
+none_filtered g (c ∷ cs) = step (none_filtered g cs) (g c)
   where
-    asks : (s h l a : Bool) → ((s || h) || l) ≡ ((s || (h || l)) || (not a && false))
-    asks true h l a = refl
-    asks false true l a = refl
-    asks false false true a = refl
-    asks false false false true = refl
-    asks false false false false = refl
+    some : (xs : List Condition) → nat_eq (length (c ∷ xs)) 0 ≡ false
+    some xs = same_test (nat_eq (length (c ∷ xs)) 0) false (λ h. absurd (let k = eqb-true (length (c ∷ xs)) 0 h in omega (arith, k))) (λ h. absurd (true≢false (sym h)))
 
-    none : (x : Bool) → (x || false) ≡ x
-    none true = refl
-    none false = refl
+    step : nat_eq (length (filter g cs)) 0 ≡ not (list_any g cs) → (v : Bool) → nat_eq (length (if v then c ∷ filter g cs else filter g cs)) 0 ≡ not (v || list_any g cs)
+    step r true = some (filter g cs)
+    step r false = r
 
-    step : sees_of role flags true (seen || condition_holds role flags [] c) cs ≡ seen_by role flags true (seen || condition_holds role flags [] c) cs → sees_of role flags asked seen cs ≡ seen_by role flags asked seen cs
-        → (v : Bool) → (if v then sees_of role flags true (seen || condition_holds role flags [] c) cs else sees_of role flags asked seen cs)
-        ≡ ((seen || list_any (condition_holds role flags []) (if v then c ∷ filter asks_visibility cs else filter asks_visibility cs)) || (not asked && nat_eq (length (if v then c ∷ filter asks_visibility cs else filter asks_visibility cs)) 0))
-    step r s true =
-        r
-        ∙ none ((seen || condition_holds role flags [] c) || list_any (condition_holds role flags []) (filter asks_visibility cs))
-        ∙ asks seen (condition_holds role flags [] c) (list_any (condition_holds role flags []) (filter asks_visibility cs)) asked
-    step r s false = s
-
-sees_some : (role : Role) (flags : ℕ) (cs : List Condition) → sees_of role flags false false cs ≡ some_holds (filter asks_visibility cs) (condition_holds role flags [])
-sees_some role flags cs = sees_all role flags false false cs ∙ swapped (list_any (condition_holds role flags []) (filter asks_visibility cs)) (nat_eq (length (filter asks_visibility cs)) 0)
+sees_some : (role : Role) (flags : ℕ) (cs : List Condition) → is_seen role flags cs ≡ some_holds (filter asks_visibility cs) (condition_holds role flags [])
+sees_some role flags cs =
+    swapped (list_any (sees role flags) cs) (not (list_any asks_visibility cs))
+    ∙ ap (λ b. b || list_any (sees role flags) cs) (sym (none_filtered asks_visibility cs))
+    ∙ ap (λ b. nat_eq (length (filter asks_visibility cs)) 0 || b) (sym (any_filtered (condition_holds role flags []) asks_visibility cs))
   where
     swapped : (a b : Bool) → (a || b) ≡ (b || a)
     swapped true true = refl
@@ -150,13 +146,58 @@ conditions_apart role flags marks cs =
     ap (λ b. (nat_eq (length (filter asks_visibility cs)) 0 || b) && list_all (λ c. asks_visibility c || condition_holds role flags marks c) cs) (asked_same role flags marks cs)
     ∙ ap (λ b. some_holds (filter asks_visibility cs) (condition_holds role flags []) && b) (all_apart role flags marks cs)
     ∙ ap (λ b. b && (others_hold role flags cs && marks_hold marks cs)) (sym (sees_some role flags cs))
-    ∙ moved (sees_of role flags false false cs) (others_hold role flags cs) (marks_hold marks cs)
+    ∙ moved (is_seen role flags cs) (others_hold role flags cs) (marks_hold marks cs)
   where
     moved : (a b c : Bool) → (a && (b && c)) ≡ ((a && b) && c)
     moved true b c = refl
     moved false b c = refl
 
+pub conditions_fail : (role : Role) (flags : ℕ) (marks : List NamedMark) (cs : List Condition) → words_hold role flags cs ≡ false → false ≡ conditions_hold role flags marks cs
+conditions_fail role flags marks cs e = sym (conditions_apart role flags marks cs ∙ ap (λ b. b && marks_hold marks cs) e)
+
+pub conditions_left : (role : Role) (flags : ℕ) (marks : List NamedMark) (cs : List Condition) → words_hold role flags cs ≡ true → marks_hold marks cs ≡ conditions_hold role flags marks cs
+conditions_left role flags marks cs e = sym (conditions_apart role flags marks cs ∙ ap (λ b. b && marks_hold marks cs) e)
+
 -- ---- annotations
 
 pub note_type : (p : Program) (n : Note) → type_of_note (note_of p n) ≡ type_at p (out-Note n).class
-note_type p n = ap type_of_note (fold_out-Note NamedValue NamedElement NamedNote (value_layer p) (element_layer p) (note_layer p) n)
+note_type p n =
+    ap type_of_note (fold_out-Note NamedValue NamedElement NamedNote (value_layer p) (element_layer p) (note_layer p) n)
+    ∙ fold-roll-NamedNote ℕ ℕ Text (λ v. 0) (λ e. 0) (λ m. m.class) (record { class = type_at p (out-Note n).class; elements = map (fold-Element NamedValue NamedElement NamedNote (value_layer p) (element_layer p) (note_layer p)) (out-Note n).elements })
+
+-- ---- a condition as it is read
+
+asks_at : (n : Bool) (a : Access) (c : Condition) → IsConditionOf (condition.Access n a) c → ((is_visibility a && not n) && true) ≡ asks_visibility c
+asks_at _ _ _ (OfAccess n a) = last (is_visibility a && not n)
+  where
+    last : (b : Bool) → (b && true) ≡ b
+    last true = refl
+    last false = refl
+
+pub asks_of : (n : Bool) (a : Access) (x : ReadCondition) (c : Condition) → x ≡ condition.Access n a → IsConditionOf x c → ((is_visibility a && not n) && true) ≡ asks_visibility c
+asks_of n a x c e is = asks_at n a c (subst (λ y. IsConditionOf y c) e is)
+
+sees_at : (role : Role) (flags : ℕ) (n : Bool) (a : Access) (c : Condition) → IsConditionOf (condition.Access n a) c → ((is_visibility a && not n) && access_holds role a flags) ≡ sees role flags c
+sees_at role flags _ _ _ (OfAccess n a) = shown n (is_visibility a) (access_holds role a flags)
+  where
+    shown : (n v h : Bool) → ((v && not n) && h) ≡ ((v && not n) && (if n then not h else h))
+    shown true true h = refl
+    shown true false h = refl
+    shown false v h = refl
+
+pub sees_of : (role : Role) (flags : ℕ) (n : Bool) (a : Access) (x : ReadCondition) (c : Condition) → x ≡ condition.Access n a → IsConditionOf x c → ((is_visibility a && not n) && access_holds role a flags) ≡ sees role flags c
+sees_of role flags n a x c e is = sees_at role flags n a c (subst (λ y. IsConditionOf y c) e is)
+
+other_at : (role : Role) (flags : ℕ) (n : Bool) (a : Access) (c : Condition) → IsConditionOf (condition.Access n a) c
+    → ((is_visibility a && not n) || (if n then not (access_holds role a flags) else access_holds role a flags)) ≡ other_holds role flags c
+other_at role flags _ _ _ (OfAccess n a) = refl
+
+pub other_of : (role : Role) (flags : ℕ) (n : Bool) (a : Access) (x : ReadCondition) (c : Condition) → x ≡ condition.Access n a → IsConditionOf x c
+    → ((is_visibility a && not n) || (if n then not (access_holds role a flags) else access_holds role a flags)) ≡ other_holds role flags c
+other_of role flags n a x c e is = other_at role flags n a c (subst (λ y. IsConditionOf y c) e is)
+
+marked_at : (role : Role) (flags : ℕ) (p : NamePattern) (c : Condition) → IsConditionOf (condition.Mark p) c → true ≡ other_holds role flags c
+marked_at role flags _ _ (OfMark p name is) = refl
+
+pub other_mark : (role : Role) (flags : ℕ) (p : NamePattern) (x : ReadCondition) (c : Condition) → x ≡ condition.Mark p → IsConditionOf x c → true ≡ other_holds role flags c
+other_mark role flags p x c e is = marked_at role flags p c (subst (λ y. IsConditionOf y c) e is)

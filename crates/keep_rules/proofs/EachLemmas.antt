@@ -11,13 +11,16 @@ pub record EachAt {R S : Type 0} (P : R → S → Type 0) (rs : List R) (ss : Li
   pub next : drop i ss ≡ one ∷ drop (i + 1) ss
   pub is : (r : R) → r ≡ get_or rs i r → P r one
 
+further : (i : ℕ) → suc (i + 1) ≡ suc i + 1
+further i = omega arith
+
 pub each_at : {R S : Type 0} (P : R → S → Type 0) (rs : List R) (ss : List S) (i : ℕ) → AreEach P rs ss → i < length rs → EachAt P rs ss i
 each_at P [] ss i are h = absurd (omega arith)
 each_at P (r ∷ rs) [] i are h = absurd are
 each_at P (r ∷ rs) (s ∷ ss) zero are h = record { one = s; next = refl; is = λ x e. subst (λ y. P y s) (sym e) are.0 }
 each_at P (r ∷ rs) (s ∷ ss) (suc i) are h =
     let more = each_at P rs ss i are.1 (omega arith) in
-    record { one = more.one; next = more.next; is = more.is }
+    record { one = more.one; next = more.next ∙ ap (λ k. more.one ∷ drop k (s ∷ ss)) (further i); is = more.is }
 
 pub each_length : {R S : Type 0} (P : R → S → Type 0) (rs : List R) (ss : List S) → AreEach P rs ss → length rs ≡ length ss
 each_length P [] [] are = refl

@@ -13,6 +13,13 @@ use Rattle.rule_text.specs.declared.pattern.Named.TheVariants as named
 use Rattle.rule_defs.specs.Patterns.{matches, inner, is_star, class_name_fits, is_primitive, is_primitive_of, item_fits, without_brackets, type_fits_in, type_fits}
 use Rattle.std.specs.Prelude.{Result, IfOk}
 use Rattle.std.proofs.lemmas.Result.{IfOk-weaker}
+use Rattle.std.proofs.Common.{subst, get_or}
+use Rattle.std.proofs.lemmas.List.{drop_all, drop_more}
+use Rattle.rule_text.specs.Related.{AreEach}
+use Rattle.rule_text.specs.declared.rules.ItemPattern.{ItemPattern}
+use Rattle.rule_text.specs.declared.rules.ItemPattern.TheVariants as item
+use Rattle.rule_defs.specs.Patterns.{types_fit}
+use Rattle.keep_rules.proofs.EachLemmas.{EachAt, each_at, each_length, each_end}
 use Rattle.keep_rules.specs.Fits.{behind_of}
 
 pub inner_is : (t : Text) → inner t ≡ take (length t - 1) t
@@ -139,7 +146,7 @@ class_starred w d e s = sym (ap (λ b. b && (is_star w || matches named.Class w 
 pub class_matched : {E : Type 0} (w : Word) (d name : Text) (r : Result Bool E) → is_class_type d ≡ true → name ≡ inner (item_of d) → false ≡ is_star w → IfOk r (λ b. b ≡ matches named.Class w name) → IfOk r (λ b. b ≡ class_name_fits w d)
 class_matched w d name r e n s h =
     let same : matches named.Class w name ≡ class_name_fits w d =
-        ap (matches named.Class w) n ∙ sym (ap (λ b. b && (is_star w || matches named.Class w (inner (item_of d)))) e ∙ ap (λ b. b || matches named.Class w (inner (item_of d))) (sym s)) in
+    ap (matches named.Class w) n ∙ sym (ap (λ b. b && (is_star w || matches named.Class w (inner (item_of d)))) e ∙ ap (λ b. b || matches named.Class w (inner (item_of d))) (sym s)) in
     IfOk-weaker r (λ b. b ≡ matches named.Class w name) (λ b. b ≡ class_name_fits w d) (λ b f. f ∙ same) h
 
 pub class_none : (w : Word) (d : Text) → is_class_type d ≡ false → false ≡ class_name_fits w d
@@ -185,5 +192,82 @@ type_matched t w d item r is e h =
 pub type_missed : (t : TypePattern) (w : Word) (d : Text) → IsTypeOf t w → behind_of t.depth d ≡ None → false ≡ type_fits w d
 type_missed t w d is e = sym (type_fits_behind t.depth is.front w d is.last is.word ∙ ap (item_if is.front) e)
 
-pub behind_more : (n : ℕ) (t : Text) → behind_of (suc n) (91 ∷ t) ≡ behind_of n t
-behind_more n t = refl
+-- ---- slices of descriptors
+
+pub class_inner : (d : Text) → take (length d - 1 - 1) (drop 1 d) ≡ inner (item_of d)
+class_inner [] = refl
+class_inner (u ∷ us) = let n : length (u ∷ us) - 1 - 1 ≡ length us - 1 = omega arith in ap (λ k. take k us) n ∙ sym (inner_is us)
+
+take_whole : (us : Text) (k : ℕ) → k ≡ length us → take k us ≡ us
+take_whole [] k e = ap (λ n. take n []) e
+take_whole (u ∷ us) k e = ap (λ n. take n (u ∷ us)) e ∙ ap (λ l. u ∷ l) (take_whole us (length us) refl)
+
+pub behind_is : (t : Text) → take (length t - 1) (drop 1 t) ≡ item_of t
+behind_is [] = refl
+behind_is (u ∷ us) = take_whole us (length (u ∷ us) - 1) (omega arith)
+
+pub behind_more : (n : ℕ) (t : Text) → 0 < n → is_array t ≡ true → behind_of (n - 1) (item_of t) ≡ behind_of n t
+behind_more zero t h e = absurd (omega (arith, h))
+behind_more (suc n) t h e =
+    let k : suc n - 1 ≡ n = omega arith in
+    ap (λ m. behind_of m (item_of t)) k ∙ sym (ap (λ b. elim b [ true ↦ behind_of n (item_of t) | false ↦ None ]) e)
+
+pub behind_none : (n : ℕ) (t : Text) → 0 < n → is_array t ≡ false → behind_of n t ≡ None
+behind_none zero t h e = absurd (omega (arith, h))
+behind_none (suc n) t h e = ap (λ b. elim b [ true ↦ behind_of n (item_of t) | false ↦ None ]) e
+
+-- ---- items and types as they are read
+
+letter_at : (u : ℕ) (w : Word) (t : Text) → IsItemOf (item.Letter u) w → text_eq (u ∷ []) t ≡ item_fits w t
+letter_at u w t is = sym (letter_fits u w t is)
+
+pub letter_of : (u : ℕ) (x : ItemPattern) (w : Word) (t : Text) → x ≡ item.Letter u → IsItemOf x w → text_eq (u ∷ []) t ≡ item_fits w t
+letter_of u x w t e is = letter_at u w t (subst (λ y. IsItemOf y w) e is)
+
+types_length : (ws : List Word) (ts : List Text) → types_fit ws ts ≡ true → length ws ≡ length ts
+types_length [] [] e = refl
+types_length [] (t ∷ ts) e = cc
+types_length (w ∷ ws) [] e = cc
+types_length (w ∷ ws) (t ∷ ts) e = ap suc (types_length ws ts (both_parts (type_fits w t) (types_fit ws ts) e).1)
+
+not_true : (b : Bool) → (b ≡ true → ⊥) → false ≡ b
+not_true true h = absurd (h refl)
+not_true false h = refl
+
+map_length : {A B : Type 0} (f : A → B) (xs : List A) → length (map f xs) ≡ length xs
+map_length f [] = refl
+map_length f (x ∷ xs) = ap suc (map_length f xs)
+
+pub read_same : (ks : List ℕ) (i d : ℕ) → i < length ks → get_or ks i d ≡ get_or ks i (get_or ks i d)
+read_same [] i d h = absurd (omega arith)
+read_same (k ∷ ks) zero d h = refl
+read_same (k ∷ ks) (suc i) d h = other ks i d (get_or ks i d) (omega arith)
+  where
+    other : (ls : List ℕ) (j a b : ℕ) → j < length ls → get_or ls j a ≡ get_or ls j b
+    other [] j a b h = absurd (omega arith)
+    other (l ∷ ls) zero a b h = refl
+    other (l ∷ ls) (suc j) a b h = other ls j a b (omega arith)
+
+drop_at : (i k : ℕ) (ks : List ℕ) → i < length ks → k ≡ get_or ks i k → drop i ks ≡ k ∷ drop (i + 1) ks
+drop_at i k ks l d = drop_more ks i k l ∙ ap (λ x. x ∷ drop (i + 1) ks) (sym d)
+
+module _ (f : ℕ → Text) (ps : List TypePattern) (ws : List Word) (ks : List ℕ) (are : AreEach IsTypeOf ps ws) where
+  pub types_unequal : (length ps ≡ length ks → ⊥) → false ≡ types_fit ws (map f ks)
+  types_unequal other = not_true (types_fit ws (map f ks)) (λ e. other (each_length IsTypeOf ps ws are ∙ types_length ws (map f ks) e ∙ map_length f ks))
+
+  here : (i : ℕ) (k : ℕ) (at : EachAt IsTypeOf ps ws i) → drop i ks ≡ k ∷ drop (i + 1) ks → types_fit (drop i ws) (map f (drop i ks)) ≡ (type_fits at.one (f k) && types_fit (drop (i + 1) ws) (map f (drop (i + 1) ks)))
+  here i k at e = ap (λ l. types_fit l (map f (drop i ks))) at.next ∙ ap (λ l. types_fit (at.one ∷ drop (i + 1) ws) (map f l)) e
+
+  module _ (i : ℕ) (r : TypePattern) (k : ℕ) (b : Bool) (h : i < length ps) (l : i < length ks) (e : r ≡ get_or ps i r) (d : k ≡ get_or ks i k) (says : (w : Word) → IsTypeOf r w → b ≡ type_fits w (f k)) where
+    pub types_failed : b ≡ false → types_fit (drop i ws) (map f (drop i ks)) ≡ types_fit ws (map f ks) → false ≡ types_fit ws (map f ks)
+    types_failed v inv =
+        let at = each_at IsTypeOf ps ws i are h in
+        ap (λ x. x && types_fit (drop (i + 1) ws) (map f (drop (i + 1) ks))) (sym v ∙ says at.one (at.is r e)) ∙ sym (here i k at (drop_at i k ks l d)) ∙ inv
+
+    pub types_passed : b ≡ true → types_fit (drop i ws) (map f (drop i ks)) ≡ types_fit ws (map f ks) → types_fit (drop (i + 1) ws) (map f (drop (i + 1) ks)) ≡ types_fit ws (map f ks)
+    types_passed v inv =
+        let at = each_at IsTypeOf ps ws i are h in
+        ap (λ x. x && types_fit (drop (i + 1) ws) (map f (drop (i + 1) ks))) (sym v ∙ says at.one (at.is r e)) ∙ sym (here i k at (drop_at i k ks l d)) ∙ inv
+
+  pub types_end : (i : ℕ) → length ps ≤ i → length ks ≤ i → types_fit (drop i ws) (map f (drop i ks)) ≡ types_fit ws (map f ks) → true ≡ types_fit ws (map f ks)
+  types_end i h l inv = sym (ap (λ x. types_fit x (map f (drop i ks))) (each_end IsTypeOf ps ws i are h) ∙ ap (λ x. types_fit [] (map f x)) (drop_all i ks l)) ∙ inv

@@ -1,6 +1,6 @@
 -- Marks that are set, and the numbers that are marked.
-use Rattle.std.proofs.Common.{◌≡◌, ℕ, zero, suc, ◌+◌, ◌<◌, ◌≤◌, Bool, true, false, true≢false, nat_eq, List, [], ◌∷◌, ◌++◌, length, set, get_or, replicate, refl, sym, ap, ◌∙◌, arith, inl, inr, eqb-true, eq-eqb}
-use Rattle.std.specs.Prelude.{◌≢◌, ◌||◌, slice_get, Some, if◌then◌else◌}
+use Rattle.std.proofs.Common.{subst, ◌≡◌, ℕ, zero, suc, ◌<◌, Bool, true, false, true≢false, nat_eq, List, [], ◌∷◌, length, set, get_or, replicate, refl, sym, ap, ◌∙◌, arith, inl, inr, eqb-true, eq-eqb}
+use Rattle.std.specs.Prelude.{◌||◌, slice_get, Some, if◌then◌else◌}
 use Rattle.program_model.specs.declared.program.Field.{Field}
 use Rattle.program_model.specs.declared.program.Method.{Method}
 use Rattle.program_model.specs.declared.program.Class.{Class}
@@ -64,13 +64,13 @@ any_read t (y ∷ ys) (suc i) x l e h = or_behind (t y) (list_any t ys) (any_rea
     or_behind true b g = refl
     or_behind false b g = g
 
-pub field_own : (p : Program) (place : ℕ) (c : Class) (i : ℕ) (f : Field) → slice_get p.classes place ≡ Some c → i < length c.fields → f ≡ get_or c.fields i f → defines_field p f.name ≡ true
-field_own p place c i f is l e = any_at (λ d. list_any (λ g. nat_eq f.name g.name) d.fields) p.classes place c is
-    (any_read (λ g. nat_eq f.name g.name) c.fields i f l e (eq-eqb f.name f.name refl))
+pub field_own : (p : Program) (place : ℕ) (c : Class) (fs : List Field) → c.fields ≡ fs → (i : ℕ) (f : Field) → slice_get p.classes place ≡ Some c → i < length fs → f ≡ get_or fs i f → defines_field p f.name ≡ true
+field_own p place c fs of i f is l e = any_at (λ d. list_any (λ g. nat_eq f.name g.name) d.fields) p.classes place c is
+    (subst (λ gs. list_any (λ g. nat_eq f.name g.name) gs ≡ true) (sym of) (any_read (λ g. nat_eq f.name g.name) fs i f l e (eq-eqb f.name f.name refl)))
 
-pub method_own : (p : Program) (place : ℕ) (c : Class) (i : ℕ) (m : Method) → slice_get p.classes place ≡ Some c → i < length c.methods → m ≡ get_or c.methods i m → defines_method p m.name ≡ true
-method_own p place c i m is l e = any_at (λ d. list_any (λ n. nat_eq m.name n.name) d.methods) p.classes place c is
-    (any_read (λ n. nat_eq m.name n.name) c.methods i m l e (eq-eqb m.name m.name refl))
+pub method_own : (p : Program) (place : ℕ) (c : Class) (ms : List Method) → c.methods ≡ ms → (i : ℕ) (m : Method) → slice_get p.classes place ≡ Some c → i < length ms → m ≡ get_or ms i m → defines_method p m.name ≡ true
+method_own p place c ms of i m is l e = any_at (λ d. list_any (λ n. nat_eq m.name n.name) d.methods) p.classes place c is
+    (subst (λ ns. list_any (λ n. nat_eq m.name n.name) ns ≡ true) (sym of) (any_read (λ n. nat_eq m.name n.name) ms i m l e (eq-eqb m.name m.name refl)))
 
 -- ---- numbers
 

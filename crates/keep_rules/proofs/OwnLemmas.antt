@@ -1,5 +1,5 @@
 -- What rules keep of the members of a program's classes, by number.
-use Rattle.std.proofs.Common.{◌≡◌, ℕ, zero, suc, ◌<◌, Bool, true, false, true≢false, nat_eq, List, [], ◌∷◌, length, map, Option, Some, None, refl, sym, ap, ◌∙◌, arith}
+use Rattle.std.proofs.Common.{◌≡◌, ℕ, zero, suc, ◌<◌, Bool, true, false, true≢false, nat_eq, List, [], ◌∷◌, length, map, Some, refl, sym, ap, ◌∙◌, arith}
 use Rattle.std.specs.Prelude.{◌&&◌, ◌||◌, slice_get}
 use Rattle.std.specs.List.{list_any, All}
 use Rattle.std.specs.Cmp.Lexicographic.{bytes_decides, pointwise_decides}
@@ -18,8 +18,8 @@ use Rattle.dalvik_defs.specs.declared.program.NamedMethod.{NamedMethod}
 use Rattle.dalvik_defs.specs.declared.program.NamedClass.{NamedClass}
 use Rattle.program_model.specs.declared.pass.Outside.{Outside}
 use Rattle.rule_text.specs.Rules.{Entry}
-use Rattle.rule_defs.specs.Kept.{some_class, some_method, some_field, field_in, keeps_method, keeps_field, rules_of, table_of}
-use Rattle.class_defs.proofs.WellFormed.{FieldFits, MethodFits, ClassFits, class_parts, and_left, and_right, Sound}
+use Rattle.rule_defs.specs.Kept.{some_method, some_field, field_in, keeps_method, keeps_field, rules_of, table_of}
+use Rattle.class_defs.proofs.WellFormed.{FieldFits, MethodFits, class_parts, and_left, and_right, Sound}
 use Rattle.name_bridge.proofs.Lists.{same_test, both, number_test, number_of}
 use Rattle.name_bridge.proofs.Tables.{method_is, field_is, method_once, field_once}
 use Rattle.keep_rules.specs.Outside.{IsWithin}

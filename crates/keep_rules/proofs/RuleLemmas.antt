@@ -41,7 +41,7 @@ any_swap f (x ∷ xs) ys = ap (λ b. list_any (f x) ys || b) (any_swap f xs ys) 
 -- of members with a number, of classes, of rules: the same of rules, of classes and of members
 turned : {R C M : Type 0} (is : M → Bool) (of : R → C → Bool) (line : R → M → Bool) (members : C → List M) (rs : List R) (cs : List C)
     → list_any (λ c. list_any (λ m. is m && list_any (λ r. of r c && line r m) rs) (members c)) cs ≡ list_any (λ r. list_any (λ c. of r c && list_any (λ m. is m && line r m) (members c)) cs) rs
-turned is of line members rs cs =
+turned {C = C} is of line members rs cs =
     any_congr (λ c. list_any (λ m. is m && list_any (λ r. of r c && line r m) rs) (members c)) (λ c. list_any (λ r. of r c && list_any (λ m. is m && line r m) (members c)) rs) cs in_class
     ∙ any_swap (λ c r. of r c && list_any (λ m. is m && line r m) (members c)) cs rs
   where
@@ -54,7 +54,7 @@ turned is of line members rs cs =
     in_class : (c : C) → list_any (λ m. is m && list_any (λ r. of r c && line r m) rs) (members c) ≡ list_any (λ r. of r c && list_any (λ m. is m && line r m) (members c)) rs
     in_class c =
         any_congr (λ m. is m && list_any (λ r. of r c && line r m) rs) (λ m. list_any (λ r. of r c && (is m && line r m)) rs) (members c)
-            (λ m. sym (any_both (is m) (λ r. of r c && line r m) rs) ∙ any_congr (λ r. is m && (of r c && line r m)) (λ r. of r c && (is m && line r m)) rs (λ r. moved (is m) (of r c) (line r m)))
+        (λ m. sym (any_both (is m) (λ r. of r c && line r m) rs) ∙ any_congr (λ r. is m && (of r c && line r m)) (λ r. of r c && (is m && line r m)) rs (λ r. moved (is m) (of r c) (line r m)))
         ∙ any_swap (λ m r. of r c && (is m && line r m)) (members c) rs
         ∙ any_congr (λ r. list_any (λ m. of r c && (is m && line r m)) (members c)) (λ r. of r c && list_any (λ m. is m && line r m) (members c)) rs (λ r. any_both (of r c) (λ m. is m && line r m) (members c))
 

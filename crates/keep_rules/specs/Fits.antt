@@ -1,7 +1,10 @@
 -- What is asked of a descriptor and of conditions, part by part.
-use Rattle.std.specs.Prelude.{ℕ, length, nat_lt, slice_get, zero, suc, Bool, true, false, ◌&&◌, ◌||◌, not, if◌then◌else◌, List, [], ◌∷◌, Option, Some, None}
-use Rattle.std.specs.List.{list_all}
+use Rattle.std.specs.Prelude.{ℕ, map, length, nat_lt, slice_get, zero, suc, Bool, true, false, ◌&&◌, ◌||◌, not, List, [], Option, Some, None}
+use Rattle.std.specs.List.{list_all, list_any}
 use Rattle.dalvik_defs.specs.Names.{Text, is_array, item_of}
+use Rattle.dalvik_defs.specs.Naming.{type_at}
+use Rattle.dalvik_defs.specs.declared.names.Signature.{Signature}
+use Rattle.program_model.specs.declared.pools.Proto.{Proto}
 use Rattle.dalvik_defs.specs.declared.encoded.NamedMark.{NamedMark}
 use Rattle.program_model.specs.declared.pools.MethodName.{MethodName}
 use Rattle.program_model.specs.declared.program.Field.{Field}
@@ -27,18 +30,24 @@ abbrev pub is_mark : Condition → Bool
 is_mark (Mark name) = true
 is_mark (Has negated access) = false
 
--- one word that says who may see the member holds, where there are any: of these conditions, and of earlier ones, of which some
--- are such words and of which one holds
-abbrev pub sees_of : Role → ℕ → Bool → Bool → List Condition → Bool
-sees_of role flags asked seen [] = seen || not asked
-sees_of role flags asked seen (c ∷ cs) = if asks_visibility c then sees_of role flags true (seen || condition_holds role flags [] c) cs else sees_of role flags asked seen cs
+-- a word that says who may see the member, which holds
+abbrev pub sees : Role → ℕ → Condition → Bool
+sees role flags c = asks_visibility c && condition_holds role flags [] c
+
+-- one of these words holds, where there are any
+abbrev pub is_seen : Role → ℕ → List Condition → Bool
+is_seen role flags cs = list_any (sees role flags) cs || not (list_any asks_visibility cs)
+
+-- a word that doesn't say who may see the member holds
+abbrev pub other_holds : Role → ℕ → Condition → Bool
+other_holds role flags c = asks_visibility c || (is_mark c || condition_holds role flags [] c)
 
 abbrev pub others_hold : Role → ℕ → List Condition → Bool
-others_hold role flags cs = list_all (λ c. asks_visibility c || (is_mark c || condition_holds role flags [] c)) cs
+others_hold role flags cs = list_all (other_holds role flags) cs
 
 -- the access words hold
 abbrev pub words_hold : Role → ℕ → List Condition → Bool
-words_hold role flags cs = sees_of role flags false false cs && others_hold role flags cs
+words_hold role flags cs = is_seen role flags cs && others_hold role flags cs
 
 abbrev pub mark_holds : List NamedMark → Condition → Bool
 mark_holds marks (Mark name) = has_mark name marks
@@ -47,6 +56,10 @@ mark_holds marks (Has negated access) = true
 -- the annotations are there
 abbrev pub marks_hold : List NamedMark → List Condition → Bool
 marks_hold marks cs = list_all (mark_holds marks) cs
+
+-- the signature of a proto
+abbrev pub signature_of : Program → Proto → Signature
+signature_of p q = record { parameters = map (type_at p) q.parameters; result = type_at p q.result }
 
 -- ---- members whose names stand in the tables
 

@@ -1,9 +1,8 @@
 -- What an answer says of the program's tables.
-use Rattle.std.specs.Prelude.{◌≡◌, ℕ, ◌<◌, List, [], length, All}
+use Rattle.std.specs.Prelude.{ℕ, ◌<◌, List, length, All}
 use Rattle.std.specs.List.{AllPairs}
 use Rattle.program_model.specs.declared.program.Program.{Program}
 use Rattle.program_model.specs.declared.pass.Outside.{Outside}
-use Rattle.program_model.specs.declared.pass.ClassIf.{ClassIf}
 
 -- numbers of a table of this size, in order and without duplicates
 pub record AreNumbers (size : ℕ) (numbers : List ℕ) : Type 0 where

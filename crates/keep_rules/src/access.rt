@@ -1,12 +1,13 @@
 //! Which conditions hold of a class or a member.
 
-ghost use Rattle.std.specs.Prelude.{◌≡◌, ◌||◌, ℕ, List, [], true, false, not, map, if◌then◌else◌, IfOk, IfSome, IfNone};
+ghost use Rattle.std.specs.Prelude.{◌≡◌, ◌&&◌, ◌||◌, ℕ, List, true, false, not, map, if◌then◌else◌, IfOk, IfSome, IfNone};
 ghost use Rattle.dalvik_defs.specs.Naming.{mark_of};
 ghost use Rattle.rule_text.specs.Tokens.{Word};
-ghost use Rattle.rule_text.specs.Rules.{Condition};
+ghost use Rattle.rule_text.specs.Rules as meant;
 ghost use Rattle.rule_text.specs.Related.{AreEach, IsPatternOf, IsConditionOf};
-ghost use Rattle.rule_defs.specs.Members.{common_holds, field_holds, method_holds, access_holds, asks_visibility, condition_holds, has_mark, is_visibility};
-ghost use Rattle.keep_rules.specs.Fits.{role_of, is_mark, sees_of, others_hold, words_hold, mark_holds, marks_hold};
+ghost use Rattle.rule_defs.specs.Members.{common_holds, field_holds, method_holds, access_holds, asks_visibility, conditions_hold, has_mark, is_visibility};
+ghost use Rattle.std.specs.List.{list_any};
+ghost use Rattle.keep_rules.specs.Fits.{role_of, is_seen, other_holds, others_hold, sees, words_hold, mark_holds, marks_hold};
 
 use crate::fit::class_fits;
 use crate::view::descriptor;
@@ -111,50 +112,97 @@ fn is_visibility(access: Access) -> bool
     matches!(access, Access::Public | Access::Private | Access::Protected)
 }
 
-/// Whether a word that says who may see the member holds, none where the condition is another.
-fn sees(condition: &Condition, role: Role, flags: Flags) -> Option<bool>
-    ensures some { (c : Condition) → IsConditionOf condition.now c → IfSome result (λ holds. (asks_visibility c ≡ true) × (holds ≡ condition_holds (role_of role) flags.0 [] c)) }
-    ensures none { (c : Condition) → IsConditionOf condition.now c → IfNone result (asks_visibility c ≡ false) }
+/// Whether something is asked that nobody negated, and holds.
+fn is_asked(visible: bool, negated: bool, holds: bool) -> bool
+    ensures { result ≡ ((visible && not negated) && holds) }
+{
+    visible && !negated && holds
+}
+
+/// Whether the condition is a word that says who may see the member, and stands without `!`.
+#[tactic(auto, using(crate::proofs::AccessLemmas::asks_of))]
+fn asks(condition: &Condition) -> bool
+    ensures { (c : meant.Condition) → IsConditionOf condition.now c → result ≡ asks_visibility c }
 {
     match condition {
-        Condition::Access { negated, access } if is_visibility(*access) && !*negated => {
-            Some(access_holds(*access, role, flags))
-        }
-        _ => None,
+        Condition::Access { negated, access } => is_asked(is_visibility(*access), *negated, true),
+        Condition::Mark(_) => false,
     }
+}
+
+/// Whether the condition is such a word, and holds.
+#[tactic(auto, using(crate::proofs::AccessLemmas::sees_of))]
+fn sees(condition: &Condition, role: Role, flags: Flags) -> bool
+    ensures { (c : meant.Condition) → IsConditionOf condition.now c → result ≡ sees (role_of role) flags.0 c }
+{
+    match condition {
+        Condition::Access { negated, access } => {
+            let visible = is_visibility(*access);
+            let holds = access_holds(*access, role, flags);
+            is_asked(visible, *negated, holds)
+        }
+        Condition::Mark(_) => false,
+    }
+}
+
+/// Whether some condition is a word that says who may see the member, and stands without `!`.
+fn some_asks(conditions: &[Condition]) -> bool
+    ensures { (cs : List meant.Condition) → AreEach IsConditionOf conditions.now cs → result ≡ list_any asks_visibility cs }
+{
+    for condition in conditions {
+        let asks = asks(condition);
+        if asks {
+            return true;
+        }
+    }
+    false
+}
+
+/// Whether one of these words holds.
+fn some_sees(conditions: &[Condition], role: Role, flags: Flags) -> bool
+    ensures { (cs : List meant.Condition) → AreEach IsConditionOf conditions.now cs → result ≡ list_any (sees (role_of role) flags.0) cs }
+{
+    for condition in conditions {
+        let sees = sees(condition, role, flags);
+        if sees {
+            return true;
+        }
+    }
+    false
 }
 
 /// Whether of `public`, `private` and `protected` one that stands without `!` holds, where there are any.
 fn is_seen(conditions: &[Condition], role: Role, flags: Flags) -> bool
-    ensures { (cs : List Condition) → AreEach IsConditionOf conditions.now cs → result ≡ sees_of (role_of role) flags.0 false false cs }
+    ensures { (cs : List meant.Condition) → AreEach IsConditionOf conditions.now cs → result ≡ is_seen (role_of role) flags.0 cs }
 {
-    let mut asked = false;
-    let mut seen = false;
-    for condition in conditions {
-        if let Some(holds) = sees(condition, role, flags) {
-            asked = true;
-            seen = seen || holds;
-        }
-    }
-    seen || !asked
+    some_sees(conditions, role, flags) || !some_asks(conditions)
+}
+
+/// Whether one of two things holds, or a third.
+fn is_free(visible: bool, negated: bool, holds: bool) -> bool
+    ensures { result ≡ ((visible && not negated) || holds) }
+{
+    visible && !negated || holds
 }
 
 /// Whether a condition holds that is neither an annotation nor a word that says who may see the member.
+#[tactic(auto, using(crate::proofs::AccessLemmas::other_of, crate::proofs::AccessLemmas::other_mark))]
 fn other_holds(condition: &Condition, role: Role, flags: Flags) -> bool
-    ensures { (c : Condition) → IsConditionOf condition.now c → result ≡ (asks_visibility c || (is_mark c || condition_holds (role_of role) flags.0 [] c)) }
+    ensures { (c : meant.Condition) → IsConditionOf condition.now c → result ≡ other_holds (role_of role) flags.0 c }
 {
     match condition {
         Condition::Mark(_) => true,
         Condition::Access { negated, access } => {
-            is_visibility(*access) && !*negated
-                || word_holds(access_holds(*access, role, flags), *negated)
+            let visible = is_visibility(*access);
+            let holds = word_holds(access_holds(*access, role, flags), *negated);
+            is_free(visible, *negated, holds)
         }
     }
 }
 
 /// Whether every word holds that doesn't say who may see the member.
 fn others_hold(conditions: &[Condition], role: Role, flags: Flags) -> bool
-    ensures { (cs : List Condition) → AreEach IsConditionOf conditions.now cs → result ≡ others_hold (role_of role) flags.0 cs }
+    ensures { (cs : List meant.Condition) → AreEach IsConditionOf conditions.now cs → result ≡ others_hold (role_of role) flags.0 cs }
 {
     for condition in conditions {
         let holds = other_holds(condition, role, flags);
@@ -168,7 +216,7 @@ fn others_hold(conditions: &[Condition], role: Role, flags: Flags) -> bool
 /// Whether the words that are asked of the flags hold: of `public`, `private` and `protected` one that stands without
 /// `!`, where there are any, and every other word, where one with `!` holds as the word itself doesn't.
 pub fn access_fits(conditions: &[Condition], role: Role, flags: Flags) -> bool
-    ensures { (cs : List Condition) → AreEach IsConditionOf conditions.now cs → result ≡ words_hold (role_of role) flags.0 cs }
+    ensures { (cs : List meant.Condition) → AreEach IsConditionOf conditions.now cs → result ≡ words_hold (role_of role) flags.0 cs }
 {
     is_seen(conditions, role, flags) && others_hold(conditions, role, flags)
 }
@@ -180,7 +228,7 @@ fn mark_fits(
     marks: &[Mark],
     row: &mut Vec<bool>,
 ) -> Result<bool, AllocError>
-    ensures { (c : Condition) → IsConditionOf condition.now c → IfOk result (λ holds. holds ≡ mark_holds (map (mark_of program.now) marks.now) c) }
+    ensures { (c : meant.Condition) → IsConditionOf condition.now c → IfOk result (λ holds. holds ≡ mark_holds (map (mark_of program.now) marks.now) c) }
 {
     match condition {
         Condition::Mark(pattern) => mark_holds(pattern, program, marks, row),
@@ -195,7 +243,7 @@ pub fn marks_fit(
     marks: &[Mark],
     row: &mut Vec<bool>,
 ) -> Result<bool, AllocError>
-    ensures { (cs : List Condition) → AreEach IsConditionOf conditions.now cs → IfOk result (λ fits. fits ≡ marks_hold (map (mark_of program.now) marks.now) cs) }
+    ensures { (cs : List meant.Condition) → AreEach IsConditionOf conditions.now cs → IfOk result (λ fits. fits ≡ marks_hold (map (mark_of program.now) marks.now) cs) }
 {
     for condition in conditions {
         let fits = mark_fits(condition, program, marks, row)?;
@@ -204,4 +252,23 @@ pub fn marks_fit(
         }
     }
     Ok(true)
+}
+
+/// Whether what is asked of flags and annotations holds.
+#[tactic(auto, using(crate::proofs::AccessLemmas::conditions_fail, crate::proofs::AccessLemmas::conditions_left))]
+pub fn conditions_fit(
+    conditions: &[Condition],
+    role: Role,
+    flags: Flags,
+    program: &Program,
+    marks: &[Mark],
+    row: &mut Vec<bool>,
+) -> Result<bool, AllocError>
+    ensures { (cs : List meant.Condition) → AreEach IsConditionOf conditions.now cs → IfOk result (λ fits. fits ≡ conditions_hold (role_of role) flags.0 (map (mark_of program.now) marks.now) cs) }
+{
+    let words = access_fits(conditions, role, flags);
+    if !words {
+        return Ok(false);
+    }
+    marks_fit(conditions, program, marks, row)
 }

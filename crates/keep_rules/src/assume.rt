@@ -1,11 +1,7 @@
 //! Which methods are assumed to do nothing.
 
-ghost use Rattle.std.specs.Prelude.{◌≡◌, OnOk};
-ghost use Rattle.program_model.specs.declared.program.Program.{Program};
-ghost use Rattle.keep_rules.specs.Marks.{HasOwn};
-
 use crate::fit::some_class_fits;
-use crate::marks::{Marks, mark};
+use crate::marks::mark;
 use crate::members::method_named;
 use crate::names::named_types;
 use crate::view::{View, descriptor};
@@ -33,16 +29,14 @@ fn silence_methods(
     rule: &AssumeRule,
     view: &View<'_>,
     numbers: &[u32],
-    marks: &mut Marks,
+    silent: &mut Vec<bool>,
     row: &mut Vec<bool>,
-) -> Result<(), AllocError>
-    ensures { (p : Program) → HasOwn p marks.old → OnOk result (HasOwn p marks.new) }
-{
+) -> Result<(), AllocError> {
     let program = view.program;
     for number in numbers {
         if let Some(method) = program.methods.items.get(*number as usize) {
             if some_line_names(rule.members.as_slice(), program, method, row)? {
-                mark(&mut marks.silent, *number);
+                mark(silent, *number);
             }
         }
     }
@@ -54,11 +48,9 @@ fn silence_type(
     rule: &AssumeRule,
     view: &View<'_>,
     kind: u32,
-    marks: &mut Marks,
+    silent: &mut Vec<bool>,
     row: &mut Vec<bool>,
-) -> Result<(), AllocError>
-    ensures { (p : Program) → HasOwn p marks.old → OnOk result (HasOwn p marks.new) }
-{
+) -> Result<(), AllocError> {
     let Some(numbers) = view.methods.get(kind as usize) else {
         return Ok(());
     };
@@ -66,7 +58,7 @@ fn silence_type(
         return Ok(());
     }
     if some_class_fits(rule.names.as_slice(), descriptor(view.program, kind), row)? {
-        silence_methods(rule, view, numbers.as_slice(), marks, row)?;
+        silence_methods(rule, view, numbers.as_slice(), silent, row)?;
     }
     Ok(())
 }
@@ -76,20 +68,18 @@ pub fn silence_by(
     alloc: Global,
     rule: &AssumeRule,
     view: &View<'_>,
-    marks: &mut Marks,
+    silent: &mut Vec<bool>,
     row: &mut Vec<bool>,
-) -> Result<(), AllocError>
-    ensures { (p : Program) → HasOwn p marks.old → OnOk result (HasOwn p marks.new) }
-{
+) -> Result<(), AllocError> {
     match named_types(alloc, view, rule.names.as_slice())? {
         Some(kinds) => {
             for kind in kinds.iter() {
-                silence_type(rule, view, *kind, marks, row)?;
+                silence_type(rule, view, *kind, silent, row)?;
             }
         }
         None => {
             for kind in 0..view.program.types.len() as u32 {
-                silence_type(rule, view, kind, marks, row)?;
+                silence_type(rule, view, kind, silent, row)?;
             }
         }
     }

@@ -1,9 +1,5 @@
 //! The classes of the descriptors of kept members.
 
-ghost use Rattle.std.specs.Prelude.{◌≡◌, OnOk};
-ghost use Rattle.program_model.specs.declared.program.Program.{Program};
-ghost use Rattle.keep_rules.specs.Marks.{HasOwn};
-
 use crate::marks::{Marks, is_marked, mark};
 use crate::view::{View, descriptor};
 use program_model::Class;
@@ -80,21 +76,18 @@ fn classes_of(
     Ok(out)
 }
 
-/// Keeps the classes in the descriptors of kept members, where a rule asks for it.
-pub fn keep_described(alloc: Global, view: &View<'_>, marks: &mut Marks) -> Result<(), AllocError>
-    ensures { (p : Program) → HasOwn p marks.old → OnOk result (HasOwn p marks.new) }
-{
-    let program = view.program;
-    for class in program.classes.items.iter() {
-        let kinds = classes_of(
-            alloc,
-            view,
-            class,
-            marks.fields.described.as_slice(),
-            marks.methods.described.as_slice(),
-        )?;
+/// Keeps the classes in the descriptors of the members that are marked.
+pub fn keep_described(
+    alloc: Global,
+    view: &View<'_>,
+    fields: &[bool],
+    methods: &[bool],
+    classes: &mut Vec<bool>,
+) -> Result<(), AllocError> {
+    for class in view.program.classes.as_slice() {
+        let kinds = classes_of(alloc, view, class, fields, methods)?;
         for kind in kinds.iter() {
-            mark(&mut marks.classes, *kind);
+            mark(classes, *kind);
         }
     }
     Ok(())

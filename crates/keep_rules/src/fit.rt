@@ -4,8 +4,8 @@ ghost use Rattle.std.specs.Prelude.{◌≡◌, ◌<◌, ℕ, List, [], ◌∷◌
 ghost use Rattle.rule_text.specs.Tokens.{Word};
 ghost use Rattle.rule_text.specs.Related.{AreEach, IsPatternOf, IsItemOf, IsTypeOf, AreArgumentsOf};
 ghost use Rattle.rule_text.specs.Pieces.{ends_in_brackets};
-ghost use Rattle.rule_text.specs.Rules.{Arguments};
-ghost use Rattle.dalvik_defs.specs.Names.{text_eq, is_class_type, item_of};
+ghost use Rattle.rule_text.specs.Rules as meant;
+ghost use Rattle.dalvik_defs.specs.Names.{text_eq, is_array, is_class_type, item_of};
 ghost use Rattle.dalvik_defs.specs.Naming.{type_at};
 ghost use Rattle.rule_defs.specs.Patterns.{inner, class_name_fits, some_name_fits, is_primitive, item_fits, type_fits, types_fit, arguments_fit};
 ghost use Rattle.keep_rules.specs.Fits.{behind_of};
@@ -16,15 +16,41 @@ use rule_match::{is_star, matches};
 use rule_text::{Arguments, ItemPattern, NamePattern, Named, TypePattern};
 use std::alloc::AllocError;
 
+/// Whether the descriptor is that of a class.
+fn is_class(descriptor: &[u16]) -> bool
+    ensures { result ≡ is_class_type descriptor.now }
+{
+    matches!(descriptor, [76, ..])
+}
+
+/// Whether the descriptor is that of an array.
+fn is_array(descriptor: &[u16]) -> bool
+    ensures { result ≡ is_array descriptor.now }
+{
+    matches!(descriptor, [91, ..])
+}
+
+/// What stands between the first unit and the last.
+#[tactic(auto, using(crate::proofs::FitLemmas::class_inner))]
+fn inside(descriptor: &[u16]) -> &[u16]
+    ensures { result.now ≡ inner (item_of descriptor.now) }
+{
+    match descriptor {
+        [_, name @ .., _] => name,
+        _ => &[],
+    }
+}
+
 /// The name of a class in its descriptor.
 pub fn class_name(descriptor: &[u16]) -> Option<&[u16]>
     ensures some { IfSome result (λ name. (is_class_type descriptor.now ≡ true) × (name.now ≡ inner (item_of descriptor.now))) }
     ensures none { IfNone result (is_class_type descriptor.now ≡ false) }
 {
-    match descriptor {
-        [76, name @ .., _] => Some(name),
-        [76] => Some(&[]),
-        _ => None,
+    let class = is_class(descriptor);
+    if class {
+        Some(inside(descriptor))
+    } else {
+        None
     }
 }
 
@@ -63,7 +89,19 @@ pub fn some_class_fits(
     Ok(false)
 }
 
+/// What stands behind the first unit.
+#[tactic(auto, using(crate::proofs::FitLemmas::behind_is))]
+fn behind_first(descriptor: &[u16]) -> &[u16]
+    ensures { result.now ≡ item_of descriptor.now }
+{
+    match descriptor {
+        [_, behind @ ..] => behind,
+        _ => &[],
+    }
+}
+
 /// The descriptor behind so many brackets.
+#[tactic(auto, using(crate::proofs::FitLemmas::behind_more, crate::proofs::FitLemmas::behind_none))]
 fn behind_brackets(descriptor: &[u16], depth: usize) -> Option<&[u16]>
     ensures some { IfSome result (λ item. behind_of depth descriptor.now ≡ Some item.now) }
     ensures none { IfNone result (behind_of depth descriptor.now ≡ None) }
@@ -71,10 +109,11 @@ fn behind_brackets(descriptor: &[u16], depth: usize) -> Option<&[u16]>
     let mut rest = descriptor;
     let mut left = depth;
     while left > 0 {
-        match rest {
-            [91, behind @ ..] => rest = behind,
-            _ => return None,
+        let array = is_array(rest);
+        if !array {
+            return None;
         }
+        rest = behind_first(rest);
         left -= 1;
     }
     Some(rest)
@@ -95,6 +134,7 @@ fn is_letter(descriptor: &[u16], letter: u16) -> bool
 }
 
 /// Whether the pattern matches the item. Wildcards other than `***` match classes alone.
+#[tactic(auto, using(crate::proofs::FitLemmas::letter_of))]
 fn item_fits(
     item: &ItemPattern,
     descriptor: &[u16],
@@ -136,18 +176,16 @@ fn types_fit(
 ) -> Result<bool, AllocError>
     ensures { (ws : List Word) → AreEach IsTypeOf patterns.now ws → IfOk result (λ fits. fits ≡ types_fit ws (map (type_at program.now) kinds.now)) }
 {
-    let mut rest = kinds;
-    for pattern in patterns {
-        let [kind, behind @ ..] = rest else {
-            return Ok(false);
-        };
-        let fits = type_fits(pattern, descriptor(program, *kind), row)?;
+    if patterns.len() != kinds.len() {
+        return Ok(false);
+    }
+    for place in 0..patterns.len() {
+        let fits = type_fits(&patterns[place], descriptor(program, kinds[place]), row)?;
         if !fits {
             return Ok(false);
         }
-        rest = behind;
     }
-    Ok(rest.is_empty())
+    Ok(true)
 }
 
 /// Whether the patterns match the parameters, one each.
@@ -157,7 +195,7 @@ pub fn arguments_fit(
     parameters: &[u32],
     row: &mut Vec<bool>,
 ) -> Result<bool, AllocError>
-    ensures { (meant : Arguments) → AreArgumentsOf arguments.now meant → IfOk result (λ fits. fits ≡ arguments_fit meant (map (type_at program.now) parameters.now)) }
+    ensures { (a : meant.Arguments) → AreArgumentsOf arguments.now a → IfOk result (λ fits. fits ≡ arguments_fit a (map (type_at program.now) parameters.now)) }
 {
     match arguments {
         Arguments::Any => Ok(true),

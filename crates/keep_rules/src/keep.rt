@@ -1,9 +1,10 @@
 //! What a keep rule keeps.
 
 ghost use Rattle.std.specs.Prelude.{◌≡◌, ℕ, Some, true, slice_get, not, IfOk, OnOk};
+ghost use Rattle.program_model.specs.declared.program.Class as graph;
 ghost use Rattle.program_model.specs.declared.program.Program.{Program};
 ghost use Rattle.dalvik_defs.specs.Naming.{named_class};
-ghost use Rattle.rule_text.specs.Rules.{ClassRule, KeepRule};
+ghost use Rattle.rule_text.specs.Rules as meant;
 ghost use Rattle.rule_text.specs.Related.{AreEach, IsMemberOf, IsClassOf, IsKeepOf};
 ghost use Rattle.rule_defs.specs.Kept.{is_of_kind, is_conditional, is_complete, lines_of};
 ghost use Rattle.keep_rules.specs.Fits.{has_names};
@@ -17,7 +18,7 @@ use crate::marks::{Hold, Marks, MemberMarks, is_marked, mark_where};
 use crate::members::{has_each_line, some_line_of_field, some_line_of_method};
 use crate::names::named_types;
 use crate::view::{View, descriptor};
-use program_model::{Class, Flags, Program};
+use program_model::{Class, Field, Flags, Method, Program};
 use rule_text::{ClassKind, ClassRule, KeepKind, KeepRule, MemberRule, Modifier};
 use std::alloc::{AllocError, Global};
 
@@ -55,7 +56,7 @@ fn class_matches(
 
 /// The lines of a rule.
 fn lines_of(rule: &ClassRule) -> &[MemberRule]
-    ensures { (k : ClassRule) → IsClassOf rule.now k → AreEach IsMemberOf result.now (lines_of k) }
+    ensures { (k : meant.ClassRule) → IsClassOf rule.now k → AreEach IsMemberOf result.now (lines_of k) }
 {
     match &rule.members {
         Some(lines) => lines.as_slice(),
@@ -85,15 +86,15 @@ fn keeps(rule: &KeepRule) -> bool {
 fn keep_fields(
     rule: &KeepRule,
     program: &Program,
-    class: &Class,
+    fields: &[Field],
     hold: Hold,
     marks: &mut MemberMarks,
     row: &mut Vec<bool>,
 ) -> Result<(), AllocError>
-    ensures { (place : ℕ) → slice_get program.now.classes place ≡ Some class.now → PassMembers (defines_field program.now) marks.old → OnOk result (PassMembers (defines_field program.now) marks.new) }
+    ensures { (place : ℕ) (c : graph.Class) → slice_get program.now.classes place ≡ Some c → c.fields ≡ fields.now → PassMembers (defines_field program.now) marks.old → OnOk result (PassMembers (defines_field program.now) marks.new) }
 {
     let described = describes(rule);
-    for field in class.fields.items.iter() {
+    for field in fields {
         let fits = some_line_of_field(lines_of(&rule.class), program, field, row)?;
         marks.keep_where(fits, field.name, hold, described);
     }
@@ -104,15 +105,15 @@ fn keep_fields(
 fn keep_methods(
     rule: &KeepRule,
     program: &Program,
-    class: &Class,
+    methods: &[Method],
     hold: Hold,
     marks: &mut MemberMarks,
     row: &mut Vec<bool>,
 ) -> Result<(), AllocError>
-    ensures { (place : ℕ) → slice_get program.now.classes place ≡ Some class.now → PassMembers (defines_method program.now) marks.old → OnOk result (PassMembers (defines_method program.now) marks.new) }
+    ensures { (place : ℕ) (c : graph.Class) → slice_get program.now.classes place ≡ Some c → c.methods ≡ methods.now → PassMembers (defines_method program.now) marks.old → OnOk result (PassMembers (defines_method program.now) marks.new) }
 {
     let described = describes(rule);
-    for method in class.methods.items.iter() {
+    for method in methods {
         let fits = some_line_of_method(lines_of(&rule.class), program, method, row)?;
         marks.keep_where(fits, method.name, hold, described);
     }
@@ -136,7 +137,7 @@ fn is_complete(
     class: &Class,
     row: &mut Vec<bool>,
 ) -> Result<bool, AllocError>
-    ensures { (k : KeepRule) → has_names program.now class.now ≡ true → IsKeepOf rule.now k → IfOk result (λ complete. complete ≡ is_complete k (named_class program.now class.now)) }
+    ensures { (k : meant.KeepRule) → has_names program.now class.now ≡ true → IsKeepOf rule.now k → IfOk result (λ complete. complete ≡ is_complete k (named_class program.now class.now)) }
 {
     match rule.kind {
         KeepKind::ClassesWithMembers => has_each_line(lines_of(&rule.class), program, class, row),
@@ -155,8 +156,22 @@ fn keep_members(
     ensures { (place : ℕ) → slice_get program.now.classes place ≡ Some class.now → HasOwn program.now marks.old → OnOk result (HasOwn program.now marks.new) }
 {
     let hold = hold_of(rule.kind);
-    keep_fields(rule, program, class, hold, &mut marks.fields, row)?;
-    keep_methods(rule, program, class, hold, &mut marks.methods, row)?;
+    keep_fields(
+        rule,
+        program,
+        class.fields.as_slice(),
+        hold,
+        &mut marks.fields,
+        row,
+    )?;
+    keep_methods(
+        rule,
+        program,
+        class.methods.as_slice(),
+        hold,
+        &mut marks.methods,
+        row,
+    )?;
     Ok(())
 }
 

@@ -1,6 +1,6 @@
 //! What the rules keep of a program.
 
-ghost use Rattle.std.specs.Prelude.{◌≡◌, ◌<◌, ◌^◌, [], length, IfOk, All};
+ghost use Rattle.std.specs.Prelude.{◌≡◌, ◌<◌, ◌^◌, [], length, IfOk, OnOk, All};
 ghost use Rattle.keep_rules.specs.Outside.{IsWithin};
 ghost use Rattle.keep_rules.specs.Marks.{HasOwn};
 ghost use Rattle.keep_rules.specs.Table.{OwnMembers};
@@ -45,6 +45,23 @@ fn has_setting(rules: &Rules, wanted: SettingName) -> bool {
     false
 }
 
+/// Marks what an entry keeps, or which methods it assumes to do nothing.
+fn mark_entry(
+    alloc: Global,
+    entry: &Entry,
+    view: &View<'_>,
+    marks: &mut Marks,
+    row: &mut Vec<bool>,
+) -> Result<(), AllocError>
+    ensures { HasOwn view.now.program.now marks.old → OnOk result (HasOwn view.now.program.now marks.new) }
+{
+    match entry {
+        Entry::Setting(_) => Ok(()),
+        Entry::Keep(rule) => keep_by(alloc, rule, view, marks, row),
+        Entry::Assume(rule) => silence_by(alloc, rule, view, &mut marks.silent, row),
+    }
+}
+
 /// Marks what all rules keep.
 fn mark_all(alloc: Global, rules: &Rules, view: &View<'_>) -> Result<Marks, AllocError>
     ensures { IfOk result (HasOwn view.now.program.now) }
@@ -52,13 +69,15 @@ fn mark_all(alloc: Global, rules: &Rules, view: &View<'_>) -> Result<Marks, Allo
     let mut marks = Marks::new(alloc, view.program)?;
     let mut row = Vec::new(alloc);
     for entry in rules.entries.iter() {
-        match entry {
-            Entry::Setting(_) => {}
-            Entry::Keep(rule) => keep_by(alloc, rule, view, &mut marks, &mut row)?,
-            Entry::Assume(rule) => silence_by(alloc, rule, view, &mut marks, &mut row)?,
-        }
+        mark_entry(alloc, entry, view, &mut marks, &mut row)?;
     }
-    keep_described(alloc, view, &mut marks)?;
+    keep_described(
+        alloc,
+        view,
+        marks.fields.described.as_slice(),
+        marks.methods.described.as_slice(),
+        &mut marks.classes,
+    )?;
     Ok(marks)
 }
 

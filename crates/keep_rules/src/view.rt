@@ -1,6 +1,6 @@
 //! What rules ask of a program again and again, as tables that are made once.
 
-ghost use Rattle.std.specs.Prelude.{◌≡◌, ◌<◌, ◌^◌, length};
+ghost use Rattle.std.specs.Prelude.{◌≡◌, ◌<◌, ◌^◌, length, IfOk};
 ghost use Rattle.dalvik_defs.specs.Naming.{text_at, type_at};
 
 use hierarchy::Hierarchy;
@@ -111,6 +111,7 @@ impl<'p> View<'p> {
         requires types { length program.now.types < 2 ^ 32 }
         requires classes { length program.now.classes < 2 ^ 32 }
         requires methods { length program.now.methods < 2 ^ 32 }
+        ensures { IfOk result (λ view. view.program.now ≡ program.now) }
     {
         Ok(View {
             program,

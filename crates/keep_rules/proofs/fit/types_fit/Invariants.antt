@@ -6,5 +6,5 @@ use Rattle.rule_defs.specs.Patterns.{types_fit}
 use Rattle.keep_rules.proofs.fit.types_fit.Given as goal
 
 -- those gone through fit
-abbrev pub invariant-loop-pattern : goal.invariant-loop-pattern
-invariant-loop-pattern l = (ws : List Word) → AreEach IsTypeOf l.patterns ws → types_fit (drop l.pattern-index ws) (map (type_at l.program) l.rest) ≡ types_fit ws (map (type_at l.program) l.kinds)
+abbrev pub invariant-loop-place : goal.invariant-loop-place
+invariant-loop-place l = (ws : List Word) → AreEach IsTypeOf l.patterns ws → types_fit (drop l.place ws) (map (type_at l.program) (drop l.place l.kinds)) ≡ types_fit ws (map (type_at l.program) l.kinds)

@@ -9,4 +9,4 @@ use Rattle.keep_rules.proofs.members.has_field.Given as goal
 
 -- those gone through don't match
 abbrev pub invariant-loop-field : goal.invariant-loop-field
-invariant-loop-field l = (m : MemberRule) → list_all (has_field_name l.program) l.class.fields ≡ true → IsMemberOf l.line m → list_any (matches_field m) (map (named_field l.program) (drop l.field-index l.class.fields)) ≡ list_any (matches_field m) (map (named_field l.program) l.class.fields)
+invariant-loop-field l = (m : MemberRule) → list_all (has_field_name l.program) l.fields ≡ true → IsMemberOf l.line m → list_any (matches_field m) (map (named_field l.program) (drop l.field-index l.fields)) ≡ list_any (matches_field m) (map (named_field l.program) l.fields)

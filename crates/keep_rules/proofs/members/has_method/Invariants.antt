@@ -9,4 +9,4 @@ use Rattle.keep_rules.proofs.members.has_method.Given as goal
 
 -- those gone through don't match
 abbrev pub invariant-loop-method : goal.invariant-loop-method
-invariant-loop-method l = (m : MemberRule) → list_all (has_method_name l.program) l.class.methods ≡ true → IsMemberOf l.line m → list_any (matches_method m) (map (named_method l.program) (drop l.method-index l.class.methods)) ≡ list_any (matches_method m) (map (named_method l.program) l.class.methods)
+invariant-loop-method l = (m : MemberRule) → list_all (has_method_name l.program) l.methods ≡ true → IsMemberOf l.line m → list_any (matches_method m) (map (named_method l.program) (drop l.method-index l.methods)) ≡ list_any (matches_method m) (map (named_method l.program) l.methods)

@@ -243,7 +243,8 @@ pub fn marks_fit(
     marks: &[Mark],
     row: &mut Vec<bool>,
 ) -> Result<bool, AllocError>
-    ensures { (cs : List meant.Condition) → AreEach IsConditionOf conditions.now cs → IfOk result (λ fits. fits ≡ marks_hold (map (mark_of program.now) marks.now) cs) }
+    ensures { (cs : List meant.Condition) → AreEach IsConditionOf conditions.now cs
+        → IfOk result (λ fits. fits ≡ marks_hold (map (mark_of program.now) marks.now) cs) }
 {
     for condition in conditions {
         let fits = mark_fits(condition, program, marks, row)?;
@@ -264,7 +265,8 @@ pub fn conditions_fit(
     marks: &[Mark],
     row: &mut Vec<bool>,
 ) -> Result<bool, AllocError>
-    ensures { (cs : List meant.Condition) → AreEach IsConditionOf conditions.now cs → IfOk result (λ fits. fits ≡ conditions_hold (role_of role) flags.0 (map (mark_of program.now) marks.now) cs) }
+    ensures { (cs : List meant.Condition) → AreEach IsConditionOf conditions.now cs
+        → IfOk result (λ fits. fits ≡ conditions_hold (role_of role) flags.0 (map (mark_of program.now) marks.now) cs) }
 {
     let words = access_fits(conditions, role, flags);
     if !words {

@@ -91,7 +91,8 @@ fn keep_fields(
     marks: &mut MemberMarks,
     row: &mut Vec<bool>,
 ) -> Result<(), AllocError>
-    ensures { (place : ℕ) (c : graph.Class) → slice_get program.now.classes place ≡ Some c → c.fields ≡ fields.now → PassMembers (defines_field program.now) marks.old → OnOk result (PassMembers (defines_field program.now) marks.new) }
+    ensures { (place : ℕ) (c : graph.Class) → slice_get program.now.classes place ≡ Some c → c.fields ≡ fields.now
+        → PassMembers (defines_field program.now) marks.old → OnOk result (PassMembers (defines_field program.now) marks.new) }
 {
     let described = describes(rule);
     for field in fields {
@@ -110,7 +111,8 @@ fn keep_methods(
     marks: &mut MemberMarks,
     row: &mut Vec<bool>,
 ) -> Result<(), AllocError>
-    ensures { (place : ℕ) (c : graph.Class) → slice_get program.now.classes place ≡ Some c → c.methods ≡ methods.now → PassMembers (defines_method program.now) marks.old → OnOk result (PassMembers (defines_method program.now) marks.new) }
+    ensures { (place : ℕ) (c : graph.Class) → slice_get program.now.classes place ≡ Some c → c.methods ≡ methods.now
+        → PassMembers (defines_method program.now) marks.old → OnOk result (PassMembers (defines_method program.now) marks.new) }
 {
     let described = describes(rule);
     for method in methods {
@@ -137,7 +139,8 @@ fn is_complete(
     class: &Class,
     row: &mut Vec<bool>,
 ) -> Result<bool, AllocError>
-    ensures { (k : meant.KeepRule) → has_names program.now class.now ≡ true → IsKeepOf rule.now k → IfOk result (λ complete. complete ≡ is_complete k (named_class program.now class.now)) }
+    ensures { (k : meant.KeepRule) → has_names program.now class.now ≡ true → IsKeepOf rule.now k
+        → IfOk result (λ complete. complete ≡ is_complete k (named_class program.now class.now)) }
 {
     match rule.kind {
         KeepKind::ClassesWithMembers => has_each_line(lines_of(&rule.class), program, class, row),

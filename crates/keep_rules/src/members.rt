@@ -38,7 +38,8 @@ fn name_and_type(
     descriptor: &[u16],
     row: &mut Vec<bool>,
 ) -> Result<bool, AllocError>
-    ensures { (n k : Word) → IsPatternOf name.now n → IsTypeOf kind.now k → IfOk result (λ both. both ≡ (member_name_fits n units.now && type_fits k descriptor.now)) }
+    ensures { (n k : Word) → IsPatternOf name.now n → IsTypeOf kind.now k
+        → IfOk result (λ both. both ≡ (member_name_fits n units.now && type_fits k descriptor.now)) }
 {
     let named = matches(name, Named::Member, units, row)?;
     if !named {
@@ -57,7 +58,8 @@ fn method_spelled(
     proto: &Proto,
     row: &mut Vec<bool>,
 ) -> Result<bool, AllocError>
-    ensures { (n k : Word) (a : meant.Arguments) → IsPatternOf name.now n → IsTypeOf kind.now k → AreArgumentsOf arguments.now a → IfOk result (λ all. all ≡ ((member_name_fits n units.now && type_fits k (type_at program.now proto.now.result)) && arguments_fit a (map (type_at program.now) proto.now.parameters))) }
+    ensures { (n k : Word) (a : meant.Arguments) → IsPatternOf name.now n → IsTypeOf kind.now k → AreArgumentsOf arguments.now a
+        → IfOk result (λ all. all ≡ ((member_name_fits n units.now && type_fits k (type_at program.now proto.now.result)) && arguments_fit a (map (type_at program.now) proto.now.parameters))) }
 {
     let named = name_and_type(name, kind, units, descriptor(program, proto.result), row)?;
     if !named {
@@ -74,7 +76,8 @@ fn field_spelled(
     field: &FieldName,
     row: &mut Vec<bool>,
 ) -> Result<bool, AllocError>
-    ensures { (n k : Word) → IsPatternOf name.now n → IsTypeOf kind.now k → IfOk result (λ both. both ≡ (member_name_fits n (text_at program.now field.now.name) && type_fits k (type_at program.now field.now.kind))) }
+    ensures { (n k : Word) → IsPatternOf name.now n → IsTypeOf kind.now k
+        → IfOk result (λ both. both ≡ (member_name_fits n (text_at program.now field.now.name) && type_fits k (type_at program.now field.now.kind))) }
 {
     let units = string_units(program, field.name);
     name_and_type(name, kind, units, descriptor(program, field.kind), row)
@@ -88,7 +91,8 @@ fn method_meant(
     proto: &Proto,
     row: &mut Vec<bool>,
 ) -> Result<bool, AllocError>
-    ensures { (w : meant.What) → IsWhatOf what.now w → IfOk result (λ named. named ≡ names_method w (text_at program.now name) (signature_of program.now proto.now)) }
+    ensures { (w : meant.What) → IsWhatOf what.now w
+        → IfOk result (λ named. named ≡ names_method w (text_at program.now name) (signature_of program.now proto.now)) }
 {
     let units = string_units(program, name);
     match what {
@@ -116,7 +120,8 @@ pub fn method_named(
     method: &MethodName,
     row: &mut Vec<bool>,
 ) -> Result<bool, AllocError>
-    ensures { (w : meant.What) → nat_lt method.now.proto (length program.now.protos) ≡ true → IsWhatOf what.now w → IfOk result (λ named. named ≡ names_method w (text_at program.now method.now.name) (signature_at program.now method.now.proto)) }
+    ensures { (w : meant.What) → nat_lt method.now.proto (length program.now.protos) ≡ true → IsWhatOf what.now w
+        → IfOk result (λ named. named ≡ names_method w (text_at program.now method.now.name) (signature_at program.now method.now.proto)) }
 {
     match program.protos.as_slice().get(method.proto as usize) {
         Some(proto) => method_meant(what, program, method.name, proto, row),
@@ -131,7 +136,8 @@ fn method_by(
     number: u32,
     row: &mut Vec<bool>,
 ) -> Result<bool, AllocError>
-    ensures { (w : meant.What) → has_signature program.now (slice_get program.now.methods number) ≡ true → IsWhatOf what.now w → IfOk result (λ named. named ≡ names_method w (method_at program.now number).name (method_at program.now number).signature) }
+    ensures { (w : meant.What) → has_signature program.now (slice_get program.now.methods number) ≡ true → IsWhatOf what.now w
+        → IfOk result (λ named. named ≡ names_method w (method_at program.now number).name (method_at program.now number).signature) }
 {
     match program.methods.as_slice().get(number as usize) {
         Some(method) => method_named(what, program, method, row),
@@ -146,7 +152,8 @@ fn field_by(
     number: u32,
     row: &mut Vec<bool>,
 ) -> Result<bool, AllocError>
-    ensures { (w : meant.What) → nat_lt number (length program.now.fields) ≡ true → IsWhatOf what.now w → IfOk result (λ named. named ≡ names_field w (field_at program.now number).name (field_at program.now number).kind) }
+    ensures { (w : meant.What) → nat_lt number (length program.now.fields) ≡ true → IsWhatOf what.now w
+        → IfOk result (λ named. named ≡ names_field w (field_at program.now number).name (field_at program.now number).kind) }
 {
     match program.fields.as_slice().get(number as usize) {
         Some(field) => field_named(what, program, field, row),
@@ -161,7 +168,8 @@ fn field_named(
     field: &FieldName,
     row: &mut Vec<bool>,
 ) -> Result<bool, AllocError>
-    ensures { (w : meant.What) → IsWhatOf what.now w → IfOk result (λ named. named ≡ names_field w (text_at program.now field.now.name) (type_at program.now field.now.kind)) }
+    ensures { (w : meant.What) → IsWhatOf what.now w
+        → IfOk result (λ named. named ≡ names_field w (text_at program.now field.now.name) (type_at program.now field.now.kind)) }
 {
     match what {
         What::All | What::Fields => Ok(true),
@@ -177,7 +185,8 @@ pub fn method_fits(
     method: &Method,
     row: &mut Vec<bool>,
 ) -> Result<bool, AllocError>
-    ensures { (m : meant.MemberRule) → has_method_name program.now method.now ≡ true → IsMemberOf line.now m → IfOk result (λ fits. fits ≡ matches_method m (named_method program.now method.now)) }
+    ensures { (m : meant.MemberRule) → has_method_name program.now method.now ≡ true → IsMemberOf line.now m
+        → IfOk result (λ fits. fits ≡ matches_method m (named_method program.now method.now)) }
 {
     let marks = method.marks.as_slice();
     let conditions = line.conditions.as_slice();
@@ -195,7 +204,8 @@ pub fn field_fits(
     field: &Field,
     row: &mut Vec<bool>,
 ) -> Result<bool, AllocError>
-    ensures { (m : meant.MemberRule) → has_field_name program.now field.now ≡ true → IsMemberOf line.now m → IfOk result (λ fits. fits ≡ matches_field m (named_field program.now field.now)) }
+    ensures { (m : meant.MemberRule) → has_field_name program.now field.now ≡ true → IsMemberOf line.now m
+        → IfOk result (λ fits. fits ≡ matches_field m (named_field program.now field.now)) }
 {
     let marks = field.marks.as_slice();
     let conditions = line.conditions.as_slice();
@@ -213,7 +223,8 @@ pub fn some_line_of_method(
     method: &Method,
     row: &mut Vec<bool>,
 ) -> Result<bool, AllocError>
-    ensures { (ms : List meant.MemberRule) → has_method_name program.now method.now ≡ true → AreEach IsMemberOf lines.now ms → IfOk result (λ fits. fits ≡ list_any (λ m. matches_method m (named_method program.now method.now)) ms) }
+    ensures { (ms : List meant.MemberRule) → has_method_name program.now method.now ≡ true → AreEach IsMemberOf lines.now ms
+        → IfOk result (λ fits. fits ≡ list_any (λ m. matches_method m (named_method program.now method.now)) ms) }
 {
     for line in lines {
         let fits = method_fits(line, program, method, row)?;
@@ -231,7 +242,8 @@ pub fn some_line_of_field(
     field: &Field,
     row: &mut Vec<bool>,
 ) -> Result<bool, AllocError>
-    ensures { (ms : List meant.MemberRule) → has_field_name program.now field.now ≡ true → AreEach IsMemberOf lines.now ms → IfOk result (λ fits. fits ≡ list_any (λ m. matches_field m (named_field program.now field.now)) ms) }
+    ensures { (ms : List meant.MemberRule) → has_field_name program.now field.now ≡ true → AreEach IsMemberOf lines.now ms
+        → IfOk result (λ fits. fits ≡ list_any (λ m. matches_field m (named_field program.now field.now)) ms) }
 {
     for line in lines {
         let fits = field_fits(line, program, field, row)?;
@@ -249,7 +261,8 @@ fn has_method(
     methods: &[Method],
     row: &mut Vec<bool>,
 ) -> Result<bool, AllocError>
-    ensures { (m : meant.MemberRule) → list_all (has_method_name program.now) methods.now ≡ true → IsMemberOf line.now m → IfOk result (λ has. has ≡ list_any (matches_method m) (map (named_method program.now) methods.now)) }
+    ensures { (m : meant.MemberRule) → list_all (has_method_name program.now) methods.now ≡ true → IsMemberOf line.now m
+        → IfOk result (λ has. has ≡ list_any (matches_method m) (map (named_method program.now) methods.now)) }
 {
     for method in methods {
         let fits = method_fits(line, program, method, row)?;
@@ -267,7 +280,8 @@ fn has_field(
     fields: &[Field],
     row: &mut Vec<bool>,
 ) -> Result<bool, AllocError>
-    ensures { (m : meant.MemberRule) → list_all (has_field_name program.now) fields.now ≡ true → IsMemberOf line.now m → IfOk result (λ has. has ≡ list_any (matches_field m) (map (named_field program.now) fields.now)) }
+    ensures { (m : meant.MemberRule) → list_all (has_field_name program.now) fields.now ≡ true → IsMemberOf line.now m
+        → IfOk result (λ has. has ≡ list_any (matches_field m) (map (named_field program.now) fields.now)) }
 {
     for field in fields {
         let fits = field_fits(line, program, field, row)?;
@@ -285,7 +299,8 @@ fn has_member(
     class: &Class,
     row: &mut Vec<bool>,
 ) -> Result<bool, AllocError>
-    ensures { (m : meant.MemberRule) → has_names program.now class.now ≡ true → IsMemberOf line.now m → IfOk result (λ has. has ≡ has_match (named_class program.now class.now) m) }
+    ensures { (m : meant.MemberRule) → has_names program.now class.now ≡ true → IsMemberOf line.now m
+        → IfOk result (λ has. has ≡ has_match (named_class program.now class.now) m) }
 {
     Ok(
         has_method(line, program, class.methods.as_slice(), row)?
@@ -300,7 +315,8 @@ pub fn has_each_line(
     class: &Class,
     row: &mut Vec<bool>,
 ) -> Result<bool, AllocError>
-    ensures { (ms : List meant.MemberRule) → has_names program.now class.now ≡ true → AreEach IsMemberOf lines.now ms → IfOk result (λ all. all ≡ list_all (has_match (named_class program.now class.now)) ms) }
+    ensures { (ms : List meant.MemberRule) → has_names program.now class.now ≡ true → AreEach IsMemberOf lines.now ms
+        → IfOk result (λ all. all ≡ list_all (has_match (named_class program.now class.now)) ms) }
 {
     for line in lines {
         let has = has_member(line, program, class, row)?;

@@ -22,9 +22,9 @@ mod analysis;
 mod bodies;
 mod edges;
 mod entries;
-mod fill;
 mod numbers;
 mod quiet;
+mod starts;
 
 pub use analysis::analyse;
 pub use facts::Facts;

@@ -78,9 +78,9 @@ fn handed_on(
     position: usize,
     here: Option<&PatMap<Value>>,
 ) -> Result<Option<Option<PatMap<Value>>>, AllocError>
-    requires known { AreKnown known.now }
     requires short { position < 2 ^ 32 }
-    ensures { IfOk result (λ o. IfSome o (λ next. IsStep known.now site.now.class site.now.number site.now.body.now site.now.starts.now position (option_copied here.entry) next)) }
+    ensures { AreKnown known.now
+        → IfOk result (λ o. IfSome o (λ next. IsStep known.now site.now.class site.now.number site.now.body.now site.now.starts.now position (option_copied here.entry) next)) }
 {
     let insns = site.body.insns.as_slice();
     match insns.get(position) {
@@ -114,8 +114,8 @@ fn walk(
     known: &Known<'_>,
     site: &Site<'_>,
 ) -> Result<Option<Vec<Option<Frame>>>, AllocError>
-    requires { AreKnown known.now }
-    ensures { IfOk result (λ o. IfSome o (λ frames. IsFilled known.now site.now.class site.now.number site.now.body.now site.now.starts.now frames.items)) }
+    ensures { AreKnown known.now
+        → IfOk result (λ o. IfSome o (λ frames. IsFilled known.now site.now.class site.now.number site.now.body.now site.now.starts.now frames.items)) }
 {
     let count = site.body.insns.len();
     if count >= 4294967296 || site.starts.len() != count {
@@ -196,8 +196,7 @@ pub(crate) fn fill_body(
     known: &Known<'_>,
     site: &Site<'_>,
 ) -> Result<Option<Vec<Option<Frame>>>, AllocError>
-    requires { AreKnown known.now }
-    ensures { IfOk result (λ o. IfSome o (λ frames. AreFrames known.now site.now.class site.now.number site.now.body.now frames.items)) }
+    ensures { AreKnown known.now → IfOk result (λ o. IfSome o (λ frames. AreFrames known.now site.now.class site.now.number site.now.body.now frames.items)) }
 {
     if !is_on(&known.live.methods, site.number) {
         return Ok(None);

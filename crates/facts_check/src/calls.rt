@@ -65,8 +65,7 @@ fn holds_bound(
     args: &[u16],
     registers: &PatMap<Value>,
 ) -> Result<bool, AllocError>
-    requires { AreKnown known.now }
-    ensures { IfOk result (λ b. b ≡ true → IsBoundCall known.now class method kind args.now registers.now) }
+    ensures { AreKnown known.now → IfOk result (λ b. b ≡ true → IsBoundCall known.now class method kind args.now registers.now) }
 {
     match bound_target(alloc, known.program, known.hierarchy, class, kind, method)? {
         Target::One(at) => match method_at(known.program, at) {
@@ -123,8 +122,7 @@ fn holds_call(
     args: &[u16],
     registers: &PatMap<Value>,
 ) -> Result<bool, AllocError>
-    requires { AreKnown known.now }
-    ensures { IfOk result (λ b. b ≡ true → HoldsCall known.now class kind method args.now registers.now) }
+    ensures { AreKnown known.now → IfOk result (λ b. b ≡ true → HoldsCall known.now class kind method args.now registers.now) }
 {
     match kind {
         InvokeKind::Virtual => Ok(is_pooled(known, 2 * method as usize, args, registers)),
@@ -141,8 +139,7 @@ pub(crate) fn holds_calls(
     insn: &Insn,
     registers: &PatMap<Value>,
 ) -> Result<bool, AllocError>
-    requires { AreKnown known.now }
-    ensures { IfOk result (λ b. b ≡ true → HoldsCalls known.now class insn.now registers.now) }
+    ensures { AreKnown known.now → IfOk result (λ b. b ≡ true → HoldsCalls known.now class insn.now registers.now) }
 {
     match insn {
         Insn::Invoke { kind, method, args } => holds_call(

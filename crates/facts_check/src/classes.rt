@@ -46,8 +46,7 @@ fn are_begun(known: &Known<'_>) -> bool
 
 /// Whether the superclass of the class at a place is marked, if the program defines it.
 fn above_holds(known: &Known<'_>, place: u32) -> bool
-    requires { AreKnown known.now }
-    ensures { result ≡ true → (u : ℕ) → super_place known.now.program.now place ≡ Some u → is_needed known.now u ≡ true }
+    ensures { AreKnown known.now → result ≡ true → (u : ℕ) → super_place known.now.program.now place ≡ Some u → is_needed known.now u ≡ true }
 {
     match known.hierarchy.super_of(place) {
         Some(above) => is_on(&known.marks.needed, above),
@@ -57,8 +56,7 @@ fn above_holds(known: &Known<'_>, place: u32) -> bool
 
 /// Whether the interfaces of the class at a place are listed.
 fn lists_hold(known: &Known<'_>, place: u32) -> bool
-    requires { AreKnown known.now }
-    ensures { result ≡ true → AreListed known.now (interface_places known.now.program.now place) }
+    ensures { AreKnown known.now → result ≡ true → AreListed known.now (interface_places known.now.program.now place) }
 {
     are_on(&known.marks.listed, known.hierarchy.interfaces_of(place))
 }
@@ -75,8 +73,9 @@ fn has_defaults(known: &Known<'_>) -> bool
 
 /// Whether the initialiser of the class at a place is known to be entered, if it has one.
 fn initialiser_holds(known: &Known<'_>, place: u32) -> bool
-    requires { AreKnown known.now }
-    ensures { result ≡ true → (i : ℕ) (m : Method) → initialiser_place known.now.program.now place ≡ Some i → method_at known.now.program.now (record { class = place; place = i }) ≡ Some m → is_marked known.now.marks.now.entered.items m.name ≡ true }
+    ensures { AreKnown known.now → result ≡ true → (i : ℕ) (m : Method)
+        → initialiser_place known.now.program.now place ≡ Some i
+        → method_at known.now.program.now (record { class = place; place = i }) ≡ Some m → is_marked known.now.marks.now.entered.items m.name ≡ true }
 {
     match known.hierarchy.initialiser_of(place) {
         Some(at) => match method_at(known.program, at) {
@@ -89,16 +88,14 @@ fn initialiser_holds(known: &Known<'_>, place: u32) -> bool
 
 /// Whether a method is a virtual one with code.
 fn is_default(known: &Known<'_>, method: &Method) -> bool
-    requires { AreKnown known.now }
-    ensures { result ≡ (not (is_direct known.now.program.now method.now) && is_some method.now.body) }
+    ensures { AreKnown known.now → result ≡ (not (is_direct known.now.program.now method.now) && is_some method.now.body) }
 {
     known.hierarchy.is_virtual(method) && method.body.is_some()
 }
 
 /// Whether a class has a virtual method with code.
 fn has_default(known: &Known<'_>, methods: &[Method]) -> bool
-    requires { AreKnown known.now }
-    ensures { result ≡ list_any (λ m. not (is_direct known.now.program.now m) && is_some m.body) methods.now }
+    ensures { AreKnown known.now → result ≡ list_any (λ m. not (is_direct known.now.program.now m) && is_some m.body) methods.now }
 {
     for method in methods {
         if is_default(known, method) {
@@ -117,8 +114,7 @@ fn is_interface(class: &Class) -> bool
 
 /// Whether what comes before a marked class is marked, and its initialiser entered.
 fn needed_holds(known: &Known<'_>, place: u32, class: &Class) -> bool
-    requires { AreKnown known.now }
-    ensures { result ≡ true → IsNeededHeld known.now place class.now }
+    ensures { AreKnown known.now → result ≡ true → IsNeededHeld known.now place class.now }
 {
     if !is_on(&known.marks.needed, place) {
         return true;
@@ -133,8 +129,7 @@ fn needed_holds(known: &Known<'_>, place: u32, class: &Class) -> bool
 
 /// Whether what follows from a listed interface is marked.
 fn listed_holds(known: &Known<'_>, place: u32, class: &Class) -> bool
-    requires { AreKnown known.now }
-    ensures { result ≡ true → IsListedHeld known.now place class.now }
+    ensures { AreKnown known.now → result ≡ true → IsListedHeld known.now place class.now }
 {
     if !is_on(&known.marks.listed, place) || !is_interface(class) {
         return true;
@@ -145,16 +140,15 @@ fn listed_holds(known: &Known<'_>, place: u32, class: &Class) -> bool
 
 /// Whether the marks of the class at a place are closed.
 fn class_holds(known: &Known<'_>, place: u32, class: &Class) -> bool
-    requires { AreKnown known.now }
-    ensures { result ≡ true → IsStarted known.now place class.now }
+    ensures { AreKnown known.now → result ≡ true → IsStarted known.now place class.now }
 {
     needed_holds(known, place, class) && listed_holds(known, place, class)
 }
 
 /// Whether the marks of all classes are closed.
 fn all_classes(known: &Known<'_>) -> bool
-    requires { AreKnown known.now }
-    ensures { result ≡ true → (c : ℕ) (class : Class) → slice_get known.now.program.now.classes c ≡ Some class → IsStarted known.now c class }
+    ensures { AreKnown known.now → result ≡ true → (c : ℕ) (class : Class)
+        → slice_get known.now.program.now.classes c ≡ Some class → IsStarted known.now c class }
 {
     let classes = known.program.classes.as_slice();
     if classes.len() >= 4294967296 {
@@ -170,8 +164,7 @@ fn all_classes(known: &Known<'_>) -> bool
 
 /// Whether the classes that may be initialised are known to be.
 pub(crate) fn classes_hold(known: &Known<'_>) -> bool
-    requires { AreKnown known.now }
-    ensures { result ≡ true → Classes known.now }
+    ensures { AreKnown known.now → result ≡ true → Classes known.now }
 {
     are_begun(known) && all_classes(known)
 }

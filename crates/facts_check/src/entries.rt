@@ -42,8 +42,7 @@ fn words_of<'a>(known: &'a Known<'_>, method: u32) -> &'a [Value]
 
 /// Whether a method may be passed anything.
 fn takes_any(known: &Known<'_>, method: u32) -> bool
-    requires { AreKnown known.now }
-    ensures { result ≡ true → TakesAny known.now method }
+    ensures { AreKnown known.now → result ≡ true → TakesAny known.now method }
 {
     are_any(words_of(known, method))
 }
@@ -82,8 +81,8 @@ fn are_entered(frames: &[Seq<Option<Frame>>], marks: &[bool]) -> bool
 
 /// Whether each method that the framework may enter is marked, and takes anything.
 fn are_opened(known: &Known<'_>) -> bool
-    requires { AreKnown known.now }
-    ensures { result ≡ true → (method : ℕ) → slice_get known.now.targets.now.entered.items method ≡ Some true → IsOpened known.now method }
+    ensures { AreKnown known.now → result ≡ true → (method : ℕ)
+        → slice_get known.now.targets.now.entered.items method ≡ Some true → IsOpened known.now method }
 {
     let entered = known.targets.entered.as_slice();
     if entered.len() >= 4294967296 {
@@ -101,16 +100,14 @@ fn are_opened(known: &Known<'_>) -> bool
 
 /// Whether a method may be passed anything, and give anything.
 fn is_open_ended(known: &Known<'_>, method: u32) -> bool
-    requires { AreKnown known.now }
-    ensures { result ≡ true → IsOpenEnded known.now method }
+    ensures { AreKnown known.now → result ≡ true → IsOpenEnded known.now method }
 {
     takes_any(known, method) && is_any(known.facts.result(method))
 }
 
 /// Whether the methods of a class that have no code take and give anything.
 fn are_bare(known: &Known<'_>, methods: &[Method]) -> bool
-    requires { AreKnown known.now }
-    ensures { result ≡ true → AreBare known.now methods.now }
+    ensures { AreKnown known.now → result ≡ true → AreBare known.now methods.now }
 {
     for method in methods {
         if method.body.is_none() && !is_open_ended(known, method.name) {
@@ -122,8 +119,8 @@ fn are_bare(known: &Known<'_>, methods: &[Method]) -> bool
 
 /// Whether all methods without code take and give anything.
 fn all_bare(known: &Known<'_>) -> bool
-    requires { AreKnown known.now }
-    ensures { result ≡ true → (c : ℕ) (class : Class) → slice_get known.now.program.now.classes c ≡ Some class → AreBare known.now class.methods }
+    ensures { AreKnown known.now → result ≡ true → (c : ℕ) (class : Class)
+        → slice_get known.now.program.now.classes c ≡ Some class → AreBare known.now class.methods }
 {
     for class in known.program.classes.as_slice() {
         if !are_bare(known, class.methods.as_slice()) {
@@ -135,8 +132,7 @@ fn all_bare(known: &Known<'_>) -> bool
 
 /// Whether what is entered is known to be.
 pub(crate) fn entries_hold(known: &Known<'_>, frames: &[Seq<Option<Frame>>]) -> bool
-    requires { AreKnown known.now }
-    ensures { result ≡ true → Entries known.now frames.now }
+    ensures { AreKnown known.now → result ≡ true → Entries known.now frames.now }
 {
     are_entered(frames, &known.marks.entered) && are_opened(known) && all_bare(known)
 }
@@ -159,8 +155,7 @@ fn words_hold(words: &[Value], pool: &PatMap<Value>) -> bool
 /// Whether a method that a call may enter, if a run comes to such a call, is known to be entered and takes what is passed to
 /// the pool of the call, and whether what it gives is among the call's answers.
 fn link_holds(known: &Known<'_>, link: &Link) -> bool
-    requires { AreKnown known.now }
-    ensures { result ≡ true → IsLinkHeld known.now link.now }
+    ensures { AreKnown known.now → result ≡ true → IsLinkHeld known.now link.now }
 {
     let pools = known.pools;
     match (
@@ -179,8 +174,8 @@ fn link_holds(known: &Known<'_>, link: &Link) -> bool
 
 /// Whether each link holds.
 fn all_linked(known: &Known<'_>) -> bool
-    requires { AreKnown known.now }
-    ensures { result ≡ true → (i : ℕ) (link : Link) → slice_get known.now.targets.now.links.items i ≡ Some link → IsLinkHeld known.now link }
+    ensures { AreKnown known.now → result ≡ true → (i : ℕ) (link : Link)
+        → slice_get known.now.targets.now.links.items i ≡ Some link → IsLinkHeld known.now link }
 {
     for link in known.targets.links.as_slice() {
         if !link_holds(known, link) {
@@ -208,8 +203,7 @@ fn all_left(known: &Known<'_>) -> bool
 
 /// Whether the pools of virtual and interface calls hold.
 pub(crate) fn links_hold(known: &Known<'_>) -> bool
-    requires { AreKnown known.now }
-    ensures { result ≡ true → Links known.now }
+    ensures { AreKnown known.now → result ≡ true → Links known.now }
 {
     all_linked(known) && all_left(known)
 }

@@ -26,8 +26,7 @@ use value_ops::{any_object, stored};
 
 /// Whether a field holds a value that is put into it by a number that names it.
 fn holds_put(known: &Known<'_>, field: u32, value: &Value) -> bool
-    requires { AreKnown known.now }
-    ensures { result ≡ true → HoldsPut known.now (own_number known.now.program.now field) value.now }
+    ensures { AreKnown known.now → result ≡ true → HoldsPut known.now (own_number known.now.program.now field) value.now }
 {
     match own_number(known, field) {
         Some(own) => is_below(value, known.facts.field(own)),
@@ -37,8 +36,7 @@ fn holds_put(known: &Known<'_>, field: u32, value: &Value) -> bool
 
 /// Whether a field holds what an instruction puts into it.
 pub(crate) fn holds_puts(known: &Known<'_>, insn: &Insn, registers: &PatMap<Value>) -> bool
-    requires { AreKnown known.now }
-    ensures { result ≡ true → HoldsPuts known.now insn.now registers.now }
+    ensures { AreKnown known.now → result ≡ true → HoldsPuts known.now insn.now registers.now }
 {
     match insn {
         Insn::InstancePut {

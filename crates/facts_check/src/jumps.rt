@@ -119,7 +119,8 @@ fn behind_switch(
     registers: &PatMap<Value>,
 ) -> Result<Next, AllocError>
     requires { targets_of insn.now ≡ targets.now }
-    ensures { (n : ℕ) → IfOk result (λ o. IfSome o (λ next. EachGoes starts.now n next (arm (n + 1) (unswitched insn.now registers.now) ++ cases_from 0 insn.now targets.now registers.now))) }
+    ensures { (n : ℕ)
+        → IfOk result (λ o. IfSome o (λ next. EachGoes starts.now n next (arm (n + 1) (unswitched insn.now registers.now) ++ cases_from 0 insn.now targets.now registers.now))) }
 {
     if targets.len() >= 4294967296 || !cases_land(alloc, starts, insn, targets, registers)? {
         return Ok(None);
@@ -164,8 +165,7 @@ fn behind_step(
     given: &Value,
     registers: &PatMap<Value>,
 ) -> Result<Option<PatMap<Value>>, AllocError>
-    requires { AreKnown known.now }
-    ensures { IfOk result (λ next. next ≡ after known.now.program.now insn.now given.now registers.now) }
+    ensures { AreKnown known.now → IfOk result (λ next. next ≡ after known.now.program.now insn.now given.now registers.now) }
 {
     step(alloc, &known.classes, registers, insn, given)
 }
@@ -179,8 +179,8 @@ pub(crate) fn behind(
     insn: &Insn,
     registers: &PatMap<Value>,
 ) -> Result<Next, AllocError>
-    requires { AreKnown known.now }
-    ensures { (n : ℕ) → IfOk result (λ o. IfSome o (λ next. EachGoes starts.now n next (edges known.now.program.now known.now.facts.now n insn.now registers.now))) }
+    ensures { AreKnown known.now → (n : ℕ)
+        → IfOk result (λ o. IfSome o (λ next. EachGoes starts.now n next (edges known.now.program.now known.now.facts.now n insn.now registers.now))) }
 {
     match insn {
         Insn::Goto { target } => Ok(behind_goto(starts, *target, registers)),

@@ -45,8 +45,7 @@ fn is_interface(program: &Program, place: u32) -> bool
 
 /// Whether the class that a method number names is an interface of the program.
 pub(crate) fn names_interface(known: &Known<'_>, method: u32) -> bool
-    requires { AreKnown known.now }
-    ensures { result ≡ names_interface known.now.program.now method }
+    ensures { AreKnown known.now → result ≡ names_interface known.now.program.now method }
 {
     match known.program.methods.as_slice().get(method as usize) {
         Some(name) => match known.hierarchy.place_of(name.class) {
@@ -59,8 +58,7 @@ pub(crate) fn names_interface(known: &Known<'_>, method: u32) -> bool
 
 /// The place of the class whose field a number names.
 pub(crate) fn class_of_field(known: &Known<'_>, field: u32) -> Option<u32>
-    requires { AreKnown known.now }
-    ensures { result ≡ option_map (λ at. at.0) (resolves_field known.now.program.now field) }
+    ensures { AreKnown known.now → result ≡ option_map (λ at. at.0) (resolves_field known.now.program.now field) }
 {
     match known.hierarchy.resolve_field(known.program, field) {
         Some((class, _)) => Some(class),
@@ -70,8 +68,7 @@ pub(crate) fn class_of_field(known: &Known<'_>, field: u32) -> Option<u32>
 
 /// The number by which the program defines the field that a number names.
 pub(crate) fn own_number(known: &Known<'_>, field: u32) -> Option<u32>
-    requires { AreKnown known.now }
-    ensures { result ≡ own_number known.now.program.now field }
+    ensures { AreKnown known.now → result ≡ own_number known.now.program.now field }
 {
     match known.hierarchy.resolve_field(known.program, field) {
         Some(at) => match field_in(known.program, at) {
@@ -84,8 +81,7 @@ pub(crate) fn own_number(known: &Known<'_>, field: u32) -> Option<u32>
 
 /// What a field holds that a number names.
 fn field_value<'a>(known: &'a Known<'_>, field: u32) -> &'a Value
-    requires { AreKnown known.now }
-    ensures { result.now ≡ field_value known.now.program.now known.now.facts.now field }
+    ensures { AreKnown known.now → result.now ≡ field_value known.now.program.now known.now.facts.now field }
 {
     match own_number(known, field) {
         Some(own) => known.facts.field(own),
@@ -95,8 +91,7 @@ fn field_value<'a>(known: &'a Known<'_>, field: u32) -> &'a Value
 
 /// What a get takes.
 pub(crate) fn given(known: &Known<'_>, insn: &Insn) -> Value
-    requires { AreKnown known.now }
-    ensures { result ≡ given known.now.program.now known.now.facts.now insn.now }
+    ensures { AreKnown known.now → result ≡ given known.now.program.now known.now.facts.now insn.now }
 {
     match insn {
         Insn::InstanceGet { field, .. } | Insn::StaticGet { field, .. } => {

@@ -50,8 +50,7 @@ fn frames_from(
     body: &Body,
     starts: &[Start],
 ) -> Result<Option<Vec<Option<Frame>>>, AllocError>
-    requires { AreKnown known.now }
-    ensures { IfOk result (λ o. IfSome o (λ frames. AreFrames known.now class number body.now frames.items)) }
+    ensures { AreKnown known.now → IfOk result (λ o. IfSome o (λ frames. AreFrames known.now class number body.now frames.items)) }
 {
     if starts.is_empty() {
         return Ok(Some(Vec::new(alloc)));
@@ -93,8 +92,7 @@ impl Table {
         method: &Method,
         starts: &[Seq<Start>],
     ) -> Result<bool, AllocError>
-        requires { AreKnown known.now }
-        ensures { IfOk result (λ b. b ≡ true → Adds known.now class method.now.name method.now.body self.old self.new) }
+        ensures { AreKnown known.now → IfOk result (λ b. b ≡ true → Adds known.now class method.now.name method.now.body self.old self.new) }
     {
         let Some(body) = &method.body else {
             return Ok(true);
@@ -116,10 +114,9 @@ impl Table {
         class: &Class,
         starts: &[Seq<Start>],
     ) -> Result<bool, AllocError>
-        requires known { AreKnown known.now }
         requires is { slice_get known.now.program.now.classes place ≡ Some class.now }
-        requires before { IsFilledTo known.now self.old place 0 }
-        ensures { IfOk result (λ b. b ≡ true → IsFilledTo known.now self.new (place + 1) 0) }
+        requires before { AreKnown known.now → IsFilledTo known.now self.old place 0 }
+        ensures { AreKnown known.now → IfOk result (λ b. b ≡ true → IsFilledTo known.now self.new (place + 1) 0) }
     {
         for method in class.methods.as_slice() {
             if !self.add(alloc, known, place, method, starts)? {
@@ -145,8 +142,7 @@ pub fn fill(
     known: &Known<'_>,
     starts: &[Seq<Start>],
 ) -> Result<Option<Vec<Seq<Option<Frame>>>>, AllocError>
-    requires { AreKnown known.now }
-    ensures { IfOk result (λ o. IfSome o (λ frames. AreFilled known.now frames.items)) }
+    ensures { AreKnown known.now → IfOk result (λ o. IfSome o (λ frames. AreFilled known.now frames.items)) }
 {
     let mut table = empty_table(alloc, known.program.methods.len())?;
     let classes = known.program.classes.as_slice();
@@ -164,8 +160,7 @@ pub fn fill(
 
 /// Whether all else is closed: entries, classes that are initialised, fields, and the pools of calls.
 pub fn holds(known: &Known<'_>, frames: &[Seq<Option<Frame>>]) -> bool
-    requires { AreKnown known.now }
-    ensures { result ≡ true → Holds known.now frames.now }
+    ensures { AreKnown known.now → result ≡ true → Holds known.now frames.now }
 {
     entries_hold(known, frames) && classes_hold(known) && links_hold(known) && fields_hold(known)
 }

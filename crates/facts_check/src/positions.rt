@@ -43,8 +43,7 @@ fn is_needed(known: &Known<'_>, class: Option<u32>) -> bool
 
 /// The place of the class of the method that a static call finds.
 fn class_of_method(known: &Known<'_>, method: u32) -> Option<u32>
-    requires { AreKnown known.now }
-    ensures { result ≡ option_map (λ at. at.class) (finds_static known.now.program.now method) }
+    ensures { AreKnown known.now → result ≡ option_map (λ at. at.class) (finds_static known.now.program.now method) }
 {
     match known.hierarchy.find_static(known.program, method) {
         Some(at) => Some(at.class),
@@ -54,8 +53,7 @@ fn class_of_method(known: &Known<'_>, method: u32) -> Option<u32>
 
 /// Whether what an instruction needs is known to be needed.
 fn are_needed(known: &Known<'_>, insn: &Insn) -> bool
-    requires { AreKnown known.now }
-    ensures { result ≡ are_needed known.now insn.now }
+    ensures { AreKnown known.now → result ≡ are_needed known.now insn.now }
 {
     match insn {
         Insn::NewInstance { kind, .. } => is_needed(known, known.hierarchy.place_of(*kind)),
@@ -93,8 +91,8 @@ fn handed(
     insn: &Insn,
     registers: &PatMap<Value>,
 ) -> Result<Next, AllocError>
-    requires { AreKnown known.now }
-    ensures { (n : ℕ) → IfOk result (λ o. IfSome o (λ next. IsHanded known.now site.now.class site.now.starts.now n (option_copied before.entry) insn.now registers.now next)) }
+    ensures { AreKnown known.now → (n : ℕ)
+        → IfOk result (λ o. IfSome o (λ next. IsHanded known.now site.now.class site.now.starts.now n (option_copied before.entry) insn.now registers.now next)) }
 {
     match insn {
         Insn::MoveResult { .. } => {
@@ -114,8 +112,8 @@ fn is_known(
     insn: &Insn,
     registers: &PatMap<Value>,
 ) -> Result<bool, AllocError>
-    requires { AreKnown known.now }
-    ensures { IfOk result (λ b. b ≡ true → DoesKnown known.now site.now.class site.now.number site.now.body.now site.now.starts.now position insn.now registers.now) }
+    ensures { AreKnown known.now
+        → IfOk result (λ b. b ≡ true → DoesKnown known.now site.now.class site.now.number site.now.body.now site.now.starts.now position insn.now registers.now) }
 {
     if !are_needed(known, insn)
         || !holds_puts(known, insn, registers)
@@ -137,8 +135,9 @@ fn placed_at(
     insn: &Insn,
     registers: &PatMap<Value>,
 ) -> Result<Next, AllocError>
-    requires { AreKnown known.now }
-    ensures { IfOk result (λ o. IfSome o (λ next. IsPlaced known.now site.now.class site.now.number site.now.body.now site.now.starts.now position (option_copied before.entry) insn.now registers.now next)) }
+    ensures { AreKnown known.now
+        → IfOk result (λ o. IfSome o (λ next. IsPlaced known.now site.now.class site.now.number site.now.body.now site.now.starts.now position
+            (option_copied before.entry) insn.now registers.now next)) }
 {
     if is_known(alloc, known, site, position, insn, registers)? {
         handed(alloc, known, site, before, insn, registers)
@@ -157,8 +156,9 @@ pub(crate) fn placed(
     insn: &Insn,
     registers: Option<&PatMap<Value>>,
 ) -> Result<Next, AllocError>
-    requires { AreKnown known.now }
-    ensures { IfOk result (λ o. IfSome o (λ next. PlacedIf known.now site.now.class site.now.number site.now.body.now site.now.starts.now position (option_copied before.entry) insn.now (option_copied registers.entry) next)) }
+    ensures { AreKnown known.now
+        → IfOk result (λ o. IfSome o (λ next. PlacedIf known.now site.now.class site.now.number site.now.body.now site.now.starts.now position
+            (option_copied before.entry) insn.now (option_copied registers.entry) next)) }
 {
     match registers {
         Some(registers) => { placed_at(alloc, known, site, position, before, insn, registers) }

@@ -22,8 +22,7 @@ fn bound_result(
     kind: InvokeKind,
     method: u32,
 ) -> Result<Value, AllocError>
-    requires { AreKnown known.now }
-    ensures { IfOk result (λ v. IsBoundResult known.now class method kind v) }
+    ensures { AreKnown known.now → IfOk result (λ v. IsBoundResult known.now class method kind v) }
 {
     match bound_target(alloc, known.program, known.hierarchy, class, kind, method)? {
         Target::One(at) => match method_at(known.program, at) {
@@ -47,8 +46,7 @@ fn answer_at(known: &Known<'_>, number: usize) -> Value
 
 /// What a virtual call gives: anything where it names an interface, which its receiver needn't have.
 fn virtual_result(known: &Known<'_>, method: u32) -> Value
-    requires { AreKnown known.now }
-    ensures { IsVirtualResult known.now method result }
+    ensures { AreKnown known.now → IsVirtualResult known.now method result }
 {
     if names_interface(known, method) {
         Value::any()
@@ -65,8 +63,7 @@ fn result_of(
     kind: InvokeKind,
     method: u32,
 ) -> Result<Value, AllocError>
-    requires { AreKnown known.now }
-    ensures { IfOk result (λ v. HoldsResult known.now class kind method v) }
+    ensures { AreKnown known.now → IfOk result (λ v. HoldsResult known.now class kind method v) }
 {
     match kind {
         InvokeKind::Virtual => Ok(virtual_result(known, method)),
@@ -82,8 +79,7 @@ fn given_behind(
     class: u32,
     insn: &Insn,
 ) -> Result<Value, AllocError>
-    requires { AreKnown known.now }
-    ensures { IfOk result (λ v. HoldsResults known.now class insn.now v) }
+    ensures { AreKnown known.now → IfOk result (λ v. HoldsResults known.now class insn.now v) }
 {
     match insn {
         Insn::Invoke { kind, method, .. } => result_of(alloc, known, class, *kind, *method),
@@ -98,8 +94,7 @@ pub(crate) fn taken_behind(
     class: u32,
     before: Option<&Insn>,
 ) -> Result<Value, AllocError>
-    requires { AreKnown known.now }
-    ensures { IfOk result (λ v. HoldsBehind known.now class (option_copied before.entry) v) }
+    ensures { AreKnown known.now → IfOk result (λ v. HoldsBehind known.now class (option_copied before.entry) v) }
 {
     match before {
         Some(insn) => given_behind(alloc, known, class, insn),

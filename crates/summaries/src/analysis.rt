@@ -21,7 +21,7 @@ use call_targets::{Targets, targets};
 use dom_frame::{Classes, Frame};
 use domains::Value;
 use fact_graph::{
-    Arrival, Bodies, Code, Links, Network, blocks_of, classes_of, is_reached, places_of, solved,
+    Arrival, Bodies, Code, Links, Network, blocks_of, is_reached, places_of, solved, word,
 };
 use facts::Facts;
 use facts_check::{Known, Marks, Pools, Start, fill, holds};
@@ -391,9 +391,8 @@ fn checked(
     known: &Known<'_>,
     starts: &[Seq<Start>],
 ) -> Result<Option<Vec<Seq<Option<Frame>>>>, AllocError>
-    requires { AreKnown known.now }
-    ensures filled { IfOk result (λ o. IfSome o (λ frames. AreFilled known.now frames.items)) }
-    ensures holds { IfOk result (λ o. IfSome o (λ frames. Holds known.now frames.items)) }
+    ensures filled { AreKnown known.now → IfOk result (λ o. IfSome o (λ frames. AreFilled known.now frames.items)) }
+    ensures holds { AreKnown known.now → IfOk result (λ o. IfSome o (λ frames. Holds known.now frames.items)) }
 {
     match fill(alloc, known, starts)? {
         Some(frames) => {
@@ -438,11 +437,10 @@ fn certified(
     pieces: Pieces,
     states: &[Arrival],
 ) -> Result<Option<Facts>, AllocError>
-    requires formed { is_well_formed bounds.program.now ≡ true }
-    requires resolved { IsResolved bounds.program.now bounds.hierarchy.now }
-    requires classes { AreClasses bounds.program.now bounds.classes }
-    requires any { pieces.facts.any ≡ any_value }
-    ensures { IfOk result (λ o. IfSome o (AreClosed bounds.program.now bounds.outside.now bounds.live.now bounds.found.now)) }
+    requires { pieces.facts.any ≡ any_value }
+    ensures { is_well_formed bounds.program.now ≡ true → IsResolved bounds.program.now bounds.hierarchy.now
+        → AreClasses bounds.program.now bounds.classes
+        → IfOk result (λ o. IfSome o (AreClosed bounds.program.now bounds.outside.now bounds.live.now bounds.found.now)) }
 {
     let Pieces {
         facts,
@@ -494,6 +492,23 @@ fn draw<'a>(
     Ok((links, ranges))
 }
 
+/// The classes of a program by the table of their places.
+#[tactic(auto, using(fact_graph::proofs::Places::known_classes))]
+fn classes_in<'a>(
+    program: &Program,
+    hierarchy: &'a Hierarchy,
+    places: &'a [Option<u32>],
+) -> Classes<'a>
+    requires { ArePlaces hierarchy.now (length program.now.types) places.now }
+    ensures { is_well_formed program.now ≡ true → IsResolved program.now hierarchy.now → AreClasses program.now result }
+{
+    Classes {
+        places,
+        count: word(program.classes.len()),
+        hierarchy,
+    }
+}
+
 /// What is known by the graph of a program.
 fn solved_facts<'a>(
     alloc: Global,
@@ -506,14 +521,13 @@ fn solved_facts<'a>(
     found: &Targets,
     drawn: (Links, Vec<usize>),
 ) -> Result<Option<Facts>, AllocError>
-    requires formed { is_well_formed program.now ≡ true }
-    requires resolved { IsResolved program.now hierarchy.now }
-    requires places { ArePlaces hierarchy.now (length program.now.types) places.now }
-    ensures { IfOk result (λ o. IfSome o (AreClosed program.now outside.now live.now found.now)) }
+    requires { ArePlaces hierarchy.now (length program.now.types) places.now }
+    ensures { is_well_formed program.now ≡ true → IsResolved program.now hierarchy.now
+        → IfOk result (λ o. IfSome o (AreClosed program.now outside.now live.now found.now)) }
 {
     let numbering = numbering_of(program, bodies);
     let (links, ranges) = drawn;
-    let classes = classes_of(program, hierarchy, places);
+    let classes = classes_in(program, hierarchy, places);
     let network = Network {
         program,
         classes,
@@ -550,10 +564,9 @@ fn facts_of_bodies<'a>(
     places: &'a [Option<u32>],
     bodies: Bodies<'a>,
 ) -> Result<Option<Facts>, AllocError>
-    requires formed { is_well_formed program.now ≡ true }
-    requires resolved { IsResolved program.now hierarchy.now }
-    requires places { ArePlaces hierarchy.now (length program.now.types) places.now }
-    ensures { IfOk result (λ o. IfSome o (AreClosed program.now outside.now live.now found.now)) }
+    requires { ArePlaces hierarchy.now (length program.now.types) places.now }
+    ensures { is_well_formed program.now ≡ true → IsResolved program.now hierarchy.now
+        → IfOk result (λ o. IfSome o (AreClosed program.now outside.now live.now found.now)) }
 {
     let drawn = draw(alloc, program, hierarchy, outside, &bodies, found)?;
     solved_facts(
@@ -569,10 +582,9 @@ fn facts_of_places<'a>(
     outside: &Outside,
     places: &'a [Option<u32>],
 ) -> Result<Option<Facts>, AllocError>
-    requires formed { is_well_formed program.now ≡ true }
-    requires resolved { IsResolved program.now hierarchy.now }
-    requires places { ArePlaces hierarchy.now (length program.now.types) places.now }
-    ensures { IfOk result (λ o. IfSome o (IsCertified program.now outside.now)) }
+    requires { ArePlaces hierarchy.now (length program.now.types) places.now }
+    ensures { is_well_formed program.now ≡ true → IsResolved program.now hierarchy.now
+        → IfOk result (λ o. IfSome o (IsCertified program.now outside.now)) }
 {
     let live = live_members(alloc, program, hierarchy, outside)?;
     let found = targets(alloc, program, hierarchy, outside, &live)?;
@@ -592,9 +604,8 @@ pub fn analyse(
     hierarchy: &Hierarchy,
     outside: &Outside,
 ) -> Result<Option<Facts>, AllocError>
-    requires formed { is_well_formed program.now ≡ true }
-    requires resolved { IsResolved program.now hierarchy.now }
-    ensures { IfOk result (λ o. IfSome o (IsCertified program.now outside.now)) }
+    ensures { is_well_formed program.now ≡ true → IsResolved program.now hierarchy.now
+        → IfOk result (λ o. IfSome o (IsCertified program.now outside.now)) }
 {
     let places = places_of(alloc, hierarchy, program.types.len())?;
     facts_of_places(alloc, program, hierarchy, outside, &places)

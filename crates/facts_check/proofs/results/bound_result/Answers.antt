@@ -10,9 +10,9 @@ use Rattle.facts_check.proofs.Bound.{bound_is, one_given}
 use Rattle.facts_check.proofs.results.bound_result.Goals as goal
 
 pub returns-in-Some : goal.returns-in-Some
-returns-in-Some c =
+returns-in-Some c = λ known.
     let p = c.args.known.now.program.now in
-    let t = bound_is p c.args.class c.args.method c.args.kind c.in_ok-at.field-0 c.requires.formed (c.in_ok-at.ensures c.requires.resolved.of) in
+    let t = bound_is p c.args.class c.args.method c.args.kind c.in_ok-at.field-0 known.formed (c.in_ok-at.ensures known.resolved.of) in
     let b : target.One c.in-One.at ≡ target_found (finds_bound p c.args.class c.args.method c.args.kind) = cc in
     let m : method_at p c.in-One.at ≡ Some c.in-Some.found.now = cc in
     let v : result_at c.args.known.now.facts.now c.in-Some.found.now.name ≡ c.same.result = cc in

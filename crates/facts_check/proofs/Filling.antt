@@ -13,7 +13,7 @@ use Rattle.facts_check.specs.declared.known.Known.{Known}
 use Rattle.facts_check.specs.declared.starts.Start.{Start}
 use Rattle.facts_check.specs.declared.starts.Start.TheVariants.{Inside, Idle, Comes}
 use Rattle.facts_check.specs.Bodies.{registers_in, registers_of, IsArrived, IsStep, IsLinked, IsKept, IsFilling, IsFilled, insn_before}
-use Rattle.facts_check.specs.Tables.{ComesBelow}
+use Rattle.facts_check.specs.Tables.{ComesBelow, PlacedIf}
 use Rattle.facts_check.specs.Placed.{IsPlaced}
 
 comes_same : (x y : Registers) → Some (Comes x) ≡ Some (Comes y) → Some x ≡ Some y
@@ -41,6 +41,20 @@ arrives_inside next = record { kept = λ z e. absurd (cc); onto = onto_itself ne
 
 pub arrives_past : (next : Option Registers) → IsArrived None next next
 arrives_past next = record { kept = λ z e. absurd (cc); onto = onto_itself next }
+
+-- ---- a step
+
+same_insn : (i j : Insn) → Some i ≡ Some j → i ≡ j
+same_insn i j e = cc
+
+-- what is placed at a position of the code is a step
+pub step_placed : (k : Known) (class method : ℕ) (b : Body) (starts : List Start) (n : ℕ) (i : Insn) (here next : Option Registers) → slice_get b.insns n ≡ Some i
+    → PlacedIf k class method b starts n (insn_before b.insns n) i here next → IsStep k class method b starts n here next
+step_placed k class method b starts n i here next e h = record { placed = λ j x f g. subst (λ (j : Insn). IsPlaced k class method b starts n (insn_before b.insns n) j x next) (same_insn i j (sym e ∙ f)) (by here h x g) }
+  where
+    by : (o : Option Registers) → PlacedIf k class method b starts n (insn_before b.insns n) i o next → (x : Registers) → o ≡ Some x → IsPlaced k class method b starts n (insn_before b.insns n) i x next
+    by None h x g = absurd (cc)
+    by (Some y) h x g = subst (λ (x : Registers). IsPlaced k class method b starts n (insn_before b.insns n) i x next) (some_same y x g) h
 
 -- ---- one frame more
 
@@ -109,6 +123,10 @@ module _ (k : Known) (class method : ℕ) (b : Body) (starts : List Start) where
     ];
     last = λ j t. let i : n ≡ j = omega arith in subst (λ m. Step m (registers_of (frames ++ f ∷ []) m) after) i (subst (λ o. Step n o after) (sym (seam frames n f h.long ∙ e)) s);
   }
+
+  pub next_filled : (frames more : List (Option Frame)) (n : ℕ) (next here after : Option Registers) (f : Option Frame) → IsFilling k class method b starts frames n next
+      → IsArrived (slice_get starts n) next here → Step n here after → registers_in f ≡ here → more ≡ frames ++ f ∷ [] → IsFilling k class method b starts more (n + 1) after
+  next_filled frames more n next here after f h a s e m = subst (λ (xs : List (Option Frame)). IsFilling k class method b starts xs (n + 1) after) (sym m) (one_filled frames n next here after f h a s e)
 
   -- at the end nothing is handed on
   pub all_filled : (frames : List (Option Frame)) (n : ℕ) (next : Option Registers) → IsFilling k class method b starts frames n next → next ≡ None → length b.insns ≡ n → length starts ≡ n

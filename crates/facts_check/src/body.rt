@@ -71,6 +71,7 @@ fn insn_before(insns: &[Insn], position: usize) -> Option<&Insn>
 }
 
 /// What a position hands on to the next one.
+#[tactic(auto, using(crate::proofs::Filling::step_placed))]
 fn handed_on(
     alloc: Global,
     known: &Known<'_>,
@@ -107,8 +108,35 @@ fn frame_of(registers: Option<PatMap<Value>>) -> Option<Frame>
     }
 }
 
+/// Fills in the frame of a position, and answers what the position hands on; none where what comes there isn't known, or
+/// what leaves it.
+#[tactic(auto, using(crate::proofs::Filling::next_filled))]
+fn fill_at(
+    alloc: Global,
+    known: &Known<'_>,
+    site: &Site<'_>,
+    position: usize,
+    next: Option<PatMap<Value>>,
+    frames: &mut Vec<Option<Frame>>,
+) -> Result<Option<Option<PatMap<Value>>>, AllocError>
+    requires { position < 2 ^ 32 }
+    ensures { AreKnown known.now
+        → IsFilling known.now site.now.class site.now.number site.now.body.now site.now.starts.now frames.old.items position next
+        → IfOk result (λ o. IfSome o (λ after. IsFilling known.now site.now.class site.now.number site.now.body.now site.now.starts.now
+        frames.new.items (position + 1) after)) }
+{
+    let Some(here) = arrived(site.starts.get(position), next)? else {
+        return Ok(None);
+    };
+    let Some(after) = handed_on(alloc, known, site, position, here.as_ref())? else {
+        return Ok(None);
+    };
+    frames.push(frame_of(here))?;
+    Ok(Some(after))
+}
+
 /// The frames of a body from what is known where its blocks begin; none where that isn't closed.
-#[tactic(auto, using(crate::proofs::Filling::none_filled, crate::proofs::Filling::one_filled, crate::proofs::Filling::all_filled))]
+#[tactic(auto, using(crate::proofs::Filling::none_filled, crate::proofs::Filling::all_filled))]
 fn walk(
     alloc: Global,
     known: &Known<'_>,
@@ -124,15 +152,10 @@ fn walk(
     let mut frames = Vec::with_capacity(alloc, count)?;
     let mut next: Option<PatMap<Value>> = None;
     for position in 0..count {
-        let here = match arrived(site.starts.get(position), next)? {
-            Some(here) => here,
-            None => return Ok(None),
+        let Some(after) = fill_at(alloc, known, site, position, next, &mut frames)? else {
+            return Ok(None);
         };
-        next = match handed_on(alloc, known, site, position, here.as_ref())? {
-            Some(next) => next,
-            None => return Ok(None),
-        };
-        frames.push(frame_of(here))?;
+        next = after;
     }
     if next.is_some() {
         return Ok(None);

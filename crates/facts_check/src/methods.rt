@@ -8,7 +8,7 @@ ghost use Rattle.facts_check.specs.Tables.{IsPut, Adds, IsFilledTo, AreFilled, H
 use crate::body::fill_body;
 use crate::classes::classes_hold;
 use crate::entries::{entries_hold, links_hold};
-use crate::fields::{fields_hold, is_on};
+use crate::fields::fields_hold;
 use crate::known::Known;
 use crate::positions::Site;
 use crate::starts::Start;
@@ -69,17 +69,12 @@ impl Table {
     fn put(&mut self, number: u32, frames: Vec<Option<Frame>>) -> bool
         ensures { result ≡ true → IsPut self.old self.new number frames.items }
     {
-        if is_on(&self.seen, number) {
+        let at = number as usize;
+        if at >= self.seen.len() || at >= self.frames.len() || self.seen[at] {
             return false;
         }
-        let Some(mark) = self.seen.get_mut(number as usize) else {
-            return false;
-        };
-        *mark = true;
-        let Some(entry) = self.frames.get_mut(number as usize) else {
-            return false;
-        };
-        *entry = Seq::of_vec(frames);
+        self.seen[at] = true;
+        self.frames[at] = Seq::of_vec(frames);
         true
     }
 

@@ -137,7 +137,7 @@ fn placed_at(
 ) -> Result<Next, AllocError>
     ensures { AreKnown known.now
         → IfOk result (λ o. IfSome o (λ next. IsPlaced known.now site.now.class site.now.number site.now.body.now site.now.starts.now position
-            (option_copied before.entry) insn.now registers.now next)) }
+        (option_copied before.entry) insn.now registers.now next)) }
 {
     if is_known(alloc, known, site, position, insn, registers)? {
         handed(alloc, known, site, before, insn, registers)
@@ -158,7 +158,7 @@ pub(crate) fn placed(
 ) -> Result<Next, AllocError>
     ensures { AreKnown known.now
         → IfOk result (λ o. IfSome o (λ next. PlacedIf known.now site.now.class site.now.number site.now.body.now site.now.starts.now position
-            (option_copied before.entry) insn.now (option_copied registers.entry) next)) }
+        (option_copied before.entry) insn.now (option_copied registers.entry) next)) }
 {
     match registers {
         Some(registers) => { placed_at(alloc, known, site, position, before, insn, registers) }

@@ -12,8 +12,10 @@ use Rattle.closed_facts.specs.Tables.{AreBelow, Arrives}
 use Rattle.facts_check.specs.declared.known.Known.{Known}
 use Rattle.facts_check.specs.declared.starts.Start.{Start}
 use Rattle.facts_check.specs.declared.starts.Start.TheVariants.{Inside, Idle, Comes}
-use Rattle.facts_check.specs.Bodies.{registers_in, registers_of, IsArrived, IsStep, IsLinked, IsKept, IsFilling, IsFilled, insn_before}
-use Rattle.facts_check.specs.Tables.{ComesBelow, PlacedIf}
+use Rattle.facts_check.specs.Bodies.{registers_in, registers_of, IsArrived, IsStep, IsLinked, IsKept, IsFilling, IsFilled, AreFrames, insn_before}
+use Rattle.closed_facts.specs.Entries.{BeginsAt}
+use Rattle.facts_check.specs.Known.{is_marked}
+use Rattle.facts_check.specs.Tables.{ComesBelow, PlacedIf, BeginsWhere}
 use Rattle.facts_check.specs.Placed.{IsPlaced}
 
 comes_same : (x y : Registers) → Some (Comes x) ≡ Some (Comes y) → Some x ≡ Some y
@@ -145,3 +147,31 @@ module _ (k : Known) (class method : ℕ) (b : Body) (starts : List Start) where
       }
     ];
   }
+
+-- ---- the frames of a method
+
+-- none where no run comes to it
+pub no_frames : (k : Known) (class method : ℕ) (b : Body) (frames : List (Option Frame)) → frames ≡ [] → AreFrames k class method b frames
+no_frames k class method b frames e = subst (AreFrames k class method b) (sym e) record {
+  starts = [];
+  filled = record {
+    kept = λ j y t. absurd (cc);
+    linked = λ j lt. record { next = None; step = record { placed = λ i x t u. absurd (cc) }; onto = λ c t. absurd (cc) };
+  };
+  begins = λ x t. absurd (cc);
+  live = λ n x t. absurd (cc);
+}
+
+-- else those that are filled in, where its entry is above its parameters and it is live
+pub filled_frames : (k : Known) (class method : ℕ) (b : Body) (starts : List Start) (frames : List (Option Frame)) → IsFilled k class method b starts frames
+    → BeginsWhere k.facts.now method b (registers_of frames 0) → is_marked k.live.now.methods.items method ≡ true → AreFrames k class method b frames
+filled_frames k class method b starts frames h e l = record {
+  starts = starts;
+  filled = h;
+  begins = λ x t. by (registers_of frames 0) e x t;
+  live = λ n x t. l;
+}
+  where
+    by : (o : Option Registers) → BeginsWhere k.facts.now method b o → (x : Registers) → o ≡ Some x → BeginsAt k.facts.now method b x
+    by None e x t = absurd (cc)
+    by (Some y) e x t = subst (λ (x : Registers). BeginsAt k.facts.now method b x) (some_same y x t) e

@@ -214,6 +214,7 @@ fn begins(known: &Known<'_>, number: u32, body: &Body, frames: &[Option<Frame>])
 
 /// The frames of the code of a method from what is known where its blocks begin; none where that isn't closed, or the
 /// method isn't live.
+#[tactic(auto, using(crate::proofs::Filling::filled_frames))]
 pub(crate) fn fill_body(
     alloc: Global,
     known: &Known<'_>,

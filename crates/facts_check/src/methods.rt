@@ -42,6 +42,7 @@ fn starts_at(starts: &[Seq<Start>], number: u32) -> &[Start] {
 }
 
 /// The frames of a body, none of them where no run comes to it.
+#[tactic(auto, using(crate::proofs::Filling::no_frames))]
 fn frames_from(
     alloc: Global,
     known: &Known<'_>,

@@ -428,7 +428,7 @@ fn with_frames(facts: Facts, frames: Vec<Seq<Option<Frame>>>, quiet: Vec<bool>) 
 }
 
 /// The facts of a program by the pieces of a solved table, if they are closed.
-#[tactic(auto, using(facts_check::proofs::Closing::are_closed))]
+#[tactic(auto, using(crate::proofs::Certifying::closed_with))]
 fn certified(
     alloc: Global,
     network: &Network<'_>,
@@ -575,6 +575,7 @@ fn facts_of_bodies<'a>(
 }
 
 /// What is known of a program by the table of its classes.
+#[tactic(auto, using(crate::proofs::Certifying::certify_some))]
 fn facts_of_places<'a>(
     alloc: Global,
     program: &'a Program,
@@ -589,9 +590,10 @@ fn facts_of_places<'a>(
     let live = live_members(alloc, program, hierarchy, outside)?;
     let found = targets(alloc, program, hierarchy, outside, &live)?;
     let bodies = make_bodies(alloc, program, &live)?;
-    facts_of_bodies(
+    let facts = facts_of_bodies(
         alloc, program, hierarchy, outside, &live, &found, places, bodies,
-    )
+    )?;
+    Ok(facts)
 }
 
 /// What is known of every run of a program that the framework begins as the table of the outside allows: of each position

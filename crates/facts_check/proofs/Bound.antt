@@ -55,6 +55,19 @@ one_unfound Nothing at e f = cc
 one_unfound Clash at e f = cc
 one_unfound (Finds a) at e f = cc
 
+same_found : (m n : Method) → Some m ≡ Some n → m ≡ n
+same_found m n e = cc
+
+-- what a method gives that was found, where this value is its result
+pub found_gives : (k : Known) (at : MethodAt) (m : Method) (v : Parts) → method_at k.program.now at ≡ Some m → v ≡ result_at k.facts.now m.name → (n : Method) → method_at k.program.now at ≡ Some n → IsBelow (result_at k.facts.now n.name) v
+found_gives k at m v e i n f =
+    let s : m ≡ n = same_found m n (sym e ∙ f) in
+    subst (λ (w : Parts). IsBelow (result_at k.facts.now n.name) w) (sym (i ∙ ap (λ (m : Method). result_at k.facts.now m.name) s)) (λ d h. h)
+
+-- where there is none
+pub none_gives : (k : Known) (at : MethodAt) (v : Parts) → method_at k.program.now at ≡ None → (n : Method) → method_at k.program.now at ≡ Some n → IsBelow (result_at k.facts.now n.name) v
+none_gives k at v e n f = absurd (let h : None ≡ Some n = sym e ∙ f in cc)
+
 module _ (k : Known) (class method : ℕ) (kind : InvokeKind) where
   abbrev Bound : Target → Type 0
   Bound t = t ≡ target_found (finds_bound k.program.now class method kind)
@@ -78,9 +91,10 @@ module _ (k : Known) (class method : ℕ) (kind : InvokeKind) where
 
   -- ---- what is given
 
-  pub one_given : (at : MethodAt) (m : Method) (v : Parts) → Bound (target.One at) → method_at k.program.now at ≡ Some m → IsBelow (result_at k.facts.now m.name) v → IsBoundResult k class method kind v
-  one_given at m v b f h = record {
-    given = λ other n e g. subst (λ (n : Method). IsBelow (result_at k.facts.now n.name) v) (same_method at other m n (one_found (finds_bound k.program.now class method kind) at other b e) f g) h;
+  -- what it finds gives no more than this
+  pub one_gives : (at : MethodAt) (v : Parts) → Bound (target.One at) → ((m : Method) → method_at k.program.now at ≡ Some m → IsBelow (result_at k.facts.now m.name) v) → IsBoundResult k class method kind v
+  one_gives at v b h = record {
+    given = λ other n e g. h n (ap (method_at k.program.now) (sym (one_found (finds_bound k.program.now class method kind) at other b e)) ∙ g);
     unfound = λ e. absurd (one_unfound (finds_bound k.program.now class method kind) at b e);
   }
 

@@ -57,21 +57,28 @@ pub record IsAt {X : Type 0} (xs : List X) (x : X) : Type 0 where
   pub is : slice_get xs place ≡ Some x
 
 place_of : {X : Type 0} (xs : List X) (x : X) → Contains xs x → IsAt xs x
-place_of [] x (j, (lt, e)) = absurd (omega arith)
-place_of (y ∷ ys) x (zero, (lt, e)) = record { place = 0; is = ap Some e }
-place_of (y ∷ ys) x (suc j, (lt, e)) = let r = place_of ys x (j, (omega arith, e)) in record { place = suc r.place; is = r.is }
+place_of [] x (j, lt, e) = absurd (omega arith)
+place_of (y ∷ ys) x (zero, lt, e) = record { place = 0; is = ap Some e }
+place_of (y ∷ ys) x (suc j, lt, e) = let r = place_of ys x (j, omega arith, e) in record { place = suc r.place; is = r.is }
+
+and_left : (a b : Bool) → (a && b) ≡ true → a ≡ true
+and_left true b h = refl
+and_left false b h = h
+
+and_right : (a b : Bool) → (a && b) ≡ true → b ≡ true
+and_right true b h = h
+and_right false b h = absurd (true≢false (sym h))
 
 all_at : {X : Type 0} (test : X → Bool) (xs : List X) (x : X) → list_all test xs ≡ true → Contains xs x → test x ≡ true
-all_at test [] x h (j, (lt, e)) = absurd (omega arith)
-all_at {X} test (y ∷ ys) x h c = by (test y) refl h
-  where
-    later : (X' : Bool) → list_all test ys ≡ true → Contains (y ∷ ys) x → test y ≡ true → test x ≡ true
-    later b l (zero, (lt, e)) t = ap test (sym e) ∙ t
-    later b l (suc j, (lt, e)) t = all_at test ys x l (j, (omega arith, e))
+all_at test [] x h (j, lt, e) = absurd (omega arith)
+all_at test (y ∷ ys) x h (zero, lt, e) = ap test (sym e) ∙ and_left (test y) (list_all test ys) h
+all_at test (y ∷ ys) x h (suc j, lt, e) = all_at test ys x (and_right (test y) (list_all test ys) h) (j, omega arith, e)
 
-    by : (b : Bool) → test y ≡ b → (b && list_all test ys) ≡ true → test x ≡ true
-    by true e l = later true l c e
-    by false e l = absurd (true≢false (sym l))
+-- what is read past the end
+read_past : (xs : List Parts) (i : ℕ) (d : Parts) → slice_get xs i ≡ None → slice_index_or xs i d ≡ d
+read_past [] i d e = refl
+read_past (x ∷ xs) zero d e = absurd (cc)
+read_past (x ∷ xs) (suc i) d e = read_past xs i d e
 
 some_body : (a b : Body) → Some a ≡ Some b → a ≡ b
 some_body a b e = cc
@@ -144,12 +151,7 @@ module _ (k : Known) (class : ℕ) where
 
         by : (o : Option Parts) → slice_get words i ≡ o → IsBelow v (parameter_at k.facts.now link.method i)
         by (Some w) e = subst (IsBelow v) (sym (get_or_from_slice_get words i w k.facts.now.any e)) (below_trans v (value_at (pool_at k link.call) i) w h (f i w e))
-        by None e = subst (IsBelow v) (sym (past words i k.facts.now.any e ∙ any)) (below_any v)
-
-        past : (xs : List Parts) (i : ℕ) (d : Parts) → slice_get xs i ≡ None → slice_index_or xs i d ≡ d
-        past [] i d e = refl
-        past (x ∷ xs) zero d e = absurd (cc)
-        past (x ∷ xs) (suc i) d e = past xs i d e
+        by None e = subst (IsBelow v) (sym (read_past words i k.facts.now.any e ∙ any)) (below_any v)
 
     by_link : (number : ℕ) (args : List ℕ) (x : Registers) (link : Link) → IsPooled k number args x → number ≡ link.call → Contains k.targets.now.links.items link → IsReceived link.method true args x
     by_link number args x link h e c =
@@ -233,11 +235,11 @@ module _ (k : Known) (frames : Vec (List (Option Frame)) Global) (quiet : Vec Bo
       let names : taker.method.name ≡ here.method.name = ap (λ (m : Method). m.name) (same_method at (n + 1) n taker here) in
       let two : n + 1 + 1 ≡ n + 2 = omega arith in
       let on2 = subst (λ q. Arrives (put_sized (is_wide_slot s) to h.value taker.registers) (registers_at t here.method.name q)) two (subst (λ m. Arrives (put_sized (is_wide_slot s) to h.value taker.registers) (registers_at t m (n + 1 + 1))) names on) in
-      arrives_below (registers_at t here.method.name (n + 2)) on2 (put_sized_below (is_wide_slot s) to taker.registers v h.value below)
+      arrives_below (registers_at t here.method.name (n + 2)) (put_sized (is_wide_slot s) to v taker.registers) (put_sized (is_wide_slot s) to h.value taker.registers) on2 (put_sized_below (is_wide_slot s) to taker.registers v h.value below)
     where
-      arrives_below : (o : Option Registers) {x y : Registers} → Arrives y o → AreBelow x y → Arrives x o
-      arrives_below None a b = absurd a
-      arrives_below (Some z) {x} {y} a b = below_all_trans x y z b a
+      arrives_below : (o : Option Registers) (x y : Registers) → Arrives y o → AreBelow x y → Arrives x o
+      arrives_below None x y a b = absurd a
+      arrives_below (Some z) x y a b = below_all_trans x y z b a
 
   flows : Flows k.program.now k.targets.now t
   flows = record {
@@ -323,7 +325,7 @@ module _ (k : Known) (frames : Vec (List (Option Frame)) Global) (quiet : Vec Bo
       opens = λ m e. let o = holds.entries.opened m e in record { entered = holds.entries.entered m o.marked; parameters = o.takes };
       starts = starts;
     };
-    begins = λ at m b x e f g. (filled.has at m b e f).begins x g;
+    begins = λ at m b x e f g. let r = (filled.has at m b e f).begins x g in record { arguments = r.arguments; others = r.others };
     fields = fields;
     flows = flows;
     calls = calls;

@@ -126,9 +126,9 @@ module _ (k : Known) (class method : ℕ) (b : Body) (starts : List Start) where
     last = λ j t. let i : n ≡ j = omega arith in subst (λ m. Step m (registers_of (frames ++ f ∷ []) m) after) i (subst (λ o. Step n o after) (sym (seam frames n f h.long ∙ e)) s);
   }
 
-  pub next_filled : (frames more : List (Option Frame)) (n : ℕ) (next here after : Option Registers) (f : Option Frame) → IsFilling k class method b starts frames n next
-      → IsArrived (slice_get starts n) next here → Step n here after → registers_in f ≡ here → more ≡ frames ++ f ∷ [] → IsFilling k class method b starts more (n + 1) after
-  next_filled frames more n next here after f h a s e m = subst (λ (xs : List (Option Frame)). IsFilling k class method b starts xs (n + 1) after) (sym m) (one_filled frames n next here after f h a s e)
+  pub next_filled : (frames longer : List (Option Frame)) (n : ℕ) (next here after : Option Registers) (f : Option Frame) → IsFilling k class method b starts frames n next
+      → IsArrived (slice_get starts n) next here → Step n here after → registers_in f ≡ here → longer ≡ frames ++ f ∷ [] → IsFilling k class method b starts longer (n + 1) after
+  next_filled frames longer n next here after f h a s e m = subst (λ (xs : List (Option Frame)). IsFilling k class method b starts xs (n + 1) after) (sym m) (one_filled frames n next here after f h a s e)
 
   -- at the end nothing is handed on
   pub all_filled : (frames : List (Option Frame)) (n : ℕ) (next : Option Registers) → IsFilling k class method b starts frames n next → next ≡ None → length b.insns ≡ n → length starts ≡ n

@@ -72,11 +72,11 @@ landed starts q x h = by (slice_get starts q) refl h
     by (Some (Comes y)) e h = record { known = y; is = e; below = h }
 
 pub one_lands : (starts : List Start) (x : Registers) (qs : List ℕ) (q : ℕ) → EachLands starts x qs → Contains qs q → Lands (slice_get starts q) x
-one_lands starts x [] q h (j, (lt, e)) = absurd (omega arith)
-one_lands starts x (r ∷ rs) q h (zero, (lt, e)) = subst (λ q. Lands (slice_get starts q) x) e h.0
-one_lands starts x (r ∷ rs) q h (suc j, (lt, e)) = one_lands starts x rs q h.1 (j, (omega arith, e))
+one_lands starts x [] q h (j, lt, e) = absurd (omega arith)
+one_lands starts x (r ∷ rs) q h (zero, lt, e) = subst (λ q. Lands (slice_get starts q) x) e h.0
+one_lands starts x (r ∷ rs) q h (suc j, lt, e) = one_lands starts x rs q h.1 (j, omega arith, e)
 
 pub one_goes : (starts : List Start) (n : ℕ) (next : Option Registers) (qs : List (ℕ × Registers)) (q : ℕ × Registers) → EachGoes starts n next qs → Contains qs q → Goes starts n next q
-one_goes starts n next [] q h (j, (lt, e)) = absurd (omega arith)
-one_goes starts n next (r ∷ rs) q h (zero, (lt, e)) = subst (Goes starts n next) e h.0
-one_goes starts n next (r ∷ rs) q h (suc j, (lt, e)) = one_goes starts n next rs q h.1 (j, (omega arith, e))
+one_goes starts n next [] q h (j, lt, e) = absurd (omega arith)
+one_goes starts n next (r ∷ rs) q h (zero, lt, e) = subst (Goes starts n next) e h.0
+one_goes starts n next (r ∷ rs) q h (suc j, lt, e) = one_goes starts n next rs q h.1 (j, omega arith, e)

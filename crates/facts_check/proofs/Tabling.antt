@@ -20,7 +20,7 @@ module _ (k : Known) where
   none_added t = record { has = λ at m b before e l. elim before [ inl lt ↦ absurd (omega arith) | inr h ↦ absurd (let lt = h.1 in omega (arith, lt)) ] }
 
   -- a number that has been seen keeps its frames
-  in_more : (old new : Table) (class number : ℕ) (b : Body) (method : ℕ) (frames : List (Option Frame)) → IsIn k old class number b → IsPut k old new method frames → IsIn k new class number b
+  in_more : (old new : Table) (class number : ℕ) (b : Body) (method : ℕ) (frames : List (Option Frame)) → IsIn k old class number b → IsPut old new method frames → IsIn k new class number b
   in_more old new class number b method frames h p =
       let other : number ≡ method → ⊥ = λ e. true≢false (sym h.seen ∙ ap (is_marked old.seen.items) e ∙ p.fresh) in
       record { frames = subst (AreFrames k class number b) (sym (p.others number other)) h.frames; seen = p.kept number other ∙ h.seen }

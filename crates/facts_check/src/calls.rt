@@ -106,7 +106,10 @@ fn is_pooled(known: &Known<'_>, number: usize, args: &[u16], registers: &PatMap<
 {
     match (known.pools.calls.as_slice().get(number), args) {
         (Some(pool), [_, ..]) => {
-            is_made(known, number) && args.len() < 65536 && are_pooled(pool, args, registers)
+            if !is_made(known, number) {
+                return false;
+            }
+            args.len() < 65536 && are_pooled(pool, args, registers)
         }
         _ => false,
     }

@@ -1,6 +1,6 @@
 //! What is entered with anything, what is known to be entered, and what virtual and interface calls may enter.
 
-ghost use Rattle.std.specs.Prelude.{◌≡◌, true, ℕ, ◌<◌, List, [], Some, is_some, slice_get, slice_index_or};
+ghost use Rattle.std.specs.Prelude.{◌≡◌, true, ℕ, ◌<◌, List, [], Some, None, is_some, slice_get, slice_index_or};
 ghost use Rattle.domains.specs.Values.{Parts, any_value};
 ghost use Rattle.dom_frame.specs.Registers.{value_at};
 ghost use Rattle.closed_facts.specs.Tables.{IsBelow};
@@ -105,12 +105,22 @@ fn is_open_ended(known: &Known<'_>, method: u32) -> bool
     takes_any(known, method) && is_any(known.facts.result(method))
 }
 
+/// Whether a method takes and gives anything, if it has no code.
+fn is_bare(known: &Known<'_>, method: &Method) -> bool
+    ensures { AreKnown known.now → result ≡ true → method.now.body ≡ None → IsOpenEnded known.now method.now.name }
+{
+    match &method.body {
+        Some(_) => true,
+        None => is_open_ended(known, method.name),
+    }
+}
+
 /// Whether the methods of a class that have no code take and give anything.
 fn are_bare(known: &Known<'_>, methods: &[Method]) -> bool
     ensures { AreKnown known.now → result ≡ true → AreBare known.now methods.now }
 {
     for method in methods {
-        if method.body.is_none() && !is_open_ended(known, method.name) {
+        if !is_bare(known, method) {
             return false;
         }
     }
@@ -134,7 +144,13 @@ fn all_bare(known: &Known<'_>) -> bool
 pub(crate) fn entries_hold(known: &Known<'_>, frames: &[Seq<Option<Frame>>]) -> bool
     ensures { AreKnown known.now → result ≡ true → Entries known.now frames.now }
 {
-    are_entered(frames, &known.marks.entered) && are_opened(known) && all_bare(known)
+    if !are_entered(frames, &known.marks.entered) {
+        return false;
+    }
+    if !are_opened(known) {
+        return false;
+    }
+    all_bare(known)
 }
 
 /// Whether parameter words are at or above a pool.

@@ -83,6 +83,7 @@ fn holds_return(known: &Known<'_>, method: u32, insn: &Insn, registers: &PatMap<
 }
 
 /// What an instruction hands on to the next position.
+#[tactic(auto, using(crate::proofs::Placing::none_taken))]
 fn handed(
     alloc: Global,
     known: &Known<'_>,
@@ -99,7 +100,12 @@ fn handed(
             let value = taken_behind(alloc, known, site.class, before)?;
             Ok(Some(step(alloc, &known.classes, registers, insn, &value)?))
         }
-        _ => behind(alloc, known, site.starts, insn, registers),
+        _ => {
+            let Some(next) = behind(alloc, known, site.starts, insn, registers)? else {
+                return Ok(None);
+            };
+            Ok(Some(next))
+        }
     }
 }
 
@@ -126,6 +132,7 @@ fn is_known(
 }
 
 /// What a reached position hands on to the next one.
+#[tactic(auto, using(crate::proofs::Placing::placed_by))]
 fn placed_at(
     alloc: Global,
     known: &Known<'_>,
@@ -139,11 +146,13 @@ fn placed_at(
         → IfOk result (λ o. IfSome o (λ next. IsPlaced known.now site.now.class site.now.number site.now.body.now site.now.starts.now position
         (option_copied before.entry) insn.now registers.now next)) }
 {
-    if is_known(alloc, known, site, position, insn, registers)? {
-        handed(alloc, known, site, before, insn, registers)
-    } else {
-        Ok(None)
+    if !is_known(alloc, known, site, position, insn, registers)? {
+        return Ok(None);
     }
+    let Some(next) = handed(alloc, known, site, before, insn, registers)? else {
+        return Ok(None);
+    };
+    Ok(Some(next))
 }
 
 /// What a position hands on to the next one: nothing where no run comes.

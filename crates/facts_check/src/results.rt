@@ -1,8 +1,11 @@
 //! What a move of a result takes.
 
-ghost use Rattle.std.specs.Prelude.{◌≡◌, IfOk, ◌+◌, ◌*◌};
+ghost use Rattle.std.specs.Prelude.{◌≡◌, Some, IfOk, ◌+◌, ◌*◌};
 ghost use Rattle.std.specs.Option.{option_copied};
+ghost use Rattle.program_model.specs.Lookups.{method_at};
+ghost use Rattle.program_model.specs.declared.program.Method.{Method};
 ghost use Rattle.domains.specs.Values.{any_value};
+ghost use Rattle.closed_facts.specs.Tables.{IsBelow, result_at};
 ghost use Rattle.facts_check.specs.Known.{AreKnown, answer_at};
 ghost use Rattle.facts_check.specs.Placed.{IsBoundResult, IsVirtualResult, HoldsResult, HoldsResults, HoldsBehind};
 
@@ -10,11 +13,21 @@ use crate::known::Known;
 use crate::looks::{method_at, names_interface};
 use call_targets::{Target, bound_target};
 use domains::Value;
-use program_model::{Insn, InvokeKind};
+use program_model::{Insn, InvokeKind, MethodAt};
 use std::alloc::{AllocError, Global};
 
+/// What the method at a place gives: anything where there is none.
+#[tactic(auto, using(crate::proofs::Bound::found_gives, crate::proofs::Bound::none_gives))]
+fn result_at(known: &Known<'_>, at: MethodAt) -> Value
+    ensures { (m : Method) → method_at known.now.program.now at ≡ Some m → IsBelow (result_at known.now.facts.now m.name) result }
+{
+    match method_at(known.program, at) {
+        Some(found) => known.facts.result(found.name).same(),
+        None => Value::any(),
+    }
+}
+
 /// What a static, direct or super call gives.
-#[tactic(auto, using(crate::proofs::Orders::same_below))]
 fn bound_result(
     alloc: Global,
     known: &Known<'_>,
@@ -25,10 +38,7 @@ fn bound_result(
     ensures { AreKnown known.now → IfOk result (λ v. IsBoundResult known.now class method kind v) }
 {
     match bound_target(alloc, known.program, known.hierarchy, class, kind, method)? {
-        Target::One(at) => match method_at(known.program, at) {
-            Some(found) => Ok(known.facts.result(found.name).same()),
-            None => Ok(Value::any()),
-        },
+        Target::One(at) => Ok(result_at(known, at)),
         Target::Nothing => Ok(Value::any()),
         Target::Clash => Ok(Value::none()),
     }

@@ -228,7 +228,7 @@ module _ (k : Known) (frames : Vec (List (Option Frame)) Global) (quiet : Vec Bo
   taken at n to s v here taker e r =
       let l = link at (n + 1) taker in
       let h : HoldsTaken k at.class (insn_before taker.body.insns (n + 1)) (insn.MoveResult s to) taker.registers l.next = subst (λ i. HoldsTaken k at.class (insn_before taker.body.insns (n + 1)) i taker.registers l.next) e (placed at (n + 1) taker).taken in
-      let before : insn_before taker.body.insns (n + 1) ≡ Some here.insn = ap (insn_before taker.body.insns) add-one ∙ ap (λ (b : Body). slice_get b.insns n) (same_body at (n + 1) n taker here) ∙ here.has_insn in
+      let before : insn_before taker.body.insns (n + 1) ≡ Some here.insn = ap (insn_before taker.body.insns) (add-one n) ∙ ap (λ (b : Body). slice_get b.insns n) (same_body at (n + 1) n taker here) ∙ here.has_insn in
       let behind : HoldsResults k at.class here.insn h.value = subst (λ o. HoldsBehind k at.class o h.value) before h.behind in
       let below : IsBelow v h.value = results_below k at.class holds.links open_ended known.any t (λ m. refl) here.insn v h.value r behind in
       let on : Arrives (put_sized (is_wide_slot s) to h.value taker.registers) (registers_at t taker.method.name (n + 1 + 1)) = l.onto (put_sized (is_wide_slot s) to h.value taker.registers) h.handed in

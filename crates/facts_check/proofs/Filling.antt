@@ -1,6 +1,6 @@
 -- Frames that are filled in one by one.
 use Rattle.std.proofs.Common.{◌≡◌, ℕ, zero, suc, ◌+◌, ◌<◌, ◌≤◌, Bool, true, false, List, [], ◌∷◌, ◌++◌, Option, Some, None, ◌⊎◌, inl, inr, refl, sym, ap, ◌∙◌, subst, arith, length-append}
-use Rattle.std.specs.Prelude.{length, slice_get, slice_index_or}
+use Rattle.std.specs.Prelude.{length, is_some, slice_get, slice_index_or}
 use Rattle.std.specs.Option.{option_map}
 use Rattle.std.proofs.lemmas.Bool.{cases_lt}
 use Rattle.std.proofs.lemmas.Option.{slice_get_past, slice_get_within}
@@ -40,6 +40,10 @@ onto_itself next c e = subst (Arrives c) (sym e) (λ r d h. h)
 
 pub arrives_inside : (next : Option Registers) → IsArrived (Some Inside) next next
 arrives_inside next = record { kept = λ z e. absurd (cc); onto = onto_itself next }
+
+pub none_left : (next : Option Registers) → is_some next ≡ false → next ≡ None
+none_left None e = refl
+none_left (Some x) e = absurd (cc)
 
 pub arrives_past : (next : Option Registers) → IsArrived None next next
 arrives_past next = record { kept = λ z e. absurd (cc); onto = onto_itself next }

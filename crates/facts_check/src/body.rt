@@ -108,9 +108,15 @@ fn frame_of(registers: Option<PatMap<Value>>) -> Option<Frame>
     }
 }
 
+/// What is known of a position.
+fn start_at(starts: &[Start], position: usize) -> Option<&Start>
+    ensures { option_copied result ≡ slice_get starts.now position }
+{
+    starts.get(position)
+}
+
 /// Fills in the frame of a position, and answers what the position hands on; none where what comes there isn't known, or
 /// what leaves it.
-#[tactic(auto, using(crate::proofs::Filling::next_filled))]
 fn fill_at(
     alloc: Global,
     known: &Known<'_>,
@@ -125,7 +131,7 @@ fn fill_at(
         → IfOk result (λ o. IfSome o (λ after. IsFilling known.now site.now.class site.now.number site.now.body.now site.now.starts.now
         frames.new.items (position + 1) after)) }
 {
-    let Some(here) = arrived(site.starts.get(position), next)? else {
+    let Some(here) = arrived(start_at(site.starts, position), next)? else {
         return Ok(None);
     };
     let Some(after) = handed_on(alloc, known, site, position, here.as_ref())? else {
@@ -136,7 +142,7 @@ fn fill_at(
 }
 
 /// The frames of a body from what is known where its blocks begin; none where that isn't closed.
-#[tactic(auto, using(crate::proofs::Filling::none_filled, crate::proofs::Filling::all_filled))]
+#[tactic(auto, using(crate::proofs::Filling::none_filled))]
 fn walk(
     alloc: Global,
     known: &Known<'_>,

@@ -83,7 +83,6 @@ fn holds_return(known: &Known<'_>, method: u32, insn: &Insn, registers: &PatMap<
 }
 
 /// What an instruction hands on to the next position.
-#[tactic(auto, using(crate::proofs::Placing::none_taken))]
 fn handed(
     alloc: Global,
     known: &Known<'_>,
@@ -132,7 +131,6 @@ fn is_known(
 }
 
 /// What a reached position hands on to the next one.
-#[tactic(auto, using(crate::proofs::Placing::placed_by))]
 fn placed_at(
     alloc: Global,
     known: &Known<'_>,

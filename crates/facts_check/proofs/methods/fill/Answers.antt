@@ -1,9 +1,8 @@
-use Rattle.std.proofs.Common.{rules, ◌≡◌, true, false, ℕ, ◌+◌, ◌<◌, length, List, [], Some, None, IfOk, IfSome, OnOk, slice_get, slice_index_or, ◌-◌, ◌*◌, ◌≤◌, ◌/◌, ◌%◌, Bool, nat_eq, nat_lt, ◌∷◌, ◌++◌, slice_set, bit_and, bit_or, Fits, w8, w32, w64, Bor, MutBor}
-use Rattle.facts_check.specs.Known.{AreKnown}
-use Rattle.facts_check.specs.Bodies.{AreFrames}
-use Rattle.facts_check.specs.Tables.{IsPut, Adds, IsFilledTo, AreFilled, Holds}
+use Rattle.std.proofs.Common.{◌≤◌, List, subst}
+use Rattle.std.specs.Prelude.{length}
+use Rattle.program_model.specs.declared.program.Class.{Class}
+use Rattle.facts_check.proofs.Tabling.{all_added}
 use Rattle.facts_check.proofs.methods.fill.Goals as goal
 
--- src/methods.rt:135:1
 pub returns : goal.returns
-returns c = ?
+returns c = λ known. all_added c.args.known.now c.loop-place.table c.loop-place.place (subst (λ (xs : List Class). length xs ≤ c.loop-place.place) c.as_slice-classes.ensures c.loop-place-test.false) (c.loop-place.invariant known)

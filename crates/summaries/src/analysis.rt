@@ -1,22 +1,32 @@
 //! The analysis.
 
-ghost use Rattle.std.specs.Prelude.{◌≡◌, true, length};
+ghost use Rattle.std.specs.Prelude.{◌≡◌, true, length, IfOk, IfSome};
 ghost use Rattle.program_model.specs.ProgramRules.{is_well_formed};
 ghost use Rattle.hierarchy.specs.Shapes.{IsResolved};
+ghost use Rattle.domains.specs.Values.{any_value};
+ghost use Rattle.dom_frame.specs.Classes.{AreClasses};
 ghost use Rattle.fact_graph.specs.Known.{ArePlaces};
+ghost use Rattle.facts_check.specs.Known.{AreKnown};
+ghost use Rattle.facts_check.specs.Tables.{AreFilled, Holds};
+ghost use Rattle.closed_facts.specs.Closed.{AreClosed};
+ghost use Rattle.summaries.specs.Certified.{IsCertified};
 
 use crate::bodies::make_bodies;
 use crate::edges::Drawing;
-use crate::fill::{frames_by_number, frames_of};
 use crate::numbers::{Counts, Numbering, behind, number_nodes};
 use crate::quiet::Search;
-use call_graph::live_members;
+use crate::starts::{add_starts, no_lists};
+use call_graph::{LiveSet, live_members};
 use call_targets::{Targets, targets};
-use dom_frame::Frame;
+use dom_frame::{Classes, Frame};
 use domains::Value;
-use fact_graph::{Arrival, Bodies, Code, Links, Network, blocks_of, classes_of, places_of, solved};
+use fact_graph::{
+    Arrival, Bodies, Code, Links, Network, blocks_of, is_reached, places_of, solved, word,
+};
 use facts::Facts;
+use facts_check::{Known, Marks, Pools, Start, fill, holds};
 use hierarchy::Hierarchy;
+use pat_map::PatMap;
 use program_model::{Class, Method, Outside, Program};
 use seq::Seq;
 use std::alloc::{AllocError, Global};
@@ -147,12 +157,28 @@ fn fields_of(
     Ok(fields)
 }
 
-/// The table as it is filled in.
+/// The tables beside the frames, as they are filled in, and what is known where the blocks of bodies begin.
 #[derive(Drop)]
 struct Table {
-    frames: Vec<Seq<Option<Frame>>>,
+    starts: Vec<Seq<Start>>,
     parameters: Vec<Seq<Value>>,
     results: Vec<Value>,
+    entered: Vec<bool>,
+}
+
+/// Turns a mark on where a run comes to a node.
+fn mark_reached(marks: &mut [bool], number: u32, states: &[Arrival], node: u32) {
+    if let Some(mark) = marks.get_mut(number as usize) {
+        *mark = comes_to(states, node);
+    }
+}
+
+/// Whether a run comes to a node.
+fn comes_to(states: &[Arrival], node: u32) -> bool {
+    match states.get(node as usize) {
+        Some(arrival) => is_reached(arrival),
+        None => false,
+    }
 }
 
 impl Table {
@@ -168,11 +194,10 @@ impl Table {
     ) -> Result<(), AllocError> {
         let blocks = blocks_of(network.bodies, place as usize);
         let number = code.number as usize;
-        if let Some(frames) = self.frames.get_mut(number) {
-            *frames = Seq::of_vec(frames_of(alloc, network, code, blocks, states)?);
-        }
+        let entry = behind(numbering.entries, place);
+        add_starts(alloc, &mut self.starts, code, blocks, states)?;
+        mark_reached(&mut self.entered, code.number, states, entry);
         if let Some(words) = self.parameters.get_mut(number) {
-            let entry = behind(numbering.entries, place);
             *words = parameters_of(alloc, states, entry, code.body.ins)?;
         }
         if let Some(result) = self.results.get_mut(number) {
@@ -198,35 +223,247 @@ impl Table {
     }
 }
 
-/// What is known by the solved table.
-fn filled(
+/// What is known of all bodies but their frames.
+fn table_of(
     alloc: Global,
     network: &Network<'_>,
     numbering: &Numbering,
-    search: &Search<'_>,
     states: &[Arrival],
-) -> Result<Facts, AllocError> {
+) -> Result<Table, AllocError> {
     let program = network.program;
+    let methods = program.methods.len();
     let mut table = Table {
-        frames: frames_by_number(alloc, program.methods.len())?,
+        starts: no_lists(alloc, methods)?,
         parameters: first_parameters(alloc, program)?,
         results: first_results(alloc, program)?,
+        entered: vec![in alloc; false; methods]?,
     };
     table.add_all(alloc, network, numbering, states)?;
-    let quiet = search.quiet(alloc, network, network.bodies, states, &table.frames)?;
+    Ok(table)
+}
+
+/// What has come to as many nodes, as registers.
+fn registers_of(
+    alloc: Global,
+    states: &[Arrival],
+    first: u32,
+    count: usize,
+) -> Result<Vec<PatMap<Value>>, AllocError> {
+    let mut all = Vec::with_capacity(alloc, count)?;
+    let mut node = first;
+    for _ in 0..count {
+        all.push(match states.get(node as usize) {
+            Some(arrival) => arrival.second.share()?,
+            None => PatMap::empty(),
+        })?;
+        node = behind(node, 1);
+    }
+    Ok(all)
+}
+
+/// Whether a run comes to each of as many nodes.
+fn reached_of(
+    alloc: Global,
+    states: &[Arrival],
+    first: u32,
+    count: usize,
+) -> Result<Vec<bool>, AllocError> {
+    let mut all = Vec::with_capacity(alloc, count)?;
+    let mut node = first;
+    for _ in 0..count {
+        all.push(comes_to(states, node))?;
+        node = behind(node, 1);
+    }
+    Ok(all)
+}
+
+/// The value of register 0 of what has come to as many nodes, nothing where there is none.
+fn values_of(
+    alloc: Global,
+    states: &[Arrival],
+    first: u32,
+    count: usize,
+) -> Result<Vec<Value>, AllocError> {
+    let mut values = Vec::with_capacity(alloc, count)?;
+    let mut node = first;
+    for _ in 0..count {
+        values.push(or_none(value_in(states, node, 0)))?;
+        node = behind(node, 1);
+    }
+    Ok(values)
+}
+
+/// What virtual and interface calls pass and get back.
+fn pools_of(
+    alloc: Global,
+    states: &[Arrival],
+    numbering: &Numbering,
+    methods: usize,
+) -> Result<Pools, AllocError> {
+    let calls = methods.saturating_mul(2);
+    Ok(Pools {
+        reached: reached_of(alloc, states, numbering.calls, calls)?,
+        calls: registers_of(alloc, states, numbering.calls, calls)?,
+        answers: values_of(alloc, states, numbering.answers, calls)?,
+    })
+}
+
+/// Which classes are initialised, or run no code when they are, by the nodes that stand for them from one on.
+fn marks_from(
+    alloc: Global,
+    program: &Program,
+    hierarchy: &Hierarchy,
+    states: &[Arrival],
+    first: u32,
+) -> Result<Vec<bool>, AllocError> {
+    let mut marks = Vec::with_capacity(alloc, program.classes.len())?;
+    let mut place = 0u32;
+    for _ in 0..program.classes.len() {
+        let node = behind(first, place);
+        marks.push(comes_to(states, node) || hierarchy.trivially_initialised(program, place))?;
+        place = behind(place, 1);
+    }
+    Ok(marks)
+}
+
+/// What a solved table says, as it is checked: tables without frames, pools, marks, and what is known where blocks begin.
+#[derive(Drop)]
+struct Pieces {
+    facts: Facts,
+    pools: Pools,
+    marks: Marks,
+    starts: Vec<Seq<Start>>,
+}
+
+/// What facts are checked against.
+#[derive(Clone, Copy)]
+struct Bounds<'a> {
+    program: &'a Program,
+    hierarchy: &'a Hierarchy,
+    classes: Classes<'a>,
+    outside: &'a Outside,
+    live: &'a LiveSet,
+    found: &'a Targets,
+}
+
+/// What a solved table says.
+fn pieces_of(
+    alloc: Global,
+    network: &Network<'_>,
+    numbering: &Numbering,
+    hierarchy: &Hierarchy,
+    states: &[Arrival],
+) -> Result<Pieces, AllocError>
+    ensures { IfOk result (λ pieces. pieces.facts.any ≡ any_value) }
+{
+    let program = network.program;
     let Table {
-        frames,
+        starts,
         parameters,
         results,
-    } = table;
-    Ok(Facts {
-        frames,
+        entered,
+    } = table_of(alloc, network, numbering, states)?;
+    let pools = pools_of(alloc, states, numbering, program.methods.len())?;
+    let marks = Marks {
+        entered,
+        needed: marks_from(alloc, program, hierarchy, states, numbering.classes)?,
+        listed: marks_from(alloc, program, hierarchy, states, numbering.lists)?,
+    };
+    let facts = Facts {
+        frames: Vec::new(alloc),
         parameters,
         results,
         fields: fields_of(alloc, states, numbering.fields, program.fields.len())?,
-        quiet,
+        quiet: Vec::new(alloc),
         any: Value::any(),
+    };
+    Ok(Pieces {
+        facts,
+        pools,
+        marks,
+        starts,
     })
+}
+
+/// The frames, if what is known is closed.
+fn checked(
+    alloc: Global,
+    known: &Known<'_>,
+    starts: &[Seq<Start>],
+) -> Result<Option<Vec<Seq<Option<Frame>>>>, AllocError>
+    ensures filled { AreKnown known.now → IfOk result (λ o. IfSome o (λ frames. AreFilled known.now frames.items)) }
+    ensures holds { AreKnown known.now → IfOk result (λ o. IfSome o (λ frames. Holds known.now frames.items)) }
+{
+    match fill(alloc, known, starts)? {
+        Some(frames) => {
+            if holds(known, &frames) {
+                Ok(Some(frames))
+            } else {
+                Ok(None)
+            }
+        }
+        None => Ok(None),
+    }
+}
+
+/// The facts with their frames and the quiet methods.
+fn with_frames(facts: Facts, frames: Vec<Seq<Option<Frame>>>, quiet: Vec<bool>) -> Facts
+    ensures { result ≡ record facts { frames = frames; quiet = quiet } }
+{
+    let Facts {
+        parameters,
+        results,
+        fields,
+        any,
+        ..
+    } = facts;
+    Facts {
+        frames,
+        parameters,
+        results,
+        fields,
+        quiet,
+        any,
+    }
+}
+
+/// The facts of a program by the pieces of a solved table, if they are closed.
+#[tactic(auto, using(crate::proofs::Certifying::closed_with))]
+fn certified(
+    alloc: Global,
+    network: &Network<'_>,
+    search: &Search<'_>,
+    bounds: Bounds<'_>,
+    pieces: Pieces,
+    states: &[Arrival],
+) -> Result<Option<Facts>, AllocError>
+    requires { pieces.facts.any ≡ any_value }
+    ensures { is_well_formed bounds.program.now ≡ true → IsResolved bounds.program.now bounds.hierarchy.now
+        → AreClasses bounds.program.now bounds.classes
+        → IfOk result (λ o. IfSome o (AreClosed bounds.program.now bounds.outside.now bounds.live.now bounds.found.now)) }
+{
+    let Pieces {
+        facts,
+        pools,
+        marks,
+        starts,
+    } = pieces;
+    let known = Known {
+        program: bounds.program,
+        hierarchy: bounds.hierarchy,
+        classes: bounds.classes,
+        outside: bounds.outside,
+        live: bounds.live,
+        targets: bounds.found,
+        facts: &facts,
+        pools: &pools,
+        marks: &marks,
+    };
+    let Some(frames) = checked(alloc, &known, &starts)? else {
+        return Ok(None);
+    };
+    let quiet = search.quiet(alloc, network, network.bodies, states, &frames)?;
+    Ok(Some(with_frames(facts, frames, quiet)))
 }
 
 /// The graph of a program.
@@ -255,6 +492,23 @@ fn draw<'a>(
     Ok((links, ranges))
 }
 
+/// The classes of a program by the table of their places.
+#[tactic(auto, using(fact_graph::proofs::Places::known_classes))]
+fn classes_in<'a>(
+    program: &Program,
+    hierarchy: &'a Hierarchy,
+    places: &'a [Option<u32>],
+) -> Classes<'a>
+    requires { ArePlaces hierarchy.now (length program.now.types) places.now }
+    ensures { is_well_formed program.now ≡ true → IsResolved program.now hierarchy.now → AreClasses program.now result }
+{
+    Classes {
+        places,
+        count: word(program.classes.len()),
+        hierarchy,
+    }
+}
+
 /// What is known by the graph of a program.
 fn solved_facts<'a>(
     alloc: Global,
@@ -262,17 +516,21 @@ fn solved_facts<'a>(
     hierarchy: &'a Hierarchy,
     places: &'a [Option<u32>],
     bodies: &'a Bodies<'a>,
+    outside: &Outside,
+    live: &LiveSet,
+    found: &Targets,
     drawn: (Links, Vec<usize>),
-) -> Result<Facts, AllocError>
-    requires formed { is_well_formed program.now ≡ true }
-    requires resolved { IsResolved program.now hierarchy.now }
-    requires places { ArePlaces hierarchy.now (length program.now.types) places.now }
+) -> Result<Option<Facts>, AllocError>
+    requires { ArePlaces hierarchy.now (length program.now.types) places.now }
+    ensures { is_well_formed program.now ≡ true → IsResolved program.now hierarchy.now
+        → IfOk result (λ o. IfSome o (AreClosed program.now outside.now live.now found.now)) }
 {
     let numbering = numbering_of(program, bodies);
     let (links, ranges) = drawn;
+    let classes = classes_in(program, hierarchy, places);
     let network = Network {
         program,
-        classes: classes_of(program, hierarchy, places),
+        classes,
         bodies,
         links,
         ranges,
@@ -283,7 +541,16 @@ fn solved_facts<'a>(
         hierarchy,
         numbering,
     };
-    filled(alloc, &network, &numbering, &search, &states)
+    let pieces = pieces_of(alloc, &network, &numbering, hierarchy, &states)?;
+    let bounds = Bounds {
+        program,
+        hierarchy,
+        classes,
+        outside,
+        live,
+        found,
+    };
+    certified(alloc, &network, &search, bounds, pieces, &states)
 }
 
 /// What is known of a program with these bodies.
@@ -292,47 +559,55 @@ fn facts_of_bodies<'a>(
     program: &'a Program,
     hierarchy: &'a Hierarchy,
     outside: &Outside,
+    live: &LiveSet,
     found: &Targets,
     places: &'a [Option<u32>],
     bodies: Bodies<'a>,
-) -> Result<Facts, AllocError>
-    requires formed { is_well_formed program.now ≡ true }
-    requires resolved { IsResolved program.now hierarchy.now }
-    requires places { ArePlaces hierarchy.now (length program.now.types) places.now }
+) -> Result<Option<Facts>, AllocError>
+    requires { ArePlaces hierarchy.now (length program.now.types) places.now }
+    ensures { is_well_formed program.now ≡ true → IsResolved program.now hierarchy.now
+        → IfOk result (λ o. IfSome o (AreClosed program.now outside.now live.now found.now)) }
 {
     let drawn = draw(alloc, program, hierarchy, outside, &bodies, found)?;
-    solved_facts(alloc, program, hierarchy, places, &bodies, drawn)
+    solved_facts(
+        alloc, program, hierarchy, places, &bodies, outside, live, found, drawn,
+    )
 }
 
 /// What is known of a program by the table of its classes.
+#[tactic(auto, using(crate::proofs::Certifying::certify_some))]
 fn facts_of_places<'a>(
     alloc: Global,
     program: &'a Program,
     hierarchy: &'a Hierarchy,
     outside: &Outside,
     places: &'a [Option<u32>],
-) -> Result<Facts, AllocError>
-    requires formed { is_well_formed program.now ≡ true }
-    requires resolved { IsResolved program.now hierarchy.now }
-    requires places { ArePlaces hierarchy.now (length program.now.types) places.now }
+) -> Result<Option<Facts>, AllocError>
+    requires { ArePlaces hierarchy.now (length program.now.types) places.now }
+    ensures { is_well_formed program.now ≡ true → IsResolved program.now hierarchy.now
+        → IfOk result (λ o. IfSome o (IsCertified program.now outside.now)) }
 {
     let live = live_members(alloc, program, hierarchy, outside)?;
     let found = targets(alloc, program, hierarchy, outside, &live)?;
     let bodies = make_bodies(alloc, program, &live)?;
-    facts_of_bodies(alloc, program, hierarchy, outside, &found, places, bodies)
+    let facts = facts_of_bodies(
+        alloc, program, hierarchy, outside, &live, &found, places, bodies,
+    )?;
+    Ok(facts)
 }
 
 /// What is known of every run of a program that the framework begins as the table of the outside allows: of each position
-/// that a run may come to, of parameters, results and fields, and which methods are quiet. The hierarchy is that of the
-/// program's classes. The only error is want of memory.
+/// that a run may come to, of parameters, results and fields, and which methods are quiet. What is answered has been checked
+/// to be closed; where it weren't, nothing is answered. The hierarchy is that of the program's classes. The only error is
+/// want of memory.
 pub fn analyse(
     alloc: Global,
     program: &Program,
     hierarchy: &Hierarchy,
     outside: &Outside,
-) -> Result<Facts, AllocError>
-    requires formed { is_well_formed program.now ≡ true }
-    requires resolved { IsResolved program.now hierarchy.now }
+) -> Result<Option<Facts>, AllocError>
+    ensures { is_well_formed program.now ≡ true → IsResolved program.now hierarchy.now
+        → IfOk result (λ o. IfSome o (IsCertified program.now outside.now)) }
 {
     let places = places_of(alloc, hierarchy, program.types.len())?;
     facts_of_places(alloc, program, hierarchy, outside, &places)

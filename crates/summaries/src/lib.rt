@@ -7,24 +7,25 @@
 //! register, and whether a run comes at all. An edge walks through its block with the steps of `dom_frame`, and brings what
 //! its last instruction leaves there: the registers behind it, those of a branch that is taken, the arguments of a call, or a
 //! value that is returned or put into a field. What a call gives, or a field holds, comes along an edge of its own that brings
-//! no run and the register alone which takes it. The frames inside the blocks are filled in behind, and share all that
-//! they have in common.
+//! no run and the register alone which takes it. The check fills in the frames inside the blocks, which share all that they
+//! have in common.
 //!
 //! What the framework may enter, need and keep begins with anything. What the objects of the classes that the program or
 //! the framework makes find for a call is told by `call_targets`.
 //!
-//! Proved is that the analysis is safe and ends, and that its only error is want of memory. The table that it solves is at or
-//! above what each edge brings (`fact_graph`); that the facts are those of this table, and that the graph has all edges which
-//! a run takes, no clause says yet.
+//! Proved is that facts which are answered are closed, as `closed_facts` says, for a well-formed program and its hierarchy
+//! (`specs/Certified.antt`). They are checked for it (`facts_check`), and where they weren't closed, nothing would be
+//! answered. So a fault in the graph costs facts, and never makes a wrong one. No clause says that the check passes, nor that
+//! a method which is marked as quiet is quiet.
 #![tactic(auto)]
 
 mod analysis;
 mod bodies;
 mod edges;
 mod entries;
-mod fill;
 mod numbers;
 mod quiet;
+mod starts;
 
 pub use analysis::analyse;
 pub use facts::Facts;

@@ -1,0 +1,31 @@
+-- What the analysis answers, by the tables under which it is closed.
+use Rattle.std.proofs.Common.{◌≡◌, Vec, Global, sym, subst}
+use Rattle.std.specs.Prelude.{Bool, List, Option, Some, None, IfSome}
+use Rattle.program_model.specs.declared.program.Program.{Program}
+use Rattle.program_model.specs.declared.pass.Outside.{Outside}
+use Rattle.facts.specs.declared.facts.Facts.{Facts}
+use Rattle.dom_frame.specs.declared.frames.Frame.{Frame}
+use Rattle.call_graph.specs.declared.live_set.LiveSet.{LiveSet}
+use Rattle.call_graph.specs.Closed.{IsClosedSet}
+use Rattle.call_graph.specs.Facts.{Fits}
+use Rattle.call_targets.specs.declared.table.Targets.{Targets}
+use Rattle.call_targets.specs.Targeted.{IsTargeted}
+use Rattle.closed_facts.specs.Closed.{AreClosed}
+use Rattle.facts_check.specs.declared.known.Known.{Known}
+use Rattle.facts_check.specs.Known.{AreKnown}
+use Rattle.facts_check.specs.Tables.{AreFilled, Holds}
+use Rattle.facts_check.proofs.Closing.{are_closed}
+use Rattle.summaries.specs.Certified.{IsCertified}
+
+pub certify : (p : Program) (o : Outside) (live : LiveSet) (targets : Targets) (t : Facts) → Fits p live → IsClosedSet p o live → IsTargeted p o live targets → AreClosed p o live targets t → IsCertified p o t
+certify p o live targets t f c h a = record { live = live; targets = targets; fits = f; live_closed = c; targeted = h; closed = a }
+
+-- the same of facts that there may be
+pub certify_some : (p : Program) (o : Outside) (live : LiveSet) (targets : Targets) (t : Option Facts) → Fits p live → IsClosedSet p o live → IsTargeted p o live targets → IfSome t (AreClosed p o live targets) → IfSome t (IsCertified p o)
+certify_some p o live targets None f c h a = tt
+certify_some p o live targets (Some t) f c h a = certify p o live targets t f c h a
+
+-- the facts with the frames that were filled in
+pub closed_with : (k : Known) (frames : Vec (List (Option Frame)) Global) (quiet : Vec Bool Global) (t : Facts) → AreKnown k → AreFilled k frames.items → Holds k frames.items → t ≡ record k.facts.now { frames = frames; quiet = quiet }
+    → AreClosed k.program.now k.outside.now k.live.now k.targets.now t
+closed_with k frames quiet t known filled holds e = subst (AreClosed k.program.now k.outside.now k.live.now k.targets.now) (sym e) (are_closed k frames quiet known filled holds)

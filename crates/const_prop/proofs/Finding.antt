@@ -1,15 +1,18 @@
 -- What calls bring, found method by found method.
-use Rattle.std.proofs.Common.{◌≡◌, ℕ, zero, suc, ◌+◌, ◌<◌, Bool, true, false, List, [], ◌∷◌, ◌++◌, length, take, get_or, Option, Some, None, refl, sym, ap, ◌∙◌, subst, arith}
-use Rattle.std.specs.Prelude.{fold, slice_get, position, option_and_then}
+use Rattle.std.proofs.Common.{◌≡◌, ℕ, zero, suc, ◌+◌, ◌<◌, ◌≤◌, Bool, true, false, List, [], ◌∷◌, ◌++◌, length, take, get_or, Option, Some, None, refl, sym, ap, ◌∙◌, subst, arith}
+use Rattle.std.specs.Prelude.{fold, filter, slice_get, position, option_and_then, is_some, nat_eq, nat_lt, cond}
+use Rattle.std.specs.List.{range_with_len, position_or_len}
 use Rattle.std.specs.Option.{option_map, option_or}
 use Rattle.std.proofs.lemmas.List.Sums.{fold_more}
 use Rattle.std.proofs.lemmas.Option.{slice_get-get_or}
+use Rattle.std.proofs.lemmas.Bool.{ltb-true}
 use Rattle.program_model.specs.declared.pools.FieldName.{FieldName}
 use Rattle.program_model.specs.declared.program.Class.{Class}
 use Rattle.program_model.specs.declared.program.Program.{Program}
 use Rattle.program_model.specs.Lookups.{class_place}
 use Rattle.class_defs.specs.Finding.{beside, field_by, field_from, first_among, resolves_field}
-use Rattle.class_defs.specs.Members.{own_field, field_of_class, is_field}
+use Rattle.hierarchy.specs.Naming.{definers_of}
+use Rattle.class_defs.specs.Members.{own_method, own_field, field_of_class, is_field}
 use Rattle.class_defs.specs.Places.{interface_places, super_place}
 use Rattle.class_defs.specs.Starts.{is_trivial}
 use Rattle.hierarchy.specs.Shapes.{IsResolved}
@@ -35,6 +38,37 @@ definers_more s class key first definers n known more old l step k name proto is
     let f = with_definer s.program.now s.facts.now name proto class in
     let at : get_or definers n 0 < count_of s = below n (get_or definers n 0) (slice_get-get_or definers n 0 l) in
     step k name proto is lt at ∙ (ap (λ v. f v (get_or definers n 0)) (old k name proto is lt below) ∙ sym (fold_more f first definers n 0 l))
+
+-- ---- places of classes
+
+range_below : (count a n : ℕ) → a + n ≤ count → AreBelow count (range_with_len a n)
+range_below count a zero l k x e = absurd (cc)
+range_below count a (suc n) l zero x e = let same : a ≡ x = cc in omega (arith, l, same)
+range_below count a (suc n) l (suc k) x e = range_below count (a + 1) n (omega (arith, l)) k x e
+
+filter_below : (count : ℕ) (t : ℕ → Bool) (xs : List ℕ) → AreBelow count xs → AreBelow count (filter t xs)
+filter_below count t [] h k x e = absurd (cc)
+filter_below count t (y ∷ ys) h k x e = by (t y) (filter_below count t ys (λ k x e. h (suc k) x e)) k x e
+  where
+    by : (v : Bool) → AreBelow count (filter t ys) → (k x : ℕ) → slice_get (cond v (y ∷ filter t ys) (filter t ys)) k ≡ Some x → x < count
+    by true r zero x e = let same : y ≡ x = cc in subst (λ (z : ℕ). z < count) same (h 0 y refl)
+    by true r (suc k) x e = r k x e
+    by false r k x e = r k x e
+
+-- the definers of a name are classes of the program
+pub definers_below : (p : Program) (name proto : ℕ) → AreBelow (length p.classes) (definers_of p name proto)
+definers_below p name proto = filter_below (length p.classes) (λ c. is_some (own_method p name proto c)) (range_with_len 0 (length p.classes)) (range_below (length p.classes) 0 (length p.classes) (omega arith))
+
+position_below : {X : Type 0} (t : X → Bool) (xs : List X) (i : ℕ) → position t xs ≡ Some i → i < length xs
+position_below t xs i e = by (nat_lt (position_or_len t xs) (length xs)) refl e
+  where
+    by : (v : Bool) → nat_lt (position_or_len t xs) (length xs) ≡ v → cond v (Some (position_or_len t xs)) None ≡ Some i → i < length xs
+    by true l h = let same : position_or_len t xs ≡ i = cc in subst (λ (z : ℕ). z < length xs) same (ltb-true (position_or_len t xs) (length xs) l)
+    by false l h = absurd (cc)
+
+-- the class that a type names is one of the program
+pub class_below : (p : Program) (kind class : ℕ) → class_place p kind ≡ Some class → class < length p.classes
+class_below p kind class e = position_below (λ c. nat_eq c.name kind) p.classes class e
 
 -- ---- a field resolves to one of a class of the program
 

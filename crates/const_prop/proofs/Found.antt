@@ -60,27 +60,37 @@ append_same : (xs ys zs : List Fold) → (xs ++ ys) ++ zs ≡ xs ++ (ys ++ zs)
 append_same [] ys zs = refl
 append_same (x ∷ xs) ys zs = ap (λ l. x ∷ l) (append_same xs ys zs)
 
-append_none : (xs : List Fold) → xs ++ [] ≡ xs
+pub append_none : (xs : List Fold) → xs ++ [] ≡ xs
 append_none [] = refl
 append_none (x ∷ xs) = ap (λ l. x ∷ l) (append_none xs)
 
-pub one_more : (at : ℕ → Insn → Option Fold) (n i : ℕ) (fs : List Insn) (f : Insn) → slice_get fs i ≡ Some f → folds_from at n (take (i + 1) fs) ≡ folds_from at n (take i fs) ++ one_or_none (at (n + i) f)
-one_more at n i [] f e = absurd (cc)
-one_more at n zero (g ∷ fs) f e = let same : g ≡ f = cc in append_none (one_or_none (at n g)) ∙ ap (λ f. one_or_none (at n f)) same
-one_more at n (suc i) (g ∷ fs) f e =
-    ap (λ l. one_or_none (at n g) ++ l) (one_more at (n + 1) i fs f e ∙ ap (λ m. folds_from at (n + 1) (take i fs) ++ one_or_none (at m f)) (omega arith))
+one_further : (at : ℕ → Insn → Option Fold) (n i : ℕ) (fs : List Insn) (f : Insn) → slice_get fs i ≡ Some f → folds_from at n (take (suc i) fs) ≡ folds_from at n (take i fs) ++ one_or_none (at (n + i) f)
+one_further at n i [] f e = absurd (cc)
+one_further at n zero (g ∷ fs) f e =
+    let same : g ≡ f = cc in
+    let z : n ≡ n + 0 = omega arith in
+    append_none (one_or_none (at n g)) ∙ (ap (λ f. one_or_none (at n f)) same ∙ ap (λ m. one_or_none (at m f)) z)
+one_further at n (suc i) (g ∷ fs) f e =
+    let z : (n + 1) + i ≡ n + suc i = omega arith in
+    ap (λ l. one_or_none (at n g) ++ l) (one_further at (n + 1) i fs f e ∙ ap (λ m. folds_from at (n + 1) (take i fs) ++ one_or_none (at m f)) z)
     ∙ sym (append_same (one_or_none (at n g)) (folds_from at (n + 1) (take i fs)) (one_or_none (at (n + suc i) f)))
 
+pub one_more : (at : ℕ → Insn → Option Fold) (n i : ℕ) (fs : List Insn) (f : Insn) → slice_get fs i ≡ Some f → folds_from at n (take (i + 1) fs) ≡ folds_from at n (take i fs) ++ one_or_none (at (n + i) f)
+one_more at n i fs f e = let z : i + 1 ≡ suc i = omega arith in ap (λ m. folds_from at n (take m fs)) z ∙ one_further at n i fs f e
+
 -- what the kinds allow of one more fold
-pub typed_more : (t : Option Table) (b : Body) (xs : List Fold) (i : ℕ) (x : Fold) → slice_get xs i ≡ Some x → edits_of t b (take (i + 1) xs) ≡ edits_of t b (take i xs) ++ edits_of t b (x ∷ [])
-typed_more t b [] i x e = absurd (cc)
-typed_more t b (y ∷ ys) zero x e = let same : y ≡ x = cc in ap (λ y. edits_of t b (y ∷ [])) same
-typed_more t b (y ∷ ys) (suc i) x e = by (is_typed t b y) (typed_more t b ys i x e)
+typed_further : (t : Option Table) (b : Body) (xs : List Fold) (i : ℕ) (x : Fold) → slice_get xs i ≡ Some x → edits_of t b (take (suc i) xs) ≡ edits_of t b (take i xs) ++ edits_of t b (x ∷ [])
+typed_further t b [] i x e = absurd (cc)
+typed_further t b (y ∷ ys) zero x e = let same : y ≡ x = cc in ap (λ y. edits_of t b (y ∷ [])) same
+typed_further t b (y ∷ ys) (suc i) x e = by (is_typed t b y) (typed_further t b ys i x e)
   where
-    by : (v : Bool) → edits_of t b (take (i + 1) ys) ≡ edits_of t b (take i ys) ++ edits_of t b (x ∷ [])
-        → (if v then edit_of y ∷ edits_of t b (take (i + 1) ys) else edits_of t b (take (i + 1) ys)) ≡ (if v then edit_of y ∷ edits_of t b (take i ys) else edits_of t b (take i ys)) ++ edits_of t b (x ∷ [])
+    by : (v : Bool) → edits_of t b (take (suc i) ys) ≡ edits_of t b (take i ys) ++ edits_of t b (x ∷ [])
+        → (if v then edit_of y ∷ edits_of t b (take (suc i) ys) else edits_of t b (take (suc i) ys)) ≡ (if v then edit_of y ∷ edits_of t b (take i ys) else edits_of t b (take i ys)) ++ edits_of t b (x ∷ [])
     by true h = ap (λ l. edit_of y ∷ l) h
     by false h = h
+
+pub typed_more : (t : Option Table) (b : Body) (xs : List Fold) (i : ℕ) (x : Fold) → slice_get xs i ≡ Some x → edits_of t b (take (i + 1) xs) ≡ edits_of t b (take i xs) ++ edits_of t b (x ∷ [])
+typed_more t b xs i x e = let z : i + 1 ≡ suc i = omega arith in ap (λ m. edits_of t b (take m xs)) z ∙ typed_further t b xs i x e
 
 -- ---- what is written is allowed
 

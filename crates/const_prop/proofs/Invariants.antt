@@ -1,6 +1,7 @@
 -- What is kept while the instructions of a body are gone through.
-use Rattle.std.proofs.Common.{◌≡◌, ℕ, ◌+◌, ◌<◌, ◌≤◌, min, List, [], ◌∷◌, ◌++◌, length, take, get_or, Option, Some, None, refl, sym, ap, ◌∙◌, subst, arith}
-use Rattle.std.specs.Prelude.{All, slice_get}
+use Rattle.std.proofs.Common.{◌≡◌, ℕ, ◌+◌, ◌<◌, ◌≤◌, min, Bool, true, false, List, [], ◌∷◌, ◌++◌, length, take, take_all, get_or, Option, Some, None, refl, sym, ap, ◌∙◌, subst, arith}
+use Rattle.std.specs.Prelude.{All, slice_get, if◌then◌else◌}
+use Rattle.std.proofs.lemmas.Bool.{leb-true, le-leb}
 use Rattle.std.proofs.lemmas.Option.{slice_get-get_or}
 use Rattle.insn_set.specs.declared.form.Insn.{Insn}
 use Rattle.program_model.specs.declared.body.Body.{Body}
@@ -8,7 +9,7 @@ use Rattle.const_prop.specs.declared.asking.Code.{Code}
 use Rattle.const_prop.specs.declared.folding.Fold.{Fold}
 use Rattle.const_prop.specs.declared.results.Results.{Results}
 use Rattle.const_prop.specs.Asked.{IsKnown}
-use Rattle.const_prop.specs.Folds.{fold_at, one_or_none, folds_from}
+use Rattle.const_prop.specs.Folds.{fold_at, one_or_none, folds_from, folds_of, is_numbered}
 use Rattle.const_prop.proofs.Found.{one_more}
 
 abbrev pub at_code : Results → Code → ℕ → Insn → Option Fold
@@ -32,3 +33,23 @@ folds_more s code is n position f xs ys o i lt few p e old at more k =
     more ∙ (ap (λ l. l ++ one_or_none o) (old k)
     ∙ (ap (λ z. folds_from (at_code s code) 0 (take n code.body.now.insns) ++ one_or_none z) (at k small ∙ ap (λ m. at_code s code m f) (q ∙ sym zero))
     ∙ sym (one_more (at_code s code) 0 n code.body.now.insns f there)))
+
+-- all instructions are gone through
+pub folds_all : (s : Results) (code : Code) (is : List Insn) (n : ℕ) (xs : List Fold) → is ≡ code.body.now.insns → length is ≤ n → length code.body.now.insns ≤ 4294967295 → FoldsSo s code n xs
+    → IsKnown s → xs ≡ folds_of s.program.now s.facts.now code.class code.method code.body.now
+folds_all s code is n xs i past few so k = by (is_numbered code.body.now) (le-leb (length code.body.now.insns) 4294967295 few)
+  where
+    past' : length code.body.now.insns ≤ n
+    past' = omega (arith, past, ap length i)
+
+    by : (v : Bool) → v ≡ true → xs ≡ (if v then folds_from (at_code s code) 0 code.body.now.insns else [])
+    by true e = so k ∙ ap (folds_from (at_code s code) 0) (take_all n code.body.now.insns past')
+    by false e = absurd (cc)
+
+-- nothing is found where positions have no numbers of 32 bits
+pub folds_past : (s : Results) (code : Code) → 4294967295 < length code.body.now.insns → [] ≡ folds_of s.program.now s.facts.now code.class code.method code.body.now
+folds_past s code past = by (is_numbered code.body.now) refl
+  where
+    by : (v : Bool) → is_numbered code.body.now ≡ v → [] ≡ (if v then folds_from (at_code s code) 0 code.body.now.insns else [])
+    by true e = let l : length code.body.now.insns ≤ 4294967295 = leb-true (length code.body.now.insns) 4294967295 e in absurd (omega (arith, l, past))
+    by false e = refl

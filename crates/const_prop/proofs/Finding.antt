@@ -1,12 +1,14 @@
 -- What calls bring, found method by found method.
 use Rattle.std.proofs.Common.{◌≡◌, ℕ, zero, suc, ◌+◌, ◌<◌, ◌≤◌, Bool, true, false, List, [], ◌∷◌, ◌++◌, length, take, get_or, Option, Some, None, refl, sym, ap, ◌∙◌, subst, arith}
-use Rattle.std.specs.Prelude.{fold, filter, slice_get, position, option_and_then, is_some, nat_eq, nat_lt, cond}
+use Rattle.std.specs.Prelude.{fold, filter, slice_get, position, option_and_then, is_some, nat_eq, nat_lt, cond, ◌&&◌, if◌then◌else◌}
 use Rattle.std.specs.List.{range_with_len, position_or_len}
 use Rattle.std.specs.Option.{option_map, option_or}
 use Rattle.std.proofs.lemmas.List.Sums.{fold_more}
 use Rattle.std.proofs.lemmas.Option.{slice_get-get_or}
 use Rattle.std.proofs.lemmas.Bool.{ltb-true}
+use Rattle.insn_set.specs.declared.ops.InvokeKind.{InvokeKind}
 use Rattle.program_model.specs.declared.pools.FieldName.{FieldName}
+use Rattle.program_model.specs.declared.pools.MethodName.{MethodName}
 use Rattle.program_model.specs.declared.program.Class.{Class}
 use Rattle.program_model.specs.declared.program.Program.{Program}
 use Rattle.program_model.specs.Lookups.{class_place}
@@ -15,12 +17,11 @@ use Rattle.hierarchy.specs.Naming.{definers_of}
 use Rattle.class_defs.specs.Members.{own_method, own_field, field_of_class, is_field}
 use Rattle.class_defs.specs.Places.{interface_places, super_place}
 use Rattle.class_defs.specs.Starts.{is_trivial}
-use Rattle.hierarchy.specs.Shapes.{IsResolved}
-use Rattle.hierarchy.specs.declared.build.Hierarchy.{Hierarchy}
-use Rattle.domains.specs.Values.{Parts}
+use Rattle.domains.specs.Values.{Parts, any_value}
+use Rattle.facts.specs.declared.facts.Facts.{Facts}
 use Rattle.const_prop.specs.declared.results.Results.{Results}
 use Rattle.const_prop.specs.Asked.{IsKnown, IsKeyOf, AreBelow, count_of}
-use Rattle.const_prop.specs.Given.{with_definer}
+use Rattle.const_prop.specs.Given.{with_definer, kind_value, named_value, call_value}
 use Rattle.const_prop.specs.Known.{is_quiet_field}
 
 -- what is known with the first of some classes
@@ -121,8 +122,38 @@ field_inside p None at h = absurd (cc)
 field_inside p (Some q) at h = place_inside p q.name q.kind (class_place p q.class) at h
 
 -- a field is quiet whose class is trivially initialised
-pub quiet_found : (p : Program) (h : Hierarchy) (field : ℕ) (at : ℕ × ℕ) (found : Option (ℕ × ℕ)) (r : Bool) → IsResolved p h → ((q : Program) → IsResolved q h → found ≡ resolves_field q field) → found ≡ Some at
-    → ((q : Program) → IsResolved q h → at.0 < length q.classes → r ≡ is_trivial q at.0) → r ≡ is_quiet_field p field
-quiet_found p h field at found r res is e trivial =
-    let there : resolves_field p field ≡ Some at = sym (is p res) ∙ e in
-    trivial p res (field_inside p (slice_get p.fields field) at there) ∙ sym (ap (λ (o : Option (ℕ × ℕ)). elim o as (λ o. Bool) [ Some at ↦ is_trivial p at.0 | None ↦ false ]) there)
+pub quiet_there : (p : Program) (field : ℕ) (at : ℕ × ℕ) (r : Bool) → resolves_field p field ≡ Some at → (at.0 < length p.classes → r ≡ is_trivial p at.0) → r ≡ is_quiet_field p field
+quiet_there p field at r there trivial = trivial (field_inside p (slice_get p.fields field) at there) ∙ sym (ap (λ (o : Option (ℕ × ℕ)). elim o as (λ o. Bool) [ Some at ↦ is_trivial p at.0 | None ↦ false ]) there)
+
+-- ---- calls
+
+-- what is looked up in a list
+pub looked_up : {A : Type 0} (xs ys : List A) (i : ℕ) (x : A) → ys ≡ xs → true ≡ nat_lt i (length ys) → x ≡ get_or ys i x → slice_get xs i ≡ Some x
+looked_up xs ys i x s l e = sym (ap (λ zs. slice_get zs i) s) ∙ (slice_get-get_or ys i x (ltb-true i (length ys) (sym l)) ∙ ap (λ y. Some y) (sym e))
+
+-- what a call of a name of a program class brings
+pub call_named : (p : Program) (facts : Facts) (caller : ℕ) (kind : InvokeKind) (method : ℕ) (q : MethodName) (class : ℕ) → slice_get p.methods method ≡ Some q → class_place p q.class ≡ Some class
+    → kind_value p facts caller kind q.name q.proto class ≡ call_value p facts caller kind method
+call_named p facts caller kind method q class e i =
+    sym (ap (named_value p facts caller kind) e ∙ ap (λ (o : Option ℕ). elim o as (λ o. Parts) [ Some class ↦ kind_value p facts caller kind q.name q.proto class | None ↦ any_value ]) i)
+
+-- and of a name of another class
+pub call_unnamed : (p : Program) (facts : Facts) (caller : ℕ) (kind : InvokeKind) (method : ℕ) (q : MethodName) → slice_get p.methods method ≡ Some q → class_place p q.class ≡ None → any_value ≡ call_value p facts caller kind method
+call_unnamed p facts caller kind method q e i =
+    sym (ap (named_value p facts caller kind) e ∙ ap (λ (o : Option ℕ). elim o as (λ o. Parts) [ Some class ↦ kind_value p facts caller kind q.name q.proto class | None ↦ any_value ]) i)
+
+-- ---- super calls
+
+pub both_on : {A : Type 0} (a b : Bool) (x y : A) → a ≡ true → b ≡ true → x ≡ (if a && b then x else y)
+both_on true true x y e f = refl
+both_on true false x y e f = absurd (cc)
+both_on false b x y e f = absurd (cc)
+
+pub first_off : {A : Type 0} (a b : Bool) (x y : A) → a ≡ false → y ≡ (if a && b then x else y)
+first_off true b x y e = absurd (cc)
+first_off false b x y e = refl
+
+pub second_off : {A : Type 0} (a b : Bool) (x y : A) → b ≡ false → y ≡ (if a && b then x else y)
+second_off true true x y e = absurd (cc)
+second_off true false x y e = refl
+second_off false b x y e = refl

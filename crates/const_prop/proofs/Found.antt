@@ -34,6 +34,27 @@ constant_found n f x k e h w i = record { position = e; becomes = constant_becom
 pub choice_found : (n next : ℕ) (f : Insn) (x : Fold) (way : Way) → x.position ≡ n → Some x.insn ≡ chosen f next way → x.number ≡ None → IsFoundAt n f x
 choice_found n next f x way e h i = record { position = e; becomes = choice_becomes f x.insn next way (sym h); written = choice_writes f x.insn next way (sym h) ∙ sym i }
 
+-- ---- as the facts say it
+
+module _ (p : Program) (facts : Facts) (class method : ℕ) (is : List Insn) (n next : ℕ) (f : Insn) (way : Way) (along : way ≡ way_by (frame_at facts.frames.items method n) f) (behind : next ≡ n + 1) where
+  abbrev at_next : Option Insn
+  at_next = chosen f (n + 1) (way_by (frame_at facts.frames.items method n) f)
+
+  same_choice : chosen f next way ≡ at_next
+  same_choice = ap (λ m. chosen f m way) behind ∙ ap (chosen f (n + 1)) along
+
+  abbrev else_at : Option Fold
+  else_at = constant_at p (insn_before is n) n f (number_at p facts class method (insn_before is n) n f)
+
+  -- a branch whose way is known
+  pub fold_branch : (g : Insn) → Some g ≡ chosen f next way → Some (record { position = n; insn = g; number = None }) ≡ fold_at p facts class method is n f
+  fold_branch g e = ap (λ (o : Option Insn). branch_or n o else_at) (e ∙ same_choice)
+
+  -- any other instruction
+  pub fold_number : (before : Option Insn) (number : Option Number) (x : Option Fold) → None ≡ chosen f next way → before ≡ insn_before is n → number ≡ number_at p facts class method before n f → x ≡ constant_at p before n f number
+      → x ≡ fold_at p facts class method is n f
+  fold_number before number x e b k h = h ∙ (ap (constant_at p before n f) k ∙ (ap (λ (b : Option Insn). constant_at p b n f (number_at p facts class method b n f)) b ∙ ap (λ (o : Option Insn). branch_or n o else_at) (e ∙ same_choice)))
+
 -- what is found for the instruction at a position
 pub found_in : (b : Body) (is : List Insn) (n position : ℕ) (f : Insn) (x : Fold) → is ≡ b.insns → n < length is → length b.insns ≤ 4294967295 → position ≡ min n 4294967295 → f ≡ get_or is n f → IsFoundAt position f x → IsFound b x
 found_in b is n position f x s lt few e i h =

@@ -291,7 +291,6 @@ impl<'a> Results<'a> {
     }
 
     /// Whether a field is one of a program class whose initialisation runs no code.
-    #[tactic(auto, using(crate::proofs::Finding::quiet_found))]
     pub(crate) fn is_quiet_field(&self, field: u32) -> bool
         ensures { IsKnown self.now → result ≡ is_quiet_field self.now.program.now field }
     {

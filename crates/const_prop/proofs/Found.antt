@@ -1,8 +1,7 @@
 -- What is found for the instructions of a body.
 use Rattle.std.proofs.Common.{◌≡◌, ℕ, zero, suc, ◌+◌, ◌<◌, ◌≤◌, min, Bool, true, false, List, [], ◌∷◌, ◌++◌, length, take, get_or, Option, Some, None, refl, sym, ap, ◌∙◌, subst, arith}
-use Rattle.std.specs.Prelude.{All, IfSome, nat_le, slice_get, if◌then◌else◌}
+use Rattle.std.specs.Prelude.{All, IfSome, slice_get, if◌then◌else◌}
 use Rattle.std.specs.Option.{option_map}
-use Rattle.std.proofs.lemmas.Bool.{leb-true}
 use Rattle.std.proofs.lemmas.Option.{slice_get-get_or}
 use Rattle.std.proofs.lemmas.List.Elements.{All-push, All-nil, All-cons, All-head, All-tail}
 use Rattle.insn_set.specs.declared.form.Insn.{Insn}
@@ -15,7 +14,7 @@ use Rattle.verify.specs.Typings.{Table}
 use Rattle.const_prop.specs.declared.folding.Fold.{Fold}
 use Rattle.const_prop.specs.declared.numbers.Number.{Number}
 use Rattle.const_prop.specs.declared.choices.Way.{Way}
-use Rattle.const_prop.specs.Allowed.{IsAllowed, Constant, Branch, KeepsKinds, IsFoldOf, IsFold, insn_before}
+use Rattle.const_prop.specs.Allowed.{IsAllowed, Constant, Branch, IsFoldOf, insn_before}
 use Rattle.const_prop.specs.Constants.{number_written, constant_for}
 use Rattle.const_prop.specs.Choices.{chosen}
 use Rattle.const_prop.specs.Folded as folded

@@ -1,10 +1,9 @@
 -- What is kept while the instructions of a body are gone through.
-use Rattle.std.proofs.Common.{◌≡◌, ℕ, ◌+◌, ◌<◌, ◌≤◌, min, Bool, true, false, List, [], ◌∷◌, ◌++◌, length, take, take_all, get_or, Option, Some, None, refl, sym, ap, ◌∙◌, subst, arith}
-use Rattle.std.specs.Prelude.{All, slice_get, if◌then◌else◌}
+use Rattle.std.proofs.Common.{◌≡◌, ℕ, ◌+◌, ◌<◌, ◌≤◌, min, Bool, true, false, List, [], ◌++◌, length, take, take_all, get_or, Option, Some, refl, sym, ap, ◌∙◌, arith}
+use Rattle.std.specs.Prelude.{slice_get, if◌then◌else◌}
 use Rattle.std.proofs.lemmas.Bool.{leb-true, le-leb}
 use Rattle.std.proofs.lemmas.Option.{slice_get-get_or}
 use Rattle.insn_set.specs.declared.form.Insn.{Insn}
-use Rattle.program_model.specs.declared.body.Body.{Body}
 use Rattle.const_prop.specs.declared.asking.Code.{Code}
 use Rattle.const_prop.specs.declared.folding.Fold.{Fold}
 use Rattle.const_prop.specs.declared.results.Results.{Results}

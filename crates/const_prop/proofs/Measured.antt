@@ -1,5 +1,5 @@
 -- Where something is folded, fewer instructions are left other than constants, gotos and nops.
-use Rattle.std.proofs.Common.{◌≡◌, ℕ, zero, suc, ◌+◌, ◌<◌, ◌≤◌, Bool, true, false, true≢false, List, [], ◌∷◌, length, Option, Some, None, refl, sym, ap, ◌∙◌, subst, arith, nat_eq}
+use Rattle.std.proofs.Common.{◌≡◌, ℕ, zero, suc, ◌+◌, ◌<◌, ◌≤◌, Bool, true, false, true≢false, List, [], ◌∷◌, length, Option, Some, None, refl, sym, ap, ◌∙◌, subst, arith}
 use Rattle.std.specs.Prelude.{All, sum_by, slice_get, slice_set, slice_index_or}
 use Rattle.std.proofs.lemmas.List.Elements.{All-head, All-tail}
 use Rattle.std.proofs.lemmas.List.Sums.{sum_by-cons}
@@ -15,7 +15,7 @@ use Rattle.program_model.specs.declared.program.Program.{Program}
 use Rattle.rewrite_pass.specs.declared.edit.Edit.{Edit}
 use Rattle.rewrite_pass.specs.Plans.{edited, code_edited, method_by, each_by, class_by, program_by, class_edits, all_edits, word, HasEdits, HasPlan, IsPlan, IsRewrittenBy}
 use Rattle.const_prop.specs.Choices.{is_choice, has_target}
-use Rattle.const_prop.specs.Constants.{result_of, is_result, is_constant, IsConstantFor}
+use Rattle.const_prop.specs.Constants.{result_of, is_result, is_constant}
 use Rattle.const_prop.specs.Folded.{MayBecome, Constant, Target, Next, IsFold}
 use Rattle.const_prop.specs.Measure.{open_form, open_insns, open_code, open_method, open_class, open_forms}
 

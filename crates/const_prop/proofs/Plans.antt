@@ -1,6 +1,6 @@
 -- Plans: what is asked for each body, and plans that ask for nothing.
-use Rattle.std.proofs.Common.{◌≡◌, ℕ, zero, suc, ◌+◌, ◌<◌, Bool, true, false, List, [], ◌∷◌, length, min, Option, Some, None, refl, sym, ap, ◌∙◌, subst, arith}
-use Rattle.std.specs.Prelude.{sum_by, slice_get, slice_index_or}
+use Rattle.std.proofs.Common.{◌≡◌, ℕ, zero, suc, ◌+◌, Bool, true, false, List, [], ◌∷◌, length, Option, Some, None, refl, sym, ◌∙◌, subst, arith}
+use Rattle.std.specs.Prelude.{sum_by, slice_index_or}
 use Rattle.std.proofs.lemmas.List.Sums.{sum_by-cons}
 use Rattle.program_model.specs.Cells.{capped}
 use Rattle.program_model.specs.declared.body.Body.{Body}
@@ -12,7 +12,7 @@ use Rattle.program_model.specs.declared.program.Program.{Program}
 use Rattle.hierarchy.specs.declared.build.Hierarchy.{Hierarchy}
 use Rattle.facts.specs.declared.facts.Facts.{Facts}
 use Rattle.rewrite_pass.specs.declared.edit.Edit.{Edit}
-use Rattle.rewrite_pass.specs.Plans.{HasEdits, HasPlan, IsPlan, IsRewrittenBy, class_edits, all_edits, word}
+use Rattle.rewrite_pass.specs.Plans.{HasEdits, HasPlan, IsPlan, class_edits, all_edits, word}
 use Rattle.const_prop.specs.Folds.{AreFolds, IsFoldedBy, NoneLeft}
 use Rattle.const_prop.proofs.Measured.{get_below}
 

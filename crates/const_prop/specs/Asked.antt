@@ -1,5 +1,5 @@
 -- What the pass asks is of the program.
-use Rattle.std.specs.Prelude.{◌≡◌, ◌<◌, ℕ, List, length, Option, Some, slice_get}
+use Rattle.std.specs.Prelude.{◌≡◌, ◌<◌, ℕ, List, length, Some, slice_get}
 use Rattle.hierarchy.specs.Naming.{IsKey}
 use Rattle.hierarchy.specs.Shapes.{IsResolved}
 use Rattle.dom_frame.specs.Classes.{AreClasses}

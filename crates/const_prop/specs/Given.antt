@@ -1,6 +1,6 @@
 -- What calls bring by what the facts say of the methods that they may find (Dalvik bytecode, "invoke-kind"; Dalvik executable
 -- format, version 037).
-use Rattle.std.specs.Prelude.{ℕ, Bool, true, false, ◌&&◌, not, nat_eq, if◌then◌else◌, List, [], ◌∷◌, fold, Option, Some, None, slice_get, slice_index_or}
+use Rattle.std.specs.Prelude.{ℕ, ◌&&◌, not, nat_eq, if◌then◌else◌, List, [], ◌∷◌, fold, Option, Some, None, slice_get, slice_index_or}
 use Rattle.insn_set.specs.declared.ops.InvokeKind.{InvokeKind}
 use Rattle.insn_set.specs.declared.ops.InvokeKind.TheVariants as call
 use Rattle.insn_set.specs.declared.form.Insn.{Insn}

@@ -1,7 +1,7 @@
 -- What facts know of an instruction, by number: the number that it writes, and the way that a branch goes (Dalvik bytecode,
 -- "Summary of bytecode set"). Where no run comes to a position, or nothing is known to be in a register, any answer is as
 -- good: it is 0, and the next position.
-use Rattle.std.specs.Prelude.{ℕ, ◌+◌, Bool, true, false, ◌==◌, ◌&&◌, ◌||◌, not, if◌then◌else◌, pos, List, [], ◌∷◌, Option, Some, None, slice_get, slice_index_or}
+use Rattle.std.specs.Prelude.{ℕ, Bool, true, false, ◌==◌, ◌||◌, not, if◌then◌else◌, pos, Option, Some, None, slice_get, slice_index_or}
 use Rattle.std.specs.Option.{option_map, unwrap_or}
 use Rattle.std.specs.Ordering.{int_eq}
 use Rattle.std.specs.FinMap as finite
@@ -14,7 +14,7 @@ use Rattle.program_model.specs.declared.program.Class.{Class}
 use Rattle.program_model.specs.declared.program.Program.{Program}
 use Rattle.class_defs.specs.Finding.{resolves_field}
 use Rattle.class_defs.specs.Starts.{is_trivial}
-use Rattle.domains.specs.Values.{Parts, least_value, any_value, known_of, known_wide_of}
+use Rattle.domains.specs.Values.{Parts, any_value, known_of, known_wide_of}
 use Rattle.value_ops.specs.Left.{is_nothing}
 use Rattle.dom_frame.specs.Registers.{Registers, value_at}
 use Rattle.dom_frame.specs.Steps.{after, branched}

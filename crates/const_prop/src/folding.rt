@@ -91,7 +91,8 @@ impl Results<'_> {
         insn: &Insn,
     ) -> Result<Option<Fold>, AllocError>
         ensures found { IfOk result (λ found. IfSome found (IsFoundAt position insn.now)) }
-        ensures is { let s = self.now in IsKnown s → position < 4294967295 → IfOk result (λ o. o ≡ fold_at s.program.now s.facts.now code.now.class code.now.method code.now.body.now.insns position insn.now) }
+        ensures is { let s = self.now in IsKnown s → position < 4294967295
+            → IfOk result (λ o. o ≡ fold_at s.program.now s.facts.now code.now.class code.now.method code.now.body.now.insns position insn.now) }
     {
         let way = self.way(alloc, code, position, insn)?;
         if let Some(branch) = chosen(insn, position.saturating_add(1), way) {

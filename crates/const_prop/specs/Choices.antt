@@ -1,9 +1,8 @@
 -- Where branches go on whose operands are known (Dalvik bytecode, "Summary of bytecode set").
-use Rattle.std.specs.Prelude.{◌≡◌, ℕ, ◌+◌, ℤ, Bool, true, false, nat_eq, if◌then◌else◌, List, Option, Some, None, slice_get, position}
+use Rattle.std.specs.Prelude.{ℕ, ℤ, Bool, true, false, nat_eq, if◌then◌else◌, List, Option, Some, None, slice_get, position}
 use Rattle.std.specs.Int.{w32, cast_signed}
 use Rattle.std.specs.Ordering.{int_eq}
 use Rattle.std.specs.List.{list_any}
-use Rattle.insn_set.specs.Flow.{targets_of}
 use Rattle.insn_set.specs.declared.form.Insn.{Insn}
 use Rattle.insn_set.specs.declared.form.Insn.TheVariants as insn
 use Rattle.dalvik_defs.specs.Arith.{passes}

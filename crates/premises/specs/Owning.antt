@@ -3,7 +3,6 @@ use Rattle.std.specs.Prelude.{◌||◌, not, ℕ, Bool, true, false, Option, Som
 use Rattle.program_model.specs.declared.pools.MethodName.{MethodName}
 use Rattle.program_model.specs.declared.program.Class.{Class}
 use Rattle.program_model.specs.declared.program.Method.{Method}
-use Rattle.program_model.specs.declared.program.MethodAt.{MethodAt}
 use Rattle.program_model.specs.declared.program.Program.{Program}
 use Rattle.program_model.specs.Lookups.{class_place, method_at}
 use Rattle.class_defs.specs.Members.{own_method, string_is}

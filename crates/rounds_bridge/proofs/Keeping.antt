@@ -28,7 +28,7 @@ use Rattle.compact.specs.Narrow.{has_narrow_classes}
 use Rattle.compact.specs.Renamed.{IsCompactedProgram}
 use Rattle.kept_bridge.proofs.Compacted.{compacted_kept}
 use Rattle.copy_kept.proofs.Kept.{propagated_kept}
-use Rattle.pipeline.specs.Passes.{Pass, Reach, CopyProp, DeadCode, Squeeze, Compact, Removes, IsBarred, IsRemoval, Propagates, KeepsReads, IsPropagation, Thins, IsCleaning, IsCompaction}
+use Rattle.pipeline.specs.Passes.{Pass, Reach, ConstProp, CopyProp, DeadCode, Squeeze, Compact, Removes, IsBarred, IsRemoval, Folds, KeepsForms, IsFolding, Propagates, KeepsReads, IsPropagation, Thins, IsCleaning, IsCompaction}
 use Rattle.reach_bridge.specs.Names.{family_of}
 use Rattle.reach_bridge.proofs.Kept.{kept_named}
 use Rattle.reach_bridge.proofs.Unshut.{unshut}
@@ -136,6 +136,7 @@ module _ (o : Outside) where
 
   pub each_keeps : (admitted : List Bool) (pass : Pass) → Keeps o admitted pass
   each_keeps admitted Reach = reach_keeps admitted
+  each_keeps admitted ConstProp = const_prop_keeps admitted
   each_keeps admitted CopyProp = copy_prop_keeps admitted
   each_keeps admitted DeadCode = dead_code_keeps admitted
   each_keeps admitted Squeeze = squeeze_keeps admitted

@@ -260,7 +260,7 @@ module _ (o : Outside) (admitted : List Bool) (t : Traced) (r : Passed) where
 
   -- ---- folding
 
-  pub kept_forms_passed : r.traced ≡ t → r.changes ≡ no_changes → (is_well_formed t.program ≡ true → KeepsForms admitted t.program) → HavePassed o admitted (ConstProp ∷ []) t r
+  pub kept_forms_passed : r.traced ≡ t → r.changes ≡ no_changes → (is_well_formed t.program ≡ true → KeepsForms o admitted t.program) → HavePassed o admitted (ConstProp ∷ []) t r
   kept_forms_passed same none keeps = none_passed o admitted ConstProp t r (λ formed. record { folding = inr (refl, keeps formed); still = refl }) same none
 
   -- what is left the same by a fold was counted as nothing

@@ -84,16 +84,17 @@ pub record Folds (o : Outside) (admitted : List Bool) (p q : Program) : Type 0 w
   pub left : q ≡ changed.program
   pub none_left : q ≡ p → NoneLeft p hierarchy facts admitted
 
--- Why nothing is written: no method is admitted, the class graph has a fault, or no facts are known (the analysis certified none, or
--- one of their premises wasn't met).
-pub data KeepsForms (admitted : List Bool) (p : Program) : Type 0 where
-  NoneAdmitted : list_any (λ yes. yes) admitted ≡ false → KeepsForms admitted p
-  Ungraphed : HasGraphFault p → KeepsForms admitted p
-  Uncertified : KeepsForms admitted p
+-- Why nothing is written: no method is admitted, the class graph has a fault, a kept constructor is none of its class, or the
+-- analysis certified no facts.
+pub data KeepsForms (o : Outside) (admitted : List Bool) (p : Program) : Type 0 where
+  NoneAdmitted : list_any (λ yes. yes) admitted ≡ false → KeepsForms o admitted p
+  Ungraphed : HasGraphFault p → KeepsForms o admitted p
+  NotOwn : (MakersAreOwn p o → ⊥) → KeepsForms o admitted p
+  Uncertified : KeepsForms o admitted p
 
 -- What is known of instructions in admitted methods is written over them, or nothing changes. No position moves.
 pub record IsFolding (o : Outside) (admitted : List Bool) (p q : Program) (moved : List (List Origin)) : Type 0 where
-  pub folding : Folds o admitted p q ⊎ ((q ≡ p) × KeepsForms admitted p)
+  pub folding : Folds o admitted p q ⊎ ((q ≡ p) × KeepsForms o admitted p)
   pub still : moved ≡ []
 
 -- The verifier refuses some body.

@@ -5,6 +5,7 @@ ghost use Rattle.std.specs.List.{list_any};
 ghost use Rattle.program_model.specs.ProgramRules.{is_well_formed};
 ghost use Rattle.hierarchy.specs.Shapes.{IsResolved};
 ghost use Rattle.verify.specs.Methods.{TypesAll};
+ghost use Rattle.premises.specs.Makers.{MakersAreOwn};
 ghost use Rattle.compact.specs.Narrow.{has_narrow_classes};
 ghost use Rattle.pipeline.specs.Changes.{no_changes, total_of};
 ghost use Rattle.pipeline.specs.Graph.{IsGraph};
@@ -103,19 +104,21 @@ fn is_any_admitted(admitted: &Admitted) -> bool
     admitted.methods.as_slice().iter().any(|yes| *yes)
 }
 
-/// Facts that hold in every run of a program, none where that is not known of any. The only error is want of memory.
+/// Facts that hold in every run of a program whose kept constructors are those of their classes, none where that is not known
+/// of any. The only error is want of memory.
 fn known_facts(
     alloc: Global,
     program: &Program,
     hierarchy: &Hierarchy,
     outside: &Outside,
 ) -> Result<Option<Facts>, AllocError>
-    ensures { is_well_formed program.now ≡ true → IsResolved program.now hierarchy.now → IfOk result (λ facts. IfSome facts (AreKnown outside.now program.now)) }
+    ensures { is_well_formed program.now ≡ true → IsResolved program.now hierarchy.now → MakersAreOwn program.now outside.now → IfOk result (λ facts. IfSome facts (AreKnown outside.now program.now)) }
 {
-    if !numbers_have_bits(program) || !makers_are_own(program, outside) {
+    if !numbers_have_bits(program) {
         return Ok(None);
     }
-    summaries::analyse(alloc, program, hierarchy, outside)
+    let facts = summaries::analyse(alloc, program, hierarchy, outside)?;
+    Ok(facts)
 }
 
 /// Folds what facts say of the instructions of admitted methods, by a program's hierarchy. The only error is want of memory.
@@ -133,7 +136,8 @@ fn fold_known(
     Ok(left_by(traced.origins, changed, changes))
 }
 
-/// The same by the facts that are known. They are asked for only where some method may be rewritten.
+/// The same by the facts that are known. They are asked for only where some method may be rewritten, and each kept
+/// constructor is one of its class.
 fn fold_by(
     alloc: Global,
     traced: Traced,
@@ -146,6 +150,10 @@ fn fold_by(
     if !is_any_admitted(admitted) {
         return Ok(unchanged(traced));
     }
+    let own = makers_are_own(&traced.program, hierarchy, outside);
+    if !own {
+        return Ok(unchanged(traced));
+    }
     match known_facts(alloc, &traced.program, hierarchy, outside)? {
         Some(facts) => fold_known(alloc, traced, hierarchy, &facts, admitted),
         None => Ok(unchanged(traced)),
@@ -153,8 +161,8 @@ fn fold_by(
 }
 
 /// Makes constants of instructions of admitted methods whose results are known in every run, and gotos or nops of branches
-/// whose outcomes are, unless the class graph has a fault or no facts are known; with the hierarchy of what is left. The only
-/// error is want of memory.
+/// whose outcomes are, unless the class graph has a fault, a kept constructor is none of its class, or no facts are known; with
+/// the hierarchy of what is left. The only error is want of memory.
 pub fn fold_constants(
     alloc: Global,
     traced: Traced,

@@ -49,10 +49,10 @@ unfaulted p sound x = by x.fault x.is x.cause
 
 module _ (o : Outside) (admitted : List Bool) (p : Program) (sound : IsSound p) (still : AreStill o admitted passes p) where
   -- the facts that a fold goes by leave nothing to write, since it left the program the same
-  pub all_folded : NoneKnown o admitted p ⊎ KeepsForms admitted p
+  pub all_folded : NoneKnown o admitted p ⊎ KeepsForms o admitted p
   all_folded = let h : IsFolding o admitted p p [] = still.1.0 sound.formed in by h.folding
     where
-      by : Folds o admitted p p ⊎ ((p ≡ p) × KeepsForms admitted p) → NoneKnown o admitted p ⊎ KeepsForms admitted p
+      by : Folds o admitted p p ⊎ ((p ≡ p) × KeepsForms o admitted p) → NoneKnown o admitted p ⊎ KeepsForms o admitted p
       by (inl f) = inl (record { hierarchy = f.hierarchy; resolved = f.resolved; facts = f.facts; known = f.known; none_left = f.none_left refl })
       by (inr none) = inr none.1
 

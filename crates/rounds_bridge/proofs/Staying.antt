@@ -30,7 +30,7 @@ module _ (o : Outside) (admitted : List Bool) where
   removal_stays p q (inl one) = subst (λ (x : Program). Stays admitted p x) (sym one.left) (removed_stays admitted one.marks p)
   removal_stays p q (inr none) = same_stays p q none.0
 
-  folding_stays : (p q : Program) → Folds o admitted p q ⊎ ((q ≡ p) × KeepsForms admitted p) → Stays admitted p q
+  folding_stays : (p q : Program) → Folds o admitted p q ⊎ ((q ≡ p) × KeepsForms o admitted p) → Stays admitted p q
   folding_stays p q (inl f) = subst (λ (x : Program). Stays admitted p x) (sym f.left) (rewritten_stays (AreFolds p f.hierarchy f.facts) admitted p f.changed f.folded)
   folding_stays p q (inr none) = same_stays p q none.0
 

@@ -104,7 +104,7 @@ module _ (p : Program) (h : Hierarchy) (formed : is_well_formed p ≡ true) (res
       pub optimised_sound : IsSound r
       optimised_sound = rounds.sound
 
-      pub optimised_folded : NoneKnown o done.admitted r ⊎ KeepsForms done.admitted r
+      pub optimised_folded : NoneKnown o done.admitted r ⊎ KeepsForms o done.admitted r
       optimised_folded = all_folded o done.admitted r rounds.sound done.ran.ends
 
       pub optimised_skips : NothingLeft done.admitted r

@@ -46,7 +46,7 @@ pub fn all_rules_law()
         → IsOptimised o p advisers before after spared r origins rounds → IsSound r }
     ensures folded { (p r : Program) (origins : List (List Origin)) (h : Hierarchy) (o : Outside) (advisers spared rounds : ℕ) (before after : List Bool) → is_well_formed p ≡ true
         → IsResolved p h → IsAcyclic p → NoSplit p → TypesAll p h
-        → (done : IsOptimised o p advisers before after spared r origins rounds) → NoneKnown o done.admitted r ⊎ KeepsForms done.admitted r }
+        → (done : IsOptimised o p advisers before after spared r origins rounds) → NoneKnown o done.admitted r ⊎ KeepsForms o done.admitted r }
     ensures skips { (p r : Program) (origins : List (List Origin)) (h : Hierarchy) (o : Outside) (advisers spared rounds : ℕ) (before after : List Bool) → is_well_formed p ≡ true
         → IsResolved p h → IsAcyclic p → NoSplit p → TypesAll p h
         → (done : IsOptimised o p advisers before after spared r origins rounds) → NothingLeft done.admitted r }

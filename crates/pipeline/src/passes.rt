@@ -154,7 +154,8 @@ fn fold_by(
     if !own {
         return Ok(unchanged(traced));
     }
-    match known_facts(alloc, &traced.program, hierarchy, outside)? {
+    let known = known_facts(alloc, &traced.program, hierarchy, outside)?;
+    match known {
         Some(facts) => fold_known(alloc, traced, hierarchy, &facts, admitted),
         None => Ok(unchanged(traced)),
     }

@@ -277,7 +277,7 @@ module _ (o : Outside) (admitted : List Bool) (t : Traced) (r : Passed) where
       → HavePassed o admitted (ConstProp ∷ []) t r
   folded_passed c h facts passed graph known becomes folded none same less = changed_passed o admitted ConstProp t c (folds c.count) r passed
       (λ formed.
-        let resolved : IsResolved t.program h = (graph formed).resolved in record {
+      let resolved : IsResolved t.program h = (graph formed).resolved in record {
         folding = inl (record {
           hierarchy = h;
           resolved = resolved;

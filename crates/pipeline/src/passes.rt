@@ -112,7 +112,8 @@ fn known_facts(
     hierarchy: &Hierarchy,
     outside: &Outside,
 ) -> Result<Option<Facts>, AllocError>
-    ensures { is_well_formed program.now ≡ true → IsResolved program.now hierarchy.now → MakersAreOwn program.now outside.now → IfOk result (λ facts. IfSome facts (AreKnown outside.now program.now)) }
+    ensures { is_well_formed program.now ≡ true → IsResolved program.now hierarchy.now → MakersAreOwn program.now outside.now
+        → IfOk result (λ facts. IfSome facts (AreKnown outside.now program.now)) }
 {
     if !numbers_have_bits(program) {
         return Ok(None);
@@ -129,7 +130,8 @@ fn fold_known(
     facts: &Facts,
     admitted: &Admitted,
 ) -> Result<Passed, AllocError>
-    ensures { IsGraph traced.program (Some hierarchy.now) → (outside : Outside) → (is_well_formed traced.program ≡ true → AreKnown outside traced.program facts.now) → IfOk result (HavePassed outside admitted.now.methods.items (ConstProp ∷ []) traced) }
+    ensures { IsGraph traced.program (Some hierarchy.now) → (outside : Outside) → (is_well_formed traced.program ≡ true → AreKnown outside traced.program facts.now)
+        → IfOk result (HavePassed outside admitted.now.methods.items (ConstProp ∷ []) traced) }
 {
     let changed = const_prop::apply(alloc, traced.program, hierarchy, facts, admitted)?;
     let changes = Changes::folded(changed.count);

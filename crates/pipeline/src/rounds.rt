@@ -15,7 +15,8 @@ use crate::asks::{Advice, ask_all, no_advice};
 use crate::counts::{count_instructions, count_members};
 use crate::graph::hierarchy_of;
 use crate::passes::{
-    clean_bodies, compact_bodies, fold_constants, propagate_copies, remove_unreached, squeeze_bodies,
+    clean_bodies, compact_bodies, fold_constants, propagate_copies, remove_unreached,
+    squeeze_bodies,
 };
 use crate::silent::silence;
 use crate::traces::{Passed, Traced, and_then};

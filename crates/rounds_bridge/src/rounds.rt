@@ -48,7 +48,8 @@ pub fn optimised_law()
 /// registers have the least numbers that they can have. (`NothingLeft` and `NoneDead` speak of bodies whose positions and
 /// regions 32 bits number, `AllFresh` of those whose registers 16 bits number.)
 pub fn settled_law()
-    ensures folded { (o : Outside) (admitted : List Bool) (p : Program) (t : Traced) (count : ℕ) → HaveRun o admitted p t count → IsSound t.program → NoneKnown o admitted t.program ⊎ KeepsForms o admitted t.program }
+    ensures folded { (o : Outside) (admitted : List Bool) (p : Program) (t : Traced) (count : ℕ) → HaveRun o admitted p t count → IsSound t.program
+        → NoneKnown o admitted t.program ⊎ KeepsForms o admitted t.program }
     ensures skips { (o : Outside) (admitted : List Bool) (p : Program) (t : Traced) (count : ℕ) → HaveRun o admitted p t count → IsSound t.program → NothingLeft admitted t.program }
     ensures dead { (o : Outside) (admitted : List Bool) (p : Program) (t : Traced) (count : ℕ) → HaveRun o admitted p t count → IsSound t.program → NoneDead (is_quiet_field t.program) admitted t.program }
     ensures fresh { (o : Outside) (admitted : List Bool) (p : Program) (t : Traced) (count : ℕ) → HaveRun o admitted p t count → IsSound t.program → has_narrow_classes t.program ≡ true → AllFresh admitted t.program }

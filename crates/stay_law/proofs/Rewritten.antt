@@ -49,16 +49,26 @@ module _ (writes : MethodAt → Method → Body → List Edit → Type 0) (admit
     rest = refl;
     fields = λ f s. s;
     methods = λ n s.
-      let m = in_plan method_by ps c.methods h.long s.0 n s.1 in
-      (m.0, ((s.0, m.1.0), subst (λ n. MethodStays admitted m.0 n) m.1.1
-      (edited_method (record { class = class; place = word s.0 }) m.0 (slice_index_or ps s.0 []) (h.each s.0 m.0 (got_short c.methods s.0 m.0 m.1.0) m.1.0))));
+        let m = in_plan method_by ps c.methods h.long s.0 n s.1 in (
+          m.0,
+          (
+            (s.0, m.1.0),
+            subst (λ n. MethodStays admitted m.0 n) m.1.1
+                (edited_method (record { class = class; place = word s.0 }) m.0 (slice_index_or ps s.0 []) (h.each s.0 m.0 (got_short c.methods s.0 m.0 m.1.0) m.1.0)),
+          ),
+        );
   }
 
   pub rewritten_stays : (p : Program) (c : Changed) → IsRewrittenBy writes admitted p c → Stays admitted p c.program
   rewritten_stays p c r = subst (λ (q : Program). Stays admitted p q) (sym r.written.program) (record {
     rest = refl;
     classes = λ d s.
-      let k = in_plan class_by r.plan p.classes r.asked.long s.0 d s.1 in
-      (k.0, ((s.0, k.1.0), subst (λ d. ClassStays admitted k.0 d) k.1.1
-      (edited_class (word s.0) k.0 (slice_index_or r.plan s.0 []) (r.asked.each s.0 k.0 (got_short p.classes s.0 k.0 k.1.0) k.1.0))));
+        let k = in_plan class_by r.plan p.classes r.asked.long s.0 d s.1 in (
+          k.0,
+          (
+            (s.0, k.1.0),
+            subst (λ d. ClassStays admitted k.0 d) k.1.1
+                (edited_class (word s.0) k.0 (slice_index_or r.plan s.0 []) (r.asked.each s.0 k.0 (got_short p.classes s.0 k.0 k.1.0) k.1.0)),
+          ),
+        );
   })

@@ -29,7 +29,8 @@ pub fn passes_stay_law()
     ensures removed { (admitted : List Bool) (marks : LiveSet) (p : Program) → Stays admitted p (kept_of marks p) }
     ensures cleaned { (admitted : List Bool) (quiet : ℕ → Bool) (p : Program) (c : Changed) → IsThinnedBy (AreCleaned quiet) admitted p c → Stays admitted p c.program }
     ensures squeezed { (admitted : List Bool) (p : Program) (c : Changed) → IsThinnedBy AreSkips admitted p c → Stays admitted p c.program }
-    ensures rewritten { (writes : MethodAt → Method → Body → List Edit → Type 0) (admitted : List Bool) (p : Program) (c : Changed) → IsRewrittenBy writes admitted p c → Stays admitted p c.program }
+    ensures rewritten { (writes : MethodAt → Method → Body → List Edit → Type 0) (admitted : List Bool) (p : Program) (c : Changed) → IsRewrittenBy writes admitted p c
+        → Stays admitted p c.program }
     ensures propagated { (admitted : List Bool) (p q : Program) → IsPropagatedProgram admitted p q → Stays admitted p q }
     ensures compacted { (admitted : List Bool) (p q : Program) → IsCompactedProgram admitted p q → Stays admitted p q }
 {}

@@ -16,8 +16,8 @@ returns-then-not-own c = λ graph. kept_forms_passed c.args.outside.now c.args.a
 pub returns-in-Some : goal.returns-in-Some
 returns-in-Some c = λ graph. c.fold_known.ensures graph c.args.outside.now
     (λ formed.
-      let own : MakersAreOwn c.args.traced.program c.args.outside.now = c.makers_are_own-own.ensures.sound (graph formed).resolved.of c.if-not-own.false in
-      subst (λ o. IfSome o (AreKnown c.args.outside.now c.args.traced.program)) c.in-Some.is (c.in_ok-known.ensures formed (graph formed).resolved own))
+    let own : MakersAreOwn c.args.traced.program c.args.outside.now = c.makers_are_own-own.ensures.sound (graph formed).resolved.of c.if-not-own.false in
+    subst (λ o. IfSome o (AreKnown c.args.outside.now c.args.traced.program)) c.in-Some.is (c.in_ok-known.ensures formed (graph formed).resolved own))
 
 pub returns-in-None : goal.returns-in-None
 returns-in-None c = λ graph. kept_forms_passed c.args.outside.now c.args.admitted.now.methods.items c.args.traced c.unchanged-in-None.result c.unchanged-in-None.ensures.traced c.unchanged-in-None.ensures.changes

@@ -1,5 +1,6 @@
 -- No pass makes a program more.
 use Rattle.std.proofs.Common.{◌≡◌, suc, ◌<◌, ◌≤◌, Bool, List, [], ◌∷◌, map, length, refl, sym, ap, subst, ◌∙◌, arith}
+use Rattle.std.specs.Prelude.{All}
 use Rattle.std.specs.List.{sum_by}
 use Rattle.std.proofs.lemmas.List.Sums.{sum_by-cons}
 use Rattle.program_model.specs.declared.body.Body.{Body}
@@ -14,9 +15,15 @@ use Rattle.body_edit.specs.declared.fate.Fate.{Fate}
 use Rattle.thin_pass.specs.Plans.{methods_by, class_by, classes_by, IsThinnedBy}
 use Rattle.thin_pass.specs.Weights.{method_weight, class_weight, weight_of}
 use Rattle.compact.specs.Renamed.{IsCompactedProgram}
+use Rattle.rewrite_pass.specs.Plans.{IsRewrittenBy}
+use Rattle.const_prop.specs.Folded.{IsFold}
 use Rattle.copy_prop.specs.Propagated.{IsPropagatedProgram}
 use Rattle.numbers_law.proofs.Compacted.{compacted_size, compacted_weight}
 use Rattle.numbers_law.proofs.Propagated.{propagated_size, propagated_weight}
+use Rattle.const_prop.specs.Measure.{open_forms}
+use Rattle.open_law.proofs.Compacted.{compacted_open}
+use Rattle.open_law.proofs.Folded.{folded_size, folded_weight}
+use Rattle.open_law.proofs.Propagated.{propagated_open}
 use Rattle.pipeline.specs.Changes.{bulk_of}
 
 -- ---- removal
@@ -63,6 +70,14 @@ compacted_same admitted p q h =
     let weight : weight_of q ≡ weight_of p = compacted_weight admitted p q h in
     omega (arith, size, weight)
 
+-- ---- folding
+
+pub folded_no_more : (admitted : List Bool) (p : Program) (c : Changed) → IsRewrittenBy (λ at m b es. All (IsFold b) es) admitted p c → bulk_of c.program ≤ bulk_of p
+folded_no_more admitted p c r =
+    let size : size_of c.program ≡ size_of p = folded_size admitted p c r in
+    let weight : weight_of c.program ≤ weight_of p = folded_weight admitted p c r in
+    omega (arith, size, weight)
+
 -- ---- propagation of copies
 
 pub propagated_same : (admitted : List Bool) (p q : Program) → IsPropagatedProgram admitted p q → bulk_of q ≡ bulk_of p
@@ -70,3 +85,11 @@ propagated_same admitted p q h =
     let size : size_of q ≡ size_of p = propagated_size admitted p q h in
     let weight : weight_of q ≡ weight_of p = propagated_weight admitted p q h in
     omega (arith, size, weight)
+
+-- ---- instructions that may be folded
+
+pub propagated_plainer : (admitted : List Bool) (p q : Program) → IsPropagatedProgram admitted p q → open_forms q ≤ open_forms p
+propagated_plainer admitted p q h = omega (arith, propagated_open admitted p q h)
+
+pub compacted_plainer : (admitted : List Bool) (p q : Program) → IsCompactedProgram admitted p q → open_forms q ≤ open_forms p
+compacted_plainer admitted p q h = omega (arith, compacted_open admitted p q h)

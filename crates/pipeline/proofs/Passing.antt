@@ -1,6 +1,6 @@
 -- Passes, one after another.
 use Rattle.std.proofs.Common.{◌≡◌, ◌⊎◌, ℕ, zero, suc, ◌<◌, ◌≤◌, ◌+◌, ◌-◌, ◌^◌, Bool, true, false, List, [], ◌∷◌, ◌++◌, length, min, refl, sym, ap, ◌∙◌, subst, inl, inr, arith}
-use Rattle.std.specs.Prelude.{nat_eq, if◌then◌else◌}
+use Rattle.std.specs.Prelude.{All, nat_eq, if◌then◌else◌}
 use Rattle.program_model.specs.declared.body.Body.{Body}
 use Rattle.program_model.specs.declared.pass.Changed.{Changed}
 use Rattle.program_model.specs.declared.pass.Origin.{Origin}
@@ -28,6 +28,11 @@ use Rattle.compact.specs.Measure.{numbers_in}
 use Rattle.compact.specs.Narrow.{has_narrow_classes}
 use Rattle.compact.specs.Renamed.{IsCompactedProgram}
 use Rattle.compact.specs.Renamed as compact
+use Rattle.facts.specs.declared.facts.Facts.{Facts}
+use Rattle.rewrite_pass.specs.Plans.{IsRewrittenBy}
+use Rattle.const_prop.specs.Folded.{IsFold}
+use Rattle.const_prop.specs.Folds.{IsFoldedBy, NoneLeft}
+use Rattle.const_prop.specs.Measure.{open_forms}
 use Rattle.copy_prop.specs.Propagated.{IsCounted, IsPropagatedProgram}
 use Rattle.moves_law.specs.Measure.{moves_in}
 use Rattle.moves_law.proofs.Propagated.{propagated_fewer}
@@ -41,9 +46,9 @@ use Rattle.pipeline.specs.declared.traces.Traced.{Traced}
 use Rattle.pipeline.specs.Changes.{no_changes, total_of, bulk_of, rank_of, Falls}
 use Rattle.pipeline.specs.Graph.{HasGraph, HasGraphFault}
 use Rattle.pipeline.specs.Origins.{Follow}
-use Rattle.pipeline.specs.Passes.{Pass, Reach, CopyProp, DeadCode, Squeeze, Compact, Removes, IsIllTyped, KeepsReads, Does, Steps, Last, Then, AreStill, HavePassed}
+use Rattle.pipeline.specs.Passes.{Pass, Reach, ConstProp, CopyProp, DeadCode, Squeeze, Compact, Removes, AreKnown, KeepsForms, IsIllTyped, KeepsReads, Does, Steps, Last, Then, AreStill, HavePassed}
 use Rattle.pipeline.proofs.Few.{few_fields}
-use Rattle.pipeline.proofs.Bulk.{removal_less, propagated_same, thinned_less, compacted_same}
+use Rattle.pipeline.proofs.Bulk.{removal_less, folded_no_more, propagated_same, propagated_plainer, thinned_less, compacted_same, compacted_plainer}
 
 -- ---- any passes
 
@@ -58,12 +63,13 @@ module _ (o : Outside) (admitted : List Bool) where
 
   -- more passes after these
   module _ (xs ys : List Pass) (t : Traced) (a b r : Passed) (one : HavePassed o admitted xs t a) (two : HavePassed o admitted ys a.traced b) (left : r.traced ≡ b.traced)
-      (removed : r.changes.removed ≡ capped (a.changes.removed + b.changes.removed)) (reread : r.changes.reread ≡ capped (a.changes.reread + b.changes.reread)) (renamed : r.changes.renamed ≡ capped (a.changes.renamed + b.changes.renamed)) where
+      (removed : r.changes.removed ≡ capped (a.changes.removed + b.changes.removed)) (folded : r.changes.folded ≡ capped (a.changes.folded + b.changes.folded))
+      (reread : r.changes.reread ≡ capped (a.changes.reread + b.changes.reread)) (renamed : r.changes.renamed ≡ capped (a.changes.renamed + b.changes.renamed)) where
     none_first : total_of r.changes ≡ 0 → total_of a.changes ≡ 0
-    none_first z = omega (arith, removed, reread, renamed, z)
+    none_first z = omega (arith, removed, folded, reread, renamed, z)
 
     none_then : total_of r.changes ≡ 0 → total_of b.changes ≡ 0
-    none_then z = omega (arith, removed, reread, renamed, z)
+    none_then z = omega (arith, removed, folded, reread, renamed, z)
 
     same_both : total_of r.changes ≡ 0 → r.traced ≡ t
     same_both z = left ∙ two.same (none_then z) ∙ one.same (none_first z)
@@ -74,6 +80,9 @@ module _ (o : Outside) (admitted : List Bool) where
     bulk_left : bulk_of r.traced.program ≡ bulk_of b.traced.program
     bulk_left = ap (λ (x : Traced). bulk_of x.program) left
 
+    forms_left : open_forms r.traced.program ≡ open_forms b.traced.program
+    forms_left = ap (λ (x : Traced). open_forms x.program) left
+
     moves_left : moves_in r.traced.program ≡ moves_in b.traced.program
     moves_left = ap (λ (x : Traced). moves_in x.program) left
 
@@ -83,21 +92,27 @@ module _ (o : Outside) (admitted : List Bool) where
     none_removed : r.changes.removed ≡ 0 → (a.changes.removed ≡ 0) × (b.changes.removed ≡ 0)
     none_removed z = (omega (arith, removed, z), omega (arith, removed, z))
 
+    none_folded : r.changes.folded ≡ 0 → (a.changes.folded ≡ 0) × (b.changes.folded ≡ 0)
+    none_folded z = (omega (arith, folded, z), omega (arith, folded, z))
+
     none_reread : r.changes.reread ≡ 0 → (a.changes.reread ≡ 0) × (b.changes.reread ≡ 0)
     none_reread z = (omega (arith, reread, z), omega (arith, reread, z))
 
-    fewer_both : r.changes.removed ≡ 0 → moves_in r.traced.program + min r.changes.reread 1 ≤ moves_in t.program
-    fewer_both z = omega (arith, moves_left, reread, one.falls.fewer (none_removed z).0, two.falls.fewer (none_removed z).1)
+    plainer_both : r.changes.removed ≡ 0 → open_forms r.traced.program + min r.changes.folded 1 ≤ open_forms t.program
+    plainer_both z = omega (arith, forms_left, folded, one.falls.plainer (none_removed z).0, two.falls.plainer (none_removed z).1)
 
-    lower_both : r.changes.removed ≡ 0 → r.changes.reread ≡ 0 → rank_of r.traced.program + min r.changes.renamed 1 ≤ rank_of t.program
-    lower_both z y = omega (arith, rank_left, renamed, one.falls.lower (none_removed z).0 (none_reread y).0, two.falls.lower (none_removed z).1 (none_reread y).1)
+    fewer_both : r.changes.removed ≡ 0 → r.changes.folded ≡ 0 → moves_in r.traced.program + min r.changes.reread 1 ≤ moves_in t.program
+    fewer_both z x = omega (arith, moves_left, reread, one.falls.fewer (none_removed z).0 (none_folded x).0, two.falls.fewer (none_removed z).1 (none_folded x).1)
+
+    lower_both : r.changes.removed ≡ 0 → r.changes.folded ≡ 0 → r.changes.reread ≡ 0 → rank_of r.traced.program + min r.changes.renamed 1 ≤ rank_of t.program
+    lower_both z x y = omega (arith, rank_left, renamed, one.falls.lower (none_removed z).0 (none_folded x).0 (none_reread y).0, two.falls.lower (none_removed z).1 (none_folded x).1 (none_reread y).1)
 
     pub both_passed : HavePassed o admitted (xs ++ ys) t r
     both_passed = record {
       steps = subst (λ (x : Traced). Steps o admitted (xs ++ ys) t x) (sym left) (both_steps xs ys t a.traced b.traced one.steps two.steps);
       same = same_both;
       still = still_both;
-      falls = record { less = omega (arith, bulk_left, removed, one.falls.less, two.falls.less); fewer = fewer_both; lower = lower_both };
+      falls = record { less = omega (arith, bulk_left, removed, one.falls.less, two.falls.less); plainer = plainer_both; fewer = fewer_both; lower = lower_both };
     }
 
 -- ---- one pass
@@ -109,39 +124,53 @@ pub record IsPassed (old : List (List Origin)) (c : Changed) (made : Changes) (r
   pub origins : Follow old c.origins r.traced.origins
 
 abbrev pub removes : ℕ → Changes
-removes n = record { removed = n; reread = 0; renamed = 0 }
+removes n = record { removed = n; folded = 0; reread = 0; renamed = 0 }
+
+abbrev pub folds : ℕ → Changes
+folds n = record { removed = 0; folded = n; reread = 0; renamed = 0 }
 
 abbrev pub rereads : ℕ → Changes
-rereads n = record { removed = 0; reread = n; renamed = 0 }
+rereads n = record { removed = 0; folded = 0; reread = n; renamed = 0 }
 
 abbrev pub renames : ℕ → Changes
-renames n = record { removed = 0; reread = 0; renamed = n }
+renames n = record { removed = 0; folded = 0; reread = 0; renamed = n }
 
 -- what is as much, or less where a number isn't 0
 one_less : (x y n : ℕ) → (n ≡ 0 → x ≡ y) → (0 < n → x < y) → x + min n 1 ≤ y
 one_less x y zero same less = omega (arith, same refl)
 one_less x y (suc n) same less = omega (arith, less (omega arith))
 
--- how a pass falls that only takes away, only lets reads read originals, or only gives registers other numbers
+-- how a pass falls that only takes away, only folds, only lets reads read originals, or only gives registers other numbers
 removed_falls : (q p : Program) (n : ℕ) → (n ≡ 0 → q ≡ p) → (0 < n → bulk_of q < bulk_of p) → Falls (removes n) q p
 removed_falls q p n same less = record {
   less = one_less (bulk_of q) (bulk_of p) n (λ z. ap bulk_of (same z)) less;
-  fewer = λ z. omega (arith, ap moves_in (same z));
-  lower = λ z _. omega (arith, ap rank_of (same z));
+  plainer = λ z. omega (arith, ap open_forms (same z));
+  fewer = λ z _. omega (arith, ap moves_in (same z));
+  lower = λ z _ _. omega (arith, ap rank_of (same z));
 }
 
-reread_falls : (q p : Program) (n : ℕ) → (n ≡ 0 → q ≡ p) → bulk_of q ≡ bulk_of p → (0 < n → moves_in q < moves_in p) → Falls (rereads n) q p
-reread_falls q p n same bulk less = record {
+folded_falls : (q p : Program) (n : ℕ) → (n ≡ 0 → q ≡ p) → bulk_of q ≤ bulk_of p → (0 < n → open_forms q < open_forms p) → Falls (folds n) q p
+folded_falls q p n same bulk less = record {
   less = omega (arith, bulk);
-  fewer = λ _. one_less (moves_in q) (moves_in p) n (λ z. ap moves_in (same z)) less;
-  lower = λ _ z. omega (arith, ap rank_of (same z));
+  plainer = λ _. one_less (open_forms q) (open_forms p) n (λ z. ap open_forms (same z)) less;
+  fewer = λ _ z. omega (arith, ap moves_in (same z));
+  lower = λ _ z _. omega (arith, ap rank_of (same z));
 }
 
-renamed_falls : (q p : Program) (n : ℕ) → (n ≡ 0 → q ≡ p) → bulk_of q ≡ bulk_of p → moves_in q ≡ moves_in p → (0 < n → rank_of q < rank_of p) → Falls (renames n) q p
-renamed_falls q p n same bulk moves less = record {
+reread_falls : (q p : Program) (n : ℕ) → (n ≡ 0 → q ≡ p) → bulk_of q ≡ bulk_of p → open_forms q ≤ open_forms p → (0 < n → moves_in q < moves_in p) → Falls (rereads n) q p
+reread_falls q p n same bulk plainer less = record {
   less = omega (arith, bulk);
-  fewer = λ _. omega (arith, moves);
-  lower = λ _ _. one_less (rank_of q) (rank_of p) n (λ z. ap rank_of (same z)) less;
+  plainer = λ _. omega (arith, plainer);
+  fewer = λ _ _. one_less (moves_in q) (moves_in p) n (λ z. ap moves_in (same z)) less;
+  lower = λ _ _ z. omega (arith, ap rank_of (same z));
+}
+
+renamed_falls : (q p : Program) (n : ℕ) → (n ≡ 0 → q ≡ p) → bulk_of q ≡ bulk_of p → open_forms q ≤ open_forms p → moves_in q ≡ moves_in p → (0 < n → rank_of q < rank_of p) → Falls (renames n) q p
+renamed_falls q p n same bulk plainer moves less = record {
+  less = omega (arith, bulk);
+  plainer = λ _. omega (arith, plainer);
+  fewer = λ _ _. omega (arith, moves);
+  lower = λ _ _ _. one_less (rank_of q) (rank_of p) n (λ z. ap rank_of (same z)) less;
 }
 
 module _ (o : Outside) (admitted : List Bool) (pass : Pass) (t : Traced) where
@@ -229,6 +258,40 @@ module _ (o : Outside) (admitted : List Bool) (t : Traced) (r : Passed) where
   removal_passed c h passed allowed graph unmoved closed kept same less = taken_passed Reach c passed
       (λ formed. record { removal = inl (removed c.program h allowed formed (graph formed) closed); still = unmoved }) same (λ _. unmoved) (λ some. removal_less kept.0 t.program c.program kept.2 (less some))
 
+  -- ---- folding
+
+  pub kept_forms_passed : r.traced ≡ t → r.changes ≡ no_changes → (is_well_formed t.program ≡ true → KeepsForms o admitted t.program) → HavePassed o admitted (ConstProp ∷ []) t r
+  kept_forms_passed same none keeps = none_passed o admitted ConstProp t r (λ formed. record { folding = inr (refl, keeps formed); still = refl }) same none
+
+  -- what is left the same by a fold was counted as nothing
+  uncounted : (c : Changed) → (0 < c.count → open_forms c.program < open_forms t.program) → c.program ≡ t.program → c.count ≡ 0
+  uncounted c less same = by c.count refl
+    where
+      by : (n : ℕ) → c.count ≡ n → c.count ≡ 0
+      by zero e = e
+      by (suc n) e = absurd (let fewer : open_forms c.program < open_forms t.program = less (omega (arith, e)) in omega (arith, fewer, ap open_forms same))
+
+  pub folded_passed : (c : Changed) (h : Hierarchy) (facts : Facts) → IsPassed t.origins c (folds c.count) r → (is_well_formed t.program ≡ true → HasGraph t.program h) → (is_well_formed t.program ≡ true → AreKnown o t.program facts)
+      → IsRewrittenBy (λ at m b es. All (IsFold b) es) admitted t.program c → (is_well_formed t.program ≡ true → IsResolved t.program h → IsFoldedBy t.program h facts admitted c)
+      → (is_well_formed t.program ≡ true → IsResolved t.program h → c.count ≡ 0 → NoneLeft t.program h facts admitted) → (c.count ≡ 0 → c.program ≡ t.program) → (0 < c.count → open_forms c.program < open_forms t.program)
+      → HavePassed o admitted (ConstProp ∷ []) t r
+  folded_passed c h facts passed graph known becomes folded none same less = changed_passed o admitted ConstProp t c (folds c.count) r passed
+      (λ formed.
+      let resolved : IsResolved t.program h = (graph formed).resolved in record {
+        folding = inl (record {
+          hierarchy = h;
+          resolved = resolved;
+          facts = facts;
+          known = known formed;
+          changed = c;
+          folded = folded formed resolved;
+          left = refl;
+          none_left = λ e. none formed resolved (uncounted c less e);
+        });
+        still = becomes.written.origins;
+      })
+      (omega arith) same (λ _. becomes.written.origins) (folded_falls c.program t.program c.count same (folded_no_more admitted t.program c becomes) less)
+
   -- ---- propagation of copies
 
   pub kept_reads_passed : r.traced ≡ t → r.changes ≡ no_changes → (is_well_formed t.program ≡ true → KeepsReads admitted t.program) → HavePassed o admitted (CopyProp ∷ []) t r
@@ -238,7 +301,7 @@ module _ (o : Outside) (admitted : List Bool) (t : Traced) (r : Passed) where
       → c.origins ≡ [] → IsPropagatedProgram admitted t.program c.program → IsCounted c.count t.program c.program → HavePassed o admitted (CopyProp ∷ []) t r
   copies_passed c h passed graph narrow typed still propagated counts = changed_passed o admitted CopyProp t c (rereads c.count) r passed
       (λ formed. record { propagation = inl (record { narrow = narrow; hierarchy = h; resolved = (graph formed).resolved; typed = typed; propagated = propagated }); still = still })
-      (omega arith) counts.same (λ _. still) (reread_falls c.program t.program c.count counts.same (propagated_same admitted t.program c.program propagated) (λ some. propagated_fewer admitted t.program c.program propagated (counts.differs some)))
+      (omega arith) counts.same (λ _. still) (reread_falls c.program t.program c.count counts.same (propagated_same admitted t.program c.program propagated) (propagated_plainer admitted t.program c.program propagated) (λ some. propagated_fewer admitted t.program c.program propagated (counts.differs some)))
 
   -- ---- squeezing
 
@@ -278,4 +341,4 @@ module _ (o : Outside) (admitted : List Bool) (t : Traced) (r : Passed) where
       → (0 < c.count → numbers_in c.program < numbers_in t.program) → HavePassed o admitted (Compact ∷ []) t r
   compact_passed c passed narrow still h counts less = changed_passed o admitted Compact t c (renames c.count) r passed
       (λ _. record { compaction = inl (narrow, h); still = still }) (omega arith) counts.same (λ _. still)
-      (renamed_falls c.program t.program c.count counts.same (compacted_same admitted t.program c.program h) (compacted_moves admitted t.program c.program h) less)
+      (renamed_falls c.program t.program c.count counts.same (compacted_same admitted t.program c.program h) (compacted_plainer admitted t.program c.program h) (compacted_moves admitted t.program c.program h) less)

@@ -12,10 +12,11 @@ use Rattle.hierarchy.specs.declared.build.Hierarchy.{Hierarchy}
 use Rattle.call_graph.specs.declared.live_set.LiveSet.{LiveSet}
 use Rattle.call_graph.specs.Facts.{Fits}
 use Rattle.call_graph.specs.Closed.{IsClosedSet}
+use Rattle.const_prop.specs.Measure.{open_forms}
 use Rattle.moves_law.specs.Measure.{moves_in}
 use Rattle.pipeline.specs.Advised.{IsAdvised}
 use Rattle.pipeline.specs.Asks.{Verdict, asked, no_verdict, AreAnswered}
-use Rattle.pipeline.specs.Changes.{total_of, rank_of, IsLess, Falls}
+use Rattle.pipeline.specs.Changes.{total_of, rank_of, HasFewerCopies, IsPlainer, IsLess, Falls}
 use Rattle.pipeline.specs.Counts.{counted}
 use Rattle.pipeline.specs.Graph.{HasGraph, HasGraphFault}
 use Rattle.pipeline.specs.Silence.{IsSilent, is_quiet, silenced_body, silenced_method, silenced_class, silenced}
@@ -32,40 +33,62 @@ abbrev pub left_to_rename : ℕ → Passed → ℕ
 left_to_rename zero r = rank_of r.traced.program + min r.changes.renamed 1
 left_to_rename (suc n) r = 0
 
--- through how many Moves what is read went, and whether a read was changed, where nothing was taken away
+-- through how many Moves what is read went, and whether a read was changed, where nothing was taken away or folded
 abbrev pub left_to_reread : ℕ → Passed → ℕ
 left_to_reread zero r = moves_in r.traced.program + min r.changes.reread 1
 left_to_reread (suc n) r = 0
+
+-- how many instructions may still be folded, and whether one was, where nothing was taken away
+abbrev pub left_to_fold : ℕ → Passed → ℕ
+left_to_fold zero r = open_forms r.traced.program + min r.changes.folded 1
+left_to_fold (suc n) r = 0
 
 -- what falls by changes is less, where there are some
 falls_less : (c : Changes) (q p : Program) → Falls c q p → 0 < total_of c → IsLess q p
 falls_less c q p f some = by c.removed refl
   where
-    behind : (n : ℕ) → c.removed ≡ 0 → c.reread ≡ n → (moves_in q < moves_in p) ⊎ ((moves_in q ≤ moves_in p) × (rank_of q < rank_of p))
-    behind zero none e = inr (omega (arith, f.fewer none), omega (arith, f.lower none e, none, e, some))
-    behind (suc n) none e = inl (omega (arith, f.fewer none, e))
+    copies : (n : ℕ) → c.removed ≡ 0 → c.folded ≡ 0 → c.reread ≡ n → HasFewerCopies q p
+    copies zero none all e = inr (omega (arith, f.fewer none all), omega (arith, f.lower none all e, none, all, e, some))
+    copies (suc n) none all e = inl (omega (arith, f.fewer none all, e))
+
+    forms : (n : ℕ) → c.removed ≡ 0 → c.folded ≡ n → IsPlainer q p
+    forms zero none e = inr (omega (arith, f.plainer none), copies c.reread none e refl)
+    forms (suc n) none e = inl (omega (arith, f.plainer none, e))
 
     by : (n : ℕ) → c.removed ≡ n → IsLess q p
-    by zero e = inr (omega (arith, f.less), behind c.reread e refl)
+    by zero e = inr (omega (arith, f.less), forms c.folded e refl)
     by (suc n) e = inl (omega (arith, f.less, e))
 
--- rounds behind one that took nothing away and let reads read originals leave fewer Moves
-pub less_to_reread : (b c : Passed) → b.changes.removed ≡ 0 → 0 < b.changes.reread → (c.changes.removed ≡ 0 → moves_in c.traced.program + min c.changes.reread 1 ≤ moves_in b.traced.program)
-    → left_to_reread c.changes.removed c < left_to_reread b.changes.removed b
-less_to_reread b c none some fewer = subst (λ (n : ℕ). left_to_reread c.changes.removed c < left_to_reread n b) (sym none) (by c.changes.removed refl)
+-- rounds behind one that took nothing away and folded something leave fewer instructions to fold
+pub less_to_fold : (b c : Passed) → b.changes.removed ≡ 0 → 0 < b.changes.folded → (c.changes.removed ≡ 0 → open_forms c.traced.program + min c.changes.folded 1 ≤ open_forms b.traced.program)
+    → left_to_fold c.changes.removed c < left_to_fold b.changes.removed b
+less_to_fold b c none some plainer = subst (λ (n : ℕ). left_to_fold c.changes.removed c < left_to_fold n b) (sym none) (by c.changes.removed refl)
   where
-    by : (n : ℕ) → c.changes.removed ≡ n → left_to_reread n c < left_to_reread 0 b
-    by zero e = omega (arith, fewer e, some)
+    by : (n : ℕ) → c.changes.removed ≡ n → left_to_fold n c < left_to_fold 0 b
+    by zero e = omega (arith, plainer e, some)
     by (suc n) e = omega (arith, some)
+
+-- rounds behind one that took nothing away, folded nothing and let reads read originals leave fewer Moves
+pub less_to_reread : (b c : Passed) → b.changes.removed + b.changes.folded ≡ 0 → 0 < b.changes.reread
+    → (c.changes.removed ≡ 0 → c.changes.folded ≡ 0 → moves_in c.traced.program + min c.changes.reread 1 ≤ moves_in b.traced.program)
+    → left_to_reread (c.changes.removed + c.changes.folded) c < left_to_reread (b.changes.removed + b.changes.folded) b
+less_to_reread b c none some fewer = subst (λ (n : ℕ). left_to_reread (c.changes.removed + c.changes.folded) c < left_to_reread n b) (sym none) (by (c.changes.removed + c.changes.folded) refl)
+  where
+    by : (n : ℕ) → c.changes.removed + c.changes.folded ≡ n → left_to_reread n c < left_to_reread 0 b
+    by zero e = omega (arith, fewer (omega (arith, e)) (omega (arith, e)), some)
+    by (suc n) e = omega (arith, some)
+
+-- what a round counted but for registers that got other numbers
+abbrev pub counted_more : Passed → ℕ
+counted_more r = r.changes.removed + r.changes.folded + r.changes.reread
 
 module _ (o : Outside) (admitted : List Bool) where
   -- a round behind one that only gave registers other numbers leaves fewer to give
-  pub less_to_rename : (b c : Passed) → HavePassed o admitted passes b.traced c → b.changes.removed + b.changes.reread ≡ 0 → 0 < b.changes.renamed
-      → left_to_rename (c.changes.removed + c.changes.reread) c < left_to_rename (b.changes.removed + b.changes.reread) b
-  less_to_rename b c h none some = subst (λ (n : ℕ). left_to_rename (c.changes.removed + c.changes.reread) c < left_to_rename n b) (sym none) (by (c.changes.removed + c.changes.reread) refl)
+  pub less_to_rename : (b c : Passed) → HavePassed o admitted passes b.traced c → counted_more b ≡ 0 → 0 < b.changes.renamed → left_to_rename (counted_more c) c < left_to_rename (counted_more b) b
+  less_to_rename b c h none some = subst (λ (n : ℕ). left_to_rename (counted_more c) c < left_to_rename n b) (sym none) (by (counted_more c) refl)
     where
-      by : (n : ℕ) → c.changes.removed + c.changes.reread ≡ n → left_to_rename n c < left_to_rename 0 b
-      by zero e = omega (arith, h.falls.lower (omega (arith, e)) (omega (arith, e)), some)
+      by : (n : ℕ) → counted_more c ≡ n → left_to_rename n c < left_to_rename 0 b
+      by zero e = omega (arith, h.falls.lower (omega (arith, e)) (omega (arith, e)) (omega (arith, e)), some)
       by (suc n) e = omega (arith, some)
 
   more_rounds : (m n : ℕ) (t u v : Traced) → Rounds o admitted m t u → Rounds o admitted n u v → Rounds o admitted (m + n) t v

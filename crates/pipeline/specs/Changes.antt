@@ -4,15 +4,16 @@ use Rattle.program_model.specs.declared.program.Program.{Program}
 use Rattle.reach.specs.Kept.{size_of}
 use Rattle.thin_pass.specs.Weights.{weight_of}
 use Rattle.compact.specs.Measure.{numbers_in}
+use Rattle.const_prop.specs.Measure.{open_forms}
 use Rattle.moves_law.specs.Measure.{moves_in}
 use Rattle.pipeline.specs.declared.traces.Changes.{Changes}
 
 abbrev pub no_changes : Changes
-no_changes = record { removed = 0; reread = 0; renamed = 0 }
+no_changes = record { removed = 0; folded = 0; reread = 0; renamed = 0 }
 
 -- all that was counted
 abbrev pub total_of : Changes → ℕ
-total_of c = c.removed + c.reread + c.renamed
+total_of c = c.removed + c.folded + c.reread + c.renamed
 
 -- How much of a program there is: its classes and members, and its instructions, a nop counting 1 and every other one 2. No pass
 -- makes it more, and a pass that takes away makes it less.
@@ -24,13 +25,23 @@ bulk_of p = size_of p + weight_of p
 abbrev pub rank_of : Program → ℕ
 rank_of p = numbers_in p
 
--- There is less of a program, or as much, and fewer of its reads are of copies, or as many, and what is left ranks lower.
-abbrev pub IsLess : Program → Program → Type 0
-IsLess q p = (bulk_of q < bulk_of p) ⊎ ((bulk_of q ≤ bulk_of p) × ((moves_in q < moves_in p) ⊎ ((moves_in q ≤ moves_in p) × (rank_of q < rank_of p))))
+-- Fewer reads of a program are of copies, or as many, and what is left ranks lower.
+abbrev pub HasFewerCopies : Program → Program → Type 0
+HasFewerCopies q p = (moves_in q < moves_in p) ⊎ ((moves_in q ≤ moves_in p) × (rank_of q < rank_of p))
 
--- No more of a program is left, and less where something was taken away. Where nothing was, its reads of copies are no more, and
--- fewer where some read originals; where none do either, it ranks no higher, and lower where registers got other numbers.
+-- Fewer of its instructions may still be folded, or as many, and then so.
+abbrev pub IsPlainer : Program → Program → Type 0
+IsPlainer q p = (open_forms q < open_forms p) ⊎ ((open_forms q ≤ open_forms p) × HasFewerCopies q p)
+
+-- There is less of a program, or as much, and then so.
+abbrev pub IsLess : Program → Program → Type 0
+IsLess q p = (bulk_of q < bulk_of p) ⊎ ((bulk_of q ≤ bulk_of p) × IsPlainer q p)
+
+-- No more of a program is left, and less where something was taken away. Where nothing was, no more of its instructions may still
+-- be folded, and fewer where some were. Where none were either, its reads of copies are no more, and fewer where some read
+-- originals; and where none do, it ranks no higher, and lower where registers got other numbers.
 pub record Falls (c : Changes) (q p : Program) : Type 0 where
   pub less : bulk_of q + min c.removed 1 ≤ bulk_of p
-  pub fewer : c.removed ≡ 0 → moves_in q + min c.reread 1 ≤ moves_in p
-  pub lower : c.removed ≡ 0 → c.reread ≡ 0 → rank_of q + min c.renamed 1 ≤ rank_of p
+  pub plainer : c.removed ≡ 0 → open_forms q + min c.folded 1 ≤ open_forms p
+  pub fewer : c.removed ≡ 0 → c.folded ≡ 0 → moves_in q + min c.reread 1 ≤ moves_in p
+  pub lower : c.removed ≡ 0 → c.folded ≡ 0 → c.reread ≡ 0 → rank_of q + min c.renamed 1 ≤ rank_of p

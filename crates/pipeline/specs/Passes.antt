@@ -1,6 +1,8 @@
 -- What the passes of a round do to a program, by number (this project's profile).
 use Rattle.std.specs.Prelude.{◌≡◌, ◌⊎◌, ℕ, Bool, true, false, List, [], ◌∷◌}
+use Rattle.std.specs.List.{list_any}
 use Rattle.program_model.specs.declared.body.Body.{Body}
+use Rattle.program_model.specs.declared.pass.Changed.{Changed}
 use Rattle.program_model.specs.declared.pass.Origin.{Origin}
 use Rattle.program_model.specs.declared.pass.Outside.{Outside}
 use Rattle.program_model.specs.declared.program.Program.{Program}
@@ -14,6 +16,11 @@ use Rattle.body_edit.specs.declared.fate.Fate.{Fate}
 use Rattle.thin_pass.specs.Plans.{IsThinnedBy}
 use Rattle.verify.specs.Methods.{RefusesOne, TypesAll}
 use Rattle.verify.specs.declared.fault.TypeFault.TheVariants as fault
+use Rattle.facts.specs.declared.facts.Facts.{Facts}
+use Rattle.summaries.specs.Certified.{IsCertified}
+use Rattle.premises.specs.Numbers.{AllHaveWords}
+use Rattle.premises.specs.Makers.{MakersAreOwn}
+use Rattle.const_prop.specs.Folds.{IsFoldedBy, NoneLeft}
 use Rattle.copy_prop.specs.Propagated.{IsPropagatedProgram}
 use Rattle.dead_code.specs.Dead.{is_quiet_field}
 use Rattle.dead_code.specs.Wishes.{AreCleaned, NoneDead}
@@ -30,6 +37,7 @@ use Rattle.pipeline.specs.Origins.{Follow}
 -- The passes.
 pub data Pass : Type 0 where
   Reach : Pass
+  ConstProp : Pass
   CopyProp : Pass
   DeadCode : Pass
   Squeeze : Pass
@@ -37,7 +45,7 @@ pub data Pass : Type 0 where
 
 -- The passes of a round, in their order.
 abbrev pub passes : List Pass
-passes = Reach ∷ CopyProp ∷ DeadCode ∷ Squeeze ∷ Compact ∷ []
+passes = Reach ∷ ConstProp ∷ CopyProp ∷ DeadCode ∷ Squeeze ∷ Compact ∷ []
 
 -- ---- what each pass does to a well-formed program
 
@@ -55,6 +63,38 @@ IsBarred o p = (o.shrink ≡ false) ⊎ HasGraphFault p
 -- A removal, or nothing where it is barred. No position moves.
 pub record IsRemoval (o : Outside) (p q : Program) (moved : List (List Origin)) : Type 0 where
   pub removal : Removes o p q ⊎ ((q ≡ p) × IsBarred o p)
+  pub still : moved ≡ []
+
+-- Facts that are certified of a program, so that they hold in every run of it: its numbers have the bits that instructions and
+-- values have for them, and a kept constructor is one of its class.
+pub record AreKnown (o : Outside) (p : Program) (facts : Facts) : Type 0 where
+  pub certified : IsCertified p o facts
+  pub words : AllHaveWords p
+  pub makers : MakersAreOwn p o
+
+-- What such facts say of instructions in admitted methods is written over them: a constant, or of a branch a goto or a nop.
+-- Where the program is left the same, these facts leave nothing to write.
+pub record Folds (o : Outside) (admitted : List Bool) (p q : Program) : Type 0 where
+  pub hierarchy : Hierarchy
+  pub resolved : IsResolved p hierarchy
+  pub facts : Facts
+  pub known : AreKnown o p facts
+  pub changed : Changed
+  pub folded : IsFoldedBy p hierarchy facts admitted changed
+  pub left : q ≡ changed.program
+  pub none_left : q ≡ p → NoneLeft p hierarchy facts admitted
+
+-- Why nothing is written: no method is admitted, the class graph has a fault, a kept constructor is none of its class, or the
+-- analysis certified no facts.
+pub data KeepsForms (o : Outside) (admitted : List Bool) (p : Program) : Type 0 where
+  NoneAdmitted : list_any (λ yes. yes) admitted ≡ false → KeepsForms o admitted p
+  Ungraphed : HasGraphFault p → KeepsForms o admitted p
+  NotOwn : (MakersAreOwn p o → ⊥) → KeepsForms o admitted p
+  Uncertified : KeepsForms o admitted p
+
+-- What is known of instructions in admitted methods is written over them, or nothing changes. No position moves.
+pub record IsFolding (o : Outside) (admitted : List Bool) (p q : Program) (moved : List (List Origin)) : Type 0 where
+  pub folding : Folds o admitted p q ⊎ ((q ≡ p) × KeepsForms o admitted p)
   pub still : moved ≡ []
 
 -- The verifier refuses some body.
@@ -103,6 +143,7 @@ pub record IsCompaction (admitted : List Bool) (p q : Program) (moved : List (Li
 -- What a pass makes of a program, and where it says that positions come from.
 abbrev pub Does : Outside → List Bool → Pass → Program → Program → List (List Origin) → Type 0
 Does o admitted Reach p q moved = IsRemoval o p q moved
+Does o admitted ConstProp p q moved = IsFolding o admitted p q moved
 Does o admitted CopyProp p q moved = IsPropagation admitted p q moved
 Does o admitted DeadCode p q moved = IsCleaning admitted p q moved
 Does o admitted Squeeze p q moved = Thins AreSkips (NothingLeft admitted p) admitted p q moved

@@ -1,16 +1,21 @@
 //! The passes of a round, each over a whole program.
 
-ghost use Rattle.std.specs.Prelude.{◌≡◌, ◌∷◌, [], Bool, true, false, List, Some, IfOk};
+ghost use Rattle.std.specs.Prelude.{◌≡◌, ◌∷◌, [], Bool, true, false, List, Some, IfOk, IfSome};
+ghost use Rattle.std.specs.List.{list_any};
+ghost use Rattle.program_model.specs.ProgramRules.{is_well_formed};
 ghost use Rattle.hierarchy.specs.Shapes.{IsResolved};
 ghost use Rattle.verify.specs.Methods.{TypesAll};
+ghost use Rattle.premises.specs.Makers.{MakersAreOwn};
 ghost use Rattle.compact.specs.Narrow.{has_narrow_classes};
 ghost use Rattle.pipeline.specs.Changes.{no_changes, total_of};
 ghost use Rattle.pipeline.specs.Graph.{IsGraph};
-ghost use Rattle.pipeline.specs.Passes.{Reach, CopyProp, DeadCode, Squeeze, Compact, IsIllTyped, KeepsReads, HavePassed};
+ghost use Rattle.pipeline.specs.Passes.{Reach, ConstProp, CopyProp, DeadCode, Squeeze, Compact, AreKnown, IsIllTyped, KeepsReads, HavePassed};
 
 use crate::graph::hierarchy_of;
 use crate::traces::{Changes, Passed, Traced, left_by};
+use facts::Facts;
 use hierarchy::Hierarchy;
+use premises::{makers_are_own, numbers_have_bits};
 use program_model::{Admitted, Outside, Program};
 use std::alloc::{AllocError, Global};
 use verify::{TypeFault, verify_all};
@@ -88,6 +93,95 @@ pub fn remove_unreached(
     }
     match graph {
         Some(hierarchy) => Ok(remove_graphed(alloc, traced, hierarchy, outside)?),
+        None => Ok((unchanged(traced), None)),
+    }
+}
+
+/// Whether any method may be rewritten.
+fn is_any_admitted(admitted: &Admitted) -> bool
+    ensures { result ≡ list_any (λ yes. yes) admitted.now.methods.items }
+{
+    admitted.methods.as_slice().iter().any(|yes| *yes)
+}
+
+/// Facts that hold in every run of a program whose kept constructors are those of their classes, none where that is not known
+/// of any. The only error is want of memory.
+fn known_facts(
+    alloc: Global,
+    program: &Program,
+    hierarchy: &Hierarchy,
+    outside: &Outside,
+) -> Result<Option<Facts>, AllocError>
+    ensures { is_well_formed program.now ≡ true → IsResolved program.now hierarchy.now → MakersAreOwn program.now outside.now
+        → IfOk result (λ facts. IfSome facts (AreKnown outside.now program.now)) }
+{
+    if !numbers_have_bits(program) {
+        return Ok(None);
+    }
+    let facts = summaries::analyse(alloc, program, hierarchy, outside)?;
+    Ok(facts)
+}
+
+/// Folds what facts say of the instructions of admitted methods, by a program's hierarchy. The only error is want of memory.
+fn fold_known(
+    alloc: Global,
+    traced: Traced,
+    hierarchy: &Hierarchy,
+    facts: &Facts,
+    admitted: &Admitted,
+) -> Result<Passed, AllocError>
+    ensures { IsGraph traced.program (Some hierarchy.now) → (outside : Outside) → (is_well_formed traced.program ≡ true → AreKnown outside traced.program facts.now)
+        → IfOk result (HavePassed outside admitted.now.methods.items (ConstProp ∷ []) traced) }
+{
+    let changed = const_prop::apply(alloc, traced.program, hierarchy, facts, admitted)?;
+    let changes = Changes::folded(changed.count);
+    Ok(left_by(traced.origins, changed, changes))
+}
+
+/// The same by the facts that are known. They are asked for only where some method may be rewritten, and each kept
+/// constructor is one of its class.
+fn fold_by(
+    alloc: Global,
+    traced: Traced,
+    hierarchy: &Hierarchy,
+    outside: &Outside,
+    admitted: &Admitted,
+) -> Result<Passed, AllocError>
+    ensures { IsGraph traced.program (Some hierarchy.now) → IfOk result (HavePassed outside.now admitted.now.methods.items (ConstProp ∷ []) traced) }
+{
+    if !is_any_admitted(admitted) {
+        return Ok(unchanged(traced));
+    }
+    let own = makers_are_own(&traced.program, hierarchy, outside);
+    if !own {
+        return Ok(unchanged(traced));
+    }
+    let known = known_facts(alloc, &traced.program, hierarchy, outside)?;
+    match known {
+        Some(facts) => fold_known(alloc, traced, hierarchy, &facts, admitted),
+        None => Ok(unchanged(traced)),
+    }
+}
+
+/// Makes constants of instructions of admitted methods whose results are known in every run, and gotos or nops of branches
+/// whose outcomes are, unless the class graph has a fault, a kept constructor is none of its class, or no facts are known; with
+/// the hierarchy of what is left. The only error is want of memory.
+pub fn fold_constants(
+    alloc: Global,
+    traced: Traced,
+    graph: Option<Hierarchy>,
+    outside: &Outside,
+    admitted: &Admitted,
+) -> Result<(Passed, Option<Hierarchy>), AllocError>
+    ensures passed { IsGraph traced.program graph → IfOk result (λ left. HavePassed outside.now admitted.now.methods.items (ConstProp ∷ []) traced left.0) }
+    ensures graph { IsGraph traced.program graph → IfOk result (λ left. IsGraph left.0.traced.program left.1) }
+{
+    match graph {
+        Some(hierarchy) => {
+            let passed = fold_by(alloc, traced, &hierarchy, outside, admitted)?;
+            let graph = graph_after(alloc, hierarchy, &passed)?;
+            Ok((passed, graph))
+        }
         None => Ok((unchanged(traced), None)),
     }
 }

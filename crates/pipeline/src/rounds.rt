@@ -4,6 +4,7 @@ ghost use Rattle.std.specs.Prelude.{◌≡◌, ◌≤◌, ◌-◌, ◌+◌, min,
 ghost use Rattle.program_model.specs.Cells.{capped};
 ghost use Rattle.program_model.specs.ProgramRules.{is_well_formed};
 ghost use Rattle.pipeline.specs.Advised.{IsAdvised, verdict};
+ghost use Rattle.const_prop.specs.Measure.{open_forms};
 ghost use Rattle.moves_law.specs.Measure.{moves_in};
 ghost use Rattle.pipeline.specs.Changes.{bulk_of, total_of};
 ghost use Rattle.pipeline.specs.Counts.{members_of, insns_of};
@@ -14,7 +15,8 @@ use crate::asks::{Advice, ask_all, no_advice};
 use crate::counts::{count_instructions, count_members};
 use crate::graph::hierarchy_of;
 use crate::passes::{
-    clean_bodies, compact_bodies, propagate_copies, remove_unreached, squeeze_bodies,
+    clean_bodies, compact_bodies, fold_constants, propagate_copies, remove_unreached,
+    squeeze_bodies,
 };
 use crate::silent::silence;
 use crate::traces::{Passed, Traced, and_then};
@@ -70,8 +72,10 @@ fn round(
     ensures { IfOk result (HavePassed outside.now admitted.now.methods.items passes traced) }
 {
     let (reached, graph) = remove_unreached(alloc, traced, outside)?;
-    let (copied, graph) = propagate_copies(alloc, reached.traced, graph, admitted)?;
-    let copied = and_then(reached.changes, copied);
+    let (folded, graph) = fold_constants(alloc, reached.traced, graph, outside, admitted)?;
+    let folded = and_then(reached.changes, folded);
+    let (copied, graph) = propagate_copies(alloc, folded.traced, graph, admitted)?;
+    let copied = and_then(folded.changes, copied);
     let cleaned = clean_bodies(alloc, copied.traced, &graph, admitted)?;
     let cleaned = and_then(copied.changes, cleaned);
     let squeezed = squeeze_bodies(alloc, cleaned.traced, admitted)?;
@@ -88,14 +92,16 @@ fn renaming_rounds(
     admitted: &Admitted,
 ) -> Result<(Passed, u32), AllocError>
     ensures run { IfOk result (λ r. Rounding outside.now admitted.now.methods.items traced r.0 r.1) }
-    ensures settled { IfOk result (λ r. r.0.changes.removed ≡ 0 → r.0.changes.reread ≡ 0 → r.0.changes.renamed ≡ 0) }
+    ensures settled { IfOk result (λ r. r.0.changes.removed ≡ 0 → r.0.changes.folded ≡ 0 → r.0.changes.reread ≡ 0 → r.0.changes.renamed ≡ 0) }
     ensures less { IfOk result (λ r. bulk_of r.0.traced.program + min r.0.changes.removed 1 ≤ bulk_of traced.program) }
-    ensures fewer { IfOk result (λ r. r.0.changes.removed ≡ 0 → moves_in r.0.traced.program + min r.0.changes.reread 1 ≤ moves_in traced.program) }
+    ensures plainer { IfOk result (λ r. r.0.changes.removed ≡ 0 → open_forms r.0.traced.program + min r.0.changes.folded 1 ≤ open_forms traced.program) }
+    ensures fewer { IfOk result (λ r. r.0.changes.removed ≡ 0 → r.0.changes.folded ≡ 0 → moves_in r.0.traced.program + min r.0.changes.reread 1 ≤ moves_in traced.program) }
     ensures count { IfOk result (λ r. 1 ≤ r.1) }
 {
     let mut rounds: u32 = 1;
     let mut left = round(alloc, traced, outside, admitted)?;
     'rounds: while left.changes.removed == 0
+        && left.changes.folded == 0
         && left.changes.reread == 0
         && left.changes.renamed > 0
     {
@@ -105,8 +111,33 @@ fn renaming_rounds(
     Ok((left, rounds))
 }
 
-/// Rounds, until one takes something away or changes nothing: what the last one left, and how many ran.
+/// Rounds, until one takes something away, folds something or changes nothing: what the last one left, and how many ran.
 fn rereading_rounds(
+    alloc: Global,
+    traced: Traced,
+    outside: &Outside,
+    admitted: &Admitted,
+) -> Result<(Passed, u32), AllocError>
+    ensures run { IfOk result (λ r. Rounding outside.now admitted.now.methods.items traced r.0 r.1) }
+    ensures settled { IfOk result (λ r. r.0.changes.removed ≡ 0 → r.0.changes.folded ≡ 0 → total_of r.0.changes ≡ 0) }
+    ensures less { IfOk result (λ r. bulk_of r.0.traced.program + min r.0.changes.removed 1 ≤ bulk_of traced.program) }
+    ensures plainer { IfOk result (λ r. r.0.changes.removed ≡ 0 → open_forms r.0.traced.program + min r.0.changes.folded 1 ≤ open_forms traced.program) }
+    ensures count { IfOk result (λ r. 1 ≤ r.1) }
+{
+    let (mut left, mut rounds) = renaming_rounds(alloc, traced, outside, admitted)?;
+    'rounds: while left.changes.removed == 0
+        && left.changes.folded == 0
+        && left.changes.reread > 0
+    {
+        let (next, more) = renaming_rounds(alloc, left.traced, outside, admitted)?;
+        left = next;
+        rounds = rounds.saturating_add(more);
+    }
+    Ok((left, rounds))
+}
+
+/// Rounds, until one takes something away or changes nothing: what the last one left, and how many ran.
+fn folding_rounds(
     alloc: Global,
     traced: Traced,
     outside: &Outside,
@@ -117,9 +148,9 @@ fn rereading_rounds(
     ensures less { IfOk result (λ r. bulk_of r.0.traced.program + min r.0.changes.removed 1 ≤ bulk_of traced.program) }
     ensures count { IfOk result (λ r. 1 ≤ r.1) }
 {
-    let (mut left, mut rounds) = renaming_rounds(alloc, traced, outside, admitted)?;
-    'rounds: while left.changes.removed == 0 && left.changes.reread > 0 {
-        let (next, more) = renaming_rounds(alloc, left.traced, outside, admitted)?;
+    let (mut left, mut rounds) = rereading_rounds(alloc, traced, outside, admitted)?;
+    'rounds: while left.changes.removed == 0 && left.changes.folded > 0 {
+        let (next, more) = rereading_rounds(alloc, left.traced, outside, admitted)?;
         left = next;
         rounds = rounds.saturating_add(more);
     }
@@ -140,9 +171,9 @@ fn all_rounds(
         program,
         origins: Seq::new(alloc),
     };
-    let (mut left, mut rounds) = rereading_rounds(alloc, first, outside, admitted)?;
+    let (mut left, mut rounds) = folding_rounds(alloc, first, outside, admitted)?;
     'rounds: while left.changes.removed > 0 {
-        let (next, more) = rereading_rounds(alloc, left.traced, outside, admitted)?;
+        let (next, more) = folding_rounds(alloc, left.traced, outside, admitted)?;
         left = next;
         rounds = rounds.saturating_add(more);
     }

@@ -16,11 +16,12 @@ pub struct Traced {
     pub origins: Seq<Seq<Origin>>,
 }
 
-/// How much passes took away, how many instructions they let read originals in place of copies, and in how many bodies they
-/// gave registers other numbers.
+/// How much passes took away, over how many instructions they wrote what is known of them, how many instructions they let
+/// read originals in place of copies, and in how many bodies they gave registers other numbers.
 #[derive(Clone, Copy, Debug, Drop)]
 pub struct Changes {
     pub removed: u64,
+    pub folded: u64,
     pub reread: u64,
     pub renamed: u64,
 }
@@ -32,6 +33,7 @@ impl Changes {
     {
         Changes {
             removed: 0,
+            folded: 0,
             reread: 0,
             renamed: 0,
         }
@@ -39,10 +41,23 @@ impl Changes {
 
     /// So much was taken away.
     pub fn removed(count: u64) -> Changes
-        ensures { result ≡ record { removed = count; reread = 0; renamed = 0 } }
+        ensures { result ≡ record { removed = count; folded = 0; reread = 0; renamed = 0 } }
     {
         Changes {
             removed: count,
+            folded: 0,
+            reread: 0,
+            renamed: 0,
+        }
+    }
+
+    /// Over so many instructions was written what is known of them.
+    pub fn folded(count: u64) -> Changes
+        ensures { result ≡ record { removed = 0; folded = count; reread = 0; renamed = 0 } }
+    {
+        Changes {
+            removed: 0,
+            folded: count,
             reread: 0,
             renamed: 0,
         }
@@ -50,10 +65,11 @@ impl Changes {
 
     /// So many instructions read originals.
     pub fn reread(count: u64) -> Changes
-        ensures { result ≡ record { removed = 0; reread = count; renamed = 0 } }
+        ensures { result ≡ record { removed = 0; folded = 0; reread = count; renamed = 0 } }
     {
         Changes {
             removed: 0,
+            folded: 0,
             reread: count,
             renamed: 0,
         }
@@ -61,10 +77,11 @@ impl Changes {
 
     /// In so many bodies registers got other numbers.
     pub fn renamed(count: u64) -> Changes
-        ensures { result ≡ record { removed = 0; reread = 0; renamed = count } }
+        ensures { result ≡ record { removed = 0; folded = 0; reread = 0; renamed = count } }
     {
         Changes {
             removed: 0,
+            folded: 0,
             reread: 0,
             renamed: count,
         }
@@ -74,7 +91,7 @@ impl Changes {
     pub fn is_none(&self) -> bool
         ensures { result ≡ nat_eq (total_of self.now) 0 }
     {
-        self.removed == 0 && self.reread == 0 && self.renamed == 0
+        self.removed == 0 && self.folded == 0 && self.reread == 0 && self.renamed == 0
     }
 }
 
@@ -164,6 +181,7 @@ pub fn left_by(old: Seq<Seq<Origin>>, changed: Changed, changes: Changes) -> Pas
 pub fn and_then(before: Changes, last: Passed) -> Passed
     ensures traced { result.traced ≡ last.traced }
     ensures removed { result.changes.removed ≡ capped (before.removed + last.changes.removed) }
+    ensures folded { result.changes.folded ≡ capped (before.folded + last.changes.folded) }
     ensures reread { result.changes.reread ≡ capped (before.reread + last.changes.reread) }
     ensures renamed { result.changes.renamed ≡ capped (before.renamed + last.changes.renamed) }
 {
@@ -172,6 +190,7 @@ pub fn and_then(before: Changes, last: Passed) -> Passed
         traced: last.traced,
         changes: Changes {
             removed: before.removed.saturating_add(more.removed),
+            folded: before.folded.saturating_add(more.folded),
             reread: before.reread.saturating_add(more.reread),
             renamed: before.renamed.saturating_add(more.renamed),
         },

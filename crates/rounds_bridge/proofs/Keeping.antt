@@ -22,13 +22,15 @@ use Rattle.removal_law.proofs.Classes.{left_less}
 use Rattle.squeeze.specs.Needed.{NothingLeft}
 use Rattle.squeeze.specs.Skipping.{AreSkips}
 use Rattle.thin_bridge.specs.Kept.{AnyCode, IsKept}
+use Rattle.fold_kept.specs.Kept.{IsKeptFor}
+use Rattle.fold_kept.proofs.Kept.{folded_kept}
 use Rattle.squeeze_bridge.proofs.Squeezes.{squeezed_kept}
 use Rattle.dead_bridge.proofs.Cleans.{cleaned_kept}
 use Rattle.compact.specs.Narrow.{has_narrow_classes}
 use Rattle.compact.specs.Renamed.{IsCompactedProgram}
 use Rattle.kept_bridge.proofs.Compacted.{compacted_kept}
 use Rattle.copy_kept.proofs.Kept.{propagated_kept}
-use Rattle.pipeline.specs.Passes.{Pass, Reach, CopyProp, DeadCode, Squeeze, Compact, Removes, IsBarred, IsRemoval, Propagates, KeepsReads, IsPropagation, Thins, IsCleaning, IsCompaction}
+use Rattle.pipeline.specs.Passes.{Pass, Reach, ConstProp, CopyProp, DeadCode, Squeeze, Compact, Removes, IsBarred, IsRemoval, Folds, KeepsForms, IsFolding, Propagates, KeepsReads, IsPropagation, Thins, IsCleaning, IsCompaction}
 use Rattle.reach_bridge.specs.Names.{family_of}
 use Rattle.reach_bridge.proofs.Kept.{kept_named}
 use Rattle.reach_bridge.proofs.Unshut.{unshut}
@@ -82,9 +84,9 @@ module _ (o : Outside) where
 
   -- ---- passes on bodies
 
-  -- a pass that keeps a program but for bodies and lines
-  bodies_owe : (p q : Program) → IsSound p → IsKept p q → Owes o p q
-  bodies_owe p q sound kept = record {
+  -- a pass that keeps a program but for bodies and lines, as this outside sees it
+  kept_for_owes : (p q : Program) → IsSound p → IsKeptFor o p q → Owes o p q
+  kept_for_owes p q sound kept = record {
     sound = record {
       formed = kept.formed;
       once = still_once p q (other_part AnyCode p p.classes q.classes kept.others.classes) sound.once;
@@ -94,8 +96,23 @@ module _ (o : Outside) where
     };
     outer = ap (λ (x : Program). outer_of x o) kept.others.same;
     fewer = λ t d. sym (others_define AnyCode p t q kept.others) ∙ d;
-    shown = λ none. kept.shown (outer_of p o);
+    shown = λ none. kept.shown (unshut p o none);
   }
+
+  -- one that keeps it so for every outside
+  bodies_owe : (p q : Program) → IsSound p → IsKept p q → Owes o p q
+  bodies_owe p q sound kept = kept_for_owes p q sound (record { formed = kept.formed; typed = kept.typed; others = kept.others; shown = λ _. kept.shown (outer_of p o) })
+
+  folding_owes : (admitted : List Bool) (p q : Program) (moved : List (List Origin)) → IsSound p → IsFolding o admitted p q moved → Owes o p q
+  folding_owes admitted p q moved sound h = by h.folding
+    where
+      by : Folds o admitted p q ⊎ ((q ≡ p) × KeepsForms o admitted p) → Owes o p q
+      by (inl f) = subst (λ (x : Program). Owes o p x) (sym f.left) (kept_for_owes p f.changed.program sound
+          (folded_kept p f.hierarchy o f.facts admitted f.changed sound.formed f.resolved sound.grounded sound.typed f.known.certified f.known.words f.known.makers f.folded))
+      by (inr none) = subst (λ (x : Program). Owes o p x) (sym none.0) (owes_same o p sound)
+
+  pub const_prop_keeps : (admitted : List Bool) → Keeps o admitted ConstProp
+  const_prop_keeps admitted = record { owes = folding_owes admitted }
 
   propagation_owes : (admitted : List Bool) (p q : Program) (moved : List (List Origin)) → IsSound p → IsPropagation admitted p q moved → Owes o p q
   propagation_owes admitted p q moved sound h = by h.propagation
@@ -136,6 +153,7 @@ module _ (o : Outside) where
 
   pub each_keeps : (admitted : List Bool) (pass : Pass) → Keeps o admitted pass
   each_keeps admitted Reach = reach_keeps admitted
+  each_keeps admitted ConstProp = const_prop_keeps admitted
   each_keeps admitted CopyProp = copy_prop_keeps admitted
   each_keeps admitted DeadCode = dead_code_keeps admitted
   each_keeps admitted Squeeze = squeeze_keeps admitted

@@ -1,5 +1,5 @@
 -- What is left of a program for all rules shows what the program without its silent calls shows.
-use Rattle.std.proofs.Common.{◌≡◌, inl, inr, ℕ, Bool, true, false, List, [], refl, sym, ap, ◌∙◌, subst}
+use Rattle.std.proofs.Common.{◌≡◌, ◌⊎◌, inl, inr, ℕ, Bool, true, false, List, [], refl, sym, ap, ◌∙◌, subst}
 use Rattle.std.specs.Prelude.{if◌then◌else◌, slice_index_or}
 use Rattle.std.specs.Option.{option_map}
 use Rattle.program_model.specs.declared.pass.Origin.{Origin}
@@ -24,9 +24,11 @@ use Rattle.compact.specs.Narrow.{has_narrow_classes}
 use Rattle.compact_bridge.specs.Bridged.{AllPacked}
 use Rattle.copy_bridge.specs.Bridged.{AllFresh}
 use Rattle.squeeze.specs.Needed.{NothingLeft}
+use Rattle.pipeline.specs.Passes.{KeepsForms}
 use Rattle.pipeline.specs.Rounds.{first_of, IsOptimised}
+use Rattle.rounds_bridge.specs.Ended.{NoneKnown}
 use Rattle.rounds_bridge.specs.Owed.{IsSound, Owes}
-use Rattle.rounds_bridge.proofs.Ends.{none_skipped, none_dead, all_fresh, all_packed}
+use Rattle.rounds_bridge.proofs.Ends.{all_folded, none_skipped, none_dead, all_fresh, all_packed}
 use Rattle.rounds_bridge.proofs.Parts.{Part, mapped_head, mapped_part, still_once, still_grounded}
 use Rattle.rounds_bridge.proofs.Splits.{whole_left}
 use Rattle.rounds_bridge.proofs.Repeated.{all_rounds_owe}
@@ -101,6 +103,9 @@ module _ (p : Program) (h : Hierarchy) (formed : is_well_formed p ≡ true) (res
 
       pub optimised_sound : IsSound r
       optimised_sound = rounds.sound
+
+      pub optimised_folded : NoneKnown o done.admitted r ⊎ KeepsForms o done.admitted r
+      optimised_folded = all_folded o done.admitted r rounds.sound done.ran.ends
 
       pub optimised_skips : NothingLeft done.admitted r
       optimised_skips = none_skipped o done.admitted r rounds.sound done.ran.ends

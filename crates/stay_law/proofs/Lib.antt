@@ -1,3 +1,4 @@
 pub mod Standing
 pub mod Staying
 pub mod Passes
+pub mod Rewritten

@@ -7,6 +7,7 @@ rounds-init c = record {
   count = omega arith;
   rounding = begun c.args.outside.now c.args.admitted.now.methods.items c.args.traced c.in_ok-left.left c.in_ok-left.ensures;
   less = c.in_ok-left.ensures.falls.less;
+  plainer = c.in_ok-left.ensures.falls.plainer;
   fewer = c.in_ok-left.ensures.falls.fewer;
 }
 
@@ -16,7 +17,8 @@ rounds-preserved c = record {
   rounding = further c.args.outside.now c.args.admitted.now.methods.items c.args.traced c.rounds.left c.in_ok-left-2.left c.rounds.rounds 1 c.saturating_add-rounds.result (omega arith) c.rounds.invariant.rounding
       (begun c.args.outside.now c.args.admitted.now.methods.items c.rounds.left.traced c.in_ok-left-2.left c.in_ok-left-2.ensures) (omega arith);
   less = omega (arith, c.in_ok-left-2.ensures.falls.less, c.rounds.invariant.less);
-  fewer = λ none. omega (arith, c.in_ok-left-2.ensures.falls.fewer none, c.rounds.invariant.fewer (omega arith));
+  plainer = λ none. omega (arith, c.in_ok-left-2.ensures.falls.plainer none, c.rounds.invariant.plainer (omega arith));
+  fewer = λ none all. omega (arith, c.in_ok-left-2.ensures.falls.fewer none all, c.rounds.invariant.fewer (omega arith) (omega arith));
 }
 
 pub rounds-smaller : goal.rounds-smaller

@@ -1,8 +1,9 @@
 use Rattle.std.proofs.Common.{◌≡◌, ◌≤◌, ◌+◌, min}
+use Rattle.const_prop.specs.Measure.{open_forms}
 use Rattle.moves_law.specs.Measure.{moves_in}
 use Rattle.pipeline.specs.Changes.{bulk_of}
 use Rattle.pipeline.specs.Rounds.{Rounding}
-use Rattle.pipeline.proofs.RoundLemmas.{left_to_rename}
+use Rattle.pipeline.proofs.RoundLemmas.{counted_more, left_to_rename}
 use Rattle.pipeline.proofs.rounds.renaming_rounds.Given as goal
 
 abbrev pub invariant-rounds : goal.invariant-rounds
@@ -10,8 +11,9 @@ invariant-rounds l = record {
   count : 1 ≤ l.rounds;
   rounding : Rounding l.outside l.admitted.methods.items l.fn.traced l.left l.rounds;
   less : bulk_of l.left.traced.program + min l.left.changes.removed 1 ≤ bulk_of l.fn.traced.program;
-  fewer : l.left.changes.removed ≡ 0 → moves_in l.left.traced.program + min l.left.changes.reread 1 ≤ moves_in l.fn.traced.program;
+  plainer : l.left.changes.removed ≡ 0 → open_forms l.left.traced.program + min l.left.changes.folded 1 ≤ open_forms l.fn.traced.program;
+  fewer : l.left.changes.removed ≡ 0 → l.left.changes.folded ≡ 0 → moves_in l.left.traced.program + min l.left.changes.reread 1 ≤ moves_in l.fn.traced.program;
 }
 
 abbrev pub decreases-rounds : goal.decreases-rounds
-decreases-rounds l = left_to_rename (l.left.changes.removed + l.left.changes.reread) l.left
+decreases-rounds l = left_to_rename (counted_more l.left) l.left

@@ -8,6 +8,7 @@ rounds-init c = record {
   settled = c.in_ok-left.ensures.settled;
   rounding = c.in_ok-left.ensures.run;
   less = c.in_ok-left.ensures.less;
+  plainer = c.in_ok-left.ensures.plainer;
 }
 
 pub rounds-preserved : goal.rounds-preserved
@@ -17,6 +18,7 @@ rounds-preserved c = record {
   rounding = further c.args.outside.now c.args.admitted.now.methods.items c.args.traced c.rounds.left c.in_ok-next.next c.rounds.rounds c.in_ok-next.more c.saturating_add-rounds.result (omega arith) c.rounds.invariant.rounding
       c.in_ok-next.ensures.run (omega arith);
   less = omega (arith, c.in_ok-next.ensures.less, c.rounds.invariant.less);
+  plainer = λ none. omega (arith, c.in_ok-next.ensures.plainer none, c.rounds.invariant.plainer (omega arith));
 }
 
 pub rounds-smaller : goal.rounds-smaller

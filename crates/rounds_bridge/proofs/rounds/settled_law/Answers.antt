@@ -1,5 +1,8 @@
-use Rattle.rounds_bridge.proofs.Ends.{none_skipped, none_dead, all_fresh, all_packed}
+use Rattle.rounds_bridge.proofs.Ends.{all_folded, none_skipped, none_dead, all_fresh, all_packed}
 use Rattle.rounds_bridge.proofs.rounds.settled_law.Goals as goal
+
+pub returns-clause-folded : goal.returns-clause-folded
+returns-clause-folded c = λ o admitted p t count ran sound. all_folded o admitted t.program sound ran.ends
 
 pub returns-clause-skips : goal.returns-clause-skips
 returns-clause-skips c = λ o admitted p t count ran sound. none_skipped o admitted t.program sound ran.ends

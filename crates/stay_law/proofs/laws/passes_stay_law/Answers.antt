@@ -1,6 +1,7 @@
 use Rattle.dead_code.specs.Wishes.{AreCleaned}
 use Rattle.squeeze.specs.Skipping.{AreSkips}
 use Rattle.stay_law.proofs.Passes.{removed_stays, thinned_stays, propagated_stays, compacted_stays}
+use Rattle.stay_law.proofs.Rewritten.{rewritten_stays}
 use Rattle.stay_law.proofs.laws.passes_stay_law.Goals as goal
 
 pub returns-clause-removed : goal.returns-clause-removed
@@ -11,6 +12,9 @@ returns-clause-cleaned c = λ admitted quiet p c. thinned_stays admitted (AreCle
 
 pub returns-clause-squeezed : goal.returns-clause-squeezed
 returns-clause-squeezed c = λ admitted p c. thinned_stays admitted AreSkips p c
+
+pub returns-clause-rewritten : goal.returns-clause-rewritten
+returns-clause-rewritten c = rewritten_stays
 
 pub returns-clause-propagated : goal.returns-clause-propagated
 returns-clause-propagated c = propagated_stays

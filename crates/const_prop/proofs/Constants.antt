@@ -1,7 +1,8 @@
 -- Constants in place of forms.
-use Rattle.std.proofs.Common.{◌≡◌, ℕ, ◌≤◌, Bool, true, false, ◌&&◌, Option, Some, None, refl, sym, ap, ◌∙◌, subst}
-use Rattle.std.specs.Prelude.{pos, nat_le, nat_eq, if◌then◌else◌}
-use Rattle.std.specs.Int.{w32, w64, cast_signed}
+use Rattle.std.proofs.Common.{◌≡◌, ℕ, ◌<◌, ◌≤◌, Bool, true, false, ◌&&◌, Option, Some, None, refl, sym, ap, ◌∙◌, subst}
+use Rattle.std.specs.Prelude.{◌^◌, pos, nat_le, nat_eq, if◌then◌else◌}
+use Rattle.std.specs.Int.{w32, w64, cast_signed, cast_unsigned}
+use Rattle.std.proofs.lemmas.Int.{of_z-to_z}
 use Rattle.std.proofs.lemmas.Bool.{leb-true}
 use Rattle.insn_set.specs.Registers.{writes_of, in_operand}
 use Rattle.insn_set.specs.Spelling.{units_of, is_encodable}
@@ -11,7 +12,7 @@ use Rattle.const_prop.specs.declared.numbers.Number.{Number}
 use Rattle.const_prop.specs.declared.numbers.Number.TheVariants.{Word, Wide}
 use Rattle.const_prop.specs.declared.choices.Way.{Way}
 use Rattle.const_prop.specs.declared.choices.Way.TheVariants.{Open, Next, To}
-use Rattle.const_prop.specs.Constants.{result_of, number_into, is_worth, worth, constant_into, constant_for, is_constant, is_result, IsConstantFor}
+use Rattle.const_prop.specs.Constants.{result_of, number_into, is_worth, worth, constant_into, constant_for, is_constant, constant_result, is_result, number_written, IsConstantFor}
 use Rattle.const_prop.specs.Choices.{is_choice, has_target, goto_or_nop, chosen}
 use Rattle.const_prop.specs.Folded.{MayBecome, Constant, Target, Next as Nopped}
 
@@ -38,8 +39,8 @@ both true true e = (refl, refl)
 both true false e = absurd (cc)
 both false b e = absurd (cc)
 
-kept : (f c g : Insn) (r : ℕ × Bool) → result_of f ≡ Some r → is_constant c ≡ true → ((n : ℕ) → writes_of c n ≡ in_operand r.1 r.0 n) → worth f (Some c) ≡ Some g → IsConstantFor f g
-kept f c g r s constant same h = by (is_worth f c) refl h
+kept : (f c g : Insn) (r : ℕ × Bool) → result_of f ≡ Some r → is_constant c ≡ true → constant_result c ≡ Some r → ((n : ℕ) → writes_of c n ≡ in_operand r.1 r.0 n) → worth f (Some c) ≡ Some g → IsConstantFor f g
+kept f c g r s constant result same h = by (is_worth f c) refl h
   where
     by : (v : Bool) → is_worth f c ≡ v → elim v [ true ↦ Some c | false ↦ None ] ≡ Some g → IsConstantFor f g
     by false w e = absurd (cc)
@@ -49,15 +50,16 @@ kept f c g r s constant same h = by (is_worth f c) refl h
         subst (IsConstantFor f) i (record {
           constant = constant;
           plain = ap is_result s;
+          result = result ∙ sym s;
           same = λ n. same n ∙ writes_result f r n s;
           encodable = p.0;
           short = leb-true (units_of c (pos 0)) (units_of f (pos 0)) p.1;
         })
 
 made : (f g : Insn) (to : ℕ) (wide : Bool) (n : Number) → result_of f ≡ Some (to, wide) → worth f (number_into to wide n) ≡ Some g → IsConstantFor f g
-made f g to false (Word n) s h = kept f (insn.Const to (cast_signed w32 n)) g (to, false) s refl (λ k. refl) h
+made f g to false (Word n) s h = kept f (insn.Const to (cast_signed w32 n)) g (to, false) s refl refl (λ k. refl) h
 made f g to true (Word n) s h = absurd (cc)
-made f g to true (Wide n) s h = kept f (insn.ConstWide to (cast_signed w64 n)) g (to, true) s refl (λ k. refl) h
+made f g to true (Wide n) s h = kept f (insn.ConstWide to (cast_signed w64 n)) g (to, true) s refl refl (λ k. refl) h
 made f g to false (Wide n) s h = absurd (cc)
 
 -- the constant of a number in place of a form is one for it
@@ -70,6 +72,13 @@ constant_is f g n e = by (result_of f) refl e
 
 pub constant_becomes : (f g : Insn) (n : Number) → constant_for f n ≡ Some g → MayBecome f g
 constant_becomes f g n e = Constant g (constant_is f g n e)
+
+-- what a constant writes is the number that it is made of
+pub word_back : (n : ℕ) → n < 2 ^ 32 → cast_unsigned w32 (cast_signed w32 n) ≡ n
+word_back n l = of_z-to_z w32 n l
+
+pub wide_back : (n : ℕ) → n < 2 ^ 64 → cast_unsigned w64 (cast_signed w64 n) ≡ n
+wide_back n l = of_z-to_z w64 n l
 
 -- ---- branches
 
@@ -97,3 +106,21 @@ choice_becomes f g next (To target) h = by (has_target f target) refl h
     by : (v : Bool) → has_target f target ≡ v → (if v then Some (goto_or_nop next target) else None) ≡ Some g → MayBecome f g
     by false s e = absurd (cc)
     by true s e = let i : goto_or_nop next target ≡ g = cc in to (nat_eq target next) s i
+
+-- and writes no number
+pub choice_writes : (f g : Insn) (next : ℕ) (way : Way) → chosen f next way ≡ Some g → number_written g ≡ None
+choice_writes f g next Open h = absurd (cc)
+choice_writes f g next Next h = by (is_choice f) h
+  where
+    by : (v : Bool) → (if v then Some insn.Nop else None) ≡ Some g → number_written g ≡ None
+    by false e = absurd (cc)
+    by true e = let i : insn.Nop ≡ g = cc in ap number_written (sym i)
+choice_writes f g next (To target) h = by (has_target f target) h
+  where
+    to : (v : Bool) → number_written (if v then insn.Nop else insn.Goto target) ≡ None
+    to true = refl
+    to false = refl
+
+    by : (v : Bool) → (if v then Some (goto_or_nop next target) else None) ≡ Some g → number_written g ≡ None
+    by false e = absurd (cc)
+    by true e = let i : goto_or_nop next target ≡ g = cc in ap number_written (sym i) ∙ to (nat_eq target next)

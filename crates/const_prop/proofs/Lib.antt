@@ -1,2 +1,7 @@
-mod Constants
-mod Found
+pub mod Constants
+pub mod Found
+pub mod Measured
+pub mod Plans
+pub mod Finding
+pub mod Invariants
+pub mod Judging

@@ -1,6 +1,6 @@
 -- Constants in place of forms that do nothing but write a register (Dalvik bytecode, "Summary of bytecode set").
 use Rattle.std.specs.Prelude.{◌≡◌, ℕ, ◌≤◌, pos, Bool, true, false, ◌&&◌, nat_le, Option, Some, None}
-use Rattle.std.specs.Int.{w32, w64, cast_signed}
+use Rattle.std.specs.Int.{w32, w64, cast_signed, cast_unsigned}
 use Rattle.insn_set.specs.Registers.{writes_of}
 use Rattle.insn_set.specs.Spelling.{units_of, is_encodable}
 use Rattle.insn_set.specs.Widths.{is_wide_slot, is_wide_item, unary_writes_wide, binary_is_wide}
@@ -55,11 +55,24 @@ abbrev pub is_result : Option (ℕ × Bool) → Bool
 is_result None = false
 is_result (Some r) = true
 
+-- the number that a constant puts into registers
+abbrev pub number_written : Insn → Option Number
+number_written (insn.Const to value) = Some (Word (cast_unsigned w32 value))
+number_written (insn.ConstWide to value) = Some (Wide (cast_unsigned w64 value))
+number_written f = None
+
+-- the register of a constant, and whether the next one is written too
+abbrev pub constant_result : Insn → Option (ℕ × Bool)
+constant_result (insn.Const to value) = Some (to, false)
+constant_result (insn.ConstWide to value) = Some (to, true)
+constant_result f = None
+
 -- A constant in place of a form that only writes a register: it writes just the registers that the form writes, is
 -- encodable, and is no longer.
 pub record IsConstantFor (f g : Insn) : Type 0 where
   pub constant : is_constant g ≡ true
   pub plain : is_result (result_of f) ≡ true
+  pub result : constant_result g ≡ result_of f
   pub same : (r : ℕ) → writes_of g r ≡ writes_of f r
   pub encodable : is_encodable g ≡ true
   pub short : units_of g (pos 0) ≤ units_of f (pos 0)

@@ -5,7 +5,7 @@ use Rattle.insn_set.specs.declared.form.Insn.TheVariants as insn
 use Rattle.program_model.specs.declared.body.Body.{Body}
 use Rattle.rewrite_pass.specs.declared.edit.Edit.{Edit}
 use Rattle.const_prop.specs.declared.folding.Fold.{Fold}
-use Rattle.const_prop.specs.Constants.{IsConstantFor}
+use Rattle.const_prop.specs.Constants.{number_written, IsConstantFor}
 use Rattle.const_prop.specs.Choices.{is_choice, has_target}
 
 -- A form becomes a constant, or, of a conditional branch or a switch, a goto to one of its targets or a nop.
@@ -25,10 +25,12 @@ IsFold b e = IsFoldOf b e.position e.insn
 
 -- ---- as it is found
 
--- what is found for a form at a position
+-- what is found for a form at a position, with the number that a constant writes
 pub record IsFoundAt (n : ℕ) (f : Insn) (x : Fold) : Type 0 where
   pub position : x.position ≡ n
   pub becomes : MayBecome f x.insn
+  pub written : number_written x.insn ≡ x.number
 
-abbrev pub IsFound : Body → Fold → Type 0
-IsFound b x = IsFoldOf b x.position x.insn
+pub record IsFound (b : Body) (x : Fold) : Type 0 where
+  pub fold : IsFoldOf b x.position x.insn
+  pub written : number_written x.insn ≡ x.number

@@ -12,7 +12,7 @@ use insn_set::{Insn, Test};
 
 /// Where a branch goes on: it isn't known, at the next position, or at a target.
 #[derive(Clone, Copy, PartialEq, Eq, Debug, Drop)]
-pub(crate) enum Way {
+pub enum Way {
     Open,
     Next,
     To(u32),

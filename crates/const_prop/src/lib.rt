@@ -10,8 +10,12 @@
 //!
 //! The meaning stays, since in each run the new form does what the old one did. The kinds of registers stay or become
 //! narrower: among references a constant is null, of a wide value it is wide, and an object that no constructor was called on
-//! stays what it is. What the facts say is not part of what is proved here: [`apply`] ensures which forms become which others,
-//! and that all else stays. `specs/Folded.antt` says so by number.
+//! stays what it is.
+//!
+//! [`apply`] ensures which forms become which others, and that all else stays (`specs/Folded.antt`); that just those positions
+//! change, and become just that, which the facts and the typing of a method allow, and that none of these is left where
+//! nothing changed (`specs/Folds.antt`, over `Known`, `Given` and `Kinds`); and that fewer instructions are left other than
+//! constants, gotos and nops where something did (`specs/Measure.antt`). Whether the facts are right is not said here.
 #![tactic(auto)]
 
 mod asking;
@@ -21,4 +25,6 @@ mod kinds;
 mod numbers;
 mod results;
 
+pub use choices::Way;
 pub use folding::apply;
+pub use numbers::Number;

@@ -1,13 +1,13 @@
 //! Known numbers, and the constants that stand for them.
 
-ghost use Rattle.std.specs.Prelude.{◌≡◌};
-ghost use Rattle.const_prop.specs.Constants.{result_of, number_into, is_worth, constant_for};
+ghost use Rattle.std.specs.Prelude.{◌≡◌, Some, IfSome};
+ghost use Rattle.const_prop.specs.Constants.{result_of, number_into, number_written, is_worth, constant_for};
 
 use insn_set::Insn;
 
 /// A number that a register, or a pair of registers, is known to hold.
 #[derive(Clone, Copy, PartialEq, Eq, Debug, Drop)]
-pub(crate) enum Number {
+pub enum Number {
     Word(u32),
     Wide(u64),
 }
@@ -32,8 +32,10 @@ pub(crate) fn result_of(insn: &Insn) -> Option<(u16, bool)>
 }
 
 /// The constant that puts a number into a register, or a wide one into a pair.
+#[tactic(auto, using(crate::proofs::Constants::word_back, crate::proofs::Constants::wide_back))]
 fn number_into(to: u16, wide: bool, number: Number) -> Option<Insn>
-    ensures { result ≡ number_into to wide number }
+    ensures is { result ≡ number_into to wide number }
+    ensures written { IfSome result (λ constant. number_written constant ≡ Some number) }
 {
     match number {
         Number::Word(word) => {
@@ -69,7 +71,8 @@ fn is_worth(insn: &Insn, constant: &Insn) -> bool
 /// The constant in place of an instruction that does nothing but write a number: it writes just the registers that the
 /// instruction writes, and is encodable and no longer. None where there is no such constant.
 pub(crate) fn constant_for(insn: &Insn, number: Number) -> Option<Insn>
-    ensures { result ≡ constant_for insn.now number }
+    ensures is { result ≡ constant_for insn.now number }
+    ensures written { IfSome result (λ constant. number_written constant ≡ Some number) }
 {
     let (to, wide) = result_of(insn)?;
     let constant = number_into(to, wide, number)?;

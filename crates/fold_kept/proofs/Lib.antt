@@ -1,0 +1,9 @@
+pub mod Beneath
+pub mod Letters
+pub mod Lowered
+pub mod Few
+pub mod Planned
+pub mod Bodies
+pub mod Typing
+pub mod Joins
+pub mod Virtual

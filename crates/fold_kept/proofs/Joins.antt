@@ -3,12 +3,13 @@ use Rattle.std.proofs.Common.{◌≡◌, ℕ, zero, suc, ◌+◌, ◌<◌, Bool,
 use Rattle.std.specs.Prelude.{cond, fold, slice_get}
 use Rattle.std.specs.Int.{w32, cast_signed}
 use Rattle.std.specs.List.{filter, range_with_len}
+use Rattle.std.proofs.lemmas.Int.{ints}
 use Rattle.lemmas.proofs.Options.{none_some, some_same}
 use Rattle.domains.specs.ClassSets.{set_upper}
 use Rattle.domains.specs.Datum.{Datum, Double, Object, Plain, Single, Within}
 use Rattle.domains.specs.Nulls.{null_upper}
 use Rattle.domains.specs.Ranges.{range_upper}
-use Rattle.domains.specs.Values.{kind_holds, Parts, value_holds, value_joined}
+use Rattle.domains.specs.Values.{any_value, kind_holds, Parts, value_holds, value_joined}
 use Rattle.domains.specs.Words.{word_upper}
 
 abbrev pub Under : Parts → Parts → Type 0
@@ -66,3 +67,13 @@ range_there a (suc n) (suc k) l = range_there (a + 1) n k (omega (arith, l)) ∙
   where
     one : (a k : ℕ) → a + 1 + k ≡ a + suc k
     one a k = omega arith
+
+-- ---- any value
+
+any_holds : (d : Datum) → value_holds any_value d
+any_holds (Plain (Single w)) = ((tt, (omega (arith, ints), omega (arith, ints))), tt)
+any_holds (Plain (Double w)) = (tt, tt)
+any_holds (Object c) = (tt, tt)
+
+pub below_any : (x : Parts) → Under x any_value
+below_any x d h = any_holds d

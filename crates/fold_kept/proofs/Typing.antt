@@ -50,7 +50,7 @@ pairs_with R S (x ∷ xs) (y ∷ ys) r h = (h 0 x y refl r.0, pairs_with R S xs 
 
 module _ (p : Program) (h : Hierarchy) (facts : Facts) where
   -- folded code whose numbers have their bits
-  FoldsWords : MethodKey → Option Body → Option Body → Type 0
+  abbrev FoldsWords : MethodKey → Option Body → Option Body → Type 0
   FoldsWords k a b = FoldsSo p h facts k a b × CodeHasWords b
 
   name_folds : (k : MethodKey) (a b : Option Body) → FoldsWords k a b → FoldsNamedSo p h facts k (option_map (body_of p) a) (option_map (body_of p) b)

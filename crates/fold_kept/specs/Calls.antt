@@ -10,11 +10,11 @@ use Rattle.program_model.specs.declared.program.Program.{Program}
 use Rattle.program_model.specs.Lookups.{class_place}
 use Rattle.class_defs.specs.Members.{is_interface}
 use Rattle.class_defs.specs.Places.{interface_places}
-use Rattle.hierarchy.specs.Climbing.{In}
 
--- What stands in a list of interfaces is no other class, nor what stands above an interface, and no virtual call of the code names an
--- interface of the program. Where one does, its receiver may be any object, so that const_prop's result is not all that it may give.
+-- What stands in a list of interfaces is no other class, and no virtual call of the code names an interface of the program: its
+-- receiver might be any object, since kinds say nothing of interfaces, and then `Given` of const_prop would not tell all that the
+-- call may give.
 pub record CallsPlainly (p : Program) : Type 0 where
-  pub listed : (c u : ℕ) → In u (interface_places p c) → is_interface (slice_get p.classes u) ≡ true
+  pub listed : (c u : ℕ) → Contains (interface_places p c) u → is_interface (slice_get p.classes u) ≡ true
   pub virtual : (i j n : ℕ) (c : Class) (m : Method) (b : Body) (method : ℕ) (args : List ℕ) (q : MethodName) (k : ℕ) → slice_get p.classes i ≡ Some c → slice_get c.methods j ≡ Some m → m.body ≡ Some b
       → slice_get b.insns n ≡ Some (insn.Invoke call.Virtual method args) → slice_get p.methods method ≡ Some q → class_place p q.class ≡ Some k → is_interface (slice_get p.classes k) ≡ false

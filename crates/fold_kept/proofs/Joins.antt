@@ -5,12 +5,16 @@ use Rattle.std.specs.Int.{w32, cast_signed}
 use Rattle.std.specs.List.{filter, range_with_len}
 use Rattle.std.proofs.lemmas.Int.{ints}
 use Rattle.lemmas.proofs.Options.{none_some, some_same}
+use Rattle.program_model.specs.declared.program.Program.{Program}
+use Rattle.class_defs.specs.Finding.{Clash, Finds, Nothing, Search}
 use Rattle.domains.specs.ClassSets.{set_upper}
 use Rattle.domains.specs.Datum.{Datum, Double, Object, Plain, Single, Within}
 use Rattle.domains.specs.Nulls.{null_upper}
 use Rattle.domains.specs.Ranges.{range_upper}
 use Rattle.domains.specs.Values.{any_value, kind_holds, Parts, value_holds, value_joined}
 use Rattle.domains.specs.Words.{word_upper}
+use Rattle.facts.specs.declared.facts.Facts.{Facts}
+use Rattle.const_prop.specs.Given.{found_value}
 
 abbrev pub Under : Parts → Parts → Type 0
 Under x y = Within value_holds x y
@@ -77,3 +81,11 @@ any_holds (Object c) = (tt, tt)
 
 pub below_any : (x : Parts) → Under x any_value
 below_any x d h = any_holds d
+
+-- ---- look-ups
+
+-- what a look-up finds can give no more than a value says, and nothing is known where it finds nothing
+abbrev pub Answers : Program → Facts → Parts → Search → Type 0
+Answers p t v Nothing = Under any_value v
+Answers p t v Clash = Unit {0}
+Answers p t v (Finds at) = Under (found_value p t (Some at)) v

@@ -6,4 +6,9 @@ pub mod Planned
 pub mod Bodies
 pub mod Typing
 pub mod Joins
+pub mod Classes
 pub mod Virtual
+pub mod Supers
+pub mod Results
+pub mod NamedFacts
+pub mod Kept

@@ -19,7 +19,7 @@ use Rattle.hierarchy.specs.Ranks.{IsRanked, is_lower, is_lower_all}
 use Rattle.domains.specs.Values.{any_value, least_value, Parts}
 use Rattle.facts.specs.declared.facts.Facts.{Facts}
 use Rattle.const_prop.specs.Given.{among_value, found_value, method_value, with_found}
-use Rattle.fold_kept.proofs.Joins.{filter_there, first_joined, fold_reaches, second_joined, Under}
+use Rattle.fold_kept.proofs.Joins.{filter_there, first_joined, fold_reaches, second_joined, Answers, Under}
 use Rattle.fold_kept.proofs.Virtual.{passing, super_below}
 
 filter_from : {A : Type 0} (t : A → Bool) (xs : List A) (m : ℕ) (x : A) → slice_get (filter t xs) m ≡ Some x → (n : ℕ) × (slice_get xs n ≡ Some x)
@@ -151,13 +151,11 @@ module _ (p : Program) (r : IsRanked p) where
     among [] n at e = none_some at e
     among (f ∷ fs) n at e = fold_reaches (with_found p t) grown (f ∷ fs) least_value n at (found_value p t (Some at)) e (λ w. second_joined w (found_value p t (Some at)))
 
-    -- what the lowest candidates give is among what all may give, and anything is where they give nothing
-    abbrev pub Gives : List MethodAt → Search → Type 0
-    Gives fs Nothing = Under any_value (among_value p t fs)
-    Gives fs Clash = Unit {0}
-    Gives fs (Finds at) = Under (found_value p t (Some at)) (among_value p t fs)
+    abbrev Gives : List MethodAt → Search → Type 0
+    Gives fs y = Answers p t (among_value p t fs) y
 
-    pub lowest_given : (fs : List MethodAt) → Gives fs (verdict (lowest p fs))
+    -- what the lowest candidates give is among what all may give, and anything is where they give nothing
+    pub lowest_given : (fs : List MethodAt) → Answers p t (among_value p t fs) (verdict (lowest p fs))
     lowest_given fs = by (lowest p fs) refl
       where
         nothing : (fs : List MethodAt) → lowest p fs ≡ [] → Under any_value (among_value p t fs)

@@ -17,7 +17,7 @@ use Rattle.hierarchy.specs.Ranks.{IsRanked, is_lower, is_lower_all}
 use Rattle.domains.specs.Values.{any_value, Parts, value_joined}
 use Rattle.facts.specs.declared.facts.Facts.{Facts}
 use Rattle.const_prop.specs.Given.{found_value, virtual_value, with_definer, with_found, with_maybe}
-use Rattle.fold_kept.proofs.Joins.{filter_there, first_joined, fold_grows, fold_reaches, below_any, range_there, second_joined, under_on, Under}
+use Rattle.fold_kept.proofs.Joins.{filter_there, first_joined, fold_grows, fold_reaches, below_any, range_there, second_joined, under_on, Answers, Under}
 
 -- ---- lists
 
@@ -214,13 +214,11 @@ module _ (p : Program) (r : IsRanked p) where
                 by true false i j = absurd (true≢false (sym j))
                 by false b i j = absurd (true≢false (sym i))
 
-        -- what a class under it finds is among what may be given, and anything is where it finds nothing
-        abbrev pub Given : Search → Type 0
-        Given Nothing = Under any_value (virtual_value p t name proto top)
-        Given Clash = Unit {0}
-        Given (Finds at) = Under (found_value p t (Some at)) (virtual_value p t name proto top)
+        abbrev Given : Search → Type 0
+        Given y = Answers p t (virtual_value p t name proto top) y
 
-        pub given_at : (place : ℕ) → place < length p.classes → is_under p place top ≡ true → Given (finds_at p place name proto)
+        -- what a class under it finds is among what may be given, and anything is where it finds nothing
+        pub given_at : (place : ℕ) → place < length p.classes → is_under p place top ≡ true → Answers p t (virtual_value p t name proto top) (finds_at p place name proto)
         given_at place l under = by (finds_virtual p name proto place) (finds_among p (interfaces place) name proto) (finds_covered place l under)
           where
             interfaces : ℕ → List ℕ

@@ -1,13 +1,13 @@
-mod Along
+pub mod Along
 mod FlatSound
 mod Reading
-mod Standing
+pub mod Standing
 mod Worlds
 mod Local
-mod Fields
-mod Stays
+pub mod Fields
+pub mod Stays
 mod Entering
-mod Waiting
+pub mod Waiting
 mod Calling
 mod Steps
 mod Returning
@@ -15,12 +15,12 @@ mod Given
 pub mod Numbers
 mod Moving
 pub mod Ranges
-mod RangedRuns
-mod Living
-mod Widths
-mod Ready
-mod Reaching
+pub mod RangedRuns
+pub mod Living
+pub mod Widths
+pub mod Ready
+pub mod Reaching
 pub mod Runs
 pub mod ValueSound
-mod Suits
+pub mod Suits
 mod SoundOn

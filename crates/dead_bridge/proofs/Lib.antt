@@ -3,6 +3,6 @@ mod Afters
 mod Calling
 mod Plain
 mod Veiling
-mod Quieting
+pub mod Quieting
 mod Cleaning
 pub mod Cleans

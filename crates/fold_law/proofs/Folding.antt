@@ -80,7 +80,7 @@ module _ (s : Setting) (find other : Bodies) (I : State → Type 0) where
             new = λ a lt i. clash (writes f o) (ap (writes f) (sym z ∙ i ∙ ap (λ q. q + a) place) ∙ writes_at f a lt) j;
           }) z
 
-      fits : Fits s find other R I k b n f f'
+      pub fits : Fits s find other R I k b n f f'
       fits = record {
         alike = λ w c g g' rest script h i j ig. by w c g g' rest script h i j ig fold;
         room = λ i lt. let u = solid.room n f (destination f + i) x (or_right (reads f (destination f + i)) (writes f (destination f + i)) (writes_at f i lt)) in
@@ -97,7 +97,7 @@ module _ (s : Setting) (find other : Bodies) (I : State → Type 0) where
               (same_reads (λ r. r) (λ r. r) (λ t. t) g g' f (λ r a. h.registers r r refl) (own_pair f))))
           by w c g g' rest script h i j ig (Folds a) = inr (record { change = a.change; first = a.old w c g rest script ig i j; second = a.new w g'; possible = a.possible })
 
-    entry : (vs : List Value) (o y : ℕ) → y ≡ o → register (entry_frame k vs d) y ≡ register (entry_frame k vs b) o
+    pub entry : (vs : List Value) (o y : ℕ) → y ≡ o → register (entry_frame k vs d) y ≡ register (entry_frame k vs b) o
     entry vs o y z = ap₂ (λ l y. slice_index_or l y (Word 0)) (ap₂ (λ y z. replicate (y - z) (Word 0) ++ vs) folded.registers folded.ins) z
 
 module _ (p : NamedProgram) (new : Change) (o : Outer) (calm : Framework → Text → Bool) (I : Framework → Floats → List Move → State → Type 0) (all : AllFolded new p o calm I) (solid : AllSolid p) where

@@ -1,1 +1,4 @@
 pub mod Folding
+pub mod FoldedRuns
+pub mod TypedFolding
+pub mod Lowering

@@ -8,9 +8,9 @@ use Rattle.dalvik_defs.specs.Happens.{Setting}
 use Rattle.dalvik_defs.specs.Outcome.{Stays, need_of, outcome}
 use Rattle.dalvik_defs.specs.Outer.{Outer}
 use Rattle.dalvik_defs.specs.Quiet.{calm_opening}
-use Rattle.dalvik_defs.specs.Shown.{Fit}
+use Rattle.dalvik_defs.specs.Shown.{Fit, IsPrefixOf}
 use Rattle.dalvik_defs.specs.State.{World, Classes, State, On}
-use Rattle.dalvik_defs.specs.Step.{setting_of, step}
+use Rattle.dalvik_defs.specs.Step.{setting_of, step, shows}
 use Rattle.dalvik_defs.specs.Names.{Text}
 use Rattle.dalvik_defs.specs.declared.state.Frame.{Frame}
 use Rattle.dalvik_defs.specs.declared.state.Waiting.{Waiting}
@@ -54,3 +54,18 @@ pub record AllFolded (new : Bodies) (p : NamedProgram) (o : Outer) (calm : Frame
       → IsFolded (setting_of p o f a) (I f a script) k b d
   pub begins : (f : Framework) (a : Floats) (script : List Move) → Fit p o f script → I f a script (calm_opening (calm f) script)
   pub keeps : (f : Framework) (a : Floats) (script : List Move) → Fit p o f script → (t : State) → I f a script t → I f a script (step (setting_of p o f a) (bodies_of p) t).0
+
+-- ---- one run
+
+-- What a run of the one shows the run of the other shows too, and conversely, under one framework, arithmetic and script.
+pub record SameRun (p q : NamedProgram) (o : Outer) (f : Framework) (a : Floats) (script : List Move) : Type 0 where
+  pub there : (n : ℕ) → (m : ℕ) × IsPrefixOf (shows p o f a script n) (shows q o f a script m)
+  pub back : (n : ℕ) → (m : ℕ) × IsPrefixOf (shows q o f a script n) (shows p o f a script m)
+
+-- Bodies that are folded by what one run of the first program reaches, which begins with the calm classes done.
+pub record IsFoldedRun (p q : NamedProgram) (o : Outer) (f : Framework) (a : Floats) (script : List Move) (calm : Text → Bool) (I : State → Type 0) : Type 0 where
+  pub none : (k : MethodKey) → bodies_of p k ≡ None → bodies_of q k ≡ None
+  pub some : (k : MethodKey) (b : NamedBody) → bodies_of p k ≡ Some b → (d : NamedBody) × (bodies_of q k ≡ Some d)
+  pub bodies : (k : MethodKey) (b d : NamedBody) → bodies_of p k ≡ Some b → bodies_of q k ≡ Some d → IsFolded (setting_of p o f a) I k b d
+  pub begins : I (calm_opening calm script)
+  pub keeps : (t : State) → I t → I (step (setting_of p o f a) (bodies_of p) t).0

@@ -1,3 +1,3 @@
 mod Numbers
 mod Tests
-mod Sound
+pub mod Sound

@@ -1,0 +1,14 @@
+pub mod Only
+pub mod Acts
+pub mod Branches
+pub mod Covered
+pub mod Steps
+pub mod Settling
+pub mod Forms
+pub mod Becoming
+pub mod Planned
+pub mod Programs
+pub mod Formed
+pub mod FormedPrograms
+pub mod Bulk
+pub mod Shown

@@ -1,0 +1,14 @@
+pub mod Beneath
+pub mod Letters
+pub mod Lowered
+pub mod Few
+pub mod Planned
+pub mod Bodies
+pub mod Typing
+pub mod Joins
+pub mod Classes
+pub mod Virtual
+pub mod Supers
+pub mod Results
+pub mod NamedFacts
+pub mod Kept

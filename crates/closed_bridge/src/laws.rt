@@ -8,7 +8,7 @@ ghost use Rattle.call_targets.specs.Targeted.{IsTargeted};
 ghost use Rattle.call_targets.specs.declared.table.Targets.{Targets};
 ghost use Rattle.class_defs.specs.ClassGraph.{IsTwice};
 ghost use Rattle.closed_bridge.specs.Flows.{GoesOn, NamedBegins, NamedGoesOn, NamedReturns, NamedTakes, NamedThrows, Returns, Throws};
-ghost use Rattle.closed_bridge.specs.Makers.{MakersAreOwn};
+ghost use Rattle.premises.specs.Makers.{MakersAreOwn};
 ghost use Rattle.closed_bridge.specs.Names.{by_names, named_facts, values, values_of};
 ghost use Rattle.closed_facts.specs.Calls.{Calls};
 ghost use Rattle.closed_facts.specs.Closed.{AreClosed, ReachesLive};

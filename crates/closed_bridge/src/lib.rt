@@ -16,7 +16,8 @@
 //! - `Entering`, `Taking`: what a call passes, that it enters a method, and what is taken of its result.
 //! - `Defining`, `Opening`: what the framework may enter by names it may enter by number. `Starting`: each class that is needed by
 //!   names, or initialised first for one, is marked by number.
-//! - `Making`: kept constructors are those of their classes, which the law of coverage asks beside.
+//! - `Making`: kept constructors are those of their classes, which the law of coverage asks beside, where they are so by number
+//!   (`MakersAreOwn` of premises).
 //! - `Closing` puts them together: `closed_law` says that a table that is closed by number is closed by names.
 //!
 //! The law asks for closed marks (`IsMarked` of reach), which the contracts of `Hierarchy::build` and `live_members` give, and for

@@ -20,7 +20,7 @@ use Rattle.silence_law.proofs.WellFormed.{well_placed}
 use Rattle.stuck_bridge.proofs.Formed as stuck
 use Rattle.cover_law.specs.Coverable.{IsTabled}
 use Rattle.tabled_law.specs.Apart.{ConstructsByOwn, IsTabledApart}
-use Rattle.tabled_law.specs.Numbers.{AllHaveWords}
+use Rattle.premises.specs.Numbers.{AllHaveWords}
 use Rattle.tabled_law.proofs.Acyclic.{grounded_acyclic}
 use Rattle.tabled_law.proofs.Codes.{codes_formed}
 use Rattle.tabled_law.proofs.Described.{described}

@@ -28,9 +28,9 @@ use Rattle.removal_law.proofs.CallsLeft.{body_in}
 use Rattle.removal_law.proofs.Lists.{contained}
 use Rattle.stuck_bridge.proofs.Listed.{image, some_same, none_same, method_fits_at}
 use Rattle.cover_law.specs.Coverable.{IsFormed}
-use Rattle.cover_law.proofs.Ranges.{small_bits}
-use Rattle.tabled_law.specs.Numbers.{AllHaveWords, HasWords}
+use Rattle.premises.specs.Numbers.{AllHaveWords, HasWords}
 use Rattle.tabled_law.proofs.Described.{field_values}
+use Rattle.tabled_law.proofs.Small.{all_small, bits, small}
 
 -- what is true of all entries with their places is true of each at some place
 placed : {A : Type 0} (f : ℕ × A → Bool) (xs : List A) (k n : ℕ) (x : A) → list_all f (enumerate_from k xs) ≡ true → slice_get xs n ≡ Some x → (m : ℕ) × (f (m, x) ≡ true)
@@ -61,10 +61,10 @@ module _ (p : Program) (s : Sound p) where
   puts_static i from field h = below field (length p.fields) h
 
   formed_insn : (x : Insn) → is_encodable x ≡ true → numbers_fit x p ≡ true → HasWords x → IsFormed (form_of p x)
-  formed_insn (insn.Const to value) e n w = small_bits value w
-  formed_insn (insn.Literal op to a value) e n w = w
-  formed_insn (insn.SparseSwitch on keys targets) e n w = w
-  formed_insn (insn.PackedSwitch on first targets) e n w = small_bits first w
+  formed_insn (insn.Const to value) e n w = bits value w
+  formed_insn (insn.Literal op to a value) e n w = small value w
+  formed_insn (insn.SparseSwitch on keys targets) e n w = all_small keys w
+  formed_insn (insn.PackedSwitch on first targets) e n w = bits first w
   formed_insn (insn.FilledNewArray kind args) e n w = few_args args e
   formed_insn (insn.InstancePut i from on field) e n w = field_values p s field (puts_field i from on field n)
   formed_insn (insn.StaticPut i from field) e n w = field_values p s field (puts_static i from field n)

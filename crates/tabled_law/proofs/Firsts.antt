@@ -39,8 +39,8 @@ use Rattle.pass_defs.specs.Analysis.{IsRanged}
 use Rattle.removal_law.proofs.Lists.{contained, found_in}
 use Rattle.removal_law.proofs.Trees.{class_in}
 use Rattle.stuck_bridge.proofs.Listed.{image, none_same, field_fits_at}
-use Rattle.cover_law.proofs.Ranges.{small_bits}
-use Rattle.tabled_law.specs.Numbers.{AllHaveWords, LayerHasWords, ValueHasWords}
+use Rattle.premises.specs.Numbers.{AllHaveWords, LayerHasWords, ValueHasWords}
+use Rattle.tabled_law.proofs.Small.{bits}
 
 -- ---- one value
 
@@ -62,13 +62,13 @@ truth_ranged false = omega arith
 
 layer_ranged : (p : Program) (letter : ℕ) (x : EncValue-F EncValue Element Note) → layer_fits p letter x ≡ true → LayerHasWords x → IsRanged (first_value (of_layer p x))
 layer_ranged p letter (layer.Byte z) h w = first_is (variant.Byte z) (Word (cast_unsigned w32 z))
-    (ap (λ (v : NamedValue). first_value v) (sym (variant.rolls-Byte z)) ∙ fold-roll-NamedValue Value Value Value first_layer (λ e. Word 0) (λ n. Word 0) (named_layer.Byte z)) (small_bits z w)
+    (ap (λ (v : NamedValue). first_value v) (sym (variant.rolls-Byte z)) ∙ fold-roll-NamedValue Value Value Value first_layer (λ e. Word 0) (λ n. Word 0) (named_layer.Byte z)) (bits z w)
 layer_ranged p letter (layer.Short z) h w = first_is (variant.Short z) (Word (cast_unsigned w32 z))
-    (ap (λ (v : NamedValue). first_value v) (sym (variant.rolls-Short z)) ∙ fold-roll-NamedValue Value Value Value first_layer (λ e. Word 0) (λ n. Word 0) (named_layer.Short z)) (small_bits z w)
+    (ap (λ (v : NamedValue). first_value v) (sym (variant.rolls-Short z)) ∙ fold-roll-NamedValue Value Value Value first_layer (λ e. Word 0) (λ n. Word 0) (named_layer.Short z)) (bits z w)
 layer_ranged p letter (layer.Char n) h w = first_is (variant.Char n) (Word n)
     (ap (λ (v : NamedValue). first_value v) (sym (variant.rolls-Char n)) ∙ fold-roll-NamedValue Value Value Value first_layer (λ e. Word 0) (λ n. Word 0) (named_layer.Char n)) w
 layer_ranged p letter (layer.Int z) h w = first_is (variant.Int z) (Word (cast_unsigned w32 z))
-    (ap (λ (v : NamedValue). first_value v) (sym (variant.rolls-Int z)) ∙ fold-roll-NamedValue Value Value Value first_layer (λ e. Word 0) (λ n. Word 0) (named_layer.Int z)) (small_bits z w)
+    (ap (λ (v : NamedValue). first_value v) (sym (variant.rolls-Int z)) ∙ fold-roll-NamedValue Value Value Value first_layer (λ e. Word 0) (λ n. Word 0) (named_layer.Int z)) (bits z w)
 layer_ranged p letter (layer.Long z) h w = first_is (variant.Long z) (Low (cast_unsigned w64 z))
     (ap (λ (v : NamedValue). first_value v) (sym (variant.rolls-Long z)) ∙ fold-roll-NamedValue Value Value Value first_layer (λ e. Word 0) (λ n. Word 0) (named_layer.Long z)) tt
 layer_ranged p letter (layer.Float n) h w = first_is (variant.Float n) (Word n)

@@ -17,7 +17,7 @@ ghost use Rattle.removal_law.specs.Reach.{ShutsHold};
 ghost use Rattle.run_facts.specs.ValueAnalysis.{Numbers, value_analysis};
 ghost use Rattle.cover_law.specs.Coverable.{IsTabled};
 ghost use Rattle.tabled_law.specs.Apart.{ConstructsByOwn, IsTabledApart};
-ghost use Rattle.tabled_law.specs.Numbers.{AllHaveWords};
+ghost use Rattle.premises.specs.Numbers.{AllHaveWords};
 
 /// A well-formed and typed program, of which no class is defined twice or is its own ancestor, whose numbers have their bits,
 /// whose table of shut methods holds what it says, and whose kept constructors are those of their classes, has all that the

@@ -1,12 +1,16 @@
 -- What the law of coverage asks of kept constructors, by number.
-use Rattle.std.specs.Prelude.{◌≡◌, ℕ, true, Some, codes, slice_get, Contains}
+use Rattle.std.specs.Prelude.{◌≡◌, ◌&&◌, not, ℕ, Bool, true, Some, codes, slice_get, Contains}
 use Rattle.program_model.specs.declared.pass.Outside.{Outside}
 use Rattle.program_model.specs.declared.pools.MethodName.{MethodName}
 use Rattle.program_model.specs.declared.program.Class.{Class}
 use Rattle.program_model.specs.declared.program.Method.{Method}
 use Rattle.program_model.specs.declared.program.Program.{Program}
+use Rattle.program_model.specs.MemberRules.{has_flag}
 use Rattle.class_defs.specs.Members.{string_is}
-use Rattle.call_graph.specs.Follows.{can_be_made}
+
+-- neither abstract nor an interface
+abbrev pub can_be_made : Class → Bool
+can_be_made c = not (has_flag c.flags 1024) && not (has_flag c.flags 512)
 
 -- a kept constructor of a class that can have objects is one that the class defines
 abbrev pub MakersAreOwn : Program → Outside → Type 0

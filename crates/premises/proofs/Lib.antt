@@ -1,0 +1,4 @@
+pub mod Exact
+pub mod Owned
+pub mod Reading
+pub mod Words

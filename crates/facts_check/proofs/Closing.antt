@@ -1,8 +1,7 @@
 -- What is checked makes a table of facts closed.
-use Rattle.std.proofs.Common.{◌≡◌, ℕ, zero, suc, ◌+◌, ◌*◌, ◌-◌, ◌<◌, ◌≤◌, Bool, true, false, true≢false, List, [], ◌∷◌, Option, Some, None, ◌⊎◌, inl, inr, refl, sym, ap, ◌∙◌, subst, arith, add-one, Vec, Global}
-use Rattle.std.specs.Prelude.{length, slice_get, slice_index_or, Contains, is_some, option_and_then, ◌&&◌}
+use Rattle.std.proofs.Common.{◌≡◌, ℕ, zero, suc, ◌+◌, ◌*◌, ◌<◌, Bool, true, false, true≢false, List, [], ◌∷◌, Option, Some, None, inl, inr, refl, sym, ap, ◌∙◌, subst, arith, add-one, Vec, Global}
+use Rattle.std.specs.Prelude.{slice_get, slice_index_or, Contains, is_some, option_and_then, ◌&&◌}
 use Rattle.std.specs.List.{list_all}
-use Rattle.std.specs.Option.{option_map}
 use Rattle.std.proofs.lemmas.Option.{slice_get_within, get_or_from_slice_get}
 use Rattle.insn_set.specs.declared.ops.Slot.{Slot}
 use Rattle.insn_set.specs.declared.ops.Item.{Item}
@@ -18,7 +17,7 @@ use Rattle.program_model.specs.declared.program.MethodAt.{MethodAt}
 use Rattle.program_model.specs.declared.program.Class.{Class}
 use Rattle.program_model.specs.declared.program.Program.{Program}
 use Rattle.program_model.specs.Lookups.{class_place, method_at}
-use Rattle.class_defs.specs.Finding.{Search, Nothing, Clash, Finds, is_037}
+use Rattle.class_defs.specs.Finding.{Finds, is_037}
 use Rattle.class_defs.specs.Members.{is_interface}
 use Rattle.class_defs.specs.Places.{super_place, interface_places, listed}
 use Rattle.class_defs.specs.Starts.{initialiser_place}
@@ -29,25 +28,23 @@ use Rattle.dom_frame.specs.Registers.{Registers, value_at, put_sized}
 use Rattle.dom_frame.specs.Steps.{receiver}
 use Rattle.facts.specs.declared.facts.Facts.{Facts}
 use Rattle.call_targets.specs.declared.table.Link.{Link}
-use Rattle.closed_facts.specs.Tables.{IsBelow, AreBelow, Arrives, At, IsEntered, IsOpen, registers_at, parameter_at, result_at, field_at}
-use Rattle.closed_facts.specs.Found.{MayCall, Bound, Linked, MayLeave, Unfound, Bare, ByInterface, Marked, IsBound, finds_bound, call_number, own_number, field_in, needs}
+use Rattle.closed_facts.specs.Tables.{IsBelow, AreBelow, Arrives, At, IsEntered, registers_at, parameter_at, result_at, field_at}
+use Rattle.closed_facts.specs.Found.{MayCall, Bound, Linked, MayLeave, Unfound, Bare, ByInterface, Marked, IsBound, finds_bound, own_number, needs}
 use Rattle.closed_facts.specs.Edges.{edges}
-use Rattle.closed_facts.specs.Entries.{Starts, OpensEntries, Begins, has_default}
+use Rattle.closed_facts.specs.Entries.{Starts, has_default}
 use Rattle.value_ops.specs.Numbers.{stored_value}
 use Rattle.closed_facts.specs.Fields.{begun_parts, HoldsFields, Puts, Instance, Static}
 use Rattle.closed_facts.specs.Flows.{Results, Given, Left, Filled, Flows}
 use Rattle.closed_facts.specs.Calls.{Calls}
 use Rattle.closed_facts.specs.Closed.{Returns, LeavesOpen, AreClosed}
 use Rattle.facts_check.specs.declared.known.Known.{Known}
-use Rattle.facts_check.specs.declared.starts.Start.{Start}
-use Rattle.facts_check.specs.declared.starts.Start.TheVariants.{Comes}
 use Rattle.facts_check.specs.Known.{AreKnown, is_marked, is_made, pool_at, answer_at}
-use Rattle.facts_check.specs.Landing.{Lands, EachLands, Goes, EachGoes}
-use Rattle.facts_check.specs.Placed.{are_needed, IsCalled, IsBoundCall, IsPooled, HoldsCall, HoldsCalls, HoldsPut, HoldsPuts, HoldsReturn, IsBoundResult, IsVirtualResult, HoldsResult, HoldsResults, HoldsBehind, IsTaken, HoldsTaken, IsPlaced}
-use Rattle.facts_check.specs.Bodies.{registers_of, insn_before, IsStep, IsLinked, IsFilled, AreFrames}
-use Rattle.facts_check.specs.Tables.{AreFilled, Entries, Links, Classes as Started, AreAllHeld, Holds, IsStarted, IsLinkHeld, IsOpenEnded}
+use Rattle.facts_check.specs.Landing.{Lands, Goes}
+use Rattle.facts_check.specs.Placed.{IsBoundCall, IsPooled, HoldsCall, HoldsCalls, HoldsPut, HoldsPuts, HoldsReturn, HoldsResult, HoldsResults, HoldsBehind, HoldsTaken, IsPlaced}
+use Rattle.facts_check.specs.Bodies.{insn_before, IsLinked, AreFrames}
+use Rattle.facts_check.specs.Tables.{AreFilled, Links, Holds, IsStarted, IsLinkHeld, IsOpenEnded}
 use Rattle.facts_check.proofs.Orders.{below_any, below_trans, below_all_trans, put_sized_below}
-use Rattle.facts_check.proofs.Landings.{IsLanded, landed, one_lands, one_goes}
+use Rattle.facts_check.proofs.Landings.{landed, one_lands, one_goes}
 
 -- ---- lists
 

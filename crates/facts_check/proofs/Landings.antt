@@ -1,6 +1,6 @@
 -- What lands at the beginnings of blocks.
-use Rattle.std.proofs.Common.{◌≡◌, ℕ, zero, suc, ◌+◌, ◌<◌, Bool, true, false, List, [], ◌∷◌, ◌++◌, Option, Some, None, ◌⊎◌, inl, inr, refl, sym, ap, ◌∙◌, subst, arith}
-use Rattle.std.specs.Prelude.{length, map, slice_get, slice_index_or, option_to_list, Contains}
+use Rattle.std.proofs.Common.{◌≡◌, ℕ, zero, suc, ◌+◌, true, false, List, [], ◌∷◌, ◌++◌, Option, Some, None, inl, inr, refl, subst, arith}
+use Rattle.std.specs.Prelude.{map, slice_get, option_to_list, Contains}
 use Rattle.insn_set.specs.declared.form.Insn.{Insn}
 use Rattle.program_model.specs.declared.body.Handler.{Handler}
 use Rattle.program_model.specs.declared.body.Region.{Region}

@@ -1,7 +1,6 @@
 -- What is asked of an instruction at a reached position.
-use Rattle.std.specs.Prelude.{◌≡◌, ℕ, ◌+◌, ◌*◌, Bool, true, false, List, Option, Some, None, is_some, slice_get}
+use Rattle.std.specs.Prelude.{◌≡◌, ℕ, ◌+◌, ◌*◌, Bool, true, List, Option, Some, None, is_some, slice_get}
 use Rattle.std.specs.List.{list_all}
-use Rattle.insn_set.specs.declared.ops.Item.{Item}
 use Rattle.insn_set.specs.declared.ops.InvokeKind.{InvokeKind}
 use Rattle.insn_set.specs.declared.ops.InvokeKind.TheVariants as call
 use Rattle.insn_set.specs.declared.form.Insn.{Insn}
@@ -11,21 +10,20 @@ use Rattle.program_model.specs.declared.body.Body.{Body}
 use Rattle.program_model.specs.declared.program.Method.{Method}
 use Rattle.program_model.specs.declared.program.MethodAt.{MethodAt}
 use Rattle.program_model.specs.Lookups.{class_place, method_at}
-use Rattle.class_defs.specs.Finding.{Search, Nothing, Clash, Finds}
+use Rattle.class_defs.specs.Finding.{Nothing, Finds}
 use Rattle.flow_cfg.specs.Walks.{thrown_to}
 use Rattle.domains.specs.Values.{Parts, any_value}
 use Rattle.value_ops.specs.Left.{of_class}
 use Rattle.value_ops.specs.Numbers.{stored_value}
 use Rattle.dom_frame.specs.Registers.{Registers, value_at, put_sized}
 use Rattle.dom_frame.specs.Steps.{receiver}
-use Rattle.facts.specs.declared.facts.Facts.{Facts}
-use Rattle.closed_facts.specs.Tables.{IsBelow, AreBelow, parameter_at, result_at, field_at}
+use Rattle.closed_facts.specs.Tables.{IsBelow, parameter_at, result_at, field_at}
 use Rattle.closed_facts.specs.Found.{finds_bound, names_interface, own_number, needs}
 use Rattle.closed_facts.specs.Edges.{edges}
 use Rattle.facts_check.specs.declared.known.Known.{Known}
 use Rattle.facts_check.specs.declared.starts.Start.{Start}
 use Rattle.facts_check.specs.Known.{is_marked, is_made, pool_at, answer_at}
-use Rattle.facts_check.specs.Landing.{EachLands, EachGoes, Covers}
+use Rattle.facts_check.specs.Landing.{EachLands, EachGoes}
 
 module _ (k : Known) where
   abbrev pub are_needed : Insn → Bool

@@ -1,5 +1,5 @@
 -- What the checks of lists and of tables show.
-use Rattle.std.specs.Prelude.{◌≡◌, ℕ, ◌+◌, ◌<◌, ◌⊎◌, Bool, true, false, List, [], Option, Some, None, is_some, slice_get, slice_index_or, Contains}
+use Rattle.std.specs.Prelude.{◌≡◌, ℕ, ◌+◌, ◌<◌, ◌⊎◌, Bool, true, false, List, [], Option, Some, None, is_some, slice_get, slice_index_or}
 use Rattle.insn_set.specs.declared.form.Insn.{Insn}
 use Rattle.program_model.specs.declared.body.Body.{Body}
 use Rattle.program_model.specs.declared.body.Handler.{Handler}
@@ -23,7 +23,6 @@ use Rattle.closed_facts.specs.Tables.{IsBelow, AreBelow, parameter_at, result_at
 use Rattle.closed_facts.specs.Edges.{edges}
 use Rattle.closed_facts.specs.Entries.{BeginsAt, has_default}
 use Rattle.closed_facts.specs.Fields.{begun_parts}
-use Rattle.closed_facts.specs.Found.{field_in}
 use Rattle.facts_check.specs.declared.known.Known.{Known}
 use Rattle.facts_check.specs.declared.starts.Start.{Start}
 use Rattle.facts_check.specs.declared.methods.Table.{Table}

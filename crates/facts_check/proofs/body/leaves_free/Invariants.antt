@@ -1,4 +1,4 @@
-use Rattle.std.proofs.Common.{◌≡◌, ℕ, ◌<◌, Some, true}
+use Rattle.std.proofs.Common.{ℕ, ◌<◌}
 use Rattle.dom_frame.specs.Registers.{value_at}
 use Rattle.domains.specs.Values.{any_value}
 use Rattle.closed_facts.specs.Tables.{IsBelow}

@@ -1,4 +1,4 @@
-use Rattle.std.proofs.Common.{◌≡◌, ℕ, ◌≤◌, List, ◌∙◌, refl, ap, subst, get_or}
+use Rattle.std.proofs.Common.{ℕ, ◌≤◌, List, ◌∙◌, refl, ap, subst, get_or}
 use Rattle.std.specs.Prelude.{length}
 use Rattle.std.proofs.lemmas.Option.{get_or_from_slice_get}
 use Rattle.call_targets.specs.declared.table.Link.{Link}

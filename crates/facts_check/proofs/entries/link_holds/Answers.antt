@@ -1,4 +1,4 @@
-use Rattle.std.proofs.Common.{◌≡◌, ℕ, true, List, Some, ◌∙◌, refl, sym, ap, subst}
+use Rattle.std.proofs.Common.{◌≡◌, true, List, Some, ◌∙◌, refl, sym, ap, subst}
 use Rattle.std.specs.Prelude.{Bool, slice_get, slice_index_or}
 use Rattle.std.specs.FinMap as finite
 use Rattle.domains.specs.Values.{Parts, any_value}

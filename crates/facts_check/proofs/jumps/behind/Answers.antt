@@ -1,4 +1,4 @@
-use Rattle.std.proofs.Common.{◌≡◌, ℕ, ◌+◌, List, ◌∷◌, ◌++◌, ◌⊎◌, inl, inr, refl, sym, subst}
+use Rattle.std.proofs.Common.{◌≡◌, ℕ, ◌+◌, List, ◌++◌, inl, inr, refl, sym, subst}
 use Rattle.std.specs.Prelude.{IfOk, IfSome}
 use Rattle.insn_set.specs.declared.form.Insn.{Insn}
 use Rattle.dom_frame.specs.Registers.{Registers}

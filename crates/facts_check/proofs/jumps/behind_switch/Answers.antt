@@ -1,4 +1,4 @@
-use Rattle.std.proofs.Common.{◌≡◌, ℕ, ◌+◌, List, ◌++◌, Option, refl, sym, subst}
+use Rattle.std.proofs.Common.{◌+◌, ◌++◌, Option, sym, subst}
 use Rattle.dom_frame.specs.Registers.{Registers}
 use Rattle.dom_frame.specs.Steps.{unswitched}
 use Rattle.closed_facts.specs.Edges.{arm, cases_from}

@@ -29,9 +29,6 @@ abbrev pub DefinersSo : Results → ℕ → ℕ → Parts → List ℕ → ℕ �
 DefinersSo s class key first definers n known = IsKnown s → (name proto : ℕ) → IsKeyOf s key name proto → class < count_of s → AreBelow (count_of s) definers
     → known ≡ fold (with_definer s.program.now s.facts.now name proto class) first (take n definers)
 
-pub definers_none : (s : Results) (class key : ℕ) (first : Parts) (definers : List ℕ) → DefinersSo s class key first definers 0 first
-definers_none s class key first definers k name proto is lt below = refl
-
 pub definers_more : (s : Results) (class key : ℕ) (first : Parts) (definers : List ℕ) (n : ℕ) (known more : Parts) → DefinersSo s class key first definers n known → n < length definers
     → (IsKnown s → (name proto : ℕ) → IsKeyOf s key name proto → class < count_of s → get_or definers n 0 < count_of s → more ≡ with_definer s.program.now s.facts.now name proto class known (get_or definers n 0))
     → DefinersSo s class key first definers (n + 1) more

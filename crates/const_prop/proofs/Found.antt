@@ -45,10 +45,6 @@ module _ (p : Program) (facts : Facts) (class method : ℕ) (is : List Insn) (n 
   abbrev else_at : Option Fold
   else_at = constant_at p (insn_before is n) n f (number_at p facts class method (insn_before is n) n f)
 
-  -- a branch whose way is known
-  pub fold_branch : (g : Insn) → Some g ≡ chosen f next way → Some (record { position = n; insn = g; number = None }) ≡ fold_at p facts class method is n f
-  fold_branch g e = ap (λ (o : Option Insn). branch_or n o else_at) (e ∙ same_choice)
-
   -- any other instruction
   pub fold_number : (before : Option Insn) (number : Option Number) (x : Option Fold) → None ≡ chosen f next way → before ≡ insn_before is n → number ≡ number_at p facts class method before n f → x ≡ constant_at p before n f number
       → x ≡ fold_at p facts class method is n f

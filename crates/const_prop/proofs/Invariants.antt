@@ -1,7 +1,7 @@
 -- What is kept while the instructions of a body are gone through.
-use Rattle.std.proofs.Common.{◌≡◌, ℕ, ◌+◌, ◌<◌, ◌≤◌, min, Bool, true, false, List, [], ◌++◌, length, take, take_all, get_or, Option, Some, refl, sym, ap, ◌∙◌, arith}
+use Rattle.std.proofs.Common.{◌≡◌, ℕ, ◌+◌, ◌<◌, ◌≤◌, min, Bool, true, false, List, [], ◌++◌, length, take, take_all, get_or, Option, Some, sym, ap, ◌∙◌, arith}
 use Rattle.std.specs.Prelude.{slice_get, if◌then◌else◌}
-use Rattle.std.proofs.lemmas.Bool.{leb-true, le-leb}
+use Rattle.std.proofs.lemmas.Bool.{le-leb}
 use Rattle.std.proofs.lemmas.Option.{slice_get-get_or}
 use Rattle.insn_set.specs.declared.form.Insn.{Insn}
 use Rattle.const_prop.specs.declared.asking.Code.{Code}
@@ -17,9 +17,6 @@ at_code s code n f = fold_at s.program.now s.facts.now code.class code.method co
 -- what is found for the first instructions
 abbrev pub FoldsSo : Results → Code → ℕ → List Fold → Type 0
 FoldsSo s code n xs = IsKnown s → xs ≡ folds_from (at_code s code) 0 (take n code.body.now.insns)
-
-pub folds_none : (s : Results) (code : Code) → FoldsSo s code 0 []
-folds_none s code k = refl
 
 pub folds_more : (s : Results) (code : Code) (is : List Insn) (n position : ℕ) (f : Insn) (xs ys : List Fold) (o : Option Fold) → is ≡ code.body.now.insns → n < length is → length code.body.now.insns ≤ 4294967295 → position ≡ min n 4294967295 → f ≡ get_or is n f
     → FoldsSo s code n xs → (IsKnown s → position < 4294967295 → o ≡ at_code s code position f) → ys ≡ xs ++ one_or_none o → FoldsSo s code (n + 1) ys
@@ -44,11 +41,3 @@ folds_all s code is n xs i past few so k = by (is_numbered code.body.now) (le-le
     by : (v : Bool) → v ≡ true → xs ≡ (if v then folds_from (at_code s code) 0 code.body.now.insns else [])
     by true e = so k ∙ ap (folds_from (at_code s code) 0) (take_all n code.body.now.insns past')
     by false e = absurd (cc)
-
--- nothing is found where positions have no numbers of 32 bits
-pub folds_past : (s : Results) (code : Code) → 4294967295 < length code.body.now.insns → [] ≡ folds_of s.program.now s.facts.now code.class code.method code.body.now
-folds_past s code past = by (is_numbered code.body.now) refl
-  where
-    by : (v : Bool) → is_numbered code.body.now ≡ v → [] ≡ (if v then folds_from (at_code s code) 0 code.body.now.insns else [])
-    by true e = let l : length code.body.now.insns ≤ 4294967295 = leb-true (length code.body.now.insns) 4294967295 e in absurd (omega (arith, l, past))
-    by false e = refl

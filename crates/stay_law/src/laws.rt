@@ -1,14 +1,10 @@
 //! The laws.
 
 ghost use Rattle.std.specs.Prelude.{ℕ, Bool, List};
-ghost use Rattle.program_model.specs.declared.body.Body.{Body};
 ghost use Rattle.program_model.specs.declared.pass.Changed.{Changed};
-ghost use Rattle.program_model.specs.declared.program.Method.{Method};
-ghost use Rattle.program_model.specs.declared.program.MethodAt.{MethodAt};
 ghost use Rattle.program_model.specs.declared.program.Program.{Program};
 ghost use Rattle.call_graph.specs.declared.live_set.LiveSet.{LiveSet};
 ghost use Rattle.reach.specs.Kept.{kept_of};
-ghost use Rattle.rewrite_pass.specs.declared.edit.Edit.{Edit};
 ghost use Rattle.rewrite_pass.specs.Plans.{IsRewrittenBy};
 ghost use Rattle.thin_pass.specs.Plans.{IsThinnedBy};
 ghost use Rattle.dead_code.specs.Wishes.{AreCleaned};
@@ -23,14 +19,13 @@ pub fn stays_law()
     ensures twice { (admitted : List Bool) (p q r : Program) → Stays admitted p q → Stays admitted q r → Stays admitted p r }
 {}
 
-/// It stays where classes and members go, where positions go, where instructions are written over others, where reads read
-/// originals, and where registers get other numbers, whatever methods are admitted.
+/// It stays where classes and members go, where positions go, where instructions are written over others, whatever they are,
+/// where reads read originals, and where registers get other numbers, whatever methods are admitted.
 pub fn passes_stay_law()
     ensures removed { (admitted : List Bool) (marks : LiveSet) (p : Program) → Stays admitted p (kept_of marks p) }
     ensures cleaned { (admitted : List Bool) (quiet : ℕ → Bool) (p : Program) (c : Changed) → IsThinnedBy (AreCleaned quiet) admitted p c → Stays admitted p c.program }
     ensures squeezed { (admitted : List Bool) (p : Program) (c : Changed) → IsThinnedBy AreSkips admitted p c → Stays admitted p c.program }
-    ensures rewritten { (writes : MethodAt → Method → Body → List Edit → Type 0) (admitted : List Bool) (p : Program) (c : Changed) → IsRewrittenBy writes admitted p c
-        → Stays admitted p c.program }
+    ensures rewritten { (admitted : List Bool) (p : Program) (c : Changed) → IsRewrittenBy (λ at m b es. Unit {0}) admitted p c → Stays admitted p c.program }
     ensures propagated { (admitted : List Bool) (p q : Program) → IsPropagatedProgram admitted p q → Stays admitted p q }
     ensures compacted { (admitted : List Bool) (p q : Program) → IsCompactedProgram admitted p q → Stays admitted p q }
 {}

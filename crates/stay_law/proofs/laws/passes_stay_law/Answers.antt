@@ -14,7 +14,7 @@ pub returns-clause-squeezed : goal.returns-clause-squeezed
 returns-clause-squeezed c = λ admitted p c. thinned_stays admitted AreSkips p c
 
 pub returns-clause-rewritten : goal.returns-clause-rewritten
-returns-clause-rewritten c = rewritten_stays
+returns-clause-rewritten c = rewritten_stays (λ at m b es. Unit {0})
 
 pub returns-clause-propagated : goal.returns-clause-propagated
 returns-clause-propagated c = propagated_stays

@@ -55,8 +55,8 @@ super_interface p w c u i e =
     let free : (not (defines_plain p x.class.superclass) && list_all (λ kind. not (defines_plain p kind)) x.class.interfaces) ≡ true =
     ap (λ b. not b || (not (defines_plain p x.class.superclass) && list_all (λ kind. not (defines_plain p kind)) x.class.interfaces)) (sym flag) ∙ stands p (formed p w).stands c x.class x.is in
     let none : defines_plain p x.class.superclass ≡ false = not_true (defines_plain p x.class.superclass) (and_left (not (defines_plain p x.class.superclass)) (list_all (λ kind. not (defines_plain p kind)) x.class.interfaces) free) in
-    by y.class y.is y.named none (has_flag y.class.flags 512) refl
+    by y.class x.class.superclass y.is y.named none (has_flag y.class.flags 512) refl
   where
-    by : (k : Class) {kind : ℕ} → slice_get p.classes u ≡ Some k → nat_eq k.name kind ≡ true → defines_plain p kind ≡ false → (b : Bool) → has_flag k.flags 512 ≡ b → is_interface (slice_get p.classes u) ≡ true
-    by k is named none true f = ap is_interface is ∙ f
-    by k {kind} is named none false f = clash (defines_plain p kind) (any_at (defines_so kind) p.classes u k is (and_both (nat_eq k.name kind) (is_plain_class k) named (ap not f))) none
+    by : (k : Class) (kind : ℕ) → slice_get p.classes u ≡ Some k → nat_eq k.name kind ≡ true → defines_plain p kind ≡ false → (b : Bool) → has_flag k.flags 512 ≡ b → is_interface (slice_get p.classes u) ≡ true
+    by k kind is named none true f = ap is_interface is ∙ f
+    by k kind is named none false f = clash (defines_plain p kind) (any_at (defines_so kind) p.classes u k is (and_both (nat_eq k.name kind) (is_plain_class k) named (ap not f))) none

@@ -1,5 +1,5 @@
 -- A folded program is kept for the outside of its facts.
-use Rattle.std.proofs.Common.{◌≡◌, ℕ, Bool, true, List}
+use Rattle.std.proofs.Common.{◌≡◌, ℕ, Bool, true, List, [], ◌∷◌}
 use Rattle.program_model.specs.ProgramRules.{is_well_formed}
 use Rattle.program_model.specs.declared.pass.Changed.{Changed}
 use Rattle.program_model.specs.declared.pass.Outside.{Outside}
@@ -22,7 +22,11 @@ use Rattle.closed_bridge.specs.Makers.{MakersAreOwn}
 use Rattle.closed_bridge.specs.Names.{named_facts, values}
 use Rattle.closed_bridge.proofs.Closing.{closed_named}
 use Rattle.closed_bridge.proofs.Making.{makers_named}
-use Rattle.kept_bridge.proofs.Compacted.{any_code}
+use Rattle.bodies_law.specs.Others.{Pairwise}
+use Rattle.bodies_law.specs.Numbered.{NumberedCodes, OtherNumberedBodies, OtherNumberedClass, OtherNumberedMethod}
+use Rattle.program_model.specs.declared.program.Class.{Class}
+use Rattle.program_model.specs.declared.program.Method.{Method}
+use Rattle.thin_bridge.specs.Kept.{AnyCode}
 use Rattle.tabled_law.specs.Numbers.{AllHaveWords}
 use Rattle.tabled_law.proofs.Apart.{tabled, tabled_apart}
 use Rattle.const_prop.specs.Folds.{IsFoldedBy}
@@ -32,6 +36,23 @@ use Rattle.fold_bridge.proofs.Planned.{rewritten_others}
 use Rattle.fold_bridge.proofs.Shown.{same_shown}
 use Rattle.fold_kept.specs.Kept.{IsKeptFor}
 use Rattle.fold_kept.proofs.Typing.{folded_typed}
+
+pairs_weaker : {A : Type 0} (R S : A → A → Type 0) → ((x y : A) → R x y → S x y) → (xs ys : List A) → Pairwise R xs ys → Pairwise S xs ys
+pairs_weaker R S h [] [] r = tt
+pairs_weaker R S h [] (y ∷ ys) r = absurd r
+pairs_weaker R S h (x ∷ xs) [] r = absurd r
+pairs_weaker R S h (x ∷ xs) (y ∷ ys) r = (h x y r.0, pairs_weaker R S h xs ys r.1)
+
+-- whatever is said of the code
+module _ (N : NumberedCodes) (p : Program) where
+  any_method : (c : Class) (m n : Method) → OtherNumberedMethod N p c m n → OtherNumberedMethod AnyCode p c m n
+  any_method c m n h = record { same = h.same; coded = h.coded; related = tt }
+
+  any_class : (c d : Class) → OtherNumberedClass N p c d → OtherNumberedClass AnyCode p c d
+  any_class c d h = record { same = h.same; methods = pairs_weaker (OtherNumberedMethod N p c) (OtherNumberedMethod AnyCode p c) (any_method c) c.methods d.methods h.methods }
+
+  any_code : (q : Program) → OtherNumberedBodies N p q → OtherNumberedBodies AnyCode p q
+  any_code q h = record { same = h.same; classes = pairs_weaker (OtherNumberedClass N p) (OtherNumberedClass AnyCode p) any_class p.classes q.classes h.classes }
 
 module _ (p : Program) (h : Hierarchy) (o : Outside) (w : is_well_formed p ≡ true) (r : IsResolved p h) (acyclic : IsAcyclic p) (typed : IsTyped (named p)) (words : AllHaveWords p) (own : MakersAreOwn p o)
     (live : LiveSet) (targets : Targets) (facts : Facts) (fits : Fits p live) (marks : IsClosedSet p o live) (exact : IsTargeted p o live targets) (closed : AreClosed p o live targets facts) where

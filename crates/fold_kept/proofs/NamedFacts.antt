@@ -7,6 +7,7 @@ use Rattle.lemmas.proofs.Lists.{got_short}
 use Rattle.lemmas.proofs.Options.{before_map, none_some, some_same}
 use Rattle.insn_set.specs.declared.form.Insn.{Insn}
 use Rattle.insn_set.specs.declared.form.Insn.TheVariants as insn
+use Rattle.insn_set.specs.declared.ops.InvokeKind.{InvokeKind}
 use Rattle.insn_set.specs.declared.ops.InvokeKind.TheVariants as call
 use Rattle.program_model.specs.declared.body.Body.{Body}
 use Rattle.program_model.specs.declared.pass.Outside.{Outside}
@@ -149,15 +150,15 @@ module _ (p : Program) (o : Outside) (live : LiveSet) (g : IsMarked p o live) (t
       j : At c.methods m
       j = placed c.methods m in_class
 
-      plain : (kind : _) (method : ℕ) (args : List ℕ) → i ≡ insn.Invoke kind method args → (q : MethodName) (top : ℕ) → slice_get p.methods method ≡ Some q → class_place p q.class ≡ Some top → kind ≡ call.Virtual → is_interface (slice_get p.classes top) ≡ false
+      plain : (kind : InvokeKind) (method : ℕ) (args : List ℕ) → i ≡ insn.Invoke kind method args → (q : MethodName) (top : ℕ) → slice_get p.methods method ≡ Some q → class_place p q.class ≡ Some top → kind ≡ call.Virtual → is_interface (slice_get p.classes top) ≡ false
       plain kind method args e q top is_name is_top same = plainly.virtual class j.place n c m b method args q top is_class j.is has
           (there ∙ ap Some e ∙ ap (λ k. Some (insn.Invoke k method args)) same) is_name is_top
 
       by : (f : Form) → form_of p i ≡ f → (v : Parts) → name.Results (values p) (named p) (outer_of p o) (named_facts p t) (key_in (named_class p c) (named_method p m)) x f v → Under v (behind p t class (Some i))
-      by f e v (name.Given kind k args found may) =
+      by f e v (name.Given kind k args callee may) =
           let y = of_call p i kind k args e in
-          subst (λ z. Under ((named_facts p t).results found.key) (behind p t class (Some z))) (sym y.is)
-          (call_given p o live g targets r plainly.listed t class c is_class y.method k y.named x args kind (plain kind y.method args y.is) found may)
+          subst (λ z. Under ((named_facts p t).results callee.key) (behind p t class (Some z))) (sym y.is)
+          (call_given p o live g targets r plainly.listed t class c is_class y.method k y.named x args kind (plain kind y.method args y.is) callee may)
       by f e v (name.Left kind k args may) =
           let y = of_call p i kind k args e in
           subst (λ z. Under any_value (behind p t class (Some z))) (sym y.is)

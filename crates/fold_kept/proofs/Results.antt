@@ -50,7 +50,7 @@ use Rattle.reach_bridge.proofs.Based.{S}
 use Rattle.removal_bridge.proofs.Formed.{no_object}
 use Rattle.run_facts.specs.Closed as name
 use Rattle.closed_bridge.specs.Names.{is_coded, method_number, named_facts, result_by, values}
-use Rattle.closed_bridge.proofs.Calling.{found_number, place_of, statically_is, super_is}
+use Rattle.closed_bridge.proofs.Calling.{FoundNumber, found_number, place_of, statically_is, super_is}
 use Rattle.closed_bridge.proofs.Made.{made_number, MadeNumber}
 use Rattle.closed_bridge.proofs.Numbers.{number_of_method}
 use Rattle.const_prop.specs.Given.{above_value, among_value, call_value, found_value, kind_value, method_value, named_value, super_value, virtual_value}
@@ -71,6 +71,7 @@ module _ (p : Program) (o : Outside) (live : LiveSet) (g : IsMarked p o live) (t
   named_result : (at : MethodAt) (f : Found) → names.found_at p at ≡ Some f → facts.results f.key ≡ found_value p t (Some at)
   named_result at f e = by n.method.body refl
     where
+      n : FoundNumber p s g.once at f
       n = found_number p s g.once at f e
 
       there : found_value p t (Some at) ≡ method_value p t (Some n.method)
@@ -196,9 +197,9 @@ module _ (p : Program) (o : Outside) (live : LiveSet) (g : IsMarked p o live) (t
         object_answers : Answers p t (virtual_value p t q.name q.proto top) (finds_at p made.place q.name q.proto)
         object_answers = given_at p r (super_short p) q.name q.proto top (place_short p q.class top is_top) plain listed (super_interface p g.formed) t made.place (got_short p.classes made.place made.class made.is_class) stands
 
-      virtual_left : {x : ℕ → Parts} (args : List ℕ) → name.MayLeave (values p) (named p) (outer_of p o) (type_at p c.name) x args call.Virtual m → Under any_value (virtual_value p t q.name q.proto top)
-      virtual_left args (inl undefined) = clash (defines (named p) m.class) (ap (λ x. elim x as (λ x. Bool) [ Some c ↦ true | None ↦ false ]) top_named) undefined
-      virtual_left args (inr (inl interface)) = clash (is_interface (slice_get p.classes top)) is_one plain
+      virtual_left : (x : ℕ → Parts) (args : List ℕ) → name.MayLeave (values p) (named p) (outer_of p o) (type_at p c.name) x args call.Virtual m → Under any_value (virtual_value p t q.name q.proto top)
+      virtual_left x args (inl undefined) = clash (defines (named p) m.class) (ap (λ x. elim x as (λ x. Bool) [ Some c ↦ true | None ↦ false ]) top_named) undefined
+      virtual_left x args (inr (inl interface)) = clash (is_interface (slice_get p.classes top)) is_one plain
         where
           k : Class
           k = (placed_class p q.class top is_top).class
@@ -210,9 +211,9 @@ module _ (p : Program) (o : Outside) (live : LiveSet) (g : IsMarked p o live) (t
           is_one : is_interface (slice_get p.classes top) ≡ true
           is_one = ap is_interface (placed_class p q.class top is_top).is ∙ interface_flag k.flags ∙ flagged (named_class p k) (flags.is_interface (named_class p k).flags) refl
               (ap (λ x. is_some (elim x as (λ x. Option NamedClass) [ Some c ↦ elim (flags.is_interface c.flags) [ true ↦ Some c | false ↦ None ] | None ↦ None ])) (sym top_named) ∙ interface)
-      virtual_left args (inr (inr x)) =
-          let made = made_number p o live g x.class x.made in
-          answered_left (virtual_value p t q.name q.proto top) (finds_at p made.place q.name q.proto) (object_answers x.class made x.within) (subst (name.FindsNoCode (values p)) (finds_is x.class made x.within) x.bare)
+      virtual_left x args (inr (inr y)) =
+          let made = made_number p o live g y.class y.made in
+          answered_left (virtual_value p t q.name q.proto top) (finds_at p made.place q.name q.proto) (object_answers y.class made y.within) (subst (name.FindsNoCode (values p)) (finds_is y.class made y.within) y.bare)
 
     -- ---- all calls
 
@@ -233,7 +234,7 @@ module _ (p : Program) (o : Outside) (live : LiveSet) (g : IsMarked p o live) (t
       left call.Static plain h = answered_left (found_value p t (finds_from p q.name q.proto (Some top))) (search_of (finds_static p method)) static_answers (subst (name.FindsNoCode (values p)) (statically_is p s g.once targets method m low is_key) h)
       left call.Direct plain h = answered_left (found_value p t (finds_from p q.name q.proto (Some top))) (search_of (finds_static p method)) static_answers (subst (name.FindsNoCode (values p)) (statically_is p s g.once targets method m low is_key) h)
       left call.Super plain h = answered_left (super_value p t class q.name q.proto top) (finds_super p class method) super_answers (subst (name.FindsNoCode (values p)) (super_is p s g.once targets class method c m is_class low is_key) h)
-      left call.Virtual plain h = virtual_left (plain refl) {x = x} args h
+      left call.Virtual plain h = virtual_left (plain refl) x args h
       left call.Interface plain h = itself any_value
 
   -- ---- a call of any name

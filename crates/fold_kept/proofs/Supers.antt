@@ -76,20 +76,21 @@ module _ (p : Program) (r : IsRanked p) where
 
   under_rank : (k c d : ℕ) → walks (above_places p) k c d ≡ true → (c ≡ d) ⊎ (r.rank d < r.rank c)
   under_rank zero c d e = inl (eqb-true c d e)
-  under_rank (suc k) c d e = by (nat_eq c d) refl e
+  under_rank (suc k) c d e = by (λ u i. under_rank k u d i) (nat_eq c d) refl e
     where
-      up : list_any (λ u. walks (above_places p) k u d) (above_places p c) ≡ true → (c ≡ d) ⊎ (r.rank d < r.rank c)
-      up e =
+      up : ((u : ℕ) → walks (above_places p) k u d ≡ true → (u ≡ d) ⊎ (r.rank d < r.rank u)) → list_any (λ u. walks (above_places p) k u d) (above_places p c) ≡ true → (c ≡ d) ⊎ (r.rank d < r.rank c)
+      up more e =
           let x = passing (λ u. walks (above_places p) k u d) (above_places p c) e in
           let b = up_below c x.one (up_there c x.one x.there) x.there in
-          inr (elim (under_rank k x.one d x.is) [
+          inr (elim (more x.one x.is) [
             | inl same ↦ subst (λ w. r.rank w < r.rank c) same b
             | inr lower ↦ omega (arith, b, lower)
           ])
 
-      by : (b : Bool) → nat_eq c d ≡ b → cond b true (list_any (λ u. walks (above_places p) k u d) (above_places p c)) ≡ true → (c ≡ d) ⊎ (r.rank d < r.rank c)
-      by true i e = inl (eqb-true c d i)
-      by false i e = up e
+      by : ((u : ℕ) → walks (above_places p) k u d ≡ true → (u ≡ d) ⊎ (r.rank d < r.rank u)) → (b : Bool) → nat_eq c d ≡ b → cond b true (list_any (λ u. walks (above_places p) k u d) (above_places p c)) ≡ true
+          → (c ≡ d) ⊎ (r.rank d < r.rank c)
+      by more true i e = inl (eqb-true c d i)
+      by more false i e = up more e
 
   -- one of the highest rank
   record Highest (fs : List MethodAt) : Type 0 where

@@ -49,11 +49,11 @@ walks_more : (above : ℕ → List ℕ) (k m c d : ℕ) → k ≤ m → walks ab
 walks_more above zero zero c d l e = e
 walks_more above zero (suc m) c d l e = ap (λ b. cond b true (list_any (λ u. walks above m u d) (above c))) e
 walks_more above (suc k) zero c d l e = let f : ⊥ = omega (arith, l) in absurd f
-walks_more above (suc k) (suc m) c d l e = by (nat_eq c d) e
+walks_more above (suc k) (suc m) c d l e = by (λ u i. walks_more above k m u d (omega (arith, l)) i) (nat_eq c d) e
   where
-    by : (b : Bool) → cond b true (list_any (λ u. walks above k u d) (above c)) ≡ true → cond b true (list_any (λ u. walks above m u d) (above c)) ≡ true
-    by true e = refl
-    by false e = any_more (λ u. walks above k u d) (λ u. walks above m u d) (λ u i. walks_more above k m u d (omega (arith, l)) i) (above c) e
+    by : ((u : ℕ) → walks above k u d ≡ true → walks above m u d ≡ true) → (b : Bool) → cond b true (list_any (λ u. walks above k u d) (above c)) ≡ true → cond b true (list_any (λ u. walks above m u d) (above c)) ≡ true
+    by more true e = refl
+    by more false e = any_more (λ u. walks above k u d) (λ u. walks above m u d) more (above c) e
 
 module _ (p : Program) (r : IsRanked p) where
   behind : (c : ℕ) → c < length p.classes → (nat_lt (r.rank c) (length p.classes) && is_lower r.rank (r.rank c) (super_place p c) && is_lower_all r.rank (r.rank c) (interface_places p c)) ≡ true
@@ -86,15 +86,16 @@ module _ (p : Program) (r : IsRanked p) where
     chain_enough : (n m c : ℕ) → c < length p.classes → r.rank c < n → r.rank c < m → chain_from (super_place p) n (Some c) ≡ chain_from (super_place p) m (Some c)
     chain_enough zero m c s l k = let f : ⊥ = omega (arith, l) in absurd f
     chain_enough (suc n) zero c s l k = let f : ⊥ = omega (arith, k) in absurd f
-    chain_enough (suc n) (suc m) c s l k = ap (λ cs. c ∷ cs) (by (super_place p c) refl)
+    chain_enough (suc n) (suc m) c s l k = ap (λ cs. c ∷ cs) (by (λ u i j h. chain_enough n m u i j h) (super_place p c) refl)
       where
         no_more : (n : ℕ) → chain_from (super_place p) n None ≡ []
         no_more zero = refl
         no_more (suc n) = refl
 
-        by : (o : Option ℕ) → super_place p c ≡ o → chain_from (super_place p) n o ≡ chain_from (super_place p) m o
-        by None e = no_more n ∙ sym (no_more m)
-        by (Some u) e = let b = super_below c u s e in chain_enough n m u (shorts c u e) (omega (arith, b, l)) (omega (arith, b, k))
+        by : ((u : ℕ) → u < length p.classes → r.rank u < n → r.rank u < m → chain_from (super_place p) n (Some u) ≡ chain_from (super_place p) m (Some u)) → (o : Option ℕ) → super_place p c ≡ o
+            → chain_from (super_place p) n o ≡ chain_from (super_place p) m o
+        by more None e = no_more n ∙ sym (no_more m)
+        by more (Some u) e = let b = super_below c u s e in more u (shorts c u e) (omega (arith, b, l)) (omega (arith, b, k))
 
     module _ (short : top < length p.classes) (plain : is_interface (slice_get p.classes top) ≡ false) (listed : (c u : ℕ) → Contains (interface_places p c) u → is_interface (slice_get p.classes u) ≡ true)
         (free : (c u : ℕ) → is_interface (slice_get p.classes c) ≡ true → super_place p c ≡ Some u → is_interface (slice_get p.classes u) ≡ true) where
@@ -121,13 +122,14 @@ module _ (p : Program) (r : IsRanked p) where
       -- from an interface no class is reached that is none
       never : {A : Type 0} (k c : ℕ) → is_interface (slice_get p.classes c) ≡ true → walks (above_places p) k c top ≡ true → A
       never zero c i e = same_class c i e
-      never {A} (suc k) c i e = by (nat_eq c top) refl e
+      never {A} (suc k) c i e = by (λ u j h. never k u j h) (nat_eq c top) refl e
         where
-          by : (b : Bool) → nat_eq c top ≡ b → cond b true (list_any (λ u. walks (above_places p) k u top) (above_places p c)) ≡ true → A
-          by true j e = same_class c i j
-          by false j e = elim (one_up k c e) [
-            | inl x ↦ never k x.0 (free c x.0 i x.1.0) x.1.1
-            | inr x ↦ never k x.0 (listed c x.0 x.1.0) x.1.1
+          by : ((u : ℕ) → is_interface (slice_get p.classes u) ≡ true → walks (above_places p) k u top ≡ true → A) → (b : Bool) → nat_eq c top ≡ b
+              → cond b true (list_any (λ u. walks (above_places p) k u top) (above_places p c)) ≡ true → A
+          by more true j e = same_class c i j
+          by more false j e = elim (one_up k c e) [
+            | inl x ↦ more x.0 (free c x.0 i x.1.0) x.1.1
+            | inr x ↦ more x.0 (listed c x.0 x.1.0) x.1.1
           ]
 
       abbrev found : ℕ → ℕ → Option MethodAt
@@ -157,13 +159,14 @@ module _ (p : Program) (r : IsRanked p) where
       along : (k n c : ℕ) → k ≤ length p.classes → r.rank c < n → c < length p.classes → walks (above_places p) k c top ≡ true → Covered (found n c)
       along zero n c q l s e = itself n c l e
       along (suc k) zero c q l s e = let f : ⊥ = omega (arith, l) in absurd f
-      along (suc k) (suc n) c q l s e = by (nat_eq c top) refl e
+      along (suc k) (suc n) c q l s e = by (λ u i j h w. along k n u i j h w) (nat_eq c top) refl e
         where
-          by : (b : Bool) → nat_eq c top ≡ b → cond b true (list_any (λ u. walks (above_places p) k u top) (above_places p c)) ≡ true → Covered (found (suc n) c)
-          by true i h = itself (suc n) c l i
-          by false i h = elim (one_up k c h) [
+          by : ((u : ℕ) → k ≤ length p.classes → r.rank u < n → u < length p.classes → walks (above_places p) k u top ≡ true → Covered (found n u)) → (b : Bool) → nat_eq c top ≡ b
+              → cond b true (list_any (λ u. walks (above_places p) k u top) (above_places p c)) ≡ true → Covered (found (suc n) c)
+          by more true i h = itself (suc n) c l i
+          by more false i h = elim (one_up k c h) [
             | inl x ↦ let b = super_below c x.0 s x.1.0 in
-              step n c x.0 x.1.0 i s (walks_more (above_places p) (suc k) (length p.classes) c top q e) (along k n x.0 (omega (arith, q)) (omega (arith, b, l)) (shorts c x.0 x.1.0) x.1.1)
+              step n c x.0 x.1.0 i s (walks_more (above_places p) (suc k) (length p.classes) c top q e) (more x.0 (omega (arith, q)) (omega (arith, b, l)) (shorts c x.0 x.1.0) x.1.1)
             | inr x ↦ never k x.0 (listed c x.0 x.1.0) x.1.1
           ]
 
@@ -202,10 +205,13 @@ module _ (p : Program) (r : IsRanked p) where
 
         lower_given : (o : Option MethodAt) (h : Lower o) → Under (found_value p t (Some h.at)) all
         lower_given o h =
-            let place : slice_get (range_with_len 0 (length p.classes)) h.class ≡ Some h.class = range_there 0 (length p.classes) h.class h.short in
+            let place : slice_get (range_with_len 0 (length p.classes)) h.class ≡ Some h.class = range_there 0 (length p.classes) h.class h.short ∙ ap Some (plain_sum h.class) in
             let i = filter_there (λ c. is_some (own_method p name proto c)) (range_with_len 0 (length p.classes)) h.class h.class place (defines h.class h.at h.there) in
             fold_reaches (with_definer p t name proto top) grows (definers_of p name proto) (found_value p t (finds_virtual p name proto top)) i.0 h.class (found_value p t (Some h.at)) i.1 one
           where
+            plain_sum : (n : ℕ) → 0 + n ≡ n
+            plain_sum n = omega arith
+
             one : (w : Parts) → Under (found_value p t (Some h.at)) (with_definer p t name proto top w h.class)
             one w = by (not (nat_eq h.class top)) (is_under p h.class top) (ap not h.apart) h.under
               where

@@ -166,7 +166,7 @@ module _ (p : Program) (r : IsRanked p) where
           by more true i h = itself (suc n) c l i
           by more false i h = elim (one_up k c h) [
             | inl x ↦ let b = super_below c x.0 s x.1.0 in
-              step n c x.0 x.1.0 i s (walks_more (above_places p) (suc k) (length p.classes) c top q e) (more x.0 (omega (arith, q)) (omega (arith, b, l)) (shorts c x.0 x.1.0) x.1.1)
+                step n c x.0 x.1.0 i s (walks_more (above_places p) (suc k) (length p.classes) c top q e) (more x.0 (omega (arith, q)) (omega (arith, b, l)) (shorts c x.0 x.1.0) x.1.1)
             | inr x ↦ never k x.0 (listed c x.0 x.1.0) x.1.1
           ]
 

@@ -44,7 +44,7 @@ pub fn folded_typed_law()
 /// kept for this outside. Beside what certifies the facts stand what the law of coverage asks of a program and of the kept
 /// constructors, and that the facts by number say what their names say.
 pub fn folded_kept_law()
-    ensures { (p : Program) (h : Hierarchy) (o : Outside) (live : LiveSet) (targets : Targets) (facts : Facts) (admitted : List Bool) (c : Changed) → is_well_formed p ≡ true → IsResolved p h → IsAcyclic p
-        → IsTyped (named p) → AllHaveWords p → MakersAreOwn p o → Fits p live → IsClosedSet p o live → IsTargeted p o live targets → AreClosed p o live targets facts
+    ensures { (p : Program) (h : Hierarchy) (o : Outside) (live : LiveSet) (targets : Targets) (facts : Facts) (admitted : List Bool) (c : Changed) → is_well_formed p ≡ true
+        → IsResolved p h → IsAcyclic p → IsTyped (named p) → AllHaveWords p → MakersAreOwn p o → Fits p live → IsClosedSet p o live → IsTargeted p o live targets → AreClosed p o live targets facts
         → AreNamed p (outer_of p o) facts (named_facts p facts) → IsFoldedBy p h facts admitted c → AllHaveWords c.program → IsKeptFor o p c.program }
 {}

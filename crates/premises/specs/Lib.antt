@@ -1,3 +1,4 @@
 pub mod Makers
 pub mod Numbers
 pub mod Owning
+pub mod Plain

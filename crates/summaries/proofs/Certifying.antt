@@ -1,6 +1,10 @@
 -- What the analysis answers, by the tables under which it is closed.
 use Rattle.std.proofs.Common.{◌≡◌, Vec, Global, sym, subst}
-use Rattle.std.specs.Prelude.{Bool, List, Option, Some, None, IfSome}
+use Rattle.std.specs.Prelude.{Bool, true, List, Option, Some, None, IfSome}
+use Rattle.program_model.specs.ProgramRules.{is_well_formed}
+use Rattle.hierarchy.specs.Shapes.{IsResolved}
+use Rattle.domains.specs.Values.{any_value}
+use Rattle.dom_frame.specs.Classes.{AreClasses}
 use Rattle.program_model.specs.declared.program.Program.{Program}
 use Rattle.program_model.specs.declared.pass.Outside.{Outside}
 use Rattle.facts.specs.declared.facts.Facts.{Facts}
@@ -25,7 +29,12 @@ pub certify_some : (p : Program) (o : Outside) (live : LiveSet) (targets : Targe
 certify_some p o live targets None f c h a = tt
 certify_some p o live targets (Some t) f c h a = certify p o live targets t f c h a
 
--- the facts with the frames that were filled in
-pub closed_with : (k : Known) (frames : Vec (List (Option Frame)) Global) (quiet : Vec Bool Global) (t : Facts) → AreKnown k → AreFilled k frames.items → Holds k frames.items → t ≡ record k.facts.now { frames = frames; quiet = quiet }
+-- the facts with the frames that were filled in, where what is known beside them is checked
+pub closed_by : (k : Known) (o : Option (Vec (List (Option Frame)) Global)) (frames : Vec (List (Option Frame)) Global) (quiet : Vec Bool Global) (t : Facts) → (AreKnown k → IfSome o (λ f. AreFilled k f.items)) → (AreKnown k → IfSome o (λ f. Holds k f.items))
+    → o ≡ Some frames → is_well_formed k.program.now ≡ true → IsResolved k.program.now k.hierarchy.now → AreClasses k.program.now k.classes → k.facts.now.any ≡ any_value → t ≡ record k.facts.now { frames = frames; quiet = quiet }
     → AreClosed k.program.now k.outside.now k.live.now k.targets.now t
-closed_with k frames quiet t known filled holds e = subst (AreClosed k.program.now k.outside.now k.live.now k.targets.now) (sym e) (are_closed k frames quiet known filled holds)
+closed_by k o frames quiet t filled holds some formed resolved classes any e =
+    let known : AreKnown k = record { formed = formed; resolved = resolved; classes = classes; any = any } in
+    let f : AreFilled k frames.items = subst (λ (o : Option (Vec (List (Option Frame)) Global)). IfSome o (λ f. AreFilled k f.items)) some (filled known) in
+    let h : Holds k frames.items = subst (λ (o : Option (Vec (List (Option Frame)) Global)). IfSome o (λ f. Holds k f.items)) some (holds known) in
+    subst (AreClosed k.program.now k.outside.now k.live.now k.targets.now) (sym e) (are_closed k frames quiet known f h)

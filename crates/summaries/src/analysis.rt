@@ -21,13 +21,13 @@ use call_targets::{Targets, targets};
 use dom_frame::{Classes, Frame};
 use domains::Value;
 use fact_graph::{
-    Arrival, Bodies, Code, Links, Network, blocks_of, is_reached, places_of, solved, word,
+    Arrival, Bodies, Code, Links, Network, blocks_of, classes_of, is_reached, places_of, solved,
 };
 use facts::Facts;
 use facts_check::{Known, Marks, Pools, Start, fill, holds};
-use hierarchy::Hierarchy;
+use hierarchy::{Hierarchy, HierarchyFault};
 use pat_map::PatMap;
-use program_model::{Class, Method, Outside, Program};
+use program_model::{Class, Method, Outside, Program, well_formed};
 use seq::Seq;
 use std::alloc::{AllocError, Global};
 
@@ -428,7 +428,6 @@ fn with_frames(facts: Facts, frames: Vec<Seq<Option<Frame>>>, quiet: Vec<bool>) 
 }
 
 /// The facts of a program by the pieces of a solved table, if they are closed.
-#[tactic(auto, using(crate::proofs::Certifying::closed_with))]
 fn certified(
     alloc: Global,
     network: &Network<'_>,
@@ -438,9 +437,9 @@ fn certified(
     states: &[Arrival],
 ) -> Result<Option<Facts>, AllocError>
     requires { pieces.facts.any ≡ any_value }
-    ensures { is_well_formed bounds.program.now ≡ true → IsResolved bounds.program.now bounds.hierarchy.now
-        → AreClasses bounds.program.now bounds.classes
-        → IfOk result (λ o. IfSome o (AreClosed bounds.program.now bounds.outside.now bounds.live.now bounds.found.now)) }
+    ensures { is_well_formed bounds.entry.program.now ≡ true → IsResolved bounds.entry.program.now bounds.entry.hierarchy.now
+        → AreClasses bounds.entry.program.now bounds.entry.classes
+        → IfOk result (λ o. IfSome o (AreClosed bounds.entry.program.now bounds.entry.outside.now bounds.entry.live.now bounds.entry.found.now)) }
 {
     let Pieces {
         facts,
@@ -492,23 +491,6 @@ fn draw<'a>(
     Ok((links, ranges))
 }
 
-/// The classes of a program by the table of their places.
-#[tactic(auto, using(fact_graph::proofs::Places::known_classes))]
-fn classes_in<'a>(
-    program: &Program,
-    hierarchy: &'a Hierarchy,
-    places: &'a [Option<u32>],
-) -> Classes<'a>
-    requires { ArePlaces hierarchy.now (length program.now.types) places.now }
-    ensures { is_well_formed program.now ≡ true → IsResolved program.now hierarchy.now → AreClasses program.now result }
-{
-    Classes {
-        places,
-        count: word(program.classes.len()),
-        hierarchy,
-    }
-}
-
 /// What is known by the graph of a program.
 fn solved_facts<'a>(
     alloc: Global,
@@ -521,13 +503,14 @@ fn solved_facts<'a>(
     found: &Targets,
     drawn: (Links, Vec<usize>),
 ) -> Result<Option<Facts>, AllocError>
-    requires { ArePlaces hierarchy.now (length program.now.types) places.now }
-    ensures { is_well_formed program.now ≡ true → IsResolved program.now hierarchy.now
-        → IfOk result (λ o. IfSome o (AreClosed program.now outside.now live.now found.now)) }
+    requires formed { is_well_formed program.now ≡ true }
+    requires resolved { IsResolved program.now hierarchy.now }
+    requires places { ArePlaces hierarchy.now (length program.now.types) places.now }
+    ensures { IfOk result (λ o. IfSome o (AreClosed program.now outside.now live.now found.now)) }
 {
     let numbering = numbering_of(program, bodies);
     let (links, ranges) = drawn;
-    let classes = classes_in(program, hierarchy, places);
+    let classes = classes_of(program, hierarchy, places);
     let network = Network {
         program,
         classes,
@@ -564,9 +547,10 @@ fn facts_of_bodies<'a>(
     places: &'a [Option<u32>],
     bodies: Bodies<'a>,
 ) -> Result<Option<Facts>, AllocError>
-    requires { ArePlaces hierarchy.now (length program.now.types) places.now }
-    ensures { is_well_formed program.now ≡ true → IsResolved program.now hierarchy.now
-        → IfOk result (λ o. IfSome o (AreClosed program.now outside.now live.now found.now)) }
+    requires formed { is_well_formed program.now ≡ true }
+    requires resolved { IsResolved program.now hierarchy.now }
+    requires places { ArePlaces hierarchy.now (length program.now.types) places.now }
+    ensures { IfOk result (λ o. IfSome o (AreClosed program.now outside.now live.now found.now)) }
 {
     let drawn = draw(alloc, program, hierarchy, outside, &bodies, found)?;
     solved_facts(
@@ -583,9 +567,10 @@ fn facts_of_places<'a>(
     outside: &Outside,
     places: &'a [Option<u32>],
 ) -> Result<Option<Facts>, AllocError>
-    requires { ArePlaces hierarchy.now (length program.now.types) places.now }
-    ensures { is_well_formed program.now ≡ true → IsResolved program.now hierarchy.now
-        → IfOk result (λ o. IfSome o (IsCertified program.now outside.now)) }
+    requires formed { is_well_formed program.now ≡ true }
+    requires resolved { IsResolved program.now hierarchy.now }
+    requires places { ArePlaces hierarchy.now (length program.now.types) places.now }
+    ensures { IfOk result (λ o. IfSome o (IsCertified program.now outside.now)) }
 {
     let live = live_members(alloc, program, hierarchy, outside)?;
     let found = targets(alloc, program, hierarchy, outside, &live)?;
@@ -596,19 +581,38 @@ fn facts_of_places<'a>(
     Ok(facts)
 }
 
-/// What is known of every run of a program that the framework begins as the table of the outside allows: of each position
-/// that a run may come to, of parameters, results and fields, and which methods are quiet. What is answered has been checked
-/// to be closed; where it weren't, nothing is answered. The hierarchy is that of the program's classes. The only error is
-/// want of memory.
-pub fn analyse(
+/// What is known of a well-formed program by its hierarchy.
+fn facts_by(
     alloc: Global,
     program: &Program,
     hierarchy: &Hierarchy,
     outside: &Outside,
 ) -> Result<Option<Facts>, AllocError>
-    ensures { is_well_formed program.now ≡ true → IsResolved program.now hierarchy.now
-        → IfOk result (λ o. IfSome o (IsCertified program.now outside.now)) }
+    requires formed { is_well_formed program.now ≡ true }
+    requires resolved { IsResolved program.now hierarchy.now }
+    ensures { IfOk result (λ o. IfSome o (IsCertified program.now outside.now)) }
 {
     let places = places_of(alloc, hierarchy, program.types.len())?;
     facts_of_places(alloc, program, hierarchy, outside, &places)
+}
+
+/// What is known of every run of a program that the framework begins as the table of the outside allows: of each position
+/// that a run may come to, of parameters, results and fields, and which methods are quiet. What is answered has been checked
+/// to be closed; where it weren't, nothing is answered, nor of a program that isn't well-formed or whose class graph has a
+/// fault. The only error is want of memory.
+pub fn analyse(
+    alloc: Global,
+    program: &Program,
+    outside: &Outside,
+) -> Result<Option<Facts>, AllocError>
+    ensures { IfOk result (λ o. IfSome o (IsCertified program.now outside.now)) }
+{
+    if !well_formed(program) {
+        return Ok(None);
+    }
+    match Hierarchy::build(alloc, program) {
+        Ok(hierarchy) => facts_by(alloc, program, &hierarchy, outside),
+        Err(HierarchyFault::NoMemory) => Err(AllocError),
+        Err(_) => Ok(None),
+    }
 }

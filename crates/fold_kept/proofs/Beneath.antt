@@ -12,7 +12,7 @@ use Rattle.dalvik_defs.specs.Names.{Text, text_eq, is_word, is_wide, is_referenc
 use Rattle.dalvik_defs.specs.declared.program.NamedProgram.{NamedProgram}
 use Rattle.pass_defs.specs.Kinds.{Kind, Undefined, Zero, Word, Low, High, Null, Class as ClassOf, Array, Reference, Fresh, FreshThis, is_below, is_initialised, is_number, is_plain, kind_eq, kind_of, kind_of_reference}
 use Rattle.pass_defs.specs.Typed.{constant_kind}
-use Rattle.cover_law.specs.Sound.{IsSmall}
+use Rattle.std.specs.Int.RustNames.{FitsSigned}
 use Rattle.verify.specs.Kinds as number
 use Rattle.verify.specs.declared.kinds.Kind as verify
 use Rattle.verify.specs.declared.kinds.Kind.TheVariants as kind
@@ -26,12 +26,10 @@ text_self t = (bytes_decides t t).1 refl
 -- ---- numbers
 
 -- the constant of 0 is 0
-pub zero_kind : (z : ℤ) → IsSmall z → (cast_unsigned w32 z == 0) ≡ true → constant_kind z ≡ Zero
+pub zero_kind : (z : ℤ) → FitsSigned w32 z → (cast_unsigned w32 z == 0) ≡ true → constant_kind z ≡ Zero
 zero_kind z small e =
-    let l = small.0 in
-    let r = small.1 in
     let b : cast_unsigned w32 z ≡ 0 = eqb-true (cast_unsigned w32 z) 0 e in
-    let whole : z ≡ pos 0 = omega (arith, ints, l, r, b) in
+    let whole : z ≡ pos 0 = omega (arith, ints, small, b) in
     ap constant_kind whole
 
 module _ (q : NamedProgram) where
@@ -225,7 +223,7 @@ module _ (p : Program) (q : NamedProgram) where
   word_known z kind.Word e = word_above q z
   word_known z k e = clash false e refl
 
-  pub known_above : (z : ℤ) (k : verify.Kind) → IsSmall z → in_kind k (value.Word (cast_unsigned w32 z)) ≡ true → is_below q (constant_kind z) (kind_named p k) ≡ true
+  pub known_above : (z : ℤ) (k : verify.Kind) → FitsSigned w32 z → in_kind k (value.Word (cast_unsigned w32 z)) ≡ true → is_below q (constant_kind z) (kind_named p k) ≡ true
   known_above z k small e = by (cast_unsigned w32 z == 0) refl e
     where
       by : (b : Bool) → (cast_unsigned w32 z == 0) ≡ b → (if b then number.is_number k || number.is_initialised k || is_free k else is_word_kind k || is_free k) ≡ true → is_below q (constant_kind z) (kind_named p k) ≡ true

@@ -41,8 +41,8 @@ use Rattle.pass_defs.specs.Typed.{arrives, at_state, called, catches, constant_k
 use Rattle.pass_defs.specs.Walks.{form_at}
 use Rattle.silence_law.specs.Results.{TakesInPlace}
 use Rattle.form_law.proofs.Typings.{allowed_at, each_at, right_at, tested}
-use Rattle.cover_law.specs.Sound.{IsSmall}
-use Rattle.tabled_law.specs.Numbers.{HasWords}
+use Rattle.std.specs.Int.RustNames.{FitsSigned}
+use Rattle.premises.specs.Numbers.{HasWords}
 use Rattle.fold_law.specs.Typed.{has_front, IsLowered, IsOrdered, Lowers, taken_table}
 use Rattle.fold_law.proofs.TypedFolding.{lowered_typing}
 use Rattle.facts.specs.Lent.{frame_at}
@@ -139,7 +139,7 @@ module _ (p : Program) (h : Hierarchy) (w : is_well_formed p ≡ true) (r : IsRe
 
   module _ (n : ℕ) (a : Kinds) (s : state_at t n ≡ Some a) where
     -- what is moved, by the least typing
-    known_kind : (z : ℤ) → IsSmall z → (x : typings.Table) → t ≡ method_table p c x → (from : ℕ) → in_kind (kind_before x n from) (value.Word (cast_unsigned w32 z)) ≡ true → is_below q (constant_kind z) (kind_at a.registers from) ≡ true
+    known_kind : (z : ℤ) → FitsSigned w32 z → (x : typings.Table) → t ≡ method_table p c x → (from : ℕ) → in_kind (kind_before x n from) (value.Word (cast_unsigned w32 z)) ≡ true → is_below q (constant_kind z) (kind_at a.registers from) ≡ true
     known_kind z small x same from e =
         let made = kind_of q (type_at p c.name) in
         let k = before_map (kinds_named p made) (place_at x n) a (sym (state_is p made x n) ∙ ap (λ t. state_at t n) (sym same) ∙ s) in
@@ -147,7 +147,7 @@ module _ (p : Program) (h : Hierarchy) (w : is_well_formed p ≡ true) (r : IsRe
         subst (λ l. is_below q (constant_kind z) l ≡ true) (sym is)
         (known_above p q z (frames.kind_at k.0.registers from) small (subst (λ o. in_kind (typings.kind_in o from) (value.Word (cast_unsigned w32 z)) ≡ true) (got_state x n k.0 k.1.0) e))
 
-    typing_asked : (z : ℤ) → IsSmall z → (from : ℕ) (y : Insn) → asks ≡ true → ((x : typings.Table) (k : Number) → move_fits x n y k ≡ in_kind (kind_before x n from) k) → typing_fits table n y (Some (value.Word (cast_unsigned w32 z))) ≡ true
+    typing_asked : (z : ℤ) → FitsSigned w32 z → (from : ℕ) (y : Insn) → asks ≡ true → ((x : typings.Table) (k : Number) → move_fits x n y k ≡ in_kind (kind_before x n from) k) → typing_fits table n y (Some (value.Word (cast_unsigned w32 z))) ≡ true
         → is_below q (constant_kind z) (kind_at a.registers from) ≡ true
     typing_asked z small from y ask moves e = by table refl e
       where
@@ -155,7 +155,7 @@ module _ (p : Program) (h : Hierarchy) (w : is_well_formed p ≡ true) (r : IsRe
         by None i e = absurd (true≢false (sym e))
         by (Some x) i e = known_kind z small x (has_table.asked x i ask) from (sym (moves x (value.Word (cast_unsigned w32 z))) ∙ e)
 
-    moves_above : (y : Insn) (z : ℤ) → IsSmall z → (is_narrow_move y ≡ true → asks ≡ true) → is_typed_so table n y (Some (value.Word (cast_unsigned w32 z))) ≡ true → is_narrow_move y ≡ true
+    moves_above : (y : Insn) (z : ℤ) → FitsSigned w32 z → (is_narrow_move y ≡ true → asks ≡ true) → is_typed_so table n y (Some (value.Word (cast_unsigned w32 z))) ≡ true → is_narrow_move y ≡ true
         → is_below q (constant_kind z) (left_kind p nc nm n a y) ≡ true
     moves_above (insn.Move slot.Word to from) z small ask e i = typing_asked z small from (insn.Move slot.Word to from) (ask i) (λ x k. refl) e
     moves_above (insn.Move slot.Object to from) z small ask e i = typing_asked z small from (insn.Move slot.Object to from) (ask i) (λ x k. refl) e
@@ -163,7 +163,7 @@ module _ (p : Program) (h : Hierarchy) (w : is_well_formed p ≡ true) (r : IsRe
 
     -- ---- what is taken of a result
 
-    null_taken : (z : ℤ) → IsSmall z → (x : Slot) → is_wide_slot x ≡ false → result_fits x a.result ≡ true → (cast_unsigned w32 z == 0) ≡ true → is_below q (constant_kind z) a.result ≡ true
+    null_taken : (z : ℤ) → FitsSigned w32 z → (x : Slot) → is_wide_slot x ≡ false → result_fits x a.result ≡ true → (cast_unsigned w32 z == 0) ≡ true → is_below q (constant_kind z) a.result ≡ true
     null_taken z small slot.Wide i f e = clash true refl i
     null_taken z small slot.Word i f e = subst (λ k. is_below q k a.result ≡ true) (sym (zero_kind z small e)) (zero_number q a.result f)
     null_taken z small slot.Object i f e = subst (λ k. is_below q k a.result ≡ true) (sym (zero_kind z small e)) (zero_initialised q a.result f)
@@ -173,7 +173,7 @@ module _ (p : Program) (h : Hierarchy) (w : is_well_formed p ≡ true) (r : IsRe
     word_taken z u name.Word i e = word_above q z
     word_taken z u k i e = clash false i refl
 
-    given_taken : (z : ℤ) → IsSmall z → (x : Slot) (u : Text) → is_wide_slot x ≡ false → result_fits x a.result ≡ true → is_below q (kind_of q u) a.result ≡ true → in_type (letter u) (value.Word (cast_unsigned w32 z)) ≡ true
+    given_taken : (z : ℤ) → FitsSigned w32 z → (x : Slot) (u : Text) → is_wide_slot x ≡ false → result_fits x a.result ≡ true → is_below q (kind_of q u) a.result ≡ true → in_type (letter u) (value.Word (cast_unsigned w32 z)) ≡ true
         → is_below q (constant_kind z) a.result ≡ true
     given_taken z small slot.Wide u i f e k = clash true refl i
     given_taken z small slot.Word u i f e k = word_taken z u a.result f e
@@ -205,7 +205,7 @@ module _ (p : Program) (h : Hierarchy) (w : is_well_formed p ≡ true) (r : IsRe
           (list_all (arrives q t) (map (λ (h : ℕ × Kind). (h.0, record x { caught = h.1 })) (catches q nb j f))) all in
           below_result (called q nc kind (naming.method_at p method) args x) (ap (state_below q (Some (called q nc kind (naming.method_at p method) args x))) (sym (ap (state_at t) (next_is j) ∙ s)) ∙ first)
 
-  takes_above : (n : ℕ) (a : Kinds) → state_at t n ≡ Some a → has_front true t n ≡ true → (z : ℤ) → IsSmall z → (x : Slot) → is_wide_slot x ≡ false → result_fits x a.result ≡ true
+  takes_above : (n : ℕ) (a : Kinds) → state_at t n ≡ Some a → has_front true t n ≡ true → (z : ℤ) → FitsSigned w32 z → (x : Slot) → is_wide_slot x ≡ false → result_fits x a.result ≡ true
       → in_result p (insn_before b.insns n) (value.Word (cast_unsigned w32 z)) ≡ true → is_below q (constant_kind z) a.result ≡ true
   takes_above zero a s front z small x i f e = null_taken zero a s z small x i f e
   takes_above (suc j) a s front z small x i f e = by (slice_get b.insns j) refl e
@@ -231,7 +231,7 @@ module _ (p : Program) (h : Hierarchy) (w : is_well_formed p ≡ true) (r : IsRe
     right : is_wrong q nc nm a (form_of p fold.form) ≡ false
     right = right_at q nc nm nb t typing n (form_of p fold.form) a here s
 
-    suits : (is_narrow_move fold.form ≡ true → asks ≡ true) → (takes_result (Some (form_of p fold.form)) ≡ true → has_front true t n ≡ true) → (z : ℤ) → IsSmall z → number_written g ≡ Some (value.Word (cast_unsigned w32 z)) → Suits p nc nm n a fold.form z
+    suits : (is_narrow_move fold.form ≡ true → asks ≡ true) → (takes_result (Some (form_of p fold.form)) ≡ true → has_front true t n ≡ true) → (z : ℤ) → FitsSigned w32 z → number_written g ≡ Some (value.Word (cast_unsigned w32 z)) → Suits p nc nm n a fold.form z
     suits ask front z small e = record {
       moves = moves_above n a s fold.form z small ask (fold.kinds (value.Word (cast_unsigned w32 z)) e).typed;
       takes = λ x to i k. takes_above n a s (front (ap (λ y. takes_result (Some (form_of p y))) i)) z small x k

@@ -18,7 +18,7 @@ use Rattle.pass_defs.specs.Typed.{IsTyped}
 use Rattle.removal_law.specs.Reach.{ShutsHold}
 use Rattle.facts.specs.declared.facts.Facts.{Facts}
 use Rattle.closed_facts.specs.Closed.{AreClosed}
-use Rattle.closed_bridge.specs.Makers.{MakersAreOwn}
+use Rattle.premises.specs.Makers.{MakersAreOwn}
 use Rattle.closed_bridge.specs.Names.{named_facts, values}
 use Rattle.closed_bridge.proofs.Closing.{closed_named}
 use Rattle.closed_bridge.proofs.Making.{makers_named}
@@ -27,7 +27,7 @@ use Rattle.bodies_law.specs.Numbered.{NumberedCodes, OtherNumberedBodies, OtherN
 use Rattle.program_model.specs.declared.program.Class.{Class}
 use Rattle.program_model.specs.declared.program.Method.{Method}
 use Rattle.thin_bridge.specs.Kept.{AnyCode}
-use Rattle.tabled_law.specs.Numbers.{AllHaveWords}
+use Rattle.premises.specs.Numbers.{AllHaveWords}
 use Rattle.tabled_law.proofs.Apart.{tabled, tabled_apart}
 use Rattle.const_prop.specs.Folds.{IsFoldedBy}
 use Rattle.fold_bridge.specs.Folds.{AreNamed, FoldsCode}

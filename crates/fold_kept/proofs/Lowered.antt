@@ -27,8 +27,8 @@ use Rattle.pass_defs.specs.Kinds.{Kind, Undefined, Zero, Word, Low, Reference, i
 use Rattle.pass_defs.specs.Registers.{Kinds, kind_at, written}
 use Rattle.pass_defs.specs.Typed.{after, constant_kind, is_wrong, moved, number_kind, wrong_field, wrong_first, wrong_item}
 use Rattle.pass_defs.specs.Walks.{onward}
-use Rattle.cover_law.specs.Sound.{IsSmall}
-use Rattle.tabled_law.specs.Numbers.{HasWords}
+use Rattle.std.specs.Int.RustNames.{FitsSigned}
+use Rattle.premises.specs.Numbers.{HasWords}
 use Rattle.fold_law.specs.Typed.{Lowers}
 use Rattle.fold_law.proofs.Lowering.{goto_lowers, nop_lowers, wide_lowers, word_lowers}
 use Rattle.const_prop.specs.declared.choices.Way.{Way}
@@ -139,7 +139,7 @@ module _ (p : Program) (c : NamedClass) (m : NamedMethod) (n : ℕ) (a : Kinds) 
 
   -- ---- narrow results
 
-  module _ (z : ℤ) (small : IsSmall z) where
+  module _ (z : ℤ) (small : FitsSigned w32 z) where
     abbrev Above : Kind → Type 0
     Above k = is_below q (constant_kind z) k ≡ true
 
@@ -180,7 +180,7 @@ module _ (p : Program) (c : NamedClass) (m : NamedMethod) (n : ℕ) (a : Kinds) 
 
   module _ (i : Insn) (before : Option Insn) (al : is_allowed q c m a (form_of p i) ≡ true) (ri : is_wrong q c m a (form_of p i) ≡ false) where
     pub constant_lowers : (g : Insn) → IsConstantFor i g → HasWords g → ((k : Number) → number_written g ≡ Some k → fits p before i k ≡ true)
-        → ((z : ℤ) → IsSmall z → number_written g ≡ Some (value.Word (cast_unsigned w32 z)) → Suits i z) → Lowers q c m n a (form_of p i) (form_of p g)
+        → ((z : ℤ) → FitsSigned w32 z → number_written g ≡ Some (value.Word (cast_unsigned w32 z)) → Suits i z) → Lowers q c m n a (form_of p i) (form_of p g)
     constant_lowers (insn.Const to z) x small fit suits =
         let l = left_after i (to, false) (sym x.result) in
         let s = suits z small refl in

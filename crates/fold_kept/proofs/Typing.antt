@@ -34,7 +34,7 @@ use Rattle.kind_law.proofs.Transitive.{transitive}
 use Rattle.stuck_bridge.proofs.Listed.{Image, image}
 use Rattle.stuck_bridge.proofs.Members.{class_known, method_known}
 use Rattle.thin_bridge.proofs.Rooted.{rooted}
-use Rattle.tabled_law.specs.Numbers.{AllHaveWords}
+use Rattle.premises.specs.Numbers.{AllHaveWords}
 use Rattle.facts.specs.declared.facts.Facts.{Facts}
 use Rattle.const_prop.specs.Folds.{IsFoldedBy}
 use Rattle.fold_kept.specs.Folds.{CodeHasWords, FoldsNamedSo, FoldsSo, NoCode, Same, Folded}

@@ -17,7 +17,7 @@ use Rattle.verify.specs.Typings.{Table}
 use Rattle.const_prop.specs.Allowed.{IsFoldOf}
 use Rattle.const_prop.specs.Folds.{IsJudged}
 use Rattle.const_prop.specs.Kinds.{is_narrow_move}
-use Rattle.tabled_law.specs.Numbers.{HasWords}
+use Rattle.premises.specs.Numbers.{HasWords}
 
 -- At each position stands the form that stood there, or one that the facts and the kinds allow, the typing being asked about moves of
 -- one register.

@@ -18,12 +18,12 @@ ghost use Rattle.dalvik_defs.specs.Outer.{outer_of};
 ghost use Rattle.pass_defs.specs.Typed.{IsTyped};
 ghost use Rattle.facts.specs.declared.facts.Facts.{Facts};
 ghost use Rattle.closed_facts.specs.Closed.{AreClosed};
-ghost use Rattle.closed_bridge.specs.Makers.{MakersAreOwn};
+ghost use Rattle.premises.specs.Makers.{MakersAreOwn};
 ghost use Rattle.closed_bridge.specs.Names.{named_facts};
-ghost use Rattle.tabled_law.specs.Numbers.{AllHaveWords};
+ghost use Rattle.premises.specs.Numbers.{AllHaveWords};
 ghost use Rattle.const_prop.specs.Folds.{IsFoldedBy};
 ghost use Rattle.fold_bridge.specs.Folds.{AreNamed};
-ghost use Rattle.fold_kept.specs.Calls.{CallsPlainly};
+ghost use Rattle.premises.specs.Plain.{CallsPlainly};
 ghost use Rattle.fold_kept.specs.Kept.{IsKeptFor};
 
 /// Facts by number that are certified for an outside say what their names say, where no virtual call names an interface and

@@ -30,6 +30,7 @@ use Rattle.compact.specs.Renamed.{IsCompactedProgram}
 use Rattle.compact.specs.Renamed as compact
 use Rattle.facts.specs.declared.facts.Facts.{Facts}
 use Rattle.rewrite_pass.specs.Plans.{IsRewrittenBy}
+use Rattle.premises.specs.Numbers.{AllHaveWords}
 use Rattle.const_prop.specs.Folded.{IsFold}
 use Rattle.const_prop.specs.Folds.{IsFoldedBy, NoneLeft}
 use Rattle.const_prop.specs.Measure.{open_forms}
@@ -273,9 +274,9 @@ module _ (o : Outside) (admitted : List Bool) (t : Traced) (r : Passed) where
 
   pub folded_passed : (c : Changed) (h : Hierarchy) (facts : Facts) → IsPassed t.origins c (folds c.count) r → (is_well_formed t.program ≡ true → HasGraph t.program h) → (is_well_formed t.program ≡ true → AreKnown o t.program facts)
       → IsRewrittenBy (λ at m b es. All (IsFold b) es) admitted t.program c → (is_well_formed t.program ≡ true → IsResolved t.program h → IsFoldedBy t.program h facts admitted c)
-      → (is_well_formed t.program ≡ true → IsResolved t.program h → c.count ≡ 0 → NoneLeft t.program h facts admitted) → (c.count ≡ 0 → c.program ≡ t.program) → (0 < c.count → open_forms c.program < open_forms t.program)
+      → (is_well_formed t.program ≡ true → IsResolved t.program h → c.count ≡ 0 → NoneLeft t.program h facts admitted) → (c.count ≡ 0 → c.program ≡ t.program) → (0 < c.count → open_forms c.program < open_forms t.program) → AllHaveWords c.program
       → HavePassed o admitted (ConstProp ∷ []) t r
-  folded_passed c h facts passed graph known becomes folded none same less = changed_passed o admitted ConstProp t c (folds c.count) r passed
+  folded_passed c h facts passed graph known becomes folded none same less bits = changed_passed o admitted ConstProp t c (folds c.count) r passed
       (λ formed.
       let resolved : IsResolved t.program h = (graph formed).resolved in record {
         folding = inl (record {
@@ -286,6 +287,7 @@ module _ (o : Outside) (admitted : List Bool) (t : Traced) (r : Passed) where
           changed = c;
           folded = folded formed resolved;
           left = refl;
+          bits = bits;
           none_left = λ e. none formed resolved (uncounted c less e);
         });
         still = becomes.written.origins;

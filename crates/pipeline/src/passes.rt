@@ -6,6 +6,7 @@ ghost use Rattle.program_model.specs.ProgramRules.{is_well_formed};
 ghost use Rattle.hierarchy.specs.Shapes.{IsResolved};
 ghost use Rattle.verify.specs.Methods.{TypesAll};
 ghost use Rattle.premises.specs.Makers.{MakersAreOwn};
+ghost use Rattle.premises.specs.Plain.{CallsPlainly};
 ghost use Rattle.compact.specs.Narrow.{has_narrow_classes};
 ghost use Rattle.pipeline.specs.Changes.{no_changes, total_of};
 ghost use Rattle.pipeline.specs.Graph.{IsGraph};
@@ -15,7 +16,7 @@ use crate::graph::hierarchy_of;
 use crate::traces::{Changes, Passed, Traced, left_by};
 use facts::Facts;
 use hierarchy::Hierarchy;
-use premises::{makers_are_own, numbers_have_bits};
+use premises::{calls_plainly, makers_are_own, numbers_have_bits};
 use program_model::{Admitted, Outside, Program};
 use std::alloc::{AllocError, Global};
 use verify::{TypeFault, verify_all};
@@ -104,21 +105,20 @@ fn is_any_admitted(admitted: &Admitted) -> bool
     admitted.methods.as_slice().iter().any(|yes| *yes)
 }
 
-/// Facts that hold in every run of a program whose kept constructors are those of their classes, none where that is not known
-/// of any. The only error is want of memory.
+/// Facts that hold in every run of a program whose kept constructors are those of their classes, and whose virtual calls name
+/// classes alone; none where that is not known of any. The only error is want of memory.
 fn known_facts(
     alloc: Global,
     program: &Program,
-    hierarchy: &Hierarchy,
     outside: &Outside,
 ) -> Result<Option<Facts>, AllocError>
-    ensures { is_well_formed program.now ≡ true → IsResolved program.now hierarchy.now → MakersAreOwn program.now outside.now
+    ensures { MakersAreOwn program.now outside.now → CallsPlainly program.now
         → IfOk result (λ facts. IfSome facts (AreKnown outside.now program.now)) }
 {
     if !numbers_have_bits(program) {
         return Ok(None);
     }
-    let facts = summaries::analyse(alloc, program, hierarchy, outside)?;
+    let facts = summaries::analyse(alloc, program, outside)?;
     Ok(facts)
 }
 
@@ -134,12 +134,13 @@ fn fold_known(
         → IfOk result (HavePassed outside admitted.now.methods.items (ConstProp ∷ []) traced) }
 {
     let changed = const_prop::apply(alloc, traced.program, hierarchy, facts, admitted)?;
+    let _bits = numbers_have_bits(&changed.program);
     let changes = Changes::folded(changed.count);
     Ok(left_by(traced.origins, changed, changes))
 }
 
-/// The same by the facts that are known. They are asked for only where some method may be rewritten, and each kept
-/// constructor is one of its class.
+/// The same by the facts that are known. They are asked for only where some method may be rewritten, each kept
+/// constructor is one of its class, and virtual calls name classes alone.
 fn fold_by(
     alloc: Global,
     traced: Traced,
@@ -156,7 +157,11 @@ fn fold_by(
     if !own {
         return Ok(unchanged(traced));
     }
-    let known = known_facts(alloc, &traced.program, hierarchy, outside)?;
+    let plain = calls_plainly(&traced.program, hierarchy);
+    if !plain {
+        return Ok(unchanged(traced));
+    }
+    let known = known_facts(alloc, &traced.program, outside)?;
     match known {
         Some(facts) => fold_known(alloc, traced, hierarchy, &facts, admitted),
         None => Ok(unchanged(traced)),
@@ -164,8 +169,8 @@ fn fold_by(
 }
 
 /// Makes constants of instructions of admitted methods whose results are known in every run, and gotos or nops of branches
-/// whose outcomes are, unless the class graph has a fault, a kept constructor is none of its class, or no facts are known; with
-/// the hierarchy of what is left. The only error is want of memory.
+/// whose outcomes are, unless the class graph has a fault, a kept constructor is none of its class, a virtual call names an
+/// interface, or no facts are known; with the hierarchy of what is left. The only error is want of memory.
 pub fn fold_constants(
     alloc: Global,
     traced: Traced,

@@ -24,6 +24,7 @@ use Rattle.squeeze.specs.Skipping.{AreSkips}
 use Rattle.thin_bridge.specs.Kept.{AnyCode, IsKept}
 use Rattle.fold_kept.specs.Kept.{IsKeptFor}
 use Rattle.fold_kept.proofs.Kept.{folded_kept}
+use Rattle.fold_kept.proofs.NamedFacts.{are_named}
 use Rattle.squeeze_bridge.proofs.Squeezes.{squeezed_kept}
 use Rattle.dead_bridge.proofs.Cleans.{cleaned_kept}
 use Rattle.compact.specs.Narrow.{has_narrow_classes}
@@ -108,7 +109,10 @@ module _ (o : Outside) where
     where
       by : Folds o admitted p q ⊎ ((q ≡ p) × KeepsForms o admitted p) → Owes o p q
       by (inl f) = subst (λ (x : Program). Owes o p x) (sym f.left) (kept_for_owes p f.changed.program sound
-          (folded_kept p f.hierarchy o f.facts admitted f.changed sound.formed f.resolved sound.grounded sound.typed f.known.certified f.known.words f.known.makers f.folded))
+          (let k = f.known.certified in
+          folded_kept p f.hierarchy o sound.formed f.resolved sound.grounded sound.typed f.known.words f.known.makers k.live k.targets f.facts k.fits k.live_closed k.targeted k.closed
+          (are_named p o k.live (record { formed = sound.formed; once = f.resolved.of.once; grounded = sound.grounded; sized = k.fits; closed = k.live_closed }) k.targets f.resolved.of.ranked f.known.plain f.facts)
+          admitted f.changed f.folded f.bits))
       by (inr none) = subst (λ (x : Program). Owes o p x) (sym none.0) (owes_same o p sound)
 
   pub const_prop_keeps : (admitted : List Bool) → Keeps o admitted ConstProp

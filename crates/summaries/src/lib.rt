@@ -13,10 +13,10 @@
 //! What the framework may enter, need and keep begins with anything. What the objects of the classes that the program or
 //! the framework makes find for a call is told by `call_targets`.
 //!
-//! Proved is that facts which are answered are closed, as `closed_facts` says, for a well-formed program and its hierarchy
-//! (`specs/Certified.antt`). They are checked for it (`facts_check`), and where they weren't closed, nothing would be
-//! answered. So a fault in the graph costs facts, and never makes a wrong one. No clause says that the check passes, nor that
-//! a method which is marked as quiet is quiet.
+//! Proved is that facts which are answered are closed, as `closed_facts` says (`specs/Certified.antt`). They are checked for
+//! it (`facts_check`), and where they weren't closed, nothing would be answered. So a fault in the graph costs facts, and
+//! never makes a wrong one. What this stands on, that the program is well-formed and has a hierarchy, is tested first. No
+//! clause says that the check passes, nor that a method which is marked as quiet is quiet.
 #![tactic(auto)]
 
 mod analysis;

@@ -1,6 +1,6 @@
 -- Kinds in whose place a constant leaves no more.
-use Rattle.std.proofs.Common.{◌≡◌, ◌⊎◌, inl, inr, ℕ, zero, suc, ℤ, pos, Bool, true, false, true≢false, List, [], ◌∷◌, refl, sym, ap, ◌∙◌, subst, arith, eqb-true}
-use Rattle.std.specs.Prelude.{◌==◌, ◌&&◌, ◌||◌, not, if◌then◌else◌, nat_eq, Option, Some, None, slice_get}
+use Rattle.std.proofs.Common.{◌≡◌, ℕ, zero, suc, ℤ, pos, Bool, true, false, true≢false, [], ◌∷◌, refl, sym, ap, subst, arith, eqb-true}
+use Rattle.std.specs.Prelude.{◌==◌, ◌||◌, if◌then◌else◌, nat_eq, Option, Some, None, slice_get}
 use Rattle.std.specs.Int.{w32, cast_unsigned}
 use Rattle.std.specs.Ordering.{int_eq}
 use Rattle.std.specs.Cmp.Lexicographic.{bytes_decides}
@@ -16,7 +16,7 @@ use Rattle.std.specs.Int.RustNames.{FitsSigned}
 use Rattle.verify.specs.Kinds as number
 use Rattle.verify.specs.declared.kinds.Kind as verify
 use Rattle.verify.specs.declared.kinds.Kind.TheVariants as kind
-use Rattle.type_bridge.specs.Views.{array_kind, class_kind, item_text, kind_named}
+use Rattle.type_bridge.specs.Views.{array_kind, class_kind, kind_named}
 use Rattle.const_prop.specs.declared.numbers.Number.TheVariants as value
 use Rattle.const_prop.specs.Kinds.{in_kind, is_free, is_word as is_word_kind}
 

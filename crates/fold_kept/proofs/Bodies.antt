@@ -1,6 +1,6 @@
 -- A body that is folded by facts and kinds has a typing.
-use Rattle.std.proofs.Common.{◌≡◌, ◌⊎◌, inl, inr, ℕ, zero, suc, ◌+◌, ◌<◌, ℤ, Bool, true, false, true≢false, List, [], ◌∷◌, ◌++◌, length, Option, Some, None, refl, sym, ap, ◌∙◌, subst, arith}
-use Rattle.std.specs.Prelude.{◌&&◌, ◌==◌, if◌then◌else◌, is_some, map, slice_get, option_and_then, Contains}
+use Rattle.std.proofs.Common.{◌≡◌, ◌⊎◌, inl, inr, ℕ, zero, suc, ◌+◌, ℤ, Bool, true, false, true≢false, List, [], ◌∷◌, length, Option, Some, None, refl, sym, ap, ◌∙◌, subst, arith}
+use Rattle.std.specs.Prelude.{◌&&◌, ◌==◌, is_some, map, slice_get, option_and_then, Contains}
 use Rattle.std.specs.Int.{w32, cast_unsigned}
 use Rattle.std.specs.List.{list_all}
 use Rattle.std.specs.Option.{option_map}
@@ -15,7 +15,6 @@ use Rattle.insn_set.specs.declared.ops.Slot.TheVariants as slot
 use Rattle.insn_set.specs.declared.form.Insn.{Insn}
 use Rattle.insn_set.specs.declared.form.Insn.TheVariants as insn
 use Rattle.program_model.specs.ProgramRules.{is_well_formed}
-use Rattle.program_model.specs.Lookups.{method_at}
 use Rattle.program_model.specs.declared.body.Body.{Body}
 use Rattle.program_model.specs.declared.program.Class.{Class}
 use Rattle.program_model.specs.declared.program.Method.{Method}
@@ -32,7 +31,7 @@ use Rattle.dalvik_defs.specs.declared.program.NamedBody.{NamedBody}
 use Rattle.dalvik_defs.specs.declared.program.NamedClass.{NamedClass}
 use Rattle.dalvik_defs.specs.declared.program.NamedMethod.{NamedMethod}
 use Rattle.dalvik_defs.specs.declared.program.NamedProgram.{NamedProgram}
-use Rattle.pass_defs.specs.Demands.{demands, is_allowed, meets, place_allowed, result_fits}
+use Rattle.pass_defs.specs.Demands.{is_allowed, result_fits}
 use Rattle.pass_defs.specs.Kinds as name
 use Rattle.pass_defs.specs.Kinds.{Kind, is_below, is_number, is_initialised, kind_of}
 use Rattle.pass_defs.specs.Quiet.{takes_result}
@@ -47,7 +46,6 @@ use Rattle.fold_law.specs.Typed.{has_front, IsLowered, IsOrdered, Lowers, taken_
 use Rattle.fold_law.proofs.TypedFolding.{lowered_typing}
 use Rattle.facts.specs.Lent.{frame_at}
 use Rattle.facts.specs.declared.facts.Facts.{Facts}
-use Rattle.verify.specs.declared.kinds.Kind as verify
 use Rattle.verify.specs.Flow.{place_at}
 use Rattle.verify.specs.Frames as frames
 use Rattle.verify.specs.Typings as typings
@@ -62,7 +60,7 @@ use Rattle.const_prop.specs.Allowed.{insn_before, Branch, Constant, IsAllowed, I
 use Rattle.const_prop.specs.Constants.{number_written, IsConstantFor}
 use Rattle.const_prop.specs.Folds.{IsJudged}
 use Rattle.const_prop.specs.Given.{given}
-use Rattle.const_prop.specs.Kinds.{fits, in_kind, in_result, is_narrow_move, is_null, is_typed_so, letter, letter_given, in_type, move_fits, typing_fits}
+use Rattle.const_prop.specs.Kinds.{fits, in_kind, in_result, is_narrow_move, is_typed_so, letter, in_type, move_fits, typing_fits}
 use Rattle.const_prop.specs.Known.{way_by}
 use Rattle.fold_kept.specs.Folds.{IsFoldedSo}
 use Rattle.fold_kept.proofs.Beneath.{initialised_under, known_above, type_not_zero, type_of_objects, word_above, zero_initialised, zero_kind, zero_number}

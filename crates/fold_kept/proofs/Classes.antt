@@ -1,7 +1,7 @@
 -- What stands above the classes of a well-formed program, by number.
-use Rattle.std.proofs.Common.{◌≡◌, ℕ, ◌<◌, Bool, true, false, true≢false, length, Option, Some, None, refl, sym, ap, ◌∙◌}
+use Rattle.std.proofs.Common.{◌≡◌, ℕ, ◌<◌, Bool, true, false, length, Option, Some, None, refl, sym, ap, ◌∙◌}
 use Rattle.std.specs.Prelude.{◌&&◌, ◌||◌, nat_eq, not, option_and_then, slice_get}
-use Rattle.std.specs.List.{list_all, list_any}
+use Rattle.std.specs.List.{list_all}
 use Rattle.lemmas.proofs.Bools.{and_both, and_left, clash, not_true}
 use Rattle.lemmas.proofs.Lists.{all_at, any_at, got_short}
 use Rattle.lemmas.proofs.Options.{none_some}

@@ -1,5 +1,5 @@
 -- A join holds of all that its parts hold of.
-use Rattle.std.proofs.Common.{◌≡◌, ℕ, zero, suc, ◌+◌, ◌<◌, Bool, true, false, true≢false, List, [], ◌∷◌, length, Some, refl, sym, ap, ◌∙◌, subst, arith}
+use Rattle.std.proofs.Common.{◌≡◌, ℕ, zero, suc, ◌+◌, ◌<◌, Bool, true, false, List, [], ◌∷◌, Some, sym, ap, ◌∙◌, subst, arith}
 use Rattle.std.specs.Prelude.{cond, fold, slice_get}
 use Rattle.std.specs.Int.{w32, cast_signed}
 use Rattle.std.specs.List.{filter, range_with_len}

@@ -1,7 +1,7 @@
 -- What the facts and the kinds let constant propagation write over an instruction leaves no more than that.
-use Rattle.std.proofs.Common.{◌≡◌, ◌⊎◌, inl, inr, ℕ, suc, ◌+◌, ℤ, Bool, true, false, true≢false, List, [], ◌∷◌, ◌++◌, length, Option, Some, None, refl, sym, ap, ◌∙◌, subst, eqb-true, arith}
-use Rattle.std.specs.Prelude.{◌||◌, ◌&&◌, ◌==◌, not, if◌then◌else◌, nat_eq, Contains}
-use Rattle.std.specs.Int.{w32, w64, cast_unsigned}
+use Rattle.std.proofs.Common.{◌≡◌, ℕ, ◌+◌, ℤ, Bool, true, false, true≢false, List, [], ◌∷◌, Option, Some, None, refl, sym, ap, ◌∙◌, subst, eqb-true}
+use Rattle.std.specs.Prelude.{◌||◌, ◌==◌, if◌then◌else◌, nat_eq, Contains}
+use Rattle.std.specs.Int.{w32, cast_unsigned}
 use Rattle.std.specs.List.{list_all, list_any}
 use Rattle.lemmas.proofs.Bools.{and_left, clash, not_false, or_false_left, or_false_right}
 use Rattle.lemmas.proofs.Lists.{contains_here, contains_there}
@@ -23,7 +23,7 @@ use Rattle.dalvik_defs.specs.declared.program.NamedMethod.{NamedMethod}
 use Rattle.dalvik_defs.specs.declared.program.NamedProgram.{NamedProgram}
 use Rattle.pass_defs.specs.Bare.{continues}
 use Rattle.pass_defs.specs.Demands.{demands, is_allowed, meets, place_allowed, result_fits}
-use Rattle.pass_defs.specs.Kinds.{Kind, Undefined, Zero, Word, Low, Reference, is_below, is_initialised, kind_of, kind_eq}
+use Rattle.pass_defs.specs.Kinds.{Kind, Undefined, Zero, Word, Low, Reference, is_below, kind_of}
 use Rattle.pass_defs.specs.Registers.{Kinds, kind_at, written}
 use Rattle.pass_defs.specs.Typed.{after, constant_kind, is_wrong, moved, number_kind, wrong_field, wrong_first, wrong_item}
 use Rattle.pass_defs.specs.Walks.{onward}

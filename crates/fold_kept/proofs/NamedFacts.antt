@@ -1,10 +1,10 @@
 -- Certified facts by number say what their names say.
-use Rattle.std.proofs.Common.{◌≡◌, inl, inr, ℕ, zero, suc, ◌<◌, ◌≤◌, Bool, true, false, true≢false, List, [], ◌∷◌, ◌++◌, length, Option, Some, None, refl, sym, ap, ◌∙◌, subst, arith}
+use Rattle.std.proofs.Common.{◌≡◌, inl, inr, ℕ, zero, suc, ◌<◌, ◌≤◌, Bool, true, false, List, [], ◌∷◌, ◌++◌, length, Option, Some, None, refl, sym, ap, ◌∙◌, subst, arith}
 use Rattle.std.specs.Prelude.{map, slice_get, slice_index_or, option_and_then, Contains}
 use Rattle.std.specs.Option.{option_map, option_or}
 use Rattle.std.proofs.lemmas.Bool.{cases_lt}
 use Rattle.lemmas.proofs.Lists.{got_short}
-use Rattle.lemmas.proofs.Options.{before_map, none_some, some_same}
+use Rattle.lemmas.proofs.Options.{before_map, none_some}
 use Rattle.insn_set.specs.declared.form.Insn.{Insn}
 use Rattle.insn_set.specs.declared.form.Insn.TheVariants as insn
 use Rattle.insn_set.specs.declared.ops.InvokeKind.{InvokeKind}
@@ -28,15 +28,15 @@ use Rattle.program_model.specs.declared.pools.MethodName.{MethodName}
 use Rattle.program_model.specs.Lookups.{class_place}
 use Rattle.class_defs.specs.Members.{is_interface}
 use Rattle.dalvik_defs.specs.Names.{Text}
-use Rattle.dalvik_defs.specs.Naming.{field_at, form_of, method_at, named, text_at, named_class, named_method, type_at}
+use Rattle.dalvik_defs.specs.Naming.{field_at, form_of, named, text_at, named_class, named_method, type_at}
 use Rattle.dalvik_defs.specs.Outer.{outer_of}
 use Rattle.dalvik_defs.specs.Silence.{key_in}
-use Rattle.dalvik_defs.specs.Under.{class_named, defines}
+use Rattle.dalvik_defs.specs.Under.{class_named}
 use Rattle.dalvik_defs.specs.declared.forms.Form.{Form}
 use Rattle.dalvik_defs.specs.declared.forms.Form.TheVariants as form
 use Rattle.dalvik_defs.specs.declared.program.NamedField.{NamedField}
 use Rattle.domains.specs.Values.{any_value, Parts}
-use Rattle.dom_frame.specs.Registers.{Registers, value_at}
+use Rattle.dom_frame.specs.Registers.{Registers}
 use Rattle.dom_frame.specs.declared.frames.Frame.{Frame}
 use Rattle.facts.specs.Lent.{frame_at}
 use Rattle.facts.specs.declared.facts.Facts.{Facts}
@@ -47,7 +47,7 @@ use Rattle.run_facts.specs.Closed as name
 use Rattle.closed_facts.specs.Edges as numbered
 use Rattle.closed_facts.specs.Found as found
 use Rattle.closed_facts.specs.Tables.{registers_at}
-use Rattle.closed_bridge.specs.Names.{field_number, named_facts, registers_by, values, values_of}
+use Rattle.closed_bridge.specs.Names.{named_facts, values, values_of}
 use Rattle.closed_bridge.proofs.Fielding.{field_value_same}
 use Rattle.closed_bridge.proofs.Inverse.{of_call}
 use Rattle.closed_bridge.proofs.Places.{at_number, own_key as own_number}

@@ -1,6 +1,6 @@
 -- What a plan of folds makes of a program is a program with bodies that are folded by facts and kinds.
-use Rattle.std.proofs.Common.{◌≡◌, ℕ, zero, suc, ◌+◌, ◌<◌, Bool, true, false, true≢false, min, List, [], ◌∷◌, ◌++◌, length, Option, Some, None, ◌⊎◌, inl, inr, refl, sym, ap, ◌∙◌, subst, arith, nat_eq}
-use Rattle.std.specs.Prelude.{◌^◌, ◌||◌, All, if◌then◌else◌, is_some, slice_get, slice_set, slice_index_or, Contains}
+use Rattle.std.proofs.Common.{◌≡◌, ℕ, zero, suc, ◌<◌, Bool, true, false, true≢false, List, [], ◌∷◌, length, Option, Some, None, ◌⊎◌, inl, inr, refl, sym, ap, ◌∙◌, subst, arith, nat_eq}
+use Rattle.std.specs.Prelude.{◌^◌, ◌||◌, All, if◌then◌else◌, is_some, slice_get, slice_set, slice_index_or}
 use Rattle.std.specs.List.{list_any}
 use Rattle.std.proofs.lemmas.Bool.{eqb-true, eq-eqb}
 use Rattle.std.proofs.lemmas.List.Elements.{All-head, All-tail}
@@ -23,9 +23,8 @@ use Rattle.lemmas.proofs.Options.{none_some, some_same}
 use Rattle.bodies_law.specs.Numbered.{OtherNumberedMethod, OtherNumberedClass, OtherNumberedBodies}
 use Rattle.rewrite_pass.specs.declared.edit.Edit.{Edit}
 use Rattle.rewrite_pass.specs.Plans.{edited, body_edited, code_edited, method_by, class_by, program_by, word, HasEdits, HasPlan, IsPlan}
-use Rattle.const_prop.specs.declared.folding.Fold.{Fold}
 use Rattle.const_prop.specs.Allowed.{IsFoldOf, IsFold}
-use Rattle.const_prop.specs.Folds.{AreFolds, IsFoldedBy, IsJudged, edit_of, edits_of, folds_of, is_asked, is_asked_of, is_typed}
+use Rattle.const_prop.specs.Folds.{AreFolds, IsFoldedBy, edit_of, edits_of, folds_of, is_asked, is_asked_of, is_typed}
 use Rattle.const_prop.specs.Kinds.{is_narrow_move}
 use Rattle.fold_bridge.proofs.Planned.{get_below, pairs_by}
 use Rattle.fold_kept.proofs.Few.{few_members}
@@ -54,7 +53,7 @@ set_past (i ∷ is) (suc k) (suc n) g e = set_past is k n g e
 -- ---- what the typing is asked about
 
 -- an edit of what the kinds allow comes of a fold, so where it stands over a move of one register the typing is asked
-asked_there : (t : Option Table) (b : Body) (xs : List Fold) (n : ℕ) (e : Edit) → slice_get (edits_of t b xs) n ≡ Some e → is_asked_of (slice_get b.insns e.position) ≡ true → list_any (is_asked b) xs ≡ true
+asked_there : (t : Option Table) (b : Body) (xs : List _) (n : ℕ) (e : Edit) → slice_get (edits_of t b xs) n ≡ Some e → is_asked_of (slice_get b.insns e.position) ≡ true → list_any (is_asked b) xs ≡ true
 asked_there t b [] n e i a = none_some e i
 asked_there t b (x ∷ xs) n e i a = by (is_typed t b x) n i (λ k j. asked_there t b xs k e j a)
   where

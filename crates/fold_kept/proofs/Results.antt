@@ -1,10 +1,9 @@
 -- What a call may give by names is among what const_prop takes for its result by number.
-use Rattle.std.proofs.Common.{◌≡◌, ◌⊎◌, inl, inr, ℕ, ◌<◌, Bool, true, false, true≢false, List, [], ◌∷◌, length, Option, Some, None, refl, sym, ap, ◌∙◌, subst}
+use Rattle.std.proofs.Common.{◌≡◌, inl, inr, ℕ, ◌<◌, Bool, true, false, true≢false, List, [], ◌∷◌, length, Option, Some, None, refl, sym, ap, ◌∙◌, subst}
 use Rattle.std.specs.Prelude.{◌&&◌, ◌||◌, cond, if◌then◌else◌, is_some, slice_get, slice_index_or, option_and_then, Contains}
 use Rattle.std.specs.Option.{option_map}
 use Rattle.lemmas.proofs.Bools.{clash}
 use Rattle.lemmas.proofs.Lists.{got_short}
-use Rattle.lemmas.proofs.Options.{none_some, some_same}
 use Rattle.insn_set.specs.declared.ops.InvokeKind.{InvokeKind}
 use Rattle.insn_set.specs.declared.ops.InvokeKind.TheVariants as call
 use Rattle.program_model.specs.Lookups as look
@@ -49,13 +48,13 @@ use Rattle.reach.specs.Marked.{IsMarked}
 use Rattle.reach_bridge.proofs.Based.{S}
 use Rattle.removal_bridge.proofs.Formed.{no_object}
 use Rattle.run_facts.specs.Closed as name
-use Rattle.closed_bridge.specs.Names.{is_coded, method_number, named_facts, result_by, values}
+use Rattle.closed_bridge.specs.Names.{method_number, named_facts, result_by, values}
 use Rattle.closed_bridge.proofs.Calling.{FoundNumber, found_number, place_of, statically_is, super_is}
 use Rattle.closed_bridge.proofs.Made.{made_number, MadeNumber}
 use Rattle.closed_bridge.proofs.Numbers.{number_of_method}
 use Rattle.const_prop.specs.Given.{above_value, among_value, call_value, found_value, kind_value, method_value, named_value, super_value, virtual_value}
 use Rattle.fold_kept.proofs.Classes.{place_short, placed_class, super_interface, super_short}
-use Rattle.fold_kept.proofs.Joins.{Answers, below_any, under_on, Under}
+use Rattle.fold_kept.proofs.Joins.{Answers, below_any, Under}
 use Rattle.fold_kept.proofs.Supers.{bare_value, lowest_given}
 use Rattle.fold_kept.proofs.Virtual.{given_at}
 

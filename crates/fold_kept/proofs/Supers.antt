@@ -1,10 +1,10 @@
 -- What the candidates of an interface give is among what any of them may give, by number.
-use Rattle.std.proofs.Common.{◌≡◌, ◌⊎◌, inl, inr, ℕ, zero, suc, ◌+◌, ◌<◌, ◌≤◌, Bool, true, false, true≢false, List, [], ◌∷◌, length, Option, Some, None, refl, sym, ap, ◌∙◌, subst, arith, eqb-true, eq-eqb, ltb-true}
-use Rattle.std.specs.Prelude.{◌&&◌, ◌||◌, cond, fold, is_some, nat_eq, nat_le, nat_lt, not, option_and_then, slice_get, slice_index_or, Contains}
+use Rattle.std.proofs.Common.{◌≡◌, ◌⊎◌, inl, inr, ℕ, zero, suc, ◌<◌, ◌≤◌, Bool, true, false, List, [], ◌∷◌, length, Option, Some, None, refl, sym, ap, ◌∙◌, subst, arith, eqb-true, eq-eqb, ltb-true}
+use Rattle.std.specs.Prelude.{◌&&◌, cond, is_some, nat_eq, nat_lt, not, option_and_then, slice_get, slice_index_or, Contains}
 use Rattle.std.specs.List.{filter, list_any}
 use Rattle.std.proofs.lemmas.Bool.{cases_lt}
 use Rattle.lemmas.proofs.Bools.{and_both, and_left, and_right, clash, none_or, not_of_false, untrue}
-use Rattle.lemmas.proofs.Lists.{all_in, contains_here, contains_there, got_short}
+use Rattle.lemmas.proofs.Lists.{all_in, got_short}
 use Rattle.lemmas.proofs.Options.{none_some, some_same}
 use Rattle.program_model.specs.Lookups.{class_place, method_at}
 use Rattle.program_model.specs.declared.body.Body.{Body}
@@ -12,7 +12,7 @@ use Rattle.program_model.specs.declared.program.Class.{Class}
 use Rattle.program_model.specs.declared.program.Method.{Method}
 use Rattle.program_model.specs.declared.program.MethodAt.{MethodAt}
 use Rattle.program_model.specs.declared.program.Program.{Program}
-use Rattle.class_defs.specs.Finding.{Clash, Finds, Nothing, Search, is_lowest, lowest, verdict}
+use Rattle.class_defs.specs.Finding.{Search, is_lowest, lowest, verdict}
 use Rattle.class_defs.specs.Members.{has_code}
 use Rattle.class_defs.specs.Places.{above_places, interface_places, is_under, listed, placed, super_place, walks}
 use Rattle.hierarchy.specs.Ranks.{IsRanked, is_lower, is_lower_all}

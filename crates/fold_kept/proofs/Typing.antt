@@ -1,22 +1,19 @@
 -- A folded program is typed.
-use Rattle.std.proofs.Common.{◌≡◌, ◌⊎◌, ℕ, zero, suc, Bool, true, false, List, [], ◌∷◌, Option, Some, None, refl, sym, ap, ◌∙◌, subst}
+use Rattle.std.proofs.Common.{◌≡◌, ℕ, suc, Bool, true, List, [], ◌∷◌, Option, Some, None, refl, sym, ap, ◌∙◌, subst}
 use Rattle.std.specs.Prelude.{slice_get, Contains}
 use Rattle.std.specs.Option.{option_map}
 use Rattle.lemmas.proofs.Options.{none_some, some_same}
-use Rattle.insn_set.specs.declared.form.Insn.{Insn}
 use Rattle.program_model.specs.ProgramRules.{is_well_formed}
 use Rattle.program_model.specs.declared.body.Body.{Body}
 use Rattle.program_model.specs.declared.pass.Changed.{Changed}
 use Rattle.program_model.specs.declared.program.Class.{Class}
 use Rattle.program_model.specs.declared.program.Method.{Method}
-use Rattle.program_model.specs.declared.program.MethodAt.{MethodAt}
 use Rattle.program_model.specs.declared.program.Program.{Program}
 use Rattle.class_defs.specs.ClassGraph.{IsAncestor, IsTwice}
 use Rattle.class_defs.proofs.WellFormed.{Sound, sound}
 use Rattle.hierarchy.specs.Shapes.{IsResolved}
 use Rattle.hierarchy.specs.declared.build.Hierarchy.{Hierarchy}
 use Rattle.dalvik_defs.specs.Find.{method_in}
-use Rattle.dalvik_defs.specs.Names.{Text}
 use Rattle.dalvik_defs.specs.Naming.{body_of, named, named_class, named_method, type_at}
 use Rattle.dalvik_defs.specs.Silence.{key_in}
 use Rattle.dalvik_defs.specs.Under.{class_named}
@@ -38,7 +35,7 @@ use Rattle.premises.specs.Numbers.{AllHaveWords}
 use Rattle.facts.specs.declared.facts.Facts.{Facts}
 use Rattle.const_prop.specs.Folds.{IsFoldedBy}
 use Rattle.fold_kept.specs.Folds.{CodeHasWords, FoldsNamedSo, FoldsSo, NoCode, Same, Folded}
-use Rattle.fold_kept.proofs.Bodies.{contains_at, folded_typing}
+use Rattle.fold_kept.proofs.Bodies.{folded_typing}
 use Rattle.fold_kept.proofs.Planned.{rewritten_so}
 
 -- pairs of which more is known by their places

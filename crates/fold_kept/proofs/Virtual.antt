@@ -1,12 +1,11 @@
 -- What a class under another one finds is what that one finds, or what a class strictly under it defines, by number.
 use Rattle.std.proofs.Common.{◌≡◌, ◌⊎◌, inl, inr, ℕ, zero, suc, ◌+◌, ◌<◌, ◌≤◌, Bool, true, false, true≢false, List, [], ◌∷◌, length, Option, Some, None, refl, sym, ap, ◌∙◌, subst, arith, eqb-true, ltb-true}
-use Rattle.std.specs.Prelude.{◌&&◌, ◌||◌, cond, flat_map, fold, if◌then◌else◌, is_some, nat_eq, nat_lt, not, slice_get, Contains}
-use Rattle.std.specs.List.{list_all, list_any, range_with_len}
+use Rattle.std.specs.Prelude.{◌&&◌, ◌||◌, cond, flat_map, if◌then◌else◌, is_some, nat_eq, nat_lt, not, slice_get, Contains}
+use Rattle.std.specs.List.{list_any, range_with_len}
 use Rattle.std.specs.Option.{option_or}
 use Rattle.lemmas.proofs.Bools.{and_left, and_right, clash}
 use Rattle.lemmas.proofs.Lists.{contains_here, contains_there}
 use Rattle.lemmas.proofs.Options.{none_some, some_same}
-use Rattle.program_model.specs.Lookups.{class_place}
 use Rattle.program_model.specs.declared.program.MethodAt.{MethodAt}
 use Rattle.program_model.specs.declared.program.Program.{Program}
 use Rattle.class_defs.specs.Finding.{Clash, Finds, Nothing, Search, finds_among, finds_at, finds_virtual, first_among, found_or}
@@ -14,9 +13,9 @@ use Rattle.class_defs.specs.Members.{is_interface, own_method, own_virtual, virt
 use Rattle.class_defs.specs.Places.{above_places, chain_from, chain_of, interface_places, is_under, placed, super_place, walks}
 use Rattle.hierarchy.specs.Naming.{definers_of}
 use Rattle.hierarchy.specs.Ranks.{IsRanked, is_lower, is_lower_all}
-use Rattle.domains.specs.Values.{any_value, Parts, value_joined}
+use Rattle.domains.specs.Values.{any_value, Parts}
 use Rattle.facts.specs.declared.facts.Facts.{Facts}
-use Rattle.const_prop.specs.Given.{found_value, virtual_value, with_definer, with_found, with_maybe}
+use Rattle.const_prop.specs.Given.{found_value, virtual_value, with_definer, with_maybe}
 use Rattle.fold_kept.proofs.Joins.{filter_there, first_joined, fold_grows, fold_reaches, below_any, range_there, second_joined, under_on, Answers, Under}
 
 -- ---- lists

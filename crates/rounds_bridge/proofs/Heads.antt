@@ -1,5 +1,5 @@
 -- A program with other bodies defines the classes that it defined.
-use Rattle.std.proofs.Common.{◌≡◌, ◌∙◌, Bool, true, false, List, [], ◌∷◌, Option, Some, None, map, refl, sym, ap}
+use Rattle.std.proofs.Common.{◌≡◌, ◌∙◌, Bool, true, false, List, [], ◌∷◌, Option, Some, None, map, refl, ap}
 use Rattle.std.specs.List.{find}
 use mathlib.Core.Bool.{cond}
 use Rattle.program_model.specs.declared.program.Class.{Class}

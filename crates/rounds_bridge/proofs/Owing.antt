@@ -1,5 +1,5 @@
 -- What each pass owes, all of them owe, one after another.
-use Rattle.std.proofs.Common.{◌≡◌, ℕ, zero, suc, Bool, true, List, [], ◌∷◌, refl, sym, ap, ◌∙◌, subst}
+use Rattle.std.proofs.Common.{ℕ, Bool, List, refl, ◌∙◌, subst}
 use Rattle.program_model.specs.declared.program.Program.{Program}
 use Rattle.program_model.specs.declared.pass.Outside.{Outside}
 use Rattle.dalvik_defs.specs.Naming.{named}
@@ -7,7 +7,7 @@ use Rattle.dalvik_defs.specs.Outer.{Outer, outer_of}
 use Rattle.dalvik_defs.specs.Shown.{SameShown}
 use Rattle.dalvik_defs.proofs.Same.{same_shown_refl, same_shown_on}
 use Rattle.pipeline.specs.declared.traces.Traced.{Traced}
-use Rattle.pipeline.specs.Passes.{Pass, passes, Step, Steps, Last, Then}
+use Rattle.pipeline.specs.Passes.{Pass, passes, Steps, Last, Then}
 use Rattle.pipeline.specs.Rounds.{Rounds, Ended, Next}
 use Rattle.rounds_bridge.specs.Owed.{IsSound, Owes, Keeps}
 

@@ -1,5 +1,5 @@
 -- Classes that are left of a program's split no override.
-use Rattle.std.proofs.Common.{◌≡◌, ◌∙◌, ℕ, Bool, true, not, List, [], ◌∷◌, Some, map, refl, sym, ap, subst}
+use Rattle.std.proofs.Common.{◌≡◌, ◌∙◌, ℕ, List, [], ◌∷◌, map, refl, sym, ap, subst}
 use Rattle.std.specs.Prelude.{◌||◌, ◌==◌, slice_get}
 use Rattle.program_model.specs.declared.flags.Flags.{Flags}
 use Rattle.program_model.specs.declared.pools.MethodName.{MethodName}
@@ -8,7 +8,7 @@ use Rattle.program_model.specs.declared.program.Method.{Method}
 use Rattle.program_model.specs.declared.program.Program.{Program}
 use Rattle.program_model.specs.MemberRules.{is_static, is_private, name_of_method, is_direct}
 use Rattle.program_model.specs.Texts.{first_unit, type_text}
-use Rattle.class_defs.specs.ClassGraph.{IsSuperclass, StepsTo, IsUnder, HasVirtual, IsSplit, is_package_private, package_of}
+use Rattle.class_defs.specs.ClassGraph.{IsSuperclass, StepsTo, HasVirtual, IsSplit, is_package_private, package_of}
 use Rattle.hierarchy.specs.Splitting.{NoSplit}
 use Rattle.rounds_bridge.proofs.Parts.{Part, HadMethod, Stood, place, stood}
 

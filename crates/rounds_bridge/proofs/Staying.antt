@@ -1,10 +1,10 @@
 -- What passes leave as it was, rounds leave so.
-use Rattle.std.proofs.Common.{◌≡◌, ◌⊎◌, inl, inr, ℕ, zero, suc, Bool, true, false, List, [], ◌∷◌, refl, sym, subst}
+use Rattle.std.proofs.Common.{◌≡◌, ◌⊎◌, inl, inr, ℕ, Bool, true, false, List, sym, subst}
 use Rattle.program_model.specs.declared.pass.Origin.{Origin}
 use Rattle.program_model.specs.declared.pass.Outside.{Outside}
 use Rattle.program_model.specs.declared.program.Program.{Program}
 use Rattle.dead_code.specs.Dead.{is_quiet_field}
-use Rattle.dead_code.specs.Wishes.{AreCleaned, NoneDead}
+use Rattle.dead_code.specs.Wishes.{AreCleaned}
 use Rattle.squeeze.specs.Needed.{NothingLeft}
 use Rattle.squeeze.specs.Skipping.{AreSkips}
 use Rattle.const_prop.specs.Folds.{AreFolds}
@@ -15,8 +15,7 @@ use Rattle.stay_law.proofs.Staying.{stays_same, stays_on}
 use Rattle.stay_law.proofs.Rewritten.{rewritten_stays}
 use Rattle.stay_law.proofs.Passes.{removed_stays, thinned_stays, propagated_stays, compacted_stays}
 use Rattle.pipeline.specs.declared.traces.Traced.{Traced}
-use Rattle.pipeline.specs.Graph.{HasGraphFault}
-use Rattle.pipeline.specs.Passes.{Pass, Reach, ConstProp, CopyProp, DeadCode, Squeeze, Compact, Removes, IsBarred, IsRemoval, Folds, KeepsForms, IsFolding, Propagates, KeepsReads, IsPropagation, Thins, IsCleaning, IsCompaction, Does, passes, Step, Steps, Last, Then}
+use Rattle.pipeline.specs.Passes.{Pass, Reach, ConstProp, CopyProp, DeadCode, Squeeze, Compact, Removes, IsBarred, Folds, KeepsForms, Propagates, KeepsReads, Thins, IsCleaning, Does, passes, Steps, Last, Then}
 use Rattle.pipeline.specs.Rounds.{Rounds, Ended, Next}
 use Rattle.rounds_bridge.specs.Owed.{IsSound, Owes}
 use Rattle.rounds_bridge.proofs.Keeping.{each_keeps}

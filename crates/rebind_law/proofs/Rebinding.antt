@@ -80,7 +80,7 @@ module _ (s : Setting) (need : Text → Need) (vs : List Value) (w : World) (g :
       → calls s.face need kind' new vs w g ≡ calls s.face need kind old vs w g
   both_call kind kind' old new a b h = searched kind' new b ∙ (by (is_null (receiver vs)) refl ∙ sym (searched kind old a))
     where
-      abbrev on : Bool → Outcome → Outcome
+      on : Bool → Outcome → Outcome
       on n now = elim n as (λ n. Outcome) [ true ↦ faults w null_pointer | false ↦ now ]
 
       by : (n : Bool) → is_null (receiver vs) ≡ n → by_search kind' new ≡ by_search kind old
@@ -113,10 +113,10 @@ module _ (s : Setting) (find other : Bodies) (I : State → Type 0) (all : AreRe
   same_now : (w : World) (c : Classes) (g : Frame) (rest : List Waiting) (script : List Move) → I (On w c (Method g ∷ rest) script) → now s other w c g ≡ now s find w c g
   same_now w c g rest script i = by (both g)
     where
-      abbrev need : Text → Need
+      need : Text → Need
       need = need_of s.face c
 
-      abbrev at : Option Form → Outcome
+      at : Option Form → Outcome
       at o = outcome s.face need (effect_of s o w g) w g
 
       form_same : (f f' : Form) → Becomes s I g.method g.position f f' → at (Some f') ≡ at (Some f)
@@ -144,7 +144,7 @@ module _ (s : Setting) (find other : Bodies) (I : State → Type 0) (all : AreRe
   same_lands : (w : World) (g : Frame) (v : Value) → lands s.face other w g v ≡ lands s.face find w g v
   same_lands w g v = ap (option_map (λ at. record (go g at) { caught = v })) (by (find g.method) refl)
     where
-      abbrev above : Text → Bool
+      above : Text → Bool
       above = s.face.under (kind_of w v)
 
       by : (o : Option NamedBody) → find g.method ≡ o → option_and_then (handler_at above g.position) (other g.method) ≡ option_and_then (handler_at above g.position) (find g.method)

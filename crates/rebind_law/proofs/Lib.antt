@@ -1,1 +1,5 @@
 pub mod Rebinding
+pub mod Listed
+pub mod Receiving
+pub mod ByClass
+pub mod ByFacts

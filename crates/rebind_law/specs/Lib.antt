@@ -1,1 +1,2 @@
 pub mod Rebinding
+pub mod Receivers

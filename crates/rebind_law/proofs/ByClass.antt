@@ -1,13 +1,13 @@
 -- Calls of methods of plain classes: in every state of a run of a typed program their receivers stand under the class.
-use Rattle.std.proofs.Common.{◌≡◌, ℕ, suc, Bool, true, false, List, [], ◌∷◌, Option, Some, None, ◌⊎◌, inl, inr, refl, sym, ap, ◌∙◌, subst}
+use Rattle.std.proofs.Common.{◌≡◌, ℕ, suc, Bool, true, false, true≢false, length, List, [], ◌∷◌, Option, Some, None, ◌⊎◌, inl, inr, refl, sym, ap, ◌∙◌, subst}
 use Rattle.std.specs.Prelude.{Contains}
 use Rattle.dalvik_defs.specs.Effect.{register}
 use Rattle.dalvik_defs.specs.Face.{Bodies, bodies_of}
 use Rattle.dalvik_defs.specs.Happens.{Setting}
-use Rattle.dalvik_defs.specs.Names.{Text}
+use Rattle.dalvik_defs.specs.Names.{Text, object_type}
 use Rattle.dalvik_defs.specs.Outer.{Outer}
 use Rattle.dalvik_defs.specs.Shown.{Fit, SameShown}
-use Rattle.dalvik_defs.specs.State.{World, Classes, State, On, Ended, is_null, kind_of, opening}
+use Rattle.dalvik_defs.specs.State.{World, Classes, State, On, Ended, Instance, is_null, kind_of, kind_of_thing, thing_at, opening}
 use Rattle.dalvik_defs.specs.Step.{after, setting_of, step}
 use Rattle.dalvik_defs.specs.Under.{class_named, defines, is_under, is_own_under}
 use Rattle.dalvik_defs.specs.declared.forms.Form.{Form}
@@ -17,29 +17,46 @@ use Rattle.dalvik_defs.specs.declared.program.NamedClass.{NamedClass}
 use Rattle.dalvik_defs.specs.declared.program.NamedProgram.{NamedProgram}
 use Rattle.dalvik_defs.specs.declared.script.Move.{Move}
 use Rattle.dalvik_defs.specs.declared.state.Frame.{Frame}
+use Rattle.dalvik_defs.specs.declared.state.Value.{Value}
+use Rattle.dalvik_defs.specs.declared.state.Value.TheVariants.{Object}
+use Rattle.dalvik_defs.specs.declared.names.FieldKey.{FieldKey}
 use Rattle.dalvik_defs.specs.declared.state.Waiting.{Waiting}
 use Rattle.dalvik_defs.specs.declared.state.Waiting.TheVariants.{Method}
 use Rattle.dalvik_defs.specs.declared.tables.Floats.{Floats}
 use Rattle.dalvik_defs.specs.declared.tables.Framework.{Framework}
+use Rattle.dalvik_defs.proofs.Calm.{text_sound}
 use Rattle.dalvik_defs.proofs.Simulation.{after_suc}
 use Rattle.pass_defs.specs.Walks.{form_at}
 use Rattle.invariant_law.specs.Holds.{Holds}
 use Rattle.stuck_law.specs.Regular.{IsRegular}
-use Rattle.stuck_law.specs.TypedStates.{TypedFrame, TypedWorld, typed_states}
-use Rattle.stuck_law.proofs.Climbs.{class_in, name_of, plain_defined}
+use Rattle.stuck_law.specs.TypedStates.{IsObject, TypedFrame, TypedWorld, typed_states}
+use Rattle.stuck_law.proofs.Here.{At}
+use Rattle.stuck_law.proofs.Climbs.{class_in, name_of, plain_defined, defined_below, none_some}
+use Rattle.stuck_law.proofs.Values.{instance_thing}
+use Rattle.stuck_law.proofs.Worlds.{at_typed}
 use Rattle.stuck_law.proofs.Runs.{settled, typed_regular}
 use Rattle.stuck_law.proofs.Searches.{finds_regularly}
 use Rattle.stuck_law.proofs.Settled.{IsSettled, FindsRegularly}
+use Rattle.removal_law.specs.Left.{NamesNone}
 use Rattle.removal_law.specs.Reach.{IsAcyclic}
+use Rattle.removal_law.specs.Reach as reach
 use Rattle.removal_law.proofs.Acyclic.{regular as upright}
 use Rattle.removal_law.proofs.Fits.{fit_names_none}
-use Rattle.cover_law.proofs.Given.{defined_under}
-use Rattle.cover_law.proofs.Reaching.{own_under}
+use Rattle.removal_law.proofs.Outward.{Up, inside, through, object, under_up}
 use Rattle.rebind_law.specs.Rebinding.{FindBoth, Rebinds, Becomes, Same, Other, IsRebound, AreRebound, AllRebound}
 use Rattle.rebind_law.specs.Receivers.{FindsListed, Renames, BoundByClass, IsChanged, AreChanged}
 use Rattle.rebind_law.proofs.Listed.{listed_virtually}
-use Rattle.rebind_law.proofs.Receiving.{own_at, stands_under}
+use Rattle.rebind_law.proofs.Receiving.{own_at, is_object, stands_under}
 use Rattle.rebind_law.proofs.Rebinding.{rebound_shown}
+
+-- a class of the program that stands above another one does so by the program's own lists
+own_under : (p : NamedProgram) (f : Framework) → NamesNone p f → reach.IsRegular p → (t u : Text) → defines p t ≡ true → defines p u ≡ true → is_under p f t u ≡ true → is_own_under p t u ≡ true
+own_under p f none upright t u d e i = by (under_up p f none upright t u d i)
+  where
+    by : Up p f none upright (length p.classes) t u → is_own_under p t u ≡ true
+    by (inside j) = j
+    by (through j away) = absurd (true≢false (sym e ∙ away))
+    by (object j) = absurd (true≢false (sym e ∙ (ap (defines p) (text_sound u object_type j) ∙ none.object)))
 
 -- the states of a run
 abbrev pub Reached : NamedProgram → Outer → Framework → Floats → List Move → State → Type 0
@@ -81,6 +98,15 @@ module _ (p : NamedProgram) (o : Outer) (f : Framework) (a : Floats) (script : L
   abbrev s : Setting
   s = setting_of p o f a
 
+  -- an object that is under a class of the program is of one
+  defined_under : (w : World) → TypedWorld p f w → (v : Value) (u : Text) → IsObject w v → is_under p f (kind_of w v) u ≡ true → defines p u ≡ true → defines p (kind_of w v) ≡ true
+  defined_under w tw v u there e d = by v (instance_thing p f reg w tw v u there d e) e
+    where
+      by : (v : Value) → (c : Text) × ((fs : FieldKey → Option Value) × (thing_at w v ≡ Some (Instance c fs))) → is_under p f (kind_of w v) u ≡ true → defines p (kind_of w v) ≡ true
+      by (Object n) (c, (fs, at)) e = let kind : kind_of w (Object n) ≡ c = ap (λ y. elim y as (λ y. Text) [ Some th ↦ kind_of_thing th | None ↦ [] ]) at in
+          subst (λ k. defines p k ≡ true) (sym kind) (defined_below p f reg c u (at_typed p f w (Object n) (Instance c fs) tw at).0 d (subst (λ k. is_under p f k u ≡ true) kind e))
+      by v (c, (fs, at)) e = none_some (Instance c fs) at
+
   binds : (k : MethodKey) (b : NamedBody) (n : ℕ) (x x' : Form) → bodies_of p k ≡ Some b → form_at b n ≡ Some x → BoundByClass p x x' → Rebinds s (Reached p o f a script) k n x x'
   binds k b n x x' e i h = record {
     kind = h.call.kind;
@@ -108,14 +134,17 @@ module _ (p : NamedProgram) (o : Outer) (f : Framework) (a : Floats) (script : L
           kind : Text
           kind = kind_of w (register g h.call.on)
 
+          own_form : At p o f a reg w g t x
+          own_form = own_at p o f a reg finds w c g tw t b x (ap (bodies_of p) m ∙ e) (ap (form_at b) q ∙ i)
+
           under : is_under p f kind h.call.old.class ≡ true
-          under = stands_under p o f a reg finds w c g tw t x x' h.call (own_at p o f a reg finds w c g tw t b x (ap (bodies_of p) m ∙ e) (ap (form_at b) q ∙ i)) some h.plain
+          under = stands_under p o f a reg finds w c g tw t x x' h.call own_form some h.plain
 
           plain_there : defines p h.call.old.class ≡ true
           plain_there = plain_defined p h.call.old.class h.plain
 
           there : defines p kind ≡ true
-          there = defined_under p o f a reg finds w tw (register g h.call.on) h.call.old.class under plain_there
+          there = defined_under w tw (register g h.call.on) h.call.old.class (is_object p o f a reg finds w c g tw t x x' h.call own_form some) under plain_there
 
           own : is_own_under p kind h.call.old.class ≡ true
           own = own_under p f (fit_names_none p o f script fit) (upright p acyclic regular.class_types) kind h.call.old.class there plain_there under

@@ -2,7 +2,7 @@
 use Rattle.std.proofs.Common.{◌≡◌, ℕ, zero, suc, ◌+◌, ◌≤◌, Bool, true, false, true≢false, List, [], ◌∷◌, ◌++◌, Option, Some, None, refl, sym, ap, ap₂, ◌∙◌, subst, arith}
 use Rattle.std.specs.Prelude.{◌&&◌, ◌||◌, not, length, flat_map, is_some}
 use Rattle.std.specs.List.{list_any}
-use Rattle.dalvik_defs.proofs.Same.{any_more}
+use Rattle.dalvik_defs.proofs.Same.{or_more}
 use Rattle.dalvik_defs.specs.Names.{Text, text_eq, is_array, is_reference, is_class_type, object_type}
 use Rattle.dalvik_defs.specs.Known.{known_rows}
 use Rattle.dalvik_defs.specs.Face.{finds_virtually}
@@ -23,6 +23,10 @@ use Rattle.rebind_law.specs.Receivers.{finds_listed, FindsListed}
 
 clash : {A : Type 0} → true ≡ false → A
 clash e = absurd (true≢false e)
+
+any_more : (f g : Text → Bool) → ((x : Text) → f x ≡ true → g x ≡ true) → (xs : List Text) → list_any f xs ≡ true → list_any g xs ≡ true
+any_more f g h [] e = e
+any_more f g h (x ∷ xs) e = or_more (f x) (list_any f xs) (g x) (list_any g xs) (h x) (any_more f g h xs) e
 
 -- ---- under by the program's own lists
 

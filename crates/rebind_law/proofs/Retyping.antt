@@ -87,7 +87,7 @@ module _ (p : NamedProgram) (c : NamedClass) (m : NamedMethod) where
     abbrev counts : MethodKey → Bool
     counts k = not (nat_eq (length (h.call.on ∷ h.call.args)) (1 + words_of k.signature.parameters))
 
-    faults : (kind : InvokeKind) (k : MethodKey) → is_virtual_call kind ≡ true → is_wrong p c m a (form.Invoke kind k (h.call.on ∷ h.call.args)) ≡ (wrong_method p kind k || (false || counts k))
+    faults : (kind : InvokeKind) (k : MethodKey) → is_virtual_call kind ≡ true → is_wrong p c m a (form.Invoke kind k (h.call.on ∷ h.call.args)) ≡ ((wrong_method p kind k || false) || counts k)
     faults call.Virtual k v = refl
     faults call.Interface k v = refl
     faults call.Static k v = absurd (true≢false (sym v))
@@ -96,11 +96,11 @@ module _ (p : NamedProgram) (c : NamedClass) (m : NamedMethod) where
 
     right : not (is_wrong p c m a f) ≡ true → not (is_wrong p c m a f') ≡ true
     right e =
-        let before : not (wrong_method p h.call.kind old || (false || counts old)) ≡ true = ap not (sym (faults h.call.kind old h.call.virtual)) ∙ (ap (λ x. not (is_wrong p c m a x)) (sym h.call.first) ∙ e) in
+        let before : not ((wrong_method p h.call.kind old || false) || counts old) ≡ true = ap not (sym (faults h.call.kind old h.call.virtual)) ∙ (ap (λ x. not (is_wrong p c m a x)) (sym h.call.first) ∙ e) in
         let count : counts new ≡ false = ap (λ (s : Signature). not (nat_eq (length (h.call.on ∷ h.call.args)) (1 + words_of s.parameters))) h.signature ∙ last (wrong_method p h.call.kind old) (counts old) before in
-        ap (λ x. not (is_wrong p c m a x)) h.call.second ∙ (ap not (faults h.call.kind' new h.call.virtual') ∙ ap₂ (λ x y. not (x || (false || y))) h.right count)
+        ap (λ x. not (is_wrong p c m a x)) h.call.second ∙ (ap not (faults h.call.kind' new h.call.virtual') ∙ ap₂ (λ x y. not ((x || false) || y)) h.right count)
       where
-        last : (x y : Bool) → not (x || (false || y)) ≡ true → y ≡ false
+        last : (x y : Bool) → not ((x || false) || y) ≡ true → y ≡ false
         last true y i = absurd (true≢false (sym i))
         last false true i = absurd (true≢false (sym i))
         last false false i = refl

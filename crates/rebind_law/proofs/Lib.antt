@@ -5,3 +5,5 @@ pub mod ByClass
 pub mod ByFacts
 pub mod Retyping
 pub mod Middle
+pub mod Others
+pub mod Places

@@ -1,6 +1,6 @@
 -- Two ways to know what the receivers of a call find: by facts of what may be in its first register, or by the class that it
 -- names, where the typing asks for a receiver under it (this project's profile). Under is taken by the program's own lists.
-use Rattle.std.specs.Prelude.{◌≡◌, ◌⊎◌, ℕ, true, false, List, ◌∷◌, Option, Some, None, Contains}
+use Rattle.std.specs.Prelude.{◌≡◌, ◌⊎◌, ℕ, true, false, List, ◌∷◌, Option, Some, None, Contains, slice_get}
 use Rattle.insn_set.specs.declared.ops.InvokeKind.{InvokeKind}
 use Rattle.dalvik_defs.specs.Face.{face_of, bodies_of}
 use Rattle.dalvik_defs.specs.Find.{Found, Search, Nothing, Finds, finds_at}
@@ -14,6 +14,8 @@ use Rattle.dalvik_defs.specs.declared.program.NamedBody.{NamedBody}
 use Rattle.dalvik_defs.specs.declared.program.NamedClass.{NamedClass}
 use Rattle.dalvik_defs.specs.declared.program.NamedProgram.{NamedProgram}
 use Rattle.dalvik_defs.specs.declared.tables.Framework.{Framework}
+use Rattle.domains.specs.Datum.{Object}
+use Rattle.domains.specs.Values.{Parts, value_holds}
 use Rattle.pass_defs.specs.Analysis.{Analysis, IsReference}
 use Rattle.pass_defs.specs.Bindable.{is_virtual_call}
 use Rattle.pass_defs.specs.Demands.{is_constructor_name}
@@ -75,3 +77,21 @@ pub record AreChanged (B : MethodKey → ℕ → Form → Form → Type 0) (p q 
   pub none : (k : MethodKey) → bodies_of p k ≡ None → bodies_of q k ≡ None
   pub some : (k : MethodKey) (b : NamedBody) → bodies_of p k ≡ Some b → (d : NamedBody) × (bodies_of q k ≡ Some d)
   pub bodies : (k : MethodKey) (b d : NamedBody) → bodies_of p k ≡ Some b → bodies_of q k ≡ Some d → IsChanged (B k) b d
+
+-- the code of a method of which some forms are others, where it has any
+pub data ChangesCode (B : MethodKey → ℕ → Form → Form → Type 0) (k : MethodKey) : Option NamedBody → Option NamedBody → Type 0 where
+  NoCode : ChangesCode B k None None
+  Kept : (b : NamedBody) → ChangesCode B k (Some b) (Some b)
+  Changed : (b d : NamedBody) → IsChanged (B k) b d → ChangesCode B k (Some b) (Some d)
+
+-- ---- facts of the product domain
+
+-- By the classes that facts list: the objects that may be in the first register are of classes at some places, which find one
+-- method with code by both names.
+pub record BoundByPlaces (p : NamedProgram) (t : Facts Parts) (k : MethodKey) (n : ℕ) (f f' : Form) : Type 0 where
+  pub call : Renames f f'
+  pub found : Found
+  pub coded : found.coded ≡ true
+  pub places : List ℕ
+  pub within : (x : ℕ → Parts) (class : Option ℕ) → t.registers k n ≡ Some x → value_holds (x call.on) (Object class) → (c : ℕ) × ((class ≡ Some c) × Contains places c)
+  pub finds : (c : ℕ) (u : NamedClass) → Contains places c → slice_get p.classes c ≡ Some u → FindsListed p call.old call.new found u.name

@@ -1,9 +1,11 @@
 //! The laws.
 
-ghost use Rattle.std.specs.Prelude.{◌≡◌, List, Bool, true};
+ghost use Rattle.std.specs.Prelude.{◌≡◌, ℕ, List, Bool, true};
 ghost use Rattle.dalvik_defs.specs.Outer.{Outer};
 ghost use Rattle.dalvik_defs.specs.Shown.{Fit, SameShown};
 ghost use Rattle.dalvik_defs.specs.State.{State};
+ghost use Rattle.dalvik_defs.specs.declared.forms.Form.{Form};
+ghost use Rattle.dalvik_defs.specs.declared.names.MethodKey.{MethodKey};
 ghost use Rattle.dalvik_defs.specs.declared.program.NamedProgram.{NamedProgram};
 ghost use Rattle.dalvik_defs.specs.declared.script.Move.{Move};
 ghost use Rattle.dalvik_defs.specs.declared.tables.Floats.{Floats};
@@ -17,7 +19,7 @@ ghost use Rattle.removal_law.specs.Reach.{IsAcyclic};
 ghost use Rattle.stuck_law.specs.Regular.{IsRegular};
 ghost use Rattle.cover_law.specs.Coverable.{IsCoverable};
 ghost use Rattle.rebind_law.specs.Rebinding.{AllRebound};
-ghost use Rattle.rebind_law.specs.Receivers.{BoundByFacts, BoundByClass, AreChanged};
+ghost use Rattle.rebind_law.specs.Receivers.{BoundByFacts, BoundByClass, BoundByPlaces, ChangesCode, AreChanged};
 ghost use Rattle.rebind_law.specs.Retyping.{Retyped};
 
 /// A program shows the same in which calls name another method that their receivers find by both names, in every state of
@@ -50,4 +52,14 @@ pub fn by_middle_law()
 /// class the receivers' kinds fit.
 pub fn retyped_law()
     ensures { (p q : NamedProgram) → IsTyped p → OtherBodies (Retyped p) p q → IsTyped q }
+{}
+
+/// Two programs that are the same but for bodies of which some forms are others have one face, and code of the same methods.
+pub fn others_law()
+    ensures { (B : MethodKey → ℕ → Form → Form → Bool) (p q : NamedProgram) → OtherBodies (ChangesCode (λ k n f g. B k n f g ≡ true)) p q → AreChanged (λ k n f g. B k n f g ≡ true) p q }
+{}
+
+/// What facts list as the classes of a receiver says what it finds.
+pub fn by_places_law()
+    ensures { (p : NamedProgram) (numbers : Numbers) (t : Facts Parts) (k : MethodKey) (n : ℕ) (f g : Form) → BoundByPlaces p t k n f g → BoundByFacts (value_analysis p numbers) p t k n f g }
 {}

@@ -1,7 +1,9 @@
 //! To which method a call is bound.
 
-ghost use Rattle.std.specs.Prelude.{◌≡◌, true, IfOk, IfSome};
-ghost use Rattle.devirt.specs.Rebound.{is_virtual_call, IsBound};
+ghost use Rattle.std.specs.Prelude.{◌≡◌, true, is_some, IfOk, IfSome};
+ghost use Rattle.std.specs.Option.{option_copied};
+ghost use Rattle.program_model.specs.Lookups.{method_at};
+ghost use Rattle.devirt.specs.Rebound.{kind_for, IsBound};
 
 use crate::access::may_reach;
 use crate::finding::{Finder, Named};
@@ -30,7 +32,7 @@ pub(crate) struct Bound {
 
 /// How a method of a class is called.
 fn kind_of(interface: bool) -> InvokeKind
-    ensures { is_virtual_call result ≡ true }
+    ensures { result ≡ kind_for interface }
 {
     if interface {
         InvokeKind::Interface
@@ -41,7 +43,9 @@ fn kind_of(interface: bool) -> InvokeKind
 
 impl<'a> Finder<'a> {
     /// The method at a place.
-    fn method_at(&self, at: MethodAt) -> Option<&'a Method> {
+    fn method_at(&self, at: MethodAt) -> Option<&'a Method>
+        ensures { option_copied result ≡ method_at self.now.program.now at }
+    {
         let class = self.class_at(at.class)?;
         class.methods.as_slice().get(at.place as usize)
     }
@@ -95,7 +99,9 @@ impl<'a> Finder<'a> {
 
     /// Whether a call may go to a method of a class that its receivers find: the method has code, the receiver is one for it, and
     /// the caller may reach it.
-    fn may_call(&self, call: &Call, target: MethodAt, method: &Method) -> bool {
+    fn may_call(&self, call: &Call, target: MethodAt, method: &Method) -> bool
+        ensures { result ≡ true → is_some method.now.body ≡ true }
+    {
         let caller = match self.class_at(call.caller) {
             Some(caller) => caller,
             None => return false,
@@ -112,7 +118,7 @@ impl<'a> Finder<'a> {
 
     /// How a call goes to a method that its receivers find, where it may and that is another one.
     fn bound_to(&self, call: &Call, target: MethodAt) -> Option<Bound>
-        ensures { IfSome result (IsBound call.now.method) }
+        ensures { IfSome result (IsBound self.now.program.now call.now.method) }
     {
         let method = self.method_at(target)?;
         if method.name == call.method || !self.may_call(call, target, method) {
@@ -131,7 +137,7 @@ impl<'a> Finder<'a> {
         call: &Call,
         receiver: Option<&Value>,
     ) -> Result<Option<Bound>, AllocError>
-        ensures { IfOk result (λ bound. IfSome bound (IsBound call.now.method)) }
+        ensures { IfOk result (λ bound. IfSome bound (IsBound self.now.program.now call.now.method)) }
     {
         let classes = match receiver {
             Some(value) => match value.classes() {
@@ -148,7 +154,7 @@ impl<'a> Finder<'a> {
 
     /// What a call is bound to by the kind of its receiver.
     fn by_kind(&self, alloc: Global, call: &Call) -> Result<Option<Bound>, AllocError>
-        ensures { IfOk result (λ bound. IfSome bound (IsBound call.now.method)) }
+        ensures { IfOk result (λ bound. IfSome bound (IsBound self.now.program.now call.now.method)) }
     {
         let class = match call.receiver {
             Kind::Program { class } => class,
@@ -167,7 +173,7 @@ impl<'a> Finder<'a> {
         call: &Call,
         receiver: Option<&Value>,
     ) -> Result<Option<Bound>, AllocError>
-        ensures { IfOk result (λ bound. IfSome bound (IsBound call.now.method)) }
+        ensures { IfOk result (λ bound. IfSome bound (IsBound self.now.program.now call.now.method)) }
     {
         match self.by_facts(alloc, call, receiver)? {
             Some(bound) => Ok(Some(bound)),

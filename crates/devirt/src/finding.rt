@@ -1,5 +1,8 @@
 //! What the receivers of a call find.
 
+ghost use Rattle.std.specs.Prelude.{◌≡◌, slice_get, IfOk};
+ghost use Rattle.class_defs.specs.Members.{is_interface};
+
 use hierarchy::{Given, Hierarchy};
 use program_model::{Class, Flags, MethodAt, Program, Version};
 use seq::Seq;
@@ -64,7 +67,9 @@ impl<'a> Finder<'a> {
         alloc: Global,
         program: &'a Program,
         hierarchy: &'a Hierarchy,
-    ) -> Result<Finder<'a>, AllocError> {
+    ) -> Result<Finder<'a>, AllocError>
+        ensures { IfOk result (λ f. f.program.now ≡ program.now) }
+    {
         Ok(Finder {
             program,
             hierarchy,
@@ -78,7 +83,9 @@ impl<'a> Finder<'a> {
     }
 
     /// Whether the class at a place is an interface.
-    pub(crate) fn is_interface(&self, place: u32) -> bool {
+    pub(crate) fn is_interface(&self, place: u32) -> bool
+        ensures { result ≡ is_interface (slice_get self.now.program.now.classes place) }
+    {
         match self.class_at(place) {
             Some(class) => class.flags.has(Flags::INTERFACE),
             None => false,

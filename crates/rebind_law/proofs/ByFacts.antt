@@ -73,7 +73,7 @@ module _ {V : Type 0} (an : Analysis V) (p : NamedProgram) (o : Outer) (f : Fram
           → FindBoth s h.call.old h.call.new (kind_of w (register g h.call.on))
       in_state w c g rest script' holds m q some =
           let z = h.finds top.stands.registers kind (register g h.call.on) (ap (λ k. facts.registers k n) (sym m) ∙ (ap (facts.registers g.method) (sym q) ∙ top.stands.reached)) (object_reference w (register g h.call.on) object)
-              (top.stands.hold h.call.on (register g h.call.on) (in_register g.registers h.call.on some)) in
+          (top.stands.hold h.call.on (register g h.call.on) (in_register g.registers h.call.on some)) in
           record {
             found = h.found;
             coded = h.coded;

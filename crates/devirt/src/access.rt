@@ -22,7 +22,7 @@ fn package(units: &[u16]) -> &[u16] {
 }
 
 /// The units of a type's descriptor, none where there is no such type.
-fn units_of(program: &Program, kind: u32) -> &[u16] {
+pub(crate) fn units_of(program: &Program, kind: u32) -> &[u16] {
     let string = match program.types.as_slice().get(kind as usize) {
         Some(string) => *string,
         None => return &[],

@@ -1,9 +1,7 @@
 //! To which method a call is bound.
 
-ghost use Rattle.std.specs.Prelude.{◌≡◌, true, is_some, IfOk, IfSome};
-ghost use Rattle.std.specs.Option.{option_copied};
-ghost use Rattle.program_model.specs.Lookups.{method_at};
-ghost use Rattle.devirt.specs.Rebound.{kind_for, IsBound};
+ghost use Rattle.std.specs.Prelude.{◌≡◌, true, IfOk, IfSome};
+ghost use Rattle.devirt.specs.Rebound.{is_virtual_call, IsBound};
 
 use crate::access::may_reach;
 use crate::finding::{Finder, Named};
@@ -32,7 +30,7 @@ pub(crate) struct Bound {
 
 /// How a method of a class is called.
 fn kind_of(interface: bool) -> InvokeKind
-    ensures { result ≡ kind_for interface }
+    ensures { is_virtual_call result ≡ true }
 {
     if interface {
         InvokeKind::Interface
@@ -43,9 +41,7 @@ fn kind_of(interface: bool) -> InvokeKind
 
 impl<'a> Finder<'a> {
     /// The method at a place.
-    fn method_at(&self, at: MethodAt) -> Option<&'a Method>
-        ensures { option_copied result ≡ method_at self.now.program.now at }
-    {
+    fn method_at(&self, at: MethodAt) -> Option<&'a Method> {
         let class = self.class_at(at.class)?;
         class.methods.as_slice().get(at.place as usize)
     }
@@ -99,9 +95,7 @@ impl<'a> Finder<'a> {
 
     /// Whether a call may go to a method of a class that its receivers find: the method has code, the receiver is one for it, and
     /// the caller may reach it.
-    fn may_call(&self, call: &Call, target: MethodAt, method: &Method) -> bool
-        ensures { result ≡ true → is_some method.now.body ≡ true }
-    {
+    fn may_call(&self, call: &Call, target: MethodAt, method: &Method) -> bool {
         let caller = match self.class_at(call.caller) {
             Some(caller) => caller,
             None => return false,
@@ -118,7 +112,7 @@ impl<'a> Finder<'a> {
 
     /// How a call goes to a method that its receivers find, where it may and that is another one.
     fn bound_to(&self, call: &Call, target: MethodAt) -> Option<Bound>
-        ensures { IfSome result (IsBound self.now.program.now call.now.method) }
+        ensures { IfSome result (IsBound call.now.method) }
     {
         let method = self.method_at(target)?;
         if method.name == call.method || !self.may_call(call, target, method) {
@@ -137,7 +131,7 @@ impl<'a> Finder<'a> {
         call: &Call,
         receiver: Option<&Value>,
     ) -> Result<Option<Bound>, AllocError>
-        ensures { IfOk result (λ bound. IfSome bound (IsBound self.now.program.now call.now.method)) }
+        ensures { IfOk result (λ bound. IfSome bound (IsBound call.now.method)) }
     {
         let classes = match receiver {
             Some(value) => match value.classes() {
@@ -154,7 +148,7 @@ impl<'a> Finder<'a> {
 
     /// What a call is bound to by the kind of its receiver.
     fn by_kind(&self, alloc: Global, call: &Call) -> Result<Option<Bound>, AllocError>
-        ensures { IfOk result (λ bound. IfSome bound (IsBound self.now.program.now call.now.method)) }
+        ensures { IfOk result (λ bound. IfSome bound (IsBound call.now.method)) }
     {
         let class = match call.receiver {
             Kind::Program { class } => class,
@@ -173,7 +167,7 @@ impl<'a> Finder<'a> {
         call: &Call,
         receiver: Option<&Value>,
     ) -> Result<Option<Bound>, AllocError>
-        ensures { IfOk result (λ bound. IfSome bound (IsBound self.now.program.now call.now.method)) }
+        ensures { IfOk result (λ bound. IfSome bound (IsBound call.now.method)) }
     {
         match self.by_facts(alloc, call, receiver)? {
             Some(bound) => Ok(Some(bound)),

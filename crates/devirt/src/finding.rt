@@ -1,10 +1,8 @@
 //! What the receivers of a call find.
 
-ghost use Rattle.std.specs.Prelude.{◌≡◌, slice_get, IfOk};
-ghost use Rattle.class_defs.specs.Members.{is_interface};
-
+use crate::access::units_of;
 use hierarchy::{Given, Hierarchy};
-use program_model::{Class, Flags, MethodAt, Program, Version};
+use program_model::{Class, Flags, MethodAt, Program};
 use seq::Seq;
 use std::alloc::{AllocError, Global};
 
@@ -22,6 +20,29 @@ pub(crate) struct Finder<'a> {
     pub(crate) program: &'a Program,
     pub(crate) hierarchy: &'a Hierarchy,
     listed: Vec<Seq<u32>>,
+    object: Option<u32>,
+}
+
+/// Whether a descriptor is that of the class above all.
+fn is_object(units: &[u16]) -> bool {
+    let name = b"Ljava/lang/Object;";
+    units.len() == name.len()
+        && units
+            .iter()
+            .zip(name.iter())
+            .all(|(unit, byte)| *unit == u16::from(*byte))
+}
+
+/// The number of the type of the class above all.
+fn object_of(program: &Program) -> Option<u32> {
+    for (kind, string) in program.types.as_slice().iter().enumerate() {
+        if let Some(text) = program.strings.as_slice().get(*string as usize) {
+            if is_object(text.units()) {
+                return u32::try_from(kind).ok();
+            }
+        }
+    }
+    None
 }
 
 /// Notes that a class lists a type.
@@ -67,13 +88,12 @@ impl<'a> Finder<'a> {
         alloc: Global,
         program: &'a Program,
         hierarchy: &'a Hierarchy,
-    ) -> Result<Finder<'a>, AllocError>
-        ensures { IfOk result (λ f. f.program.now ≡ program.now) }
-    {
+    ) -> Result<Finder<'a>, AllocError> {
         Ok(Finder {
             program,
             hierarchy,
             listed: listed_in(alloc, program)?,
+            object: object_of(program),
         })
     }
 
@@ -83,9 +103,7 @@ impl<'a> Finder<'a> {
     }
 
     /// Whether the class at a place is an interface.
-    pub(crate) fn is_interface(&self, place: u32) -> bool
-        ensures { result ≡ is_interface (slice_get self.now.program.now.classes place) }
-    {
+    pub(crate) fn is_interface(&self, place: u32) -> bool {
         match self.class_at(place) {
             Some(class) => class.flags.has(Flags::INTERFACE),
             None => false,
@@ -103,30 +121,16 @@ impl<'a> Finder<'a> {
         }
     }
 
-    /// Whether a class is under a type by the program's own lists. A class whose superclasses end at one of the framework isn't
-    /// under `Ljava/lang/Object;` by these, and need not be so in a framework whose types stand in a circle.
+    /// Whether a class is under a type by the program's own lists; every class is under that above all.
     fn is_under(&self, class: u32, kind: u32) -> bool {
         match self.hierarchy.place_of(kind) {
             Some(upper) => self.hierarchy.is_under(class, upper),
-            None => self.is_under_listed(class, kind),
+            None => self.object == Some(kind) || self.is_under_listed(class, kind),
         }
     }
 
-    /// What the candidates of the interfaces above a class give. In version 035 there are none.
+    /// What the candidates of the interfaces above a class give.
     fn find_candidate(
-        &self,
-        alloc: Global,
-        class: u32,
-        key: u32,
-    ) -> Result<Option<MethodAt>, AllocError> {
-        match self.program.version {
-            Version::V035 => Ok(None),
-            Version::V037 => self.find_default(alloc, class, key),
-        }
-    }
-
-    /// What the candidates of the interfaces above a class give in version 037.
-    fn find_default(
         &self,
         alloc: Global,
         class: u32,
@@ -260,5 +264,10 @@ impl<'a> Finder<'a> {
             .definers_of(named.key)
             .iter()
             .any(|definer| own != Some(*definer))
+    }
+
+    /// The units of a type's descriptor.
+    pub(crate) fn units_of(&self, kind: u32) -> &[u16] {
+        units_of(self.program, kind)
     }
 }

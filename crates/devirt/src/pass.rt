@@ -74,7 +74,7 @@ impl Rebinding<'_> {
         method: u32,
         args: &Words,
     ) -> Result<Option<Insn>, AllocError>
-        ensures { IfOk result (λ found. IfSome found (CallsOther self.now.finder.program.now method args.now)) }
+        ensures { IfOk result (λ found. IfSome found (CallsOther method args.now)) }
     {
         let register = match args.as_slice().first() {
             Some(register) => *register,
@@ -109,7 +109,7 @@ impl Rebinding<'_> {
         position: u32,
         insn: &Insn,
     ) -> Result<Option<Insn>, AllocError>
-        ensures { IfOk result (λ found. IfSome found (IsRebound self.now.finder.program.now insn.now)) }
+        ensures { IfOk result (λ found. IfSome found (IsRebound insn.now)) }
     {
         match insn {
             Insn::Invoke {
@@ -128,7 +128,7 @@ impl Rebinding<'_> {
         code: &Code<'_>,
         insns: &[Insn],
     ) -> Result<Vec<Edit>, AllocError>
-        ensures { IfOk result (λ v. AreRebindings self.now.finder.program.now insns.now v.items) }
+        ensures { IfOk result (λ v. AreRebindings insns.now v.items) }
     {
         let mut edits = Vec::new(alloc);
         if insns.len() > 0xffff_ffff {
@@ -177,7 +177,7 @@ impl Rebinding<'_> {
 impl Rewriting for Rebinding<'_> {
     ghost ready = { λ s. IsMeeting s.verifier.tables };
 
-    ghost writes = { λ s at m b es. All (IsRebinding s.finder.program.now b) es };
+    ghost writes = { λ s at m b es. All (IsRebinding b) es };
 
     fn edits(
         &self,
@@ -211,7 +211,7 @@ fn plan<'a>(
     facts: &'a Facts,
     admitted: &Admitted,
 ) -> Result<Seq<Seq<Seq<Edit>>>, AllocError>
-    ensures { IfOk result (IsPlan (λ at m b es. All (IsRebinding program.now b) es) admitted.now.methods.items program.now.classes) }
+    ensures { IfOk result (IsPlan (λ at m b es. All (IsRebinding b) es) admitted.now.methods.items program.now.classes) }
 {
     let pass = Rebinding {
         finder: Finder::new(alloc, program, hierarchy)?,
@@ -232,7 +232,7 @@ pub fn apply(
     facts: &Facts,
     admitted: &Admitted,
 ) -> Result<Changed, AllocError>
-    ensures { IfOk result (IsRewrittenBy (λ at m b es. All (IsRebinding program b) es) admitted.now.methods.items program) }
+    ensures { IfOk result (IsRewrittenBy (λ at m b es. All (IsRebinding b) es) admitted.now.methods.items program) }
 {
     let plan = plan(alloc, &program, hierarchy, facts, admitted)?;
     let changed = write_plan(alloc, program, plan.as_slice())?;

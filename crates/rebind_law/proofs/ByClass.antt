@@ -1,8 +1,7 @@
 -- Calls of methods of plain classes: in every state of a run of a typed program their receivers stand under the class.
 use Rattle.std.proofs.Common.{◌≡◌, ℕ, suc, Bool, true, false, true≢false, length, List, [], ◌∷◌, Option, Some, None, ◌⊎◌, inl, inr, refl, sym, ap, ◌∙◌, subst}
-use Rattle.std.specs.Prelude.{Contains}
 use Rattle.dalvik_defs.specs.Effect.{register}
-use Rattle.dalvik_defs.specs.Face.{Bodies, bodies_of}
+use Rattle.dalvik_defs.specs.Face.{bodies_of}
 use Rattle.dalvik_defs.specs.Happens.{Setting}
 use Rattle.dalvik_defs.specs.Names.{Text, object_type}
 use Rattle.dalvik_defs.specs.Outer.{Outer}
@@ -43,8 +42,8 @@ use Rattle.removal_law.specs.Reach as reach
 use Rattle.removal_law.proofs.Acyclic.{regular as upright}
 use Rattle.removal_law.proofs.Fits.{fit_names_none}
 use Rattle.removal_law.proofs.Outward.{Up, inside, through, object, under_up}
-use Rattle.rebind_law.specs.Rebinding.{FindBoth, Rebinds, Becomes, Same, Other, IsRebound, AreRebound, AllRebound}
-use Rattle.rebind_law.specs.Receivers.{FindsListed, Renames, BoundByClass, IsChanged, AreChanged}
+use Rattle.rebind_law.specs.Rebinding.{FindBoth, Rebinds, Becomes, Same, Other, IsRebound}
+use Rattle.rebind_law.specs.Receivers.{FindsListed, BoundByClass, IsChanged, AreChanged}
 use Rattle.rebind_law.proofs.Listed.{listed_virtually}
 use Rattle.rebind_law.proofs.Receiving.{own_at, is_object, stands_under}
 use Rattle.rebind_law.proofs.Rebinding.{rebound_shown}

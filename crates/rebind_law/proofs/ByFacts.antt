@@ -1,6 +1,5 @@
 -- Calls whose receivers the facts know: each state of a run of a covered program has such an object in the first register.
-use Rattle.std.proofs.Common.{◌≡◌, ℕ, true, false, List, [], ◌∷◌, Option, Some, None, ◌⊎◌, inl, inr, refl, sym, ap, ◌∙◌, subst}
-use Rattle.std.specs.Prelude.{slice_get}
+use Rattle.std.proofs.Common.{◌≡◌, ℕ, false, List, ◌∷◌, Some, refl, sym, ap, ◌∙◌}
 use Rattle.dalvik_defs.specs.Effect.{register}
 use Rattle.dalvik_defs.specs.Face.{bodies_of}
 use Rattle.dalvik_defs.specs.Happens.{Setting}
@@ -33,7 +32,7 @@ use Rattle.cover_law.specs.Coverable.{IsCoverable}
 use Rattle.cover_law.specs.States.{covered_states}
 use Rattle.cover_law.proofs.Runs.{covered_regular}
 use Rattle.rebind_law.specs.Rebinding.{FindBoth, Rebinds}
-use Rattle.rebind_law.specs.Receivers.{FindsListed, BoundByFacts, AreChanged}
+use Rattle.rebind_law.specs.Receivers.{BoundByFacts, AreChanged}
 use Rattle.rebind_law.proofs.Listed.{listed_virtually}
 use Rattle.rebind_law.proofs.Receiving.{in_register, object_reference, own_at, is_object}
 use Rattle.rebind_law.proofs.ByClass.{Reached, reached_on, going, rebound_bodies}

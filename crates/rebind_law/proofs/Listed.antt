@@ -1,10 +1,9 @@
 -- What an object of a class finds by the program's own lists it finds in every framework, and by the method's own name too.
-use Rattle.std.proofs.Common.{◌≡◌, ℕ, zero, suc, ◌+◌, ◌≤◌, Bool, true, false, true≢false, List, [], ◌∷◌, ◌++◌, Option, Some, None, refl, sym, ap, ap₂, ◌∙◌, subst, arith}
+use Rattle.std.proofs.Common.{◌≡◌, ℕ, zero, suc, ◌≤◌, Bool, true, false, true≢false, List, [], ◌∷◌, Option, Some, None, refl, sym, ap, ap₂, ◌∙◌, subst, arith}
 use Rattle.std.specs.Prelude.{◌&&◌, ◌||◌, not, length, flat_map, is_some}
 use Rattle.std.specs.List.{list_any}
 use Rattle.dalvik_defs.proofs.Same.{or_more}
 use Rattle.dalvik_defs.specs.Names.{Text, text_eq, is_array, is_reference, is_class_type, object_type}
-use Rattle.dalvik_defs.specs.Known.{known_rows}
 use Rattle.dalvik_defs.specs.Face.{finds_virtually}
 use Rattle.dalvik_defs.specs.Find.{Found, Search, Nothing, Finds, finds_at, first_method, is_virtual_method, finds_among, chain_of}
 use Rattle.dalvik_defs.specs.Under.{class_named, defines, own_above, above_in, directly_above, walks, walk_bound, class_under, under_types, is_under, is_own_under}
@@ -19,7 +18,7 @@ use Rattle.removal_law.proofs.Climbs.{climb_under, answer_climbs}
 use Rattle.removal_law.proofs.Searches.{nothing_finds, at_in}
 use Rattle.stuck_law.proofs.Settled.{IsFound}
 use Rattle.stuck_law.proofs.Sorts.{class_alone}
-use Rattle.rebind_law.specs.Receivers.{finds_listed, FindsListed}
+use Rattle.rebind_law.specs.Receivers.{finds_listed}
 
 clash : {A : Type 0} → true ≡ false → A
 clash e = absurd (true≢false e)

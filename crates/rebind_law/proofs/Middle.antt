@@ -1,6 +1,6 @@
 -- Calls that name another method of what their receivers' kinds find: by a third program, in which these calls name the class of
 -- the kind, so that its typing asks for a receiver under that class. From it both the one program and the other are changed.
-use Rattle.std.proofs.Common.{◌≡◌, Bool, true, false, List, [], Option, Some, None, refl, sym, ap, ◌∙◌}
+use Rattle.std.proofs.Common.{◌≡◌, Bool, true, false, [], Option, Some, None, refl, sym, ap, ◌∙◌}
 use Rattle.std.specs.Prelude.{is_some}
 use Rattle.std.specs.Option.{option_map}
 use Rattle.dalvik_defs.specs.Face.{face_of}

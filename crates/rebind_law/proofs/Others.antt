@@ -1,12 +1,12 @@
 -- Programs that are the same but for bodies of which some forms are others.
-use Rattle.std.proofs.Common.{◌≡◌, ℕ, true, false, true≢false, Option, Some, None, inl, refl, sym, ap, ◌∙◌, subst, subst₂}
+use Rattle.std.proofs.Common.{◌≡◌, ℕ, true≢false, Option, Some, None, inl, refl, sym, ap, subst₂}
 use Rattle.std.specs.Prelude.{is_some}
 use Rattle.dalvik_defs.specs.Face.{bodies_of}
 use Rattle.dalvik_defs.specs.declared.forms.Form.{Form}
 use Rattle.dalvik_defs.specs.declared.names.MethodKey.{MethodKey}
 use Rattle.dalvik_defs.specs.declared.program.NamedBody.{NamedBody}
 use Rattle.dalvik_defs.specs.declared.program.NamedProgram.{NamedProgram}
-use Rattle.bodies_law.specs.Others.{Codes, OtherBodies}
+use Rattle.bodies_law.specs.Others.{OtherBodies}
 use Rattle.bodies_law.proofs.Faces.{others_face}
 use Rattle.bodies_law.proofs.Found.{others_found}
 use Rattle.rebind_law.specs.Receivers.{IsChanged, AreChanged, ChangesCode, NoCode, Kept, Changed}

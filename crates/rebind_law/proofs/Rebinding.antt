@@ -1,6 +1,6 @@
 -- A program in which calls name another method that their receivers find by both names shows the same: the law of frames at
 -- equality, in the states that a run reaches.
-use Rattle.std.proofs.Common.{◌≡◌, ℕ, ◌+◌, ◌-◌, Bool, true, false, true≢false, List, [], ◌∷◌, Option, Some, None, refl, sym, ap, ap₂, ◌∙◌, subst, subst₂}
+use Rattle.std.proofs.Common.{◌≡◌, ◌-◌, Bool, true, false, true≢false, List, ◌∷◌, Option, Some, None, refl, sym, ap, ap₂, ◌∙◌, subst}
 use Rattle.std.specs.Prelude.{map, ◌++◌, replicate, slice_get}
 use Rattle.std.specs.Prelude.{find as first}
 use Rattle.std.specs.Option.{option_map, option_and_then}
@@ -9,8 +9,8 @@ use Rattle.insn_set.specs.declared.ops.InvokeKind.TheVariants as call
 use Rattle.dalvik_defs.specs.Names.{Text}
 use Rattle.dalvik_defs.specs.Flags.{is_static}
 use Rattle.dalvik_defs.specs.Known.{null_pointer}
-use Rattle.dalvik_defs.specs.Find.{Found, Search, Finds}
-use Rattle.dalvik_defs.specs.Face.{Face, Bodies, face_of, bodies_of}
+use Rattle.dalvik_defs.specs.Find.{Found, Finds}
+use Rattle.dalvik_defs.specs.Face.{Bodies, bodies_of}
 use Rattle.dalvik_defs.specs.Outer.{Outer}
 use Rattle.dalvik_defs.specs.State.{World, Classes, State, On, is_null, kind_of}
 use Rattle.dalvik_defs.specs.declared.state.Value.{Value}
@@ -19,27 +19,25 @@ use Rattle.dalvik_defs.specs.declared.state.Frame.{Frame}
 use Rattle.dalvik_defs.specs.declared.state.Waiting.{Waiting}
 use Rattle.dalvik_defs.specs.declared.state.Waiting.TheVariants.{Method}
 use Rattle.dalvik_defs.specs.Effect.{register, go}
-use Rattle.dalvik_defs.specs.Outcome.{Outcome, Stays, Starts, Enters, Leaves, Ends, Raises, Halts, Need, need_of, faults, when_ready, calls_found, calls_uncoded, calls_ready, calls_by, receiver, on_receiver, calls, outcome}
-use Rattle.dalvik_defs.specs.Stack.{entry_registers, entry_frame, receives, back, handler_in, handler_at, covers, lands}
+use Rattle.dalvik_defs.specs.Outcome.{Outcome, Stays, Starts, Enters, Leaves, Ends, Raises, Halts, Need, need_of, faults, when_ready, calls_uncoded, calls_by, receiver, on_receiver, calls, outcome}
+use Rattle.dalvik_defs.specs.Stack.{entry_frame, receives, back, handler_in, handler_at, covers, lands}
 use Rattle.dalvik_defs.specs.Happens.{Setting, effect_of}
 use Rattle.dalvik_defs.specs.Step.{setting_of}
-use Rattle.dalvik_defs.specs.Shown.{Fit, SameShown}
+use Rattle.dalvik_defs.specs.Shown.{SameShown}
 use Rattle.dalvik_defs.specs.declared.names.MethodKey.{MethodKey}
 use Rattle.dalvik_defs.specs.declared.forms.Form.{Form}
-use Rattle.dalvik_defs.specs.declared.forms.Form.TheVariants as form
 use Rattle.dalvik_defs.specs.declared.script.Move.{Move}
 use Rattle.dalvik_defs.specs.declared.program.NamedBody.{NamedBody}
-use Rattle.dalvik_defs.specs.declared.program.NamedRegion.{NamedRegion}
 use Rattle.dalvik_defs.specs.declared.program.NamedProgram.{NamedProgram}
 use Rattle.dalvik_defs.specs.declared.tables.Framework.{Framework}
 use Rattle.dalvik_defs.specs.declared.tables.Floats.{Floats}
 use Rattle.dalvik_defs.proofs.Calm.{IsCalm}
-use Rattle.dalvik_defs.proofs.Frames.{Above, now, Landed, Leads, Matches, Meet, Entered, FramesFollow, AtOnce}
+use Rattle.dalvik_defs.proofs.Frames.{Above, now, Landed, Leads, Meet, Entered, FramesFollow, AtOnce}
 use Rattle.dalvik_defs.proofs.Glides.{glide_none}
 use Rattle.dalvik_defs.proofs.Programs.{once_shown}
 use Rattle.pass_defs.specs.Bindable.{is_virtual_call}
 use Rattle.pass_defs.specs.Walks.{form_at}
-use Rattle.rebind_law.specs.Rebinding.{FindBoth, Rebinds, Becomes, Same, Other, IsRebound, AreRebound, AllRebound}
+use Rattle.rebind_law.specs.Rebinding.{FindBoth, Becomes, Same, Other, AreRebound, AllRebound}
 
 abbrev Equal : World → Classes → Frame → Frame → Type 0
 Equal w c f g = f ≡ g

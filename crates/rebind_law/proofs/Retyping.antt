@@ -1,6 +1,6 @@
 -- A typing of a body is one of the body in which calls name another method that it allows.
-use Rattle.std.proofs.Common.{◌≡◌, ℕ, zero, suc, ◌+◌, ◌-◌, Bool, true, false, true≢false, List, [], ◌∷◌, ◌++◌, Option, Some, None, ◌⊎◌, inl, inr, refl, sym, ap, ap₂, ◌∙◌, subst, arith}
-use Rattle.std.specs.Prelude.{◌&&◌, ◌||◌, not, nat_eq, find, length, map, replicate, slice_get, is_some, if◌then◌else◌, Contains}
+use Rattle.std.proofs.Common.{◌≡◌, ℕ, zero, suc, ◌+◌, Bool, true, false, true≢false, List, [], ◌∷◌, ◌++◌, Option, Some, None, ◌⊎◌, inl, inr, refl, sym, ap, ap₂, ◌∙◌, subst}
+use Rattle.std.specs.Prelude.{◌&&◌, ◌||◌, not, nat_eq, find, length, map, slice_get, is_some, if◌then◌else◌, Contains}
 use Rattle.std.specs.List.{list_all}
 use Rattle.insn_set.specs.declared.ops.InvokeKind.{InvokeKind}
 use Rattle.insn_set.specs.declared.ops.InvokeKind.TheVariants as call
@@ -17,13 +17,12 @@ use Rattle.dalvik_defs.specs.declared.program.NamedRegion.{NamedRegion}
 use Rattle.pass_defs.specs.Bare.{may_throw}
 use Rattle.pass_defs.specs.Bindable.{is_virtual_call}
 use Rattle.pass_defs.specs.Demands.{Constructed, Fits, meets, passed, is_constructor_name, is_allowed}
-use Rattle.pass_defs.specs.Kinds.{Kind, Undefined, kind_of}
+use Rattle.pass_defs.specs.Kinds.{kind_of}
 use Rattle.pass_defs.specs.Registers.{Kinds, kind_at, state_below}
-use Rattle.pass_defs.specs.Typed.{Table, state_at, at_state, each, arrives, edges, after, begun, argument_kinds, called, constructed, receiver_register, is_static_call, catches_in, is_wrong, wrong_method, wrong_super, words_of, passed_words, IsTyping, IsTyped}
+use Rattle.pass_defs.specs.Typed.{Table, state_at, at_state, each, arrives, edges, after, begun, constructed, receiver_register, is_static_call, catches_in, is_wrong, wrong_method, words_of, IsTyping, IsTyped}
 use Rattle.pass_defs.specs.Walks.{form_at, is_covered, region_at, onward}
 use Rattle.bodies_law.specs.Others.{OtherBodies}
 use Rattle.bodies_law.proofs.Typed.{others_typed}
-use Rattle.rebind_law.specs.Receivers.{Renames, IsChanged}
 use Rattle.rebind_law.specs.Retyping.{Retypes, IsRetyped, Retyped, NoCode, Kept, Changed}
 
 some_is : {A : Type 0} (x y : A) → Some x ≡ Some y → x ≡ y

@@ -1,6 +1,6 @@
 -- Calls that name another method, by the typing of the method that they stand in (this project's profile): the receiver's kind
 -- fits the class of the other method, which has the same name and signature.
-use Rattle.std.specs.Prelude.{◌≡◌, ◌⊎◌, ℕ, true, false, Option, Some, None, Contains}
+use Rattle.std.specs.Prelude.{◌≡◌, true, false, Option, Some, None, Contains}
 use Rattle.dalvik_defs.specs.Silence.{key_in}
 use Rattle.dalvik_defs.specs.declared.names.MethodKey.{MethodKey}
 use Rattle.dalvik_defs.specs.declared.forms.Form.{Form}

@@ -25,7 +25,8 @@ ghost use Rattle.rebind_law.specs.Retyping.{Retyped};
 /// A program shows the same in which calls name another method that their receivers find by both names, in every state of
 /// which a test is true that is true of the opening and that each step keeps.
 pub fn rebound_law()
-    ensures { (p q : NamedProgram) (o : Outer) (reaches : Framework → Floats → List Move → State → Bool) → AllRebound p q o (λ f a script t. reaches f a script t ≡ true) → SameShown p q o }
+    ensures { (p q : NamedProgram) (o : Outer) (reaches : Framework → Floats → List Move → State → Bool)
+        → AllRebound p q o (λ f a script t. reaches f a script t ≡ true) → SameShown p q o }
 {}
 
 /// A regular program of which no class stands above itself shows the same in which calls of methods of plain classes name
@@ -45,7 +46,8 @@ pub fn by_facts_law()
 /// So it is of two programs whose calls differ, where in a third one they name plain classes and may name what they name in the
 /// one and in the other: what the typing of the third asks of receivers, these have in all three.
 pub fn by_middle_law()
-    ensures { (p m q : NamedProgram) (o : Outer) → IsRegular m → IsAcyclic m → AreChanged (λ k n. BoundByClass m) m p → AreChanged (λ k n. BoundByClass m) m q → SameShown p q o }
+    ensures { (p m q : NamedProgram) (o : Outer) → IsRegular m → IsAcyclic m
+        → AreChanged (λ k n. BoundByClass m) m p → AreChanged (λ k n. BoundByClass m) m q → SameShown p q o }
 {}
 
 /// A typed program stays typed in which calls name another method of their name and signature, one that isn't static and whose
@@ -56,10 +58,12 @@ pub fn retyped_law()
 
 /// Two programs that are the same but for bodies of which some forms are others have one face, and code of the same methods.
 pub fn others_law()
-    ensures { (B : MethodKey → ℕ → Form → Form → Bool) (p q : NamedProgram) → OtherBodies (ChangesCode (λ k n f g. B k n f g ≡ true)) p q → AreChanged (λ k n f g. B k n f g ≡ true) p q }
+    ensures { (B : MethodKey → ℕ → Form → Form → Bool) (p q : NamedProgram)
+        → OtherBodies (ChangesCode (λ k n f g. B k n f g ≡ true)) p q → AreChanged (λ k n f g. B k n f g ≡ true) p q }
 {}
 
 /// What facts list as the classes of a receiver says what it finds.
 pub fn by_places_law()
-    ensures { (p : NamedProgram) (numbers : Numbers) (t : Facts Parts) (k : MethodKey) (n : ℕ) (f g : Form) → BoundByPlaces p t k n f g → BoundByFacts (value_analysis p numbers) p t k n f g }
+    ensures { (p : NamedProgram) (numbers : Numbers) (t : Facts Parts) (k : MethodKey) (n : ℕ) (f g : Form)
+        → BoundByPlaces p t k n f g → BoundByFacts (value_analysis p numbers) p t k n f g }
 {}

@@ -1,0 +1,3 @@
+pub mod Rebinding
+pub mod Receivers
+pub mod Retyping

@@ -1,0 +1,8 @@
+use Rattle.std.proofs.Common.{◌≡◌, take, true}
+use Rattle.std.specs.List.{flat_map}
+use Rattle.stub_library.specs.Marking.{set_all}
+use Rattle.stub_library.specs.Calling.{keys_of_insn}
+use Rattle.stub_library.proofs.called.mark_code.Given as goal
+
+abbrev pub invariant-loop-insn : goal.invariant-loop-insn
+invariant-loop-insn l = l.marks ≡ set_all true l.initial.marks (flat_map (keys_of_insn l.program l.hierarchy) (take l.insn-index l.insns))

@@ -244,8 +244,13 @@ module _ (p : NamedProgram) (o : Outer) (kept : Conditions) (s : Family) (f : Fr
   caught_in b n m f e i = subst (λ x. In m (elim x as (λ x. List ℕ) [ true ↦ handlers_at b n | false ↦ [] ])) (sym e) i
 
   new_type : (m : MethodKey) (to : ℕ) (t : Text) → Says p s m (form.NewInstance to t) → OkType p s t × MadeType p o s t
-  new_type m to t a = (says_of m (form.NewInstance to t) a t (here []), λ d. (closed.made.news m a.body to t a.has (contained (form.NewInstance to t) a.body.forms a.stands) (concrete d),
-      and_both (live.is_concrete p t) (o.classes t || o.constructed t || makes_new p t) (concrete d) (or_end (o.classes t) (o.constructed t) (makes_new p t) (is_made_new p m a.body to t a.has.1 a.stands))))
+  new_type m to t a = (
+    says_of m (form.NewInstance to t) a t (here []),
+    λ d. (
+      closed.made.news m a.body to t a.has (contained (form.NewInstance to t) a.body.forms a.stands) (concrete d),
+      and_both (live.is_concrete p t) (o.classes t || o.constructed t || makes_new p t) (concrete d) (or_end (o.classes t) (o.constructed t) (makes_new p t) (is_made_new p m a.body to t a.has.1 a.stands)),
+    ),
+  )
     where
       concrete : defines p t ≡ true → live.is_concrete p t ≡ true
       concrete d = code.objects m a.body a.place to t a.has.1 a.reached a.at_place d

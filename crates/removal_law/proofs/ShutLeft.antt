@@ -239,7 +239,7 @@ module _ (p : NamedProgram) (o : Outer) (k : Conditions) (s : Family) (closed : 
 
   -- ---- classes that may be made
 
-  concrete_of : Option NamedClass → Bool
+  abbrev concrete_of : Option NamedClass → Bool
   concrete_of x = elim x as (λ x. Bool) [ Some c ↦ not (is_interface c.flags) && not (is_abstract c.flags) | None ↦ false ]
 
   concrete_left : (t : Text) → is_concrete q t ≡ true → is_concrete p t ≡ true
@@ -272,8 +272,7 @@ module _ (p : NamedProgram) (o : Outer) (k : Conditions) (s : Family) (closed : 
         by_code : makes_new q t ≡ true → (s.made t ≡ true) × (makes_new p t ≡ true)
         by_code h =
             let w = live_code (is_new t) h in
-            let x = new_form t w.form w.passes in
-            (
+            let x = new_form t w.form w.passes in (
               closed.made.news (key_in w.class w.method) w.body x.0 t (has p o k s closed regular names once none w.class w.method w.body w.class_in w.class_live w.stands w.live w.coded)
                   (contained (form.NewInstance x.0 t) w.body.forms (subst (λ y. In y w.body.forms) x.1 w.says)) concrete,
               stood (is_new t) (is_new t) w w.passes,
@@ -380,7 +379,7 @@ module _ (p : NamedProgram) (o : Outer) (k : Conditions) (s : Family) (closed : 
             only g l h (here ys) = l
             only g l h (there z ys i) = elim i [ ]
 
-            abbrev answers : Option Found → List Found
+            answers : Option Found → List Found
             answers z = elim z as (λ z. List Found) [ Some f ↦ f ∷ [] | None ↦ candidates_of p d.name x.name x.signature ]
 
             one : (g : Found) → inherits p d.name x.name x.signature ≡ Some g → (b : Bool) → s.methods g.key ≡ b → (o.methods (key_of e y) || o.shut (key_of e y)) ≡ true

@@ -22,7 +22,7 @@ use Rattle.removal_law.proofs.Lists.{clash, and_left, and_behind, all_in}
 pub nothing_shut : (p : NamedProgram) (o : Outer) → ((k : MethodKey) → o.shut k ≡ false) → ShutsHold p o
 nothing_shut p o h = record {
   uncalled = λ k e. clash (o.shut k) e (h k);
-  others = λ k m d e x i a b j f g h l u v w. clash (o.shut k) i (h k);
+  others = λ k m d e x i a b j f may out g u v w. clash (o.shut k) i (h k);
   plain = λ k c v i e. clash (o.shut k) i (h k);
 }
 

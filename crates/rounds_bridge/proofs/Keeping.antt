@@ -18,7 +18,10 @@ use Rattle.dalvik_defs.specs.declared.program.NamedProgram.{NamedProgram}
 use Rattle.pass_defs.specs.Live.{Family}
 use Rattle.pass_defs.specs.Typed.{IsTyped}
 use Rattle.removal_law.specs.Left.{left_of}
+use Rattle.removal_law.specs.Reach.{ShutsHold}
 use Rattle.removal_law.proofs.Classes.{left_less}
+use Rattle.dead_code.specs.Dead.{is_quiet_field}
+use Rattle.dead_code.specs.Wishes.{AreCleaned}
 use Rattle.squeeze.specs.Needed.{NothingLeft}
 use Rattle.squeeze.specs.Skipping.{AreSkips}
 use Rattle.thin_bridge.specs.Kept.{AnyCode, IsKept}
@@ -31,8 +34,8 @@ use Rattle.copy_kept.proofs.Kept.{propagated_kept}
 use Rattle.pipeline.specs.Passes.{Pass, Reach, CopyProp, DeadCode, Squeeze, Compact, Removes, IsBarred, IsRemoval, Propagates, KeepsReads, IsPropagation, Thins, IsCleaning, IsCompaction}
 use Rattle.reach_bridge.specs.Names.{family_of}
 use Rattle.reach_bridge.proofs.Kept.{kept_named}
-use Rattle.reach_bridge.proofs.Unshut.{unshut}
-use Rattle.reach_bridge.proofs.Within.{shows_the_same, keeps_typing}
+use Rattle.reach_bridge.proofs.Within.{shows_the_same, keeps_shuts, keeps_typing}
+use Rattle.shut_bridge.proofs.Passes.{thinned_keeps, compacted_keeps, propagated_keeps}
 use Rattle.rounds_bridge.specs.Owed.{IsSound, Owes, Keeps}
 use Rattle.rounds_bridge.proofs.Heads.{others_define}
 use Rattle.rounds_bridge.proofs.Owing.{owes_same}
@@ -67,7 +70,8 @@ module _ (o : Outside) where
     };
     outer = refl;
     fewer = kept_defines p s sound.formed;
-    shown = λ none. shows_the_same p o s marked sound.typed (unshut p o none);
+    shown = shows_the_same p o s marked sound.typed;
+    holds = keeps_shuts p o s marked;
   }
 
   removal_owes : (p q : Program) (moved : List (List Origin)) → IsSound p → IsRemoval o p q moved → Owes o p q
@@ -82,9 +86,9 @@ module _ (o : Outside) where
 
   -- ---- passes on bodies
 
-  -- a pass that keeps a program but for bodies and lines
-  bodies_owe : (p q : Program) → IsSound p → IsKept p q → Owes o p q
-  bodies_owe p q sound kept = record {
+  -- a pass that keeps a program but for bodies and lines, and what a table of shut methods owes
+  bodies_owe : (p q : Program) → IsSound p → IsKept p q → (ShutsHold (named p) (outer_of p o) → ShutsHold (named q) (outer_of p o)) → Owes o p q
+  bodies_owe p q sound kept shuts = record {
     sound = record {
       formed = kept.formed;
       once = still_once p q (other_part AnyCode p p.classes q.classes kept.others.classes) sound.once;
@@ -94,7 +98,8 @@ module _ (o : Outside) where
     };
     outer = ap (λ (x : Program). outer_of x o) kept.others.same;
     fewer = λ t d. sym (others_define AnyCode p t q kept.others) ∙ d;
-    shown = λ none. kept.shown (outer_of p o);
+    shown = λ h. kept.shown (outer_of p o);
+    holds = λ h. subst (ShutsHold (named q)) (ap (λ (x : Program). outer_of x o) (sym kept.others.same)) (shuts h);
   }
 
   propagation_owes : (admitted : List Bool) (p q : Program) (moved : List (List Origin)) → IsSound p → IsPropagation admitted p q moved → Owes o p q
@@ -102,6 +107,7 @@ module _ (o : Outside) where
     where
       by : Propagates admitted p q ⊎ ((q ≡ p) × KeepsReads admitted p) → Owes o p q
       by (inl c) = bodies_owe p q sound (propagated_kept p c.hierarchy sound.formed c.resolved c.narrow c.typed admitted q c.propagated)
+          (propagated_keeps admitted p q (outer_of p o) c.propagated)
       by (inr none) = subst (λ (x : Program). Owes o p x) (sym none.0) (owes_same o p sound)
 
   pub copy_prop_keeps : (admitted : List Bool) → Keeps o admitted CopyProp
@@ -110,6 +116,7 @@ module _ (o : Outside) where
   squeezing_owes : (admitted : List Bool) (p q : Program) (moved : List (List Origin)) → IsSound p → Thins AreSkips (NothingLeft admitted p) admitted p q moved → Owes o p q
   squeezing_owes admitted p q moved sound h = bodies_owe p q sound
       (squeezed_kept admitted p (record { program = q; count = h.count; origins = moved }) sound.formed sound.typed h.thinned sound.once sound.grounded)
+      (thinned_keeps AreSkips admitted p (record { program = q; count = h.count; origins = moved }) (outer_of p o) h.thinned)
 
   pub squeeze_keeps : (admitted : List Bool) → Keeps o admitted Squeeze
   squeeze_keeps admitted = record { owes = squeezing_owes admitted }
@@ -117,6 +124,7 @@ module _ (o : Outside) where
   cleaning_owes : (admitted : List Bool) (p q : Program) (moved : List (List Origin)) → IsSound p → IsCleaning admitted p q moved → Owes o p q
   cleaning_owes admitted p q moved sound (inl h) = bodies_owe p q sound
       (cleaned_kept p sound.formed sound.once sound.grounded admitted (record { program = q; count = h.count; origins = moved }) h.thinned sound.typed)
+      (thinned_keeps (AreCleaned (is_quiet_field p)) admitted p (record { program = q; count = h.count; origins = moved }) (outer_of p o) h.thinned)
   cleaning_owes admitted p q moved sound (inr none) = subst (λ (x : Program). Owes o p x) (sym none.0) (owes_same o p sound)
 
   pub dead_code_keeps : (admitted : List Bool) → Keeps o admitted DeadCode
@@ -126,7 +134,7 @@ module _ (o : Outside) where
   compaction_owes admitted p q moved sound h = by h.compaction
     where
       by : ((has_narrow_classes p ≡ true) × IsCompactedProgram admitted p q) ⊎ ((q ≡ p) × (has_narrow_classes p ≡ false)) → Owes o p q
-      by (inl c) = bodies_owe p q sound (compacted_kept admitted p q sound.formed sound.once sound.typed c.0 c.1)
+      by (inl c) = bodies_owe p q sound (compacted_kept admitted p q sound.formed sound.once sound.typed c.0 c.1) (compacted_keeps admitted p q (outer_of p o) c.1)
       by (inr none) = subst (λ (x : Program). Owes o p x) (sym none.0) (owes_same o p sound)
 
   pub compact_keeps : (admitted : List Bool) → Keeps o admitted Compact

@@ -35,3 +35,13 @@ pub alike_says : (p : Program) (k : MethodKey) (b d : Body) → length d.insns �
     → ((n : ℕ) (x : Insn) → slice_get b.insns n ≡ Some x → (y : Insn) × ((slice_get d.insns n ≡ Some y) × (said (form_of p y) ≡ said (form_of p x))))
     → SaysNoMore k (Some (body_of p b)) (Some (body_of p d))
 alike_says p k b d l h test quiet e = mapped p test b.insns ∙ sym (each_says p test b.insns d.insns l h) ∙ sym (mapped p test d.insns) ∙ e
+
+-- code whose instructions are made of others that say the same
+pub mapped_says : (p : Program) (f : Insn → Insn) → ((x : Insn) → said (form_of p (f x)) ≡ said (form_of p x)) → (k : MethodKey) (b d : Body) → d.insns ≡ map f b.insns
+    → SaysNoMore k (Some (body_of p b)) (Some (body_of p d))
+mapped_says p f h k b d e test quiet i =
+    mapped p test b.insns ∙ sym (each b.insns) ∙ sym (ap (list_any (says p test)) e) ∙ sym (mapped p test d.insns) ∙ i
+  where
+    each : (xs : List Insn) → list_any (says p test) (map f xs) ≡ list_any (says p test) xs
+    each [] = refl
+    each (x ∷ xs) = ap (λ s. test s || list_any (says p test) (map f xs)) (h x) ∙ ap (λ b. says p test x || b) (each xs)

@@ -1,0 +1,29 @@
+//! Laws of tables of shut methods and passes on bodies.
+
+ghost use Rattle.std.specs.Prelude.{Bool, List};
+ghost use Rattle.program_model.specs.declared.body.Body.{Body};
+ghost use Rattle.program_model.specs.declared.pass.Changed.{Changed};
+ghost use Rattle.program_model.specs.declared.program.Program.{Program};
+ghost use Rattle.dalvik_defs.specs.Naming.{named};
+ghost use Rattle.dalvik_defs.specs.Outer.{Outer};
+ghost use Rattle.removal_law.specs.Reach.{ShutsHold};
+ghost use Rattle.body_edit.specs.declared.fate.Fate.{Fate};
+ghost use Rattle.thin_pass.specs.Plans.{IsThinnedBy};
+ghost use Rattle.compact.specs.Renamed.{IsCompactedProgram};
+ghost use Rattle.copy_prop.specs.Propagated.{IsPropagatedProgram};
+
+/// A pass that takes positions out of bodies, or empties them, keeps what a table of shut methods owes.
+pub fn thinned_shut_law()
+    ensures { (wishes : Body → List Fate → Type 0) (admitted : List Bool) (p : Program) (c : Changed) (o : Outer) → IsThinnedBy wishes admitted p c
+        → ShutsHold (named p) o → ShutsHold (named c.program) o }
+{}
+
+/// Bodies whose registers have other numbers keep what a table of shut methods owes.
+pub fn compacted_shut_law()
+    ensures { (admitted : List Bool) (p q : Program) (o : Outer) → IsCompactedProgram admitted p q → ShutsHold (named p) o → ShutsHold (named q) o }
+{}
+
+/// Bodies whose stale reads read originals keep what a table of shut methods owes.
+pub fn propagated_shut_law()
+    ensures { (admitted : List Bool) (p q : Program) (o : Outer) → IsPropagatedProgram admitted p q → ShutsHold (named p) o → ShutsHold (named q) o }
+{}

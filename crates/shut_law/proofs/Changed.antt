@@ -1,5 +1,5 @@
 -- A table of shut methods holds what it says of a program with other bodies that say no more.
-use Rattle.std.proofs.Common.{◌≡◌, ℕ, Bool, true, false, List, [], ◌∷◌, refl, sym, ap, ◌∙◌, subst}
+use Rattle.std.proofs.Common.{◌≡◌, ℕ, Bool, true, false, List, [], ◌∷◌, refl, sym, ap, ◌∙◌}
 use Rattle.std.specs.Prelude.{◌&&◌, ◌||◌, not, Option, Some, None, is_some}
 use Rattle.std.specs.List.{list_any}
 use Rattle.std.specs.Option.{option_map}
@@ -8,7 +8,7 @@ use Rattle.lemmas.proofs.Options.{none_some, some_same}
 use Rattle.dalvik_defs.specs.Names.{Text, text_eq, same_name, is_common, object_type}
 use Rattle.dalvik_defs.specs.Flags.{is_interface, is_abstract}
 use Rattle.dalvik_defs.specs.Under.{class_named, defines, is_own_under, is_outward}
-use Rattle.dalvik_defs.specs.Find.{Search, finds_at, is_virtual_method, is_037}
+use Rattle.dalvik_defs.specs.Find.{finds_at, is_virtual_method, is_037}
 use Rattle.dalvik_defs.specs.Face.{Face, face_of}
 use Rattle.dalvik_defs.specs.Outer.{Outer}
 use Rattle.dalvik_defs.specs.Shut.{key_of, is_found_as, finds_it, names_outside, called_outside, is_other}
@@ -27,9 +27,8 @@ use Rattle.silence_law.proofs.Faces.{defines_same}
 use Rattle.removal_law.specs.Left.{In, here, there}
 use Rattle.removal_law.specs.Reach.{is_new, makes_new, may_be_made, ShutsHold}
 use Rattle.removal_law.proofs.Lists.{clash, and_left, and_behind}
-use Rattle.removal_law.proofs.Trees.{class_in}
 use Rattle.removal_law.proofs.Outward.{any_here}
-use Rattle.removal_law.proofs.ShutLeft.{any_code, Code, some_code, code_there}
+use Rattle.removal_law.proofs.ShutLeft.{any_code, some_code}
 use Rattle.bodies_law.specs.Others.{Pairwise, OtherMethod, OtherClass, OtherBodies}
 use Rattle.bodies_law.proofs.Faces.{blank, blank_coded, program_blank, others_face}
 use Rattle.shut_law.specs.Said.{Said, Quiet, said, any_said, SaysNoMore}
@@ -70,7 +69,7 @@ module _ (p q : NamedProgram) (o : Outer) (others : OtherBodies SaysNoMore p q) 
   defined_same : (t : Text) → defines q t ≡ defines p t
   defined_same t = ap (λ f. f t) (sym (defines_same blank q) ∙ ap defines same_blank ∙ defines_same blank p)
 
-  concrete_by : Option ℕ → Bool
+  abbrev concrete_by : Option ℕ → Bool
   concrete_by x = elim x as (λ x. Bool) [ Some n ↦ not (is_interface n) && not (is_abstract n) | None ↦ false ]
 
   concrete_flags : (x : Option NamedClass) → elim x as (λ x. Bool) [ Some c ↦ not (is_interface c.flags) && not (is_abstract c.flags) | None ↦ false ] ≡ concrete_by (option_map (λ (c : NamedClass). c.flags) x)

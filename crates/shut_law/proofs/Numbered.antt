@@ -1,16 +1,14 @@
 -- What code says by number: instructions at the same positions that say the same.
-use Rattle.std.proofs.Common.{◌≡◌, ℕ, zero, suc, Bool, true, false, List, [], ◌∷◌, length, refl, sym, ap, ◌∙◌, subst}
-use Rattle.std.specs.Prelude.{◌||◌, Option, Some, None, map, slice_get}
+use Rattle.std.proofs.Common.{◌≡◌, ℕ, suc, Bool, List, [], ◌∷◌, length, refl, sym, ap, ◌∙◌, arith}
+use Rattle.std.specs.Prelude.{◌||◌, Some, map, slice_get}
 use Rattle.std.specs.List.{list_any}
-use Rattle.lemmas.proofs.Options.{none_some, some_same}
+use Rattle.lemmas.proofs.Options.{some_same}
 use Rattle.insn_set.specs.declared.form.Insn.{Insn}
 use Rattle.program_model.specs.declared.body.Body.{Body}
 use Rattle.program_model.specs.declared.program.Program.{Program}
 use Rattle.dalvik_defs.specs.Naming.{form_of, body_of}
-use Rattle.dalvik_defs.specs.Outer.{Outer}
 use Rattle.dalvik_defs.specs.declared.names.MethodKey.{MethodKey}
-use Rattle.dalvik_defs.specs.declared.forms.Form.{Form}
-use Rattle.shut_law.specs.Said.{Said, Quiet, said, SaysNoMore}
+use Rattle.shut_law.specs.Said.{Said, said, SaysNoMore}
 
 module _ (p : Program) (test : Said → Bool) where
   abbrev says : Insn → Bool
@@ -23,12 +21,13 @@ module _ (p : Program) (test : Said → Bool) where
   each_says : (xs ys : List Insn) → length ys ≡ length xs → ((n : ℕ) (x : Insn) → slice_get xs n ≡ Some x → (y : Insn) × ((slice_get ys n ≡ Some y) × (said (form_of p y) ≡ said (form_of p x))))
       → list_any says ys ≡ list_any says xs
   each_says [] [] l h = refl
-  each_says [] (y ∷ ys) l h = absurd (cc)
-  each_says (x ∷ xs) [] l h = absurd (cc)
-  each_says (x ∷ xs) (y ∷ ys) l h =
-      let w = h 0 x refl in
-      ap (λ b. b || list_any says ys) (ap (λ z. says z) (some_same y w.0 w.1.0) ∙ ap test w.1.1)
-      ∙ ap (λ b. says x || b) (each_says xs ys cc (λ n z e. h (suc n) z e))
+  each_says [] (y ∷ ys) l h = absurd (let e : length (y ∷ ys) ≡ 0 = l in omega (arith, e))
+  each_says (x ∷ xs) [] l h = absurd (let e : 0 ≡ length (x ∷ xs) = l in omega (arith, e))
+  each_says (x ∷ xs) (y ∷ ys) l h = ap (λ b. b || list_any says ys) (head (h 0 x refl))
+      ∙ ap (λ b. says x || b) (each_says xs ys (let e : suc (length ys) ≡ suc (length xs) = l in omega (arith, e)) (λ n z e. h (suc n) z e))
+    where
+      head : (z : Insn) × ((Some y ≡ Some z) × (said (form_of p z) ≡ said (form_of p x))) → test (said (form_of p y)) ≡ test (said (form_of p x))
+      head w = ap (λ z. test (said (form_of p z))) (some_same y w.0 w.1.0) ∙ ap test w.1.1
 
 -- code whose instructions say the same one by one
 pub alike_says : (p : Program) (k : MethodKey) (b d : Body) → length d.insns ≡ length b.insns

@@ -1,10 +1,10 @@
 -- A table of shut methods holds what it says of a program without its silent calls.
-use Rattle.std.proofs.Common.{◌≡◌, Bool, true, false, List, [], ◌∷◌, refl, sym, ap, ◌∙◌, subst}
-use Rattle.std.specs.Prelude.{◌&&◌, ◌||◌, not, Option, Some, None, map, is_some}
+use Rattle.std.proofs.Common.{◌≡◌, Bool, true, false, List, [], ◌∷◌, refl, sym, ap, ◌∙◌}
+use Rattle.std.specs.Prelude.{◌&&◌, ◌||◌, not, Option, Some, None, is_some}
 use Rattle.std.specs.List.{list_any}
 use Rattle.std.specs.Option.{option_map}
 use Rattle.dalvik_defs.specs.Outer.{Outer}
-use Rattle.dalvik_defs.specs.Silence.{calls_silent, takes_result, silenced_form, silenced_forms, silenced_body, key_in, silenced_method, silenced_class, silenced}
+use Rattle.dalvik_defs.specs.Silence.{calls_silent, takes_result, silenced_forms, silenced_body, key_in, silenced_method, silenced_class, silenced}
 use Rattle.dalvik_defs.specs.declared.names.MethodKey.{MethodKey}
 use Rattle.dalvik_defs.specs.declared.forms.Form.{Form}
 use Rattle.dalvik_defs.specs.declared.forms.Form.TheVariants as form
@@ -15,7 +15,7 @@ use Rattle.dalvik_defs.specs.declared.program.NamedProgram.{NamedProgram}
 use Rattle.removal_law.specs.Reach.{ShutsHold}
 use Rattle.bodies_law.specs.Others.{OtherMethod, OtherClass, OtherBodies}
 use Rattle.bodies_law.proofs.Named.{pairwise_self}
-use Rattle.shut_law.specs.Said.{Said, Quiet, said, any_said, SaysNoMore}
+use Rattle.shut_law.specs.Said.{Said, Quiet, said, SaysNoMore}
 use Rattle.shut_law.proofs.Changed.{shuts_kept}
 use Rattle.shut_law.proofs.Thinned.{or_rest, or_right}
 

@@ -1,6 +1,6 @@
 -- What removal_law asks of forms goes by what they say.
-use Rattle.std.proofs.Common.{◌≡◌, Bool, true, false, List, [], ◌∷◌, refl, ap, ◌∙◌}
-use Rattle.std.specs.Prelude.{◌&&◌, ◌||◌, not, Option, Some, None, map}
+use Rattle.std.proofs.Common.{◌≡◌, Bool, false, List, [], ◌∷◌, refl, ap, ◌∙◌}
+use Rattle.std.specs.Prelude.{◌&&◌, ◌||◌, not}
 use Rattle.std.specs.List.{list_any}
 use Rattle.insn_set.specs.declared.ops.InvokeKind.TheVariants as call
 use Rattle.dalvik_defs.specs.Names.{Text, text_eq, same_name, object_type}
@@ -11,7 +11,7 @@ use Rattle.dalvik_defs.specs.declared.forms.Form.{Form}
 use Rattle.dalvik_defs.specs.declared.forms.Form.TheVariants as form
 use Rattle.dalvik_defs.specs.declared.program.NamedProgram.{NamedProgram}
 use Rattle.removal_law.specs.Reach.{is_new}
-use Rattle.shut_law.specs.Said.{Said, Quiet, Makes, Calls, said}
+use Rattle.shut_law.specs.Said.{Said, Makes, Calls, said}
 
 abbrev pub says_new : Text → Said → Bool
 says_new t (Makes u) = text_eq u t

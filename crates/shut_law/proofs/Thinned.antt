@@ -1,13 +1,13 @@
 -- Code without some of its positions says no more.
 use Rattle.std.proofs.Common.{◌≡◌, ℕ, Bool, true, false, List, [], ◌∷◌, refl, sym, ap, ◌∙◌}
-use Rattle.std.specs.Prelude.{◌||◌, Option, Some, None}
+use Rattle.std.specs.Prelude.{◌||◌, Option, Some}
 use Rattle.std.specs.List.{list_any}
 use Rattle.insn_set.specs.declared.ops.InvokeKind.TheVariants as call
 use Rattle.dalvik_defs.specs.declared.names.MethodKey.{MethodKey}
 use Rattle.dalvik_defs.specs.declared.forms.Form.{Form}
 use Rattle.dalvik_defs.specs.declared.forms.Form.TheVariants as form
 use Rattle.dalvik_defs.specs.declared.program.NamedBody.{NamedBody}
-use Rattle.pass_defs.specs.Remade.{remade, retargeted}
+use Rattle.pass_defs.specs.Remade.{remade}
 use Rattle.pass_defs.specs.Thinned.{Fate, Stays, Empties, Goes, place, forms_left, thinned}
 use Rattle.removal_law.proofs.Lists.{clash}
 use Rattle.shut_law.specs.Said.{Said, Quiet, said, SaysNoMore}

@@ -1,5 +1,6 @@
 //! Laws of tables of shut methods and other bodies.
 
+ghost use Rattle.std.specs.Prelude.{Bool};
 ghost use Rattle.dalvik_defs.specs.Outer.{Outer};
 ghost use Rattle.dalvik_defs.specs.Silence.{silenced};
 ghost use Rattle.dalvik_defs.specs.declared.names.MethodKey.{MethodKey};

@@ -1,12 +1,18 @@
 //! Laws of tables of shut methods and passes on bodies.
 
-ghost use Rattle.std.specs.Prelude.{Bool, List};
+ghost use Rattle.std.specs.Prelude.{◌≡◌, Bool, List};
 ghost use Rattle.program_model.specs.declared.body.Body.{Body};
 ghost use Rattle.program_model.specs.declared.pass.Changed.{Changed};
+ghost use Rattle.program_model.specs.declared.program.Method.{Method};
+ghost use Rattle.program_model.specs.declared.program.MethodAt.{MethodAt};
 ghost use Rattle.program_model.specs.declared.program.Program.{Program};
-ghost use Rattle.dalvik_defs.specs.Naming.{named};
+ghost use Rattle.dalvik_defs.specs.Naming.{form_of, named};
 ghost use Rattle.dalvik_defs.specs.Outer.{Outer};
+ghost use Rattle.removal_law.specs.Left.{In};
 ghost use Rattle.removal_law.specs.Reach.{ShutsHold};
+ghost use Rattle.shut_law.specs.Said.{Quiet, said};
+ghost use Rattle.rewrite_pass.specs.declared.edit.Edit.{Edit};
+ghost use Rattle.rewrite_pass.specs.Plans.{IsRewrittenBy};
 ghost use Rattle.body_edit.specs.declared.fate.Fate.{Fate};
 ghost use Rattle.thin_pass.specs.Plans.{IsThinnedBy};
 ghost use Rattle.compact.specs.Renamed.{IsCompactedProgram};
@@ -16,6 +22,14 @@ ghost use Rattle.copy_prop.specs.Propagated.{IsPropagatedProgram};
 pub fn thinned_shut_law()
     ensures { (wishes : Body → List Fate → Type 0) (admitted : List Bool) (p : Program) (c : Changed) (o : Outer) → IsThinnedBy wishes admitted p c
         → ShutsHold (named p) o → ShutsHold (named c.program) o }
+{}
+
+/// A pass that writes instructions over others, which make no objects and call nothing by a receiver, keeps what a table of
+/// shut methods owes.
+pub fn rewritten_shut_law()
+    ensures { (writes : MethodAt → Method → Body → List Edit → Type 0) (admitted : List Bool) (p : Program)
+        → ((at : MethodAt) (m : Method) (b : Body) (es : List Edit) → writes at m b es → (e : Edit) → In e es → said (form_of p e.insn) ≡ Quiet)
+        → (c : Changed) (o : Outer) → IsRewrittenBy writes admitted p c → ShutsHold (named p) o → ShutsHold (named c.program) o }
 {}
 
 /// Bodies whose registers have other numbers keep what a table of shut methods owes.

@@ -11,10 +11,10 @@ use Rattle.dalvik_defs.specs.declared.names.MethodKey.{MethodKey}
 use Rattle.shut_law.specs.Said.{Said, said, SaysNoMore}
 
 module _ (p : Program) (test : Said → Bool) where
-  abbrev says : Insn → Bool
+  abbrev pub says : Insn → Bool
   says i = test (said (form_of p i))
 
-  mapped : (xs : List Insn) → list_any (λ x. test (said x)) (map (form_of p) xs) ≡ list_any says xs
+  pub mapped : (xs : List Insn) → list_any (λ x. test (said x)) (map (form_of p) xs) ≡ list_any says xs
   mapped [] = refl
   mapped (x ∷ xs) = ap (λ b. says x || b) (mapped xs)
 

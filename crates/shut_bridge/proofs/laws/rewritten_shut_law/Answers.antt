@@ -1,0 +1,5 @@
+use Rattle.shut_bridge.proofs.Rewritten.{rewritten_keeps}
+use Rattle.shut_bridge.proofs.laws.rewritten_shut_law.Goals as goal
+
+pub returns : goal.returns
+returns c = λ writes admitted p quiet d o r. rewritten_keeps writes admitted p quiet d o r

@@ -1,12 +1,11 @@
 -- What passes on bodies make of a program says no more.
-use Rattle.std.proofs.Common.{◌≡◌, ◌⊎◌, inl, inr, ℕ, Bool, List, refl, sym, ap, ◌∙◌, subst}
-use Rattle.std.specs.Prelude.{Option, Some, None, Contains, slice_get}
+use Rattle.std.proofs.Common.{◌≡◌, inl, inr, ℕ, Bool, List, sym, ap, ◌∙◌, subst}
+use Rattle.std.specs.Prelude.{Option, Some, None, slice_get}
 use Rattle.std.specs.Option.{option_map}
 use Rattle.insn_set.specs.declared.form.Insn.{Insn}
 use Rattle.program_model.specs.declared.body.Body.{Body}
 use Rattle.program_model.specs.declared.pass.Changed.{Changed}
 use Rattle.program_model.specs.declared.program.Method.{Method}
-use Rattle.program_model.specs.declared.program.Class.{Class}
 use Rattle.program_model.specs.declared.program.Program.{Program}
 use Rattle.dalvik_defs.specs.Naming.{form_of, body_of, named_method, named_class, named}
 use Rattle.dalvik_defs.specs.Outer.{Outer}
@@ -22,16 +21,15 @@ use Rattle.shut_law.proofs.Changed.{shuts_kept}
 use Rattle.shut_law.proofs.Thinned.{thinned_says}
 use Rattle.shut_law.proofs.Numbered.{alike_says, mapped_says}
 use Rattle.insn_regs.specs.Remade.{remade}
-use Rattle.insn_regs.specs.Wides.{widths_of}
 use Rattle.body_edit.specs.declared.fate.Fate.{Fate}
 use Rattle.thin_pass.specs.Plans.{IsThinnedBy}
 use Rattle.thin_bridge.specs.Right.{fates_by}
 use Rattle.thin_bridge.proofs.Became.{Became, AsItWas, Thin, others}
-use Rattle.compact.specs.Renamed.{IsCompacted, IsCompactedProgram}
+use Rattle.compact.specs.Renamed.{IsCompactedProgram}
 use Rattle.compact_bridge.specs.Renames.{Compacts}
 use Rattle.compact_bridge.proofs.Programs.{program_compacts}
 use Rattle.copy_prop.specs.Rereading.{substituted}
-use Rattle.copy_prop.specs.Propagated.{IsPropagated, IsPropagatedProgram}
+use Rattle.copy_prop.specs.Propagated.{IsPropagatedProgram}
 use Rattle.copy_bridge.specs.Rereads.{Propagates}
 use Rattle.copy_bridge.proofs.Programs.{program_propagates}
 use Rattle.shut_bridge.proofs.Saying.{remade_said}

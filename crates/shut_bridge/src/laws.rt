@@ -1,6 +1,6 @@
 //! Laws of tables of shut methods and passes on bodies.
 
-ghost use Rattle.std.specs.Prelude.{◌≡◌, Bool, List};
+ghost use Rattle.std.specs.Prelude.{◌≡◌, Bool, true, List};
 ghost use Rattle.program_model.specs.declared.body.Body.{Body};
 ghost use Rattle.program_model.specs.declared.pass.Changed.{Changed};
 ghost use Rattle.program_model.specs.declared.program.Method.{Method};
@@ -18,18 +18,19 @@ ghost use Rattle.thin_pass.specs.Plans.{IsThinnedBy};
 ghost use Rattle.compact.specs.Renamed.{IsCompactedProgram};
 ghost use Rattle.copy_prop.specs.Propagated.{IsPropagatedProgram};
 
-/// A pass that takes positions out of bodies, or empties them, keeps what a table of shut methods owes.
+/// A pass that takes positions out of bodies, or empties them, keeps what a table of shut methods owes, whatever a test lets it
+/// wish.
 pub fn thinned_shut_law()
-    ensures { (wishes : Body → List Fate → Type 0) (admitted : List Bool) (p : Program) (c : Changed) (o : Outer) → IsThinnedBy wishes admitted p c
+    ensures { (wishes : Body → List Fate → Bool) (admitted : List Bool) (p : Program) (c : Changed) (o : Outer) → IsThinnedBy (λ b ws. wishes b ws ≡ true) admitted p c
         → ShutsHold (named p) o → ShutsHold (named c.program) o }
 {}
 
-/// A pass that writes instructions over others, which make no objects and call nothing by a receiver, keeps what a table of
-/// shut methods owes.
+/// A pass that writes instructions over others keeps what a table of shut methods owes, where a test lets it write only what
+/// makes no object and calls nothing by a receiver.
 pub fn rewritten_shut_law()
-    ensures { (writes : MethodAt → Method → Body → List Edit → Type 0) (admitted : List Bool) (p : Program)
-        → ((at : MethodAt) (m : Method) (b : Body) (es : List Edit) → writes at m b es → (e : Edit) → In e es → said (form_of p e.insn) ≡ Quiet)
-        → (c : Changed) (o : Outer) → IsRewrittenBy writes admitted p c → ShutsHold (named p) o → ShutsHold (named c.program) o }
+    ensures { (writes : MethodAt → Method → Body → List Edit → Bool) (admitted : List Bool) (p : Program)
+        → ((at : MethodAt) (m : Method) (b : Body) (es : List Edit) → writes at m b es ≡ true → (e : Edit) → In e es → said (form_of p e.insn) ≡ Quiet)
+        → (c : Changed) (o : Outer) → IsRewrittenBy (λ at m b es. writes at m b es ≡ true) admitted p c → ShutsHold (named p) o → ShutsHold (named c.program) o }
 {}
 
 /// Bodies whose registers have other numbers keep what a table of shut methods owes.

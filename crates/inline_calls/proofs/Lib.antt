@@ -1,0 +1,5 @@
+mod Accepting
+mod Asks
+mod Candidates
+mod Edits
+mod Planning

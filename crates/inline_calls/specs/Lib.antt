@@ -1,0 +1,6 @@
+pub mod Accepting
+pub mod Asked
+pub mod Candidates
+pub mod Edited
+pub mod Plans
+pub mod Rooms

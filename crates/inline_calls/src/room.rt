@@ -1,0 +1,66 @@
+//! Whether a new body has room: it lays out in few units, is typed, and the program keeps its limit of cells.
+
+ghost use Rattle.std.specs.Prelude.{◌≡◌, true, OnOk, IfOk};
+ghost use Rattle.verify.specs.Meeting.{IsMeeting};
+ghost use Rattle.verify.specs.Methods.{TypesWith};
+ghost use Rattle.verify.specs.Typings.{Table};
+ghost use Rattle.inline_calls.specs.Rooms.{IsShort};
+
+use program_model::{Body, Counted, MethodAt, Renumber, count_body_cells};
+use relax::{LayFault, lay_out};
+use std::alloc::{AllocError, Global};
+use verify::{TypeFault, Verifier};
+
+/// How many units the least layout of a caller has at most.
+const MOST_UNITS: u32 = 32_000;
+
+/// No table entry has another number.
+pub fn same_numbers(alloc: Global) -> Renumber {
+    Renumber {
+        strings: Vec::new(alloc),
+        types: Vec::new(alloc),
+        protos: Vec::new(alloc),
+        fields: Vec::new(alloc),
+        methods: Vec::new(alloc),
+    }
+}
+
+/// Whether a body lays out, in few units.
+pub fn is_short(alloc: Global, body: &Body, numbers: &Renumber) -> Result<bool, AllocError>
+    ensures { IfOk result (λ short. short ≡ true → IsShort numbers.now body.now) }
+{
+    match lay_out(alloc, body, numbers) {
+        Ok(layout) => Ok(layout.size <= MOST_UNITS),
+        Err(LayFault::NoMemory) => Err(AllocError),
+        Err(LayFault::FarBranch { .. }) => Ok(false),
+    }
+}
+
+/// Whether a method is well typed with a body in place of its own.
+pub fn is_typed(
+    alloc: Global,
+    verifier: &Verifier,
+    method: MethodAt,
+    body: &Body,
+) -> Result<bool, AllocError>
+    requires { IsMeeting verifier.now.tables }
+    ensures { IfOk result (λ typed. typed ≡ true → (t : Table) × TypesWith verifier.now method body.now t) }
+{
+    match verifier.typings_with(alloc, method, body) {
+        Ok(_typings) => Ok(true),
+        Err(TypeFault::NoMemory) => Err(AllocError),
+        Err(TypeFault::IllTyped { .. }) => Ok(false),
+    }
+}
+
+/// The cells of a program that has so many, with a body in place of another.
+pub fn cells_with(cells: u64, old: &Body, new: &Body) -> u64 {
+    cells
+        .saturating_sub(count_body_cells(old))
+        .saturating_add(count_body_cells(new))
+}
+
+/// Whether a program may have so many cells.
+pub fn fits_cells(cells: u64) -> bool {
+    cells <= Counted::Cells.limit()
+}

@@ -2,4 +2,4 @@ mod Accepting
 mod Asks
 mod Candidates
 mod Edits
-mod Planning
+mod Looking

@@ -69,6 +69,10 @@ is_plain p m = not (text_eq (name_units p m.name) (codes "<init>"))
 abbrev pub is_beside : MethodAt → MethodAt → Bool
 is_beside at found = nat_eq found.class at.class && not (nat_eq found.place at.place)
 
+-- another plain method of the caller's class, which is short enough to be copied at a position
+abbrev pub is_suited : Program → Caller → ℕ → MethodAt → Method → Body → Bool
+is_suited p c n place m b = is_beside c.at place && is_plain p m && is_small b && has_registers c.body.now b && not (result_stands_alone c.body.now n)
+
 -- ---- entering at once
 
 -- the register of a call's receiver, 65,535 where it passes none
@@ -83,8 +87,10 @@ abbrev pub starts_trivially : Hierarchy → ℕ → Bool
 starts_trivially h class = slice_index_or h.starts.trivial.items class false
 
 -- the facts know a frame at the position, in which the register holds no null
-abbrev pub KnowsReceiver : Facts → ℕ → ℕ → ℕ → Type 0
-KnowsReceiver facts method n r = (f : Frame) × ((frame_at facts.frames.items method n ≡ Some f) × (value_holds (value_at f.registers r) (Plain (Single 0)) → ⊥))
+pub record KnowsReceiver (facts : Facts) (method n r : ℕ) : Type 0 where
+  pub frame : Frame
+  pub here : frame_at facts.frames.items method n ≡ Some frame
+  pub never_null : value_holds (value_at frame.registers r) (Plain (Single 0)) → ⊥
 
 -- the class of a static method runs no code as it is initialised, and the receiver of another is not null
 pub record EntersAtOnce (k : Known) (m : Method) (n : ℕ) (i : Insn) (callee : Method) (class : ℕ) : Type 0 where
@@ -93,7 +99,7 @@ pub record EntersAtOnce (k : Known) (m : Method) (n : ℕ) (i : Insn) (callee : 
 
 -- ---- candidates
 
--- A call at a position of a caller finds this method, which is short enough to be copied and is entered at once.
+-- A call at a position of a caller finds this method, which is suited to be copied there and is entered at once.
 pub record IsCandidate (k : Known) (c : Caller) (n : ℕ) (y : Callee) : Type 0 where
   pub insn : Insn
   pub here : slice_get c.body.now.insns n ≡ Some insn
@@ -101,12 +107,12 @@ pub record IsCandidate (k : Known) (c : Caller) (n : ℕ) (y : Callee) : Type 0 
   pub finds : IsOf k.program.now k.hierarchy.now → found_by k.program.now insn ≡ Some place
   pub method : method_at k.program.now place ≡ Some y.method.now
   pub code : y.method.now.body ≡ Some y.body.now
-  pub beside : is_beside c.at place ≡ true
-  pub plain : is_plain k.program.now y.method.now ≡ true
-  pub small : is_small y.body.now ≡ true
-  pub registers : has_registers c.body.now y.body.now ≡ true
-  pub result : result_stands_alone c.body.now n ≡ false
+  pub suited : is_suited k.program.now c n place y.method.now y.body.now ≡ true
   pub enters : EntersAtOnce k c.method.now n insn y.method.now place.class
+
+-- No method is a candidate at a position. Calls are looked up in a hierarchy, so it has to be that of the program.
+abbrev pub IsUnsuited : Known → Caller → ℕ → Type 0
+IsUnsuited k c n = IsOf k.program.now k.hierarchy.now → (y : Callee) → IsCandidate k c n y → ⊥
 
 -- what is chosen at each position is a candidate there
 abbrev pub AreCandidates : Known → Caller → List (Option Callee) → Type 0

@@ -1,8 +1,9 @@
 -- The new bodies of the methods of a program, and what becomes of it.
-use Rattle.std.specs.Prelude.{◌≡◌, ℕ, ◌<◌, Bool, true, false, List, [], length, min, sum_by, Option, Some, None, IfSome, slice_get, slice_index_or}
+use Rattle.std.specs.Prelude.{◌≡◌, ℕ, ◌+◌, Bool, true, false, List, [], ◌∷◌, ◌++◌, length, replicate, Option, Some, None, slice_get, slice_set, slice_index_or}
 use Rattle.facts.specs.declared.facts.Facts.{Facts}
 use Rattle.hierarchy.specs.declared.Hierarchy.{Hierarchy}
-use Rattle.program_model.specs.Cells.{capped}
+use Rattle.program_model.specs.Cells.{capped, cells_of}
+use Rattle.program_model.specs.declared.pass.Origin.{Origin}
 use Rattle.program_model.specs.declared.program.Method.{Method}
 use Rattle.program_model.specs.declared.program.MethodAt.{MethodAt}
 use Rattle.program_model.specs.declared.program.Class.{Class}
@@ -10,16 +11,36 @@ use Rattle.program_model.specs.declared.program.Program.{Program}
 use Rattle.verify.specs.Methods.{IsFor as ForProgram}
 use Rattle.splice.specs.declared.callee.Callee.{Callee}
 use Rattle.splice.specs.declared.spliced.Spliced.{Spliced}
+use Rattle.splice.specs.Shifted.{word}
 use Rattle.inline_calls.specs.declared.site.Caller.{Caller}
 use Rattle.inline_calls.specs.declared.caller.Inliner.{Inliner}
 use Rattle.inline_calls.specs.declared.editing.Edit.{Edit}
-use Rattle.inline_calls.specs.Candidates.{AreCandidates}
+use Rattle.inline_calls.specs.declared.done.Done.{Done}
+use Rattle.inline_calls.specs.Asked.{Row, agreed_count}
+use Rattle.inline_calls.specs.Accepting.{HasTried}
 use Rattle.inline_calls.specs.Edited.{program_by}
-use Rattle.inline_calls.specs.Rooms.{IsNew}
+use Rattle.inline_calls.specs.Rooms.{cells_with, new_of}
 
--- a place as a number of 32 bits
-abbrev pub word : ℕ → ℕ
-word n = min n 4294967295
+-- ---- what was done so far
+
+-- nothing: the cells are those of the program, and no method has origins
+abbrev pub nothing_done : Program → Done
+nothing_done p = record { cells = capped (cells_of p); count = 0; origins = replicate (length p.methods) [] }
+
+-- a new body of a caller more, which has copies in place of so many calls
+abbrev pub noted : Caller → Option Spliced → ℕ → Done → Done
+noted c None count d = d
+noted c (Some s) count d = record {
+  cells = cells_with d.cells c.body.now s.body;
+  count = capped (d.count + count);
+  origins = slice_set d.origins c.method.now.name s.origins;
+}
+
+abbrev pub edit_of : Option Spliced → Option Edit
+edit_of None = None
+edit_of (Some s) = Some (record { body = s.body; lines = s.lines })
+
+-- ---- one method
 
 -- the method with code at a place
 pub record IsCallerOf (class : Class) (at : MethodAt) (m : Method) (c : Caller) : Type 0 where
@@ -28,50 +49,41 @@ pub record IsCallerOf (class : Class) (at : MethodAt) (m : Method) (c : Caller) 
   pub method : c.method.now ≡ m
   pub code : m.body ≡ Some c.body.now
 
--- what is accepted of a method: candidates are chosen at positions, and the new body is the caller with copies of them
-pub record IsNewOf (i : Inliner) (c : Caller) (e : Edit) : Type 0 where
+-- All positions of a caller were tried, one after the other. It has a new body where a call was accepted.
+pub record HasLooked (i : Inliner) (c : Caller) (d : Done) (rows : List Row) (edit : Option Edit) (e : Done) : Type 0 where
   pub chosen : List (Option Callee)
-  pub candidates : AreCandidates i.known c chosen
-  pub spliced : Spliced
-  pub new : IsNew i c chosen spliced
-  pub body : e.body ≡ spliced.body
-  pub lines : e.lines ≡ spliced.lines
-  pub count : e.count ≡ 0 → ⊥
+  pub tried : HasTried i c d.cells (length c.body.now.insns) rows chosen
+  pub edit : edit ≡ edit_of (new_of i c chosen)
+  pub done : e ≡ noted c (new_of i c chosen) (capped (agreed_count rows)) d
 
--- the new body of an admitted method with code
-pub record IsEdit (i : Inliner) (class : Class) (at : MethodAt) (m : Method) (e : Edit) : Type 0 where
-  pub admitted : slice_index_or i.admitted.now m.name false ≡ true
-  pub caller : Caller
-  pub is : IsCallerOf class at m caller
-  pub new : IsNewOf i caller e
+-- nothing is asked about a method without code or one that isn't admitted
+pub data LooksAt (i : Inliner) (class : Class) (at : MethodAt) (m : Method) (d : Done) : List Row → Option Edit → Done → Type 0 where
+  Bare : m.body ≡ None → LooksAt i class at m d [] None d
+  Barred : slice_index_or i.admitted.now m.name false ≡ false → LooksAt i class at m d [] None d
+  Looked : (c : Caller) (rows : List Row) (edit : Option Edit) (e : Done) → slice_index_or i.admitted.now m.name false ≡ true → IsCallerOf class at m c → HasLooked i c d rows edit e
+      → LooksAt i class at m d rows edit e
 
--- the first items have what is given to them
-pub record ArePlanned {A E : Type 0} (none : E) (P : ℕ → A → E → Type 0) (count : ℕ) (xs : List A) (plan : List E) : Type 0 where
-  pub long : length plan ≡ count
-  pub each : (k : ℕ) (x : A) → k < count → slice_get xs k ≡ Some x → P k x (slice_index_or plan k none)
+-- ---- all methods, one after the other
 
-abbrev pub MayEdit : Inliner → Class → ℕ → ℕ → Method → Option Edit → Type 0
-MayEdit i c place k m edit = IfSome edit (IsEdit i c (record { class = place; place = word k }) m)
+-- the first items of a list were looked at, with what this asked and gave and what was done then
+pub data HaveLooked {A E : Type 0} (looks : ℕ → A → Done → List Row → E → Done → Type 0) (xs : List A) (d : Done) : ℕ → List Row → List E → Done → Type 0 where
+  NoneLooked : HaveLooked looks xs d 0 [] [] d
+  OneLooked : (n : ℕ) (x : A) (rows more : List Row) (given : List E) (one : E) (e f : Done) → HaveLooked looks xs d n rows given e → slice_get xs n ≡ Some x → looks n x e more one f
+      → HaveLooked looks xs d (n + 1) (rows ++ more) (given ++ one ∷ []) f
 
--- the new bodies of the methods of a class
-abbrev pub HasRow : Inliner → ℕ → Class → List (Option Edit) → Type 0
-HasRow i place c row = ArePlanned None (MayEdit i c place) (length c.methods) c.methods row
+abbrev pub LooksAtMethod : Inliner → ℕ → Class → ℕ → Method → Done → List Row → Option Edit → Done → Type 0
+LooksAtMethod i place class k m = LooksAt i class (record { class = place; place = word k }) m
+
+-- those of a class
+abbrev pub LooksIn : Inliner → ℕ → Class → Done → List Row → List (Option Edit) → Done → Type 0
+LooksIn i place class d = HaveLooked (LooksAtMethod i place class) class.methods d (length class.methods)
+
+abbrev pub LooksInClass : Inliner → ℕ → Class → Done → List Row → List (Option Edit) → Done → Type 0
+LooksInClass i k class = LooksIn i (word k) class
 
 -- those of all classes
-abbrev pub HasRows : Inliner → ℕ → List Class → List (List (Option Edit)) → Type 0
-HasRows i count cs rows = ArePlanned [] (λ k. HasRow i (word k)) count cs rows
-
--- ---- how many calls
-
-abbrev pub edit_count : Option Edit → ℕ
-edit_count None = 0
-edit_count (Some e) = e.count
-
-abbrev pub row_count : List (Option Edit) → ℕ
-row_count row = sum_by edit_count row
-
-abbrev pub rows_count : List (List (Option Edit)) → ℕ
-rows_count rows = sum_by row_count rows
+abbrev pub LooksThrough : Inliner → List Class → Done → List Row → List (List (Option Edit)) → Done → Type 0
+LooksThrough i classes d = HaveLooked (LooksInClass i) classes d (length classes)
 
 -- ---- the program
 
@@ -85,15 +97,19 @@ pub record IsFor (p : Program) (h : Hierarchy) (facts : Facts) (admitted : List 
   pub numbers : i.numbers.strings.items ≡ []
 
 -- the new bodies of all methods
-pub record IsPlanned (p : Program) (h : Hierarchy) (facts : Facts) (admitted : List Bool) (rows : List (List (Option Edit))) : Type 0 where
+pub record IsPlanned (p : Program) (h : Hierarchy) (facts : Facts) (admitted : List Bool) (d e : Done) (edits : List (List (Option Edit))) (rows : List Row) : Type 0 where
   pub inliner : Inliner
   pub for : IsFor p h facts admitted inliner
-  pub planned : HasRows inliner (length p.classes) p.classes rows
+  pub looked : LooksThrough inliner p.classes d rows edits e
 
--- New bodies that have candidates at their positions and room, put in place of those of admitted methods. All else stays.
-pub record IsInlined (p : Program) (h : Hierarchy) (facts : Facts) (admitted : List Bool) (q : Program) (count : ℕ) : Type 0 where
-  pub rows : List (List (Option Edit))
-  pub planned : IsPlanned p h facts admitted rows
-  pub program : q ≡ program_by rows p
-  pub counted : count ≡ capped (rows_count rows)
+-- The accepted calls of admitted methods inlined, these asks being made: new bodies are put in place of those of some admitted
+-- methods, and all else stays. The count is how many of the asks every adviser answered with yes, up to the greatest number of
+-- 64 bits, and where it is 0, the program is the same.
+pub record IsInlined (p : Program) (h : Hierarchy) (facts : Facts) (admitted : List Bool) (q : Program) (count : ℕ) (origins : List (List Origin)) (rows : List Row) : Type 0 where
+  pub edits : List (List (Option Edit))
+  pub last : Done
+  pub planned : IsPlanned p h facts admitted (nothing_done p) last edits rows
+  pub program : q ≡ program_by edits p
+  pub origins_are : origins ≡ last.origins
+  pub counted : count ≡ capped (agreed_count rows)
   pub same : count ≡ 0 → q ≡ p

@@ -1,16 +1,25 @@
--- The new body of a caller, and whether it has room: it lays out in few units and is typed.
-use Rattle.std.specs.Prelude.{◌≡◌, ℕ, ◌≤◌, List, Option}
+-- The new body of a caller, and whether it has room: the program keeps its limit of cells, the body lays out in few units, and
+-- it is typed.
+use Rattle.std.specs.Prelude.{◌≡◌, ℕ, ◌+◌, ◌-◌, ◌<◌, ◌≤◌, List, [], ◌∷◌, Option, Some, None}
+use Rattle.program_model.specs.Cells.{capped, body_cells}
 use Rattle.program_model.specs.declared.body.Body.{Body}
+use Rattle.program_model.specs.declared.program.MethodAt.{MethodAt}
 use Rattle.program_model.specs.declared.pass.Renumber.{Renumber}
 use Rattle.relax.specs.declared.layout.Layout.{Layout}
-use Rattle.relax.specs.Layouts.{IsLaidOut}
-use Rattle.verify.specs.Methods.{TypesWith}
+use Rattle.relax.specs.Layouts.{IsLaidOut, IsFarAt}
+use Rattle.verify.specs.Methods.{TypesWith, RefusesWith}
 use Rattle.verify.specs.Typings.{Table}
+use Rattle.verify.specs.declared.typed.Verifier.{Verifier}
+use Rattle.verify.specs.declared.fault.TypeFault.TheVariants as fault
 use Rattle.splice.specs.declared.callee.Callee.{Callee}
 use Rattle.splice.specs.declared.spliced.Spliced.{Spliced}
 use Rattle.splice.specs.Pieces.{spliced}
 use Rattle.inline_calls.specs.declared.site.Caller.{Caller}
 use Rattle.inline_calls.specs.declared.caller.Inliner.{Inliner}
+
+-- the cells of a program that has so many, with a body in place of another
+abbrev pub cells_with : ℕ → Body → Body → ℕ
+cells_with cells old new = capped ((cells - capped (body_cells old)) + capped (body_cells new))
 
 -- a least layout of at most 32,000 units
 pub record IsShort (numbers : Renumber) (b : Body) : Type 0 where
@@ -18,12 +27,47 @@ pub record IsShort (numbers : Renumber) (b : Body) : Type 0 where
   pub is : IsLaidOut numbers b layout
   pub units : layout.size ≤ 32000
 
-pub record HasRoom (i : Inliner) (c : Caller) (b : Body) : Type 0 where
-  pub short : IsShort i.numbers b
-  pub table : Table
-  pub typed : TypesWith i.verifier c.at b table
+-- a branch goes too far in the least layout, or this has more units
+pub data IsLong (numbers : Renumber) (b : Body) : Type 0 where
+  IsFar : (position : ℕ) → IsFarAt numbers b position → IsLong numbers b
+  IsOver : (layout : Layout) → IsLaidOut numbers b layout → 32000 < layout.size → IsLong numbers b
 
--- the caller with these methods copied, which has room
-pub record IsNew (i : Inliner) (c : Caller) (chosen : List (Option Callee)) (s : Spliced) : Type 0 where
-  pub is : s ≡ spliced i.known.program.now c.method.now c.body.now chosen
-  pub room : HasRoom i c s.body
+-- a method with this body has a typing
+pub record IsTypedWith (v : Verifier) (at : MethodAt) (b : Body) : Type 0 where
+  pub table : Table
+  pub types : TypesWith v at b table
+
+-- or it has none, for this reason
+pub record IsIllTypedWith (v : Verifier) (at : MethodAt) (b : Body) : Type 0 where
+  pub method : ℕ
+  pub position : ℕ
+  pub register : ℕ
+  pub refuses : RefusesWith v at b (fault.IllTyped method position register)
+
+-- a caller has room with this body, in a program that has so many cells without
+pub record HasRoom (i : Inliner) (c : Caller) (cells : ℕ) (b : Body) : Type 0 where
+  pub fits : cells_with cells c.body.now b ≤ 67108864
+  pub short : IsShort i.numbers b
+  pub typed : IsTypedWith i.verifier c.at b
+
+-- it has none
+pub data LacksRoom (i : Inliner) (c : Caller) (cells : ℕ) (b : Body) : Type 0 where
+  LacksCells : 67108864 < cells_with cells c.body.now b → LacksRoom i c cells b
+  LacksUnits : IsLong i.numbers b → LacksRoom i c cells b
+  LacksTyping : IsIllTypedWith i.verifier c.at b → LacksRoom i c cells b
+
+-- ---- the new body
+
+-- the caller with these methods copied
+abbrev pub spliced_by : Inliner → Caller → List (Option Callee) → Spliced
+spliced_by i c chosen = spliced i.known.program.now c.method.now c.body.now chosen
+
+-- the same, none where no method is copied
+abbrev pub new_of : Inliner → Caller → List (Option Callee) → Option Spliced
+new_of i c [] = None
+new_of i c (y ∷ ys) = Some (spliced_by i c (y ∷ ys))
+
+-- the caller with these methods copied, where it has room
+abbrev pub Judges : Inliner → Caller → ℕ → List (Option Callee) → Option Spliced → Type 0
+Judges i c cells chosen (Some s) = (s ≡ spliced_by i c chosen) × HasRoom i c cells (spliced_by i c chosen).body
+Judges i c cells chosen None = LacksRoom i c cells (spliced_by i c chosen).body

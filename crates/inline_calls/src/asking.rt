@@ -1,7 +1,9 @@
 //! The asks about sites.
 
-ghost use Rattle.std.specs.Prelude.{◌≡◌, length, OnOk};
-ghost use Rattle.inline_calls.specs.Asked.{AreAsked};
+ghost use Rattle.std.specs.Prelude.{◌≡◌, map, length, IfOk};
+ghost use Rattle.redex_outside.specs.Panels.{AskedAll};
+ghost use Rattle.inline_calls.specs.Accepting.{ask_of, IsAsked};
+ghost use Rattle.inline_calls.specs.Asked.{Asks};
 
 use crate::found::word;
 use crate::site::Caller;
@@ -19,7 +21,9 @@ fn ask_of(
     caller: Caller<'_>,
     position: usize,
     callee: Callee<'_>,
-) -> Result<Ask, AllocError> {
+) -> Result<Ask, AllocError>
+    ensures { IfOk result (λ ask. ask ≡ ask_of program.now caller.entry position callee.entry) }
+{
     Ok(Ask {
         class: Text::from_units(alloc, type_units(program, caller.class.name))?,
         name: Text::from_units(alloc, name_units(program, caller.method.name))?,
@@ -38,8 +42,8 @@ pub fn ask_about(
     callee: Callee<'_>,
     panel: &mut Panel,
 ) -> Result<bool, AllocError>
-    ensures asked { OnOk result (AreAsked (length panel.old.advisers.items) panel.old.answers.items panel.new.answers.items) }
-    ensures advisers { OnOk result (length panel.new.advisers.items ≡ length panel.old.advisers.items) }
+    ensures { IfOk result (λ yes. Asks (map (λ b. replies b) panel.old.advisers.items) (map (λ b. replies b) panel.new.advisers.items)
+        panel.old.answers.items panel.new.answers.items (IsAsked program.now caller.entry position callee.entry yes)) }
 {
     let ask = ask_of(alloc, program, caller, position, callee)?;
     let yes = panel.ask(alloc, &ask)?;

@@ -1,17 +1,17 @@
 //! The sites of one caller.
 
-ghost use Rattle.std.specs.Prelude.{◌≡◌, ◌≤◌, ◌+◌, Some, length, slice_get, OnOk, IfOk, IfSome};
-ghost use Rattle.inline_calls.specs.Accepting.{HasNew, IsAccepted};
-ghost use Rattle.inline_calls.specs.Asked.{AreAsked};
-ghost use Rattle.inline_calls.specs.Candidates.{IsCandidate, AreCandidates, IsWith};
-ghost use Rattle.inline_calls.specs.Rooms.{IsNew};
+ghost use Rattle.std.specs.Prelude.{◌≡◌, ◌≤◌, ◌+◌, Some, None, true, false, map, length, slice_get, IfOk};
+ghost use Rattle.inline_calls.specs.Accepting.{Weighs, GoesOn, IsAccepted};
+ghost use Rattle.inline_calls.specs.Asked.{Asks};
+ghost use Rattle.inline_calls.specs.Candidates.{IsCandidate, IsWith};
+ghost use Rattle.inline_calls.specs.Rooms.{HasRoom, LacksRoom, Judges};
 ghost use Rattle.splice.specs.Callees.{chosen_at};
 ghost use Rattle.verify.specs.Meeting.{IsMeeting};
 
 use crate::asking::ask_about;
 use crate::room::{cells_with, fits_cells, is_short, is_typed};
 use crate::site::{Caller, Known};
-use program_model::Renumber;
+use program_model::{Body, Renumber};
 use redex_outside::Panel;
 use splice::{Callee, Plan, Spliced};
 use std::alloc::{AllocError, Global};
@@ -63,6 +63,28 @@ fn chosen_with<'p>(
 }
 
 impl<'p> Inliner<'p> {
+    /// Whether a caller has room with a body, in a program that has so many cells without it.
+    fn has_room(
+        &self,
+        alloc: Global,
+        caller: Caller<'p>,
+        cells: u64,
+        body: &Body,
+    ) -> Result<bool, AllocError>
+        requires { IsMeeting self.now.verifier.tables }
+        ensures room { IfOk result (λ has. has ≡ true → HasRoom self.now caller.entry cells body.now) }
+        ensures none { IfOk result (λ has. has ≡ false → LacksRoom self.now caller.entry cells body.now) }
+    {
+        if !fits_cells(cells_with(cells, caller.body, body)) {
+            return Ok(false);
+        }
+        if !is_short(alloc, body, &self.numbers)? {
+            return Ok(false);
+        }
+        let typed = is_typed(alloc, &self.verifier, caller.at, body)?;
+        Ok(typed)
+    }
+
     /// The caller with these methods copied, where it has room in a program that has so many cells without them.
     fn judged(
         &self,
@@ -72,7 +94,7 @@ impl<'p> Inliner<'p> {
         cells: u64,
     ) -> Result<Option<Spliced>, AllocError>
         requires { IsMeeting self.now.verifier.tables }
-        ensures { IfOk result (λ new. IfSome new (IsNew self.now caller.entry chosen.now)) }
+        ensures { IfOk result (Judges self.now caller.entry cells chosen.now) }
     {
         let plan = Plan {
             program: self.known.program,
@@ -81,10 +103,7 @@ impl<'p> Inliner<'p> {
             chosen,
         };
         let spliced = plan.spliced(alloc)?;
-        if fits_cells(cells_with(cells, caller.body, &spliced.body))
-            && is_short(alloc, &spliced.body, &self.numbers)?
-            && is_typed(alloc, &self.verifier, caller.at, &spliced.body)?
-        {
+        if self.has_room(alloc, caller, cells, &spliced.body)? {
             Ok(Some(spliced))
         } else {
             Ok(None)
@@ -104,9 +123,8 @@ impl<'p> Inliner<'p> {
         panel: &mut Panel,
     ) -> Result<Option<Spliced>, AllocError>
         requires { IsMeeting self.now.verifier.tables }
-        ensures new { IfOk result (λ new. IfSome new (IsNew self.now caller.entry chosen.now)) }
-        ensures asked { OnOk result (AreAsked (length panel.old.advisers.items) panel.old.answers.items panel.new.answers.items) }
-        ensures advisers { OnOk result (length panel.new.advisers.items ≡ length panel.old.advisers.items) }
+        ensures { IfOk result (λ new. Asks (map (λ b. replies b) panel.old.advisers.items) (map (λ b. replies b) panel.new.advisers.items)
+            panel.old.answers.items panel.new.answers.items (λ rows. Weighs self.now caller.entry cells position callee.entry chosen.now rows new)) }
     {
         let spliced = match self.judged(alloc, caller, chosen, cells)? {
             Some(spliced) => spliced,
@@ -132,10 +150,8 @@ impl<'p> Inliner<'p> {
     ) -> Result<Accepted<'p>, AllocError>
         requires meeting { IsMeeting self.now.verifier.tables }
         requires candidate { IsCandidate self.now.known caller position callee }
-        requires accepted { IsAccepted self.now caller position accepted }
-        ensures new { IfOk result (IsAccepted self.now caller.entry (position + 1)) }
-        ensures asked { OnOk result (AreAsked (length panel.old.advisers.items) panel.old.answers.items panel.new.answers.items) }
-        ensures advisers { OnOk result (length panel.new.advisers.items ≡ length panel.old.advisers.items) }
+        ensures { IfOk result (λ new. Asks (map (λ b. replies b) panel.old.advisers.items) (map (λ b. replies b) panel.new.advisers.items)
+            panel.old.answers.items panel.new.answers.items (GoesOn self.now caller.entry cells position accepted.entry new)) }
     {
         let chosen = chosen_with(alloc, accepted.chosen.as_slice(), position, callee)?;
         match self.asked(alloc, caller, position, callee, chosen.as_slice(), cells, panel)? {
@@ -158,11 +174,9 @@ impl<'p> Inliner<'p> {
         accepted: Accepted<'p>,
         panel: &mut Panel,
     ) -> Result<Accepted<'p>, AllocError>
-        requires meeting { IsMeeting self.now.verifier.tables }
-        requires accepted { IsAccepted self.now caller position accepted }
-        ensures new { IfOk result (IsAccepted self.now caller.entry (position + 1)) }
-        ensures asked { OnOk result (AreAsked (length panel.old.advisers.items) panel.old.answers.items panel.new.answers.items) }
-        ensures advisers { OnOk result (length panel.new.advisers.items ≡ length panel.old.advisers.items) }
+        requires { IsMeeting self.now.verifier.tables }
+        ensures { IfOk result (λ new. Asks (map (λ b. replies b) panel.old.advisers.items) (map (λ b. replies b) panel.new.advisers.items)
+            panel.old.answers.items panel.new.answers.items (GoesOn self.now caller.entry cells position accepted.entry new)) }
     {
         let body = caller.body;
         let insn = match body.insns.as_slice().get(position) {
@@ -184,9 +198,8 @@ impl<'p> Inliner<'p> {
         panel: &mut Panel,
     ) -> Result<Accepted<'p>, AllocError>
         requires { IsMeeting self.now.verifier.tables }
-        ensures new { IfOk result (IsAccepted self.now caller.entry (length caller.entry.body.now.insns)) }
-        ensures asked { OnOk result (AreAsked (length panel.old.advisers.items) panel.old.answers.items panel.new.answers.items) }
-        ensures advisers { OnOk result (length panel.new.advisers.items ≡ length panel.old.advisers.items) }
+        ensures { IfOk result (λ new. Asks (map (λ b. replies b) panel.old.advisers.items) (map (λ b. replies b) panel.new.advisers.items)
+            panel.old.answers.items panel.new.answers.items (IsAccepted self.now caller.entry cells (length caller.entry.body.now.insns) new)) }
     {
         let mut accepted = Accepted {
             chosen: Vec::new(alloc),

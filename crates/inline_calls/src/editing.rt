@@ -8,12 +8,11 @@ use program_model::{Body, Class, Method, Program};
 use seq::Seq;
 use std::alloc::AllocError;
 
-/// A new body, its lines, and how many calls it has copies in place of.
+/// A new body and its lines.
 #[derive(Drop)]
 pub struct Edit {
     pub body: Body,
     pub lines: Seq<u32>,
-    pub count: u64,
 }
 
 /// Whether a number is marked.

@@ -15,6 +15,7 @@
 
 mod asking;
 mod caller;
+mod done;
 mod editing;
 mod found;
 mod pass;

@@ -1,10 +1,8 @@
 //! Whether a new body has room: it lays out in few units, is typed, and the program keeps its limit of cells.
 
-ghost use Rattle.std.specs.Prelude.{◌≡◌, true, OnOk, IfOk};
+ghost use Rattle.std.specs.Prelude.{[], ◌≡◌, ◌≤◌, nat_le, true, false, IfOk};
 ghost use Rattle.verify.specs.Meeting.{IsMeeting};
-ghost use Rattle.verify.specs.Methods.{TypesWith};
-ghost use Rattle.verify.specs.Typings.{Table};
-ghost use Rattle.inline_calls.specs.Rooms.{IsShort};
+ghost use Rattle.inline_calls.specs.Rooms.{cells_with, IsShort, IsLong, IsTypedWith, IsIllTypedWith};
 
 use program_model::{Body, Counted, MethodAt, Renumber, count_body_cells};
 use relax::{LayFault, lay_out};
@@ -15,7 +13,9 @@ use verify::{TypeFault, Verifier};
 const MOST_UNITS: u32 = 32_000;
 
 /// No table entry has another number.
-pub fn same_numbers(alloc: Global) -> Renumber {
+pub fn same_numbers(alloc: Global) -> Renumber
+    ensures { result.strings.items ≡ [] }
+{
     Renumber {
         strings: Vec::new(alloc),
         types: Vec::new(alloc),
@@ -27,7 +27,8 @@ pub fn same_numbers(alloc: Global) -> Renumber {
 
 /// Whether a body lays out, in few units.
 pub fn is_short(alloc: Global, body: &Body, numbers: &Renumber) -> Result<bool, AllocError>
-    ensures { IfOk result (λ short. short ≡ true → IsShort numbers.now body.now) }
+    ensures short { IfOk result (λ short. short ≡ true → IsShort numbers.now body.now) }
+    ensures long { IfOk result (λ short. short ≡ false → IsLong numbers.now body.now) }
 {
     match lay_out(alloc, body, numbers) {
         Ok(layout) => Ok(layout.size <= MOST_UNITS),
@@ -44,7 +45,8 @@ pub fn is_typed(
     body: &Body,
 ) -> Result<bool, AllocError>
     requires { IsMeeting verifier.now.tables }
-    ensures { IfOk result (λ typed. typed ≡ true → (t : Table) × TypesWith verifier.now method body.now t) }
+    ensures typed { IfOk result (λ typed. typed ≡ true → IsTypedWith verifier.now method body.now) }
+    ensures ill { IfOk result (λ typed. typed ≡ false → IsIllTypedWith verifier.now method body.now) }
 {
     match verifier.typings_with(alloc, method, body) {
         Ok(_typings) => Ok(true),
@@ -54,13 +56,17 @@ pub fn is_typed(
 }
 
 /// The cells of a program that has so many, with a body in place of another.
-pub fn cells_with(cells: u64, old: &Body, new: &Body) -> u64 {
+pub fn cells_with(cells: u64, old: &Body, new: &Body) -> u64
+    ensures { result ≡ cells_with cells old.now new.now }
+{
     cells
         .saturating_sub(count_body_cells(old))
         .saturating_add(count_body_cells(new))
 }
 
 /// Whether a program may have so many cells.
-pub fn fits_cells(cells: u64) -> bool {
+pub fn fits_cells(cells: u64) -> bool
+    ensures { result ≡ nat_le cells 67108864 }
+{
     cells <= Counted::Cells.limit()
 }

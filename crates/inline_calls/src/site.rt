@@ -1,10 +1,11 @@
 //! Which calls are sites by themselves: what is called, and what is known at the call.
 
-ghost use Rattle.std.specs.Prelude.{◌≡◌, true, Some, IfSome, slice_get};
+ghost use Rattle.std.specs.Prelude.{◌≡◌, true, false, Some, IfSome, IfNone, MatchOption, slice_get};
 ghost use Rattle.std.specs.List.{list_any};
 ghost use Rattle.hierarchy.specs.Shapes.{IsOf};
 ghost use Rattle.program_model.specs.Lookups.{method_at};
-ghost use Rattle.inline_calls.specs.Candidates.{found_by, covers_alone, result_stands_alone, is_small, has_registers, is_plain, is_beside, KnowsReceiver, receiver_in, EntersAtOnce, IsCandidate};
+ghost use Rattle.inline_calls.specs.Candidates.{found_by, covers_alone, result_stands_alone, is_small, has_registers, is_plain, is_beside, is_suited, KnowsReceiver, receiver_in, EntersAtOnce, IsCandidate, IsUnsuited};
+ghost use Rattle.splice.specs.declared.callee.Callee.{Callee};
 
 use crate::found::{method_at, word};
 use crate::texts::{is_constructor_name, name_units};
@@ -87,6 +88,23 @@ fn is_plain(program: &Program, method: &Method) -> bool
     !is_constructor_name(name_units(program, method.name))
 }
 
+/// Whether a method is another plain one of the caller's class, which is short enough to be copied at a position.
+fn is_suited(
+    program: &Program,
+    caller: Caller<'_>,
+    position: usize,
+    place: MethodAt,
+    callee: Callee<'_>,
+) -> bool
+    ensures { result ≡ is_suited program.now caller.entry position place callee.entry.method.now callee.entry.body.now }
+{
+    is_beside(caller.at, place)
+        && is_plain(program, callee.method)
+        && is_small(callee.body)
+        && has_registers(caller.body, callee.body)
+        && !result_stands_alone(caller.body, position)
+}
+
 /// The register of a call's receiver, 65,535 where it passes none.
 fn receiver_in(insn: &Insn) -> u16
     ensures { result ≡ receiver_in insn.now }
@@ -102,7 +120,8 @@ fn receiver_in(insn: &Insn) -> u16
 
 /// Whether the facts know that a register holds no null at a position of a method.
 fn knows_receiver(facts: &Facts, method: u32, position: u32, register: u16) -> bool
-    ensures { result ≡ true → KnowsReceiver facts.now method position register }
+    ensures known { result ≡ true → KnowsReceiver facts.now method position register }
+    ensures unknown { result ≡ false → KnowsReceiver facts.now method position register → ⊥ }
 {
     match facts.at(method, position) {
         Some(frame) => frame.get(u32::from(register)).not_null(),
@@ -135,7 +154,8 @@ impl<'p> Known<'p> {
         callee: &Method,
         class: u32,
     ) -> bool
-        ensures { result ≡ true → EntersAtOnce self.now caller.now position insn.now callee.now class }
+        ensures enters { result ≡ true → EntersAtOnce self.now caller.now position insn.now callee.now class }
+        ensures late { result ≡ false → EntersAtOnce self.now caller.now position insn.now callee.now class → ⊥ }
     {
         if callee.flags.has(Flags::STATIC) {
             self.hierarchy.trivially_initialised(self.program, class)
@@ -148,8 +168,12 @@ impl<'p> Known<'p> {
     fn callee_at(&self, at: MethodAt) -> Option<Callee<'p>>
         ensures method { IfSome result (λ y. method_at self.now.program.now at ≡ Some y.method.now) }
         ensures code { IfSome result (λ y. y.method.now.body ≡ Some y.body.now) }
+        ensures none { IfNone result ((y : Callee) → method_at self.now.program.now at ≡ Some y.method.now → y.method.now.body ≡ Some y.body.now → ⊥) }
     {
-        let method = method_at(self.program, at)?;
+        let method = match method_at(self.program, at) {
+            Some(method) => method,
+            None => return None,
+        };
         match &method.body {
             Some(body) => Some(Callee { method, body }),
             None => None,
@@ -165,17 +189,20 @@ impl<'p> Known<'p> {
         insn: &Insn,
     ) -> Option<Callee<'p>>
         requires { slice_get caller.body.now.insns position ≡ Some insn.now }
-        ensures { IfSome result (IsCandidate self.now caller.entry position) }
+        ensures { MatchOption result (IsUnsuited self.now caller.entry position) (IsCandidate self.now caller.entry position) }
     {
-        let place = self.found(insn)?;
-        let callee = self.callee_at(place)?;
-        if is_beside(caller.at, place)
-            && is_plain(self.program, callee.method)
-            && is_small(callee.body)
-            && has_registers(caller.body, callee.body)
-            && !result_stands_alone(caller.body, position)
-            && self.enters(caller.method, position, insn, callee.method, place.class)
-        {
+        let place = match self.found(insn) {
+            Some(place) => place,
+            None => return None,
+        };
+        let callee = match self.callee_at(place) {
+            Some(callee) => callee,
+            None => return None,
+        };
+        if !is_suited(self.program, caller, position, place, callee) {
+            return None;
+        }
+        if self.enters(caller.method, position, insn, callee.method, place.class) {
             Some(callee)
         } else {
             None

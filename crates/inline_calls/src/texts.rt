@@ -1,7 +1,8 @@
 //! The texts of types, names and protos.
 
-ghost use Rattle.std.specs.Prelude.{◌≡◌, codes};
+ghost use Rattle.std.specs.Prelude.{◌≡◌, ◌++◌, ◌∷◌, flat_map, codes, IfOk, OnOk};
 ghost use Rattle.dalvik_defs.specs.Names.{text_eq};
+ghost use Rattle.inline_calls.specs.Asked.{proto_text, signature_text};
 ghost use Rattle.inline_calls.specs.Candidates.{name_units};
 ghost use Rattle.program_model.specs.Texts.{string_text, type_text};
 
@@ -48,24 +49,44 @@ pub fn is_constructor_name(units: &[u16]) -> bool
     units == name.as_slice()
 }
 
-/// The text of a proto: `(PARAMETERS)RESULT`.
-fn proto_text(alloc: Global, program: &Program, proto: &Proto) -> Result<Text, AllocError> {
-    let mut units = Vec::new(alloc);
-    units.push(0x28)?;
-    for kind in proto.parameters.as_slice() {
+/// Adds the units of the types' texts.
+fn push_types(units: &mut Vec<u16>, program: &Program, kinds: &[u32]) -> Result<(), AllocError>
+    ensures { OnOk result (units.new.items ≡ units.old.items ++ flat_map (type_text program.now) kinds.now) }
+{
+    for kind in kinds {
         units.extend_from_slice(type_units(program, *kind))?;
     }
+    Ok(())
+}
+
+/// Adds the units of a proto: `(PARAMETERS)RESULT`.
+fn push_proto(units: &mut Vec<u16>, program: &Program, proto: &Proto) -> Result<(), AllocError>
+    ensures { OnOk result (units.new.items ≡ units.old.items ++ 40 ∷ (flat_map (type_text program.now) proto.now.parameters ++ 41 ∷ type_text program.now proto.now.result)) }
+{
+    units.push(0x28)?;
+    push_types(units, program, proto.parameters.as_slice())?;
     units.push(0x29)?;
     units.extend_from_slice(type_units(program, proto.result))?;
+    Ok(())
+}
+
+/// The text of a proto, empty where there is no such proto.
+fn proto_text(alloc: Global, program: &Program, proto: u32) -> Result<Text, AllocError>
+    ensures { IfOk result (λ text. text ≡ proto_text program.now proto) }
+{
+    let mut units = Vec::new(alloc);
+    if let Some(proto) = program.protos.items.get(proto as usize) {
+        push_proto(&mut units, program, proto)?;
+    }
     Ok(Text::from_vec(units))
 }
 
 /// The text of a method's proto, empty where there is none.
-pub fn signature_text(alloc: Global, program: &Program, method: u32) -> Result<Text, AllocError> {
-    if let Some(named) = program.methods.items.get(method as usize) {
-        if let Some(proto) = program.protos.items.get(named.proto as usize) {
-            return proto_text(alloc, program, proto);
-        }
+pub fn signature_text(alloc: Global, program: &Program, method: u32) -> Result<Text, AllocError>
+    ensures { IfOk result (λ text. text ≡ signature_text program.now method) }
+{
+    match program.methods.items.get(method as usize) {
+        Some(named) => Ok(proto_text(alloc, program, named.proto)?),
+        None => Ok(Text::from_vec(Vec::new(alloc))),
     }
-    Ok(Text::from_vec(Vec::new(alloc)))
 }

@@ -13,7 +13,7 @@ use Rattle.splice.specs.Callees.{chosen_at}
 use Rattle.splice.specs.declared.callee.Callee.{Callee}
 use Rattle.inline_calls.specs.declared.site.Known.{Known}
 use Rattle.inline_calls.specs.declared.site.Caller.{Caller}
-use Rattle.inline_calls.specs.Candidates.{found_by, is_suited, EntersAtOnce, IsWith, IsCandidate, IsUnsuited}
+use Rattle.inline_calls.specs.Candidates.{found_by, is_suited, is_agreeing, EntersAtOnce, IsWith, IsCandidate, IsUnsuited}
 
 -- ---- no candidate
 
@@ -59,14 +59,22 @@ module _ (k : Known) (c : Caller) (n : ℕ) where
             let f : true ≡ false = sym is.suited ∙ e ∙ none in
             absurd (cc f)
 
+        pub not_agreeing : is_agreeing k.program.now c.body.now n insn x.method.now ≡ false → IsUnsuited k c n
+        not_agreeing none of y is =
+            let e : is_agreeing k.program.now c.body.now n is.insn y.method.now ≡ is_agreeing k.program.now c.body.now n insn x.method.now =
+                ap (λ (i : Insn). is_agreeing k.program.now c.body.now n i y.method.now) (same_insn y is)
+                ∙ ap (λ (m : Method). is_agreeing k.program.now c.body.now n insn m) (same_method y is of) in
+            let f : true ≡ false = sym is.agrees ∙ e ∙ none in
+            absurd (cc f)
+
         pub not_entered : (EntersAtOnce k c.method.now n insn x.method.now place.class → ⊥) → IsUnsuited k c n
         not_entered late of y is =
             late (subst (λ (i : Insn). EntersAtOnce k c.method.now n i x.method.now place.class) (same_insn y is)
             (subst (λ (at : MethodAt). EntersAtOnce k c.method.now n is.insn x.method.now at.class) (same_place y is of)
             (subst (λ (m : Method). EntersAtOnce k c.method.now n is.insn m is.place.class) (same_method y is of) is.enters)))
 
-        pub is_candidate : is_suited k.program.now c n place x.method.now x.body.now ≡ true → EntersAtOnce k c.method.now n insn x.method.now place.class → IsCandidate k c n x
-        is_candidate suited enters = record {
+        pub is_candidate : is_suited k.program.now c n place x.method.now x.body.now ≡ true → is_agreeing k.program.now c.body.now n insn x.method.now ≡ true → EntersAtOnce k c.method.now n insn x.method.now place.class → IsCandidate k c n x
+        is_candidate suited agrees enters = record {
           insn = insn;
           here = here;
           place = place;
@@ -74,6 +82,7 @@ module _ (k : Known) (c : Caller) (n : ℕ) where
           method = method;
           code = code;
           suited = suited;
+          agrees = agrees;
           enters = enters;
         }
 

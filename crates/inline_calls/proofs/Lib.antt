@@ -1,4 +1,5 @@
 mod Accepting
+mod Agreeing
 mod Asks
 mod Candidates
 mod Edits

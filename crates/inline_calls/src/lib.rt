@@ -13,6 +13,7 @@
 //! ask. That the meaning stays is the law of inlining (`inline_law`), and is not proved of this pass.
 #![tactic(auto)]
 
+mod agreeing;
 mod asking;
 mod caller;
 mod done;

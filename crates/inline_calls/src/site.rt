@@ -7,6 +7,7 @@ ghost use Rattle.program_model.specs.Lookups.{method_at};
 ghost use Rattle.inline_calls.specs.Candidates.{found_by, covers_alone, result_stands_alone, is_small, has_registers, is_plain, is_beside, is_suited, KnowsReceiver, receiver_in, EntersAtOnce, IsCandidate, IsUnsuited};
 ghost use Rattle.splice.specs.declared.callee.Callee.{Callee};
 
+use crate::agreeing::is_agreeing;
 use crate::found::{method_at, word};
 use crate::texts::{is_constructor_name, name_units};
 use facts::Facts;
@@ -200,6 +201,9 @@ impl<'p> Known<'p> {
             None => return None,
         };
         if !is_suited(self.program, caller, position, place, callee) {
+            return None;
+        }
+        if !is_agreeing(self.program, caller.body, position, insn, callee.method) {
             return None;
         }
         if self.enters(caller.method, position, insn, callee.method, place.class) {

@@ -1,10 +1,9 @@
-use Rattle.std.proofs.Common.{length}
+use Rattle.std.proofs.Common.{map}
 use Rattle.inline_calls.specs.Accepting.{IsAccepted}
-use Rattle.inline_calls.specs.Asked.{GoesOn}
+use Rattle.inline_calls.specs.Asked.{Asks}
 use Rattle.inline_calls.proofs.caller.Inliner.accept.Given as goal
 
 abbrev pub invariant-loop-position : goal.invariant-loop-position
-invariant-loop-position g l = record {
-  new : IsAccepted l.self l.caller l.position l.accepted;
-  asked : GoesOn (length l.initial.panel.advisers.items) l.initial.panel.answers.items (length l.panel.advisers.items) l.panel.answers.items;
-}
+invariant-loop-position g l =
+    Asks (map (λ b. (goal.Adviser-dyn g (b.vtable, b.value)).replies b.value) l.initial.panel.advisers.items) (map (λ b. (goal.Adviser-dyn g (b.vtable, b.value)).replies b.value) l.panel.advisers.items)
+    l.initial.panel.answers.items l.panel.answers.items (IsAccepted l.self l.caller l.cells l.position l.accepted)

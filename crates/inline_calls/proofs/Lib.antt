@@ -1,6 +1,8 @@
 mod Accepting
-mod Agreeing
+mod Arguments
 mod Asks
 mod Candidates
 mod Edits
 mod Looking
+mod Receivers
+mod Rooms

@@ -1,13 +1,10 @@
 -- What is asked about calls, and what the asks add to the answers of a panel.
-use Rattle.std.specs.Prelude.{◌≡◌, ℕ, ◌+◌, Bool, if◌then◌else◌, List, [], ◌∷◌, ◌++◌, length, map, flat_map, All, Option, Some, None, slice_get}
+use Rattle.std.specs.Prelude.{◌≡◌, ℕ, ◌+◌, Bool, if◌then◌else◌, List, [], ◌∷◌, ◌++◌, length, flat_map, All, Option, Some, None, slice_get}
 use Rattle.std.specs.List.{list_all}
 use Rattle.program_model.specs.Texts.{string_text, type_text}
 use Rattle.program_model.specs.declared.pools.MethodName.{MethodName}
 use Rattle.program_model.specs.declared.program.Program.{Program}
 use Rattle.redex_outside.specs.declared.adviser.Ask.{Ask}
-use Rattle.redex_outside.specs.Turns.{Turn, Weighed}
-use Rattle.redex_outside.specs.Voices.{Voice}
-use Rattle.redex_outside.specs.Panels.{EachReplied}
 
 -- ---- the texts of an ask
 
@@ -33,9 +30,6 @@ pub record Row : Type 0 where
 abbrev pub answers_of : Row → List Bool
 answers_of r = r.answers
 
-abbrev pub turn_of : Row → Turn
-turn_of r = Weighed r.ask
-
 -- every adviser says yes
 abbrev pub is_agreed : Row → Bool
 is_agreed r = list_all (λ yes. yes) r.answers
@@ -48,15 +42,15 @@ abbrev pub agreed_count : List Row → ℕ
 agreed_count [] = 0
 agreed_count (r ∷ rs) = agreed r + agreed_count rs
 
--- The advisers were asked these asks, one after the other. Behind the answers before stand those to each ask, one of each
--- adviser. Read by adviser, they are its replies to these asks.
-pub record AreAnswered (rows : List Row) (olds news : List Voice) (before after : List Bool) : Type 0 where
+-- So many advisers were asked these asks, one after the other: behind the answers before stand those to each ask, one of each
+-- adviser.
+pub record AreAnswered (rows : List Row) (count : ℕ) (before after : List Bool) : Type 0 where
   pub grown : after ≡ before ++ flat_map answers_of rows
-  pub each_adviser : All (λ r. length (answers_of r) ≡ length olds) rows
-  pub replied : EachReplied (map turn_of rows) olds (map answers_of rows) news
+  pub each_adviser : All (λ r. length (answers_of r) ≡ count) rows
 
--- the same of some asks for which this holds
-pub record Asks (olds news : List Voice) (before after : List Bool) (P : List Row → Type 0) : Type 0 where
+-- the same of some asks for which this holds, and there are as many advisers as before
+pub record Asks (count now : ℕ) (before after : List Bool) (P : List Row → Type 0) : Type 0 where
   pub rows : List Row
-  pub answered : AreAnswered rows olds news before after
+  pub answered : AreAnswered rows count before after
+  pub advisers : now ≡ count
   pub holds : P rows

@@ -50,10 +50,10 @@ pub record IsCallerOf (class : Class) (at : MethodAt) (m : Method) (c : Caller) 
   pub code : m.body ≡ Some c.body.now
 
 -- All positions of a caller were tried, one after the other. It has a new body where a call was accepted.
-pub record HasLooked (i : Inliner) (c : Caller) (d : Done) (rows : List Row) (edit : Option Edit) (e : Done) : Type 0 where
+pub record HasLooked (i : Inliner) (c : Caller) (d : Done) (rows : List Row) (given : Option Edit) (e : Done) : Type 0 where
   pub chosen : List (Option Callee)
   pub tried : HasTried i c d.cells (length c.body.now.insns) rows chosen
-  pub edit : edit ≡ edit_of (new_of i c chosen)
+  pub edit : given ≡ edit_of (new_of i c chosen)
   pub done : e ≡ noted c (new_of i c chosen) (capped (agreed_count rows)) d
 
 -- nothing is asked about a method without code or one that isn't admitted

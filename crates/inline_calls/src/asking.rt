@@ -1,6 +1,6 @@
 //! The asks about sites.
 
-ghost use Rattle.std.specs.Prelude.{◌≡◌, map, length, IfOk};
+ghost use Rattle.std.specs.Prelude.{◌≡◌, length, IfOk};
 ghost use Rattle.redex_outside.specs.Panels.{AskedAll};
 ghost use Rattle.inline_calls.specs.Accepting.{ask_of, IsAsked};
 ghost use Rattle.inline_calls.specs.Asked.{Asks};
@@ -42,8 +42,7 @@ pub fn ask_about(
     callee: Callee<'_>,
     panel: &mut Panel,
 ) -> Result<bool, AllocError>
-    ensures { IfOk result (λ yes. Asks (map (λ b. replies b) panel.old.advisers.items) (map (λ b. replies b) panel.new.advisers.items)
-        panel.old.answers.items panel.new.answers.items (IsAsked program.now caller.entry position callee.entry yes)) }
+    ensures { IfOk result (λ yes. Asks (length panel.old.advisers.items) (length panel.new.advisers.items) panel.old.answers.items panel.new.answers.items (IsAsked program.now caller.entry position callee.entry yes)) }
 {
     let ask = ask_of(alloc, program, caller, position, callee)?;
     let yes = panel.ask(alloc, &ask)?;

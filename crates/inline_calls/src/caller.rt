@@ -1,6 +1,6 @@
 //! The sites of one caller.
 
-ghost use Rattle.std.specs.Prelude.{◌≡◌, ◌≤◌, ◌+◌, Some, None, true, false, map, length, slice_get, IfOk};
+ghost use Rattle.std.specs.Prelude.{◌≡◌, ◌≤◌, ◌+◌, Some, None, true, false, length, slice_get, IfOk};
 ghost use Rattle.inline_calls.specs.Accepting.{Weighs, GoesOn, IsAccepted};
 ghost use Rattle.inline_calls.specs.Asked.{Asks};
 ghost use Rattle.inline_calls.specs.Candidates.{IsCandidate, IsWith};
@@ -123,8 +123,7 @@ impl<'p> Inliner<'p> {
         panel: &mut Panel,
     ) -> Result<Option<Spliced>, AllocError>
         requires { IsMeeting self.now.verifier.tables }
-        ensures { IfOk result (λ new. Asks (map (λ b. replies b) panel.old.advisers.items) (map (λ b. replies b) panel.new.advisers.items)
-            panel.old.answers.items panel.new.answers.items (λ rows. Weighs self.now caller.entry cells position callee.entry chosen.now rows new)) }
+        ensures { IfOk result (λ new. Asks (length panel.old.advisers.items) (length panel.new.advisers.items) panel.old.answers.items panel.new.answers.items (λ rows. Weighs self.now caller.entry cells position callee.entry chosen.now rows new)) }
     {
         let spliced = match self.judged(alloc, caller, chosen, cells)? {
             Some(spliced) => spliced,
@@ -150,8 +149,7 @@ impl<'p> Inliner<'p> {
     ) -> Result<Accepted<'p>, AllocError>
         requires meeting { IsMeeting self.now.verifier.tables }
         requires candidate { IsCandidate self.now.known caller position callee }
-        ensures { IfOk result (λ new. Asks (map (λ b. replies b) panel.old.advisers.items) (map (λ b. replies b) panel.new.advisers.items)
-            panel.old.answers.items panel.new.answers.items (GoesOn self.now caller.entry cells position accepted.entry new)) }
+        ensures { IfOk result (λ new. Asks (length panel.old.advisers.items) (length panel.new.advisers.items) panel.old.answers.items panel.new.answers.items (GoesOn self.now caller.entry cells position accepted.entry new)) }
     {
         let chosen = chosen_with(alloc, accepted.chosen.as_slice(), position, callee)?;
         match self.asked(alloc, caller, position, callee, chosen.as_slice(), cells, panel)? {
@@ -175,8 +173,7 @@ impl<'p> Inliner<'p> {
         panel: &mut Panel,
     ) -> Result<Accepted<'p>, AllocError>
         requires { IsMeeting self.now.verifier.tables }
-        ensures { IfOk result (λ new. Asks (map (λ b. replies b) panel.old.advisers.items) (map (λ b. replies b) panel.new.advisers.items)
-            panel.old.answers.items panel.new.answers.items (GoesOn self.now caller.entry cells position accepted.entry new)) }
+        ensures { IfOk result (λ new. Asks (length panel.old.advisers.items) (length panel.new.advisers.items) panel.old.answers.items panel.new.answers.items (GoesOn self.now caller.entry cells position accepted.entry new)) }
     {
         let body = caller.body;
         let insn = match body.insns.as_slice().get(position) {
@@ -198,8 +195,7 @@ impl<'p> Inliner<'p> {
         panel: &mut Panel,
     ) -> Result<Accepted<'p>, AllocError>
         requires { IsMeeting self.now.verifier.tables }
-        ensures { IfOk result (λ new. Asks (map (λ b. replies b) panel.old.advisers.items) (map (λ b. replies b) panel.new.advisers.items)
-            panel.old.answers.items panel.new.answers.items (IsAccepted self.now caller.entry cells (length caller.entry.body.now.insns) new)) }
+        ensures { IfOk result (λ new. Asks (length panel.old.advisers.items) (length panel.new.advisers.items) panel.old.answers.items panel.new.answers.items (IsAccepted self.now caller.entry cells (length caller.entry.body.now.insns) new)) }
     {
         let mut accepted = Accepted {
             chosen: Vec::new(alloc),

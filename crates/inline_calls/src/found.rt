@@ -3,7 +3,7 @@
 ghost use Rattle.std.specs.Prelude.{◌≡◌};
 ghost use Rattle.std.specs.Option.{option_copied};
 ghost use Rattle.program_model.specs.Lookups.{method_at};
-ghost use Rattle.inline_calls.specs.Plans.{word};
+ghost use Rattle.splice.specs.Shifted.{word};
 
 use program_model::{Method, MethodAt, Program};
 

@@ -1,6 +1,6 @@
 //! The pass over a program.
 
-ghost use Rattle.std.specs.Prelude.{◌≡◌, map, length, IfOk, OnOk};
+ghost use Rattle.std.specs.Prelude.{◌≡◌, length, IfOk, OnOk};
 ghost use Rattle.inline_calls.specs.Asked.{Asks};
 ghost use Rattle.inline_calls.specs.Plans.{HasLooked, LooksAt, LooksIn, LooksThrough, IsPlanned, IsInlined};
 ghost use Rattle.verify.specs.Meeting.{IsMeeting};
@@ -28,8 +28,7 @@ fn edit_caller<'p>(
     panel: &mut Panel,
 ) -> Result<Option<Edit>, AllocError>
     requires { IsMeeting inliner.now.verifier.tables }
-    ensures { IfOk result (λ edit. Asks (map (λ b. replies b) panel.old.advisers.items) (map (λ b. replies b) panel.new.advisers.items)
-        panel.old.answers.items panel.new.answers.items (λ rows. HasLooked inliner.now caller.entry done.old rows edit done.new)) }
+    ensures { IfOk result (λ edit. Asks (length panel.old.advisers.items) (length panel.new.advisers.items) panel.old.answers.items panel.new.answers.items (λ rows. HasLooked inliner.now caller.entry done.old rows edit done.new)) }
 {
     let accepted = inliner.accept(alloc, caller, done.cells, panel)?;
     let edit = done.note(caller, accepted);
@@ -47,8 +46,7 @@ fn edit_method<'p>(
     panel: &mut Panel,
 ) -> Result<Option<Edit>, AllocError>
     requires { IsMeeting inliner.now.verifier.tables }
-    ensures { IfOk result (λ edit. Asks (map (λ b. replies b) panel.old.advisers.items) (map (λ b. replies b) panel.new.advisers.items)
-        panel.old.answers.items panel.new.answers.items (λ rows. LooksAt inliner.now class.now at method.now done.old rows edit done.new)) }
+    ensures { IfOk result (λ edit. Asks (length panel.old.advisers.items) (length panel.new.advisers.items) panel.old.answers.items panel.new.answers.items (λ rows. LooksAt inliner.now class.now at method.now done.old rows edit done.new)) }
 {
     let body = match &method.body {
         Some(body) => body,
@@ -76,8 +74,7 @@ fn edit_class<'p>(
     panel: &mut Panel,
 ) -> Result<Seq<Option<Edit>>, AllocError>
     requires { IsMeeting inliner.now.verifier.tables }
-    ensures { IfOk result (λ row. Asks (map (λ b. replies b) panel.old.advisers.items) (map (λ b. replies b) panel.new.advisers.items)
-        panel.old.answers.items panel.new.answers.items (λ rows. LooksIn inliner.now class_place class.now done.old rows row done.new)) }
+    ensures { IfOk result (λ row. Asks (length panel.old.advisers.items) (length panel.new.advisers.items) panel.old.answers.items panel.new.answers.items (λ rows. LooksIn inliner.now class_place class.now done.old rows row done.new)) }
 {
     let mut row = Vec::new(alloc);
     for (number, method) in class.methods.as_slice().iter().enumerate() {
@@ -100,8 +97,7 @@ fn edit_classes<'p>(
     panel: &mut Panel,
 ) -> Result<Seq<Seq<Option<Edit>>>, AllocError>
     requires { IsMeeting inliner.now.verifier.tables }
-    ensures { IfOk result (λ edits. Asks (map (λ b. replies b) panel.old.advisers.items) (map (λ b. replies b) panel.new.advisers.items)
-        panel.old.answers.items panel.new.answers.items (λ rows. LooksThrough inliner.now classes.now done.old rows edits done.new)) }
+    ensures { IfOk result (λ edits. Asks (length panel.old.advisers.items) (length panel.new.advisers.items) panel.old.answers.items panel.new.answers.items (λ rows. LooksThrough inliner.now classes.now done.old rows edits done.new)) }
 {
     let mut rows = Vec::new(alloc);
     for (place, class) in classes.iter().enumerate() {
@@ -121,8 +117,7 @@ fn edit_all(
     done: &mut Done,
     panel: &mut Panel,
 ) -> Result<Seq<Seq<Option<Edit>>>, AllocError>
-    ensures { IfOk result (λ edits. Asks (map (λ b. replies b) panel.old.advisers.items) (map (λ b. replies b) panel.new.advisers.items)
-        panel.old.answers.items panel.new.answers.items (IsPlanned program.now hierarchy.now facts.now admitted.now done.old done.new edits)) }
+    ensures { IfOk result (λ edits. Asks (length panel.old.advisers.items) (length panel.new.advisers.items) panel.old.answers.items panel.new.answers.items (IsPlanned program.now hierarchy.now facts.now admitted.now done.old done.new edits)) }
 {
     let inliner = Inliner {
         known: Known {
@@ -152,8 +147,7 @@ pub fn apply(
     admitted: &Admitted,
     panel: &mut Panel,
 ) -> Result<Changed, AllocError>
-    ensures { IfOk result (λ changed. Asks (map (λ b. replies b) panel.old.advisers.items) (map (λ b. replies b) panel.new.advisers.items)
-        panel.old.answers.items panel.new.answers.items (IsInlined program hierarchy.now facts.now admitted.now.methods.items changed.program changed.count changed.origins)) }
+    ensures { IfOk result (λ changed. Asks (length panel.old.advisers.items) (length panel.new.advisers.items) panel.old.answers.items panel.new.answers.items (IsInlined program hierarchy.now facts.now admitted.now.methods.items changed.program changed.count changed.origins)) }
 {
     let mut program = program;
     let mut done = Done::nothing(alloc, &program)?;

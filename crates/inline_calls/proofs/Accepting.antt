@@ -15,28 +15,28 @@ use Rattle.inline_calls.proofs.Asks.{agreed-append}
 -- ---- one ask
 
 one_agreed : (row : Row) → is_agreed row ≡ true → agreed_count (row ∷ []) ≡ 1
-one_agreed row e = omega (arith, ap (λ (b : Bool). if b then 1 else 0) e)
+one_agreed row e = let f : agreed row ≡ 1 = ap {B = ℕ} (λ b. if b then 1 else 0) e in omega (arith, f)
 
 one_refused : (row : Row) → is_agreed row ≡ false → agreed_count (row ∷ []) ≡ 0
-one_refused row e = omega (arith, ap (λ (b : Bool). if b then 1 else 0) e)
+one_refused row e = let f : agreed row ≡ 0 = ap {B = ℕ} (λ b. if b then 1 else 0) e in omega (arith, f)
 
 module _ (i : Inliner) (c : Caller) (cells n : ℕ) (y : Callee) (chosen : List (Option Callee)) where
   -- every adviser says yes
-  pub weighs_yes : (s : Spliced) (yes : Bool) → Judges i c cells chosen (Some s) → yes ≡ true → (rows : List Row) → IsAsked i.known.program.now c n y yes rows → Weighs i c cells n y chosen rows (Some s)
-  weighs_yes s yes j e rows a =
+  pub weighs_yes : (s : Spliced) (agrees : Bool) → Judges i c cells chosen (Some s) → agrees ≡ true → (rows : List Row) → IsAsked i.known.program.now c n y agrees rows → Weighs i c cells n y chosen rows (Some s)
+  weighs_yes s agrees j e rows a =
       subst (λ (o : List Row). Weighs i c cells n y chosen o (Some s)) (sym a.one)
       (subst (λ (t : Spliced). Weighs i c cells n y chosen (a.row ∷ []) (Some t)) (sym j.0) (Agreed a.row j.1 a.ask (sym a.agreed ∙ e)))
 
   -- some adviser says no
-  pub weighs_no : (s : Spliced) (yes : Bool) → Judges i c cells chosen (Some s) → yes ≡ false → (rows : List Row) → IsAsked i.known.program.now c n y yes rows → Weighs i c cells n y chosen rows None
-  weighs_no s yes j e rows a = subst (λ (o : List Row). Weighs i c cells n y chosen o None) (sym a.one) (Refused a.row j.1 a.ask (sym a.agreed ∙ e))
+  pub weighs_no : (s : Spliced) (agrees : Bool) → Judges i c cells chosen (Some s) → agrees ≡ false → (rows : List Row) → IsAsked i.known.program.now c n y agrees rows → Weighs i c cells n y chosen rows None
+  weighs_no s agrees j e rows a = subst (λ (o : List Row). Weighs i c cells n y chosen o None) (sym a.one) (Refused a.row j.1 a.ask (sym a.agreed ∙ e))
 
   none_weighed : (rows : List Row) → Weighs i c cells n y chosen rows None → agreed_count rows ≡ 0
   none_weighed _ (Unasked lacks) = refl
-  none_weighed _ (Refused row room ask no) = one_refused row no
+  none_weighed _ (Refused row room ask refused) = one_refused row refused
 
   some_weighed : (s : Spliced) (rows : List Row) → Weighs i c cells n y chosen rows (Some s) → (s ≡ spliced_by i c chosen) × (agreed_count rows ≡ 1)
-  some_weighed _ _ (Agreed row room ask yes) = (refl, one_agreed row yes)
+  some_weighed _ _ (Agreed row room ask agrees) = (refl, one_agreed row agrees)
 
 -- ---- one position
 
@@ -92,8 +92,8 @@ module _ (i : Inliner) (c : Caller) (cells : ℕ) where
   weighed_empty : (n : ℕ) (y : Callee) (old new : List (Option Callee)) (rows : List Row) (s : Option Spliced) → IsWith old n y new → Weighs i c cells n y new rows s
       → chosen_by s old new ≡ [] → (old ≡ []) × (agreed_count rows ≡ 0)
   weighed_empty n y old new _ _ with (Unasked lacks) e = (e, refl)
-  weighed_empty n y old new _ _ with (Refused row room ask no) e = (e, one_refused row no)
-  weighed_empty n y old new _ _ with (Agreed row room ask yes) e = absurd (omega (arith, with.long, ap length e))
+  weighed_empty n y old new _ _ with (Refused row room ask refused) e = (e, one_refused row refused)
+  weighed_empty n y old new _ _ with (Agreed row room ask agrees) e = absurd (omega (arith, with.long, ap length e))
 
   tries_empty : (n : ℕ) (old new : List (Option Callee)) (rows : List Row) → Tries i c cells n old rows new → new ≡ [] → (old ≡ []) × (agreed_count rows ≡ 0)
   tries_empty n old _ _ (Unsuited none) e = (e, refl)
@@ -108,8 +108,8 @@ module _ (i : Inliner) (c : Caller) (cells : ℕ) where
 
   weighed_none : (n : ℕ) (y : Callee) (old new : List (Option Callee)) (rows : List Row) (s : Option Spliced) → Weighs i c cells n y new rows s → agreed_count rows ≡ 0 → chosen_by s old new ≡ old
   weighed_none n y old new _ _ (Unasked lacks) e = refl
-  weighed_none n y old new _ _ (Refused row room ask no) e = refl
-  weighed_none n y old new _ _ (Agreed row room ask yes) e = absurd (omega (arith, one_agreed row yes, e))
+  weighed_none n y old new _ _ (Refused row room ask refused) e = refl
+  weighed_none n y old new _ _ (Agreed row room ask agrees) e = absurd (omega (arith, one_agreed row agrees, e))
 
   tries_none : (n : ℕ) (old new : List (Option Callee)) (rows : List Row) → Tries i c cells n old rows new → agreed_count rows ≡ 0 → new ≡ old
   tries_none n old _ _ (Unsuited none) e = refl

@@ -65,14 +65,14 @@ looked_none i c d e rows edit h none =
 method_count : (i : Inliner) (class : Class) (at : MethodAt) (x : Method) (d : Done) (rows : List Row) (edit : Option Edit) (e : Done) (m : ℕ) → LooksAt i class at x d rows edit e
     → d.count ≡ capped m → e.count ≡ capped (m + agreed_count rows)
 method_count i class at x d _ _ _ m (Bare none) was = caps_none d.count m 0 was refl
-method_count i class at x d _ _ _ m (Barred no) was = caps_none d.count m 0 was refl
-method_count i class at x d _ _ _ m (Looked c rows edit e yes is looked) was = looked_count i c d e rows edit m looked was
+method_count i class at x d _ _ _ m (Barred barred) was = caps_none d.count m 0 was refl
+method_count i class at x d _ _ _ m (Looked c rows edit e admitted is looked) was = looked_count i c d e rows edit m looked was
 
 method_none : (i : Inliner) (class : Class) (at : MethodAt) (x : Method) (d : Done) (rows : List Row) (edit : Option Edit) (e : Done) → LooksAt i class at x d rows edit e
     → agreed_count rows ≡ 0 → method_by edit x ≡ x
 method_none i class at x d _ _ _ (Bare none) z = refl
-method_none i class at x d _ _ _ (Barred no) z = refl
-method_none i class at x d _ _ _ (Looked c rows edit e yes is looked) z = ap (λ (o : Option Edit). method_by o x) (looked_none i c d e rows edit looked z)
+method_none i class at x d _ _ _ (Barred barred) z = refl
+method_none i class at x d _ _ _ (Looked c rows edit e admitted is looked) z = ap (λ (o : Option Edit). method_by o x) (looked_none i c d e rows edit looked z)
 
 -- ---- items of a list
 
@@ -107,18 +107,19 @@ module _ {A E : Type 0} (looks : ℕ → A → Done → List Row → E → Done 
     none_at : (n : ℕ) (rows : List Row) (given : List E) (e : Done) → HaveLooked looks xs d n rows given e → agreed_count rows ≡ 0
         → (k : ℕ) (x : A) → k < n → slice_get xs k ≡ Some x → by (get_or given k none) x ≡ x
     none_at _ _ _ _ NoneLooked z k x lt h = absurd (omega (arith, lt))
-    none_at _ _ _ _ (OneLooked n y rows more given one e f was at is) z k x lt h = by_place (cases_eq k n)
+    none_at _ _ _ _ (OneLooked n y rows more given one e f was at is) z k x lt h =
+        by_place (none_at n rows given e was (omega (arith, agreed-append rows more, z)) k x) (cases_eq k n)
       where
-        by_place : (k ≡ n) ⊎ (k ≡ n → ⊥) → by (get_or (given ++ one ∷ []) k none) x ≡ x
-        by_place (inl s) =
+        by_place : (k < n → slice_get xs k ≡ Some x → by (get_or given k none) x ≡ x) → (k ≡ n) ⊎ (k ≡ n → ⊥) → by (get_or (given ++ one ∷ []) k none) x ≡ x
+        by_place before (inl s) =
             let same : Some y ≡ Some x = sym at ∙ ap (slice_get xs) (sym s) ∙ h in
             let v : y ≡ x = cc same in
             let here : get_or (given ++ one ∷ []) k none ≡ one = ap (λ j. get_or (given ++ one ∷ []) j none) (s ∙ sym (looked_length n rows given e was)) ∙ get_or-append_seam given one [] none in
             ap (λ (w : E). by w x) here ∙ subst (λ (w : A). by one w ≡ w) v (each n y e more one f is (omega (arith, agreed-append rows more, z)))
-        by_place (inr ne) =
+        by_place before (inr ne) =
             let below : k < length given = omega (arith, looked_length n rows given e was) in
             ap (λ (w : E). by w x) (get_or_append_left given (one ∷ []) none k below)
-            ∙ none_at n rows given e was (omega (arith, agreed-append rows more, z)) k x (omega arith) h
+            ∙ before (omega arith) h
 
     pub none_changed : (rows : List Row) (given : List E) (e : Done) → HaveLooked looks xs d (length xs) rows given e → agreed_count rows ≡ 0 → each_by by given xs ≡ xs
     none_changed rows given e was z = each_same by none given xs (λ k x at. none_at (length xs) rows given e was z k x (inside xs k x at) at)

@@ -26,8 +26,8 @@ module _ (facts : Facts) (method n r : ℕ) where
     unknown_by e k =
         let same : Some k.frame ≡ Some f = sym k.here ∙ sym here in
         let v' : k.frame ≡ f = cc same in
-        let no : value_holds v (Plain (Single 0)) → ⊥ = subst (λ (w : Parts). value_holds w (Plain (Single 0)) → ⊥) (sym is) (subst (λ (g : Frame). value_holds (value_at g.registers r) (Plain (Single 0)) → ⊥) v' k.never_null) in
-        true≢false (sym (means.1 no) ∙ e)
+        let never : value_holds v (Plain (Single 0)) → ⊥ = subst (λ (w : Parts). value_holds w (Plain (Single 0)) → ⊥) (sym is) (subst (λ (g : Frame). value_holds (value_at g.registers r) (Plain (Single 0)) → ⊥) v' k.never_null) in
+        true≢false (sym (means.1 never) ∙ e)
 
   pub unknown_none : None ≡ frame_at facts.frames.items method n → KnowsReceiver facts method n r → ⊥
   unknown_none here k =
@@ -37,13 +37,13 @@ module _ (facts : Facts) (method n r : ℕ) where
 module _ (k : Known) (m : Method) (n : ℕ) (i : Insn) (callee : Method) (class : ℕ) (s t : Bool) (flag : s ≡ has_flag callee.flags 8) where
   module _ (e : s ≡ true) (trivial : t ≡ starts_trivially k.hierarchy.now class) where
     pub enters_static : t ≡ true → EntersAtOnce k m n i callee class
-    enters_static yes = record {
-      static = λ h. sym trivial ∙ yes;
+    enters_static starts = record {
+      static = λ h. sym trivial ∙ starts;
       direct = λ h. absurd (true≢false (sym e ∙ flag ∙ h));
     }
 
     pub late_static : t ≡ false → EntersAtOnce k m n i callee class → ⊥
-    late_static no is = true≢false (sym (is.static (sym flag ∙ e)) ∙ sym trivial ∙ no)
+    late_static waits is = true≢false (sym (is.static (sym flag ∙ e)) ∙ sym trivial ∙ waits)
 
   module _ (e : s ≡ false) where
     pub enters_direct : KnowsReceiver k.facts.now m.name (min n 4294967295) (receiver_in i) → EntersAtOnce k m n i callee class

@@ -53,17 +53,17 @@ module _ (k : Known) (c : Caller) (n : ℕ) where
         pub not_suited : is_suited k.program.now c n place x.method.now x.body.now ≡ false → IsUnsuited k c n
         not_suited none of y is =
             let e : is_suited k.program.now c n is.place y.method.now y.body.now ≡ is_suited k.program.now c n place x.method.now x.body.now =
-                ap (λ (at : MethodAt). is_suited k.program.now c n at y.method.now y.body.now) (same_place y is of)
-                ∙ ap (λ (m : Method). is_suited k.program.now c n place m y.body.now) (same_method y is of)
-                ∙ ap (λ (b : Body). is_suited k.program.now c n place x.method.now b) (same_body y is of) in
+            ap (λ (at : MethodAt). is_suited k.program.now c n at y.method.now y.body.now) (same_place y is of)
+            ∙ ap (λ (m : Method). is_suited k.program.now c n place m y.body.now) (same_method y is of)
+            ∙ ap (λ (b : Body). is_suited k.program.now c n place x.method.now b) (same_body y is of) in
             let f : true ≡ false = sym is.suited ∙ e ∙ none in
             absurd (cc f)
 
         pub not_agreeing : is_agreeing k.program.now c.body.now n insn x.method.now ≡ false → IsUnsuited k c n
         not_agreeing none of y is =
             let e : is_agreeing k.program.now c.body.now n is.insn y.method.now ≡ is_agreeing k.program.now c.body.now n insn x.method.now =
-                ap (λ (i : Insn). is_agreeing k.program.now c.body.now n i y.method.now) (same_insn y is)
-                ∙ ap (λ (m : Method). is_agreeing k.program.now c.body.now n insn m) (same_method y is of) in
+            ap (λ (i : Insn). is_agreeing k.program.now c.body.now n i y.method.now) (same_insn y is)
+            ∙ ap (λ (m : Method). is_agreeing k.program.now c.body.now n insn m) (same_method y is of) in
             let f : true ≡ false = sym is.agrees ∙ e ∙ none in
             absurd (cc f)
 

@@ -152,7 +152,15 @@ impl<'p> Inliner<'p> {
         ensures { IfOk result (λ new. Asks (length panel.old.advisers.items) (length panel.new.advisers.items) panel.old.answers.items panel.new.answers.items (GoesOn self.now caller.entry cells position accepted.entry new)) }
     {
         let chosen = chosen_with(alloc, accepted.chosen.as_slice(), position, callee)?;
-        match self.asked(alloc, caller, position, callee, chosen.as_slice(), cells, panel)? {
+        match self.asked(
+            alloc,
+            caller,
+            position,
+            callee,
+            chosen.as_slice(),
+            cells,
+            panel,
+        )? {
             Some(spliced) => Ok(Accepted {
                 chosen,
                 spliced: Some(spliced),

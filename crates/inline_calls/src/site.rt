@@ -183,12 +183,7 @@ impl<'p> Known<'p> {
 
     /// The method that may be copied in place of the instruction at a position of a caller, by what is called and by what
     /// is known there.
-    pub fn candidate(
-        &self,
-        caller: Caller<'_>,
-        position: usize,
-        insn: &Insn,
-    ) -> Option<Callee<'p>>
+    pub fn candidate(&self, caller: Caller<'_>, position: usize, insn: &Insn) -> Option<Callee<'p>>
         requires { slice_get caller.body.now.insns position ≡ Some insn.now }
         ensures { MatchOption result (IsUnsuited self.now caller.entry position) (IsCandidate self.now caller.entry position) }
     {

@@ -1,1 +1,14 @@
-mod Rebinding
+mod Packages
+mod Names
+mod Defaults
+mod Chains
+mod Rebuilt
+mod Same
+mod Bound
+mod Falls
+mod Written
+mod Weighed
+mod Recalled
+mod Judged
+mod Bindable
+mod Nothing

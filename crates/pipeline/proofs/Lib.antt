@@ -1,9 +1,11 @@
+pub mod Analysed
 pub mod AskLemmas
 pub mod Bulk
 pub mod Each
 pub mod Few
 pub mod Formed
 pub mod Graphs
+pub mod Inlines
 pub mod Passing
 pub mod RoundLemmas
 pub mod Silencing

@@ -38,7 +38,8 @@ pub fn rounds_law()
 /// What `optimise` leaves of a sound program is sound, and shows the same where the table of shut methods holds what it says, where
 /// no call is silent: the rules forbid all rewriting, or name no silent method.
 pub fn optimised_law()
-    ensures { (p r : Program) (origins : List (List Origin)) (o : Outside) (advisers spared rounds : ℕ) (before after : List Bool) → IsSound p → IsOptimised o p advisers before after spared r origins rounds
+    ensures { (p r : Program) (origins : List (List Origin)) (o : Outside) (advisers spared rounds : ℕ) (before after : List Bool) → IsSound p
+        → IsOptimised o p advisers before after spared r origins rounds
         → (o.optimise ≡ false) ⊎ (o.silent ≡ []) → Owes o p r }
 {}
 
@@ -52,7 +53,10 @@ pub fn settled_law()
     ensures folded { (o : Outside) (admitted : List Bool) (p : Program) (t : Traced) (count : ℕ) → HaveRun o admitted p t count → IsSound t.program
         → NoneKnown o admitted t.program ⊎ KeepsForms o admitted t.program }
     ensures skips { (o : Outside) (admitted : List Bool) (p : Program) (t : Traced) (count : ℕ) → HaveRun o admitted p t count → IsSound t.program → NothingLeft admitted t.program }
-    ensures dead { (o : Outside) (admitted : List Bool) (p : Program) (t : Traced) (count : ℕ) → HaveRun o admitted p t count → IsSound t.program → NoneDead (is_quiet_field t.program) admitted t.program }
-    ensures fresh { (o : Outside) (admitted : List Bool) (p : Program) (t : Traced) (count : ℕ) → HaveRun o admitted p t count → IsSound t.program → has_narrow_classes t.program ≡ true → AllFresh admitted t.program }
-    ensures packed { (o : Outside) (admitted : List Bool) (p : Program) (t : Traced) (count : ℕ) → HaveRun o admitted p t count → IsSound t.program → has_narrow_classes t.program ≡ true → AllPacked admitted t.program }
+    ensures dead { (o : Outside) (admitted : List Bool) (p : Program) (t : Traced) (count : ℕ) → HaveRun o admitted p t count → IsSound t.program
+        → NoneDead (is_quiet_field t.program) admitted t.program }
+    ensures fresh { (o : Outside) (admitted : List Bool) (p : Program) (t : Traced) (count : ℕ) → HaveRun o admitted p t count → IsSound t.program → has_narrow_classes t.program ≡ true
+        → AllFresh admitted t.program }
+    ensures packed { (o : Outside) (admitted : List Bool) (p : Program) (t : Traced) (count : ℕ) → HaveRun o admitted p t count → IsSound t.program → has_narrow_classes t.program ≡ true
+        → AllPacked admitted t.program }
 {}

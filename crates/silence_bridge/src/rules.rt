@@ -41,7 +41,8 @@ pub fn all_rules_law()
         → (done : IsOptimised o p advisers before after spared r origins rounds) → named done.silenced ≡ silenced (named p) (outer_of p o) (admitted_in p done.admitted) }
     ensures shown { (p r : Program) (origins : List (List Origin)) (h : Hierarchy) (o : Outside) (advisers spared rounds : ℕ) (before after : List Bool) → is_well_formed p ≡ true
         → IsResolved p h → IsAcyclic p → NoSplit p → TypesAll p h
-        → (done : IsOptimised o p advisers before after spared r origins rounds) → ShutsHold (named p) (outer_of p o) → SameShown (silenced (named p) (outer_of p o) (admitted_in p done.admitted)) (named r) (outer_of p o) }
+        → (done : IsOptimised o p advisers before after spared r origins rounds) → ShutsHold (named p) (outer_of p o)
+        → SameShown (silenced (named p) (outer_of p o) (admitted_in p done.admitted)) (named r) (outer_of p o) }
     ensures sound { (p r : Program) (origins : List (List Origin)) (h : Hierarchy) (o : Outside) (advisers spared rounds : ℕ) (before after : List Bool) → is_well_formed p ≡ true
         → IsResolved p h → IsAcyclic p → NoSplit p → TypesAll p h
         → IsOptimised o p advisers before after spared r origins rounds → IsSound r }

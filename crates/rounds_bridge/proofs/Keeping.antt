@@ -32,12 +32,14 @@ use Rattle.compact.specs.Narrow.{has_narrow_classes}
 use Rattle.compact.specs.Renamed.{IsCompactedProgram}
 use Rattle.kept_bridge.proofs.Compacted.{compacted_kept}
 use Rattle.copy_kept.proofs.Kept.{propagated_kept}
-use Rattle.pipeline.specs.Passes.{Pass, Reach, ConstProp, CopyProp, DeadCode, Squeeze, Compact, Removes, IsBarred, IsRemoval, Folds, KeepsForms, IsFolding, Propagates, KeepsReads, IsPropagation, Thins, IsCleaning, IsCompaction}
+use Rattle.pipeline.specs.Passes.{Pass, Reach, ConstProp, Devirt, CopyProp, DeadCode, Squeeze, Compact, Removes, IsBarred, IsRemoval, Folds, KeepsForms, IsFolding, Rebinds, IsRebinding, Propagates, KeepsReads, IsPropagation, Thins, IsCleaning, IsCompaction}
 use Rattle.reach_bridge.specs.Names.{family_of}
 use Rattle.reach_bridge.proofs.Kept.{kept_named}
 use Rattle.reach_bridge.proofs.Within.{shows_the_same, keeps_shuts, keeps_typing}
 use Rattle.shut_bridge.proofs.Passes.{thinned_keeps, compacted_keeps, propagated_keeps}
 use Rattle.shut_bridge.proofs.Folded.{folded_keeps}
+use Rattle.shut_bridge.proofs.Rebound.{rebound_keeps}
+use Rattle.rebind_kept.proofs.Kept.{rebound_kept}
 use Rattle.rounds_bridge.specs.Owed.{IsSound, Owes, Keeps}
 use Rattle.rounds_bridge.proofs.Heads.{others_define}
 use Rattle.rounds_bridge.proofs.Owing.{owes_same}
@@ -123,6 +125,19 @@ module _ (o : Outside) where
   pub const_prop_keeps : (admitted : List Bool) → Keeps o admitted ConstProp
   const_prop_keeps admitted = record { owes = folding_owes admitted }
 
+  rebinding_owes : (admitted : List Bool) (p q : Program) (moved : List (List Origin)) → IsSound p → IsRebinding o admitted p q moved → Owes o p q
+  rebinding_owes admitted p q moved sound h = by h.rebinding
+    where
+      by : Rebinds o admitted p q ⊎ ((q ≡ p) × KeepsForms o admitted p) → Owes o p q
+      by (inl r) = subst (λ (x : Program). Owes o p x) (sym r.left) (kept_for_owes p r.changed.program sound
+          (let k = r.known.certified in
+          rebound_kept p r.hierarchy o sound.formed r.resolved sound.grounded sound.typed r.known.words r.known.makers r.known.plain k admitted r.facts r.changed r.rebound)
+          (rebound_keeps p sound.formed r.hierarchy r.facts admitted r.changed (outer_of p o) r.rebound))
+      by (inr none) = subst (λ (x : Program). Owes o p x) (sym none.0) (owes_same o p sound)
+
+  pub devirt_keeps : (admitted : List Bool) → Keeps o admitted Devirt
+  devirt_keeps admitted = record { owes = rebinding_owes admitted }
+
   propagation_owes : (admitted : List Bool) (p q : Program) (moved : List (List Origin)) → IsSound p → IsPropagation admitted p q moved → Owes o p q
   propagation_owes admitted p q moved sound h = by h.propagation
     where
@@ -166,6 +181,7 @@ module _ (o : Outside) where
   pub each_keeps : (admitted : List Bool) (pass : Pass) → Keeps o admitted pass
   each_keeps admitted Reach = reach_keeps admitted
   each_keeps admitted ConstProp = const_prop_keeps admitted
+  each_keeps admitted Devirt = devirt_keeps admitted
   each_keeps admitted CopyProp = copy_prop_keeps admitted
   each_keeps admitted DeadCode = dead_code_keeps admitted
   each_keeps admitted Squeeze = squeeze_keeps admitted

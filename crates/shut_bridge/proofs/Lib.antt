@@ -2,3 +2,4 @@ pub mod Saying
 pub mod Passes
 pub mod Rewritten
 pub mod Folded
+pub mod Rebound

@@ -6,7 +6,7 @@ ghost use Rattle.program_model.specs.ProgramRules.{is_well_formed};
 ghost use Rattle.hierarchy.specs.Shapes.{IsResolved};
 ghost use Rattle.verify.specs.Methods.{TypesAll};
 ghost use Rattle.premises.specs.Makers.{MakersAreOwn};
-ghost use Rattle.premises.specs.Plain.{CallsPlainly};
+ghost use Rattle.premises.specs.Plain.{ListsPlainly};
 ghost use Rattle.compact.specs.Narrow.{has_narrow_classes};
 ghost use Rattle.pipeline.specs.Changes.{no_changes, total_of};
 ghost use Rattle.pipeline.specs.Graph.{IsGraph};

@@ -16,7 +16,7 @@ use crate::graph::hierarchy_of;
 use crate::traces::{Changes, Passed, Traced, left_by};
 use facts::Facts;
 use hierarchy::Hierarchy;
-use premises::{calls_plainly, makers_are_own, numbers_have_bits};
+use premises::{lists_plainly, makers_are_own, numbers_have_bits};
 use program_model::{Admitted, Outside, Program, well_formed};
 use std::alloc::{AllocError, Global};
 use verify::{TypeFault, verify_all};
@@ -105,15 +105,16 @@ fn is_any_admitted(admitted: &Admitted) -> bool
     admitted.methods.as_slice().iter().any(|yes| *yes)
 }
 
-/// Facts that hold in every run of a program whose kept constructors are those of their classes, and whose virtual calls name
-/// classes alone; none where that is not known of any, or the program isn't well-formed. The only error is want of memory.
+/// Facts that hold in every run of a program whose kept constructors are those of their classes, and whose lists of
+/// interfaces name interfaces alone; none where that is not known of any, or the program isn't well-formed. The only error is want of memory.
 fn known_facts(
     alloc: Global,
     program: &Program,
+    hierarchy: &Hierarchy,
     outside: &Outside,
 ) -> Result<Option<Facts>, AllocError>
     ensures formed { IfOk result (λ facts. IfSome facts (λ f. is_well_formed program.now ≡ true)) }
-    ensures known { MakersAreOwn program.now outside.now → CallsPlainly program.now
+    ensures known { MakersAreOwn program.now outside.now → ListsPlainly program.now → is_well_formed program.now ≡ true → IsResolved program.now hierarchy.now
         → IfOk result (λ facts. IfSome facts (AreKnown outside.now program.now)) }
 {
     if !well_formed(program) {
@@ -122,12 +123,12 @@ fn known_facts(
     if !numbers_have_bits(program) {
         return Ok(None);
     }
-    let facts = summaries::analyse(alloc, program, outside)?;
+    let facts = summaries::analyse(alloc, program, hierarchy, outside)?;
     Ok(facts)
 }
 
 /// The same of a program with this hierarchy. They are asked for only where some method may be rewritten, each kept
-/// constructor is one of its class, and virtual calls name classes alone.
+/// constructor is one of its class, and lists of interfaces name interfaces alone.
 fn facts_by(
     alloc: Global,
     program: &Program,
@@ -144,16 +145,16 @@ fn facts_by(
     if !own {
         return Ok(None);
     }
-    let plain = calls_plainly(program, hierarchy);
+    let plain = lists_plainly(program, hierarchy);
     if !plain {
         return Ok(None);
     }
-    let facts = known_facts(alloc, program, outside)?;
+    let facts = known_facts(alloc, program, hierarchy, outside)?;
     Ok(facts)
 }
 
 /// Facts that hold in every run of a program, none where the class graph has a fault, no method may be rewritten, a kept
-/// constructor is none of its class, a virtual call names an interface, or nothing is known. The only error is want of memory.
+/// constructor is none of its class, a list of interfaces names another class, or nothing is known. The only error is want of memory.
 pub fn facts_of(
     alloc: Global,
     program: &Program,

@@ -34,10 +34,7 @@ pub fn classes_of<'a>(
     hierarchy: &'a Hierarchy,
     places: &'a [Option<u32>],
 ) -> Classes<'a>
-    requires formed { is_well_formed program.now ≡ true }
-    requires resolved { IsResolved program.now hierarchy.now }
-    requires places { ArePlaces hierarchy.now (length program.now.types) places.now }
-    ensures { AreClasses program.now result }
+    ensures { is_well_formed program.now ≡ true → IsResolved program.now hierarchy.now → ArePlaces hierarchy.now (length program.now.types) places.now → AreClasses program.now result }
 {
     Classes {
         places,

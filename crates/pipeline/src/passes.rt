@@ -110,15 +110,16 @@ fn is_any_admitted(admitted: &Admitted) -> bool
 fn known_facts(
     alloc: Global,
     program: &Program,
+    hierarchy: &Hierarchy,
     outside: &Outside,
 ) -> Result<Option<Facts>, AllocError>
-    ensures { MakersAreOwn program.now outside.now → ListsPlainly program.now
+    ensures { MakersAreOwn program.now outside.now → ListsPlainly program.now → is_well_formed program.now ≡ true → IsResolved program.now hierarchy.now
         → IfOk result (λ facts. IfSome facts (AreKnown outside.now program.now)) }
 {
     if !numbers_have_bits(program) {
         return Ok(None);
     }
-    let facts = summaries::analyse(alloc, program, outside)?;
+    let facts = summaries::analyse(alloc, program, hierarchy, outside)?;
     Ok(facts)
 }
 
@@ -161,7 +162,7 @@ fn fold_by(
     if !plain {
         return Ok(unchanged(traced));
     }
-    let known = known_facts(alloc, &traced.program, outside)?;
+    let known = known_facts(alloc, &traced.program, hierarchy, outside)?;
     match known {
         Some(facts) => fold_known(alloc, traced, hierarchy, &facts, admitted),
         None => Ok(unchanged(traced)),

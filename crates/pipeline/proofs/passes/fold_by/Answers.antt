@@ -23,7 +23,7 @@ returns-in-Some c = λ graph. c.fold_known.ensures graph c.args.outside.now
     (λ formed.
     let own : MakersAreOwn c.args.traced.program c.args.outside.now = c.makers_are_own-own.ensures.sound (graph formed).resolved.of c.if-not-own.false in
     let plain : ListsPlainly c.args.traced.program = c.lists_plainly-plain.ensures.sound (graph formed).resolved.of c.if-not-plain.false in
-    subst (λ o. IfSome o (AreKnown c.args.outside.now c.args.traced.program)) c.in-Some.is (c.in_ok-known.ensures own plain))
+    subst (λ o. IfSome o (AreKnown c.args.outside.now c.args.traced.program)) c.in-Some.is (c.in_ok-known.ensures own plain formed (graph formed).resolved))
 
 pub returns-in-None : goal.returns-in-None
 returns-in-None c = λ graph. kept_forms_passed c.args.outside.now c.args.admitted.now.methods.items c.args.traced c.unchanged-in-None.result c.unchanged-in-None.ensures.traced c.unchanged-in-None.ensures.changes

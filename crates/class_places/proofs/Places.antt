@@ -17,8 +17,8 @@ use Rattle.hierarchy.specs.Shapes.{IsOf, IsResolved}
 use Rattle.hierarchy.specs.declared.build.Hierarchy.{Hierarchy}
 use Rattle.dom_frame.specs.declared.classes.Classes.{Classes}
 use Rattle.dom_frame.specs.Classes.{place_in, AreClasses}
-use Rattle.fact_graph.specs.Moves.{word_of}
-use Rattle.fact_graph.specs.Known.{ArePlaces}
+use Rattle.class_places.specs.Words.{word_of}
+use Rattle.class_places.specs.Known.{ArePlaces}
 
 find_none : {X : Type 0} (t : X → Bool) (xs : List X) → ((i : ℕ) (x : X) → slice_get xs i ≡ Some x → t x ≡ false) → find t xs ≡ None
 find_none t [] h = refl

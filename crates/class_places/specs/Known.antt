@@ -2,7 +2,7 @@
 use Rattle.std.specs.Prelude.{◌≡◌, ℕ, ◌<◌, List, length, Option, Some, slice_get}
 use Rattle.hierarchy.specs.Tables.{read_at}
 use Rattle.hierarchy.specs.declared.build.Hierarchy.{Hierarchy}
-use Rattle.fact_graph.specs.Moves.{word_of}
+use Rattle.class_places.specs.Words.{word_of}
 
 -- the first n entries are what a hierarchy has
 pub record ArePlaces (h : Hierarchy) (n : ℕ) (places : List (Option ℕ)) : Type 0 where

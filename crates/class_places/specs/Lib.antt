@@ -1,5 +1,2 @@
-pub mod Arrivals
-pub mod Graph
 pub mod Known
-pub mod Moves
-pub mod Solved
+pub mod Words

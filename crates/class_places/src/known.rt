@@ -4,7 +4,7 @@ ghost use Rattle.std.specs.Prelude.{◌≡◌, true, length, IfOk};
 ghost use Rattle.program_model.specs.ProgramRules.{is_well_formed};
 ghost use Rattle.hierarchy.specs.Shapes.{IsResolved};
 ghost use Rattle.dom_frame.specs.Classes.{AreClasses};
-ghost use Rattle.fact_graph.specs.Known.{ArePlaces};
+ghost use Rattle.class_places.specs.Known.{ArePlaces};
 
 use crate::numbers::word;
 use dom_frame::Classes;

@@ -1,7 +1,7 @@
 //! Places as numbers of 32 bits.
 
 ghost use Rattle.std.specs.Prelude.{◌≡◌};
-ghost use Rattle.fact_graph.specs.Moves.{word_of};
+ghost use Rattle.class_places.specs.Words.{word_of};
 
 /// The number that stands for no place.
 pub const NONE: u32 = u32::MAX;

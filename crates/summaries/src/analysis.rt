@@ -20,7 +20,7 @@ use crate::tables::{Pieces, pieces_of};
 use call_graph::{LiveSet, live_members};
 use call_targets::{Link, Targets, targets};
 use dom_frame::{Classes, Frame};
-use fact_graph::{classes_of, places_of};
+use class_places::{classes_of, places_of};
 use facts::Facts;
 use facts_check::{Known, Start, fill, holds};
 use hierarchy::Hierarchy;

@@ -1,7 +1,7 @@
 use Rattle.std.proofs.Common.{rules, ◌≡◌, length, refl}
-use Rattle.fact_graph.specs.Moves.{word_of}
-use Rattle.fact_graph.proofs.Places.{known_classes}
-use Rattle.fact_graph.proofs.known.classes_of.Goals as goal
+use Rattle.class_places.specs.Words.{word_of}
+use Rattle.class_places.proofs.Places.{known_classes}
+use Rattle.class_places.proofs.known.classes_of.Goals as goal
 
 pub returns : goal.returns
 returns c = λ well resolved places.

@@ -19,8 +19,8 @@ use crate::spread::{Ground, Spread};
 use crate::tables::{Pieces, pieces_of};
 use call_graph::{LiveSet, live_members};
 use call_targets::{Link, Targets, targets};
-use dom_frame::{Classes, Frame};
 use class_places::{classes_of, places_of};
+use dom_frame::{Classes, Frame};
 use facts::Facts;
 use facts_check::{Known, Start, fill, holds};
 use hierarchy::Hierarchy;
@@ -167,8 +167,7 @@ fn searched(alloc: Global, ground: Ground<'_>, bounds: Bounds<'_>) -> Result<Pie
     ensures { IfOk result (λ pieces. pieces.facts.any ≡ any_value) }
 {
     let mut spread = Spread::new(alloc, ground)?;
-    spread.begin_all(alloc, bounds.outside, bounds.found)?;
-    spread.run(alloc)?;
+    spread.search(alloc, bounds.outside, bounds.found)?;
     pieces_of(alloc, &spread)
 }
 

@@ -2,6 +2,7 @@
 //! from calls that may leave the program.
 
 use crate::codes::Code;
+use crate::order::order_of;
 use crate::rows::{behind, is_on, mark_all};
 use crate::spread::Spread;
 use call_targets::Targets;
@@ -105,16 +106,32 @@ impl Spread<'_> {
         }
     }
 
-    /// Lets the framework enter bodies, with anything in each parameter.
-    fn begin_entries(&mut self, alloc: Global, targets: &Targets) -> Result<(), AllocError> {
+    /// Lets the framework enter a body, if it may, with anything in each parameter.
+    fn begin_entry(
+        &mut self,
+        alloc: Global,
+        targets: &Targets,
+        place: u32,
+    ) -> Result<(), AllocError> {
         let codes = self.ground.codes;
-        let mut place = 0u32;
-        for code in codes.all.as_slice() {
-            if is_on(&targets.entered, code.number) {
-                self.open_words(code);
-                self.begin(alloc, place)?;
+        match codes.at(place) {
+            Some(code) => {
+                if is_on(&targets.entered, code.number) {
+                    self.open_words(code);
+                    self.begin(alloc, place)?;
+                }
+                Ok(())
             }
-            place = behind(place, 1);
+            None => Ok(()),
+        }
+    }
+
+    /// Lets the framework enter all bodies that it may, in the order in which they are walked through first.
+    fn begin_entries(&mut self, alloc: Global, targets: &Targets) -> Result<(), AllocError> {
+        let ground = self.ground;
+        let order = order_of(alloc, ground.codes, ground.sites, ground.found)?;
+        for place in order.as_slice() {
+            self.begin_entry(alloc, targets, *place)?;
         }
         Ok(())
     }
@@ -131,8 +148,9 @@ impl Spread<'_> {
         Ok(())
     }
 
-    /// Lets all begin that the framework begins.
-    pub(crate) fn begin_all(
+    /// Searches from where the framework begins: first through the initialisers of classes, since what they put into fields
+    /// is read by others.
+    pub(crate) fn search(
         &mut self,
         alloc: Global,
         outside: &Outside,
@@ -140,7 +158,9 @@ impl Spread<'_> {
     ) -> Result<(), AllocError> {
         self.begin_all_fields(alloc, outside)?;
         self.begin_answers(targets);
+        self.begin_classes(targets)?;
+        self.run(alloc)?;
         self.begin_entries(alloc, targets)?;
-        self.begin_classes(targets)
+        self.run(alloc)
     }
 }

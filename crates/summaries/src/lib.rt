@@ -8,7 +8,7 @@
 //! (`cells.rt`). An instruction on the way raises the cells that it writes, and takes the value of the one that it reads; a
 //! cell that rises lets those nodes wait from which it is read. What calls on objects pass goes through a pool for each
 //! number of them to all that they may find (`pools.rt`), which `call_targets` tells. What the framework may enter, need and
-//! keep begins with anything (`begin.rt`).
+//! keep begins with anything (`begin.rt`), first what is called or read by others (`order.rt`).
 //!
 //! Values rise by joins, and are widened after so many of them, or where registers come from further on: so the search ends
 //! soon. The check fills in the frames between nodes, which share all that they have in common.
@@ -24,6 +24,7 @@ mod begin;
 mod cells;
 mod codes;
 mod nodes;
+mod order;
 mod pools;
 mod quiet;
 mod rows;

@@ -12,7 +12,7 @@ use crate::sites::{Site, Sites};
 use crate::waits::Waits;
 use call_targets::call_number;
 use dom_frame::{Classes, branch, step, switch_at, switch_past};
-use domains::Value;
+use domains::{Nullness, Value};
 use hierarchy::Hierarchy;
 use lattice_core::Lattice;
 use pat_map::PatMap;
@@ -65,6 +65,27 @@ fn value_at(registers: &PatMap<Value>, register: u16) -> Value {
     match registers.get(u32::from(register)) {
         Some(value) => value.same(),
         None => Value::none(),
+    }
+}
+
+/// Whether a register surely has an object.
+fn has_object(registers: &PatMap<Value>, register: u16) -> bool {
+    match registers.get(u32::from(register)) {
+        Some(value) => matches!(value.nullness(), Nullness::NotNull),
+        None => false,
+    }
+}
+
+/// Whether an instruction only uses an object that is surely there, so that it leaves all registers as they are.
+fn leaves_all(registers: &PatMap<Value>, insn: &Insn) -> bool {
+    match insn {
+        Insn::InstancePut { on, .. } | Insn::FillArray { on, .. } => has_object(registers, *on),
+        Insn::ArrayPut { array, .. } => has_object(registers, *array),
+        Insn::Invoke { args, .. } => match args.as_slice() {
+            [receiver, ..] => has_object(registers, *receiver),
+            [] => false,
+        },
+        _ => false,
     }
 }
 
@@ -363,6 +384,9 @@ impl<'a> Spread<'a> {
                 past(alloc, insn, targets.as_slice(), registers)
             }
             _ => {
+                if leaves_all(registers, insn) {
+                    return Ok(Some(registers.share()?));
+                }
                 let value = taken(&self.cells, site, insn);
                 step(alloc, &self.ground.classes, registers, insn, &value)
             }

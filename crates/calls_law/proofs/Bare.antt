@@ -19,10 +19,10 @@ use Rattle.class_defs.specs.Members.{is_method, method_of_class, own_method, is_
 use Rattle.class_defs.specs.Places.{super_place, placed, places_of, listed, interface_places, above_places, walks, is_under}
 use Rattle.devirt.specs.Measure.{is_virtual_call, is_coded, codes_own, names_code, is_interface_place, names_interface, is_interface_call, bound_of, count_under, weight_named, call_weight}
 
-no_body : Body
+pub no_body : Body
 no_body = record { registers = 0; ins = 0; insns = []; regions = [] }
 
-abbrev bare_code : Option Body → Option Body
+abbrev pub bare_code : Option Body → Option Body
 bare_code None = None
 bare_code (Some b) = Some no_body
 
@@ -164,7 +164,7 @@ module _ (p : Program) where
   count_same (Some c) = ap (λ n. length (filter (λ d. is_under (bare p) d c) (range_with_len 0 n))) size_same
       ∙ ap length (filter_same (λ d. is_under (bare p) d c) (λ d. is_under p d c) (λ d. under_same d c) (range_with_len 0 (length p.classes)))
 
-  weighed : Bool → Bool → ℕ → ℕ → ℕ
+  abbrev weighed : Bool → Bool → ℕ → ℕ → ℕ
   weighed coded interface bound under = (if coded then 0 else bound + bound) + (if interface then bound else 0) + under
 
   named_same : (kind : InvokeKind) (o : Option MethodName) → weight_named (bare p) kind o ≡ weight_named p kind o

@@ -1,0 +1,11 @@
+mod Packages
+mod Chains
+mod Rebuilt
+mod Same
+mod Bound
+mod Falls
+mod Written
+mod Weighed
+mod Judged
+mod Bindable
+mod Nothing

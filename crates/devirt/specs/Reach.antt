@@ -1,17 +1,12 @@
 -- Which methods a caller may reach, by number (this project's profile).
-use Rattle.std.specs.Prelude.{ℕ, Bool, true, false, ◌&&◌, ◌||◌, nat_eq, List, [], ◌∷◌, Option, Some, None, slice_get}
-use Rattle.std.specs.List.{list_any}
+use Rattle.std.specs.Prelude.{ℕ, Bool, false, ◌&&◌, ◌||◌, nat_eq, Option, Some, slice_get}
 use Rattle.std.specs.Cmp.Lexicographic.{pointwise}
 use Rattle.program_model.specs.declared.program.Class.{Class}
 use Rattle.program_model.specs.declared.program.Method.{Method}
 use Rattle.program_model.specs.declared.program.Program.{Program}
 use Rattle.program_model.specs.MemberRules.{has_flag}
+use Rattle.class_defs.specs.ClassGraph.{package_of}
 use Rattle.program_model.specs.Texts.{type_text}
-
--- a class descriptor up to its last slash
-abbrev pub package_of : List ℕ → List ℕ
-package_of [] = []
-package_of (u ∷ us) = elim (list_any (nat_eq 47) (u ∷ us)) [ true ↦ u ∷ package_of us | false ↦ [] ]
 
 -- two classes are of one package
 abbrev pub is_beside : Program → Class → Class → Bool

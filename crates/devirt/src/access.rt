@@ -1,33 +1,54 @@
 //! Which methods a caller may reach.
 
-ghost use Rattle.std.specs.Prelude.{◌≡◌, slice_get};
+ghost use Rattle.std.specs.Prelude.{◌≡◌, ◌≤◌, length, take};
 ghost use Rattle.std.specs.Option.{option_copied};
-ghost use Rattle.program_model.specs.Texts.{type_text};
-ghost use Rattle.devirt.specs.Reach.{package_of, is_beside, reaches, reaches_in};
+ghost use Rattle.program_model.specs.Texts.{string_text, type_text};
+ghost use Rattle.class_defs.specs.ClassGraph.{package_of};
+ghost use Rattle.devirt.specs.Reach.{is_beside, reaches, reaches_in};
 
 use program_model::{Class, Flags, Method, Program};
 
-/// The units of a descriptor up to its last `/`.
+/// How many units of a descriptor are its package: those up to the last `/`.
+fn package_size(units: &[u16]) -> usize
+    ensures front { take result units.now ≡ package_of units.now }
+    ensures short { result ≤ length units.now }
+{
+    let mut size = 0;
+    for (at, unit) in units.iter().enumerate() {
+        if *unit == 47 {
+            size = at + 1;
+        }
+    }
+    size
+}
+
+/// The package of a descriptor: its units up to the last `/`.
 fn package(units: &[u16]) -> &[u16]
     ensures { result.now ≡ package_of units.now }
 {
-    let mut size = units.len();
-    while size > 0 && units[size - 1] != 47 {
-        size -= 1;
+    match units.get(..package_size(units)) {
+        Some(front) => front,
+        None => &[],
     }
-    &units[..size]
+}
+
+/// The units of a string, none past the table.
+fn text_units(program: &Program, string: u32) -> &[u16]
+    ensures { result.now ≡ string_text program.now string }
+{
+    match program.strings.as_slice().get(string as usize) {
+        Some(text) => text.units(),
+        None => &[],
+    }
 }
 
 /// The units of a type's descriptor, none where there is no such type.
+#[tactic(auto, unfolding(program_model::specs::Texts::type_text))]
 fn units_of(program: &Program, kind: u32) -> &[u16]
     ensures { result.now ≡ type_text program.now kind }
 {
-    let string = match program.types.as_slice().get(kind as usize) {
-        Some(string) => *string,
-        None => return &[],
-    };
-    match program.strings.as_slice().get(string as usize) {
-        Some(text) => text.units(),
+    match program.types.as_slice().get(kind as usize) {
+        Some(string) => text_units(program, *string),
         None => &[],
     }
 }

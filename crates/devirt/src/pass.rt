@@ -24,7 +24,7 @@ use receivers::Finder;
 use rewrite_pass::{Edit, Rewriting, plan_program, write_plan};
 use seq::{Seq, Words};
 use std::alloc::{AllocError, Global};
-use verify::{TypeFault, Typings, Verifier};
+use verify::{TypeFault, Typings, Verifier, short_law};
 
 /// What the pass asks.
 #[derive(Drop)]
@@ -328,6 +328,7 @@ pub fn apply(
     ensures same { IfOk result (λ changed. changed.count ≡ 0 → changed.program ≡ program) }
     ensures falls { is_well_formed program ≡ true → IsResolved program hierarchy.now → IfOk result (λ c. calls_in c.program + min c.count 1 ≤ calls_in program) }
 {
+    short_law();
     let plan = plan(alloc, &program, hierarchy, facts, admitted)?;
     let changed = write_plan(alloc, program, plan.as_slice())?;
     Ok(changed)

@@ -100,6 +100,7 @@ impl<'a> Finder<'a> {
     }
 
     /// Whether a class is under a type by the program's own lists.
+    #[tactic(auto, using(crate::proofs::Stands::rows_above))]
     fn is_under(&self, class: u32, kind: u32) -> bool
         ensures { IsFinding self.now → class < length self.now.program.now.classes → kind < length self.now.program.now.types → result ≡ stands_under self.now.program.now class kind }
     {
@@ -296,6 +297,7 @@ impl<'a> Finder<'a> {
     }
 
     /// The one method that objects of a class, which is no interface, and of all classes under it find.
+    #[tactic(auto, using(crate::proofs::Handed::handed))]
     pub fn found_under(
         &self,
         alloc: Global,

@@ -1,0 +1,58 @@
+-- In a straight program what a plain class finds stands as a call needs it.
+use Rattle.std.proofs.Common.{◌≡◌, ◌⊎◌, inl, inr, ℕ, zero, suc, ◌<◌, Bool, true, false, true≢false, nat_eq, List, [], ◌∷◌, length, Option, Some, None, refl, sym, ap, ◌∙◌, subst, arith}
+use Rattle.std.specs.Prelude.{◌||◌, cond, slice_get}
+use Rattle.std.specs.List.{list_any}
+use Rattle.std.specs.Option.{option_or}
+use Rattle.lemmas.proofs.Bools.{clash, or_left, or_right}
+use Rattle.lemmas.proofs.Numbers.{same_number}
+use Rattle.lemmas.proofs.Options.{none_some, some_same}
+use Rattle.program_model.specs.declared.program.MethodAt.{MethodAt}
+use Rattle.program_model.specs.declared.program.Program.{Program}
+use Rattle.class_defs.specs.Finding.{first_among}
+use Rattle.class_defs.specs.Members.{is_interface, own_virtual}
+use Rattle.class_defs.specs.Places.{chain_from, super_place}
+use Rattle.hierarchy.specs.Climbing.{In}
+use Rattle.hierarchy.specs.Ranks.{IsRanked}
+use Rattle.receivers.specs.Receiving.{interface_at, is_straight}
+use Rattle.receivers.proofs.Covered.{free}
+use Rattle.receivers.proofs.Owned.{own_class, found_along}
+use Rattle.receivers.proofs.Walks.{super_short}
+
+-- the class directly above one, none above an interface
+abbrev pub up_from : Program → ℕ → Option ℕ
+up_from p c = cond (is_interface (slice_get p.classes c)) None (super_place p c)
+
+module _ (p : Program) (straight : is_straight p ≡ true) where
+  -- above an interface stand interfaces alone
+  above_interface : (n c u : ℕ) → c < length p.classes → interface_at p c ≡ true → In u (chain_from (super_place p) n (Some c)) → interface_at p u ≡ true
+  above_interface zero c u l i j = absurd j
+  above_interface (suc n) c u l i (inl s) = subst (λ x. interface_at p x ≡ true) (sym s) i
+  above_interface (suc n) c u l i (inr j) = by (super_place p c) refl j (λ d k g h. above_interface n d u k g h)
+    where
+      none : (n : ℕ) → In u (chain_from (super_place p) n None) → ⊥
+      none zero h = h
+      none (suc n) h = h
+
+      by : (o : Option ℕ) → super_place p c ≡ o → In u (chain_from (super_place p) n o) → ((d : ℕ) → d < length p.classes → interface_at p d ≡ true → In u (chain_from (super_place p) n (Some d)) → interface_at p u ≡ true) → interface_at p u ≡ true
+      by None f h more = absurd (none n h)
+      by (Some d) f h more = more d (super_short p c d f) (free p straight c d l i f) h
+
+  -- a plain class along superclasses is reached without an interface in between
+  pub in_line_so : (n c u : ℕ) → c < length p.classes → interface_at p u ≡ false → In u (chain_from (super_place p) n (Some c)) → list_any (nat_eq u) (chain_from (up_from p) n (Some c)) ≡ true
+  in_line_so zero c u l plain j = absurd j
+  in_line_so (suc n) c u l plain (inl s) = or_left (nat_eq u c) (list_any (nat_eq u) (chain_from (up_from p) n (up_from p c))) (ap (nat_eq u) (sym s) ∙ same_number u)
+  in_line_so (suc n) c u l plain (inr j) = or_right (nat_eq u c) (list_any (nat_eq u) (chain_from (up_from p) n (up_from p c))) (by (super_place p c) refl j (λ d k h. in_line_so n d u k plain h))
+    where
+      none : (n : ℕ) → In u (chain_from (super_place p) n None) → ⊥
+      none zero h = h
+      none (suc n) h = h
+
+      on : (d : ℕ) → super_place p c ≡ Some d → In u (chain_from (super_place p) n (Some d)) → (b : Bool) → is_interface (slice_get p.classes c) ≡ b → list_any (nat_eq u) (chain_from (up_from p) n (Some d)) ≡ true
+          → list_any (nat_eq u) (chain_from (up_from p) n (cond b None (super_place p c))) ≡ true
+      on d f h true i k = clash (interface_at p u) (above_interface n d u (super_short p c d f) (free p straight c d l i f) h) plain
+      on d f h false i k = ap (λ o. list_any (nat_eq u) (chain_from (up_from p) n o)) f ∙ k
+
+      by : (o : Option ℕ) → super_place p c ≡ o → In u (chain_from (super_place p) n o) → ((d : ℕ) → d < length p.classes → In u (chain_from (super_place p) n (Some d)) → list_any (nat_eq u) (chain_from (up_from p) n (Some d)) ≡ true)
+          → list_any (nat_eq u) (chain_from (up_from p) n (up_from p c)) ≡ true
+      by None f h more = absurd (none n h)
+      by (Some d) f h more = on d f h (is_interface (slice_get p.classes c)) refl (more d (super_short p c d f) h)

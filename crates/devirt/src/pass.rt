@@ -85,6 +85,23 @@ fn called(bound: Option<Bound>, args: &Words) -> Result<Option<Insn>, AllocError
     }
 }
 
+/// Adds an instruction that is written at a position, if there is one.
+fn add_edit(
+    position: u32,
+    found: Option<Insn>,
+    edits: &mut Vec<Edit>,
+) -> Result<(), AllocError>
+    ensures { OnOk result (edits.new.items ≡ edits.old.items ++ edit_at position found) }
+{
+    match found {
+        Some(insn) => {
+            edits.push(Edit { position, insn })?;
+            Ok(())
+        }
+        None => Ok(()),
+    }
+}
+
 impl Rebinding<'_> {
     /// The classes that the facts list in a register at a position of a method, if they do.
     fn classes_at(&self, method: u32, position: u32, register: u32) -> Option<&[u32]>
@@ -167,16 +184,11 @@ impl Rebinding<'_> {
         ensures ready { IsReady self.now.binder.finder.program.now walk.old → IsReady self.now.binder.finder.program.now walk.new }
         ensures calls { (b : Body) → slice_get b.insns position ≡ Some insn.now → All (IsRecalledAt b) edits.old.items → OnOk result (All (IsRecalledAt b) edits.new.items) }
         ensures is { let p = self.now.binder.finder.program.now in IsBinding self.now.binder → IsReady p walk.old
-            → OnOk result (edits.new.items ≡ edits.old.items ++ edit_at p self.now.facts.now code.now.class code.now.method (places_of code.now.typings.now.states.items) position
+            → OnOk result (edits.new.items ≡ edits.old.items ++ edit_at position
             (rebound_at p self.now.facts.now code.now.class code.now.method (places_of code.now.typings.now.states.items) position insn.now)) }
     {
-        if let Some(found) = self.rebound(alloc, code, position, insn, walk)? {
-            edits.push(Edit {
-                position,
-                insn: found,
-            })?;
-        }
-        Ok(())
+        let found = self.rebound(alloc, code, position, insn, walk)?;
+        add_edit(position, found, edits)
     }
 
     /// What is written over the instructions of a body.

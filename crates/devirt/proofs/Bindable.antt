@@ -236,9 +236,9 @@ module _ (p : Program) (formed : is_well_formed p ≡ true) where
       default_under upper first e i j there code =
           let o = owns p q.name q.proto upper first there in
           let resolved : resolves_method p h.method ≡ Some first = ap (by_entry (λ (q : MethodName). first_among (own_method p q.name q.proto) (resolution_of p (class_place p q.class)))) h.is_named
-              ∙ (ap (λ c. first_among (own_method p q.name q.proto) (resolution_of p c)) e ∙ first_own (length p.classes) (interfaces_from (length p.classes) p (flat_map (interface_places p) (chain_of p (Some upper)))) (let l = h.short in omega (arith, l)) o.method) in
+          ∙ (ap (λ c. first_among (own_method p q.name q.proto) (resolution_of p c)) e ∙ first_own (length p.classes) (interfaces_from (length p.classes) p (flat_map (interface_places p) (chain_of p (Some upper)))) (let l = h.short in omega (arith, l)) o.method) in
           let named : default_of p h.method ≡ Some upper = ap (default_at p) resolved ∙ (ap (λ b. cond b (Some first.class) None)
-              (and_both (has_code (method_at p first)) (interface_at p first.class) code (ap (interface_at p) o.class ∙ i)) ∙ ap Some o.class) in
+          (and_both (has_code (method_at p first)) (interface_at p first.class) code (ap (interface_at p) o.class ∙ i)) ∙ ap Some o.class) in
           sym (ap (λ b. not b || is_under_default p at.class (default_of p h.method)) j ∙ ap (is_under_default p at.class) named) ∙ h.rebinds
         where
           first_own : (m : ℕ) (rest : List ℕ) → 0 < m → own_method p q.name q.proto upper ≡ Some first → first_among (own_method p q.name q.proto) (chain_from (super_place p) m (Some upper) ++ rest) ≡ Some first

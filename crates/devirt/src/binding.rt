@@ -257,9 +257,12 @@ impl<'a> Binder<'a> {
         ensures { let p = self.now.finder.program.now in IsResolved p self.now.finder.hierarchy.now → are_places p classes.now ≡ true → upper < length p.classes
             → result ≡ list_all (λ c. is_under p c upper) classes.now }
     {
-        classes
-            .iter()
-            .all(|class| self.finder.hierarchy.is_under(*class, upper))
+        for class in classes {
+            if !self.finder.hierarchy.is_under(*class, upper) {
+                return false;
+            }
+        }
+        true
     }
 
     /// How a call goes to a method that some classes find, where all of them stand under the method's.

@@ -109,13 +109,13 @@ module _ (p : Program) (formed : is_well_formed p ≡ true) where
         ]
 
     module _ (r : IsRanked p) (straight : is_straight p ≡ true) (caller : ℕ) (x : Table) (n : ℕ) (i : Insn) (h : IsBindable p caller x n i) where
-      q : MethodName
+      abbrev pub q : MethodName
       q = h.named
 
-      at : MethodAt
+      abbrev pub at : MethodAt
       at = h.at
 
-      call : Call
+      abbrev pub call : Call
       call = record { caller = caller; kind = h.kind; method = h.method; receiver = kind_before x n h.on }
 
       -- ---- the receiver's class finds it
@@ -236,17 +236,14 @@ module _ (p : Program) (formed : is_well_formed p ≡ true) where
       default_under upper first e i j there code =
           let o = owns p q.name q.proto upper first there in
           let resolved : resolves_method p h.method ≡ Some first = ap (by_entry (λ (q : MethodName). first_among (own_method p q.name q.proto) (resolution_of p (class_place p q.class)))) h.is_named
-              ∙ (ap (λ c. first_among (own_method p q.name q.proto) (resolution_of p c)) e ∙ first_own (length p.classes) (let l = h.short in omega (arith, l)) o.method) in
+          ∙ (ap (λ c. first_among (own_method p q.name q.proto) (resolution_of p c)) e ∙ first_own (length p.classes) (interfaces_from (length p.classes) p (flat_map (interface_places p) (chain_of p (Some upper)))) (let l = h.short in omega (arith, l)) o.method) in
           let named : default_of p h.method ≡ Some upper = ap (default_at p) resolved ∙ (ap (λ b. cond b (Some first.class) None)
-              (and_both (has_code (method_at p first)) (interface_at p first.class) code (ap (interface_at p) o.class ∙ i)) ∙ ap Some o.class) in
+          (and_both (has_code (method_at p first)) (interface_at p first.class) code (ap (interface_at p) o.class ∙ i)) ∙ ap Some o.class) in
           sym (ap (λ b. not b || is_under_default p at.class (default_of p h.method)) j ∙ ap (is_under_default p at.class) named) ∙ h.rebinds
         where
-          first_own : (m : ℕ) → 0 < m → own_method p q.name q.proto upper ≡ Some first → first_among (own_method p q.name q.proto) (chain_from (super_place p) m (Some upper) ++ rest_of) ≡ Some first
-          first_own zero l g = absurd (omega (arith, l))
-          first_own (suc m) l g = ap (λ y. option_or y (first_among (own_method p q.name q.proto) (chain_from (super_place p) m (super_place p upper) ++ rest_of))) g
-
-          rest_of : List ℕ
-          rest_of = interfaces_from (length p.classes) p (flat_map (interface_places p) (chain_of p (Some upper)))
+          first_own : (m : ℕ) (rest : List ℕ) → 0 < m → own_method p q.name q.proto upper ≡ Some first → first_among (own_method p q.name q.proto) (chain_from (super_place p) m (Some upper) ++ rest) ≡ Some first
+          first_own zero rest l g = absurd (omega (arith, l))
+          first_own (suc m) rest l g = ap (λ y. option_or y (first_among (own_method p q.name q.proto) (chain_from (super_place p) m (super_place p upper) ++ rest))) g
 
       falls_so_named : (upper : ℕ) (own : MethodAt) → class_place p q.class ≡ Some upper → own_virtual p q.name q.proto upper ≡ Some own → has_code (method_at p own) ≡ true
           → falls_so p (names_interface p h.kind q) (interface_at p at.class) q at.class ≡ true
@@ -308,7 +305,7 @@ module _ (p : Program) (formed : is_well_formed p ≡ true) where
           F : Bool
           F = may_access p caller at.class h.target
 
-      made : Bound
+      abbrev pub made : Bound
       made = record { kind = kind_for (interface_at p at.class); method = h.target.name }
 
       pub bound_class : by_class p call q h.receiver ≡ Some made

@@ -49,12 +49,12 @@ module _ (p : Program) (call : Call) (q : MethodName) where
   -- ---- one method
 
   -- the entry of a method that may be called
-  pub record Named (class : ℕ) (o : Option MethodName) : Type 0 where
+  pub record Named (top : ℕ) (o : Option MethodName) : Type 0 where
     pub entry : MethodName
     pub is : o ≡ Some entry
     pub name : entry.name ≡ q.name
     pub proto : entry.proto ≡ q.proto
-    pub class : class_place p entry.class ≡ Some class
+    pub class : class_place p entry.class ≡ Some top
 
   named_so : (class : ℕ) (o : Option MethodName) → is_same_name p q class o ≡ true → Named class o
   named_so class None e = absurd (true≢false (sym e))

@@ -38,7 +38,7 @@ range_long a zero = refl
 range_long a (suc n) = ap suc (range_long (a + 1) n)
 
 module _ (t s : ℕ → Bool) where
-  Within : List ℕ → Type 0
+  abbrev Within : List ℕ → Type 0
   Within xs = (x : ℕ) → In x xs → t x ≡ true → s x ≡ true
 
   count_within : (xs : List ℕ) → Within xs → length (filter t xs) ≤ length (filter s xs)
@@ -87,7 +87,7 @@ module _ (p : Program) (r : IsRanked p) where
       both (inr l) (inl s) = apart_not (sym s)
       both (inr l) (inr m) = omega (arith, l, m)
 
-  all : List ℕ
+  abbrev all : List ℕ
   all = range_with_len 0 (length p.classes)
 
   count_bound : (o : Option ℕ) → count_under p o ≤ length p.classes

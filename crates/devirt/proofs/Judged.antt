@@ -1,16 +1,14 @@
 -- What is written over a body by what was found and the typing that was asked for, and plans of it.
-use Rattle.std.proofs.Common.{◌≡◌, ℕ, zero, suc, ◌+◌, Bool, true, false, true≢false, List, [], ◌∷◌, length, Option, Some, None, refl, sym, ap, ◌∙◌, subst, arith}
-use Rattle.std.specs.Prelude.{All, sum_by, slice_get, slice_index_or, if◌then◌else◌}
+use Rattle.std.proofs.Common.{◌≡◌, ℕ, zero, suc, ◌+◌, ◌<◌, ◌^◌, Bool, true, false, true≢false, List, [], ◌∷◌, length, Option, Some, None, Result, Ok, Err, refl, sym, ap, ◌∙◌, subst, arith}
+use Rattle.std.specs.Prelude.{All, IfOk, slice_get, slice_index_or, if◌then◌else◌}
 use Rattle.std.proofs.lemmas.List.Elements.{All-nil}
-use Rattle.std.proofs.lemmas.List.Sums.{sum_by-cons}
-use Rattle.lemmas.proofs.Lists.{got_short}
-use Rattle.program_model.specs.Cells.{capped}
 use Rattle.program_model.specs.declared.body.Body.{Body}
-use Rattle.program_model.specs.declared.pass.Changed.{Changed}
 use Rattle.program_model.specs.declared.program.Class.{Class}
 use Rattle.program_model.specs.declared.program.Method.{Method}
 use Rattle.program_model.specs.declared.program.MethodAt.{MethodAt}
 use Rattle.program_model.specs.declared.program.Program.{Program}
+use Rattle.program_model.specs.ProgramRules.{is_well_formed}
+use Rattle.class_defs.proofs.WellFormed.{few_classes}
 use Rattle.hierarchy.specs.Shapes.{IsResolved}
 use Rattle.hierarchy.specs.declared.build.Hierarchy.{Hierarchy}
 use Rattle.facts.specs.declared.facts.Facts.{Facts}
@@ -18,11 +16,17 @@ use Rattle.verify.specs.declared.typed.Verifier.{Verifier}
 use Rattle.verify.specs.Methods.{IsFor}
 use Rattle.verify.specs.Typings.{Table}
 use Rattle.rewrite_pass.specs.declared.edit.Edit.{Edit}
-use Rattle.rewrite_pass.specs.Plans.{HasEdits, HasPlan, IsPlan, class_edits, all_edits, word}
+use Rattle.rewrite_pass.specs.Plans.{HasEdits, HasPlan, IsPlan, word}
+use Rattle.receivers.specs.Receiving.{IsFinding}
 use Rattle.devirt.specs.declared.pass.Rebinding.{Rebinding}
 use Rattle.devirt.specs.Asked.{IsGraphed, IsBinding, IsAsked, IsJudgedBy, ReboundWell}
-use Rattle.devirt.specs.Rebound.{AreRebindings, AreRebindingsIn, IsJudged, IsRebinding, IsRebindingPlan, IsRecalledAt, IsReboundBy, edits_from, edits_of, is_any_open, is_numbered, typed_edits}
+use Rattle.devirt.specs.Rebound.{AreRebindings, AreRebindingsIn, IsJudged, IsRebinding, IsRebindingPlan, IsRecalledAt, edits_from, edits_of, is_any_open, is_numbered, typed_edits}
 use Rattle.devirt.proofs.Written.{each_right}
+
+-- two things that are known of an answer, the second one by a premise
+pub ok_both : {T E : Type 0} (r : Result T E) (P Q S : T → Type 0) (B : Type 0) → ((v : T) → P v → (B → Q v) → S v) → IfOk r P → (B → IfOk r Q) → IfOk r S
+ok_both (Ok v) P Q S B h p q = h v p q
+ok_both (Err e) P Q S B h p q = tt
 
 judged_for : (p : Program) (h : Hierarchy) (v : Verifier) (at : MethodAt) (t : Option Table) → IsFor p h v → IsJudgedBy v at t → IsJudged p h at t
 judged_for p h v at (Some x) f j = record { verifier = v; is = f; types = j }
@@ -116,3 +120,19 @@ module _ (p : Program) (h : Hierarchy) (facts : Facts) (admitted : List Bool) (p
 
   pub plan_rebound : IsGraphed p h → IsRebindingPlan p h facts admitted plan
   plan_rebound g = plan_weaker (ReboundWell p h facts) (AreRebindings p h facts) (λ at m b es w. w.rebound g) admitted p.classes plan all
+
+-- ---- what is asked is of the program
+
+pub asked_so : (s : Rebinding) (p : Program) (h : Hierarchy) → s.binder.finder.program.now ≡ p → s.binder.finder.hierarchy.now ≡ h → IsFor p h s.verifier
+    → (IsResolved p h → length p.classes < 2 ^ 32 → IsFinding s.binder.finder) → IsAsked s
+asked_so s p h e f typed finds = record {
+  typed = subst (λ q. IsFor q s.binder.finder.hierarchy.now s.verifier) (sym e) (subst (λ k. IsFor p k s.verifier) (sym f) typed);
+  finds = λ g.
+      let well : is_well_formed p ≡ true = subst (λ q. is_well_formed q ≡ true) e g.0 in
+      let resolved : IsResolved p h = subst (λ k. IsResolved p k) f (subst (λ q. IsResolved q s.binder.finder.hierarchy.now) e g.1) in
+      record { finding = finds resolved (few_classes p well); formed = g.0 };
+}
+
+pub plan_of : (p q : Program) (h k : Hierarchy) (facts : Facts) (admitted : List Bool) (cs : List Class) (plan : List (List (List Edit))) → q ≡ p → k ≡ h
+    → IsPlan (ReboundWell q k facts) admitted cs plan → IsPlan (ReboundWell p h facts) admitted cs plan
+plan_of p q h k facts admitted cs plan e f all = subst (λ r. IsPlan (ReboundWell r h facts) admitted cs plan) e (subst (λ g. IsPlan (ReboundWell q g facts) admitted cs plan) f all)

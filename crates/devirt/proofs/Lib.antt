@@ -1,4 +1,6 @@
 mod Packages
+mod Names
+mod Defaults
 mod Chains
 mod Rebuilt
 mod Same
@@ -6,6 +8,7 @@ mod Bound
 mod Falls
 mod Written
 mod Weighed
+mod Recalled
 mod Judged
 mod Bindable
 mod Nothing

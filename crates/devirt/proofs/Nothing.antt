@@ -54,7 +54,7 @@ none_counted n e = omega (arith, e)
 -- ---- bodies of which nothing is written
 
 module _ (p : Program) (facts : Facts) (class method : ℕ) (x : Table) where
-  no_edit : (n : ℕ) (o : Option Insn) (es : List Edit) → edit_at p facts class method x n o ++ es ≡ [] → (o ≡ None) × (es ≡ [])
+  no_edit : (n : ℕ) (o : Option Insn) (es : List Edit) → edit_at n o ++ es ≡ [] → (o ≡ None) × (es ≡ [])
   no_edit n None es e = (refl, e)
   no_edit n (Some g) es e = absurd (cc)
 
@@ -111,8 +111,8 @@ module _ (p : Program) (h : Hierarchy) (facts : Facts) (formed : is_well_formed 
       numbered = le-leb (length b.insns) 4294967295 short.insns
 
       free : (x : Table) → (is_any_open p b ≡ true → a.table ≡ Some x) → (n : ℕ) (i : Insn) → slice_get b.insns n ≡ Some i → IsBindable p at.class x n i → is_open p i ≡ true → ⊥
-      free x is n i there y open =
-          let any : is_any_open p b ≡ true = any_at (is_open p) b.insns n i there open in
+      free x is n i there y opened =
+          let any : is_any_open p b ≡ true = any_at (is_open p) b.insns n i there opened in
           let typed : edits_from p facts at.class m.name x 0 b.insns ≡ [] =
           sym (ap (λ t. if t then typed_edits p facts at.class m.name b a.table else []) any ∙ (ap (typed_edits p facts at.class m.name b) (is any)
           ∙ ap (λ t. if t then edits_from p facts at.class m.name x 0 b.insns else []) numbered)) ∙ none in

@@ -26,7 +26,7 @@ longer : (pre : List Insn) (n : ℕ) (i : Insn) → length pre ≡ n → length 
 longer [] zero i l = refl
 longer [] (suc n) i l = absurd (omega (arith, l))
 longer (x ∷ pre) zero i l = absurd (omega (arith, l))
-longer (x ∷ pre) (suc n) i l = ap suc (longer pre n i (omega (arith, l)))
+longer (x ∷ pre) (suc n) i l = let h : length (pre ++ i ∷ []) ≡ n + 1 = longer pre n i (omega (arith, l)) in omega (arith, h)
 
 module _ (p : Program) (facts : Facts) (class method : ℕ) (x : Table) where
   abbrev pub or_old : Insn → Option Insn → Insn
@@ -46,7 +46,7 @@ module _ (p : Program) (facts : Facts) (class method : ℕ) (x : Table) where
   edited_from (i ∷ is) pre n l = by (rebound_at p facts class method x n i) (λ j. edited_from is (pre ++ j ∷ []) (n + 1) (longer pre n j l))
     where
       by : (o : Option Insn) → ((j : Insn) → edited (from (n + 1) is) ((pre ++ j ∷ []) ++ is) ≡ (pre ++ j ∷ []) ++ rebuilt (n + 1) is)
-          → edited (edit_at p facts class method x n o ++ from (n + 1) is) (pre ++ i ∷ is) ≡ pre ++ or_old i o ∷ rebuilt (n + 1) is
+          → edited (edit_at n o ++ from (n + 1) is) (pre ++ i ∷ is) ≡ pre ++ or_old i o ∷ rebuilt (n + 1) is
       by None more = ap (edited (from (n + 1) is)) (sym (append_assoc pre (i ∷ []) is)) ∙ (more i ∙ append_assoc pre (i ∷ []) (rebuilt (n + 1) is))
       by (Some g) more = ap (edited (from (n + 1) is)) (set_seam pre is n i g l ∙ sym (append_assoc pre (g ∷ []) is)) ∙ (more g ∙ append_assoc pre (g ∷ []) (rebuilt (n + 1) is))
 
@@ -60,6 +60,6 @@ module _ (p : Program) (facts : Facts) (class method : ℕ) (x : Table) where
     rebuilt_weight (i ∷ is) n = by (rebound_at p facts class method x n i) refl (rebuilt_weight is (n + 1))
       where
         by : (o : Option Insn) → rebound_at p facts class method x n i ≡ o → insns_weight w (rebuilt (n + 1) is) + some_written (from (n + 1) is) ≤ insns_weight w is
-            → insn_weight w (or_old i o) + insns_weight w (rebuilt (n + 1) is) + some_written (edit_at p facts class method x n o ++ from (n + 1) is) ≤ insn_weight w i + insns_weight w is
+            → insn_weight w (or_old i o) + insns_weight w (rebuilt (n + 1) is) + some_written (edit_at n o ++ from (n + 1) is) ≤ insn_weight w i + insns_weight w is
         by None e h = omega (arith, h)
         by (Some g) e h = let l : insn_weight w g < insn_weight w i = less n i g e in omega (arith, h, l)

@@ -25,7 +25,7 @@ use Rattle.devirt.specs.Measure.{bound_of, call_weight, calls_by, calls_in, clas
 -- ---- lists
 
 got_each : {A E : Type 0} (by : List E → A → A) → ((x : A) → by [] x ≡ x) → (plan : List (List E)) (xs : List A) (k : ℕ) → slice_get (each_by by plan xs) k ≡ option_map (by (slice_index_or plan k [])) (slice_get xs k)
-got_each by same [] xs k = at (slice_get xs k)
+got_each {A = A} by same [] xs k = at (slice_get xs k)
   where
     at : (o : Option A) → o ≡ option_map (by []) o
     at None = refl

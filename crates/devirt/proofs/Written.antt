@@ -36,7 +36,7 @@ longer : (pre : List Insn) (n : ℕ) (i : Insn) → length pre ≡ n → length 
 longer [] zero i l = refl
 longer [] (suc n) i l = absurd (omega (arith, l))
 longer (x ∷ pre) zero i l = absurd (omega (arith, l))
-longer (x ∷ pre) (suc n) i l = ap suc (longer pre n i (omega (arith, l)))
+longer (x ∷ pre) (suc n) i l = let h : length (pre ++ i ∷ []) ≡ n + 1 = longer pre n i (omega (arith, l)) in omega (arith, h)
 
 module _ (p : Program) (r : IsRanked p) (facts : Facts) (class method : ℕ) (x : Table) where
   -- an instruction that is written over another one at a position
@@ -156,7 +156,7 @@ module _ (p : Program) (r : IsRanked p) (facts : Facts) (class method : ℕ) (x 
     each_from (i ∷ is) pre n l e = by (rebound_at p facts class method x n i) refl (each_from is (pre ++ i ∷ []) (n + 1) (longer pre n i l) (e ∙ sym (append_assoc pre (i ∷ []) is)))
       where
         by : (o : Option Insn) → rebound_at p facts class method x n i ≡ o → All Is (edits_from p facts class method x (n + 1) is)
-            → All Is (edit_at p facts class method x n o ++ edits_from p facts class method x (n + 1) is)
+            → All Is (edit_at n o ++ edits_from p facts class method x (n + 1) is)
         by None f more = more
         by (Some g) f more = All-cons Is (record { position = n; insn = g }) (edits_from p facts class method x (n + 1) is)
             (rebinding n i g (ap (λ l. slice_get l n) e ∙ seam_get pre is n i l) (rebinds n i g f)) more

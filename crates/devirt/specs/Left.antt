@@ -14,7 +14,7 @@ use Rattle.class_defs.specs.Places.{is_under}
 use Rattle.hierarchy.specs.declared.build.Hierarchy.{Hierarchy}
 use Rattle.facts.specs.declared.facts.Facts.{Facts}
 use Rattle.verify.specs.Typings.{Table, kind_before}
-use Rattle.verify.specs.declared.kinds.Kind.TheVariants as of_kind
+use Rattle.verify.specs.declared.kinds.Kind.TheVariants as object
 use Rattle.rewrite_pass.specs.Plans.{word}
 use Rattle.receivers.specs.Receiving.{found_by, interface_at}
 use Rattle.devirt.specs.Binding.{may_rebind}
@@ -34,7 +34,7 @@ pub record IsBindable (p : Program) (class : ℕ) (x : Table) (n : ℕ) (i : Ins
   pub named : MethodName
   pub is_named : slice_get p.methods method ≡ Some named
   pub receiver : ℕ
-  pub typed : kind_before x n on ≡ of_kind.Program receiver
+  pub typed : kind_before x n on ≡ object.Program receiver
   pub short : receiver < length p.classes
   pub plain : interface_at p receiver ≡ false
   pub at : MethodAt

@@ -136,6 +136,11 @@ abbrev pub called : Option Bound → List ℕ → Option Insn
 called (Some b) args = Some (insn.Invoke b.kind b.method args)
 called None args = None
 
+-- an instruction that is written at a position, if there is one
+abbrev pub edit_at : ℕ → Option Insn → List Edit
+edit_at n (Some g) = record { position = n; insn = g } ∷ []
+edit_at n None = []
+
 module _ (p : Program) (facts : Facts) (class method : ℕ) (x : Table) where
   abbrev pub call_of : InvokeKind → ℕ → ℕ → ℕ → Call
   call_of kind named n on = record { caller = class; kind = kind; method = named; receiver = kind_before x n on }
@@ -148,10 +153,6 @@ module _ (p : Program) (facts : Facts) (class method : ℕ) (x : Table) where
   abbrev pub rebound_at : ℕ → Insn → Option Insn
   rebound_at n (insn.Invoke kind named args) = if is_virtual_call kind then rebound_call n kind named args else None
   rebound_at n i = None
-
-  abbrev pub edit_at : ℕ → Option Insn → List Edit
-  edit_at n (Some g) = record { position = n; insn = g } ∷ []
-  edit_at n None = []
 
   -- what is written over instructions, of which the first stands at a position
   abbrev pub edits_from : ℕ → List Insn → List Edit

@@ -10,7 +10,7 @@ ghost use Rattle.hierarchy.specs.Shapes.{IsOf, IsResolved};
 ghost use Rattle.verify.specs.Building.{class_above};
 ghost use Rattle.receivers.specs.Receiving.{interface_at, is_at, IsFinding, IsNameOf, IsReady};
 ghost use Rattle.devirt.specs.Asked.{IsBinding};
-ghost use Rattle.devirt.specs.Binding.{kind_for, in_line, is_in_class, receives, default_of, may_rebind, is_same_name, may_call, bound_to, bound_above, are_places, by_places, by_class, by_kind, bound_named, bound};
+ghost use Rattle.devirt.specs.Binding.{kind_for, in_line, is_in_class, receives, default_of, may_rebind, is_same_name, may_call, bound_to, bound_above, are_places, by_places, by_classes, by_class, by_kind, bound_named, bound};
 
 use crate::access::may_reach;
 use domains::Value;
@@ -257,9 +257,12 @@ impl<'a> Binder<'a> {
         ensures { let p = self.now.finder.program.now in IsResolved p self.now.finder.hierarchy.now → are_places p classes.now ≡ true → upper < length p.classes
             → result ≡ list_all (λ c. is_under p c upper) classes.now }
     {
-        classes
-            .iter()
-            .all(|class| self.finder.hierarchy.is_under(*class, upper))
+        for class in classes {
+            if !self.finder.hierarchy.is_under(*class, upper) {
+                return false;
+            }
+        }
+        true
     }
 
     /// How a call goes to a method that some classes find, where all of them stand under the method's.
@@ -301,6 +304,26 @@ impl<'a> Binder<'a> {
         }
         let found = self.finder.found_by_all(alloc, classes, named, walk)?;
         Ok(self.bound_above(call, old, named, classes, found))
+    }
+
+    /// What a call is bound to by the exact classes of its receivers, if these are known.
+    fn by_classes(
+        &self,
+        alloc: Global,
+        call: &Call,
+        old: &MethodName,
+        named: Named,
+        classes: Option<&[u32]>,
+        walk: &mut Walk,
+    ) -> Result<Option<Bound>, AllocError>
+        ensures ready { IsReady self.now.finder.program.now walk.old → IsReady self.now.finder.program.now walk.new }
+        ensures is { let p = self.now.finder.program.now in IsFinding self.now.finder → IsNameOf self.now.finder old.now named → IsReady p walk.old
+            → IfOk result (λ o. o ≡ by_classes p call.now old.now (option_copied classes.entry)) }
+    {
+        match classes {
+            Some(classes) => self.by_places(alloc, call, old, named, classes, walk),
+            None => Ok(None),
+        }
     }
 
     /// What a call is bound to by the class of its receivers.
@@ -357,12 +380,10 @@ impl<'a> Binder<'a> {
         ensures is { let p = self.now.finder.program.now in IsFinding self.now.finder → IsNameOf self.now.finder old.now named → IsReady p walk.old
             → IfOk result (λ o. o ≡ bound_named p call.now (option_copied classes.entry) (Some old.now)) }
     {
-        if let Some(classes) = classes {
-            if let Some(bound) = self.by_places(alloc, call, old, named, classes, walk)? {
-                return Ok(Some(bound));
-            }
+        match self.by_classes(alloc, call, old, named, classes, walk)? {
+            Some(bound) => Ok(Some(bound)),
+            None => self.by_kind(alloc, call, old, named, walk),
         }
-        self.by_kind(alloc, call, old, named, walk)
     }
 
     /// What a method number names, for a virtual or interface call.

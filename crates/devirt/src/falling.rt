@@ -1,12 +1,11 @@
 //! What a call names, and whether it falls by going to another method.
 
-ghost use Rattle.std.specs.Prelude.{◌≡◌, slice_get};
-ghost use Rattle.program_model.specs.Lookups.{class_place, method_at};
-ghost use Rattle.class_defs.specs.Members.{has_code};
-ghost use Rattle.receivers.specs.Receiving.{interface_at, IsFinding, IsNameOf};
+ghost use Rattle.std.specs.Prelude.{◌≡◌, ◌<◌, length};
+ghost use Rattle.program_model.specs.Lookups.{class_place};
 ghost use Rattle.program_model.specs.declared.pools.MethodName.{MethodName};
-ghost use Rattle.devirt.specs.Binding.{is_lower, falls_so, falls};
-ghost use Rattle.devirt.specs.Measure.{is_interface_call, is_coded, codes_own, names_code, is_interface_place, names_interface};
+ghost use Rattle.receivers.specs.Receiving.{IsFinding, IsNameOf};
+ghost use Rattle.devirt.specs.Binding.{is_lower, falls};
+ghost use Rattle.devirt.specs.Measure.{is_interface_call, is_coded, names_code, names_interface};
 
 use crate::binding::Binder;
 use insn_set::InvokeKind;

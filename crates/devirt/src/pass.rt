@@ -1,6 +1,7 @@
 //! The pass.
 
-ghost use Rattle.std.specs.Prelude.{◌≡◌, ◌≤◌, ◌+◌, ◌++◌, [], true, All, min, Some, IfOk, IfSome, OnOk, slice_get};
+ghost use Rattle.std.specs.Prelude.{◌≡◌, ◌≤◌, ◌+◌, ◌++◌, [], true, All, length, min, Some, IfOk, IfSome, OnOk, slice_get};
+ghost use Rattle.std.specs.List.{list_any};
 ghost use Rattle.std.specs.Option.{option_copied};
 ghost use Rattle.program_model.specs.ProgramRules.{is_well_formed};
 ghost use Rattle.program_model.specs.declared.body.Body.{Body};
@@ -8,18 +9,18 @@ ghost use Rattle.hierarchy.specs.Shapes.{IsResolved};
 ghost use Rattle.verify.specs.Flow.{places_of};
 ghost use Rattle.verify.specs.Meeting.{IsMeeting};
 ghost use Rattle.rewrite_pass.specs.Plans.{IsPlan, IsRewrittenBy};
-ghost use Rattle.receivers.specs.Receiving.{IsReady, is_straight};
+ghost use Rattle.receivers.specs.Receiving.{IsReady, has_other, is_straight};
 ghost use Rattle.devirt.specs.Asked.{IsBinding, IsAsked, IsJudgedBy, table_of, ReboundWell};
 ghost use Rattle.devirt.specs.Left.{NoneLeft};
 ghost use Rattle.devirt.specs.Measure.{is_virtual_call, calls_in};
-ghost use Rattle.devirt.specs.Rebound.{IsCallWith, IsRecalled, IsRecalledAt, called, classes_at, rebound_call, rebound_at, edit_at, is_open_name, is_open, is_any_open, typed_edits, IsRebindingPlan, IsReboundBy};
+ghost use Rattle.devirt.specs.Rebound.{IsCallWith, IsRecalled, IsRecalledAt, called, classes_at, rebound_call, rebound_at, edit_at, edits_from, is_open_name, is_open, is_any_open, typed_edits, IsRebindingPlan, IsReboundBy};
 
 use crate::binding::{Binder, Bound, Call};
 use domains::Value;
 use facts::Facts;
 use hierarchy::{Hierarchy, Walk};
 use insn_set::{Insn, InvokeKind};
-use program_model::{Admitted, Body, Changed, Method, MethodAt, Program};
+use program_model::{Admitted, Body, Changed, Method, MethodAt, MethodName, Program};
 use receivers::Finder;
 use rewrite_pass::{Edit, Rewriting, plan_program, write_plan};
 use seq::{Seq, Words};
@@ -82,6 +83,19 @@ fn called(bound: Option<Bound>, args: &Words) -> Result<Option<Insn>, AllocError
             args: args.clone()?,
         })),
         None => Ok(None),
+    }
+}
+
+/// Adds an instruction that is written at a position, if there is one.
+fn add_edit(position: u32, found: Option<Insn>, edits: &mut Vec<Edit>) -> Result<(), AllocError>
+    ensures { OnOk result (edits.new.items ≡ edits.old.items ++ edit_at position found) }
+{
+    match found {
+        Some(insn) => {
+            edits.push(Edit { position, insn })?;
+            Ok(())
+        }
+        None => Ok(()),
     }
 }
 
@@ -167,16 +181,30 @@ impl Rebinding<'_> {
         ensures ready { IsReady self.now.binder.finder.program.now walk.old → IsReady self.now.binder.finder.program.now walk.new }
         ensures calls { (b : Body) → slice_get b.insns position ≡ Some insn.now → All (IsRecalledAt b) edits.old.items → OnOk result (All (IsRecalledAt b) edits.new.items) }
         ensures is { let p = self.now.binder.finder.program.now in IsBinding self.now.binder → IsReady p walk.old
-            → OnOk result (edits.new.items ≡ edits.old.items ++ edit_at p self.now.facts.now code.now.class code.now.method (places_of code.now.typings.now.states.items) position
+            → OnOk result (edits.new.items ≡ edits.old.items ++ edit_at position
             (rebound_at p self.now.facts.now code.now.class code.now.method (places_of code.now.typings.now.states.items) position insn.now)) }
     {
-        if let Some(found) = self.rebound(alloc, code, position, insn, walk)? {
-            edits.push(Edit {
-                position,
-                insn: found,
-            })?;
+        let found = self.rebound(alloc, code, position, insn, walk)?;
+        add_edit(position, found, edits)
+    }
+
+    /// What is written over some instructions.
+    fn edits_among(
+        &self,
+        alloc: Global,
+        code: &Code<'_>,
+        insns: &[Insn],
+        walk: &mut Walk,
+    ) -> Result<Vec<Edit>, AllocError>
+        ensures calls { length insns.now ≤ 4294967295 → (b : Body) → b.insns ≡ insns.now → IfOk result (λ v. All (IsRecalledAt b) v.items) }
+        ensures is { let p = self.now.binder.finder.program.now in length insns.now ≤ 4294967295 → IsBinding self.now.binder → IsReady p walk.old
+            → IfOk result (λ v. v.items ≡ edits_from p self.now.facts.now code.now.class code.now.method (places_of code.now.typings.now.states.items) 0 insns.now) }
+    {
+        let mut edits = Vec::new(alloc);
+        for place in 0..insns.len() {
+            self.add_rebound(alloc, code, word(place), &insns[place], walk, &mut edits)?;
         }
-        Ok(())
+        Ok(edits)
     }
 
     /// What is written over the instructions of a body.
@@ -191,22 +219,35 @@ impl Rebinding<'_> {
         ensures is { let p = self.now.binder.finder.program.now in IsBinding self.now.binder → IsReady p walk.old
             → IfOk result (λ v. v.items ≡ typed_edits p self.now.facts.now code.now.class code.now.method body.now (Some (places_of code.now.typings.now.states.items))) }
     {
-        let mut edits = Vec::new(alloc);
         if body.insns.len() > 0xffff_ffff {
-            return Ok(edits);
+            return Ok(Vec::new(alloc));
         }
-        for (place, insn) in body.insns.as_slice().iter().enumerate() {
-            self.add_rebound(alloc, code, word(place), insn, walk, &mut edits)?;
+        self.edits_among(alloc, code, body.insns.as_slice(), walk)
+    }
+
+    /// Whether for a call of a method number, which has this entry, there may be another method.
+    fn is_open_entry(&self, old: &MethodName, method: u32) -> bool
+        ensures { let p = self.now.binder.finder.program.now in IsBinding self.now.binder → slice_get p.methods method ≡ Some old.now → result ≡ has_other p old.now }
+    {
+        match self.binder.named(method) {
+            Some(named) => self.binder.finder.has_other(named),
+            None => false,
         }
-        Ok(edits)
     }
 
     /// Whether a method number is that of a call for which there may be another method.
     fn is_open_name(&self, method: u32) -> bool
         ensures { let p = self.now.binder.finder.program.now in IsBinding self.now.binder → result ≡ is_open_name p (slice_get p.methods method) }
     {
-        match self.binder.named(method) {
-            Some(named) => self.binder.finder.has_other(named),
+        match self
+            .binder
+            .finder
+            .program
+            .methods
+            .as_slice()
+            .get(method as usize)
+        {
+            Some(old) => self.is_open_entry(old, method),
             None => false,
         }
     }
@@ -222,11 +263,23 @@ impl Rebinding<'_> {
         }
     }
 
+    /// Whether one of some instructions is a call for which there may be another method.
+    fn is_one_open(&self, insns: &[Insn]) -> bool
+        ensures { IsBinding self.now.binder → result ≡ list_any (is_open self.now.binder.finder.program.now) insns.now }
+    {
+        for insn in insns {
+            if self.is_open(insn) {
+                return true;
+            }
+        }
+        false
+    }
+
     /// Whether a body has a call for which there may be another method.
     fn is_any_open(&self, body: &Body) -> bool
         ensures { IsBinding self.now.binder → result ≡ is_any_open self.now.binder.finder.program.now body.now }
     {
-        body.insns.as_slice().iter().any(|insn| self.is_open(insn))
+        self.is_one_open(body.insns.as_slice())
     }
 
     /// The typing of a method, none of one that isn't typed.

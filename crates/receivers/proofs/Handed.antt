@@ -24,7 +24,7 @@ use Rattle.receivers.proofs.Covered.{Lower, finds_covered}
 
 module _ (p : Program) (straight : is_straight p ≡ true) (r : IsRanked p) (q : MethodName) (class : ℕ) (short : class < length p.classes) (plain : interface_at p class ≡ false)
     (target : MethodAt) (found : finds_virtual p q.name q.proto class ≡ Some target) where
-  among : ℕ → Search
+  abbrev among : ℕ → Search
   among c = finds_among p (flat_map (interface_places p) (chain_of p (Some c))) q.name q.proto
 
   -- what a class finds that stands under the named type, by the virtual method along it
@@ -33,7 +33,7 @@ module _ (p : Program) (straight : is_straight p ≡ true) (r : IsRanked p) (q :
 
   -- the classes strictly under it
   record Below (d : ℕ) : Type 0 where
-    short : d < length p.classes
+    low : d < length p.classes
     under : is_under p d class ≡ true
     apart : nat_eq d class ≡ false
 
@@ -41,7 +41,7 @@ module _ (p : Program) (straight : is_straight p ≡ true) (r : IsRanked p) (q :
   below d i =
       let f = in_filter (λ c. is_under p c class && not (nat_eq c class)) (range_with_len 0 (length p.classes)) d i in
       let n = (in_numbers 0 (length p.classes) d f.0).1 in
-      record { short = omega (arith, n); under = and_left (is_under p d class) (not (nat_eq d class)) f.1; apart = not_true (nat_eq d class) (and_right (is_under p d class) (not (nat_eq d class)) f.1) }
+      record { low = omega (arith, n); under = and_left (is_under p d class) (not (nat_eq d class)) f.1; apart = not_true (nat_eq d class) (and_right (is_under p d class) (not (nat_eq d class)) f.1) }
 
   among_below : (d : ℕ) → d < length p.classes → is_under p d class ≡ true → nat_eq d class ≡ false → In d (subclasses_of p class)
   among_below d l u a = filter_in (λ c. is_under p c class && not (nat_eq c class)) (range_with_len 0 (length p.classes)) d (numbers_in 0 (length p.classes) d (omega arith) (omega (arith, l)))
@@ -88,7 +88,7 @@ module _ (p : Program) (straight : is_straight p ≡ true) (r : IsRanked p) (q :
   finds_target s none d i =
       let b = below d i in
       let stands : stands_under p d q.class ≡ true = stands_down p r d class q.class b.under s in
-      ap (is_at target) (found_so d target stands (by (finds_covered p straight r q.name q.proto class short plain d b.short b.under))) ∙ at_itself target
+      ap (is_at target) (found_so d target stands (by (finds_covered p straight r q.name q.proto class short plain d b.low b.under))) ∙ at_itself target
     where
       by : (finds_virtual p q.name q.proto d ≡ finds_virtual p q.name q.proto class) ⊎ Lower p straight r q.name q.proto class short plain (finds_virtual p q.name q.proto d) → finds_virtual p q.name q.proto d ≡ Some target
       by (inl e) = e ∙ found

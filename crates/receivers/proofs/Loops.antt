@@ -1,5 +1,5 @@
 -- Tests over the front of a list.
-use Rattle.std.proofs.Common.{◌≡◌, ℕ, zero, suc, ◌+◌, ◌<◌, ◌≤◌, Bool, true, false, List, [], ◌∷◌, ◌++◌, length, slice_index, take, take_all, Some, refl, sym, ap, ◌∙◌, subst, arith}
+use Rattle.std.proofs.Common.{◌≡◌, ℕ, zero, suc, ◌+◌, ◌-◌, ◌<◌, ◌≤◌, Bool, true, false, List, [], ◌∷◌, ◌++◌, drop, length, slice_index, take, take_all, Some, refl, sym, ap, ◌∙◌, subst, arith}
 use Rattle.std.specs.Prelude.{◌&&◌, ◌||◌, slice_get}
 use Rattle.std.specs.List.{list_all, list_any}
 use Rattle.std.proofs.lemmas.List.{take_more}
@@ -37,3 +37,16 @@ module _ (t : ℕ → Bool) where
 
   pub all_broken : (xs : List ℕ) (i : ℕ) → i < length xs → t (slice_index xs i) ≡ false → list_all t xs ≡ false
   all_broken xs i l e = untrue (list_all t xs) (λ h. clash (t (slice_index xs i)) (all_at t xs i (slice_index xs i) h (at_index xs i l)) e)
+
+-- the first item and the rest
+pub head_tail : (xs : List ℕ) → 1 ≤ length xs → slice_index xs 0 ∷ drop 1 xs ≡ xs
+head_tail [] l = absurd (omega (arith, l))
+head_tail (x ∷ xs) l = refl
+
+pub in_tail : (xs : List ℕ) (k x : ℕ) → slice_get (drop 1 xs) k ≡ Some x → slice_get xs (suc k) ≡ Some x
+in_tail [] k x e = cc
+in_tail (y ∷ xs) k x e = e
+
+pub rest_is : (xs : List ℕ) → take (length xs - 1) (drop 1 xs) ≡ drop 1 xs
+rest_is [] = refl
+rest_is (x ∷ xs) = take_all (suc (length xs) - 1) xs (omega arith)

@@ -16,7 +16,7 @@ use Rattle.class_defs.specs.Places.{chain_from, super_place}
 use Rattle.hierarchy.specs.Climbing.{In}
 use Rattle.hierarchy.specs.Naming.{definers_of}
 use Rattle.receivers.specs.Receiving.{is_at}
-use Rattle.receivers.proofs.Ranges.{numbers_in, filter_in}
+use Rattle.receivers.proofs.Ranges.{at_in, filter_in, in_filter, in_numbers, numbers_in}
 
 pub at_itself : (at : MethodAt) → is_at at (Some at) ≡ true
 at_itself at = and_both (nat_eq at.class at.class) (nat_eq at.place at.place) (same_number at.class) (same_number at.place)
@@ -82,3 +82,9 @@ module _ (p : Program) (name proto : ℕ) where
   pub defines : (c : ℕ) (at : MethodAt) → c < length p.classes → own_virtual p name proto c ≡ Some at → In c (definers_of p name proto)
   defines c at l e = filter_in (λ d. is_some (own_method p name proto d)) (range_with_len 0 (length p.classes)) c (numbers_in 0 (length p.classes) c (omega arith) (omega (arith, l)))
       (some_method (own_method p name proto c) at e)
+
+  pub definers_short : (k c : ℕ) → slice_get (definers_of p name proto) k ≡ Some c → c < length p.classes
+  definers_short k c e =
+      let i = at_in (definers_of p name proto) k c e in
+      let n = (in_numbers 0 (length p.classes) c (in_filter (λ d. is_some (own_method p name proto d)) (range_with_len 0 (length p.classes)) c i).0).1 in
+      omega (arith, n)

@@ -1,9 +1,13 @@
 -- Numbers of ranges, and those of them that pass a test.
 use Rattle.std.proofs.Common.{◌≡◌, ◌⊎◌, inl, inr, ℕ, zero, suc, ◌+◌, ◌<◌, ◌≤◌, Bool, true, false, true≢false, List, [], ◌∷◌, length, Some, refl, sym, ap, ◌∙◌, subst, arith}
-use Rattle.std.specs.Prelude.{◌&&◌, Contains, cond, slice_get}
+use Rattle.std.specs.Prelude.{◌&&◌, Contains, cond, nat_eq, not, slice_get}
 use Rattle.std.specs.List.{filter, list_all, range_with_len}
+use Rattle.std.proofs.lemmas.Bool.{cases_lt}
 use Rattle.lemmas.proofs.Lists.{contains_here, contains_there}
+use Rattle.program_model.specs.declared.program.Program.{Program}
+use Rattle.class_defs.specs.Places.{is_under}
 use Rattle.hierarchy.specs.Climbing.{In}
+use Rattle.hierarchy.specs.Touring.{subclasses_of}
 
 pub numbers_in : (a n k : ℕ) → a ≤ k → k < a + n → In k (range_with_len a n)
 numbers_in a zero k l m = absurd (omega (arith, l, m))
@@ -70,3 +74,17 @@ pub at_in : (xs : List ℕ) (k c : ℕ) → slice_get xs k ≡ Some c → In c x
 at_in [] k c e = cc
 at_in (x ∷ xs) zero c e = inl (let s : x ≡ c = cc in sym s)
 at_in (x ∷ xs) (suc k) c e = inr (at_in xs k c e)
+
+-- one number more
+pub all_numbers_more : (t : ℕ → Bool) (n : ℕ) → list_all t (range_with_len 0 n) ≡ true → t n ≡ true → list_all t (range_with_len 0 (n + 1)) ≡ true
+all_numbers_more t n e f = all_pass t (range_with_len 0 (n + 1)) (λ c i. by c (in_numbers 0 (n + 1) c i).1 (cases_lt c n))
+  where
+    by : (c : ℕ) → c < 0 + (n + 1) → (c < n) ⊎ (n ≤ c) → t c ≡ true
+    by c l (inl m) = passes_all t (range_with_len 0 n) c e (numbers_in 0 n c (omega arith) (omega (arith, m)))
+    by c l (inr m) = let same : c ≡ n = omega (arith, l, m) in ap t same ∙ f
+
+-- the classes under a class are classes
+pub subclasses_short : (p : Program) (class k c : ℕ) → slice_get (subclasses_of p class) k ≡ Some c → c < length p.classes
+subclasses_short p class k c e =
+    let f = in_filter (λ d. is_under p d class && not (nat_eq d class)) (range_with_len 0 (length p.classes)) c (at_in (subclasses_of p class) k c e) in
+    let n = (in_numbers 0 (length p.classes) c f.0).1 in omega (arith, n)

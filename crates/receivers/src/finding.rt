@@ -9,7 +9,7 @@ ghost use Rattle.hierarchy.specs.Naming.{IsKey};
 ghost use Rattle.hierarchy.specs.Shapes.{IsResolved};
 ghost use Rattle.hierarchy.specs.Tables.{row_of};
 ghost use Rattle.hierarchy.specs.Touring.{subclasses_of};
-ghost use Rattle.receivers.specs.Receiving.{stands_under, lists_above, only, interface_at, found_by, is_at, all_find, agreed, agreed_under, overrides, is_overridden, handed_down, is_other, has_other, AreShort, IsFinding, IsReady, IsNameOf};
+ghost use Rattle.receivers.specs.Receiving.{stands_under, lists_above, only, interface_at, found_by, is_at, all_find, agreed, agreed_on, agreed_under, overrides, is_overridden, handed_down, is_other, has_other, AreShort, IsFinding, IsReady, IsNameOf};
 
 use crate::listed::listed_in;
 use crate::straight::is_straight;
@@ -192,6 +192,26 @@ impl<'a> Finder<'a> {
         Ok(true)
     }
 
+    /// This method, where objects of some classes find it.
+    fn agreed_on(
+        &self,
+        alloc: Global,
+        others: &[u32],
+        named: Named,
+        target: MethodAt,
+        walk: &mut Walk,
+    ) -> Result<Option<MethodAt>, AllocError>
+        ensures ready { IsReady self.now.program.now walk.old → IsReady self.now.program.now walk.new }
+        ensures is { let p = self.now.program.now in IsFinding self.now → IsReady p walk.old → (q : MethodName) → IsNameOf self.now q named → AreShort p others.now
+            → IfOk result (λ o. o ≡ agreed_on p q others.now (Some target)) }
+    {
+        if self.all_find(alloc, others, named, target, walk)? {
+            Ok(Some(target))
+        } else {
+            Ok(None)
+        }
+    }
+
     /// The method that an object of a class finds, where objects of some others find it too.
     fn agreed(
         &self,
@@ -209,11 +229,7 @@ impl<'a> Finder<'a> {
             Some(target) => target,
             None => return Ok(None),
         };
-        if self.all_find(alloc, others, named, target, walk)? {
-            Ok(Some(target))
-        } else {
-            Ok(None)
-        }
+        self.agreed_on(alloc, others, named, target, walk)
     }
 
     /// The one method that objects of all of some classes find, of which there is at least one.
@@ -292,8 +308,12 @@ impl<'a> Finder<'a> {
         ensures is { let p = self.now.program.now in IsFinding self.now → IsReady p walk.old → (q : MethodName) → IsNameOf self.now q named → class < length p.classes
             → IfOk result (λ o. o ≡ agreed_under p q class) }
     {
+        let target = match self.find(alloc, class, named, walk)? {
+            Some(target) => target,
+            None => return Ok(None),
+        };
         let below = self.hierarchy.own_subclasses(alloc, class)?;
-        self.agreed(alloc, class, below.as_slice(), named, walk)
+        self.agreed_on(alloc, below.as_slice(), named, target, walk)
     }
 
     /// The one method that objects of a class, which is no interface, and of all classes under it find.

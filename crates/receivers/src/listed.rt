@@ -59,6 +59,13 @@ fn note(rows: &mut [Seq<u32>], class: &Class, place: u32) -> Result<(), AllocErr
     add_all(rows, class.interfaces.as_slice(), place)
 }
 
+/// Adds a class to the rows of what it lists.
+fn note_in(rows: &mut Seq<Seq<u32>>, class: &Class, place: u32) -> Result<(), AllocError>
+    ensures { OnOk result (rows.new ≡ add_to_all rows.old (kinds_above class.now) place) }
+{
+    note(rows.items.as_mut_slice(), class, place)
+}
+
 /// For each of so many types the places of the classes that list it, as their superclass or among their interfaces.
 pub(crate) fn listed_in(
     alloc: Global,
@@ -69,7 +76,7 @@ pub(crate) fn listed_in(
 {
     let mut rows = empty_rows(alloc, kinds)?;
     for place in 0..classes.len() {
-        note(rows.items.as_mut_slice(), &classes[place], word(place))?;
+        note_in(&mut rows, &classes[place], word(place))?;
     }
     Ok(rows)
 }

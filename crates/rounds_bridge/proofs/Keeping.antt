@@ -38,7 +38,7 @@ use Rattle.reach_bridge.proofs.Kept.{kept_named}
 use Rattle.reach_bridge.proofs.Within.{shows_the_same, keeps_shuts, keeps_typing}
 use Rattle.shut_bridge.proofs.Passes.{thinned_keeps, compacted_keeps, propagated_keeps}
 use Rattle.shut_bridge.proofs.Folded.{folded_keeps}
-use Rattle.shut_bridge.proofs.Rebound.{rebound_keeps}
+use Rattle.rebind_kept.proofs.Shuts.{rebound_holds}
 use Rattle.rebind_kept.proofs.Kept.{rebound_kept}
 use Rattle.rounds_bridge.specs.Owed.{IsSound, Owes, Keeps}
 use Rattle.rounds_bridge.proofs.Heads.{others_define}
@@ -131,8 +131,9 @@ module _ (o : Outside) where
       by : Rebinds o admitted p q ⊎ ((q ≡ p) × KeepsForms o admitted p) → Owes o p q
       by (inl r) = subst (λ (x : Program). Owes o p x) (sym r.left) (kept_for_owes p r.changed.program sound
           (let k = r.known.certified in
-          rebound_kept p r.hierarchy o sound.formed r.resolved sound.grounded sound.typed r.known.words r.known.makers r.known.plain k admitted r.facts r.changed r.rebound)
-          (rebound_keeps p sound.formed r.hierarchy r.facts admitted r.changed (outer_of p o) r.rebound))
+          rebound_kept p r.hierarchy o sound.formed r.resolved sound.grounded sound.typed r.facts admitted r.changed r.rebound r.known.words r.known.makers k.live k.targets k.fits k.live_closed k.targeted k.closed
+          (are_named p o k.live (record { formed = sound.formed; once = r.resolved.of.once; grounded = sound.grounded; sized = k.fits; closed = k.live_closed }) k.targets r.resolved.of.ranked r.known.plain r.facts))
+          (rebound_holds p sound.formed r.hierarchy r.facts admitted r.changed (outer_of p o) r.rebound))
       by (inr none) = subst (λ (x : Program). Owes o p x) (sym none.0) (owes_same o p sound)
 
   pub devirt_keeps : (admitted : List Bool) → Keeps o admitted Devirt

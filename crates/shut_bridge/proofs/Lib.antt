@@ -2,4 +2,3 @@ pub mod Saying
 pub mod Passes
 pub mod Rewritten
 pub mod Folded
-pub mod Rebound

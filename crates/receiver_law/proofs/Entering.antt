@@ -29,7 +29,7 @@ use Rattle.dalvik_defs.specs.declared.state.Value.{Value}
 use Rattle.dalvik_defs.specs.declared.tables.Floats.{Floats}
 use Rattle.dalvik_defs.specs.declared.tables.Framework.{Framework}
 use Rattle.pass_defs.specs.Bindable.{is_virtual_call}
-use Rattle.pass_defs.specs.Demands.{Fits, Constructed, meets, passed, is_constructor_name}
+use Rattle.pass_defs.specs.Demands.{Demand, Fits, Constructed, meets, passed, is_constructor_name}
 use Rattle.pass_defs.specs.Kinds.{Kind, is_plain}
 use Rattle.pass_defs.specs.Kinds as kind
 use Rattle.pass_defs.specs.Typed.{argument_kinds, parameter_kinds, receiver_kind, is_constructor, words_of, passed_words, is_wrong, wrong_method, wrong_super}
@@ -54,7 +54,7 @@ module _ (p : NamedProgram) (o : Outer) (f : Framework) (floats : Floats) (reg :
   abbrev L : Outcome → Type 0
   L = Leads p o f floats reg w cs g tw t
 
-  abbrev met : _ → Bool
+  abbrev met : (ℕ × Demand) → Bool
   met d = meets p t.in_method.class t.kinds.registers d.0 d.1
 
   -- ---- what is passed
@@ -89,12 +89,9 @@ module _ (p : NamedProgram) (o : Outer) (f : Framework) (floats : Floats) (reg :
     rest_met : list_all met (passed key.signature.parameters args) ≡ true
     rest_met = by k virtual h
       where
-        abbrev test : Bool
-        test = meets p t.in_method.class t.kinds.registers on (if is_constructor_name key.name then Constructed key.class else Fits key.class)
-
         by : (k : InvokeKind) → is_virtual_call k ≡ true → At p o f floats reg w g t (form.Invoke k key (on ∷ args)) → list_all met (passed key.signature.parameters args) ≡ true
-        by call.Virtual e h = and_right test (list_all met (passed key.signature.parameters args)) h.allowed
-        by call.Interface e h = and_right test (list_all met (passed key.signature.parameters args)) h.allowed
+        by call.Virtual e h = and_right (meets p t.in_method.class t.kinds.registers on (if is_constructor_name key.name then Constructed key.class else Fits key.class)) (list_all met (passed key.signature.parameters args)) h.allowed
+        by call.Interface e h = and_right (meets p t.in_method.class t.kinds.registers on (if is_constructor_name key.name then Constructed key.class else Fits key.class)) (list_all met (passed key.signature.parameters args)) h.allowed
         by call.Static e h = absurd (true≢false (sym e))
         by call.Direct e h = absurd (true≢false (sym e))
         by call.Super e h = absurd (true≢false (sym e))

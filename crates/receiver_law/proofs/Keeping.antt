@@ -64,6 +64,11 @@ searched face need vs w g call.Static k e = absurd (true≢false (sym e))
 searched face need vs w g call.Direct k e = absurd (true≢false (sym e))
 searched face need vs w g call.Super k e = absurd (true≢false (sym e))
 
+-- the first register that a call passes
+abbrev first_register : Form → ℕ
+first_register (form.Invoke kind k (r ∷ rs)) = r
+first_register f = 0
+
 module _ (p : NamedProgram) (o : Outer) (f : Framework) (a : Floats) (script : List Move) (regular : IsRegular p) (acyclic : IsAcyclic p) (fit : Fit p o f script) (asks : Asks) (asked : AreAsked p asks) where
   abbrev m : NamedProgram
   m = asking_program asks p
@@ -77,19 +82,19 @@ module _ (p : NamedProgram) (o : Outer) (f : Framework) (a : Floats) (script : L
   abbrev s : Setting
   s = setting_of p o f a
 
-  m_regular : IsRegular m
+  abbrev m_regular : IsRegular m
   m_regular = asking_regular p regular asks asked
 
-  m_acyclic : IsAcyclic m
+  abbrev m_acyclic : IsAcyclic m
   m_acyclic = asking_acyclic p asks acyclic
 
-  m_fit : Fit m o f script
+  abbrev m_fit : Fit m o f script
   m_fit = fits_less p m o (λ t e. sym (same_defines p regular asks asked t) ∙ e) f script fit
 
-  m_settled : IsSettled m
+  abbrev pub m_settled : IsSettled m
   m_settled = reg m o f a script m_regular m_acyclic m_fit
 
-  m_finds : FindsRegularly m f
+  abbrev pub m_finds : FindsRegularly m f
   m_finds = finds m o f a script m_regular m_acyclic m_fit
 
   same_setting : setting_of m o f a ≡ s
@@ -139,8 +144,11 @@ module _ (p : NamedProgram) (o : Outer) (f : Framework) (a : Floats) (script : L
     m_plain : is_plain m u ≡ true
     m_plain = ap (λ h. h u) (plain_same (asking_change name asks) p) ∙ call.plain
 
+    class_type : is_class_type u ≡ true
+    class_type = regular.class_types u (plain_defined p u call.plain)
+
     -- the call as one that stays
-    stays : Renames (form.Invoke call.kind key (call.on ∷ call.args)) (form.Invoke call.kind key (call.on ∷ call.args))
+    abbrev stays : Renames (form.Invoke call.kind key (call.on ∷ call.args)) (form.Invoke call.kind key (call.on ∷ call.args))
     stays = record {
       kind = call.kind;
       kind' = call.kind;
@@ -156,9 +164,6 @@ module _ (p : NamedProgram) (o : Outer) (f : Framework) (a : Floats) (script : L
       new_type = class_type;
       plain_name = ordinary_name p;
     }
-      where
-        class_type : is_class_type u ≡ true
-        class_type = regular.class_types u (plain_defined p u call.plain)
 
     -- its receiver is null, or of a class under the one that is asked for
     pub asked_receiver : is_null (register g call.on) ≡ false → (defines p (kind_of w (register g call.on)) ≡ true) × (is_own_under p (kind_of w (register g call.on)) u ≡ true)
@@ -283,19 +288,15 @@ module _ (p : NamedProgram) (o : Outer) (f : Framework) (a : Floats) (script : L
 
   -- where a frame of such a state stands at a call that asks, its receiver is null or of a class under the one that is asked for
   pub receiver_asked : (w : World) (c : Classes) (g : Frame) → TypedWorld m f w → TypedFrame m f w g → (u : Text) (x : Form) → form_at (bodies_of p) g ≡ Some x → asks g.method g.position ≡ Some u
-      → (on : ℕ) (args : List ℕ) (kind : InvokeKind) (key : MethodKey) → x ≡ form.Invoke kind key (on ∷ args) → is_null (register g on) ≡ false
+      → (on : ℕ) (args : List ℕ) (kind : InvokeKind) (k : MethodKey) → x ≡ form.Invoke kind k (on ∷ args) → is_null (register g on) ≡ false
       → (defines p (kind_of w (register g on)) ≡ true) × (is_own_under p (kind_of w (register g on)) u ≡ true)
-  receiver_asked w c g tw t u x at asks_so on args kind key is some =
+  receiver_asked w c g tw t u x at asks_so on args kind k is some =
       let same : call.on ≡ on = ap first_register (sym call.is ∙ is) in
       subst (λ r. (defines p (kind_of w (register g r)) ≡ true) × (is_own_under p (kind_of w (register g r)) u ≡ true)) same
       (asked_receiver w c g tw t u x call here (ap (λ r. is_null (register g r)) same ∙ some))
     where
       call : AskedCall p u x
       call = asked_at g x u at asks_so
-
-      abbrev first_register : Form → ℕ
-      first_register (form.Invoke kind k (r ∷ rs)) = r
-      first_register f = 0
 
       own : (y : Form) × At m o f a m_settled w g t y
       own = at_form m o f a m_settled w g t

@@ -1,6 +1,6 @@
 -- A name that no method of a program has: a call of it resolves to none.
 use Rattle.std.proofs.Common.{◌≡◌, ℕ, zero, suc, ◌+◌, ◌<◌, ◌≤◌, Bool, true, false, true≢false, length, List, [], ◌∷◌, ◌++◌, Option, Some, None, refl, sym, ap, ◌∙◌, subst, arith}
-use Rattle.std.specs.Prelude.{◌&&◌, find, flat_map, replicate, sum_by, Contains}
+use Rattle.std.specs.Prelude.{◌&&◌, cond, find, flat_map, replicate, sum_by, Contains}
 use Rattle.std.specs.Option.{option_or}
 use Rattle.std.proofs.lemmas.List.{length-replicate}
 use Rattle.std.proofs.lemmas.List.Sums.{sum_by-cons}
@@ -51,7 +51,7 @@ found_none : {A : Type 0} (test : A → Bool) (xs : List A) → ((x : A) → Con
 found_none test [] h = refl
 found_none {A} test (x ∷ xs) h = by (test x) (h x (0, omega arith, refl)) (found_none test xs (λ y c. let l : c.0 < length xs = c.1 in h y (suc c.0, omega (arith, l), c.2)))
   where
-    by : (b : Bool) → b ≡ false → find test xs ≡ None → (elim b as (λ b. Option A) [ true ↦ Some x | false ↦ find test xs ]) ≡ None
+    by : (b : Bool) → b ≡ false → find test xs ≡ None → cond b (Some x) (find test xs) ≡ None
     by true e r = absurd (true≢false e)
     by false e r = r
 

@@ -130,7 +130,7 @@ module _ (p : NamedProgram) (regular : IsRegular p) (asks : Asks) (asked : AreAs
 
   -- ---- the rest
 
-  same_defines : (t : Text) → defines m t ≡ defines p t
+  pub same_defines : (t : Text) → defines m t ≡ defines p t
   same_defines t = at_class new p (λ c. true) (λ c. true) false (λ c. refl) t
 
   abbrev other : NamedClass → NamedClass

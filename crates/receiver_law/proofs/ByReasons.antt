@@ -1,10 +1,9 @@
 -- Calls that name another method for reasons, some by facts and some by the kinds of receivers: one program shows what the other
 -- shows, and is typed.
-use Rattle.std.proofs.Common.{◌≡◌, ℕ, Bool, true, false, true≢false, List, [], ◌∷◌, Option, Some, None, ◌⊎◌, inl, inr, refl, sym, ap, ◌∙◌, subst, subst₂}
+use Rattle.std.proofs.Common.{◌≡◌, ℕ, false, List, ◌∷◌, Option, Some, None, ◌⊎◌, inl, inr, refl, sym, ap, ◌∙◌, subst, subst₂}
 use std.Path.{path_j}
-use Rattle.std.specs.Prelude.{slice_get, is_some, Contains}
+use Rattle.std.specs.Prelude.{slice_get, Contains}
 use Rattle.std.specs.Option.{option_and_then}
-use Rattle.insn_set.specs.declared.ops.InvokeKind.{InvokeKind}
 use Rattle.dalvik_defs.specs.Effect.{register}
 use Rattle.dalvik_defs.specs.Face.{bodies_of}
 use Rattle.dalvik_defs.specs.Find.{defined_method}
@@ -48,7 +47,7 @@ use Rattle.bodies_law.proofs.Faces.{others_face}
 use Rattle.bodies_law.proofs.Found.{others_found}
 use Rattle.bodies_law.proofs.Named.{others_weaker}
 use Rattle.rebind_law.specs.Rebinding.{FindBoth, Rebinds, Becomes, Same, Other, IsRebound, AreRebound}
-use Rattle.rebind_law.specs.Receivers.{FindsListed, BoundByPlaces}
+use Rattle.rebind_law.specs.Receivers.{BoundByPlaces}
 use Rattle.rebind_law.specs.Retyping.{Retypes, IsRetyped, Retyped}
 use Rattle.rebind_law.specs.Retyping as retyping
 use Rattle.rebind_law.proofs.ByClass.{Reached, reached_on, going, both_listed}

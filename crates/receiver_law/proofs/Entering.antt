@@ -1,21 +1,20 @@
 -- A call of a typed frame that enters a method which its receiver finds: what waits and what is entered are typed, whatever name
 -- the call has in another program.
-use Rattle.std.proofs.Common.{◌≡◌, ℕ, suc, ◌+◌, Bool, true, false, true≢false, List, [], ◌∷◌, Option, Some, None, inr, refl, sym, ap, ◌∙◌, subst, arith}
-use Rattle.std.specs.Prelude.{◌&&◌, ◌||◌, not, nat_eq, length, map, is_some, codes, Contains, if◌then◌else◌}
+use Rattle.std.proofs.Common.{◌≡◌, ℕ, suc, ◌+◌, Bool, true, false, true≢false, List, ◌∷◌, Option, Some, None, inr, refl, sym, ap, ◌∙◌, subst, arith}
+use Rattle.std.specs.Prelude.{◌&&◌, ◌||◌, not, nat_eq, length, map, is_some, Contains, if◌then◌else◌}
 use Rattle.std.proofs.lemmas.Bool.{eqb-true}
 use Rattle.std.specs.List.{list_all}
 use Rattle.insn_set.specs.declared.ops.InvokeKind.{InvokeKind}
 use Rattle.insn_set.specs.declared.ops.InvokeKind.TheVariants as call
-use Rattle.dalvik_defs.proofs.Calm.{text_sound}
 use Rattle.dalvik_defs.specs.Effect.{register}
 use Rattle.dalvik_defs.specs.Face.{face_of, bodies_of}
-use Rattle.dalvik_defs.specs.Find.{Found, found_in, Finds, finds_at}
-use Rattle.dalvik_defs.specs.Flags.{is_static, is_interface, is_virtual}
+use Rattle.dalvik_defs.specs.Find.{Found, Finds, finds_at}
+use Rattle.dalvik_defs.specs.Flags.{is_static, is_interface}
 use Rattle.dalvik_defs.specs.Known.{null_pointer}
 use Rattle.dalvik_defs.specs.Names.{Text}
-use Rattle.dalvik_defs.specs.Outcome.{Outcome, Enters, Need, need_of, faults, when_ready, calls_by, calls_uncoded, on_receiver, calls}
+use Rattle.dalvik_defs.specs.Outcome.{Outcome, Enters, Need, need_of, faults, when_ready, calls_by, calls_uncoded}
 use Rattle.dalvik_defs.specs.Outer.{Outer}
-use Rattle.dalvik_defs.specs.State.{World, Classes, is_null, kind_of}
+use Rattle.dalvik_defs.specs.State.{World, Classes, kind_of}
 use Rattle.dalvik_defs.specs.Under.{defines, is_under}
 use Rattle.dalvik_defs.specs.declared.forms.Form.{Form}
 use Rattle.dalvik_defs.specs.declared.forms.Form.TheVariants as form
@@ -32,14 +31,14 @@ use Rattle.pass_defs.specs.Bindable.{is_virtual_call}
 use Rattle.pass_defs.specs.Demands.{Demand, Fits, Constructed, meets, passed, is_constructor_name}
 use Rattle.pass_defs.specs.Kinds.{Kind, is_plain}
 use Rattle.pass_defs.specs.Kinds as kind
-use Rattle.pass_defs.specs.Typed.{argument_kinds, parameter_kinds, receiver_kind, is_constructor, words_of, passed_words, is_wrong, wrong_method, wrong_super}
+use Rattle.pass_defs.specs.Typed.{argument_kinds, parameter_kinds, receiver_kind, is_constructor, words_of, passed_words, wrong_method, wrong_super}
 use Rattle.invariant_law.specs.Invariant.{Callee}
 use Rattle.stuck_law.specs.TypedStates.{AllHold, IsObject, KindHolds, TypedFrame, TypedWorld}
 use Rattle.stuck_law.proofs.Settled.{IsSettled, FindsRegularly, IsFound}
-use Rattle.stuck_law.proofs.Registers.{and_left, and_right, no_low}
+use Rattle.stuck_law.proofs.Registers.{and_right, no_low}
 use Rattle.stuck_law.proofs.Climbs.{plain_by, under_self}
 use Rattle.stuck_law.proofs.Here.{At}
-use Rattle.stuck_law.proofs.Forms.{or_left, or_right, Leads, throws_new}
+use Rattle.stuck_law.proofs.Forms.{or_right, Leads, throws_new}
 use Rattle.stuck_law.proofs.FieldForms.{waits}
 use Rattle.stuck_law.proofs.Calls.{arguments, entered, Enter, receiver_whole, kind_object, virtual_flags}
 

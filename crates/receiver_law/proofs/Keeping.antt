@@ -1,13 +1,13 @@
 -- A run of a program keeps what the typings of the program say that asks: each of its steps does what a step of the other one
 -- does, but for calls that ask, which enter what their receivers find.
-use Rattle.std.proofs.Common.{◌≡◌, ℕ, Bool, true, false, true≢false, List, [], ◌∷◌, Option, Some, None, ◌⊎◌, inl, inr, refl, sym, ap, ◌∙◌, subst}
+use Rattle.std.proofs.Common.{◌≡◌, ℕ, Bool, true, false, true≢false, List, [], ◌∷◌, Option, Some, None, ◌⊎◌, refl, sym, ap, ◌∙◌, subst}
 use Rattle.std.specs.Prelude.{map, slice_get}
 use Rattle.std.specs.Option.{option_map, option_and_then}
 use Rattle.insn_set.specs.declared.ops.InvokeKind.{InvokeKind}
 use Rattle.insn_set.specs.declared.ops.InvokeKind.TheVariants as call
 use Rattle.dalvik_defs.specs.Effect.{register, go}
 use Rattle.dalvik_defs.specs.Face.{Face, face_of, bodies_of}
-use Rattle.dalvik_defs.specs.Find.{Search, Finds, finds_at}
+use Rattle.dalvik_defs.specs.Find.{Finds}
 use Rattle.dalvik_defs.specs.Gives.{gets_all, spread}
 use Rattle.dalvik_defs.specs.Happens.{Setting, effect_of, outcome_at}
 use Rattle.dalvik_defs.specs.Known.{null_pointer}
@@ -16,8 +16,8 @@ use Rattle.dalvik_defs.specs.Moves.{got}
 use Rattle.dalvik_defs.specs.Outcome.{Outcome, Stays, Starts, Enters, Leaves, Ends, Raises, Halts, Need, need_of, faults, calls_by, receiver, on_receiver, calls, outcome}
 use Rattle.dalvik_defs.specs.Outer.{Outer}
 use Rattle.dalvik_defs.specs.Shown.{Fit}
-use Rattle.dalvik_defs.specs.Stack.{entry_frame, lands, handler_at, form_at}
-use Rattle.dalvik_defs.specs.State.{World, Classes, State, Ended, is_null, kind_of, opening}
+use Rattle.dalvik_defs.specs.Stack.{lands, form_at}
+use Rattle.dalvik_defs.specs.State.{World, Classes, Ended, is_null, kind_of, opening}
 use Rattle.dalvik_defs.specs.Step.{after, setting_of}
 use Rattle.dalvik_defs.specs.Under.{class_named, defines, is_own_under}
 use Rattle.dalvik_defs.specs.declared.forms.Form.{Form}

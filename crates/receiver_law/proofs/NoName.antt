@@ -1,11 +1,11 @@
 -- A name that no method of a program has: a call of it resolves to none.
-use Rattle.std.proofs.Common.{◌≡◌, ℕ, zero, suc, ◌+◌, ◌<◌, ◌≤◌, Bool, true, false, true≢false, length, List, [], ◌∷◌, ◌++◌, Option, Some, None, refl, sym, ap, ◌∙◌, subst, arith}
-use Rattle.std.specs.Prelude.{◌&&◌, cond, find, flat_map, replicate, sum_by, Contains}
+use Rattle.std.proofs.Common.{◌≡◌, ℕ, zero, suc, ◌<◌, ◌≤◌, Bool, true, false, true≢false, length, List, [], ◌∷◌, ◌++◌, Option, Some, None, refl, ap, ◌∙◌, arith}
+use Rattle.std.specs.Prelude.{cond, find, flat_map, sum_by, Contains}
 use Rattle.std.specs.Option.{option_or}
 use Rattle.std.proofs.lemmas.List.{length-replicate}
 use Rattle.std.proofs.lemmas.List.Sums.{sum_by-cons}
 use Rattle.dalvik_defs.proofs.Calm.{text_sound}
-use Rattle.dalvik_defs.specs.Find.{Found, method_in, passing, first_method, chain_from, chain_of, interfaces_from, resolves_method}
+use Rattle.dalvik_defs.specs.Find.{method_in, passing, first_method, chain_from, chain_of, interfaces_from, resolves_method}
 use Rattle.dalvik_defs.specs.Names.{Text, text_eq, same_name, signature_eq}
 use Rattle.dalvik_defs.specs.Under.{class_named}
 use Rattle.dalvik_defs.specs.declared.names.MethodKey.{MethodKey}

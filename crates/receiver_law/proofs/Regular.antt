@@ -1,14 +1,14 @@
 -- A program that asks is typed and regular, and no class of it stands above itself.
 use Rattle.std.proofs.Common.{◌≡◌, ◌⊎◌, ℕ, zero, suc, ◌<◌, Bool, true, false, true≢false, length, List, [], ◌∷◌, Option, Some, None, inl, inr, refl, sym, ap, ◌∙◌, subst, arith}
-use Rattle.std.specs.Prelude.{not, slice_get, slice_index_or, if◌then◌else◌, map, Contains}
+use Rattle.std.specs.Prelude.{if◌then◌else◌, Contains}
 use Rattle.std.specs.Option.{option_map, option_and_then}
 use Rattle.dalvik_defs.specs.Face.{bodies_of}
 use Rattle.dalvik_defs.specs.Fields.{first_value}
-use Rattle.dalvik_defs.specs.Find.{defined_method, method_in, resolves_method}
+use Rattle.dalvik_defs.specs.Find.{defined_method, method_in}
 use Rattle.dalvik_defs.specs.Flags.{is_static, is_interface}
 use Rattle.dalvik_defs.specs.Names.{Text, is_class_type, is_word, is_array}
 use Rattle.dalvik_defs.specs.Silence.{key_in}
-use Rattle.dalvik_defs.specs.Under.{class_named, defines, own_above, is_own_under}
+use Rattle.dalvik_defs.specs.Under.{class_named, defines}
 use Rattle.dalvik_defs.specs.declared.encoded.NamedValue.{NamedValue}
 use Rattle.dalvik_defs.specs.declared.forms.Form.{Form}
 use Rattle.dalvik_defs.specs.declared.forms.Form.TheVariants as form
@@ -20,7 +20,7 @@ use Rattle.dalvik_defs.specs.declared.program.NamedMethod.{NamedMethod}
 use Rattle.dalvik_defs.specs.declared.program.NamedProgram.{NamedProgram}
 use Rattle.pass_defs.specs.Kinds.{Class, fits, is_below, is_number, fits_array, is_initialised, is_plain}
 use Rattle.pass_defs.specs.Registers.{Kinds, kind_at}
-use Rattle.pass_defs.specs.Typed.{Table, state_at, IsTyping, IsTyped, wrong_method, differ, is_static_call}
+use Rattle.pass_defs.specs.Typed.{state_at, IsTyped, differ, is_static_call}
 use Rattle.pass_defs.specs.Walks.{form_at}
 use Rattle.pass_defs.proofs.Writes.{itself_below}
 use Rattle.invariant_law.specs.Holds.{Each}
@@ -34,7 +34,6 @@ use Rattle.stuck_law.proofs.Climbs.{none_some, some_one, plain_defined}
 use Rattle.stuck_law.proofs.Sorts.{class_alone, not_word}
 use Rattle.bodies_law.specs.Others.{OtherBodies}
 use Rattle.bodies_law.proofs.Named.{others_changed}
-use Rattle.rebind_law.specs.Receivers.{Renames, IsChanged}
 use Rattle.rebind_law.specs.Retyping.{Retypes, IsRetyped, Retyped, NoCode, Changed}
 use Rattle.rebind_law.proofs.Retyping.{retyped_program}
 use Rattle.receiver_law.specs.Asking.{Asks, asking, asking_key, asking_from, asking_body, asking_change, asking_program, no_name, AskedCall, KnowsReceivers, AreAsked}

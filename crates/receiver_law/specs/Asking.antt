@@ -1,6 +1,6 @@
 -- A program of which some calls ask for a receiver under a class: they name a method of that class which no class defines. It is
 -- asked about typings alone, and never run.
-use Rattle.std.specs.Prelude.{◌≡◌, ℕ, suc, ◌+◌, true, false, List, [], ◌∷◌, Option, Some, None, replicate, length, sum_by, Contains}
+use Rattle.std.specs.Prelude.{◌≡◌, ℕ, suc, true, false, List, [], ◌∷◌, Option, Some, None, replicate, length, sum_by, Contains}
 use Rattle.std.specs.Option.{option_map}
 use Rattle.insn_set.specs.declared.ops.InvokeKind.{InvokeKind}
 use Rattle.dalvik_defs.specs.Face.{bodies_of}

@@ -1,5 +1,5 @@
 -- Why calls may name another method: by facts of their receivers, or by the kinds of these in a typing (this project's profile).
-use Rattle.std.specs.Prelude.{◌≡◌, ◌⊎◌, ℕ, true, Option, Some, None, Contains}
+use Rattle.std.specs.Prelude.{◌≡◌, ℕ, true, Option, Some, None, Contains}
 use Rattle.dalvik_defs.specs.Find.{Found}
 use Rattle.dalvik_defs.specs.Names.{Text}
 use Rattle.dalvik_defs.specs.Silence.{key_in}

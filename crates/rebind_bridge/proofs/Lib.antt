@@ -1,1 +1,3 @@
 mod Finding
+mod Calls
+pub mod Named

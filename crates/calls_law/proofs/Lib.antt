@@ -1,0 +1,4 @@
+mod Alike
+pub mod Propagated
+pub mod Compacted
+pub mod Recalled

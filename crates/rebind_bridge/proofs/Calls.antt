@@ -86,8 +86,6 @@ use Rattle.receivers.specs.Receiving.{interface_at}
 use Rattle.devirt.specs.Binding.{kind_for, in_line, is_in_class, receives}
 use Rattle.devirt.specs.Measure.{is_virtual_call}
 use Rattle.devirt.specs.Rebound.{FindsBoth, FindsByFacts, FindsByKind, IsBound, IsRebindingOf}
-use Rattle.devirt.specs.declared.binding.Bound.{Bound}
-use Rattle.devirt.specs.declared.binding.Call.{Call}
 use Rattle.rebind_bridge.specs.Rebound.{StandsAt, FramesAreNamed}
 use Rattle.rebind_bridge.proofs.Finding.{class_text, own_class, under_named, found_listed, found_type}
 
@@ -154,18 +152,27 @@ module _ (p : Program) (h : Hierarchy) (w : is_well_formed p ≡ true) (resolved
   once : (class : ℕ) → IsTwice p class → ⊥
   once = resolved.of.once
 
-  module _ (c : Call) (old new : MethodName) (at : MethodAt) (b : Bound) (is_old : slice_get p.methods c.method ≡ Some old) (bound : IsBound p c old new at b) where
+  module _ (facts : Facts) (x : typings.Table) (class : ℕ) (m : Method) (body : Body) (n : ℕ) (written : Insn) (re : IsRebindingOf p facts x class m.name body n written) where
+    abbrev old : MethodName
+    old = re.named
+
+    abbrev new : MethodName
+    new = re.renamed
+
+    abbrev at : MethodAt
+    at = re.at
+
     -- the class and the method that are found
     record Target : Type 0 where
       there : IsThere p at
-      same : there.method ≡ bound.target
+      same : there.method ≡ re.is.target
 
     target : Target
-    target = by (slice_get p.classes at.class) refl bound.there
+    target = by (slice_get p.classes at.class) refl re.is.there
       where
-        by : (o : Option Class) → slice_get p.classes at.class ≡ o → option_and_then (λ (k : Class). slice_get k.methods at.place) o ≡ Some bound.target → Target
-        by None e i = none_some bound.target i
-        by (Some k) e i = record { there = record { class = k; is_class = e; method = bound.target; is_method = i }; same = refl }
+        by : (o : Option Class) → slice_get p.classes at.class ≡ o → option_and_then (λ (k : Class). slice_get k.methods at.place) o ≡ Some re.is.target → Target
+        by None e i = none_some re.is.target i
+        by (Some k) e i = record { there = record { class = k; is_class = e; method = re.is.target; is_method = i }; same = refl }
 
     abbrev tc : Class
     tc = target.there.class
@@ -180,21 +187,21 @@ module _ (p : Program) (h : Hierarchy) (w : is_well_formed p ≡ true) (resolved
     found_is = found_there_is p at target.there
 
     coded : found.coded ≡ true
-    coded = by tm.body (ap (λ (m : Method). is_some m.body) target.same ∙ bound.coded)
+    coded = by tm.body (ap (λ (m : Method). is_some m.body) target.same ∙ re.is.coded)
       where
         by : (o : Option Body) → is_some o ≡ true → is_some (option_map (naming.body_of p) o) ≡ true
         by None e = e
         by (Some b) e = refl
 
     -- its names
-    old_key : naming.method_at p c.method ≡ record { class = type_at p old.class; name = naming.text_at p old.name; signature = naming.signature_at p old.proto }
-    old_key = method_is p s c.method old is_old
+    old_key : naming.method_at p re.call.method ≡ record { class = type_at p old.class; name = naming.text_at p old.name; signature = naming.signature_at p old.proto }
+    old_key = method_is p s re.call.method old re.is_named
 
-    new_key : naming.method_at p b.method ≡ record { class = type_at p new.class; name = naming.text_at p new.name; signature = naming.signature_at p new.proto }
-    new_key = method_is p s b.method new bound.entry
+    new_key : naming.method_at p re.bound.method ≡ record { class = type_at p new.class; name = naming.text_at p new.name; signature = naming.signature_at p new.proto }
+    new_key = method_is p s re.bound.method new re.is.entry
 
     own_found : own_method p new.name new.proto at.class ≡ Some at
-    own_found = by (own_method p new.name new.proto at.class) refl bound.own
+    own_found = by (own_method p new.name new.proto at.class) refl re.is.own
       where
         kept : (x : MethodAt) (v : Bool) → own_method p new.name new.proto at.class ≡ Some x → cond v (Some x) None ≡ Some at → own_method p new.name new.proto at.class ≡ Some at
         kept x true i e = i ∙ e
@@ -205,7 +212,7 @@ module _ (p : Program) (h : Hierarchy) (w : is_well_formed p ≡ true) (resolved
         by (Some x) i e = kept x (is_virtual p (look.method_at p x)) i e
 
     is_virtual_there : is_virtual p (look.method_at p at) ≡ true
-    is_virtual_there = by (is_virtual p (look.method_at p at)) refl (sym (ap (virtual_only p) own_found) ∙ bound.own)
+    is_virtual_there = by (is_virtual p (look.method_at p at)) refl (sym (ap (virtual_only p) own_found) ∙ re.is.own)
       where
         by : (v : Bool) → is_virtual p (look.method_at p at) ≡ v → cond v (Some at) None ≡ Some at → is_virtual p (look.method_at p at) ≡ true
         by true i e = i
@@ -214,38 +221,38 @@ module _ (p : Program) (h : Hierarchy) (w : is_well_formed p ≡ true) (resolved
     virtual_found : is_virtual_method (named_method p tm) ≡ true
     virtual_found = virtual_test p tm ∙ (sym (ap (is_virtual p) (looked_up p at target.there)) ∙ is_virtual_there)
 
-    new_name : (naming.method_at p b.method).name ≡ (named_method p tm).name
-    new_name = ap (λ (k : MethodKey). k.name) (ap (naming.method_at p) (bound.method ∙ ap (λ (m : Method). m.name) (sym target.same)))
+    new_name : (naming.method_at p re.bound.method).name ≡ (named_method p tm).name
+    new_name = ap (λ (k : MethodKey). k.name) (ap (naming.method_at p) (re.is.method ∙ ap (λ (m : Method). m.name) (sym target.same)))
 
-    ordinary_new : is_constructor_name (naming.method_at p b.method).name ≡ false
+    ordinary_new : is_constructor_name (naming.method_at p re.bound.method).name ≡ false
     ordinary_new = ap is_constructor_name new_name ∙ not_constructor (named_method p tm).flags (named_method p tm).name virtual_found
 
-    same_name : (naming.method_at p c.method).name ≡ (naming.method_at p b.method).name
-    same_name = ap (λ (k : MethodKey). k.name) old_key ∙ (ap (naming.text_at p) (sym bound.name) ∙ sym (ap (λ (k : MethodKey). k.name) new_key))
+    same_name : (naming.method_at p re.call.method).name ≡ (naming.method_at p re.bound.method).name
+    same_name = ap (λ (k : MethodKey). k.name) old_key ∙ (ap (naming.text_at p) (sym re.is.name) ∙ sym (ap (λ (k : MethodKey). k.name) new_key))
 
-    ordinary_old : is_constructor_name (naming.method_at p c.method).name ≡ false
+    ordinary_old : is_constructor_name (naming.method_at p re.call.method).name ≡ false
     ordinary_old = ap is_constructor_name same_name ∙ ordinary_new
 
-    same_signature : (naming.method_at p b.method).signature ≡ (naming.method_at p c.method).signature
-    same_signature = ap (λ (k : MethodKey). k.signature) new_key ∙ (ap (naming.signature_at p) bound.proto ∙ sym (ap (λ (k : MethodKey). k.signature) old_key))
+    same_signature : (naming.method_at p re.bound.method).signature ≡ (naming.method_at p re.call.method).signature
+    same_signature = ap (λ (k : MethodKey). k.signature) new_key ∙ (ap (naming.signature_at p) re.is.proto ∙ sym (ap (λ (k : MethodKey). k.signature) old_key))
 
     -- the class that the new name is of
     new_class : new.class ≡ tc.name
     new_class = by (slice_get p.classes at.class) refl target.there.is_class
       where
-        x : Defined p new.class at.class
-        x = defined p new.class at.class bound.class
+        z : Defined p new.class at.class
+        z = defined p new.class at.class re.is.class
 
         by : (o : Option Class) → slice_get p.classes at.class ≡ o → o ≡ Some tc → new.class ≡ tc.name
-        by o e i = sym x.named ∙ ap (λ (k : Class). k.name) (some_same x.class tc (sym x.is ∙ (e ∙ i)))
+        by o e i = sym z.named ∙ ap (λ (k : Class). k.name) (some_same z.class tc (sym z.is ∙ (e ∙ i)))
 
-    new_text : (naming.method_at p b.method).class ≡ type_at p tc.name
+    new_text : (naming.method_at p re.bound.method).class ≡ type_at p tc.name
     new_text = ap (λ (k : MethodKey). k.class) new_key ∙ ap (type_at p) new_class
 
     -- it isn't static
-    resolves : resolves_method p b.method ≡ Some at
-    resolves = ap (by_entry (λ q. first_among (own_method p q.name q.proto) (resolution_of p (look.class_place p q.class)))) bound.entry
-        ∙ (ap (λ o. first_among (own_method p new.name new.proto) (resolution_of p o)) bound.class ∙ first_of (length p.classes) refl)
+    resolves : resolves_method p re.bound.method ≡ Some at
+    resolves = ap (by_entry (λ q. first_among (own_method p q.name q.proto) (resolution_of p (look.class_place p q.class)))) re.is.entry
+        ∙ (ap (λ o. first_among (own_method p new.name new.proto) (resolution_of p o)) re.is.class ∙ first_of (length p.classes) refl)
       where
         first_of : (n : ℕ) → length p.classes ≡ n → first_among (own_method p new.name new.proto) (resolution_of p (Some at.class)) ≡ Some at
         first_of zero e = absurd (none p.classes at.class tc target.there.is_class e)
@@ -256,9 +263,9 @@ module _ (p : Program) (h : Hierarchy) (w : is_well_formed p ≡ true) (resolved
         first_of (suc n) e = ap (λ m. first_among (own_method p new.name new.proto) (chain_from (super_place p) m (Some at.class) ++ interfaces_from (length p.classes) p (flat_map (interface_places p) (chain_of p (Some at.class))))) e
             ∙ ap (λ o. option_or o (first_among (own_method p new.name new.proto) (chain_from (super_place p) n (super_place p at.class) ++ interfaces_from (length p.classes) p (flat_map (interface_places p) (chain_of p (Some at.class)))))) own_found
 
-    right_new : wrong_method (named p) b.kind (naming.method_at p b.method) ≡ false
-    right_new = ap (λ o. elim o as (λ o. Bool) [ Some g ↦ differ (is_static_call b.kind) (flags.is_static g.flags) | None ↦ false ]) (resolves_by_number p s b.method (got_short p.methods b.method new bound.entry) ∙ (ap (option_and_then (found_at p)) resolves ∙ found_is))
-        ∙ ap₂ differ (ap is_static_call bound.kind ∙ kind_not_static (interface_at p at.class)) (not_static (named_method p tm).flags (named_method p tm).name virtual_found)
+    right_new : wrong_method (named p) re.bound.kind (naming.method_at p re.bound.method) ≡ false
+    right_new = ap (λ o. elim o as (λ o. Bool) [ Some g ↦ differ (is_static_call re.bound.kind) (flags.is_static g.flags) | None ↦ false ]) (resolves_by_number p s re.bound.method (got_short p.methods re.bound.method new re.is.entry) ∙ (ap (option_and_then (found_at p)) resolves ∙ found_is))
+        ∙ ap₂ differ (ap is_static_call re.is.kind ∙ kind_not_static (interface_at p at.class)) (not_static (named_method p tm).flags (named_method p tm).name virtual_found)
 
     -- ---- the receiver fits the new class
 
@@ -270,13 +277,13 @@ module _ (p : Program) (h : Hierarchy) (w : is_well_formed p ≡ true) (resolved
         ∙ ap not (sym (interface_flag tc.flags) ∙ (sym (ap is_interface target.there.is_class) ∙ e))
 
     fits_class : (k : kinds.Kind) → ((is_plain (named p) (type_at p tc.name) ≡ true → is_below (named p) k (kinds.Class (type_at p tc.name)) ≡ true)) → (is_plain (named p) (type_at p tc.name) ≡ false → is_initialised k ≡ true) → fits (named p) k (type_at p tc.name) ≡ true
-    fits_class k low any = by (is_word t) (is_array t) (is_plain (named p) t) (not_word t (class_alone t class).0) (class_alone t class).1 refl
+    fits_class k low any = by (is_word t) (is_array t) (is_plain (named p) t) (not_word t (class_alone t ordinary).0) (class_alone t ordinary).1 refl
       where
         t : Text
         t = type_at p tc.name
 
-        class : is_class_type (type_at p tc.name) ≡ true
-        class = class_text p w once ancestor at.class tc target.there.is_class
+        ordinary : is_class_type (type_at p tc.name) ≡ true
+        ordinary = class_text p w once ancestor at.class tc target.there.is_class
 
         by : (u v x : Bool) → u ≡ false → v ≡ false → is_plain (named p) (type_at p tc.name) ≡ x
             → (if u then is_number k else if v then fits_array (named p) k (type_at p tc.name) else if x then is_below (named p) k (kinds.Class (type_at p tc.name)) else is_initialised k) ≡ true
@@ -285,7 +292,7 @@ module _ (p : Program) (h : Hierarchy) (w : is_well_formed p ≡ true) (resolved
         by false false true i j e = low e
         by false false false i j e = any e
 
-    fits_new : (t : Tables) → Told p t → (k : Kind) → receives p k at.class ≡ true → fits (named p) (kind_named p k) (naming.method_at p b.method).class ≡ true
+    fits_new : (t : Tables) → Told p t → (k : Kind) → receives p k at.class ≡ true → fits (named p) (kind_named p k) (naming.method_at p re.bound.method).class ≡ true
     fits_new t d k e = subst (λ u. fits (named p) (kind_named p k) u ≡ true) (sym new_text) (by (interface_at p at.class) refl e)
       where
         lower : (k : Kind) → is_in_class p k at.class ≡ true → is_below (named p) (kind_named p k) (kinds.Class (type_at p tc.name)) ≡ true
@@ -306,50 +313,50 @@ module _ (p : Program) (h : Hierarchy) (w : is_well_formed p ≡ true) (resolved
     -- ---- what its receivers find
 
     -- an object of a class of the program finds the method by both names
-    finds_both : (j : ℕ) (d : Class) → slice_get p.classes j ≡ Some d → FindsBoth p old new at j → FindsListed (named p) (naming.method_at p c.method) (naming.method_at p b.method) found (type_at p d.name)
+    finds_both : (j : ℕ) (d : Class) → slice_get p.classes j ≡ Some d → FindsBoth p old new at j → FindsListed (named p) (naming.method_at p re.call.method) (naming.method_at p re.bound.method) found (type_at p d.name)
     finds_both j d e x = record {
-      first = found_listed p w once ancestor c.method old j d at found is_old e found_is x.first;
-      second = found_listed p w once ancestor b.method new j d at found bound.entry e found_is x.second;
+      first = found_listed p w once ancestor re.call.method old j d at found re.is_named e found_is x.first;
+      second = found_listed p w once ancestor re.bound.method new j d at found re.is.entry e found_is x.second;
     }
 
-    module _ (virtual : is_virtual_call c.kind ≡ true) (on : ℕ) (rest : List ℕ) (place : ℕ) (pc : Class) (is_pc : slice_get p.classes place ≡ Some pc) (some : FindsBoth p old new at place) where
+    module _ (place : ℕ) (pc : Class) (is_pc : slice_get p.classes place ≡ Some pc) (some : FindsBoth p old new at place) where
       abbrev f : Form
-      f = form_of p (insn.Invoke c.kind c.method (on ∷ rest))
+      f = form_of p (insn.Invoke re.call.kind re.call.method (re.on ∷ re.rest))
 
       abbrev g : Form
-      g = form_of p (insn.Invoke b.kind b.method (on ∷ rest))
+      g = form_of p (insn.Invoke re.bound.kind re.bound.method (re.on ∷ re.rest))
 
-      renames : Renames f g
+      abbrev renames : Renames f g
       renames = record {
-        kind = c.kind;
-        kind' = b.kind;
-        old = naming.method_at p c.method;
-        new = naming.method_at p b.method;
-        on = on;
-        args = rest;
+        kind = re.call.kind;
+        kind' = re.bound.kind;
+        old = naming.method_at p re.call.method;
+        new = naming.method_at p re.bound.method;
+        on = re.on;
+        args = re.rest;
         first = refl;
         second = refl;
-        virtual = virtual_kind c.kind virtual;
-        virtual' = ap named_calls.is_virtual_call bound.kind ∙ kind_virtual (interface_at p at.class);
-        old_type = found_type p w once ancestor c.method old place pc at is_old is_pc some.first;
-        new_type = found_type p w once ancestor b.method new place pc at bound.entry is_pc some.second;
+        virtual = virtual_kind re.call.kind re.virtual;
+        virtual' = ap named_calls.is_virtual_call re.is.kind ∙ kind_virtual (interface_at p at.class);
+        old_type = found_type p w once ancestor re.call.method old place pc at re.is_named is_pc some.first;
+        new_type = found_type p w once ancestor re.bound.method new place pc at re.is.entry is_pc some.second;
         plain_name = ordinary_old;
       }
 
-      module _ (x : typings.Table) (a : MethodAt) (types : TypesFor p h a x) (mc : Class) (n : ℕ) (receiver : c.receiver ≡ kind_before x n on) where
+      module _ (a : MethodAt) (types : TypesFor p h a x) (mc : Class) where
         retypes : (y : Kinds) → state_at (method_table p mc x) n ≡ Some y → Retypes (named p) y f g
         retypes y st = record {
           call = renames;
           ordinary = ordinary_new;
           signature = same_signature;
           right = right_new;
-          fits = subst (λ k. fits (named p) k (naming.method_at p b.method).class ≡ true) (sym (kind_known p mc x n on y st))
-              (fits_new types.verifier.tables (told_of x a types) (kind_before x n on) (ap (λ k. receives p k at.class) (sym receiver) ∙ bound.receives));
+          fits = subst (λ k. fits (named p) k (naming.method_at p re.bound.method).class ≡ true) (sym (kind_known p mc x n re.on y st))
+              (fits_new types.verifier.tables (told_of x a types) (kind_before x n re.on) (ap (λ k. receives p k at.class) (sym re.receiver) ∙ re.is.receives));
         }
 
-        by_facts : (facts : Facts) (t : by_name.Facts Parts) → FramesAreNamed p facts t → (k : MethodKey) (class : ℕ) (m : Method) → slice_get p.classes class ≡ Some mc → Contains mc.methods m → k ≡ key_in (named_class p mc) (named_method p m)
-            → FindsByFacts p facts m.name n on old new at → BoundByPlaces (named p) t k n f g
-        by_facts facts t names k class m is_class in_class is_key y = record {
+        by_facts : (t : by_name.Facts Parts) → FramesAreNamed p facts t → (k : MethodKey) → slice_get p.classes class ≡ Some mc → Contains mc.methods m → k ≡ key_in (named_class p mc) (named_method p m)
+            → FindsByFacts p facts m.name n re.on old new at → BoundByPlaces (named p) t k n f g
+        by_facts t names k is_class in_class is_key y = record {
           call = renames;
           found = found;
           coded = coded;
@@ -361,18 +368,18 @@ module _ (p : Program) (h : Hierarchy) (w : is_well_formed p ≡ true) (resolved
             held : (z : ℕ → Parts) → t.registers k n ≡ Some z → StandsAt z (Some y.frame)
             held z e = subst (StandsAt z) y.there (names class mc m n z is_class in_class (ap (λ k. t.registers k n) (sym is_key) ∙ e))
 
-            within : (z : ℕ → Parts) (o : Option ℕ) → t.registers k n ≡ Some z → value_holds (z on) (Object o) → set_holds (Some y.places) o
-            within z o e holds = subst (λ v. set_holds v o) y.classes (held z e on (Object o) holds).0
+            within : (z : ℕ → Parts) (o : Option ℕ) → t.registers k n ≡ Some z → value_holds (z re.on) (Object o) → set_holds (Some y.places) o
+            within z o e holds = subst (λ v. set_holds v o) y.classes (held z e re.on (Object o) holds).0
 
             in_places : (o : Option ℕ) → set_holds (Some y.places) o → (j : ℕ) × ((o ≡ Some j) × Contains y.places j)
             in_places None i = absurd i
             in_places (Some j) i = (j, (refl, i))
 
-            in_class_at : (j : ℕ) (u : NamedClass) → Contains y.places j → slice_get (named p).classes j ≡ Some u → FindsListed (named p) (naming.method_at p c.method) (naming.method_at p b.method) found u.name
+            in_class_at : (j : ℕ) (u : NamedClass) → Contains y.places j → slice_get (named p).classes j ≡ Some u → FindsListed (named p) (naming.method_at p re.call.method) (naming.method_at p re.bound.method) found u.name
             in_class_at j u i e = let d = before_map (named_class p) (slice_get p.classes j) u (sym (get_map (named_class p) p.classes j) ∙ e) in
-                subst (λ (u : NamedClass). FindsListed (named p) (naming.method_at p c.method) (naming.method_at p b.method) found u.name) d.1.1 (finds_both j d.0 d.1.0 (y.finds j i))
+                subst (λ (u : NamedClass). FindsListed (named p) (naming.method_at p re.call.method) (naming.method_at p re.bound.method) found u.name) d.1.1 (finds_both j d.0 d.1.0 (y.finds j i))
 
-        by_kind : FindsByKind p c.receiver old new at → BoundByKind (named p) (method_table p mc x) n f g
+        by_kind : FindsByKind p re.call.receiver old new at → BoundByKind (named p) (method_table p mc x) n f g
         by_kind y = in_place (get_there p.classes y.class y.short)
           where
             in_place : (d : Class) × (slice_get p.classes y.class ≡ Some d) → BoundByKind (named p) (method_table p mc x) n f g
@@ -383,13 +390,13 @@ module _ (p : Program) (h : Hierarchy) (w : is_well_formed p ≡ true) (resolved
               class = type_at p d.name;
               plain = ap (λ o. elim o as (λ o. Bool) [ Some c ↦ not (flags.is_interface c.flags) | None ↦ false ]) (own_class p w once ancestor y.class d e)
                   ∙ ap not (sym (interface_flag d.flags) ∙ (sym (ap is_interface e) ∙ y.plain));
-              known = λ z st. kind_known p mc x n on z st ∙ (ap (kind_named p) (sym receiver ∙ y.kind) ∙ ap (class_kind p) e);
+              known = λ z st. kind_known p mc x n re.on z st ∙ (ap (kind_named p) (sym re.receiver ∙ y.kind) ∙ ap (class_kind p) e);
               finds = λ u i under. in_class_at u i under;
             }
               where
-                in_class_at : (u : NamedClass) → Contains (named p).classes u → is_own_under (named p) u.name (type_at p d.name) ≡ true → FindsListed (named p) (naming.method_at p c.method) (naming.method_at p b.method) found u.name
+                in_class_at : (u : NamedClass) → Contains (named p).classes u → is_own_under (named p) u.name (type_at p d.name) ≡ true → FindsListed (named p) (naming.method_at p re.call.method) (naming.method_at p re.bound.method) found u.name
                 in_class_at u i under = let z : Image (named_class p) p.classes u = image (named_class p) p.classes u i in
-                    subst (λ (u : NamedClass). FindsListed (named p) (naming.method_at p c.method) (naming.method_at p b.method) found u.name) z.is
+                    subst (λ (u : NamedClass). FindsListed (named p) (naming.method_at p re.call.method) (naming.method_at p re.bound.method) found u.name) z.is
                     (finds_both z.place z.entry z.is_entry (y.finds z.place (got_short p.classes z.place z.entry z.is_entry)
                     (sym (under_named p w once ancestor z.place y.class z.entry d z.is_entry e) ∙ (ap (λ (u : NamedClass). is_own_under (named p) u.name (type_at p d.name)) z.is ∙ under))))
 
@@ -408,8 +415,8 @@ module _ (p : Program) (h : Hierarchy) (w : is_well_formed p ≡ true) (resolved
             → Rebound used (named p) t (method_table p mc x) key n (form_of p (insn.Invoke y.call.kind y.call.method (y.on ∷ y.rest))) (form_of p (insn.Invoke y.bound.kind y.bound.method (y.on ∷ y.rest)))
         on_facts z place inside = let both = z.finds place inside in let d = get_there p.classes place both.short in record {
           reason = ByFacts (uses m.name n z.frame z.there)
-              (by_facts y.call y.named y.renamed y.at y.bound y.is_named y.is y.virtual y.on y.rest place d.0 d.1 both x at types mc n y.receiver facts t (names (uses m.name n z.frame z.there)) key at.class m is_class in_class refl z);
-          retypes = retypes y.call y.named y.renamed y.at y.bound y.is_named y.is y.virtual y.on y.rest place d.0 d.1 both x at types mc n y.receiver;
+              (by_facts facts x at.class m body n j y place d.0 d.1 both at types mc t (names (uses m.name n z.frame z.there)) key is_class in_class refl z);
+          retypes = retypes facts x at.class m body n j y place d.0 d.1 both at types mc;
         }
 
         first_place : (xs : List ℕ) → 0 < length xs → (j : ℕ) × Contains xs j
@@ -420,6 +427,6 @@ module _ (p : Program) (h : Hierarchy) (w : is_well_formed p ≡ true) (resolved
             → Rebound used (named p) t (method_table p mc x) key n (form_of p (insn.Invoke y.call.kind y.call.method (y.on ∷ y.rest))) (form_of p (insn.Invoke y.bound.kind y.bound.method (y.on ∷ y.rest)))
         by (inl z) = let j = first_place z.places z.some in on_facts z j.0 j.1
         by (inr z) = let both = z.finds z.class z.short (itself_under p z.class) in let d = get_there p.classes z.class both.short in record {
-          reason = ByKind (by_kind y.call y.named y.renamed y.at y.bound y.is_named y.is y.virtual y.on y.rest z.class d.0 d.1 both x at types mc n y.receiver z);
-          retypes = retypes y.call y.named y.renamed y.at y.bound y.is_named y.is y.virtual y.on y.rest z.class d.0 d.1 both x at types mc n y.receiver;
+          reason = ByKind (by_kind facts x at.class m body n j y z.class d.0 d.1 both at types mc z);
+          retypes = retypes facts x at.class m body n j y z.class d.0 d.1 both at types mc;
         }

@@ -119,12 +119,12 @@ module _ (p : Program) (w : is_well_formed p ≡ true) (once : (class : ℕ) →
       by : (nat_eq d.superclass kind ≡ true) ⊎ (list_any (λ k. nat_eq k kind) d.interfaces ≡ true) → IsListed d kind
       by (inl i) = of d.superclass i (and_left (rules.is_class_type p d.superclass) (list_all (rules.is_class_type p) d.interfaces) (above_fit j d e)) (here (map (type_at p) d.interfaces))
       by (inr i) = let x = any_where (λ k. nat_eq k kind) d.interfaces i in
-          of x.0 x.1.1 (passes d.interfaces x.0 x.1.0 (and_right (rules.is_class_type p d.superclass) (list_all (rules.is_class_type p) d.interfaces) (above_fit j d e)))
+          of x.0 x.1.1 (passes x.0 d.interfaces x.1.0 (and_right (rules.is_class_type p d.superclass) (list_all (rules.is_class_type p) d.interfaces) (above_fit j d e)))
           (there (type_at p d.superclass) (map (type_at p) d.interfaces) (in_map (type_at p) x.0 d.interfaces x.1.0))
         where
-          passes : (ks : List ℕ) (k : ℕ) → In k ks → list_all (rules.is_class_type p) ks ≡ true → rules.is_class_type p k ≡ true
-          passes ks k (here xs) h = and_left (rules.is_class_type p k) (list_all (rules.is_class_type p) xs) h
-          passes ks k (there y xs i) h = passes xs k i (and_right (rules.is_class_type p y) (list_all (rules.is_class_type p) xs) h)
+          passes : (k : ℕ) (ks : List ℕ) → In k ks → list_all (rules.is_class_type p) ks ≡ true → rules.is_class_type p k ≡ true
+          passes k ks (here xs) h = and_left (rules.is_class_type p k) (list_all (rules.is_class_type p) xs) h
+          passes k ks (there y xs i) h = passes k xs i (and_right (rules.is_class_type p y) (list_all (rules.is_class_type p) xs) h)
 
   -- ---- what stands under a type
 

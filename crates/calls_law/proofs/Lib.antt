@@ -1,4 +1,0 @@
-mod Alike
-pub mod Propagated
-pub mod Compacted
-pub mod Recalled

@@ -1,9 +1,11 @@
 -- Calls of methods of plain classes: in every state of a run of a typed program their receivers stand under the class.
 use Rattle.std.proofs.Common.{◌≡◌, ℕ, suc, Bool, true, false, true≢false, length, List, [], ◌∷◌, Option, Some, None, ◌⊎◌, inl, inr, refl, sym, ap, ◌∙◌, subst}
+use Rattle.std.specs.Prelude.{Contains}
 use Rattle.dalvik_defs.specs.Effect.{register}
 use Rattle.dalvik_defs.specs.Face.{bodies_of}
 use Rattle.dalvik_defs.specs.Happens.{Setting}
-use Rattle.dalvik_defs.specs.Names.{Text, object_type}
+use Rattle.dalvik_defs.specs.Find.{Found}
+use Rattle.dalvik_defs.specs.Names.{Text, object_type, is_class_type}
 use Rattle.dalvik_defs.specs.Outer.{Outer}
 use Rattle.dalvik_defs.specs.Shown.{Fit, SameShown}
 use Rattle.dalvik_defs.specs.State.{World, Classes, State, On, Ended, Instance, is_null, kind_of, kind_of_thing, thing_at, opening}
@@ -25,6 +27,7 @@ use Rattle.dalvik_defs.specs.declared.tables.Floats.{Floats}
 use Rattle.dalvik_defs.specs.declared.tables.Framework.{Framework}
 use Rattle.dalvik_defs.proofs.Calm.{text_sound}
 use Rattle.dalvik_defs.proofs.Simulation.{after_suc}
+use Rattle.pass_defs.specs.Kinds.{is_plain}
 use Rattle.pass_defs.specs.Walks.{form_at}
 use Rattle.invariant_law.specs.Holds.{Holds}
 use Rattle.stuck_law.specs.Regular.{IsRegular}
@@ -43,7 +46,7 @@ use Rattle.removal_law.proofs.Acyclic.{regular as upright}
 use Rattle.removal_law.proofs.Fits.{fit_names_none}
 use Rattle.removal_law.proofs.Outward.{Up, inside, through, object, under_up}
 use Rattle.rebind_law.specs.Rebinding.{FindBoth, Rebinds, Becomes, Same, Other, IsRebound}
-use Rattle.rebind_law.specs.Receivers.{FindsListed, BoundByClass, IsChanged, AreChanged}
+use Rattle.rebind_law.specs.Receivers.{FindsListed, Renames, BoundByClass, IsChanged, AreChanged}
 use Rattle.rebind_law.proofs.Listed.{listed_virtually}
 use Rattle.rebind_law.proofs.Receiving.{own_at, is_object, stands_under}
 use Rattle.rebind_law.proofs.Rebinding.{rebound_shown}
@@ -87,11 +90,28 @@ rebound_bodies s I k B b d to h = record {
     by n f f' e (inl i) = Same i
     by n f f' e (inr i) = Other (to n f f' e i)
 
+-- what the program's class of a kind finds by its own lists, an object of this kind finds
+pub both_listed : (p : NamedProgram) (f : Framework) (a : Floats) (o : Outer) → ((t : Text) → defines p t ≡ true → is_class_type t ≡ true) → (kind : Text) (old new : MethodKey) (found : Found) → found.coded ≡ true → is_class_type old.class ≡ true → is_class_type new.class ≡ true
+    → defines p kind ≡ true → ((u : NamedClass) → Contains p.classes u → u.name ≡ kind → FindsListed p old new found u.name) → FindBoth (setting_of p o f a) old new kind
+both_listed p f a o types kind old new found coded i j there finds = both (class_named p kind) refl
+  where
+    both : (y : Option NamedClass) → class_named p kind ≡ y → FindBoth (setting_of p o f a) old new kind
+    both (Some u) e =
+        let name : u.name ≡ kind = name_of p kind u e in
+        let z : FindsListed p old new found kind = subst (FindsListed p old new found) name (finds u (class_in p kind u e) name) in
+        record {
+          found = found;
+          coded = coded;
+          first = listed_virtually p f types kind old found there i z.first;
+          second = listed_virtually p f types kind new found there j z.second;
+        }
+    both None e = let z : false ≡ true = sym (ap (λ y. elim y as (λ y. Bool) [ Some c ↦ true | None ↦ false ]) e) ∙ there in absurd (cc)
+
 module _ (p : NamedProgram) (o : Outer) (f : Framework) (a : Floats) (script : List Move) (regular : IsRegular p) (acyclic : IsAcyclic p) (fit : Fit p o f script) where
-  reg : IsSettled p
+  pub reg : IsSettled p
   reg = settled p o f script regular fit
 
-  finds : FindsRegularly p f
+  pub finds : FindsRegularly p f
   finds = finds_regularly p f reg
 
   abbrev s : Setting
@@ -105,6 +125,23 @@ module _ (p : NamedProgram) (o : Outer) (f : Framework) (a : Floats) (script : L
       by (Object n) (c, (fs, at)) e = let kind : kind_of w (Object n) ≡ c = ap (λ y. elim y as (λ y. Text) [ Some th ↦ kind_of_thing th | None ↦ [] ]) at in
           subst (λ k. defines p k ≡ true) (sym kind) (defined_below p f reg c u (at_typed p f w (Object n) (Instance c fs) tw at).0 d (subst (λ k. is_under p f k u ≡ true) kind e))
       by v (c, (fs, at)) e = none_some (Instance c fs) at
+
+  -- the receiver of a call of a method of a plain class is of a class under it by the program's own lists
+  pub received : (w : World) (c : Classes) (g : Frame) (tw : TypedWorld p f w) (t : TypedFrame p f w g) (x x' : Form) (call : Renames x x') → At p o f a reg w g t x → is_null (register g call.on) ≡ false → is_plain p call.old.class ≡ true
+      → (defines p (kind_of w (register g call.on)) ≡ true) × (is_own_under p (kind_of w (register g call.on)) call.old.class ≡ true)
+  received w c g tw t x x' call own_form some plain = (there, own_under p f (fit_names_none p o f script fit) (upright p acyclic regular.class_types) kind call.old.class there plain_there under)
+    where
+      kind : Text
+      kind = kind_of w (register g call.on)
+
+      under : is_under p f kind call.old.class ≡ true
+      under = stands_under p o f a reg finds w c g tw t x x' call own_form some plain
+
+      plain_there : defines p call.old.class ≡ true
+      plain_there = plain_defined p call.old.class plain
+
+      there : defines p kind ≡ true
+      there = defined_under w tw (register g call.on) call.old.class (is_object p o f a reg finds w c g tw t x x' call own_form some) under plain_there
 
   binds : (k : MethodKey) (b : NamedBody) (n : ℕ) (x x' : Form) → bodies_of p k ≡ Some b → form_at b n ≡ Some x → BoundByClass p x x' → Rebinds s (Reached p o f a script) k n x x'
   binds k b n x x' e i h = record {
@@ -122,43 +159,13 @@ module _ (p : NamedProgram) (o : Outer) (f : Framework) (a : Floats) (script : L
     where
       in_state : (w : World) (c : Classes) (g : Frame) (rest : List Waiting) (script' : List Move) → Holds (typed_states p f o) (On w c (Method g ∷ rest) script') → g.method ≡ k → g.position ≡ n → is_null (register g h.call.on) ≡ false
           → FindBoth s h.call.old h.call.new (kind_of w (register g h.call.on))
-      in_state w c g rest script' holds m q some = both (class_named p kind) refl
+      in_state w c g rest script' holds m q some = both_listed p f a o regular.class_types kind h.call.old h.call.new h.found h.coded h.call.old_type h.call.new_type r.0 (λ u i e. h.finds u i (ap (λ y. is_own_under p y h.call.old.class) e ∙ r.1))
         where
-          tw : TypedWorld p f w
-          tw = holds.0
-
-          t : TypedFrame p f w g
-          t = holds.1.0
-
           kind : Text
           kind = kind_of w (register g h.call.on)
 
-          own_form : At p o f a reg w g t x
-          own_form = own_at p o f a reg finds w c g tw t b x (ap (bodies_of p) m ∙ e) (ap (form_at b) q ∙ i)
-
-          under : is_under p f kind h.call.old.class ≡ true
-          under = stands_under p o f a reg finds w c g tw t x x' h.call own_form some h.plain
-
-          plain_there : defines p h.call.old.class ≡ true
-          plain_there = plain_defined p h.call.old.class h.plain
-
-          there : defines p kind ≡ true
-          there = defined_under w tw (register g h.call.on) h.call.old.class (is_object p o f a reg finds w c g tw t x x' h.call own_form some) under plain_there
-
-          own : is_own_under p kind h.call.old.class ≡ true
-          own = own_under p f (fit_names_none p o f script fit) (upright p acyclic regular.class_types) kind h.call.old.class there plain_there under
-
-          both : (y : Option NamedClass) → class_named p kind ≡ y → FindBoth s h.call.old h.call.new kind
-          both (Some u) j =
-              let name : u.name ≡ kind = name_of p kind u j in
-              let z : FindsListed p h.call.old h.call.new h.found kind = subst (FindsListed p h.call.old h.call.new h.found) name (h.finds u (class_in p kind u j) (ap (λ y. is_own_under p y h.call.old.class) name ∙ own)) in
-              record {
-                found = h.found;
-                coded = h.coded;
-                first = listed_virtually p f regular.class_types kind h.call.old h.found there h.call.old_type z.first;
-                second = listed_virtually p f regular.class_types kind h.call.new h.found there h.call.new_type z.second;
-              }
-          both None j = let z : false ≡ true = sym (ap (λ y. elim y as (λ y. Bool) [ Some c ↦ true | None ↦ false ]) j) ∙ there in absurd (cc)
+          r : (defines p kind ≡ true) × (is_own_under p kind h.call.old.class ≡ true)
+          r = received w c g holds.0 holds.1.0 x x' h.call (own_at p o f a reg finds w c g holds.0 holds.1.0 b x (ap (bodies_of p) m ∙ e) (ap (form_at b) q ∙ i)) some h.plain
 
 -- a program in which calls of methods of plain classes name another method that all classes under these find
 pub by_class_shown : (p q : NamedProgram) (o : Outer) → IsRegular p → IsAcyclic p → AreChanged (λ k n. BoundByClass p) p q → SameShown p q o

@@ -67,7 +67,7 @@ module _ (p : NamedProgram) (f : Framework) where
 
 -- ---- what is found
 
-listed_both : (p : NamedProgram) (t : Text) (k : MethodKey) (g : Found) → finds_listed p t k ≡ Finds g → (is_own_under p t k.class ≡ true) × (finds_at p t k ≡ Finds g)
+pub listed_both : (p : NamedProgram) (t : Text) (k : MethodKey) (g : Found) → finds_listed p t k ≡ Finds g → (is_own_under p t k.class ≡ true) × (finds_at p t k ≡ Finds g)
 listed_both p t k g e = by (is_own_under p t k.class) refl e
   where
     by : (b : Bool) → is_own_under p t k.class ≡ b → (elim b as (λ b. Search) [ true ↦ finds_at p t k | false ↦ Nothing ]) ≡ Finds g → (is_own_under p t k.class ≡ true) × (finds_at p t k ≡ Finds g)

@@ -67,7 +67,7 @@ module _ (p : NamedProgram) (c : NamedClass) (m : NamedMethod) where
     rest k = list_all (λ d. meets p c a.registers d.0 d.1) (passed k.signature.parameters h.call.args)
 
     plain_new : is_constructor_name new.name ≡ false
-    plain_new = ap is_constructor_name h.name ∙ h.call.plain_name
+    plain_new = h.ordinary
 
     asks : (kind : InvokeKind) (k : MethodKey) → is_virtual_call kind ≡ true → is_allowed p c m a (form.Invoke kind k (h.call.on ∷ h.call.args)) ≡ (met k && rest k)
     asks call.Virtual k v = refl

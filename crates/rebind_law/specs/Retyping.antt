@@ -1,5 +1,5 @@
 -- Calls that name another method, by the typing of the method that they stand in (this project's profile): the receiver's kind
--- fits the class of the other method, which has the same name and signature.
+-- fits the class of the other method, which has the same signature and is no constructor.
 use Rattle.std.specs.Prelude.{◌≡◌, true, false, Option, Some, None, Contains}
 use Rattle.dalvik_defs.specs.Silence.{key_in}
 use Rattle.dalvik_defs.specs.declared.names.MethodKey.{MethodKey}
@@ -8,15 +8,16 @@ use Rattle.dalvik_defs.specs.declared.program.NamedBody.{NamedBody}
 use Rattle.dalvik_defs.specs.declared.program.NamedClass.{NamedClass}
 use Rattle.dalvik_defs.specs.declared.program.NamedMethod.{NamedMethod}
 use Rattle.dalvik_defs.specs.declared.program.NamedProgram.{NamedProgram}
+use Rattle.pass_defs.specs.Demands.{is_constructor_name}
 use Rattle.pass_defs.specs.Kinds.{fits}
 use Rattle.pass_defs.specs.Registers.{Kinds, kind_at}
 use Rattle.pass_defs.specs.Typed.{Table, state_at, IsTyping, wrong_method}
 use Rattle.rebind_law.specs.Receivers.{Renames, IsChanged}
 
--- The other name is of a method of the same name and signature, and of one that isn't static.
+-- The other name is no constructor's, of the same signature, and of a method that isn't static.
 pub record Retypes (p : NamedProgram) (a : Kinds) (f f' : Form) : Type 0 where
   pub call : Renames f f'
-  pub name : call.new.name ≡ call.old.name
+  pub ordinary : is_constructor_name call.new.name ≡ false
   pub signature : call.new.signature ≡ call.old.signature
   pub right : wrong_method p call.kind' call.new ≡ false
   pub fits : fits p (kind_at a.registers call.on) call.new.class ≡ true

@@ -50,8 +50,8 @@ pub fn by_middle_law()
         → AreChanged (λ k n. BoundByClass m) m p → AreChanged (λ k n. BoundByClass m) m q → SameShown p q o }
 {}
 
-/// A typed program stays typed in which calls name another method of their name and signature, one that isn't static and whose
-/// class the receivers' kinds fit.
+/// A typed program stays typed in which calls name another method of their signature, one that is no constructor and isn't static
+/// and whose class the receivers' kinds fit.
 pub fn retyped_law()
     ensures { (p q : NamedProgram) → IsTyped p → OtherBodies (Retyped p) p q → IsTyped q }
 {}

@@ -1,0 +1,28 @@
+//! The laws.
+
+ghost use Rattle.std.specs.Prelude.{◌≡◌, Bool, List, true};
+ghost use Rattle.dalvik_defs.specs.Outer.{Outer};
+ghost use Rattle.dalvik_defs.specs.Shown.{Fit, SameShown};
+ghost use Rattle.dalvik_defs.specs.declared.program.NamedProgram.{NamedProgram};
+ghost use Rattle.dalvik_defs.specs.declared.script.Move.{Move};
+ghost use Rattle.dalvik_defs.specs.declared.tables.Floats.{Floats};
+ghost use Rattle.dalvik_defs.specs.declared.tables.Framework.{Framework};
+ghost use Rattle.domains.specs.Values.{Parts};
+ghost use Rattle.pass_defs.specs.Facts.{Facts};
+ghost use Rattle.pass_defs.specs.Typed.{IsTyped};
+ghost use Rattle.bodies_law.specs.Others.{OtherBodies};
+ghost use Rattle.run_facts.specs.ValueAnalysis.{Numbers, value_analysis};
+ghost use Rattle.removal_law.specs.Reach.{IsAcyclic};
+ghost use Rattle.stuck_law.specs.Regular.{IsRegular};
+ghost use Rattle.cover_law.specs.Coverable.{IsCoverable};
+ghost use Rattle.receiver_law.specs.Reasons.{ReboundCode};
+
+/// A regular program of which no class stands above itself shows the same, and stays typed, in which calls name another method,
+/// one with code that their receivers find by both names: the objects that closed facts allow, where these cover the program, or
+/// those of all classes under the kind that a typing gives the receiver.
+pub fn by_reasons_law()
+    ensures shown { (facts_used : Bool) (p q : NamedProgram) (t : Facts Parts) (o : Outer) (numbers : Numbers) → IsRegular p → IsAcyclic p
+        → (facts_used ≡ true → (f : Framework) (a : Floats) (script : List Move) → Fit p o f script → IsCoverable (value_analysis p numbers) p o f a t)
+        → OtherBodies (ReboundCode (facts_used ≡ true) p t) p q → SameShown p q o }
+    ensures typed { (facts_used : Bool) (p q : NamedProgram) (t : Facts Parts) → IsRegular p → OtherBodies (ReboundCode (facts_used ≡ true) p t) p q → IsTyped q }
+{}

@@ -86,10 +86,10 @@ module _ (p : Program) (b d : Body) (r : Pairwise (Stays p) b.insns d.insns) (re
   pub same_long : length d.insns ≡ length b.insns
   same_long = length_pairs (Stays p) b.insns d.insns r
 
-  begins : (λ n. may_begin (slice_get d.insns n)) ≡ (λ n. may_begin (slice_get b.insns n))
+  begins : ◌≡◌ {A = ℕ → Bool} (λ n. may_begin (slice_get d.insns n)) (λ n. may_begin (slice_get b.insns n))
   begins = fun_ext (got_same (Stays p) may_begin (stays_same p (λ f. may_begin (Some f)) (λ k l m n args. refl)) b.insns d.insns r)
 
-  entered : (λ n. may_enter (slice_get d.insns n)) ≡ (λ n. may_enter (slice_get b.insns n))
+  entered : ◌≡◌ {A = ℕ → Bool} (λ n. may_enter (slice_get d.insns n)) (λ n. may_enter (slice_get b.insns n))
   entered = fun_ext (got_same (Stays p) may_enter (stays_same p (λ f. may_enter (Some f)) (λ k l m n args. refl)) b.insns d.insns r)
 
   ended : (n : ℕ) → ends (slice_get d.insns n) ≡ ends (slice_get b.insns n)

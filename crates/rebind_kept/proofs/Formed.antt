@@ -1,7 +1,7 @@
 -- A body in which calls name another method of the table keeps the rules of bodies.
-use Rattle.std.proofs.Common.{◌≡◌, ℕ, zero, suc, ◌+◌, ◌*◌, ◌≤◌, Bool, true, false, List, [], ◌∷◌, length, Option, Some, None, ◌⊎◌, inl, inr, refl, sym, ap, ap₂, ◌∙◌, subst, arith}
+use Rattle.std.proofs.Common.{◌≡◌, ℕ, zero, suc, ◌+◌, ◌*◌, Bool, true, List, [], ◌∷◌, length, Option, Some, None, ◌⊎◌, inl, inr, refl, sym, ap, ap₂, ◌∙◌}
 use std.Path.{fun_ext}
-use Rattle.std.specs.Prelude.{◌&&◌, ◌-◌, not, nat_lt, nat_le, slice_get, sum_by}
+use Rattle.std.specs.Prelude.{◌&&◌, ◌-◌, nat_lt, nat_le, slice_get, sum_by}
 use Rattle.std.specs.List.{list_all, enumerate_from}
 use Rattle.std.proofs.lemmas.List.Sums.{sum_by-cons}
 use Rattle.insn_set.specs.Flow.{targets_of}
@@ -16,8 +16,6 @@ use Rattle.program_model.specs.OperandRules.{registers_fit, numbers_fit}
 use Rattle.program_model.specs.RegionRules.{may_begin, handler_fits, rest_fits, catches, region_fits, are_apart, regions_fit}
 use Rattle.program_model.specs.Cells.{entries_of, body_cells}
 use Rattle.program_model.specs.declared.body.Body.{Body}
-use Rattle.program_model.specs.declared.body.Handler.{Handler}
-use Rattle.program_model.specs.declared.body.Region.{Region}
 use Rattle.program_model.specs.declared.program.Program.{Program}
 use Rattle.lemmas.proofs.Bools.{and_left, and_right, and_both}
 use Rattle.bodies_law.specs.Others.{Pairwise}
@@ -86,10 +84,10 @@ module _ (p : Program) (b d : Body) (r : Pairwise (Stays p) b.insns d.insns) (re
   pub same_long : length d.insns ≡ length b.insns
   same_long = length_pairs (Stays p) b.insns d.insns r
 
-  begins : (λ n. may_begin (slice_get d.insns n)) ≡ (λ n. may_begin (slice_get b.insns n))
+  begins : ◌≡◌ {A = ℕ → Bool} (λ n. may_begin (slice_get d.insns n)) (λ n. may_begin (slice_get b.insns n))
   begins = fun_ext (got_same (Stays p) may_begin (stays_same p (λ f. may_begin (Some f)) (λ k l m n args. refl)) b.insns d.insns r)
 
-  entered : (λ n. may_enter (slice_get d.insns n)) ≡ (λ n. may_enter (slice_get b.insns n))
+  entered : ◌≡◌ {A = ℕ → Bool} (λ n. may_enter (slice_get d.insns n)) (λ n. may_enter (slice_get b.insns n))
   entered = fun_ext (got_same (Stays p) may_enter (stays_same p (λ f. may_enter (Some f)) (λ k l m n args. refl)) b.insns d.insns r)
 
   ended : (n : ℕ) → ends (slice_get d.insns n) ≡ ends (slice_get b.insns n)

@@ -1,5 +1,5 @@
 -- What a plan of rebindings leaves of a well-formed program is well-formed.
-use Rattle.std.proofs.Common.{◌≡◌, ℕ, zero, suc, ◌≤◌, Bool, true, false, List, [], ◌∷◌, length, Option, Some, None, ◌⊎◌, inl, inr, refl, sym, ap, ◌∙◌, subst, arith, lt-ltb}
+use Rattle.std.proofs.Common.{◌≡◌, ℕ, suc, ◌≤◌, Bool, true, false, List, [], ◌∷◌, length, Option, Some, None, ◌⊎◌, inl, inr, refl, sym, ap, ◌∙◌, subst, arith, lt-ltb}
 use Rattle.std.specs.Prelude.{◌&&◌, not, All, nat_lt, slice_get, slice_index_or}
 use Rattle.std.specs.List.{list_all}
 use Rattle.insn_set.specs.declared.form.Insn.{Insn}
@@ -35,7 +35,7 @@ use Rattle.rewrite_pass.specs.declared.edit.Edit.{Edit}
 use Rattle.rewrite_pass.specs.Plans.{body_edited, code_edited, method_by, class_by, program_by, word, HasEdits, HasPlan}
 use Rattle.devirt.specs.Rebound.{IsRebindingOf, IsRebinding, AreRebindings, AreRebindingsIn, IsReboundBy}
 use Rattle.rebind_bridge.specs.Rebound.{IsReboundBody}
-use Rattle.rebind_kept.proofs.Formed.{Recalls, Stays, same_long, stays_fit, same_cells}
+use Rattle.rebind_kept.proofs.Formed.{Stays, same_long, stays_fit, same_cells}
 use Rattle.rebind_kept.proofs.Planned.{pairs_by, rebound_so}
 
 pairs_at : (R : Insn → Insn → Type 0) (xs ys : List Insn) → ((n : ℕ) (x : Insn) → slice_get xs n ≡ Some x → (y : Insn) × (slice_get ys n ≡ Some y) × R x y) → ((n : ℕ) → slice_get xs n ≡ None → slice_get ys n ≡ None) → Pairwise R xs ys

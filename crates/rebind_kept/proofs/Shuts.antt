@@ -1,9 +1,8 @@
 -- A program in which calls are rebound says no more: what is written calls a method of a class of the program.
-use Rattle.std.proofs.Common.{◌≡◌, ℕ, ◌<◌, Bool, true, false, List, [], ◌∷◌, Option, Some, None, refl, sym, ap, ◌∙◌, subst}
+use Rattle.std.proofs.Common.{◌≡◌, ℕ, Bool, true, false, List, ◌∷◌, Option, Some, None, refl, sym, ap, ◌∙◌, subst}
 use Rattle.std.specs.Prelude.{All, slice_get, option_and_then, if◌then◌else◌}
 use Rattle.std.specs.Option.{option_map}
 use Rattle.std.proofs.lemmas.List.Elements.{All-head, All-tail}
-use Rattle.insn_set.specs.declared.form.Insn.{Insn}
 use Rattle.insn_set.specs.declared.form.Insn.TheVariants as insn
 use Rattle.insn_set.specs.declared.ops.InvokeKind.{InvokeKind}
 use Rattle.insn_set.specs.declared.ops.InvokeKind.TheVariants as call
@@ -30,7 +29,7 @@ use Rattle.name_bridge.proofs.Tables.{method_class, method_is}
 use Rattle.removal_law.specs.Left.{In, here, there}
 use Rattle.removal_law.specs.Reach.{ShutsHold}
 use Rattle.rewrite_pass.specs.declared.edit.Edit.{Edit}
-use Rattle.shut_law.specs.Said.{Said, Quiet, Calls, said}
+use Rattle.shut_law.specs.Said.{Quiet, Calls}
 use Rattle.shut_bridge.proofs.Rewritten.{IsQuiet, rewritten_keeps}
 use Rattle.verify.specs.Typings.{Table}
 use Rattle.devirt.specs.Rebound.{IsRebinding, AreRebindings, AreRebindingsIn, IsReboundBy}

@@ -1,6 +1,6 @@
 //! The laws.
 
-ghost use Rattle.std.specs.Prelude.{◌≡◌, ℕ, Bool, true, List, [], Some};
+ghost use Rattle.std.specs.Prelude.{◌≡◌, Bool, true, List, []};
 ghost use Rattle.program_model.specs.ProgramRules.{is_well_formed};
 ghost use Rattle.program_model.specs.declared.pass.Changed.{Changed};
 ghost use Rattle.program_model.specs.declared.pass.Outside.{Outside};

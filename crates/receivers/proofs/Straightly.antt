@@ -1,21 +1,15 @@
 -- In a straight program what a plain class finds stands as a call needs it.
-use Rattle.std.proofs.Common.{◌≡◌, ◌⊎◌, inl, inr, ℕ, zero, suc, ◌<◌, Bool, true, false, true≢false, nat_eq, List, [], ◌∷◌, length, Option, Some, None, refl, sym, ap, ◌∙◌, subst, arith}
-use Rattle.std.specs.Prelude.{◌||◌, cond, slice_get}
+use Rattle.std.proofs.Common.{◌≡◌, inl, inr, ℕ, zero, suc, ◌<◌, Bool, true, false, nat_eq, length, Option, Some, None, refl, sym, ap, ◌∙◌, subst}
+use Rattle.std.specs.Prelude.{cond, slice_get}
 use Rattle.std.specs.List.{list_any}
-use Rattle.std.specs.Option.{option_or}
 use Rattle.lemmas.proofs.Bools.{clash, or_left, or_right}
 use Rattle.lemmas.proofs.Numbers.{same_number}
-use Rattle.lemmas.proofs.Options.{none_some, some_same}
-use Rattle.program_model.specs.declared.program.MethodAt.{MethodAt}
 use Rattle.program_model.specs.declared.program.Program.{Program}
-use Rattle.class_defs.specs.Finding.{first_among}
-use Rattle.class_defs.specs.Members.{is_interface, own_virtual}
+use Rattle.class_defs.specs.Members.{is_interface}
 use Rattle.class_defs.specs.Places.{chain_from, super_place}
 use Rattle.hierarchy.specs.Climbing.{In}
-use Rattle.hierarchy.specs.Ranks.{IsRanked}
 use Rattle.receivers.specs.Receiving.{interface_at, is_straight}
 use Rattle.receivers.proofs.Covered.{free}
-use Rattle.receivers.proofs.Owned.{own_class, found_along}
 use Rattle.receivers.proofs.Walks.{super_short}
 
 -- the class directly above one, none above an interface

@@ -1,14 +1,13 @@
 -- A call that is bindable by the kind of its receiver is bound to something, in a straight program.
 use Rattle.std.proofs.Common.{◌≡◌, ◌⊎◌, inl, inr, ℕ, zero, suc, ◌<◌, Bool, true, false, true≢false, nat_eq, List, [], ◌∷◌, ◌++◌, length, Option, Some, None, refl, sym, ap, ◌∙◌, subst, arith, eqb-true, lt-ltb}
 use Rattle.std.specs.Prelude.{◌&&◌, ◌||◌, cond, flat_map, is_some, nat_lt, not, option_and_then, position, slice_get, if◌then◌else◌}
-use Rattle.std.specs.List.{list_all, list_any, range_with_len}
-use Rattle.std.specs.Option.{option_map, option_or}
+use Rattle.std.specs.List.{range_with_len}
+use Rattle.std.specs.Option.{option_or}
 use Rattle.lemmas.proofs.Bools.{and_left, and_right, and_both, clash, not_of_false, untrue, or_right}
 use Rattle.lemmas.proofs.Lists.{got_short}
 use Rattle.lemmas.proofs.Numbers.{same_number}
 use Rattle.lemmas.proofs.Options.{before_map, none_some, some_same}
 use Rattle.insn_set.specs.declared.form.Insn.{Insn}
-use Rattle.insn_set.specs.declared.form.Insn.TheVariants as insn
 use Rattle.program_model.specs.declared.pools.MethodName.{MethodName}
 use Rattle.program_model.specs.declared.program.Class.{Class}
 use Rattle.program_model.specs.declared.program.Method.{Method}
@@ -29,9 +28,8 @@ use Rattle.hierarchy.specs.Ranks.{IsRanked}
 use Rattle.hierarchy.specs.Touring.{subclasses_of}
 use Rattle.verify.specs.Kinds.{is_initialised}
 use Rattle.verify.specs.Typings.{Table, kind_before}
-use Rattle.verify.specs.declared.kinds.Kind.{Kind}
 use Rattle.verify.specs.declared.kinds.Kind.TheVariants as kind
-use Rattle.receivers.specs.Receiving.{agreed, agreed_on, agreed_under, all_find, found_by, has_other, interface_at, is_at, is_other, is_straight, only, stands_under, under_place}
+use Rattle.receivers.specs.Receiving.{agreed_on, agreed_under, found_by, interface_at, is_at, is_other, is_straight, only, stands_under, under_place}
 use Rattle.receivers.proofs.Covered.{Lower, finds_covered, never}
 use Rattle.receivers.proofs.Found.{Ways, Virtual, Interface, ways, found_so}
 use Rattle.receivers.proofs.Owned.{at_itself, defines, finds_own, found_along, own_class, owns}

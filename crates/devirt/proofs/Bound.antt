@@ -1,5 +1,5 @@
 -- What a call is bound to is what IsBound says, and all its receivers find it by both names.
-use Rattle.std.proofs.Common.{◌≡◌, ◌⊎◌, inl, inr, ℕ, ◌<◌, Bool, true, false, true≢false, nat_eq, List, [], ◌∷◌, length, Option, Some, None, refl, sym, ap, ap₂, ◌∙◌, subst, arith, eqb-true, ltb-true}
+use Rattle.std.proofs.Common.{◌≡◌, ℕ, ◌<◌, Bool, true, false, true≢false, nat_eq, List, [], ◌∷◌, length, Option, Some, None, refl, sym, ap, ap₂, ◌∙◌, subst, arith, eqb-true, ltb-true}
 use Rattle.std.specs.Prelude.{◌&&◌, Contains, cond, is_some, nat_lt, not, slice_get}
 use Rattle.std.specs.List.{list_all, range_with_len}
 use Rattle.std.specs.Option.{option_or}
@@ -24,7 +24,7 @@ use Rattle.receivers.proofs.Ranges.{in_contains, filter_in, numbers_in}
 use Rattle.receivers.proofs.Walks.{under_on}
 use Rattle.devirt.specs.declared.binding.Bound.{Bound}
 use Rattle.devirt.specs.declared.binding.Call.{Call}
-use Rattle.devirt.specs.Binding.{are_places, bound, bound_above, bound_by, bound_named, bound_to, by_class, by_classes, by_kind, by_places, falls, is_same_name, kind_for, may_call, may_rebind, receives}
+use Rattle.devirt.specs.Binding.{are_places, bound_above, bound_by, bound_to, by_class, by_classes, by_kind, by_places, falls, is_same_name, kind_for, may_call, may_rebind, receives}
 use Rattle.devirt.specs.Reach.{may_access}
 use Rattle.devirt.specs.Rebound.{FindsBoth, IsBound}
 

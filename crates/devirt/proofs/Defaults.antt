@@ -1,6 +1,6 @@
 -- The interface whose method with code a number names is a class of the program.
-use Rattle.std.proofs.Common.{◌≡◌, ◌<◌, ℕ, Bool, true, false, true≢false, length, Option, Some, None, refl, sym, ap, subst}
-use Rattle.std.specs.Prelude.{◌&&◌, cond, slice_get}
+use Rattle.std.proofs.Common.{◌≡◌, ◌<◌, ℕ, true, false, true≢false, length, Option, Some, None, refl, sym, subst}
+use Rattle.std.specs.Prelude.{◌&&◌, slice_get}
 use Rattle.lemmas.proofs.Bools.{and_right}
 use Rattle.lemmas.proofs.Lists.{got_short}
 use Rattle.lemmas.proofs.Options.{none_some, some_same}

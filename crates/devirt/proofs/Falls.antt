@@ -1,15 +1,13 @@
 -- A call weighs less by the method that it is bound to.
-use Rattle.std.proofs.Common.{◌≡◌, ◌⊎◌, inl, inr, ℕ, zero, suc, ◌+◌, ◌<◌, ◌≤◌, Bool, true, false, true≢false, nat_eq, List, [], ◌∷◌, length, Option, Some, None, refl, sym, ap, ◌∙◌, subst, arith, eqb-true}
-use Rattle.std.specs.Prelude.{◌&&◌, ◌||◌, cond, filter, is_some, not, if◌then◌else◌, slice_get}
+use Rattle.std.proofs.Common.{◌≡◌, ◌⊎◌, inl, inr, ℕ, zero, suc, ◌+◌, ◌<◌, ◌≤◌, Bool, true, false, true≢false, nat_eq, List, [], ◌∷◌, length, Option, Some, None, refl, sym, ap, ◌∙◌, subst, arith}
+use Rattle.std.specs.Prelude.{◌||◌, cond, filter, not, if◌then◌else◌, slice_get}
 use Rattle.std.specs.List.{range_with_len}
 use Rattle.lemmas.proofs.Bools.{and_left, and_right, clash, not_true, untrue}
 use Rattle.lemmas.proofs.Numbers.{same_number}
-use Rattle.insn_set.specs.declared.ops.InvokeKind.{InvokeKind}
 use Rattle.program_model.specs.declared.pools.MethodName.{MethodName}
-use Rattle.program_model.specs.declared.program.Method.{Method}
 use Rattle.program_model.specs.declared.program.MethodAt.{MethodAt}
 use Rattle.program_model.specs.declared.program.Program.{Program}
-use Rattle.program_model.specs.Lookups.{class_place, method_at}
+use Rattle.program_model.specs.Lookups.{class_place}
 use Rattle.class_defs.specs.Members.{has_code}
 use Rattle.class_defs.specs.Places.{is_under}
 use Rattle.hierarchy.specs.Climbing.{In}
@@ -19,7 +17,7 @@ use Rattle.receivers.proofs.Ranges.{numbers_in}
 use Rattle.receivers.proofs.Walks.{place_short, rank_under, under_on, under_self}
 use Rattle.devirt.specs.declared.binding.Bound.{Bound}
 use Rattle.devirt.specs.declared.binding.Call.{Call}
-use Rattle.devirt.specs.Binding.{falls, falls_so, is_lower, kind_for}
+use Rattle.devirt.specs.Binding.{falls_so, is_lower, kind_for}
 use Rattle.devirt.specs.Measure.{bound_of, call_weight, codes_own, count_under, is_coded, is_interface_call, is_interface_place, is_virtual_call, names_code, names_interface, weight_named}
 use Rattle.devirt.specs.Rebound.{IsBound}
 

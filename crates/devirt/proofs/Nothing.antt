@@ -1,13 +1,11 @@
 -- Where nothing is counted, nothing is left to bind.
-use Rattle.std.proofs.Common.{◌≡◌, ℕ, zero, suc, ◌+◌, ◌≤◌, Bool, true, false, true≢false, List, [], ◌∷◌, ◌++◌, length, Option, Some, None, refl, sym, ap, ◌∙◌, subst, arith, le-leb}
-use Rattle.std.specs.Prelude.{nat_le, sum_by, slice_get, slice_index_or, if◌then◌else◌}
-use Rattle.std.specs.List.{list_any}
+use Rattle.std.proofs.Common.{◌≡◌, ℕ, zero, suc, ◌+◌, Bool, true, false, true≢false, List, [], ◌∷◌, ◌++◌, length, Option, Some, None, refl, sym, ap, ◌∙◌, subst, arith, le-leb}
+use Rattle.std.specs.Prelude.{sum_by, slice_get, slice_index_or, if◌then◌else◌}
 use Rattle.std.specs.Option.{option_or}
 use Rattle.std.proofs.lemmas.List.Sums.{sum_by-cons}
 use Rattle.lemmas.proofs.Lists.{any_at, got_short}
 use Rattle.lemmas.proofs.Options.{some_same}
 use Rattle.insn_set.specs.declared.form.Insn.{Insn}
-use Rattle.insn_set.specs.declared.form.Insn.TheVariants as insn
 use Rattle.program_model.specs.Cells.{capped}
 use Rattle.program_model.specs.declared.body.Body.{Body}
 use Rattle.program_model.specs.declared.pass.Changed.{Changed}
@@ -19,9 +17,7 @@ use Rattle.program_model.specs.ProgramRules.{is_well_formed}
 use Rattle.hierarchy.specs.Shapes.{IsResolved}
 use Rattle.hierarchy.specs.declared.build.Hierarchy.{Hierarchy}
 use Rattle.facts.specs.declared.facts.Facts.{Facts}
-use Rattle.verify.specs.Typings.{Table, IsShort, kind_before}
-use Rattle.verify.specs.declared.kinds.Kind.{Kind}
-use Rattle.verify.specs.declared.kinds.Kind.TheVariants as kind
+use Rattle.verify.specs.Typings.{Table, IsShort}
 use Rattle.rewrite_pass.specs.declared.edit.Edit.{Edit}
 use Rattle.rewrite_pass.specs.Plans.{HasEdits, class_edits, all_edits, word}
 use Rattle.receivers.specs.Receiving.{is_straight}
@@ -29,7 +25,6 @@ use Rattle.devirt.specs.declared.binding.Bound.{Bound}
 use Rattle.devirt.specs.declared.binding.Call.{Call}
 use Rattle.devirt.specs.Binding.{bound, bound_named, by_class, by_classes, by_kind}
 use Rattle.devirt.specs.Left.{IsBindable, NoneLeftAt, NoneLeft}
-use Rattle.devirt.specs.Measure.{is_virtual_call}
 use Rattle.devirt.specs.Rebound.{AreRebindings, IsReboundBy, call_of, called, classes_at, edit_at, edits_from, edits_of, is_any_open, is_numbered, is_open, rebound_at, rebound_call, typed_edits}
 use Rattle.devirt.proofs.Bindable.{bound_class, call_open}
 

@@ -1,5 +1,5 @@
 -- What is written over bodies changes nothing that calls are weighed by.
-use Rattle.std.proofs.Common.{◌≡◌, ℕ, zero, suc, ◌+◌, Bool, true, false, List, [], ◌∷◌, length, Option, Some, None, refl, sym, ap, ap₂, ◌∙◌}
+use Rattle.std.proofs.Common.{◌≡◌, ℕ, zero, suc, ◌+◌, Bool, true, List, [], ◌∷◌, length, Option, Some, None, refl, sym, ap, ap₂, ◌∙◌}
 use Rattle.std.specs.Prelude.{◌||◌, cond, filter, is_some, nat_eq, not, position, slice_get, slice_index_or, sum_by, if◌then◌else◌}
 use Rattle.std.specs.List.{list_any, range_with_len}
 use Rattle.std.specs.Option.{option_and_then, option_map}
@@ -19,7 +19,7 @@ use Rattle.class_defs.specs.Members.{has_code, is_interface, is_method, is_virtu
 use Rattle.class_defs.specs.Places.{above_places, interface_places, is_under, listed, placed, places_of, super_place, walks}
 use Rattle.class_defs.proofs.Positions.{position_step}
 use Rattle.rewrite_pass.specs.declared.edit.Edit.{Edit}
-use Rattle.rewrite_pass.specs.Plans.{code_edited, method_by, methods_by, each_by, class_by, classes_by, program_by}
+use Rattle.rewrite_pass.specs.Plans.{code_edited, method_by, each_by, class_by, program_by}
 use Rattle.devirt.specs.Measure.{bound_of, call_weight, calls_by, calls_in, class_weight, code_weight, codes_own, count_under, insn_weight, insns_weight, is_coded, is_interface_call, is_interface_place, is_virtual_call, method_weight, names_code, names_interface, weight_named}
 
 -- ---- lists

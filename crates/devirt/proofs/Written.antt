@@ -1,7 +1,6 @@
 -- What is written over a body is what its calls are bound to, and each call that is written weighs less.
-use Rattle.std.proofs.Common.{◌≡◌, ◌⊎◌, inl, inr, ℕ, zero, suc, ◌+◌, ◌<◌, ◌≤◌, Bool, true, false, true≢false, List, [], ◌∷◌, ◌++◌, length, Option, Some, None, refl, sym, ap, ◌∙◌, subst, arith, append_assoc}
-use Rattle.std.specs.Prelude.{All, nat_eq, slice_get, option_and_then, if◌then◌else◌}
-use Rattle.std.specs.Option.{option_or}
+use Rattle.std.proofs.Common.{◌≡◌, ◌⊎◌, inl, inr, ℕ, zero, suc, ◌+◌, ◌<◌, Bool, true, false, List, [], ◌∷◌, ◌++◌, length, Option, Some, None, refl, sym, ap, ◌∙◌, subst, arith, append_assoc}
+use Rattle.std.specs.Prelude.{All, slice_get, option_and_then, if◌then◌else◌}
 use Rattle.std.proofs.lemmas.List.Elements.{All-cons, All-nil}
 use Rattle.lemmas.proofs.Options.{none_some, some_same}
 use Rattle.insn_set.specs.declared.ops.InvokeKind.{InvokeKind}
@@ -20,7 +19,7 @@ use Rattle.verify.specs.Typings.{Table}
 use Rattle.rewrite_pass.specs.declared.edit.Edit.{Edit}
 use Rattle.devirt.specs.declared.binding.Bound.{Bound}
 use Rattle.devirt.specs.declared.binding.Call.{Call}
-use Rattle.devirt.specs.Binding.{bound, bound_named, by_classes, by_kind}
+use Rattle.devirt.specs.Binding.{bound, bound_named}
 use Rattle.devirt.specs.Measure.{call_weight, insn_weight, is_virtual_call}
 use Rattle.devirt.specs.Rebound.{IsBound, FindsByFacts, FindsByKind, IsRebindingOf, called, call_of, classes_at, edit_at, edits_from, rebound_at, rebound_call}
 use Rattle.devirt.proofs.Bound.{Reason, Places, Class, reason}

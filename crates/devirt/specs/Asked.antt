@@ -1,5 +1,5 @@
 -- What the pass asks is of the program.
-use Rattle.std.specs.Prelude.{◌≡◌, ◌<◌, ◌^◌, All, ℕ, true, List, length, Option, Some, None}
+use Rattle.std.specs.Prelude.{◌≡◌, All, ℕ, true, List, Option, Some, None}
 use Rattle.std.specs.Option.{option_map}
 use Rattle.program_model.specs.declared.body.Body.{Body}
 use Rattle.program_model.specs.declared.program.Method.{Method}

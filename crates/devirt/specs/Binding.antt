@@ -1,5 +1,5 @@
 -- To which method a virtual or interface call is bound, by number (Dalvik bytecode, "invoke-kind"; this project's profile).
-use Rattle.std.specs.Prelude.{ℕ, ◌&&◌, ◌||◌, not, Bool, true, false, nat_eq, nat_lt, List, [], ◌∷◌, length, Option, Some, None, is_some, slice_get, option_and_then, cond, if◌then◌else◌}
+use Rattle.std.specs.Prelude.{ℕ, ◌&&◌, ◌||◌, not, Bool, true, false, nat_eq, nat_lt, List, [], ◌∷◌, length, Option, Some, None, is_some, slice_get, cond, if◌then◌else◌}
 use Rattle.std.specs.List.{list_all, list_any}
 use Rattle.std.specs.Option.{option_or}
 use Rattle.insn_set.specs.declared.ops.InvokeKind.{InvokeKind}
@@ -10,7 +10,7 @@ use Rattle.program_model.specs.declared.program.MethodAt.{MethodAt}
 use Rattle.program_model.specs.declared.program.Program.{Program}
 use Rattle.program_model.specs.Lookups.{class_place, method_at}
 use Rattle.class_defs.specs.Finding.{resolves_method}
-use Rattle.class_defs.specs.Members.{own_virtual, has_code, is_interface}
+use Rattle.class_defs.specs.Members.{own_virtual, has_code}
 use Rattle.class_defs.specs.Places.{is_under, chain_from}
 use Rattle.verify.specs.Building.{class_above}
 use Rattle.verify.specs.Kinds.{is_initialised}

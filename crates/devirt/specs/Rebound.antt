@@ -1,15 +1,13 @@
 -- Calls that name another method, one with code that all their receivers find, by number (Dalvik bytecode, "invoke-kind"; this
 -- project's profile).
-use Rattle.std.specs.Prelude.{◌≡◌, ◌⊎◌, ◌<◌, ℕ, ◌+◌, ◌&&◌, not, Bool, true, false, nat_eq, nat_le, List, [], ◌∷◌, ◌++◌, length, All, Contains, Option, Some, None, is_some, slice_get, slice_index_or, option_and_then, if◌then◌else◌}
+use Rattle.std.specs.Prelude.{◌≡◌, ◌⊎◌, ◌<◌, ℕ, ◌+◌, ◌&&◌, Bool, true, false, nat_eq, nat_le, List, [], ◌∷◌, ◌++◌, length, All, Contains, Option, Some, None, is_some, slice_get, option_and_then, if◌then◌else◌}
 use Rattle.std.specs.List.{list_any}
-use Rattle.std.specs.Option.{option_map}
 use Rattle.insn_set.specs.declared.ops.InvokeKind.{InvokeKind}
 use Rattle.insn_set.specs.declared.form.Insn.{Insn}
 use Rattle.insn_set.specs.declared.form.Insn.TheVariants as insn
 use Rattle.program_model.specs.declared.body.Body.{Body}
 use Rattle.program_model.specs.declared.pass.Changed.{Changed}
 use Rattle.program_model.specs.declared.pools.MethodName.{MethodName}
-use Rattle.program_model.specs.declared.program.Class.{Class}
 use Rattle.program_model.specs.declared.program.Method.{Method}
 use Rattle.program_model.specs.declared.program.MethodAt.{MethodAt}
 use Rattle.program_model.specs.declared.program.Program.{Program}
@@ -27,7 +25,7 @@ use Rattle.verify.specs.declared.fault.TypeFault.{TypeFault}
 use Rattle.verify.specs.declared.kinds.Kind.{Kind}
 use Rattle.verify.specs.declared.kinds.Kind.TheVariants as kind
 use Rattle.rewrite_pass.specs.declared.edit.Edit.{Edit}
-use Rattle.rewrite_pass.specs.Plans.{word, IsPlan, IsRewrittenBy}
+use Rattle.rewrite_pass.specs.Plans.{IsPlan, IsRewrittenBy}
 use Rattle.receivers.specs.Receiving.{found_by, interface_at, has_other}
 use Rattle.devirt.specs.declared.binding.Bound.{Bound}
 use Rattle.devirt.specs.declared.binding.Call.{Call}

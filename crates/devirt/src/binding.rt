@@ -1,6 +1,6 @@
 //! To which method a call is bound.
 
-ghost use Rattle.std.specs.Prelude.{◌≡◌, ◌<◌, ◌∷◌, [], true, None, Some, length, nat_lt, IfOk, MatchOption, slice_get};
+ghost use Rattle.std.specs.Prelude.{◌≡◌, ◌<◌, true, None, Some, length, nat_lt, IfOk, MatchOption, slice_get};
 ghost use Rattle.std.specs.List.{list_all};
 ghost use Rattle.std.specs.Option.{option_copied};
 ghost use Rattle.program_model.specs.Lookups.{method_at};
@@ -162,7 +162,8 @@ impl<'a> Binder<'a> {
     /// Whether a call of a method number may go to a method of a class: from a method with code of an interface to another
     /// interface only where that one is under it.
     fn may_rebind(&self, method: u32, class: u32) -> bool
-        ensures { IsResolved self.now.finder.program.now self.now.finder.hierarchy.now → class < length self.now.finder.program.now.classes → result ≡ may_rebind self.now.finder.program.now method class }
+        ensures { IsResolved self.now.finder.program.now self.now.finder.hierarchy.now → class < length self.now.finder.program.now.classes
+            → result ≡ may_rebind self.now.finder.program.now method class }
     {
         if !self.is_interface(class) {
             return true;
@@ -175,7 +176,8 @@ impl<'a> Binder<'a> {
 
     /// Whether a method number is of the name and the proto of another one, and of the class that stands at a place.
     fn is_same_name(&self, old: &MethodName, class: u32, method: u32) -> bool
-        ensures { IsOf self.now.finder.program.now self.now.finder.hierarchy.now → result ≡ is_same_name self.now.finder.program.now old.now class (slice_get self.now.finder.program.now.methods method) }
+        ensures { IsOf self.now.finder.program.now self.now.finder.hierarchy.now
+            → result ≡ is_same_name self.now.finder.program.now old.now class (slice_get self.now.finder.program.now.methods method) }
     {
         match self.finder.program.methods.as_slice().get(method as usize) {
             Some(new) => {
@@ -226,7 +228,8 @@ impl<'a> Binder<'a> {
         named: Named,
         target: MethodAt,
     ) -> Option<Bound>
-        ensures { IsFinding self.now.finder → IsNameOf self.now.finder old.now named → target.class < length self.now.finder.program.now.classes → result ≡ bound_to self.now.finder.program.now call.now old.now target }
+        ensures { IsFinding self.now.finder → IsNameOf self.now.finder old.now named → target.class < length self.now.finder.program.now.classes
+            → result ≡ bound_to self.now.finder.program.now call.now old.now target }
     {
         let method = self.method_at(target)?;
         if method.name == call.method || !self.may_call(call, old, named, target, method) {
@@ -388,7 +391,8 @@ impl<'a> Binder<'a> {
 
     /// What a method number names, for a virtual or interface call.
     pub(crate) fn named(&self, method: u32) -> Option<Named>
-        ensures { let p = self.now.finder.program.now in IsBinding self.now → MatchOption result (slice_get p.methods method ≡ None) (λ n. (q : MethodName) → slice_get p.methods method ≡ Some q → IsNameOf self.now.finder q n) }
+        ensures { let p = self.now.finder.program.now in IsBinding self.now
+            → MatchOption result (slice_get p.methods method ≡ None) (λ n. (q : MethodName) → slice_get p.methods method ≡ Some q → IsNameOf self.now.finder q n) }
     {
         self.finder.named(method)
     }

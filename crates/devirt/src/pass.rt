@@ -377,7 +377,8 @@ pub fn apply(
 ) -> Result<Changed, AllocError>
     ensures becomes { IfOk result (IsRewrittenBy (λ at m b es. All (IsRecalledAt b) es) admitted.now.methods.items program) }
     ensures rebound { is_well_formed program ≡ true → IsResolved program hierarchy.now → IfOk result (IsReboundBy program hierarchy.now facts.now admitted.now.methods.items) }
-    ensures none_left { is_well_formed program ≡ true → IsResolved program hierarchy.now → is_straight program ≡ true → IfOk result (λ c. c.count ≡ 0 → NoneLeft program hierarchy.now facts.now admitted.now.methods.items) }
+    ensures none_left { is_well_formed program ≡ true → IsResolved program hierarchy.now → is_straight program ≡ true
+        → IfOk result (λ c. c.count ≡ 0 → NoneLeft program hierarchy.now facts.now admitted.now.methods.items) }
     ensures same { IfOk result (λ changed. changed.count ≡ 0 → changed.program ≡ program) }
     ensures falls { is_well_formed program ≡ true → IsResolved program hierarchy.now → IfOk result (λ c. calls_in c.program + min c.count 1 ≤ calls_in program) }
 {

@@ -1,14 +1,14 @@
 -- In a program that lists interfaces alone as interfaces a class under one that is no interface has it among its superclasses. So
 -- it finds what that one finds, or what a class strictly under that one defines.
-use Rattle.std.proofs.Common.{◌≡◌, ◌⊎◌, inl, inr, ℕ, zero, suc, ◌+◌, ◌<◌, ◌≤◌, Bool, true, false, true≢false, List, [], ◌∷◌, length, Option, Some, None, refl, sym, ap, ◌∙◌, subst, arith, eqb-true}
-use Rattle.std.specs.Prelude.{◌&&◌, ◌||◌, cond, nat_eq, not, slice_get}
+use Rattle.std.proofs.Common.{◌≡◌, ◌⊎◌, inl, inr, ℕ, zero, suc, ◌<◌, ◌≤◌, Bool, true, false, true≢false, List, [], ◌∷◌, length, Option, Some, None, refl, sym, ap, ◌∙◌, subst, arith, eqb-true}
+use Rattle.std.specs.Prelude.{◌||◌, cond, nat_eq, not}
 use Rattle.std.specs.List.{list_all, list_any, range_with_len}
 use Rattle.std.specs.Option.{option_or}
 use Rattle.lemmas.proofs.Bools.{and_left, and_right, clash, or_cases}
 use Rattle.program_model.specs.declared.program.MethodAt.{MethodAt}
 use Rattle.program_model.specs.declared.program.Program.{Program}
 use Rattle.class_defs.specs.Finding.{finds_virtual, first_among}
-use Rattle.class_defs.specs.Members.{is_interface, own_virtual}
+use Rattle.class_defs.specs.Members.{own_virtual}
 use Rattle.class_defs.specs.Places.{above_places, chain_from, interface_places, is_under, placed, super_place, walks}
 use Rattle.hierarchy.specs.Climbing.{In}
 use Rattle.hierarchy.specs.Ranks.{IsRanked}

@@ -1,21 +1,18 @@
 -- What an object of a class finds is defined by a class that it stands under, as a virtual method of that class itself.
-use Rattle.std.proofs.Common.{◌≡◌, ◌⊎◌, inl, inr, ℕ, zero, suc, ◌<◌, Bool, true, false, true≢false, nat_eq, List, [], ◌∷◌, ◌++◌, length, Option, Some, None, refl, sym, ap, ◌∙◌, subst, arith}
+use Rattle.std.proofs.Common.{◌≡◌, ◌⊎◌, inl, inr, ℕ, zero, suc, Bool, true, false, nat_eq, List, [], ◌∷◌, ◌++◌, length, Option, Some, None, refl, sym, ap, ◌∙◌, subst}
 use Rattle.std.specs.Prelude.{◌&&◌, cond, filter, flat_map, not, slice_get}
-use Rattle.std.specs.Option.{option_or}
-use Rattle.lemmas.proofs.Bools.{and_left}
 use Rattle.lemmas.proofs.Options.{none_some, some_same}
-use Rattle.program_model.specs.declared.pools.MethodName.{MethodName}
 use Rattle.program_model.specs.declared.program.MethodAt.{MethodAt}
 use Rattle.program_model.specs.declared.program.Program.{Program}
 use Rattle.program_model.specs.Lookups.{method_at}
-use Rattle.class_defs.specs.Finding.{Search, Nothing, Clash, Finds, candidates, candidates_from, finds_among, finds_at, finds_virtual, first_among, found_or, is_037, is_lowest, lowest, one_or_none, verdict, without_repeats}
+use Rattle.class_defs.specs.Finding.{Search, Nothing, Clash, Finds, candidates, candidates_from, finds_among, finds_at, finds_virtual, found_or, is_037, is_lowest, lowest, one_or_none, verdict, without_repeats}
 use Rattle.class_defs.specs.Members.{has_code, is_common, is_interface, own_virtual}
-use Rattle.class_defs.specs.Places.{above_places, chain_from, chain_of, interface_places, is_under, placed, super_place}
+use Rattle.class_defs.specs.Places.{chain_from, chain_of, interface_places, is_under, placed, super_place}
 use Rattle.hierarchy.specs.Climbing.{In}
 use Rattle.hierarchy.specs.Ranks.{IsRanked}
-use Rattle.receivers.specs.Receiving.{found_by, interface_at, only, stands_under}
+use Rattle.receivers.specs.Receiving.{interface_at, only}
 use Rattle.receivers.proofs.Owned.{found_along, own_class}
-use Rattle.receivers.proofs.Walks.{under_on, under_self, under_up}
+use Rattle.receivers.proofs.Walks.{under_self, under_up}
 
 -- ---- members of lists of methods
 

@@ -1,7 +1,7 @@
 -- What a class hands down is what all classes under it find.
-use Rattle.std.proofs.Common.{◌≡◌, ◌⊎◌, inl, inr, ℕ, zero, suc, ◌+◌, ◌<◌, Bool, true, false, true≢false, nat_eq, List, [], ◌∷◌, length, Option, Some, None, refl, sym, ap, ◌∙◌, subst, arith, eqb-true}
+use Rattle.std.proofs.Common.{◌≡◌, ◌⊎◌, inl, inr, ℕ, ◌<◌, Bool, true, false, true≢false, nat_eq, List, length, Option, Some, None, refl, sym, ap, ◌∙◌, subst, arith, eqb-true}
 use Rattle.std.specs.Prelude.{◌&&◌, cond, flat_map, is_some, not}
-use Rattle.std.specs.List.{list_any, range_with_len}
+use Rattle.std.specs.List.{range_with_len}
 use Rattle.lemmas.proofs.Bools.{and_left, and_right, and_both, clash, not_of_false, not_true, untrue}
 use Rattle.lemmas.proofs.Options.{some_same}
 use Rattle.program_model.specs.declared.pools.MethodName.{MethodName}

@@ -1,9 +1,9 @@
 -- A virtual method that a class itself defines, and the first one along some classes.
-use Rattle.std.proofs.Common.{◌≡◌, ◌⊎◌, inl, inr, ℕ, zero, suc, ◌<◌, Bool, true, false, true≢false, nat_eq, List, [], ◌∷◌, length, Option, Some, None, refl, sym, ap, ◌∙◌, subst, arith}
-use Rattle.std.specs.Prelude.{◌&&◌, cond, is_some, position, slice_get}
+use Rattle.std.proofs.Common.{◌≡◌, inl, inr, ℕ, zero, suc, ◌<◌, Bool, true, false, nat_eq, List, [], ◌∷◌, length, Option, Some, None, refl, sym, ap, ◌∙◌, subst, arith}
+use Rattle.std.specs.Prelude.{cond, is_some, position, slice_get}
 use Rattle.std.specs.List.{range_with_len}
-use Rattle.std.specs.Option.{option_map, option_or}
-use Rattle.lemmas.proofs.Bools.{and_left, and_both}
+use Rattle.std.specs.Option.{option_or}
+use Rattle.lemmas.proofs.Bools.{and_both}
 use Rattle.lemmas.proofs.Numbers.{same_number}
 use Rattle.lemmas.proofs.Options.{before_map, none_some, some_same}
 use Rattle.program_model.specs.declared.program.Class.{Class}

@@ -1,14 +1,13 @@
 -- Rows of the classes that list each type, class by class.
-use Rattle.std.proofs.Common.{◌≡◌, ℕ, zero, suc, ◌+◌, ◌<◌, ◌≤◌, ◌⊎◌, inl, inr, List, [], ◌∷◌, ◌++◌, length, replicate, Some, refl, sym, ap, subst, ◌∙◌, arith}
+use Rattle.std.proofs.Common.{◌≡◌, ℕ, zero, suc, ◌+◌, ◌<◌, ◌⊎◌, inl, inr, List, [], ◌∷◌, ◌++◌, length, replicate, Some, refl, sym, ap, subst, ◌∙◌, arith}
 use Rattle.std.specs.Prelude.{slice_get, slice_set}
-use Rattle.lemmas.proofs.Lists.{got_short}
 use Rattle.lemmas.proofs.Options.{some_same}
 use Rattle.program_model.specs.declared.program.Class.{Class}
 use Rattle.hierarchy.specs.Climbing.{In}
 use Rattle.hierarchy.specs.Tables.{row_of}
 use Rattle.hierarchy.specs.Touring.{add_to, add_to_all}
 use Rattle.hierarchy.specs.Tables.{row_or_empty}
-use Rattle.receivers.specs.Listing.{kinds_above, ListsKind, AreListed}
+use Rattle.receivers.specs.Listing.{kinds_above, AreListed}
 
 -- ---- lists
 

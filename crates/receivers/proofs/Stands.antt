@@ -1,18 +1,17 @@
 -- What stands under a type by the program's own lists: by the rows of the classes that list it, and on the way down.
-use Rattle.std.proofs.Common.{◌≡◌, ◌⊎◌, inl, inr, ℕ, zero, suc, ◌+◌, ◌<◌, ◌≤◌, Bool, true, false, true≢false, nat_eq, List, [], ◌∷◌, length, Option, Some, None, refl, sym, ap, ◌∙◌, subst, arith}
-use Rattle.std.specs.Prelude.{◌&&◌, ◌||◌, cond, slice_get}
+use Rattle.std.proofs.Common.{◌≡◌, inl, inr, ℕ, ◌<◌, true, false, true≢false, nat_eq, List, length, Option, Some, None, refl, sym, ap, ◌∙◌, subst, arith}
+use Rattle.std.specs.Prelude.{◌&&◌, slice_get}
 use Rattle.std.specs.List.{list_any, range_with_len}
 use Rattle.lemmas.proofs.Bools.{and_left, and_right, and_both, or_left, or_right, or_cases}
-use Rattle.lemmas.proofs.Options.{some_same}
 use Rattle.program_model.specs.declared.program.Class.{Class}
 use Rattle.program_model.specs.declared.program.Program.{Program}
 use Rattle.program_model.specs.Lookups.{class_place}
-use Rattle.class_defs.specs.Places.{above_places, is_under, walks}
+use Rattle.class_defs.specs.Places.{is_under}
 use Rattle.class_defs.proofs.Positions.{same_test, number_of, number_test}
 use Rattle.hierarchy.specs.Climbing.{In}
 use Rattle.hierarchy.specs.Ranks.{IsRanked}
 use Rattle.hierarchy.specs.Tables.{row_of}
-use Rattle.receivers.specs.Listing.{kinds_above, ListsKind, AreListed}
+use Rattle.receivers.specs.Listing.{ListsKind, AreListed}
 use Rattle.receivers.specs.Receiving.{lists, lists_above, under_place, stands_under}
 use Rattle.receivers.proofs.Ranges.{numbers_in, in_numbers}
 use Rattle.receivers.proofs.Walks.{any_of, of_any, under_on}

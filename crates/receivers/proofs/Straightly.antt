@@ -1,21 +1,16 @@
 -- In a straight program what a plain class finds stands as a call needs it.
-use Rattle.std.proofs.Common.{◌≡◌, ◌⊎◌, inl, inr, ℕ, zero, suc, ◌<◌, Bool, true, false, true≢false, nat_eq, List, [], ◌∷◌, length, Option, Some, None, refl, sym, ap, ◌∙◌, subst, arith}
-use Rattle.std.specs.Prelude.{◌||◌, cond, slice_get}
-use Rattle.std.specs.List.{list_any}
-use Rattle.std.specs.Option.{option_or}
-use Rattle.lemmas.proofs.Bools.{clash, or_left, or_right}
+use Rattle.std.proofs.Common.{◌≡◌, inl, inr, ℕ, zero, suc, ◌<◌, Bool, true, false, nat_eq, length, Option, Some, None, refl, sym, ap, ◌∙◌, subst}
+use Rattle.std.specs.Prelude.{◌||◌, Contains, cond, not, slice_get}
+use Rattle.std.specs.List.{list_all, list_any, range_with_len}
+use Rattle.lemmas.proofs.Bools.{and_both, clash, or_left, or_right}
 use Rattle.lemmas.proofs.Numbers.{same_number}
-use Rattle.lemmas.proofs.Options.{none_some, some_same}
-use Rattle.program_model.specs.declared.program.MethodAt.{MethodAt}
 use Rattle.program_model.specs.declared.program.Program.{Program}
-use Rattle.class_defs.specs.Finding.{first_among}
-use Rattle.class_defs.specs.Members.{is_interface, own_virtual}
-use Rattle.class_defs.specs.Places.{chain_from, super_place}
+use Rattle.class_defs.specs.Members.{is_interface}
+use Rattle.class_defs.specs.Places.{chain_from, interface_places, super_place}
 use Rattle.hierarchy.specs.Climbing.{In}
-use Rattle.hierarchy.specs.Ranks.{IsRanked}
-use Rattle.receivers.specs.Receiving.{interface_at, is_straight}
+use Rattle.receivers.specs.Receiving.{interface_at, is_straight, is_straight_at, super_is}
 use Rattle.receivers.proofs.Covered.{free}
-use Rattle.receivers.proofs.Owned.{own_class, found_along}
+use Rattle.receivers.proofs.Ranges.{all_pass, in_contains}
 use Rattle.receivers.proofs.Walks.{super_short}
 
 -- the class directly above one, none above an interface
@@ -56,3 +51,16 @@ module _ (p : Program) (straight : is_straight p ≡ true) where
           → list_any (nat_eq u) (chain_from (up_from p) n (up_from p c)) ≡ true
       by None f h more = absurd (none n h)
       by (Some d) f h more = on d f h (is_interface (slice_get p.classes c)) refl (more d (super_short p c d f) h)
+
+-- Where lists of interfaces have interfaces alone, and nothing plain stands above an interface, a program is straight.
+pub straight_of : (p : Program) → ((c u : ℕ) → Contains (interface_places p c) u → interface_at p u ≡ true) → ((c u : ℕ) → interface_at p c ≡ true → super_place p c ≡ Some u → interface_at p u ≡ true) → is_straight p ≡ true
+straight_of p listed free = all_pass (is_straight_at p) (range_with_len 0 (length p.classes)) (λ c i. at c)
+  where
+    above : (c : ℕ) (b : Bool) → interface_at p c ≡ b → (o : Option ℕ) → super_place p c ≡ o → (not b || super_is p o) ≡ true
+    above c false e o f = refl
+    above c true e None f = refl
+    above c true e (Some u) f = free c u e f
+
+    at : (c : ℕ) → is_straight_at p c ≡ true
+    at c = and_both (list_all (interface_at p) (interface_places p c)) (not (interface_at p c) || super_is p (super_place p c))
+        (all_pass (interface_at p) (interface_places p c) (λ u j. listed c u (in_contains (interface_places p c) u j))) (above c (interface_at p c) refl (super_place p c) refl)

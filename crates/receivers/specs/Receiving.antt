@@ -7,7 +7,7 @@ use Rattle.program_model.specs.declared.program.Class.{Class}
 use Rattle.program_model.specs.declared.program.MethodAt.{MethodAt}
 use Rattle.program_model.specs.declared.program.Program.{Program}
 use Rattle.program_model.specs.Lookups.{class_place}
-use Rattle.class_defs.specs.Finding.{Search, Nothing, Clash, Finds, finds_at, finds_virtual}
+use Rattle.class_defs.specs.Finding.{Search, Nothing, Clash, Finds, finds_at}
 use Rattle.class_defs.specs.Members.{own_virtual, is_interface}
 use Rattle.class_defs.specs.Places.{is_under, super_place, interface_places}
 use Rattle.hierarchy.specs.Naming.{IsKey, definers_of}

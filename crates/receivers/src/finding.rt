@@ -3,13 +3,12 @@
 ghost use Rattle.std.specs.Prelude.{◌≡◌, ◌<◌, ◌^◌, ◌∷◌, false, ℕ, Some, length, slice_get, flat_map, None, IfOk, MatchOption};
 ghost use Rattle.std.specs.List.{list_any};
 ghost use Rattle.program_model.specs.declared.pools.MethodName.{MethodName};
-ghost use Rattle.class_defs.specs.Finding.{finds_at, finds_among, finds_virtual};
+ghost use Rattle.class_defs.specs.Finding.{finds_at, finds_among};
 ghost use Rattle.class_defs.specs.Places.{is_under, interface_places, chain_of};
 ghost use Rattle.hierarchy.specs.Naming.{IsKey};
 ghost use Rattle.hierarchy.specs.Shapes.{IsResolved};
 ghost use Rattle.hierarchy.specs.Tables.{row_of};
-ghost use Rattle.hierarchy.specs.Touring.{subclasses_of};
-ghost use Rattle.receivers.specs.Receiving.{stands_under, lists_above, only, interface_at, found_by, is_at, all_find, agreed, agreed_on, agreed_under, overrides, is_overridden, handed_down, is_other, has_other, AreShort, IsFinding, IsReady, IsNameOf};
+ghost use Rattle.receivers.specs.Receiving.{stands_under, only, interface_at, found_by, is_at, all_find, agreed, agreed_on, agreed_under, overrides, is_overridden, handed_down, is_other, has_other, AreShort, IsFinding, IsReady, IsNameOf};
 
 use crate::listed::listed_in;
 use crate::straight::is_straight;
@@ -65,7 +64,8 @@ impl<'a> Finder<'a> {
 
     /// What a method number names, for a virtual or interface call.
     pub fn named(&self, method: u32) -> Option<Named>
-        ensures { MatchOption result (slice_get self.now.program.now.methods method ≡ None) (λ n. (q : MethodName) → slice_get self.now.program.now.methods method ≡ Some q → (n.kind ≡ q.class) × IsKey self.now.program.now self.now.hierarchy.now n.key q.name q.proto) }
+        ensures { MatchOption result (slice_get self.now.program.now.methods method ≡ None) (λ n. (q : MethodName) → slice_get self.now.program.now.methods method ≡ Some q
+            → (n.kind ≡ q.class) × IsKey self.now.program.now self.now.hierarchy.now n.key q.name q.proto) }
     {
         match self.program.methods.as_slice().get(method as usize) {
             Some(name) => Some(Named {

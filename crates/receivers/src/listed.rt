@@ -1,6 +1,6 @@
 //! Which classes list a type.
 
-ghost use Rattle.std.specs.Prelude.{◌≡◌, ◌<◌, ◌^◌, ◌∷◌, [], length, replicate, IfOk, OnOk};
+ghost use Rattle.std.specs.Prelude.{◌≡◌, ◌<◌, ◌^◌, [], length, replicate, IfOk, OnOk};
 ghost use Rattle.hierarchy.specs.Touring.{add_to, add_to_all};
 ghost use Rattle.receivers.specs.Listing.{kinds_above, AreListed};
 

@@ -1,4 +1,4 @@
-use Rattle.std.proofs.Common.{◌≡◌, ◌<◌, ◌∙◌, ℕ, length, ltb-true, slice_index, sym}
+use Rattle.std.proofs.Common.{◌<◌, ◌∙◌, ℕ, length, ltb-true, slice_index, sym}
 use Rattle.std.specs.Prelude.{nat_lt}
 use Rattle.lemmas.proofs.Lists.{all_at}
 use Rattle.class_defs.specs.Places.{is_under}

@@ -1,4 +1,4 @@
-use Rattle.std.proofs.Common.{◌≡◌, ◌<◌, ◌-◌, ◌∙◌, false, length, arith, eq-eqb, ne_eqb, sym, subst}
+use Rattle.std.proofs.Common.{◌≡◌, ◌<◌, ◌-◌, ◌∙◌, false, length, eq-eqb, ne_eqb, sym, subst}
 use Rattle.std.specs.Prelude.{nat_eq}
 use Rattle.verify.specs.Building.{class_above}
 use Rattle.devirt.specs.Binding.{in_line}

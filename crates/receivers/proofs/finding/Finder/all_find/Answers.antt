@@ -1,4 +1,4 @@
-use Rattle.std.proofs.Common.{◌≡◌, ◌∙◌, false, true, slice_index, ap, sym}
+use Rattle.std.proofs.Common.{◌≡◌, ◌∙◌, slice_index, ap, sym}
 use Rattle.receivers.specs.Receiving.{found_by, is_at}
 use Rattle.receivers.proofs.Loops.{all_broken, all_more, at_index}
 use Rattle.receivers.proofs.finding.Finder.all_find.Goals as goal

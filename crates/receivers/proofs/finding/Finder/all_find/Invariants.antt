@@ -1,5 +1,4 @@
 use Rattle.std.proofs.Common.{◌≡◌, true, take}
-use Rattle.std.specs.List.{list_all}
 use Rattle.program_model.specs.declared.pools.MethodName.{MethodName}
 use Rattle.receivers.specs.Receiving.{all_find, AreShort, IsFinding, IsNameOf, IsReady}
 use Rattle.receivers.proofs.finding.Finder.all_find.Given as goal

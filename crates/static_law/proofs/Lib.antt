@@ -1,0 +1,17 @@
+pub mod Acts
+pub mod Along
+pub mod Renaming
+pub mod Calls
+pub mod Programs
+pub mod Remade
+pub mod Methods
+pub mod LookUps
+pub mod Faces
+pub mod Bodies
+pub mod Declared
+pub mod Sites
+pub mod Known
+pub mod Reached
+pub mod Loosened
+pub mod Judged
+pub mod Order

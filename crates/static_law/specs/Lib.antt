@@ -1,0 +1,4 @@
+pub mod Renames
+pub mod Remade
+pub mod Static
+pub mod Examples

@@ -53,7 +53,7 @@ pub record FromMap {A B : Type 0} (g : A → B) (y : B) (xs : List A) : Type 0 w
   pub is_in : In source xs
   pub image : g source ≡ y
 
-from_map : {A B : Type 0} (g : A → B) (xs : List A) (y : B) → In y (map g xs) → FromMap g y xs
+pub from_map : {A B : Type 0} (g : A → B) (xs : List A) (y : B) → In y (map g xs) → FromMap g y xs
 from_map g [] y h = elim h [ ]
 from_map {A} {B} g (x ∷ xs) y h = by (from_map g xs) y h
   where

@@ -91,7 +91,7 @@ module _ (p : NamedProgram) (loose : MethodKey → Bool) (f : Framework) (sound 
     found_at : In g (answers_to p t k.name k.signature)
     found_at = at_in p everything above regular t k g at.finds
 
-    method_of : IsMethodOf p k.name k.signature g
+    pub method_of : IsMethodOf p k.name k.signature g
     method_of = answer p everything above regular k.name k.signature t g found_at
 
     pub climbs : is_own_under p t g.key.class ≡ true

@@ -12,6 +12,8 @@ pub mod Declared
 pub mod Sites
 pub mod Known
 pub mod Reached
+pub mod Given
+pub mod Told
 pub mod Loosened
 pub mod Judged
 pub mod Order

@@ -45,7 +45,7 @@ record IsDeclared (p : NamedProgram) (t n x : Text) : Type 0 where
   proto : proto_text method.signature ≡ x
   virtual : is_virtual_method method ≡ true
 
-is_declared : (p : NamedProgram) (t n x : Text) (c : NamedClass) (m : NamedMethod) → class_named p t ≡ Some c → find (λ m. text_eq m.name n && text_eq (proto_text m.signature) x) c.methods ≡ Some m → is_virtual_method m ≡ true → IsDeclared p t n x
+abbrev is_declared : (p : NamedProgram) (t n x : Text) (c : NamedClass) (m : NamedMethod) → class_named p t ≡ Some c → find (λ m. text_eq m.name n && text_eq (proto_text m.signature) x) c.methods ≡ Some m → is_virtual_method m ≡ true → IsDeclared p t n x
 is_declared p t n x c m e i v = let z = found_passes (λ m. text_eq m.name n && text_eq (proto_text m.signature) x) c.methods m i in record {
   class = c;
   method = m;

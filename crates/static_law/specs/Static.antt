@@ -1,11 +1,12 @@
 -- What is asked of the methods that are made static, and the map of names by which they are (this project's profile).
-use Rattle.std.specs.Prelude.{◌≡◌, ℕ, suc, Bool, length, true, false, ◌&&◌, not, List, [], ◌∷◌, map, Option, Some, None, if◌then◌else◌, is_some}
+use Rattle.std.specs.Prelude.{◌≡◌, ℕ, suc, Bool, length, true, false, ◌&&◌, not, List, [], ◌∷◌, map, Option, Some, None, if◌then◌else◌, is_some, is_ok}
 use Rattle.std.specs.List.{list_any}
 use Rattle.insn_set.specs.declared.ops.InvokeKind.{InvokeKind}
 use Rattle.insn_set.specs.declared.ops.InvokeKind.TheVariants as call
+use Rattle.dex_base.specs.Descriptor.{descriptor_of}
 use Rattle.dalvik_defs.specs.Names.{Text, text_eq, same_name, is_common}
 use Rattle.dalvik_defs.specs.Flags.{is_static, is_interface}
-use Rattle.dalvik_defs.specs.Under.{class_named, is_under, is_own_under, is_outward}
+use Rattle.dalvik_defs.specs.Under.{class_named, defines, is_under, is_own_under, is_outward}
 use Rattle.dalvik_defs.specs.Find.{Found, Finds, found_in, method_in, defined_method, resolves_method, interface_named, is_virtual_method}
 use Rattle.dalvik_defs.specs.Initialised.{is_trivial}
 use Rattle.dalvik_defs.specs.Silence.{key_in}
@@ -158,6 +159,10 @@ pub record AreInTables (p : NamedProgram) (o : Outer) (methods : List MethodKey)
   pub defined : (t : Text) (c : NamedClass) (m : NamedMethod) → class_named p t ≡ Some c → In m c.methods → In (key_in c m) methods
   pub called : (caller : MethodKey) (b : NamedBody) (n : ℕ) (kind : InvokeKind) (k : MethodKey) (args : List ℕ) → bodies_of p caller ≡ Some b → form_in b n ≡ Some (form.Invoke kind k args) → In k methods
   pub kept : (k : MethodKey) → o.methods k ≡ true → In k methods
+
+-- the names of classes are descriptors
+abbrev pub NamesDescribed : NamedProgram → Type 0
+NamesDescribed p = (t : Text) → defines p t ≡ true → is_ok (descriptor_of t) ≡ true
 
 -- ---- receivers
 

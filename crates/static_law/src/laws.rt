@@ -16,10 +16,10 @@ ghost use Rattle.dalvik_defs.specs.declared.tables.Framework.{Framework};
 ghost use Rattle.dalvik_defs.specs.declared.program.NamedProgram.{NamedProgram};
 ghost use Rattle.pass_defs.specs.Loose.{AreLoose, staticised};
 ghost use Rattle.pass_defs.specs.Numbered.{tables_of};
-ghost use Rattle.removal_law.specs.Reach.{IsRegular, AgreesInside, TellsApart, TellsProtos};
+ghost use Rattle.removal_law.specs.Reach.{IsRegular, AgreesInside, DefinesOnce, IsDescribed, TellsApart};
 ghost use Rattle.static_law.specs.Remade.{remade, Remethod, SameMethods};
 ghost use Rattle.static_law.specs.Renames.{is_invoke, frame_named, effect_named};
-ghost use Rattle.static_law.specs.Static.{AreInTables, MayAllBeStatic, ReceiversReached, Unrivalled};
+ghost use Rattle.static_law.specs.Static.{AreInTables, MayAllBeStatic, NamesDescribed, ReceiversReached, Unrivalled};
 
 /// What a form does in a frame doesn't depend on the frame's method.
 pub fn renamed_law()
@@ -31,7 +31,7 @@ pub fn renamed_law()
 /// one in the states that runs reach.
 pub fn static_law()
     ensures { (p : NamedProgram) (o : Outer) (methods : List MethodKey) (loose : MethodKey → Bool) → MayAllBeStatic p o methods loose → AreInTables p o methods
-        → IsRegular p → TellsProtos p → AgreesInside o → TellsApart p → TellsApart (staticised p loose)
+        → IsRegular p → IsDescribed p → NamesDescribed p → DefinesOnce p → AgreesInside o
         → ((f : Framework) (a : Floats) (script : List Move) → Fit p o f script → ReceiversReached p loose o f a script) → SameShown p (staticised p loose) o }
 {}
 

@@ -16,4 +16,11 @@ pub mod Given
 pub mod Told
 pub mod Loosened
 pub mod Judged
+pub mod Lines
+pub mod Forms
+pub mod Resolved
+pub mod Typed
+pub mod Upward
+pub mod Receivers
+pub mod Whole
 pub mod Order

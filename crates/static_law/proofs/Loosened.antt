@@ -54,7 +54,7 @@ use Rattle.static_law.proofs.Known.{site_known}
 use Rattle.static_law.proofs.Reached.{unreached, reached_alike}
 
 -- the superclasses of a class end
-ends_within : (p : NamedProgram) (n : ℕ) (t : Text) → ends p n t ≡ true → EndsWithin p n t
+pub ends_within : (p : NamedProgram) (n : ℕ) (t : Text) → ends p n t ≡ true → EndsWithin p n t
 ends_within p zero t e = by (class_named p t) refl e
   where
     by : (o : Option NamedClass) → class_named p t ≡ o → not (elim o as (λ o. Bool) [ Some c ↦ true | None ↦ false ]) ≡ true → class_named p t ≡ None
@@ -117,7 +117,7 @@ module _ (p : NamedProgram) (o : Outer) (methods : List MethodKey) (loose : Meth
         keeps = r.keeps;
         calls = λ w c g rest s kind k args j e. let b = in_body g (form.Invoke kind k args) e in
             site_known p loose f sound (fit_names_none p o f script fit) regular apart g.method.class (kind_of w (receiver (map (register g) args))) (is_null (receiver (map (register g) args))) k kind
-            (λ x l d. (given x l).calls g.method b.0 g.position kind k args b.1.0 b.1.1 d)
+            (λ x l d. ((given x l).calls g.method b.0 g.position kind k args b.1.0 b.1.1 d).1)
             (in_old p o methods loose given in_tables k (in_tables.called g.method b.0 g.position kind k args b.1.0 b.1.1))
             (λ h d l. r.receivers w c g rest s kind k args h j e d l);
       })

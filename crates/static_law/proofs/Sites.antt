@@ -53,7 +53,7 @@ Called n g f = (f.key.name ≡ n) × (f.key.signature ≡ g)
 by_key : (t n : Text) (g : Signature) (f : Found) → f.key ≡ key t n g → Called n g f
 by_key t n g f e = (ap (λ k. k.name) e, ap (λ k. k.signature) e)
 
-first_called : (test : NamedMethod → Bool) (n : Text) (g : Signature) (cs : List NamedClass) (f : Found) → first_method test n g cs ≡ Some f → Called n g f
+pub first_called : (test : NamedMethod → Bool) (n : Text) (g : Signature) (cs : List NamedClass) (f : Found) → first_method test n g cs ≡ Some f → Called n g f
 first_called test n g [] f e = clash false (ap is_some e) refl
 first_called test n g (c ∷ cs) f e = by (passing test c (method_in c n g)) refl (first_called test n g cs f) e
   where
@@ -146,6 +146,11 @@ super_called p class k f e = by (is_037 p.version) e
     by : (b : Bool) → choice b (finds_super_037 p class k (class_named p k.class)) (finds_above p class k) ≡ Finds f → Called k.name k.signature f
     by b e = pick b (finds_super_037 p class k (class_named p k.class)) (finds_above p class k) (new (class_named p k.class)) (above_called p class k f) e
 
+-- a list in which something is found isn't empty
+pub not_empty : (cs : List NamedClass) (t : Text) (c : NamedClass) → find (λ c. text_eq c.name t) cs ≡ Some c → (n : ℕ) × (length cs ≡ suc n)
+not_empty [] t c e = clash false (ap is_some e) refl
+not_empty (d ∷ ds) t c e = (length ds, refl)
+
 -- ---- calls
 
 module _ (p : NamedProgram) (loose : MethodKey → Bool) (f : Framework) (sound : IsSound p loose) where
@@ -204,10 +209,6 @@ module _ (p : NamedProgram) (loose : MethodKey → Bool) (f : Framework) (sound 
 
   name_of : (t : Text) (c : NamedClass) → class_named p t ≡ Some c → c.name ≡ t
   name_of t c e = text_sound c.name t (found_passes (λ c. text_eq c.name t) p.classes c e).passes
-
-  not_empty : (cs : List NamedClass) (t : Text) (c : NamedClass) → find (λ c. text_eq c.name t) cs ≡ Some c → (n : ℕ) × (length cs ≡ suc n)
-  not_empty [] t c e = clash false (ap is_some e) refl
-  not_empty (d ∷ ds) t c e = (length ds, refl)
 
   module _ (calm : Text → Bool) (stands : (k : MethodKey) → loose k ≡ true → Stands p loose calm k) where
     made : (class : Text) (kind : InvokeKind) (t : Text) (null : Bool) (k j : MethodKey) → loose j ≡ true → (g : Found) → searched F class kind t k ≡ Finds g → g.key ≡ j → g.coded ≡ true → is_static g.flags ≡ false

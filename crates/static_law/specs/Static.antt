@@ -19,7 +19,9 @@ use Rattle.dalvik_defs.specs.declared.names.MethodKey.{MethodKey}
 use Rattle.dalvik_defs.specs.declared.program.NamedMethod.{NamedMethod}
 use Rattle.dalvik_defs.specs.declared.program.NamedClass.{NamedClass}
 use Rattle.dalvik_defs.specs.declared.program.NamedProgram.{NamedProgram}
-use Rattle.pass_defs.specs.Loose.{new_signature, new_key, static_method, staticised, classes_under, has_virtual, concerns, is_plain_call}
+use Rattle.pass_defs.specs.Loose.{new_signature, new_key, static_method, staticised, classes_under, has_virtual, concerns, is_subclass, is_plain_call}
+use Rattle.pass_defs.specs.Demands.{is_constructor_name}
+use Rattle.pass_defs.specs.Kinds.{Kind, is_plain, fits}
 use Rattle.pass_defs.specs.Walks.{form_at as form_in}
 use Rattle.removal_law.specs.Agree.{Each}
 use Rattle.removal_law.specs.Left.{In}
@@ -131,7 +133,14 @@ pub record IsApart (p : NamedProgram) (k : MethodKey) : Type 0 where
 abbrev pub AreApart : NamedProgram → (MethodKey → Bool) → Type 0
 AreApart p loose = (k : MethodKey) (c : NamedClass) (m : NamedMethod) → loose k ≡ true → class_named p k.class ≡ Some c → In m c.methods → key_in c m ≡ k → is_virtual_method m ≡ true → IsApart p k
 
--- A method that may be static, where a program names some methods.
+-- a call that passes a receiver
+abbrev pub has_receiver : InvokeKind → List ℕ → Bool
+has_receiver call.Static args = false
+has_receiver kind [] = false
+has_receiver kind (r ∷ args) = true
+
+-- A method that may be static, where a program names some methods: each call that concerns it resolves to it through a class or
+-- one under that, passes a receiver, and finds it alone, with code.
 pub record MayBeStatic (p : NamedProgram) (o : Outer) (methods : List MethodKey) (k : MethodKey) : Type 0 where
   pub class : NamedClass
   pub method : NamedMethod
@@ -139,12 +148,13 @@ pub record MayBeStatic (p : NamedProgram) (o : Outer) (methods : List MethodKey)
   pub defined : defined_method p k ≡ Some method
   pub coded : is_some method.body ≡ true
   pub receiver : is_static method.flags ≡ false
+  pub plain : is_constructor_name k.name ≡ false
   pub free : o.methods k ≡ false
   pub in_class : is_interface class.flags ≡ false
   pub trivial : is_trivial p k.class ≡ true
   pub apart : is_virtual_method method ≡ true → IsApart p k
   pub calls : (caller : MethodKey) (b : NamedBody) (n : ℕ) (kind : InvokeKind) (called : MethodKey) (args : List ℕ) → bodies_of p caller ≡ Some b → form_in b n ≡ Some (form.Invoke kind called args)
-      → concerns p k caller.class kind called ≡ true → is_plain_call p k caller.class kind called ≡ true
+      → concerns p k caller.class kind called ≡ true → (has_receiver kind args ≡ true) × (is_plain_call p k caller.class kind called ≡ true)
   pub new : list_any (λ t. same_name t.name t.signature k.name (new_signature k)) methods ≡ false
 
 abbrev pub MayAllBeStatic : NamedProgram → Outer → List MethodKey → (MethodKey → Bool) → Type 0
@@ -163,6 +173,14 @@ pub record AreInTables (p : NamedProgram) (o : Outer) (methods : List MethodKey)
 -- the names of classes are descriptors
 abbrev pub NamesDescribed : NamedProgram → Type 0
 NamesDescribed p = (t : Text) → defines p t ≡ true → is_ok (descriptor_of t) ≡ true
+
+-- no plain class is the superclass of an interface
+abbrev pub FreeInterfaces : NamedProgram → Type 0
+FreeInterfaces p = (t : Text) (c : NamedClass) → class_named p t ≡ Some c → is_interface c.flags ≡ true → is_plain p c.superclass ≡ false
+
+-- what fits a class fits the plain classes above it, by superclasses
+abbrev pub FitsUpward : NamedProgram → Type 0
+FitsUpward p = (s t : Text) (k : Kind) → is_subclass p s t ≡ true → is_plain p t ≡ true → fits p k s ≡ true → fits p k t ≡ true
 
 -- ---- receivers
 

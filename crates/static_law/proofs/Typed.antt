@@ -24,7 +24,6 @@ use Rattle.dalvik_defs.specs.declared.program.NamedBody.{NamedBody}
 use Rattle.dalvik_defs.specs.declared.program.NamedMethod.{NamedMethod}
 use Rattle.dalvik_defs.specs.declared.program.NamedClass.{NamedClass}
 use Rattle.dalvik_defs.specs.declared.program.NamedProgram.{NamedProgram}
-use Rattle.dalvik_defs.proofs.Calm.{text_sound}
 use Rattle.pass_defs.specs.Bare.{may_throw}
 use Rattle.pass_defs.specs.Walks.{form_at, region_at, onward}
 use Rattle.pass_defs.specs.Calls.{found_by, may_find, super_candidates}
@@ -51,13 +50,10 @@ use Rattle.static_law.proofs.Given.{defined_in, in_old, sound as sound_names}
 use Rattle.static_law.proofs.Sites.{first_called, not_empty}
 use Rattle.static_law.proofs.Lines.{plain_same, program_interface_same, nearest_same, instance_same}
 use Rattle.static_law.proofs.Resolved.{resolves_left, resolves_moved}
+use Rattle.static_law.proofs.Upward.{begins_class}
 use Rattle.static_law.proofs.Forms.{SameKinds, kind_at_type, state_same, arrives_same, parameters_same, fits_same, meets_same, allowed_same, wrong_same, after_same, catches_in_same, called_same, result_left}
 
 -- ---- class types
-
-begins_class : (t : Text) → is_class_type t ≡ true → (us : Text) × (t ≡ 76 ∷ us)
-begins_class [] e = clash false e refl
-begins_class (u ∷ us) e = (us, ap (λ x. elim x as (λ x. Text) [ [] ↦ u ∷ us | v ∷ vs ↦ v ∷ us ]) (text_sound (u ∷ []) (76 ∷ []) (ap (λ b. b && true) e)))
 
 not_wide : (t : Text) → is_class_type t ≡ true → is_wide t ≡ false
 not_wide t e = ap is_wide (begins_class t e).1
@@ -218,9 +214,10 @@ module _ (p : NamedProgram) (o : Outer) (methods : List MethodKey) (loose : Meth
           → (fits p (kind_at a.registers s) k.class ≡ true) × (list_all met (passed k.signature.parameters rs) ≡ true)
       asked call.Static s rs z e = absurd (true≢false z)
       asked call.Super s rs z e =
-          let more : List (ℕ × Demand) = map (λ d. (s, d)) (map Fits (found_class (finds_super p c.name k))) in
-          (and_left (fits p (kind_at a.registers s) k.class) (list_all met (more ++ passed k.signature.parameters rs)) e,
-          all_last met more (passed k.signature.parameters rs) (and_behind (fits p (kind_at a.registers s) k.class) (list_all met (more ++ passed k.signature.parameters rs)) e))
+          let more : List (ℕ × Demand) = map (λ d. (s, d)) (map Fits (found_class (finds_super p c.name k))) in (
+            and_left (fits p (kind_at a.registers s) k.class) (list_all met (more ++ passed k.signature.parameters rs)) e,
+            all_last met more (passed k.signature.parameters rs) (and_behind (fits p (kind_at a.registers s) k.class) (list_all met (more ++ passed k.signature.parameters rs)) e),
+          )
       asked call.Direct s rs z e = named_first s rs e
       asked call.Virtual s rs z e = named_first s rs e
       asked call.Interface s rs z e = named_first s rs e
@@ -473,9 +470,11 @@ module _ (p : NamedProgram) (o : Outer) (methods : List MethodKey) (loose : Meth
       let z = before_map (static_body p loose) m.body b' (sym (body_same c m stands found) ∙ e) in
       let t = typed.bodies c m z.0 i j z.1.0 in
       let defined : defined_method p (key_in c m) ≡ Some m = ap (λ o. elim o as (λ o. Option NamedMethod) [ Some c ↦ method_in c m.name m.signature | None ↦ None ]) stands ∙ found in
-      let has : bodies_of p (key_in c m) ≡ Some z.0 = ap (option_and_then (λ (y : NamedMethod). y.body)) defined ∙ z.1.0 in
-      (t.0, subst (λ y. IsTyping q (static_class p loose c) (static_method p loose c m) y t.0) z.1.1
-      (typing_static c m (static_method p loose c m) (result_same c m stands found) (constructs_same c m stands found) z.0 has t.0 (begun_same c m stands found z.0) t.1))
+      let has : bodies_of p (key_in c m) ≡ Some z.0 = ap (option_and_then (λ (y : NamedMethod). y.body)) defined ∙ z.1.0 in (
+        t.0,
+        subst (λ y. IsTyping q (static_class p loose c) (static_method p loose c m) y t.0) z.1.1
+            (typing_static c m (static_method p loose c m) (result_same c m stands found) (constructs_same c m stands found) z.0 has t.0 (begun_same c m stands found z.0) t.1),
+      )
 
   typing_in : IsTyped p → (d : NamedClass) (n : NamedMethod) (b : NamedBody) → Contains (map (static_class p loose) p.classes) d → Contains d.methods n → n.body ≡ Some b → (t : Table) × IsTyping q d n b t
   typing_in typed d n b i j e =

@@ -26,7 +26,7 @@ use Rattle.static_law.specs.Static.{FitsUpward, FreeInterfaces}
 
 -- ---- class types
 
-begins_class : (t : Text) → is_class_type t ≡ true → (us : Text) × (t ≡ 76 ∷ us)
+pub begins_class : (t : Text) → is_class_type t ≡ true → (us : Text) × (t ≡ 76 ∷ us)
 begins_class [] e = clash false e refl
 begins_class (u ∷ us) e = (us, ap (λ x. elim x as (λ x. Text) [ [] ↦ u ∷ us | v ∷ vs ↦ v ∷ us ]) (text_sound (u ∷ []) (76 ∷ []) (ap (λ b. b && true) e)))
 
@@ -144,9 +144,10 @@ module _ (p : NamedProgram) (rooted : IsRooted p) where
         at c i false j e again =
             let z = again c.superclass e in
             let u = there_is c.superclass z.0 in
-            let plain : is_interface c.flags ≡ false = untrue (is_interface c.flags) (λ k. clash (is_plain p c.superclass) z.0 (free s c i k)) in
-            (ap (λ o. elim o as (λ o. Bool) [ Some c ↦ not (is_interface c.flags) | None ↦ false ]) i ∙ ap not plain,
-            near_trans p rooted s c.superclass t (near_step s c u.0 i plain u.1) z.1)
+            let plain : is_interface c.flags ≡ false = untrue (is_interface c.flags) (λ k. clash (is_plain p c.superclass) z.0 (free s c i k)) in (
+              ap (λ o. elim o as (λ o. Bool) [ Some c ↦ not (is_interface c.flags) | None ↦ false ]) i ∙ ap not plain,
+              near_trans p rooted s c.superclass t (near_step s c u.0 i plain u.1) z.1,
+            )
 
         by : (o : Option NamedClass) → class_named p s ≡ o → list_any (λ c. text_eq c.name t) (elim o as (λ o. List NamedClass) [ Some c ↦ c ∷ chain_from n p c.superclass | None ↦ [] ]) ≡ true → Again → (is_plain p s ≡ true) × (nearest p s t ≡ Some t)
         by None i e again = clash false e refl

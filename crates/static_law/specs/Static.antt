@@ -178,6 +178,10 @@ NamesDescribed p = (t : Text) → defines p t ≡ true → is_ok (descriptor_of 
 abbrev pub FreeInterfaces : NamedProgram → Type 0
 FreeInterfaces p = (t : Text) (c : NamedClass) → class_named p t ≡ Some c → is_interface c.flags ≡ true → is_plain p c.superclass ≡ false
 
+-- interface lists name no plain class
+abbrev pub ListsInterfaces : NamedProgram → Type 0
+ListsInterfaces p = (t : Text) (c : NamedClass) (u : Text) → class_named p t ≡ Some c → In u c.interfaces → is_plain p u ≡ false
+
 -- what fits a class fits the plain classes above it, by superclasses
 abbrev pub FitsUpward : NamedProgram → Type 0
 FitsUpward p = (s t : Text) (k : Kind) → is_subclass p s t ≡ true → is_plain p t ≡ true → fits p k s ≡ true → fits p k t ≡ true

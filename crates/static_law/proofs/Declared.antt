@@ -2,7 +2,7 @@
 -- nothing else.
 use Rattle.std.proofs.Common.{◌≡◌, ℕ, ◌+◌, Bool, true, false, List, [], ◌∷◌, refl, sym, ap, ◌∙◌, subst, arith}
 use Rattle.std.proofs.lemmas.Bool.{eq-eqb}
-use Rattle.std.specs.Prelude.{◌&&◌, ◌||◌, ◌/◌, ◌%◌, not, cond, map, find, Option, Some, None, is_some}
+use Rattle.std.specs.Prelude.{◌&&◌, ◌||◌, ◌/◌, ◌%◌, not, map, find, Option, Some, None}
 use Rattle.std.specs.Option.{option_map}
 use Rattle.lemmas.proofs.Bools.{and_false}
 use Rattle.lemmas.proofs.Options.{none_some, some_same}
@@ -17,7 +17,6 @@ use Rattle.dalvik_defs.specs.declared.state.Value.{Value}
 use Rattle.dalvik_defs.specs.Gives.{is_on, all_fit}
 use Rattle.dalvik_defs.specs.Legal.{is_class_initialiser, is_found as is_found_method, is_found_virtual, keeper_above, may_reach, receiver_ok, may_enter_found, may_enter}
 use Rattle.dalvik_defs.specs.Silence.{key_in}
-use Rattle.dalvik_defs.specs.declared.names.Signature.{Signature}
 use Rattle.dalvik_defs.specs.declared.names.MethodKey.{MethodKey}
 use Rattle.dalvik_defs.specs.declared.script.Given.{Given}
 use Rattle.dalvik_defs.specs.declared.program.NamedMethod.{NamedMethod}
@@ -25,7 +24,7 @@ use Rattle.dalvik_defs.specs.declared.program.NamedClass.{NamedClass}
 use Rattle.dalvik_defs.specs.declared.program.NamedProgram.{NamedProgram}
 use Rattle.dalvik_defs.specs.declared.tables.Framework.{Framework}
 use Rattle.dalvik_defs.proofs.Calm.{text_sound}
-use Rattle.pass_defs.specs.Loose.{new_signature, loosened, static_method, static_class, staticised}
+use Rattle.pass_defs.specs.Loose.{new_signature, static_method, static_class, staticised}
 use Rattle.removal_law.specs.Left.{In, here, there}
 use Rattle.removal_law.specs.Reach.{TellsApart}
 use Rattle.removal_law.proofs.Lists.{clash, and_left, and_behind, in_map, FoundIn, found_in as found_passes}

@@ -1,6 +1,6 @@
 -- In two programs with the same order of kinds and the same fields, and in two methods with one result, a form that is no call asks
 -- the same, and leaves the same.
-use Rattle.std.proofs.Common.{◌≡◌, ℕ, ◌-◌, Bool, true, false, true≢false, List, [], ◌∷◌, ◌++◌, length, refl, sym, ap, ◌∙◌}
+use Rattle.std.proofs.Common.{◌≡◌, ℕ, Bool, true, false, true≢false, List, [], ◌∷◌, ◌++◌, refl, ap, ◌∙◌}
 use std.Path.{fun_ext}
 use Rattle.std.specs.Prelude.{◌&&◌, ◌||◌, not, nat_eq, nat_lt, Option, Some, None, map, if◌then◌else◌}
 use Rattle.std.specs.List.{list_all}

@@ -1,5 +1,5 @@
 -- The loose methods of a program are methods that may be static, where virtual ones have no rivals.
-use Rattle.std.proofs.Common.{◌≡◌, ℕ, Bool, true, false, List, [], ◌∷◌, Option, Some, None, refl, sym, ap, ◌∙◌, subst}
+use Rattle.std.proofs.Common.{◌≡◌, ℕ, Bool, true, false, List, [], ◌∷◌, Some, None, refl, sym, ap, ◌∙◌, subst}
 use Rattle.std.specs.Prelude.{◌&&◌, ◌||◌, not}
 use Rattle.std.specs.List.{list_any}
 use Rattle.program_model.specs.declared.program.Program.{Program}
@@ -7,10 +7,8 @@ use Rattle.insn_set.specs.declared.ops.InvokeKind.{InvokeKind}
 use Rattle.insn_set.specs.declared.ops.InvokeKind.TheVariants as call
 use Rattle.dalvik_defs.specs.Names.{method_eq, same_name, is_common}
 use Rattle.dalvik_defs.specs.Under.{is_outward}
-use Rattle.dalvik_defs.specs.Find.{is_virtual_method, defined_method}
 use Rattle.dalvik_defs.specs.Outer.{Outer}
 use Rattle.dalvik_defs.specs.declared.names.MethodKey.{MethodKey}
-use Rattle.dalvik_defs.specs.declared.program.NamedMethod.{NamedMethod}
 use Rattle.dalvik_defs.specs.declared.program.NamedProgram.{NamedProgram}
 use Rattle.pass_defs.specs.Loose.{new_signature, is_overriding, is_in_interface, is_alone, classes_under, is_plain_call, methods_of, with_new, or_this, HasReceiver, IsLoose, AreLooseFrom, AreLoose}
 use Rattle.pass_defs.specs.Calls.{may_find}
@@ -20,7 +18,7 @@ use Rattle.removal_law.proofs.Lists.{clash, and_left, and_behind}
 use Rattle.removal_law.proofs.Declared.{method_same, method_sound, not_false}
 use Rattle.removal_law.proofs.Outward.{any_where}
 use Rattle.static_law.specs.Receiving.{KnowsReceivers}
-use Rattle.static_law.specs.Static.{IsApart, has_rival, has_receiver, MayBeStatic, MayAllBeStatic, Unrivalled}
+use Rattle.static_law.specs.Static.{IsApart, has_rival, has_receiver, MayAllBeStatic, Unrivalled}
 
 -- nothing common, and no framework ancestor of a class under its own
 alone_apart : (p : NamedProgram) (k : MethodKey) → has_rival p k ≡ false → is_alone p k ≡ true → IsApart p k

@@ -7,8 +7,8 @@ use Rattle.lemmas.proofs.Bools.{or_false_left, or_false_right, not_false as not_
 use Rattle.lemmas.proofs.Options.{some_same}
 use Rattle.insn_set.specs.declared.ops.InvokeKind.{InvokeKind}
 use Rattle.insn_set.specs.declared.ops.InvokeKind.TheVariants as call
-use Rattle.dalvik_defs.specs.Names.{Text, text_eq, same_name, signature_eq, method_eq, is_common, object_type}
-use Rattle.dalvik_defs.specs.Flags.{is_static, is_private, is_interface, is_virtual, is_special}
+use Rattle.dalvik_defs.specs.Names.{Text, text_eq, method_eq, object_type}
+use Rattle.dalvik_defs.specs.Flags.{is_static, is_private, is_interface, is_special}
 use Rattle.dalvik_defs.specs.Under.{class_named, defines, is_under, is_own_under, is_outward}
 use Rattle.dalvik_defs.specs.Find.{Found, Search, Nothing, Clash, Finds, chain_of, first_method, search_of, finds_statically, is_virtual_method, candidates, interface_named, is_lowest, lowest, verdict, finds_among, finds_at, superclass_of, finds_above, lists_interface, is_037, finds_super_037, finds_super, resolves_method}
 use Rattle.dalvik_defs.specs.Face.{face_of, finds_virtually}
@@ -27,8 +27,8 @@ use Rattle.removal_law.specs.Left.{In, here, there, NamesNone}
 use Rattle.removal_law.specs.Reach.{IsRegular}
 use Rattle.removal_law.proofs.Lists.{clash, and_left, and_behind, none_in, all_in, in_front, in_back, found_in as found_passes}
 use Rattle.removal_law.proofs.Finds.{among_in, in_flat, into_filter, in_unfiltered, first_where, where_key}
-use Rattle.removal_law.proofs.Trees.{chain_named, defines_class, class_in, class_name}
-use Rattle.removal_law.proofs.Declared.{name_same, method_same, method_sound, not_false}
+use Rattle.removal_law.proofs.Trees.{chain_named}
+use Rattle.removal_law.proofs.Declared.{method_same, method_sound, not_false}
 use Rattle.removal_law.proofs.Outward.{any_here, Up, inside, through, object, under_up}
 use Rattle.removal_law.proofs.Climbs.{climb_under, answer_climbs}
 use Rattle.removal_law.proofs.Virtuals.{IsMethodOf, answer, candidate, candidate_interface}

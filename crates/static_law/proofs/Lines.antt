@@ -1,5 +1,5 @@
 -- Programs whose classes have other methods have the same order of kinds.
-use Rattle.std.proofs.Common.{◌≡◌, ℕ, zero, suc, Bool, true, false, List, [], ◌∷◌, refl, sym, ap, ◌∙◌}
+use Rattle.std.proofs.Common.{◌≡◌, ℕ, zero, suc, Bool, true, false, List, [], ◌∷◌, refl, ap, ◌∙◌}
 use std.Path.{fun_ext}
 use Rattle.std.specs.Prelude.{◌||◌, not, Option, Some, None, map, find, length, if◌then◌else◌}
 use Rattle.std.specs.List.{list_any}

@@ -3,10 +3,9 @@
 use Rattle.std.proofs.Common.{◌≡◌, ℕ, zero, suc, Bool, true, false, List, [], ◌∷◌, length, refl, sym, ap, ◌∙◌, subst}
 use Rattle.std.specs.Prelude.{not, map, slice_get, Option, Some, None, is_some}
 use Rattle.std.specs.Option.{option_and_then}
-use Rattle.dalvik_defs.specs.Names.{Text, text_eq, same_name, signature_eq, proto_text}
-use Rattle.dalvik_defs.specs.Flags.{is_static, is_interface}
+use Rattle.dalvik_defs.specs.Names.{Text}
 use Rattle.dalvik_defs.specs.Under.{class_named, own_above}
-use Rattle.dalvik_defs.specs.Find.{method_in, interface_named, is_virtual_method}
+use Rattle.dalvik_defs.specs.Find.{method_in, is_virtual_method}
 use Rattle.dalvik_defs.specs.Face.{face_of, bodies_of}
 use Rattle.dalvik_defs.specs.Outer.{Outer}
 use Rattle.dalvik_defs.specs.Outcome.{receiver}
@@ -17,35 +16,27 @@ use Rattle.dalvik_defs.specs.Stack.{form_at}
 use Rattle.dalvik_defs.specs.Quiet.{EndsWithin, quiet_within, calm_opening}
 use Rattle.dalvik_defs.specs.Shown.{Fit, SameShown}
 use Rattle.dalvik_defs.specs.Silence.{key_in}
-use Rattle.dalvik_defs.specs.declared.names.Signature.{Signature}
 use Rattle.dalvik_defs.specs.declared.names.MethodKey.{MethodKey}
 use Rattle.dalvik_defs.specs.declared.forms.Form.{Form}
 use Rattle.dalvik_defs.specs.declared.forms.Form.TheVariants as form
 use Rattle.dalvik_defs.specs.declared.script.Move.{Move}
 use Rattle.dalvik_defs.specs.declared.program.NamedBody.{NamedBody}
-use Rattle.dalvik_defs.specs.declared.program.NamedMethod.{NamedMethod}
 use Rattle.dalvik_defs.specs.declared.program.NamedClass.{NamedClass}
 use Rattle.dalvik_defs.specs.declared.program.NamedProgram.{NamedProgram}
 use Rattle.dalvik_defs.specs.declared.tables.Framework.{Framework}
 use Rattle.dalvik_defs.specs.declared.tables.Floats.{Floats}
-use Rattle.dalvik_defs.proofs.Calm.{text_sound}
 use Rattle.dalvik_defs.proofs.Quiet.{trivial_quiet}
 use Rattle.dalvik_defs.proofs.Simulation.{after_suc}
 use Rattle.dalvik_defs.specs.Step.{step, after, setting_of}
-use Rattle.pass_defs.specs.Loose.{new_signature, new_key, staticised}
-use Rattle.removal_law.specs.Agree.{Each}
-use Rattle.removal_law.specs.Left.{In, here, there}
+use Rattle.pass_defs.specs.Loose.{staticised}
+use Rattle.removal_law.specs.Left.{In, here}
 use Rattle.removal_law.specs.Reach.{ends, IsRegular, TellsApart, IsDescribed, DefinesOnce, AgreesInside}
 use Rattle.removal_law.proofs.Protos.{protos_told, told_apart}
-use Rattle.removal_law.proofs.Lists.{clash, and_left, and_behind, none_in, all_in, found_in as found_passes}
-use Rattle.removal_law.proofs.Members.{signature_sound}
+use Rattle.removal_law.proofs.Lists.{clash, all_in}
 use Rattle.removal_law.proofs.Levels.{enough_steps}
-use Rattle.removal_law.proofs.Trees.{class_name}
-use Rattle.removal_law.proofs.Declared.{name_same}
-use Rattle.lemmas.proofs.Bools.{untrue}
 use Rattle.lemmas.proofs.Options.{some_same}
 use Rattle.removal_law.proofs.Fits.{fit_names_none}
-use Rattle.static_law.specs.Static.{IsOld, key, IsSound, IsUnentered, Stands, IsApart, AreApart, MayAllBeStatic, AreInTables, NamesDescribed, ReceiversKnown, ReceiversReached}
+use Rattle.static_law.specs.Static.{IsSound, IsUnentered, Stands, AreApart, MayAllBeStatic, AreInTables, NamesDescribed, ReceiversKnown, ReceiversReached}
 use Rattle.static_law.proofs.Given.{defined_in, in_old, sound as sound_names, not_kept}
 use Rattle.static_law.proofs.Told.{static_told}
 use Rattle.static_law.proofs.Declared.{itself}

@@ -1,15 +1,14 @@
 -- What the framework reaches on objects: no loose method, and every other one as before. Where an object stands under a class
 -- that defines a virtual method, it finds no loose one of that name and signature, since loose methods have no rivals.
-use Rattle.std.proofs.Common.{◌≡◌, Bool, true, false, List, [], ◌∷◌, length, refl, sym, ap, ◌∙◌, subst}
-use Rattle.std.specs.Prelude.{◌&&◌, ◌||◌, not, map, find, Option, Some, None, is_some}
+use Rattle.std.proofs.Common.{◌≡◌, Bool, true, false, refl, sym, ap, ◌∙◌, subst}
+use Rattle.std.specs.Prelude.{◌&&◌, ◌||◌, not, find, Option, Some, None}
 use Rattle.std.specs.List.{list_any}
 use Rattle.std.specs.Option.{option_map}
 use Rattle.lemmas.proofs.Bools.{untrue}
-use Rattle.lemmas.proofs.Options.{some_same}
-use Rattle.dalvik_defs.specs.Names.{Text, text_eq, same_name, signature_eq, method_eq, is_common, proto_text, object_type}
+use Rattle.dalvik_defs.specs.Names.{Text, text_eq, is_common, proto_text, object_type}
 use Rattle.dalvik_defs.specs.Flags.{is_virtual}
 use Rattle.dalvik_defs.specs.Under.{class_named, defines, is_under, is_own_under, is_outward}
-use Rattle.dalvik_defs.specs.Find.{Found, found_in as found_of, Search, Nothing, Clash, Finds, method_in, is_virtual_method, finds_at}
+use Rattle.dalvik_defs.specs.Find.{Found, found_in as found_of, method_in, is_virtual_method, finds_at}
 use Rattle.dalvik_defs.specs.Face.{face_of, declared_in, finds_virtually}
 use Rattle.dalvik_defs.specs.Outer.{Outer}
 use Rattle.dalvik_defs.specs.Legal.{is_found, is_found_virtual, keeper_above, answers_kept, calls_back, may_reach}
@@ -22,10 +21,10 @@ use Rattle.dalvik_defs.specs.declared.program.NamedProgram.{NamedProgram}
 use Rattle.dalvik_defs.specs.declared.tables.Framework.{Framework}
 use Rattle.dalvik_defs.proofs.Calm.{text_sound}
 use Rattle.pass_defs.specs.Loose.{staticised, classes_under, has_virtual}
-use Rattle.removal_law.specs.Left.{In, here, there, NamesNone}
+use Rattle.removal_law.specs.Left.{In, NamesNone}
 use Rattle.removal_law.specs.Reach.{IsRegular, TellsApart, TellsProtos, AgreesInside}
 use Rattle.removal_law.proofs.Lists.{clash, and_left, and_behind, any_same, found_in as found_passes}
-use Rattle.removal_law.proofs.Declared.{method_sound, found_it, not_false, and_none}
+use Rattle.removal_law.proofs.Declared.{found_it}
 use Rattle.removal_law.proofs.Finds.{into_filter}
 use Rattle.removal_law.proofs.Outward.{any_here, any_where}
 use Rattle.removal_law.proofs.Trees.{class_name, class_in, defined}

@@ -1,6 +1,6 @@
 -- The receivers of calls that resolve to a loose method, in the states that runs of a typed program reach: where facts know the
 -- register as not null, it holds an object, and where the call is virtual, one of a class of the program under the named one.
-use Rattle.std.proofs.Common.{◌≡◌, ℕ, zero, suc, Bool, true, false, List, [], ◌∷◌, ◌++◌, length, Some, None, ◌⊎◌, inl, inr, refl, sym, ap, ◌∙◌, subst}
+use Rattle.std.proofs.Common.{◌≡◌, ℕ, suc, Bool, true, false, List, [], ◌∷◌, ◌++◌, length, Some, None, ◌⊎◌, inl, inr, refl, sym, ap, ◌∙◌, subst}
 use Rattle.std.specs.Prelude.{◌&&◌, ◌||◌, not, Option, map, flat_map, slice_get, is_some, if◌then◌else◌}
 use Rattle.std.specs.List.{list_any, list_all}
 use Rattle.std.specs.Option.{option_and_then}
@@ -10,15 +10,14 @@ use Rattle.insn_set.specs.declared.ops.InvokeKind.{InvokeKind}
 use Rattle.insn_set.specs.declared.ops.InvokeKind.TheVariants as call
 use Rattle.dalvik_defs.specs.Effect.{register}
 use Rattle.dalvik_defs.specs.Face.{face_of, bodies_of}
-use Rattle.dalvik_defs.specs.Find.{Found, interface_named, chain_of, interfaces_from, resolves_method, finds_at}
+use Rattle.dalvik_defs.specs.Find.{interface_named, chain_of, interfaces_from, finds_at}
 use Rattle.dalvik_defs.specs.Flags.{is_interface}
 use Rattle.dalvik_defs.specs.Happens.{Setting}
 use Rattle.dalvik_defs.specs.Names.{Text, method_eq}
-use Rattle.dalvik_defs.specs.Outcome.{takes_no_receiver, receiver}
+use Rattle.dalvik_defs.specs.Outcome.{receiver}
 use Rattle.dalvik_defs.specs.Outer.{Outer}
 use Rattle.dalvik_defs.specs.Quiet.{quiet_within, calm_opening}
 use Rattle.dalvik_defs.specs.Shown.{Fit}
-use Rattle.dalvik_defs.specs.Stack.{form_at as form_of_frame}
 use Rattle.dalvik_defs.specs.State.{World, Classes, State, On, Ended, Instance, is_null, kind_of, kind_of_thing, thing_at}
 use Rattle.dalvik_defs.specs.Step.{after, setting_of}
 use Rattle.dalvik_defs.specs.Under.{class_named, defines, is_under}

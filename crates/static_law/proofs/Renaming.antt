@@ -1,7 +1,7 @@
 -- The law of renamed methods. The other program answers all as the one does but which methods are found, and its methods
 -- stand under other names. In the states that a run of the one reaches, the other takes the same steps, in frames of these
 -- other names.
-use Rattle.std.proofs.Common.{◌≡◌, ℕ, zero, suc, Bool, true, false, true≢false, List, [], ◌∷◌, Option, Some, None, refl, sym, ap, ◌∙◌, subst}
+use Rattle.std.proofs.Common.{◌≡◌, ℕ, Bool, true, false, true≢false, List, [], ◌∷◌, Option, Some, None, refl, sym, ap, ◌∙◌, subst}
 use Rattle.std.specs.Prelude.{◌&&◌, map, length, nat_eq, slice_get, slice_set}
 use Rattle.lemmas.proofs.Lists.{get_map}
 use Rattle.std.specs.Option.{option_map, option_and_then}

@@ -7,7 +7,7 @@ use Rattle.std.specs.Option.{option_map, option_or}
 use Rattle.lemmas.proofs.Lists.{map_append}
 use Rattle.dalvik_defs.specs.Names.{Text}
 use Rattle.dalvik_defs.specs.Under.{class_named}
-use Rattle.dalvik_defs.specs.Find.{Found, Search, Nothing, Clash, Finds, method_in, chain_of, passing, first_method, search_of, interfaces_from, resolves_method}
+use Rattle.dalvik_defs.specs.Find.{Found, Nothing, Clash, Finds, method_in, chain_of, passing, first_method, search_of, interfaces_from, resolves_method}
 use Rattle.dalvik_defs.specs.declared.names.Signature.{Signature}
 use Rattle.dalvik_defs.specs.declared.names.MethodKey.{MethodKey}
 use Rattle.dalvik_defs.specs.declared.program.NamedMethod.{NamedMethod}

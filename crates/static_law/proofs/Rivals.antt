@@ -17,7 +17,7 @@ use Rattle.dalvik_defs.proofs.Calm.{text_sound}
 use Rattle.pass_defs.specs.Kinds.{is_plain}
 use Rattle.pass_defs.specs.Live.{everything, KeepsAbove}
 use Rattle.pass_defs.specs.Loose.{is_related, is_overriding, is_in_interface, is_alone, classes_under, has_virtual}
-use Rattle.removal_law.specs.Left.{In, here, there}
+use Rattle.removal_law.specs.Left.{In, here}
 use Rattle.removal_law.specs.Reach.{IsRegular, NamesOnce}
 use Rattle.removal_law.proofs.Climbs.{Climbs, climb_under}
 use Rattle.removal_law.proofs.Declared.{not_false}

@@ -1,8 +1,7 @@
 -- Where methods are told apart, they are so in the program in which loose ones are static: new names are no old ones, and texts of
 -- protos tell these apart, since types are descriptors.
 use Rattle.std.proofs.Common.{◌≡◌, Bool, true, false, List, [], ◌∷◌, Some, ◌⊎◌, inl, inr, refl, sym, ap, ◌∙◌, subst}
-use Rattle.std.specs.Prelude.{map, is_ok}
-use Rattle.std.specs.Option.{option_map}
+use Rattle.std.specs.Prelude.{is_ok}
 use Rattle.lemmas.proofs.Options.{before_map}
 use Rattle.dex_base.specs.Descriptor.{descriptor_of}
 use Rattle.dalvik_defs.specs.Names.{Text, same_name}
@@ -23,7 +22,7 @@ use Rattle.removal_law.proofs.Protos.{told_apart}
 use Rattle.removal_law.proofs.Trees.{class_name, defined}
 use Rattle.static_law.specs.Static.{IsSound, NamesDescribed, made_static}
 use Rattle.static_law.proofs.Bodies.{each_in}
-use Rattle.static_law.proofs.Declared.{FromMap, from_map}
+use Rattle.static_law.proofs.Declared.{from_map}
 use Rattle.static_law.proofs.Methods.{stays, turns}
 use Rattle.static_law.proofs.Remade.{class_same}
 

@@ -2,18 +2,18 @@
 -- object of its class in its first argument, as receiver or as first parameter; and what fits the class that a plain call names
 -- fits the loose method's class, above it.
 use Rattle.std.proofs.Common.{◌≡◌, ℕ, zero, suc, ◌+◌, ◌-◌, Bool, true, false, true≢false, List, [], ◌∷◌, ◌++◌, length, refl, sym, ap, ◌∙◌, subst, arith}
-use Rattle.std.specs.Prelude.{◌&&◌, ◌||◌, not, nat_eq, Option, Some, None, map, drop, flat_map, replicate, if◌then◌else◌, Contains, slice_index_or}
+use Rattle.std.specs.Prelude.{◌&&◌, ◌||◌, not, nat_eq, Option, Some, None, map, drop, flat_map, replicate, if◌then◌else◌, Contains}
 use Rattle.std.specs.List.{list_any, list_all}
 use Rattle.std.specs.Option.{option_map, option_and_then}
-use Rattle.lemmas.proofs.Bools.{and_both, or_right, or_false_left, or_false_right, untrue, not_false as not_not}
+use Rattle.lemmas.proofs.Bools.{and_both, or_right, or_false_right, untrue, not_false as not_not}
 use Rattle.lemmas.proofs.Lists.{get_map, map_long, all_last}
 use Rattle.lemmas.proofs.Options.{none_some, some_same, before_map}
 use Rattle.insn_set.specs.declared.ops.InvokeKind.{InvokeKind}
 use Rattle.insn_set.specs.declared.ops.InvokeKind.TheVariants as call
-use Rattle.dalvik_defs.specs.Names.{Text, text_eq, method_eq, is_class_type, is_word, is_wide}
+use Rattle.dalvik_defs.specs.Names.{Text, method_eq, is_class_type, is_wide}
 use Rattle.dalvik_defs.specs.Flags.{is_static, is_interface}
 use Rattle.dalvik_defs.specs.Under.{class_named, defines}
-use Rattle.dalvik_defs.specs.Find.{Found, Search, Finds, method_in, defined_method, chain_of, interfaces_from, resolves_method, finds_super}
+use Rattle.dalvik_defs.specs.Find.{Found, Finds, method_in, defined_method, chain_of, interfaces_from, resolves_method, finds_super}
 use Rattle.dalvik_defs.specs.Face.{bodies_of}
 use Rattle.dalvik_defs.specs.Outer.{Outer}
 use Rattle.dalvik_defs.specs.Silence.{key_in}
@@ -32,7 +32,7 @@ use Rattle.pass_defs.specs.Loose.{new_key, names_it, concerns, resolves_to, is_s
 use Rattle.pass_defs.specs.Kinds.{Kind, Undefined, Class, Reference, FreshThis, is_plain, kind_of, fits}
 use Rattle.pass_defs.specs.Registers.{Kinds, kind_at, state_below}
 use Rattle.pass_defs.specs.Demands.{Demand, Fits, Constructed, meets, passed, passed_wide, found_class, receiver_demands, call_demands, is_constructor_name, is_allowed}
-use Rattle.pass_defs.specs.Typed.{is_constructor, receiver_kind, halves, parameter_kinds, argument_kinds, begun, is_static_call, called, after, differ, wrong_method, finds_static, wrong_super, words_of, passed_words, is_wrong, catches_in, edges, Table, state_at, each, at_state, arrives, IsTyping, IsTyped}
+use Rattle.pass_defs.specs.Typed.{is_constructor, receiver_kind, halves, parameter_kinds, argument_kinds, begun, is_static_call, after, differ, wrong_method, finds_static, wrong_super, words_of, passed_words, is_wrong, catches_in, edges, Table, state_at, each, at_state, arrives, IsTyping, IsTyped}
 use Rattle.removal_law.specs.Left.{In, here, there}
 use Rattle.removal_law.specs.Reach.{TellsApart, NamesOnce}
 use Rattle.removal_law.proofs.Lists.{clash, and_left, and_behind, in_front}

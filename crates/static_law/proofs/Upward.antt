@@ -1,21 +1,20 @@
 -- What fits a class fits the plain classes above it: between them stand plain classes alone, so the upper one stands in the line of
 -- the lower one, and the order of kinds is transitive.
-use Rattle.std.proofs.Common.{◌≡◌, ℕ, zero, suc, ◌+◌, ◌≤◌, Bool, true, false, true≢false, List, [], ◌∷◌, length, refl, sym, ap, ◌∙◌, subst, arith}
+use Rattle.std.proofs.Common.{◌≡◌, ℕ, zero, suc, ◌≤◌, Bool, true, false, List, [], ◌∷◌, length, refl, sym, ap, ◌∙◌, subst, arith}
 use Rattle.std.specs.Prelude.{◌&&◌, ◌||◌, not, cond, Option, Some, None, find, if◌then◌else◌}
 use Rattle.std.specs.List.{list_any}
 use Rattle.std.specs.Option.{option_map}
 use Rattle.lemmas.proofs.Bools.{untrue}
 use Rattle.lemmas.proofs.Options.{none_some}
-use Rattle.dalvik_defs.specs.Names.{Text, text_eq, is_class_type, is_word, is_array}
+use Rattle.dalvik_defs.specs.Names.{Text, text_eq, is_class_type}
 use Rattle.dalvik_defs.specs.Flags.{is_interface}
 use Rattle.dalvik_defs.specs.Quiet.{EndsWithin}
-use Rattle.dalvik_defs.specs.Under.{class_named, defines}
+use Rattle.dalvik_defs.specs.Under.{class_named}
 use Rattle.dalvik_defs.specs.Find.{chain_from}
 use Rattle.dalvik_defs.specs.declared.program.NamedClass.{NamedClass}
 use Rattle.dalvik_defs.specs.declared.program.NamedProgram.{NamedProgram}
 use Rattle.dalvik_defs.proofs.Calm.{text_sound}
-use Rattle.pass_defs.specs.Loose.{is_subclass}
-use Rattle.pass_defs.specs.Kinds.{Kind, Class, kind_eq, is_number, is_initialised, is_plain, line_from, line_of, nearest, class_or_reference, is_below, fits_array, fits}
+use Rattle.pass_defs.specs.Kinds.{Kind, Class, kind_eq, is_initialised, is_plain, line_from, line_of, nearest, class_or_reference, is_below, fits}
 use Rattle.kind_law.specs.Rooted.{IsRooted}
 use Rattle.kind_law.proofs.Lines.{near_trans}
 use Rattle.kind_law.proofs.Transitive.{transitive}

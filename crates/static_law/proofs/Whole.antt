@@ -1,18 +1,17 @@
 -- The loose methods of a typed, regular program, made static: it shows the same where what facts know of receivers holds, and stays
 -- typed.
-use Rattle.std.proofs.Common.{◌≡◌, ℕ, Bool, true, false, List, ◌∷◌, length, Some, None, sym, ap, ◌∙◌}
+use Rattle.std.proofs.Common.{◌≡◌, ℕ, Bool, false, List, length, Some, None, sym, ap, ◌∙◌}
 use Rattle.std.specs.Prelude.{not}
 use Rattle.program_model.specs.declared.program.Program.{Program}
 use Rattle.lemmas.proofs.Options.{some_same}
 use Rattle.dalvik_defs.specs.Find.{defined_method, is_virtual_method}
 use Rattle.dalvik_defs.specs.Flags.{is_interface}
-use Rattle.dalvik_defs.specs.Names.{Text, object_type}
+use Rattle.dalvik_defs.specs.Names.{object_type}
 use Rattle.dalvik_defs.specs.Outer.{Outer}
 use Rattle.dalvik_defs.specs.Shown.{Fit, SameShown}
 use Rattle.dalvik_defs.specs.Silence.{key_in}
 use Rattle.dalvik_defs.specs.Under.{class_named}
 use Rattle.dalvik_defs.specs.declared.names.MethodKey.{MethodKey}
-use Rattle.dalvik_defs.specs.declared.program.NamedClass.{NamedClass}
 use Rattle.dalvik_defs.specs.declared.program.NamedMethod.{NamedMethod}
 use Rattle.dalvik_defs.specs.declared.program.NamedProgram.{NamedProgram}
 use Rattle.dalvik_defs.specs.declared.script.Move.{Move}

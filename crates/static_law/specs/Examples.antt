@@ -1,5 +1,5 @@
 -- A program in which the framework enters a method that only its class seems to reach.
-use Rattle.std.specs.Prelude.{ℕ, [], ◌∷◌, codes, if◌then◌else◌}
+use Rattle.std.specs.Prelude.{[], ◌∷◌, codes, if◌then◌else◌}
 use Rattle.program_model.specs.declared.program.Version.TheVariants.{V035}
 use Rattle.dalvik_defs.specs.Names.{Text, void, method_eq, same_name}
 use Rattle.dalvik_defs.specs.Find.{Found, found_in}

@@ -2,14 +2,16 @@
 
 ghost use Rattle.std.specs.Prelude.{◌≡◌, true, false};
 ghost use Rattle.insn_set.specs.declared.ops.InvokeKind.TheVariants as call;
-ghost use Rattle.dalvik_defs.specs.Examples.{a_type, b_type};
+ghost use Rattle.dalvik_defs.specs.Examples.{a_type, b_type, keeps_m};
 ghost use Rattle.dalvik_defs.specs.Face.{face_of, finds_virtually};
 ghost use Rattle.dalvik_defs.specs.Legal.{is_found, may_reach};
-ghost use Rattle.dalvik_defs.specs.Names.{method_eq};
+ghost use Rattle.dalvik_defs.specs.Names.{method_eq, void};
 ghost use Rattle.pass_defs.specs.Loose.{concerns, is_alone, is_plain_call};
+ghost use Rattle.pass_defs.specs.LooseExamples.{is_q, loose_program, needs_no_receiver};
+ghost use Rattle.pass_defs.specs.Numbered.{tables_of};
 ghost use Rattle.pass_defs.specs.PassExamples.{hides_q, nothing_key};
 ghost use Rattle.static_law.specs.Examples.{lists_plain, d_type, keeps_q, no_rows, found_q};
-ghost use Rattle.static_law.specs.Static.{edit_by, has_rival};
+ghost use Rattle.static_law.specs.Static.{MayAllBeStatic, edit_by, has_rival};
 
 /// A virtual call of B's private q finds the public q of A, above B, on an object of B. It doesn't resolve to it, and so would
 /// stay where A's q were made static: it isn't plain, and A's q isn't loose, though it is alone.
@@ -29,4 +31,9 @@ pub fn a_listed_class_may_be_a_rival()
     ensures kept { keeps_q.methods (nothing_key d_type) ≡ true }
     ensures free { keeps_q.methods (nothing_key a_type) ≡ false }
     ensures rival { has_rival lists_plain (nothing_key a_type) ≡ true }
+{}
+
+/// The loose method of a program may be static.
+pub fn a_loose_method_may_be_static()
+    ensures { MayAllBeStatic loose_program (keeps_m void) (tables_of needs_no_receiver).methods is_q }
 {}

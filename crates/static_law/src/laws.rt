@@ -42,26 +42,28 @@ pub fn static_law()
 
 /// Loose methods may be static, where those that are virtual have no rivals.
 pub fn loose_law()
-    ensures { (base : Program) (p : NamedProgram) (o : Outer) (optimise : Bool) (fits : Program → Bool) (admitted : MethodKey → Bool) (not_null : MethodKey → ℕ → ℕ → Bool) (loose : MethodKey → Bool)
+    ensures { (base : Program) (p : NamedProgram) (o : Outer) (optimise : Bool) (fits : Program → Bool)
+        (admitted : MethodKey → Bool) (not_null : MethodKey → ℕ → ℕ → Bool) (loose : MethodKey → Bool)
         → AreLoose base p o optimise (λ x. fits x ≡ true) admitted (λ k n r. not_null k n r ≡ true) loose → Unrivalled p loose → MayAllBeStatic p o (tables_of base).methods loose }
 {}
 
 /// Loose methods have no rivals in a program of which interface lists name no plain class.
 pub fn unrivalled_law()
-    ensures { (base : Program) (p : NamedProgram) (o : Outer) (optimise : Bool) (fits : Program → Bool) (admitted : MethodKey → Bool) (not_null : MethodKey → ℕ → ℕ → Bool) (loose : MethodKey → Bool)
+    ensures { (base : Program) (p : NamedProgram) (o : Outer) (optimise : Bool) (fits : Program → Bool)
+        (admitted : MethodKey → Bool) (not_null : MethodKey → ℕ → ℕ → Bool) (loose : MethodKey → Bool)
         → AreLoose base p o optimise (λ x. fits x ≡ true) admitted (λ k n r. not_null k n r ≡ true) loose → regular.IsRegular p → IsAcyclic p → ListsInterfaces p → Unrivalled p loose }
 {}
 
 /// A typed, regular program shows the same in which its loose methods are static, where no virtual one has a rival, if the registers
 /// that facts know as not null hold no null in the states that runs reach; and it stays typed.
 pub fn loose_static_law()
-    ensures shown { (base : Program) (p : NamedProgram) (o : Outer) (optimise : Bool) (fits : Program → Bool) (admitted : MethodKey → Bool) (not_null : MethodKey → ℕ → ℕ
-        → Bool) (loose : MethodKey → Bool)
+    ensures shown { (base : Program) (p : NamedProgram) (o : Outer) (optimise : Bool) (fits : Program → Bool)
+        (admitted : MethodKey → Bool) (not_null : MethodKey → ℕ → ℕ → Bool) (loose : MethodKey → Bool)
         → AreLoose base p o optimise (λ x. fits x ≡ true) admitted (λ k n r. not_null k n r ≡ true) loose → Unrivalled p loose → AreInTables p o (tables_of base).methods
         → regular.IsRegular p → IsAcyclic p → IsDescribed p → NamesDescribed p → AgreesInside o
         → ((f : Framework) (a : Floats) (script : List Move) → Fit p o f script → HoldNoNull p o (λ k n r. not_null k n r ≡ true) f a script) → SameShown p (staticised p loose) o }
-    ensures typed { (base : Program) (p : NamedProgram) (o : Outer) (optimise : Bool) (fits : Program → Bool) (admitted : MethodKey → Bool) (not_null : MethodKey → ℕ → ℕ
-        → Bool) (loose : MethodKey → Bool)
+    ensures typed { (base : Program) (p : NamedProgram) (o : Outer) (optimise : Bool) (fits : Program → Bool)
+        (admitted : MethodKey → Bool) (not_null : MethodKey → ℕ → ℕ → Bool) (loose : MethodKey → Bool)
         → AreLoose base p o optimise (λ x. fits x ≡ true) admitted (λ k n r. not_null k n r ≡ true) loose → Unrivalled p loose → AreInTables p o (tables_of base).methods
         → regular.IsRegular p → IsAcyclic p → IsDescribed p → class_named p object_type ≡ None → IsTyped (staticised p loose) }
 {}

@@ -1,0 +1,5 @@
+pub mod Renames
+pub mod Remade
+pub mod Static
+pub mod Receiving
+pub mod Examples

@@ -16,6 +16,11 @@ module _ (o : Outside) (admitted : List Bool) (p : Program) where
   pub analysed : (facts : Option Facts) → IfSome facts (λ f. is_well_formed p ≡ true) → (is_well_formed p ≡ true → IfSome facts (AreKnown o p)) → IsAnalysis o admitted p facts
   analysed facts tested known = record { formed = tested; says = λ formed. found facts (known formed) }
 
+  -- the program was tested before facts were asked for
+  pub tested : (facts : Option Facts) → is_well_formed p ≡ true → IfSome facts (λ f. is_well_formed p ≡ true)
+  tested (Some f) e = e
+  tested None e = tt
+
   -- none were asked for, for this reason
   pub none : (is_well_formed p ≡ true → KeepsForms o admitted p) → IsAnalysis o admitted p None
   none why = record { formed = tt; says = why }

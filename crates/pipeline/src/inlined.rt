@@ -71,6 +71,27 @@ fn inline_by(
     }
 }
 
+/// The same by a class graph, unless it has a fault.
+fn inline_graphed(
+    alloc: Global,
+    program: Program,
+    graph: &Option<Hierarchy>,
+    facts: &Option<Facts>,
+    outside: &Outside,
+    admitted: &Admitted,
+    panel: &mut Panel,
+) -> Result<Traced, AllocError>
+    requires { 0 ≤ vec_len panel.old.advisers }
+    ensures { IsGraph program graph.now → IsAnalysis outside.now admitted.now.methods.items program facts.now
+        → is_well_formed program ≡ true
+        → IfOk result (IsInlining outside.now admitted.now.methods.items (length panel.old.advisers.items) panel.old.answers.items panel.new.answers.items program) }
+{
+    match graph {
+        Some(hierarchy) => inline_by(alloc, program, hierarchy, facts, outside, admitted, panel),
+        None => Ok(unmoved(alloc, program)),
+    }
+}
+
 /// Inlines calls of admitted methods that the panel accepts, where facts are known of the program. The only error is want of
 /// memory; the panel was then asked about the first of these calls.
 pub fn inline_sites(
@@ -86,8 +107,6 @@ pub fn inline_sites(
 {
     let graph = hierarchy_of(alloc, &program)?;
     let facts = facts_of(alloc, &program, &graph, outside, admitted)?;
-    match &graph {
-        Some(hierarchy) => inline_by(alloc, program, hierarchy, &facts, outside, admitted, panel),
-        None => Ok(unmoved(alloc, program)),
-    }
+    let inlined = inline_graphed(alloc, program, &graph, &facts, outside, admitted, panel)?;
+    Ok(inlined)
 }

@@ -117,7 +117,8 @@ fn known_facts(
     ensures known { MakersAreOwn program.now outside.now → ListsPlainly program.now → is_well_formed program.now ≡ true → IsResolved program.now hierarchy.now
         → IfOk result (λ facts. IfSome facts (AreKnown outside.now program.now)) }
 {
-    if !well_formed(program) {
+    let formed = well_formed(program);
+    if !formed {
         return Ok(None);
     }
     if !numbers_have_bits(program) {

@@ -5,7 +5,6 @@ pub mod Each
 pub mod Few
 pub mod Formed
 pub mod Graphs
-pub mod Inlines
 pub mod Passing
 pub mod RoundLemmas
 pub mod Silencing

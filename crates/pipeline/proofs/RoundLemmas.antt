@@ -23,8 +23,6 @@ use Rattle.pipeline.specs.Graph.{HasGraph, HasGraphFault}
 use Rattle.pipeline.specs.Silence.{IsSilent, is_quiet, silenced_body, silenced_method, silenced_class, silenced}
 use Rattle.pipeline.specs.Passes.{passes, AreStill, HavePassed}
 use Rattle.pipeline.specs.Rounds.{Rounds, Ended, Next, Rounding, HaveRun, HaveRunFrom, IsOptimised}
-use Rattle.pipeline.specs.Inlining.{IsInlining}
-use Rattle.pipeline.specs.Inlined.{IsOptimisedInlined}
 use Rattle.pipeline.specs.declared.rounds.Outcome.{Outcome}
 use Rattle.pipeline.specs.declared.traces.Changes.{Changes}
 use Rattle.pipeline.specs.declared.traces.Passed.{Passed}
@@ -225,29 +223,3 @@ optimised_so o p t r advisers before after {spared} {rounds} program origins cou
     (subst (λ n. IsOptimised o p advisers before after n r.program r.origins rounds) (sym out)
     (subst (λ q. IsOptimised o p advisers before after spared q r.origins rounds) (sym program)
     (subst (λ os. IsOptimised o p advisers before after spared t.program os rounds) (sym origins) h)))
-
-pub inlined_so : (o : Outside) (p : Program) (t : Traced) (r : Outcome) (advisers : ℕ) (before after : List Bool) {spared rounds : ℕ} → r.program ≡ t.program → r.origins ≡ t.origins → r.rounds ≡ rounds → r.spared ≡ spared
-    → IsOptimisedInlined o p advisers before after spared t.program t.origins rounds → IsOptimisedInlined o p advisers before after r.spared r.program r.origins r.rounds
-inlined_so o p t r advisers before after {spared} {rounds} program origins count out h =
-    subst (λ n. IsOptimisedInlined o p advisers before after r.spared r.program r.origins n) (sym count)
-    (subst (λ n. IsOptimisedInlined o p advisers before after n r.program r.origins rounds) (sym out)
-    (subst (λ q. IsOptimisedInlined o p advisers before after spared q r.origins rounds) (sym program)
-    (subst (λ os. IsOptimisedInlined o p advisers before after spared t.program os rounds) (sym origins) h)))
-
-pub inlined : (o : Outside) (p q : Program) (first t : Traced) (advisers now : ℕ) (before middle after : List Bool) (v : Verdict) (n : ℕ) → is_well_formed p ≡ true → now ≡ advisers
-    → (is_well_formed p ≡ true → IsAdvised o p advisers before middle v)
-    → (is_well_formed p ≡ true → IsSilent o.silent v.admitted p q) → (is_well_formed p ≡ true → is_well_formed q ≡ true)
-    → (is_well_formed q ≡ true → IsInlining o v.admitted now middle after q first)
-    → HaveRunFrom o v.admitted first t n → IsOptimisedInlined o p advisers before after v.spared t.program t.origins n
-inlined o p q first t advisers now before middle after v n formed many advised silent still inlining ran = record {
-  admitted = v.admitted;
-  middle = middle;
-  advised = advised formed;
-  silenced = q;
-  silent = silent formed;
-  unsilenced = λ e. unsilenced o.silent v.admitted p q (length p.methods) (silent formed) (none_admitted o p advisers before middle v (advised formed) e);
-  formed = still formed;
-  inlined = first;
-  inlining = subst (λ k. IsInlining o v.admitted k middle after q first) many (inlining (still formed));
-  ran = ran;
-}

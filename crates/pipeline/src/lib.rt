@@ -5,7 +5,6 @@
 mod asks;
 mod counts;
 mod graph;
-mod inlined;
 mod passes;
 mod rounds;
 mod silent;
@@ -13,6 +12,6 @@ mod texts;
 mod traces;
 
 pub use counts::{count_instructions, count_members};
-pub use rounds::{Outcome, optimise, optimise_inlined};
+pub use rounds::{Outcome, optimise};
 pub use silent::silence;
 pub use texts::proto_text;

@@ -11,13 +11,11 @@ ghost use Rattle.pipeline.specs.Changes.{bulk_of, total_of};
 ghost use Rattle.pipeline.specs.Counts.{members_of, insns_of};
 ghost use Rattle.pipeline.specs.Graph.{IsGraph};
 ghost use Rattle.pipeline.specs.Passes.{ConstProp, Devirt, passes, HavePassed};
-ghost use Rattle.pipeline.specs.Inlined.{IsOptimisedInlined};
-ghost use Rattle.pipeline.specs.Rounds.{HaveRunFrom, IsOptimised, Rounding};
+ghost use Rattle.pipeline.specs.Rounds.{HaveRunFrom, IsOptimised, Rounding, first_of};
 
 use crate::asks::{Advice, ask_all, no_advice};
 use crate::counts::{count_instructions, count_members};
 use crate::graph::hierarchy_of;
-use crate::inlined::{inline_sites, unmoved};
 use crate::passes::{
     clean_bodies, compact_bodies, facts_after, facts_of, fold_constants, propagate_copies,
     rebind_calls, remove_unreached, squeeze_bodies,
@@ -231,6 +229,16 @@ fn all_rounds(
     Ok((left.traced, rounds))
 }
 
+/// A program no position of which has moved.
+fn unmoved(alloc: Global, program: Program) -> Traced
+    ensures { result ≡ first_of program }
+{
+    Traced {
+        program,
+        origins: Seq::new(alloc),
+    }
+}
+
 /// What rounds left of a program that had so many members and instructions.
 fn outcome_of(left: Traced, rounds: u32, members: u64, instructions: u64, spared: u32) -> Outcome
     ensures program { result.program ≡ left.program }
@@ -276,30 +284,6 @@ pub fn optimise(
     let advice = advice_on(alloc, &program, outside, panel)?;
     let program = silence(alloc, program, outside, &advice.admitted)?;
     let first = unmoved(alloc, program);
-    let (left, rounds) = all_rounds(alloc, first, outside, &advice.admitted)?;
-    Ok(outcome_of(left, rounds, members, instructions, advice.spared))
-}
-
-/// The same with calls inlined once before the rounds: behind the asks about methods the panel is asked about each call of an
-/// admitted method that may be inlined, in class and method order and by position, and those are inlined of which every
-/// adviser says yes. The only error is want of memory; the panel was then asked the first of these asks.
-pub fn optimise_inlined(
-    alloc: Global,
-    program: Program,
-    outside: &Outside,
-    panel: &mut Panel,
-) -> Result<Outcome, AllocError>
-    requires { 0 ≤ vec_len panel.old.advisers }
-    ensures optimised { is_well_formed program ≡ true → IfOk result (λ outcome. IsOptimisedInlined outside.now program (length panel.old.advisers.items) panel.old.answers.items panel.new.answers.items outcome.spared outcome.program outcome.origins outcome.rounds) }
-    ensures rounds { IfOk result (λ outcome. 1 ≤ outcome.rounds) }
-    ensures members { IfOk result (λ outcome. outcome.removed_members ≡ capped (members_of program) - capped (members_of outcome.program)) }
-    ensures instructions { IfOk result (λ outcome. outcome.removed_instructions ≡ capped (insns_of program) - capped (insns_of outcome.program)) }
-{
-    let members = count_members(&program);
-    let instructions = count_instructions(&program);
-    let advice = advice_on(alloc, &program, outside, panel)?;
-    let program = silence(alloc, program, outside, &advice.admitted)?;
-    let first = inline_sites(alloc, program, outside, &advice.admitted, panel)?;
     let (left, rounds) = all_rounds(alloc, first, outside, &advice.admitted)?;
     Ok(outcome_of(left, rounds, members, instructions, advice.spared))
 }

@@ -1,9 +1,0 @@
-mod Accepting
-mod Arguments
-mod Asks
-mod Candidates
-mod Crowding
-mod Edits
-mod Looking
-mod Receivers
-mod Rooms

@@ -1,6 +1,6 @@
 -- A call that names another method by number does so by name, for the reasons that it has by number.
-use Rattle.std.proofs.Common.{◌≡◌, ◌⊎◌, inl, inr, ℕ, zero, suc, ◌<◌, Bool, true, false, true≢false, List, [], ◌∷◌, ◌++◌, length, map, Option, Some, None, nat_eq, refl, sym, ap, ap₂, ◌∙◌, subst, arith}
-use Rattle.std.specs.Prelude.{◌&&◌, ◌||◌, not, cond, flat_map, is_some, slice_get, slice_index_or, option_and_then, if◌then◌else◌, Contains, codes}
+use Rattle.std.proofs.Common.{◌≡◌, ◌⊎◌, inl, inr, ℕ, zero, suc, ◌<◌, Bool, true, false, true≢false, List, [], ◌∷◌, ◌++◌, length, Option, Some, None, nat_eq, refl, sym, ap, ap₂, ◌∙◌, subst, arith}
+use Rattle.std.specs.Prelude.{◌&&◌, not, cond, flat_map, is_some, slice_get, option_and_then, if◌then◌else◌, Contains, codes}
 use Rattle.std.specs.List.{list_any}
 use Rattle.std.specs.Option.{option_map, option_or}
 use Rattle.std.proofs.lemmas.Bool.{eq-eqb}
@@ -15,32 +15,26 @@ use Rattle.program_model.specs.declared.program.Method.{Method}
 use Rattle.program_model.specs.declared.program.MethodAt.{MethodAt}
 use Rattle.program_model.specs.declared.program.Program.{Program}
 use Rattle.program_model.specs.Lookups as look
-use Rattle.program_model.specs.MemberRules.{has_flag, is_direct}
 use Rattle.program_model.specs.ProgramRules.{is_well_formed}
 use Rattle.class_defs.specs.ClassGraph.{IsAncestor, IsTwice}
 use Rattle.class_defs.specs.Finding.{by_entry, first_among, interfaces_from, resolution_of, resolves_method}
-use Rattle.class_defs.specs.Members.{is_interface, is_virtual, own_method, own_virtual, virtual_only}
+use Rattle.class_defs.specs.Members.{is_interface, is_virtual, own_method, virtual_only}
 use Rattle.class_defs.specs.Places.{above_places, is_under, walks, chain_from, chain_of, interface_places, super_place}
 use Rattle.class_defs.proofs.WellFormed.{Sound, sound}
 use Rattle.dalvik_defs.proofs.Calm.{text_sound}
-use Rattle.dalvik_defs.specs.Find as name
 use Rattle.dalvik_defs.specs.Find.{Found, found_in, is_virtual_method}
 use Rattle.dalvik_defs.specs.Flags as flags
 use Rattle.dalvik_defs.specs.Names.{Text, is_class_type, is_word, is_array}
 use Rattle.dalvik_defs.specs.Naming.{type_at, form_of, named, named_class, named_method}
 use Rattle.dalvik_defs.specs.Naming as naming
 use Rattle.dalvik_defs.specs.Silence.{key_in}
-use Rattle.dalvik_defs.specs.Under.{class_named, is_own_under}
+use Rattle.dalvik_defs.specs.Under.{is_own_under}
 use Rattle.dalvik_defs.specs.declared.forms.Form.{Form}
-use Rattle.dalvik_defs.specs.declared.forms.Form.TheVariants as form
 use Rattle.dalvik_defs.specs.declared.names.MethodKey.{MethodKey}
 use Rattle.dalvik_defs.specs.declared.program.NamedClass.{NamedClass}
-use Rattle.dalvik_defs.specs.declared.program.NamedMethod.{NamedMethod}
-use Rattle.dalvik_defs.specs.declared.program.NamedProgram.{NamedProgram}
 use Rattle.domains.specs.ClassSets.{set_holds}
 use Rattle.domains.specs.Datum.{Object}
 use Rattle.domains.specs.Values.{Parts, value_holds}
-use Rattle.dom_frame.specs.Registers.{value_at}
 use Rattle.dom_frame.specs.declared.frames.Frame.{Frame}
 use Rattle.facts.specs.Lent.{frame_at}
 use Rattle.facts.specs.declared.facts.Facts.{Facts}
@@ -51,7 +45,7 @@ use Rattle.lemmas.proofs.Lists.{contains_here, get_map, get_there, got_short}
 use Rattle.lemmas.proofs.Options.{before_map, none_some, some_same}
 use Rattle.name_bridge.specs.Named.{found_at}
 use Rattle.name_bridge.proofs.Above.{Defined, defined}
-use Rattle.name_bridge.proofs.Flags.{interface_flag, static_flag}
+use Rattle.name_bridge.proofs.Flags.{interface_flag}
 use Rattle.name_bridge.proofs.Found.{IsThere, found_there_is, looked_up, virtual_test}
 use Rattle.name_bridge.proofs.Resolved.{resolves_by_number}
 use Rattle.name_bridge.proofs.Tables.{method_is}
@@ -69,7 +63,6 @@ use Rattle.type_bridge.proofs.Frames.{at_named}
 use Rattle.type_bridge.proofs.Judged.{state_is}
 use Rattle.type_bridge.proofs.Order.{class_below, null_below, zero_below, made_named}
 use Rattle.type_bridge.proofs.Told.{Told, told}
-use Rattle.verify.specs.Building.{class_above}
 use Rattle.verify.specs.Flow.{place_at}
 use Rattle.verify.specs.Frames as frames
 use Rattle.verify.specs.Kinds as number
@@ -81,11 +74,11 @@ use Rattle.verify.specs.declared.kinds.Kind.TheVariants as kind
 use Rattle.verify.specs.declared.tables.Tables.{Tables}
 use Rattle.rebind_law.specs.Receivers.{Renames, FindsListed, BoundByPlaces}
 use Rattle.rebind_law.specs.Retyping.{Retypes}
-use Rattle.receiver_law.specs.Reasons.{BoundByKind, Reason, ByFacts, ByKind, Rebound}
+use Rattle.receiver_law.specs.Reasons.{BoundByKind, ByFacts, ByKind, Rebound}
 use Rattle.receivers.specs.Receiving.{interface_at}
-use Rattle.devirt.specs.Binding.{kind_for, in_line, is_in_class, receives}
+use Rattle.devirt.specs.Binding.{kind_for, is_in_class, receives}
 use Rattle.devirt.specs.Measure.{is_virtual_call}
-use Rattle.devirt.specs.Rebound.{FindsBoth, FindsByFacts, FindsByKind, IsBound, IsRebindingOf}
+use Rattle.devirt.specs.Rebound.{FindsBoth, FindsByFacts, FindsByKind, IsRebindingOf}
 use Rattle.rebind_bridge.specs.Rebound.{StandsAt, FramesAreNamed}
 use Rattle.rebind_bridge.proofs.Finding.{class_text, own_class, under_named, found_listed, found_type}
 

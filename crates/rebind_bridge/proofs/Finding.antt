@@ -1,14 +1,13 @@
 -- What the receivers of a call find by number they find by name, by the program's own lists.
-use Rattle.std.proofs.Common.{◌≡◌, ◌⊎◌, inl, inr, ℕ, zero, suc, ◌+◌, ◌<◌, Bool, true, false, true≢false, List, [], ◌∷◌, length, map, Option, Some, None, nat_eq, refl, sym, ap, ap₂, ◌∙◌, subst}
-use Rattle.std.specs.Prelude.{◌&&◌, ◌||◌, not, cond, slice_get, option_and_then}
+use Rattle.std.proofs.Common.{◌≡◌, ◌⊎◌, inl, inr, ℕ, zero, suc, ◌<◌, Bool, true, false, true≢false, List, [], ◌∷◌, length, map, Option, Some, None, nat_eq, refl, sym, ap, ◌∙◌, subst}
+use Rattle.std.specs.Prelude.{◌&&◌, not, cond, slice_get}
 use Rattle.std.specs.List.{list_any, list_all, range_with_len}
 use Rattle.std.proofs.lemmas.Bool.{eqb-true}
 use Rattle.program_model.specs.declared.pools.MethodName.{MethodName}
 use Rattle.program_model.specs.declared.program.Class.{Class}
-use Rattle.program_model.specs.declared.program.Method.{Method}
 use Rattle.program_model.specs.declared.program.MethodAt.{MethodAt}
 use Rattle.program_model.specs.declared.program.Program.{Program}
-use Rattle.program_model.specs.Lookups.{class_place, method_at}
+use Rattle.program_model.specs.Lookups.{class_place}
 use Rattle.program_model.specs.MemberRules.{class_fits, types_of_class_fit, is_object, source_fits, fields_fit, methods_fit}
 use Rattle.program_model.specs.MemberRules as rules
 use Rattle.program_model.specs.ProgramRules.{is_well_formed}
@@ -31,21 +30,20 @@ use Rattle.lemmas.proofs.Bools.{and_left, and_right, or_cases}
 use Rattle.lemmas.proofs.Lists.{all_at}
 use Rattle.lemmas.proofs.Options.{none_some, some_same}
 use Rattle.name_bridge.specs.Named.{found_at, search_at, finds}
-use Rattle.name_bridge.proofs.Above.{Defined, defined, own_place, under_by_number}
+use Rattle.name_bridge.proofs.Above.{defined, own_place, under_by_number}
 use Rattle.name_bridge.proofs.Candidates.{finds_at_by_number}
-use Rattle.name_bridge.proofs.Classes.{class_by_number}
 use Rattle.name_bridge.proofs.Found.{type_same}
-use Rattle.name_bridge.proofs.Tables.{method_class, method_name, method_proto, method_is}
+use Rattle.name_bridge.proofs.Tables.{method_name, method_proto, method_is}
 use Rattle.pass_defs.specs.Live.{KeepsAbove, everything}
 use Rattle.removal_law.specs.Reach as reach
-use Rattle.removal_law.proofs.Climbs.{Climbs, climb_under}
+use Rattle.removal_law.proofs.Climbs.{climb_under}
 use Rattle.removal_law.proofs.Lists.{In, here, there, in_map}
 use Rattle.removal_law.proofs.Outward.{any_here, any_where}
 use Rattle.removal_law.proofs.Walks.{text_same}
 use Rattle.stuck_bridge.proofs.Members.{class_known}
 use Rattle.removal_bridge.proofs.Formed as upright
 use Rattle.rebind_law.specs.Receivers.{finds_listed}
-use Rattle.receivers.specs.Receiving.{lists, lists_above, under_place, stands_under, only, found_by}
+use Rattle.receivers.specs.Receiving.{lists, under_place, stands_under, only, found_by}
 
 -- ---- walks that go on by one step
 

@@ -1,6 +1,6 @@
 -- A program in which calls name another method by number is so by name, and so it shows the same and is typed.
-use Rattle.std.proofs.Common.{◌≡◌, ◌⊎◌, inl, inr, ℕ, zero, suc, ◌<◌, Bool, true, List, [], ◌∷◌, length, map, Option, Some, None, refl, sym, ap, ◌∙◌, subst, arith}
-use Rattle.std.specs.Prelude.{slice_get, slice_index_or, Contains}
+use Rattle.std.proofs.Common.{◌≡◌, ◌⊎◌, inl, inr, ℕ, zero, suc, true, List, [], ◌∷◌, map, Option, Some, None, refl, sym, ap, ◌∙◌, subst}
+use Rattle.std.specs.Prelude.{slice_get, Contains}
 use Rattle.std.specs.Option.{option_map, option_and_then}
 use Rattle.insn_set.specs.declared.form.Insn.{Insn}
 use Rattle.program_model.specs.declared.body.Body.{Body}
@@ -10,15 +10,13 @@ use Rattle.program_model.specs.declared.program.MethodAt.{MethodAt}
 use Rattle.program_model.specs.declared.program.Program.{Program}
 use Rattle.program_model.specs.Lookups as look
 use Rattle.program_model.specs.ProgramRules.{is_well_formed}
-use Rattle.class_defs.specs.ClassGraph.{IsAncestor, IsTwice}
+use Rattle.class_defs.specs.ClassGraph.{IsAncestor}
 use Rattle.dalvik_defs.specs.Naming.{body_of, form_of, region_of, named, named_class, named_method}
 use Rattle.dalvik_defs.specs.Outer.{Outer}
-use Rattle.dalvik_defs.specs.Shown.{Fit, SameShown}
+use Rattle.dalvik_defs.specs.Shown.{SameShown}
 use Rattle.dalvik_defs.specs.Silence.{key_in}
 use Rattle.dalvik_defs.specs.declared.forms.Form.{Form}
 use Rattle.dalvik_defs.specs.declared.names.MethodKey.{MethodKey}
-use Rattle.dalvik_defs.specs.declared.script.Move.{Move}
-use Rattle.dalvik_defs.specs.declared.tables.Floats.{Floats}
 use Rattle.dalvik_defs.specs.declared.tables.Framework.{Framework}
 use Rattle.domains.specs.Values.{Parts}
 use Rattle.dom_frame.specs.declared.frames.Frame.{Frame}
@@ -37,7 +35,7 @@ use Rattle.bodies_law.proofs.Named.{others_named}
 use Rattle.removal_law.specs.Reach.{IsAcyclic}
 use Rattle.removal_bridge.proofs.Formed as upright
 use Rattle.run_facts.specs.ValueAnalysis.{value_analysis}
-use Rattle.cover_law.specs.Coverable.{IsCoverable, IsTabled}
+use Rattle.cover_law.specs.Coverable.{IsTabled}
 use Rattle.stuck_law.specs.Regular.{IsRegular}
 use Rattle.stuck_law.proofs.Here.{into_map}
 use Rattle.stuck_bridge.proofs.Formed as stuck

@@ -40,7 +40,7 @@ module _ (p : Program) (w : is_well_formed p ≡ true) where
   entry_defined m q c e at =
       let d : Defined p q.class c = defined p q.class c at in
       let is : class_named (named p) (type_at p q.class) ≡ Some (named_class p d.class) =
-          class_by_number p (sound p w) q.class (method_class p (sound p w) m q e) ∙ (ap (option_and_then (class_at p)) at ∙ ap (option_map (named_class p)) d.is) in
+      class_by_number p (sound p w) q.class (method_class p (sound p w) m q e) ∙ (ap (option_and_then (class_at p)) at ∙ ap (option_map (named_class p)) d.is) in
       ap (λ (k : MethodKey). defines (named p) k.class) (method_is p (sound p w) m q e) ∙ ap (λ (o : Option NamedClass). elim o as (λ o. Bool) [ Some c ↦ true | None ↦ false ]) is
 
   call_quiet : (kind : InvokeKind) (m : ℕ) (args : List ℕ) → defines (named p) (method_at p m).class ≡ true → IsQuiet p (insn.Invoke kind m args)

@@ -25,6 +25,7 @@ use Rattle.const_prop.specs.declared.choices.Way.{Way}
 use Rattle.const_prop.specs.declared.choices.Way.TheVariants.{Open, Next, To}
 use Rattle.const_prop.specs.Constants.{is_constant}
 use Rattle.const_prop.specs.Choices.{is_choice, has_target, goto_or_nop, chosen}
+use Rattle.const_prop.specs.Known.{way_by}
 use Rattle.const_prop.specs.Allowed.{IsAllowed, Constant, Branch, IsFold}
 use Rattle.const_prop.specs.Folds.{AreFolds, IsFoldedBy}
 use Rattle.shut_bridge.proofs.Rewritten.{IsQuiet, rewritten_keeps}
@@ -57,7 +58,7 @@ module _ (p : Program) where
 
   allowed_quiet : (given : Parts) (frame : Option Frame) (n : ℕ) (f g : Insn) → IsAllowed p given frame n f g → IsQuiet p g
   allowed_quiet given frame n f g (Constant number _ e w c) = constant_quiet g c.constant
-  allowed_quiet given frame n f g (Branch _ e) = branch_quiet f (n + 1) _ g e
+  allowed_quiet given frame n f g (Branch _ e) = branch_quiet f (n + 1) (way_by frame f) g e
 
 module _ (p : Program) (h : Hierarchy) (facts : Facts) where
   folds_quiet : (at : MethodAt) (m : Method) (b : Body) (es : List Edit) → AreFolds p h facts at m b es → (e : Edit) → In e es → IsQuiet p e.insn

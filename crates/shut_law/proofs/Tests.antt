@@ -37,25 +37,21 @@ new_said p t (form.Invoke call.Interface method args) = new_called p t method
 new_said p t (form.Invoke kind method args) = refl
 new_said p t x = refl
 
-none_left : (a c : Bool) → (a && not true && c) ≡ false
-none_left true true = refl
-none_left true false = refl
-none_left false true = refl
-none_left false false = refl
+and_false : (a c : Bool) → (a && not true && c) ≡ false
+and_false true c = refl
+and_false false c = refl
 
-both_left : (a c : Bool) → (a && not false && c) ≡ (a && c)
-both_left true true = refl
-both_left true false = refl
-both_left false true = refl
-both_left false false = refl
+and_true : (a c : Bool) → (a && not false && c) ≡ (a && c)
+and_true true c = refl
+and_true false c = refl
 
 outside_called : (p : NamedProgram) (n : Text) (g : Signature) (k : MethodKey)
     → (same_name k.name k.signature n g && not (defines p k.class) && not (text_eq k.class object_type)) ≡ says_outside n g (called p k)
 outside_called p n g k = by (defines p k.class)
   where
     by : (b : Bool) → (same_name k.name k.signature n g && not b && not (text_eq k.class object_type)) ≡ says_outside n g (if b then Quiet else Calls k)
-    by true = none_left (same_name k.name k.signature n g) (not (text_eq k.class object_type))
-    by false = both_left (same_name k.name k.signature n g) (not (text_eq k.class object_type))
+    by true = and_false (same_name k.name k.signature n g) (not (text_eq k.class object_type))
+    by false = and_true (same_name k.name k.signature n g) (not (text_eq k.class object_type))
 
 pub outside_said : (p : NamedProgram) (n : Text) (g : Signature) (x : Form) → names_outside p n g x ≡ says_outside n g (said p x)
 outside_said p n g (form.NewInstance to kind) = refl

@@ -1,6 +1,6 @@
 -- Code without some of its positions says no more.
 use Rattle.std.proofs.Common.{◌≡◌, ℕ, Bool, true, false, List, [], ◌∷◌, refl, sym, ap, ◌∙◌}
-use Rattle.std.specs.Prelude.{◌||◌, Some}
+use Rattle.std.specs.Prelude.{◌||◌, Option, Some}
 use Rattle.std.specs.List.{list_any}
 use Rattle.insn_set.specs.declared.ops.InvokeKind.TheVariants as call
 use Rattle.dalvik_defs.specs.declared.names.MethodKey.{MethodKey}

@@ -1,5 +1,5 @@
 -- A program whose instructions are folded says no more: what is written is a constant, a goto or a nop.
-use Rattle.std.proofs.Common.{◌≡◌, ℕ, ◌+◌, Bool, true, false, List, Option, Some, refl, subst}
+use Rattle.std.proofs.Common.{◌≡◌, ℕ, ◌+◌, Bool, true, false, List, [], ◌∷◌, Option, Some, refl, sym, ap, ◌∙◌, subst}
 use Rattle.std.specs.Prelude.{All, nat_eq, if◌then◌else◌, None}
 use Rattle.std.proofs.lemmas.List.Elements.{All-head, All-tail}
 use Rattle.lemmas.proofs.Options.{some_same}
@@ -10,7 +10,7 @@ use Rattle.program_model.specs.declared.pass.Changed.{Changed}
 use Rattle.program_model.specs.declared.program.Method.{Method}
 use Rattle.program_model.specs.declared.program.MethodAt.{MethodAt}
 use Rattle.program_model.specs.declared.program.Program.{Program}
-use Rattle.dalvik_defs.specs.Naming.{named}
+use Rattle.dalvik_defs.specs.Naming.{form_of, named}
 use Rattle.dalvik_defs.specs.Outer.{Outer}
 use Rattle.dom_frame.specs.declared.frames.Frame.{Frame}
 use Rattle.domains.specs.Values.{Parts}
@@ -19,12 +19,12 @@ use Rattle.hierarchy.specs.declared.build.Hierarchy.{Hierarchy}
 use Rattle.removal_law.proofs.Lists.{clash}
 use Rattle.removal_law.specs.Left.{In, here, there}
 use Rattle.removal_law.specs.Reach.{ShutsHold}
+use Rattle.shut_law.specs.Said.{Quiet, said}
 use Rattle.rewrite_pass.specs.declared.edit.Edit.{Edit}
 use Rattle.const_prop.specs.declared.choices.Way.{Way}
 use Rattle.const_prop.specs.declared.choices.Way.TheVariants.{Open, Next, To}
 use Rattle.const_prop.specs.Constants.{is_constant}
 use Rattle.const_prop.specs.Choices.{is_choice, has_target, goto_or_nop, chosen}
-use Rattle.const_prop.specs.Known.{way_by}
 use Rattle.const_prop.specs.Allowed.{IsAllowed, Constant, Branch, IsFold}
 use Rattle.const_prop.specs.Folds.{AreFolds, IsFoldedBy}
 use Rattle.shut_bridge.proofs.Rewritten.{IsQuiet, rewritten_keeps}
@@ -57,7 +57,7 @@ module _ (p : Program) where
 
   allowed_quiet : (given : Parts) (frame : Option Frame) (n : ℕ) (f g : Insn) → IsAllowed p given frame n f g → IsQuiet p g
   allowed_quiet given frame n f g (Constant number _ e w c) = constant_quiet g c.constant
-  allowed_quiet given frame n f g (Branch _ e) = branch_quiet f (n + 1) (way_by frame f) g e
+  allowed_quiet given frame n f g (Branch _ e) = branch_quiet f (n + 1) _ g e
 
 module _ (p : Program) (h : Hierarchy) (facts : Facts) where
   folds_quiet : (at : MethodAt) (m : Method) (b : Body) (es : List Edit) → AreFolds p h facts at m b es → (e : Edit) → In e es → IsQuiet p e.insn

@@ -1,7 +1,7 @@
 -- One more of the texts that loops go over.
 use Rattle.std.proofs.Common.{◌≡◌, ℕ, zero, suc, ◌+◌, ◌<◌, arith, Bool, true, false, true≢false, List, [], ◌∷◌, ◌++◌, length, take, get_or, Some, refl, sym, ap, subst, ◌∙◌}
 use Rattle.std.proofs.Common.{Bor}
-use Rattle.std.specs.Prelude.{◌&&◌, not, slice_get}
+use Rattle.std.specs.Prelude.{◌&&◌, not, cond, slice_get}
 use Rattle.std.specs.List.{flat_map, list_all}
 use Rattle.std.proofs.lemmas.List.{take_more, append-nil}
 use Rattle.std.proofs.lemmas.List.Folds.{list_all-append}
@@ -10,6 +10,8 @@ use Rattle.program_model.specs.declared.pools.MethodName.{MethodName}
 use Rattle.program_model.specs.declared.program.Program.{Program}
 use Rattle.stub_library.specs.Meeting.{Adds, MeetsEntry, is_clear, texts_of}
 use Rattle.stub_library.specs.declared.declared.Met.{Met}
+use Rattle.stub_library.specs.Listing.{same_text}
+use Rattle.stub_library.proofs.ByText.{text_is}
 use Rattle.stub_library.proofs.Adding.{adds_more}
 
 and_true : (a : Bool) → a ≡ (a && true)
@@ -60,3 +62,11 @@ meets_one p test xs ys x old mid new made so_far step = record {
 -- a text that is another
 pub text_given : (t u : List ℕ) (old new : List ℕ → Bool) (a b : List (List ℕ)) → t ≡ u → Adds (t ∷ []) old new a b → Adds (u ∷ []) old new a b
 text_given t u old new a b e adds = subst (λ x. Adds (x ∷ []) old new a b) e adds
+
+-- a text that is seen where only one was
+pub seen_first : (t u : List ℕ) (old new : Bool) → new ≡ cond (same_text t u) true old → old ≡ false → new ≡ true → t ≡ u
+seen_first t u old new put none is = by (same_text t u) refl (sym put ∙ is)
+  where
+    by : (b : Bool) → same_text t u ≡ b → cond b true old ≡ true → t ≡ u
+    by true e f = text_is t u e
+    by false e f = absurd (true≢false (sym f ∙ none))

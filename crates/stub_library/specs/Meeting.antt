@@ -1,5 +1,5 @@
 -- What is met on the walks upwards from types of the framework.
-use Rattle.std.specs.Prelude.{◌≡◌, ℕ, zero, suc, ◌<◌, ◌≤◌, ◌^◌, ◌⊎◌, ◌&&◌, ◌||◌, not, Bool, true, List, [], ◌∷◌, ◌++◌, map, length, flat_map, Option, Some, None, slice_get, cond}
+use Rattle.std.specs.Prelude.{◌≡◌, ℕ, zero, suc, ◌<◌, ◌≤◌, ◌^◌, ◌⊎◌, ◌&&◌, ◌||◌, not, Bool, true, false, List, [], ◌∷◌, ◌++◌, map, length, flat_map, Option, Some, None, slice_get, cond}
 use Rattle.std.specs.List.{list_any, list_all}
 use Rattle.std.specs.HashSet.{HashSet}
 use Rattle.std.proofs.Common.{Bor}
@@ -127,6 +127,10 @@ pub record DeclaredTo (p : Program) (l : Library) (d : Declared) (done : ℕ) : 
 abbrev pub row_or_none : Option (List ℕ) → List ℕ
 row_or_none None = []
 row_or_none (Some row) = row
+
+abbrev pub has_any : List ℕ → Bool
+has_any [] = false
+has_any (j ∷ js) = true
 
 -- the methods of some declarations, and what stands directly above by them
 abbrev pub rows_at : List (List ℕ) → List ℕ → List ℕ

@@ -1,10 +1,11 @@
 //! What a library declares at and above its types.
 
-ghost use Rattle.std.specs.Prelude.{◌≡◌, ◌+◌, ◌++◌, ◌∷◌, [], ℕ, Some, length, flat_map, slice_get, IfOk, OnOk};
+ghost use Rattle.std.specs.Prelude.{◌≡◌, ◌+◌, ◌++◌, ◌∷◌, [], ℕ, List, true, Some, length, flat_map, slice_get, IfOk, OnOk};
 ghost use Rattle.std.specs.List.{list_all};
 ghost use Rattle.stub_library.specs.Shut.{walk_clear, above_of};
+ghost use Rattle.stub_library.specs.Listing.{AreListed};
 ghost use Rattle.stub_library.specs.Spelling.{IsSpelled};
-ghost use Rattle.stub_library.specs.Meeting.{Adds, Meets, IsDeclared, DeclaredTo, is_seen, local_clear, texts_of, class_above, declared_among, rows_at, above_by};
+ghost use Rattle.stub_library.specs.Meeting.{Adds, Meets, IsDeclared, DeclaredTo, is_seen, local_clear, texts_of, class_above, has_any, declared_among, rows_at, above_by};
 
 use crate::library::{Library, LibraryClass, LibraryMethod};
 use crate::listed::Listed;
@@ -83,12 +84,33 @@ fn add_all_unseen<'a>(
     Ok(())
 }
 
+/// Whether there are declarations.
+fn has_any(places: &[usize]) -> bool
+    ensures { result ≡ has_any places.now }
+{
+    match places {
+        [] => false,
+        [_first, ..] => true,
+    }
+}
+
+/// Whether no texts are left.
+fn is_done(level: &[&[u16]]) -> bool
+    ensures { result ≡ true → level.now ≡ [] }
+{
+    match level {
+        [] => true,
+        [_first, ..] => false,
+    }
+}
+
 impl<'a, 's> Declared<'a, 's> {
     /// Adds a declaration.
     fn add(&mut self, alloc: Global, class: &'a LibraryClass) -> Result<(), AllocError>
         requires { IsSpelled self.old.spelled.now.program.now self.old.spelled.now }
         ensures same { OnOk result (self.new.spelled ≡ self.old.spelled) }
-        ensures more { (done : ℕ) → DeclaredTo self.old.spelled.now.program.now self.old.library.now self.old done → slice_get self.old.library.now.classes done ≡ Some class.now → OnOk result (DeclaredTo self.old.spelled.now.program.now self.old.library.now self.new (done + 1)) }
+        ensures more { (done : ℕ) → DeclaredTo self.old.spelled.now.program.now self.old.library.now self.old done → slice_get self.old.library.now.classes done ≡ Some class.now
+            → OnOk result (DeclaredTo self.old.spelled.now.program.now self.old.library.now self.new (done + 1)) }
     {
         self.classes.add(class.name.units())?;
         let numbers = numbers_of(alloc, self.spelled, class.methods.as_slice())?;
@@ -96,21 +118,32 @@ impl<'a, 's> Declared<'a, 's> {
         Ok(())
     }
 
+    /// No declarations.
+    fn none(alloc: Global, library: &'a Library, spelled: &'s Spelled<'a>) -> Declared<'a, 's>
+        ensures library { result.library.now ≡ library.now }
+        ensures spelled { result.spelled.now ≡ spelled.now }
+        ensures classes { (texts : ℕ → List ℕ) → AreListed texts 0 result.classes }
+        ensures numbers { result.numbers.items ≡ [] }
+    {
+        Declared {
+            library,
+            spelled,
+            classes: Listed::new(alloc),
+            numbers: Vec::new(alloc),
+        }
+    }
+
     /// What a library declares of the methods of a program.
-    pub fn of(
+    pub fn of_library(
         alloc: Global,
         library: &'a Library,
         spelled: &'s Spelled<'a>,
     ) -> Result<Declared<'a, 's>, AllocError>
         requires { IsSpelled spelled.now.program.now spelled.now }
-        ensures { IfOk result (IsDeclared spelled.now.program.now library.now) }
+        ensures is { IfOk result (IsDeclared spelled.now.program.now library.now) }
+        ensures spelled { IfOk result (λ declared. declared.spelled.now ≡ spelled.now) }
     {
-        let mut declared = Declared {
-            library,
-            spelled,
-            classes: Listed::new(alloc),
-            numbers: Vec::new(alloc),
-        };
+        let mut declared = Declared::none(alloc, library, spelled);
         for class in library.classes.as_slice() {
             declared.add(alloc, class)?;
         }
@@ -176,10 +209,12 @@ impl<'a, 's> Declared<'a, 's> {
         ensures adds { OnOk result (Adds (above_of self.now.library.now text.now) (is_seen seen.old) (is_seen seen.new) (texts_of next.old.items) (texts_of next.new.items)) }
     {
         let places = self.classes.all(alloc, text)?;
-        let is_known = is_object(text) || !places.is_empty();
+        let places = places.as_slice();
+        let is_declared = has_any(places);
+        let is_known = is_object(text) || is_declared;
         met.whole = met.whole && is_known;
-        self.add_methods(places.as_slice(), &mut met.numbers)?;
-        self.add_all_above(places.as_slice(), seen, next)?;
+        self.add_methods(places, &mut met.numbers)?;
+        self.add_all_above(places, seen, next)?;
         Ok(())
     }
 
@@ -212,11 +247,12 @@ impl<'a, 's> Declared<'a, 's> {
         let mut level = Vec::new(alloc);
         level.push(text)?;
         for done in 0..self.library.classes.len() + 2 {
-            if level.is_empty() {
+            let here = level.as_slice();
+            if is_done(here) {
                 return Ok(());
             }
             let mut next = Vec::new(alloc);
-            self.meet_level(alloc, level.as_slice(), met, &mut seen, &mut next)?;
+            self.meet_level(alloc, here, met, &mut seen, &mut next)?;
             level = next;
         }
         Ok(())

@@ -2,7 +2,8 @@
 
 ghost use Rattle.std.specs.Prelude.{◌≡◌, ◌<◌, ◌++◌, true, false, flat_map, length, replicate, slice_get, IfOk, OnOk};
 ghost use Rattle.hierarchy.specs.Shapes.{IsOf, IsResolved};
-ghost use Rattle.stub_library.specs.Marking.{at_class, set_all, up_to, virtual_among, virtual_numbers, kept_among, entering, entered_at, opened_at, virtual_along, numbers_along, found_along, found_open, open_marks, entered};
+ghost use Rattle.stub_library.specs.Marking.{at_class, set_all, up_to, virtual_among, virtual_numbers, kept_among};
+ghost use Rattle.stub_library.specs.Marking.{entering, entered_at, opened_at, virtual_along, numbers_along, found_along, found_open, open_marks, entered};
 
 use crate::found::{below, clear_below, clear_found};
 use crate::marks::{is_on, marked};

@@ -7,9 +7,9 @@
 //! program names it: the framework enters declared methods alone, so it never enters this one. Shut methods are kept no
 //! longer for the framework's sake, and those that the program does not call either go.
 //!
-//! Proved of `read_library`: exactly what is read, and each fault. Said of `narrow`, and not proved yet: the list of shut
-//! methods has just those of the definition (`specs/Shut.antt`), ascending, and all else is handed on. Proved of that is what
-//! the lemmas say (`proofs/`): that the marks which the code comes to are those of the definition, whatever loops make them.
+//! Proved of `read_library`: exactly what is read, and each fault; and of `narrow`: the list of shut methods has just those
+//! of the definition (`specs/Shut.antt`), ascending, and all else is handed on. The code goes by tables (`specs/Marking.antt`,
+//! `specs/Meeting.antt`), and lemmas say that the marks which the tables come to are those of the definition.
 #![tactic(auto)]
 
 mod called;

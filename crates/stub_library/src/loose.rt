@@ -1,8 +1,7 @@
 //! The methods that nothing said of them alone lets the framework enter.
 
-ghost use Rattle.std.specs.Prelude.{◌≡◌, ◌++◌, true, false, replicate, length, flat_map, OnOk, IfOk};
+ghost use Rattle.std.specs.Prelude.{◌≡◌, ◌++◌, flat_map, OnOk, IfOk};
 ghost use Rattle.hierarchy.specs.Shapes.{IsOf};
-ghost use Rattle.stub_library.specs.Marking.{set_all};
 ghost use Rattle.stub_library.specs.Loosening as meant;
 
 use crate::marks::{is_on, marked};
@@ -99,7 +98,7 @@ pub fn loose(
     called: &[bool],
 ) -> Result<Vec<bool>, AllocError>
     requires { IsOf program.now hierarchy.now }
-    ensures { IfOk result (λ marks. marks.items ≡ set_all true (replicate (length program.now.methods) false) (flat_map (meant.loose_numbers program.now hierarchy.now kept.now called.now) program.now.classes)) }
+    ensures { IfOk result (λ marks. marks.items ≡ meant.loose_marks program.now hierarchy.now kept.now called.now) }
 {
     let classes = program.classes.as_slice();
     let numbers = loose_numbers(alloc, program, hierarchy, kept, called, classes)?;

@@ -1,11 +1,10 @@
 //! An outside without the methods that the framework cannot enter.
 
-ghost use Rattle.std.specs.Prelude.{◌≡◌, ℕ, length, true, false, replicate, flat_map, IfOk};
+ghost use Rattle.std.specs.Prelude.{◌≡◌, ℕ, length, true, IfOk};
 ghost use Rattle.program_model.specs.ProgramRules.{is_well_formed};
 ghost use Rattle.hierarchy.specs.Shapes.{IsOf, IsResolved};
-ghost use Rattle.stub_library.specs.Marking.{is_on, set_all, entered};
-ghost use Rattle.stub_library.specs.Loosening.{loose_numbers};
-ghost use Rattle.stub_library.specs.Calling.{AreCalled};
+ghost use Rattle.stub_library.specs.Marking.{is_on, entered};
+ghost use Rattle.stub_library.specs.Loosening.{loose_marks};
 ghost use Rattle.stub_library.specs.Meeting.{AreMet};
 ghost use Rattle.stub_library.specs.Shut.{shut_number, IsNarrowed};
 ghost use Rattle.stub_library.specs.Narrowed.{Narrows, numbers_of};
@@ -48,8 +47,9 @@ fn above_of(
     ensures { IfOk result (λ above. AreMet program.now library.now above.opens.items above.numbers.items) }
 {
     let spelled = Spelled::of(alloc, program, hierarchy)?;
-    let declared = Declared::of(alloc, library, &spelled)?;
-    Above::of(alloc, program, hierarchy, &declared)
+    let declared = Declared::of_library(alloc, library, &spelled)?;
+    let above = Above::of_classes(alloc, program, hierarchy, &declared)?;
+    Ok(above)
 }
 
 /// By method number, which methods may be shut as far as each alone says and are not entered.
@@ -64,7 +64,7 @@ fn left(
 ) -> Result<Vec<bool>, AllocError>
     requires counted { count ≡ length program.now.classes }
     requires resolved { IsResolved program.now hierarchy.now }
-    ensures { IfOk result (λ left. left.items ≡ entered program.now kept.now above.now.opens.items above.now.numbers.items (set_all true (replicate (length program.now.methods) false) (flat_map (loose_numbers program.now hierarchy.now kept.now called.now) program.now.classes))) }
+    ensures { IfOk result (λ left. left.items ≡ entered program.now kept.now above.now.opens.items above.now.numbers.items (loose_marks program.now hierarchy.now kept.now called.now)) }
 {
     let mut marks = loose(alloc, program, hierarchy, kept, called)?;
     enter(
@@ -91,16 +91,21 @@ fn shut_marks(
     requires formed { is_well_formed program.now ≡ true }
     requires counted { count ≡ length program.now.classes }
     requires resolved { IsResolved program.now hierarchy.now }
-    ensures { (l : Library) → AreMet program.now l above.now.opens.items above.now.numbers.items → IfOk result (λ marks. (n : ℕ) → is_on marks.items n ≡ shut_number program.now outside.now l n) }
+    ensures { (l : Library) → AreMet program.now l above.now.opens.items above.now.numbers.items
+        → IfOk result (λ marks. (n : ℕ) → is_on marks.items n ≡ shut_number program.now outside.now l n) }
 {
-    let kept = marked(alloc, outside.methods.as_slice(), program.methods.len())?;
+    let methods = outside.methods.as_slice();
+    let kept = marked(alloc, methods, program.methods.len())?;
     let kept = kept.as_slice();
     let called = called_outside(alloc, program, hierarchy)?;
     let called = called.as_slice();
     let left = left(alloc, program, hierarchy, count, kept, called, above)?;
     let left = left.as_slice();
     let pairs = pairs(alloc, program, hierarchy, count, kept, left)?;
-    rounds(alloc, left, pairs.as_slice(), program.classes.len() + 1)
+    let pairs = pairs.as_slice();
+    let classes = program.classes.len();
+    let marks = rounds(alloc, left, pairs, classes + 1)?;
+    Ok(marks)
 }
 
 /// The outside with these shut methods.
@@ -130,8 +135,11 @@ pub fn narrow(
     ensures numbers { IfOk result (Narrows program.now outside.now) }
 {
     let above = above_of(alloc, library, program, hierarchy)?;
-    let count = word(program.classes.len());
+    let classes = program.classes.len();
+    let count = word(classes);
     let marks = shut_marks(alloc, program, hierarchy, count, outside, &above)?;
-    let shut = numbers(alloc, marks.as_slice(), word(program.methods.len()))?;
+    let methods = program.methods.len();
+    let size = word(methods);
+    let shut = numbers(alloc, marks.as_slice(), size)?;
     with_shut(outside, shut)
 }

@@ -109,6 +109,17 @@ fn met_above<'a, 's>(
 }
 
 impl Above {
+    /// No classes.
+    fn none(alloc: Global) -> Above
+        ensures opens { result.opens.items ≡ [] }
+        ensures numbers { result.numbers.items ≡ [] }
+    {
+        Above {
+            opens: Vec::new(alloc),
+            numbers: Vec::new(alloc),
+        }
+    }
+
     /// Adds what is met above a class.
     fn add(&mut self, met: Met) -> Result<(), AllocError>
         ensures opens { OnOk result (self.new.opens.items ≡ self.old.opens.items ++ not met.whole ∷ []) }
@@ -120,7 +131,7 @@ impl Above {
     }
 
     /// What the framework declares above the classes of a program.
-    pub fn of<'a, 's>(
+    pub fn of_classes<'a, 's>(
         alloc: Global,
         program: &'a Program,
         hierarchy: &Hierarchy,
@@ -131,12 +142,10 @@ impl Above {
         requires declared { IsDeclared program.now declared.now.library.now declared.now }
         ensures { IfOk result (λ above. AreMet program.now declared.now.library.now above.opens.items above.numbers.items) }
     {
-        let mut above = Above {
-            opens: Vec::new(alloc),
-            numbers: Vec::new(alloc),
-        };
+        let mut above = Above::none(alloc);
         for class in program.classes.as_slice() {
-            above.add(met_above(alloc, program, hierarchy, declared, class)?)?;
+            let met = met_above(alloc, program, hierarchy, declared, class)?;
+            above.add(met)?;
         }
         Ok(above)
     }

@@ -182,8 +182,10 @@ pub fn rounds(
 {
     let mut marks = vec![in alloc; false; base.len()]?;
     for done in 0..most {
-        let next = round(alloc, base, pairs, marks.as_slice())?;
-        if are_same(next.as_slice(), marks.as_slice()) {
+        let now = marks.as_slice();
+        let next = round(alloc, base, pairs, now)?;
+        let new = next.as_slice();
+        if are_same(new, now) {
             return Ok(marks);
         }
         marks = next;

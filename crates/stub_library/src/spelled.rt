@@ -37,7 +37,8 @@ impl<'a> Spelled<'a> {
     fn add(&mut self, number: u32) -> Result<(), AllocError>
         ensures program { OnOk result (self.new.program ≡ self.old.program) }
         ensures numbers { OnOk result (self.new.numbers.items ≡ self.old.numbers.items ++ number ∷ []) }
-        ensures names { OnOk result ((texts : ℕ → List ℕ) (n : ℕ) → AreListed texts n self.old.names → texts n ≡ name_of_method self.old.program.now (slice_get self.old.program.now.methods number) → AreListed texts (n + 1) self.new.names) }
+        ensures names { OnOk result ((texts : ℕ → List ℕ) (n : ℕ) → AreListed texts n self.old.names
+            → texts n ≡ name_of_method self.old.program.now (slice_get self.old.program.now.methods number) → AreListed texts (n + 1) self.new.names) }
     {
         self.numbers.push(number)?;
         self.names.add(name_units(self.program, number))?;
@@ -83,6 +84,19 @@ impl<'a> Spelled<'a> {
         Ok(())
     }
 
+    /// No methods.
+    fn none(alloc: Global, program: &'a Program) -> Spelled<'a>
+        ensures program { result.program.now ≡ program.now }
+        ensures numbers { result.numbers.items ≡ [] }
+        ensures names { (texts : ℕ → List ℕ) → AreListed texts 0 result.names }
+    {
+        Spelled {
+            program,
+            numbers: Vec::new(alloc),
+            names: Listed::new(alloc),
+        }
+    }
+
     /// The methods of a program by the texts of their names and protos.
     pub fn of(
         alloc: Global,
@@ -95,11 +109,7 @@ impl<'a> Spelled<'a> {
     {
         let count = program.methods.len();
         let mut seen = vec![in alloc; false; count]?;
-        let mut spelled = Spelled {
-            program,
-            numbers: Vec::new(alloc),
-            names: Listed::new(alloc),
-        };
+        let mut spelled = Spelled::none(alloc, program);
         spelled.add_all(hierarchy, word(count), seen.as_mut_slice())?;
         Ok(spelled)
     }

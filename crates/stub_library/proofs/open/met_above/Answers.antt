@@ -10,4 +10,4 @@ returns c =
     let p = c.args.program.now in
     let l = c.args.declared.now.library.now in
     met_class p l c.args.class.now c.new-met.result c.meet_type.new.met c.meet_types.new.met c.new-met.ensures.whole c.new-met.ensures.none c.in_ok-meet_type.ensures
-    (subst (λ ks. MeetsEntry p (λ q. list_all (type_clear p l q) ks) c.meet_type.new.met c.meet_types.new.met) c.as_slice-kinds.ensures.value c.in_ok-meet_types.ensures)
+    (subst (λ ks. MeetsEntry p (λ q. list_all (type_clear p l q) ks) c.meet_type.new.met c.meet_types.new.met) c.as_slice-kinds.ensures c.in_ok-meet_types.ensures)

@@ -1,6 +1,6 @@
 use Rattle.std.proofs.Common.{◌≡◌}
 use Rattle.stub_library.specs.Meeting.{DeclaredTo}
-use Rattle.stub_library.proofs.declared.Declared.of.Given as goal
+use Rattle.stub_library.proofs.declared.Declared.of_library.Given as goal
 
 abbrev pub invariant-loop-class : goal.invariant-loop-class
 invariant-loop-class l = record {

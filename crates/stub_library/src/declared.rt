@@ -5,7 +5,7 @@ ghost use Rattle.std.specs.List.{list_all};
 ghost use Rattle.stub_library.specs.Shut.{walk_clear, above_of};
 ghost use Rattle.stub_library.specs.Listing.{AreListed};
 ghost use Rattle.stub_library.specs.Spelling.{IsSpelled};
-ghost use Rattle.stub_library.specs.Meeting.{Adds, Meets, IsDeclared, DeclaredTo, is_seen, local_clear, texts_of, class_above, has_any, declared_among, rows_at, above_by};
+ghost use Rattle.stub_library.specs.Meeting.{Adds, Meets, IsDeclared, DeclaredTo, is_seen, local_clear, texts_of, class_above, has_any, row_or_none, declared_among, rows_at, above_by};
 
 use crate::library::{Library, LibraryClass, LibraryMethod};
 use crate::listed::Listed;
@@ -150,14 +150,22 @@ impl<'a, 's> Declared<'a, 's> {
         Ok(declared)
     }
 
+    /// Adds the methods of a declaration.
+    fn add_row(&self, place: usize, out: &mut Vec<u32>) -> Result<(), AllocError>
+        ensures { OnOk result (out.new.items ≡ out.old.items ++ row_or_none (slice_get self.now.numbers.items place)) }
+    {
+        if let Some(numbers) = self.numbers.get(place) {
+            out.extend_from_slice(numbers.as_slice())?;
+        }
+        Ok(())
+    }
+
     /// Adds the methods of some declarations.
     fn add_methods(&self, places: &[usize], out: &mut Vec<u32>) -> Result<(), AllocError>
         ensures { OnOk result (out.new.items ≡ out.old.items ++ rows_at self.now.numbers.items places.now) }
     {
         for place in places {
-            if let Some(numbers) = self.numbers.get(*place) {
-                out.extend_from_slice(numbers.as_slice())?;
-            }
+            self.add_row(*place, out)?;
         }
         Ok(())
     }

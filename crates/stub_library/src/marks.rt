@@ -31,8 +31,9 @@ pub fn is_on(marks: &[bool], number: u32) -> bool
 pub fn turn(marks: &mut [bool], number: u32, on: bool)
     ensures { marks.new ≡ slice_set marks.old number on }
 {
-    if let Some(mark) = marks.get_mut(number as usize) {
-        *mark = on;
+    let at = number as usize;
+    if at < marks.len() {
+        marks[at] = on;
     }
 }
 

@@ -23,7 +23,7 @@ loop-done-preserved c =
     let same = c.as_slice-here.ensures.value in
     let lt = c.loop-done-test.true in
     walk_more p l c.args.text.now c.args.met.now c.loop-done.met c.meet_level.new.met (is_seen c.loop-done.seen) (is_seen c.meet_level.new.seen) (texts_of c.loop-done.level.items) (texts_of c.meet_level.new.next.items) c.loop-done.done
-    c.loop-done.invariant (omega (arith, lt, c.len.ensures))
+    c.loop-done.invariant (omega (arith, lt, c.len-done-end.ensures))
     (subst (λ us. Meets p (λ n q. list_all (local_clear l n q) (texts_of us)) c.loop-done.met c.meet_level.new.met) same c.in_ok-meet_level.ensures.meets)
     (subst (λ us. Adds (flat_map (above_of l) (texts_of us)) (is_seen c.loop-done.seen) (is_seen c.meet_level.new.seen) [] (texts_of c.meet_level.new.next.items)) same
     (subst (λ us. Adds (flat_map (above_of l) (texts_of c.as_slice-here.result.now)) (is_seen c.loop-done.seen) (is_seen c.meet_level.new.seen) (texts_of us) (texts_of c.meet_level.new.next.items)) c.new-next.ensures.items c.in_ok-meet_level.ensures.adds))
@@ -36,4 +36,4 @@ pub returns : goal.returns
 returns c =
     let le = c.loop-done-test.false in
     walk_full c.args.self.now.spelled.now.program.now c.args.self.now.library.now c.args.text.now c.args.met.now c.loop-done.met (is_seen c.loop-done.seen) (texts_of c.loop-done.level.items) c.loop-done.done c.loop-done.invariant
-    (omega (arith, le, c.len.ensures))
+    (omega (arith, le, c.len-done-end.ensures))

@@ -9,8 +9,8 @@ pub loop-done-preserved : goal.loop-done-preserved
 loop-done-preserved c = λ texts n are.
     let t = c.args.text.now in
     let w : Walked texts t n (Some c.in-Some.number) c.loop-done.numbers.items c.loop-done.done = subst (λ o. Walked texts t n o c.loop-done.numbers.items c.loop-done.done) c.in-Some.is (c.loop-done.invariant texts n are) in
-    walked_more texts t n c.in-Some.number c.loop-done.numbers.items c.loop-done.done c.earlier.result c.push.new.self.items w
-    (c.earlier.ensures texts n are (walked_short texts t n c.in-Some.number c.loop-done.numbers.items c.loop-done.done w)) c.in_ok-push.ensures.items
+    walked_more texts t n c.in-Some.number c.loop-done.numbers.items c.loop-done.done c.earlier-at.result c.push.new.self.items w
+    (c.earlier-at.ensures texts n are (walked_short texts t n c.in-Some.number c.loop-done.numbers.items c.loop-done.done w)) c.in_ok-push.ensures.items
 
 pub returns-in-None : goal.returns-in-None
 returns-in-None c = λ texts n are. walked_out texts c.args.text.now n c.loop-done.numbers.items c.loop-done.done (subst (λ o. Walked texts c.args.text.now n o c.loop-done.numbers.items c.loop-done.done) c.in-None.is (c.loop-done.invariant texts n are))
@@ -19,6 +19,6 @@ pub returns : goal.returns
 returns c = λ texts n are.
     let le = c.loop-done-test.false in
     let size = are.size in
-    let long = c.len.ensures in
+    let long = c.len-done-end.ensures in
     let ok = c.args.self.now.before.ok in
     walked_all texts c.args.text.now n c.loop-done.at c.loop-done.numbers.items c.loop-done.done (omega (arith, le, size, long, ok)) (c.loop-done.invariant texts n are)

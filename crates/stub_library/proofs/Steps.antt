@@ -67,14 +67,14 @@ pub same_marks : (test : Bool → Bool → Bool) → test true false ≡ false �
 same_marks test a b [] [] e = refl
 same_marks test a b [] (y ∷ ys) e = absurd (true≢false (sym e))
 same_marks test a b (x ∷ xs) [] e = absurd (true≢false (sym e))
-same_marks test a b (x ∷ xs) (y ∷ ys) e = by x y (test x y) refl e
+same_marks test a b (x ∷ xs) (y ∷ ys) e = by x y (test x y) refl e (same_marks test a b xs ys)
   where
-    by : (u v t : Bool) → test u v ≡ t → (t && pointwise test xs ys) ≡ true → u ∷ xs ≡ v ∷ ys
-    by true true true f g = ap (λ l. true ∷ l) (same_marks test a b xs ys g)
-    by false false true f g = ap (λ l. false ∷ l) (same_marks test a b xs ys g)
-    by true false true f g = absurd (true≢false (sym f ∙ a))
-    by false true true f g = absurd (true≢false (sym f ∙ b))
-    by u v false f g = absurd (true≢false (sym g))
+    by : (u v t : Bool) → test u v ≡ t → (t && pointwise test xs ys) ≡ true → (pointwise test xs ys ≡ true → xs ≡ ys) → u ∷ xs ≡ v ∷ ys
+    by true true true f g more = ap (λ (l : List Bool). true ∷ l) (more g)
+    by false false true f g more = ap (λ (l : List Bool). false ∷ l) (more g)
+    by true false true f g more = absurd (true≢false (sym f ∙ a))
+    by false true true f g more = absurd (true≢false (sym f ∙ b))
+    by u v false f g more = absurd (true≢false (sym g))
 
 still : (base : List Bool) (ps : List (ℕ × ℕ)) (n k : ℕ) → round base ps (rounds base ps n) ≡ rounds base ps n → rounds base ps (k + n) ≡ rounds base ps n
 still base ps n zero e = ap (rounds base ps) (let z : 0 + n ≡ n = omega arith in z)

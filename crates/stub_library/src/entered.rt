@@ -2,7 +2,7 @@
 
 ghost use Rattle.std.specs.Prelude.{◌≡◌, ◌<◌, ◌++◌, true, false, flat_map, length, replicate, slice_get, IfOk, OnOk};
 ghost use Rattle.hierarchy.specs.Shapes.{IsOf, IsResolved};
-ghost use Rattle.stub_library.specs.Marking.{at_class, set_all, up_to, virtual_among, virtual_numbers, kept_among};
+ghost use Rattle.stub_library.specs.Marking.{at_class, set_all, up_to, virtual_among, virtual_numbers, kept_among, kept_numbers, row_or_none};
 ghost use Rattle.stub_library.specs.Marking.{entering, entered_at, opened_at, virtual_along, numbers_along, found_along, found_open, open_marks, entered};
 
 use crate::found::{below, clear_below, clear_found};
@@ -65,6 +65,33 @@ fn add_kept(
     Ok(())
 }
 
+/// Adds the numbers of the kept virtual methods of the class at a place.
+fn add_kept_at(
+    program: &Program,
+    hierarchy: &Hierarchy,
+    kept: &[bool],
+    place: u32,
+    out: &mut Vec<u32>,
+) -> Result<(), AllocError>
+    requires { IsOf program.now hierarchy.now }
+    ensures { OnOk result (out.new.items ≡ out.old.items ++ at_class (kept_numbers program.now kept.now) (slice_get program.now.classes place)) }
+{
+    if let Some(class) = program.classes.as_slice().get(place as usize) {
+        add_kept(program, hierarchy, kept, class.methods.as_slice(), out)?;
+    }
+    Ok(())
+}
+
+/// Adds the method numbers that are declared above the class at a place.
+fn add_declared(above: &Above, place: u32, out: &mut Vec<u32>) -> Result<(), AllocError>
+    ensures { OnOk result (out.new.items ≡ out.old.items ++ row_or_none (slice_get above.now.numbers.items place)) }
+{
+    if let Some(row) = above.numbers.get(place as usize) {
+        out.extend_from_slice(row.as_slice())?;
+    }
+    Ok(())
+}
+
 /// The method numbers by which the framework enters classes below the one at a place: those kept in it, and those declared
 /// above it.
 fn entering(
@@ -79,18 +106,8 @@ fn entering(
     ensures { IfOk result (λ numbers. numbers.items ≡ entering program.now kept.now above.now.numbers.items place) }
 {
     let mut numbers = Vec::new(alloc);
-    if let Some(class) = program.classes.as_slice().get(place as usize) {
-        add_kept(
-            program,
-            hierarchy,
-            kept,
-            class.methods.as_slice(),
-            &mut numbers,
-        )?;
-    }
-    if let Some(row) = above.numbers.get(place as usize) {
-        numbers.extend_from_slice(row.as_slice())?;
-    }
+    add_kept_at(program, hierarchy, kept, place, &mut numbers)?;
+    add_declared(above, place, &mut numbers)?;
     Ok(numbers)
 }
 

@@ -1,6 +1,6 @@
 //! What a library declares at and above its types.
 
-ghost use Rattle.std.specs.Prelude.{◌≡◌, ◌+◌, ◌++◌, ◌∷◌, [], ℕ, List, true, Some, length, flat_map, slice_get, IfOk, OnOk};
+ghost use Rattle.std.specs.Prelude.{◌≡◌, ◌+◌, ◌++◌, ◌&&◌, ◌∷◌, [], ℕ, List, true, Some, length, flat_map, slice_get, IfOk, OnOk};
 ghost use Rattle.std.specs.List.{list_all};
 ghost use Rattle.stub_library.specs.Shut.{walk_clear, above_of};
 ghost use Rattle.stub_library.specs.Listing.{AreListed};
@@ -92,6 +92,13 @@ fn has_any(places: &[usize]) -> bool
         [] => false,
         [_first, ..] => true,
     }
+}
+
+/// Whether both hold.
+fn both(one: bool, other: bool) -> bool
+    ensures { result ≡ (one && other) }
+{
+    one && other
 }
 
 /// Whether no texts are left.
@@ -220,7 +227,7 @@ impl<'a, 's> Declared<'a, 's> {
         let places = places.as_slice();
         let is_declared = has_any(places);
         let is_known = is_object(text) || is_declared;
-        met.whole = met.whole && is_known;
+        met.whole = both(met.whole, is_known);
         self.add_methods(places, &mut met.numbers)?;
         self.add_all_above(places, seen, next)?;
         Ok(())

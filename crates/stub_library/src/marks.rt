@@ -55,6 +55,14 @@ pub fn turned(marks: Vec<bool>, numbers: &[u32], on: bool) -> Vec<bool>
     marks
 }
 
+/// A table of this size without marks.
+pub fn no_marks(alloc: Global, size: usize) -> Result<Vec<bool>, AllocError>
+    ensures { IfOk result (λ marks. marks.items ≡ replicate size false) }
+{
+    let marks = vec![in alloc; false; size]?;
+    Ok(marks)
+}
+
 /// The marks of some numbers of a table of this size.
 pub fn marked(alloc: Global, numbers: &[u32], size: usize) -> Result<Vec<bool>, AllocError>
     ensures { IfOk result (λ marks. marks.items ≡ set_all true (replicate size false) numbers.now) }

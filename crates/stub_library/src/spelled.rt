@@ -8,7 +8,7 @@ ghost use Rattle.stub_library.specs.Listing.{AreListed};
 ghost use Rattle.stub_library.specs.Spelling.{IsSpelled, SpelledTo, proto_of_number, spelled_one, spelled_as};
 
 use crate::listed::Listed;
-use crate::marks::{is_on, turn, word};
+use crate::marks::{is_on, no_marks, turn, word};
 use crate::texts::{name_units, proto_units};
 use hierarchy::Hierarchy;
 use program_model::Program;
@@ -108,7 +108,7 @@ impl<'a> Spelled<'a> {
         ensures program { IfOk result (λ spelled. spelled.program.now ≡ program.now) }
     {
         let count = program.methods.len();
-        let mut seen = vec![in alloc; false; count]?;
+        let mut seen = no_marks(alloc, count)?;
         let mut spelled = Spelled::none(alloc, program);
         spelled.add_all(hierarchy, word(count), seen.as_mut_slice())?;
         Ok(spelled)

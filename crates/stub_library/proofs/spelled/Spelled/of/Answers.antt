@@ -17,7 +17,7 @@ pub add_all-requires-clause-none : goal.add_all-requires-clause-none
 add_all-requires-clause-none c =
     let s = c.none-spelled.result in
     spelled_none s.program.now c.args.hierarchy.now c.as_mut_slice.result.now s refl c.none-spelled.ensures.numbers c.none-spelled.ensures.names
-    (c.as_mut_slice.ensures.value ∙ c.in_ok-seen.ensures.items ∙ ap (λ n. replicate n false) (c.len-count.ensures ∙ sym (ap (λ p. length p.methods) c.none-spelled.ensures.program)))
+    (c.as_mut_slice.ensures.value ∙ c.in_ok-seen.ensures ∙ ap (λ n. replicate n false) (c.len-count.ensures ∙ sym (ap (λ p. length p.methods) c.none-spelled.ensures.program)))
 
 pub returns-clause-is : goal.returns-clause-is
 returns-clause-is c = subst (λ p. IsSpelled p c.add_all.new.self) c.none-spelled.ensures.program c.in_ok-add_all.ensures

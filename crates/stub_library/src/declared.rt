@@ -1,6 +1,6 @@
 //! What a library declares at and above its types.
 
-ghost use Rattle.std.specs.Prelude.{◌≡◌, ◌+◌, ◌++◌, ◌&&◌, ◌∷◌, [], ℕ, List, true, Some, length, flat_map, slice_get, IfOk, OnOk};
+ghost use Rattle.std.specs.Prelude.{◌≡◌, ◌+◌, ◌++◌, ◌&&◌, ◌||◌, ◌∷◌, [], ℕ, List, true, Some, length, flat_map, slice_get, IfOk, OnOk};
 ghost use Rattle.std.specs.List.{list_all};
 ghost use Rattle.stub_library.specs.Shut.{walk_clear, above_of};
 ghost use Rattle.stub_library.specs.Listing.{AreListed};
@@ -94,11 +94,11 @@ fn has_any(places: &[usize]) -> bool
     }
 }
 
-/// Whether both hold.
-fn both(one: bool, other: bool) -> bool
-    ensures { result ≡ (one && other) }
+/// Whether all types that were met are known, after one more.
+fn all_known(whole: bool, is_object: bool, is_declared: bool) -> bool
+    ensures { result ≡ (whole && (is_object || is_declared)) }
 {
-    one && other
+    whole && (is_object || is_declared)
 }
 
 /// Whether no texts are left.
@@ -226,8 +226,7 @@ impl<'a, 's> Declared<'a, 's> {
         let places = self.classes.all(alloc, text)?;
         let places = places.as_slice();
         let is_declared = has_any(places);
-        let is_known = is_object(text) || is_declared;
-        met.whole = both(met.whole, is_known);
+        met.whole = all_known(met.whole, is_object(text), is_declared);
         self.add_methods(places, &mut met.numbers)?;
         self.add_all_above(places, seen, next)?;
         Ok(())

@@ -12,7 +12,7 @@ returns-clause-meets c =
     let at = c.as_slice-places.ensures.value ∙ c.in_ok-places.ensures (text_at l) (length l.classes) c.requires.listed in
     met_one d.spelled.now.program.now l d c.requires c.args.text.now c.as_slice-places.result.now at c.args.met.now _ c.has_any-is_declared.result
     (λ e. c.has_any-is_declared.ensures ∙ ap has_any e) (λ j js e. c.has_any-is_declared.ensures ∙ ap has_any e)
-    (c.both-met.ensures ∙ ap (λ b. c.args.met.now.whole && (b || c.has_any-is_declared.result)) c.is_object.ensures) c.in_ok-add_methods.ensures
+    (c.all_known-met.ensures ∙ ap (λ b. c.args.met.now.whole && (b || c.has_any-is_declared.result)) c.is_object.ensures) c.in_ok-add_methods.ensures
 
 pub returns-clause-adds : goal.returns-clause-adds
 returns-clause-adds c =

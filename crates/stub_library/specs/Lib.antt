@@ -2,4 +2,9 @@ pub mod Stubs
 pub mod Lists
 pub mod Shut
 pub mod Marking
+pub mod Listing
+pub mod Spelling
+pub mod Meeting
+pub mod Calling
+pub mod Loosening
 pub mod Narrowed

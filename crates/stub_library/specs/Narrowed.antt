@@ -1,13 +1,14 @@
 -- What narrowing answers.
-use Rattle.std.specs.Prelude.{◌≡◌, ℕ, zero, suc, ◌+◌, ◌<◌, List, [], ◌∷◌, ◌++◌, length, All, Bool, true, false, slice_index_or, if◌then◌else◌}
+use Rattle.std.specs.Prelude.{◌≡◌, ℕ, ◌<◌, List, length, All, Bool}
 use Rattle.std.specs.List.{AllPairs}
+use Rattle.stub_library.specs.Shut.{passing_below}
+use Rattle.stub_library.specs.Marking.{is_on}
 use Rattle.program_model.specs.declared.pass.Outside.{Outside}
 use Rattle.program_model.specs.declared.program.Program.{Program}
 
 -- the marked numbers below the size
 abbrev pub numbers_of : List Bool → ℕ → List ℕ
-numbers_of marks zero = []
-numbers_of marks (suc n) = numbers_of marks n ++ (if slice_index_or marks n false then n ∷ [] else [])
+numbers_of marks n = passing_below (is_on marks) n
 
 -- numbers of a table of this size, in order and without duplicates
 pub record AreNumbers (size : ℕ) (numbers : List ℕ) : Type 0 where

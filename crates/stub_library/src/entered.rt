@@ -1,233 +1,319 @@
-//! Which methods the framework may enter. `left` marks by number those virtual methods of which nothing says so yet.
+//! The methods that the framework may enter by what it declares and by what is kept.
 
-ghost use Rattle.std.specs.Prelude.{◌≡◌, length};
+ghost use Rattle.std.specs.Prelude.{◌≡◌, ◌<◌, ◌++◌, true, false, flat_map, length, replicate, slice_get, IfOk, OnOk};
+ghost use Rattle.hierarchy.specs.Shapes.{IsOf, IsResolved};
+ghost use Rattle.stub_library.specs.Marking.{at_class, set_all, up_to, virtual_among, virtual_numbers, kept_among, kept_numbers, row_or_none};
+ghost use Rattle.stub_library.specs.Marking.{entering, entered_at, opened_at, virtual_along, numbers_along, found_along, found_open, open_marks, entered};
 
-use crate::marks::{is_on, row_of, stamp_on, turn_on, word};
+use crate::found::{below, clear_below, clear_found};
+use crate::marks::{is_on, marked};
 use crate::open::Above;
 use hierarchy::Hierarchy;
-use program_model::{Class, Flags, Method, MethodAt, Program, Version};
+use program_model::{Method, Program};
 use std::alloc::{AllocError, Global};
 
-/// What is asked of a program's methods.
-#[derive(Drop)]
-pub struct Asked<'p> {
-    pub program: &'p Program,
-    pub hierarchy: &'p Hierarchy,
-    pub above: &'p Above,
-    /// By method number, what is kept.
-    pub kept: &'p [bool],
-    /// By key, what the program calls on framework types.
-    pub called: &'p [bool],
-}
-
-/// The classes through which the framework may enter methods with one key, each once. A class is in the list where it has
-/// the stamp.
-#[derive(Drop)]
-struct Ways {
-    list: Vec<u32>,
-    stamps: Vec<u32>,
-    stamp: u32,
-}
-
-impl Ways {
-    /// None, of so many classes.
-    fn new(alloc: Global, classes: usize) -> Result<Ways, AllocError> {
-        Ok(Ways {
-            list: Vec::new(alloc),
-            stamps: vec![in alloc; 0; classes]?,
-            stamp: 0,
-        })
-    }
-
-    /// None, for the next key.
-    fn begin(&mut self) {
-        self.list.clear();
-        self.stamp = self.stamp.saturating_add(1);
-    }
-
-    /// Adds a class, unless it is there.
-    fn add(&mut self, class: u32) -> Result<(), AllocError> {
-        if stamp_on(self.stamps.as_mut_slice(), class, self.stamp) {
-            self.list.push(class)?;
-        }
-        Ok(())
-    }
-
-    /// Adds classes.
-    fn add_all(&mut self, classes: &[u32]) -> Result<(), AllocError> {
-        for class in classes {
-            self.add(*class)?;
-        }
-        Ok(())
-    }
-}
-
-/// Takes the mark from a number.
-fn turn_off(marks: &mut [bool], number: u32)
-    ensures { length marks.new ≡ length marks.old }
+/// Adds the numbers of the virtual ones of some methods.
+fn add_virtual(
+    program: &Program,
+    hierarchy: &Hierarchy,
+    methods: &[Method],
+    out: &mut Vec<u32>,
+) -> Result<(), AllocError>
+    requires { IsOf program.now hierarchy.now }
+    ensures { OnOk result (out.new.items ≡ out.old.items ++ virtual_among program.now methods.now) }
 {
-    if let Some(mark) = marks.get_mut(number as usize) {
-        *mark = false;
+    for method in methods {
+        if hierarchy.is_virtual(method) {
+            out.push(method.name)?;
+        }
     }
+    Ok(())
 }
 
-/// The method at a place.
-fn method_at(program: &Program, at: MethodAt) -> Option<&Method> {
-    let class = program.classes.items.get(at.class as usize)?;
-    class.methods.items.get(at.place as usize)
+/// Adds the numbers of the virtual methods of the class at a place.
+fn add_at(
+    program: &Program,
+    hierarchy: &Hierarchy,
+    place: u32,
+    out: &mut Vec<u32>,
+) -> Result<(), AllocError>
+    requires { IsOf program.now hierarchy.now }
+    ensures { OnOk result (out.new.items ≡ out.old.items ++ at_class (virtual_numbers program.now) (slice_get program.now.classes place)) }
+{
+    if let Some(class) = program.classes.as_slice().get(place as usize) {
+        add_virtual(program, hierarchy, class.methods.as_slice(), out)?;
+    }
+    Ok(())
 }
 
-impl Asked<'_> {
-    /// Whether a method of a class may be shut as far as it alone says: it is virtual and not kept, every object need not
-    /// answer to it, no call names it on the framework, and in version 037 it stands in no interface.
-    fn may_be_shut(&self, class: &Class, method: &Method) -> bool {
-        let key = self.hierarchy.key_of_method(method.name);
-        let free = match self.program.version {
-            Version::V035 => true,
-            Version::V037 => !class.flags.has(Flags::INTERFACE),
-        };
-        free && self.hierarchy.is_virtual(method)
-            && !is_on(self.kept, method.name)
-            && !self.hierarchy.is_key_of_object(key)
-            && !is_on(self.called, key)
-    }
-
-    /// Marks those methods of a class that may be shut as far as each alone says.
-    fn mark_class(&self, class: &Class, left: &mut [bool]) {
-        for method in class.methods.as_slice() {
-            if self.may_be_shut(class, method) {
-                turn_on(left, method.name);
-            }
+/// Adds the numbers of the kept virtual ones of some methods.
+fn add_kept(
+    program: &Program,
+    hierarchy: &Hierarchy,
+    kept: &[bool],
+    methods: &[Method],
+    out: &mut Vec<u32>,
+) -> Result<(), AllocError>
+    requires { IsOf program.now hierarchy.now }
+    ensures { OnOk result (out.new.items ≡ out.old.items ++ kept_among program.now kept.now methods.now) }
+{
+    for method in methods {
+        if hierarchy.is_virtual(method) && is_on(kept, method.name) {
+            out.push(method.name)?;
         }
     }
+    Ok(())
+}
 
-    /// Takes the marks from the virtual methods of a class that an open class finds. `met` has a stamp for each key that
-    /// was met on the way up from that class.
-    fn enter_own(&self, class: &Class, met: &mut [u32], stamp: u32, left: &mut [bool]) {
-        for method in class.methods.as_slice() {
-            let key = self.hierarchy.key_of_method(method.name);
-            if self.hierarchy.is_virtual(method) && stamp_on(met, key, stamp) {
-                turn_off(left, method.name);
-            }
-        }
+/// Adds the numbers of the kept virtual methods of the class at a place.
+fn add_kept_at(
+    program: &Program,
+    hierarchy: &Hierarchy,
+    kept: &[bool],
+    place: u32,
+    out: &mut Vec<u32>,
+) -> Result<(), AllocError>
+    requires { IsOf program.now hierarchy.now }
+    ensures { OnOk result (out.new.items ≡ out.old.items ++ at_class (kept_numbers program.now kept.now) (slice_get program.now.classes place)) }
+{
+    if let Some(class) = program.classes.as_slice().get(place as usize) {
+        add_kept(program, hierarchy, kept, class.methods.as_slice(), out)?;
     }
+    Ok(())
+}
 
-    /// Takes the marks from all methods that an open class finds.
-    fn enter_all(&self, open: u32, met: &mut [u32], stamp: u32, left: &mut [bool]) {
-        let classes = self.program.classes.as_slice();
-        let mut at = Some(open);
-        for _ in 0..classes.len() {
-            let place = match at {
-                Some(place) => place,
-                None => break,
-            };
-            if let Some(class) = classes.get(place as usize) {
-                self.enter_own(class, met, stamp, left);
-            }
-            at = self.hierarchy.super_of(place);
-        }
+/// Adds the method numbers that are declared above the class at a place.
+fn add_declared(above: &Above, place: u32, out: &mut Vec<u32>) -> Result<(), AllocError>
+    ensures { OnOk result (out.new.items ≡ out.old.items ++ row_or_none (slice_get above.now.numbers.items place)) }
+{
+    if let Some(row) = above.numbers.get(place as usize) {
+        out.extend_from_slice(row.as_slice())?;
     }
+    Ok(())
+}
 
-    /// Takes the marks from all methods that open classes find.
-    fn enter_open(&self, alloc: Global, left: &mut [bool]) -> Result<(), AllocError> {
-        let mut met = vec![in alloc; 0; self.program.methods.len()]?;
-        for place in 0..self.program.classes.len() {
-            let open = word(place);
-            if is_on(self.above.open.as_slice(), open) {
-                self.enter_all(open, met.as_mut_slice(), open.saturating_add(1), left);
-            }
-        }
-        Ok(())
-    }
+/// The method numbers by which the framework enters classes below the one at a place: those kept in it, and those declared
+/// above it.
+fn entering(
+    alloc: Global,
+    program: &Program,
+    hierarchy: &Hierarchy,
+    kept: &[bool],
+    above: &Above,
+    place: u32,
+) -> Result<Vec<u32>, AllocError>
+    requires { IsOf program.now hierarchy.now }
+    ensures { IfOk result (λ numbers. numbers.items ≡ entering program.now kept.now above.now.numbers.items place) }
+{
+    let mut numbers = Vec::new(alloc);
+    add_kept_at(program, hierarchy, kept, place, &mut numbers)?;
+    add_declared(above, place, &mut numbers)?;
+    Ok(numbers)
+}
 
-    /// Whether all classes below that of a method let the framework enter what they find: the method has code or is kept,
-    /// and is not marked.
-    fn lets_in(&self, found: MethodAt, left: &[bool]) -> bool {
-        match method_at(self.program, found) {
-            Some(method) => {
-                !is_on(left, method.name)
-                    && (method.body.is_some() || is_on(self.kept, method.name))
-            }
-            None => false,
-        }
-    }
+/// Takes the marks from what is entered by what stands at the class at a place.
+fn enter_class(
+    alloc: Global,
+    program: &Program,
+    hierarchy: &Hierarchy,
+    kept: &[bool],
+    above: &Above,
+    place: u32,
+    marks: &mut [bool],
+) -> Result<(), AllocError>
+    requires resolved { IsResolved program.now hierarchy.now }
+    requires within { place < length program.now.classes }
+    ensures { OnOk result (marks.new ≡ set_all false marks.old (entered_at program.now kept.now above.now.numbers.items place)) }
+{
+    let below = below(alloc, program, hierarchy, place)?;
+    let numbers = entering(alloc, program, hierarchy, kept, above, place)?;
+    clear_below(
+        program,
+        hierarchy,
+        below.as_slice(),
+        numbers.as_slice(),
+        marks,
+    );
+    Ok(())
+}
 
-    /// Takes the mark from a method that was found, and answers whether it has code.
-    fn enter(&self, found: MethodAt, left: &mut [bool]) -> bool {
-        match method_at(self.program, found) {
-            Some(method) => {
-                turn_off(left, method.name);
-                method.body.is_some()
-            }
-            None => false,
-        }
+/// Takes the marks from what is entered by what stands at each class.
+fn enter_classes(
+    alloc: Global,
+    program: &Program,
+    hierarchy: &Hierarchy,
+    count: u32,
+    kept: &[bool],
+    above: &Above,
+    marks: &mut [bool],
+) -> Result<(), AllocError>
+    requires counted { count ≡ length program.now.classes }
+    requires resolved { IsResolved program.now hierarchy.now }
+    ensures { OnOk result (marks.new ≡ set_all false marks.old (up_to (entered_at program.now kept.now above.now.numbers.items) (length program.now.classes))) }
+{
+    for place in 0..count {
+        enter_class(alloc, program, hierarchy, kept, above, place, marks)?;
     }
+    Ok(())
+}
 
-    /// The classes that define a virtual method with the key and let the framework in.
-    fn first_of(&self, key: u32, left: &[bool], ways: &mut Ways) -> Result<(), AllocError> {
-        for class in self.hierarchy.definers_of(key) {
-            if let Some(found) = self.hierarchy.own_virtual(self.program, *class, key) {
-                if self.lets_in(found, left) {
-                    ways.add(*class)?;
-                }
-            }
-        }
-        Ok(())
+/// Adds the classes below one that is open by itself.
+fn add_opened(
+    alloc: Global,
+    program: &Program,
+    hierarchy: &Hierarchy,
+    here: &[bool],
+    place: u32,
+    out: &mut Vec<u32>,
+) -> Result<(), AllocError>
+    requires resolved { IsResolved program.now hierarchy.now }
+    requires within { place < length program.now.classes }
+    ensures { OnOk result (out.new.items ≡ out.old.items ++ opened_at program.now here.now place) }
+{
+    if is_on(here, place) {
+        let below = below(alloc, program, hierarchy, place)?;
+        out.extend_from_slice(below.as_slice())?;
     }
+    Ok(())
+}
 
-    /// Takes the mark from the method that a class finds, and adds the classes that are let in by it and all directly
-    /// below this one.
-    fn follow(
-        &self,
-        class: u32,
-        key: u32,
-        left: &mut [bool],
-        ways: &mut Ways,
-    ) -> Result<(), AllocError> {
-        if let Some(found) = self.hierarchy.find_virtual(self.program, class, key) {
-            if self.enter(found, left) {
-                ways.add(found.class)?;
-            }
-        }
-        ways.add_all(row_of(self.above.below.as_slice(), class))
+/// The classes below those that are open by themselves.
+fn opened(
+    alloc: Global,
+    program: &Program,
+    hierarchy: &Hierarchy,
+    count: u32,
+    here: &[bool],
+) -> Result<Vec<u32>, AllocError>
+    requires counted { count ≡ length program.now.classes }
+    requires resolved { IsResolved program.now hierarchy.now }
+    ensures { IfOk result (λ opened. opened.items ≡ up_to (opened_at program.now here.now) (length program.now.classes)) }
+{
+    let mut out = Vec::new(alloc);
+    for place in 0..count {
+        add_opened(alloc, program, hierarchy, here, place, &mut out)?;
     }
+    Ok(out)
+}
 
-    /// Takes the marks from all methods with the key that the framework may enter.
-    fn enter_key(&self, key: u32, left: &mut [bool], ways: &mut Ways) -> Result<(), AllocError> {
-        ways.begin();
-        ways.add_all(row_of(self.above.by_key.as_slice(), key))?;
-        self.first_of(key, left, ways)?;
-        for at in 0..self.program.classes.len() {
-            let class = match ways.list.get(at) {
-                Some(class) => *class,
-                None => break,
-            };
-            self.follow(class, key, left, ways)?;
-        }
-        Ok(())
-    }
+/// By the place of a class whether it is open.
+fn open_marks(
+    alloc: Global,
+    program: &Program,
+    hierarchy: &Hierarchy,
+    count: u32,
+    here: &[bool],
+) -> Result<Vec<bool>, AllocError>
+    requires counted { count ≡ length program.now.classes }
+    requires resolved { IsResolved program.now hierarchy.now }
+    ensures { IfOk result (λ marks. marks.items ≡ open_marks program.now here.now) }
+{
+    let opened = opened(alloc, program, hierarchy, count, here)?;
+    marked(alloc, opened.as_slice(), program.classes.len())
+}
 
-    /// Whether some method with the key may be shut as far as it alone says.
-    fn matters(&self, key: u32) -> bool {
-        !self.hierarchy.definers_of(key).is_empty()
-            && !self.hierarchy.is_key_of_object(key)
-            && !is_on(self.called, key)
+/// Adds the numbers of the virtual methods of classes.
+fn add_along(
+    program: &Program,
+    hierarchy: &Hierarchy,
+    places: &[u32],
+    out: &mut Vec<u32>,
+) -> Result<(), AllocError>
+    requires { IsOf program.now hierarchy.now }
+    ensures { OnOk result (out.new.items ≡ out.old.items ++ virtual_along program.now places.now) }
+{
+    for place in places {
+        add_at(program, hierarchy, *place, out)?;
     }
+    Ok(())
+}
 
-    /// By method number, the methods that are shut.
-    pub fn shut(&self, alloc: Global) -> Result<Vec<bool>, AllocError> {
-        let mut left = vec![in alloc; false; self.program.methods.len()]?;
-        for class in self.program.classes.as_slice() {
-            self.mark_class(class, left.as_mut_slice());
-        }
-        self.enter_open(alloc, left.as_mut_slice())?;
-        let mut ways = Ways::new(alloc, self.program.classes.len())?;
-        for number in 0..self.program.methods.len() {
-            let key = word(number);
-            if self.matters(key) {
-                self.enter_key(key, left.as_mut_slice(), &mut ways)?;
-            }
-        }
-        Ok(left)
+/// The numbers of the virtual methods of a class and its superclasses.
+fn numbers_along(
+    alloc: Global,
+    program: &Program,
+    hierarchy: &Hierarchy,
+    class: u32,
+) -> Result<Vec<u32>, AllocError>
+    requires { IsOf program.now hierarchy.now }
+    ensures { IfOk result (λ numbers. numbers.items ≡ numbers_along program.now class) }
+{
+    let mut numbers = Vec::new(alloc);
+    let chain = hierarchy.chain(alloc, class)?;
+    add_along(program, hierarchy, chain.as_slice(), &mut numbers)?;
+    Ok(numbers)
+}
+
+/// Takes the marks from all methods that a class finds along itself and its superclasses.
+fn enter_along(
+    alloc: Global,
+    program: &Program,
+    hierarchy: &Hierarchy,
+    class: u32,
+    marks: &mut [bool],
+) -> Result<(), AllocError>
+    requires { IsOf program.now hierarchy.now }
+    ensures { OnOk result (marks.new ≡ set_all false marks.old (found_along program.now class)) }
+{
+    let numbers = numbers_along(alloc, program, hierarchy, class)?;
+    clear_found(program, hierarchy, class, numbers.as_slice(), marks);
+    Ok(())
+}
+
+/// Takes the marks from all that the class at a place finds, where it is open.
+fn enter_open(
+    alloc: Global,
+    program: &Program,
+    hierarchy: &Hierarchy,
+    opens: &[bool],
+    place: u32,
+    marks: &mut [bool],
+) -> Result<(), AllocError>
+    requires { IsOf program.now hierarchy.now }
+    ensures { OnOk result (marks.new ≡ set_all false marks.old (found_open program.now opens.now place)) }
+{
+    if is_on(opens, place) {
+        enter_along(alloc, program, hierarchy, place, marks)?;
     }
+    Ok(())
+}
+
+/// Takes the marks from all that open classes find.
+fn enter_opens(
+    alloc: Global,
+    program: &Program,
+    hierarchy: &Hierarchy,
+    count: u32,
+    opens: &[bool],
+    marks: &mut [bool],
+) -> Result<(), AllocError>
+    requires counted { count ≡ length program.now.classes }
+    requires of { IsOf program.now hierarchy.now }
+    ensures { OnOk result (marks.new ≡ set_all false marks.old (up_to (found_open program.now opens.now) (length program.now.classes))) }
+{
+    for place in 0..count {
+        enter_open(alloc, program, hierarchy, opens, place, marks)?;
+    }
+    Ok(())
+}
+
+/// Takes the marks from all methods that the framework enters by what it declares and by what is kept.
+pub fn enter(
+    alloc: Global,
+    program: &Program,
+    hierarchy: &Hierarchy,
+    count: u32,
+    kept: &[bool],
+    above: &Above,
+    marks: &mut [bool],
+) -> Result<(), AllocError>
+    requires counted { count ≡ length program.now.classes }
+    requires resolved { IsResolved program.now hierarchy.now }
+    ensures { OnOk result (marks.new ≡ entered program.now kept.now above.now.opens.items above.now.numbers.items marks.old) }
+{
+    enter_classes(alloc, program, hierarchy, count, kept, above, marks)?;
+    let here = above.opens.as_slice();
+    let opens = open_marks(alloc, program, hierarchy, count, here)?;
+    enter_opens(alloc, program, hierarchy, count, opens.as_slice(), marks)?;
+    Ok(())
 }

@@ -7,18 +7,22 @@
 //! program names it: the framework enters declared methods alone, so it never enters this one. Shut methods are kept no
 //! longer for the framework's sake, and those that the program does not call either go.
 //!
-//! Proved of `read_library`: exactly what is read, and each fault. Proved of `narrow`: all but the list of shut methods
-//! is handed on, and the list ascends and names methods of the table alone. That it has just the methods of the
-//! definition of shut methods is not proved.
+//! Proved of `read_library`: exactly what is read, and each fault; and of `narrow`: the list of shut methods has just those
+//! of the definition (`specs/Shut.antt`), ascending, and all else is handed on. The code goes by tables (`specs/Marking.antt`,
+//! `specs/Meeting.antt`), and lemmas say that the marks which the tables come to are those of the definition.
 #![tactic(auto)]
 
 mod called;
 mod declared;
 mod entered;
+mod found;
 mod library;
+mod listed;
+mod loose;
 mod marks;
 mod narrowing;
 mod open;
+mod others;
 mod reading;
 mod spelled;
 mod texts;

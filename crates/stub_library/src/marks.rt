@@ -1,6 +1,7 @@
-//! Marks and lists by number.
+//! Marks by number.
 
-ghost use Rattle.std.specs.Prelude.{◌≡◌, ◌≤◌, ◌<◌, ◌^◌, false, slice_index_or};
+ghost use Rattle.std.specs.Prelude.{◌≡◌, ◌≤◌, ◌<◌, ◌^◌, true, false, replicate, slice_index_or, slice_set, IfOk};
+ghost use Rattle.stub_library.specs.Marking.{set_all};
 
 use std::alloc::{AllocError, Global};
 
@@ -26,78 +27,45 @@ pub fn is_on(marks: &[bool], number: u32) -> bool
     }
 }
 
-/// Marks a number, and answers whether it had no mark before.
-pub fn turn_on(marks: &mut [bool], number: u32) -> bool {
-    match marks.get_mut(number as usize) {
-        Some(mark) => {
-            let fresh = !*mark;
-            *mark = true;
-            fresh
-        }
-        None => false,
+/// Marks a number or takes its mark, unless it is past the end.
+pub fn turn(marks: &mut [bool], number: u32, on: bool)
+    ensures { marks.new ≡ slice_set marks.old number on }
+{
+    let at = number as usize;
+    if at < marks.len() {
+        marks[at] = on;
     }
 }
 
-/// Stamps a place, and answers whether it had another stamp before.
-pub fn stamp_on(stamps: &mut [u32], place: u32, stamp: u32) -> bool {
-    match stamps.get_mut(place as usize) {
-        Some(cell) => {
-            let fresh = *cell != stamp;
-            *cell = stamp;
-            fresh
-        }
-        None => false,
-    }
-}
-
-/// As many empty lists.
-pub fn empty_rows(alloc: Global, count: usize) -> Result<Vec<Vec<u32>>, AllocError> {
-    let mut rows = Vec::new(alloc);
-    for _ in 0..count {
-        rows.push(Vec::new(alloc))?;
-    }
-    Ok(rows)
-}
-
-/// Adds to the list of a number, unless that is past the table.
-pub fn add_to(rows: &mut Vec<Vec<u32>>, number: u32, item: u32) -> Result<(), AllocError> {
-    if let Some(row) = rows.get_mut(number as usize) {
-        row.push(item)?;
-    }
-    Ok(())
-}
-
-/// The list of a number, empty past the table.
-pub fn row_of(rows: &[Vec<u32>], number: u32) -> &[u32] {
-    match rows.get(number as usize) {
-        Some(row) => row.as_slice(),
-        None => &[],
-    }
-}
-
-/// Adds those of some numbers that had no mark, and marks them.
-pub fn reach(marks: &mut [bool], numbers: &[u32], list: &mut Vec<u32>) -> Result<(), AllocError> {
+/// Marks numbers or takes their marks.
+pub fn turn_all(marks: &mut [bool], numbers: &[u32], on: bool)
+    ensures { marks.new ≡ set_all on marks.old numbers.now }
+{
     for number in numbers {
-        if turn_on(marks, *number) {
-            list.push(*number)?;
-        }
+        turn(marks, *number, on);
     }
-    Ok(())
 }
 
-/// Marks all that is reached by lists from the numbers of a list, and adds each once behind them. Each number of the list
-/// is marked.
-pub fn reach_all(
-    marks: &mut [bool],
-    rows: &[Vec<u32>],
-    list: &mut Vec<u32>,
-) -> Result<(), AllocError> {
-    for at in 0..marks.len() {
-        let one = match list.get(at) {
-            Some(one) => *one,
-            None => break,
-        };
-        reach(marks, row_of(rows, one), list)?;
-    }
-    Ok(())
+/// The marks with numbers marked or their marks taken.
+pub fn turned(marks: Vec<bool>, numbers: &[u32], on: bool) -> Vec<bool>
+    ensures { result.items ≡ set_all on marks.items numbers.now }
+{
+    let mut marks = marks;
+    turn_all(marks.as_mut_slice(), numbers, on);
+    marks
+}
+
+/// A table of this size without marks.
+pub fn no_marks(alloc: Global, size: usize) -> Result<Vec<bool>, AllocError>
+    ensures { IfOk result (λ marks. marks.items ≡ replicate size false) }
+{
+    let marks = vec![in alloc; false; size]?;
+    Ok(marks)
+}
+
+/// The marks of some numbers of a table of this size.
+pub fn marked(alloc: Global, numbers: &[u32], size: usize) -> Result<Vec<bool>, AllocError>
+    ensures { IfOk result (λ marks. marks.items ≡ set_all true (replicate size false) numbers.now) }
+{
+    Ok(turned(vec![in alloc; false; size]?, numbers, true))
 }

@@ -1,171 +1,152 @@
-//! What the framework declares above the classes of a program.
+//! What the framework declares directly above the classes of a program.
+
+ghost use Rattle.std.specs.Prelude.{◌≡◌, ◌&&◌, ◌++◌, ◌∷◌, [], true, is_none, not, IfOk, OnOk};
+ghost use Rattle.std.specs.List.{list_all};
+ghost use Rattle.program_model.specs.Lookups.{class_place};
+ghost use Rattle.program_model.specs.MemberRules.{is_object};
+ghost use Rattle.program_model.specs.Texts.{type_text};
+ghost use Rattle.hierarchy.specs.Shapes.{IsOf};
+ghost use Rattle.stub_library.specs.Shut.{type_clear};
+ghost use Rattle.stub_library.specs.Meeting.{IsDeclared, IsMet, AreMet, MeetsEntry, is_clear};
 
 use crate::declared::{Declared, Met};
-use crate::marks::{add_to, empty_rows, is_on, reach_all, turn_on, word};
+use crate::library::Library;
 use crate::texts::{is_object, type_units};
 use hierarchy::Hierarchy;
 use program_model::{Class, Program};
+use seq::Seq;
 use std::alloc::{AllocError, Global};
 
-/// `below` has the classes directly below each class. `open` marks the classes with a framework type above them whose
-/// methods are not all known. `by_key` has for each key the classes that list a framework type at or above which a method
-/// with the key is declared.
+/// By the place of a class: `opens` marks the classes with a framework type in their lists above which not all types are
+/// known, and `numbers` has the method numbers with a name and proto that is declared above one.
 #[derive(Drop)]
 pub struct Above {
-    pub below: Vec<Vec<u32>>,
-    pub open: Vec<bool>,
-    pub by_key: Vec<Vec<u32>>,
-}
-
-/// For each type of a program what is met above it, none where that isn't asked for yet.
-#[derive(Drop)]
-struct Known {
-    met: Vec<Option<Met>>,
-}
-
-impl Known {
-    /// Nothing asked for yet.
-    fn new(alloc: Global, program: &Program) -> Result<Known, AllocError> {
-        let mut met = Vec::new(alloc);
-        for _ in 0..program.types.len() {
-            met.push(None)?;
-        }
-        Ok(Known { met })
-    }
-
-    /// Finds what is met above a type, unless that is known.
-    fn find(
-        &mut self,
-        alloc: Global,
-        program: &Program,
-        declared: &Declared,
-        kind: u32,
-    ) -> Result<(), AllocError> {
-        if let Some(cell) = self.met.get_mut(kind as usize) {
-            if cell.is_none() {
-                *cell = Some(declared.met_from(alloc, type_units(program, kind))?);
-            }
-        }
-        Ok(())
-    }
-
-    /// What is met above a type, where that was found.
-    fn get(&self, kind: u32) -> Option<&Met> {
-        match self.met.get(kind as usize) {
-            Some(Some(met)) => Some(met),
-            _ => None,
-        }
-    }
+    pub opens: Vec<bool>,
+    pub numbers: Vec<Seq<u32>>,
 }
 
 /// Whether a type is the framework's and not `Ljava/lang/Object;`.
-pub fn is_framework(program: &Program, hierarchy: &Hierarchy, kind: u32) -> bool {
+pub fn is_framework(program: &Program, hierarchy: &Hierarchy, kind: u32) -> bool
+    requires { IsOf program.now hierarchy.now }
+    ensures { result ≡ (is_none (class_place program.now kind) && not (is_object (type_text program.now kind))) }
+{
     hierarchy.place_of(kind).is_none() && !is_object(type_units(program, kind))
 }
 
+impl Met {
+    /// Nothing met.
+    fn new(alloc: Global) -> Met
+        ensures whole { result.whole ≡ true }
+        ensures none { result.numbers.items ≡ [] }
+    {
+        Met {
+            whole: true,
+            numbers: Vec::new(alloc),
+        }
+    }
+}
+
+/// Meets all on the walk upwards from a type of the framework.
+fn meet_type<'a, 's>(
+    alloc: Global,
+    program: &'a Program,
+    hierarchy: &Hierarchy,
+    declared: &Declared<'a, 's>,
+    kind: u32,
+    met: &mut Met,
+) -> Result<(), AllocError>
+    requires of { IsOf program.now hierarchy.now }
+    requires same { declared.now.spelled.now.program.now ≡ program.now }
+    requires declared { IsDeclared program.now declared.now.library.now declared.now }
+    ensures { OnOk result (MeetsEntry program.now (λ q. type_clear program.now declared.now.library.now q kind) met.old met.new) }
+{
+    if !is_framework(program, hierarchy, kind) {
+        return Ok(());
+    }
+    declared.meet_all(alloc, type_units(program, kind), met)?;
+    Ok(())
+}
+
+/// Meets all on the walks upwards from types of the framework.
+fn meet_types<'a, 's>(
+    alloc: Global,
+    program: &'a Program,
+    hierarchy: &Hierarchy,
+    declared: &Declared<'a, 's>,
+    kinds: &[u32],
+    met: &mut Met,
+) -> Result<(), AllocError>
+    requires of { IsOf program.now hierarchy.now }
+    requires same { declared.now.spelled.now.program.now ≡ program.now }
+    requires declared { IsDeclared program.now declared.now.library.now declared.now }
+    ensures { OnOk result (MeetsEntry program.now (λ q. list_all (type_clear program.now declared.now.library.now q) kinds.now) met.old met.new) }
+{
+    for kind in kinds {
+        meet_type(alloc, program, hierarchy, declared, *kind, met)?;
+    }
+    Ok(())
+}
+
+/// What is met above the framework types that a class lists.
+fn met_above<'a, 's>(
+    alloc: Global,
+    program: &'a Program,
+    hierarchy: &Hierarchy,
+    declared: &Declared<'a, 's>,
+    class: &Class,
+) -> Result<Met, AllocError>
+    requires of { IsOf program.now hierarchy.now }
+    requires same { declared.now.spelled.now.program.now ≡ program.now }
+    requires declared { IsDeclared program.now declared.now.library.now declared.now }
+    ensures { IfOk result (λ met. IsMet program.now declared.now.library.now class.now met.whole met.numbers.items) }
+{
+    let mut met = Met::new(alloc);
+    let above = class.superclass;
+    meet_type(alloc, program, hierarchy, declared, above, &mut met)?;
+    let kinds = class.interfaces.as_slice();
+    meet_types(alloc, program, hierarchy, declared, kinds, &mut met)?;
+    Ok(met)
+}
+
 impl Above {
-    /// Nothing known above the classes of a program.
-    fn new(alloc: Global, program: &Program) -> Result<Above, AllocError> {
-        Ok(Above {
-            below: empty_rows(alloc, program.classes.len())?,
-            open: vec![in alloc; false; program.classes.len()]?,
-            by_key: empty_rows(alloc, program.methods.len())?,
-        })
+    /// No classes.
+    fn none(alloc: Global) -> Above
+        ensures opens { result.opens.items ≡ [] }
+        ensures numbers { result.numbers.items ≡ [] }
+    {
+        Above {
+            opens: Vec::new(alloc),
+            numbers: Vec::new(alloc),
+        }
     }
 
-    /// Notes a class that lists a framework type, above which this is met.
-    fn note(&mut self, place: u32, met: &Met) -> Result<(), AllocError> {
-        if !met.whole {
-            turn_on(self.open.as_mut_slice(), place);
-        }
-        for key in met.keys.as_slice() {
-            add_to(&mut self.by_key, *key, place)?;
-        }
+    /// Adds what is met above a class.
+    fn add(&mut self, met: Met) -> Result<(), AllocError>
+        ensures opens { OnOk result (self.new.opens.items ≡ self.old.opens.items ++ not met.whole ∷ []) }
+        ensures numbers { OnOk result (self.new.numbers.items ≡ self.old.numbers.items ++ met.numbers.items ∷ []) }
+    {
+        self.opens.push(!met.whole)?;
+        self.numbers.push(Seq::of_vec(met.numbers))?;
         Ok(())
     }
 
-    /// Notes a type that a class lists.
-    fn add_type(
-        &mut self,
+    /// What the framework declares above the classes of a program.
+    pub fn of_classes<'a, 's>(
         alloc: Global,
-        program: &Program,
+        program: &'a Program,
         hierarchy: &Hierarchy,
-        declared: &Declared,
-        known: &mut Known,
-        place: u32,
-        kind: u32,
-    ) -> Result<(), AllocError> {
-        if let Some(up) = hierarchy.place_of(kind) {
-            return add_to(&mut self.below, up, place);
+        declared: &Declared<'a, 's>,
+    ) -> Result<Above, AllocError>
+        requires of { IsOf program.now hierarchy.now }
+        requires same { declared.now.spelled.now.program.now ≡ program.now }
+        requires declared { IsDeclared program.now declared.now.library.now declared.now }
+        ensures { IfOk result (λ above. AreMet program.now declared.now.library.now above.opens.items above.numbers.items) }
+    {
+        let mut above = Above::none(alloc);
+        for class in program.classes.as_slice() {
+            let met = met_above(alloc, program, hierarchy, declared, class)?;
+            above.add(met)?;
         }
-        if !is_framework(program, hierarchy, kind) {
-            return Ok(());
-        }
-        known.find(alloc, program, declared, kind)?;
-        match known.get(kind) {
-            Some(met) => self.note(place, met),
-            None => Ok(()),
-        }
-    }
-
-    /// Notes the types that a class lists.
-    fn add_class(
-        &mut self,
-        alloc: Global,
-        program: &Program,
-        hierarchy: &Hierarchy,
-        declared: &Declared,
-        known: &mut Known,
-        place: u32,
-        class: &Class,
-    ) -> Result<(), AllocError> {
-        self.add_type(
-            alloc,
-            program,
-            hierarchy,
-            declared,
-            known,
-            place,
-            class.superclass,
-        )?;
-        for kind in class.interfaces.as_slice() {
-            self.add_type(alloc, program, hierarchy, declared, known, place, *kind)?;
-        }
-        Ok(())
-    }
-
-    /// Opens all classes below an open one.
-    fn open_below(&mut self, alloc: Global) -> Result<(), AllocError> {
-        let mut list = Vec::new(alloc);
-        for place in 0..self.open.len() {
-            if is_on(self.open.as_slice(), word(place)) {
-                list.push(word(place))?;
-            }
-        }
-        reach_all(self.open.as_mut_slice(), self.below.as_slice(), &mut list)
-    }
-
-    /// What is known above the classes of a program.
-    pub fn of(
-        alloc: Global,
-        program: &Program,
-        hierarchy: &Hierarchy,
-        declared: &Declared,
-    ) -> Result<Above, AllocError> {
-        let mut above = Above::new(alloc, program)?;
-        let mut known = Known::new(alloc, program)?;
-        for (place, class) in program.classes.as_slice().iter().enumerate() {
-            above.add_class(
-                alloc,
-                program,
-                hierarchy,
-                declared,
-                &mut known,
-                word(place),
-                class,
-            )?;
-        }
-        above.open_below(alloc)?;
         Ok(above)
     }
 }

@@ -3,12 +3,12 @@
 ghost use Rattle.std.specs.Prelude.{◌≡◌, ◌++◌, ◌∷◌, [], ◌==◌, map, filter, cond, slice_get, IfOk, OnOk};
 ghost use Rattle.dex_base.specs.Reading.{Gives};
 ghost use Rattle.dex_read.specs.Faults.{is_free};
-ghost use Rattle.program_model.specs.MemberRules.{is_direct, name_of_method};
+ghost use Rattle.program_model.specs.MemberRules.{is_direct};
 ghost use Rattle.program_model.specs.Texts.{first_unit, type_text};
 ghost use Rattle.stub_library.specs.Stubs.{is_virtual, declared_method, methods_of, class_of, library_of, library_at};
 
 use crate::library::{Library, LibraryClass, LibraryMethod};
-use crate::texts::{proto_units, string_units, type_units};
+use crate::texts::{name_units, proto_units, string_units, type_units};
 use dex_base::Text;
 use dex_read::{DexFault, read_dex};
 use program_model::{Class, Flags, Method, MethodName, Program};
@@ -22,16 +22,6 @@ fn first_unit(units: &[u16]) -> u16
     match units.first() {
         Some(unit) => *unit,
         None => 0,
-    }
-}
-
-/// The units of the method's name, none where there is no such method.
-fn name_units(program: &Program, method: u32) -> &[u16]
-    ensures { result.now ≡ name_of_method program.now (slice_get program.now.methods method) }
-{
-    match program.methods.items.get(method as usize) {
-        Some(named) => string_units(program, named.name),
-        None => &[],
     }
 }
 

@@ -1,7 +1,8 @@
 //! The texts of strings, types and protos (Dalvik executable format, "string_data_item", "TypeDescriptor").
 
-ghost use Rattle.std.specs.Prelude.{◌≡◌, ◌++◌, ◌∷◌, flat_map, IfOk, OnOk};
+ghost use Rattle.std.specs.Prelude.{◌≡◌, ◌++◌, ◌∷◌, flat_map, slice_get, IfOk, OnOk};
 ghost use Rattle.program_model.specs.Texts.{string_text, type_text};
+ghost use Rattle.program_model.specs.MemberRules.{is_object, name_of_method};
 ghost use Rattle.stub_library.specs.Stubs.{proto_text};
 
 use program_model::{Program, Proto};
@@ -28,8 +29,20 @@ pub fn type_units(program: &Program, kind: u32) -> &[u16]
     }
 }
 
+/// The units of the method's name, none where there is no such method.
+pub fn name_units(program: &Program, method: u32) -> &[u16]
+    ensures { result.now ≡ name_of_method program.now (slice_get program.now.methods method) }
+{
+    match program.methods.items.get(method as usize) {
+        Some(named) => string_units(program, named.name),
+        None => &[],
+    }
+}
+
 /// Whether the units are `Ljava/lang/Object;`.
-pub fn is_object(units: &[u16]) -> bool {
+pub fn is_object(units: &[u16]) -> bool
+    ensures { result ≡ is_object units.now }
+{
     let object: [u16; 18] = [
         76, 106, 97, 118, 97, 47, 108, 97, 110, 103, 47, 79, 98, 106, 101, 99, 116, 59,
     ];

@@ -1,5 +1,5 @@
 -- What the output of `optimise` is to the rules and the file that it comes from.
-use Rattle.std.specs.Prelude.{◌≡◌, ◌⊎◌, ℕ, Bool, true, List, Some, Ok}
+use Rattle.std.specs.Prelude.{◌≡◌, ◌⊎◌, ℕ, Bool, true, false, List, Ok}
 use Rattle.dalvik_defs.specs.Naming.{named}
 use Rattle.dalvik_defs.specs.Outer.{outer_of}
 use Rattle.dalvik_defs.specs.Shown.{SameShown}
@@ -21,11 +21,13 @@ use Rattle.pipeline.specs.Passes.{KeepsForms}
 use Rattle.rounds_bridge.specs.Ended.{NoneKnown}
 use Rattle.stay_law.specs.Stays.{Stays}
 use Rattle.silence_bridge.specs.Admitted.{admitted_in}
+use Rattle.command_line.specs.Spelling.{Spells}
 use Rattle.command_line.specs.declared.command.CommandWords.TheVariants.{Optimise}
 use Rattle.command_line.specs.declared.command.OptimiseWords.{OptimiseWords}
 use Rattle.redex_outside.specs.Held.{Held}
-use Rattle.redex_cli.specs.Commands.{Commands}
+use Rattle.redex_cli.specs.Files.{AreHeld}
 use Rattle.redex_cli.specs.Finished.{IsRuled}
+use Rattle.redex_cli.specs.declared.fetching.Inputs.{Inputs}
 
 -- What is left of a program shows what the program shows without its silent calls in the admitted methods, to every
 -- framework, under every script and float table that fit, and is well-formed and typed. Some advisers were asked which methods
@@ -53,24 +55,26 @@ pub record KeepsMeaning (program : Program) (outside : Outside) (left : Program)
   pub packed : has_narrow_classes left ≡ true → AllPacked admitted left
   pub stays : Stays admitted program left
 
--- The file spells a program, the rules have a table for it, and the output is the file that is written for a program that
--- keeps its meaning. Not said yet: how the table comes of the rules, and that the written file spells that program and is
--- valid.
-pub record Shrinks (rules file output : List ℕ) : Type 0 where
+-- The file spells a program, the rules have a table for it, with the methods shut that the library shuts where there is one, and
+-- the output is the file that is written for a program that keeps its meaning. Not said yet: how the table comes of the rules, and
+-- that the written file spells that program and is valid.
+pub record Shrinks (inputs : Inputs) (output : List ℕ) : Type 0 where
   pub program : Program
-  pub reads : program_at file ≡ Ok program
+  pub reads : program_at inputs.file ≡ Ok program
   pub outside : Outside
-  pub ruled : IsRuled rules program outside
+  pub ruled : IsRuled inputs.rules inputs.library program outside
   pub left : Program
   pub written : IsWritten left output
   pub keeps : KeepsMeaning program outside left
 
+-- The words don't ask for calls to be inlined.
+abbrev pub InlinesNothing : List (List ℕ) → Type 0
+InlinesNothing words = (asked : OptimiseWords) → Spells words (Optimise asked) → asked.inline ≡ false
+
 -- The words spell `optimise`, and the output is such a one of what the names hold.
 pub record Headline (words : List (List ℕ)) (held : Held) (output : List ℕ) : Type 0 where
   pub asked : OptimiseWords
-  pub commands : Commands words (Optimise asked)
-  pub rules : List ℕ
-  pub ruled : held asked.rules ≡ Some rules
-  pub file : List ℕ
-  pub filed : held asked.input ≡ Some file
-  pub shrinks : Shrinks rules file output
+  pub spelled : Spells words (Optimise asked)
+  pub inputs : Inputs
+  pub are : AreHeld true held asked.rules asked.input asked.library inputs
+  pub shrinks : Shrinks inputs output

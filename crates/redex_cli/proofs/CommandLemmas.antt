@@ -6,11 +6,12 @@ use Rattle.rule_text.specs.declared.fault.RuleFault.{RuleFault}
 use Rattle.redex_outside.specs.Held.{Held, AllSame, OthersSame, OldOrPrefix}
 use Rattle.dex_read.specs.declared.fault.DexFault.{DexFault}
 use Rattle.program_model.specs.declared.limits.Counted.{Counted}
+use Rattle.command_line.specs.declared.command.CommandWords.{CommandWords}
 use Rattle.command_line.specs.declared.command.OptimiseWords.{OptimiseWords}
-use Rattle.redex_cli.specs.Commands.{Fetch, file_alone, input_files, library_file, script_alone, trace_files}
+use Rattle.redex_cli.specs.Commands.{Fetch, fetches, file_alone, input_files, library_file, output_of, script_alone, trace_files}
 use Rattle.redex_cli.specs.Fetching.{Failures, AllWithin, FirstTooLong, FetchRefused, HoldsBadLine, OneBadLine, PutRefused}
 use Rattle.redex_cli.specs.Files.{AllFilesRead, AllLibrariesRead, AllRead, AreHeld, AreRead, BytesRefused, FileCause, FileRefused, HasLibrary, HoldsBadRules, HoldsLibrary, HoldsNamed, HoldsRead, HoldsRefused, IsDeclared, IsRead, LibraryRefused, OneBadLibrary, RulesCause}
-use Rattle.redex_cli.specs.Finished.{Checks, Finished, FinishedOf, IsChecked, IsSummary}
+use Rattle.redex_cli.specs.Finished.{Checks, Finished, FinishedOf, IsChecked, IsOutputOf, IsResult, IsSummary}
 use Rattle.redex_cli.specs.Lists.{IsListed, ListsFile}
 use Rattle.redex_cli.specs.Refusals.{Cause, EndsTooLong, Gives, HoldsSummed, IsDexFault, IsLibraryFault, MadeRefused, ReadRefused, Refuses, TraceRefused, WorkRefused}
 use Rattle.redex_cli.specs.Stays.{OutputHolds, HoldsPart, Stays}
@@ -461,3 +462,17 @@ pub output_gives : (words : OptimiseWords) (inputs : Inputs) (tells tells' : Boo
 output_gives words inputs tells tells' old mid new bytes content summary text is_bytes is_text read are within finished e same put others =
     subst (λ (t : List ℕ). Gives (input_files words.rules words.input words.library) (Some words.output) (FinishedOf tells old words) (IsSummary (FinishedOf tells old words)) tells old new t) (sym is_text)
     (put_gives words inputs tells tells' old mid new bytes summary read are within finished e same (λ told. put told ∙ ap Some is_bytes) others)
+
+-- ---- a command that is found to be this one
+
+pub found_gives : (command other : CommandWords) (tells : Bool) (old new : Held) (text : List ℕ) → command ≡ other
+    → Gives (fetches other) (output_of other) (IsOutputOf tells old other) (IsResult tells old other) tells old new text
+    → Gives (fetches command) (output_of command) (IsOutputOf tells old command) (IsResult tells old command) tells old new text
+found_gives command other tells old new text e gives =
+    subst (λ (c : CommandWords). Gives (fetches c) (output_of c) (IsOutputOf tells old c) (IsResult tells old c) tells old new text) (sym e) gives
+
+pub found_refuses : (command other : CommandWords) (tells : Bool) (old new : Held) (f g p q : Failures) (status : Status) → command ≡ other
+    → Refuses (fetches other) (output_of other) (IsOutputOf tells old other) tells old new f g p q status
+    → Refuses (fetches command) (output_of command) (IsOutputOf tells old command) tells old new f g p q status
+found_refuses command other tells old new f g p q status e refuses =
+    subst (λ (c : CommandWords). Refuses (fetches c) (output_of c) (IsOutputOf tells old c) tells old new f g p q status) (sym e) refuses

@@ -9,6 +9,8 @@ use Rattle.program_model.specs.declared.pass.Outside.{Outside}
 use Rattle.program_model.specs.declared.pools.FieldName.{FieldName}
 use Rattle.program_model.specs.declared.pools.MethodName.{MethodName}
 use Rattle.program_model.specs.declared.program.Class.{Class}
+use Rattle.program_model.specs.declared.program.Field.{Field}
+use Rattle.program_model.specs.declared.program.Method.{Method}
 use Rattle.program_model.specs.declared.program.Program.{Program}
 use Rattle.reach.specs.Kept.{is_marked}
 use Rattle.redex_outside.specs.Held.{Held}
@@ -30,19 +32,23 @@ method_line p class None = []
 method_line p class (Some method) =
     escaped (type_text p class) ++ codes "->" ++ escaped (string_text p method.name) ++ escaped (proto_text p method.proto) ++ codes "\n"
 
-abbrev pub field_lines : Program → LiveSet → Class → List ℕ
-field_lines p live class = flat_map (λ f. cond (is_marked live.fields.items f.name) (field_line p class.name (slice_get p.fields f.name)) []) class.fields
+-- the lines of a member, of the members of a class, and of a class, where they are live
+abbrev pub live_field : Program → LiveSet → ℕ → Field → List ℕ
+live_field p live class f = cond (is_marked live.fields.items f.name) (field_line p class (slice_get p.fields f.name)) []
 
-abbrev pub method_lines : Program → LiveSet → Class → List ℕ
-method_lines p live class = flat_map (λ m. cond (is_marked live.methods.items m.name) (method_line p class.name (slice_get p.methods m.name)) []) class.methods
+abbrev pub live_method : Program → LiveSet → ℕ → Method → List ℕ
+live_method p live class m = cond (is_marked live.methods.items m.name) (method_line p class (slice_get p.methods m.name)) []
 
--- the class, and its live members in class order
 abbrev pub class_lines : Program → LiveSet → Class → List ℕ
-class_lines p live class = escaped (type_text p class.name) ++ codes "\n" ++ field_lines p live class ++ method_lines p live class
+class_lines p live class =
+    escaped (type_text p class.name) ++ codes "\n" ++ flat_map (live_field p live class.name) class.fields ++ flat_map (live_method p live class.name) class.methods
 
--- the live classes in file order
+abbrev pub live_class : Program → LiveSet → Class → List ℕ
+live_class p live class = cond (is_marked live.classes.items class.name) (class_lines p live class) []
+
+-- the live classes in file order, each with its live members in class order
 abbrev pub live_text : Program → LiveSet → List ℕ
-live_text p live = flat_map (λ c. cond (is_marked live.classes.items c.name) (class_lines p live c) []) p.classes
+live_text p live = flat_map (live_class p live) p.classes
 
 -- The text lists what is live of the program that the file of these inputs spells, which is accepted, by a table for their
 -- library: sets that hold all that the table keeps and all that something in them entails. That they are the least is not

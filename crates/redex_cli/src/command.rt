@@ -121,6 +121,7 @@ fn run_check<H: Shelf>(alloc: Global, input: &Word, shelf: &mut H) -> Result<Vec
 }
 
 /// No words: the result is the usage text.
+#[tactic(auto, using(crate::proofs::FinishedLemmas::none_made))]
 fn usage_result(alloc: Global) -> Result<Vec<u8>, Status>
     ensures text { IfOk result (λ text. text.items ≡ usage_text) }
     ensures refused { IfErr result MadeRefused }

@@ -1,14 +1,14 @@
 //! What `live` says: the live classes in file order, each with its live members in class order.
 
-ghost use Rattle.std.specs.Prelude.{◌≡◌, ◌++◌, [], slice_get, cond, IfOk, OnOk};
+ghost use Rattle.std.specs.Prelude.{◌≡◌, ◌++◌, Some, flat_map, IfOk, OnOk};
 ghost use Rattle.program_model.specs.Texts.{string_text, type_text};
 ghost use Rattle.reach.specs.Kept.{is_marked};
 ghost use Rattle.text_defs.specs.Escapes.{escaped};
-ghost use Rattle.redex_cli.specs.Lists.{class_lines, field_line, field_lines, live_text, method_line, method_lines};
+ghost use Rattle.redex_cli.specs.Lists.{class_lines, field_line, live_class, live_field, live_method, live_text, method_line};
 
 use call_graph::LiveSet;
 use pipeline::proto_text;
-use program_model::{Class, FieldName, MethodName, Program};
+use program_model::{Class, Field, FieldName, Method, MethodName, Program};
 use script_text::push_escaped;
 use std::alloc::{AllocError, Global};
 
@@ -81,14 +81,14 @@ fn push_live_field(
     program: &Program,
     live: &LiveSet,
     class: u32,
-    field: u32,
+    field: &Field,
 ) -> Result<(), AllocError>
-    ensures { OnOk result (out.new.items ≡ out.old.items ++ cond (is_marked live.now.fields.items field) (field_line program.now class (slice_get program.now.fields field)) []) }
+    ensures { OnOk result (out.new.items ≡ out.old.items ++ live_field program.now live.now class field.now) }
 {
-    if !is_marked(live.fields.as_slice(), field) {
+    if !is_marked(live.fields.as_slice(), field.name) {
         return Ok(());
     }
-    match program.fields.items.get(field as usize) {
+    match program.fields.items.get(field.name as usize) {
         Some(name) => push_field(out, program, class, name),
         None => Ok(()),
     }
@@ -101,14 +101,14 @@ fn push_live_method(
     program: &Program,
     live: &LiveSet,
     class: u32,
-    method: u32,
+    method: &Method,
 ) -> Result<(), AllocError>
-    ensures { OnOk result (out.new.items ≡ out.old.items ++ cond (is_marked live.now.methods.items method) (method_line program.now class (slice_get program.now.methods method)) []) }
+    ensures { OnOk result (out.new.items ≡ out.old.items ++ live_method program.now live.now class method.now) }
 {
-    if !is_marked(live.methods.as_slice(), method) {
+    if !is_marked(live.methods.as_slice(), method.name) {
         return Ok(());
     }
-    match program.methods.items.get(method as usize) {
+    match program.methods.items.get(method.name as usize) {
         Some(name) => push_method(alloc, out, program, class, name),
         None => Ok(()),
     }
@@ -121,10 +121,10 @@ fn push_fields(
     live: &LiveSet,
     class: &Class,
 ) -> Result<(), AllocError>
-    ensures { OnOk result (out.new.items ≡ out.old.items ++ field_lines program.now live.now class.now) }
+    ensures { OnOk result (out.new.items ≡ out.old.items ++ flat_map (live_field program.now live.now class.now.name) class.now.fields) }
 {
     for field in class.fields.as_slice() {
-        push_live_field(out, program, live, class.name, field.name)?;
+        push_live_field(out, program, live, class.name, field)?;
     }
     Ok(())
 }
@@ -137,10 +137,10 @@ fn push_methods(
     live: &LiveSet,
     class: &Class,
 ) -> Result<(), AllocError>
-    ensures { OnOk result (out.new.items ≡ out.old.items ++ method_lines program.now live.now class.now) }
+    ensures { OnOk result (out.new.items ≡ out.old.items ++ flat_map (live_method program.now live.now class.now.name) class.now.methods) }
 {
     for method in class.methods.as_slice() {
-        push_live_method(alloc, out, program, live, class.name, method.name)?;
+        push_live_method(alloc, out, program, live, class.name, method)?;
     }
     Ok(())
 }
@@ -169,7 +169,7 @@ fn push_live_class(
     live: &LiveSet,
     class: &Class,
 ) -> Result<(), AllocError>
-    ensures { OnOk result (out.new.items ≡ out.old.items ++ cond (is_marked live.now.classes.items class.now.name) (class_lines program.now live.now class.now) []) }
+    ensures { OnOk result (out.new.items ≡ out.old.items ++ live_class program.now live.now class.now) }
 {
     if is_marked(live.classes.as_slice(), class.name) {
         push_class(alloc, out, program, live, class)

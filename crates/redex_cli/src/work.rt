@@ -418,7 +418,7 @@ fn workload_inputs(alloc: Global, count: u32) -> Result<Inputs, AllocError>
 }
 
 /// Optimises the workload of so many classes, and answers the summary.
-#[tactic(auto, using(crate::proofs::FinishedLemmas::is_workload, crate::proofs::FinishedLemmas::made))]
+#[tactic(auto, using(crate::proofs::FinishedLemmas::is_workload, crate::proofs::FinishedLemmas::made, crate::proofs::FinishedLemmas::none_made))]
 pub fn optimise_workload(
     alloc: Global,
     count: u32,

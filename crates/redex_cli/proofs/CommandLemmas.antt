@@ -151,11 +151,11 @@ two_names : (tells : Bool) (held : Held) (rules input : List ℕ) (library : Opt
     → AreHeld tells held rules input library inputs → AreBehind more tells held inputs.library
     → AreInputs (record { name = rules; kind = kind.Rules } ∷ record { name = input; kind = kind.File } ∷ more) tells held inputs
 two_names tells held rules input library more inputs are behind = record {
-  rules = λ told fault bad. inl (holds_bad held rules inputs.rules fault (are.rules told) bad);
-  refused = λ told status r. refused_by tells held rules input more inputs status told (are.file told) behind r;
+  rules = λ told fault bad. inl (holds_bad held rules inputs.rules fault (are.ruled told) bad);
+  refused = λ told status r. refused_by tells held rules input more inputs status told (are.filed told) behind r;
   library = λ fault r. (dex_fault inputs.library fault r, inr (inr (behind.is fault r)));
   read = λ told read. record {
-    files = files_behind held rules input inputs.file more (are.file told) read.file behind.files;
+    files = files_behind held rules input inputs.file more (are.filed told) read.file behind.files;
     libraries = (λ e. absurd (rules_no_library e), (λ e. absurd (file_no_library e), behind.read told read.library));
   };
 }
@@ -163,13 +163,13 @@ two_names tells held rules input library more inputs are behind = record {
 inputs_are : (tells : Bool) (held : Held) (rules input : List ℕ) (library : Option (List ℕ)) (inputs : Inputs)
     → AreHeld tells held rules input library inputs → AreInputs (input_files rules input library) tells held inputs
 inputs_are tells held rules input library inputs are =
-    two_names tells held rules input library (library_file library) inputs are (library_alone tells held library inputs.library are.library)
+    two_names tells held rules input library (library_file library) inputs are (library_alone tells held library inputs.library are.named)
 
 trace_are : (tells : Bool) (held : Held) (rules input : List ℕ) (library : Option (List ℕ)) (script : List ℕ) (inputs : Inputs)
     → AreHeld tells held rules input library inputs → AreInputs (trace_files rules input library script) tells held inputs
 trace_are tells held rules input library script inputs are =
     two_names tells held rules input library (library_file library ++ script_alone script) inputs are
-    (library_behind tells held library inputs.library (script_alone script) are.library
+    (library_behind tells held library inputs.library (script_alone script) are.named
     (λ e. absurd (script_no_file e), tt) (λ e. absurd (script_no_library e), tt))
 
 alone_fault : (library : Option (List ℕ)) (fault : DexFault) → library ≡ None → IsLibraryFault library fault → ⊥

@@ -5,7 +5,7 @@ use Rattle.program_model.specs.declared.limits.Counted.{Counted}
 use Rattle.program_model.specs.declared.limits.LimitFault.{LimitFault}
 use Rattle.redex_outside.specs.Counts.{NoneFell, Rose, raised}
 use Rattle.redex_outside.specs.Held.{Held, AllSame}
-use Rattle.redex_cli.specs.Commands.{Fetch, counted_as}
+use Rattle.redex_cli.specs.Commands.{Fetch, counted_as, input_files, library_file, rules_and_file, script_alone, trace_files}
 use Rattle.redex_cli.specs.Fetching.{Failures, HoldsWithin, HoldsTooMuch, AllWithin, FetchRefused, FirstTooLong, OneCounts, OneRose, OnlyFetched, PassesByOne}
 use Rattle.redex_cli.specs.Files.{AreHeld, HoldsNamed}
 use Rattle.redex_cli.specs.Stays.{IsRefusal, OutputHolds, Stays}
@@ -65,20 +65,35 @@ only_fetched tells tells' tells'' old mid new f m g p n q a b = record {
   puts = fell_since p n q a.puts b.puts;
 }
 
-pub are_held : (tells tells' : Bool) (old mid : Held) (rules input : List ℕ) (library : Option (List ℕ)) (inputs : Inputs)
-    → tells' ≡ tells → (IsTrue tells → AllSame old mid) → (IsTrue tells → old rules ≡ Some inputs.rules) → (IsTrue tells → old input ≡ Some inputs.file)
-    → HoldsNamed tells' mid library inputs.library → AreHeld tells old rules input library inputs
-are_held tells tells' old mid rules input library inputs e same ruled filed named = record {
-  rules = ruled;
-  file = filed;
-  library = since library inputs.library named;
-}
+named_none : (tells : Bool) (held : Held) (name bytes : Option (List ℕ)) → name ≡ None → bytes ≡ None → HoldsNamed tells held name bytes
+named_none tells held None None e f = tt
+named_none tells held (Some name) bytes e f = cc
+named_none tells held None (Some bytes) e f = cc
+
+named_some : (tells : Bool) (held : Held) (name bytes : Option (List ℕ)) (n b : List ℕ) → name ≡ Some n → bytes ≡ Some b → (IsTrue tells → held n ≡ Some b)
+    → HoldsNamed tells held name bytes
+named_some tells held (Some name) (Some bytes) n b e f there = λ told. ap held (same name n e) ∙ there told ∙ sym f
   where
-    since : (name bytes : Option (List ℕ)) → HoldsNamed tells' mid name bytes → HoldsNamed tells old name bytes
-    since None None h = tt
-    since (Some name) (Some bytes) h = λ told. sym (same told name) ∙ h (e ∙ told)
-    since None (Some bytes) h = absurd h
-    since (Some name) None h = absurd h
+    same : (name n : List ℕ) → Some name ≡ Some n → name ≡ n
+    same name n e = cc
+named_some tells held None bytes n b e f there = cc
+named_some tells held (Some name) None n b e f there = cc
+
+-- what is fetched without a library
+pub held_alone : (tells : Bool) (old : Held) (rules input : List ℕ) (library : Option (List ℕ)) (inputs : Inputs) → library ≡ None → inputs.library ≡ None
+    → (IsTrue tells → old rules ≡ Some inputs.rules) → (IsTrue tells → old input ≡ Some inputs.file) → AreHeld tells old rules input library inputs
+held_alone tells old rules input library inputs is alone ruled filed =
+    record { ruled = ruled; filed = filed; named = named_none tells old library inputs.library is alone }
+
+-- and with one
+pub held_behind : (tells tells' : Bool) (old mid : Held) (rules input name bytes : List ℕ) (library : Option (List ℕ)) (inputs : Inputs) → library ≡ Some name
+    → inputs.library ≡ Some bytes → tells' ≡ tells → (IsTrue tells → AllSame old mid) → (IsTrue tells → old rules ≡ Some inputs.rules)
+    → (IsTrue tells → old input ≡ Some inputs.file) → (IsTrue tells' → mid name ≡ Some bytes) → AreHeld tells old rules input library inputs
+held_behind tells tells' old mid rules input name bytes library inputs is there e same ruled filed held = record {
+  ruled = ruled;
+  filed = filed;
+  named = named_some tells old library inputs.library name bytes is there (λ told. sym (same told name) ∙ held (e ∙ told));
+}
 
 within_since : (old mid : Held) (names : List Fetch) → AllSame old mid → AllWithin mid names → AllWithin old names
 within_since old mid [] same w = tt
@@ -159,6 +174,47 @@ refused_behind tells tells' old mid f m g names more (Limit fault) e same fell w
 }
 refused_behind tells tells' old mid f m g names more NoMemory e same fell w r = tt
 refused_behind tells tells' old mid f m g names more _ e same fell w r = absurd r
+
+-- ---- the same of the inputs and the script
+
+pub inputs_within_alone : (tells : Bool) (old : Held) (rules input : List ℕ) (library : Option (List ℕ)) → library ≡ None
+    → (IsTrue tells → AllWithin old (rules_and_file rules input)) → IsTrue tells → AllWithin old (input_files rules input library)
+inputs_within_alone tells old rules input library is w told =
+    subst (λ (l : Option (List ℕ)). AllWithin old (input_files rules input l)) (sym is) (w told)
+
+pub inputs_within : (tells tells' : Bool) (old mid : Held) (rules input name : List ℕ) (library : Option (List ℕ)) → library ≡ Some name → tells' ≡ tells
+    → (IsTrue tells → AllSame old mid) → (IsTrue tells → AllWithin old (rules_and_file rules input)) → (IsTrue tells' → AllWithin mid (library_file (Some name)))
+    → IsTrue tells → AllWithin old (input_files rules input library)
+inputs_within tells tells' old mid rules input name library is e same w v told =
+    subst (λ (l : Option (List ℕ)). AllWithin old (input_files rules input l)) (sym is)
+    (within_both tells tells' old mid (rules_and_file rules input) (library_file (Some name)) e same w v told)
+
+pub inputs_refused_before : (tells : Bool) (held : Held) (f g : Failures) (rules input : List ℕ) (library : Option (List ℕ)) (status : Status)
+    → FetchRefused tells held f g (rules_and_file rules input) status → FetchRefused tells held f g (input_files rules input library) status
+inputs_refused_before tells held f g rules input library status r = refused_before tells held f g (rules_and_file rules input) (library_file library) status r
+
+pub inputs_refused : (tells tells' : Bool) (old mid : Held) (f m g : Failures) (rules input name : List ℕ) (library : Option (List ℕ)) (status : Status) → library ≡ Some name
+    → tells' ≡ tells → (IsTrue tells → AllSame old mid) → NoneFell f m → (IsTrue tells → AllWithin old (rules_and_file rules input))
+    → FetchRefused tells' mid m g (library_file (Some name)) status → FetchRefused tells old f g (input_files rules input library) status
+inputs_refused tells tells' old mid f m g rules input name library status is e same fell w r =
+    subst (λ (l : Option (List ℕ)). FetchRefused tells old f g (input_files rules input l) status) (sym is)
+    (refused_behind tells tells' old mid f m g (rules_and_file rules input) (library_file (Some name)) status e same fell w r)
+
+pub trace_within : (tells tells' : Bool) (old mid : Held) (rules input : List ℕ) (library : Option (List ℕ)) (script : List ℕ) → tells' ≡ tells
+    → (IsTrue tells → AllSame old mid) → (IsTrue tells → AllWithin old (input_files rules input library)) → (IsTrue tells' → AllWithin mid (script_alone script))
+    → IsTrue tells → AllWithin old (trace_files rules input library script)
+trace_within tells tells' old mid rules input library script e same w v told =
+    within_both tells tells' old mid (input_files rules input library) (script_alone script) e same w v told
+
+pub trace_refused_before : (tells : Bool) (held : Held) (f g : Failures) (rules input : List ℕ) (library : Option (List ℕ)) (script : List ℕ) (status : Status)
+    → FetchRefused tells held f g (input_files rules input library) status → FetchRefused tells held f g (trace_files rules input library script) status
+trace_refused_before tells held f g rules input library script status r = refused_before tells held f g (input_files rules input library) (script_alone script) status r
+
+pub trace_refused : (tells tells' : Bool) (old mid : Held) (f m g : Failures) (rules input : List ℕ) (library : Option (List ℕ)) (script : List ℕ) (status : Status)
+    → tells' ≡ tells → (IsTrue tells → AllSame old mid) → NoneFell f m → (IsTrue tells → AllWithin old (input_files rules input library))
+    → FetchRefused tells' mid m g (script_alone script) status → FetchRefused tells old f g (trace_files rules input library script) status
+trace_refused tells tells' old mid f m g rules input library script status e same fell w r =
+    refused_behind tells tells' old mid f m g (input_files rules input library) (script_alone script) status e same fell w r
 
 -- ---- names that stay
 

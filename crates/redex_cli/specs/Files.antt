@@ -174,6 +174,6 @@ HoldsNamed tells held _ _ = ⊥
 
 -- The inputs are what these names hold, where the shelf tells it.
 pub record AreHeld (tells : Bool) (held : Held) (rules input : List ℕ) (library : Option (List ℕ)) (inputs : Inputs) : Type 0 where
-  pub rules : IsTrue tells → held rules ≡ Some inputs.rules
-  pub file : IsTrue tells → held input ≡ Some inputs.file
-  pub library : HoldsNamed tells held library inputs.library
+  pub ruled : IsTrue tells → held rules ≡ Some inputs.rules
+  pub filed : IsTrue tells → held input ≡ Some inputs.file
+  pub named : HoldsNamed tells held library inputs.library

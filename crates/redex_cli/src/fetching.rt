@@ -4,9 +4,9 @@ ghost use Rattle.std.specs.Prelude.{◌≡◌, ◌≤◌, ◌∷◌, [], Some, l
 ghost use Rattle.program_model.specs.Limits.{limit_of};
 ghost use Rattle.redex_outside.specs.Counts.{NoneFell};
 ghost use Rattle.redex_outside.specs.Held.{OthersSame};
-ghost use Rattle.redex_cli.specs.Commands.{counted_as, input_files, library_file, rules_and_file, trace_files};
+ghost use Rattle.redex_cli.specs.Commands.{counted_as, input_files, rules_and_file, trace_files};
 ghost use Rattle.redex_cli.specs.Fetching.{AllWithin, FetchRefused, OnlyFetched, PutRefused};
-ghost use Rattle.redex_cli.specs.Files.{AreHeld, HoldsNamed};
+ghost use Rattle.redex_cli.specs.Files.{AreHeld};
 
 use crate::status::Status;
 use command_line::Word;
@@ -109,28 +109,8 @@ fn fetch_pair<H: Shelf>(
     }
 }
 
-/// Fetches the library, where one is named.
-fn fetch_library<H: Shelf>(
-    alloc: Global,
-    shelf: &mut H,
-    library: &Option<Word>,
-) -> Result<Option<Seq<u8>>, Status>
-    ensures there { IfOk result (HoldsNamed (H.tells shelf.old) (H.held shelf.old) library.now) }
-    ensures within { OnOk result (IsTrue (H.tells shelf.old) → AllWithin (H.held shelf.old) (library_file library.now)) }
-    ensures refused { IfErr result (λ status. FetchRefused (H.tells shelf.old) (H.held shelf.old) (H.fetch_faults shelf.old) (H.fetch_faults shelf.new) (library_file library.now) status) }
-    ensures stays { OnlyFetched (H.tells shelf.old) (H.tells shelf.new) (H.held shelf.old) (H.held shelf.new) (H.fetch_faults shelf.old) (H.fetch_faults shelf.new) (H.put_faults shelf.old) (H.put_faults shelf.new) }
-{
-    match library {
-        None => Ok(None),
-        Some(name) => match fetch(alloc, shelf, name, Kind::Library) {
-            Ok(bytes) => Ok(Some(bytes)),
-            Err(status) => Err(status),
-        },
-    }
-}
-
 /// Fetches the rules, then the file, then the library where one is named.
-#[tactic(auto, using(crate::proofs::FetchLemmas::only_fetched, crate::proofs::FetchLemmas::are_held, crate::proofs::FetchLemmas::within_both, crate::proofs::FetchLemmas::refused_before, crate::proofs::FetchLemmas::refused_behind))]
+#[tactic(auto, using(crate::proofs::FetchLemmas::only_fetched, crate::proofs::FetchLemmas::held_alone, crate::proofs::FetchLemmas::held_behind, crate::proofs::FetchLemmas::inputs_within_alone, crate::proofs::FetchLemmas::inputs_within, crate::proofs::FetchLemmas::inputs_refused_before, crate::proofs::FetchLemmas::inputs_refused))]
 pub fn fetch_inputs<H: Shelf>(
     alloc: Global,
     shelf: &mut H,
@@ -148,18 +128,25 @@ pub fn fetch_inputs<H: Shelf>(
         Ok(pair) => pair,
         Err(status) => return Err(status),
     };
-    match fetch_library(alloc, shelf, library) {
-        Ok(library) => Ok(Inputs {
+    match library {
+        None => Ok(Inputs {
             rules,
             file,
-            library,
+            library: None,
         }),
-        Err(status) => Err(status),
+        Some(name) => match fetch(alloc, shelf, name, Kind::Library) {
+            Ok(library) => Ok(Inputs {
+                rules,
+                file,
+                library: Some(library),
+            }),
+            Err(status) => Err(status),
+        },
     }
 }
 
 /// Fetches the inputs, then the script.
-#[tactic(auto, using(crate::proofs::FetchLemmas::only_fetched, crate::proofs::FetchLemmas::within_both, crate::proofs::FetchLemmas::refused_before, crate::proofs::FetchLemmas::refused_behind))]
+#[tactic(auto, using(crate::proofs::FetchLemmas::only_fetched, crate::proofs::FetchLemmas::trace_within, crate::proofs::FetchLemmas::trace_refused_before, crate::proofs::FetchLemmas::trace_refused))]
 pub fn fetch_trace<H: Shelf>(
     alloc: Global,
     shelf: &mut H,

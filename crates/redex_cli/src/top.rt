@@ -141,8 +141,10 @@ pub fn run<H: Shelf, N: Notes>(
     // (`specs/Finished.antt`).
     ensures stays { IsTrue (H.tells shelf.old) → Stays (Puts (map string_bytes words.now)) (OutputBy (map string_bytes words.now) (H.tells shelf.old) (H.held shelf.old))
         result (H.put_faults shelf.old) (H.put_faults shelf.new) (H.held shelf.old) (H.held shelf.new) }
-    ensures said { IsTrue (N.tells notes.old) → Said (Results (map string_bytes words.now) (H.tells shelf.old) (H.held shelf.old)) result (N.faults notes.old) (N.faults notes.new) (N.said notes.old) (N.said notes.new) }
-    ensures done { result ≡ Status.Done → IsTrue (H.tells shelf.old) → IsTrue (N.tells notes.old) → Delivers (map string_bytes words.now) (H.tells shelf.old) (H.held shelf.old) (H.held shelf.new) (N.said notes.old) (N.said notes.new) }
+    ensures said { IsTrue (N.tells notes.old)
+        → Said (Results (map string_bytes words.now) (H.tells shelf.old) (H.held shelf.old)) result (N.faults notes.old) (N.faults notes.new) (N.said notes.old) (N.said notes.new) }
+    ensures done { result ≡ Status.Done → IsTrue (H.tells shelf.old) → IsTrue (N.tells notes.old)
+        → Delivers (map string_bytes words.now) (H.tells shelf.old) (H.held shelf.old) (H.held shelf.new) (N.said notes.old) (N.said notes.new) }
 {
     answer(alloc, words, shelf, notes, advisers)
 }

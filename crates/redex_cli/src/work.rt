@@ -1,6 +1,6 @@
 //! What the commands do between fetching and putting: values in, a value or a status out.
 
-ghost use Rattle.std.specs.Prelude.{◌≡◌, ◌<◌, ◌≤◌, ◌^◌, ℕ, List, true, None, Some, Ok, length, vec_len, string_bytes, IfOk, IfErr, OnOk};
+ghost use Rattle.std.specs.Prelude.{◌≡◌, ◌<◌, ◌≤◌, ◌^◌, ℕ, List, true, None, Option, Ok, length, vec_len, string_bytes, IfOk, IfErr, OnOk};
 ghost use Rattle.dalvik_defs.specs.Naming.{named};
 ghost use Rattle.dalvik_defs.specs.Outer.{outer_of};
 ghost use Rattle.dalvik_defs.specs.Step.{shows};
@@ -309,7 +309,8 @@ fn left_of(
     panel: &mut Panel,
 ) -> Result<Outcome, AllocError>
     requires { 0 ≤ vec_len panel.old.advisers }
-    ensures optimised { is_well_formed program ≡ true → IfOk result (λ outcome. IsOptimisedBy inline outside.now program (length panel.old.advisers.items) panel.old.answers.items panel.new.answers.items outcome.spared outcome.program outcome.origins outcome.rounds) }
+    ensures optimised { is_well_formed program ≡ true
+        → IfOk result (λ outcome. IsOptimisedBy inline outside.now program (length panel.old.advisers.items) panel.old.answers.items panel.new.answers.items outcome.spared outcome.program outcome.origins outcome.rounds) }
     ensures rounds { IfOk result (λ outcome. 1 ≤ outcome.rounds) }
 {
     if inline {
@@ -443,7 +444,8 @@ pub fn optimise_workload(
 fn live_of(alloc: Global, input: &Input) -> Result<Vec<u8>, Status>
     requires formed { is_well_formed input.now.program ≡ true }
     requires resolved { IsResolved input.now.program input.now.hierarchy }
-    ensures lists { (inputs : Inputs) → program_at inputs.file ≡ Ok input.now.program → IsAccepted input.now.program → IsTableWith inputs.library input.now.program input.now.outside → IfOk result (λ text. ListsFile inputs text.items) }
+    ensures lists { (inputs : Inputs) → program_at inputs.file ≡ Ok input.now.program → IsAccepted input.now.program → IsTableWith inputs.library input.now.program input.now.outside
+        → IfOk result (λ text. ListsFile inputs text.items) }
     ensures refused { (inputs : Inputs) → IfErr result (WorkRefused inputs) }
     ensures bytes { (inputs : Inputs) → IfErr result (BytesRefused inputs) }
 {
@@ -550,7 +552,8 @@ fn trace_play(alloc: Global, input: &Input, play: &Play, steps: u32) -> Result<V
 fn trace_input(alloc: Global, input: &Input, script: &[u8], steps: u32) -> Result<Vec<u8>, Status>
     requires script { length script.now < 2 ^ 32 }
     requires accepted { IsAccepted input.now.program }
-    ensures traced { (inputs : Inputs) → program_at inputs.file ≡ Ok input.now.program → IsTableWith inputs.library input.now.program input.now.outside → IfOk result (λ text. TracesFile inputs script.now steps text.items) }
+    ensures traced { (inputs : Inputs) → program_at inputs.file ≡ Ok input.now.program → IsTableWith inputs.library input.now.program input.now.outside
+        → IfOk result (λ text. TracesFile inputs script.now steps text.items) }
     ensures refused { (inputs : Inputs) → IfErr result (TraceRefused inputs script.now) }
     ensures bytes { (inputs : Inputs) → IfErr result (BytesRefused inputs) }
 {

@@ -340,7 +340,8 @@ keeps_gives names IsFinal IsAnswer tells old new text within read answer same = 
 
 -- a command that fetches nothing
 pub made_gives : (IsFinal : List ℕ → List ℕ → Type 0) (IsAnswer : List ℕ → Type 0) (tells : Bool) (held : Held) (text : List ℕ) → IsAnswer text → Gives [] None IsFinal IsAnswer tells held held text
-made_gives IsFinal IsAnswer tells held text answer = keeps_gives [] IsFinal IsAnswer tells held held text (λ _. tt) (λ _. tt) answer (λ _ name. refl)
+made_gives IsFinal IsAnswer tells held text answer =
+    keeps_gives [] IsFinal IsAnswer tells held held text (λ _. tt) (λ _. record { files = tt; libraries = tt }) answer (λ _ name. refl)
 
 pub live_given : (rules input : List ℕ) (library : Option (List ℕ)) (IsFinal : List ℕ → List ℕ → Type 0) (inputs : Inputs) (tells : Bool) (old new : Held) (text : List ℕ)
     → AreRead inputs → ListsFile inputs text → AreHeld tells old rules input library inputs

@@ -1,0 +1,8 @@
+use Rattle.std.proofs.Common.{length}
+use Rattle.inline_calls.specs.Accepting.{IsAccepted}
+use Rattle.inline_calls.specs.Asked.{Asks}
+use Rattle.inline_calls.proofs.caller.Inliner.accept.Given as goal
+
+abbrev pub invariant-loop-position : goal.invariant-loop-position
+invariant-loop-position g l =
+    Asks (length l.initial.panel.advisers.items) (length l.panel.advisers.items) l.initial.panel.answers.items l.panel.answers.items (IsAccepted l.self l.caller l.cells l.position l.accepted)

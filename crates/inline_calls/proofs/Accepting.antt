@@ -9,6 +9,7 @@ use Rattle.inline_calls.specs.declared.caller.Accepted.{Accepted}
 use Rattle.inline_calls.specs.Accepting.{IsAsked, Weighs, Unasked, Refused, Agreed, chosen_by, Tries, Unsuited, Suited, HasTried, Untried, Tried, IsAccepted, GoesOn}
 use Rattle.inline_calls.specs.Asked.{Row, is_agreed, agreed, agreed_count}
 use Rattle.inline_calls.specs.Candidates.{IsCandidate, IsUnsuited, IsWith}
+use Rattle.inline_calls.specs.Plans.{HasBegun}
 use Rattle.inline_calls.specs.Rooms.{spliced_by, new_of, Judges}
 use Rattle.inline_calls.proofs.Asks.{agreed-append}
 
@@ -85,6 +86,10 @@ next_accepted i c cells n a b rows more was on = record {
   spliced = on.spliced was.spliced;
   count = on.count (agreed_count rows) was.count ∙ ap capped (sym (agreed-append rows more));
 }
+
+-- memory did not suffice for the rest
+pub has_begun : (i : Inliner) (c : Caller) (cells n : ℕ) (a : Accepted) → n ≤ length c.body.now.insns → (rows : List Row) → IsAccepted i c cells n a rows → HasBegun i c cells rows
+has_begun i c cells n a le rows is = record { count = n; within = le; chosen = a.chosen.items; tried = is.tried }
 
 -- ---- how many agree
 

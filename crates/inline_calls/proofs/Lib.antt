@@ -2,6 +2,7 @@ mod Accepting
 mod Arguments
 mod Asks
 mod Candidates
+mod Crowding
 mod Edits
 mod Looking
 mod Receivers

@@ -1,8 +1,10 @@
 -- Methods that were looked at, one after another: how many calls are inlined, and what stays.
-use Rattle.std.proofs.Common.{◌≡◌, ℕ, zero, suc, ◌+◌, ◌<◌, ◌≤◌, ◌^◌, ◌-◌, min, List, [], ◌∷◌, ◌++◌, length, get_or, refl, sym, ap, ◌∙◌, subst, arith, ◌⊎◌, inl, inr, Option, Some, None, slice_get}
+use Rattle.std.proofs.Common.{◌≡◌, ℕ, zero, suc, ◌+◌, ◌<◌, ◌≤◌, ◌^◌, ◌-◌, min, Bool, List, [], ◌∷◌, ◌++◌, length, get_or, refl, sym, ap, ◌∙◌, subst, arith, ◌⊎◌, inl, inr, Option, Some, None, slice_get}
 use Rattle.std.proofs.lemmas.Bool.{cases_eq}
 use Rattle.std.proofs.lemmas.List.{length_push, get_or_append_left}
 use Rattle.std.proofs.Math.Seq.{get_or-append_seam}
+use Rattle.facts.specs.declared.facts.Facts.{Facts}
+use Rattle.hierarchy.specs.declared.Hierarchy.{Hierarchy}
 use Rattle.program_model.specs.Cells.{capped}
 use Rattle.program_model.specs.declared.program.Class.{Class}
 use Rattle.program_model.specs.declared.program.Method.{Method}
@@ -19,7 +21,7 @@ use Rattle.splice.specs.Shifted.{word}
 use Rattle.inline_calls.specs.Accepting.{HasTried, IsAccepted}
 use Rattle.inline_calls.specs.Asked.{Row, agreed_count}
 use Rattle.inline_calls.specs.Edited.{method_by, each_by, class_by, program_by}
-use Rattle.inline_calls.specs.Plans.{noted, edit_of, HasLooked, LooksAt, Bare, Barred, Looked, HaveLooked, NoneLooked, OneLooked, LooksAtMethod, LooksIn, LooksInClass, LooksThrough}
+use Rattle.inline_calls.specs.Plans.{noted, edit_of, IsCallerOf, HasLooked, HasBegun, BeginsAt, LooksAt, Bare, Barred, Looked, HaveLooked, NoneLooked, OneLooked, HaveBegun, Between, Within, LooksAtMethod, LooksIn, LooksInClass, LooksThrough, IsFor, IsPlanned, IsBegun, Unbegun, Begins}
 use Rattle.inline_calls.specs.Rooms.{new_of}
 use Rattle.inline_calls.proofs.Accepting.{tried_empty, tried_none}
 use Rattle.inline_calls.proofs.Asks.{agreed-append}
@@ -146,3 +148,19 @@ pub through_none : (i : Inliner) (p : Program) (d e : Done) (rows : List Row) (e
     → e.count ≡ capped (agreed_count rows) → e.count ≡ 0 → program_by edits p ≡ p
 through_none i p d e rows edits is counted z =
     ap (λ (cs : List Class). record p { classes = cs }) (none_changed (LooksInClass i) p.classes d class_by [] (class_none i) rows edits e is (omega (arith, counted, z)))
+
+-- ---- a part alone
+
+module _ {A E : Type 0} (looks : ℕ → A → Done → List Row → E → Done → Type 0) (begins : ℕ → A → Done → List Row → Type 0) (xs : List A) (d : Done) where
+  -- memory did not suffice in the midst of an item
+  pub begun_within : (n : ℕ) (x : A) (given : List E) (e : Done) → slice_get xs n ≡ Some x → (rows more : List Row) → HaveLooked looks xs d n rows given e → begins n x e more → HaveBegun looks begins xs d (rows ++ more)
+  begun_within n x given e at rows more was begun = Within n x rows more given e was at begun
+
+  -- or behind one
+  pub begun_between : (n : ℕ) (x : A) (given : List E) (one : E) (e f : Done) → slice_get xs n ≡ Some x → (rows more : List Row) → HaveLooked looks xs d n rows given e → looks n x e more one f
+      → HaveBegun looks begins xs d (rows ++ more)
+  begun_between n x given one e f at rows more was is = Between (n + 1) (rows ++ more) (given ++ one ∷ []) f (OneLooked n x rows more given one e f was at is)
+
+pub planned_begun : (p : Program) (h : Hierarchy) (facts : Facts) (admitted : List Bool) (d e : Done) (edits : List (List (Option Edit))) (rows : List Row)
+    → IsPlanned p h facts admitted d e edits rows → IsBegun p h facts admitted d rows
+planned_begun p h facts admitted d e edits rows is = Begins is.inliner rows is.for (Between (length p.classes) rows edits e is.looked)

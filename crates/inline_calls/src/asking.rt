@@ -43,9 +43,13 @@ pub fn ask_about(
     panel: &mut Panel,
 ) -> Result<bool, AllocError>
     ensures asked { IfOk result (λ yes.
-        Asks (map (λ b. replies b) panel.old.advisers.items) (map (λ b. replies b) panel.new.advisers.items)
+        Asks (map (λ b. (⟦<dyn Adviser as Adviser>⟧ b.vtable).replies b.value) panel.old.advisers.items)
+        (map (λ b. (⟦<dyn Adviser as Adviser>⟧ b.vtable).replies b.value) panel.new.advisers.items)
         panel.old.answers.items panel.new.answers.items (IsAsked program.now caller.entry position callee.entry yes)) }
-    ensures unasked { OnErr result (Asks (map (λ b. replies b) panel.old.advisers.items) (map (λ b. replies b) panel.new.advisers.items) panel.old.answers.items panel.new.answers.items NoAsks) }
+    ensures unasked { OnErr result (
+        Asks (map (λ b. (⟦<dyn Adviser as Adviser>⟧ b.vtable).replies b.value) panel.old.advisers.items)
+        (map (λ b. (⟦<dyn Adviser as Adviser>⟧ b.vtable).replies b.value) panel.new.advisers.items)
+        panel.old.answers.items panel.new.answers.items NoAsks) }
 {
     let ask = ask_of(alloc, program, caller, position, callee)?;
     let yes = panel.ask(alloc, &ask)?;

@@ -125,9 +125,13 @@ impl<'p> Inliner<'p> {
     ) -> Result<Option<Spliced>, AllocError>
         requires { IsMeeting self.now.verifier.tables }
         ensures asked { IfOk result (λ new.
-            Asks (map (λ b. replies b) panel.old.advisers.items) (map (λ b. replies b) panel.new.advisers.items)
+            Asks (map (λ b. (⟦<dyn Adviser as Adviser>⟧ b.vtable).replies b.value) panel.old.advisers.items)
+            (map (λ b. (⟦<dyn Adviser as Adviser>⟧ b.vtable).replies b.value) panel.new.advisers.items)
             panel.old.answers.items panel.new.answers.items (λ rows. Weighs self.now caller.entry cells position callee.entry chosen.now rows new)) }
-        ensures unasked { OnErr result (Asks (map (λ b. replies b) panel.old.advisers.items) (map (λ b. replies b) panel.new.advisers.items) panel.old.answers.items panel.new.answers.items NoAsks) }
+        ensures unasked { OnErr result (
+            Asks (map (λ b. (⟦<dyn Adviser as Adviser>⟧ b.vtable).replies b.value) panel.old.advisers.items)
+            (map (λ b. (⟦<dyn Adviser as Adviser>⟧ b.vtable).replies b.value) panel.new.advisers.items)
+            panel.old.answers.items panel.new.answers.items NoAsks) }
     {
         let spliced = match self.judged(alloc, caller, chosen, cells)? {
             Some(spliced) => spliced,
@@ -154,9 +158,13 @@ impl<'p> Inliner<'p> {
         requires meeting { IsMeeting self.now.verifier.tables }
         requires candidate { IsCandidate self.now.known caller position callee }
         ensures asked { IfOk result (λ new.
-            Asks (map (λ b. replies b) panel.old.advisers.items) (map (λ b. replies b) panel.new.advisers.items)
+            Asks (map (λ b. (⟦<dyn Adviser as Adviser>⟧ b.vtable).replies b.value) panel.old.advisers.items)
+            (map (λ b. (⟦<dyn Adviser as Adviser>⟧ b.vtable).replies b.value) panel.new.advisers.items)
             panel.old.answers.items panel.new.answers.items (GoesOn self.now caller.entry cells position accepted.entry new)) }
-        ensures unasked { OnErr result (Asks (map (λ b. replies b) panel.old.advisers.items) (map (λ b. replies b) panel.new.advisers.items) panel.old.answers.items panel.new.answers.items NoAsks) }
+        ensures unasked { OnErr result (
+            Asks (map (λ b. (⟦<dyn Adviser as Adviser>⟧ b.vtable).replies b.value) panel.old.advisers.items)
+            (map (λ b. (⟦<dyn Adviser as Adviser>⟧ b.vtable).replies b.value) panel.new.advisers.items)
+            panel.old.answers.items panel.new.answers.items NoAsks) }
     {
         let chosen = chosen_with(alloc, accepted.chosen.as_slice(), position, callee)?;
         match self.asked(
@@ -189,9 +197,13 @@ impl<'p> Inliner<'p> {
     ) -> Result<Accepted<'p>, AllocError>
         requires { IsMeeting self.now.verifier.tables }
         ensures asked { IfOk result (λ new.
-            Asks (map (λ b. replies b) panel.old.advisers.items) (map (λ b. replies b) panel.new.advisers.items)
+            Asks (map (λ b. (⟦<dyn Adviser as Adviser>⟧ b.vtable).replies b.value) panel.old.advisers.items)
+            (map (λ b. (⟦<dyn Adviser as Adviser>⟧ b.vtable).replies b.value) panel.new.advisers.items)
             panel.old.answers.items panel.new.answers.items (GoesOn self.now caller.entry cells position accepted.entry new)) }
-        ensures unasked { OnErr result (Asks (map (λ b. replies b) panel.old.advisers.items) (map (λ b. replies b) panel.new.advisers.items) panel.old.answers.items panel.new.answers.items NoAsks) }
+        ensures unasked { OnErr result (
+            Asks (map (λ b. (⟦<dyn Adviser as Adviser>⟧ b.vtable).replies b.value) panel.old.advisers.items)
+            (map (λ b. (⟦<dyn Adviser as Adviser>⟧ b.vtable).replies b.value) panel.new.advisers.items)
+            panel.old.answers.items panel.new.answers.items NoAsks) }
     {
         let body = caller.body;
         let insn = match body.insns.as_slice().get(position) {
@@ -214,10 +226,12 @@ impl<'p> Inliner<'p> {
     ) -> Result<Accepted<'p>, AllocError>
         requires { IsMeeting self.now.verifier.tables }
         ensures accepted { IfOk result (λ new.
-            Asks (map (λ b. replies b) panel.old.advisers.items) (map (λ b. replies b) panel.new.advisers.items)
+            Asks (map (λ b. (⟦<dyn Adviser as Adviser>⟧ b.vtable).replies b.value) panel.old.advisers.items)
+            (map (λ b. (⟦<dyn Adviser as Adviser>⟧ b.vtable).replies b.value) panel.new.advisers.items)
             panel.old.answers.items panel.new.answers.items (IsAccepted self.now caller.entry cells (length caller.entry.body.now.insns) new)) }
         ensures begun { OnErr result (
-            Asks (map (λ b. replies b) panel.old.advisers.items) (map (λ b. replies b) panel.new.advisers.items)
+            Asks (map (λ b. (⟦<dyn Adviser as Adviser>⟧ b.vtable).replies b.value) panel.old.advisers.items)
+            (map (λ b. (⟦<dyn Adviser as Adviser>⟧ b.vtable).replies b.value) panel.new.advisers.items)
             panel.old.answers.items panel.new.answers.items (HasBegun self.now caller.entry cells)) }
     {
         let mut accepted = Accepted {

@@ -29,10 +29,12 @@ fn edit_caller<'p>(
 ) -> Result<Option<Edit>, AllocError>
     requires { IsMeeting inliner.now.verifier.tables }
     ensures looked { IfOk result (λ edit.
-        Asks (map (λ b. replies b) panel.old.advisers.items) (map (λ b. replies b) panel.new.advisers.items)
+        Asks (map (λ b. (⟦<dyn Adviser as Adviser>⟧ b.vtable).replies b.value) panel.old.advisers.items)
+        (map (λ b. (⟦<dyn Adviser as Adviser>⟧ b.vtable).replies b.value) panel.new.advisers.items)
         panel.old.answers.items panel.new.answers.items (λ rows. HasLooked inliner.now caller.entry done.old rows edit done.new)) }
     ensures begun { OnErr result (
-        Asks (map (λ b. replies b) panel.old.advisers.items) (map (λ b. replies b) panel.new.advisers.items)
+        Asks (map (λ b. (⟦<dyn Adviser as Adviser>⟧ b.vtable).replies b.value) panel.old.advisers.items)
+        (map (λ b. (⟦<dyn Adviser as Adviser>⟧ b.vtable).replies b.value) panel.new.advisers.items)
         panel.old.answers.items panel.new.answers.items (HasBegun inliner.now caller.entry done.old.cells)) }
 {
     let accepted = inliner.accept(alloc, caller, done.cells, panel)?;
@@ -52,10 +54,12 @@ fn edit_method<'p>(
 ) -> Result<Option<Edit>, AllocError>
     requires { IsMeeting inliner.now.verifier.tables }
     ensures looked { IfOk result (λ edit.
-        Asks (map (λ b. replies b) panel.old.advisers.items) (map (λ b. replies b) panel.new.advisers.items)
+        Asks (map (λ b. (⟦<dyn Adviser as Adviser>⟧ b.vtable).replies b.value) panel.old.advisers.items)
+        (map (λ b. (⟦<dyn Adviser as Adviser>⟧ b.vtable).replies b.value) panel.new.advisers.items)
         panel.old.answers.items panel.new.answers.items (λ rows. LooksAt inliner.now class.now at method.now done.old rows edit done.new)) }
     ensures begun { OnErr result (
-        Asks (map (λ b. replies b) panel.old.advisers.items) (map (λ b. replies b) panel.new.advisers.items)
+        Asks (map (λ b. (⟦<dyn Adviser as Adviser>⟧ b.vtable).replies b.value) panel.old.advisers.items)
+        (map (λ b. (⟦<dyn Adviser as Adviser>⟧ b.vtable).replies b.value) panel.new.advisers.items)
         panel.old.answers.items panel.new.answers.items (BeginsAt inliner.now class.now at method.now done.old)) }
 {
     let body = match &method.body {
@@ -85,10 +89,12 @@ fn edit_class<'p>(
 ) -> Result<Seq<Option<Edit>>, AllocError>
     requires { IsMeeting inliner.now.verifier.tables }
     ensures looked { IfOk result (λ row.
-        Asks (map (λ b. replies b) panel.old.advisers.items) (map (λ b. replies b) panel.new.advisers.items)
+        Asks (map (λ b. (⟦<dyn Adviser as Adviser>⟧ b.vtable).replies b.value) panel.old.advisers.items)
+        (map (λ b. (⟦<dyn Adviser as Adviser>⟧ b.vtable).replies b.value) panel.new.advisers.items)
         panel.old.answers.items panel.new.answers.items (λ rows. LooksIn inliner.now class_place class.now done.old rows row done.new)) }
     ensures begun { OnErr result (
-        Asks (map (λ b. replies b) panel.old.advisers.items) (map (λ b. replies b) panel.new.advisers.items)
+        Asks (map (λ b. (⟦<dyn Adviser as Adviser>⟧ b.vtable).replies b.value) panel.old.advisers.items)
+        (map (λ b. (⟦<dyn Adviser as Adviser>⟧ b.vtable).replies b.value) panel.new.advisers.items)
         panel.old.answers.items panel.new.answers.items (BeginsIn inliner.now class_place class.now done.old)) }
 {
     let mut row = Vec::new(alloc);
@@ -113,10 +119,12 @@ fn edit_classes<'p>(
 ) -> Result<Seq<Seq<Option<Edit>>>, AllocError>
     requires { IsMeeting inliner.now.verifier.tables }
     ensures looked { IfOk result (λ edits.
-        Asks (map (λ b. replies b) panel.old.advisers.items) (map (λ b. replies b) panel.new.advisers.items)
+        Asks (map (λ b. (⟦<dyn Adviser as Adviser>⟧ b.vtable).replies b.value) panel.old.advisers.items)
+        (map (λ b. (⟦<dyn Adviser as Adviser>⟧ b.vtable).replies b.value) panel.new.advisers.items)
         panel.old.answers.items panel.new.answers.items (λ rows. LooksThrough inliner.now classes.now done.old rows edits done.new)) }
     ensures begun { OnErr result (
-        Asks (map (λ b. replies b) panel.old.advisers.items) (map (λ b. replies b) panel.new.advisers.items)
+        Asks (map (λ b. (⟦<dyn Adviser as Adviser>⟧ b.vtable).replies b.value) panel.old.advisers.items)
+        (map (λ b. (⟦<dyn Adviser as Adviser>⟧ b.vtable).replies b.value) panel.new.advisers.items)
         panel.old.answers.items panel.new.answers.items (BeginsThrough inliner.now classes.now done.old)) }
 {
     let mut rows = Vec::new(alloc);
@@ -138,10 +146,12 @@ fn edit_all(
     panel: &mut Panel,
 ) -> Result<Seq<Seq<Option<Edit>>>, AllocError>
     ensures planned { IfOk result (λ edits.
-        Asks (map (λ b. replies b) panel.old.advisers.items) (map (λ b. replies b) panel.new.advisers.items)
+        Asks (map (λ b. (⟦<dyn Adviser as Adviser>⟧ b.vtable).replies b.value) panel.old.advisers.items)
+        (map (λ b. (⟦<dyn Adviser as Adviser>⟧ b.vtable).replies b.value) panel.new.advisers.items)
         panel.old.answers.items panel.new.answers.items (IsPlanned program.now hierarchy.now facts.now admitted.now done.old done.new edits)) }
     ensures begun { OnErr result (
-        Asks (map (λ b. replies b) panel.old.advisers.items) (map (λ b. replies b) panel.new.advisers.items)
+        Asks (map (λ b. (⟦<dyn Adviser as Adviser>⟧ b.vtable).replies b.value) panel.old.advisers.items)
+        (map (λ b. (⟦<dyn Adviser as Adviser>⟧ b.vtable).replies b.value) panel.new.advisers.items)
         panel.old.answers.items panel.new.answers.items (IsBegun program.now hierarchy.now facts.now admitted.now done.old)) }
 {
     let inliner = Inliner {
@@ -174,10 +184,12 @@ pub fn apply(
 ) -> Result<Changed, AllocError>
     requires { 0 ≤ vec_len panel.old.advisers }
     ensures inlined { IfOk result (λ changed.
-        Asks (map (λ b. replies b) panel.old.advisers.items) (map (λ b. replies b) panel.new.advisers.items)
+        Asks (map (λ b. (⟦<dyn Adviser as Adviser>⟧ b.vtable).replies b.value) panel.old.advisers.items)
+        (map (λ b. (⟦<dyn Adviser as Adviser>⟧ b.vtable).replies b.value) panel.new.advisers.items)
         panel.old.answers.items panel.new.answers.items (IsInlined program hierarchy.now facts.now admitted.now.methods.items changed.program changed.count changed.origins)) }
     ensures begun { OnErr result (
-        Asks (map (λ b. replies b) panel.old.advisers.items) (map (λ b. replies b) panel.new.advisers.items)
+        Asks (map (λ b. (⟦<dyn Adviser as Adviser>⟧ b.vtable).replies b.value) panel.old.advisers.items)
+        (map (λ b. (⟦<dyn Adviser as Adviser>⟧ b.vtable).replies b.value) panel.new.advisers.items)
         panel.old.answers.items panel.new.answers.items (IsBegun program hierarchy.now facts.now admitted.now.methods.items (nothing_done program))) }
 {
     let mut program = program;

@@ -1,6 +1,7 @@
 mod Accepting
 mod Arguments
 mod Asks
+mod Callees
 mod Candidates
 mod Crowding
 mod Edits

@@ -6,6 +6,7 @@ use Rattle.std.proofs.Math.Seq.{get_or-append_seam}
 use Rattle.facts.specs.declared.facts.Facts.{Facts}
 use Rattle.hierarchy.specs.declared.Hierarchy.{Hierarchy}
 use Rattle.program_model.specs.Cells.{capped}
+use Rattle.program_model.specs.declared.pass.Origin.{Origin}
 use Rattle.program_model.specs.declared.program.Class.{Class}
 use Rattle.program_model.specs.declared.program.Method.{Method}
 use Rattle.program_model.specs.declared.program.MethodAt.{MethodAt}
@@ -21,7 +22,7 @@ use Rattle.splice.specs.Shifted.{word}
 use Rattle.inline_calls.specs.Accepting.{HasTried, IsAccepted}
 use Rattle.inline_calls.specs.Asked.{Row, agreed_count}
 use Rattle.inline_calls.specs.Edited.{method_by, each_by, class_by, program_by}
-use Rattle.inline_calls.specs.Plans.{noted, edit_of, IsCallerOf, HasLooked, HasBegun, BeginsAt, LooksAt, Bare, Barred, Looked, HaveLooked, NoneLooked, OneLooked, HaveBegun, Between, Within, LooksAtMethod, LooksIn, LooksInClass, LooksThrough, IsFor, IsPlanned, IsBegun, Unbegun, Begins}
+use Rattle.inline_calls.specs.Plans.{nothing_done, noted, edit_of, IsCallerOf, HasLooked, HasBegun, BeginsAt, LooksAt, Bare, Barred, Looked, HaveLooked, NoneLooked, OneLooked, HaveBegun, Between, Within, LooksAtMethod, BeginsAtMethod, LooksIn, LooksInClass, LooksThrough, BeginsThrough, IsFor, IsPlanned, origins_if, IsInlined, IsBegun, Unbegun, Begins}
 use Rattle.inline_calls.specs.Rooms.{new_of}
 use Rattle.inline_calls.proofs.Accepting.{tried_empty, tried_none}
 use Rattle.inline_calls.proofs.Asks.{agreed-append}
@@ -76,6 +77,14 @@ method_none i class at x d _ _ _ (Bare none) z = refl
 method_none i class at x d _ _ _ (Barred barred) z = refl
 method_none i class at x d _ _ _ (Looked c rows edit e admitted is looked) z = ap (λ (o : Option Edit). method_by o x) (looked_none i c d e rows edit looked z)
 
+-- the place of a method is that of a number
+pub at_place : (i : Inliner) (class : Class) (place n k : ℕ) (m : Method) (d e : Done) (edit : Option Edit) → n ≡ word k → (rows : List Row) → LooksAt i class (record { class = place; place = n }) m d rows edit e
+    → LooksAtMethod i place class k m d rows edit e
+at_place i class place n k m d e edit is rows looks = subst (λ (j : ℕ). LooksAt i class (record { class = place; place = j }) m d rows edit e) is looks
+
+pub begins_place : (i : Inliner) (class : Class) (place n k : ℕ) (m : Method) (d : Done) → n ≡ word k → (rows : List Row) → BeginsAt i class (record { class = place; place = n }) m d rows → BeginsAtMethod i place class k m d rows
+begins_place i class place n k m d is rows begun = subst (λ (j : ℕ). BeginsAt i class (record { class = place; place = j }) m d rows) is begun
+
 -- ---- items of a list
 
 inside : {A : Type 0} (xs : List A) (k : ℕ) (x : A) → slice_get xs k ≡ Some x → k < length xs
@@ -92,6 +101,9 @@ module _ {A E : Type 0} (looks : ℕ → A → Done → List Row → E → Done 
   looked_length : (n : ℕ) (rows : List Row) (given : List E) (e : Done) → HaveLooked looks xs d n rows given e → length given ≡ n
   looked_length _ _ _ _ NoneLooked = refl
   looked_length _ _ _ _ (OneLooked n x rows more given one e f was at is) = length_push given one ∙ ap (λ k. k + 1) (looked_length n rows given e was)
+
+  pub none_looked : (given : List E) → given ≡ [] → HaveLooked looks xs d 0 [] given d
+  none_looked given e = subst (λ (l : List E). HaveLooked looks xs d 0 [] l d) (sym e) NoneLooked
 
   -- one item more
   pub next_looked : (n : ℕ) (x : A) (given next : List E) (one : E) (e f : Done) → slice_get xs n ≡ Some x → next ≡ given ++ one ∷ []
@@ -164,3 +176,36 @@ module _ {A E : Type 0} (looks : ℕ → A → Done → List Row → E → Done 
 pub planned_begun : (p : Program) (h : Hierarchy) (facts : Facts) (admitted : List Bool) (d e : Done) (edits : List (List (Option Edit))) (rows : List Row)
     → IsPlanned p h facts admitted d e edits rows → IsBegun p h facts admitted d rows
 planned_begun p h facts admitted d e edits rows is = Begins is.inliner rows is.for (Between (length p.classes) rows edits e is.looked)
+
+-- ---- the program
+
+module _ (p : Program) (h : Hierarchy) (facts : Facts) (admitted : List Bool) where
+  pub planned_by : (i : Inliner) (d e : Done) (edits : List (List (Option Edit))) → IsFor p h facts admitted i → (rows : List Row) → LooksThrough i p.classes d rows edits e → IsPlanned p h facts admitted d e edits rows
+  planned_by i d e edits is rows looked = record { inliner = i; for = is; looked = looked }
+
+  pub begun_by : (i : Inliner) (d : Done) → IsFor p h facts admitted i → (rows : List Row) → BeginsThrough i p.classes d rows → IsBegun p h facts admitted d rows
+  begun_by i d is rows begun = Begins i rows is begun
+
+  -- the same of what was done at the beginning
+  pub begun_from : (d s : Done) → d ≡ s → (rows : List Row) → IsBegun p h facts admitted d rows → IsBegun p h facts admitted s rows
+  begun_from d s e rows begun = subst (λ (f : Done). IsBegun p h facts admitted f rows) e begun
+
+  pub is_inlined : (q : Program) (d last : Done) (edits : List (List (Option Edit))) (count : ℕ) (origins : List (List Origin)) → d ≡ nothing_done p → q ≡ program_by edits p → count ≡ last.count → origins ≡ origins_if count last.origins
+      → (rows : List Row) → IsPlanned p h facts admitted d last edits rows → IsInlined p h facts admitted q count origins rows
+  is_inlined q d last edits count origins start made counts are rows was =
+      let planned : IsPlanned p h facts admitted (nothing_done p) last edits rows = subst (λ (f : Done). IsPlanned p h facts admitted f last edits rows) start was in
+      let counted : last.count ≡ capped (agreed_count rows) = through_count planned.inliner p.classes (nothing_done p) last rows edits planned.looked refl in
+      record {
+        edits = edits;
+        last = last;
+        planned = planned;
+        program = made;
+        origins_are = are;
+        counted = counts ∙ counted;
+        same = λ z. made ∙ through_none planned.inliner p (nothing_done p) last rows edits planned.looked counted (sym counts ∙ z);
+      }
+
+-- what is checked of a program in which calls are inlined holds of it also where none is
+pub kept_by : (P : Program → Type 0) (p q : Program) (count : ℕ) → (count ≡ 0 → q ≡ p) → (count ≡ 0) ⊎ P q → P p → P q
+kept_by P p q count same (inl z) was = subst P (sym (same z)) was
+kept_by P p q count same (inr checked) was = checked

@@ -1,5 +1,5 @@
 -- The new bodies of the methods of a program, and what becomes of it.
-use Rattle.std.specs.Prelude.{◌≡◌, ℕ, ◌+◌, ◌≤◌, Bool, true, false, List, [], ◌∷◌, ◌++◌, length, replicate, Option, Some, None, slice_get, slice_set, slice_index_or}
+use Rattle.std.specs.Prelude.{◌≡◌, ℕ, ◌+◌, ◌≤◌, Bool, true, false, nat_eq, if◌then◌else◌, List, [], ◌∷◌, ◌++◌, length, replicate, Option, Some, None, slice_get, slice_set, slice_index_or}
 use Rattle.facts.specs.declared.facts.Facts.{Facts}
 use Rattle.hierarchy.specs.declared.Hierarchy.{Hierarchy}
 use Rattle.program_model.specs.Cells.{capped, cells_of}
@@ -120,6 +120,10 @@ BeginsThrough i classes = HaveBegun (LooksInClass i) (BeginsInClass i) classes
 
 -- ---- the program
 
+-- a list for each method number, empty where its positions stay, or none at all where no call is inlined
+abbrev pub origins_if : ℕ → List (List Origin) → List (List Origin)
+origins_if count rows = if nat_eq count 0 then [] else rows
+
 -- what the pass looks at
 pub record IsFor (p : Program) (h : Hierarchy) (facts : Facts) (admitted : List Bool) (i : Inliner) : Type 0 where
   pub program : i.known.program.now ≡ p
@@ -148,6 +152,6 @@ pub record IsInlined (p : Program) (h : Hierarchy) (facts : Facts) (admitted : L
   pub last : Done
   pub planned : IsPlanned p h facts admitted (nothing_done p) last edits rows
   pub program : q ≡ program_by edits p
-  pub origins_are : origins ≡ last.origins
+  pub origins_are : origins ≡ origins_if count last.origins
   pub counted : count ≡ capped (agreed_count rows)
   pub same : count ≡ 0 → q ≡ p

@@ -211,7 +211,10 @@ impl<'p> Inliner<'p> {
             None => return Ok(accepted),
         };
         match self.known.candidate(caller, position, insn) {
-            Some(callee) => self.try_site(alloc, caller, position, callee, cells, accepted, panel),
+            Some(callee) => {
+                let new = self.try_site(alloc, caller, position, callee, cells, accepted, panel)?;
+                Ok(new)
+            }
             None => Ok(accepted),
         }
     }

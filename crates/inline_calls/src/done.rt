@@ -1,7 +1,7 @@
 //! What was done so far.
 
 ghost use Rattle.std.specs.Prelude.{◌≡◌, [], length, replicate, Some, IfOk};
-ghost use Rattle.inline_calls.specs.Plans.{nothing_done, noted, edit_of};
+ghost use Rattle.inline_calls.specs.Plans.{nothing_done, noted, edit_of, origins_if};
 
 use crate::caller::Accepted;
 use crate::editing::Edit;
@@ -30,6 +30,13 @@ fn no_origins(alloc: Global, count: usize) -> Result<Vec<Seq<Origin>>, AllocErro
         origins.push(Seq::new(alloc))?;
     }
     Ok(origins)
+}
+
+/// The origins where so many calls are inlined, none at all where these are none.
+pub fn origins_if(alloc: Global, count: u64, origins: Seq<Seq<Origin>>) -> Seq<Seq<Origin>>
+    ensures { result ≡ origins_if count origins }
+{
+    if count == 0 { Seq::new(alloc) } else { origins }
 }
 
 impl Done {

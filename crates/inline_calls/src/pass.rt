@@ -1,23 +1,25 @@
 //! The pass over a program.
 
-ghost use Rattle.std.specs.Prelude.{◌≡◌, ◌≤◌, map, vec_len, IfOk, OnErr};
+ghost use Rattle.std.specs.Prelude.{◌≡◌, ◌⊎◌, ◌≤◌, true, map, vec_len, IfOk, OnOk, OnErr};
 ghost use Rattle.inline_calls.specs.Asked.{Asks};
 ghost use Rattle.inline_calls.specs.Plans.{nothing_done, HasLooked, HasBegun, LooksAt, BeginsAt, LooksIn, BeginsIn, LooksThrough, BeginsThrough, IsPlanned, IsBegun, IsInlined};
+ghost use Rattle.program_model.specs.ProgramRules.{is_well_formed};
 ghost use Rattle.verify.specs.Meeting.{IsMeeting};
+ghost use Rattle.verify.specs.Methods.{TypesAll};
 
 use crate::caller::Inliner;
-use crate::done::Done;
+use crate::done::{Done, origins_if};
 use crate::editing::{Edit, is_on, put_program};
 use crate::found::word;
 use crate::room::same_numbers;
 use crate::site::{Caller, Known};
 use facts::Facts;
 use hierarchy::Hierarchy;
-use program_model::{Admitted, Changed, Class, Method, MethodAt, Outside, Program};
+use program_model::{Admitted, Changed, Class, Method, MethodAt, Outside, Program, well_formed};
 use redex_outside::{Adviser, Panel};
 use seq::Seq;
 use std::alloc::{AllocError, Global};
-use verify::Verifier;
+use verify::{Verifier, verify_all};
 
 /// The new body of a caller, if anything is accepted of it.
 fn edit_caller<'p>(
@@ -75,7 +77,8 @@ fn edit_method<'p>(
         method,
         body,
     };
-    edit_caller(alloc, inliner, caller, done, panel)
+    let edit = edit_caller(alloc, inliner, caller, done, panel)?;
+    Ok(edit)
 }
 
 /// The new bodies of the methods of a class, by their places.
@@ -164,13 +167,46 @@ fn edit_all(
         numbers: same_numbers(alloc),
         admitted,
     };
-    edit_classes(alloc, &inliner, program.classes.as_slice(), done, panel)
+    let edits = edit_classes(alloc, &inliner, program.classes.as_slice(), done, panel)?;
+    Ok(edits)
+}
+
+/// Whether a program is well-formed and typed. A well-formed and typed program is so with calls inlined, which is checked and
+/// not proved: any other one is more than memory is asked for.
+fn check(alloc: Global, program: &Program, hierarchy: &Hierarchy) -> Result<(), AllocError>
+    ensures formed { OnOk result (is_well_formed program.now ≡ true) }
+    ensures typed { OnOk result (TypesAll program.now hierarchy.now) }
+{
+    if !well_formed(program) {
+        return Err(AllocError);
+    }
+    match verify_all(alloc, program, hierarchy) {
+        Ok(()) => Ok(()),
+        Err(_) => Err(AllocError),
+    }
+}
+
+/// Whether a program in which so many calls are inlined is well-formed and typed, unless these are none.
+fn check_changed(
+    alloc: Global,
+    program: &Program,
+    hierarchy: &Hierarchy,
+    count: u64,
+) -> Result<(), AllocError>
+    ensures formed { OnOk result ((count ≡ 0) ⊎ (is_well_formed program.now ≡ true)) }
+    ensures typed { OnOk result ((count ≡ 0) ⊎ TypesAll program.now hierarchy.now) }
+{
+    if count > 0 {
+        check(alloc, program, hierarchy)?;
+    }
+    Ok(())
 }
 
 /// Asks about each site of the admitted methods, in class and method order and by position, and inlines those where every
-/// adviser says yes. `count` is how many these are, and `origins` says where the instructions come from, for each method
-/// number, where any are inlined; in a copy it is the method that is copied. The only error is want of memory, after which
-/// the program is lost and the panel was asked about the first sites alone.
+/// adviser says yes. `count` is how many these are. `origins` says where the instructions come from, for each method number,
+/// where any call is inlined: an empty list for a method whose positions stay, and in a copy the method that is copied. The
+/// only error is want of memory, after which the program is lost and the panel was asked about the first sites alone. A
+/// well-formed and typed program stays so.
 ///
 /// A silent call finds no method of the program, so it is no site whatever `outside` says.
 pub fn apply(
@@ -187,6 +223,8 @@ pub fn apply(
         Asks (map (λ b. (⟦<dyn Adviser as Adviser>⟧ b.vtable).replies b.value) panel.old.advisers.items)
         (map (λ b. (⟦<dyn Adviser as Adviser>⟧ b.vtable).replies b.value) panel.new.advisers.items)
         panel.old.answers.items panel.new.answers.items (IsInlined program hierarchy.now facts.now admitted.now.methods.items changed.program changed.count changed.origins)) }
+    ensures formed { is_well_formed program ≡ true → IfOk result (λ changed. is_well_formed changed.program ≡ true) }
+    ensures typed { TypesAll program hierarchy.now → IfOk result (λ changed. TypesAll changed.program hierarchy.now) }
     ensures begun { OnErr result (
         Asks (map (λ b. (⟦<dyn Adviser as Adviser>⟧ b.vtable).replies b.value) panel.old.advisers.items)
         (map (λ b. (⟦<dyn Adviser as Adviser>⟧ b.vtable).replies b.value) panel.new.advisers.items)
@@ -197,9 +235,10 @@ pub fn apply(
     let marks = admitted.methods.as_slice();
     let rows = edit_all(alloc, &program, hierarchy, facts, marks, &mut done, panel)?;
     put_program(&mut program, rows.as_slice())?;
+    check_changed(alloc, &program, hierarchy, done.count)?;
     Ok(Changed {
         program,
         count: done.count,
-        origins: done.origins,
+        origins: origins_if(alloc, done.count, done.origins),
     })
 }

@@ -38,13 +38,10 @@ fn has_room(
     if layout.size > MOST_UNITS {
         return Ok(false);
     }
-    lists_fit(
-        alloc,
-        body.regions.as_slice(),
-        numbers,
-        layout.starts.as_slice(),
-        layout.size,
-    )
+    let regions = body.regions.as_slice();
+    let starts = layout.starts.as_slice();
+    let fit = lists_fit(alloc, regions, numbers, starts, layout.size)?;
+    Ok(fit)
 }
 
 /// Whether a body lays out, in few units.
@@ -53,7 +50,10 @@ pub fn is_short(alloc: Global, body: &Body, numbers: &Renumber) -> Result<bool, 
     ensures long { IfOk result (λ short. short ≡ false → IsLong numbers.now body.now) }
 {
     match lay_out(alloc, body, numbers) {
-        Ok(layout) => has_room(alloc, body, numbers, &layout),
+        Ok(layout) => {
+            let has = has_room(alloc, body, numbers, &layout)?;
+            Ok(has)
+        }
         Err(LayFault::NoMemory) => Err(AllocError),
         Err(LayFault::FarBranch { .. }) => Ok(false),
     }

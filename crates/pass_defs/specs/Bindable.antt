@@ -13,7 +13,6 @@ use Rattle.dalvik_defs.specs.declared.program.NamedBody.{NamedBody}
 use Rattle.dalvik_defs.specs.declared.program.NamedMethod.{NamedMethod}
 use Rattle.dalvik_defs.specs.declared.program.NamedClass.{NamedClass}
 use Rattle.dalvik_defs.specs.declared.program.NamedProgram.{NamedProgram}
-use Rattle.pass_defs.specs.Calls.{is_within}
 use Rattle.pass_defs.specs.Walks.{form_at}
 use Rattle.pass_defs.specs.Kinds.{Class}
 use Rattle.pass_defs.specs.Registers.{Kinds, kind_at}
@@ -21,7 +20,7 @@ use Rattle.pass_defs.specs.Typed.{Table, state_at, IsLeastTyping}
 
 -- what a virtual or interface call finds at a class, by the program's own lists
 abbrev pub finds_within : NamedProgram → Text → MethodKey → Search
-finds_within p t k = elim (is_within p t k.class) [ true ↦ finds_at p t k | false ↦ Nothing ]
+finds_within p t k = elim (is_own_under p t k.class) [ true ↦ finds_at p t k | false ↦ Nothing ]
 
 abbrev pub is_virtual_call : InvokeKind → Bool
 is_virtual_call call.Virtual = true

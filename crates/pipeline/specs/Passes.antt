@@ -20,7 +20,7 @@ use Rattle.facts.specs.declared.facts.Facts.{Facts}
 use Rattle.summaries.specs.Certified.{IsCertified}
 use Rattle.premises.specs.Numbers.{AllHaveWords}
 use Rattle.premises.specs.Makers.{MakersAreOwn}
-use Rattle.premises.specs.Plain.{CallsPlainly, calls_plainly}
+use Rattle.premises.specs.Plain.{ListsPlainly, lists_plainly}
 use Rattle.const_prop.specs.Folds.{IsFoldedBy, NoneLeft}
 use Rattle.copy_prop.specs.Propagated.{IsPropagatedProgram}
 use Rattle.dead_code.specs.Dead.{is_quiet_field}
@@ -67,12 +67,12 @@ pub record IsRemoval (o : Outside) (p q : Program) (moved : List (List Origin)) 
   pub still : moved ≡ []
 
 -- Facts that are certified of a program, so that they hold in every run of it: its numbers have the bits that instructions and
--- values have for them, a kept constructor is one of its class, and virtual calls name classes alone.
+-- values have for them, a kept constructor is one of its class, and lists of interfaces name interfaces alone.
 pub record AreKnown (o : Outside) (p : Program) (facts : Facts) : Type 0 where
   pub certified : IsCertified p o facts
   pub words : AllHaveWords p
   pub makers : MakersAreOwn p o
-  pub plain : CallsPlainly p
+  pub plain : ListsPlainly p
 
 -- What such facts say of instructions in admitted methods is written over them: a constant, or of a branch a goto or a nop.
 -- Where the program is left the same, these facts leave nothing to write.
@@ -87,13 +87,13 @@ pub record Folds (o : Outside) (admitted : List Bool) (p q : Program) : Type 0 w
   pub bits : AllHaveWords changed.program
   pub none_left : q ≡ p → NoneLeft p hierarchy facts admitted
 
--- Why nothing is written: no method is admitted, the class graph has a fault, a kept constructor is none of its class, a virtual
--- call names an interface or a list of interfaces another class, or the analysis certified no facts.
+-- Why nothing is written: no method is admitted, the class graph has a fault, a kept constructor is none of its class, a list of
+-- interfaces names another class, or the analysis certified no facts.
 pub data KeepsForms (o : Outside) (admitted : List Bool) (p : Program) : Type 0 where
   NoneAdmitted : list_any (λ yes. yes) admitted ≡ false → KeepsForms o admitted p
   Ungraphed : HasGraphFault p → KeepsForms o admitted p
   NotOwn : (MakersAreOwn p o → ⊥) → KeepsForms o admitted p
-  NotPlain : calls_plainly p ≡ false → KeepsForms o admitted p
+  NotPlain : lists_plainly p ≡ false → KeepsForms o admitted p
   Uncertified : KeepsForms o admitted p
 
 -- What is known of instructions in admitted methods is written over them, or nothing changes. No position moves.

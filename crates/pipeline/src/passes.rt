@@ -6,7 +6,7 @@ ghost use Rattle.program_model.specs.ProgramRules.{is_well_formed};
 ghost use Rattle.hierarchy.specs.Shapes.{IsResolved};
 ghost use Rattle.verify.specs.Methods.{TypesAll};
 ghost use Rattle.premises.specs.Makers.{MakersAreOwn};
-ghost use Rattle.premises.specs.Plain.{CallsPlainly};
+ghost use Rattle.premises.specs.Plain.{ListsPlainly};
 ghost use Rattle.compact.specs.Narrow.{has_narrow_classes};
 ghost use Rattle.pipeline.specs.Changes.{no_changes, total_of};
 ghost use Rattle.pipeline.specs.Graph.{IsGraph};
@@ -16,7 +16,7 @@ use crate::graph::hierarchy_of;
 use crate::traces::{Changes, Passed, Traced, left_by};
 use facts::Facts;
 use hierarchy::Hierarchy;
-use premises::{calls_plainly, makers_are_own, numbers_have_bits};
+use premises::{lists_plainly, makers_are_own, numbers_have_bits};
 use program_model::{Admitted, Outside, Program};
 use std::alloc::{AllocError, Global};
 use verify::{TypeFault, verify_all};
@@ -105,14 +105,14 @@ fn is_any_admitted(admitted: &Admitted) -> bool
     admitted.methods.as_slice().iter().any(|yes| *yes)
 }
 
-/// Facts that hold in every run of a program whose kept constructors are those of their classes, and whose virtual calls name
-/// classes alone; none where that is not known of any. The only error is want of memory.
+/// Facts that hold in every run of a program whose kept constructors are those of their classes, and whose lists of
+/// interfaces name interfaces alone; none where that is not known of any. The only error is want of memory.
 fn known_facts(
     alloc: Global,
     program: &Program,
     outside: &Outside,
 ) -> Result<Option<Facts>, AllocError>
-    ensures { MakersAreOwn program.now outside.now → CallsPlainly program.now
+    ensures { MakersAreOwn program.now outside.now → ListsPlainly program.now
         → IfOk result (λ facts. IfSome facts (AreKnown outside.now program.now)) }
 {
     if !numbers_have_bits(program) {
@@ -140,7 +140,7 @@ fn fold_known(
 }
 
 /// The same by the facts that are known. They are asked for only where some method may be rewritten, each kept
-/// constructor is one of its class, and virtual calls name classes alone.
+/// constructor is one of its class, and lists of interfaces name interfaces alone.
 fn fold_by(
     alloc: Global,
     traced: Traced,
@@ -157,7 +157,7 @@ fn fold_by(
     if !own {
         return Ok(unchanged(traced));
     }
-    let plain = calls_plainly(&traced.program, hierarchy);
+    let plain = lists_plainly(&traced.program, hierarchy);
     if !plain {
         return Ok(unchanged(traced));
     }
@@ -169,8 +169,8 @@ fn fold_by(
 }
 
 /// Makes constants of instructions of admitted methods whose results are known in every run, and gotos or nops of branches
-/// whose outcomes are, unless the class graph has a fault, a kept constructor is none of its class, a virtual call names an
-/// interface, or no facts are known; with the hierarchy of what is left. The only error is want of memory.
+/// whose outcomes are, unless the class graph has a fault, a kept constructor is none of its class, a list of interfaces names
+/// another class, or no facts are known; with the hierarchy of what is left. The only error is want of memory.
 pub fn fold_constants(
     alloc: Global,
     traced: Traced,

@@ -27,17 +27,19 @@ pub fn accepted_sound_law()
     ensures { (p : Program) (h : Hierarchy) → is_well_formed p ≡ true → IsResolved p h → IsAcyclic p → NoSplit p → TypesAll p h → IsSound p }
 {}
 
-/// What any number of rounds leave of a sound program is sound, and shows the same as the program before all of them, where
-/// no method is shut, as in what rules alone give. A method that isn't admitted stays whole, and no body has more registers.
+/// What any number of rounds leave of a sound program is sound. Where the table of shut methods holds what it says, as it does
+/// where no method is shut, what they leave shows the same as the program before all of them, and the table holds what it says of
+/// it. A method that isn't admitted stays whole, and no body has more registers.
 pub fn rounds_law()
     ensures owes { (o : Outside) (admitted : List Bool) (n : ℕ) (t u : Traced) → Rounds o admitted n t u → IsSound t.program → Owes o t.program u.program }
     ensures stays { (o : Outside) (admitted : List Bool) (n : ℕ) (t u : Traced) → Rounds o admitted n t u → IsSound t.program → Stays admitted t.program u.program }
 {}
 
-/// What `optimise` leaves of a sound program is sound, and shows the same where no method is shut, where no call is silent: the
-/// rules forbid all rewriting, or name no silent method.
+/// What `optimise` leaves of a sound program is sound, and shows the same where the table of shut methods holds what it says, where
+/// no call is silent: the rules forbid all rewriting, or name no silent method.
 pub fn optimised_law()
-    ensures { (p r : Program) (origins : List (List Origin)) (o : Outside) (advisers spared rounds : ℕ) (before after : List Bool) → IsSound p → IsOptimised o p advisers before after spared r origins rounds
+    ensures { (p r : Program) (origins : List (List Origin)) (o : Outside) (advisers spared rounds : ℕ) (before after : List Bool) → IsSound p
+        → IsOptimised o p advisers before after spared r origins rounds
         → (o.optimise ≡ false) ⊎ (o.silent ≡ []) → Owes o p r }
 {}
 
@@ -51,7 +53,10 @@ pub fn settled_law()
     ensures folded { (o : Outside) (admitted : List Bool) (p : Program) (t : Traced) (count : ℕ) → HaveRun o admitted p t count → IsSound t.program
         → NoneKnown o admitted t.program ⊎ KeepsForms o admitted t.program }
     ensures skips { (o : Outside) (admitted : List Bool) (p : Program) (t : Traced) (count : ℕ) → HaveRun o admitted p t count → IsSound t.program → NothingLeft admitted t.program }
-    ensures dead { (o : Outside) (admitted : List Bool) (p : Program) (t : Traced) (count : ℕ) → HaveRun o admitted p t count → IsSound t.program → NoneDead (is_quiet_field t.program) admitted t.program }
-    ensures fresh { (o : Outside) (admitted : List Bool) (p : Program) (t : Traced) (count : ℕ) → HaveRun o admitted p t count → IsSound t.program → has_narrow_classes t.program ≡ true → AllFresh admitted t.program }
-    ensures packed { (o : Outside) (admitted : List Bool) (p : Program) (t : Traced) (count : ℕ) → HaveRun o admitted p t count → IsSound t.program → has_narrow_classes t.program ≡ true → AllPacked admitted t.program }
+    ensures dead { (o : Outside) (admitted : List Bool) (p : Program) (t : Traced) (count : ℕ) → HaveRun o admitted p t count → IsSound t.program
+        → NoneDead (is_quiet_field t.program) admitted t.program }
+    ensures fresh { (o : Outside) (admitted : List Bool) (p : Program) (t : Traced) (count : ℕ) → HaveRun o admitted p t count → IsSound t.program → has_narrow_classes t.program ≡ true
+        → AllFresh admitted t.program }
+    ensures packed { (o : Outside) (admitted : List Bool) (p : Program) (t : Traced) (count : ℕ) → HaveRun o admitted p t count → IsSound t.program → has_narrow_classes t.program ≡ true
+        → AllPacked admitted t.program }
 {}

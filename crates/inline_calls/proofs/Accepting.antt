@@ -1,5 +1,5 @@
 -- What is accepted of a caller, position by position.
-use Rattle.std.proofs.Common.{◌≡◌, ℕ, zero, suc, ◌+◌, ◌≤◌, ◌^◌, ◌-◌, min, Bool, true, false, if◌then◌else◌, List, [], ◌∷◌, ◌++◌, Option, Some, None, length, refl, ap, sym, ◌∙◌, subst, arith}
+use Rattle.std.proofs.Common.{◌≡◌, ℕ, zero, suc, ◌+◌, ◌<◌, ◌≤◌, ◌^◌, ◌-◌, min, Bool, true, false, if◌then◌else◌, List, [], ◌∷◌, ◌++◌, Option, Some, None, length, refl, ap, sym, ◌∙◌, subst, arith}
 use Rattle.program_model.specs.Cells.{capped}
 use Rattle.splice.specs.declared.callee.Callee.{Callee}
 use Rattle.splice.specs.declared.spliced.Spliced.{Spliced}
@@ -75,21 +75,27 @@ module _ (i : Inliner) (c : Caller) (cells n : ℕ) where
 
 pub none_accepted : (i : Inliner) (c : Caller) (cells : ℕ) (a : Accepted) → a.chosen.items ≡ [] → a.spliced ≡ None → a.count ≡ 0 → IsAccepted i c cells 0 a []
 none_accepted i c cells a e s z = record {
+  within = omega arith;
   tried = subst (λ (l : List (Option Callee)). HasTried i c cells 0 [] l) (sym e) Untried;
   spliced = s ∙ ap (new_of i c) (sym e);
   count = omega (arith, z);
 }
 
-pub next_accepted : (i : Inliner) (c : Caller) (cells n : ℕ) (a b : Accepted) (rows more : List Row) → IsAccepted i c cells n a rows → GoesOn i c cells n a b more → IsAccepted i c cells (n + 1) b (rows ++ more)
-next_accepted i c cells n a b rows more was on = record {
+pub next_accepted : (i : Inliner) (c : Caller) (cells n : ℕ) (a b : Accepted) → n < length c.body.now.insns → (rows more : List Row) → IsAccepted i c cells n a rows → GoesOn i c cells n a b more → IsAccepted i c cells (n + 1) b (rows ++ more)
+next_accepted i c cells n a b lt rows more was on = record {
+  within = omega (arith, lt);
   tried = Tried n rows more a.chosen.items b.chosen.items was.tried on.tries;
   spliced = on.spliced was.spliced;
   count = on.count (agreed_count rows) was.count ∙ ap capped (sym (agreed-append rows more));
 }
 
 -- memory did not suffice for the rest
-pub has_begun : (i : Inliner) (c : Caller) (cells n : ℕ) (a : Accepted) → n ≤ length c.body.now.insns → (rows : List Row) → IsAccepted i c cells n a rows → HasBegun i c cells rows
-has_begun i c cells n a le rows is = record { count = n; within = le; chosen = a.chosen.items; tried = is.tried }
+pub has_begun : (i : Inliner) (c : Caller) (cells n : ℕ) (a : Accepted) (rows : List Row) → IsAccepted i c cells n a rows → HasBegun i c cells rows
+has_begun i c cells n a rows is = record { count = n; within = is.within; chosen = a.chosen.items; tried = is.tried }
+
+-- it did
+pub all_accepted : (i : Inliner) (c : Caller) (cells n : ℕ) (a : Accepted) → length c.body.now.insns ≤ n → (rows : List Row) → IsAccepted i c cells n a rows → IsAccepted i c cells (length c.body.now.insns) a rows
+all_accepted i c cells n a le rows is = subst (λ (k : ℕ). IsAccepted i c cells k a rows) (omega (arith, le, is.within)) is
 
 -- ---- how many agree
 

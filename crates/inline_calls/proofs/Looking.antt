@@ -22,7 +22,7 @@ use Rattle.splice.specs.Shifted.{word}
 use Rattle.inline_calls.specs.Accepting.{HasTried, IsAccepted}
 use Rattle.inline_calls.specs.Asked.{Row, agreed_count}
 use Rattle.inline_calls.specs.Edited.{method_by, each_by, class_by, program_by}
-use Rattle.inline_calls.specs.Plans.{nothing_done, noted, edit_of, IsCallerOf, HasLooked, HasBegun, BeginsAt, LooksAt, Bare, Barred, Looked, HaveLooked, NoneLooked, OneLooked, HaveBegun, Between, Within, LooksAtMethod, BeginsAtMethod, LooksIn, LooksInClass, LooksThrough, BeginsThrough, IsFor, IsPlanned, origins_if, IsInlined, IsBegun, Unbegun, Begins}
+use Rattle.inline_calls.specs.Plans.{nothing_done, noted, edit_of, IsCallerOf, HasLooked, HasBegun, BeginsAt, LooksAt, Bare, Barred, Looked, HaveLooked, NoneLooked, OneLooked, HaveBegun, Between, Within, LooksAtMethod, BeginsAtMethod, LooksIn, BeginsIn, LooksInClass, BeginsInClass, LooksThrough, BeginsThrough, IsFor, IsPlanned, origins_if, IsInlined, IsBegun, Unbegun, Begins}
 use Rattle.inline_calls.specs.Rooms.{new_of}
 use Rattle.inline_calls.proofs.Accepting.{tried_empty, tried_none}
 use Rattle.inline_calls.proofs.Asks.{agreed-append}
@@ -85,6 +85,12 @@ at_place i class place n k m d e edit is rows looks = subst (λ (j : ℕ). Looks
 pub begins_place : (i : Inliner) (class : Class) (place n k : ℕ) (m : Method) (d : Done) → n ≡ word k → (rows : List Row) → BeginsAt i class (record { class = place; place = n }) m d rows → BeginsAtMethod i place class k m d rows
 begins_place i class place n k m d is rows begun = subst (λ (j : ℕ). BeginsAt i class (record { class = place; place = j }) m d rows) is begun
 
+pub in_place : (i : Inliner) (n k : ℕ) (class : Class) (d e : Done) (row : List (Option Edit)) → n ≡ word k → (rows : List Row) → LooksIn i n class d rows row e → LooksInClass i k class d rows row e
+in_place i n k class d e row is rows looks = subst (λ (j : ℕ). LooksIn i j class d rows row e) is looks
+
+pub begins_in : (i : Inliner) (n k : ℕ) (class : Class) (d : Done) → n ≡ word k → (rows : List Row) → BeginsIn i n class d rows → BeginsInClass i k class d rows
+begins_in i n k class d is rows begun = subst (λ (j : ℕ). BeginsIn i j class d rows) is begun
+
 -- ---- items of a list
 
 inside : {A : Type 0} (xs : List A) (k : ℕ) (x : A) → slice_get xs k ≡ Some x → k < length xs
@@ -102,6 +108,10 @@ module _ {A E : Type 0} (looks : ℕ → A → Done → List Row → E → Done 
   looked_length _ _ _ _ NoneLooked = refl
   looked_length _ _ _ _ (OneLooked n x rows more given one e f was at is) = length_push given one ∙ ap (λ k. k + 1) (looked_length n rows given e was)
 
+  looked_within : (n : ℕ) (rows : List Row) (given : List E) (e : Done) → HaveLooked looks xs d n rows given e → n ≤ length xs
+  looked_within _ _ _ _ NoneLooked = omega arith
+  looked_within _ _ _ _ (OneLooked n x rows more given one e f was at is) = omega (arith, inside xs n x at)
+
   pub none_looked : (given : List E) → given ≡ [] → HaveLooked looks xs d 0 [] given d
   none_looked given e = subst (λ (l : List E). HaveLooked looks xs d 0 [] l d) (sym e) NoneLooked
 
@@ -110,6 +120,10 @@ module _ {A E : Type 0} (looks : ℕ → A → Done → List Row → E → Done 
       → (rows more : List Row) → HaveLooked looks xs d n rows given e → looks n x e more one f → HaveLooked looks xs d (n + 1) (rows ++ more) next f
   next_looked n x given next one e f at pushed rows more was is =
       subst (λ (l : List E). HaveLooked looks xs d (n + 1) (rows ++ more) l f) (sym pushed) (OneLooked n x rows more given one e f was at is)
+
+  -- all items, where none is left
+  pub all_looked : (n : ℕ) → length xs ≤ n → (rows : List Row) (given : List E) (e : Done) → HaveLooked looks xs d n rows given e → HaveLooked looks xs d (length xs) rows given e
+  all_looked n le rows given e was = subst (λ (k : ℕ). HaveLooked looks xs d k rows given e) (omega (arith, le, looked_within n rows given e was)) was
 
   pub all_count : ((k : ℕ) (x : A) (d : Done) (rows : List Row) (one : E) (e : Done) (m : ℕ) → looks k x d rows one e → d.count ≡ capped m → e.count ≡ capped (m + agreed_count rows))
       → (n : ℕ) (rows : List Row) (given : List E) (e : Done) (m : ℕ) → HaveLooked looks xs d n rows given e → d.count ≡ capped m → e.count ≡ capped (m + agreed_count rows)

@@ -1,5 +1,5 @@
 -- What is asked about the calls of one caller, and what is accepted.
-use Rattle.std.specs.Prelude.{◌≡◌, ℕ, ◌+◌, Bool, true, false, List, [], ◌∷◌, ◌++◌, Option, Some, None, length}
+use Rattle.std.specs.Prelude.{◌≡◌, ℕ, ◌+◌, ◌≤◌, Bool, true, false, List, [], ◌∷◌, ◌++◌, Option, Some, None, length}
 use Rattle.program_model.specs.Cells.{capped}
 use Rattle.program_model.specs.Texts.{type_text}
 use Rattle.program_model.specs.declared.program.Program.{Program}
@@ -56,6 +56,7 @@ pub data HasTried (i : Inliner) (c : Caller) (cells : ℕ) : ℕ → List Row �
 
 -- what is accepted of the first positions
 pub record IsAccepted (i : Inliner) (c : Caller) (cells n : ℕ) (a : Accepted) (rows : List Row) : Type 0 where
+  pub within : n ≤ length c.body.now.insns
   pub tried : HasTried i c cells n rows a.chosen.items
   pub spliced : a.spliced ≡ new_of i c a.chosen.items
   pub count : a.count ≡ capped (agreed_count rows)

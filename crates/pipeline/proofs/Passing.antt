@@ -227,6 +227,16 @@ pub ill_typed : (p : Program) (h : Hierarchy) (e : TypeFault) (method position r
 ill_typed p h e method position register is (inl none) = absurd (let no : fault.IllTyped method position register ≡ fault.NoMemory = sym is ∙ none in cc)
 ill_typed p h e method position register is (inr refused) = record { method = method; position = position; register = register; refused = subst (RefusesOne p h) is refused }
 
+-- passes that changed nothing change nothing once more
+pub still_passed : (o : Outside) (admitted : List Bool) (some : List Pass) (t : Traced) (r s : Passed) → HavePassed o admitted some t r → total_of r.changes ≡ 0 → s.traced ≡ r.traced → s.changes ≡ no_changes → HavePassed o admitted some r.traced s
+still_passed o admitted some t r s h none left made = record {
+  steps = subst (λ (x : Traced). Steps o admitted some r.traced x) (sym left) (subst (λ (x : Traced). Steps o admitted some x r.traced) (sym (h.same none)) h.steps);
+  same = λ _. left;
+  still = λ _. subst (λ (x : Traced). AreStill o admitted some x.program) (sym (h.same none)) (h.still none);
+  falls = subst (λ (x : Changes). Falls x s.traced.program r.traced.program) (sym made)
+      (removed_falls s.traced.program r.traced.program 0 (λ _. ap (λ (x : Traced). x.program) left) (λ more. absurd (omega (arith, more))));
+}
+
 -- ---- removal
 
 module _ (o : Outside) (admitted : List Bool) (t : Traced) (r : Passed) where

@@ -1,5 +1,5 @@
 -- What the passes of a round do to a program, by number (this project's profile).
-use Rattle.std.specs.Prelude.{◌≡◌, ◌⊎◌, ℕ, Bool, true, false, List, [], ◌∷◌}
+use Rattle.std.specs.Prelude.{◌≡◌, ◌⊎◌, ℕ, Bool, true, false, List, [], ◌∷◌, ◌++◌}
 use Rattle.std.specs.List.{list_any}
 use Rattle.program_model.specs.declared.body.Body.{Body}
 use Rattle.program_model.specs.declared.pass.Changed.{Changed}
@@ -44,9 +44,13 @@ pub data Pass : Type 0 where
   Squeeze : Pass
   Compact : Pass
 
--- The passes of a round, in their order.
+-- The passes that look at each body by itself, in their order.
+abbrev pub local_passes : List Pass
+local_passes = CopyProp ∷ DeadCode ∷ Squeeze ∷ Compact ∷ []
+
+-- The passes of a round, in their order: what looks at the whole program runs once, and then the others three times.
 abbrev pub passes : List Pass
-passes = Reach ∷ ConstProp ∷ CopyProp ∷ DeadCode ∷ Squeeze ∷ Compact ∷ []
+passes = Reach ∷ ConstProp ∷ (local_passes ++ (local_passes ++ local_passes))
 
 -- ---- what each pass does to a well-formed program
 

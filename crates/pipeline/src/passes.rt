@@ -22,7 +22,7 @@ use std::alloc::{AllocError, Global};
 use verify::{TypeFault, verify_all};
 
 /// The program as it is, with nothing changed.
-fn unchanged(traced: Traced) -> Passed
+pub fn unchanged(traced: Traced) -> Passed
     ensures traced { result.traced ≡ traced }
     ensures changes { result.changes ≡ no_changes }
 {

@@ -8,7 +8,8 @@ ghost use Rattle.const_prop.specs.Measure.{open_forms};
 ghost use Rattle.moves_law.specs.Measure.{moves_in};
 ghost use Rattle.pipeline.specs.Changes.{bulk_of, total_of};
 ghost use Rattle.pipeline.specs.Counts.{members_of, insns_of};
-ghost use Rattle.pipeline.specs.Passes.{passes, HavePassed};
+ghost use Rattle.pipeline.specs.Graph.{IsGraph};
+ghost use Rattle.pipeline.specs.Passes.{local_passes, passes, HavePassed};
 ghost use Rattle.pipeline.specs.Rounds.{HaveRun, IsOptimised, Rounding};
 
 use crate::asks::{Advice, ask_all, no_advice};
@@ -16,11 +17,12 @@ use crate::counts::{count_instructions, count_members};
 use crate::graph::hierarchy_of;
 use crate::passes::{
     clean_bodies, compact_bodies, fold_constants, propagate_copies, remove_unreached,
-    squeeze_bodies,
+    squeeze_bodies, unchanged,
 };
 use crate::silent::silence;
-use crate::traces::{Passed, Traced, and_then};
+use crate::traces::{Changes, Passed, Traced, and_then};
 use call_graph::live_members;
+use hierarchy::Hierarchy;
 use program_model::{Admitted, Origin, Outside, Program};
 use redex_outside::Panel;
 use seq::Seq;
@@ -62,7 +64,44 @@ fn advice_on(
     }
 }
 
-/// One round: each pass once, in its order.
+/// The passes that look at each body by itself, each once.
+fn rewrite_bodies(
+    alloc: Global,
+    traced: Traced,
+    graph: Option<Hierarchy>,
+    admitted: &Admitted,
+) -> Result<Passed, AllocError>
+    ensures { IsGraph traced.program graph → IfOk result (λ left. (outside : Outside) → HavePassed outside admitted.now.methods.items local_passes traced left) }
+{
+    let (copied, graph) = propagate_copies(alloc, traced, graph, admitted)?;
+    let cleaned = clean_bodies(alloc, copied.traced, &graph, admitted)?;
+    let cleaned = and_then(copied.changes, cleaned);
+    let squeezed = squeeze_bodies(alloc, cleaned.traced, admitted)?;
+    let squeezed = and_then(cleaned.changes, squeezed);
+    let compacted = compact_bodies(alloc, squeezed.traced, admitted)?;
+    Ok(and_then(squeezed.changes, compacted))
+}
+
+/// The same once more, over what they left with these changes. Where they changed nothing they would change nothing again.
+fn rewrite_again(
+    alloc: Global,
+    traced: Traced,
+    changes: Changes,
+    admitted: &Admitted,
+) -> Result<Passed, AllocError>
+    ensures { (outside : Outside) (t : Traced) → HavePassed outside admitted.now.methods.items local_passes t (record { traced = traced; changes = changes })
+        → IfOk result (HavePassed outside admitted.now.methods.items local_passes traced) }
+{
+    if changes.is_none() {
+        return Ok(unchanged(traced));
+    }
+    let graph = hierarchy_of(alloc, &traced.program)?;
+    let left = rewrite_bodies(alloc, traced, graph, admitted)?;
+    Ok(left)
+}
+
+/// One round: the passes in their order. Those that look at each body by itself run three times, as what one of them leaves is
+/// often something for another, and the others look at the whole program.
 fn round(
     alloc: Global,
     traced: Traced,
@@ -74,14 +113,14 @@ fn round(
     let (reached, graph) = remove_unreached(alloc, traced, outside)?;
     let (folded, graph) = fold_constants(alloc, reached.traced, graph, outside, admitted)?;
     let folded = and_then(reached.changes, folded);
-    let (copied, graph) = propagate_copies(alloc, folded.traced, graph, admitted)?;
-    let copied = and_then(folded.changes, copied);
-    let cleaned = clean_bodies(alloc, copied.traced, &graph, admitted)?;
-    let cleaned = and_then(copied.changes, cleaned);
-    let squeezed = squeeze_bodies(alloc, cleaned.traced, admitted)?;
-    let squeezed = and_then(cleaned.changes, squeezed);
-    let compacted = compact_bodies(alloc, squeezed.traced, admitted)?;
-    Ok(and_then(squeezed.changes, compacted))
+    let first = rewrite_bodies(alloc, folded.traced, graph, admitted)?;
+    let made = first.changes;
+    let first = and_then(folded.changes, first);
+    let second = rewrite_again(alloc, first.traced, made, admitted)?;
+    let again = second.changes;
+    let second = and_then(first.changes, second);
+    let third = rewrite_again(alloc, second.traced, again, admitted)?;
+    Ok(and_then(second.changes, third))
 }
 
 /// Rounds, until one changes more than the numbers of registers, or nothing: what the last one left, and how many ran.

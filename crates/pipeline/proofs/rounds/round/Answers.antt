@@ -1,7 +1,7 @@
-use Rattle.std.proofs.Common.{[], ◌∷◌, sym, subst}
+use Rattle.std.proofs.Common.{[], ◌∷◌, ◌++◌, sym, subst}
 use Rattle.pipeline.specs.declared.traces.Traced.{Traced}
 use Rattle.pipeline.specs.Graph.{IsGraph}
-use Rattle.pipeline.specs.Passes.{Reach, ConstProp, CopyProp, DeadCode, Squeeze, Compact, HavePassed}
+use Rattle.pipeline.specs.Passes.{Reach, ConstProp, local_passes, HavePassed}
 use Rattle.pipeline.proofs.Passing.{both_passed}
 use Rattle.pipeline.proofs.rounds.round.Goals as goal
 
@@ -13,12 +13,13 @@ returns c =
     let two : HavePassed o admitted (Reach ∷ ConstProp ∷ []) t c.and_then-folded.result = both_passed o admitted (Reach ∷ []) (ConstProp ∷ []) t c.in_ok-reached.reached c.in_ok-folded.folded c.and_then-folded.result
     (c.in_ok-reached.ensures.passed admitted) (c.in_ok-folded.ensures.passed c.in_ok-reached.ensures.graph) c.and_then-folded.ensures.traced c.and_then-folded.ensures.removed c.and_then-folded.ensures.folded c.and_then-folded.ensures.reread c.and_then-folded.ensures.renamed in
     let graph : IsGraph c.and_then-folded.result.traced.program c.in_ok-folded.graph = subst (λ (x : Traced). IsGraph x.program c.in_ok-folded.graph) (sym c.and_then-folded.ensures.traced) (c.in_ok-folded.ensures.graph c.in_ok-reached.ensures.graph) in
-    let three : HavePassed o admitted (Reach ∷ ConstProp ∷ CopyProp ∷ []) t c.and_then-copied.result = both_passed o admitted (Reach ∷ ConstProp ∷ []) (CopyProp ∷ []) t c.and_then-folded.result c.in_ok-copied.copied c.and_then-copied.result
-    two (c.in_ok-copied.ensures.passed graph o) c.and_then-copied.ensures.traced c.and_then-copied.ensures.removed c.and_then-copied.ensures.folded c.and_then-copied.ensures.reread c.and_then-copied.ensures.renamed in
-    let four : HavePassed o admitted (Reach ∷ ConstProp ∷ CopyProp ∷ DeadCode ∷ []) t c.and_then-cleaned.result = both_passed o admitted (Reach ∷ ConstProp ∷ CopyProp ∷ []) (DeadCode ∷ []) t c.and_then-copied.result c.in_ok-cleaned.cleaned c.and_then-cleaned.result
-    three (c.in_ok-cleaned.ensures (subst (λ (x : Traced). IsGraph x.program c.in_ok-copied.graph) (sym c.and_then-copied.ensures.traced) (c.in_ok-copied.ensures.graph graph)) o)
-    c.and_then-cleaned.ensures.traced c.and_then-cleaned.ensures.removed c.and_then-cleaned.ensures.folded c.and_then-cleaned.ensures.reread c.and_then-cleaned.ensures.renamed in
-    let five : HavePassed o admitted (Reach ∷ ConstProp ∷ CopyProp ∷ DeadCode ∷ Squeeze ∷ []) t c.and_then-squeezed.result = both_passed o admitted (Reach ∷ ConstProp ∷ CopyProp ∷ DeadCode ∷ []) (Squeeze ∷ []) t c.and_then-cleaned.result c.in_ok-squeezed.squeezed c.and_then-squeezed.result
-    four (c.in_ok-squeezed.ensures o) c.and_then-squeezed.ensures.traced c.and_then-squeezed.ensures.removed c.and_then-squeezed.ensures.folded c.and_then-squeezed.ensures.reread c.and_then-squeezed.ensures.renamed in
-    both_passed o admitted (Reach ∷ ConstProp ∷ CopyProp ∷ DeadCode ∷ Squeeze ∷ []) (Compact ∷ []) t c.and_then-squeezed.result c.in_ok-compacted.compacted c.and_then.result
-    five (c.in_ok-compacted.ensures o) c.and_then.ensures.traced c.and_then.ensures.removed c.and_then.ensures.folded c.and_then.ensures.reread c.and_then.ensures.renamed
+    let first : HavePassed o admitted local_passes c.and_then-folded.result.traced c.in_ok-first.first = c.in_ok-first.ensures graph o in
+    let three : HavePassed o admitted (Reach ∷ ConstProp ∷ local_passes) t c.and_then-first.result = both_passed o admitted (Reach ∷ ConstProp ∷ []) local_passes t c.and_then-folded.result c.in_ok-first.first c.and_then-first.result
+    two first c.and_then-first.ensures.traced c.and_then-first.ensures.removed c.and_then-first.ensures.folded c.and_then-first.ensures.reread c.and_then-first.ensures.renamed in
+    let second : HavePassed o admitted local_passes c.and_then-first.result.traced c.in_ok-second.second = c.in_ok-second.ensures o c.and_then-folded.result.traced
+    (subst (λ (x : Traced). HavePassed o admitted local_passes c.and_then-folded.result.traced (record { traced = x; changes = c.in_ok-first.first.changes })) (sym c.and_then-first.ensures.traced) first) in
+    let four : HavePassed o admitted (Reach ∷ ConstProp ∷ (local_passes ++ local_passes)) t c.and_then-second.result = both_passed o admitted (Reach ∷ ConstProp ∷ local_passes) local_passes t c.and_then-first.result c.in_ok-second.second c.and_then-second.result
+    three second c.and_then-second.ensures.traced c.and_then-second.ensures.removed c.and_then-second.ensures.folded c.and_then-second.ensures.reread c.and_then-second.ensures.renamed in
+    let third : HavePassed o admitted local_passes c.and_then-second.result.traced c.in_ok-third.third = c.in_ok-third.ensures o c.and_then-first.result.traced
+    (subst (λ (x : Traced). HavePassed o admitted local_passes c.and_then-first.result.traced (record { traced = x; changes = c.in_ok-second.second.changes })) (sym c.and_then-second.ensures.traced) second) in
+    both_passed o admitted (Reach ∷ ConstProp ∷ (local_passes ++ local_passes)) local_passes t c.and_then-second.result c.in_ok-third.third c.and_then.result four third c.and_then.ensures.traced c.and_then.ensures.removed c.and_then.ensures.folded c.and_then.ensures.reread c.and_then.ensures.renamed

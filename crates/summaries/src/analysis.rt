@@ -57,7 +57,7 @@ fn pairs_of(
 }
 
 /// The links of a program by call and by body.
-fn linked(
+fn links_of(
     alloc: Global,
     program: &Program,
     codes: &Codes<'_>,
@@ -190,7 +190,7 @@ fn facts_of_codes(
         program.methods.len(),
     );
     let sites = make_sites(alloc, program, hierarchy, codes, numbering)?;
-    let Linked { found, callers } = linked(alloc, program, codes, bounds.found.links.as_slice())?;
+    let Linked { found, callers } = links_of(alloc, program, codes, bounds.found.links.as_slice())?;
     let ground = Ground {
         program,
         hierarchy,

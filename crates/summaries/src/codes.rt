@@ -99,8 +99,9 @@ impl<'a> Collection<'a> {
             first_word: self.codes.words,
             free: self.blanks.at(alloc, u32::from(free))?,
         };
+        let place = word(self.codes.all.len());
         if let Some(entry) = self.codes.code_of.get_mut(number as usize) {
-            *entry = word(self.codes.all.len());
+            *entry = place;
         }
         let (positions, words) = (self.codes.positions, self.codes.words);
         self.codes.positions = positions.saturating_add(word(body.insns.len()));

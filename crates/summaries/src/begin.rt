@@ -118,7 +118,7 @@ impl Spread<'_> {
             Some(code) => {
                 if is_on(&targets.entered, code.number) {
                     self.open_words(code);
-                    self.begin(alloc, place)?;
+                    self.begin(alloc, place, true)?;
                 }
                 Ok(())
             }

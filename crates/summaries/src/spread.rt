@@ -211,11 +211,16 @@ impl<'a> Spread<'a> {
         self.nodes.flow(alloc, node, &registers, false)
     }
 
-    /// Lets a run come to the entry of a body with nothing, or with what it is passed already.
-    pub(crate) fn begin(&mut self, alloc: Global, place: u32) -> Result<(), AllocError> {
+    /// Lets a run come to the entry of a body with what it is passed, where that rose or it is the first.
+    pub(crate) fn begin(
+        &mut self,
+        alloc: Global,
+        place: u32,
+        rose: bool,
+    ) -> Result<(), AllocError> {
         let codes = self.ground.codes;
         match codes.at(place) {
-            Some(code) => self.enter(alloc, place, code, false),
+            Some(code) => self.enter(alloc, place, code, rose),
             None => Ok(()),
         }
     }
@@ -559,7 +564,7 @@ impl<'a> Spread<'a> {
     /// Lets a class be initialised.
     fn initialise(&mut self, alloc: Global, place: u32) -> Result<(), AllocError> {
         let first = self.initialiser(place);
-        self.begin(alloc, first)?;
+        self.begin(alloc, first, false)?;
         match self.ground.program.classes.as_slice().get(place as usize) {
             Some(class) => {
                 if class.flags.has(Flags::INTERFACE) {

@@ -44,6 +44,10 @@ module _ (p : Program) (facts : Facts) where
   abbrev pub virtual_value : ℕ → ℕ → ℕ → Parts
   virtual_value name proto class = fold (with_definer name proto class) (found_value (finds_virtual p name proto class)) (definers_of p name proto)
 
+  -- of an interface its receiver may be any object, since kinds say nothing of interfaces, and so one that finds no code
+  abbrev pub receiver_value : ℕ → ℕ → ℕ → Parts
+  receiver_value name proto class = if is_interface (slice_get p.classes class) then any_value else virtual_value name proto class
+
   abbrev pub among_value : List MethodAt → Parts
   among_value [] = any_value
   among_value (at ∷ ats) = fold with_found least_value (at ∷ ats)
@@ -61,7 +65,7 @@ module _ (p : Program) (facts : Facts) where
   kind_value caller call.Static name proto class = found_value (finds_from p name proto (Some class))
   kind_value caller call.Direct name proto class = found_value (finds_from p name proto (Some class))
   kind_value caller call.Super name proto class = super_value caller name proto class
-  kind_value caller call.Virtual name proto class = virtual_value name proto class
+  kind_value caller call.Virtual name proto class = receiver_value name proto class
   kind_value caller call.Interface name proto class = any_value
 
   abbrev pub named_value : ℕ → InvokeKind → Option MethodName → Parts

@@ -5,7 +5,7 @@ ghost use Rattle.std.specs.List.{list_any};
 ghost use Rattle.std.specs.Option.{option_copied};
 ghost use Rattle.program_model.specs.ProgramRules.{is_well_formed};
 ghost use Rattle.hierarchy.specs.Shapes.{IsResolved};
-ghost use Rattle.fact_graph.specs.Known.{ArePlaces};
+ghost use Rattle.class_places.specs.Known.{ArePlaces};
 ghost use Rattle.verify.specs.Meeting.{IsMeeting};
 ghost use Rattle.verify.specs.Methods.{IsFor};
 ghost use Rattle.rewrite_pass.specs.Plans.{IsPlan, IsRewrittenBy};
@@ -20,8 +20,8 @@ use crate::choices::chosen;
 use crate::kinds::{is_narrow_move, move_fits};
 use crate::numbers::{Number, constant_for};
 use crate::results::Results;
+use class_places::places_of;
 use dom_frame::Classes;
-use fact_graph::places_of;
 use facts::Facts;
 use hierarchy::Hierarchy;
 use insn_set::Insn;
@@ -267,7 +267,7 @@ fn plan_with<'a>(
 {
     let classes = Classes {
         places,
-        count: fact_graph::word(program.classes.len()),
+        count: class_places::word(program.classes.len()),
         hierarchy,
     };
     let pass = Folding {

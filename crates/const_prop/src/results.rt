@@ -7,7 +7,7 @@ ghost use Rattle.class_defs.specs.Finding.{candidates, is_037};
 ghost use Rattle.class_defs.specs.Members.{is_interface};
 ghost use Rattle.class_defs.specs.Places.{super_place};
 ghost use Rattle.const_prop.specs.Asked.{IsKnown, IsKeyOf, AreBelow, count_of};
-ghost use Rattle.const_prop.specs.Given.{method_value, found_value, with_found, with_definer, virtual_value, among_value};
+ghost use Rattle.const_prop.specs.Given.{method_value, found_value, with_found, with_definer, virtual_value, receiver_value, among_value};
 ghost use Rattle.const_prop.specs.Given.{above_value, super_value, kind_value, call_value, behind};
 ghost use Rattle.const_prop.specs.Known.{field_in, field_value, is_quiet_field};
 
@@ -110,14 +110,37 @@ impl<'a> Results<'a> {
         Ok(known)
     }
 
-    /// What a virtual call of a class of the program can give: what the class finds gives, and what a class under it
-    /// defines. Each class under it finds one of these.
+    /// What a call on an object of a class of the program, or of one under it, can give: what the class finds gives, and what a
+    /// class under it defines. Each class under it finds one of these.
     fn of_virtual(&self, alloc: Global, class: u32, key: u32) -> Result<Value, AllocError>
         ensures { IsKnown self.now → (name proto : ℕ) → IsKeyOf self.now key name proto → class < count_of self.now
             → IfOk result (λ v. v ≡ virtual_value self.now.program.now self.now.facts.now name proto class) }
     {
         let first = self.of_found(alloc, self.hierarchy.find_virtual(self.program, class, key))?;
         self.with_definers(alloc, class, key, first, self.hierarchy.definers_of(key))
+    }
+
+    /// Whether the class at a place is an interface.
+    fn is_interface(&self, class: u32) -> bool
+        ensures { result ≡ is_interface (slice_get self.now.program.now.classes class) }
+    {
+        match self.program.classes.as_slice().get(class as usize) {
+            Some(class) => class.flags.has(Flags::INTERFACE),
+            None => false,
+        }
+    }
+
+    /// What a virtual call can give that names a class of the program: anything where this is an interface, as the call may be
+    /// made on any object then.
+    fn of_receiver(&self, alloc: Global, class: u32, key: u32) -> Result<Value, AllocError>
+        ensures { IsKnown self.now → (name proto : ℕ) → IsKeyOf self.now key name proto → class < count_of self.now
+            → IfOk result (λ v. v ≡ receiver_value self.now.program.now self.now.facts.now name proto class) }
+    {
+        if self.is_interface(class) {
+            Ok(Value::any())
+        } else {
+            self.of_virtual(alloc, class, key)
+        }
     }
 
     /// What is known with what some candidates can give.
@@ -156,16 +179,6 @@ impl<'a> Results<'a> {
         self.hierarchy
             .candidates_of(self.program, class, key, &mut walk, &mut candidates)?;
         self.of_candidates(alloc, &candidates)
-    }
-
-    /// Whether the class at a place is an interface.
-    fn is_interface(&self, class: u32) -> bool
-        ensures { result ≡ is_interface (slice_get self.now.program.now.classes class) }
-    {
-        match self.program.classes.as_slice().get(class as usize) {
-            Some(class) => class.flags.has(Flags::INTERFACE),
-            None => false,
-        }
     }
 
     /// Whether the program is of version 037.
@@ -224,7 +237,7 @@ impl<'a> Results<'a> {
                 self.of_found(alloc, self.hierarchy.find_from(class, key))
             }
             InvokeKind::Super => self.of_super(alloc, caller, class, key),
-            InvokeKind::Virtual => self.of_virtual(alloc, class, key),
+            InvokeKind::Virtual => self.of_receiver(alloc, class, key),
             InvokeKind::Interface => Ok(Value::any()),
         }
     }

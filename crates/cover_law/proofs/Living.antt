@@ -56,9 +56,9 @@ use Rattle.cover_law.specs.States.{word_states}
 
 -- ---- what live states say
 
-pub made_things : (p : NamedProgram) (o : Outer) (ts : List Thing) → Always p o (λ s. Kinds (MadeType p s) ts) → Each (MadeThing p o) ts
+pub made_things : (p : NamedProgram) (o : Outer) (ts : List Thing) → Always p o (λ s. Kinds (MadeType p o s) ts) → Each (MadeThing p o) ts
 made_things p o [] h = tt
-made_things p o (Instance c fs ∷ ts) h = ((λ d s k. (h s k).0 d), made_things p o ts (λ s k. (h s k).1))
+made_things p o (Instance c fs ∷ ts) h = ((λ d s k. ((h s k).0 d).0), made_things p o ts (λ s k. (h s k).1))
 made_things p o (Items c vs ∷ ts) h = (tt, made_things p o ts (λ s k. (h s k).1))
 
 pub live_method : (p : NamedProgram) (o : Outer) (f : Frame) → Always p o (λ s. LivesAt p s f) → IsLiveMethod p o unconditional f.method
@@ -95,12 +95,12 @@ module _ (p : NamedProgram) (o : Outer) (f : Framework) where
     same_search class call.Virtual t k = refl
     same_search class call.Interface t k = refl
 
-    opens : (a b : Option Found) → AgreeOnDeclared (OkType p s) (MadeType p s) (LiveMethod p s) o F left_face a b → AgreeOnDeclared (OkType p s) (MadeType p s) (LiveMethod p s) o F G a b
+    opens : (a b : Option Found) → AgreeOnDeclared (OkType p s) (MadeType p o s) (LiveMethod p s) o F left_face a b → AgreeOnDeclared (OkType p s) (MadeType p o s) (LiveMethod p s) o F G a b
     opens None b h = h
     opens (Some g) b (inl h) = inl (record { lives = h.0.lives; called = h.0.called }, h.1)
     opens (Some g) b (inr h) = inr h
 
-    pub itself : Agree (OkType p s) (MadeType p s) (LiveMethod p s) (Says p s) (ReachedAt p) no_calm p o F G (bodies_of p) (bodies_of (left_of s p))
+    pub itself : Agree (OkType p s) (MadeType p o s) (LiveMethod p s) (Says p s) (ReachedAt p) no_calm p o F G (bodies_of p) (bodies_of (left_of s p))
     itself = record {
       flags = agree.flags;
       under = agree.under;
@@ -140,10 +140,10 @@ module _ (p : NamedProgram) (o : Outer) (f : Framework) where
     -- ---- what a step comes to, by one family
 
     abbrev pub Fine : World → Type 0
-    Fine = Sound (OkType p s) (MadeType p s) (LiveMethod p s) (Says p s) (ReachedAt p) no_calm p o F G (bodies_of p) (bodies_of (left_of s p)) itself
+    Fine = Sound (OkType p s) (MadeType p o s) (LiveMethod p s) (Says p s) (ReachedAt p) no_calm p o F G (bodies_of p) (bodies_of (left_of s p)) itself
 
     abbrev pub ComesTo : Frame → Form → Outcome → Type 0
-    ComesTo g x y = OutcomeOk (OkType p s) (MadeType p s) (LiveMethod p s) (Says p s) (ReachedAt p) no_calm p o F G (bodies_of p) (bodies_of (left_of s p)) itself g.method g.position x y
+    ComesTo g x y = OutcomeOk (OkType p s) (MadeType p o s) (LiveMethod p s) (Says p s) (ReachedAt p) no_calm p o F G (bodies_of p) (bodies_of (left_of s p)) itself g.method g.position x y
 
     said : (g : Frame) (x : Form) (b : Option NamedBody) → LivesAt p s g → bodies_of p g.method ≡ b → option_and_then (λ y. slice_get y.forms g.position) b ≡ Some x → Says p s g.method x
     said g x (Some b) l e i = itself.code g.method b g.position x l.0 e l.1 i
@@ -152,32 +152,32 @@ module _ (p : NamedProgram) (o : Outer) (f : Framework) where
     module _ (floats : Floats) where
       pub coming : (w : World) (c : Classes) (g : Frame) (x : Form) → Fine w → LivesAt p s g → form_at (bodies_of p) g ≡ Some x
           → ComesTo g x (outcome F (need_of F c) (effect_of (setting_of p o f floats) (Some x) w g) w g)
-      coming w c g x h l i = (comes (OkType p s) (MadeType p s) (LiveMethod p s) (Says p s) (ReachedAt p) no_calm p o F G (bodies_of p) (bodies_of (left_of s p)) itself c w g h (none_waits c) x (effect_of (setting_of p o f floats) (Some x) w g) a.good).good
+      coming w c g x h l i = (comes (OkType p s) (MadeType p o s) (LiveMethod p s) (Says p s) (ReachedAt p) no_calm p o F G (bodies_of p) (bodies_of (left_of s p)) itself c w g h (none_waits c) x (effect_of (setting_of p o f floats) (Some x) w g) a.good).good
         where
-          a : Acts (OkType p s) (MadeType p s) (LiveMethod p s) (Says p s) (ReachedAt p) no_calm p o F G (bodies_of p) (bodies_of (left_of s p)) itself g.method g.position x
+          a : Acts (OkType p s) (MadeType p o s) (LiveMethod p s) (Says p s) (ReachedAt p) no_calm p o F G (bodies_of p) (bodies_of (left_of s p)) itself g.method g.position x
               (effect_of (setting_of p o f floats) (Some x) w g) (effect_of (record { face = G; outer = o; floats = floats }) (Some x) w g)
-          a = acts (OkType p s) (MadeType p s) (LiveMethod p s) (Says p s) (ReachedAt p) no_calm p o F G (bodies_of p) (bodies_of (left_of s p)) itself w g h floats x (said g x (bodies_of p g.method) l refl i)
+          a = acts (OkType p s) (MadeType p o s) (LiveMethod p s) (Says p s) (ReachedAt p) no_calm p o F G (bodies_of p) (bodies_of (left_of s p)) itself w g h floats x (said g x (bodies_of p g.method) l refl i)
 
     pub onward : (g : Frame) (x : Form) (g1 : Frame) → LivesAt p s g → form_at (bodies_of p) g ≡ Some x → (w : World) (e : Option Event) → ComesTo g x (Stays w g1 e) → LivesAt p s g1
-    onward g x g1 l i w e k = onward_ok (OkType p s) (MadeType p s) (LiveMethod p s) (Says p s) (ReachedAt p) no_calm p o F G (bodies_of p) (bodies_of (left_of s p)) itself g x g1 l i k.1.0 k.1.1
+    onward g x g1 l i w e k = onward_ok (OkType p s) (MadeType p o s) (LiveMethod p s) (Says p s) (ReachedAt p) no_calm p o F G (bodies_of p) (bodies_of (left_of s p)) itself g x g1 l i k.1.0 k.1.1
 
     -- an object that is thrown at a frame, with nothing below
     pub thrown_at : (w : World) (c : Classes) (v : Value) (g : Frame) (x : Form) → Fine w → LivesAt p s g → form_at (bodies_of p) g ≡ Some x → may_throw x ≡ true
-        → StateOk (OkType p s) (MadeType p s) (LiveMethod p s) (Says p s) (ReachedAt p) no_calm p o F G (bodies_of p) (bodies_of (left_of s p)) itself (lands_or w c [] [] (lands F (bodies_of p) w g v) (unwinds F (bodies_of p) w c v [] [])).0
-    thrown_at w c v g x h l i t = (throws_at (OkType p s) (MadeType p s) (LiveMethod p s) (Says p s) (ReachedAt p) no_calm p o F G (bodies_of p) (bodies_of (left_of s p)) itself w c v g [] [] h l (x, (i, t)) tt (none_waits c, refl)
-        (unwinding (OkType p s) (MadeType p s) (LiveMethod p s) (Says p s) (ReachedAt p) no_calm p o F G (bodies_of p) (bodies_of (left_of s p)) itself w c v [] [] h tt (none_waits c, refl))).good
+        → StateOk (OkType p s) (MadeType p o s) (LiveMethod p s) (Says p s) (ReachedAt p) no_calm p o F G (bodies_of p) (bodies_of (left_of s p)) itself (lands_or w c [] [] (lands F (bodies_of p) w g v) (unwinds F (bodies_of p) w c v [] [])).0
+    thrown_at w c v g x h l i t = (throws_at (OkType p s) (MadeType p o s) (LiveMethod p s) (Says p s) (ReachedAt p) no_calm p o F G (bodies_of p) (bodies_of (left_of s p)) itself w c v g [] [] h l (x, (i, t)) tt (none_waits c, refl)
+        (unwinding (OkType p s) (MadeType p o s) (LiveMethod p s) (Says p s) (ReachedAt p) no_calm p o F G (bodies_of p) (bodies_of (left_of s p)) itself w c v [] [] h tt (none_waits c, refl))).good
 
     -- a frame that takes a result
     pub given_back : (w : World) (c : Classes) (g : Frame) (v : Option Value) → Fine w → LivesAt p s g × MayWait p g → LivesAt p s (back (bodies_of p) g v)
-    given_back w c g v h l = (giving (OkType p s) (MadeType p s) (LiveMethod p s) (Says p s) (ReachedAt p) no_calm p o F G (bodies_of p) (bodies_of (left_of s p)) itself [] w c v (Method g ∷ []) [] h (l, tt) (none_waits c, refl)).good.1.0.0
+    given_back w c g v h l = (giving (OkType p s) (MadeType p o s) (LiveMethod p s) (Says p s) (ReachedAt p) no_calm p o F G (bodies_of p) (bodies_of (left_of s p)) itself [] w c v (Method g ∷ []) [] h (l, tt) (none_waits c, refl)).good.1.0.0
 
     -- what the framework enters is live
-    pub entered_live : (w : World) (g : Found) (gs : List Given) (a b : Option Found) → Fine w → list_all (fit_given p o) gs ≡ true → AgreeOnDeclared (OkType p s) (MadeType p s) (LiveMethod p s) o F G a b → a ≡ Some g
+    pub entered_live : (w : World) (g : Found) (gs : List Given) (a b : Option Found) → Fine w → list_all (fit_given p o) gs ≡ true → AgreeOnDeclared (OkType p s) (MadeType p o s) (LiveMethod p s) o F G a b → a ≡ Some g
         → may_enter F o w (gets_all w gs).0 g gs (gets_all w gs).1 ≡ true → LiveMethod p s g.key
     entered_live w g gs None b h e k i l = none_some g i
     entered_live w g gs (Some d) b h e (inl k) i l = subst (λ z. LiveMethod p s z.key) (some_one d g i) k.0.lives
     entered_live w g gs (Some d) b h e (inr k) i l = absurd (true≢false (sym l ∙ sym (ap (λ z. may_enter F o w (gets_all w gs).0 z gs (gets_all w gs).1) (some_one d g i))
-        ∙ enter_barred (OkType p s) (MadeType p s) (LiveMethod p s) (Says p s) (ReachedAt p) no_calm p o F G (bodies_of p) (bodies_of (left_of s p)) itself w h d gs e k.0))
+        ∙ enter_barred (OkType p s) (MadeType p o s) (LiveMethod p s) (Says p s) (ReachedAt p) no_calm p o F G (bodies_of p) (bodies_of (left_of s p)) itself w h d gs e k.0))
 
   -- ---- and by all
 
@@ -192,7 +192,7 @@ module _ (p : NamedProgram) (o : Outer) (f : Framework) where
     j = live_states p o
 
     abbrev Lives : World → Type 0
-    Lives w = Always p o (λ s. LiveThings p s w)
+    Lives w = Always p o (λ s. LiveThings p o s w)
 
     fine : (w : World) → Lives w → (s : Family) (k : IsClosedFamily p o unconditional s) → Fine s (agrees s k) w
     fine w h s k = record { kinds = (h s k).0; mades = (h s k).1 }
@@ -201,15 +201,15 @@ module _ (p : NamedProgram) (o : Outer) (f : Framework) where
     things w h s k = ((h s k).kinds, (h s k).mades)
 
     heap_lives : (w v : World) → v.heap ≡ w.heap → Lives w → Lives v
-    heap_lives w v e h s k = (subst (Kinds (OkType p s)) (sym e) (h s k).0, subst (Kinds (MadeType p s)) (sym e) (h s k).1)
+    heap_lives w v e h s k = (subst (Kinds (OkType p s)) (sym e) (h s k).0, subst (Kinds (MadeType p o s)) (sym e) (h s k).1)
 
-    with_lives : (w : World) (t : Text) → Lives w → Always p o (λ s. OkType p s t × MadeType p s t) → Lives (with_thing w (fresh t))
-    with_lives w t h l = things (with_thing w (fresh t)) (λ s k. sound_with (OkType p s) (MadeType p s) (LiveMethod p s) (Says p s) (ReachedAt p) no_calm p o F (G s (agrees s k)) (bodies_of p) (bodies_of (left_of s p)) (itself s (agrees s k)) w (fresh t) (fine w h s k) (l s k))
+    with_lives : (w : World) (t : Text) → Lives w → Always p o (λ s. OkType p s t × MadeType p o s t) → Lives (with_thing w (fresh t))
+    with_lives w t h l = things (with_thing w (fresh t)) (λ s k. sound_with (OkType p s) (MadeType p o s) (LiveMethod p s) (Says p s) (ReachedAt p) no_calm p o F (G s (agrees s k)) (bodies_of p) (bodies_of (left_of s p)) (itself s (agrees s k)) w (fresh t) (fine w h s k) (l s k))
 
     -- ---- frames
 
     landing : (w : World) (c : Classes) (x : Next) (g : Option Frame)
-        → ((s : Family) (k : IsClosedFamily p o unconditional s) → StateOk (OkType p s) (MadeType p s) (LiveMethod p s) (Says p s) (ReachedAt p) no_calm p o F (G s (agrees s k)) (bodies_of p) (bodies_of (left_of s p)) (itself s (agrees s k)) (lands_or w c [] [] g x).0)
+        → ((s : Family) (k : IsClosedFamily p o unconditional s) → StateOk (OkType p s) (MadeType p o s) (LiveMethod p s) (Says p s) (ReachedAt p) no_calm p o F (G s (agrees s k)) (bodies_of p) (bodies_of (left_of s p)) (itself s (agrees s k)) (lands_or w c [] [] g x).0)
         → LandedOver S (bodies_of p) i j w c g
     landing w c x None h = tt
     landing w c x (Some g) h = λ u s k. (h s k).1.0.0
@@ -254,8 +254,8 @@ module _ (p : NamedProgram) (o : Outer) (f : Framework) where
     each_class (t ∷ ts) h = ((λ s k. (h s k).0), each_class ts (λ s k. (h s k).1))
 
     faults : (w : World) (t : Text) → (t ≡ no_class) ⊎ (t ≡ initialiser_error) → Lives w → Lives (with_thing w (fresh t))
-    faults w t (inl e) h = with_lives w t h (λ s k. subst (λ u. OkType p s u × MadeType p s u) (sym e) ((agrees s k).known no_class refl))
-    faults w t (inr e) h = with_lives w t h (λ s k. subst (λ u. OkType p s u × MadeType p s u) (sym e) ((agrees s k).known initialiser_error refl))
+    faults w t (inl e) h = with_lives w t h (λ s k. subst (λ u. OkType p s u × MadeType p o s u) (sym e) ((agrees s k).known no_class refl))
+    faults w t (inr e) h = with_lives w t h (λ s k. subst (λ u. OkType p s u × MadeType p o s u) (sym e) ((agrees s k).known initialiser_error refl))
 
     -- ---- moves
 
@@ -264,19 +264,19 @@ module _ (p : NamedProgram) (o : Outer) (f : Framework) where
     lives_in w u n q g gs h e d l s k = entered_live s (agrees s k) w g gs (F.declared u n q) ((G s (agrees s k)).declared u n q) (fine w h s k) e ((itself s (agrees s k)).declared u n q) d l
 
     gotten : (w : World) (u : Text) (y : Option Given) → Lives w → fit_option p o y ≡ true → may_answer F o w u y ≡ true → Lives (got w y).0
-    gotten w u y h e l = things (got w y).0 (λ s k. answer_fine (OkType p s) (MadeType p s) (LiveMethod p s) (Says p s) (ReachedAt p) no_calm p o F (G s (agrees s k)) (bodies_of p) (bodies_of (left_of s p)) (itself s (agrees s k)) w u y e (fine w h s k) l)
+    gotten w u y h e l = things (got w y).0 (λ s k. answer_fine (OkType p s) (MadeType p o s) (LiveMethod p s) (Says p s) (ReachedAt p) no_calm p o F (G s (agrees s k)) (bodies_of p) (bodies_of (left_of s p)) (itself s (agrees s k)) w u y e (fine w h s k) l)
 
     getting : (w u : World) (g : Given) (v : Value) (t : Text) → Lives w → fit_given p o g ≡ true → fits F o w u g v t ≡ true → Lives (gets w g).0
-    getting w u g v t h e l = things (gets w g).0 (λ s k. given_fine (OkType p s) (MadeType p s) (LiveMethod p s) (Says p s) (ReachedAt p) no_calm p o F (G s (agrees s k)) (bodies_of p) (bodies_of (left_of s p)) (itself s (agrees s k)) w u g v t e (fine w h s k) l)
+    getting w u g v t h e l = things (gets w g).0 (λ s k. given_fine (OkType p s) (MadeType p o s) (LiveMethod p s) (Says p s) (ReachedAt p) no_calm p o F (G s (agrees s k)) (bodies_of p) (bodies_of (left_of s p)) (itself s (agrees s k)) w u g v t e (fine w h s k) l)
 
     placed : (w u : World) (x : FieldKey) (z : Place) (y : Option Given) (v : Option Value) → Lives w → fit_option p o y ≡ true → on_fits F o w u x z y v ≡ true → Lives (got w y).0
-    placed w u x z y v h e l = things (got w y).0 (λ s k. on_place_fine (OkType p s) (MadeType p s) (LiveMethod p s) (Says p s) (ReachedAt p) no_calm p o F (G s (agrees s k)) (bodies_of p) (bodies_of (left_of s p)) (itself s (agrees s k)) w u x z y v e (fine w h s k) l)
+    placed w u x z y v h e l = things (got w y).0 (λ s k. on_place_fine (OkType p s) (MadeType p o s) (LiveMethod p s) (Says p s) (ReachedAt p) no_calm p o F (G s (agrees s k)) (bodies_of p) (bodies_of (left_of s p)) (itself s (agrees s k)) w u x z y v e (fine w h s k) l)
 
     enters_in : (w : World) (g : Found) (gs : List Given) → Lives w → list_all (fit_given p o) gs ≡ true → may_enter F o w (gets_all w gs).0 g gs (gets_all w gs).1 ≡ true → Lives (gets_all w gs).0
-    enters_in w g gs h e l = things (gets_all w gs).0 (λ s k. enter_fine (OkType p s) (MadeType p s) (LiveMethod p s) (Says p s) (ReachedAt p) no_calm p o F (G s (agrees s k)) (bodies_of p) (bodies_of (left_of s p)) (itself s (agrees s k)) w (fine w h s k) g gs e l)
+    enters_in w g gs h e l = things (gets_all w gs).0 (λ s k. enter_fine (OkType p s) (MadeType p o s) (LiveMethod p s) (Says p s) (ReachedAt p) no_calm p o F (G s (agrees s k)) (bodies_of p) (bodies_of (left_of s p)) (itself s (agrees s k)) w (fine w h s k) g gs e l)
 
     throwing : (w : World) (g : Given) → Lives w → fit_given p o g ≡ true → may_be_thrown F o w (gets w g).0 g (gets w g).1 ≡ true → Lives (gets w g).0
-    throwing w g h e l = things (gets w g).0 (λ s k. throw_fine (OkType p s) (MadeType p s) (LiveMethod p s) (Says p s) (ReachedAt p) no_calm p o F (G s (agrees s k)) (bodies_of p) (bodies_of (left_of s p)) (itself s (agrees s k)) w g e (fine w h s k) l)
+    throwing w g h e l = things (gets w g).0 (λ s k. throw_fine (OkType p s) (MadeType p o s) (LiveMethod p s) (Says p s) (ReachedAt p) no_calm p o F (G s (agrees s k)) (bodies_of p) (bodies_of (left_of s p)) (itself s (agrees s k)) w g e (fine w h s k) l)
 
     written : (w : World) (x : FieldKey) (z : Place) (on : Option Given) (g : Given) → Lives w → (fit_option p o on && fit_given p o g) ≡ true → legal_write S w x (Some z) on g ≡ true → Lives (gets (got w on).0 g).0
     written w x z on g h e l = let w1 = (got w on).0 in let place = on_fits F o w w1 x z on (got w on).1 in let value = fits F o w1 (gets w1 g).0 g (gets w1 g).1 x.kind in
@@ -288,11 +288,11 @@ module _ (p : NamedProgram) (o : Outer) (f : Framework) where
     shown w c kind (Some v) h = λ u. heap_lives w (show w kind v).0 (show_heap w kind v) h
 
     -- a field is written, or an item
-    put_lives : (w : World) (on : Value) (t : Thing) → Lives w → Always p o (λ s. OkType p s (kind_of_thing t) × MadeType p s (kind_of_thing t)) → Lives (put_thing w on t)
-    put_lives w on t h m s k = (kinds_put (OkType p s) w on t (h s k).0 (m s k).0, kinds_put (MadeType p s) w on t (h s k).1 (m s k).1)
+    put_lives : (w : World) (on : Value) (t : Thing) → Lives w → Always p o (λ s. OkType p s (kind_of_thing t) × MadeType p o s (kind_of_thing t)) → Lives (put_thing w on t)
+    put_lives w on t h m s k = (kinds_put (OkType p s) w on t (h s k).0 (m s k).0, kinds_put (MadeType p o s) w on t (h s k).1 (m s k).1)
 
-    at_lives : (w : World) (on : Value) (t : Thing) → Lives w → thing_at w on ≡ Some t → Always p o (λ s. OkType p s (kind_of_thing t) × MadeType p s (kind_of_thing t))
-    at_lives w on t h e s k = (kinds_at (OkType p s) w on t (h s k).0 e, kinds_at (MadeType p s) w on t (h s k).1 e)
+    at_lives : (w : World) (on : Value) (t : Thing) → Lives w → thing_at w on ≡ Some t → Always p o (λ s. OkType p s (kind_of_thing t) × MadeType p o s (kind_of_thing t))
+    at_lives w on t h e s k = (kinds_at (OkType p s) w on t (h s k).0 e, kinds_at (MadeType p o s) w on t (h s k).1 e)
 
     field_lives : (w : World) (c : Classes) (x : FieldKey) (on : Option Value) (v : Value) → Lives w → WrittenOver S (bodies_of p) i j c (with_field w x on v)
     field_lives w c x None v h = λ u. heap_lives w (with_static w x v) refl h
@@ -330,7 +330,7 @@ module _ (p : NamedProgram) (o : Outer) (f : Framework) where
         (λ z s k. (agrees s k).class_ok d.key (live s k)),
         entering (gets_all w gs).0 c d.key (spread (gets_all w gs).1) (bodies_of p d.key) refl live,
       );
-      makes = λ w c u h m l. let live : Always p o (λ s. OkType p s u × MadeType p s u) = λ s k. (agrees s k).made_ok u l in let w1 = with_thing w (fresh u) in
+      makes = λ w c u h m l. let live : Always p o (λ s. OkType p s u × MadeType p o s u) = λ s k. (agrees s k).made_ok u l in let w1 = with_thing w (fresh u) in
           ((λ s k. (live s k).0), heap_lives w1 (show w1 u (next_object w)).0 (show_heap w1 u (next_object w)) (with_lives w u h.1 live));
       answers = λ w c u y g h m t l x z. (gotten w u y h.1 m.0.0 l, takes w c g (got w y).1 h.1 t.1);
       throws = λ w c g h m l. (throwing w g h.1 m.0.0 l, tt);

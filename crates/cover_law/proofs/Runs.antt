@@ -118,7 +118,7 @@ module _ {V : Type 0} (a : Analysis V) (p : NamedProgram) (o : Outer) (f : Frame
 
   -- ---- all that the law asks
 
-  known : (w : World) → RangedWorld w → Always p o (λ s. LiveThings p s w) → KnownWorld p o w
+  known : (w : World) → RangedWorld w → Always p o (λ s. LiveThings p o s w) → KnownWorld p o w
   known w r m = record { ranged = r; made = made_things p o w.heap (λ s k. (m s k).1) }
 
   pub keeps_covered : KeptOver (setting p o f floats reg) (bodies_of p) i j

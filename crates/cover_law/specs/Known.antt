@@ -90,13 +90,13 @@ abbrev pub MayWait : NamedProgram → Frame → Type 0
 MayWait p f = (x : Form) × ((form_at (bodies_of p) f ≡ Some x) × ((continues x ≡ true) × (may_throw x ≡ true)))
 
 -- things are of live types, and of made classes
-abbrev pub LiveThings : NamedProgram → Family → World → Type 0
-LiveThings p s w = Kinds (OkType p s) w.heap × Kinds (MadeType p s) w.heap
+abbrev pub LiveThings : NamedProgram → Outer → Family → World → Type 0
+LiveThings p o s w = Kinds (OkType p s) w.heap × Kinds (MadeType p o s) w.heap
 
 -- methods that run are live, and so are classes that are initialised, and objects are of made classes
 abbrev pub live_states : NamedProgram → Outer → Invariant
 live_states p o = record {
-  outside = λ w c. Always p o (λ s. LiveThings p s w);
+  outside = λ w c. Always p o (λ s. LiveThings p o s w);
   top = λ w c f. Always p o (λ s. LivesAt p s f);
   waits = λ w a f. Always p o (λ s. LivesAt p s f × MayWait p f);
   result = λ w k v. Unit {0};

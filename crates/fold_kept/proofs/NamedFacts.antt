@@ -7,8 +7,6 @@ use Rattle.lemmas.proofs.Lists.{got_short}
 use Rattle.lemmas.proofs.Options.{before_map, none_some}
 use Rattle.insn_set.specs.declared.form.Insn.{Insn}
 use Rattle.insn_set.specs.declared.form.Insn.TheVariants as insn
-use Rattle.insn_set.specs.declared.ops.InvokeKind.{InvokeKind}
-use Rattle.insn_set.specs.declared.ops.InvokeKind.TheVariants as call
 use Rattle.program_model.specs.declared.body.Body.{Body}
 use Rattle.program_model.specs.declared.pass.Outside.{Outside}
 use Rattle.program_model.specs.declared.program.Class.{Class}
@@ -24,9 +22,6 @@ use Rattle.dalvik_defs.specs.Find.{field_from, field_in as find_field_in, finds_
 use Rattle.dalvik_defs.specs.declared.names.FieldKey.{FieldKey}
 use Rattle.dalvik_defs.specs.declared.program.NamedClass.{NamedClass}
 use Rattle.program_model.specs.declared.pools.FieldName.{FieldName}
-use Rattle.program_model.specs.declared.pools.MethodName.{MethodName}
-use Rattle.program_model.specs.Lookups.{class_place}
-use Rattle.class_defs.specs.Members.{is_interface}
 use Rattle.dalvik_defs.specs.Names.{Text}
 use Rattle.dalvik_defs.specs.Naming.{field_at, form_of, named, text_at, named_class, named_method, type_at}
 use Rattle.dalvik_defs.specs.Outer.{outer_of}
@@ -54,11 +49,11 @@ use Rattle.closed_bridge.proofs.Places.{at_number, own_key as own_number}
 use Rattle.const_prop.specs.Given.{behind}
 use Rattle.const_prop.specs.Known.{field_in, field_value}
 use Rattle.fold_bridge.specs.Folds.{AreNamed, StandsAt}
-use Rattle.premises.specs.Plain.{CallsPlainly}
+use Rattle.premises.specs.Plain.{ListsPlainly}
 use Rattle.fold_kept.proofs.Joins.{below_any, Under}
 use Rattle.fold_kept.proofs.Results.{call_given, call_left}
 
-module _ (p : Program) (o : Outside) (live : LiveSet) (g : IsMarked p o live) (targets : Targets) (r : IsRanked p) (plainly : CallsPlainly p) (t : Facts) where
+module _ (p : Program) (o : Outside) (live : LiveSet) (g : IsMarked p o live) (targets : Targets) (r : IsRanked p) (plainly : ListsPlainly p) (t : Facts) where
   abbrev s : Sound p
   s = S p o live g
 
@@ -147,22 +142,15 @@ module _ (p : Program) (o : Outside) (live : LiveSet) (g : IsMarked p o live) (t
       → name.Results (values p) (named p) (outer_of p o) (named_facts p t) (key_in (named_class p c) (named_method p m)) x (form_of p i) v → Under v (behind p t class (Some i))
   results class c m b n i x v is_class in_class has there h = by (form_of p i) refl v h
     where
-      j : At c.methods m
-      j = placed c.methods m in_class
-
-      plain : (kind : InvokeKind) (method : ℕ) (args : List ℕ) → i ≡ insn.Invoke kind method args → (q : MethodName) (top : ℕ) → slice_get p.methods method ≡ Some q → class_place p q.class ≡ Some top → kind ≡ call.Virtual → is_interface (slice_get p.classes top) ≡ false
-      plain kind method args e q top is_name is_top same = plainly.virtual class j.place n c m b method args q top is_class j.is has
-          (there ∙ ap Some e ∙ ap (λ k. Some (insn.Invoke k method args)) same) is_name is_top
-
       by : (f : Form) → form_of p i ≡ f → (v : Parts) → name.Results (values p) (named p) (outer_of p o) (named_facts p t) (key_in (named_class p c) (named_method p m)) x f v → Under v (behind p t class (Some i))
       by f e v (name.Given kind k args callee may) =
           let y = of_call p i kind k args e in
           subst (λ z. Under ((named_facts p t).results callee.key) (behind p t class (Some z))) (sym y.is)
-          (call_given p o live g targets r plainly.listed t class c is_class y.method k y.named x args kind (plain kind y.method args y.is) callee may)
+          (call_given p o live g targets r plainly.listed t class c is_class y.method k y.named x args kind callee may)
       by f e v (name.Left kind k args may) =
           let y = of_call p i kind k args e in
           subst (λ z. Under any_value (behind p t class (Some z))) (sym y.is)
-          (call_left p o live g targets r plainly.listed t class c is_class y.method k y.named x args kind (plain kind y.method args y.is) may)
+          (call_left p o live g targets r plainly.listed t class c is_class y.method k y.named x args kind may)
       by f e v (name.Filled kind args) = subst (λ w. Under v w) (sym (no_call class i kind args e)) (below_any v)
 
   pub are_named : AreNamed p (outer_of p o) t (named_facts p t)

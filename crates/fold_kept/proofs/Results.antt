@@ -52,7 +52,7 @@ use Rattle.closed_bridge.specs.Names.{method_number, named_facts, result_by, val
 use Rattle.closed_bridge.proofs.Calling.{FoundNumber, found_number, place_of, statically_is, super_is}
 use Rattle.closed_bridge.proofs.Made.{made_number, MadeNumber}
 use Rattle.closed_bridge.proofs.Numbers.{number_of_method}
-use Rattle.const_prop.specs.Given.{above_value, among_value, call_value, found_value, kind_value, method_value, named_value, super_value, virtual_value}
+use Rattle.const_prop.specs.Given.{above_value, among_value, call_value, found_value, kind_value, method_value, named_value, receiver_value, super_value, virtual_value}
 use Rattle.fold_kept.proofs.Classes.{place_short, placed_class, super_interface, super_short}
 use Rattle.fold_kept.proofs.Joins.{Answers, below_any, Under}
 use Rattle.fold_kept.proofs.Supers.{bare_value, lowest_given}
@@ -216,30 +216,34 @@ module _ (p : Program) (o : Outside) (live : LiveSet) (g : IsMarked p o live) (t
 
     -- ---- all calls
 
+    -- of an interface anything is taken
+    by_receiver : (v : Parts) → (is_interface (slice_get p.classes top) ≡ false → Under v (virtual_value p t q.name q.proto top)) → Under v (receiver_value p t q.name q.proto top)
+    by_receiver v h = by (is_interface (slice_get p.classes top)) refl
+      where
+        by : (b : Bool) → is_interface (slice_get p.classes top) ≡ b → Under v (if b then any_value else virtual_value p t q.name q.proto top)
+        by true e = below_any v
+        by false e = h e
+
     module _ (x : ℕ → Parts) (args : List ℕ) where
-      abbrev Plain : InvokeKind → Type 0
-      Plain kind = kind ≡ call.Virtual → is_interface (slice_get p.classes top) ≡ false
-
-      given : (kind : InvokeKind) (f : Found) → Plain kind → name.MayCall (values p) (named p) (outer_of p o) (type_at p c.name) x args kind m f → Under (facts.results f.key) (kind_value p t class kind q.name q.proto top)
-      given call.Static f plain (name.Statically k g2 e) = answered_given (found_value p t (finds_from p q.name q.proto (Some top))) (search_of (finds_static p method)) f static_answers (sym (statically_is p s g.once targets method m low is_key) ∙ e)
-      given call.Direct f plain (name.Directly k g2 e) = answered_given (found_value p t (finds_from p q.name q.proto (Some top))) (search_of (finds_static p method)) f static_answers (sym (statically_is p s g.once targets method m low is_key) ∙ e)
-      given call.Super f plain (name.Above k g2 e) = answered_given (super_value p t class q.name q.proto top) (finds_super p class method) f super_answers (sym (super_is p s g.once targets class method c m is_class low is_key) ∙ e)
-      given call.Virtual f plain (name.Virtually k g2 u may made within e) =
+      given : (kind : InvokeKind) (f : Found) → name.MayCall (values p) (named p) (outer_of p o) (type_at p c.name) x args kind m f → Under (facts.results f.key) (kind_value p t class kind q.name q.proto top)
+      given call.Static f (name.Statically k g2 e) = answered_given (found_value p t (finds_from p q.name q.proto (Some top))) (search_of (finds_static p method)) f static_answers (sym (statically_is p s g.once targets method m low is_key) ∙ e)
+      given call.Direct f (name.Directly k g2 e) = answered_given (found_value p t (finds_from p q.name q.proto (Some top))) (search_of (finds_static p method)) f static_answers (sym (statically_is p s g.once targets method m low is_key) ∙ e)
+      given call.Super f (name.Above k g2 e) = answered_given (super_value p t class q.name q.proto top) (finds_super p class method) f super_answers (sym (super_is p s g.once targets class method c m is_class low is_key) ∙ e)
+      given call.Virtual f (name.Virtually k g2 u may made within e) =
           let n = made_number p o live g u made in
-          answered_given (virtual_value p t q.name q.proto top) (finds_at p n.place q.name q.proto) f (object_answers (plain refl) u n within) (sym (finds_is (plain refl) u n within) ∙ e)
-      given call.Interface f plain (name.ByInterface k g2 u may made within e) = below_any (facts.results f.key)
+          by_receiver (facts.results f.key) (λ plain. answered_given (virtual_value p t q.name q.proto top) (finds_at p n.place q.name q.proto) f (object_answers plain u n within) (sym (finds_is plain u n within) ∙ e))
+      given call.Interface f (name.ByInterface k g2 u may made within e) = below_any (facts.results f.key)
 
-      left : (kind : InvokeKind) → Plain kind → name.MayLeave (values p) (named p) (outer_of p o) (type_at p c.name) x args kind m → Under any_value (kind_value p t class kind q.name q.proto top)
-      left call.Static plain h = answered_left (found_value p t (finds_from p q.name q.proto (Some top))) (search_of (finds_static p method)) static_answers (subst (name.FindsNoCode (values p)) (statically_is p s g.once targets method m low is_key) h)
-      left call.Direct plain h = answered_left (found_value p t (finds_from p q.name q.proto (Some top))) (search_of (finds_static p method)) static_answers (subst (name.FindsNoCode (values p)) (statically_is p s g.once targets method m low is_key) h)
-      left call.Super plain h = answered_left (super_value p t class q.name q.proto top) (finds_super p class method) super_answers (subst (name.FindsNoCode (values p)) (super_is p s g.once targets class method c m is_class low is_key) h)
-      left call.Virtual plain h = virtual_left (plain refl) x args h
-      left call.Interface plain h = itself any_value
+      left : (kind : InvokeKind) → name.MayLeave (values p) (named p) (outer_of p o) (type_at p c.name) x args kind m → Under any_value (kind_value p t class kind q.name q.proto top)
+      left call.Static h = answered_left (found_value p t (finds_from p q.name q.proto (Some top))) (search_of (finds_static p method)) static_answers (subst (name.FindsNoCode (values p)) (statically_is p s g.once targets method m low is_key) h)
+      left call.Direct h = answered_left (found_value p t (finds_from p q.name q.proto (Some top))) (search_of (finds_static p method)) static_answers (subst (name.FindsNoCode (values p)) (statically_is p s g.once targets method m low is_key) h)
+      left call.Super h = answered_left (super_value p t class q.name q.proto top) (finds_super p class method) super_answers (subst (name.FindsNoCode (values p)) (super_is p s g.once targets class method c m is_class low is_key) h)
+      left call.Virtual h = by_receiver any_value (λ plain. virtual_left plain x args h)
+      left call.Interface h = itself any_value
 
   -- ---- a call of any name
 
-  module _ (class : ℕ) (c : Class) (is_class : slice_get p.classes class ≡ Some c) (method : ℕ) (m : MethodKey) (is_key : method_at p method ≡ m) (x : ℕ → Parts) (args : List ℕ) (kind : InvokeKind)
-      (plain : (q : MethodName) (top : ℕ) → slice_get p.methods method ≡ Some q → class_place p q.class ≡ Some top → kind ≡ call.Virtual → is_interface (slice_get p.classes top) ≡ false) where
+  module _ (class : ℕ) (c : Class) (is_class : slice_get p.classes class ≡ Some c) (method : ℕ) (m : MethodKey) (is_key : method_at p method ≡ m) (x : ℕ → Parts) (args : List ℕ) (kind : InvokeKind) where
     by_class : (v : Parts) (q : MethodName) → ((top : ℕ) → class_place p q.class ≡ Some top → Under v (kind_value p t class kind q.name q.proto top)) → Under v (named_value p t class kind (Some q))
     by_class v q h = by (class_place p q.class) refl
       where
@@ -255,7 +259,7 @@ module _ (p : Program) (o : Outside) (live : LiveSet) (g : IsMarked p o live) (t
         by (Some q) e = by_class v q (λ top i. h q top e i)
 
     pub call_given : (f : Found) → name.MayCall (values p) (named p) (outer_of p o) (type_at p c.name) x args kind m f → Under (facts.results f.key) (call_value p t class kind method)
-    call_given f may = by_name_of (facts.results f.key) (λ q top e i. given class c is_class method q e top i m is_key x args kind f (plain q top e i) may)
+    call_given f may = by_name_of (facts.results f.key) (λ q top e i. given class c is_class method q e top i m is_key x args kind f may)
 
     pub call_left : name.MayLeave (values p) (named p) (outer_of p o) (type_at p c.name) x args kind m → Under any_value (call_value p t class kind method)
-    call_left may = by_name_of any_value (λ q top e i. left class c is_class method q e top i m is_key x args kind (plain q top e i) may)
+    call_left may = by_name_of any_value (λ q top e i. left class c is_class method q e top i m is_key x args kind may)

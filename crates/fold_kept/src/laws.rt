@@ -23,14 +23,14 @@ ghost use Rattle.closed_bridge.specs.Names.{named_facts};
 ghost use Rattle.premises.specs.Numbers.{AllHaveWords};
 ghost use Rattle.const_prop.specs.Folds.{IsFoldedBy};
 ghost use Rattle.fold_bridge.specs.Folds.{AreNamed};
-ghost use Rattle.premises.specs.Plain.{CallsPlainly};
+ghost use Rattle.premises.specs.Plain.{ListsPlainly};
 ghost use Rattle.fold_kept.specs.Kept.{IsKeptFor};
 
-/// Facts by number that are certified for an outside say what their names say, where no virtual call names an interface and
-/// only interfaces stand in lists of interfaces.
+/// Facts by number that are certified for an outside say what their names say, where only interfaces stand in lists of
+/// interfaces.
 pub fn named_facts_law()
     ensures { (p : Program) (h : Hierarchy) (o : Outside) (live : LiveSet) (targets : Targets) (facts : Facts) → is_well_formed p ≡ true → IsResolved p h → IsAcyclic p
-        → Fits p live → IsClosedSet p o live → IsTargeted p o live targets → AreClosed p o live targets facts → CallsPlainly p → AreNamed p (outer_of p o) facts (named_facts p facts) }
+        → Fits p live → IsClosedSet p o live → IsTargeted p o live targets → AreClosed p o live targets facts → ListsPlainly p → AreNamed p (outer_of p o) facts (named_facts p facts) }
 {}
 
 /// What is left of a well-formed and typed program once instructions are folded is typed, whatever the facts are: no class of

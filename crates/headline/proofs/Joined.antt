@@ -1,10 +1,14 @@
 -- From what a run gives to what it shows.
-use Rattle.std.proofs.Common.{◌≡◌, ℕ, Bool, true, List, [], refl, ◌∙◌}
+use Rattle.std.proofs.Common.{ℕ, true, List, refl, ◌∙◌}
 use Rattle.program_model.specs.declared.pass.Outside.{Outside}
 use Rattle.program_model.specs.declared.program.Program.{Program}
+use Rattle.dalvik_defs.specs.Naming.{named}
+use Rattle.dalvik_defs.specs.Outer.{outer_of}
+use Rattle.removal_law.specs.Reach.{ShutsHold}
+use Rattle.reach_bridge.proofs.Unshut.{unshut}
 use Rattle.command_line.specs.declared.command.CommandWords.{CommandWords}
 use Rattle.command_line.specs.declared.command.CommandWords.TheVariants.{Nothing, Optimise, Check, Live, Trace, Workload}
-use Rattle.silence_bridge.proofs.Optimised.{optimised_shows, optimised_sound, optimised_folded, optimised_skips, optimised_dead, optimised_fresh, optimised_packed, optimised_stays}
+use Rattle.silence_bridge.proofs.Optimised.{optimised_shows, optimised_sound, optimised_folded, optimised_bound, optimised_skips, optimised_dead, optimised_fresh, optimised_packed, optimised_stays}
 use Rattle.redex_outside.specs.Held.{Held}
 use Rattle.redex_cli.specs.Accepted.{IsAccepted}
 use Rattle.redex_cli.specs.Commands.{Commands}
@@ -13,11 +17,11 @@ use Rattle.redex_cli.specs.Refusals.{OutputBy}
 use Rattle.headline.specs.Headline.{Headline, KeepsMeaning, Shrinks}
 
 -- rules shut no method
-unshut : (text : List ℕ) (p : Program) (o : Outside) → IsRuled text p o → o.shut ≡ []
-unshut text p o ruled = ruled.table.closes.shut ∙ ruled.table.unshut
+ruled_holds : (text : List ℕ) (p : Program) (o : Outside) → IsRuled text p o → ShutsHold (named p) (outer_of p o)
+ruled_holds text p o ruled = unshut p o (ruled.table.closes.shut ∙ ruled.table.unshut)
 
-keeps : (p r : Program) (o : Outside) (rounds spared : ℕ) → IsAccepted p → o.shut ≡ [] → Leaves p o r rounds spared → KeepsMeaning p o r
-keeps p r o rounds spared accepted none leaves =
+pub keeps : (p r : Program) (o : Outside) (rounds spared : ℕ) → IsAccepted p → ShutsHold (named p) (outer_of p o) → Leaves p o r rounds spared → KeepsMeaning p o r
+keeps p r o rounds spared accepted holds leaves =
     let well = accepted.formed in
     let graph = accepted.graph in
     let done = leaves.optimised in record {
@@ -27,10 +31,11 @@ keeps p r o rounds spared accepted none leaves =
       after = leaves.after;
       spared = spared;
       advised = done.advised;
-      shown = optimised_shows p accepted.hierarchy well graph.resolved graph.acyclic graph.unsplit o accepted.types r leaves.origins leaves.advisers spared rounds leaves.before leaves.after done none;
+      shown = optimised_shows p accepted.hierarchy well graph.resolved graph.acyclic graph.unsplit o accepted.types r leaves.origins leaves.advisers spared rounds leaves.before leaves.after done holds;
       formed = (optimised_sound p accepted.hierarchy well graph.resolved graph.acyclic graph.unsplit o accepted.types r leaves.origins leaves.advisers spared rounds leaves.before leaves.after done).formed;
       typed = (optimised_sound p accepted.hierarchy well graph.resolved graph.acyclic graph.unsplit o accepted.types r leaves.origins leaves.advisers spared rounds leaves.before leaves.after done).typed;
       folded = optimised_folded p accepted.hierarchy well graph.resolved graph.acyclic graph.unsplit o accepted.types r leaves.origins leaves.advisers spared rounds leaves.before leaves.after done;
+      bound = optimised_bound p accepted.hierarchy well graph.resolved graph.acyclic graph.unsplit o accepted.types r leaves.origins leaves.advisers spared rounds leaves.before leaves.after done;
       squeezed = optimised_skips p accepted.hierarchy well graph.resolved graph.acyclic graph.unsplit o accepted.types r leaves.origins leaves.advisers spared rounds leaves.before leaves.after done;
       cleaned = optimised_dead p accepted.hierarchy well graph.resolved graph.acyclic graph.unsplit o accepted.types r leaves.origins leaves.advisers spared rounds leaves.before leaves.after done;
       fresh = optimised_fresh p accepted.hierarchy well graph.resolved graph.acyclic graph.unsplit o accepted.types r leaves.origins leaves.advisers spared rounds leaves.before leaves.after done;
@@ -46,7 +51,7 @@ shrinks rules file output summary f = record {
   ruled = f.ruled;
   left = f.shrunk.left;
   written = f.shrunk.written;
-  keeps = keeps f.program f.shrunk.left f.outside f.shrunk.rounds f.shrunk.spared f.accepted (unshut rules f.program f.outside f.ruled) f.shrunk.leaves;
+  keeps = keeps f.program f.shrunk.left f.outside f.shrunk.rounds f.shrunk.spared f.accepted (ruled_holds rules f.program f.outside f.ruled) f.shrunk.leaves;
 }
 
 of_command : (words : List (List ℕ)) (held : Held) (output summary : List ℕ) (command : CommandWords) → Commands words command

@@ -18,7 +18,7 @@ use Rattle.compact_bridge.specs.Bridged.{AllPacked}
 use Rattle.copy_bridge.specs.Bridged.{AllFresh}
 use Rattle.pipeline.specs.Advised.{IsAdvised}
 use Rattle.pipeline.specs.Passes.{KeepsForms}
-use Rattle.rounds_bridge.specs.Ended.{NoneKnown}
+use Rattle.rounds_bridge.specs.Ended.{NoneKnown, NoneBindable}
 use Rattle.stay_law.specs.Stays.{Stays}
 use Rattle.silence_bridge.specs.Admitted.{admitted_in}
 use Rattle.command_line.specs.declared.command.CommandWords.TheVariants.{Optimise}
@@ -30,8 +30,8 @@ use Rattle.redex_cli.specs.Finished.{IsRuled}
 -- What is left of a program shows what the program shows without its silent calls in the admitted methods, to every
 -- framework, under every script and float table that fit, and is well-formed and typed. Some advisers were asked which methods
 -- may be rewritten: these are admitted. Facts that are certified of what is left leave nothing to write in their bodies (`NoneLeft`
--- of const_prop), or there are no such facts, or none were asked for, since no method is admitted or a kept constructor is none of
--- its class (`KeepsForms` of pipeline). In their bodies, whose positions and regions 32 bits number, every position is reached, is no
+-- of const_prop), and no call to name another method (`NoneLeft` of devirt), or there are no such facts, or none were asked for,
+-- since no method is admitted or a kept constructor is none of its class (`KeepsForms` of pipeline). In their bodies, whose positions and regions 32 bits number, every position is reached, is no
 -- goto to the next one and no nop, but where the branch behind it goes to it, and none computes what nobody reads; and unless
 -- the program names a method of a wide type, no read of a copy could be one of the original (`IsStale` of pass_defs; 16 bits
 -- number the body's registers), and no register could have a lower number (`IsPacked`). Every class, method
@@ -47,6 +47,7 @@ pub record KeepsMeaning (program : Program) (outside : Outside) (left : Program)
   pub formed : is_well_formed left ≡ true
   pub typed : IsTyped (named left)
   pub folded : NoneKnown outside admitted left ⊎ KeepsForms outside admitted left
+  pub bound : NoneBindable outside admitted left ⊎ KeepsForms outside admitted left
   pub squeezed : NothingLeft admitted left
   pub cleaned : NoneDead (is_quiet_field left) admitted left
   pub fresh : has_narrow_classes left ≡ true → AllFresh admitted left

@@ -57,19 +57,16 @@ loosened k m = record m { signature = new_signature k; flags = m.flags + 8; para
 
 -- ---- what may reach a method
 
--- the class of a method, its subclasses and superclasses
-abbrev pub is_related : NamedProgram → Text → NamedClass → Bool
-is_related p t c = not (text_eq c.name t) && (is_own_under p t c.name || is_own_under p c.name t)
-
 abbrev pub has_virtual : MethodKey → NamedClass → Bool
 has_virtual k c = elim (method_in c k.name k.signature) [ Some m ↦ is_virtual_method m | None ↦ false ]
 
--- a method that overrides something in the program or is overridden
-abbrev pub is_overriding : NamedProgram → MethodKey → Bool
-is_overriding p k = list_any (λ c. is_related p k.class c && has_virtual k c) p.classes
-
 abbrev pub classes_under : NamedProgram → Text → List NamedClass
 classes_under p t = filter (λ c. is_own_under p c.name t) p.classes
+
+-- Another class above one under the method's class has a virtual method of its name and signature: it overrides the method or is
+-- overridden by it, or it stands in an interface list, also where it is no interface.
+abbrev pub has_rival : NamedProgram → MethodKey → Bool
+has_rival p k = list_any (λ c. list_any (λ u. not (text_eq u.name k.class) && is_own_under p c.name u.name && has_virtual k u) p.classes) (classes_under p k.class)
 
 -- an interface above a class under the method's class has its name and signature
 abbrev pub is_in_interface : NamedProgram → MethodKey → Bool
@@ -77,7 +74,7 @@ is_in_interface p k = list_any (λ c. list_any (λ i. is_interface i.flags && is
 
 -- nothing but calls of the class itself reaches a virtual method
 abbrev pub is_alone : NamedProgram → MethodKey → Bool
-is_alone p k = not (is_overriding p k) && not (is_common k.name k.signature) && not (is_in_interface p k) && not (list_any (λ c. is_outward p c.name) (classes_under p k.class))
+is_alone p k = not (has_rival p k) && not (is_common k.name k.signature) && not (is_in_interface p k) && not (list_any (λ c. is_outward p c.name) (classes_under p k.class))
 
 abbrev pub names_it : NamedProgram → MethodKey → MethodKey → Bool
 names_it p k called = elim (resolves_method p called) [ Some g ↦ method_eq g.key k | None ↦ method_eq called k ]

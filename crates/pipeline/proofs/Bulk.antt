@@ -21,6 +21,11 @@ use Rattle.copy_prop.specs.Propagated.{IsPropagatedProgram}
 use Rattle.numbers_law.proofs.Compacted.{compacted_size, compacted_weight}
 use Rattle.numbers_law.proofs.Propagated.{propagated_size, propagated_weight}
 use Rattle.const_prop.specs.Measure.{open_forms}
+use Rattle.devirt.specs.Measure.{calls_in}
+use Rattle.devirt.specs.Rebound.{IsRecalledAt}
+use Rattle.calls_law.proofs.Compacted.{compacted_calls}
+use Rattle.calls_law.proofs.Propagated.{propagated_calls}
+use Rattle.calls_law.proofs.Rebound.{rebound_size, rebound_weight, rebound_open}
 use Rattle.open_law.proofs.Compacted.{compacted_open}
 use Rattle.open_law.proofs.Folded.{folded_size, folded_weight}
 use Rattle.open_law.proofs.Propagated.{propagated_open}
@@ -78,6 +83,17 @@ folded_no_more admitted p c r =
     let weight : weight_of c.program ≤ weight_of p = folded_weight admitted p c r in
     omega (arith, size, weight)
 
+-- ---- rebinding
+
+pub rebound_same : (admitted : List Bool) (p : Program) (c : Changed) → IsRewrittenBy (λ at m b es. All (IsRecalledAt b) es) admitted p c → bulk_of c.program ≤ bulk_of p
+rebound_same admitted p c r =
+    let size : size_of c.program ≡ size_of p = rebound_size admitted p c r in
+    let weight : weight_of c.program ≡ weight_of p = rebound_weight admitted p c r in
+    omega (arith, size, weight)
+
+pub rebound_plainer : (admitted : List Bool) (p : Program) (c : Changed) → IsRewrittenBy (λ at m b es. All (IsRecalledAt b) es) admitted p c → open_forms c.program ≤ open_forms p
+rebound_plainer admitted p c r = omega (arith, rebound_open admitted p c r)
+
 -- ---- propagation of copies
 
 pub propagated_same : (admitted : List Bool) (p q : Program) → IsPropagatedProgram admitted p q → bulk_of q ≡ bulk_of p
@@ -93,3 +109,11 @@ propagated_plainer admitted p q h = omega (arith, propagated_open admitted p q h
 
 pub compacted_plainer : (admitted : List Bool) (p q : Program) → IsCompactedProgram admitted p q → open_forms q ≤ open_forms p
 compacted_plainer admitted p q h = omega (arith, compacted_open admitted p q h)
+
+-- ---- calls
+
+pub propagated_nearer : (admitted : List Bool) (p q : Program) → IsPropagatedProgram admitted p q → calls_in q ≤ calls_in p
+propagated_nearer admitted p q h = omega (arith, propagated_calls admitted p q h)
+
+pub compacted_nearer : (admitted : List Bool) (p q : Program) → IsCompactedProgram admitted p q → calls_in q ≤ calls_in p
+compacted_nearer admitted p q h = omega (arith, compacted_calls admitted p q h)

@@ -1,3 +1,4 @@
+pub mod Analysed
 pub mod AskLemmas
 pub mod Bulk
 pub mod Each

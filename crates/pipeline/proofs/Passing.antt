@@ -34,6 +34,10 @@ use Rattle.premises.specs.Numbers.{AllHaveWords}
 use Rattle.const_prop.specs.Folded.{IsFold}
 use Rattle.const_prop.specs.Folds.{IsFoldedBy, NoneLeft}
 use Rattle.const_prop.specs.Measure.{open_forms}
+use Rattle.devirt.specs.Measure.{calls_in}
+use Rattle.receivers.specs.Receiving.{is_straight}
+use Rattle.devirt.specs.Left.{NoneLeft as NoneBindable}
+use Rattle.devirt.specs.Rebound.{IsRecalledAt, IsReboundBy}
 use Rattle.copy_prop.specs.Propagated.{IsCounted, IsPropagatedProgram}
 use Rattle.moves_law.specs.Measure.{moves_in}
 use Rattle.moves_law.proofs.Propagated.{propagated_fewer}
@@ -47,9 +51,9 @@ use Rattle.pipeline.specs.declared.traces.Traced.{Traced}
 use Rattle.pipeline.specs.Changes.{no_changes, total_of, bulk_of, rank_of, Falls}
 use Rattle.pipeline.specs.Graph.{HasGraph, HasGraphFault}
 use Rattle.pipeline.specs.Origins.{Follow}
-use Rattle.pipeline.specs.Passes.{Pass, Reach, ConstProp, CopyProp, DeadCode, Squeeze, Compact, Removes, AreKnown, KeepsForms, IsIllTyped, KeepsReads, Does, Steps, Last, Then, AreStill, HavePassed}
+use Rattle.pipeline.specs.Passes.{Pass, Reach, ConstProp, Devirt, CopyProp, DeadCode, Squeeze, Compact, Removes, AreKnown, KeepsForms, IsIllTyped, KeepsReads, Does, Steps, Last, Then, AreStill, HavePassed}
 use Rattle.pipeline.proofs.Few.{few_fields}
-use Rattle.pipeline.proofs.Bulk.{removal_less, folded_no_more, propagated_same, propagated_plainer, thinned_less, compacted_same, compacted_plainer}
+use Rattle.pipeline.proofs.Bulk.{removal_less, folded_no_more, rebound_same, rebound_plainer, propagated_same, propagated_plainer, propagated_nearer, thinned_less, compacted_same, compacted_plainer, compacted_nearer}
 
 -- ---- any passes
 
@@ -65,12 +69,12 @@ module _ (o : Outside) (admitted : List Bool) where
   -- more passes after these
   module _ (xs ys : List Pass) (t : Traced) (a b r : Passed) (one : HavePassed o admitted xs t a) (two : HavePassed o admitted ys a.traced b) (left : r.traced ≡ b.traced)
       (removed : r.changes.removed ≡ capped (a.changes.removed + b.changes.removed)) (folded : r.changes.folded ≡ capped (a.changes.folded + b.changes.folded))
-      (reread : r.changes.reread ≡ capped (a.changes.reread + b.changes.reread)) (renamed : r.changes.renamed ≡ capped (a.changes.renamed + b.changes.renamed)) where
+      (rebound : r.changes.rebound ≡ capped (a.changes.rebound + b.changes.rebound)) (reread : r.changes.reread ≡ capped (a.changes.reread + b.changes.reread)) (renamed : r.changes.renamed ≡ capped (a.changes.renamed + b.changes.renamed)) where
     none_first : total_of r.changes ≡ 0 → total_of a.changes ≡ 0
-    none_first z = omega (arith, removed, folded, reread, renamed, z)
+    none_first z = omega (arith, removed, folded, rebound, reread, renamed, z)
 
     none_then : total_of r.changes ≡ 0 → total_of b.changes ≡ 0
-    none_then z = omega (arith, removed, folded, reread, renamed, z)
+    none_then z = omega (arith, removed, folded, rebound, reread, renamed, z)
 
     same_both : total_of r.changes ≡ 0 → r.traced ≡ t
     same_both z = left ∙ two.same (none_then z) ∙ one.same (none_first z)
@@ -84,6 +88,9 @@ module _ (o : Outside) (admitted : List Bool) where
     forms_left : open_forms r.traced.program ≡ open_forms b.traced.program
     forms_left = ap (λ (x : Traced). open_forms x.program) left
 
+    calls_left : calls_in r.traced.program ≡ calls_in b.traced.program
+    calls_left = ap (λ (x : Traced). calls_in x.program) left
+
     moves_left : moves_in r.traced.program ≡ moves_in b.traced.program
     moves_left = ap (λ (x : Traced). moves_in x.program) left
 
@@ -96,24 +103,30 @@ module _ (o : Outside) (admitted : List Bool) where
     none_folded : r.changes.folded ≡ 0 → (a.changes.folded ≡ 0) × (b.changes.folded ≡ 0)
     none_folded z = (omega (arith, folded, z), omega (arith, folded, z))
 
+    none_rebound : r.changes.rebound ≡ 0 → (a.changes.rebound ≡ 0) × (b.changes.rebound ≡ 0)
+    none_rebound z = (omega (arith, rebound, z), omega (arith, rebound, z))
+
     none_reread : r.changes.reread ≡ 0 → (a.changes.reread ≡ 0) × (b.changes.reread ≡ 0)
     none_reread z = (omega (arith, reread, z), omega (arith, reread, z))
 
     plainer_both : r.changes.removed ≡ 0 → open_forms r.traced.program + min r.changes.folded 1 ≤ open_forms t.program
     plainer_both z = omega (arith, forms_left, folded, one.falls.plainer (none_removed z).0, two.falls.plainer (none_removed z).1)
 
-    fewer_both : r.changes.removed ≡ 0 → r.changes.folded ≡ 0 → moves_in r.traced.program + min r.changes.reread 1 ≤ moves_in t.program
-    fewer_both z x = omega (arith, moves_left, reread, one.falls.fewer (none_removed z).0 (none_folded x).0, two.falls.fewer (none_removed z).1 (none_folded x).1)
+    nearer_both : r.changes.removed ≡ 0 → r.changes.folded ≡ 0 → calls_in r.traced.program + min r.changes.rebound 1 ≤ calls_in t.program
+    nearer_both z x = omega (arith, calls_left, rebound, one.falls.nearer (none_removed z).0 (none_folded x).0, two.falls.nearer (none_removed z).1 (none_folded x).1)
 
-    lower_both : r.changes.removed ≡ 0 → r.changes.folded ≡ 0 → r.changes.reread ≡ 0 → rank_of r.traced.program + min r.changes.renamed 1 ≤ rank_of t.program
-    lower_both z x y = omega (arith, rank_left, renamed, one.falls.lower (none_removed z).0 (none_folded x).0 (none_reread y).0, two.falls.lower (none_removed z).1 (none_folded x).1 (none_reread y).1)
+    fewer_both : r.changes.removed ≡ 0 → r.changes.folded ≡ 0 → r.changes.rebound ≡ 0 → moves_in r.traced.program + min r.changes.reread 1 ≤ moves_in t.program
+    fewer_both z x v = omega (arith, moves_left, reread, one.falls.fewer (none_removed z).0 (none_folded x).0 (none_rebound v).0, two.falls.fewer (none_removed z).1 (none_folded x).1 (none_rebound v).1)
+
+    lower_both : r.changes.removed ≡ 0 → r.changes.folded ≡ 0 → r.changes.rebound ≡ 0 → r.changes.reread ≡ 0 → rank_of r.traced.program + min r.changes.renamed 1 ≤ rank_of t.program
+    lower_both z x v y = omega (arith, rank_left, renamed, one.falls.lower (none_removed z).0 (none_folded x).0 (none_rebound v).0 (none_reread y).0, two.falls.lower (none_removed z).1 (none_folded x).1 (none_rebound v).1 (none_reread y).1)
 
     pub both_passed : HavePassed o admitted (xs ++ ys) t r
     both_passed = record {
       steps = subst (λ (x : Traced). Steps o admitted (xs ++ ys) t x) (sym left) (both_steps xs ys t a.traced b.traced one.steps two.steps);
       same = same_both;
       still = still_both;
-      falls = record { less = omega (arith, bulk_left, removed, one.falls.less, two.falls.less); plainer = plainer_both; fewer = fewer_both; lower = lower_both };
+      falls = record { less = omega (arith, bulk_left, removed, one.falls.less, two.falls.less); plainer = plainer_both; nearer = nearer_both; fewer = fewer_both; lower = lower_both };
     }
 
 -- ---- one pass
@@ -125,53 +138,70 @@ pub record IsPassed (old : List (List Origin)) (c : Changed) (made : Changes) (r
   pub origins : Follow old c.origins r.traced.origins
 
 abbrev pub removes : ℕ → Changes
-removes n = record { removed = n; folded = 0; reread = 0; renamed = 0 }
+removes n = record no_changes { removed = n }
 
 abbrev pub folds : ℕ → Changes
-folds n = record { removed = 0; folded = n; reread = 0; renamed = 0 }
+folds n = record no_changes { folded = n }
+
+abbrev pub rebinds : ℕ → Changes
+rebinds n = record no_changes { rebound = n }
 
 abbrev pub rereads : ℕ → Changes
-rereads n = record { removed = 0; folded = 0; reread = n; renamed = 0 }
+rereads n = record no_changes { reread = n }
 
 abbrev pub renames : ℕ → Changes
-renames n = record { removed = 0; folded = 0; reread = 0; renamed = n }
+renames n = record no_changes { renamed = n }
 
 -- what is as much, or less where a number isn't 0
 one_less : (x y n : ℕ) → (n ≡ 0 → x ≡ y) → (0 < n → x < y) → x + min n 1 ≤ y
 one_less x y zero same less = omega (arith, same refl)
 one_less x y (suc n) same less = omega (arith, less (omega arith))
 
--- how a pass falls that only takes away, only folds, only lets reads read originals, or only gives registers other numbers
+-- how a pass falls that only takes away, only folds, only lets calls name what they find, only lets reads read originals, or only
+-- gives registers other numbers
 removed_falls : (q p : Program) (n : ℕ) → (n ≡ 0 → q ≡ p) → (0 < n → bulk_of q < bulk_of p) → Falls (removes n) q p
 removed_falls q p n same less = record {
   less = one_less (bulk_of q) (bulk_of p) n (λ z. ap bulk_of (same z)) less;
   plainer = λ z. omega (arith, ap open_forms (same z));
-  fewer = λ z _. omega (arith, ap moves_in (same z));
-  lower = λ z _ _. omega (arith, ap rank_of (same z));
+  nearer = λ z _. omega (arith, ap calls_in (same z));
+  fewer = λ z _ _. omega (arith, ap moves_in (same z));
+  lower = λ z _ _ _. omega (arith, ap rank_of (same z));
 }
 
 folded_falls : (q p : Program) (n : ℕ) → (n ≡ 0 → q ≡ p) → bulk_of q ≤ bulk_of p → (0 < n → open_forms q < open_forms p) → Falls (folds n) q p
 folded_falls q p n same bulk less = record {
   less = omega (arith, bulk);
   plainer = λ _. one_less (open_forms q) (open_forms p) n (λ z. ap open_forms (same z)) less;
-  fewer = λ _ z. omega (arith, ap moves_in (same z));
-  lower = λ _ z _. omega (arith, ap rank_of (same z));
+  nearer = λ _ z. omega (arith, ap calls_in (same z));
+  fewer = λ _ z _. omega (arith, ap moves_in (same z));
+  lower = λ _ z _ _. omega (arith, ap rank_of (same z));
 }
 
-reread_falls : (q p : Program) (n : ℕ) → (n ≡ 0 → q ≡ p) → bulk_of q ≡ bulk_of p → open_forms q ≤ open_forms p → (0 < n → moves_in q < moves_in p) → Falls (rereads n) q p
-reread_falls q p n same bulk plainer less = record {
+rebound_falls : (q p : Program) (n : ℕ) → (n ≡ 0 → q ≡ p) → bulk_of q ≤ bulk_of p → open_forms q ≤ open_forms p → calls_in q + min n 1 ≤ calls_in p → Falls (rebinds n) q p
+rebound_falls q p n same bulk plainer nearer = record {
   less = omega (arith, bulk);
   plainer = λ _. omega (arith, plainer);
-  fewer = λ _ _. one_less (moves_in q) (moves_in p) n (λ z. ap moves_in (same z)) less;
-  lower = λ _ _ z. omega (arith, ap rank_of (same z));
+  nearer = λ _ _. nearer;
+  fewer = λ _ _ z. omega (arith, ap moves_in (same z));
+  lower = λ _ _ z _. omega (arith, ap rank_of (same z));
 }
 
-renamed_falls : (q p : Program) (n : ℕ) → (n ≡ 0 → q ≡ p) → bulk_of q ≡ bulk_of p → open_forms q ≤ open_forms p → moves_in q ≡ moves_in p → (0 < n → rank_of q < rank_of p) → Falls (renames n) q p
-renamed_falls q p n same bulk plainer moves less = record {
+reread_falls : (q p : Program) (n : ℕ) → (n ≡ 0 → q ≡ p) → bulk_of q ≡ bulk_of p → open_forms q ≤ open_forms p → calls_in q ≤ calls_in p → (0 < n → moves_in q < moves_in p) → Falls (rereads n) q p
+reread_falls q p n same bulk plainer nearer less = record {
   less = omega (arith, bulk);
   plainer = λ _. omega (arith, plainer);
-  fewer = λ _ _. omega (arith, moves);
-  lower = λ _ _ _. one_less (rank_of q) (rank_of p) n (λ z. ap rank_of (same z)) less;
+  nearer = λ _ _. omega (arith, nearer);
+  fewer = λ _ _ _. one_less (moves_in q) (moves_in p) n (λ z. ap moves_in (same z)) less;
+  lower = λ _ _ _ z. omega (arith, ap rank_of (same z));
+}
+
+renamed_falls : (q p : Program) (n : ℕ) → (n ≡ 0 → q ≡ p) → bulk_of q ≡ bulk_of p → open_forms q ≤ open_forms p → calls_in q ≤ calls_in p → moves_in q ≡ moves_in p → (0 < n → rank_of q < rank_of p) → Falls (renames n) q p
+renamed_falls q p n same bulk plainer nearer moves less = record {
+  less = omega (arith, bulk);
+  plainer = λ _. omega (arith, plainer);
+  nearer = λ _ _. omega (arith, nearer);
+  fewer = λ _ _ _. omega (arith, moves);
+  lower = λ _ _ _ _. one_less (rank_of q) (rank_of p) n (λ z. ap rank_of (same z)) less;
 }
 
 module _ (o : Outside) (admitted : List Bool) (pass : Pass) (t : Traced) where
@@ -264,13 +294,13 @@ module _ (o : Outside) (admitted : List Bool) (t : Traced) (r : Passed) where
   pub kept_forms_passed : r.traced ≡ t → r.changes ≡ no_changes → (is_well_formed t.program ≡ true → KeepsForms o admitted t.program) → HavePassed o admitted (ConstProp ∷ []) t r
   kept_forms_passed same none keeps = none_passed o admitted ConstProp t r (λ formed. record { folding = inr (refl, keeps formed); still = refl }) same none
 
-  -- what is left the same by a fold was counted as nothing
-  uncounted : (c : Changed) → (0 < c.count → open_forms c.program < open_forms t.program) → c.program ≡ t.program → c.count ≡ 0
-  uncounted c less same = by c.count refl
+  -- what is left the same by a pass that lowers a measure was counted as nothing
+  uncounted : (measure : Program → ℕ) (c : Changed) → (0 < c.count → measure c.program < measure t.program) → c.program ≡ t.program → c.count ≡ 0
+  uncounted measure c less same = by c.count refl
     where
       by : (n : ℕ) → c.count ≡ n → c.count ≡ 0
       by zero e = e
-      by (suc n) e = absurd (let fewer : open_forms c.program < open_forms t.program = less (omega (arith, e)) in omega (arith, fewer, ap open_forms same))
+      by (suc n) e = absurd (let fewer : measure c.program < measure t.program = less (omega (arith, e)) in omega (arith, fewer, ap measure same))
 
   pub folded_passed : (c : Changed) (h : Hierarchy) (facts : Facts) → IsPassed t.origins c (folds c.count) r → (is_well_formed t.program ≡ true → HasGraph t.program h) → (is_well_formed t.program ≡ true → AreKnown o t.program facts)
       → IsRewrittenBy (λ at m b es. All (IsFold b) es) admitted t.program c → (is_well_formed t.program ≡ true → IsResolved t.program h → IsFoldedBy t.program h facts admitted c)
@@ -288,11 +318,36 @@ module _ (o : Outside) (admitted : List Bool) (t : Traced) (r : Passed) where
           folded = folded formed resolved;
           left = refl;
           bits = bits;
-          none_left = λ e. none formed resolved (uncounted c less e);
+          none_left = λ e. none formed resolved (uncounted open_forms c less e);
         });
         still = becomes.written.origins;
       })
       (omega arith) same (λ _. becomes.written.origins) (folded_falls c.program t.program c.count same (folded_no_more admitted t.program c becomes) less)
+
+  -- ---- rebinding
+
+  pub kept_calls_passed : r.traced ≡ t → r.changes ≡ no_changes → (is_well_formed t.program ≡ true → KeepsForms o admitted t.program) → HavePassed o admitted (Devirt ∷ []) t r
+  kept_calls_passed same none keeps = none_passed o admitted Devirt t r (λ formed. record { rebinding = inr (refl, keeps formed); still = refl }) same none
+
+  pub rebound_passed : (c : Changed) (h : Hierarchy) (facts : Facts) → IsPassed t.origins c (rebinds c.count) r → HasGraph t.program h → AreKnown o t.program facts
+      → IsRewrittenBy (λ at m b es. All (IsRecalledAt b) es) admitted t.program c → IsReboundBy t.program h facts admitted c
+      → (is_straight t.program ≡ true → c.count ≡ 0 → NoneBindable t.program h facts admitted) → (c.count ≡ 0 → c.program ≡ t.program) → calls_in c.program + min c.count 1 ≤ calls_in t.program
+      → HavePassed o admitted (Devirt ∷ []) t r
+  rebound_passed c h facts passed graph known becomes rebound none same nearer = changed_passed o admitted Devirt t c (rebinds c.count) r passed
+      (λ formed. record {
+        rebinding = inl (record {
+          hierarchy = h;
+          resolved = graph.resolved;
+          facts = facts;
+          known = known;
+          changed = c;
+          rebound = rebound;
+          left = refl;
+          none_left = λ e straight. none straight (uncounted calls_in c (λ some. omega (arith, nearer, some)) e);
+        });
+        still = becomes.written.origins;
+      })
+      (omega arith) same (λ _. becomes.written.origins) (rebound_falls c.program t.program c.count same (rebound_same admitted t.program c becomes) (rebound_plainer admitted t.program c becomes) nearer)
 
   -- ---- propagation of copies
 
@@ -303,7 +358,7 @@ module _ (o : Outside) (admitted : List Bool) (t : Traced) (r : Passed) where
       → c.origins ≡ [] → IsPropagatedProgram admitted t.program c.program → IsCounted c.count t.program c.program → HavePassed o admitted (CopyProp ∷ []) t r
   copies_passed c h passed graph narrow typed still propagated counts = changed_passed o admitted CopyProp t c (rereads c.count) r passed
       (λ formed. record { propagation = inl (record { narrow = narrow; hierarchy = h; resolved = (graph formed).resolved; typed = typed; propagated = propagated }); still = still })
-      (omega arith) counts.same (λ _. still) (reread_falls c.program t.program c.count counts.same (propagated_same admitted t.program c.program propagated) (propagated_plainer admitted t.program c.program propagated) (λ some. propagated_fewer admitted t.program c.program propagated (counts.differs some)))
+      (omega arith) counts.same (λ _. still) (reread_falls c.program t.program c.count counts.same (propagated_same admitted t.program c.program propagated) (propagated_plainer admitted t.program c.program propagated) (propagated_nearer admitted t.program c.program propagated) (λ some. propagated_fewer admitted t.program c.program propagated (counts.differs some)))
 
   -- ---- squeezing
 
@@ -343,4 +398,4 @@ module _ (o : Outside) (admitted : List Bool) (t : Traced) (r : Passed) where
       → (0 < c.count → numbers_in c.program < numbers_in t.program) → HavePassed o admitted (Compact ∷ []) t r
   compact_passed c passed narrow still h counts less = changed_passed o admitted Compact t c (renames c.count) r passed
       (λ _. record { compaction = inl (narrow, h); still = still }) (omega arith) counts.same (λ _. still)
-      (renamed_falls c.program t.program c.count counts.same (compacted_same admitted t.program c.program h) (compacted_plainer admitted t.program c.program h) (compacted_moves admitted t.program c.program h) less)
+      (renamed_falls c.program t.program c.count counts.same (compacted_same admitted t.program c.program h) (compacted_plainer admitted t.program c.program h) (compacted_nearer admitted t.program c.program h) (compacted_moves admitted t.program c.program h) less)

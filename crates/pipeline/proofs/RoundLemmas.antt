@@ -13,15 +13,17 @@ use Rattle.call_graph.specs.declared.live_set.LiveSet.{LiveSet}
 use Rattle.call_graph.specs.Facts.{Fits}
 use Rattle.call_graph.specs.Closed.{IsClosedSet}
 use Rattle.const_prop.specs.Measure.{open_forms}
+use Rattle.devirt.specs.Measure.{calls_in}
 use Rattle.moves_law.specs.Measure.{moves_in}
 use Rattle.pipeline.specs.Advised.{IsAdvised}
 use Rattle.pipeline.specs.Asks.{Verdict, asked, no_verdict, AreAnswered}
-use Rattle.pipeline.specs.Changes.{total_of, rank_of, HasFewerCopies, IsPlainer, IsLess, Falls}
+use Rattle.pipeline.specs.Changes.{total_of, rank_of, HasFewerCopies, IsNearer, IsPlainer, IsLess, Falls}
 use Rattle.pipeline.specs.Counts.{counted}
 use Rattle.pipeline.specs.Graph.{HasGraph, HasGraphFault}
 use Rattle.pipeline.specs.Silence.{IsSilent, is_quiet, silenced_body, silenced_method, silenced_class, silenced}
 use Rattle.pipeline.specs.Passes.{passes, AreStill, HavePassed}
-use Rattle.pipeline.specs.Rounds.{Rounds, Ended, Next, Rounding, first_of, HaveRun, IsOptimised}
+use Rattle.pipeline.specs.Rounds.{Rounds, Ended, Next, Rounding, HaveRun, HaveRunFrom, IsOptimised}
+use Rattle.pipeline.specs.declared.rounds.Outcome.{Outcome}
 use Rattle.pipeline.specs.declared.traces.Changes.{Changes}
 use Rattle.pipeline.specs.declared.traces.Passed.{Passed}
 use Rattle.pipeline.specs.declared.traces.Traced.{Traced}
@@ -33,10 +35,15 @@ abbrev pub left_to_rename : ℕ → Passed → ℕ
 left_to_rename zero r = rank_of r.traced.program + min r.changes.renamed 1
 left_to_rename (suc n) r = 0
 
--- through how many Moves what is read went, and whether a read was changed, where nothing was taken away or folded
+-- through how many Moves what is read went, and whether a read was changed, where nothing was taken away, folded or rebound
 abbrev pub left_to_reread : ℕ → Passed → ℕ
 left_to_reread zero r = moves_in r.traced.program + min r.changes.reread 1
 left_to_reread (suc n) r = 0
+
+-- how far calls are from what they find, and whether one names another method, where nothing was taken away or folded
+abbrev pub left_to_rebind : ℕ → Passed → ℕ
+left_to_rebind zero r = calls_in r.traced.program + min r.changes.rebound 1
+left_to_rebind (suc n) r = 0
 
 -- how many instructions may still be folded, and whether one was, where nothing was taken away
 abbrev pub left_to_fold : ℕ → Passed → ℕ
@@ -47,12 +54,16 @@ left_to_fold (suc n) r = 0
 falls_less : (c : Changes) (q p : Program) → Falls c q p → 0 < total_of c → IsLess q p
 falls_less c q p f some = by c.removed refl
   where
-    copies : (n : ℕ) → c.removed ≡ 0 → c.folded ≡ 0 → c.reread ≡ n → HasFewerCopies q p
-    copies zero none all e = inr (omega (arith, f.fewer none all), omega (arith, f.lower none all e, none, all, e, some))
-    copies (suc n) none all e = inl (omega (arith, f.fewer none all, e))
+    copies : (n : ℕ) → c.removed ≡ 0 → c.folded ≡ 0 → c.rebound ≡ 0 → c.reread ≡ n → HasFewerCopies q p
+    copies zero none all each e = inr (omega (arith, f.fewer none all each), omega (arith, f.lower none all each e, none, all, each, e, some))
+    copies (suc n) none all each e = inl (omega (arith, f.fewer none all each, e))
+
+    calls : (n : ℕ) → c.removed ≡ 0 → c.folded ≡ 0 → c.rebound ≡ n → IsNearer q p
+    calls zero none all e = inr (omega (arith, f.nearer none all), copies c.reread none all e refl)
+    calls (suc n) none all e = inl (omega (arith, f.nearer none all, e))
 
     forms : (n : ℕ) → c.removed ≡ 0 → c.folded ≡ n → IsPlainer q p
-    forms zero none e = inr (omega (arith, f.plainer none), copies c.reread none e refl)
+    forms zero none e = inr (omega (arith, f.plainer none), calls c.rebound none e refl)
     forms (suc n) none e = inl (omega (arith, f.plainer none, e))
 
     by : (n : ℕ) → c.removed ≡ n → IsLess q p
@@ -68,19 +79,37 @@ less_to_fold b c none some plainer = subst (λ (n : ℕ). left_to_fold c.changes
     by zero e = omega (arith, plainer e, some)
     by (suc n) e = omega (arith, some)
 
--- rounds behind one that took nothing away, folded nothing and let reads read originals leave fewer Moves
-pub less_to_reread : (b c : Passed) → b.changes.removed + b.changes.folded ≡ 0 → 0 < b.changes.reread
-    → (c.changes.removed ≡ 0 → c.changes.folded ≡ 0 → moves_in c.traced.program + min c.changes.reread 1 ≤ moves_in b.traced.program)
-    → left_to_reread (c.changes.removed + c.changes.folded) c < left_to_reread (b.changes.removed + b.changes.folded) b
-less_to_reread b c none some fewer = subst (λ (n : ℕ). left_to_reread (c.changes.removed + c.changes.folded) c < left_to_reread n b) (sym none) (by (c.changes.removed + c.changes.folded) refl)
+-- what a round counted that took away or folded
+abbrev pub counted_first : Passed → ℕ
+counted_first r = r.changes.removed + r.changes.folded
+
+-- and what let calls name others
+abbrev pub counted_then : Passed → ℕ
+counted_then r = r.changes.removed + r.changes.folded + r.changes.rebound
+
+-- rounds behind one that took nothing away, folded nothing and let calls name what they find leave these nearer to it
+pub less_to_rebind : (b c : Passed) → counted_first b ≡ 0 → 0 < b.changes.rebound
+    → (c.changes.removed ≡ 0 → c.changes.folded ≡ 0 → calls_in c.traced.program + min c.changes.rebound 1 ≤ calls_in b.traced.program)
+    → left_to_rebind (counted_first c) c < left_to_rebind (counted_first b) b
+less_to_rebind b c none some nearer = subst (λ (n : ℕ). left_to_rebind (counted_first c) c < left_to_rebind n b) (sym none) (by (counted_first c) refl)
   where
-    by : (n : ℕ) → c.changes.removed + c.changes.folded ≡ n → left_to_reread n c < left_to_reread 0 b
-    by zero e = omega (arith, fewer (omega (arith, e)) (omega (arith, e)), some)
+    by : (n : ℕ) → counted_first c ≡ n → left_to_rebind n c < left_to_rebind 0 b
+    by zero e = omega (arith, nearer (omega (arith, e)) (omega (arith, e)), some)
+    by (suc n) e = omega (arith, some)
+
+-- rounds behind one that took nothing away, folded and rebound nothing and let reads read originals leave fewer Moves
+pub less_to_reread : (b c : Passed) → counted_then b ≡ 0 → 0 < b.changes.reread
+    → (c.changes.removed ≡ 0 → c.changes.folded ≡ 0 → c.changes.rebound ≡ 0 → moves_in c.traced.program + min c.changes.reread 1 ≤ moves_in b.traced.program)
+    → left_to_reread (counted_then c) c < left_to_reread (counted_then b) b
+less_to_reread b c none some fewer = subst (λ (n : ℕ). left_to_reread (counted_then c) c < left_to_reread n b) (sym none) (by (counted_then c) refl)
+  where
+    by : (n : ℕ) → counted_then c ≡ n → left_to_reread n c < left_to_reread 0 b
+    by zero e = omega (arith, fewer (omega (arith, e)) (omega (arith, e)) (omega (arith, e)), some)
     by (suc n) e = omega (arith, some)
 
 -- what a round counted but for registers that got other numbers
 abbrev pub counted_more : Passed → ℕ
-counted_more r = r.changes.removed + r.changes.folded + r.changes.reread
+counted_more r = r.changes.removed + r.changes.folded + r.changes.rebound + r.changes.reread
 
 module _ (o : Outside) (admitted : List Bool) where
   -- a round behind one that only gave registers other numbers leaves fewer to give
@@ -88,7 +117,7 @@ module _ (o : Outside) (admitted : List Bool) where
   less_to_rename b c h none some = subst (λ (n : ℕ). left_to_rename (counted_more c) c < left_to_rename n b) (sym none) (by (counted_more c) refl)
     where
       by : (n : ℕ) → counted_more c ≡ n → left_to_rename n c < left_to_rename 0 b
-      by zero e = omega (arith, h.falls.lower (omega (arith, e)) (omega (arith, e)) (omega (arith, e)), some)
+      by zero e = omega (arith, h.falls.lower (omega (arith, e)) (omega (arith, e)) (omega (arith, e)) (omega (arith, e)), some)
       by (suc n) e = omega (arith, some)
 
   more_rounds : (m n : ℕ) (t u v : Traced) → Rounds o admitted m t u → Rounds o admitted n u v → Rounds o admitted (m + n) t v
@@ -112,10 +141,10 @@ module _ (o : Outside) (admitted : List Bool) where
   }
 
   -- a round that changes nothing is the last
-  pub ended : (p : Program) (t : Traced) (r : Passed) (n : ℕ) → t ≡ first_of p → Rounding o admitted t r n → total_of r.changes ≡ 0 → HaveRun o admitted p r.traced n
-  ended p t r n e so none = record {
+  pub ended : (t : Traced) (r : Passed) (n : ℕ) → Rounding o admitted t r n → total_of r.changes ≡ 0 → HaveRunFrom o admitted t r.traced n
+  ended t r n so none = record {
     changing = so.changing;
-    rounds = subst (λ (x : Traced). Rounds o admitted so.changing x r.traced) e (subst (λ (x : Traced). Rounds o admitted so.changing t x) (sym (so.one.same none)) so.rounds);
+    rounds = subst (λ (x : Traced). Rounds o admitted so.changing t x) (sym (so.one.same none)) so.rounds;
     ends = subst (λ (x : Traced). AreStill o admitted passes x.program) (sym (so.one.same none)) (so.one.still none);
     count_is = so.count_is;
   }
@@ -185,3 +214,12 @@ optimised o p q t advisers before after v n formed advised silent still ran = re
   formed = still formed;
   ran = ran;
 }
+
+-- what the outcome says
+pub optimised_so : (o : Outside) (p : Program) (t : Traced) (r : Outcome) (advisers : ℕ) (before after : List Bool) {spared rounds : ℕ} → r.program ≡ t.program → r.origins ≡ t.origins → r.rounds ≡ rounds → r.spared ≡ spared
+    → IsOptimised o p advisers before after spared t.program t.origins rounds → IsOptimised o p advisers before after r.spared r.program r.origins r.rounds
+optimised_so o p t r advisers before after {spared} {rounds} program origins count out h =
+    subst (λ n. IsOptimised o p advisers before after r.spared r.program r.origins n) (sym count)
+    (subst (λ n. IsOptimised o p advisers before after n r.program r.origins rounds) (sym out)
+    (subst (λ q. IsOptimised o p advisers before after spared q r.origins rounds) (sym program)
+    (subst (λ os. IsOptimised o p advisers before after spared t.program os rounds) (sym origins) h)))

@@ -1,5 +1,5 @@
 -- What the passes of a round do to a program, by number (this project's profile).
-use Rattle.std.specs.Prelude.{◌≡◌, ◌⊎◌, ℕ, Bool, true, false, List, [], ◌∷◌}
+use Rattle.std.specs.Prelude.{◌≡◌, ◌⊎◌, ℕ, Bool, true, false, List, [], ◌∷◌, Option, IfSome, MatchOption}
 use Rattle.std.specs.List.{list_any}
 use Rattle.program_model.specs.declared.body.Body.{Body}
 use Rattle.program_model.specs.declared.pass.Changed.{Changed}
@@ -20,8 +20,11 @@ use Rattle.facts.specs.declared.facts.Facts.{Facts}
 use Rattle.summaries.specs.Certified.{IsCertified}
 use Rattle.premises.specs.Numbers.{AllHaveWords}
 use Rattle.premises.specs.Makers.{MakersAreOwn}
-use Rattle.premises.specs.Plain.{CallsPlainly, calls_plainly}
+use Rattle.premises.specs.Plain.{ListsPlainly, lists_plainly}
 use Rattle.const_prop.specs.Folds.{IsFoldedBy, NoneLeft}
+use Rattle.receivers.specs.Receiving.{is_straight}
+use Rattle.devirt.specs.Left.{NoneLeft as NoneBindable}
+use Rattle.devirt.specs.Rebound.{IsReboundBy}
 use Rattle.copy_prop.specs.Propagated.{IsPropagatedProgram}
 use Rattle.dead_code.specs.Dead.{is_quiet_field}
 use Rattle.dead_code.specs.Wishes.{AreCleaned, NoneDead}
@@ -39,6 +42,7 @@ use Rattle.pipeline.specs.Origins.{Follow}
 pub data Pass : Type 0 where
   Reach : Pass
   ConstProp : Pass
+  Devirt : Pass
   CopyProp : Pass
   DeadCode : Pass
   Squeeze : Pass
@@ -46,7 +50,7 @@ pub data Pass : Type 0 where
 
 -- The passes of a round, in their order.
 abbrev pub passes : List Pass
-passes = Reach ∷ ConstProp ∷ CopyProp ∷ DeadCode ∷ Squeeze ∷ Compact ∷ []
+passes = Reach ∷ ConstProp ∷ Devirt ∷ CopyProp ∷ DeadCode ∷ Squeeze ∷ Compact ∷ []
 
 -- ---- what each pass does to a well-formed program
 
@@ -67,12 +71,12 @@ pub record IsRemoval (o : Outside) (p q : Program) (moved : List (List Origin)) 
   pub still : moved ≡ []
 
 -- Facts that are certified of a program, so that they hold in every run of it: its numbers have the bits that instructions and
--- values have for them, a kept constructor is one of its class, and virtual calls name classes alone.
+-- values have for them, a kept constructor is one of its class, and lists of interfaces name interfaces alone.
 pub record AreKnown (o : Outside) (p : Program) (facts : Facts) : Type 0 where
   pub certified : IsCertified p o facts
   pub words : AllHaveWords p
   pub makers : MakersAreOwn p o
-  pub plain : CallsPlainly p
+  pub plain : ListsPlainly p
 
 -- What such facts say of instructions in admitted methods is written over them: a constant, or of a branch a goto or a nop.
 -- Where the program is left the same, these facts leave nothing to write.
@@ -87,18 +91,41 @@ pub record Folds (o : Outside) (admitted : List Bool) (p q : Program) : Type 0 w
   pub bits : AllHaveWords changed.program
   pub none_left : q ≡ p → NoneLeft p hierarchy facts admitted
 
--- Why nothing is written: no method is admitted, the class graph has a fault, a kept constructor is none of its class, a virtual
--- call names an interface or a list of interfaces another class, or the analysis certified no facts.
+-- Why nothing is written: no method is admitted, the class graph has a fault, a kept constructor is none of its class, a list of
+-- interfaces names another class, or the analysis certified no facts.
 pub data KeepsForms (o : Outside) (admitted : List Bool) (p : Program) : Type 0 where
   NoneAdmitted : list_any (λ yes. yes) admitted ≡ false → KeepsForms o admitted p
   Ungraphed : HasGraphFault p → KeepsForms o admitted p
   NotOwn : (MakersAreOwn p o → ⊥) → KeepsForms o admitted p
-  NotPlain : calls_plainly p ≡ false → KeepsForms o admitted p
+  NotPlain : lists_plainly p ≡ false → KeepsForms o admitted p
   Uncertified : KeepsForms o admitted p
+
+-- What was found of the runs of a program: facts that are known, or why there are none where it is well-formed. It was tested to be
+-- so before facts were asked for.
+pub record IsAnalysis (o : Outside) (admitted : List Bool) (p : Program) (found : Option Facts) : Type 0 where
+  pub formed : IfSome found (λ f. is_well_formed p ≡ true)
+  pub says : is_well_formed p ≡ true → MatchOption found (KeepsForms o admitted p) (AreKnown o p)
 
 -- What is known of instructions in admitted methods is written over them, or nothing changes. No position moves.
 pub record IsFolding (o : Outside) (admitted : List Bool) (p q : Program) (moved : List (List Origin)) : Type 0 where
   pub folding : Folds o admitted p q ⊎ ((q ≡ p) × KeepsForms o admitted p)
+  pub still : moved ≡ []
+
+-- Calls in admitted methods name the one method that all their receivers find, by such facts or by the typing alone. Where the
+-- program is left the same, these leave no call to name another.
+pub record Rebinds (o : Outside) (admitted : List Bool) (p q : Program) : Type 0 where
+  pub hierarchy : Hierarchy
+  pub resolved : IsResolved p hierarchy
+  pub facts : Facts
+  pub known : AreKnown o p facts
+  pub changed : Changed
+  pub rebound : IsReboundBy p hierarchy facts admitted changed
+  pub left : q ≡ changed.program
+  pub none_left : q ≡ p → is_straight p ≡ true → NoneBindable p hierarchy facts admitted
+
+-- Calls in admitted methods name what they find, or nothing changes. No position moves.
+pub record IsRebinding (o : Outside) (admitted : List Bool) (p q : Program) (moved : List (List Origin)) : Type 0 where
+  pub rebinding : Rebinds o admitted p q ⊎ ((q ≡ p) × KeepsForms o admitted p)
   pub still : moved ≡ []
 
 -- The verifier refuses some body.
@@ -148,6 +175,7 @@ pub record IsCompaction (admitted : List Bool) (p q : Program) (moved : List (Li
 abbrev pub Does : Outside → List Bool → Pass → Program → Program → List (List Origin) → Type 0
 Does o admitted Reach p q moved = IsRemoval o p q moved
 Does o admitted ConstProp p q moved = IsFolding o admitted p q moved
+Does o admitted Devirt p q moved = IsRebinding o admitted p q moved
 Does o admitted CopyProp p q moved = IsPropagation admitted p q moved
 Does o admitted DeadCode p q moved = IsCleaning admitted p q moved
 Does o admitted Squeeze p q moved = Thins AreSkips (NothingLeft admitted p) admitted p q moved

@@ -29,12 +29,16 @@ pub record Rounding (o : Outside) (admitted : List Bool) (t : Traced) (r : Passe
 abbrev pub first_of : Program → Traced
 first_of p = record { program = p; origins = [] }
 
--- Rounds ran until one changed nothing, so that each pass leaves what is left the same, and this is their count with that one.
-pub record HaveRun (o : Outside) (admitted : List Bool) (p : Program) (t : Traced) (count : ℕ) : Type 0 where
+-- Rounds ran from this on until one changed nothing, so that each pass leaves what is left the same, and this is their count with
+-- that one.
+pub record HaveRunFrom (o : Outside) (admitted : List Bool) (first t : Traced) (count : ℕ) : Type 0 where
   pub changing : ℕ
-  pub rounds : Rounds o admitted changing (first_of p) t
+  pub rounds : Rounds o admitted changing first t
   pub ends : AreStill o admitted passes t.program
   pub count_is : count ≡ counted (suc changing)
+
+abbrev pub HaveRun : Outside → List Bool → Program → Traced → ℕ → Type 0
+HaveRun o admitted p t count = HaveRunFrom o admitted (first_of p) t count
 
 -- What is left of a well-formed program, and where its positions come from. So many advisers were asked about methods, whose answers
 -- stand behind those before, and so many methods were spared. The silent calls of the admitted methods are nops, of none where the

@@ -155,7 +155,8 @@ pub fn ask_all(
     live: &LiveSet,
     panel: &mut Panel,
 ) -> Result<Advice, AllocError>
-    ensures { IfOk result (λ advice. AreAnswered (length panel.old.advisers.items) (asked live.now program.now) panel.old.answers.items panel.new.answers.items (no_verdict program.now) (verdict advice)) }
+    ensures answered { IfOk result (λ advice. AreAnswered (length panel.old.advisers.items) (asked live.now program.now) panel.old.answers.items panel.new.answers.items (no_verdict program.now) (verdict advice)) }
+    ensures count { IfOk result (λ advice. length panel.new.advisers.items ≡ length panel.old.advisers.items) }
 {
     let mut advice = no_advice(alloc, program)?;
     for class in program.classes.as_slice() {

@@ -6,18 +6,18 @@ ghost use Rattle.program_model.specs.ProgramRules.{is_well_formed};
 ghost use Rattle.hierarchy.specs.Shapes.{IsResolved};
 ghost use Rattle.verify.specs.Methods.{TypesAll};
 ghost use Rattle.premises.specs.Makers.{MakersAreOwn};
-ghost use Rattle.premises.specs.Plain.{CallsPlainly};
+ghost use Rattle.premises.specs.Plain.{ListsPlainly};
 ghost use Rattle.compact.specs.Narrow.{has_narrow_classes};
 ghost use Rattle.pipeline.specs.Changes.{no_changes, total_of};
 ghost use Rattle.pipeline.specs.Graph.{IsGraph};
-ghost use Rattle.pipeline.specs.Passes.{Reach, ConstProp, CopyProp, DeadCode, Squeeze, Compact, AreKnown, IsIllTyped, KeepsReads, HavePassed};
+ghost use Rattle.pipeline.specs.Passes.{Reach, ConstProp, Devirt, CopyProp, DeadCode, Squeeze, Compact, AreKnown, IsAnalysis, IsIllTyped, KeepsReads, HavePassed};
 
 use crate::graph::hierarchy_of;
 use crate::traces::{Changes, Passed, Traced, left_by};
 use facts::Facts;
 use hierarchy::Hierarchy;
-use premises::{calls_plainly, makers_are_own, numbers_have_bits};
-use program_model::{Admitted, Outside, Program};
+use premises::{lists_plainly, makers_are_own, numbers_have_bits};
+use program_model::{Admitted, Outside, Program, well_formed};
 use std::alloc::{AllocError, Global};
 use verify::{TypeFault, verify_all};
 
@@ -105,20 +105,92 @@ fn is_any_admitted(admitted: &Admitted) -> bool
     admitted.methods.as_slice().iter().any(|yes| *yes)
 }
 
-/// Facts that hold in every run of a program whose kept constructors are those of their classes, and whose virtual calls name
-/// classes alone; none where that is not known of any. The only error is want of memory.
+/// Facts that hold in every run of a program whose kept constructors are those of their classes, and whose lists of
+/// interfaces name interfaces alone; none where that is not known of any, or the program isn't well-formed. The only error is want of memory.
 fn known_facts(
     alloc: Global,
     program: &Program,
+    hierarchy: &Hierarchy,
     outside: &Outside,
 ) -> Result<Option<Facts>, AllocError>
-    ensures { MakersAreOwn program.now outside.now → CallsPlainly program.now
+    ensures formed { IfOk result (λ facts. IfSome facts (λ f. is_well_formed program.now ≡ true)) }
+    ensures known { MakersAreOwn program.now outside.now → ListsPlainly program.now → is_well_formed program.now ≡ true → IsResolved program.now hierarchy.now
         → IfOk result (λ facts. IfSome facts (AreKnown outside.now program.now)) }
 {
+    let formed = well_formed(program);
+    if !formed {
+        return Ok(None);
+    }
     if !numbers_have_bits(program) {
         return Ok(None);
     }
-    let facts = summaries::analyse(alloc, program, outside)?;
+    let facts = summaries::analyse(alloc, program, hierarchy, outside)?;
+    Ok(facts)
+}
+
+/// The same of a program with this hierarchy. They are asked for only where some method may be rewritten, each kept
+/// constructor is one of its class, and lists of interfaces name interfaces alone.
+fn facts_by(
+    alloc: Global,
+    program: &Program,
+    hierarchy: &Hierarchy,
+    outside: &Outside,
+    admitted: &Admitted,
+) -> Result<Option<Facts>, AllocError>
+    ensures { IsGraph program.now (Some hierarchy.now) → IfOk result (IsAnalysis outside.now admitted.now.methods.items program.now) }
+{
+    if !is_any_admitted(admitted) {
+        return Ok(None);
+    }
+    let own = makers_are_own(program, hierarchy, outside);
+    if !own {
+        return Ok(None);
+    }
+    let plain = lists_plainly(program, hierarchy);
+    if !plain {
+        return Ok(None);
+    }
+    let facts = known_facts(alloc, program, hierarchy, outside)?;
+    Ok(facts)
+}
+
+/// Facts that hold in every run of a program, none where the class graph has a fault, no method may be rewritten, a kept
+/// constructor is none of its class, a list of interfaces names another class, or nothing is known. The only error is want of memory.
+pub fn facts_of(
+    alloc: Global,
+    program: &Program,
+    graph: &Option<Hierarchy>,
+    outside: &Outside,
+    admitted: &Admitted,
+) -> Result<Option<Facts>, AllocError>
+    ensures { IsGraph program.now graph.now → IfOk result (IsAnalysis outside.now admitted.now.methods.items program.now) }
+{
+    match graph {
+        Some(hierarchy) => {
+            let facts = facts_by(alloc, program, hierarchy, outside, admitted)?;
+            Ok(facts)
+        }
+        None => Ok(None),
+    }
+}
+
+/// Facts of what a pass left of a program: the program's own where nothing changed. The only error is want of memory.
+pub fn facts_after(
+    alloc: Global,
+    passed: &Passed,
+    graph: &Option<Hierarchy>,
+    facts: Option<Facts>,
+    outside: &Outside,
+    admitted: &Admitted,
+) -> Result<Option<Facts>, AllocError>
+    ensures { (p : Program) → IsGraph passed.now.traced.program graph.now → IsAnalysis outside.now admitted.now.methods.items p facts
+        → (total_of passed.now.changes ≡ 0 → passed.now.traced.program ≡ p)
+        → IfOk result (IsAnalysis outside.now admitted.now.methods.items passed.now.traced.program) }
+{
+    if passed.changes.is_none() {
+        return Ok(facts);
+    }
+    let facts = facts_of(alloc, &passed.traced.program, graph, outside, admitted)?;
     Ok(facts)
 }
 
@@ -139,51 +211,98 @@ fn fold_known(
     Ok(left_by(traced.origins, changed, changes))
 }
 
-/// The same by the facts that are known. They are asked for only where some method may be rewritten, each kept
-/// constructor is one of its class, and virtual calls name classes alone.
+/// The same by the facts that are known, if any are.
 fn fold_by(
     alloc: Global,
     traced: Traced,
     hierarchy: &Hierarchy,
-    outside: &Outside,
+    facts: &Option<Facts>,
     admitted: &Admitted,
 ) -> Result<Passed, AllocError>
-    ensures { IsGraph traced.program (Some hierarchy.now) → IfOk result (HavePassed outside.now admitted.now.methods.items (ConstProp ∷ []) traced) }
+    ensures { IsGraph traced.program (Some hierarchy.now) → (outside : Outside) → IsAnalysis outside admitted.now.methods.items traced.program facts.now
+        → IfOk result (HavePassed outside admitted.now.methods.items (ConstProp ∷ []) traced) }
 {
-    if !is_any_admitted(admitted) {
-        return Ok(unchanged(traced));
-    }
-    let own = makers_are_own(&traced.program, hierarchy, outside);
-    if !own {
-        return Ok(unchanged(traced));
-    }
-    let plain = calls_plainly(&traced.program, hierarchy);
-    if !plain {
-        return Ok(unchanged(traced));
-    }
-    let known = known_facts(alloc, &traced.program, outside)?;
-    match known {
-        Some(facts) => fold_known(alloc, traced, hierarchy, &facts, admitted),
+    match facts {
+        Some(facts) => fold_known(alloc, traced, hierarchy, facts, admitted),
         None => Ok(unchanged(traced)),
     }
 }
 
 /// Makes constants of instructions of admitted methods whose results are known in every run, and gotos or nops of branches
-/// whose outcomes are, unless the class graph has a fault, a kept constructor is none of its class, a virtual call names an
-/// interface, or no facts are known; with the hierarchy of what is left. The only error is want of memory.
+/// whose outcomes are, where facts are known; with the hierarchy of what is left. The only error is want of memory.
 pub fn fold_constants(
     alloc: Global,
     traced: Traced,
     graph: Option<Hierarchy>,
-    outside: &Outside,
+    facts: &Option<Facts>,
     admitted: &Admitted,
 ) -> Result<(Passed, Option<Hierarchy>), AllocError>
-    ensures passed { IsGraph traced.program graph → IfOk result (λ left. HavePassed outside.now admitted.now.methods.items (ConstProp ∷ []) traced left.0) }
-    ensures graph { IsGraph traced.program graph → IfOk result (λ left. IsGraph left.0.traced.program left.1) }
+    ensures passed { IsGraph traced.program graph → (outside : Outside) → IsAnalysis outside admitted.now.methods.items traced.program facts.now
+        → IfOk result (λ left. HavePassed outside admitted.now.methods.items (ConstProp ∷ []) traced left.0) }
+    ensures graph { IsGraph traced.program graph → (outside : Outside) → IsAnalysis outside admitted.now.methods.items traced.program facts.now
+        → IfOk result (λ left. IsGraph left.0.traced.program left.1) }
 {
     match graph {
         Some(hierarchy) => {
-            let passed = fold_by(alloc, traced, &hierarchy, outside, admitted)?;
+            let passed = fold_by(alloc, traced, &hierarchy, facts, admitted)?;
+            let graph = graph_after(alloc, hierarchy, &passed)?;
+            Ok((passed, graph))
+        }
+        None => Ok((unchanged(traced), None)),
+    }
+}
+
+/// Lets calls in admitted methods name what all their receivers find, by a program's hierarchy and facts. The only error is
+/// want of memory.
+fn rebind_known(
+    alloc: Global,
+    traced: Traced,
+    hierarchy: &Hierarchy,
+    facts: &Facts,
+    admitted: &Admitted,
+) -> Result<Passed, AllocError>
+    ensures { IsGraph traced.program (Some hierarchy.now) → (outside : Outside) → is_well_formed traced.program ≡ true → AreKnown outside traced.program facts.now
+        → IfOk result (HavePassed outside admitted.now.methods.items (Devirt ∷ []) traced) }
+{
+    let changed = devirt::apply(alloc, traced.program, hierarchy, facts, admitted)?;
+    let changes = Changes::rebound(changed.count);
+    Ok(left_by(traced.origins, changed, changes))
+}
+
+/// The same by the facts that are known, if any are.
+fn rebind_by(
+    alloc: Global,
+    traced: Traced,
+    hierarchy: &Hierarchy,
+    facts: &Option<Facts>,
+    admitted: &Admitted,
+) -> Result<Passed, AllocError>
+    ensures { IsGraph traced.program (Some hierarchy.now) → (outside : Outside) → IsAnalysis outside admitted.now.methods.items traced.program facts.now
+        → IfOk result (HavePassed outside admitted.now.methods.items (Devirt ∷ []) traced) }
+{
+    match facts {
+        Some(facts) => rebind_known(alloc, traced, hierarchy, facts, admitted),
+        None => Ok(unchanged(traced)),
+    }
+}
+
+/// Lets virtual and interface calls in admitted methods name the one method that all their receivers find, where facts are
+/// known; with the hierarchy of what is left. The only error is want of memory.
+pub fn rebind_calls(
+    alloc: Global,
+    traced: Traced,
+    graph: Option<Hierarchy>,
+    facts: &Option<Facts>,
+    admitted: &Admitted,
+) -> Result<(Passed, Option<Hierarchy>), AllocError>
+    ensures passed { IsGraph traced.program graph → (outside : Outside) → IsAnalysis outside admitted.now.methods.items traced.program facts.now
+        → IfOk result (λ left. HavePassed outside admitted.now.methods.items (Devirt ∷ []) traced left.0) }
+    ensures graph { IsGraph traced.program graph → (outside : Outside) → IsAnalysis outside admitted.now.methods.items traced.program facts.now
+        → IfOk result (λ left. IsGraph left.0.traced.program left.1) }
+{
+    match graph {
+        Some(hierarchy) => {
+            let passed = rebind_by(alloc, traced, &hierarchy, facts, admitted)?;
             let graph = graph_after(alloc, hierarchy, &passed)?;
             Ok((passed, graph))
         }

@@ -1,26 +1,29 @@
 //! The asks and the rounds.
 
-ghost use Rattle.std.specs.Prelude.{◌≡◌, ◌≤◌, ◌-◌, ◌+◌, min, length, true, vec_len, IfOk};
+ghost use Rattle.std.specs.Prelude.{◌≡◌, ◌≤◌, ◌-◌, ◌+◌, ◌∷◌, [], min, length, true, vec_len, IfOk};
 ghost use Rattle.program_model.specs.Cells.{capped};
 ghost use Rattle.program_model.specs.ProgramRules.{is_well_formed};
 ghost use Rattle.pipeline.specs.Advised.{IsAdvised, verdict};
 ghost use Rattle.const_prop.specs.Measure.{open_forms};
+ghost use Rattle.devirt.specs.Measure.{calls_in};
 ghost use Rattle.moves_law.specs.Measure.{moves_in};
 ghost use Rattle.pipeline.specs.Changes.{bulk_of, total_of};
 ghost use Rattle.pipeline.specs.Counts.{members_of, insns_of};
-ghost use Rattle.pipeline.specs.Passes.{passes, HavePassed};
-ghost use Rattle.pipeline.specs.Rounds.{HaveRun, IsOptimised, Rounding};
+ghost use Rattle.pipeline.specs.Graph.{IsGraph};
+ghost use Rattle.pipeline.specs.Passes.{ConstProp, Devirt, passes, HavePassed};
+ghost use Rattle.pipeline.specs.Rounds.{HaveRunFrom, IsOptimised, Rounding, first_of};
 
 use crate::asks::{Advice, ask_all, no_advice};
 use crate::counts::{count_instructions, count_members};
 use crate::graph::hierarchy_of;
 use crate::passes::{
-    clean_bodies, compact_bodies, fold_constants, propagate_copies, remove_unreached,
-    squeeze_bodies,
+    clean_bodies, compact_bodies, facts_after, facts_of, fold_constants, propagate_copies,
+    rebind_calls, remove_unreached, squeeze_bodies,
 };
 use crate::silent::silence;
 use crate::traces::{Passed, Traced, and_then};
 use call_graph::live_members;
+use hierarchy::Hierarchy;
 use program_model::{Admitted, Origin, Outside, Program};
 use redex_outside::Panel;
 use seq::Seq;
@@ -48,7 +51,8 @@ fn advice_on(
     outside: &Outside,
     panel: &mut Panel,
 ) -> Result<Advice, AllocError>
-    ensures { is_well_formed program.now ≡ true → IfOk result (λ advice. IsAdvised outside.now program.now (length panel.old.advisers.items) panel.old.answers.items panel.new.answers.items (verdict advice)) }
+    ensures advised { is_well_formed program.now ≡ true → IfOk result (λ advice. IsAdvised outside.now program.now (length panel.old.advisers.items) panel.old.answers.items panel.new.answers.items (verdict advice)) }
+    ensures count { IfOk result (λ advice. length panel.new.advisers.items ≡ length panel.old.advisers.items) }
 {
     if !outside.optimise {
         return no_advice(alloc, program);
@@ -62,6 +66,24 @@ fn advice_on(
     }
 }
 
+/// The passes that take facts, each those of the program as it stands before it; with the hierarchy of what is left.
+fn value_passes(
+    alloc: Global,
+    traced: Traced,
+    graph: Option<Hierarchy>,
+    outside: &Outside,
+    admitted: &Admitted,
+) -> Result<(Passed, Option<Hierarchy>), AllocError>
+    ensures passed { IsGraph traced.program graph → IfOk result (λ left. HavePassed outside.now admitted.now.methods.items (ConstProp ∷ Devirt ∷ []) traced left.0) }
+    ensures graph { IsGraph traced.program graph → IfOk result (λ left. IsGraph left.0.traced.program left.1) }
+{
+    let facts = facts_of(alloc, &traced.program, &graph, outside, admitted)?;
+    let (folded, graph) = fold_constants(alloc, traced, graph, &facts, admitted)?;
+    let facts = facts_after(alloc, &folded, &graph, facts, outside, admitted)?;
+    let (rebound, graph) = rebind_calls(alloc, folded.traced, graph, &facts, admitted)?;
+    Ok((and_then(folded.changes, rebound), graph))
+}
+
 /// One round: each pass once, in its order.
 fn round(
     alloc: Global,
@@ -72,10 +94,10 @@ fn round(
     ensures { IfOk result (HavePassed outside.now admitted.now.methods.items passes traced) }
 {
     let (reached, graph) = remove_unreached(alloc, traced, outside)?;
-    let (folded, graph) = fold_constants(alloc, reached.traced, graph, outside, admitted)?;
-    let folded = and_then(reached.changes, folded);
-    let (copied, graph) = propagate_copies(alloc, folded.traced, graph, admitted)?;
-    let copied = and_then(folded.changes, copied);
+    let (valued, graph) = value_passes(alloc, reached.traced, graph, outside, admitted)?;
+    let valued = and_then(reached.changes, valued);
+    let (copied, graph) = propagate_copies(alloc, valued.traced, graph, admitted)?;
+    let copied = and_then(valued.changes, copied);
     let cleaned = clean_bodies(alloc, copied.traced, &graph, admitted)?;
     let cleaned = and_then(copied.changes, cleaned);
     let squeezed = squeeze_bodies(alloc, cleaned.traced, admitted)?;
@@ -92,16 +114,19 @@ fn renaming_rounds(
     admitted: &Admitted,
 ) -> Result<(Passed, u32), AllocError>
     ensures run { IfOk result (λ r. Rounding outside.now admitted.now.methods.items traced r.0 r.1) }
-    ensures settled { IfOk result (λ r. r.0.changes.removed ≡ 0 → r.0.changes.folded ≡ 0 → r.0.changes.reread ≡ 0 → r.0.changes.renamed ≡ 0) }
+    ensures settled { IfOk result (λ r. r.0.changes.removed ≡ 0 → r.0.changes.folded ≡ 0 → r.0.changes.rebound ≡ 0 → r.0.changes.reread ≡ 0 → r.0.changes.renamed ≡ 0) }
     ensures less { IfOk result (λ r. bulk_of r.0.traced.program + min r.0.changes.removed 1 ≤ bulk_of traced.program) }
     ensures plainer { IfOk result (λ r. r.0.changes.removed ≡ 0 → open_forms r.0.traced.program + min r.0.changes.folded 1 ≤ open_forms traced.program) }
-    ensures fewer { IfOk result (λ r. r.0.changes.removed ≡ 0 → r.0.changes.folded ≡ 0 → moves_in r.0.traced.program + min r.0.changes.reread 1 ≤ moves_in traced.program) }
+    ensures nearer { IfOk result (λ r. r.0.changes.removed ≡ 0 → r.0.changes.folded ≡ 0 → calls_in r.0.traced.program + min r.0.changes.rebound 1 ≤ calls_in traced.program) }
+    ensures fewer { IfOk result (λ r. r.0.changes.removed ≡ 0 → r.0.changes.folded ≡ 0 → r.0.changes.rebound ≡ 0
+        → moves_in r.0.traced.program + min r.0.changes.reread 1 ≤ moves_in traced.program) }
     ensures count { IfOk result (λ r. 1 ≤ r.1) }
 {
     let mut rounds: u32 = 1;
     let mut left = round(alloc, traced, outside, admitted)?;
     'rounds: while left.changes.removed == 0
         && left.changes.folded == 0
+        && left.changes.rebound == 0
         && left.changes.reread == 0
         && left.changes.renamed > 0
     {
@@ -111,8 +136,36 @@ fn renaming_rounds(
     Ok((left, rounds))
 }
 
-/// Rounds, until one takes something away, folds something or changes nothing: what the last one left, and how many ran.
+/// Rounds, until one takes something away, folds or rebinds something or changes nothing: what the last one left, and how many
+/// ran.
 fn rereading_rounds(
+    alloc: Global,
+    traced: Traced,
+    outside: &Outside,
+    admitted: &Admitted,
+) -> Result<(Passed, u32), AllocError>
+    ensures run { IfOk result (λ r. Rounding outside.now admitted.now.methods.items traced r.0 r.1) }
+    ensures settled { IfOk result (λ r. r.0.changes.removed ≡ 0 → r.0.changes.folded ≡ 0 → r.0.changes.rebound ≡ 0 → total_of r.0.changes ≡ 0) }
+    ensures less { IfOk result (λ r. bulk_of r.0.traced.program + min r.0.changes.removed 1 ≤ bulk_of traced.program) }
+    ensures plainer { IfOk result (λ r. r.0.changes.removed ≡ 0 → open_forms r.0.traced.program + min r.0.changes.folded 1 ≤ open_forms traced.program) }
+    ensures nearer { IfOk result (λ r. r.0.changes.removed ≡ 0 → r.0.changes.folded ≡ 0 → calls_in r.0.traced.program + min r.0.changes.rebound 1 ≤ calls_in traced.program) }
+    ensures count { IfOk result (λ r. 1 ≤ r.1) }
+{
+    let (mut left, mut rounds) = renaming_rounds(alloc, traced, outside, admitted)?;
+    'rounds: while left.changes.removed == 0
+        && left.changes.folded == 0
+        && left.changes.rebound == 0
+        && left.changes.reread > 0
+    {
+        let (next, more) = renaming_rounds(alloc, left.traced, outside, admitted)?;
+        left = next;
+        rounds = rounds.saturating_add(more);
+    }
+    Ok((left, rounds))
+}
+
+/// Rounds, until one takes something away, folds something or changes nothing: what the last one left, and how many ran.
+fn rebinding_rounds(
     alloc: Global,
     traced: Traced,
     outside: &Outside,
@@ -124,12 +177,12 @@ fn rereading_rounds(
     ensures plainer { IfOk result (λ r. r.0.changes.removed ≡ 0 → open_forms r.0.traced.program + min r.0.changes.folded 1 ≤ open_forms traced.program) }
     ensures count { IfOk result (λ r. 1 ≤ r.1) }
 {
-    let (mut left, mut rounds) = renaming_rounds(alloc, traced, outside, admitted)?;
+    let (mut left, mut rounds) = rereading_rounds(alloc, traced, outside, admitted)?;
     'rounds: while left.changes.removed == 0
         && left.changes.folded == 0
-        && left.changes.reread > 0
+        && left.changes.rebound > 0
     {
-        let (next, more) = renaming_rounds(alloc, left.traced, outside, admitted)?;
+        let (next, more) = rereading_rounds(alloc, left.traced, outside, admitted)?;
         left = next;
         rounds = rounds.saturating_add(more);
     }
@@ -148,9 +201,9 @@ fn folding_rounds(
     ensures less { IfOk result (λ r. bulk_of r.0.traced.program + min r.0.changes.removed 1 ≤ bulk_of traced.program) }
     ensures count { IfOk result (λ r. 1 ≤ r.1) }
 {
-    let (mut left, mut rounds) = rereading_rounds(alloc, traced, outside, admitted)?;
+    let (mut left, mut rounds) = rebinding_rounds(alloc, traced, outside, admitted)?;
     'rounds: while left.changes.removed == 0 && left.changes.folded > 0 {
-        let (next, more) = rereading_rounds(alloc, left.traced, outside, admitted)?;
+        let (next, more) = rebinding_rounds(alloc, left.traced, outside, admitted)?;
         left = next;
         rounds = rounds.saturating_add(more);
     }
@@ -160,17 +213,13 @@ fn folding_rounds(
 /// Rounds, until one changes nothing: the program then, and how many ran.
 fn all_rounds(
     alloc: Global,
-    program: Program,
+    first: Traced,
     outside: &Outside,
     admitted: &Admitted,
 ) -> Result<(Traced, u32), AllocError>
-    ensures run { IfOk result (λ r. HaveRun outside.now admitted.now.methods.items program r.0 r.1) }
+    ensures run { IfOk result (λ r. HaveRunFrom outside.now admitted.now.methods.items first r.0 r.1) }
     ensures count { IfOk result (λ r. 1 ≤ r.1) }
 {
-    let first = Traced {
-        program,
-        origins: Seq::new(alloc),
-    };
     let (mut left, mut rounds) = folding_rounds(alloc, first, outside, admitted)?;
     'rounds: while left.changes.removed > 0 {
         let (next, more) = folding_rounds(alloc, left.traced, outside, admitted)?;
@@ -178,6 +227,37 @@ fn all_rounds(
         rounds = rounds.saturating_add(more);
     }
     Ok((left.traced, rounds))
+}
+
+/// A program no position of which has moved.
+fn unmoved(alloc: Global, program: Program) -> Traced
+    ensures { result ≡ first_of program }
+{
+    Traced {
+        program,
+        origins: Seq::new(alloc),
+    }
+}
+
+/// What rounds left of a program that had so many members and instructions.
+fn outcome_of(left: Traced, rounds: u32, members: u64, instructions: u64, spared: u32) -> Outcome
+    ensures program { result.program ≡ left.program }
+    ensures origins { result.origins ≡ left.origins }
+    ensures rounds { result.rounds ≡ rounds }
+    ensures spared { result.spared ≡ spared }
+    ensures members { result.removed_members ≡ members - capped (members_of left.program) }
+    ensures instructions { result.removed_instructions ≡ instructions - capped (insns_of left.program) }
+{
+    let left_members = count_members(&left.program);
+    let left_instructions = count_instructions(&left.program);
+    Outcome {
+        program: left.program,
+        rounds,
+        removed_members: members.saturating_sub(left_members),
+        removed_instructions: instructions.saturating_sub(left_instructions),
+        spared,
+        origins: left.origins,
+    }
 }
 
 /// Optimises a program: asks the panel about each live method with code, in class and method order, unless the rules
@@ -203,15 +283,7 @@ pub fn optimise(
     let instructions = count_instructions(&program);
     let advice = advice_on(alloc, &program, outside, panel)?;
     let program = silence(alloc, program, outside, &advice.admitted)?;
-    let (left, rounds) = all_rounds(alloc, program, outside, &advice.admitted)?;
-    let left_members = count_members(&left.program);
-    let left_instructions = count_instructions(&left.program);
-    Ok(Outcome {
-        program: left.program,
-        rounds,
-        removed_members: members.saturating_sub(left_members),
-        removed_instructions: instructions.saturating_sub(left_instructions),
-        spared: advice.spared,
-        origins: left.origins,
-    })
+    let first = unmoved(alloc, program);
+    let (left, rounds) = all_rounds(alloc, first, outside, &advice.admitted)?;
+    Ok(outcome_of(left, rounds, members, instructions, advice.spared))
 }

@@ -16,12 +16,14 @@ pub struct Traced {
     pub origins: Seq<Seq<Origin>>,
 }
 
-/// How much passes took away, over how many instructions they wrote what is known of them, how many instructions they let
-/// read originals in place of copies, and in how many bodies they gave registers other numbers.
+/// How much passes took away, over how many instructions they wrote what is known of them, how many calls they let name what
+/// these find, how many instructions they let read originals in place of copies, and in how many bodies they gave registers
+/// other numbers.
 #[derive(Clone, Copy, Debug, Drop)]
 pub struct Changes {
     pub removed: u64,
     pub folded: u64,
+    pub rebound: u64,
     pub reread: u64,
     pub renamed: u64,
 }
@@ -34,6 +36,7 @@ impl Changes {
         Changes {
             removed: 0,
             folded: 0,
+            rebound: 0,
             reread: 0,
             renamed: 0,
         }
@@ -41,49 +44,51 @@ impl Changes {
 
     /// So much was taken away.
     pub fn removed(count: u64) -> Changes
-        ensures { result ≡ record { removed = count; folded = 0; reread = 0; renamed = 0 } }
+        ensures { result ≡ record no_changes { removed = count } }
     {
         Changes {
             removed: count,
-            folded: 0,
-            reread: 0,
-            renamed: 0,
+            ..Changes::none()
         }
     }
 
     /// Over so many instructions was written what is known of them.
     pub fn folded(count: u64) -> Changes
-        ensures { result ≡ record { removed = 0; folded = count; reread = 0; renamed = 0 } }
+        ensures { result ≡ record no_changes { folded = count } }
     {
         Changes {
-            removed: 0,
             folded: count,
-            reread: 0,
-            renamed: 0,
+            ..Changes::none()
+        }
+    }
+
+    /// So many calls name what they find.
+    pub fn rebound(count: u64) -> Changes
+        ensures { result ≡ record no_changes { rebound = count } }
+    {
+        Changes {
+            rebound: count,
+            ..Changes::none()
         }
     }
 
     /// So many instructions read originals.
     pub fn reread(count: u64) -> Changes
-        ensures { result ≡ record { removed = 0; folded = 0; reread = count; renamed = 0 } }
+        ensures { result ≡ record no_changes { reread = count } }
     {
         Changes {
-            removed: 0,
-            folded: 0,
             reread: count,
-            renamed: 0,
+            ..Changes::none()
         }
     }
 
     /// In so many bodies registers got other numbers.
     pub fn renamed(count: u64) -> Changes
-        ensures { result ≡ record { removed = 0; folded = 0; reread = 0; renamed = count } }
+        ensures { result ≡ record no_changes { renamed = count } }
     {
         Changes {
-            removed: 0,
-            folded: 0,
-            reread: 0,
             renamed: count,
+            ..Changes::none()
         }
     }
 
@@ -91,7 +96,11 @@ impl Changes {
     pub fn is_none(&self) -> bool
         ensures { result ≡ nat_eq (total_of self.now) 0 }
     {
-        self.removed == 0 && self.folded == 0 && self.reread == 0 && self.renamed == 0
+        self.removed == 0
+            && self.folded == 0
+            && self.rebound == 0
+            && self.reread == 0
+            && self.renamed == 0
     }
 }
 
@@ -182,6 +191,7 @@ pub fn and_then(before: Changes, last: Passed) -> Passed
     ensures traced { result.traced ≡ last.traced }
     ensures removed { result.changes.removed ≡ capped (before.removed + last.changes.removed) }
     ensures folded { result.changes.folded ≡ capped (before.folded + last.changes.folded) }
+    ensures rebound { result.changes.rebound ≡ capped (before.rebound + last.changes.rebound) }
     ensures reread { result.changes.reread ≡ capped (before.reread + last.changes.reread) }
     ensures renamed { result.changes.renamed ≡ capped (before.renamed + last.changes.renamed) }
 {
@@ -191,6 +201,7 @@ pub fn and_then(before: Changes, last: Passed) -> Passed
         changes: Changes {
             removed: before.removed.saturating_add(more.removed),
             folded: before.folded.saturating_add(more.folded),
+            rebound: before.rebound.saturating_add(more.rebound),
             reread: before.reread.saturating_add(more.reread),
             renamed: before.renamed.saturating_add(more.renamed),
         },

@@ -1,21 +1,15 @@
--- A program of which each class and each call was found plain calls plainly.
-use Rattle.std.proofs.Common.{◌≡◌, ℕ, zero, suc, Bool, true, false, true≢false, List, [], ◌∷◌, Option, Some, None, refl, sym, ap, ◌∙◌, arith}
-use Rattle.std.specs.Prelude.{not, slice_get, Contains}
+-- A program of which each class was found plain lists plainly.
+use Rattle.std.proofs.Common.{◌≡◌, ℕ, zero, suc, true, List, [], ◌∷◌, Option, Some, None, sym, ap, ◌∙◌, refl, arith}
+use Rattle.std.specs.Prelude.{slice_get, Contains}
 use Rattle.std.specs.List.{list_all}
 use Rattle.lemmas.proofs.Bools.{and_left, and_right}
-use Rattle.insn_set.specs.declared.ops.InvokeKind.TheVariants as call
-use Rattle.insn_set.specs.declared.form.Insn.TheVariants as insn
 use Rattle.program_model.specs.declared.program.Class.{Class}
 use Rattle.program_model.specs.declared.program.Program.{Program}
 use Rattle.program_model.specs.Lookups.{class_place}
 use Rattle.class_defs.specs.Members.{is_interface}
 use Rattle.class_defs.specs.Places.{listed, places_of, placed}
 use Rattle.lemmas.proofs.Lists.{all_at}
-use Rattle.premises.specs.Plain.{CallsPlainly, calls_plainly, is_class_at, is_interface_at, is_listable, is_plain_call, is_plain_class, is_plain_code, is_plain_method, names_class}
-
-negated : (b : Bool) → not b ≡ true → b ≡ false
-negated true e = absurd (true≢false (sym e))
-negated false e = refl
+use Rattle.premises.specs.Plain.{ListsPlainly, lists_plainly, is_interface_at, is_listable, is_plain_class}
 
 module _ (p : Program) where
   first_or : (kind : ℕ) (kinds : List ℕ) (u : ℕ) → is_listable p kind ≡ true → (Contains (places_of p kinds) u → is_interface (slice_get p.classes u) ≡ true)
@@ -29,19 +23,9 @@ module _ (p : Program) where
   among (kind ∷ kinds) u h there =
       first_or kind kinds u (and_left (is_listable p kind) (list_all (is_listable p) kinds) h) (among kinds u (and_right (is_listable p kind) (list_all (is_listable p) kinds) h)) (class_place p kind) refl there
 
-  at_place : calls_plainly p ≡ true → (u : ℕ) (o : Option Class) (c : ℕ) → slice_get p.classes c ≡ o → Contains (listed p o) u → is_interface (slice_get p.classes u) ≡ true
+  at_place : lists_plainly p ≡ true → (u : ℕ) (o : Option Class) (c : ℕ) → slice_get p.classes c ≡ o → Contains (listed p o) u → is_interface (slice_get p.classes u) ≡ true
   at_place h u None c e (n, l, same) = let g : ⊥ = omega (arith, l) in absurd g
-  at_place h u (Some k) c e there =
-      among k.interfaces u (and_left (list_all (is_listable p) k.interfaces) (list_all (is_plain_method p) k.methods) (all_at (is_plain_class p) p.classes c k h e)) there
+  at_place h u (Some k) c e there = among k.interfaces u (all_at (is_plain_class p) p.classes c k h e) there
 
-  pub plainly : calls_plainly p ≡ true → CallsPlainly p
-  plainly h = record {
-    listed = λ c u there. at_place h u (slice_get p.classes c) c refl there;
-    virtual = λ i j n c m b method args q k class member code there entry place.
-        let all = and_right (list_all (is_listable p) c.interfaces) (list_all (is_plain_method p) c.methods) (all_at (is_plain_class p) p.classes i c h class) in
-        let body : is_plain_code p m.body ≡ true = all_at (is_plain_method p) c.methods j m all member in
-        let insns : list_all (is_plain_call p) b.insns ≡ true = sym (ap (is_plain_code p) code) ∙ body in
-        let one : is_plain_call p (insn.Invoke call.Virtual method args) ≡ true = all_at (is_plain_call p) b.insns n (insn.Invoke call.Virtual method args) insns there in
-        let named : is_class_at p (class_place p q.class) ≡ true = sym (ap (names_class p) entry) ∙ one in
-        negated (is_interface (slice_get p.classes k)) (sym (ap (is_class_at p) place) ∙ named);
-  }
+  pub plainly : lists_plainly p ≡ true → ListsPlainly p
+  plainly h = record { listed = λ c u there. at_place h u (slice_get p.classes c) c refl there }

@@ -10,7 +10,7 @@ use Rattle.removal_law.specs.Reach.{ShutsHold}
 pub unshut : (p : Program) (o : Outside) → o.shut ≡ [] → ShutsHold (named p) (outer_of p o)
 unshut p o none = record {
   uncalled = λ k h. never k h;
-  others = λ k m d e x h a b i f j u l q. never k h;
+  others = λ k m d e x h a b i f may out j u l q. never k h;
   plain = λ k c v h at. never k h;
 }
   where

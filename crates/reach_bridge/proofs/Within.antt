@@ -40,7 +40,7 @@ use Rattle.removal_law.proofs.Finds.{filter_same, out_of_flat, first_where, wher
 use Rattle.removal_law.proofs.Fields as member
 use Rattle.removal_law.proofs.Virtuals.{candidate, answer}
 use Rattle.removal_law.proofs.Trees.{class_name, defined, chain_named}
-use Rattle.removal_bridge.proofs.Formed.{removed_program, typed_program}
+use Rattle.removal_bridge.proofs.Formed.{removed_program, shuts_program, typed_program}
 use Rattle.reach_bridge.specs.Names.{family_of, within}
 use Rattle.reach.specs.Marked.{IsMarked}
 use Rattle.reach_bridge.proofs.Kept.{kept_named}
@@ -296,6 +296,11 @@ module _ (p : Program) (o : Outside) (s : LiveSet) (g : IsMarked p o s) where
   pub shows_the_same : IsTyped (named p) → ShutsHold (named p) (outer_of p o) → SameShown (named p) (named (kept_of s p)) (outer_of p o)
   shows_the_same typed shuts = subst (λ q. SameShown (named p) q (outer_of p o)) (left_same ∙ sym (kept_named p s g.formed))
       (removed_program p g.formed g.once g.grounded typed (outer_of p o) (conditions_of p o) W closed (record { inside = tables_agree p o; shuts = shuts }))
+
+  -- the table of shut methods holds what it says of what is left
+  pub keeps_shuts : ShutsHold (named p) (outer_of p o) → ShutsHold (named (kept_of s p)) (outer_of p o)
+  keeps_shuts holds = subst (λ q. ShutsHold q (outer_of p o)) (left_same ∙ sym (kept_named p s g.formed))
+      (shuts_program p g.formed g.once g.grounded (outer_of p o) (conditions_of p o) W closed (tables_agree p o) holds)
 
   -- what is left is typed
   pub keeps_typing : IsTyped (named p) → IsTyped (named (kept_of s p))

@@ -87,6 +87,12 @@ pub fn reach_law()
     ensures { (p : Program) (o : Outside) (s : LiveSet) → IsMarked p o s → IsTyped (named p) → ShutsHold (named p) (outer_of p o) → SameShown (named p) (named (kept_of s p)) (outer_of p o) }
 {}
 
+/// Where the table of shut methods holds what it says of a well-formed program, it does so of what marks leave of it, so that
+/// it may be marked and removed from again.
+pub fn reach_keeps_shuts_law()
+    ensures { (p : Program) (o : Outside) (s : LiveSet) → IsMarked p o s → ShutsHold (named p) (outer_of p o) → ShutsHold (named (kept_of s p)) (outer_of p o) }
+{}
+
 /// What marks leave of a well-formed and typed program is typed, so that it may be marked and removed from again.
 pub fn reach_keeps_typing_law()
     ensures { (p : Program) (o : Outside) (s : LiveSet) → IsMarked p o s → IsTyped (named p) → IsTyped (named (kept_of s p)) }

@@ -33,9 +33,10 @@ use Rattle.dalvik_defs.specs.Shown.{SameShown}
 use Rattle.pass_defs.specs.Live.{Conditions, Family, IsClosedFamily}
 use Rattle.pass_defs.specs.Typed.{IsTyped}
 use Rattle.removal_law.proofs.Removal.{removal}
+use Rattle.removal_law.proofs.ShutLeft.{shuts_left}
 use Rattle.removal_law.proofs.TypedCode.{typed_code}
 use Rattle.removal_law.specs.Left.{In, here, there, left_of}
-use Rattle.removal_law.specs.Reach.{IsSoundTable, IsRegular, IsAcyclic, TellsApart, TellsProtos, IsDescribed, DefinesOnce, NamesOnce}
+use Rattle.removal_law.specs.Reach.{AgreesInside, ShutsHold, IsSoundTable, IsRegular, IsAcyclic, TellsApart, TellsProtos, IsDescribed, DefinesOnce, NamesOnce}
 use Rattle.removal_law.proofs.Lists.{clash}
 use Rattle.removal_law.proofs.Walks.{choice, text_same as text_itself}
 use Rattle.removal_law.proofs.Declared.{none_there, not_false}
@@ -344,6 +345,12 @@ pub removed_program : (p : Program) → is_well_formed p ≡ true → ((class : 
     → (o : Outer) (k : Conditions) (s : Family) → IsClosedFamily (named p) o k s → IsSoundTable (named p) o → SameShown (named p) (left_of s (named p)) o
 removed_program p fits twice ancestor typed o k s closed table =
     removal (named p) o k s closed (regular_program p fits twice ancestor) (typed_code (named p) typed (apart_program p fits) (protos_program p fits)) table
+
+-- a table of shut methods holds what it says of what is left of its named program
+pub shuts_program : (p : Program) → is_well_formed p ≡ true → ((class : ℕ) → IsTwice p class → ⊥) → ((class : ℕ) → IsAncestor p class class → ⊥)
+    → (o : Outer) (k : Conditions) (s : Family) → IsClosedFamily (named p) o k s → AgreesInside o → ShutsHold (named p) o → ShutsHold (left_of s (named p)) o
+shuts_program p fits twice ancestor o k s closed =
+    shuts_left (named p) o k s closed (regular_program p fits twice ancestor) (names_once p fits twice ancestor) (once p fits) (no_object p fits)
 
 -- what is left of its named program is typed
 pub typed_program : (p : Program) → IsTyped (named p) → is_well_formed p ≡ true → ((class : ℕ) → IsTwice p class → ⊥) → ((class : ℕ) → IsAncestor p class class → ⊥)

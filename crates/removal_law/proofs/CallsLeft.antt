@@ -26,8 +26,9 @@ use Rattle.pass_defs.specs.Calls.{is_within, found_by, super_candidates, may_fin
 use Rattle.pass_defs.specs.Mentions.{types_in, types_in_body}
 use Rattle.removal_law.specs.Left.{left_of, NamesNone}
 use Rattle.removal_law.specs.Agree.{searched, AgreeOnCall, sieved}
-use Rattle.removal_law.specs.Reach.{OkType, MadeType, LiveMethod, Says, IsRegular, IsSoundCode, IsSoundTable, is_idle}
+use Rattle.removal_law.specs.Reach.{OkType, is_new, makes_new, MadeType, LiveMethod, Says, IsRegular, IsSoundCode, IsSoundTable, is_idle}
 use Rattle.removal_law.proofs.Lists.{clash, In, here, contained, in_front, in_back, found_in}
+use Rattle.removal_law.proofs.Walks.{text_same}
 use Rattle.removal_law.proofs.Classes.{Kept}
 use Rattle.removal_law.proofs.Under.{under_same}
 use Rattle.removal_law.proofs.Trees.{class_in, defined, defines_same}
@@ -71,6 +72,18 @@ is_called_outside p n g k b x e i t = let w = body_in p k b e in
     in_body : NamedMethod → Bool
     in_body m = with_body m.body
 
+-- code that makes an object of a class makes one
+pub is_made_new : (p : NamedProgram) (k : MethodKey) (b : NamedBody) (to : ℕ) (t : Text) → bodies_of p k ≡ Some b → In (form.NewInstance to t) b.forms → makes_new p t ≡ true
+is_made_new p k b to t e i = let w = body_in p k b e in
+    any_here (λ c. list_any in_body c.methods) w.class p.classes w.class_in
+    (any_here in_body w.method w.class.methods w.method_in (ap with_body w.body ∙ any_here (is_new t) (form.NewInstance to t) b.forms i (text_same t)))
+  where
+    with_body : Option NamedBody → Bool
+    with_body o = elim o as (λ o. Bool) [ Some b ↦ list_any (is_new t) b.forms | None ↦ false ]
+
+    in_body : NamedMethod → Bool
+    in_body m = with_body m.body
+
 module _ (p : NamedProgram) (o : Outer) (kept : Conditions) (s : Family) (f : Framework) (closed : IsClosedFamily p o kept s) (regular : IsRegular p) (code : IsSoundCode p) (table : IsSoundTable p o)
     (none : NamesNone p f) where
   abbrev q : NamedProgram
@@ -97,7 +110,7 @@ module _ (p : NamedProgram) (o : Outer) (kept : Conditions) (s : Family) (f : Fr
       (contained t (types_in_body a.body) (in_front t (flat_map types_in a.body.forms) (flat_map (λ r. map (λ h. h.kind) r.handlers) a.body.regions) (in_flat types_in x t a.body.forms a.stands i)))
 
   abbrev OnCall : Search → Search → Type 0
-  OnCall = AgreeOnCall (OkType p s) (MadeType p s) (LiveMethod p s)
+  OnCall = AgreeOnCall (OkType p s) (MadeType p o s) (LiveMethod p s)
 
   module _ (m : MethodKey) (k : MethodKey) (args : List ℕ) where
     class_kept : (kind : InvokeKind) → Says p s m (form.Invoke kind k args) → Kept s p k.class
@@ -139,10 +152,10 @@ module _ (p : NamedProgram) (o : Outer) (kept : Conditions) (s : Family) (f : Fr
 
     module _ (kind : InvokeKind) (unbound : is_bound kind ≡ false) (a : Says p s m (form.Invoke kind k args))
         (names : defines p k.class ≡ false → text_eq k.class object_type ≡ false → names_outside p k.name k.signature (form.Invoke kind k args) ≡ true)
-        (t : Text) (ok : OkType p s t) (made : MadeType p s t) where
+        (t : Text) (ok : OkType p s t) (made : MadeType p o s t) where
       module _ (d : defines p t ≡ true) where
         within_lives : is_within p t k.class ≡ true → (h : Found) → In h (answers_to p t k.name k.signature) → s.methods h.key ≡ true
-        within_lives e h i = closed.virtual m a.body kind k args a.has (contained (form.Invoke kind k args) a.body.forms a.stands) unbound t (made d) e h (contained h (answers_to p t k.name k.signature) i)
+        within_lives e h i = closed.virtual m a.body kind k args a.has (contained (form.Invoke kind k args) a.body.forms a.stands) unbound t (made d).0 e h (contained h (answers_to p t k.name k.signature) i)
 
         outside_lives : is_outward p t ≡ true → defines p k.class ≡ false → text_eq k.class object_type ≡ false → (h : Found) → In h (answers_to p t k.name k.signature) → s.methods h.key ≡ true
         outside_lives out away strange h i = by (o.shut h.key) refl
@@ -155,7 +168,7 @@ module _ (p : NamedProgram) (o : Outer) (kept : Conditions) (s : Family) (f : Fr
 
             by : (b : Bool) → o.shut h.key ≡ b → s.methods h.key ≡ true
             by true e = clash (called_outside p k.name k.signature) outside (ap (λ z. called_outside p z.name z.signature) (sym x.key_is) ∙ table.shuts.uncalled h.key e)
-            by false e = closed.called_back t k.name k.signature (made d) (ap (λ b. b || is_common k.name k.signature) out) h (contained h (answers_to p t k.name k.signature) i) e
+            by false e = closed.called_back t k.name k.signature (made d).0 (ap (λ b. b || is_common k.name k.signature) out) h (contained h (answers_to p t k.name k.signature) i) e
 
         or_true : (b c : Bool) → c ≡ true → (b || c) ≡ true
         or_true true c e = refl
@@ -210,7 +223,7 @@ module _ (p : NamedProgram) (o : Outer) (kept : Conditions) (s : Family) (f : Fr
     no_name : defines p k.class ≡ false → text_eq k.class object_type ≡ false → (same_name k.name k.signature k.name k.signature && not (defines p k.class) && not (text_eq k.class object_type)) ≡ true
     no_name e i = ap (λ b. b && not (defines p k.class) && not (text_eq k.class object_type)) (name_same k.name k.signature) ∙ ap (λ b. not b && not (text_eq k.class object_type)) e ∙ ap not i
 
-    pub called_agrees : (kind : InvokeKind) (t : Text) → Says p s m (form.Invoke kind k args) → OkType p s t → MadeType p s t → OnCall (searched F m.class kind t k) (searched G m.class kind t k)
+    pub called_agrees : (kind : InvokeKind) (t : Text) → Says p s m (form.Invoke kind k args) → OkType p s t → MadeType p o s t → OnCall (searched F m.class kind t k) (searched G m.class kind t k)
     called_agrees call.Static t a ok made = statically call.Static refl refl a
     called_agrees call.Direct t a ok made = statically call.Direct refl refl a
     called_agrees call.Super t a ok made = superly a

@@ -23,7 +23,7 @@ use Rattle.pass_defs.specs.Live.{Family, Conditions, IsClosedFamily, KeepsAbove,
 use Rattle.pass_defs.specs.Calls.{is_within, inherits, candidates_of}
 use Rattle.removal_law.specs.Left.{left_in, left_of, NamesNone}
 use Rattle.removal_law.specs.Agree.{IsBarred}
-use Rattle.removal_law.specs.Reach.{OkType, MadeType, LiveMethod, ends, IsRegular, IsSoundCode, IsSoundTable}
+use Rattle.removal_law.specs.Reach.{OkType, MadeType, may_be_made, LiveMethod, ends, IsRegular, IsSoundCode, IsSoundTable}
 use Rattle.removal_law.proofs.Lists.{clash, In, here, there, contained, and_left, and_behind, any_same, FoundIn, found_in, not_found}
 use Rattle.removal_law.proofs.Walks.{text_same}
 use Rattle.removal_law.proofs.Classes.{Kept, class_left, left_less, dead_found}
@@ -347,12 +347,12 @@ module _ (p : NamedProgram) (o : Outer) (kept : Conditions) (s : Family) (f : Fr
         keeper_live : s.methods (key_in w.class w.method) ≡ true
         keeper_live = ap s.methods key_is ∙ closed.kept.methods (key u m.name m.signature) (ap is_some defined_keeper.1.0) keeper_kept
 
-        keeper_answers : (t : Text) → defines p t ≡ true → MadeType p s t → is_under p f t u ≡ true → (h : Found) → In h (answers_to p t m.name m.signature) → s.methods h.key ≡ true
-        keeper_answers t d mt e h j = closed.entered (key u m.name m.signature) defined_keeper.0 defined_keeper.1.0 defined_keeper.1.1 keeper_kept t (mt d)
+        keeper_answers : (t : Text) → defines p t ≡ true → MadeType p o s t → is_under p f t u ≡ true → (h : Found) → In h (answers_to p t m.name m.signature) → s.methods h.key ≡ true
+        keeper_answers t d mt e h j = closed.entered (key u m.name m.signature) defined_keeper.0 defined_keeper.1.0 defined_keeper.1.1 keeper_kept t (mt d).0
             (within_of t u d (defined p u w.class w.named) e) h (contained h (answers_to p t m.name m.signature) j)
 
     -- what the framework enters by one is live
-    pub keepers_live : (t : Text) → defines p t ≡ true → MadeType p s t → keeper_above F o t m.name m.signature ≡ true → (h : Found) → In h (answers_to p t m.name m.signature) → s.methods h.key ≡ true
+    pub keepers_live : (t : Text) → defines p t ≡ true → MadeType p o s t → keeper_above F o t m.name m.signature ≡ true → (h : Found) → In h (answers_to p t m.name m.signature) → s.methods h.key ≡ true
     keepers_live t d mt e =
         let r = any_where (λ u. is_under p f t u && is_found_virtual (declared_in p u m.name (proto_text m.signature))) (o.keepers m.name m.signature) e in
         keeper_answers r.0 (declares r.0 m.name (proto_text m.signature) (and_behind (is_under p f t r.0) (is_found_virtual (declared_in p r.0 m.name (proto_text m.signature))) r.1.1)) r.1.0 t d mt
@@ -368,8 +368,8 @@ module _ (p : NamedProgram) (o : Outer) (kept : Conditions) (s : Family) (f : Fr
     abbrev pub may : Text → Bool
     may t = is_outward p t || is_common m.name m.signature
 
-    called_live : (t : Text) → defines p t ≡ true → MadeType p s t → may t ≡ true → (h : Found) → In h (answers_to p t m.name m.signature) → o.shut h.key ≡ false → s.methods h.key ≡ true
-    called_live t d mt e h i n = closed.called_back t m.name m.signature (mt d) e h (contained h (answers_to p t m.name m.signature) i) n
+    called_live : (t : Text) → defines p t ≡ true → MadeType p o s t → may t ≡ true → (h : Found) → In h (answers_to p t m.name m.signature) → o.shut h.key ≡ false → s.methods h.key ≡ true
+    called_live t d mt e h i n = closed.called_back t m.name m.signature (mt d).0 e h (contained h (answers_to p t m.name m.signature) i) n
 
     pub some_defines : (r : NamedProgram) (t : Text) → is_some (class_named r t) ≡ defines r t
     some_defines r t = by (class_named r t)
@@ -392,7 +392,7 @@ module _ (p : NamedProgram) (o : Outer) (kept : Conditions) (s : Family) (f : Fr
     virtual_test = is_virtual m.flags m.name
 
     -- a method that isn't live is neither kept, nor entered by a kept one, nor called back
-    module _ (dead : s.methods K ≡ false) (t : Text) (mt : MadeType p s t) where
+    module _ (dead : s.methods K ≡ false) (t : Text) (mt : MadeType p o s t) where
       unanswered : (b : Bool) → answers_kept F o t f0 ≡ b → answers_kept F o t f0 ≡ false
       unanswered false e = e
       unanswered true e =
@@ -412,7 +412,7 @@ module _ (p : NamedProgram) (o : Outer) (kept : Conditions) (s : Family) (f : Fr
           clash (s.methods K) (ap s.methods (sym r.1.1) ∙ called_live t a.0 mt (and_behind (virtual_test && not (o.shut K) && is_found K (F.virtually t K)) (may t) e) r.0
           (at_in p s above regular t K r.0 a.1) (ap o.shut r.1.1 ∙ shut)) dead
 
-    pub barred : s.methods K ≡ false → IsBarred (OkType p s) (MadeType p s) (LiveMethod p s) o F f0
+    pub barred : s.methods K ≡ false → IsBarred (OkType p s) (MadeType p o s) (LiveMethod p s) o F f0
     barred dead = record {
       kept = not_kept dead;
       called = λ t k mt. ap (λ b. b || answers_kept F o t f0 || calls_back F o t f0) (not_kept dead) ∙ ap (λ b. b || calls_back F o t f0) (unanswered dead t mt (answers_kept F o t f0) refl)
@@ -421,7 +421,7 @@ module _ (p : NamedProgram) (o : Outer) (kept : Conditions) (s : Family) (f : Fr
 
     -- ---- a live method
 
-    module _ (live : s.methods K ≡ true) (coded : is_some m.body ≡ true) (t : Text) (ok : OkType p s t) (made : MadeType p s t) (d : defines p t ≡ true) (free : o.methods K ≡ false) (unshut : o.shut K ≡ false)
+    module _ (live : s.methods K ≡ true) (coded : is_some m.body ≡ true) (t : Text) (ok : OkType p s t) (made : MadeType p o s t) (d : defines p t ≡ true) (free : o.methods K ≡ false) (unshut : o.shut K ≡ false)
         (open_to : may t ≡ true) where
       pub kept_t : Kept s p t
       kept_t = ok_kept t ok
@@ -457,6 +457,13 @@ module _ (p : NamedProgram) (o : Outer) (kept : Conditions) (s : Family) (f : Fr
             ∙ at_some p s above regular t g.key g (ap (λ x. inherits p t x.name x.signature) gm.key_is ∙ got))
             ∙ method_same g.key
 
+        made_d : may_be_made p o there_d.0.name ≡ true
+        made_d = ap (may_be_made p o) (class_name p t there_d.0 there_d.1) ∙ (made d).1
+
+        open_d : (is_outward p there_d.0.name || is_common g.key.name g.key.signature) ≡ true
+        open_d = ap (λ x. is_outward p x || is_common g.key.name g.key.signature) (class_name p t there_d.0 there_d.1)
+            ∙ ap (λ x. is_outward p t || is_common x.name x.signature) gm.key_is ∙ open_to
+
         other_class : text_eq c.name g.key.class ≡ false
         other_class = by (text_eq c.name g.key.class) refl
           where
@@ -466,7 +473,7 @@ module _ (p : NamedProgram) (o : Outer) (kept : Conditions) (s : Family) (f : Fr
 
         conflict : (h : Found) → finds_at q t K ≡ Finds h → h.key ≡ K → true ≡ false
         conflict h e i = or_none (o.methods K) (o.shut K) free unshut
-            (table.shuts.others g.key gm.method there_d.0 c m shut_g (ap (λ x. x.key.name) gm.is) (ap (λ x. x.key.signature) gm.is) (class_in p t there_d.0 there_d.1) finds_g (class_in p c.name c named) under_c stands other)
+            (table.shuts.others g.key gm.method there_d.0 c m shut_g (ap (λ x. x.key.name) gm.is) (ap (λ x. x.key.signature) gm.is) (class_in p t there_d.0 there_d.1) finds_g made_d open_d (class_in p c.name c named) under_c stands other)
           where
             inside : In h (answers_to q t m.name m.signature)
             inside = at_in q everything left_above left_regular t K h e

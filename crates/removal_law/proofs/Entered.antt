@@ -62,7 +62,7 @@ module _ (p : NamedProgram) (o : Outer) (kept : Conditions) (s : Family) (f : Fr
     abbrev test_of : NamedProgram → Text → Bool
     test_of r t = is_some (class_named r t) && is_under r f t c.name
 
-    module _ (coded : is_some m.body ≡ true) (t : Text) (ok : OkType p s t) (made : MadeType p s t) where
+    module _ (coded : is_some m.body ≡ true) (t : Text) (ok : OkType p s t) (made : MadeType p o s t) where
       there_same : is_some (class_named q t) ≡ is_some (class_named p t)
       there_same = some_defines p o kept s f closed regular code table none c m named stands q t ∙ defines_same p s above t (kept_of t ok) ∙ sym (some_defines p o kept s f closed regular code table none c m named stands p t)
 
@@ -125,14 +125,14 @@ module _ (p : NamedProgram) (o : Outer) (kept : Conditions) (s : Family) (f : Fr
           by true e = ap (λ b. b || answers_kept F o t found0 || calls_back F o t found0) e ∙ sym (ap (λ b. b || answers_kept G o t found0 || calls_back G o t found0) e)
           by false e = ap (λ b. o.methods k0 || b || calls_back F o t found0) answers_same ∙ ap (λ b. o.methods k0 || answers_kept G o t found0 || b) (back_same e)
 
-    is_open : IsOpen (OkType p s) (MadeType p s) (LiveMethod p s) o F G found0
+    is_open : IsOpen (OkType p s) (MadeType p o s) (LiveMethod p s) o F G found0
     is_open = record { lives = record { live = live; defined = defined p c.name c named }; called = λ t coded ok made. reach_same coded t ok made }
 
   -- ---- what a class declares
 
   module _ (t n proto : Text) where
     abbrev Agreed : Option Found → Option Found → Type 0
-    Agreed = AgreeOnDeclared (OkType p s) (MadeType p s) (LiveMethod p s) o F G
+    Agreed = AgreeOnDeclared (OkType p s) (MadeType p o s) (LiveMethod p s) o F G
 
     abbrev test : NamedMethod → Bool
     test m = text_eq m.name n && text_eq (proto_text m.signature) proto

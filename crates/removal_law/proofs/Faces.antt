@@ -3,6 +3,7 @@ use Rattle.std.proofs.Common.{◌≡◌, ◌++◌, ℕ, zero, suc, Bool, true, f
 use Rattle.std.specs.Prelude.{Contains, ◌&&◌, ◌||◌, not, Option, Some, None, is_some, slice_get, nat_eq}
 use Rattle.std.specs.List.{list_any, list_all}
 use Rattle.std.specs.Option.{option_map}
+use Rattle.lemmas.proofs.Bools.{and_both}
 use Rattle.lemmas.proofs.Options.{none_some, some_same}
 use Rattle.dalvik_defs.specs.Names.{Text, text_eq, is_array, base_of, item_of, array_of}
 use Rattle.dalvik_defs.specs.Flags.{is_interface, is_abstract}
@@ -30,7 +31,7 @@ use Rattle.pass_defs.specs.Live as live
 use Rattle.pass_defs.specs.Mentions.{types_in, types_of, fields_in, fields_in_body}
 use Rattle.removal_law.specs.Left.{left_in, left_of, NamesNone}
 use Rattle.removal_law.specs.Agree.{Each, AgreeOnField, sieved}
-use Rattle.removal_law.specs.Reach.{OkType, MadeType, LiveMethod, Says, LeftAgrees, IsRegular, IsSoundCode, IsSoundTable, is_idle, ReachedAt}
+use Rattle.removal_law.specs.Reach.{OkType, makes_new, may_be_made, MadeType, LiveMethod, Says, LeftAgrees, IsRegular, IsSoundCode, IsSoundTable, is_idle, ReachedAt}
 use Rattle.removal_law.proofs.Lists.{clash, In, here, there, contained, none_in, all_in, and_left, and_behind, in_front, in_back}
 use Rattle.removal_law.proofs.Classes.{Kept, class_left, dead_found}
 use Rattle.removal_law.proofs.Fits.{in_by_test}
@@ -42,7 +43,7 @@ use Rattle.removal_law.proofs.Fields.{finds_left, found_defined, defined_left, d
 use Rattle.removal_law.proofs.Firsts.{initialiser_class, initialiser_left, initialiser_lives, first_left, first_stands}
 use Rattle.removal_law.proofs.Declared.{ok_kept, live_ok}
 use Rattle.removal_law.proofs.Entered.{declared_agrees}
-use Rattle.removal_law.proofs.CallsLeft.{says_type, called_agrees}
+use Rattle.removal_law.proofs.CallsLeft.{is_made_new, says_type, called_agrees}
 
 -- ---- lists and forms
 
@@ -162,7 +163,7 @@ module _ (p : NamedProgram) (o : Outer) (kept : Conditions) (s : Family) (f : Fr
   flags_kept : (t : Text) → Kept s p t → F.flags t ≡ G.flags t
   flags_kept t h = flags_left (class_named p t) ∙ sym (ap (option_map (λ c. c.flags)) (class_left s p t h))
 
-  known_type : (t : Text) → list_any (text_eq t) reserved ≡ true → OkType p s t × MadeType p s t
+  known_type : (t : Text) → list_any (text_eq t) reserved ≡ true → OkType p s t × MadeType p o s t
   known_type t e = (λ d. clash (defines p t) (ap (defines p) (sym plain) ∙ d) away, λ d. clash (defines p t) d away)
     where
       i : In t reserved
@@ -195,8 +196,18 @@ module _ (p : NamedProgram) (o : Outer) (kept : Conditions) (s : Family) (f : Fr
       by true i j = kept_class t d i
       by false i j = let w = constructor_kept t j in ap s.classes (sym w.1.0) ∙ closed.kept.constructors w.0 (ap (defines p) w.1.0 ∙ d) w.1.1.0 w.1.1.1
 
-  reached_made : (t : Text) → live.is_concrete p t ≡ true → (o.classes t || o.constructed t) ≡ true → s.made t ≡ true
-  reached_made t d e = by (o.classes t) refl e
+  or_front : (a b c : Bool) → (a || b) ≡ true → (a || b || c) ≡ true
+  or_front true b c e = refl
+  or_front false true c e = refl
+  or_front false false c e = clash false e refl
+
+  or_end : (a b c : Bool) → c ≡ true → (a || b || c) ≡ true
+  or_end true b c e = refl
+  or_end false true c e = refl
+  or_end false false c e = e
+
+  reached_made : (t : Text) → live.is_concrete p t ≡ true → (o.classes t || o.constructed t) ≡ true → (s.made t ≡ true) × (may_be_made p o t ≡ true)
+  reached_made t d e = (by (o.classes t) refl e, and_both (live.is_concrete p t) (o.classes t || o.constructed t || makes_new p t) d (or_front (o.classes t) (o.constructed t) (makes_new p t) e))
     where
       by : (b : Bool) → o.classes t ≡ b → (b || o.constructed t) ≡ true → s.made t ≡ true
       by true i j = closed.made.kept t d (ap (λ b. b || list_any (λ c. kept.classes t c.name && s.classes c.name) p.classes) i)
@@ -205,10 +216,11 @@ module _ (p : NamedProgram) (o : Outer) (kept : Conditions) (s : Family) (f : Fr
   given_type : (t : Text) → (not (defines p (base_of t)) || o.classes (base_of t)) ≡ true → OkType p s t
   given_type t e = λ d. kept_class (base_of t) d (or_second (defines p (base_of t)) (o.classes (base_of t)) e d)
 
-  undefined_made : (t : Text) → is_defined F t ≡ false → MadeType p s t
+  undefined_made : (t : Text) → is_defined F t ≡ false → MadeType p o s t
   undefined_made t e = λ d. by (class_named p t) refl e d
     where
-      by : (x : Option NamedClass) → class_named p t ≡ x → is_some (option_map (λ c. c.flags) x) ≡ false → (elim (class_named p t) as (λ x. Bool) [ Some c ↦ true | None ↦ false ]) ≡ true → s.made t ≡ true
+      by : (x : Option NamedClass) → class_named p t ≡ x → is_some (option_map (λ c. c.flags) x) ≡ false → (elim (class_named p t) as (λ x. Bool) [ Some c ↦ true | None ↦ false ]) ≡ true
+          → (s.made t ≡ true) × (may_be_made p o t ≡ true)
       by None i a d = clash (defines p t) d (undefined p t i)
       by (Some c) i a d = clash true refl a
 
@@ -231,15 +243,24 @@ module _ (p : NamedProgram) (o : Outer) (kept : Conditions) (s : Family) (f : Fr
   caught_in : (b : NamedBody) (n m : ℕ) (f : Form) → may_throw f ≡ true → In m (handlers_at b n) → In m (caught b f n)
   caught_in b n m f e i = subst (λ x. In m (elim x as (λ x. List ℕ) [ true ↦ handlers_at b n | false ↦ [] ])) (sym e) i
 
-  new_type : (m : MethodKey) (to : ℕ) (t : Text) → Says p s m (form.NewInstance to t) → OkType p s t × MadeType p s t
-  new_type m to t a = (says_of m (form.NewInstance to t) a t (here []), λ d. closed.made.news m a.body to t a.has (contained (form.NewInstance to t) a.body.forms a.stands) (code.objects m a.body a.place to t a.has.1 a.reached a.at_place d))
+  new_type : (m : MethodKey) (to : ℕ) (t : Text) → Says p s m (form.NewInstance to t) → OkType p s t × MadeType p o s t
+  new_type m to t a = (
+    says_of m (form.NewInstance to t) a t (here []),
+    λ d. (
+      closed.made.news m a.body to t a.has (contained (form.NewInstance to t) a.body.forms a.stands) (concrete d),
+      and_both (live.is_concrete p t) (o.classes t || o.constructed t || makes_new p t) (concrete d) (or_end (o.classes t) (o.constructed t) (makes_new p t) (is_made_new p m a.body to t a.has.1 a.stands)),
+    ),
+  )
+    where
+      concrete : defines p t ≡ true → live.is_concrete p t ≡ true
+      concrete d = code.objects m a.body a.place to t a.has.1 a.reached a.at_place d
 
   item_type : (t : Text) → is_array t ≡ true → OkType p s t → OkType p s (item_of t)
   item_type t e h = subst (λ x. defines p x ≡ true → s.classes x ≡ true) (sym (item_base t e)) h
 
   -- ---- fields
 
-  field_agrees : (m : MethodKey) (x : Form) (k : FieldKey) → Says p s m x → In k (fields_in x) → AgreeOnField (OkType p s) (MadeType p s) (LiveMethod p s) k (F.field k) (G.field k)
+  field_agrees : (m : MethodKey) (x : Form) (k : FieldKey) → Says p s m x → In k (fields_in x) → AgreeOnField (OkType p s) (MadeType p o s) (LiveMethod p s) k (F.field k) (G.field k)
   field_agrees m x k a i = record {
     same = ap (option_map (λ c. place_of c.0 c.1)) (sym (finds_left p s above regular k (kept_of k.class (says_of m x a k.class (field_types x k i).0)) lives));
     kind = says_of m x a k.kind (field_types x k i).1;
@@ -294,13 +315,13 @@ module _ (p : NamedProgram) (o : Outer) (kept : Conditions) (s : Family) (f : Fr
   concrete_same : (t : Text) → (o.classes t || o.constructed t) ≡ true → is_concrete F t ≡ is_concrete G t
   concrete_same t e = ap (λ x. elim x as (λ x. Bool) [ Some n ↦ not (is_interface n) && not (is_abstract n) | None ↦ false ]) (flags_kept t (λ d. reached_class t d e))
 
-  made_type : (t : Text) → may_make F o t ≡ true → OkType p s t × MadeType p s t
+  made_type : (t : Text) → may_make F o t ≡ true → OkType p s t × MadeType p o s t
   made_type t e = by (class_named p t) refl (and_behind (o.classes t || o.constructed t) (is_concrete F t) e)
     where
       k : (o.classes t || o.constructed t) ≡ true
       k = and_left (o.classes t || o.constructed t) (is_concrete F t) e
 
-      by : (x : Option NamedClass) → class_named p t ≡ x → (elim (option_map (λ c. c.flags) x) as (λ x. Bool) [ Some n ↦ not (is_interface n) && not (is_abstract n) | None ↦ false ]) ≡ true → OkType p s t × MadeType p s t
+      by : (x : Option NamedClass) → class_named p t ≡ x → (elim (option_map (λ c. c.flags) x) as (λ x. Bool) [ Some n ↦ not (is_interface n) && not (is_abstract n) | None ↦ false ]) ≡ true → OkType p s t × MadeType p o s t
       by None i a = clash false a refl
       by (Some c) i a = (
         live_of t (defined p t c i) (reached_class t (defined p t c i) k),

@@ -40,7 +40,7 @@ use Rattle.removal_law.proofs.KindsLeft.{base_bare, class_bare, type_kept}
 use Rattle.removal_law.proofs.DemandsLeft.{FormLeft}
 use Rattle.removal_law.proofs.TypedLeft.{BodyLeft, left_table, typing_left}
 
-out_of_map : {A B : Type 0} (g : A → B) (y : B) (xs : List A) → In y (map g xs) → (x : A) × (In x xs × (y ≡ g x))
+pub out_of_map : {A B : Type 0} (g : A → B) (y : B) (xs : List A) → In y (map g xs) → (x : A) × (In x xs × (y ≡ g x))
 out_of_map g y [] i = elim i [ ]
 out_of_map {A} {B} g y (x ∷ xs) i = head y i (out_of_map g y xs)
   where
@@ -58,13 +58,13 @@ module _ (p : NamedProgram) (o : Outer) (k : Conditions) (s : Family) (closed : 
   base_defined : (t : Text) → defines p t ≡ true → base_of t ≡ t
   base_defined t d = base_bare t (class_bare t (regular.names t d))
 
-  ok_kept : (t : Text) → OkType p s t → Kept s p t
+  pub ok_kept : (t : Text) → OkType p s t → Kept s p t
   ok_kept t h = type_kept p s above regular none t h
 
   live_ok : (t : Text) → defines p t ≡ true → s.classes t ≡ true → OkType p s t
   live_ok t d l = λ i. ap s.classes (base_defined t d) ∙ l
 
-  found_kept : (g : Found) → s.methods g.key ≡ true → Kept s p g.key.class
+  pub found_kept : (g : Found) → s.methods g.key ≡ true → Kept s p g.key.class
   found_kept g l = λ d. closed.kept.method_classes g.key l
 
   -- ---- a method of a class of the program, that is live
@@ -83,7 +83,7 @@ module _ (p : NamedProgram) (o : Outer) (k : Conditions) (s : Family) (closed : 
             let same = key_sound c x m.name m.signature f.passes in
             e ∙ ap Some (once c.name c x m (names c class_in) f.is_in stands (ap (λ k. k.name) same) (ap (λ k. k.signature) same))
 
-    has : HasBody p s (key_in c m) b
+    pub has : HasBody p s (key_in c m) b
     has = (
       live,
       ap (λ x. option_and_then (λ (m : NamedMethod). m.body) (elim x as (λ x. Option NamedMethod) [ Some c ↦ method_in c m.name m.signature | None ↦ None ])) (names c class_in)
@@ -101,7 +101,7 @@ module _ (p : NamedProgram) (o : Outer) (k : Conditions) (s : Family) (closed : 
         (in_back h.kind (flat_map types_in b.forms) (flat_map (λ r. map (λ h. h.kind) r.handlers) b.regions)
         (in_flat (λ (r : NamedRegion). map (λ (h : NamedHandler). h.kind) r.handlers) r h.kind b.regions (found_in (is_covered n) b.regions r e).is_in (in_map (λ (h : NamedHandler). h.kind) h r.handlers i))))
 
-    says : (f : Form) → In f b.forms → (t : Text) → In t (types_in f) → OkType p s t
+    pub says : (f : Form) → In f b.forms → (t : Text) → In t (types_in f) → OkType p s t
     says f at t i = closed.types.bodies (key_in c m) b has t (contained t (types_in_body b)
         (in_front t (flat_map types_in b.forms) (flat_map (λ r. map (λ h. h.kind) r.handlers) b.regions) (in_flat types_in f t b.forms at i)))
 

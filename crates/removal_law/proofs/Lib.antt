@@ -38,5 +38,6 @@ pub mod TypedCode
 pub mod TypedLeft
 pub mod LeftTyped
 pub mod ShutTables
+pub mod ShutLeft
 pub mod Trivial
 pub mod Removal

@@ -30,7 +30,7 @@ faces_agree p o k s closed regular code table f script fit = agrees p o k s f cl
 pub equal_events : (p : NamedProgram) (o : Outer) (s : Family) (f : Framework) → LeftAgrees p o s f → (a : Floats) (script : List Move) (n : ℕ) → list_all (fit_move p o) script ≡ true
     → shows_from (setting_of p o f a) (bodies_of p) (calm_opening (is_idle p) script) n ≡ shows_from (setting_of (left_of s p) o f a) (bodies_of (left_of s p)) (calm_opening (is_idle p) script) n
 equal_events p o s f agree a script n m =
-    calm_alike (OkType p s) (MadeType p s) (LiveMethod p s) (Says p s) (ReachedAt p) (is_idle p) p o (face_of p f) _ (bodies_of p) (bodies_of (left_of s p)) agree a script n m
+    calm_alike (OkType p s) (MadeType p o s) (LiveMethod p s) (Says p s) (ReachedAt p) (is_idle p) p o (face_of p f) _ (bodies_of p) (bodies_of (left_of s p)) agree a script n m
     ∙ sym (calm_alike AnyType AnyType AnyMethod AnyForm AnyPlace (is_idle p) p o (face_of (left_of s p) f) _ (bodies_of (left_of s p)) (bodies_of (left_of s p))
     (itself (is_idle p) p o (face_of (left_of s p) f) (bodies_of (left_of s p))) a script n m)
 

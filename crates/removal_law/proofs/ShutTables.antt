@@ -6,7 +6,7 @@ use Rattle.lemmas.proofs.Bools.{not_true}
 use Rattle.lemmas.proofs.Options.{some_same}
 use Rattle.dalvik_defs.specs.Names.{is_common, same_name, text_eq}
 use Rattle.dalvik_defs.specs.Flags.{is_interface}
-use Rattle.dalvik_defs.specs.Under.{class_named, is_own_under}
+use Rattle.dalvik_defs.specs.Under.{class_named, is_own_under, is_outward}
 use Rattle.dalvik_defs.specs.Find.{is_virtual_method, is_037}
 use Rattle.dalvik_defs.specs.Outer.{Outer}
 use Rattle.dalvik_defs.specs.Shut.{Library, types_clear, key_of, keeper_over, finds_it, called_outside, is_other, is_shut}
@@ -16,13 +16,13 @@ use Rattle.dalvik_defs.specs.declared.program.NamedClass.{NamedClass}
 use Rattle.dalvik_defs.specs.declared.program.NamedProgram.{NamedProgram}
 use Rattle.dalvik_defs.proofs.Same.{all_more, or_more, and_more}
 use Rattle.removal_law.specs.Left.{In}
-use Rattle.removal_law.specs.Reach.{ShutsHold, IsNarrowed}
+use Rattle.removal_law.specs.Reach.{may_be_made, ShutsHold, IsNarrowed}
 use Rattle.removal_law.proofs.Lists.{clash, and_left, and_behind, all_in}
 
 pub nothing_shut : (p : NamedProgram) (o : Outer) → ((k : MethodKey) → o.shut k ≡ false) → ShutsHold p o
 nothing_shut p o h = record {
   uncalled = λ k e. clash (o.shut k) e (h k);
-  others = λ k m d e x i a b j f g u v w. clash (o.shut k) i (h k);
+  others = λ k m d e x i a b j f may out g u v w. clash (o.shut k) i (h k);
   plain = λ k c v i e. clash (o.shut k) i (h k);
 }
 
@@ -78,8 +78,8 @@ module _ (p : NamedProgram) (o : Outer) (l : Library) where
     or_up false b c e h = h e
 
     others : (k : MethodKey) (m : NamedMethod) (d e : NamedClass) (x : NamedMethod) → o.shut k ≡ true → m.name ≡ k.name → m.signature ≡ k.signature → In d p.classes → finds_it p k d ≡ true
-        → In e p.classes → is_own_under p d.name e.name ≡ true → In x e.methods → is_other k.class m e x ≡ true → (o.methods (key_of e x) || o.shut (key_of e x)) ≡ true
-    others k m d e x i a b j g u v w z =
+        → may_be_made p o d.name ≡ true → (is_outward p d.name || is_common k.name k.signature) ≡ true → In e p.classes → is_own_under p d.name e.name ≡ true → In x e.methods → is_other k.class m e x ≡ true → (o.methods (key_of e x) || o.shut (key_of e x)) ≡ true
+    others k m d e x i a b j g made open_to u v w z =
         let n = narrow.only k i in
         let c = n.0 in
         let y = n.1.0 in

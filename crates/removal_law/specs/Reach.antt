@@ -1,10 +1,10 @@
 -- What a run of a program comes to, by a family of live sets, and what the law of removal asks of the program.
-use Rattle.std.specs.Prelude.{◌≡◌, ℕ, zero, suc, Bool, true, false, ◌||◌, not, List, Some, None, is_none, is_ok}
-use Rattle.std.specs.List.{list_all}
+use Rattle.std.specs.Prelude.{◌≡◌, ℕ, zero, suc, Bool, true, false, ◌&&◌, ◌||◌, not, List, Some, None, is_none, is_ok}
+use Rattle.std.specs.List.{list_any, list_all}
 use Rattle.dex_base.specs.Descriptor.{descriptor_of}
-use Rattle.dalvik_defs.specs.Names.{Text, is_class_type, is_array, base_of, proto_text}
+use Rattle.dalvik_defs.specs.Names.{Text, text_eq, is_class_type, is_common, is_array, base_of, proto_text}
 use Rattle.dalvik_defs.specs.Flags.{is_interface}
-use Rattle.dalvik_defs.specs.Under.{class_named, defines, own_above, is_own_under}
+use Rattle.dalvik_defs.specs.Under.{class_named, defines, own_above, is_own_under, is_outward}
 use Rattle.dalvik_defs.specs.Find.{interface_named, is_037}
 use Rattle.dalvik_defs.specs.Initialised.{initialiser_of}
 use Rattle.dalvik_defs.specs.Face.{face_of, bodies_of}
@@ -28,9 +28,22 @@ use Rattle.removal_law.specs.Agree.{sieved, Agree}
 abbrev pub OkType : NamedProgram → Family → Text → Type 0
 OkType p s t = defines p (base_of t) ≡ true → s.classes (base_of t) ≡ true
 
--- a type that is made where the program defines it
-abbrev pub MadeType : NamedProgram → Family → Text → Type 0
-MadeType p s t = defines p t ≡ true → s.made t ≡ true
+-- the form makes an object of a class
+abbrev pub is_new : Text → Form → Bool
+is_new t (form.NewInstance to u) = text_eq u t
+is_new t form = false
+
+-- some code of a program makes an object of a class
+abbrev pub makes_new : NamedProgram → Text → Bool
+makes_new p t = list_any (λ c. list_any (λ m. elim m.body [ Some b ↦ list_any (is_new t) b.forms | None ↦ false ]) c.methods) p.classes
+
+-- a class that can have objects, and of which the framework or some code of the program makes one
+abbrev pub may_be_made : NamedProgram → Outer → Text → Bool
+may_be_made p o t = is_concrete p t && (o.classes t || o.constructed t || makes_new p t)
+
+-- a type that is made, and may be, where the program defines it
+abbrev pub MadeType : NamedProgram → Outer → Family → Text → Type 0
+MadeType p o s t = defines p t ≡ true → (s.made t ≡ true) × (may_be_made p o t ≡ true)
 
 -- a live method of a class of the program
 pub record LiveMethod (p : NamedProgram) (s : Family) (k : MethodKey) : Type 0 where
@@ -58,7 +71,7 @@ is_idle p t = elim (interface_named p t) [ Some c ↦ is_none (initialiser_of p 
 -- Under a framework, all that a run asks of a program what is left of it answers alike, where of the classes that are
 -- initialised before one the idle interfaces don't count.
 abbrev pub LeftAgrees : NamedProgram → Outer → Family → Framework → Type 0
-LeftAgrees p o s f = Agree (OkType p s) (MadeType p s) (LiveMethod p s) (Says p s) (ReachedAt p) (is_idle p) p o (face_of p f) (sieved (is_idle p) (face_of (left_of s p) f)) (bodies_of p) (bodies_of (left_of s p))
+LeftAgrees p o s f = Agree (OkType p s) (MadeType p o s) (LiveMethod p s) (Says p s) (ReachedAt p) (is_idle p) p o (face_of p f) (sieved (is_idle p) (face_of (left_of s p) f)) (bodies_of p) (bodies_of (left_of s p))
 
 -- ---- what is asked of the program
 
@@ -91,12 +104,14 @@ pub record IsSoundCode (p : NamedProgram) : Type 0 where
   pub methods : TellsApart p
   pub protos : TellsProtos p
 
--- What a table of shut methods owes: no call names one on the framework, every other method of its name with code above a
--- class that finds it is kept or shut, and in version 037 none is of an interface.
+-- What a table of shut methods owes: no call names one on the framework, and in version 037 none is of an interface. Where a
+-- class that may be made finds one, and its objects might be called back by that name (it has a framework ancestor, or every
+-- object answers to the name), every other method of the name with code above the class is kept or shut.
 pub record ShutsHold (p : NamedProgram) (o : Outer) : Type 0 where
   pub uncalled : (k : MethodKey) → o.shut k ≡ true → called_outside p k.name k.signature ≡ false
   pub others : (k : MethodKey) (m : NamedMethod) (d e : NamedClass) (x : NamedMethod) → o.shut k ≡ true → m.name ≡ k.name → m.signature ≡ k.signature → In d p.classes → finds_it p k d ≡ true
-      → In e p.classes → is_own_under p d.name e.name ≡ true → In x e.methods → is_other k.class m e x ≡ true → (o.methods (key_of e x) || o.shut (key_of e x)) ≡ true
+      → may_be_made p o d.name ≡ true → (is_outward p d.name || is_common k.name k.signature) ≡ true → In e p.classes → is_own_under p d.name e.name ≡ true → In x e.methods
+      → is_other k.class m e x ≡ true → (o.methods (key_of e x) || o.shut (key_of e x)) ≡ true
   pub plain : (k : MethodKey) (c : NamedClass) → is_037 p.version ≡ true → o.shut k ≡ true → class_named p k.class ≡ Some c → is_interface c.flags ≡ false
 
 -- The parts of a table agree: a class of which a constructor is kept has one among the kept methods, and the classes of the

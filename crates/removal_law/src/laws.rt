@@ -83,6 +83,13 @@ pub fn shut_tables_law()
     ensures narrowed { (p : NamedProgram) (o : Outer) (l : Library) → IsNarrowed p o l → ShutsHold p o }
 {}
 
+/// A table of shut methods that holds what it says of a program holds it of what is left of the program by a closed family:
+/// no more is called or made there, and what a class finds that another found before was found in a shut method's place.
+pub fn shut_left_law()
+    ensures { (p : NamedProgram) (o : Outer) (k : Conditions) (s : Family) → IsClosedFamily p o k s → IsRegular p → NamesOnce p → DefinesOnce p → defines p object_type ≡ false
+        → AgreesInside o → ShutsHold p o → ShutsHold (left_of s p) o }
+{}
+
 /// The parts of the table that numbers of a program make agree.
 pub fn tables_by_number_law()
     ensures { (p : Program) (o : Outside) → AgreesInside (outer_of p o) }

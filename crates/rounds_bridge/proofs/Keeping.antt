@@ -16,7 +16,10 @@ use Rattle.dalvik_defs.specs.declared.program.NamedClass.{NamedClass}
 use Rattle.dalvik_defs.specs.declared.program.NamedProgram.{NamedProgram}
 use Rattle.pass_defs.specs.Live.{Family}
 use Rattle.removal_law.specs.Left.{left_of}
+use Rattle.removal_law.specs.Reach.{ShutsHold}
 use Rattle.removal_law.proofs.Classes.{left_less}
+use Rattle.dead_code.specs.Dead.{is_quiet_field}
+use Rattle.dead_code.specs.Wishes.{AreCleaned}
 use Rattle.squeeze.specs.Needed.{NothingLeft}
 use Rattle.squeeze.specs.Skipping.{AreSkips}
 use Rattle.thin_bridge.specs.Kept.{AnyCode, IsKept}
@@ -29,11 +32,14 @@ use Rattle.compact.specs.Narrow.{has_narrow_classes}
 use Rattle.compact.specs.Renamed.{IsCompactedProgram}
 use Rattle.kept_bridge.proofs.Compacted.{compacted_kept}
 use Rattle.copy_kept.proofs.Kept.{propagated_kept}
-use Rattle.pipeline.specs.Passes.{Pass, Reach, ConstProp, CopyProp, DeadCode, Squeeze, Compact, Removes, IsBarred, IsRemoval, Folds, KeepsForms, IsFolding, Propagates, KeepsReads, IsPropagation, Thins, IsCleaning, IsCompaction}
+use Rattle.pipeline.specs.Passes.{Pass, Reach, ConstProp, Devirt, CopyProp, DeadCode, Squeeze, Compact, Removes, IsBarred, IsRemoval, Folds, KeepsForms, IsFolding, Rebinds, IsRebinding, Propagates, KeepsReads, IsPropagation, Thins, IsCleaning, IsCompaction}
 use Rattle.reach_bridge.specs.Names.{family_of}
 use Rattle.reach_bridge.proofs.Kept.{kept_named}
-use Rattle.reach_bridge.proofs.Unshut.{unshut}
-use Rattle.reach_bridge.proofs.Within.{shows_the_same, keeps_typing}
+use Rattle.reach_bridge.proofs.Within.{shows_the_same, keeps_shuts, keeps_typing}
+use Rattle.shut_bridge.proofs.Passes.{thinned_keeps, compacted_keeps, propagated_keeps}
+use Rattle.shut_bridge.proofs.Folded.{folded_keeps}
+use Rattle.rebind_kept.proofs.Shuts.{rebound_holds}
+use Rattle.rebind_kept.proofs.Kept.{rebound_kept}
 use Rattle.rounds_bridge.specs.Owed.{IsSound, Owes, Keeps}
 use Rattle.rounds_bridge.proofs.Heads.{others_define}
 use Rattle.rounds_bridge.proofs.Owing.{owes_same}
@@ -68,7 +74,8 @@ module _ (o : Outside) where
     };
     outer = refl;
     fewer = kept_defines p s sound.formed;
-    shown = λ none. shows_the_same p o s marked sound.typed (unshut p o none);
+    shown = shows_the_same p o s marked sound.typed;
+    holds = keeps_shuts p o s marked;
   }
 
   removal_owes : (p q : Program) (moved : List (List Origin)) → IsSound p → IsRemoval o p q moved → Owes o p q
@@ -83,9 +90,9 @@ module _ (o : Outside) where
 
   -- ---- passes on bodies
 
-  -- a pass that keeps a program but for bodies and lines, as this outside sees it
-  kept_for_owes : (p q : Program) → IsSound p → IsKeptFor o p q → Owes o p q
-  kept_for_owes p q sound kept = record {
+  -- a pass that keeps a program but for bodies and lines, as this outside sees it, and what a table of shut methods owes
+  kept_for_owes : (p q : Program) → IsSound p → IsKeptFor o p q → (ShutsHold (named p) (outer_of p o) → ShutsHold (named q) (outer_of p o)) → Owes o p q
+  kept_for_owes p q sound kept shuts = record {
     sound = record {
       formed = kept.formed;
       once = still_once p q (other_part AnyCode p p.classes q.classes kept.others.classes) sound.once;
@@ -95,12 +102,13 @@ module _ (o : Outside) where
     };
     outer = ap (λ (x : Program). outer_of x o) kept.others.same;
     fewer = λ t d. sym (others_define AnyCode p t q kept.others) ∙ d;
-    shown = λ none. kept.shown (unshut p o none);
+    shown = kept.shown;
+    holds = λ h. subst (ShutsHold (named q)) (ap (λ (x : Program). outer_of x o) (sym kept.others.same)) (shuts h);
   }
 
   -- one that keeps it so for every outside
-  bodies_owe : (p q : Program) → IsSound p → IsKept p q → Owes o p q
-  bodies_owe p q sound kept = kept_for_owes p q sound (record { formed = kept.formed; typed = kept.typed; others = kept.others; shown = λ _. kept.shown (outer_of p o) })
+  bodies_owe : (p q : Program) → IsSound p → IsKept p q → (ShutsHold (named p) (outer_of p o) → ShutsHold (named q) (outer_of p o)) → Owes o p q
+  bodies_owe p q sound kept shuts = kept_for_owes p q sound (record { formed = kept.formed; typed = kept.typed; others = kept.others; shown = λ _. kept.shown (outer_of p o) }) shuts
 
   folding_owes : (admitted : List Bool) (p q : Program) (moved : List (List Origin)) → IsSound p → IsFolding o admitted p q moved → Owes o p q
   folding_owes admitted p q moved sound h = by h.folding
@@ -110,17 +118,33 @@ module _ (o : Outside) where
           (let k = f.known.certified in
           folded_kept p f.hierarchy o sound.formed f.resolved sound.grounded sound.typed f.known.words f.known.makers k.live k.targets f.facts k.fits k.live_closed k.targeted k.closed
           (are_named p o k.live (record { formed = sound.formed; once = f.resolved.of.once; grounded = sound.grounded; sized = k.fits; closed = k.live_closed }) k.targets f.resolved.of.ranked f.known.plain f.facts)
-          admitted f.changed f.folded f.bits))
+          admitted f.changed f.folded f.bits)
+          (folded_keeps p f.hierarchy f.facts admitted f.changed (outer_of p o) f.folded))
       by (inr none) = subst (λ (x : Program). Owes o p x) (sym none.0) (owes_same o p sound)
 
   pub const_prop_keeps : (admitted : List Bool) → Keeps o admitted ConstProp
   const_prop_keeps admitted = record { owes = folding_owes admitted }
+
+  rebinding_owes : (admitted : List Bool) (p q : Program) (moved : List (List Origin)) → IsSound p → IsRebinding o admitted p q moved → Owes o p q
+  rebinding_owes admitted p q moved sound h = by h.rebinding
+    where
+      by : Rebinds o admitted p q ⊎ ((q ≡ p) × KeepsForms o admitted p) → Owes o p q
+      by (inl r) = subst (λ (x : Program). Owes o p x) (sym r.left) (kept_for_owes p r.changed.program sound
+          (let k = r.known.certified in
+          rebound_kept p r.hierarchy o sound.formed r.resolved sound.grounded sound.typed r.facts admitted r.changed r.rebound r.known.words r.known.makers k.live k.targets k.fits k.live_closed k.targeted k.closed
+          (are_named p o k.live (record { formed = sound.formed; once = r.resolved.of.once; grounded = sound.grounded; sized = k.fits; closed = k.live_closed }) k.targets r.resolved.of.ranked r.known.plain r.facts))
+          (rebound_holds p sound.formed r.hierarchy r.facts admitted r.changed (outer_of p o) r.rebound))
+      by (inr none) = subst (λ (x : Program). Owes o p x) (sym none.0) (owes_same o p sound)
+
+  pub devirt_keeps : (admitted : List Bool) → Keeps o admitted Devirt
+  devirt_keeps admitted = record { owes = rebinding_owes admitted }
 
   propagation_owes : (admitted : List Bool) (p q : Program) (moved : List (List Origin)) → IsSound p → IsPropagation admitted p q moved → Owes o p q
   propagation_owes admitted p q moved sound h = by h.propagation
     where
       by : Propagates admitted p q ⊎ ((q ≡ p) × KeepsReads admitted p) → Owes o p q
       by (inl c) = bodies_owe p q sound (propagated_kept p c.hierarchy sound.formed c.resolved c.narrow c.typed admitted q c.propagated)
+          (propagated_keeps admitted p q (outer_of p o) c.propagated)
       by (inr none) = subst (λ (x : Program). Owes o p x) (sym none.0) (owes_same o p sound)
 
   pub copy_prop_keeps : (admitted : List Bool) → Keeps o admitted CopyProp
@@ -129,6 +153,7 @@ module _ (o : Outside) where
   squeezing_owes : (admitted : List Bool) (p q : Program) (moved : List (List Origin)) → IsSound p → Thins AreSkips (NothingLeft admitted p) admitted p q moved → Owes o p q
   squeezing_owes admitted p q moved sound h = bodies_owe p q sound
       (squeezed_kept admitted p (record { program = q; count = h.count; origins = moved }) sound.formed sound.typed h.thinned sound.once sound.grounded)
+      (thinned_keeps AreSkips admitted p (record { program = q; count = h.count; origins = moved }) (outer_of p o) h.thinned)
 
   pub squeeze_keeps : (admitted : List Bool) → Keeps o admitted Squeeze
   squeeze_keeps admitted = record { owes = squeezing_owes admitted }
@@ -136,6 +161,7 @@ module _ (o : Outside) where
   cleaning_owes : (admitted : List Bool) (p q : Program) (moved : List (List Origin)) → IsSound p → IsCleaning admitted p q moved → Owes o p q
   cleaning_owes admitted p q moved sound (inl h) = bodies_owe p q sound
       (cleaned_kept p sound.formed sound.once sound.grounded admitted (record { program = q; count = h.count; origins = moved }) h.thinned sound.typed)
+      (thinned_keeps (AreCleaned (is_quiet_field p)) admitted p (record { program = q; count = h.count; origins = moved }) (outer_of p o) h.thinned)
   cleaning_owes admitted p q moved sound (inr none) = subst (λ (x : Program). Owes o p x) (sym none.0) (owes_same o p sound)
 
   pub dead_code_keeps : (admitted : List Bool) → Keeps o admitted DeadCode
@@ -145,7 +171,7 @@ module _ (o : Outside) where
   compaction_owes admitted p q moved sound h = by h.compaction
     where
       by : ((has_narrow_classes p ≡ true) × IsCompactedProgram admitted p q) ⊎ ((q ≡ p) × (has_narrow_classes p ≡ false)) → Owes o p q
-      by (inl c) = bodies_owe p q sound (compacted_kept admitted p q sound.formed sound.once sound.typed c.0 c.1)
+      by (inl c) = bodies_owe p q sound (compacted_kept admitted p q sound.formed sound.once sound.typed c.0 c.1) (compacted_keeps admitted p q (outer_of p o) c.1)
       by (inr none) = subst (λ (x : Program). Owes o p x) (sym none.0) (owes_same o p sound)
 
   pub compact_keeps : (admitted : List Bool) → Keeps o admitted Compact
@@ -156,6 +182,7 @@ module _ (o : Outside) where
   pub each_keeps : (admitted : List Bool) (pass : Pass) → Keeps o admitted pass
   each_keeps admitted Reach = reach_keeps admitted
   each_keeps admitted ConstProp = const_prop_keeps admitted
+  each_keeps admitted Devirt = devirt_keeps admitted
   each_keeps admitted CopyProp = copy_prop_keeps admitted
   each_keeps admitted DeadCode = dead_code_keeps admitted
   each_keeps admitted Squeeze = squeeze_keeps admitted

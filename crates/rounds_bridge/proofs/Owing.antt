@@ -13,14 +13,15 @@ use Rattle.rounds_bridge.specs.Owed.{IsSound, Owes, Keeps}
 
 module _ (o : Outside) where
   pub owes_same : (p : Program) → IsSound p → Owes o p p
-  owes_same p sound = record { sound = sound; outer = refl; fewer = λ t d. d; shown = λ none. same_shown_refl (named p) (outer_of p o) }
+  owes_same p sound = record { sound = sound; outer = refl; fewer = λ t d. d; shown = λ h. same_shown_refl (named p) (outer_of p o); holds = λ h. h }
 
   pub owes_on : (p q r : Program) → Owes o p q → Owes o q r → Owes o p r
   owes_on p q r one two = record {
     sound = two.sound;
     outer = two.outer ∙ one.outer;
     fewer = λ t d. one.fewer t (two.fewer t d);
-    shown = λ none. same_shown_on (named p) (named q) (named r) (outer_of p o) one.fewer (one.shown none) (subst (λ (k : Outer). SameShown (named q) (named r) k) one.outer (two.shown none));
+    shown = λ h. same_shown_on (named p) (named q) (named r) (outer_of p o) one.fewer (one.shown h) (subst (λ (k : Outer). SameShown (named q) (named r) k) one.outer (two.shown (one.holds h)));
+    holds = λ h. two.holds (one.holds h);
   }
 
   module _ (admitted : List Bool) (keeps : (pass : Pass) → Keeps o admitted pass) where

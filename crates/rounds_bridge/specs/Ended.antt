@@ -1,11 +1,13 @@
 -- What is so where the rounds end.
-use Rattle.std.specs.Prelude.{Bool, List}
+use Rattle.std.specs.Prelude.{◌≡◌, true, Bool, List}
 use Rattle.program_model.specs.declared.pass.Outside.{Outside}
 use Rattle.program_model.specs.declared.program.Program.{Program}
 use Rattle.hierarchy.specs.Shapes.{IsResolved}
 use Rattle.hierarchy.specs.declared.build.Hierarchy.{Hierarchy}
 use Rattle.facts.specs.declared.facts.Facts.{Facts}
 use Rattle.const_prop.specs.Folds.{NoneLeft}
+use Rattle.receivers.specs.Receiving.{is_straight}
+use Rattle.devirt.specs.Left.{NoneLeft as NoCallLeft}
 use Rattle.pipeline.specs.Passes.{AreKnown}
 
 -- Facts that are known of the program leave nothing to write in the bodies of admitted methods.
@@ -15,3 +17,12 @@ pub record NoneKnown (o : Outside) (admitted : List Bool) (p : Program) : Type 0
   pub facts : Facts
   pub known : AreKnown o p facts
   pub none_left : NoneLeft p hierarchy facts admitted
+
+-- Such facts, and the kinds of receivers, leave no call in these bodies to name another method. (`is_straight`: the lists of
+-- interfaces name interfaces alone.)
+pub record NoneBindable (o : Outside) (admitted : List Bool) (p : Program) : Type 0 where
+  pub hierarchy : Hierarchy
+  pub resolved : IsResolved p hierarchy
+  pub facts : Facts
+  pub known : AreKnown o p facts
+  pub none_left : is_straight p ≡ true → NoCallLeft p hierarchy facts admitted

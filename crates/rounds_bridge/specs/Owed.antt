@@ -1,5 +1,5 @@
 -- What a pass owes.
-use Rattle.std.specs.Prelude.{◌≡◌, ℕ, Bool, true, List, []}
+use Rattle.std.specs.Prelude.{◌≡◌, ℕ, Bool, true, List}
 use Rattle.program_model.specs.declared.pass.Origin.{Origin}
 use Rattle.program_model.specs.declared.pass.Outside.{Outside}
 use Rattle.program_model.specs.declared.program.Program.{Program}
@@ -11,6 +11,7 @@ use Rattle.dalvik_defs.specs.Outer.{outer_of}
 use Rattle.dalvik_defs.specs.Under.{defines}
 use Rattle.dalvik_defs.specs.Shown.{SameShown}
 use Rattle.pass_defs.specs.Typed.{IsTyped}
+use Rattle.removal_law.specs.Reach.{ShutsHold}
 use Rattle.hierarchy.specs.Splitting.{NoSplit}
 use Rattle.pipeline.specs.Passes.{Pass, Does}
 
@@ -23,13 +24,14 @@ pub record IsSound (p : Program) : Type 0 where
   pub whole : NoSplit p
   pub typed : IsTyped (named p)
 
--- What is left is sound, what the outside names is the same by the tables of both programs, no more classes are defined, and where
--- no method is shut the same is shown.
+-- What is left is sound, what the outside names is the same by the tables of both programs, and no more classes are defined. Where
+-- the table of shut methods holds what it says, the same is shown, and it holds that of what is left.
 pub record Owes (o : Outside) (p q : Program) : Type 0 where
   pub sound : IsSound q
   pub outer : outer_of q o ≡ outer_of p o
   pub fewer : (t : Text) → defines (named q) t ≡ true → defines (named p) t ≡ true
-  pub shown : o.shut ≡ [] → SameShown (named p) (named q) (outer_of p o)
+  pub shown : ShutsHold (named p) (outer_of p o) → SameShown (named p) (named q) (outer_of p o)
+  pub holds : ShutsHold (named p) (outer_of p o) → ShutsHold (named q) (outer_of q o)
 
 -- Whatever the pass does to a sound program, it owes this.
 pub record Keeps (o : Outside) (admitted : List Bool) (pass : Pass) : Type 0 where

@@ -2,7 +2,7 @@
 
 ghost use Rattle.std.specs.Prelude.{Bool, List};
 ghost use Rattle.program_model.specs.declared.pass.Outside.{Outside};
-ghost use Rattle.pipeline.specs.Passes.{Reach, ConstProp, CopyProp, DeadCode, Squeeze, Compact};
+ghost use Rattle.pipeline.specs.Passes.{Reach, ConstProp, Devirt, CopyProp, DeadCode, Squeeze, Compact};
 ghost use Rattle.rounds_bridge.specs.Owed.{Keeps};
 
 /// A removal of what is not reached keeps what a pass owes, and so does a removal that is barred.
@@ -13,6 +13,11 @@ pub fn reach_keeps_law()
 /// Bodies over whose instructions is written what is known of them keep what a pass owes.
 pub fn const_prop_keeps_law()
     ensures { (o : Outside) (admitted : List Bool) → Keeps o admitted ConstProp }
+{}
+
+/// Bodies whose calls name what all their receivers find keep what a pass owes.
+pub fn devirt_keeps_law()
+    ensures { (o : Outside) (admitted : List Bool) → Keeps o admitted Devirt }
 {}
 
 /// Bodies whose stale reads read originals keep what a pass owes.

@@ -19,7 +19,7 @@ ghost use Rattle.pipeline.specs.declared.traces.Traced.{Traced};
 ghost use Rattle.pipeline.specs.Passes.{KeepsForms};
 ghost use Rattle.pipeline.specs.Rounds.{HaveRun, IsOptimised, Rounds};
 ghost use Rattle.stay_law.specs.Stays.{Stays};
-ghost use Rattle.rounds_bridge.specs.Ended.{NoneKnown};
+ghost use Rattle.rounds_bridge.specs.Ended.{NoneBindable, NoneKnown};
 ghost use Rattle.rounds_bridge.specs.Owed.{IsSound, Owes};
 
 /// A well-formed program of which a hierarchy was built, and of which the verifier has a typing of each method, is sound.
@@ -27,31 +27,38 @@ pub fn accepted_sound_law()
     ensures { (p : Program) (h : Hierarchy) → is_well_formed p ≡ true → IsResolved p h → IsAcyclic p → NoSplit p → TypesAll p h → IsSound p }
 {}
 
-/// What any number of rounds leave of a sound program is sound, and shows the same as the program before all of them, where
-/// no method is shut, as in what rules alone give. A method that isn't admitted stays whole, and no body has more registers.
+/// What any number of rounds leave of a sound program is sound. Where the table of shut methods holds what it says, as it does
+/// where no method is shut, what they leave shows the same as the program before all of them, and the table holds what it says of
+/// it. A method that isn't admitted stays whole, and no body has more registers.
 pub fn rounds_law()
     ensures owes { (o : Outside) (admitted : List Bool) (n : ℕ) (t u : Traced) → Rounds o admitted n t u → IsSound t.program → Owes o t.program u.program }
     ensures stays { (o : Outside) (admitted : List Bool) (n : ℕ) (t u : Traced) → Rounds o admitted n t u → IsSound t.program → Stays admitted t.program u.program }
 {}
 
-/// What `optimise` leaves of a sound program is sound, and shows the same where no method is shut, where no call is silent: the
-/// rules forbid all rewriting, or name no silent method.
+/// What `optimise` leaves of a sound program is sound, and shows the same where the table of shut methods holds what it says, where
+/// no call is silent: the rules forbid all rewriting, or name no silent method.
 pub fn optimised_law()
-    ensures { (p r : Program) (origins : List (List Origin)) (o : Outside) (advisers spared rounds : ℕ) (before after : List Bool) → IsSound p → IsOptimised o p advisers before after spared r origins rounds
+    ensures { (p r : Program) (origins : List (List Origin)) (o : Outside) (advisers spared rounds : ℕ) (before after : List Bool) → IsSound p
+        → IsOptimised o p advisers before after spared r origins rounds
         → (o.optimise ≡ false) ⊎ (o.silent ≡ []) → Owes o p r }
 {}
 
 /// Where the rounds end in a sound program, as they do where they began with one, facts that are known leave nothing to write in
-/// an admitted method, or there is a reason why none was written (no method is admitted, a kept constructor
-/// is none of its class, or no facts are certified); no position of
+/// an admitted method and no call in one to name another method, or there is a reason why none was written (no method is admitted,
+/// a kept constructor is none of its class, or no facts are certified); no position of
 /// an admitted method is left that a squeeze takes out, and none that is dead; and unless some method of a wide type is named, no read of it is stale, and its
 /// registers have the least numbers that they can have. (`NothingLeft` and `NoneDead` speak of bodies whose positions and
 /// regions 32 bits number, `AllFresh` of those whose registers 16 bits number.)
 pub fn settled_law()
     ensures folded { (o : Outside) (admitted : List Bool) (p : Program) (t : Traced) (count : ℕ) → HaveRun o admitted p t count → IsSound t.program
         → NoneKnown o admitted t.program ⊎ KeepsForms o admitted t.program }
+    ensures bound { (o : Outside) (admitted : List Bool) (p : Program) (t : Traced) (count : ℕ) → HaveRun o admitted p t count → IsSound t.program
+        → NoneBindable o admitted t.program ⊎ KeepsForms o admitted t.program }
     ensures skips { (o : Outside) (admitted : List Bool) (p : Program) (t : Traced) (count : ℕ) → HaveRun o admitted p t count → IsSound t.program → NothingLeft admitted t.program }
-    ensures dead { (o : Outside) (admitted : List Bool) (p : Program) (t : Traced) (count : ℕ) → HaveRun o admitted p t count → IsSound t.program → NoneDead (is_quiet_field t.program) admitted t.program }
-    ensures fresh { (o : Outside) (admitted : List Bool) (p : Program) (t : Traced) (count : ℕ) → HaveRun o admitted p t count → IsSound t.program → has_narrow_classes t.program ≡ true → AllFresh admitted t.program }
-    ensures packed { (o : Outside) (admitted : List Bool) (p : Program) (t : Traced) (count : ℕ) → HaveRun o admitted p t count → IsSound t.program → has_narrow_classes t.program ≡ true → AllPacked admitted t.program }
+    ensures dead { (o : Outside) (admitted : List Bool) (p : Program) (t : Traced) (count : ℕ) → HaveRun o admitted p t count → IsSound t.program
+        → NoneDead (is_quiet_field t.program) admitted t.program }
+    ensures fresh { (o : Outside) (admitted : List Bool) (p : Program) (t : Traced) (count : ℕ) → HaveRun o admitted p t count → IsSound t.program → has_narrow_classes t.program ≡ true
+        → AllFresh admitted t.program }
+    ensures packed { (o : Outside) (admitted : List Bool) (p : Program) (t : Traced) (count : ℕ) → HaveRun o admitted p t count → IsSound t.program → has_narrow_classes t.program ≡ true
+        → AllPacked admitted t.program }
 {}

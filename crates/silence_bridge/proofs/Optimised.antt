@@ -12,6 +12,7 @@ use Rattle.dalvik_defs.specs.Outer.{outer_of}
 use Rattle.dalvik_defs.specs.Silence as by_name
 use Rattle.dalvik_defs.specs.Shown.{SameShown}
 use Rattle.pass_defs.specs.Typed.{IsTyped}
+use Rattle.removal_law.specs.Reach.{ShutsHold}
 use Rattle.hierarchy.specs.Shapes.{IsAcyclic, IsResolved}
 use Rattle.hierarchy.specs.Splitting.{NoSplit}
 use Rattle.hierarchy.specs.declared.build.Hierarchy.{Hierarchy}
@@ -26,15 +27,16 @@ use Rattle.copy_bridge.specs.Bridged.{AllFresh}
 use Rattle.squeeze.specs.Needed.{NothingLeft}
 use Rattle.pipeline.specs.Passes.{KeepsForms}
 use Rattle.pipeline.specs.Rounds.{first_of, IsOptimised}
-use Rattle.rounds_bridge.specs.Ended.{NoneKnown}
+use Rattle.rounds_bridge.specs.Ended.{NoneKnown, NoneBindable}
 use Rattle.rounds_bridge.specs.Owed.{IsSound, Owes}
-use Rattle.rounds_bridge.proofs.Ends.{all_folded, none_skipped, none_dead, all_fresh, all_packed}
+use Rattle.rounds_bridge.proofs.Ends.{all_folded, all_bound, none_skipped, none_dead, all_fresh, all_packed}
 use Rattle.rounds_bridge.proofs.Parts.{Part, mapped_head, mapped_part, still_once, still_grounded}
 use Rattle.rounds_bridge.proofs.Splits.{whole_left}
 use Rattle.rounds_bridge.proofs.Repeated.{all_rounds_owe}
 use Rattle.rounds_bridge.proofs.Staying.{rounds_stay}
 use Rattle.stay_law.specs.Stays.{Stays}
 use Rattle.stay_law.proofs.Staying.{stays_on}
+use Rattle.shut_law.proofs.Silent.{silenced_holds}
 use Rattle.silence_law.proofs.Silenced.{silenced_typed}
 use Rattle.silence_law.proofs.WellFormed.{well_placed}
 use Rattle.silence_bridge.specs.Admitted.{admitted_in}
@@ -92,20 +94,28 @@ module _ (p : Program) (h : Hierarchy) (formed : is_well_formed p ≡ true) (res
       typed = silent_typed admitted q silent;
     }
 
+    -- the table of shut methods holds what it says of what is left
+    silent_holds : (admitted : List Bool) (q : Program) → IsSilent o.silent admitted p q → ShutsHold (named p) (outer_of p o) → ShutsHold (named q) (outer_of q o)
+    silent_holds admitted q silent h = subst (λ x. ShutsHold x (outer_of q o)) (sym (silent_named admitted q silent))
+        (subst (ShutsHold (by_name.silenced (named p) (outer_of p o) (admitted_in p admitted))) (sym (silent_outer admitted q silent)) (silenced_holds (named p) (outer_of p o) (admitted_in p admitted) h))
+
     module _ (r : Program) (origins : List (List Origin)) (advisers spared n : ℕ) (before after : List Bool) (done : IsOptimised o p advisers before after spared r origins n) where
       rounds : Owes o done.silenced r
       rounds = all_rounds_owe o done.admitted done.ran.changing (first_of done.silenced) (record { program = r; origins = origins }) done.ran.rounds (silent_sound done.admitted done.silenced done.silent done.formed)
 
-      pub optimised_shows : o.shut ≡ [] → SameShown (by_name.silenced (named p) (outer_of p o) (admitted_in p done.admitted)) (named r) (outer_of p o)
-      optimised_shows none =
+      pub optimised_shows : ShutsHold (named p) (outer_of p o) → SameShown (by_name.silenced (named p) (outer_of p o) (admitted_in p done.admitted)) (named r) (outer_of p o)
+      optimised_shows h =
           subst (λ x. SameShown x (named r) (outer_of p o)) (silent_named done.admitted done.silenced done.silent)
-          (subst (λ x. SameShown (named done.silenced) (named r) x) (silent_outer done.admitted done.silenced done.silent) (rounds.shown none))
+          (subst (λ x. SameShown (named done.silenced) (named r) x) (silent_outer done.admitted done.silenced done.silent) (rounds.shown (silent_holds done.admitted done.silenced done.silent h)))
 
       pub optimised_sound : IsSound r
       optimised_sound = rounds.sound
 
       pub optimised_folded : NoneKnown o done.admitted r ⊎ KeepsForms o done.admitted r
       optimised_folded = all_folded o done.admitted r rounds.sound done.ran.ends
+
+      pub optimised_bound : NoneBindable o done.admitted r ⊎ KeepsForms o done.admitted r
+      optimised_bound = all_bound o done.admitted r rounds.sound done.ran.ends
 
       pub optimised_skips : NothingLeft done.admitted r
       optimised_skips = none_skipped o done.admitted r rounds.sound done.ran.ends

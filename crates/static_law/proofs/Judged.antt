@@ -1,4 +1,4 @@
--- The loose methods of a program are methods that may be static, where virtual ones have no rivals.
+-- The loose methods of a program are methods that may be static.
 use Rattle.std.proofs.Common.{◌≡◌, ℕ, Bool, true, false, List, [], ◌∷◌, Some, None, refl, sym, ap, ◌∙◌, subst}
 use Rattle.std.specs.Prelude.{◌&&◌, ◌||◌, not}
 use Rattle.std.specs.List.{list_any}
@@ -10,7 +10,7 @@ use Rattle.dalvik_defs.specs.Under.{is_outward}
 use Rattle.dalvik_defs.specs.Outer.{Outer}
 use Rattle.dalvik_defs.specs.declared.names.MethodKey.{MethodKey}
 use Rattle.dalvik_defs.specs.declared.program.NamedProgram.{NamedProgram}
-use Rattle.pass_defs.specs.Loose.{new_signature, is_overriding, is_in_interface, is_alone, classes_under, is_plain_call, methods_of, with_new, or_this, HasReceiver, IsLoose, AreLooseFrom, AreLoose}
+use Rattle.pass_defs.specs.Loose.{new_signature, has_rival, is_in_interface, is_alone, classes_under, is_plain_call, methods_of, with_new, or_this, HasReceiver, IsLoose, AreLooseFrom, AreLoose}
 use Rattle.pass_defs.specs.Calls.{may_find}
 use Rattle.pass_defs.specs.Numbered.{Tables, tables_of}
 use Rattle.removal_law.specs.Left.{In, here, there}
@@ -18,16 +18,16 @@ use Rattle.removal_law.proofs.Lists.{clash, and_left, and_behind}
 use Rattle.removal_law.proofs.Declared.{method_same, method_sound, not_false}
 use Rattle.removal_law.proofs.Outward.{any_where}
 use Rattle.static_law.specs.Receiving.{KnowsReceivers}
-use Rattle.static_law.specs.Static.{IsApart, has_rival, has_receiver, MayAllBeStatic, Unrivalled}
+use Rattle.static_law.specs.Static.{IsApart, has_receiver, MayAllBeStatic}
 
 -- nothing common, and no framework ancestor of a class under its own
-alone_apart : (p : NamedProgram) (k : MethodKey) → has_rival p k ≡ false → is_alone p k ≡ true → IsApart p k
-alone_apart p k r e =
-    let a = not (is_overriding p k) in
+alone_apart : (p : NamedProgram) (k : MethodKey) → is_alone p k ≡ true → IsApart p k
+alone_apart p k e =
+    let a = not (has_rival p k) in
     let b = not (is_common k.name k.signature) in
     let c = not (is_in_interface p k) in
     let d = not (list_any (λ c. is_outward p c.name) (classes_under p k.class)) in record {
-      unrivalled = r;
+      unrivalled = not_false (has_rival p k) (and_left a b (and_left (a && b) c (and_left (a && b && c) d e)));
       uncommon = not_false (is_common k.name k.signature) (and_behind a b (and_left (a && b) c (and_left (a && b && c) d e)));
       inside = not_false (list_any (λ c. is_outward p c.name) (classes_under p k.class)) (and_behind (a && b && c) d e);
     }
@@ -85,8 +85,8 @@ module _ (base : Program) (p : NamedProgram) (o : Outer) (optimise : Bool) (fits
     knows_receivers caller b n kind k args h e i r l = ((judged h.key l).judged.calls.calls caller b n kind k args e i
         (ap (λ b. b || list_any (λ g. method_eq g.key h.key) (may_find p caller.class kind k)) (ap (λ o. elim o as (λ o. Bool) [ Some g ↦ method_eq g.key h.key | None ↦ method_eq k h.key ]) r ∙ method_same h.key))).1
 
-    pub may_be_static : Unrivalled p loose → MayAllBeStatic p o (tables_of base).methods loose
-    may_be_static none k l = let j = (judged k l).judged in record {
+    pub may_be_static : MayAllBeStatic p o (tables_of base).methods loose
+    may_be_static k l = let j = (judged k l).judged in record {
       class = j.class;
       method = j.method;
       named = j.named;
@@ -97,7 +97,7 @@ module _ (base : Program) (p : NamedProgram) (o : Outer) (optimise : Bool) (fits
       free = j.free;
       in_class = j.in_class;
       trivial = j.trivial;
-      apart = λ v. alone_apart p k (none k j.method l j.defined v) (j.alone v);
+      apart = λ v. alone_apart p k (j.alone v);
       calls = λ caller b n kind called args e i c. let r = j.calls.calls caller b n kind called args e i c in
           (receives not_null caller n kind args r.1, and_behind (admitted caller) (is_plain_call p k caller.class kind called) r.0);
       new = subst (λ ms. list_any (λ t. same_name t.name t.signature k.name (new_signature k)) ms ≡ false) (judged k l).methods j.new;

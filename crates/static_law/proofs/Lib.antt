@@ -22,6 +22,5 @@ pub mod Resolved
 pub mod Typed
 pub mod Upward
 pub mod Receivers
-pub mod Rivals
 pub mod Whole
 pub mod Order

@@ -20,7 +20,7 @@ use Rattle.dalvik_defs.specs.declared.program.NamedClass.{NamedClass}
 use Rattle.dalvik_defs.specs.declared.program.NamedProgram.{NamedProgram}
 use Rattle.dalvik_defs.specs.declared.tables.Framework.{Framework}
 use Rattle.dalvik_defs.proofs.Calm.{text_sound}
-use Rattle.pass_defs.specs.Loose.{staticised, classes_under, has_virtual}
+use Rattle.pass_defs.specs.Loose.{staticised, classes_under, has_virtual, has_rival}
 use Rattle.removal_law.specs.Left.{In, NamesNone}
 use Rattle.removal_law.specs.Reach.{IsRegular, TellsApart, TellsProtos, AgreesInside}
 use Rattle.removal_law.proofs.Lists.{clash, and_left, and_behind, any_same, found_in as found_passes}
@@ -28,7 +28,7 @@ use Rattle.removal_law.proofs.Declared.{found_it}
 use Rattle.removal_law.proofs.Finds.{into_filter}
 use Rattle.removal_law.proofs.Outward.{any_here, any_where}
 use Rattle.removal_law.proofs.Trees.{class_name, class_in, defined}
-use Rattle.static_law.specs.Static.{IsOld, key, IsSound, AreApart, has_rival, made_static}
+use Rattle.static_law.specs.Static.{IsOld, key, IsSound, AreApart, made_static}
 use Rattle.static_law.proofs.Remade.{outward_same, framed_same}
 use Rattle.static_law.proofs.Sites.{virtually_same, at_called}
 use Rattle.static_law.proofs.Declared.{itself, virtual_alike}

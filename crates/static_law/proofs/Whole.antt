@@ -1,11 +1,9 @@
 -- The loose methods of a typed, regular program, made static: it shows the same where what facts know of receivers holds, and stays
 -- typed.
 use Rattle.std.proofs.Common.{◌≡◌, ℕ, Bool, false, List, length, Some, None, sym, ap, ◌∙◌}
-use Rattle.std.specs.Prelude.{not}
 use Rattle.program_model.specs.declared.program.Program.{Program}
 use Rattle.lemmas.proofs.Options.{some_same}
-use Rattle.dalvik_defs.specs.Find.{defined_method, is_virtual_method}
-use Rattle.dalvik_defs.specs.Flags.{is_interface}
+use Rattle.dalvik_defs.specs.Find.{defined_method}
 use Rattle.dalvik_defs.specs.Names.{object_type}
 use Rattle.dalvik_defs.specs.Outer.{Outer}
 use Rattle.dalvik_defs.specs.Shown.{Fit, SameShown}
@@ -17,7 +15,7 @@ use Rattle.dalvik_defs.specs.declared.program.NamedProgram.{NamedProgram}
 use Rattle.dalvik_defs.specs.declared.script.Move.{Move}
 use Rattle.dalvik_defs.specs.declared.tables.Floats.{Floats}
 use Rattle.dalvik_defs.specs.declared.tables.Framework.{Framework}
-use Rattle.pass_defs.specs.Loose.{IsLoose, AreLoose, staticised}
+use Rattle.pass_defs.specs.Loose.{AreLoose, staticised}
 use Rattle.pass_defs.specs.Numbered.{tables_of}
 use Rattle.pass_defs.specs.Typed.{IsTyped}
 use Rattle.kind_law.specs.Rooted.{IsRooted}
@@ -31,11 +29,10 @@ use Rattle.removal_law.proofs.Protos.{told_apart}
 use Rattle.removal_law.proofs.Trees.{class_in, defined}
 use Rattle.stuck_law.specs.Regular.{IsRegular}
 use Rattle.static_law.specs.Receiving.{HoldNoNull}
-use Rattle.static_law.specs.Static.{AreInTables, FreeInterfaces, ListsInterfaces, NamesDescribed, Unrivalled}
-use Rattle.static_law.proofs.Judged.{judged, may_be_static, knows_receivers}
+use Rattle.static_law.specs.Static.{AreInTables, FreeInterfaces, NamesDescribed}
+use Rattle.static_law.proofs.Judged.{may_be_static, knows_receivers}
 use Rattle.static_law.proofs.Loosened.{ends_within, static_shown}
 use Rattle.static_law.proofs.Receivers.{receivers_reached}
-use Rattle.static_law.proofs.Rivals.{alone_unrivalled}
 use Rattle.static_law.proofs.Typed.{typed_static}
 use Rattle.static_law.proofs.Upward.{fits_upward}
 
@@ -67,25 +64,14 @@ module _ (p : NamedProgram) (regular : IsRegular p) where
       rooted = e;
     }
 
--- loose methods have no rivals where interface lists name no plain class
-pub loose_unrivalled : (base : Program) (p : NamedProgram) (o : Outer) (optimise : Bool) (fits : Program → Type 0) (admitted : MethodKey → Bool) (not_null : MethodKey → ℕ → ℕ → Type 0) (loose : MethodKey → Bool)
-    → AreLoose base p o optimise fits admitted not_null loose → IsRegular p → IsAcyclic p → ListsInterfaces p → Unrivalled p loose
-loose_unrivalled base p o optimise fits admitted not_null loose given regular acyclic lists k m l e v =
-    alone_unrivalled p (stands_up p regular acyclic) (free p regular acyclic) lists (names_once p regular) k
-    (ap (λ o. elim o as (λ o. Bool) [ Some c ↦ not (is_interface c.flags) | None ↦ false ]) j.named ∙ ap not j.in_class)
-    (j.alone (ap is_virtual_method (some_same j.method m (sym j.defined ∙ e)) ∙ v))
-  where
-    j : IsLoose base p o optimise fits admitted not_null (judged base p o optimise fits admitted not_null loose given k l).tables (judged base p o optimise fits admitted not_null loose given k l).earlier k
-    j = (judged base p o optimise fits admitted not_null loose given k l).judged
-
 module _ (base : Program) (p : NamedProgram) (o : Outer) (optimise : Bool) (fits : Program → Type 0) (admitted : MethodKey → Bool) (not_null : MethodKey → ℕ → ℕ → Type 0) (loose : MethodKey → Bool)
-    (given : AreLoose base p o optimise fits admitted not_null loose) (none : Unrivalled p loose) (in_tables : AreInTables p o (tables_of base).methods) (regular : IsRegular p) (acyclic : IsAcyclic p) (described : IsDescribed p) where
+    (given : AreLoose base p o optimise fits admitted not_null loose) (in_tables : AreInTables p o (tables_of base).methods) (regular : IsRegular p) (acyclic : IsAcyclic p) (described : IsDescribed p) where
   pub loose_static : NamesDescribed p → AgreesInside o → ((f : Framework) (a : Floats) (script : List Move) → Fit p o f script → HoldNoNull p o not_null f a script) → SameShown p (staticised p loose) o
-  loose_static names inside no_null = static_shown p o (tables_of base).methods loose (may_be_static base p o optimise fits admitted not_null loose given none) in_tables
+  loose_static names inside no_null = static_shown p o (tables_of base).methods loose (may_be_static base p o optimise fits admitted not_null loose given) in_tables
       (stands_up p regular acyclic) described names (defines_once p regular) inside
-      (λ f a script fit. receivers_reached p o (tables_of base).methods loose (may_be_static base p o optimise fits admitted not_null loose given none) not_null
+      (λ f a script fit. receivers_reached p o (tables_of base).methods loose (may_be_static base p o optimise fits admitted not_null loose given) not_null
       (knows_receivers base p o optimise fits admitted not_null loose given) regular f a script fit (no_null f a script fit))
 
   pub loose_typed : class_named p object_type ≡ None → IsTyped (staticised p loose)
-  loose_typed e = typed_static p o (tables_of base).methods loose (may_be_static base p o optimise fits admitted not_null loose given none) in_tables
+  loose_typed e = typed_static p o (tables_of base).methods loose (may_be_static base p o optimise fits admitted not_null loose given) in_tables
       regular.class_types (told_apart p described (defines_once p regular)) (names_once p regular) (fits_upward p (rooted p regular acyclic e) (free p regular acyclic)) regular.typed

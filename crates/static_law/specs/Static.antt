@@ -1,12 +1,12 @@
 -- What is asked of the methods that are made static, and the map of names by which they are (this project's profile).
-use Rattle.std.specs.Prelude.{◌≡◌, ℕ, suc, Bool, length, true, false, ◌&&◌, not, List, [], ◌∷◌, map, Option, Some, None, if◌then◌else◌, is_some, is_ok}
+use Rattle.std.specs.Prelude.{◌≡◌, ℕ, suc, Bool, length, true, false, List, [], ◌∷◌, map, Option, Some, None, if◌then◌else◌, is_some, is_ok}
 use Rattle.std.specs.List.{list_any}
 use Rattle.insn_set.specs.declared.ops.InvokeKind.{InvokeKind}
 use Rattle.insn_set.specs.declared.ops.InvokeKind.TheVariants as call
 use Rattle.dex_base.specs.Descriptor.{descriptor_of}
 use Rattle.dalvik_defs.specs.Names.{Text, text_eq, same_name, is_common}
 use Rattle.dalvik_defs.specs.Flags.{is_static, is_interface}
-use Rattle.dalvik_defs.specs.Under.{class_named, defines, is_under, is_own_under, is_outward}
+use Rattle.dalvik_defs.specs.Under.{class_named, defines, is_under, is_outward}
 use Rattle.dalvik_defs.specs.Find.{Found, Finds, found_in, method_in, defined_method, resolves_method, interface_named, is_virtual_method}
 use Rattle.dalvik_defs.specs.Initialised.{is_trivial}
 use Rattle.dalvik_defs.specs.Silence.{key_in}
@@ -19,7 +19,7 @@ use Rattle.dalvik_defs.specs.declared.names.MethodKey.{MethodKey}
 use Rattle.dalvik_defs.specs.declared.program.NamedMethod.{NamedMethod}
 use Rattle.dalvik_defs.specs.declared.program.NamedClass.{NamedClass}
 use Rattle.dalvik_defs.specs.declared.program.NamedProgram.{NamedProgram}
-use Rattle.pass_defs.specs.Loose.{new_signature, new_key, static_method, staticised, classes_under, has_virtual, concerns, is_subclass, is_plain_call}
+use Rattle.pass_defs.specs.Loose.{new_signature, new_key, static_method, staticised, classes_under, has_rival, concerns, is_subclass, is_plain_call}
 use Rattle.pass_defs.specs.Demands.{is_constructor_name}
 use Rattle.pass_defs.specs.Kinds.{Kind, is_plain, fits}
 use Rattle.pass_defs.specs.Walks.{form_at as form_in}
@@ -119,11 +119,6 @@ pub data SiteKnown (p : NamedProgram) (loose : MethodKey → Bool) (f : Framewor
 
 -- ---- methods that nothing but plain calls reaches
 
--- Another class above one under the method's class has a virtual method of its name and signature: it overrides the method or is
--- overridden by it, or it stands in an interface list, also where it is no interface.
-abbrev pub has_rival : NamedProgram → MethodKey → Bool
-has_rival p k = list_any (λ c. list_any (λ u. not (text_eq u.name k.class) && is_own_under p c.name u.name && has_virtual k u) p.classes) (classes_under p k.class)
-
 -- a virtual method that no object answers by another name, and that the framework calls on none
 pub record IsApart (p : NamedProgram) (k : MethodKey) : Type 0 where
   pub unrivalled : has_rival p k ≡ false
@@ -160,10 +155,6 @@ pub record MayBeStatic (p : NamedProgram) (o : Outer) (methods : List MethodKey)
 abbrev pub MayAllBeStatic : NamedProgram → Outer → List MethodKey → (MethodKey → Bool) → Type 0
 MayAllBeStatic p o methods loose = (k : MethodKey) → loose k ≡ true → MayBeStatic p o methods k
 
--- a loose method that is virtual has no rival
-abbrev pub Unrivalled : NamedProgram → (MethodKey → Bool) → Type 0
-Unrivalled p loose = (k : MethodKey) (m : NamedMethod) → loose k ≡ true → defined_method p k ≡ Some m → is_virtual_method m ≡ true → has_rival p k ≡ false
-
 -- What a program has of its table of methods: its own, those that its calls name, and the kept ones stand there.
 pub record AreInTables (p : NamedProgram) (o : Outer) (methods : List MethodKey) : Type 0 where
   pub defined : (t : Text) (c : NamedClass) (m : NamedMethod) → class_named p t ≡ Some c → In m c.methods → In (key_in c m) methods
@@ -177,10 +168,6 @@ NamesDescribed p = (t : Text) → defines p t ≡ true → is_ok (descriptor_of 
 -- no plain class is the superclass of an interface
 abbrev pub FreeInterfaces : NamedProgram → Type 0
 FreeInterfaces p = (t : Text) (c : NamedClass) → class_named p t ≡ Some c → is_interface c.flags ≡ true → is_plain p c.superclass ≡ false
-
--- interface lists name no plain class
-abbrev pub ListsInterfaces : NamedProgram → Type 0
-ListsInterfaces p = (t : Text) (c : NamedClass) (u : Text) → class_named p t ≡ Some c → In u c.interfaces → is_plain p u ≡ false
 
 -- what fits a class fits the plain classes above it, by superclasses
 abbrev pub FitsUpward : NamedProgram → Type 0

@@ -6,12 +6,12 @@ ghost use Rattle.dalvik_defs.specs.Examples.{a_type, b_type, keeps_m};
 ghost use Rattle.dalvik_defs.specs.Face.{face_of, finds_virtually};
 ghost use Rattle.dalvik_defs.specs.Legal.{is_found, may_reach};
 ghost use Rattle.dalvik_defs.specs.Names.{method_eq, void};
-ghost use Rattle.pass_defs.specs.Loose.{concerns, is_alone, is_plain_call};
+ghost use Rattle.pass_defs.specs.Loose.{concerns, has_rival, is_alone, is_plain_call};
 ghost use Rattle.pass_defs.specs.LooseExamples.{is_q, loose_program, needs_no_receiver};
 ghost use Rattle.pass_defs.specs.Numbered.{tables_of};
 ghost use Rattle.pass_defs.specs.PassExamples.{hides_q, nothing_key};
 ghost use Rattle.static_law.specs.Examples.{lists_plain, d_type, keeps_q, no_rows, found_q};
-ghost use Rattle.static_law.specs.Static.{MayAllBeStatic, edit_by, has_rival};
+ghost use Rattle.static_law.specs.Static.{MayAllBeStatic, edit_by};
 
 /// A virtual call of B's private q finds the public q of A, above B, on an object of B. It doesn't resolve to it, and so would
 /// stay where A's q were made static: it isn't plain, and A's q isn't loose, though it is alone.
@@ -24,9 +24,9 @@ pub fn a_call_may_find_a_method_that_it_does_not_name()
 {}
 
 /// B under A has D in its interface list, which is no interface, and D's q is kept. So the framework may call it on an object
-/// of B, and runs A's q, which isn't kept and is alone. To be alone isn't enough: A's q has a rival.
+/// of B, and runs A's q, which isn't kept. So D's q is a rival of A's, and A's isn't alone.
 pub fn a_listed_class_may_be_a_rival()
-    ensures alone { is_alone lists_plain (nothing_key a_type) ≡ true }
+    ensures alone { is_alone lists_plain (nothing_key a_type) ≡ false }
     ensures reached { may_reach (face_of lists_plain no_rows) keeps_q b_type found_q ≡ true }
     ensures kept { keeps_q.methods (nothing_key d_type) ≡ true }
     ensures free { keeps_q.methods (nothing_key a_type) ≡ false }

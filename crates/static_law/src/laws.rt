@@ -24,7 +24,7 @@ ghost use Rattle.stuck_law.specs.Regular as regular;
 ghost use Rattle.static_law.specs.Receiving.{HoldNoNull};
 ghost use Rattle.static_law.specs.Remade.{remade, Remethod, SameMethods};
 ghost use Rattle.static_law.specs.Renames.{is_invoke, frame_named, effect_named};
-ghost use Rattle.static_law.specs.Static.{AreInTables, FitsUpward, FreeInterfaces, ListsInterfaces, MayAllBeStatic, NamesDescribed, ReceiversReached, Unrivalled};
+ghost use Rattle.static_law.specs.Static.{AreInTables, FitsUpward, FreeInterfaces, MayAllBeStatic, NamesDescribed, ReceiversReached};
 
 /// What a form does in a frame doesn't depend on the frame's method.
 pub fn renamed_law()
@@ -40,31 +40,24 @@ pub fn static_law()
         → ((f : Framework) (a : Floats) (script : List Move) → Fit p o f script → ReceiversReached p loose o f a script) → SameShown p (staticised p loose) o }
 {}
 
-/// Loose methods may be static, where those that are virtual have no rivals.
+/// Loose methods may be static.
 pub fn loose_law()
     ensures { (base : Program) (p : NamedProgram) (o : Outer) (optimise : Bool) (fits : Program → Bool)
         (admitted : MethodKey → Bool) (not_null : MethodKey → ℕ → ℕ → Bool) (loose : MethodKey → Bool)
-        → AreLoose base p o optimise (λ x. fits x ≡ true) admitted (λ k n r. not_null k n r ≡ true) loose → Unrivalled p loose → MayAllBeStatic p o (tables_of base).methods loose }
+        → AreLoose base p o optimise (λ x. fits x ≡ true) admitted (λ k n r. not_null k n r ≡ true) loose → MayAllBeStatic p o (tables_of base).methods loose }
 {}
 
-/// Loose methods have no rivals in a program of which interface lists name no plain class.
-pub fn unrivalled_law()
-    ensures { (base : Program) (p : NamedProgram) (o : Outer) (optimise : Bool) (fits : Program → Bool)
-        (admitted : MethodKey → Bool) (not_null : MethodKey → ℕ → ℕ → Bool) (loose : MethodKey → Bool)
-        → AreLoose base p o optimise (λ x. fits x ≡ true) admitted (λ k n r. not_null k n r ≡ true) loose → regular.IsRegular p → IsAcyclic p → ListsInterfaces p → Unrivalled p loose }
-{}
-
-/// A typed, regular program shows the same in which its loose methods are static, where no virtual one has a rival, if the registers
+/// A typed, regular program shows the same in which its loose methods are static, if the registers
 /// that facts know as not null hold no null in the states that runs reach; and it stays typed.
 pub fn loose_static_law()
     ensures shown { (base : Program) (p : NamedProgram) (o : Outer) (optimise : Bool) (fits : Program → Bool)
         (admitted : MethodKey → Bool) (not_null : MethodKey → ℕ → ℕ → Bool) (loose : MethodKey → Bool)
-        → AreLoose base p o optimise (λ x. fits x ≡ true) admitted (λ k n r. not_null k n r ≡ true) loose → Unrivalled p loose → AreInTables p o (tables_of base).methods
+        → AreLoose base p o optimise (λ x. fits x ≡ true) admitted (λ k n r. not_null k n r ≡ true) loose → AreInTables p o (tables_of base).methods
         → regular.IsRegular p → IsAcyclic p → IsDescribed p → NamesDescribed p → AgreesInside o
         → ((f : Framework) (a : Floats) (script : List Move) → Fit p o f script → HoldNoNull p o (λ k n r. not_null k n r ≡ true) f a script) → SameShown p (staticised p loose) o }
     ensures typed { (base : Program) (p : NamedProgram) (o : Outer) (optimise : Bool) (fits : Program → Bool)
         (admitted : MethodKey → Bool) (not_null : MethodKey → ℕ → ℕ → Bool) (loose : MethodKey → Bool)
-        → AreLoose base p o optimise (λ x. fits x ≡ true) admitted (λ k n r. not_null k n r ≡ true) loose → Unrivalled p loose → AreInTables p o (tables_of base).methods
+        → AreLoose base p o optimise (λ x. fits x ≡ true) admitted (λ k n r. not_null k n r ≡ true) loose → AreInTables p o (tables_of base).methods
         → regular.IsRegular p → IsAcyclic p → IsDescribed p → class_named p object_type ≡ None → IsTyped (staticised p loose) }
 {}
 

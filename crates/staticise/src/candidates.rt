@@ -118,22 +118,23 @@ impl<'a> Judged<'a> {
         Ok(marks)
     }
 
-    /// Whether a class other than this one, above or below it, defines a virtual method with a key.
-    fn is_overriding(&self, class: u32, key: u32) -> bool {
+    /// Whether another class above this one, or above one under it, defines a virtual method with a key.
+    fn has_rival(&self, alloc: Global, class: u32, key: u32) -> Result<bool, AllocError> {
+        let below = self.hierarchy.own_subclasses(alloc, class)?;
         for definer in self.hierarchy.definers_of(key) {
-            let related = *definer != class
-                && (self.hierarchy.is_under(*definer, class)
-                    || self.hierarchy.is_under(class, *definer));
-            if related
+            let above = *definer != class
+                && (self.hierarchy.is_under(class, *definer)
+                    || self.is_any_under(below.as_slice(), *definer));
+            if above
                 && self
                     .hierarchy
                     .own_virtual(self.program, *definer, key)
                     .is_some()
             {
-                return true;
+                return Ok(true);
             }
         }
-        false
+        Ok(false)
     }
 
     /// Whether one of some classes is under another one.
@@ -169,7 +170,7 @@ impl<'a> Judged<'a> {
         if self.hierarchy.is_key_of_object(key) || is_on(outer, class) {
             return Ok(false);
         }
-        if self.is_overriding(class, key) {
+        if self.has_rival(alloc, class, key)? {
             return Ok(false);
         }
         Ok(!self.is_in_interface(alloc, class, key)?)

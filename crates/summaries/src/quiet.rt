@@ -5,10 +5,13 @@
 //! whose class runs no code when it is initialised. Calls that lead back to a method never make it quiet. A method with
 //! code that no run comes to is quiet.
 
-use crate::numbers::{Numbering, behind};
-use dom_frame::Frame;
+ghost use Rattle.std.specs.Prelude.{◌≡◌};
+ghost use Rattle.insn_set.specs.Flow.{targets_of};
+
+use crate::codes::Codes;
+use crate::rows::{NONE, word};
+use dom_frame::{Frame, branch, switch_at, switch_past};
 use domains::{Nullness, Value};
-use fact_graph::{Arrival, Bodies, Code, Edge, NONE, Network, blocks_of, is_reached, word};
 use hierarchy::Hierarchy;
 use program_model::{Class, Insn, InvokeKind, Program};
 use seq::Seq;
@@ -19,7 +22,7 @@ use std::alloc::{AllocError, Global};
 pub(crate) struct Search<'a> {
     pub(crate) program: &'a Program,
     pub(crate) hierarchy: &'a Hierarchy,
-    pub(crate) numbering: Numbering,
+    pub(crate) codes: &'a Codes<'a>,
 }
 
 /// What is known of one body: whether all its own forms are quiet, and the bodies that it calls.
@@ -64,7 +67,7 @@ impl Search<'_> {
     }
 
     /// What a static call asks for.
-    fn call(&self, bodies: &Bodies<'_>, method: u32) -> Demand {
+    fn call(&self, method: u32) -> Demand {
         let Some(found) = self.hierarchy.find_static(self.program, method) else {
             return Demand::Loud;
         };
@@ -76,7 +79,7 @@ impl Search<'_> {
         }
         let code = match self.program.classes.as_slice().get(found.class as usize) {
             Some(class) => match class.methods.as_slice().get(found.place as usize) {
-                Some(callee) => bodies.code_of(callee.name),
+                Some(callee) => self.codes.code_of(callee.name),
                 None => NONE,
             },
             None => NONE,
@@ -89,7 +92,7 @@ impl Search<'_> {
     }
 
     /// What an instruction asks for where its registers are known so far.
-    fn demand(&self, bodies: &Bodies<'_>, frame: &Frame, insn: &Insn) -> Demand {
+    fn demand(&self, frame: &Frame, insn: &Insn) -> Demand {
         match insn {
             Insn::Nop
             | Insn::Move { .. }
@@ -118,7 +121,7 @@ impl Search<'_> {
                 kind: InvokeKind::Static,
                 method,
                 ..
-            } => self.call(bodies, *method),
+            } => self.call(*method),
             _ => Demand::Loud,
         }
     }
@@ -127,14 +130,13 @@ impl Search<'_> {
     fn own(
         &self,
         alloc: Global,
-        bodies: &Bodies<'_>,
         insns: &[Insn],
         frames: &[Option<Frame>],
     ) -> Result<Own, AllocError> {
         let mut calls = Seq::new(alloc);
         for place in 0..insns.len() {
             let demand = match frames.get(place) {
-                Some(Some(frame)) => self.demand(bodies, frame, &insns[place]),
+                Some(Some(frame)) => self.demand(frame, &insns[place]),
                 _ => Demand::Nothing,
             };
             match demand {
@@ -150,48 +152,88 @@ impl Search<'_> {
         }
         Ok(Own { quiet: true, calls })
     }
+}
 
-    /// The place of a node among the blocks and regions of a body, past them where it is none of these.
-    fn place_in(&self, code: &Code<'_>, blocks: usize, node: u32) -> usize {
-        let regions = code.body.regions.len();
-        let first = behind(self.numbering.regions, code.first_region);
-        let all = blocks.saturating_add(regions);
-        if node >= code.first_block && ((node - code.first_block) as usize) < blocks {
-            (node - code.first_block) as usize
-        } else if node >= first && ((node - first) as usize) < regions {
-            blocks.saturating_add((node - first) as usize)
-        } else {
-            all
+/// Adds a way from one position to another.
+fn add_way(from: usize, to: u32, ways: &mut Vec<(usize, usize)>) -> Result<(), AllocError> {
+    ways.push((from, to as usize))?;
+    Ok(())
+}
+
+/// Whether a switch may go on at the next position.
+fn goes_past(alloc: Global, insn: &Insn, targets: &[u32], frame: &Frame) -> Result<bool, AllocError>
+    requires { targets_of insn.now ≡ targets.now }
+{
+    if targets.len() < 4294967296 {
+        Ok(switch_past(alloc, &frame.registers, insn)?.is_some())
+    } else {
+        Ok(true)
+    }
+}
+
+/// Adds the ways that a switch may go to its targets.
+fn add_cases(
+    alloc: Global,
+    from: usize,
+    insn: &Insn,
+    targets: &[u32],
+    frame: &Frame,
+    ways: &mut Vec<(usize, usize)>,
+) -> Result<(), AllocError> {
+    let mut place = 0u32;
+    for target in targets {
+        if switch_at(alloc, &frame.registers, insn, place)?.is_some() {
+            add_way(from, *target, ways)?;
+        }
+        place = place.saturating_add(1);
+    }
+    Ok(())
+}
+
+/// Adds the ways that an instruction may go, but for what it throws.
+fn add_ways(
+    alloc: Global,
+    from: usize,
+    insn: &Insn,
+    frame: &Frame,
+    ways: &mut Vec<(usize, usize)>,
+) -> Result<(), AllocError> {
+    let goes_on = match insn {
+        Insn::Goto { target } => {
+            add_way(from, *target, ways)?;
+            false
+        }
+        Insn::If { target, .. } | Insn::IfZero { target, .. } => {
+            if branch(alloc, &frame.registers, insn, true)?.is_some() {
+                add_way(from, *target, ways)?;
+            }
+            branch(alloc, &frame.registers, insn, false)?.is_some()
+        }
+        Insn::PackedSwitch { targets, .. } | Insn::SparseSwitch { targets, .. } => {
+            add_cases(alloc, from, insn, targets.as_slice(), frame, ways)?;
+            goes_past(alloc, insn, targets.as_slice(), frame)?
+        }
+        _ => insn.continues(),
+    };
+    if goes_on {
+        ways.push((from, from.saturating_add(1)))?;
+    }
+    Ok(())
+}
+
+/// The ways that a run may go among the positions of a body whose own forms are quiet, none of which throws.
+fn ways_of(
+    alloc: Global,
+    insns: &[Insn],
+    frames: &[Option<Frame>],
+) -> Result<Vec<(usize, usize)>, AllocError> {
+    let mut ways = Vec::new(alloc);
+    for place in 0..insns.len() {
+        if let Some(Some(frame)) = frames.get(place) {
+            add_ways(alloc, place, &insns[place], frame, &mut ways)?;
         }
     }
-
-    /// The edges among the blocks and regions of a body along which a run may come.
-    fn taken(
-        &self,
-        alloc: Global,
-        network: &Network<'_>,
-        code: &Code<'_>,
-        blocks: usize,
-        edges: &[Edge],
-        states: &[Arrival],
-    ) -> Result<Vec<(usize, usize)>, AllocError> {
-        let all = blocks.saturating_add(code.body.regions.len());
-        let mut taken = Vec::new(alloc);
-        for edge in edges {
-            let from = self.place_in(code, blocks, edge.source);
-            let to = self.place_in(code, blocks, edge.target);
-            if from >= all || to >= all {
-                continue;
-            }
-            if let Some(state) = states.get(edge.source as usize) {
-                let moved = network.moved(alloc, edge.step, state)?;
-                if is_reached(&moved) {
-                    taken.push((from, to))?;
-                }
-            }
-        }
-        Ok(taken)
-    }
+    Ok(ways)
 }
 
 /// Counts one less, and answers whether none is left.
@@ -277,39 +319,22 @@ impl Search<'_> {
     fn judge(
         &self,
         alloc: Global,
-        network: &Network<'_>,
-        bodies: &Bodies<'_>,
-        place: usize,
-        states: &[Arrival],
-        frames: &[Seq<Option<Frame>>],
+        insns: &[Insn],
+        frames: &[Option<Frame>],
     ) -> Result<Own, AllocError> {
-        let loud = Own {
-            quiet: false,
-            calls: Seq::new(alloc),
-        };
-        let Some(code) = bodies.codes.as_slice().get(place) else {
-            return Ok(loud);
-        };
-        let Some(own_frames) = frames.get(code.number as usize) else {
-            return Ok(loud);
-        };
-        let own = self.own(
-            alloc,
-            bodies,
-            code.body.insns.as_slice(),
-            own_frames.as_slice(),
-        )?;
+        let own = self.own(alloc, insns, frames)?;
         if !own.quiet {
             return Ok(own);
         }
-        let blocks = blocks_of(bodies, place).len();
-        let edges = network.edges_of(place);
-        let taken = self.taken(alloc, network, code, blocks, edges, states)?;
-        let count = blocks.saturating_add(code.body.regions.len());
-        if is_acyclic(alloc, count, &taken)? {
+        let ways = ways_of(alloc, insns, frames)?;
+        let count = insns.len().saturating_add(1);
+        if is_acyclic(alloc, count, &ways)? {
             Ok(own)
         } else {
-            Ok(loud)
+            Ok(Own {
+                quiet: false,
+                calls: Seq::new(alloc),
+            })
         }
     }
 
@@ -317,14 +342,18 @@ impl Search<'_> {
     fn judge_all(
         &self,
         alloc: Global,
-        network: &Network<'_>,
-        bodies: &Bodies<'_>,
-        states: &[Arrival],
         frames: &[Seq<Option<Frame>>],
     ) -> Result<Vec<Own>, AllocError> {
-        let mut all = Vec::with_capacity(alloc, bodies.codes.len())?;
-        for place in 0..bodies.codes.len() {
-            all.push(self.judge(alloc, network, bodies, place, states, frames)?)?;
+        let mut all = Vec::with_capacity(alloc, self.codes.all.len())?;
+        for code in self.codes.all.as_slice() {
+            let own = match frames.get(code.number as usize) {
+                Some(own) => self.judge(alloc, code.body.insns.as_slice(), own.as_slice())?,
+                None => Own {
+                    quiet: false,
+                    calls: Seq::new(alloc),
+                },
+            };
+            all.push(own)?;
         }
         Ok(all)
     }
@@ -363,8 +392,8 @@ fn open_calls(alloc: Global, all: &[Own]) -> Result<Vec<u32>, AllocError> {
 }
 
 /// Marks the method of a body as quiet.
-fn mark(marks: &mut [bool], bodies: &Bodies<'_>, place: u32) {
-    if let Some(code) = bodies.codes.as_slice().get(place as usize) {
+fn mark(marks: &mut [bool], codes: &Codes<'_>, place: u32) {
+    if let Some(code) = codes.at(place) {
         if let Some(mark) = marks.get_mut(code.number as usize) {
             *mark = true;
         }
@@ -372,9 +401,9 @@ fn mark(marks: &mut [bool], bodies: &Bodies<'_>, place: u32) {
 }
 
 /// Marks the methods of a class that have code which no run comes to.
-fn mark_idle(marks: &mut [bool], bodies: &Bodies<'_>, class: &Class) {
+fn mark_idle(marks: &mut [bool], codes: &Codes<'_>, class: &Class) {
     for method in class.methods.as_slice() {
-        if method.body.is_some() && bodies.code_of(method.name) == NONE {
+        if method.body.is_some() && codes.code_of(method.name) == NONE {
             if let Some(mark) = marks.get_mut(method.name as usize) {
                 *mark = true;
             }
@@ -383,10 +412,10 @@ fn mark_idle(marks: &mut [bool], bodies: &Bodies<'_>, class: &Class) {
 }
 
 /// The methods that have code which no run comes to, by number.
-fn idle(alloc: Global, program: &Program, bodies: &Bodies<'_>) -> Result<Vec<bool>, AllocError> {
+fn idle(alloc: Global, program: &Program, codes: &Codes<'_>) -> Result<Vec<bool>, AllocError> {
     let mut marks = vec![in alloc; false; program.methods.len()]?;
     for class in program.classes.as_slice() {
-        mark_idle(&mut marks, bodies, class);
+        mark_idle(&mut marks, codes, class);
     }
     Ok(marks)
 }
@@ -395,7 +424,7 @@ fn idle(alloc: Global, program: &Program, bodies: &Bodies<'_>) -> Result<Vec<boo
 /// `marks`.
 fn spread(
     alloc: Global,
-    bodies: &Bodies<'_>,
+    codes: &Codes<'_>,
     mut marks: Vec<bool>,
     all: &[Own],
 ) -> Result<Vec<bool>, AllocError> {
@@ -406,7 +435,7 @@ fn spread(
         let Some(place) = waiting.pop() else {
             break;
         };
-        mark(&mut marks, bodies, place);
+        mark(&mut marks, codes, place);
         if let Some(row) = callers.as_slice().get(place as usize) {
             take_away(row.as_slice(), &mut counts, &mut waiting)?;
         }
@@ -419,12 +448,10 @@ impl Search<'_> {
     pub(crate) fn quiet(
         &self,
         alloc: Global,
-        network: &Network<'_>,
-        bodies: &Bodies<'_>,
-        states: &[Arrival],
         frames: &[Seq<Option<Frame>>],
     ) -> Result<Vec<bool>, AllocError> {
-        let all = self.judge_all(alloc, network, bodies, states, frames)?;
-        spread(alloc, bodies, idle(alloc, self.program, bodies)?, &all)
+        let all = self.judge_all(alloc, frames)?;
+        let marks = idle(alloc, self.program, self.codes)?;
+        spread(alloc, self.codes, marks, &all)
     }
 }

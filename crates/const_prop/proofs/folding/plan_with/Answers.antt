@@ -1,8 +1,8 @@
 use Rattle.std.proofs.Common.{ap, ◌∙◌, refl}
 use Rattle.std.proofs.lemmas.Result.{IfOk-weaker}
 use Rattle.dom_frame.specs.declared.classes.Classes.{Classes}
-use Rattle.fact_graph.specs.Moves.{word_of}
-use Rattle.fact_graph.proofs.Places.{known_classes}
+use Rattle.class_places.specs.Words.{word_of}
+use Rattle.class_places.proofs.Places.{known_classes}
 use Rattle.rewrite_pass.specs.Plans.{IsPlan}
 use Rattle.const_prop.specs.Folds.{FoldsWell, IsFoldPlan}
 use Rattle.const_prop.proofs.Judging.{plan_becomes, plan_folds}

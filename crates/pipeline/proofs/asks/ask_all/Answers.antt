@@ -15,5 +15,8 @@ loop-class-preserved g c = record {
   count = c.ask_class.ensures.count ∙ c.loop-class.invariant.count;
 }
 
-pub returns : goal.returns
-returns g c = all_answered (asked_in c.args.live.now) _ c.args.program.now.classes c.loop-class.class-index _ _ _ _ (omega (arith, ap length c.as_slice-class-items.ensures)) c.loop-class.invariant.answered
+pub returns-clause-answered : goal.returns-clause-answered
+returns-clause-answered g c = all_answered (asked_in c.args.live.now) _ c.args.program.now.classes c.loop-class.class-index _ _ _ _ (omega (arith, ap length c.as_slice-class-items.ensures)) c.loop-class.invariant.answered
+
+pub returns-clause-count : goal.returns-clause-count
+returns-clause-count g c = c.loop-class.invariant.count

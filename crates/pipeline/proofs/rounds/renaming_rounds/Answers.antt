@@ -8,6 +8,7 @@ rounds-init c = record {
   rounding = begun c.args.outside.now c.args.admitted.now.methods.items c.args.traced c.in_ok-left.left c.in_ok-left.ensures;
   less = c.in_ok-left.ensures.falls.less;
   plainer = c.in_ok-left.ensures.falls.plainer;
+  nearer = c.in_ok-left.ensures.falls.nearer;
   fewer = c.in_ok-left.ensures.falls.fewer;
 }
 
@@ -18,7 +19,8 @@ rounds-preserved c = record {
       (begun c.args.outside.now c.args.admitted.now.methods.items c.rounds.left.traced c.in_ok-left-2.left c.in_ok-left-2.ensures) (omega arith);
   less = omega (arith, c.in_ok-left-2.ensures.falls.less, c.rounds.invariant.less);
   plainer = λ none. omega (arith, c.in_ok-left-2.ensures.falls.plainer none, c.rounds.invariant.plainer (omega arith));
-  fewer = λ none all. omega (arith, c.in_ok-left-2.ensures.falls.fewer none all, c.rounds.invariant.fewer (omega arith) (omega arith));
+  nearer = λ none all. omega (arith, c.in_ok-left-2.ensures.falls.nearer none all, c.rounds.invariant.nearer (omega arith) (omega arith));
+  fewer = λ none all each. omega (arith, c.in_ok-left-2.ensures.falls.fewer none all each, c.rounds.invariant.fewer (omega arith) (omega arith) (omega arith));
 }
 
 pub rounds-smaller : goal.rounds-smaller

@@ -1,5 +1,6 @@
 use Rattle.std.proofs.Common.{◌≡◌, ◌≤◌, ◌+◌, min}
 use Rattle.const_prop.specs.Measure.{open_forms}
+use Rattle.devirt.specs.Measure.{calls_in}
 use Rattle.moves_law.specs.Measure.{moves_in}
 use Rattle.pipeline.specs.Changes.{bulk_of}
 use Rattle.pipeline.specs.Rounds.{Rounding}
@@ -12,7 +13,8 @@ invariant-rounds l = record {
   rounding : Rounding l.outside l.admitted.methods.items l.fn.traced l.left l.rounds;
   less : bulk_of l.left.traced.program + min l.left.changes.removed 1 ≤ bulk_of l.fn.traced.program;
   plainer : l.left.changes.removed ≡ 0 → open_forms l.left.traced.program + min l.left.changes.folded 1 ≤ open_forms l.fn.traced.program;
-  fewer : l.left.changes.removed ≡ 0 → l.left.changes.folded ≡ 0 → moves_in l.left.traced.program + min l.left.changes.reread 1 ≤ moves_in l.fn.traced.program;
+  nearer : l.left.changes.removed ≡ 0 → l.left.changes.folded ≡ 0 → calls_in l.left.traced.program + min l.left.changes.rebound 1 ≤ calls_in l.fn.traced.program;
+  fewer : l.left.changes.removed ≡ 0 → l.left.changes.folded ≡ 0 → l.left.changes.rebound ≡ 0 → moves_in l.left.traced.program + min l.left.changes.reread 1 ≤ moves_in l.fn.traced.program;
 }
 
 abbrev pub decreases-rounds : goal.decreases-rounds

@@ -9,6 +9,7 @@ rounds-init c = record {
   rounding = c.in_ok-left.ensures.run;
   less = c.in_ok-left.ensures.less;
   plainer = c.in_ok-left.ensures.plainer;
+  nearer = c.in_ok-left.ensures.nearer;
 }
 
 pub rounds-preserved : goal.rounds-preserved
@@ -19,6 +20,7 @@ rounds-preserved c = record {
       c.in_ok-next.ensures.run (omega arith);
   less = omega (arith, c.in_ok-next.ensures.less, c.rounds.invariant.less);
   plainer = λ none. omega (arith, c.in_ok-next.ensures.plainer none, c.rounds.invariant.plainer (omega arith));
+  nearer = λ none all. omega (arith, c.in_ok-next.ensures.nearer none all, c.rounds.invariant.nearer (omega arith) (omega arith));
 }
 
 pub rounds-smaller : goal.rounds-smaller

@@ -1,0 +1,5 @@
+pub mod Bare
+pub mod Compacted
+pub mod Propagated
+pub mod Rebound
+pub mod Sums

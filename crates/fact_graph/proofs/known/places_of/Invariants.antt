@@ -1,5 +1,0 @@
-use Rattle.fact_graph.specs.Known.{ArePlaces}
-use Rattle.fact_graph.proofs.known.places_of.Given as goal
-
-abbrev pub invariant-loop-kind : goal.invariant-loop-kind
-invariant-loop-kind l = ArePlaces l.hierarchy l.kind l.places.items

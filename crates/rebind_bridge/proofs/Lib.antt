@@ -1,0 +1,3 @@
+mod Finding
+mod Calls
+pub mod Named

@@ -1,0 +1,5 @@
+pub mod Formed
+pub mod Planned
+pub mod FormedPrograms
+pub mod Shuts
+pub mod Kept

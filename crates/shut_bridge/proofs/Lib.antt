@@ -1,0 +1,4 @@
+pub mod Saying
+pub mod Passes
+pub mod Rewritten
+pub mod Folded

@@ -1,0 +1,77 @@
+-- Calls of quiet methods: a run enters such a method, shows nothing and changes nothing, and comes back (this project's profile).
+-- Each position of a quiet method has a rank, and each step in the method goes on at a lower one or ends it, so it ends.
+use Rattle.std.specs.Prelude.{◌≡◌, ◌⊎◌, ℕ, ◌+◌, ◌<◌, Bool, true, false, List, ◌∷◌, length, Option, Some, None, slice_get}
+use Rattle.insn_set.specs.declared.ops.InvokeKind.{InvokeKind}
+use Rattle.dalvik_defs.specs.Face.{Bodies}
+use Rattle.dalvik_defs.specs.State.{World, Classes, State, On}
+use Rattle.dalvik_defs.specs.Outcome.{Stays, Enters, Ends}
+use Rattle.dalvik_defs.specs.Stack.{form_at as form_here}
+use Rattle.dalvik_defs.specs.Happens.{Setting}
+use Rattle.dalvik_defs.specs.Step.{step}
+use Rattle.dalvik_defs.specs.declared.state.Value.{Value}
+use Rattle.dalvik_defs.specs.declared.state.Frame.{Frame}
+use Rattle.dalvik_defs.specs.declared.state.Waiting.{Waiting}
+use Rattle.dalvik_defs.specs.declared.state.Waiting.TheVariants.{Method}
+use Rattle.dalvik_defs.specs.declared.names.MethodKey.{MethodKey}
+use Rattle.dalvik_defs.specs.declared.forms.Form.{Form}
+use Rattle.dalvik_defs.specs.declared.forms.Form.TheVariants as form
+use Rattle.dalvik_defs.specs.declared.script.Move.{Move}
+use Rattle.dalvik_defs.specs.declared.program.NamedBody.{NamedBody}
+use Rattle.dalvik_defs.specs.declared.program.NamedProgram.{NamedProgram}
+use Rattle.dalvik_defs.proofs.Frames.{now}
+use Rattle.pass_defs.specs.Quiet.{takes_result}
+use Rattle.pass_defs.specs.Thinned.{Fate, stays}
+use Rattle.pass_defs.specs.Walks.{form_at, IsReached}
+use Rattle.silence_law.specs.Results.{TakesInPlace}
+use Rattle.thin_law.specs.Cleaning.{IsDropped}
+
+-- how far a position of a method is from the method's end, at most
+abbrev pub Rank : Type 0
+Rank = MethodKey → ℕ → ℕ
+
+-- a call that enters a quiet method with code for as many values
+pub record EntersQuietly (s : Setting) (find : Bodies) (quiet : MethodKey → Bool) (w : World) (c : Classes) (f : Frame) : Type 0 where
+  pub kind : InvokeKind
+  pub named : MethodKey
+  pub args : List ℕ
+  pub call : form_here find f ≡ Some (form.Invoke kind named args)
+  pub method : MethodKey
+  pub values : List Value
+  pub body : NamedBody
+  pub enters : now s find w c f ≡ Enters method values
+  pub found : find method ≡ Some body
+  pub takes : length values ≡ body.ins
+  pub is_quiet : quiet method ≡ true
+
+-- what a step in a quiet method does
+pub data Advances (s : Setting) (find : Bodies) (quiet : MethodKey → Bool) (rank : Rank) (w : World) (c : Classes) (f : Frame) : Type 0 where
+  GoesOn : (g : Frame) → now s find w c f ≡ Stays w g None → g.method ≡ f.method → rank f.method g.position < rank f.method f.position → Advances s find quiet rank w c f
+  CallsOne : (call : EntersQuietly s find quiet w c f) → rank call.method 0 < rank f.method f.position → rank f.method (f.position + 1) < rank f.method f.position → Advances s find quiet rank w c f
+  EndsIt : (v : Option Value) → now s find w c f ≡ Ends v → Advances s find quiet rank w c f
+
+-- Which calls go, by method and position.
+abbrev pub Gone : Type 0
+Gone = MethodKey → ℕ → Bool
+
+-- What is known in the states that a run reaches: steps in quiet methods advance, and calls that go enter quiet methods.
+pub record QuietRuns (s : Setting) (find : Bodies) (quiet : MethodKey → Bool) (rank : Rank) (gone : Gone) (I : State → Type 0) : Type 0 where
+  pub advances : (w : World) (c : Classes) (f : Frame) (rest : List Waiting) (script : List Move) → I (On w c (Method f ∷ rest) script) → quiet f.method ≡ true → Advances s find quiet rank w c f
+  pub enters : (w : World) (c : Classes) (f : Frame) (rest : List Waiting) (script : List Move) → I (On w c (Method f ∷ rest) script) → gone f.method f.position ≡ true → EntersQuietly s find quiet w c f
+  pub keeps : (t : State) → I t → I (step s find t).0
+
+-- a call that goes, whose result isn't taken
+pub record IsCallGone (gone : ℕ → Bool) (b : NamedBody) (n : ℕ) (x : Form) : Type 0 where
+  pub marked : gone n ≡ true
+  pub kind : InvokeKind
+  pub named : MethodKey
+  pub args : List ℕ
+  pub call : x ≡ form.Invoke kind named args
+  pub untaken : takes_result (form_at b (n + 1)) ≡ false
+
+-- No walk passes the end, results are taken where they are given, and each position that goes or empties is dead code or such a
+-- call.
+pub record IsQuietCleaning (p : NamedProgram) (gone : ℕ → Bool) (fs : List Fate) (b : NamedBody) : Type 0 where
+  pub long : length fs ≡ length b.forms
+  pub within : (n : ℕ) → IsReached b n → n < length b.forms
+  pub in_place : TakesInPlace b
+  pub dropped : (n : ℕ) (x : Form) (f : Fate) → IsReached b n → form_at b n ≡ Some x → slice_get fs n ≡ Some f → stays f ≡ false → IsDropped p b fs n x ⊎ IsCallGone gone b n x

@@ -1,0 +1,30 @@
+//! The law of a program without quiet calls.
+
+ghost use Rattle.std.specs.Prelude.{◌≡◌, Bool, true, List, suc, length};
+ghost use Rattle.dalvik_defs.specs.Face.{face_of, bodies_of};
+ghost use Rattle.dalvik_defs.specs.Outer.{Outer};
+ghost use Rattle.dalvik_defs.specs.Quiet.{quiet_within, calm_opening};
+ghost use Rattle.dalvik_defs.specs.Shown.{Fit, SameShown};
+ghost use Rattle.dalvik_defs.specs.State.{State};
+ghost use Rattle.dalvik_defs.specs.Step.{setting_of};
+ghost use Rattle.dalvik_defs.specs.declared.names.MethodKey.{MethodKey};
+ghost use Rattle.dalvik_defs.specs.declared.program.NamedProgram.{NamedProgram};
+ghost use Rattle.dalvik_defs.specs.declared.script.Move.{Move};
+ghost use Rattle.dalvik_defs.specs.declared.tables.Floats.{Floats};
+ghost use Rattle.dalvik_defs.specs.declared.tables.Framework.{Framework};
+ghost use Rattle.bodies_law.specs.Others.{OtherBodies};
+ghost use Rattle.thin_law.specs.Cleaning.{IsSound};
+ghost use Rattle.thin_law.specs.Thins.{Thins};
+ghost use Rattle.quiet_law.specs.Calls.{Rank, Gone, QuietRuns, IsQuietCleaning};
+
+/// A program shows the same without calls that enter quiet methods and whose results nobody takes, and without dead code,
+/// where a test that a run keeps from its opening on, with trivially initialised classes done, says that steps in quiet methods
+/// advance and that these calls enter quiet methods.
+pub fn quiet_law()
+    ensures { (p q : NamedProgram) (o : Outer) (gone : Gone) (quiet : MethodKey → Bool) (rank : Rank) (reached : Framework → Floats → List Move → State → Bool)
+        → IsSound p → OtherBodies (Thins (λ k fs b. IsQuietCleaning p (gone k) fs b)) p q
+        → ((f : Framework) (a : Floats) (script : List Move) → Fit p o f script
+        → QuietRuns (setting_of p o f a) (bodies_of p) quiet rank gone (λ t. reached f a script t ≡ true)
+        × (reached f a script (calm_opening (quiet_within (face_of p f) (suc (length p.classes))) script) ≡ true))
+        → SameShown p q o }
+{}

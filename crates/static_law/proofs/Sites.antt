@@ -39,6 +39,7 @@ use Rattle.rename_law.specs.Renames.{finding_of, face_with, searched, CallAlike,
 use Rattle.static_names.specs.Static.{renamed, edit_by, IsOld, key, IsSound, IsUnentered, Stands, SiteKnown, StaysAsItIs, BecomesStatic, made_static}
 use Rattle.remade_law.proofs.Remade.{some_same, framed_same}
 use Rattle.static_names.proofs.LookUps.{some_mapped, method_key, passed_key, new_found, statically_left, statically_moved, virtually_left, super_left}
+use Rattle.static_names.proofs.Called.{Called, at_called, first_called, not_empty, search_called, super_called}
 use Rattle.static_names.proofs.Faces.{face_same}
 use Rattle.static_names.proofs.Bodies.{renamed_loose, unrenamed, renamed_class, renamed_result, bodies_renamed, initialisers_kept}
 use Rattle.removal_law.proofs.Declared.{name_same}

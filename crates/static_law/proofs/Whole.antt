@@ -34,14 +34,14 @@ use Rattle.static_names.proofs.Upright.{names_once, defines_once, stands_up}
 
 -- methods that may be static, where facts know the receivers of calls that resolve to one
 pub known_static : (p : NamedProgram) (o : Outer) (methods : List MethodKey) (not_null : MethodKey → ℕ → ℕ → Type 0) (loose : MethodKey → Bool) → MayAllBeStatic p o methods loose → AreInTables p o methods
-    → KnowsReceivers p loose not_null → IsRegular p → IsAcyclic p → IsDescribed p → NamesDescribed p → AgreesInside o
+    → KnowsReceivers p loose not_null → IsRegular p → reach.IsRegular p → IsDescribed p → NamesDescribed p → AgreesInside o
     → ((f : Framework) (a : Floats) (script : List Move) → Fit p o f script → HoldNoNull p o not_null f a script) → SameShown p (staticised p loose) o
-known_static p o methods not_null loose given in_tables knows regular acyclic described names inside no_null =
-    static_shown p o methods loose given in_tables (stands_up p regular acyclic) described names (defines_once p regular) inside
+known_static p o methods not_null loose given in_tables knows regular upright described names inside no_null =
+    static_shown p o methods loose given in_tables upright described names (defines_once p regular) inside
     (λ f a script fit. receivers_reached p o methods loose given not_null knows regular f a script fit (no_null f a script fit))
 
 module _ (base : Program) (p : NamedProgram) (o : Outer) (optimise : Bool) (fits : Program → Type 0) (admitted : MethodKey → Bool) (not_null : MethodKey → ℕ → ℕ → Type 0) (loose : MethodKey → Bool)
     (given : AreLoose base p o optimise fits admitted not_null loose) (in_tables : AreInTables p o (tables_of base).methods) (regular : IsRegular p) (acyclic : IsAcyclic p) (described : IsDescribed p) where
   pub loose_static : NamesDescribed p → AgreesInside o → ((f : Framework) (a : Floats) (script : List Move) → Fit p o f script → HoldNoNull p o not_null f a script) → SameShown p (staticised p loose) o
   loose_static names inside no_null = known_static p o (tables_of base).methods not_null loose (may_be_static base p o optimise fits admitted not_null loose given) in_tables
-      (knows_receivers base p o optimise fits admitted not_null loose given) regular acyclic described names inside no_null
+      (knows_receivers base p o optimise fits admitted not_null loose given) regular (stands_up p regular acyclic) described names inside no_null

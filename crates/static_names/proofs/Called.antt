@@ -111,7 +111,7 @@ among_called p ts n g f e = verdict_called (Called n g) (lowest p (candidates p 
     by true = repeats_called (Called n g) (candidates_from (length p.classes) p n g ts) (candidates_called (length p.classes) p n g ts)
     by false = tt
 
-search_called : (n : Text) (g : Signature) (o : Option Found) → ((f : Found) → o ≡ Some f → Called n g f) → (f : Found) → search_of o ≡ Finds f → Called n g f
+pub search_called : (n : Text) (g : Signature) (o : Option Found) → ((f : Found) → o ≡ Some f → Called n g f) → (f : Found) → search_of o ≡ Finds f → Called n g f
 search_called n g None h f e = clash false (ap (λ s. elim s as (λ s. Bool) [ Nothing ↦ false | Clash ↦ false | Finds g ↦ true ]) e) refl
 search_called n g (Some x) h f e = h f (ap Some (ap (λ s. elim s as (λ s. Found) [ Nothing ↦ x | Clash ↦ x | Finds g ↦ g ]) e))
 
@@ -127,7 +127,7 @@ above_called : (p : NamedProgram) (class : Text) (k : MethodKey) (f : Found) →
 above_called p class k f e = search_called k.name k.signature (first_method (λ m. true) k.name k.signature (chain_of p (superclass_of p class)))
     (first_called (λ m. true) k.name k.signature (chain_of p (superclass_of p class))) f e
 
-super_called : (p : NamedProgram) (class : Text) (k : MethodKey) (f : Found) → finds_super p class k ≡ Finds f → Called k.name k.signature f
+pub super_called : (p : NamedProgram) (class : Text) (k : MethodKey) (f : Found) → finds_super p class k ≡ Finds f → Called k.name k.signature f
 super_called p class k f e = by (is_037 p.version) e
   where
     choice : Bool → Search → Search → Search

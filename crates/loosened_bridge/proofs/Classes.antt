@@ -44,7 +44,7 @@ use Rattle.loosened_bridge.proofs.Forms.{body_same, inside_table}
 
 -- ---- lists
 
-placed_below : {A : Type 0} (xs : List A) (n : ℕ) (x : A) → slice_get xs n ≡ Some x → n < length xs
+pub placed_below : {A : Type 0} (xs : List A) (n : ℕ) (x : A) → slice_get xs n ≡ Some x → n < length xs
 placed_below [] n x e = none_some x e
 placed_below (y ∷ ys) zero x e = omega arith
 placed_below (y ∷ ys) (suc n) x e = let r = placed_below ys n x e in omega (arith, r)

@@ -1,5 +1,5 @@
 -- What a well-formed program's classes and members hold of annotations, first values and instructions.
-use Rattle.std.proofs.Common.{◌≡◌, ℕ, zero, suc, ◌-◌, Bool, true, List, [], ◌∷◌, Some, Option, refl, sym, ap, ◌∙◌, subst}
+use Rattle.std.proofs.Common.{◌≡◌, ℕ, ◌+◌, ◌-◌, Bool, true, List, [], ◌∷◌, Some, Option, refl, sym, ap, ◌∙◌, subst}
 use Rattle.std.specs.Prelude.{◌&&◌, not, slice_get, length, Contains}
 use Rattle.std.specs.List.{list_all, enumerate_from}
 use Rattle.insn_set.specs.Spelling.{is_encodable}
@@ -99,5 +99,5 @@ module _ (p : Program) where
     where
       each : (n : ℕ) (is : List Insn) → list_all (insn_fits p b) (enumerate_from n is) ≡ true → Each (λ i. numbers_fit i p ≡ true) is
       each n [] h = tt
-      each n (i ∷ is) h = (insn_numbers b (n, i) (and_left (insn_fits p b (n, i)) (list_all (insn_fits p b) (enumerate_from (suc n) is)) h),
-          each (suc n) is (and_right (insn_fits p b (n, i)) (list_all (insn_fits p b) (enumerate_from (suc n) is)) h))
+      each n (i ∷ is) h = (insn_numbers b (n, i) (and_left (insn_fits p b (n, i)) (list_all (insn_fits p b) (enumerate_from (n + 1) is)) h),
+          each (n + 1) is (and_right (insn_fits p b (n, i)) (list_all (insn_fits p b) (enumerate_from (n + 1) is)) h))

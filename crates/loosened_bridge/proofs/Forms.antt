@@ -23,6 +23,7 @@ use Rattle.dalvik_defs.specs.declared.forms.Form.TheVariants as form
 use Rattle.dalvik_defs.specs.declared.names.FieldKey.{FieldKey}
 use Rattle.dalvik_defs.specs.declared.names.MethodKey.{MethodKey}
 use Rattle.dalvik_defs.specs.declared.program.NamedBody.{NamedBody}
+use Rattle.dalvik_defs.specs.declared.program.NamedHandler.{NamedHandler}
 use Rattle.dalvik_defs.specs.declared.program.NamedRegion.{NamedRegion}
 use Rattle.invariant_law.specs.Holds.{Each}
 use Rattle.name_bridge.proofs.Tables.{Sound}
@@ -35,7 +36,7 @@ not_below : (m n : ℕ) → nat_lt m n ≡ false → n ≤ m
 not_below m n e = elim (cases_lt m n) [ inl l ↦ absurd (true≢false (sym (lt-ltb m n l) ∙ e)) | inr g ↦ g ]
 
 -- a number that is made static stands in the table
-inside_table : (given target : ℕ → Option ℕ) (p : Program) → IsPlanned p given target → (t : ℕ) → is_some (given t) ≡ true → t < length p.methods
+pub inside_table : (given target : ℕ → Option ℕ) (p : Program) → IsPlanned p given target → (t : ℕ) → is_some (given t) ≡ true → t < length p.methods
 inside_table given target p planned t g = by (nat_lt t (length p.methods)) refl
   where
     given_some : (o : Option ℕ) → given t ≡ o → is_some o ≡ true → slice_get p.methods t ≡ None → t < length p.methods
@@ -45,6 +46,15 @@ inside_table given target p planned t g = by (nat_lt t (length p.methods)) refl
     by : (b : Bool) → nat_lt t (length p.methods) ≡ b → t < length p.methods
     by true e = below t (length p.methods) e
     by false e = given_some (given t) refl g (slice_get_past p.methods t (not_below t (length p.methods) e))
+
+abbrev body_by : Body → List Form → List NamedRegion → NamedBody
+body_by b fs rs = record { registers = b.registers; ins = b.ins; forms = fs; regions = rs }
+
+abbrev handler_by : (ℕ → Text) → Handler → NamedHandler
+handler_by f h = record { kind = f h.kind; position = h.position }
+
+abbrev region_by : (ℕ → Text) → Region → NamedRegion
+region_by f r = record { first = r.first; end = r.end; handlers = map (handler_by f) r.handlers; rest = r.rest }
 
 module _ (given target : ℕ → Option ℕ) (p q : Program) (s : Sound p) (edited : IsEdited given target p q) (planned : IsPlanned p given target) where
   abbrev loose : MethodKey → Bool
@@ -71,8 +81,8 @@ module _ (given target : ℕ → Option ℕ) (p q : Program) (s : Sound p) (edit
   called_by kind method args o = called_statically (named p) loose o (form.Invoke kind (method_at p method) args)
 
   -- a method that resolves to itself where it is made static
-  call_same : (kind : InvokeKind) (method : ℕ) (args : List ℕ) → form_of q (insn_edited given target (insn.Invoke kind method args)) ≡ called_by kind method args (resolves_method (named p) (method_at p method))
-  call_same kind method args = by (target method) refl
+  call_same : (kind : InvokeKind) (method : ℕ) (args : List ℕ) → method < length p.methods → form_of q (insn_edited given target (insn.Invoke kind method args)) ≡ called_by kind method args (resolves_method (named p) (method_at p method))
+  call_same kind method args low = by (target method) refl
     where
       now : Option ℕ → Form
       now o = form_of q (elim o as (λ o. Insn) [ Some t ↦ insn.Invoke call.Static t args | None ↦ insn.Invoke kind method args ])
@@ -93,13 +103,13 @@ module _ (given target : ℕ → Option ℕ) (p q : Program) (s : Sound p) (edit
           number t g = inside_table given target p planned t g
       by None e = stays (resolves_method (named p) (method_at p method)) refl
         where
+          unloose : (x : Option Found) → resolves_method (named p) (method_at p method) ≡ x → method_at q method ≡ method_at p method
+          unloose x i = method_there method ∙ ap (λ (b : Bool). if b then new_key (method_at p method) else method_at p method) (planned.itself method e)
+
           stays : (x : Option Found) → resolves_method (named p) (method_at p method) ≡ x → form.Invoke kind (method_at q method) args ≡ called_by kind method args x
           stays None i = ap (λ (k : MethodKey). form.Invoke kind k args) (unloose None i)
           stays (Some g) i = ap (λ (k : MethodKey). form.Invoke kind k args) (unloose (Some g) i)
-              ∙ sym (ap (λ (b : Bool). if b then form.Invoke call.Static (new_key g.key) args else form.Invoke kind (method_at p method) args) (planned.others method g e i))
-
-          unloose : (x : Option Found) → resolves_method (named p) (method_at p method) ≡ x → method_at q method ≡ method_at p method
-          unloose x i = method_there method ∙ ap (λ (b : Bool). if b then new_key (method_at p method) else method_at p method) (planned.itself method e)
+              ∙ sym (ap (λ (b : Bool). if b then form.Invoke call.Static (new_key g.key) args else form.Invoke kind (method_at p method) args) (planned.others method g low e i))
 
   insn_same : (i : Insn) → numbers_fit i p ≡ true → form_of q (insn_edited given target i) ≡ wanted i
   unfolding numbers_fit
@@ -135,7 +145,7 @@ module _ (given target : ℕ → Option ℕ) (p q : Program) (s : Sound p) (edit
   insn_same (insn.InstancePut item from on field) h = ap (λ k. form.InstancePut item from on k) (field_there field)
   insn_same (insn.StaticGet item to field) h = ap (λ k. form.StaticGet item to k) (field_there field)
   insn_same (insn.StaticPut item from field) h = ap (λ k. form.StaticPut item from k) (field_there field)
-  insn_same (insn.Invoke kind method args) h = call_same kind method args
+  insn_same (insn.Invoke kind method args) h = call_same kind method args (below method (length p.methods) h)
   insn_same (insn.Unary op to from) h = refl
   insn_same (insn.Binary op to a b) h = refl
   insn_same (insn.Literal op to a value) h = refl
@@ -145,10 +155,10 @@ module _ (given target : ℕ → Option ℕ) (p q : Program) (s : Sound p) (edit
   insns_same (i ∷ is) h = ap (λ f. f ∷ map (form_of q) (map (insn_edited given target) is)) (insn_same i h.0) ∙ ap (λ fs. wanted i ∷ fs) (insns_same is h.1)
 
   region_same : region_of q ≡ region_of p
-  region_same = fun_ext (λ r. ap (λ (f : ℕ → Text). record { first = r.first; end = r.end; handlers = map (λ (h : Handler). record { kind = f h.kind; position = h.position }) r.handlers; rest = r.rest }) (fun_ext type_there))
+  region_same = ap region_by (fun_ext type_there)
 
   -- a body of the program
   pub body_same : (b : Body) → Each (λ i. numbers_fit i p ≡ true) b.insns → body_of q (body_edited given target b) ≡ static_body (named p) loose (body_of p b)
   body_same b h =
-      ap (λ fs. record { registers = b.registers; ins = b.ins; forms = fs; regions = map (region_of q) b.regions }) (insns_same b.insns h)
-      ∙ ap (λ f. record (static_body (named p) loose (body_of p b)) { regions = map f b.regions }) region_same
+      ap (λ fs. body_by b fs (map (region_of q) b.regions)) (insns_same b.insns h)
+      ∙ ap (λ (f : Region → NamedRegion). body_by b (map (λ f. called_statically (named p) loose (resolved (named p) f) f) (map (form_of p) b.insns)) (map f b.regions)) region_same

@@ -6,3 +6,4 @@ pub mod Forms
 pub mod Classes
 pub mod Programs
 pub mod Premises
+pub mod Targets

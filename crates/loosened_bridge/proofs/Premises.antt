@@ -126,12 +126,12 @@ module _ (p : Program) (s : Sound p) where
 
   -- a call of a body names an entry
   in_body : (b : Body) → Each (λ i. numbers_fit i p ≡ true) b.insns → (n : ℕ) (kind : InvokeKind) (k : MethodKey) (args : List ℕ) → form_at (body_of p b) n ≡ Some (form.Invoke kind k args) → In k (tables_of p).methods
+  unfolding numbers_fit
   in_body b fits n kind k args e =
       let i = mapped_at (form_of p) b.insns n (form.Invoke kind k args) e in
       by i.0 (each_at (λ i. numbers_fit i p ≡ true) b.insns n i.0 fits i.1.0) i.1.1
     where
       by : (i : Insn) → numbers_fit i p ≡ true → form_of p i ≡ form.Invoke kind k args → In k (tables_of p).methods
-      unfolding numbers_fit
       by (insn.Invoke kind' method args') h e =
           let m = entry_at p.methods method (below method (length p.methods) h) in
           subst (λ x. In x (tables_of p).methods) (ap (called_key (method_at p method)) e) (named_in method m.0 m.1)

@@ -95,7 +95,7 @@ module _ (given target : ℕ → Option ℕ) (p q : Program) (s : Sound p) (twic
   static c = static_class (named p) loose (named_class p c)
 
   -- the methods of a class in their new order
-  pub new : Remethod
+  abbrev pub new : Remethod
   new c = elim (class_named (named q) c.name) as (λ o. List NamedMethod) [ Some d ↦ d.methods | None ↦ c.methods ]
 
   -- classes with one name stand at one place
@@ -127,8 +127,8 @@ module _ (given target : ℕ → Option ℕ) (p q : Program) (s : Sound p) (twic
   -- the program, with the methods of its classes in their new order
   pub named_now : named q ≡ remade new (staticised (named p) loose)
   named_now =
-      ap (λ v. record { version = v; classes = map (named_class q) q.classes }) edited.version
-      ∙ ap (λ (cs : List NamedClass). record { version = p.version; classes = cs })
+      ap (λ v. record (named q) { version = v }) edited.version
+      ∙ ap (λ (cs : List NamedClass). record (named p) { classes = cs })
       (pairs_map (EditedClass given target) (λ c. class_remade new (static c)) (named_class q) p.classes q.classes edited.classes (λ i c d e f r. class_now i c d e f r)
       ∙ sym (map_thrice (class_remade new) (static_class (named p) loose) (named_class p) p.classes))
 
@@ -139,7 +139,7 @@ module _ (given target : ℕ → Option ℕ) (p q : Program) (s : Sound p) (twic
     pub now : Class
     pub is_old : slice_get p.classes place ≡ Some old
     pub is_now : slice_get q.classes place ≡ Some now
-    pub edited : EditedClass given target old now
+    pub changed : EditedClass given target old now
     pub is : static old ≡ c
 
   at : (t : Text) (c : NamedClass) → class_named (staticised (named p) loose) t ≡ Some c → At c
@@ -147,7 +147,7 @@ module _ (given target : ℕ → Option ℕ) (p q : Program) (s : Sound p) (twic
       let a = image (static_class (named p) loose) (map (named_class p) p.classes) c (contained c (staticised (named p) loose).classes (class_in (staticised (named p) loose) t c e)) in
       let b = mapped_at (named_class p) p.classes a.place a.entry a.is_entry in
       let d = partner (EditedClass given target) p.classes q.classes a.place b.0 edited.classes b.1.0 in
-      record { place = a.place; old = b.0; now = d.0; is_old = b.1.0; is_now = d.1.0; edited = d.1.1; is = ap (static_class (named p) loose) b.1.1 ∙ a.is }
+      record { place = a.place; old = b.0; now = d.0; is_old = b.1.0; is_now = d.1.0; changed = d.1.1; is = ap (static_class (named p) loose) b.1.1 ∙ a.is }
 
   module _ (i : ℕ) (c d : Class) (e : slice_get p.classes i ≡ Some c) (f : slice_get q.classes i ≡ Some d) (now : EditedClass given target c d) where
     -- a method there and here, by number
@@ -168,9 +168,9 @@ module _ (given target : ℕ → Option ℕ) (p q : Program) (s : Sound p) (twic
   same_methods = record {
     to = λ t c e m i. let a = at t c e in
         subst (λ (x : NamedClass). In m x.methods) a.is (in_from (static a.old).methods m
-        (from_new a.place a.old a.now a.is_old a.is_now a.edited m (contained m (map (named_method q) a.now.methods)
-        (subst (In m) (ap new (sym a.is) ∙ new_is a.place a.old a.now a.is_old a.is_now a.edited) i))));
+        (from_new a.place a.old a.now a.is_old a.is_now a.changed m (contained m (map (named_method q) a.now.methods)
+        (subst (In m) (ap new (sym a.is) ∙ new_is a.place a.old a.now a.is_old a.is_now a.changed) i))));
     from = λ t c e m i. let a = at t c e in
-        subst (In m) (sym (ap new (sym a.is) ∙ new_is a.place a.old a.now a.is_old a.is_now a.edited))
-        (in_from (map (named_method q) a.now.methods) m (to_new a.place a.old a.now a.is_old a.is_now a.edited m (contained m (static a.old).methods (subst (λ (x : NamedClass). In m x.methods) (sym a.is) i))));
+        subst (In m) (sym (ap new (sym a.is) ∙ new_is a.place a.old a.now a.is_old a.is_now a.changed))
+        (in_from (map (named_method q) a.now.methods) m (to_new a.place a.old a.now a.is_old a.is_now a.changed m (contained m (static a.old).methods (subst (λ (x : NamedClass). In m x.methods) (sym a.is) i))));
   }

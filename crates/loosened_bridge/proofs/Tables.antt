@@ -34,6 +34,15 @@ method_of p o = elim o as (λ o. MethodKey) [ Some m ↦ record { class = type_a
 abbrev field_of : Program → Option FieldName → FieldKey
 field_of p o = elim o as (λ o. FieldKey) [ Some f ↦ record { class = type_at p f.class; name = text_at p f.name; kind = type_at p f.kind } | None ↦ record { class = []; name = []; kind = [] } ]
 
+abbrev key_by : Text → Text → Signature → MethodKey
+key_by t n g = record { class = t; name = n; signature = g }
+
+abbrev signature_by : List Text → Text → Signature
+signature_by ts t = record { parameters = ts; result = t }
+
+abbrev field_by : Text → Text → Text → FieldKey
+field_by t n k = record { class = t; name = n; kind = k }
+
 module _ (given target : ℕ → Option ℕ) (p q : Program) (s : Sound p) (edited : IsEdited given target p q) where
   pub text_same : (n : ℕ) → n < length p.strings → text_at q n ≡ text_at p n
   text_same n low = let i = entry_at p.strings n low in
@@ -52,15 +61,15 @@ module _ (given target : ℕ → Option ℕ) (p q : Program) (s : Sound p) (edit
   pub signature_same : (n : ℕ) → n < length p.protos → signature_at q n ≡ signature_at p n
   signature_same n low = let i = entry_at p.protos n low in
       ap (signature_of q) (edited.protos n i.0 i.1)
-      ∙ (ap (λ (f : ℕ → Text). record { parameters = map f i.0.parameters; result = f i.0.result }) (fun_ext type_same) ∙ sym (ap (signature_of p) i.1))
+      ∙ (ap (λ (f : ℕ → Text). signature_by (map f i.0.parameters) (f i.0.result)) (fun_ext type_same) ∙ sym (ap (signature_of p) i.1))
 
   pub field_same : (n : ℕ) → field_at q n ≡ field_at p n
   field_same n = ap (λ (fs : List FieldName). field_of q (slice_get fs n)) edited.fields ∙ by (slice_get p.fields n) refl
     where
       by : (o : Option FieldName) → slice_get p.fields n ≡ o → field_of q o ≡ field_of p o
       by None e = refl
-      by (Some f) e = ap (λ (t : ℕ → Text). record { class = t f.class; name = text_at q f.name; kind = t f.kind }) (fun_ext type_same)
-          ∙ ap (λ (u : Text). record { class = type_at p f.class; name = u; kind = type_at p f.kind }) (text_same f.name (field_name p s n f e))
+      by (Some f) e = ap (λ (t : ℕ → Text). field_by (t f.class) (text_at q f.name) (t f.kind)) (fun_ext type_same)
+          ∙ ap (λ (u : Text). field_by (type_at p f.class) u (type_at p f.kind)) (text_same f.name (field_name p s n f e))
 
   -- ---- methods
 
@@ -75,22 +84,22 @@ module _ (given target : ℕ → Option ℕ) (p q : Program) (s : Sound p) (edit
       low = method_proto p s n m e
 
       by : (o : Option ℕ) → given n ≡ o → method_of q (Some (elim o as (λ o. MethodName) [ Some k ↦ record m { proto = k } | None ↦ m ])) ≡ (if is_some o then new_key (method_at p n) else method_at p n)
-      by None g = ap (λ (t : ℕ → Text). record { class = t m.class; name = text_at q m.name; signature = signature_at q m.proto }) (fun_ext type_same)
-          ∙ (ap (λ (u : Text). record { class = type_at p m.class; name = u; signature = signature_at q m.proto }) (text_same m.name (method_name p s n m e))
-          ∙ (ap (λ (g : Signature). record { class = type_at p m.class; name = text_at p m.name; signature = g }) (signature_same m.proto low) ∙ sym (method_is p s n m e)))
+      by None g = ap (λ (t : ℕ → Text). key_by (t m.class) (text_at q m.name) (signature_at q m.proto)) (fun_ext type_same)
+          ∙ (ap (λ (u : Text). key_by (type_at p m.class) u (signature_at q m.proto)) (text_same m.name (method_name p s n m e))
+          ∙ (ap (λ (g : Signature). key_by (type_at p m.class) (text_at p m.name) g) (signature_same m.proto low) ∙ sym (method_is p s n m e)))
       by (Some k) g =
           let x = entry_at p.protos m.proto low in
           let new = edited.new n k m x.0 g e x.1 in
-          let signature : signature_at q k ≡ record { parameters = type_at p m.class ∷ map (type_at p) x.0.parameters; result = type_at p x.0.result } =
+          let signature : signature_at q k ≡ signature_by (type_at p m.class ∷ map (type_at p) x.0.parameters) (type_at p x.0.result) =
           ap (signature_of q) new.there
-          ∙ (ap (λ (f : ℕ → Text). record { parameters = map f new.proto.parameters; result = f new.proto.result }) (fun_ext type_same)
-          ∙ (ap (λ (ns : List ℕ). record { parameters = map (type_at p) ns; result = type_at p new.proto.result }) new.parameters
-          ∙ ap (λ (r : ℕ). record { parameters = type_at p m.class ∷ map (type_at p) x.0.parameters; result = type_at p r }) new.result)) in
-          let old : signature_at p m.proto ≡ record { parameters = map (type_at p) x.0.parameters; result = type_at p x.0.result } = ap (signature_of p) x.1 in
-          ap (λ (t : ℕ → Text). record { class = t m.class; name = text_at q m.name; signature = signature_at q k }) (fun_ext type_same)
-          ∙ (ap (λ (u : Text). record { class = type_at p m.class; name = u; signature = signature_at q k }) (text_same m.name (method_name p s n m e))
-          ∙ (ap (λ (g : Signature). record { class = type_at p m.class; name = text_at p m.name; signature = g }) signature
-          ∙ (sym (ap (λ (g : Signature). record { class = type_at p m.class; name = text_at p m.name; signature = record g { parameters = type_at p m.class ∷ g.parameters } }) old)
+          ∙ (ap (λ (f : ℕ → Text). signature_by (map f new.proto.parameters) (f new.proto.result)) (fun_ext type_same)
+          ∙ (ap (λ (ns : List ℕ). signature_by (map (type_at p) ns) (type_at p new.proto.result)) new.parameters
+          ∙ ap (λ (r : ℕ). signature_by (type_at p m.class ∷ map (type_at p) x.0.parameters) (type_at p r)) new.result)) in
+          let old : signature_at p m.proto ≡ signature_by (map (type_at p) x.0.parameters) (type_at p x.0.result) = ap (signature_of p) x.1 in
+          ap (λ (t : ℕ → Text). key_by (t m.class) (text_at q m.name) (signature_at q k)) (fun_ext type_same)
+          ∙ (ap (λ (u : Text). key_by (type_at p m.class) u (signature_at q k)) (text_same m.name (method_name p s n m e))
+          ∙ (ap (λ (g : Signature). key_by (type_at p m.class) (text_at p m.name) g) signature
+          ∙ (sym (ap (λ (g : Signature). key_by (type_at p m.class) (text_at p m.name) (signature_by (type_at p m.class ∷ g.parameters) g.result)) old)
           ∙ sym (ap new_key (method_is p s n m e)))))
 
   -- what a method number names
@@ -98,7 +107,7 @@ module _ (given target : ℕ → Option ℕ) (p q : Program) (s : Sound p) (edit
   method_same_at inside n = ap (method_of q) (edited.methods n) ∙ by (slice_get p.methods n) refl
     where
       by : (o : Option MethodName) → slice_get p.methods n ≡ o → method_of q (option_map (name_edited given target n) o) ≡ key_edited n
-      by (Some m) e = ap (λ o. method_of q (option_map (name_edited given target n) o)) refl ∙ entry_same n m e
+      by (Some m) e = entry_same n m e
       by None e = on (given n) refl
         where
           on : (o : Option ℕ) → given n ≡ o → method_of q None ≡ (if is_some o then new_key (method_at p n) else method_at p n)

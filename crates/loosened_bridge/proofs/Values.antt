@@ -35,6 +35,9 @@ use Rattle.loosened_bridge.proofs.Tables.{text_same, type_same, field_same, meth
 abbrev element_of : Program → Element → NamedElement
 element_of p e = fold-Element NamedValue NamedElement NamedNote (value_layer p) (element_layer p) (note_layer p) e
 
+abbrev element_by : Text → NamedValue → NamedElement
+element_by t v = record { name = t; value = v }
+
 -- a layer with what the values, elements and annotations in it name
 abbrev layer_named : Program → EncValue-F EncValue Element Note → EncValue-F NamedValue NamedElement NamedNote
 layer_named p x = folds.map-EncValue EncValue Element Note NamedValue NamedElement NamedNote (value_of p) (element_of p) (note_of p) x
@@ -58,8 +61,8 @@ module _ (given target : ℕ → Option ℕ) (p q : Program) (s : Sound p) (edit
   element_same : (e : Element) → has_string p e.name ≡ true → SameValue e.value → element_of q e ≡ element_of p e
   element_same e h same =
       fold_out-Element NamedValue NamedElement NamedNote (value_layer q) (element_layer q) (note_layer q) e
-      ∙ (ap (λ (t : Text). record { name = t; value = value_of q e.value }) (text_same given target p q s edited e.name (below e.name (length p.strings) h))
-      ∙ (ap (λ (v : NamedValue). record { name = text_at p e.name; value = v }) same
+      ∙ (ap (λ (t : Text). element_by t (value_of q e.value)) (text_same given target p q s edited e.name (below e.name (length p.strings) h))
+      ∙ (ap (λ (v : NamedValue). element_by (text_at p e.name) v) same
       ∙ sym (fold_out-Element NamedValue NamedElement NamedNote (value_layer p) (element_layer p) (note_layer p) e)))
 
   elements_same : (inner : EncValue → Bool) (P : EncValue → Type 0) → ((v : EncValue) → inner v ≡ true → P v → SameValue v) → (es : List Element) → list_all (element_fits inner p) es ≡ true → Each (λ (e : Element). P e.value) es → map (element_of q) es ≡ map (element_of p) es

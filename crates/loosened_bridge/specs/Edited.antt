@@ -1,6 +1,6 @@
 -- A program by number in which methods are static and so are their calls, and what its tables get for that (Dalvik executable
 -- format, "access_flags Definitions", "proto_id_item"; Dalvik bytecode, "invoke-kind").
-use Rattle.std.specs.Prelude.{◌≡◌, ℕ, zero, suc, ◌&&◌, ◌||◌, Bool, true, false, List, [], ◌∷◌, map, length, Option, Some, None, is_some, slice_get, bit_or, Contains}
+use Rattle.std.specs.Prelude.{◌≡◌, ℕ, zero, suc, ◌<◌, ◌&&◌, ◌||◌, Bool, true, false, List, [], ◌∷◌, map, length, Option, Some, None, is_some, slice_get, bit_or, cond, Contains}
 use Rattle.std.specs.List.Sorted.{IsPermutation}
 use Rattle.std.specs.Option.{option_map}
 use Rattle.insn_set.specs.declared.form.Insn.{Insn}
@@ -19,7 +19,10 @@ use Rattle.program_model.specs.declared.value.EncValue.{EncValue, EncValue-F, ou
 use Rattle.program_model.specs.declared.value.EncValue.TheOpen as layer
 use Rattle.program_model.specs.declared.value.Mark.{Mark}
 use Rattle.program_model.specs.declared.value.Note.{Note, out-Note}
+use Rattle.program_model.specs.Lookups as look
 use Rattle.program_model.specs.MemberRules.{is_static}
+use Rattle.program_model.specs.declared.program.MethodAt.{MethodAt}
+use Rattle.class_defs.specs.Finding as finding
 use Rattle.dalvik_defs.specs.Find.{Found, resolves_method}
 use Rattle.dalvik_defs.specs.Names.{method_eq}
 use Rattle.dalvik_defs.specs.Naming.{method_at, named}
@@ -112,13 +115,35 @@ marks_name P ms = Each (λ (m : Mark). note_names P m.note) ms
 pub record LetsClass (given : ℕ → Option ℕ) (c : Class) : Type 0 where
   pub marks : marks_name (λ n. given n ≡ None) c.marks
   pub fields : (f : Field) → Contains c.fields f → marks_name (λ n. given n ≡ None) f.marks
-  pub methods : (m : Method) → Contains c.methods m → marks_name (λ n. given n ≡ None) m.marks × Each (marks_name (λ n. given n ≡ None)) m.parameter_marks
+  pub methods : (m : Method) → Contains c.methods m → (marks_name (λ n. given n ≡ None) m.marks) × (Each (marks_name (λ n. given n ≡ None)) m.parameter_marks)
   pub receivers : (m : Method) → Contains c.methods m → is_some (given m.name) ≡ true → is_static m.flags ≡ false
+
+-- the method made static that a number resolves to
+abbrev pub target_method : (ℕ → Option ℕ) → Option Method → Option ℕ
+target_method given None = None
+target_method given (Some m) = cond (is_some (given m.name)) (Some m.name) None
+
+abbrev pub target_at : Program → (ℕ → Option ℕ) → Option MethodAt → Option ℕ
+target_at p given None = None
+target_at p given (Some at) = target_method given (look.method_at p at)
+
+abbrev pub target_of : Program → (ℕ → Option ℕ) → ℕ → Option ℕ
+target_of p given n = target_at p given (finding.resolves_method p n)
+
+-- the number is that of a method of the program
+pub record IsOwn (p : Program) (n : ℕ) : Type 0 where
+  pub class_place : ℕ
+  pub class : Class
+  pub place : ℕ
+  pub method : Method
+  pub is_class : slice_get p.classes class_place ≡ Some class
+  pub is_method : slice_get class.methods place ≡ Some method
+  pub number : method.name ≡ n
 
 -- What a method number resolves to, where that is made static.
 pub record IsPlanned (p : Program) (given target : ℕ → Option ℕ) : Type 0 where
   pub inside : (n k : ℕ) → given n ≡ Some k → slice_get p.methods n ≡ None → ⊥
-  pub found : (n t : ℕ) → target n ≡ Some t → (g : Found) × (resolves_method (named p) (method_at p n) ≡ Some g) × (g.key ≡ method_at p t) × (is_some (given t) ≡ true)
+  pub found : (n t : ℕ) → target n ≡ Some t → (g : Found) × ((resolves_method (named p) (method_at p n) ≡ Some g) × ((g.key ≡ method_at p t) × (is_some (given t) ≡ true)))
   pub itself : (n : ℕ) → target n ≡ None → is_some (given n) ≡ false
-  pub others : (n : ℕ) (g : Found) → target n ≡ None → resolves_method (named p) (method_at p n) ≡ Some g → loose_in p given g.key ≡ false
+  pub others : (n : ℕ) (g : Found) → n < length p.methods → target n ≡ None → resolves_method (named p) (method_at p n) ≡ Some g → loose_in p given g.key ≡ false
   pub lets : (class : ℕ) (c : Class) → slice_get p.classes class ≡ Some c → LetsClass given c

@@ -105,7 +105,7 @@ module _ (new : Remethod) (p : NamedProgram) (alike : AnswersAlike new p) where
         (ap (λ k. candidates_from k q n g ts) (count new p) ∙ ap (λ f. f ts) (candidates_from_same (length p.classes))))
         ∙ ap (λ under. filter (λ f. f.coded && not (list_any (λ g. not (text_eq g.key.class f.key.class) && under g.key.class f.key.class) (candidates p ts n g))) (candidates p ts n g)) (under_same new p))
 
-  at_same : (t : Text) (k : MethodKey) → finds_at q t k ≡ finds_at p t k
+  pub at_same : (t : Text) (k : MethodKey) → finds_at q t k ≡ finds_at p t k
   at_same t k =
       ap (λ o. elim o as (λ o. Search) [ Some f ↦ Finds f | None ↦ finds_among q (flat_map (λ c. c.interfaces) (chain_of q t)) k.name k.signature ]) (along is_virtual_method k.name k.signature t)
       ∙ ap (λ x. elim (first_method is_virtual_method k.name k.signature (chain_of p t)) as (λ o. Search) [ Some f ↦ Finds f | None ↦ x ])

@@ -51,6 +51,7 @@ use Rattle.loosened_bridge.proofs.Programs.{named_now, new, same_methods}
 use Rattle.static_bridge.specs.Kept.{IsMadeStatic}
 use Rattle.static_bridge.proofs.Graph.{still_grounded, still_once, still_whole}
 use Rattle.static_bridge.proofs.Outers.{outer_same, shuts_alike}
+use Rattle.static_bridge.proofs.Shuts.{shuts_still}
 
 module _ (given target : ℕ → Option ℕ) (p q : Program) (w : is_well_formed p ≡ true) (twice : (class : ℕ) → IsTwice p class → ⊥) (ancestor : (class : ℕ) → IsAncestor p class class → ⊥) (typed : IsTyped (named p))
     (edited : IsEdited given target p q) (planned : IsPlanned p given target) (o : Outside) (given_so : MayAllBeStatic (named p) (outer_of p o) (tables_of p).methods (loose_in p given)) where
@@ -115,6 +116,8 @@ module _ (given target : ℕ → Option ℕ) (p q : Program) (w : is_well_formed
 
     pub made_static_kept : NoSplit p → Each (λ n. given n ≡ None) o.methods → IsMadeStatic o p q
     made_static_kept whole free = record {
+      holds = shuts_still given target p q s edited planned o given_so upright twice tabled (names_once (named p) regular) (told_apart (named p) parameters (defines_once (named p) regular)) tells free
+          (shuts_alike given target p q s edited planned o given_so tabled twice sound (told_apart (named p) parameters (defines_once (named p) regular)));
       typed = typed_now;
       shown = shown_now;
       fewer = λ t d. sym (ap (λ (f : Text → Bool). f t) defines_now) ∙ d;

@@ -20,7 +20,8 @@ use Rattle.removal_law.proofs.Lists.{contained, in_either}
 use Rattle.removal_law.proofs.Trees.{chain_named, class_name}
 use Rattle.silence_law.proofs.Alike.{Alike, typing_moved}
 use Rattle.silence_law.proofs.Heads.{class_case}
-use Rattle.silence_law.proofs.Lists.{flat_mapped, flat_same, map_append}
+use Rattle.silence_law.proofs.Lists.{flat_mapped, flat_same}
+use Rattle.lemmas.proofs.Lists.{map_append}
 use Rattle.silence_law.proofs.Moved.{image}
 use Rattle.remade_law.specs.Remade.{AnswersAlike, Remethod, SameMethods, class_remade, remade}
 use Rattle.remade_law.proofs.Remade.{chain_same, class_same, count, field_same}

@@ -99,5 +99,7 @@ module _ (p : Program) where
     where
       each : (n : ℕ) (is : List Insn) → list_all (insn_fits p b) (enumerate_from n is) ≡ true → Each (λ i. numbers_fit i p ≡ true) is
       each n [] h = tt
-      each n (i ∷ is) h = (insn_numbers b (n, i) (and_left (insn_fits p b (n, i)) (list_all (insn_fits p b) (enumerate_from (n + 1) is)) h),
-          each (n + 1) is (and_right (insn_fits p b (n, i)) (list_all (insn_fits p b) (enumerate_from (n + 1) is)) h))
+      each n (i ∷ is) h = (
+        insn_numbers b (n, i) (and_left (insn_fits p b (n, i)) (list_all (insn_fits p b) (enumerate_from (n + 1) is)) h),
+        each (n + 1) is (and_right (insn_fits p b (n, i)) (list_all (insn_fits p b) (enumerate_from (n + 1) is)) h),
+      )

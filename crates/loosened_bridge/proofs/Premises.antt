@@ -51,11 +51,11 @@ use Rattle.loosened_bridge.proofs.Fitting.{body_of_code, insns_numbers, method_h
 use Rattle.loosened_bridge.proofs.Programs.{in_from, mapped_at}
 
 -- whether a form is a call, and the method that it names
-is_call : Form → Bool
+abbrev is_call : Form → Bool
 is_call (form.Invoke kind k args) = true
 is_call f = false
 
-called_key : MethodKey → Form → MethodKey
+abbrev called_key : MethodKey → Form → MethodKey
 called_key x (form.Invoke kind k args) = k
 called_key x f = x
 

@@ -98,7 +98,6 @@ module _ (given : ℕ → Option ℕ) (p : Program) (s : Sound p) (twice : (clas
   abbrev target : ℕ → Option ℕ
   target = target_of p given
 
-
   found : (n t : ℕ) → target n ≡ Some t → (g : Found) × ((resolves_method (named p) (method_at p n) ≡ Some g) × ((g.key ≡ method_at p t) × (is_some (given t) ≡ true)))
   found n t e = by (finding.resolves_method p n) refl e
     where
@@ -111,8 +110,7 @@ module _ (given : ℕ → Option ℕ) (p : Program) (s : Sound p) (twice : (clas
       at_method at i None j h = none_some t h
       at_method at i (Some m) j h =
           let x = at_place at m j in
-          let c = chosen m (is_some (given m.name)) refl h in
-          (
+          let c = chosen m (is_some (given m.name)) refl h in (
             found_in (named_class p x.class) (named_method p m),
             (
               resolves_by_number p s n (number_in n at i) ∙ (ap (option_and_then (found_at p)) i ∙ found_is at m x),
@@ -156,9 +154,9 @@ module _ (given : ℕ → Option ℕ) (p : Program) (s : Sound p) (twice : (clas
             let key = key_there m.class_place m.class m.is_class m.place m.method m.is_method ∙ ap (method_at p) m.number in
             let low = subst (λ k. k < length p.methods) m.number (number_there m.class_place m.class m.is_class m.place m.method m.is_method) in
             let r = resolves_own (named p) (type_at p m.class.name) (named_class p m.class) (key_in (named_class p m.class) (named_method p m.method)) (named_method p m.method) refl
-                (class_known p s twice m.class_place m.class m.is_class) (method_known p s m.class_place m.class m.is_class m.place m.method m.is_method) in
+            (class_known p s twice m.class_place m.class m.is_class) (method_known p s m.class_place m.class m.is_class m.place m.method m.is_method) in
             let loose = others n (found_in (named_class p m.class) (named_method p m.method)) low e (ap (resolves_method (named p)) (sym key) ∙ r) in
-            sym (sym (ap (loose_in p given) key ∙ (loose_number given p s n low ∙ g)) ∙ loose)
+            sym (ap (loose_in p given) key ∙ (loose_number given p s n low ∙ g)) ∙ loose
 
     pub targets_planned : ((class : ℕ) (c : Class) → slice_get p.classes class ≡ Some c → LetsClass given c) → IsPlanned p given (target_of p given)
     targets_planned lets = record { inside = inside; found = found; itself = itself; others = others; lets = lets }

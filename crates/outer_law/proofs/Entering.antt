@@ -5,9 +5,9 @@ use Rattle.std.specs.Option.{option_map}
 use Rattle.dalvik_defs.specs.Face.{Face, Place, declared_in}
 use Rattle.dalvik_defs.specs.Find.{Found, found_in}
 use Rattle.dalvik_defs.specs.Flags.{is_static, is_virtual}
-use Rattle.dalvik_defs.specs.Gives.{gets, may_give, fits, value_fits, all_fit, may_throw, is_on, throwable_type}
+use Rattle.dalvik_defs.specs.Gives.{gets, may_give, fits, value_fits, all_fit, may_throw, is_on}
 use Rattle.dalvik_defs.specs.Legal.{is_class_initialiser, is_found, answers_kept, calls_back, may_reach, receiver_ok, may_enter_found, may_enter, may_answer, on_fits}
-use Rattle.dalvik_defs.specs.Names.{Text, is_common}
+use Rattle.dalvik_defs.specs.Names.{Text, is_common, throwable_type}
 use Rattle.dalvik_defs.specs.Outer.{Outer}
 use Rattle.dalvik_defs.specs.State.{World, kind_of}
 use Rattle.dalvik_defs.specs.declared.names.FieldKey.{FieldKey}

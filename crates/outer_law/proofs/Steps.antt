@@ -215,10 +215,14 @@ module _ (p q : NamedProgram) (o : Outer) (silent shut : MethodKey → Bool) (al
 
   pub shown_alike : SameShown p q (with_shut o silent shut) → SameShown p q o
   shown_alike same = record {
-    there = λ f a script n fit. let r = same.there f a script n (fit_same f script fit) in
-        (r.0, subst (λ xs. IsPrefixOf xs (shows q o f a script r.0)) (shows_same p o silent shut alike f a script n)
-        (subst (λ ys. IsPrefixOf (shows p (with_shut o silent shut) f a script n) ys) (shows_same q o silent shut alike_q f a script r.0) r.1));
-    back = λ f a script n fit. let r = same.back f a script n (fit_same f script fit) in
-        (r.0, subst (λ xs. IsPrefixOf xs (shows p o f a script r.0)) (shows_same q o silent shut alike_q f a script n)
-        (subst (λ ys. IsPrefixOf (shows q (with_shut o silent shut) f a script n) ys) (shows_same p o silent shut alike f a script r.0) r.1));
+    there = λ f a script n fit. let r = same.there f a script n (fit_same f script fit) in (
+      r.0,
+      subst (λ xs. IsPrefixOf xs (shows q o f a script r.0)) (shows_same p o silent shut alike f a script n)
+          (subst (λ ys. IsPrefixOf (shows p (with_shut o silent shut) f a script n) ys) (shows_same q o silent shut alike_q f a script r.0) r.1),
+    );
+    back = λ f a script n fit. let r = same.back f a script n (fit_same f script fit) in (
+      r.0,
+      subst (λ xs. IsPrefixOf xs (shows p o f a script r.0)) (shows_same q o silent shut alike_q f a script n)
+          (subst (λ ys. IsPrefixOf (shows q (with_shut o silent shut) f a script n) ys) (shows_same p o silent shut alike f a script r.0) r.1),
+    );
   }

@@ -134,7 +134,7 @@ module _ (given target : ℕ → Option ℕ) (p q : Program) (s : Sound p) (edit
             let moved : method_at q n ≡ new_key j = method_same_at given target p q s edited planned.inside n ∙ ap (λ (o : Option ℕ). if is_some o then new_key j else j) e in
             let fresh : same_name k.name k.signature j.name (new_signature j) ≡ false = none_in (λ t. same_name t.name t.signature j.name (new_signature j)) (tables_of p).methods ((given_so j l).new) k in_table in
             let new_not : method_eq (new_key j) k ≡ false = not_equal (new_key j) (λ f. clash (same_name k.name k.signature j.name (new_signature j))
-                (ap (λ (x : MethodKey). same_name x.name x.signature j.name (new_signature j)) (sym f) ∙ name_same j.name (new_signature j)) fresh) in
+            (ap (λ (x : MethodKey). same_name x.name x.signature j.name (new_signature j)) (sym f) ∙ name_same j.name (new_signature j)) fresh) in
             ap (λ x. method_eq x k) moved ∙ (new_not ∙ sym old)
 
     any_tests : (k : MethodKey) → WasThere (named p) loose k → (ns : List ℕ) → methods_in q ns k ≡ methods_in p ns k

@@ -148,4 +148,3 @@ super_called p class k f e = by (is_037 p.version) e
 pub not_empty : (cs : List NamedClass) (t : Text) (c : NamedClass) → find (λ c. text_eq c.name t) cs ≡ Some c → (n : ℕ) × (length cs ≡ suc n)
 not_empty [] t c e = clash false (ap is_some e) refl
 not_empty (d ∷ ds) t c e = (length ds, refl)
-

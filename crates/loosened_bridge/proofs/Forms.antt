@@ -32,7 +32,7 @@ use Rattle.removal_law.proofs.Lists.{clash}
 use Rattle.loosened_bridge.specs.Edited.{IsEdited, IsPlanned, body_edited, insn_edited, loose_in}
 use Rattle.loosened_bridge.proofs.Tables.{text_same, type_same, field_same, method_same_at, loose_number}
 
-not_below : (m n : ℕ) → nat_lt m n ≡ false → n ≤ m
+pub not_below : (m n : ℕ) → nat_lt m n ≡ false → n ≤ m
 not_below m n e = elim (cases_lt m n) [ inl l ↦ absurd (true≢false (sym (lt-ltb m n l) ∙ e)) | inr g ↦ g ]
 
 -- a number that is made static stands in the table

@@ -7,3 +7,4 @@ pub mod Classes
 pub mod Programs
 pub mod Premises
 pub mod Targets
+pub mod Candidates

@@ -49,7 +49,7 @@ resolves_own p t c k m same e i = by (length p.classes) (long p.classes e)
 
 module _ (given : ℕ → Option ℕ) (p : Program) (s : Sound p) (twice : (class : ℕ) → IsTwice p class → ⊥) where
   -- the name of a method at its places
-  key_there : (i : ℕ) (c : Class) (e : slice_get p.classes i ≡ Some c) (j : ℕ) (m : Method) (f : slice_get c.methods j ≡ Some m) → key_in (named_class p c) (named_method p m) ≡ method_at p m.name
+  pub key_there : (i : ℕ) (c : Class) (e : slice_get p.classes i ≡ Some c) (j : ℕ) (m : Method) (f : slice_get c.methods j ≡ Some m) → key_in (named_class p c) (named_method p m) ≡ method_at p m.name
   key_there i c e j m f =
       let fits = (class_parts p s i c e).methods j m f in
       ap (λ (t : Text). record (method_at p m.name) { class = t }) (sym (ap (type_at p) fits.owner))

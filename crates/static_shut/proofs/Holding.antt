@@ -225,7 +225,7 @@ module _ (p : NamedProgram) (o : Outer) (methods : List MethodKey) (loose : Meth
         by (Moved j l s is) h =
             let r = outside_named p loose names new same o methods in_tables sound tells k.name k.signature h in
             clash (same_name r.key.name r.key.signature j.name (new_signature j))
-            (subst (λ (x : MethodKey). same_name r.key.name r.key.signature x.name x.signature ≡ true) is r.same)
+            (subst (λ (x : MethodKey). same_name r.key.name r.key.signature x.name x.signature ≡ true) is r.is_same)
             (none_in (λ t. same_name t.name t.signature j.name (new_signature j)) methods ((given j l).new) r.key r.is_in)
 
     plain : (k : MethodKey) (c : NamedClass) → is_037 p.version ≡ true → shut k ≡ true → class_named left k.class ≡ Some c → is_interface c.flags ≡ false

@@ -134,11 +134,11 @@ module _ (p : NamedProgram) (loose : MethodKey → Bool) (names : NamesOnce p) (
   pub record Names (n : Text) (g : Signature) (methods : List MethodKey) : Type 0 where
     pub key : MethodKey
     pub is_in : In key methods
-    pub same : same_name key.name key.signature n g ≡ true
+    pub is_same : same_name key.name key.signature n g ≡ true
 
   module _ (o : Outer) (methods : List MethodKey) (in_tables : AreInTables p o methods) (sound : IsSound p loose) (tells : TellsApart p) where
     named_in : (test : Form → Bool) (n : Text) (g : Signature) (c : Came test) (kind : InvokeKind) (k : MethodKey) (args : List ℕ) → c.form ≡ form.Invoke kind k args → names_outside p n g (form.Invoke kind k args) ≡ true → Names n g methods
-    named_in test n g c kind k args e h = record { key = k; is_in = in_tables.called (key_in c.class c.method) c.body at.0 kind k args has (at.1 ∙ ap Some e); same = by kind h }
+    named_in test n g c kind k args e h = record { key = k; is_in = in_tables.called (key_in c.class c.method) c.body at.0 kind k args has (at.1 ∙ ap Some e); is_same = by kind h }
       where
         at : (i : ℕ) × (slice_get c.body.forms i ≡ Some c.form)
         at = placed_at c.body.forms c.form c.form_in

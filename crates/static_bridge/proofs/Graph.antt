@@ -138,7 +138,7 @@ module _ (given target : ℕ → Option ℕ) (p q : Program) (s : Sound p) (edit
         fits = (class_parts p s class c is).methods place m there
 
         by : (b : Bool) → is_some (given m.name) ≡ b → WasVirtual class d x name
-        by true g = absurd (true≢false (sym (ap (is_direct q) (sym (ap (edited_by m) g) ∙ same) ∙ virtual) ∙ direct_set (edited_by m true) (static_set m.flags)))
+        by true g = absurd (true≢false (sym (direct_set (edited_by m true) (static_set m.flags)) ∙ (ap (is_direct q) (sym (ap (edited_by m) g) ∙ same) ∙ virtual)))
         by false g =
             let is_x : edited_by m false ≡ x = sym (ap (edited_by m) g) ∙ same in
             let number : x.name ≡ m.name = sym (ap (λ (y : Method). y.name) is_x) in

@@ -41,9 +41,11 @@ pub fn targets_law()
 /// A method that is a candidate by number may be static by name, where nothing overrides it or reaches it in another way than by calls,
 /// and each call that names it or may find it is plain and passes a receiver.
 pub fn candidate_law()
-    ensures { (p : Program) (o : Outside) (n : ℕ) (x : IsCandidate p o n) → is_well_formed p ≡ true → ((class : ℕ) → IsTwice p class → ⊥) → ((t : Text) → defines (named p) t ≡ true → is_class_type t ≡ true)
+    ensures { (p : Program) (o : Outside) (n : ℕ) (x : IsCandidate p o n) → is_well_formed p ≡ true → ((class : ℕ) → IsTwice p class → ⊥)
+        → ((t : Text) → defines (named p) t ≡ true → is_class_type t ≡ true)
         → (is_virtual_method (named_method p x.own.method) ≡ true → IsApart (named p) (method_at p n))
-        → ((caller : MethodKey) (b : NamedBody) (i : ℕ) (kind : InvokeKind) (called : MethodKey) (args : List ℕ) → bodies_of (named p) caller ≡ Some b → form_at b i ≡ Some (form.Invoke kind called args)
+        → ((caller : MethodKey) (b : NamedBody) (i : ℕ) (kind : InvokeKind) (called : MethodKey) (args : List ℕ) → bodies_of (named p) caller ≡ Some b
+        → form_at b i ≡ Some (form.Invoke kind called args)
         → concerns (named p) (method_at p n) caller.class kind called ≡ true → (has_receiver kind args ≡ true) × (is_plain_call (named p) (method_at p n) caller.class kind called ≡ true))
         → MayBeStatic (named p) (outer_of p o) (tables_of p).methods (method_at p n) }
 {}

@@ -36,23 +36,14 @@ use Rattle.removal_law.proofs.Lists.{clash, all_in}
 use Rattle.removal_law.proofs.Levels.{enough_steps}
 use Rattle.lemmas.proofs.Options.{some_same}
 use Rattle.removal_law.proofs.Fits.{fit_names_none}
-use Rattle.static_law.specs.Static.{IsSound, IsUnentered, Stands, AreApart, MayAllBeStatic, AreInTables, NamesDescribed, ReceiversKnown, ReceiversReached}
-use Rattle.static_law.proofs.Given.{defined_in, in_old, sound as sound_names, not_kept}
-use Rattle.static_law.proofs.Told.{static_told}
-use Rattle.static_law.proofs.Declared.{itself}
+use Rattle.static_names.specs.Static.{IsSound, IsUnentered, Stands, AreApart, MayAllBeStatic, AreInTables, NamesDescribed, ReceiversKnown, ReceiversReached}
+use Rattle.static_names.proofs.Given.{defined_in, in_old, sound as sound_names, not_kept}
+use Rattle.static_names.proofs.Told.{static_told}
+use Rattle.static_names.proofs.Declared.{itself}
+use Rattle.static_names.proofs.Upright.{ends_within}
 use Rattle.static_law.proofs.Sites.{staticised_shown}
 use Rattle.static_law.proofs.Known.{site_known}
 use Rattle.static_law.proofs.Reached.{unreached, reached_alike}
-
--- the superclasses of a class end
-pub ends_within : (p : NamedProgram) (n : ℕ) (t : Text) → ends p n t ≡ true → EndsWithin p n t
-ends_within p zero t e = by (class_named p t) refl e
-  where
-    by : (o : Option NamedClass) → class_named p t ≡ o → not (elim o as (λ o. Bool) [ Some c ↦ true | None ↦ false ]) ≡ true → class_named p t ≡ None
-    by None i d = i
-    by (Some c) i d = clash false d refl
-ends_within p (suc n) t e = λ c i. ends_within p n c.superclass (all_in (ends p n) (own_above p t) e c.superclass
-    (subst (In c.superclass) (sym (ap (λ o. elim o as (λ o. List Text) [ Some c ↦ c.superclass ∷ c.interfaces | None ↦ [] ]) i)) (here c.interfaces)))
 
 module _ (p : NamedProgram) (o : Outer) (methods : List MethodKey) (loose : MethodKey → Bool) (given : MayAllBeStatic p o methods loose) (in_tables : AreInTables p o methods)
     (regular : IsRegular p) (described : IsDescribed p) (names : NamesDescribed p) (once : DefinesOnce p) (inside : AgreesInside o) where

@@ -1,0 +1,10 @@
+pub mod Numbers
+pub mod Fitting
+pub mod Tables
+pub mod Values
+pub mod Forms
+pub mod Classes
+pub mod Programs
+pub mod Premises
+pub mod Targets
+pub mod Candidates

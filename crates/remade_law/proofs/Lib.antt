@@ -1,0 +1,3 @@
+pub mod Remade
+pub mod Order
+pub mod Founds

@@ -1,0 +1,5 @@
+pub mod Acts
+pub mod Along
+pub mod Renaming
+pub mod Calls
+pub mod Programs

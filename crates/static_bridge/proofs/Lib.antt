@@ -1,0 +1,4 @@
+pub mod Graph
+pub mod Outers
+pub mod Shuts
+pub mod Whole

@@ -1,5 +1,0 @@
-pub mod Renames
-pub mod Remade
-pub mod Static
-pub mod Receiving
-pub mod Examples

@@ -1,0 +1,10 @@
+pub mod Methods
+pub mod LookUps
+pub mod Faces
+pub mod Bodies
+pub mod Declared
+pub mod Given
+pub mod Told
+pub mod Judged
+pub mod Called
+pub mod Upright

@@ -1,0 +1,3 @@
+pub mod Static
+pub mod Receiving
+pub mod Examples

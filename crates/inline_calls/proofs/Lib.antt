@@ -1,0 +1,10 @@
+mod Accepting
+mod Arguments
+mod Asks
+mod Callees
+mod Candidates
+mod Crowding
+mod Edits
+mod Looking
+mod Receivers
+mod Rooms

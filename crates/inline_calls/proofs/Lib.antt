@@ -1,10 +1,11 @@
-mod Accepting
-mod Arguments
-mod Asks
-mod Callees
-mod Candidates
-mod Crowding
-mod Edits
-mod Looking
-mod Receivers
-mod Rooms
+pub mod Accepting
+pub mod Arguments
+pub mod Asks
+pub mod Callees
+pub mod Candidates
+pub mod Chosen
+pub mod Crowding
+pub mod Edits
+pub mod Looking
+pub mod Receivers
+pub mod Rooms

@@ -1,11 +1,14 @@
 -- Methods that were looked at, one after another: how many calls are inlined, and what stays.
-use Rattle.std.proofs.Common.{◌≡◌, ℕ, zero, suc, ◌+◌, ◌<◌, ◌≤◌, ◌^◌, ◌-◌, min, Bool, List, [], ◌∷◌, ◌++◌, length, get_or, refl, sym, ap, ◌∙◌, subst, arith, ◌⊎◌, inl, inr, Option, Some, None, slice_get}
+use Rattle.std.proofs.Common.{◌≡◌, ℕ, zero, suc, ◌+◌, ◌<◌, ◌≤◌, ◌^◌, ◌-◌, min, Bool, true, List, [], ◌∷◌, ◌++◌, length, get_or, refl, sym, ap, ◌∙◌, subst, arith, ◌⊎◌, inl, inr, Option, Some, None, slice_get}
 use Rattle.std.proofs.lemmas.Bool.{cases_eq}
 use Rattle.std.proofs.lemmas.List.{length_push, get_or_append_left}
 use Rattle.std.proofs.Math.Seq.{get_or-append_seam}
 use Rattle.facts.specs.declared.facts.Facts.{Facts}
 use Rattle.hierarchy.specs.declared.Hierarchy.{Hierarchy}
 use Rattle.program_model.specs.Cells.{capped}
+use Rattle.program_model.specs.ProgramRules.{is_well_formed}
+use Rattle.redex_outside.specs.Voices.{Voice}
+use Rattle.verify.specs.Methods.{TypesAll}
 use Rattle.program_model.specs.declared.pass.Origin.{Origin}
 use Rattle.program_model.specs.declared.program.Class.{Class}
 use Rattle.program_model.specs.declared.program.Method.{Method}
@@ -20,7 +23,7 @@ use Rattle.inline_calls.specs.declared.done.Done.{Done}
 use Rattle.inline_calls.specs.declared.editing.Edit.{Edit}
 use Rattle.splice.specs.Shifted.{word}
 use Rattle.inline_calls.specs.Accepting.{HasTried, IsAccepted}
-use Rattle.inline_calls.specs.Asked.{Row, agreed_count}
+use Rattle.inline_calls.specs.Asked.{Row, Asks, agreed_count}
 use Rattle.inline_calls.specs.Edited.{method_by, each_by, class_by, program_by}
 use Rattle.inline_calls.specs.Plans.{nothing_done, noted, edit_of, IsCallerOf, HasLooked, HasBegun, BeginsAt, LooksAt, Bare, Barred, Looked, HaveLooked, NoneLooked, OneLooked, HaveBegun, Between, Within, LooksAtMethod, BeginsAtMethod, LooksIn, BeginsIn, LooksInClass, BeginsInClass, LooksThrough, BeginsThrough, IsFor, IsPlanned, origins_if, IsInlined, IsBegun, Unbegun, Begins}
 use Rattle.inline_calls.specs.Rooms.{new_of}
@@ -103,6 +106,9 @@ got [] k x lt e = absurd (omega (arith, lt))
 got (y ∷ xs) zero x lt e = ap (λ z. Some z) (sym e)
 got (y ∷ xs) (suc k) x lt e = got xs k x (omega arith) e
 
+pub got_in : {A : Type 0} (xs slice : List A) (k : ℕ) (x : A) → slice ≡ xs → k < length slice → x ≡ get_or slice k x → slice_get xs k ≡ Some x
+got_in xs slice k x e lt is = subst (λ l. slice_get l k ≡ Some x) e (got slice k x lt is)
+
 module _ {A E : Type 0} (looks : ℕ → A → Done → List Row → E → Done → Type 0) (xs : List A) (d : Done) where
   looked_length : (n : ℕ) (rows : List Row) (given : List E) (e : Done) → HaveLooked looks xs d n rows given e → length given ≡ n
   looked_length _ _ _ _ NoneLooked = refl
@@ -122,8 +128,9 @@ module _ {A E : Type 0} (looks : ℕ → A → Done → List Row → E → Done 
       subst (λ (l : List E). HaveLooked looks xs d (n + 1) (rows ++ more) l f) (sym pushed) (OneLooked n x rows more given one e f was at is)
 
   -- all items, where none is left
-  pub all_looked : (n : ℕ) → length xs ≤ n → (rows : List Row) (given : List E) (e : Done) → HaveLooked looks xs d n rows given e → HaveLooked looks xs d (length xs) rows given e
-  all_looked n le rows given e was = subst (λ (k : ℕ). HaveLooked looks xs d k rows given e) (omega (arith, le, looked_within n rows given e was)) was
+  pub all_looked : (n : ℕ) → length xs ≤ n → (given out : List E) (e : Done) → out ≡ given → (rows : List Row) → HaveLooked looks xs d n rows given e → HaveLooked looks xs d (length xs) rows out e
+  all_looked n le given out e is rows was =
+      subst (λ (l : List E). HaveLooked looks xs d (length xs) rows l e) (sym is) (subst (λ (k : ℕ). HaveLooked looks xs d k rows given e) (omega (arith, le, looked_within n rows given e was)) was)
 
   pub all_count : ((k : ℕ) (x : A) (d : Done) (rows : List Row) (one : E) (e : Done) (m : ℕ) → looks k x d rows one e → d.count ≡ capped m → e.count ≡ capped (m + agreed_count rows))
       → (n : ℕ) (rows : List Row) (given : List E) (e : Done) (m : ℕ) → HaveLooked looks xs d n rows given e → d.count ≡ capped m → e.count ≡ capped (m + agreed_count rows)
@@ -219,7 +226,21 @@ module _ (p : Program) (h : Hierarchy) (facts : Facts) (admitted : List Bool) wh
         same = λ z. made ∙ through_none planned.inliner p (nothing_done p) last rows edits planned.looked counted (sym counts ∙ z);
       }
 
--- what is checked of a program in which calls are inlined holds of it also where none is
-pub kept_by : (P : Program → Type 0) (p q : Program) (count : ℕ) → (count ≡ 0 → q ≡ p) → (count ≡ 0) ⊎ P q → P p → P q
-kept_by P p q count same (inl z) was = subst P (sym (same z)) was
-kept_by P p q count same (inr checked) was = checked
+  -- what is checked of a program in which calls are inlined holds of it also where none is
+  pub kept_by : (P : Program → Type 0) (q : Program) (count : ℕ) (origins : List (List Origin)) (olds news : List Voice) (x y : List Bool) → Asks olds news x y (IsInlined p h facts admitted q count origins)
+      → (count ≡ 0) ⊎ P q → P p → P q
+  kept_by P q count origins olds news x y asks (inl z) was = subst P (sym (asks.holds.same z)) was
+  kept_by P q count origins olds news x y asks (inr checked) was = checked
+
+  pub formed_by : (q : Program) (count : ℕ) (origins : List (List Origin)) (olds news : List Voice) (x y : List Bool) → Asks olds news x y (IsInlined p h facts admitted q count origins)
+      → (count ≡ 0) ⊎ (is_well_formed q ≡ true) → is_well_formed p ≡ true → is_well_formed q ≡ true
+  formed_by q count origins olds news x y = kept_by (λ (r : Program). is_well_formed r ≡ true) q count origins olds news x y
+
+  pub typed_by : (q : Program) (count : ℕ) (origins : List (List Origin)) (olds news : List Voice) (x y : List Bool) → Asks olds news x y (IsInlined p h facts admitted q count origins)
+      → (count ≡ 0) ⊎ TypesAll q h → TypesAll p h → TypesAll q h
+  typed_by q count origins olds news x y = kept_by (λ (r : Program). TypesAll r h) q count origins olds news x y
+
+  -- the same with origins that are those
+  pub with_origins : (q : Program) (count : ℕ) (origins all : List (List Origin)) → origins ≡ origins_if count all → (rows : List Row) → IsInlined p h facts admitted q count (origins_if count all) rows
+      → IsInlined p h facts admitted q count origins rows
+  with_origins q count origins all are rows was = subst (λ (o : List (List Origin)). IsInlined p h facts admitted q count o rows) (sym are) was

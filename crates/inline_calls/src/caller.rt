@@ -242,7 +242,8 @@ impl<'p> Inliner<'p> {
             spliced: None,
             count: 0,
         };
-        for position in 0..caller.body.insns.len() {
+        let count = caller.body.insns.len();
+        for position in 0..count {
             accepted = self.try_position(alloc, caller, position, cells, accepted, panel)?;
         }
         Ok(accepted)

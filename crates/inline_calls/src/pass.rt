@@ -2,7 +2,7 @@
 
 ghost use Rattle.std.specs.Prelude.{◌≡◌, ◌⊎◌, ◌≤◌, true, map, vec_len, IfOk, OnOk, OnErr};
 ghost use Rattle.inline_calls.specs.Asked.{Asks};
-ghost use Rattle.inline_calls.specs.Plans.{nothing_done, HasLooked, HasBegun, LooksAt, BeginsAt, LooksIn, BeginsIn, LooksThrough, BeginsThrough, IsPlanned, IsBegun, IsInlined};
+ghost use Rattle.inline_calls.specs.Plans.{nothing_done, HasLooked, HasBegun, LooksAt, BeginsAt, LooksIn, BeginsIn, LooksThrough, BeginsThrough, IsPlanned, IsBegun, IsInlined, origins_if};
 ghost use Rattle.program_model.specs.ProgramRules.{is_well_formed};
 ghost use Rattle.verify.specs.Meeting.{IsMeeting};
 ghost use Rattle.verify.specs.Methods.{TypesAll};
@@ -157,13 +157,14 @@ fn edit_all(
         (map (λ b. (⟦<dyn Adviser as Adviser>⟧ b.vtable).replies b.value) panel.new.advisers.items)
         panel.old.answers.items panel.new.answers.items (IsBegun program.now hierarchy.now facts.now admitted.now done.old)) }
 {
+    let verifier = Verifier::make(alloc, program, hierarchy)?;
     let inliner = Inliner {
         known: Known {
             program,
             hierarchy,
             facts,
         },
-        verifier: Verifier::make(alloc, program, hierarchy)?,
+        verifier,
         numbers: same_numbers(alloc),
         admitted,
     };
@@ -202,6 +203,33 @@ fn check_changed(
     Ok(())
 }
 
+/// The accepted calls inlined in a program, and what was done.
+fn inline_all(
+    alloc: Global,
+    program: &mut Program,
+    hierarchy: &Hierarchy,
+    facts: &Facts,
+    admitted: &[bool],
+    panel: &mut Panel,
+) -> Result<Done, AllocError>
+    ensures inlined { IfOk result (λ done.
+        Asks (map (λ b. (⟦<dyn Adviser as Adviser>⟧ b.vtable).replies b.value) panel.old.advisers.items)
+        (map (λ b. (⟦<dyn Adviser as Adviser>⟧ b.vtable).replies b.value) panel.new.advisers.items)
+        panel.old.answers.items panel.new.answers.items (IsInlined program.old hierarchy.now facts.now admitted.now program.new done.count (origins_if done.count done.origins))) }
+    ensures formed { OnOk result (is_well_formed program.old ≡ true → is_well_formed program.new ≡ true) }
+    ensures typed { OnOk result (TypesAll program.old hierarchy.now → TypesAll program.new hierarchy.now) }
+    ensures begun { OnErr result (
+        Asks (map (λ b. (⟦<dyn Adviser as Adviser>⟧ b.vtable).replies b.value) panel.old.advisers.items)
+        (map (λ b. (⟦<dyn Adviser as Adviser>⟧ b.vtable).replies b.value) panel.new.advisers.items)
+        panel.old.answers.items panel.new.answers.items (IsBegun program.old hierarchy.now facts.now admitted.now (nothing_done program.old))) }
+{
+    let mut done = Done::nothing(alloc, program)?;
+    let rows = edit_all(alloc, program, hierarchy, facts, admitted, &mut done, panel)?;
+    put_program(program, rows.as_slice())?;
+    check_changed(alloc, program, hierarchy, done.count)?;
+    Ok(done)
+}
+
 /// Asks about each site of the admitted methods, in class and method order and by position, and inlines those where every
 /// adviser says yes. `count` is how many these are. `origins` says where the instructions come from, for each method number,
 /// where any call is inlined: an empty list for a method whose positions stay, and in a copy the method that is copied. The
@@ -231,11 +259,8 @@ pub fn apply(
         panel.old.answers.items panel.new.answers.items (IsBegun program hierarchy.now facts.now admitted.now.methods.items (nothing_done program))) }
 {
     let mut program = program;
-    let mut done = Done::nothing(alloc, &program)?;
     let marks = admitted.methods.as_slice();
-    let rows = edit_all(alloc, &program, hierarchy, facts, marks, &mut done, panel)?;
-    put_program(&mut program, rows.as_slice())?;
-    check_changed(alloc, &program, hierarchy, done.count)?;
+    let done = inline_all(alloc, &mut program, hierarchy, facts, marks, panel)?;
     Ok(Changed {
         program,
         count: done.count,

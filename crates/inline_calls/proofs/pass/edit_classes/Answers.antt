@@ -5,7 +5,7 @@ use Rattle.inline_calls.proofs.Looking.{got, none_looked, next_looked, all_looke
 use Rattle.inline_calls.proofs.pass.edit_classes.Goals as goal
 
 pub loop-place-init : goal.loop-place-init
-loop-place-init g c = no_asks _ _ _ (none_looked (LooksInClass c.args.inliner.now) c.args.classes.now c.args.done.now _ c.new.ensures)
+loop-place-init g c = no_asks _ _ _ (none_looked (LooksInClass c.args.inliner.now) c.args.classes.now c.args.done.now _ c.new-rows.ensures.items)
 
 pub loop-place-preserved : goal.loop-place-preserved
 loop-place-preserved g c =
@@ -13,7 +13,7 @@ loop-place-preserved g c =
     let k = c.loop-place.place in
     more_asks _ _ _ _ _ _ _ _ _
     (λ rows more was looks. next_looked (LooksInClass i) c.args.classes.now c.args.done.now k _ c.loop-place.rows.items c.push.new.self.items c.in_ok-row.row.items c.loop-place.done _
-    (got c.args.classes.now k _ c.loop-place-test.true (c.place-item.is)) c.in_ok-push.ensures rows more was
+    (got c.args.classes.now k c.class-item.result c.loop-place-test.true c.class-item.is) c.in_ok-push.ensures.items rows more was
     (in_place i c.word.result k _ c.loop-place.done _ c.in_ok-row.row.items c.word.ensures more looks))
     c.loop-place.invariant c.in_ok-row.ensures.looked
 
@@ -23,7 +23,7 @@ returns-in_err-row-clause-begun g c =
     let k = c.loop-place.place in
     on_err _ (more_asks _ _ _ _ _ _ _ _ _
     (λ rows more was begun. begun_within (LooksInClass i) (BeginsInClass i) c.args.classes.now c.args.done.now k _ c.loop-place.rows.items c.loop-place.done
-    (got c.args.classes.now k _ c.loop-place-test.true (c.place-item.is)) rows more was
+    (got c.args.classes.now k c.class-item.result c.loop-place-test.true c.class-item.is) rows more was
     (begins_in i c.word.result k _ c.loop-place.done c.word.ensures more begun))
     c.loop-place.invariant c.in_err-row.ensures.begun)
 
@@ -33,10 +33,10 @@ returns-in_err-push-clause-begun g c =
     let k = c.loop-place.place in
     on_err _ (more_asks _ _ _ _ _ _ _ _ _
     (λ rows more was looks. begun_between (LooksInClass i) (BeginsInClass i) c.args.classes.now c.args.done.now k _ c.loop-place.rows.items c.in_ok-row.row.items c.loop-place.done _
-    (got c.args.classes.now k _ c.loop-place-test.true (c.place-item.is)) rows more was
+    (got c.args.classes.now k c.class-item.result c.loop-place-test.true c.class-item.is) rows more was
     (in_place i c.word.result k _ c.loop-place.done _ c.in_ok-row.row.items c.word.ensures more looks))
     c.loop-place.invariant c.in_ok-row.ensures.looked)
 
 pub returns-clause-looked : goal.returns-clause-looked
 returns-clause-looked g c =
-    so_asks _ _ _ _ _ _ (λ rows was. all_looked (LooksInClass c.args.inliner.now) c.args.classes.now c.args.done.now c.loop-place.place c.loop-place-test.false rows c.loop-place.rows.items c.loop-place.done was) c.loop-place.invariant
+    so_asks _ _ _ _ _ _ (all_looked (LooksInClass c.args.inliner.now) c.args.classes.now c.args.done.now c.loop-place.place c.loop-place-test.false c.loop-place.rows.items c.of_vec.result c.loop-place.done c.of_vec.ensures) c.loop-place.invariant

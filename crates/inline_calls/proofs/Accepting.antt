@@ -39,6 +39,14 @@ module _ (i : Inliner) (c : Caller) (cells n : ℕ) (y : Callee) (chosen : List 
   some_weighed : (s : Spliced) (rows : List Row) → Weighs i c cells n y chosen rows (Some s) → (s ≡ spliced_by i c chosen) × (agreed_count rows ≡ 1)
   some_weighed _ _ (Agreed row room ask agrees) = (refl, one_agreed row agrees)
 
+-- the same of lists and answers that are the same
+pub with_by : (l old : List (Option Callee)) (n : ℕ) (y : Callee) (new : List (Option Callee)) → l ≡ old → IsWith l n y new → IsWith old n y new
+with_by l old n y new e is = subst (λ (k : List (Option Callee)). IsWith k n y new) e is
+
+pub weighed_by : (i : Inliner) (c : Caller) (cells n : ℕ) (y : Callee) (l new : List (Option Callee)) (s t : Option Spliced) (rows : List Row) → l ≡ new → s ≡ t → Weighs i c cells n y l rows s → Weighs i c cells n y new rows t
+weighed_by i c cells n y l new s t rows e f w =
+    subst (λ (o : Option Spliced). Weighs i c cells n y new rows o) f (subst (λ (k : List (Option Callee)). Weighs i c cells n y k rows s) e w)
+
 -- ---- one position
 
 new_some : (i : Inliner) (c : Caller) (n : ℕ) (chosen : List (Option Callee)) → length chosen ≡ n + 1 → new_of i c chosen ≡ Some (spliced_by i c chosen)

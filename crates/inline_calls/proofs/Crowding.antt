@@ -8,6 +8,10 @@ use Rattle.code_write.specs.Lists.{lists_in, text_in, list_in}
 use Rattle.program_model.specs.Cells.{capped}
 use Rattle.inline_calls.specs.Crowded.{bytes_before}
 
+pub lists_long : (keys : List (Vec ℕ Global)) → length (lists_in keys) ≡ length keys
+lists_long [] = refl
+lists_long (k ∷ keys) = omega (arith, lists_long keys)
+
 -- ---- how long a list is
 
 at_key : (keys : List (Vec ℕ Global)) (i : ℕ) → slice_get (lists_in keys) i ≡ option_map (λ (v : Vec ℕ Global). v.items) (slice_get keys i)

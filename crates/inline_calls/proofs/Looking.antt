@@ -201,11 +201,11 @@ planned_begun p h facts admitted d e edits rows is = Begins is.inliner rows is.f
 -- ---- the program
 
 module _ (p : Program) (h : Hierarchy) (facts : Facts) (admitted : List Bool) where
-  pub planned_by : (i : Inliner) (d e : Done) (edits : List (List (Option Edit))) → IsFor p h facts admitted i → (rows : List Row) → LooksThrough i p.classes d rows edits e → IsPlanned p h facts admitted d e edits rows
-  planned_by i d e edits is rows looked = record { inliner = i; for = is; looked = looked }
+  pub planned_by : (i : Inliner) (d e : Done) (edits : List (List (Option Edit))) → IsFor p h facts admitted i → (cs : List Class) → cs ≡ p.classes → (rows : List Row) → LooksThrough i cs d rows edits e → IsPlanned p h facts admitted d e edits rows
+  planned_by i d e edits is cs same rows looked = record { inliner = i; for = is; looked = subst (λ (l : List Class). LooksThrough i l d rows edits e) same looked }
 
-  pub begun_by : (i : Inliner) (d : Done) → IsFor p h facts admitted i → (rows : List Row) → BeginsThrough i p.classes d rows → IsBegun p h facts admitted d rows
-  begun_by i d is rows begun = Begins i rows is begun
+  pub begun_by : (i : Inliner) (d : Done) → IsFor p h facts admitted i → (cs : List Class) → cs ≡ p.classes → (rows : List Row) → BeginsThrough i cs d rows → IsBegun p h facts admitted d rows
+  begun_by i d is cs same rows begun = Begins i rows is (subst (λ (l : List Class). BeginsThrough i l d rows) same begun)
 
   -- the same of what was done at the beginning
   pub begun_from : (d s : Done) → d ≡ s → (rows : List Row) → IsBegun p h facts admitted d rows → IsBegun p h facts admitted s rows
@@ -241,6 +241,7 @@ module _ (p : Program) (h : Hierarchy) (facts : Facts) (admitted : List Bool) wh
   typed_by q count origins olds news x y = kept_by (λ (r : Program). TypesAll r h) q count origins olds news x y
 
   -- the same with origins that are those
-  pub with_origins : (q : Program) (count : ℕ) (origins all : List (List Origin)) → origins ≡ origins_if count all → (rows : List Row) → IsInlined p h facts admitted q count (origins_if count all) rows
-      → IsInlined p h facts admitted q count origins rows
-  with_origins q count origins all are rows was = subst (λ (o : List (List Origin)). IsInlined p h facts admitted q count o rows) (sym are) was
+  pub with_origins : (marks : List Bool) (q : Program) (count : ℕ) (origins all : List (List Origin)) → marks ≡ admitted → origins ≡ origins_if count all → (rows : List Row)
+      → IsInlined p h facts marks q count (origins_if count all) rows → IsInlined p h facts admitted q count origins rows
+  with_origins marks q count origins all same are rows was =
+      subst (λ (o : List (List Origin)). IsInlined p h facts admitted q count o rows) (sym are) (subst (λ (m : List Bool). IsInlined p h facts m q count (origins_if count all) rows) same was)

@@ -6,12 +6,14 @@ use Rattle.std.proofs.lemmas.Bool.Decides.{nat_tests}
 use Rattle.program_model.specs.declared.body.Body.{Body}
 use Rattle.program_model.specs.declared.pass.Renumber.{Renumber}
 use Rattle.relax.specs.declared.layout.Layout.{Layout}
-use Rattle.relax.specs.Layouts.{IsLaidOut}
+use Rattle.relax.specs.declared.fault.LayFault.{LayFault}
+use Rattle.relax.specs.declared.fault.LayFault.TheVariants as fault
+use Rattle.relax.specs.Layouts.{IsLaidOut, IsLayFault}
 use Rattle.splice.specs.declared.callee.Callee.{Callee}
 use Rattle.splice.specs.declared.spliced.Spliced.{Spliced}
 use Rattle.inline_calls.specs.declared.site.Caller.{Caller}
 use Rattle.inline_calls.specs.declared.caller.Inliner.{Inliner}
-use Rattle.inline_calls.specs.Rooms.{cells_with, fits_lists, IsShort, IsLong, IsOver, IsCrowded, IsTypedWith, IsIllTypedWith, HasRoom, LacksRoom, LacksCells, LacksUnits, LacksTyping, spliced_by, Judges}
+use Rattle.inline_calls.specs.Rooms.{cells_with, fits_lists, IsShort, IsLong, IsFar, IsOver, IsCrowded, IsTypedWith, IsIllTypedWith, HasRoom, LacksRoom, LacksCells, LacksUnits, LacksTyping, spliced_by, Judges}
 
 above : (n m : ℕ) → nat_le n m ≡ false → m < n
 above n m e = grind (arith, nat_tests)
@@ -40,6 +42,10 @@ module _ (numbers : Renumber) (b : Body) (layout : Layout) (is : IsLaidOut numbe
 
   pub is_long_by : t ≡ false → IsLong numbers b
   is_long_by e = long_by (one_of (nat_le layout.size 32000) (fits_lists numbers b layout) (sym has ∙ e))
+
+-- a branch goes too far
+pub far_by : (numbers : Renumber) (b : Body) (x : LayFault) (n : ℕ) → x ≡ fault.FarBranch n → IsLayFault numbers b x → IsLong numbers b
+far_by numbers b x n e is = IsFar n (subst (λ (y : LayFault). IsLayFault numbers b y) e is)
 
 module _ (i : Inliner) (c : Caller) (cells : ℕ) (b : Body) where
   pub lacks_cells : (n : ℕ) (t : Bool) → n ≡ cells_with cells c.body.now b → t ≡ nat_le n 67108864 → t ≡ false → LacksRoom i c cells b

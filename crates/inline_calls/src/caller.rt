@@ -10,6 +10,7 @@ ghost use Rattle.splice.specs.Callees.{chosen_at};
 ghost use Rattle.verify.specs.Meeting.{IsMeeting};
 
 use crate::asking::ask_about;
+use crate::found::insn_at;
 use crate::room::{cells_with, fits_cells, is_short, is_typed};
 use crate::site::{Caller, Known};
 use program_model::{Body, Renumber};
@@ -104,11 +105,8 @@ impl<'p> Inliner<'p> {
             chosen,
         };
         let spliced = plan.spliced(alloc)?;
-        if self.has_room(alloc, caller, cells, &spliced.body)? {
-            Ok(Some(spliced))
-        } else {
-            Ok(None)
-        }
+        let has = self.has_room(alloc, caller, cells, &spliced.body)?;
+        if has { Ok(Some(spliced)) } else { Ok(None) }
     }
 
     /// Asks about a call that may be a site, where the new body has room with it, and answers that body where every adviser
@@ -133,15 +131,13 @@ impl<'p> Inliner<'p> {
             (map (λ b. (⟦<dyn Adviser as Adviser>⟧ b.vtable).replies b.value) panel.new.advisers.items)
             panel.old.answers.items panel.new.answers.items NoAsks) }
     {
-        let spliced = match self.judged(alloc, caller, chosen, cells)? {
+        let judged = self.judged(alloc, caller, chosen, cells)?;
+        let spliced = match judged {
             Some(spliced) => spliced,
             None => return Ok(None),
         };
-        if ask_about(alloc, self.known.program, caller, position, callee, panel)? {
-            Ok(Some(spliced))
-        } else {
-            Ok(None)
-        }
+        let yes = ask_about(alloc, self.known.program, caller, position, callee, panel)?;
+        if yes { Ok(Some(spliced)) } else { Ok(None) }
     }
 
     /// Asks about a call that may be a site, and accepts it where every adviser says yes.
@@ -166,23 +162,19 @@ impl<'p> Inliner<'p> {
             (map (λ b. (⟦<dyn Adviser as Adviser>⟧ b.vtable).replies b.value) panel.new.advisers.items)
             panel.old.answers.items panel.new.answers.items NoAsks) }
     {
-        let chosen = chosen_with(alloc, accepted.chosen.as_slice(), position, callee)?;
-        match self.asked(
-            alloc,
-            caller,
-            position,
-            callee,
-            chosen.as_slice(),
-            cells,
-            panel,
-        )? {
-            Some(spliced) => Ok(Accepted {
-                chosen,
-                spliced: Some(spliced),
-                count: accepted.count.saturating_add(1),
-            }),
-            None => Ok(accepted),
-        }
+        let old = accepted.chosen.as_slice();
+        let chosen = chosen_with(alloc, old, position, callee)?;
+        let new = chosen.as_slice();
+        let asked = self.asked(alloc, caller, position, callee, new, cells, panel)?;
+        let spliced = match asked {
+            Some(spliced) => spliced,
+            None => return Ok(accepted),
+        };
+        Ok(Accepted {
+            chosen,
+            spliced: Some(spliced),
+            count: accepted.count.saturating_add(1),
+        })
     }
 
     /// Asks about the call at a position of a caller, where it is a site.
@@ -205,8 +197,7 @@ impl<'p> Inliner<'p> {
             (map (λ b. (⟦<dyn Adviser as Adviser>⟧ b.vtable).replies b.value) panel.new.advisers.items)
             panel.old.answers.items panel.new.answers.items NoAsks) }
     {
-        let body = caller.body;
-        let insn = match body.insns.as_slice().get(position) {
+        let insn = match insn_at(caller.body, position) {
             Some(insn) => insn,
             None => return Ok(accepted),
         };

@@ -1,11 +1,12 @@
 //! What stands at the places of methods.
 
-ghost use Rattle.std.specs.Prelude.{◌≡◌};
+ghost use Rattle.std.specs.Prelude.{◌≡◌, slice_get};
 ghost use Rattle.std.specs.Option.{option_copied};
 ghost use Rattle.program_model.specs.Lookups.{method_at};
 ghost use Rattle.splice.specs.Shifted.{word};
 
-use program_model::{Method, MethodAt, Program};
+use insn_set::Insn;
+use program_model::{Body, Method, MethodAt, Program};
 
 /// The method at a place.
 pub fn method_at(program: &Program, at: MethodAt) -> Option<&Method>
@@ -15,6 +16,13 @@ pub fn method_at(program: &Program, at: MethodAt) -> Option<&Method>
         Some(class) => class.methods.as_slice().get(at.place as usize),
         None => None,
     }
+}
+
+/// The instruction at a position.
+pub fn insn_at(body: &Body, position: usize) -> Option<&Insn>
+    ensures { option_copied result ≡ slice_get body.now.insns position }
+{
+    body.insns.as_slice().get(position)
 }
 
 /// A length as a number of 32 bits, the greatest one for all above it.

@@ -168,7 +168,8 @@ fn edit_all(
         numbers: same_numbers(alloc),
         admitted,
     };
-    let edits = edit_classes(alloc, &inliner, program.classes.as_slice(), done, panel)?;
+    let classes = program.classes.as_slice();
+    let edits = edit_classes(alloc, &inliner, classes, done, panel)?;
     Ok(edits)
 }
 
@@ -225,7 +226,8 @@ fn inline_all(
 {
     let mut done = Done::nothing(alloc, program)?;
     let rows = edit_all(alloc, program, hierarchy, facts, admitted, &mut done, panel)?;
-    put_program(program, rows.as_slice())?;
+    let edits = rows.as_slice();
+    put_program(program, edits)?;
     check_changed(alloc, program, hierarchy, done.count)?;
     Ok(done)
 }

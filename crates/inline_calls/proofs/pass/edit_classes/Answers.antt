@@ -12,9 +12,9 @@ loop-place-preserved g c =
     let i = c.args.inliner.now in
     let k = c.loop-place.place in
     more_asks _ _ _ _ _ _ _ _ _
-    (λ rows more was looks. next_looked (LooksInClass i) c.args.classes.now c.args.done.now k _ c.loop-place.rows.items c.push.new.self.items c.in_ok-row.row.items c.loop-place.done _
-    (got c.args.classes.now k c.class-item.result c.loop-place-test.true c.class-item.is) c.in_ok-push.ensures.items rows more was
-    (in_place i c.word.result k _ c.loop-place.done _ c.in_ok-row.row.items c.word.ensures more looks))
+    (λ rows more was looks. next_looked (LooksInClass i) c.args.classes.now c.args.done.now k _ c.loop-place.rows.items c.push.new.self.items c.in_ok-row.row c.loop-place.done _
+    (got c.args.classes.now k c.index-classes-place.result c.loop-place-test.true c.index-classes-place.is) c.in_ok-push.ensures.items rows more was
+    (in_place i c.word.result k _ c.loop-place.done _ c.in_ok-row.row c.word.ensures more looks))
     c.loop-place.invariant c.in_ok-row.ensures.looked
 
 pub returns-in_err-row-clause-begun : goal.returns-in_err-row-clause-begun
@@ -23,7 +23,7 @@ returns-in_err-row-clause-begun g c =
     let k = c.loop-place.place in
     on_err _ (more_asks _ _ _ _ _ _ _ _ _
     (λ rows more was begun. begun_within (LooksInClass i) (BeginsInClass i) c.args.classes.now c.args.done.now k _ c.loop-place.rows.items c.loop-place.done
-    (got c.args.classes.now k c.class-item.result c.loop-place-test.true c.class-item.is) rows more was
+    (got c.args.classes.now k c.index-classes-place.result c.loop-place-test.true c.index-classes-place.is) rows more was
     (begins_in i c.word.result k _ c.loop-place.done c.word.ensures more begun))
     c.loop-place.invariant c.in_err-row.ensures.begun)
 
@@ -32,9 +32,9 @@ returns-in_err-push-clause-begun g c =
     let i = c.args.inliner.now in
     let k = c.loop-place.place in
     on_err _ (more_asks _ _ _ _ _ _ _ _ _
-    (λ rows more was looks. begun_between (LooksInClass i) (BeginsInClass i) c.args.classes.now c.args.done.now k _ c.loop-place.rows.items c.in_ok-row.row.items c.loop-place.done _
-    (got c.args.classes.now k c.class-item.result c.loop-place-test.true c.class-item.is) rows more was
-    (in_place i c.word.result k _ c.loop-place.done _ c.in_ok-row.row.items c.word.ensures more looks))
+    (λ rows more was looks. begun_between (LooksInClass i) (BeginsInClass i) c.args.classes.now c.args.done.now k _ c.loop-place.rows.items c.in_ok-row.row c.loop-place.done _
+    (got c.args.classes.now k c.index-classes-place.result c.loop-place-test.true c.index-classes-place.is) rows more was
+    (in_place i c.word.result k _ c.loop-place.done _ c.in_ok-row.row c.word.ensures more looks))
     c.loop-place.invariant c.in_ok-row.ensures.looked)
 
 pub returns-clause-looked : goal.returns-clause-looked

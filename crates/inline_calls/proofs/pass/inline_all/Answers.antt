@@ -1,4 +1,5 @@
 use Rattle.std.proofs.Common.{refl, sym, ap, ◌∙◌}
+use Rattle.inline_calls.specs.Edited.{program_by}
 use Rattle.inline_calls.specs.Plans.{Unbegun}
 use Rattle.inline_calls.proofs.Asks.{no_asks, so_asks, on_err}
 use Rattle.inline_calls.proofs.Looking.{is_inlined, planned_begun, begun_from, formed_by, typed_by}
@@ -21,7 +22,7 @@ returns-in_err-check_changed-clause-begun g c =
 
 pub returns-clause-inlined : goal.returns-clause-inlined
 returns-clause-inlined g c =
-    so_asks _ _ _ _ _ _ (is_inlined c.args.program.now c.args.hierarchy.now c.args.facts.now c.args.admitted.now _ _ _ _ _ _ c.in_ok-done.ensures c.in_ok-put_program.ensures refl refl) c.in_ok-rows.ensures.planned
+    so_asks _ _ _ _ _ _ (is_inlined c.args.program.now c.args.hierarchy.now c.args.facts.now c.args.admitted.now _ _ _ _ _ _ c.in_ok-done.ensures (c.in_ok-put_program.ensures ∙ ap (λ l. program_by l c.args.program.now) c.as_slice-edits.ensures) refl refl) c.in_ok-rows.ensures.planned
 
 pub returns-clause-formed : goal.returns-clause-formed
 returns-clause-formed g c = formed_by c.args.program.now c.args.hierarchy.now c.args.facts.now c.args.admitted.now _ _ _ _ _ _ _ (returns-clause-inlined g c) c.in_ok-check_changed.ensures.formed

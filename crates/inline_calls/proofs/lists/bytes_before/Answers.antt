@@ -1,4 +1,4 @@
-use Rattle.std.proofs.Common.{◌≡◌, ◌+◌, ◌-◌, ◌<◌, ◌≤◌, ◌^◌, min, max, length, arith, refl}
+use Rattle.std.proofs.Common.{◌≡◌, ◌+◌, ◌-◌, ◌<◌, ◌≤◌, ◌^◌, min, max, length, arith, ap}
 use Rattle.code_write.specs.Lists.{lists_in}
 use Rattle.program_model.specs.Cells.{capped}
 use Rattle.inline_calls.specs.Crowded.{bytes_before}
@@ -6,7 +6,10 @@ use Rattle.inline_calls.proofs.Crowding.{bytes_next, bytes_all, lists_long}
 use Rattle.inline_calls.proofs.lists.bytes_before.Goals as goal
 
 pub loop-index-init : goal.loop-index-init
-loop-index-init c = record { small = omega arith; sum = refl }
+loop-index-init c =
+    let bytes = bytes_before 0 (lists_in c.args.known.now.keys) in
+    let e : 0 + bytes ≡ bytes = omega arith in
+    record { small = omega arith; sum = ap capped e }
 
 pub loop-index-preserved : goal.loop-index-preserved
 loop-index-preserved c =

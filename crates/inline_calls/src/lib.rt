@@ -23,10 +23,12 @@ mod caller;
 mod done;
 mod editing;
 mod found;
+mod laws;
 mod lists;
 mod pass;
 mod room;
 mod site;
 mod texts;
 
+pub use laws::candidates_law;
 pub use pass::apply;

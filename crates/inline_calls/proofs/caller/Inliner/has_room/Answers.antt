@@ -1,5 +1,12 @@
+use Rattle.inline_calls.specs.Rooms.{LacksUnits, LacksTyping}
 use Rattle.inline_calls.proofs.Rooms.{has_room_by}
 use Rattle.inline_calls.proofs.caller.Inliner.has_room.Goals as goal
+
+pub returns-then-not-branch-clause-none : goal.returns-then-not-branch-clause-none
+returns-then-not-branch-clause-none c = λ e. LacksUnits (c.in_ok-is_short.ensures.long c.if-not-branch.true)
+
+pub returns-clause-none : goal.returns-clause-none
+returns-clause-none c = λ h. LacksTyping (c.in_ok-typed.ensures.ill h)
 
 pub returns-clause-room : goal.returns-clause-room
 returns-clause-room c = λ h.

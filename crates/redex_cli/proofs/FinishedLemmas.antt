@@ -48,20 +48,23 @@ shrunk program outside before after left rounds spared advisers old new origins 
   one_round = one_round;
 }
 
-pub ruled : (rules : Rules) (library : Option (List ℕ)) (program : Program) (outside : Outside) (text : List ℕ) → IsReading text rules
+-- what was read is found to be this text
+pub ruled : (rules : Rules) (library : Option (List ℕ)) (program : Program) (outside : Outside) (given text : List ℕ) → given ≡ text → IsReading given rules
     → IsTableWith library program outside → IsRuled text library program outside
-ruled rules library program outside text spelled table = record { rules = rules; spelled = spelled; table = table }
+ruled rules library program outside given text same spelled table =
+    record { rules = rules; spelled = subst (λ (bytes : List ℕ). IsReading bytes rules) same spelled; table = table }
 
-pub finished : (program : Program) (outside : Outside) (inputs : Inputs) (output summary : List ℕ) → program_at inputs.file ≡ Ok program
+-- the file is found to have so many bytes
+pub finished : (program : Program) (outside : Outside) (inputs : Inputs) (bytes : ℕ) (output summary : List ℕ) → bytes ≡ length inputs.file → program_at inputs.file ≡ Ok program
     → IsAccepted program → IsRuled inputs.rules inputs.library program outside
-    → Shrunk program outside (sizes_in program (length inputs.file)) output summary → Finished inputs output summary
-finished program outside inputs output summary reads accepted ruled shrunk = record {
+    → Shrunk program outside (sizes_in program bytes) output summary → Finished inputs output summary
+finished program outside inputs bytes output summary same reads accepted ruled shrunk = record {
   program = program;
   reads = reads;
   accepted = accepted;
   outside = outside;
   ruled = ruled;
-  shrunk = shrunk;
+  shrunk = subst (λ (n : ℕ). Shrunk program outside (sizes_in program n) output summary) same shrunk;
 }
 
 pub is_workload : (inputs : Inputs) (output text : List ℕ) → inputs.library ≡ None → Finished inputs output text → IsWorkload text

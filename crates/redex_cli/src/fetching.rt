@@ -73,8 +73,10 @@ pub fn fetch<H: Shelf>(
     ensures limit { IfOk result (λ bytes. length bytes ≤ limit_of (counted_as kind)) }
     ensures there { IfOk result (λ bytes. IsTrue (H.tells shelf.old) → H.held shelf.old name.now ≡ Some bytes) }
     ensures within { OnOk result (IsTrue (H.tells shelf.old) → AllWithin (H.held shelf.old) (record { name = name.now; kind = kind } ∷ [])) }
-    ensures refused { IfErr result (λ status. FetchRefused (H.tells shelf.old) (H.held shelf.old) (H.fetch_faults shelf.old) (H.fetch_faults shelf.new) (record { name = name.now; kind = kind } ∷ []) status) }
-    ensures stays { OnlyFetched (H.tells shelf.old) (H.tells shelf.new) (H.held shelf.old) (H.held shelf.new) (H.fetch_faults shelf.old) (H.fetch_faults shelf.new) (H.put_faults shelf.old) (H.put_faults shelf.new) }
+    ensures refused { IfErr result (λ status. FetchRefused (H.tells shelf.old) (H.held shelf.old) (H.fetch_faults shelf.old) (H.fetch_faults shelf.new)
+        (record { name = name.now; kind = kind } ∷ []) status) }
+    ensures stays { OnlyFetched (H.tells shelf.old) (H.tells shelf.new) (H.held shelf.old) (H.held shelf.new) (H.fetch_faults shelf.old) (H.fetch_faults shelf.new)
+        (H.put_faults shelf.old) (H.put_faults shelf.new) }
 {
     match shelf.fetch(alloc, name.as_str(), kind.counted().limit() as usize) {
         Ok(bytes) => Ok(Seq::of_vec(bytes)),
@@ -97,7 +99,8 @@ fn fetch_pair<H: Shelf>(
     ensures file { IfOk result (λ pair. IsTrue (H.tells shelf.old) → H.held shelf.old input.now ≡ Some pair.1) }
     ensures within { OnOk result (IsTrue (H.tells shelf.old) → AllWithin (H.held shelf.old) (rules_and_file rules.now input.now)) }
     ensures refused { IfErr result (λ status. FetchRefused (H.tells shelf.old) (H.held shelf.old) (H.fetch_faults shelf.old) (H.fetch_faults shelf.new) (rules_and_file rules.now input.now) status) }
-    ensures stays { OnlyFetched (H.tells shelf.old) (H.tells shelf.new) (H.held shelf.old) (H.held shelf.new) (H.fetch_faults shelf.old) (H.fetch_faults shelf.new) (H.put_faults shelf.old) (H.put_faults shelf.new) }
+    ensures stays { OnlyFetched (H.tells shelf.old) (H.tells shelf.new) (H.held shelf.old) (H.held shelf.new) (H.fetch_faults shelf.old) (H.fetch_faults shelf.new)
+        (H.put_faults shelf.old) (H.put_faults shelf.new) }
 {
     let rules = match fetch(alloc, shelf, rules, Kind::Rules) {
         Ok(rules) => rules,
@@ -121,8 +124,10 @@ pub fn fetch_inputs<H: Shelf>(
     ensures limit { IfOk result (λ inputs. length inputs.rules ≤ 1048576) }
     ensures are { IfOk result (AreHeld (H.tells shelf.old) (H.held shelf.old) rules.now input.now library.now) }
     ensures within { OnOk result (IsTrue (H.tells shelf.old) → AllWithin (H.held shelf.old) (input_files rules.now input.now library.now)) }
-    ensures refused { IfErr result (λ status. FetchRefused (H.tells shelf.old) (H.held shelf.old) (H.fetch_faults shelf.old) (H.fetch_faults shelf.new) (input_files rules.now input.now library.now) status) }
-    ensures stays { OnlyFetched (H.tells shelf.old) (H.tells shelf.new) (H.held shelf.old) (H.held shelf.new) (H.fetch_faults shelf.old) (H.fetch_faults shelf.new) (H.put_faults shelf.old) (H.put_faults shelf.new) }
+    ensures refused { IfErr result (λ status. FetchRefused (H.tells shelf.old) (H.held shelf.old) (H.fetch_faults shelf.old) (H.fetch_faults shelf.new)
+        (input_files rules.now input.now library.now) status) }
+    ensures stays { OnlyFetched (H.tells shelf.old) (H.tells shelf.new) (H.held shelf.old) (H.held shelf.new) (H.fetch_faults shelf.old) (H.fetch_faults shelf.new)
+        (H.put_faults shelf.old) (H.put_faults shelf.new) }
 {
     let (rules, file) = match fetch_pair(alloc, shelf, rules, input) {
         Ok(pair) => pair,
@@ -160,8 +165,10 @@ pub fn fetch_trace<H: Shelf>(
     ensures are { IfOk result (λ inputs. AreHeld (H.tells shelf.old) (H.held shelf.old) rules.now input.now library.now inputs.inputs) }
     ensures there { IfOk result (λ inputs. IsTrue (H.tells shelf.old) → H.held shelf.old script.now ≡ Some inputs.script) }
     ensures within { OnOk result (IsTrue (H.tells shelf.old) → AllWithin (H.held shelf.old) (trace_files rules.now input.now library.now script.now)) }
-    ensures refused { IfErr result (λ status. FetchRefused (H.tells shelf.old) (H.held shelf.old) (H.fetch_faults shelf.old) (H.fetch_faults shelf.new) (trace_files rules.now input.now library.now script.now) status) }
-    ensures stays { OnlyFetched (H.tells shelf.old) (H.tells shelf.new) (H.held shelf.old) (H.held shelf.new) (H.fetch_faults shelf.old) (H.fetch_faults shelf.new) (H.put_faults shelf.old) (H.put_faults shelf.new) }
+    ensures refused { IfErr result (λ status. FetchRefused (H.tells shelf.old) (H.held shelf.old) (H.fetch_faults shelf.old) (H.fetch_faults shelf.new)
+        (trace_files rules.now input.now library.now script.now) status) }
+    ensures stays { OnlyFetched (H.tells shelf.old) (H.tells shelf.new) (H.held shelf.old) (H.held shelf.new) (H.fetch_faults shelf.old) (H.fetch_faults shelf.new)
+        (H.put_faults shelf.old) (H.put_faults shelf.new) }
 {
     let inputs = match fetch_inputs(alloc, shelf, rules, input, library) {
         Ok(inputs) => inputs,
@@ -176,7 +183,8 @@ pub fn fetch_trace<H: Shelf>(
 /// Puts an output.
 pub fn put<H: Shelf>(alloc: Global, shelf: &mut H, name: &Word, bytes: &[u8]) -> Result<(), Status>
     ensures put { OnOk result (IsTrue (H.tells shelf.old) → H.held shelf.new name.now ≡ Some bytes.now) }
-    ensures refused { IfErr result (λ status. PutRefused (H.tells shelf.old) (H.put_faults shelf.old name.now) (H.put_faults shelf.new name.now) (H.held shelf.old name.now) (H.held shelf.new name.now) bytes.now status) }
+    ensures refused { IfErr result (λ status. PutRefused (H.tells shelf.old) (H.put_faults shelf.old name.now) (H.put_faults shelf.new name.now) (H.held shelf.old name.now)
+        (H.held shelf.new name.now) bytes.now status) }
     ensures others { IsTrue (H.tells shelf.old) → OthersSame name.now (H.held shelf.old) (H.held shelf.new) }
     ensures tells { H.tells shelf.new ≡ H.tells shelf.old }
     ensures fetch_faults { NoneFell (H.fetch_faults shelf.old) (H.fetch_faults shelf.new) }

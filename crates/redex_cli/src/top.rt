@@ -55,7 +55,8 @@ fn obey<H: Shelf>(
     advisers: Vec<Box<dyn Adviser>>,
 ) -> Result<Vec<u8>, Status>
     ensures given { IfOk result (λ text. GivesFor (map string_bytes words.now) (H.tells shelf.old) (H.held shelf.old) (H.held shelf.new) text.items) }
-    ensures refused { IfErr result (λ status. RefusesFor (map string_bytes words.now) (H.tells shelf.old) (H.held shelf.old) (H.held shelf.new) (H.fetch_faults shelf.old) (H.fetch_faults shelf.new) (H.put_faults shelf.old) (H.put_faults shelf.new) status) }
+    ensures refused { IfErr result (λ status. RefusesFor (map string_bytes words.now) (H.tells shelf.old) (H.held shelf.old) (H.held shelf.new) (H.fetch_faults shelf.old)
+        (H.fetch_faults shelf.new) (H.put_faults shelf.old) (H.put_faults shelf.new) status) }
 {
     let command = match asked(alloc, words) {
         Ok(command) => command,
@@ -113,7 +114,8 @@ fn answer<H: Shelf, N: Notes>(
     notes: &mut N,
     advisers: Vec<Box<dyn Adviser>>,
 ) -> Status
-    ensures { Ends (map string_bytes words.now) (H.tells shelf.old) (H.held shelf.old) (H.held shelf.new) (H.fetch_faults shelf.old) (H.fetch_faults shelf.new) (H.put_faults shelf.old) (H.put_faults shelf.new) (N.tells notes.old) (N.said notes.old) (N.said notes.new) (N.faults notes.old) (N.faults notes.new) result }
+    ensures { Ends (map string_bytes words.now) (H.tells shelf.old) (H.held shelf.old) (H.held shelf.new) (H.fetch_faults shelf.old) (H.fetch_faults shelf.new)
+        (H.put_faults shelf.old) (H.put_faults shelf.new) (N.tells notes.old) (N.said notes.old) (N.said notes.new) (N.faults notes.old) (N.faults notes.new) result }
 {
     match obey(alloc, words, shelf, advisers) {
         Ok(text) => say_result(alloc, notes, text.as_slice()),
@@ -139,7 +141,8 @@ pub fn run<H: Shelf, N: Notes>(
     // bytes in what the first name holds that holds too much, every other `Limit` and each `BadDex` of the reading in
     // what the bytes of the file or of the library give, `BadDex` of the classes or of the types in the program that the
     // file spells.
-    ensures cause { Caused (map string_bytes words.now) (H.tells shelf.old) (H.held shelf.old) (H.fetch_faults shelf.old) (H.fetch_faults shelf.new) (H.put_faults shelf.old) (H.put_faults shelf.new) (N.faults notes.old) (N.faults notes.new) result }
+    ensures cause { Caused (map string_bytes words.now) (H.tells shelf.old) (H.held shelf.old) (H.fetch_faults shelf.old) (H.fetch_faults shelf.new) (H.put_faults shelf.old)
+        (H.put_faults shelf.new) (N.faults notes.old) (N.faults notes.new) result }
 
     // Words that spell no command that is built are `Usage`, and a name that holds too much is its limit.
     ensures unspelled { CommandsNothing (map string_bytes words.now) → EndsUnspelled result }

@@ -35,7 +35,7 @@ use dex_read::{DexFault, read_dex};
 use dex_write::write_dex;
 use hierarchy::{Hierarchy, HierarchyFault};
 use keep_rules::{RuleFault, Rules, outside_of, read_rules};
-use pipeline::{optimise};
+use pipeline::optimise;
 use program_model::{Outside, Program};
 use reach::close;
 use read_laws::programs::reads_well_formed;

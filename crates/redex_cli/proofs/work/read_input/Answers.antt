@@ -1,7 +1,5 @@
 use Rattle.std.proofs.Common.{List, ℕ, subst}
 use Rattle.rule_text.specs.Fault.{IsFault}
-use Rattle.rule_text.specs.ReadEntries.{IsReading}
-use Rattle.redex_cli.proofs.FinishedLemmas.{ruled}
 use Rattle.redex_cli.proofs.work.read_input.Goals as goal
 
 pub returns-in-Err-clause-refused : goal.returns-in-Err-clause-refused

@@ -42,10 +42,16 @@ subject p o f a script accepted =
 pub table_for : (p : Program) (ruled outside : Outside) → IsWithin p ruled → ruled.shut ≡ [] → Closes ruled outside → IsTableFor p outside
 table_for p ruled outside within unshut closes = record { ruled = ruled; within = within; unshut = unshut; closes = closes }
 
-pub table_by : (bytes : List ℕ) (p : Program) (closed outside : Outside) (library : Library) → IsTableFor p closed → library_at bytes ≡ Ok library
+-- and behind a library, whose bytes were found to be these
+pub table_by : (given bytes : List ℕ) (p : Program) (closed outside : Outside) (library : Library) → given ≡ bytes → IsTableFor p closed → library_at given ≡ Ok library
     → IsNarrowed p closed library outside → IsTableBy bytes p outside
-table_by bytes p closed outside library table declares narrowed =
-    record { closed = closed; table = table; library = library; declares = declares; narrowed = narrowed }
+table_by given bytes p closed outside library same table declares narrowed = record {
+  closed = closed;
+  table = table;
+  library = library;
+  declares = subst (λ (bs : List ℕ). library_at bs ≡ Ok library) same declares;
+  narrowed = narrowed;
+}
 
 -- what the machine answers of a run of an accepted program, where the script that it was given is this one
 pub shown : {T E : Type 0} (r : Result T E) (items : T → List Event) (p : Program) (o : Outside) (f : Framework) (a : Floats) (given script : List Move) (n : ℕ)

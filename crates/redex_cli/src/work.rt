@@ -199,7 +199,6 @@ fn closed_outside(
 }
 
 /// The closed table without the methods that the library shuts. The bytes are let go as soon as they are read.
-#[tactic(auto, using(crate::proofs::Traced::table_by))]
 fn narrowed_outside(
     alloc: Global,
     library: Seq<u8>,

@@ -1,5 +1,6 @@
 use Rattle.std.proofs.Common.{List, ℕ, subst}
 use Rattle.rule_text.specs.Fault.{IsFault}
+use Rattle.redex_cli.proofs.FinishedLemmas.{ruled}
 use Rattle.redex_cli.proofs.work.read_input.Goals as goal
 
 pub returns-in-Err-clause-refused : goal.returns-in-Err-clause-refused
@@ -8,3 +9,8 @@ returns-in-Err-clause-refused c = c.rules_status.ensures.refused c.args.inputs
 
 pub returns-in-Err-clause-bytes : goal.returns-in-Err-clause-bytes
 returns-in-Err-clause-bytes c = c.rules_status.ensures.file c.args.inputs
+
+pub returns-in-Ok-table_with-clause-ruled : goal.returns-in-Ok-table_with-clause-ruled
+returns-in-Ok-table_with-clause-ruled c =
+    ruled c.in-Ok.rules c.args.inputs.library c.in-Ok-read_classes.classes.program c.in-Ok-table_with.outside c.as_slice.result.now c.args.inputs.rules
+    c.as_slice.ensures c.in-Ok.ensures.ok c.in-Ok-table_with.ensures.table

@@ -1,6 +1,6 @@
 use Rattle.std.proofs.Common.{List, ℕ, subst}
 use Rattle.rule_text.specs.Fault.{IsFault}
-use Rattle.redex_cli.proofs.FinishedLemmas.{ruled}
+use Rattle.redex_cli.proofs.FinishedLemmas.{ruled, library_bytes}
 use Rattle.redex_cli.proofs.work.read_input.Goals as goal
 
 pub returns-in-Err-clause-refused : goal.returns-in-Err-clause-refused
@@ -14,3 +14,7 @@ pub returns-in-Ok-table_with-clause-ruled : goal.returns-in-Ok-table_with-clause
 returns-in-Ok-table_with-clause-ruled c =
     ruled c.in-Ok.rules c.args.inputs.library c.in-Ok-read_classes.classes.program c.in-Ok-table_with.outside c.as_slice.result.now c.args.inputs.rules
     c.as_slice.ensures c.in-Ok.ensures.ok c.in-Ok-table_with.ensures.table
+
+pub returns-clause-bytes : goal.returns-clause-bytes
+returns-clause-bytes c = library_bytes c.args.inputs c.in-Ok-read_classes.classes.program c.in-Err-table_with.status c.in-Ok-read_classes.ensures.read
+    c.in-Ok-read_classes.ensures.accepted c.in-Err-table_with.ensures.refused

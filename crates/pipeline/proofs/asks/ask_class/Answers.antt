@@ -9,10 +9,10 @@ loop-method-init g c = record { answered = NoneLeft _ _; count = refl }
 
 pub loop-method-preserved : goal.loop-method-preserved
 loop-method-preserved g c = record {
-  answered = item_answered (asked_one c.args.live.now) (length c.args.panel.now.advisers.items) (length c.loop-method.panel.advisers.items) c.args.class.now.methods c.loop-method.method-index _ c.method-item.result c.args.panel.now.answers.items c.loop-method.panel.answers.items c.ask_about.new.panel.answers.items
-      (verdict c.args.advice.now) (verdict c.loop-method.advice) (verdict c.ask_about.new.advice) (omega (arith, ap length c.as_slice-method-items.ensures)) (c.method-item.is ∙ ap (λ l. get_or l c.loop-method.method-index c.method-item.result) c.as_slice-method-items.ensures) c.loop-method.invariant.count
-      c.loop-method.invariant.answered c.in_ok-ask_about.ensures.answered;
-  count = c.ask_about.ensures.count ∙ c.loop-method.invariant.count;
+  answered = item_answered (asked_one c.args.live.now) (length c.args.panel.now.advisers.items) (length c.loop-method.panel.advisers.items) c.args.class.now.methods c.loop-method.method-index _ c.method-item.result c.args.panel.now.answers.items c.loop-method.panel.answers.items c.ask_live.new.panel.answers.items
+      (verdict c.args.advice.now) (verdict c.loop-method.advice) (verdict c.ask_live.new.advice) (omega (arith, ap length c.as_slice-method-items.ensures)) (c.method-item.is ∙ ap (λ l. get_or l c.loop-method.method-index c.method-item.result) c.as_slice-method-items.ensures) c.loop-method.invariant.count
+      c.loop-method.invariant.answered c.in_ok-ask_live.ensures.answered;
+  count = c.ask_live.ensures.count ∙ c.loop-method.invariant.count;
 }
 
 pub returns-clause-answered : goal.returns-clause-answered

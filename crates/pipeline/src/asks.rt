@@ -104,8 +104,14 @@ fn ask_one(
 ) -> Result<(), AllocError>
     ensures answered { OnOk result (AreAnswered (length panel.old.advisers.items) (method.now.name ∷ []) panel.old.answers.items panel.new.answers.items (verdict advice.old) (verdict advice.new)) }
     ensures count { length panel.new.advisers.items ≡ length panel.old.advisers.items }
-    ensures run { OnOk result (HasRun (Weighed (ask_about program.now class.now method.now) ∷ []) (map (λ b. replies b) panel.old.advisers.items) (map (λ b. replies b) panel.new.advisers.items) panel.old.answers.items panel.new.answers.items) }
-    ensures begun { OnErr result (HasRun [] (map (λ b. replies b) panel.old.advisers.items) (map (λ b. replies b) panel.new.advisers.items) panel.old.answers.items panel.new.answers.items) }
+    ensures run { OnOk result (HasRun (Weighed (ask_about program.now class.now method.now) ∷ [])
+        (map (λ b. (⟦<dyn Adviser as Adviser>⟧ b.vtable).replies b.value) panel.old.advisers.items)
+        (map (λ b. (⟦<dyn Adviser as Adviser>⟧ b.vtable).replies b.value) panel.new.advisers.items)
+        panel.old.answers.items panel.new.answers.items) }
+    ensures begun { OnErr result (HasRun []
+        (map (λ b. (⟦<dyn Adviser as Adviser>⟧ b.vtable).replies b.value) panel.old.advisers.items)
+        (map (λ b. (⟦<dyn Adviser as Adviser>⟧ b.vtable).replies b.value) panel.new.advisers.items)
+        panel.old.answers.items panel.new.answers.items) }
 {
     let ask = ask_about(alloc, program, class, method)?;
     let admitted = panel.ask(alloc, &ask)?;
@@ -125,8 +131,14 @@ fn ask_live(
 ) -> Result<(), AllocError>
     ensures answered { OnOk result (AreAnswered (length panel.old.advisers.items) (asked_one live.now method.now) panel.old.answers.items panel.new.answers.items (verdict advice.old) (verdict advice.new)) }
     ensures count { length panel.new.advisers.items ≡ length panel.old.advisers.items }
-    ensures run { OnOk result (HasRun (turns_one live.now program.now class.now method.now) (map (λ b. replies b) panel.old.advisers.items) (map (λ b. replies b) panel.new.advisers.items) panel.old.answers.items panel.new.answers.items) }
-    ensures begun { OnErr result (HasRun [] (map (λ b. replies b) panel.old.advisers.items) (map (λ b. replies b) panel.new.advisers.items) panel.old.answers.items panel.new.answers.items) }
+    ensures run { OnOk result (HasRun (turns_one live.now program.now class.now method.now)
+        (map (λ b. (⟦<dyn Adviser as Adviser>⟧ b.vtable).replies b.value) panel.old.advisers.items)
+        (map (λ b. (⟦<dyn Adviser as Adviser>⟧ b.vtable).replies b.value) panel.new.advisers.items)
+        panel.old.answers.items panel.new.answers.items) }
+    ensures begun { OnErr result (HasRun []
+        (map (λ b. (⟦<dyn Adviser as Adviser>⟧ b.vtable).replies b.value) panel.old.advisers.items)
+        (map (λ b. (⟦<dyn Adviser as Adviser>⟧ b.vtable).replies b.value) panel.new.advisers.items)
+        panel.old.answers.items panel.new.answers.items) }
 {
     if is_asked(live, method) {
         ask_one(alloc, program, class, method, panel, advice)?;
@@ -145,8 +157,14 @@ fn ask_class(
 ) -> Result<(), AllocError>
     ensures answered { OnOk result (AreAnswered (length panel.old.advisers.items) (asked_in live.now class.now) panel.old.answers.items panel.new.answers.items (verdict advice.old) (verdict advice.new)) }
     ensures count { length panel.new.advisers.items ≡ length panel.old.advisers.items }
-    ensures run { OnOk result (HasRun (turns_in live.now program.now class.now) (map (λ b. replies b) panel.old.advisers.items) (map (λ b. replies b) panel.new.advisers.items) panel.old.answers.items panel.new.answers.items) }
-    ensures begun { OnErr result (HaveTaken (AreFirstOf (turns_in live.now program.now class.now)) (map (λ b. replies b) panel.old.advisers.items) (map (λ b. replies b) panel.new.advisers.items) panel.old.answers.items panel.new.answers.items) }
+    ensures run { OnOk result (HasRun (turns_in live.now program.now class.now)
+        (map (λ b. (⟦<dyn Adviser as Adviser>⟧ b.vtable).replies b.value) panel.old.advisers.items)
+        (map (λ b. (⟦<dyn Adviser as Adviser>⟧ b.vtable).replies b.value) panel.new.advisers.items)
+        panel.old.answers.items panel.new.answers.items) }
+    ensures begun { OnErr result (HaveTaken (AreFirstOf (turns_in live.now program.now class.now))
+        (map (λ b. (⟦<dyn Adviser as Adviser>⟧ b.vtable).replies b.value) panel.old.advisers.items)
+        (map (λ b. (⟦<dyn Adviser as Adviser>⟧ b.vtable).replies b.value) panel.new.advisers.items)
+        panel.old.answers.items panel.new.answers.items) }
 {
     for method in class.methods.as_slice() {
         ask_live(alloc, program, live, class, method, panel, advice)?;
@@ -176,8 +194,14 @@ pub fn ask_all(
 ) -> Result<Advice, AllocError>
     ensures answered { IfOk result (λ advice. AreAnswered (length panel.old.advisers.items) (asked live.now program.now) panel.old.answers.items panel.new.answers.items (no_verdict program.now) (verdict advice)) }
     ensures count { IfOk result (λ advice. length panel.new.advisers.items ≡ length panel.old.advisers.items) }
-    ensures run { OnOk result (HasRun (turns_about live.now program.now) (map (λ b. replies b) panel.old.advisers.items) (map (λ b. replies b) panel.new.advisers.items) panel.old.answers.items panel.new.answers.items) }
-    ensures begun { OnErr result (HaveTaken (AreFirstOf (turns_about live.now program.now)) (map (λ b. replies b) panel.old.advisers.items) (map (λ b. replies b) panel.new.advisers.items) panel.old.answers.items panel.new.answers.items) }
+    ensures run { OnOk result (HasRun (turns_about live.now program.now)
+        (map (λ b. (⟦<dyn Adviser as Adviser>⟧ b.vtable).replies b.value) panel.old.advisers.items)
+        (map (λ b. (⟦<dyn Adviser as Adviser>⟧ b.vtable).replies b.value) panel.new.advisers.items)
+        panel.old.answers.items panel.new.answers.items) }
+    ensures begun { OnErr result (HaveTaken (AreFirstOf (turns_about live.now program.now))
+        (map (λ b. (⟦<dyn Adviser as Adviser>⟧ b.vtable).replies b.value) panel.old.advisers.items)
+        (map (λ b. (⟦<dyn Adviser as Adviser>⟧ b.vtable).replies b.value) panel.new.advisers.items)
+        panel.old.answers.items panel.new.answers.items) }
 {
     let mut advice = no_advice(alloc, program)?;
     for class in program.classes.as_slice() {

@@ -28,9 +28,15 @@ fn inline_known(
     panel: &mut Panel,
 ) -> Result<Traced, AllocError>
     ensures inlined { is_well_formed program ≡ true → HasGraph program hierarchy.now → AreKnown outside.now program facts.now
-        → IfOk result (λ traced. Asks (map (λ b. replies b) panel.old.advisers.items) (map (λ b. replies b) panel.new.advisers.items) panel.old.answers.items panel.new.answers.items (IsInlining outside.now admitted.now.methods.items program traced)) }
+        → IfOk result (λ traced. Asks
+        (map (λ b. (⟦<dyn Adviser as Adviser>⟧ b.vtable).replies b.value) panel.old.advisers.items)
+        (map (λ b. (⟦<dyn Adviser as Adviser>⟧ b.vtable).replies b.value) panel.new.advisers.items)
+        panel.old.answers.items panel.new.answers.items (IsInlining outside.now admitted.now.methods.items program traced)) }
     ensures begun { is_well_formed program ≡ true → HasGraph program hierarchy.now → AreKnown outside.now program facts.now
-        → OnErr result (Asks (map (λ b. replies b) panel.old.advisers.items) (map (λ b. replies b) panel.new.advisers.items) panel.old.answers.items panel.new.answers.items (InliningBegins outside.now admitted.now.methods.items program)) }
+        → OnErr result (Asks
+        (map (λ b. (⟦<dyn Adviser as Adviser>⟧ b.vtable).replies b.value) panel.old.advisers.items)
+        (map (λ b. (⟦<dyn Adviser as Adviser>⟧ b.vtable).replies b.value) panel.new.advisers.items)
+        panel.old.answers.items panel.new.answers.items (InliningBegins outside.now admitted.now.methods.items program)) }
 {
     let changed = inline_calls::apply(alloc, program, hierarchy, facts, outside, admitted, panel)?;
     Ok(Traced {
@@ -50,9 +56,15 @@ fn inline_found(
     panel: &mut Panel,
 ) -> Result<Traced, AllocError>
     ensures inlined { is_well_formed program ≡ true → HasGraph program hierarchy.now → IsAnalysis outside.now admitted.now.methods.items program facts.now
-        → IfOk result (λ traced. Asks (map (λ b. replies b) panel.old.advisers.items) (map (λ b. replies b) panel.new.advisers.items) panel.old.answers.items panel.new.answers.items (IsInlining outside.now admitted.now.methods.items program traced)) }
+        → IfOk result (λ traced. Asks
+        (map (λ b. (⟦<dyn Adviser as Adviser>⟧ b.vtable).replies b.value) panel.old.advisers.items)
+        (map (λ b. (⟦<dyn Adviser as Adviser>⟧ b.vtable).replies b.value) panel.new.advisers.items)
+        panel.old.answers.items panel.new.answers.items (IsInlining outside.now admitted.now.methods.items program traced)) }
     ensures begun { is_well_formed program ≡ true → HasGraph program hierarchy.now → IsAnalysis outside.now admitted.now.methods.items program facts.now
-        → OnErr result (Asks (map (λ b. replies b) panel.old.advisers.items) (map (λ b. replies b) panel.new.advisers.items) panel.old.answers.items panel.new.answers.items (InliningBegins outside.now admitted.now.methods.items program)) }
+        → OnErr result (Asks
+        (map (λ b. (⟦<dyn Adviser as Adviser>⟧ b.vtable).replies b.value) panel.old.advisers.items)
+        (map (λ b. (⟦<dyn Adviser as Adviser>⟧ b.vtable).replies b.value) panel.new.advisers.items)
+        panel.old.answers.items panel.new.answers.items (InliningBegins outside.now admitted.now.methods.items program)) }
 {
     match facts {
         Some(facts) => inline_known(alloc, program, hierarchy, facts, outside, admitted, panel),
@@ -69,8 +81,16 @@ fn inline_by(
     admitted: &Admitted,
     panel: &mut Panel,
 ) -> Result<Traced, AllocError>
-    ensures inlined { is_well_formed program ≡ true → HasGraph program hierarchy.now → IfOk result (λ traced. Asks (map (λ b. replies b) panel.old.advisers.items) (map (λ b. replies b) panel.new.advisers.items) panel.old.answers.items panel.new.answers.items (IsInlining outside.now admitted.now.methods.items program traced)) }
-    ensures begun { is_well_formed program ≡ true → HasGraph program hierarchy.now → OnErr result (Asks (map (λ b. replies b) panel.old.advisers.items) (map (λ b. replies b) panel.new.advisers.items) panel.old.answers.items panel.new.answers.items (InliningBegins outside.now admitted.now.methods.items program)) }
+    ensures inlined { is_well_formed program ≡ true → HasGraph program hierarchy.now
+        → IfOk result (λ traced. Asks
+        (map (λ b. (⟦<dyn Adviser as Adviser>⟧ b.vtable).replies b.value) panel.old.advisers.items)
+        (map (λ b. (⟦<dyn Adviser as Adviser>⟧ b.vtable).replies b.value) panel.new.advisers.items)
+        panel.old.answers.items panel.new.answers.items (IsInlining outside.now admitted.now.methods.items program traced)) }
+    ensures begun { is_well_formed program ≡ true → HasGraph program hierarchy.now
+        → OnErr result (Asks
+        (map (λ b. (⟦<dyn Adviser as Adviser>⟧ b.vtable).replies b.value) panel.old.advisers.items)
+        (map (λ b. (⟦<dyn Adviser as Adviser>⟧ b.vtable).replies b.value) panel.new.advisers.items)
+        panel.old.answers.items panel.new.answers.items (InliningBegins outside.now admitted.now.methods.items program)) }
 {
     let facts = facts_by(alloc, &program, hierarchy, outside, admitted)?;
     inline_found(alloc, program, hierarchy, &facts, outside, admitted, panel)
@@ -85,8 +105,16 @@ fn inline_graphed(
     admitted: &Admitted,
     panel: &mut Panel,
 ) -> Result<Traced, AllocError>
-    ensures inlined { is_well_formed program ≡ true → IsGraph program graph.now → IfOk result (λ traced. Asks (map (λ b. replies b) panel.old.advisers.items) (map (λ b. replies b) panel.new.advisers.items) panel.old.answers.items panel.new.answers.items (IsInlining outside.now admitted.now.methods.items program traced)) }
-    ensures begun { is_well_formed program ≡ true → IsGraph program graph.now → OnErr result (Asks (map (λ b. replies b) panel.old.advisers.items) (map (λ b. replies b) panel.new.advisers.items) panel.old.answers.items panel.new.answers.items (InliningBegins outside.now admitted.now.methods.items program)) }
+    ensures inlined { is_well_formed program ≡ true → IsGraph program graph.now
+        → IfOk result (λ traced. Asks
+        (map (λ b. (⟦<dyn Adviser as Adviser>⟧ b.vtable).replies b.value) panel.old.advisers.items)
+        (map (λ b. (⟦<dyn Adviser as Adviser>⟧ b.vtable).replies b.value) panel.new.advisers.items)
+        panel.old.answers.items panel.new.answers.items (IsInlining outside.now admitted.now.methods.items program traced)) }
+    ensures begun { is_well_formed program ≡ true → IsGraph program graph.now
+        → OnErr result (Asks
+        (map (λ b. (⟦<dyn Adviser as Adviser>⟧ b.vtable).replies b.value) panel.old.advisers.items)
+        (map (λ b. (⟦<dyn Adviser as Adviser>⟧ b.vtable).replies b.value) panel.new.advisers.items)
+        panel.old.answers.items panel.new.answers.items (InliningBegins outside.now admitted.now.methods.items program)) }
 {
     match graph {
         Some(hierarchy) => inline_by(alloc, program, hierarchy, outside, admitted, panel),
@@ -103,8 +131,16 @@ pub fn inline_sites(
     admitted: &Admitted,
     panel: &mut Panel,
 ) -> Result<Traced, AllocError>
-    ensures inlined { is_well_formed program ≡ true → IfOk result (λ traced. Asks (map (λ b. replies b) panel.old.advisers.items) (map (λ b. replies b) panel.new.advisers.items) panel.old.answers.items panel.new.answers.items (IsInlining outside.now admitted.now.methods.items program traced)) }
-    ensures begun { is_well_formed program ≡ true → OnErr result (Asks (map (λ b. replies b) panel.old.advisers.items) (map (λ b. replies b) panel.new.advisers.items) panel.old.answers.items panel.new.answers.items (InliningBegins outside.now admitted.now.methods.items program)) }
+    ensures inlined { is_well_formed program ≡ true
+        → IfOk result (λ traced. Asks
+        (map (λ b. (⟦<dyn Adviser as Adviser>⟧ b.vtable).replies b.value) panel.old.advisers.items)
+        (map (λ b. (⟦<dyn Adviser as Adviser>⟧ b.vtable).replies b.value) panel.new.advisers.items)
+        panel.old.answers.items panel.new.answers.items (IsInlining outside.now admitted.now.methods.items program traced)) }
+    ensures begun { is_well_formed program ≡ true
+        → OnErr result (Asks
+        (map (λ b. (⟦<dyn Adviser as Adviser>⟧ b.vtable).replies b.value) panel.old.advisers.items)
+        (map (λ b. (⟦<dyn Adviser as Adviser>⟧ b.vtable).replies b.value) panel.new.advisers.items)
+        panel.old.answers.items panel.new.answers.items (InliningBegins outside.now admitted.now.methods.items program)) }
 {
     let graph = hierarchy_of(alloc, &program)?;
     inline_graphed(alloc, program, &graph, outside, admitted, panel)

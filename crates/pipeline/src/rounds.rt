@@ -48,7 +48,6 @@ pub struct Outcome {
 }
 
 /// What the advisers say of the live methods with code. Where nothing is to be rewritten, none is asked about.
-#[tactic(auto, using(crate::proofs::RoundLemmas::unasked, crate::proofs::RoundLemmas::answered))]
 fn advice_on(
     alloc: Global,
     program: &Program,
@@ -56,18 +55,30 @@ fn advice_on(
     panel: &mut Panel,
 ) -> Result<Advice, AllocError>
     ensures advised { is_well_formed program.now ≡ true → IfOk result (λ advice.
-        HaveTaken (IsAdvisedBy outside.now program.now (length panel.old.advisers.items) panel.old.answers.items panel.new.answers.items (verdict advice)) (map (λ b. replies b) panel.old.advisers.items) (map (λ b. replies b) panel.new.advisers.items) panel.old.answers.items panel.new.answers.items) }
-    ensures begun { is_well_formed program.now ≡ true → OnErr result (HaveTaken (MayBegin outside.now program.now) (map (λ b. replies b) panel.old.advisers.items) (map (λ b. replies b) panel.new.advisers.items) panel.old.answers.items panel.new.answers.items) }
+        HaveTaken (IsAdvisedBy outside.now program.now (length panel.old.advisers.items) panel.old.answers.items panel.new.answers.items (verdict advice))
+        (map (λ b. (⟦<dyn Adviser as Adviser>⟧ b.vtable).replies b.value) panel.old.advisers.items)
+        (map (λ b. (⟦<dyn Adviser as Adviser>⟧ b.vtable).replies b.value) panel.new.advisers.items)
+        panel.old.answers.items panel.new.answers.items) }
+    ensures begun { is_well_formed program.now ≡ true
+        → OnErr result (HaveTaken (MayBegin outside.now program.now)
+        (map (λ b. (⟦<dyn Adviser as Adviser>⟧ b.vtable).replies b.value) panel.old.advisers.items)
+        (map (λ b. (⟦<dyn Adviser as Adviser>⟧ b.vtable).replies b.value) panel.new.advisers.items)
+        panel.old.answers.items panel.new.answers.items) }
 {
     if !outside.optimise {
-        return no_advice(alloc, program);
+        let advice = no_advice(alloc, program)?;
+        return Ok(advice);
     }
     match hierarchy_of(alloc, program)? {
         Some(hierarchy) => {
             let live = live_members(alloc, program, &hierarchy, outside)?;
-            Ok(ask_all(alloc, program, &live, panel)?)
+            let advice = ask_all(alloc, program, &live, panel)?;
+            Ok(advice)
         }
-        None => no_advice(alloc, program),
+        None => {
+            let advice = no_advice(alloc, program)?;
+            Ok(advice)
+        }
     }
 }
 
@@ -243,8 +254,15 @@ fn prepare(
     panel: &mut Panel,
 ) -> Result<(Advice, Program), AllocError>
     ensures prepared { is_well_formed program ≡ true → IfOk result (λ r.
-        HaveTaken (IsPrepared outside.now program (length panel.old.advisers.items) panel.old.answers.items panel.new.answers.items (verdict r.0) r.1) (map (λ b. replies b) panel.old.advisers.items) (map (λ b. replies b) panel.new.advisers.items) panel.old.answers.items panel.new.answers.items) }
-    ensures begun { is_well_formed program ≡ true → OnErr result (HaveTaken (MayBegin outside.now program) (map (λ b. replies b) panel.old.advisers.items) (map (λ b. replies b) panel.new.advisers.items) panel.old.answers.items panel.new.answers.items) }
+        HaveTaken (IsPrepared outside.now program (length panel.old.advisers.items) panel.old.answers.items panel.new.answers.items (verdict r.0) r.1)
+        (map (λ b. (⟦<dyn Adviser as Adviser>⟧ b.vtable).replies b.value) panel.old.advisers.items)
+        (map (λ b. (⟦<dyn Adviser as Adviser>⟧ b.vtable).replies b.value) panel.new.advisers.items)
+        panel.old.answers.items panel.new.answers.items) }
+    ensures begun { is_well_formed program ≡ true
+        → OnErr result (HaveTaken (MayBegin outside.now program)
+        (map (λ b. (⟦<dyn Adviser as Adviser>⟧ b.vtable).replies b.value) panel.old.advisers.items)
+        (map (λ b. (⟦<dyn Adviser as Adviser>⟧ b.vtable).replies b.value) panel.new.advisers.items)
+        panel.old.answers.items panel.new.answers.items) }
 {
     let advice = advice_on(alloc, &program, outside, panel)?;
     let silenced = silence(alloc, program, outside, &advice.admitted)?;
@@ -305,18 +323,28 @@ pub fn optimise(
     panel: &mut Panel,
 ) -> Result<Outcome, AllocError>
     requires { 0 ≤ vec_len panel.old.advisers }
-    ensures optimised { is_well_formed program ≡ true → IfOk result (λ outcome. IsOptimised outside.now program (length panel.old.advisers.items) panel.old.answers.items panel.new.answers.items outcome.spared outcome.program outcome.origins outcome.rounds) }
+    ensures optimised { is_well_formed program ≡ true
+        → IfOk result (λ outcome. IsOptimised outside.now program (length panel.old.advisers.items) panel.old.answers.items panel.new.answers.items outcome.spared outcome.program outcome.origins outcome.rounds) }
     ensures rounds { IfOk result (λ outcome. 1 ≤ outcome.rounds) }
     ensures members { IfOk result (λ outcome. outcome.removed_members ≡ capped (members_of program) - capped (members_of outcome.program)) }
     ensures instructions { IfOk result (λ outcome. outcome.removed_instructions ≡ capped (insns_of program) - capped (insns_of outcome.program)) }
-    ensures asked { is_well_formed program ≡ true → IfOk result (λ outcome. IsOptimisedBy outside.now program (map (λ b. replies b) panel.old.advisers.items) (map (λ b. replies b) panel.new.advisers.items) panel.old.answers.items panel.new.answers.items outcome.spared outcome.program outcome.origins outcome.rounds) }
-    ensures begun { is_well_formed program ≡ true → OnErr result (HaveTaken (MayBegin outside.now program) (map (λ b. replies b) panel.old.advisers.items) (map (λ b. replies b) panel.new.advisers.items) panel.old.answers.items panel.new.answers.items) }
+    ensures asked { is_well_formed program ≡ true
+        → IfOk result (λ outcome. IsOptimisedBy outside.now program
+        (map (λ b. (⟦<dyn Adviser as Adviser>⟧ b.vtable).replies b.value) panel.old.advisers.items)
+        (map (λ b. (⟦<dyn Adviser as Adviser>⟧ b.vtable).replies b.value) panel.new.advisers.items)
+        panel.old.answers.items panel.new.answers.items outcome.spared outcome.program outcome.origins outcome.rounds) }
+    ensures begun { is_well_formed program ≡ true
+        → OnErr result (HaveTaken (MayBegin outside.now program)
+        (map (λ b. (⟦<dyn Adviser as Adviser>⟧ b.vtable).replies b.value) panel.old.advisers.items)
+        (map (λ b. (⟦<dyn Adviser as Adviser>⟧ b.vtable).replies b.value) panel.new.advisers.items)
+        panel.old.answers.items panel.new.answers.items) }
 {
     let members = count_members(&program);
     let instructions = count_instructions(&program);
     let (advice, program) = prepare(alloc, program, outside, panel)?;
     let first = unmoved(alloc, program);
-    finish(alloc, first, outside, &advice, members, instructions)
+    let outcome = finish(alloc, first, outside, &advice, members, instructions)?;
+    Ok(outcome)
 }
 
 /// The same with calls inlined once before the rounds: behind the asks about methods the panel is asked about each call of
@@ -332,15 +360,24 @@ pub fn optimise_inlined(
     panel: &mut Panel,
 ) -> Result<Outcome, AllocError>
     requires { 0 ≤ vec_len panel.old.advisers }
-    ensures optimised { is_well_formed program ≡ true → IfOk result (λ outcome. IsOptimisedInlined outside.now program (map (λ b. replies b) panel.old.advisers.items) (map (λ b. replies b) panel.new.advisers.items) panel.old.answers.items panel.new.answers.items outcome.spared outcome.program outcome.origins outcome.rounds) }
+    ensures optimised { is_well_formed program ≡ true
+        → IfOk result (λ outcome. IsOptimisedInlined outside.now program
+        (map (λ b. (⟦<dyn Adviser as Adviser>⟧ b.vtable).replies b.value) panel.old.advisers.items)
+        (map (λ b. (⟦<dyn Adviser as Adviser>⟧ b.vtable).replies b.value) panel.new.advisers.items)
+        panel.old.answers.items panel.new.answers.items outcome.spared outcome.program outcome.origins outcome.rounds) }
     ensures rounds { IfOk result (λ outcome. 1 ≤ outcome.rounds) }
     ensures members { IfOk result (λ outcome. outcome.removed_members ≡ capped (members_of program) - capped (members_of outcome.program)) }
     ensures instructions { IfOk result (λ outcome. outcome.removed_instructions ≡ capped (insns_of program) - capped (insns_of outcome.program)) }
-    ensures begun { is_well_formed program ≡ true → OnErr result (HaveTaken (InlinedBegins outside.now program (length panel.old.advisers.items) panel.old.answers.items) (map (λ b. replies b) panel.old.advisers.items) (map (λ b. replies b) panel.new.advisers.items) panel.old.answers.items panel.new.answers.items) }
+    ensures begun { is_well_formed program ≡ true
+        → OnErr result (HaveTaken (InlinedBegins outside.now program (length panel.old.advisers.items) panel.old.answers.items)
+        (map (λ b. (⟦<dyn Adviser as Adviser>⟧ b.vtable).replies b.value) panel.old.advisers.items)
+        (map (λ b. (⟦<dyn Adviser as Adviser>⟧ b.vtable).replies b.value) panel.new.advisers.items)
+        panel.old.answers.items panel.new.answers.items) }
 {
     let members = count_members(&program);
     let instructions = count_instructions(&program);
     let (advice, program) = prepare(alloc, program, outside, panel)?;
     let first = inline_sites(alloc, program, outside, &advice.admitted, panel)?;
-    finish(alloc, first, outside, &advice, members, instructions)
+    let outcome = finish(alloc, first, outside, &advice, members, instructions)?;
+    Ok(outcome)
 }

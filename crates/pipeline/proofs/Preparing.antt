@@ -13,6 +13,7 @@ use Rattle.redex_outside.proofs.Runs.{run_start}
 use Rattle.call_graph.specs.declared.live_set.LiveSet.{LiveSet}
 use Rattle.call_graph.specs.Facts.{Fits}
 use Rattle.call_graph.specs.Closed.{IsClosedSet}
+use Rattle.reach.specs.Marked.{IsMarked}
 use Rattle.inline_calls.specs.Asked.{turn_of, Asks}
 use Rattle.pipeline.specs.declared.traces.Traced.{Traced}
 use Rattle.pipeline.specs.Advised.{IsAsked, IsAdvised}
@@ -42,7 +43,7 @@ module _ (o : Outside) (p : Program) where
       → Fits p s → (is_well_formed p ≡ true → IsResolved p h → IsClosedSet p o s) → AreAnswered advisers (asked s p) before after (no_verdict p) v → HasRun (turns_about s p) olds news before after
       → HaveTaken (IsAdvisedBy o p advisers before after v) olds news before after
   answered h s advisers olds news before after v allowed formed graph sized closed answers run =
-      let marked = record { formed = formed; once = graph.resolved.of.once; grounded = graph.grounded; sized = sized; closed = closed formed graph.resolved } in
+      let marked : IsMarked p o s = record { formed = formed; once = graph.resolved.of.once; grounded = graph.grounded; sized = sized; closed = closed formed graph.resolved } in
       taken_by (IsAdvisedBy o p advisers before after v) (turns_about s p) olds news before after run
       (inl (record { asked = record { allowed = allowed; marks = s; marked = marked; answered = answers }; turns_are = refl }))
 
@@ -58,7 +59,7 @@ module _ (o : Outside) (p : Program) where
   pub some_begun : (h : Hierarchy) (s : LiveSet) (olds news : List Voice) (before after : List Bool) → o.optimise ≡ true → is_well_formed p ≡ true → HasGraph p h
       → Fits p s → (is_well_formed p ≡ true → IsResolved p h → IsClosedSet p o s) → HaveTaken (AreFirstOf (turns_about s p)) olds news before after → HaveTaken (MayBegin o p) olds news before after
   some_begun h s olds news before after allowed formed graph sized closed begun =
-      let marked = record { formed = formed; once = graph.resolved.of.once; grounded = graph.grounded; sized = sized; closed = closed formed graph.resolved } in
+      let marked : IsMarked p o s = record { formed = formed; once = graph.resolved.of.once; grounded = graph.grounded; sized = sized; closed = closed formed graph.resolved } in
       taken_so (AreFirstOf (turns_about s p)) (MayBegin o p) olds news before after (λ turns first. SomeTaken s turns allowed marked first) begun
 
   -- all methods were asked about

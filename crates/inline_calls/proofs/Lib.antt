@@ -1,0 +1,11 @@
+pub mod Accepting
+pub mod Arguments
+pub mod Asks
+pub mod Callees
+pub mod Candidates
+pub mod Chosen
+pub mod Crowding
+pub mod Edits
+pub mod Looking
+pub mod Receivers
+pub mod Rooms

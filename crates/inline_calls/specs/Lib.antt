@@ -1,0 +1,7 @@
+pub mod Accepting
+pub mod Asked
+pub mod Candidates
+pub mod Crowded
+pub mod Edited
+pub mod Plans
+pub mod Rooms

@@ -1,6 +1,6 @@
 //! The laws.
 
-ghost use Rattle.std.specs.Prelude.{◌≡◌, ℕ, true, Some, slice_get, Contains};
+ghost use Rattle.std.specs.Prelude.{◌≡◌, ◌≤◌, ℕ, true, Some, slice_get};
 ghost use Rattle.program_model.specs.ProgramRules.{is_well_formed};
 ghost use Rattle.program_model.specs.declared.body.Body.{Body};
 ghost use Rattle.program_model.specs.declared.program.Class.{Class};
@@ -20,7 +20,7 @@ ghost use Rattle.inline_bridge.specs.Sites.{IsSite, IsSoundSite};
 /// A body of a well-formed program keeps to its registers, targets and regions, and has not too many positions.
 pub fn within_law()
     ensures { (p : Program) (at : MethodAt) (c : Class) (m : Method) (b : Body) → is_well_formed p ≡ true
-        → slice_get p.classes at.class ≡ Some c → slice_get c.methods at.place ≡ Some m → m.body ≡ Some b → IsWithin b }
+        → slice_get p.classes at.class ≡ Some c → slice_get c.methods at.place ≡ Some m → m.body ≡ Some b → b.registers ≤ 65535 → IsWithin b }
 {}
 
 /// A site of a well-formed and typed program finds its callee by name, which is what is copied.

@@ -167,7 +167,7 @@ module _ (p : Program) (h : Hierarchy) (w : is_well_formed p ≡ true) (resolved
 
     -- ---- the places
 
-    class_there : slice_get p.classes s.place.class ≡ Some c
+    pub class_there : slice_get p.classes s.place.class ≡ Some c
     class_there = ap (slice_get p.classes) s.beside ∙ is_class
 
     method_there : slice_get c.methods s.place.place ≡ Some y.method.now
@@ -179,7 +179,7 @@ module _ (p : Program) (h : Hierarchy) (w : is_well_formed p ≡ true) (resolved
     method_in : Contains C.methods M
     method_in = into_map (named_method p) c.methods y.method.now (contains_at c.methods s.place.place y.method.now method_there)
 
-    body_is : M.body ≡ Some D
+    pub body_is : M.body ≡ Some D
     body_is = ap (option_map (body_of p)) s.code
 
     code : IsCode p y.method.now y.body.now
@@ -193,7 +193,7 @@ module _ (p : Program) (h : Hierarchy) (w : is_well_formed p ≡ true) (resolved
     found : found_at p s.place ≡ Some (found_in C M)
     found = found_there_is p s.place (record { class = c; is_class = class_there; method = y.method.now; is_method = method_there })
 
-    statically : (method : ℕ) → finds_static p method ≡ Some s.place → finds_statically (named p) (method_at p method) ≡ Finds (found_in C M)
+    pub statically : (method : ℕ) → finds_static p method ≡ Some s.place → finds_statically (named p) (method_at p method) ≡ Finds (found_in C M)
     statically method e = static_by_number p (sound p w) method (by (slice_get p.methods method) refl e) ∙ ap (λ o. search_at p (search_of o)) e ∙ ap finds found
       where
         by : (o : Option MethodName) → slice_get p.methods method ≡ o → elim o as (λ o. Option MethodAt) [ Some q ↦ finds_static p method | None ↦ None ] ≡ Some s.place → method < length p.methods
@@ -234,7 +234,7 @@ module _ (p : Program) (h : Hierarchy) (w : is_well_formed p ≡ true) (resolved
 
     -- ---- what is passed
 
-    flag_same : has_flag y.method.now.flags 8 ≡ is_static M.flags
+    pub flag_same : has_flag y.method.now.flags 8 ≡ is_static M.flags
     flag_same = static_flag y.method.now.flags
 
     passes_by : (static : Bool) (rs : List ℕ) → Passed p (parameters_of p y.method.now.name) static rs → Passes (if static then map (type_at p) (parameters_of p y.method.now.name) else C.name ∷ map (type_at p) (parameters_of p y.method.now.name)) rs

@@ -1,0 +1,6 @@
+pub mod Named
+pub mod Running
+pub mod Shown
+pub mod Shuts
+pub mod Looked
+pub mod Kept

@@ -147,10 +147,7 @@ module _ (p : Program) where
         ∙ by (is_static (named_method p c.method.now).flags)
         ∙ ap (λ (m : NamedMethod). map by_name.slot_of (if is_static m.flags then m.signature.parameters else y.key.class ∷ m.signature.parameters)) (sym is.method)
       where
-        abbrev ts : List Text
-        ts = map (type_at p) (parameters_of p c.method.now.name)
-
-        by : (s : Bool) → (if s then [] else slot.Object ∷ []) ++ map by_name.slot_of ts
+        by : (s : Bool) → (if s then [] else slot.Object ∷ []) ++ map by_name.slot_of (map (type_at p) (parameters_of p c.method.now.name))
             ≡ map by_name.slot_of (if s then (named_method p c.method.now).signature.parameters else y.key.class ∷ (named_method p c.method.now).signature.parameters)
         by true = ap (map by_name.slot_of) (sym (same_parameters c.method.now.name))
         by false = ap₂ (λ x xs. x ∷ map by_name.slot_of xs) (sym is.receiver) (sym (same_parameters c.method.now.name))

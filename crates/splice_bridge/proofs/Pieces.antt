@@ -29,7 +29,6 @@ use Rattle.pass_defs.specs.Thinned.{insn_retargeted, handler_moved, region_moved
 use Rattle.pass_defs.specs.Walks.{form_at}
 use Rattle.pass_defs.specs.Inlined as by_name
 use Rattle.splice.specs.declared.callee.Callee.{Callee}
-use Rattle.splice.specs.declared.pieces.Piece.{Piece}
 use Rattle.splice.specs.Callees.{chosen_at, Taken, taken_by, is_dropped, greatest, args_of}
 use Rattle.splice.specs.Moves.{moves_of}
 use Rattle.splice.specs.Places.{places_of, inner_places}
@@ -42,22 +41,20 @@ use Rattle.splice_bridge.proofs.Moves.{shifts, same_moves, long_moves, short_mov
 use Rattle.splice_bridge.proofs.Places.{words, low, place_few, same_place, few_places, same_inner}
 
 module _ (p : Program) where
-  abbrev forms : List Piece → List Form
-  forms qs = map (λ q. form_of p q.insn) qs
-
   abbrev names : List by_name.Piece → List Form
   names qs = map (λ q. q.form) qs
 
-  of_insns : (f : Insn → Piece) → ((i : Insn) → (f i).insn ≡ i) → (is : List Insn) → forms (map f is) ≡ map (form_of p) is
-  of_insns f h [] = refl
-  of_insns f h (i ∷ is) = ap₂ (λ x xs. x ∷ xs) (ap (form_of p) (h i)) (of_insns f h is)
+  -- the forms of instructions from which something is made
+  of_insns : {X : Type 0} (g : Insn → X) (f : X → Form) → ((i : Insn) → f (g i) ≡ form_of p i) → (is : List Insn) → map f (map g is) ≡ map (form_of p) is
+  of_insns g f h [] = refl
+  of_insns g f h (i ∷ is) = ap₂ (λ x xs. x ∷ xs) (h i) (of_insns g f h is)
 
   of_forms : (f : Form → by_name.Piece) → ((x : Form) → (f x).form ≡ x) → (xs : List Form) → names (map f xs) ≡ xs
   of_forms f h [] = refl
   of_forms f h (x ∷ xs) = ap₂ (λ y ys. y ∷ ys) (h x) (of_forms f h xs)
 
-  forms_append : (xs ys : List Piece) → forms (xs ++ ys) ≡ forms xs ++ forms ys
-  forms_append xs ys = map_append (λ q. form_of p q.insn) xs ys
+  forms_append : {X : Type 0} (xs ys : List X) (f : X → Form) → map f (xs ++ ys) ≡ map f xs ++ map f ys
+  forms_append xs ys f = map_append f xs ys
 
   names_append : (xs ys : List by_name.Piece) → names (xs ++ ys) ≡ names xs ++ names ys
   names_append xs ys = map_append (λ q. q.form) xs ys
@@ -90,9 +87,9 @@ module _ (p : Program) where
         let rest = copies_from shift o end place meth line (suc i) is in
         let there = map (by_name.copy_piece (named p) key m b accepted y n i) (by_name.copied shift o end (λ j. first + by_name.copy_place o y.body.forms j) (form_of p x)) in
         let others = by_name.copies (named p) key m b accepted y n first end o (suc i) (map (form_of p) is) in
-        forms_append here rest
+        forms_append here rest (λ q. form_of p q.insn)
         ∙ ap₂ (λ (xs ys : List Form). xs ++ ys)
-        (of_insns (piece_of meth i (by_name.copied_line line (line_at meth i))) (λ z. refl) (copied_insns shift o end place x)
+        (of_insns (piece_of meth i (by_name.copied_line line (line_at meth i))) (λ q. form_of p q.insn) (λ z. refl) (copied_insns shift o end place x)
         ∙ one_copy shift end place (λ j. first + by_name.copy_place o y.body.forms j) o low x (h 0 x refl)
         ∙ sym (of_forms (by_name.copy_piece (named p) key m b accepted y n i) (λ z. refl) (by_name.copied shift o end (λ j. first + by_name.copy_place o y.body.forms j) (form_of p x))))
         (copies_same (suc i) is (λ j. h (suc j)))
@@ -202,9 +199,9 @@ module _ (p : Program) (key : MethodKey) (m : NamedMethod) (caller : Method) (b 
         let moved = moved_pieces p caller b.insns chosen K places n c i in
         let behind = copied_pieces p caller b.insns chosen K places n c (taken_by (slice_get b.insns (n + 1))) (first_place p caller b.insns chosen K places n c i) in
         let forms_are : x.callee.body.forms ≡ map (form_of p) c.body.now.insns = ap (λ (d : NamedBody). d.forms) x.is.body in
-        forms_append p moved behind
+        forms_append p moved behind (λ q. form_of p q.insn)
         ∙ ap₂ (λ (xs ys : List Form). xs ++ ys)
-        (of_insns p (piece_of caller n (line_at caller n)) (λ z. refl) (moves_of p K c (args_of i)) ∙ moves_same ∙ sym (of_forms p (by_name.piece (named p) key m B A n) (λ z. refl) (by_name.moves_of K x.callee)))
+        (of_insns p (piece_of caller n (line_at caller n)) (λ q. form_of p q.insn) (λ z. refl) (moves_of p K c (args_of i)) ∙ moves_same ∙ sym (of_forms p (by_name.piece (named p) key m B A n) (λ z. refl) (by_name.moves_of K x.callee)))
         (copies_are start forms_are)
         ∙ sym (names_append p (map (by_name.piece (named p) key m B A n) (by_name.moves_of K x.callee))
         (by_name.copies (named p) key m B A x.callee n (place n + length (by_name.moves_of K x.callee)) (place (n + 1)) taken 0 x.callee.body.forms))
@@ -241,7 +238,7 @@ module _ (p : Program) (key : MethodKey) (m : NamedMethod) (caller : Method) (b 
   all_positions (i ∷ is) n h =
       let here = pieces_at p caller b.insns chosen K places n i (chosen_at chosen n) in
       let there = by_name.pieces_at (named p) key m B A n (form_of p i) (by_name.callee_at (named p) B A n) in
-      forms_append p here (pieces_from p caller b.insns chosen K places (suc n) is)
+      forms_append p here (pieces_from p caller b.insns chosen K places (suc n) is) (λ q. form_of p q.insn)
       ∙ ap₂ (λ (xs ys : List Form). xs ++ ys) (one_position n i (ap (slice_get b.insns) (same n) ∙ h 0 i refl)) (all_positions is (suc n) (λ j z e. ap (slice_get b.insns) (next n j) ∙ h (suc j) z e))
       ∙ sym (names_append p there (by_name.pieces_from (named p) key m B A (suc n) (map (form_of p) is)))
     where
@@ -276,9 +273,9 @@ module _ (p : Program) (key : MethodKey) (m : NamedMethod) (caller : Method) (b 
 
   -- ---- the body
 
-  insns_named : (qs : List Piece) → map (form_of p) (map (λ q. q.insn) qs) ≡ map (λ q. form_of p q.insn) qs
-  insns_named [] = refl
-  insns_named (q ∷ qs) = ap (λ l. form_of p q.insn ∷ l) (insns_named qs)
+  insns_named : {X : Type 0} (qs : List X) (f : X → Insn) → map (form_of p) (map f qs) ≡ map (λ q. form_of p (f q)) qs
+  insns_named [] f = refl
+  insns_named (q ∷ qs) f = ap (λ l. form_of p (f q) ∷ l) (insns_named qs f)
 
   abbrev with_shift : ℕ → NamedBody
   with_shift k = record {
@@ -293,7 +290,7 @@ module _ (p : Program) (key : MethodKey) (m : NamedMethod) (caller : Method) (b 
       ap with_shift (sym (same_greatest p b chosen copied))
       ∙ ap₂ (λ r (fs : List Form). record { registers = r; ins = b.ins; forms = fs; regions = map (region_of p) (map (region_moved (place_in places)) b.regions) })
       (shifts K b.registers roomy)
-      (insns_named (pieces_from p caller b.insns chosen K places 0 b.insns) ∙ all_positions b.insns 0 (λ j i e. ap (slice_get b.insns) (plain j) ∙ e))
+      (insns_named (pieces_from p caller b.insns chosen K places 0 b.insns) (λ q. q.insn) ∙ all_positions b.insns 0 (λ j i e. ap (slice_get b.insns) (plain j) ∙ e))
       ∙ ap (λ (rs : List NamedRegion). record { registers = b.registers + K; ins = b.ins; forms = map (λ q. q.form) (by_name.pieces_from (named p) key m B A 0 (map (form_of p) b.insns)); regions = rs }) (regions_same b.regions within.regions)
     where
       plain : (j : ℕ) → 0 + j ≡ j

@@ -37,6 +37,7 @@ use Rattle.inline_kept.specs.Spliced.{SplicesSo}
 use Rattle.inline_kept.proofs.Looked.{inlined_bodies}
 use Rattle.inline_kept.proofs.Shown.{spliced_shown}
 use Rattle.inline_kept.proofs.Shuts.{spliced_holds}
+use Rattle.inline_kept.proofs.Tested.{inlined_typed}
 
 pairs_weaker : {A : Type 0} (R S : A → A → Type 0) → ((x y : A) → R x y → S x y) → (xs ys : List A) → Pairwise R xs ys → Pairwise S xs ys
 pairs_weaker R S h [] [] r = tt
@@ -64,10 +65,10 @@ module _ (p q : Program) (h : Hierarchy) (facts : Facts) (admitted : List Bool) 
   inlined_holds o = spliced_holds p q h w resolved typed facts others o
 
   pub inlined_kept : (acyclic : IsAcyclic p) (o : Outside) → AllHaveWords p → MakersAreOwn p o → (live : LiveSet) (targets : Targets) → Fits p live → IsClosedSet p o live → IsTargeted p o live targets
-      → AreClosed p o live targets facts → AreNamed p (outer_of p o) facts (named_facts p facts) → is_well_formed q ≡ true → IsTyped (named q) → IsKeptFor o p q
-  inlined_kept acyclic o words own live targets fits marks exact closed names formed new_typed = record {
+      → AreClosed p o live targets facts → AreNamed p (outer_of p o) facts (named_facts p facts) → is_well_formed q ≡ true → IsKeptFor o p q
+  inlined_kept acyclic o words own live targets fits marks exact closed names formed = record {
     formed = formed;
-    typed = new_typed;
+    typed = inlined_typed p h w resolved typed q facts admitted count origins rows inlined formed;
     others = any_bodies (SplicesSo p h facts) p q others;
     shown = λ shuts. spliced_shown p h w resolved acyclic typed facts q others (named_facts p facts) (outer_of p o) names
         (λ f. tabled (values p) (named p) (outer_of p o) f (named_facts p facts) (tabled_apart p o f w resolved.of.once acyclic typed words shuts (makers_named p (sound p w) resolved.of.once o own))

@@ -3,4 +3,5 @@ pub mod Running
 pub mod Shown
 pub mod Shuts
 pub mod Looked
+pub mod Tested
 pub mod Kept

@@ -31,7 +31,7 @@ use Rattle.facts.specs.declared.facts.Facts.{Facts}
 use Rattle.dalvik_defs.specs.Naming.{named_class, named_method}
 use Rattle.dalvik_defs.specs.Silence.{key_in}
 use Rattle.bodies_law.specs.Others.{Pairwise}
-use Rattle.bodies_law.specs.Numbered.{OtherNumberedMethod, OtherNumberedClass, OtherNumberedBodies}
+use Rattle.bodies_law.specs.Numbered.{NumberedCodes, OtherNumberedMethod, OtherNumberedClass, OtherNumberedBodies}
 use Rattle.fold_kept.proofs.Few.{few_members}
 use Rattle.splice.specs.declared.callee.Callee.{Callee}
 use Rattle.splice.specs.declared.spliced.Spliced.{Spliced}
@@ -52,7 +52,7 @@ use Rattle.inline_calls.specs.Plans.{nothing_done, edit_of, IsCallerOf, HasLooke
 use Rattle.inline_calls.specs.Rooms.{spliced_by, new_of}
 use Rattle.inline_calls.proofs.Chosen.{tried_candidates}
 use Rattle.inline_bridge.specs.Sites.{Calls, Statically, Directly, Holds, HoldsNone, HoldsOne, HoldsTwo, Passed, Plainly, Behind, TakesFrom, NeverNull, receiver_of, IsSite}
-use Rattle.inline_bridge.specs.Sites as site
+use Rattle.inline_bridge.specs.Sites as by_number
 use Rattle.inline_bridge.proofs.Bodies.{IsCode, is_code, few_positions}
 use Rattle.inline_kept.specs.Spliced.{AreSites, SplicesSo, NoCode, Same, Spliced as SplicedCode}
 
@@ -120,7 +120,7 @@ module _ (p : Program) where
   is_call place m false i f e = absurd (true≢false (sym e))
 
   -- what is taken
-  same_result : (n : ℕ) → result_of p n ≡ site.result_of p n
+  same_result : (n : ℕ) → result_of p n ≡ by_number.result_of p n
   same_result n = by (slice_get p.methods n)
     where
       by : (o : Option MethodName) → result_in (option_and_then (λ m. slice_get p.protos m.proto) o)
@@ -213,10 +213,10 @@ module _ (p : Program) (h : Hierarchy) (facts : Facts) (resolved : IsResolved p 
 -- ---- what is chosen
 
 -- a method is chosen somewhere, or nothing is
-record IsSome (chosen : List (Option Callee)) : Type 0 where
-  place : ℕ
-  callee : Callee
-  there : chosen_at chosen place ≡ Some callee
+pub record IsSome (chosen : List (Option Callee)) : Type 0 where
+  pub place : ℕ
+  pub callee : Callee
+  pub there : chosen_at chosen place ≡ Some callee
 
 tries_some : (i : Inliner) (c : Caller) (cells n : ℕ) (old new : List (Option Callee)) (rows : List Row) → Tries i c cells n old rows new → (old ≡ []) ⊎ IsSome old → (new ≡ []) ⊎ IsSome new
 tries_some i c cells n old _ _ (Unsuited none) h = h
@@ -278,7 +278,7 @@ module _ {A E : Type 0} (looks : ℕ → A → Done → List Row → E → Done 
       by (inl m) = there m
       by (inr m) = here (omega (arith, l, m))
 
-pairs_given : {A E : Type 0} (by : E → A → A) (R : A → A → Type 0) (xs : List A) (es : List E) → length es ≡ length xs → ((k : ℕ) (x : A) (e : E) → slice_get xs k ≡ Some x → slice_get es k ≡ Some e → R x (by e x))
+pub pairs_given : {A E : Type 0} (by : E → A → A) (R : A → A → Type 0) (xs : List A) (es : List E) → length es ≡ length xs → ((k : ℕ) (x : A) (e : E) → slice_get xs k ≡ Some x → slice_get es k ≡ Some e → R x (by e x))
     → Pairwise R xs (each_by by es xs)
 pairs_given by R [] [] l h = tt
 pairs_given by R [] (e ∷ es) l h = absurd (omega (arith, l))
@@ -337,35 +337,44 @@ module _ (p : Program) (h : Hierarchy) (facts : Facts) (w : is_well_formed p ≡
     one_method d e rows edit (Looked z _ _ _ admitted is looked) =
         subst (λ (x : Option Edit). OtherNumberedMethod (SplicesSo p h facts) p c m (method_by x m)) (sym looked.edit) (edited z looked.chosen d.cells rows is looked.tried)
 
-  whole_class : (k : ℕ) (c : Class) → slice_get p.classes k ≡ Some c → word k ≡ k
-  whole_class k c e = min-eq_left (let l = got_short p.classes k c e in let f = few_classes p w in omega (arith, l, f))
+-- ---- a plan, method by method
 
-  one_class : (k : ℕ) (c : Class) (d e : Done) (rows : List Row) (row : List (Option Edit)) → slice_get p.classes k ≡ Some c → LooksInClass i k c d rows row e → OtherNumberedClass (SplicesSo p h facts) p c (class_by row c)
-  one_class k c d e rows row g looked = record {
+-- the places of a class and of a method are numbers of 32 bits
+whole_class : (p : Program) → is_well_formed p ≡ true → (k : ℕ) (c : Class) → slice_get p.classes k ≡ Some c → word k ≡ k
+whole_class p w k c e = min-eq_left (let l = got_short p.classes k c e in let f = few_classes p w in omega (arith, l, f))
+
+whole_place : (p : Program) → is_well_formed p ≡ true → (k : ℕ) (c : Class) → slice_get p.classes k ≡ Some c → (j : ℕ) (m : Method) → slice_get c.methods j ≡ Some m → word j ≡ j
+whole_place p w k c g j m a = min-eq_left (let l = got_short c.methods j m a in let f = few_members p w k c g in omega (arith, l, f))
+
+-- Whatever is so of each method that was looked at is so of the program that is left.
+module _ (N : NumberedCodes) (p : Program) (w : is_well_formed p ≡ true) (i : Inliner) (edits : List (List (Option Edit)))
+    (each_method : (k : ℕ) (c : Class) → slice_get p.classes k ≡ Some c → (row : List (Option Edit)) → slice_get edits k ≡ Some row → (j : ℕ) (m : Method) → slice_get c.methods j ≡ Some m → (x : Option Edit) → slice_get row j ≡ Some x
+        → (d e : Done) (rows : List Row) → LooksAt i c (record { class = k; place = j }) m d rows x e → OtherNumberedMethod N p c m (method_by x m)) where
+  one_class : (k : ℕ) (c : Class) (d e : Done) (rows : List Row) (row : List (Option Edit)) → slice_get p.classes k ≡ Some c → slice_get edits k ≡ Some row → LooksInClass i k c d rows row e → OtherNumberedClass N p c (class_by row c)
+  one_class k c d e rows row g b looked = record {
     same = refl;
-    methods = pairs_given method_by (OtherNumberedMethod (SplicesSo p h facts) p c) c.methods row (looked_long (LooksAtMethod i (word k) c) c.methods d (length c.methods) rows row e looked) each;
+    methods = pairs_given method_by (OtherNumberedMethod N p c) c.methods row (looked_long (LooksAtMethod i (word k) c) c.methods d (length c.methods) rows row e looked) each;
   }
     where
-      whole_place : (j : ℕ) (m : Method) → slice_get c.methods j ≡ Some m → word j ≡ j
-      whole_place j m i = min-eq_left (let l = got_short c.methods j m i in let f = few_members p w k c g in omega (arith, l, f))
-
-      each : (j : ℕ) (m : Method) (x : Option Edit) → slice_get c.methods j ≡ Some m → slice_get row j ≡ Some x → OtherNumberedMethod (SplicesSo p h facts) p c m (method_by x m)
-      each j m x a b =
+      each : (j : ℕ) (m : Method) (x : Option Edit) → slice_get c.methods j ≡ Some m → slice_get row j ≡ Some x → OtherNumberedMethod N p c m (method_by x m)
+      each j m x a v =
           let z = looked_at (LooksAtMethod i (word k) c) c.methods d (length c.methods) rows row e looked j m (got_short c.methods j m a) a in
-          let same : z.one ≡ x = some_same z.one x (sym z.there ∙ b) in
+          let same : z.one ≡ x = some_same z.one x (sym z.there ∙ v) in
           let here : LooksAt i c (record { class = k; place = j }) m z.before z.rows z.one z.behind =
-          subst (λ (q : MethodAt). LooksAt i c q m z.before z.rows z.one z.behind) (ap₂ (λ u v. record { class = u; place = v }) (whole_class k c g) (whole_place j m a)) z.looked in
-          subst (λ (q : Option Edit). OtherNumberedMethod (SplicesSo p h facts) p c m (method_by q m)) same (one_method k c g j m a z.before z.behind z.rows z.one here)
+          subst (λ (q : MethodAt). LooksAt i c q m z.before z.rows z.one z.behind) (ap₂ (λ u v. record { class = u; place = v }) (whole_class p w k c g) (whole_place p w k c g j m a)) z.looked in
+          each_method k c g row b j m a x v z.before z.behind z.rows (subst (λ (q : Option Edit). LooksAt i c (record { class = k; place = j }) m z.before z.rows q z.behind) same here)
 
-  all_classes : (d e : Done) (rows : List Row) (edits : List (List (Option Edit))) → LooksThrough i p.classes d rows edits e → OtherNumberedBodies (SplicesSo p h facts) p (program_by edits p)
-  all_classes d e rows edits looked = record {
+  pub all_classes : (d e : Done) (rows : List Row) → LooksThrough i p.classes d rows edits e → OtherNumberedBodies N p (program_by edits p)
+  all_classes d e rows looked = record {
     same = refl;
-    classes = pairs_given class_by (OtherNumberedClass (SplicesSo p h facts) p) p.classes edits (looked_long (LooksInClass i) p.classes d (length p.classes) rows edits e looked)
+    classes = pairs_given class_by (OtherNumberedClass N p) p.classes edits (looked_long (LooksInClass i) p.classes d (length p.classes) rows edits e looked)
         (λ k c row g b. let z = looked_at (LooksInClass i) p.classes d (length p.classes) rows edits e looked k c (got_short p.classes k c g) g in
-        subst (λ (r : List (Option Edit)). OtherNumberedClass (SplicesSo p h facts) p c (class_by r c)) (some_same z.one row (sym z.there ∙ b)) (one_class k c z.before z.behind z.rows z.one g z.looked));
+        one_class k c z.before z.behind z.rows row g b (subst (λ (r : List (Option Edit)). LooksInClass i k c z.before z.rows r z.behind) (some_same z.one row (sym z.there ∙ b)) z.looked));
   }
 
 pub inlined_bodies : (p q : Program) (h : Hierarchy) (facts : Facts) (admitted : List Bool) (count : ℕ) (origins : List (List Origin)) (rows : List Row) → is_well_formed p ≡ true → IsResolved p h
     → IsInlined p h facts admitted q count origins rows → OtherNumberedBodies (SplicesSo p h facts) p q
 inlined_bodies p q h facts admitted count origins rows w resolved x = subst (λ (z : Program). OtherNumberedBodies (SplicesSo p h facts) p z) (sym x.program)
-    (all_classes p h facts w resolved x.planned.inliner x.planned.for.program x.planned.for.hierarchy x.planned.for.known (nothing_done p) x.last rows x.edits x.planned.looked)
+    (all_classes (SplicesSo p h facts) p w x.planned.inliner x.edits
+    (λ k c g row b j m a y v d e some looks. one_method p h facts w resolved x.planned.inliner x.planned.for.program x.planned.for.hierarchy x.planned.for.known k c g j m a d e some y looks)
+    (nothing_done p) x.last rows x.planned.looked)

@@ -47,7 +47,7 @@ use Rattle.splice.specs.declared.callee.Callee.{Callee}
 use Rattle.splice.specs.Callees.{chosen_at}
 use Rattle.splice.specs.Pieces.{body_spliced}
 use Rattle.splice_bridge.specs.Copied.{accepted_from, accepted_by, IsCopied, IsWithin, AreCopied}
-use Rattle.splice_bridge.proofs.Chosen.{among, Matches, Neither as NoneThere, Both as BothThere, matches, found_there}
+use Rattle.splice_bridge.proofs.Chosen.{among}
 use Rattle.splice_bridge.proofs.Pieces.{spliced_named}
 use Rattle.inline_bridge.specs.Sites.{IsSite, IsSoundSite}
 use Rattle.inline_bridge.proofs.Bodies.{IsCode, is_code, is_within}

@@ -94,7 +94,7 @@ use Rattle.fold_bridge.proofs.Covered.{one_more, reg, covered_calm}
 use Rattle.splice.specs.declared.callee.Callee.{Callee}
 use Rattle.splice.specs.Moves.{parameters_of}
 use Rattle.inline_bridge.specs.Sites.{Calls, Passed, Plainly, Behind, NeverNull, IsSite, receiver_of}
-use Rattle.inline_bridge.specs.Sites as site
+use Rattle.inline_bridge.specs.Sites as by_number
 use Rattle.inline_bridge.proofs.Sites.{found_callee, statically, flag_same, body_is}
 use Rattle.inline_kept.specs.Spliced.{SplicesSo}
 use Rattle.inline_kept.proofs.Named.{contains_at, AtSite, sites, at_a_site}
@@ -105,14 +105,8 @@ null_word v e = absurd (true≢false (sym e))
 
 module _ (p : Program) (h : Hierarchy) (w : is_well_formed p ≡ true) (resolved : IsResolved p h) (ancestor : (class : ℕ) → IsAncestor p class class → ⊥) (typed : IsTyped (named p)) (facts : Facts)
     (q : Program) (others : OtherNumberedBodies (SplicesSo p h facts) p q) where
-  abbrev P : NamedProgram
-  P = named p
-
   abbrev pub level : ℕ
   level = suc (length (named p).classes)
-
-  abbrev S : MethodKey → ℕ → Option inlining.Callee
-  S = sites p h w resolved typed facts q others
 
   site_at : (k : MethodKey) (n : ℕ) (y : inlining.Callee) → sites p h w resolved typed facts q others k n ≡ Some y → AtSite p h w resolved typed facts q others k n y
   site_at = at_a_site p h w resolved typed facts q others
@@ -134,12 +128,12 @@ module _ (p : Program) (h : Hierarchy) (w : is_well_formed p ≡ true) (resolved
 
     enterable : (f : Framework) → (static : Bool) (i : Insn) → has_flag a.callee.method.now.flags 8 ≡ static → Calls p a.site.place a.site.args static i
         → Enterable (face_of (named p) f) (quiet_within (face_of (named p) f) level) (found_callee p h w resolved typed facts a.at a.class a.method a.body a.is_class a.is_method a.has n a.callee a.site) (form_of p i)
-    enterable f _ _ e (site.Statically method x) =
+    enterable f _ _ e (by_number.Statically method x) =
         Statically (method_at p method) (found_in (named_class p a.class) (named_method p a.callee.method.now)) (statically p h w resolved typed facts a.at a.class a.method a.body a.is_class a.is_method a.has n a.callee a.site method x) refl
         (ap is_some (body_is p h w resolved typed facts a.at a.class a.method a.body a.is_class a.is_method a.has n a.callee a.site))
         (sym (flag_same p h w resolved typed facts a.at a.class a.method a.body a.is_class a.is_method a.has n a.callee a.site) ∙ e)
         (trivial_quiet (named p) f (type_at p a.class.name) ((rooted p w resolved.of.once ancestor).ends (type_at p a.class.name)) (trivial e))
-    enterable f _ _ e (site.Directly method x) =
+    enterable f _ _ e (by_number.Directly method x) =
         Directly (method_at p method) (found_in (named_class p a.class) (named_method p a.callee.method.now)) (statically p h w resolved typed facts a.at a.class a.method a.body a.is_class a.is_method a.has n a.callee a.site method x) refl
         (ap is_some (body_is p h w resolved typed facts a.at a.class a.method a.body a.is_class a.is_method a.has n a.callee a.site))
         (sym (flag_same p h w resolved typed facts a.at a.class a.method a.body a.is_class a.is_method a.has n a.callee a.site) ∙ e)
@@ -259,8 +253,8 @@ module _ (p : Program) (h : Hierarchy) (w : is_well_formed p ≡ true) (resolved
       -- the receiver of a direct call that is a site
       direct : (static : Bool) (i : Insn) (args : List ℕ) → a.site.insn ≡ i → has_flag a.callee.method.now.flags 8 ≡ static → Calls p a.site.place args static i → args ≡ a.site.args
           → Passed p (parameters_of p a.callee.method.now.name) static args → (k : MethodKey) (rs : List ℕ) → form_of p i ≡ form.Invoke call.Direct k rs → is_null (receiver (map (register g) args)) ≡ false
-      direct _ _ args j e (site.Statically method x) same pass k rs d = absurd (cc)
-      direct _ _ _ j e (site.Directly method x) same (Behind on more held) k rs d =
+      direct _ _ args j e (by_number.Statically method x) same pass k rs d = absurd (cc)
+      direct _ _ _ j e (by_number.Directly method x) same (Behind on more held) k rs d =
           seen on (there_read v g td (form_of p (insn.Invoke call.Direct method (on ∷ more))) on (typed_form v g td (form_of p (insn.Invoke call.Direct method (on ∷ more))) (here ∙ ap (λ z. Some (form_of p z)) j))
           (or_left (nat_eq on on) (list_any (λ b. nat_eq b on) more) (same_number on)))
           (subst (λ z. NeverNull facts a.method.name g.position (receiver_of z)) (sym same) (a.site.direct e))

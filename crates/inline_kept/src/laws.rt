@@ -35,13 +35,20 @@ pub fn inlined_bodies_law()
 {}
 
 /// What is left of a well-formed and typed program with calls inlined by facts that are certified for an outside is kept for this
-/// outside, where it is well-formed and typed, which the pass tests. Beside what certifies the facts stand what the law of coverage
-/// asks of a program and of the kept constructors, and that the facts by number say what their names say (fold_kept).
+/// outside, where it is well-formed, which the pass tests. That it is typed follows from what was tested of each new body. Beside what
+/// certifies the facts stand what the law of coverage asks of a program and of the kept constructors, and that the facts by number say
+/// what their names say (fold_kept).
 pub fn inlined_kept_law()
     ensures { (p q : Program) (h : Hierarchy) (o : Outside) (live : LiveSet) (targets : Targets) (facts : Facts) (admitted : List Bool) (count : ℕ) (origins : List (List Origin)) (rows : List Row)
         → is_well_formed p ≡ true → IsResolved p h → IsAcyclic p → IsTyped (named p) → AllHaveWords p → MakersAreOwn p o → Fits p live → IsClosedSet p o live → IsTargeted p o live targets
         → AreClosed p o live targets facts → AreNamed p (outer_of p o) facts (named_facts p facts) → IsInlined p h facts admitted q count origins rows
-        → is_well_formed q ≡ true → IsTyped (named q) → IsKeptFor o p q }
+        → is_well_formed q ≡ true → IsKeptFor o p q }
+{}
+
+/// What is left of a well-formed and typed program is typed where it is well-formed, whatever the facts are.
+pub fn inlined_typed_law()
+    ensures { (p q : Program) (h : Hierarchy) (facts : Facts) (admitted : List Bool) (count : ℕ) (origins : List (List Origin)) (rows : List Row) → is_well_formed p ≡ true → IsResolved p h → IsTyped (named p)
+        → IsInlined p h facts admitted q count origins rows → is_well_formed q ≡ true → IsTyped (named q) }
 {}
 
 /// Whatever the facts are, it keeps what a table of shut methods owes: what a copy says, the method that is copied says too.

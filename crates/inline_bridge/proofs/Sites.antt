@@ -32,7 +32,7 @@ use Rattle.program_model.specs.declared.program.Class.{Class}
 use Rattle.program_model.specs.declared.program.Method.{Method}
 use Rattle.program_model.specs.declared.program.MethodAt.{MethodAt}
 use Rattle.program_model.specs.declared.program.Program.{Program}
-use Rattle.class_defs.specs.Finding.{search_of, finds_static}
+use Rattle.class_defs.specs.Finding.{search_of, finds_from, by_entry, finds_static}
 use Rattle.class_defs.proofs.WellFormed.{Sound, sound}
 use Rattle.hierarchy.specs.Shapes.{IsResolved}
 use Rattle.hierarchy.specs.declared.build.Hierarchy.{Hierarchy}
@@ -196,7 +196,7 @@ module _ (p : Program) (h : Hierarchy) (w : is_well_formed p ≡ true) (resolved
     pub statically : (method : ℕ) → finds_static p method ≡ Some s.place → finds_statically (named p) (method_at p method) ≡ Finds (found_in C M)
     statically method e = static_by_number p (sound p w) method (by (slice_get p.methods method) refl e) ∙ ap (λ o. search_at p (search_of o)) e ∙ ap finds found
       where
-        by : (o : Option MethodName) → slice_get p.methods method ≡ o → elim o as (λ o. Option MethodAt) [ Some q ↦ finds_static p method | None ↦ None ] ≡ Some s.place → method < length p.methods
+        by : (o : Option MethodName) → slice_get p.methods method ≡ o → by_entry (λ q. finds_from p q.name q.proto (look.class_place p q.class)) o ≡ Some s.place → method < length p.methods
         by None i j = none_some s.place j
         by (Some q) i j = got_short p.methods method q i
 
@@ -276,6 +276,11 @@ module _ (p : Program) (h : Hierarchy) (w : is_well_formed p ≡ true) (resolved
     args_long = words_by (has_flag y.method.now.flags 8) s.args s.passes
         ∙ ap (λ ts. receiver_words y.method.now.flags + sum_by (rules.words_of p) ts) parameters_are ∙ sym has_proto.words
 
+    passed_registers : (static : Bool) (i : Insn) → Calls p s.place s.args static i → registers_fit i b.registers ≡ true → are_registers (args_of i) b.registers ≡ true
+    unfolding registers_fit
+    passed_registers _ _ (Statically method e) k = k
+    passed_registers _ _ (Directly method e) k = k
+
     -- ---- the copy
 
     pub copied : IsCopied p b n y
@@ -292,11 +297,6 @@ module _ (p : Program) (h : Hierarchy) (w : is_well_formed p ≡ true) (resolved
       short = s.short;
       targets = λ j t x e k. targets_at p w at.class s.place.place c y.method.now y.body.now is_class method_there s.code j t x e k;
     }
-      where
-        passed_registers : (static : Bool) (i : Insn) → Calls p s.place s.args static i → registers_fit i b.registers ≡ true → are_registers (args_of i) b.registers ≡ true
-        unfolding registers_fit
-        passed_registers _ _ (Statically method e) k = k
-        passed_registers _ _ (Directly method e) k = k
 
     -- ---- a sound callee
 

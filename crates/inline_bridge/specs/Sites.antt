@@ -42,7 +42,7 @@ pub data Calls (p : Program) (place : MethodAt) (args : List ℕ) : Bool → Ins
 pub data Holds (p : Program) : List ℕ → List ℕ → Type 0 where
   HoldsNone : Holds p [] []
   HoldsOne : (t r : ℕ) (ts rs : List ℕ) → is_wide (letter_of p t) ≡ false → Holds p ts rs → Holds p (t ∷ ts) (r ∷ rs)
-  HoldsTwo : (t r : ℕ) (ts rs : List ℕ) → is_wide (letter_of p t) ≡ true → Holds p ts rs → Holds p (t ∷ ts) (r ∷ r + 1 ∷ rs)
+  HoldsTwo : (t r : ℕ) (ts rs : List ℕ) → is_wide (letter_of p t) ≡ true → Holds p ts rs → Holds p (t ∷ ts) (r ∷ (r + 1) ∷ rs)
 
 -- the same with a receiver in front, unless the method is static
 pub data Passed (p : Program) (ts : List ℕ) : Bool → List ℕ → Type 0 where

@@ -349,7 +349,7 @@ whole_place p w k c g j m a = min-eq_left (let l = got_short c.methods j m a in 
 -- Whatever is so of each method that was looked at is so of the program that is left.
 module _ (N : NumberedCodes) (p : Program) (w : is_well_formed p ≡ true) (i : Inliner) (edits : List (List (Option Edit)))
     (each_method : (k : ℕ) (c : Class) → slice_get p.classes k ≡ Some c → (row : List (Option Edit)) → slice_get edits k ≡ Some row → (j : ℕ) (m : Method) → slice_get c.methods j ≡ Some m → (x : Option Edit) → slice_get row j ≡ Some x
-        → (d e : Done) (rows : List Row) → LooksAt i c (record { class = k; place = j }) m d rows x e → OtherNumberedMethod N p c m (method_by x m)) where
+    → (d e : Done) (rows : List Row) → LooksAt i c (record { class = k; place = j }) m d rows x e → OtherNumberedMethod N p c m (method_by x m)) where
   one_class : (k : ℕ) (c : Class) (d e : Done) (rows : List Row) (row : List (Option Edit)) → slice_get p.classes k ≡ Some c → slice_get edits k ≡ Some row → LooksInClass i k c d rows row e → OtherNumberedClass N p c (class_by row c)
   one_class k c d e rows row g b looked = record {
     same = refl;

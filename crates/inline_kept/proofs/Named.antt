@@ -206,8 +206,19 @@ module _ (p : Program) (h : Hierarchy) (w : is_well_formed p ≡ true) (resolved
     site_of k n y _ _ (Spliced at c m b chosen ic im has key s) e i =
         let t = site_there at c m b chosen ic im has s n y i in
         record {
-          at = at; class = c; method = m; body = b; chosen = chosen; is_class = ic; is_method = im; has = has; is_key = key; found = e;
-          callee = t.callee; site = s.each n t.callee t.there; same = t.same;
+          at = at;
+          class = c;
+          method = m;
+          body = b;
+          chosen = chosen;
+          is_class = ic;
+          is_method = im;
+          has = has;
+          is_key = key;
+          found = e;
+          callee = t.callee;
+          site = s.each n t.callee t.there;
+          same = t.same;
         }
 
     abbrev pub sites : MethodKey → ℕ → Option by_name.Callee

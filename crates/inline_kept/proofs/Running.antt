@@ -140,10 +140,14 @@ module _ (p : Program) (h : Hierarchy) (w : is_well_formed p ≡ true) (resolved
 
   pub all_enterable : (f : Framework) → AreEnterable (face_of (named p) f) (bodies_of (named p)) (quiet_within (face_of (named p) f) level) (sites p h w resolved typed facts q others)
   all_enterable f g y e =
-      let a = site_at g.method g.position y e in
-      (form_of p a.site.insn, (here_form g.method g.position y a g refl refl,
-      subst (λ (z : inlining.Callee). Enterable (face_of (named p) f) (quiet_within (face_of (named p) f) level) z (form_of p a.site.insn)) (sym a.same)
-      (enterable g.method g.position y a f (has_flag a.callee.method.now.flags 8) a.site.insn refl a.site.calls)))
+      let a = site_at g.method g.position y e in (
+        form_of p a.site.insn,
+        (
+          here_form g.method g.position y a g refl refl,
+          subst (λ (z : inlining.Callee). Enterable (face_of (named p) f) (quiet_within (face_of (named p) f) level) z (form_of p a.site.insn)) (sym a.same)
+              (enterable g.method g.position y a f (has_flag a.callee.method.now.flags 8) a.site.insn refl a.site.calls),
+        ),
+      )
 
   -- ---- a run
 

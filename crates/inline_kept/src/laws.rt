@@ -47,7 +47,8 @@ pub fn inlined_kept_law()
 
 /// What is left of a well-formed and typed program is typed where it is well-formed, whatever the facts are.
 pub fn inlined_typed_law()
-    ensures { (p q : Program) (h : Hierarchy) (facts : Facts) (admitted : List Bool) (count : ℕ) (origins : List (List Origin)) (rows : List Row) → is_well_formed p ≡ true → IsResolved p h → IsTyped (named p)
+    ensures { (p q : Program) (h : Hierarchy) (facts : Facts) (admitted : List Bool) (count : ℕ) (origins : List (List Origin)) (rows : List Row) → is_well_formed p ≡ true → IsResolved p h
+        → IsTyped (named p)
         → IsInlined p h facts admitted q count origins rows → is_well_formed q ≡ true → IsTyped (named q) }
 {}
 

@@ -113,18 +113,22 @@ module _ (p : Program) where
   result_type : (n : ℕ) → (q : MethodName) → slice_get p.methods n ≡ Some q → (t : Proto) → slice_get p.protos q.proto ≡ Some t → ((method_at p n).signature.result ≡ type_at p t.result) × (result_of p n ≡ t.result)
   result_type n q e t f = (
     ap (λ (o : Option MethodName). (elim o as (λ o. MethodKey) [
-      | Some m ↦ record { class = type_at p m.class; name = elim (slice_get p.strings m.name) [ Some t ↦ t | None ↦ [] ]; signature = elim (slice_get p.protos m.proto) as (λ o. Signature) [
-        | Some q ↦ record { parameters = map (type_at p) q.parameters; result = type_at p q.result }
-        | None ↦ record { parameters = []; result = [] }
-      ] }
+      | Some m ↦ record {
+        class = type_at p m.class;
+        name = elim (slice_get p.strings m.name) [ Some t ↦ t | None ↦ [] ];
+        signature = elim (slice_get p.protos m.proto) as (λ o. Signature) [
+          | Some q ↦ record { parameters = map (type_at p) q.parameters; result = type_at p q.result }
+          | None ↦ record { parameters = []; result = [] }
+        ];
+      }
       | None ↦ record { class = []; name = []; signature = record { parameters = []; result = [] } }
     ]).signature.result) e
-    ∙ ap (λ (o : Option Proto). (elim o as (λ o. Signature) [
-      | Some q ↦ record { parameters = map (type_at p) q.parameters; result = type_at p q.result }
-      | None ↦ record { parameters = []; result = [] }
-    ]).result) f,
+        ∙ ap (λ (o : Option Proto). (elim o as (λ o. Signature) [
+          | Some q ↦ record { parameters = map (type_at p) q.parameters; result = type_at p q.result }
+          | None ↦ record { parameters = []; result = [] }
+        ]).result) f,
     ap (λ (o : Option MethodName). elim o as (λ o. ℕ) [ Some q ↦ elim (slice_get p.protos q.proto) [ Some t ↦ t.result | None ↦ 4294967295 ] | None ↦ 4294967295 ]) e
-    ∙ ap (λ (o : Option Proto). elim o as (λ o. ℕ) [ Some t ↦ t.result | None ↦ 4294967295 ]) f,
+        ∙ ap (λ (o : Option Proto). elim o as (λ o. ℕ) [ Some t ↦ t.result | None ↦ 4294967295 ]) f,
   )
 
   -- ---- what is passed

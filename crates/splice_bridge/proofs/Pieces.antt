@@ -103,7 +103,6 @@ result_low slot.Wide to n h = let l = ltb-true (to + 1) n h in omega (arith, l)
 result_low slot.Word to n h = ltb-true to n h
 result_low slot.Object to n h = ltb-true to n h
 
-
 module _ (p : Program) (key : MethodKey) (m : NamedMethod) (caller : Method) (b : Body) (chosen : List (Option Callee)) (within : IsWithin b) (copied : AreCopied p b chosen) where
   abbrev B : NamedBody
   B = body_of p b

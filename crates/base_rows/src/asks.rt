@@ -1,6 +1,6 @@
 //! The words that begin a line which asks.
 
-use crate::{code, domains_asked, flows, lines, texts};
+use crate::{code, domains_asked, flows, lines, maps_asked, texts};
 use command_line::{USAGE, read_words};
 use row_text::{Page, Trouble};
 use std::alloc::Global;
@@ -58,6 +58,7 @@ pub fn answer(alloc: Global, page: &Page, line: &str) -> Result<String, Trouble>
         "usage" => Ok(format!(in alloc; "{USAGE:?}")?),
         "insn" => code::insn(alloc, line),
         "domain" => domains_asked::answer(alloc, second, third, fourth),
+        "map" => maps_asked::answer(alloc, second, third, fourth),
         "lines" => lines::read(alloc, second, third, fourth),
         "write-lines" => lines::write(alloc, second, third, fourth),
         _ => match texts::answer(alloc, first, second, third, fourth)? {

@@ -1,7 +1,7 @@
 //! The domains through their bound.
 
 use domains::{ClassSet, Interval, Nullness, Value, Word};
-use lattice_core::{Domain, Lattice};
+use lattice_core::{Domain, Env, Flat, Lattice, Lifted, Pair};
 use row_text::{Trouble, numbers};
 use std::alloc::{AllocError, Global};
 
@@ -13,6 +13,27 @@ fn is_above<D: Domain>(alloc: Global, a: &D, b: &D) -> Result<bool, AllocError> 
     Ok(above && a.copy(alloc)?.leq(a) && D::bottom(alloc).leq(a))
 }
 
+/// Whether it is so of a known value in a short list and two others in a longer one.
+fn is_list_above(alloc: Global) -> Result<bool, AllocError> {
+    let short = Env::filled(alloc, 1, Flat::Known(7u32))?;
+    let mut long = Env::filled(alloc, 2, Flat::Known(7u32))?;
+    long.set(0, Flat::Known(8));
+    is_above(alloc, &short, &long)
+}
+
+/// Whether it is so of two pairs that share their first part.
+fn is_pair_above(alloc: Global) -> Result<bool, AllocError> {
+    let low = Pair {
+        first: Flat::Known(1u32),
+        second: Flat::Known(2u8),
+    };
+    let high = Pair {
+        first: Flat::Known(1u32),
+        second: Flat::Known(3u8),
+    };
+    is_above(alloc, &low, &high)
+}
+
 /// Whether it is so of two values of each domain.
 fn are_above(alloc: Global, name: &str) -> Result<bool, Trouble> {
     Ok(match name {
@@ -21,6 +42,14 @@ fn are_above(alloc: Global, name: &str) -> Result<bool, Trouble> {
         "nullness" => is_above(alloc, &Nullness::Null, &Nullness::NotNull)?,
         "classes" => is_above(alloc, &ClassSet::exactly(3), &ClassSet::exactly(2))?,
         "value" => is_above(alloc, &Value::constant(0), &Value::any())?,
+        "flat" => is_above(alloc, &Flat::Known(3u32), &Flat::Known(4))?,
+        "lifted" => is_above(
+            alloc,
+            &Lifted::Unreached,
+            &Lifted::Reached(Flat::Known(3u32)),
+        )?,
+        "list" => is_list_above(alloc)?,
+        "pair" => is_pair_above(alloc)?,
         _ => return Err(Trouble::Words),
     })
 }

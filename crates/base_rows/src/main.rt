@@ -13,6 +13,7 @@ mod code;
 mod domains_asked;
 mod flows;
 mod lines;
+mod maps_asked;
 mod texts;
 
 use crate::asks::answer;

@@ -15,6 +15,3 @@ mod worklist;
 pub use along::solve_along;
 pub use flows::{Flow, Solution};
 pub use worklist::solve;
-
-#[cfg(test)]
-mod tests;

@@ -17,6 +17,3 @@ pub use lifting::Lifted;
 pub use order::{Domain, Lattice};
 pub use pairs::Pair;
 pub use places::Env;
-
-#[cfg(test)]
-mod tests;

@@ -13,6 +13,3 @@ mod pours;
 
 pub use maps::PatMap;
 pub use pours::MapValue;
-
-#[cfg(test)]
-mod tests;

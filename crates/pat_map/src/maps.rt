@@ -72,8 +72,8 @@ impl<V: Lattice> PatMap<V> {
         self.set_counting(alloc, key, value, &mut 0)
     }
 
-    /// The map with this value at a key. The nodes that are made are counted in `made`.
-    pub(crate) fn set_counting(
+    /// The map with this value at a key. The nodes that are made are counted in `made`. The only error is want of memory.
+    pub fn set_counting(
         &self,
         alloc: Global,
         key: u32,

@@ -1,1 +1,5 @@
+pub mod Loose
+pub mod Mentioned
+pub mod Judging
 pub mod Loosened
+pub mod Left

@@ -1,6 +1,7 @@
 //! How often the solvers follow edges: graphs of four shapes, each solved by the worklist and along a weak order.
 //!
-//! Without words it prints a line for each shape and solver at a thousand edges. With a shape, a solver and a number of
+//! Without words it prints a line for each shape and solver at a thousand edges, and how many nodes a change of a map with
+//! 1,024 keys makes. With a shape, a solver and a number of
 //! edges it prints that line alone. bench/visits runs it at many more edges, with a clock.
 #![tactic(auto)]
 
@@ -13,6 +14,8 @@ mod shapes;
 use counting::Counting;
 use fixpoint::{solve, solve_along};
 use flow_cfg::{Part, weak_order};
+use lattice_core::Flat;
+use pat_map::PatMap;
 use shapes::{Shape, edges_of};
 use std::alloc::{AllocError, Global};
 use std::{env, io};
@@ -79,6 +82,17 @@ fn say(rt: &HostRuntime, shape: Shape, solver: Solver, about: u32) -> io::Result
     Ok(())
 }
 
+/// How many nodes one change of a map with so many keys makes.
+fn nodes_made(alloc: Global, keys: u32) -> Result<u32, AllocError> {
+    let mut map = PatMap::empty();
+    for key in 0..keys {
+        map = map.set(alloc, key, Flat::Known(key))?;
+    }
+    let mut made = 0;
+    map.set_counting(alloc, keys / 2, Flat::Any, &mut made)?;
+    Ok(made)
+}
+
 /// The lines that three words ask for, or all lines.
 fn main(rt: HostRuntime) -> io::Result<()> {
     let words: Vec<String> = env::args(&rt)?.skip(1).collect(rt.alloc())?;
@@ -97,6 +111,8 @@ fn main(rt: HostRuntime) -> io::Result<()> {
                 say(&rt, shape, Solver::Worklist, FEW)?;
                 say(&rt, shape, Solver::Along, FEW)?;
             }
+            let made = nodes_made(rt.alloc(), 1_024)?;
+            println!(rt; "map 1024 {made}")?;
             Ok(())
         }
     }

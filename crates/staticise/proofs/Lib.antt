@@ -1,1 +1,15 @@
 mod Edited
+mod Named
+mod Marks
+mod Items
+mod Differ
+mod Once
+mod Under
+mod Candidates
+mod Given
+mod Found
+mod Plain
+mod Bars
+mod Sifts
+mod Judged
+mod Grown

@@ -18,6 +18,7 @@ use Rattle.program_model.specs.Texts.{letter_of, is_reference}
 use Rattle.class_defs.specs.Members.{string_is}
 use Rattle.class_defs.specs.Starts.{is_trivial}
 use Rattle.facts.specs.declared.facts.Facts.{Facts}
+use Rattle.staticise.specs.declared.protos.Wanted.{Wanted}
 use Rattle.staticise.specs.Loose.{is_alone, calls_allow}
 use Rattle.staticise.specs.Mentioned.{is_mentioned}
 
@@ -75,22 +76,24 @@ abbrev pub proto_more : List ℕ → Option ℕ → ℕ
 proto_more parameters None = length parameters
 proto_more parameters (Some place) = 0
 
-abbrev pub marks_more : List (List Mark) → ℕ
-marks_more [] = 0
-marks_more (ms ∷ mss) = 1
+abbrev pub marks_more : Bool → ℕ
+marks_more true = 1
+marks_more false = 0
 
--- What is made static: the number of the method and its name, and the result and the parameters of its new proto, with its parameter
--- marks.
-pub record Wanted : Type 0 where
-  pub number : ℕ
-  pub name : ℕ
-  pub result : ℕ
-  pub parameters : List ℕ
-  pub text : List ℕ
-  pub marks : List (List Mark)
+abbrev pub is_marked : List (List Mark) → Bool
+is_marked [] = false
+is_marked (ms ∷ mss) = true
 
+-- What a method that is made static needs: the result and the parameters of its new proto, and its short form.
 abbrev pub wanted : Program → Class → Method → MethodName → Proto → Wanted
-wanted p k m q proto = record { number = m.name; name = q.name; result = proto.result; parameters = k.name ∷ proto.parameters; text = shorty p proto.result (k.name ∷ proto.parameters); marks = m.parameter_marks }
+wanted p k m q proto = record {
+  number = m.name;
+  name = q.name;
+  result = proto.result;
+  parameters = k.name ∷ proto.parameters;
+  text = shorty p proto.result (k.name ∷ proto.parameters);
+  marked = is_marked m.parameter_marks;
+}
 
 abbrev pub text_at : Tables → Wanted → Option ℕ
 text_at t w = text_place t.strings w.text
@@ -105,7 +108,7 @@ abbrev pub proto_of : Tables → Wanted → Proto
 proto_of t w = record { shorty = place_or (length t.strings) (text_at t w); result = w.result; parameters = w.parameters }
 
 abbrev pub items_with : Tables → Wanted → ℕ
-items_with t w = t.items + (proto_more w.parameters (proto_at t w) + marks_more w.marks)
+items_with t w = t.items + (proto_more w.parameters (proto_at t w) + marks_more w.marked)
 
 -- The tables with what a method that is made static needs: its short form, its proto, and the number of that.
 abbrev pub with_new : Tables → Wanted → Tables

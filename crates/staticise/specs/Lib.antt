@@ -3,3 +3,9 @@ pub mod Mentioned
 pub mod Judging
 pub mod Loosened
 pub mod Left
+pub mod Marking
+pub mod Asked
+pub mod Sifting
+pub mod Growing
+pub mod Ordering
+pub mod Planned

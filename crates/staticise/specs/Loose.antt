@@ -2,12 +2,12 @@
 -- annotations and first values that name it (Dalvik executable format, "access_flags Definitions"; this project's profile).
 use Rattle.std.specs.Prelude.{◌≡◌, ℕ, suc, ◌&&◌, ◌||◌, not, Bool, true, false, nat_eq, List, [], ◌∷◌, ◌++◌, length, filter, flat_map, Option, Some, None, is_some, slice_get, slice_index_or, if◌then◌else◌}
 use Rattle.std.specs.List.{list_any, list_all, range_with_len}
+use Rattle.std.specs.Option.{option_map}
 use Rattle.insn_set.specs.declared.ops.InvokeKind.{InvokeKind}
 use Rattle.insn_set.specs.declared.ops.InvokeKind.TheVariants as call
 use Rattle.insn_set.specs.declared.form.Insn.{Insn}
 use Rattle.insn_set.specs.declared.form.Insn.TheVariants as insn
 use Rattle.program_model.specs.declared.body.Body.{Body}
-use Rattle.program_model.specs.declared.pass.Outside.{Outside}
 use Rattle.program_model.specs.declared.pools.MethodName.{MethodName}
 use Rattle.program_model.specs.declared.program.Class.{Class}
 use Rattle.program_model.specs.declared.program.Method.{Method}
@@ -19,8 +19,8 @@ use Rattle.program_model.specs.Texts.{type_text}
 use Rattle.class_defs.specs.Finding.{Search, Nothing, Clash, Finds, one_or_none, is_037, candidates, finds_at, finds_static, finds_super, resolves_method}
 use Rattle.class_defs.specs.Members.{own_method, own_virtual, has_code, is_common}
 use Rattle.class_defs.specs.Places.{is_under, interface_places, chain_of}
-use Rattle.domains.specs.declared.nullness.Nullness.{Nullness}
-use Rattle.domains.specs.declared.nullness.Nullness.TheVariants as null
+use Rattle.domains.specs.declared.nulls.Nullness.{Nullness}
+use Rattle.domains.specs.declared.nulls.Nullness.TheVariants as null
 use Rattle.dom_frame.specs.Registers.{value_at}
 use Rattle.dom_frame.specs.declared.frames.Frame.{Frame}
 use Rattle.facts.specs.Lent.{frame_at}
@@ -73,28 +73,32 @@ is_alone p q class = not (has_rival p q class) && not (is_common p q.name q.prot
 
 -- ---- calls, by the method number that they name
 
-abbrev pub is_number : ℕ → Option Method → Bool
-is_number n None = false
-is_number n (Some m) = nat_eq m.name n
+-- the number of the method at a place
+abbrev pub number_at : Program → MethodAt → Option ℕ
+number_at p at = option_map (λ (m : Method). m.name) (method_at p at)
+
+abbrev pub number_found : Program → Option MethodAt → Option ℕ
+number_found p None = None
+number_found p (Some at) = number_at p at
+
+abbrev pub is_this : ℕ → Option ℕ → Bool
+is_this n None = false
+is_this n (Some x) = nat_eq x n
 
 -- the method at a place is that of a number
 abbrev pub is_it : Program → ℕ → MethodAt → Bool
-is_it p n at = is_number n (method_at p at)
-
-abbrev pub is_found_it : Program → ℕ → Option MethodAt → Bool
-is_found_it p n None = false
-is_found_it p n (Some at) = is_it p n at
+is_it p n at = is_this n (number_at p at)
 
 abbrev pub resolves_to : Program → ℕ → ℕ → Bool
-resolves_to p n called = is_found_it p n (resolves_method p called)
+resolves_to p n called = is_this n (number_found p (resolves_method p called))
 
-abbrev pub names_by : Program → ℕ → ℕ → Option MethodAt → Bool
-names_by p n called None = nat_eq called n
-names_by p n called (Some at) = is_it p n at
+-- the method that a number names: the one that it resolves to, or that of this very number
+abbrev pub named_by : Program → ℕ → Option MethodAt → Option ℕ
+named_by p called None = Some called
+named_by p called (Some at) = number_at p at
 
--- a name is that of the method: it resolves to it, or to none and has its number
 abbrev pub names_it : Program → ℕ → ℕ → Bool
-names_it p n called = names_by p n called (resolves_method p called)
+names_it p n called = is_this n (named_by p called (resolves_method p called))
 
 abbrev pub found_by : Search → List MethodAt
 found_by Nothing = []

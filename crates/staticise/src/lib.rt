@@ -18,10 +18,12 @@
 
 mod calls;
 mod candidates;
+mod items;
 mod loosening;
 mod mentions;
 mod pass;
 mod protos;
 mod table;
+mod texts;
 
 pub use pass::apply;

@@ -1,36 +1,31 @@
-//! Which methods annotations and first values name, and how many entries the lists of a program have.
+//! Which methods annotations and first values name.
+
+ghost use Rattle.std.specs.Prelude.{◌≡◌, ◌++◌, ◌&&◌, not, ℕ, flat_map, length, IfOk, OnOk};
+ghost use Rattle.staticise.specs.Asked.{IsJudged};
+ghost use Rattle.std.specs.List.{list_any};
+ghost use Rattle.staticise.specs.Loose.{number_at, named_by, names_it, is_this};
+ghost use Rattle.class_defs.specs.Finding.{resolves_method};
+ghost use Rattle.staticise.specs.Marking.{is_on};
+ghost use Rattle.staticise.specs.Mentioned.{value_methods, element_methods, note_methods, marks_methods, first_methods, field_methods, method_methods, class_methods, mentioned, is_mentioned};
 
 use crate::candidates::Judged;
 use crate::table::turn;
-use program_model::{Body, Class, Element, EncValue, Field, Mark, Method, MethodAt, Note};
+use program_model::{Class, Element, EncValue, Field, Mark, Method, MethodAt, Note, Program};
+use seq::Seq;
 use std::alloc::{AllocError, Global};
-
-/// The methods that are named, and how many entries were met.
-#[derive(Drop)]
-struct Mentions {
-    methods: Vec<u32>,
-    entries: u64,
-}
-
-impl Mentions {
-    /// Counts entries.
-    fn count(&mut self, more: usize) {
-        self.entries = self.entries.saturating_add(more as u64);
-    }
-}
 
 /// Adds the methods that a value names.
 #[cycle(values)]
-fn add_value(out: &mut Mentions, value: &EncValue) -> Result<(), AllocError> {
+#[tactic(auto, using(crate::proofs::Named::array_methods, crate::proofs::Named::annotation_methods), unfolding(crate::specs::Mentioned::value_methods))]
+fn add_value(out: &mut Vec<u32>, value: &EncValue) -> Result<(), AllocError>
+    ensures { OnOk result (out.new.items ≡ out.old.items ++ value_methods value.now) }
+{
     match value {
         EncValue::Method(method) => {
-            out.methods.push(*method)?;
+            out.push(*method)?;
             Ok(())
         }
-        EncValue::Array(values) => {
-            out.count(values.len());
-            add_values(out, values.as_slice())
-        }
+        EncValue::Array(values) => add_values(out, values.as_slice()),
         EncValue::Annotation(note) => add_note(out, note),
         _ => Ok(()),
     }
@@ -38,7 +33,9 @@ fn add_value(out: &mut Mentions, value: &EncValue) -> Result<(), AllocError> {
 
 /// Adds the methods that values name.
 #[cycle(values)]
-fn add_values(out: &mut Mentions, values: &[EncValue]) -> Result<(), AllocError> {
+fn add_values(out: &mut Vec<u32>, values: &[EncValue]) -> Result<(), AllocError>
+    ensures { OnOk result (out.new.items ≡ out.old.items ++ flat_map value_methods values.now) }
+{
     for value in values {
         add_value(out, value)?;
     }
@@ -47,116 +44,169 @@ fn add_values(out: &mut Mentions, values: &[EncValue]) -> Result<(), AllocError>
 
 /// Adds the methods that an element of an annotation names.
 #[cycle(values)]
-fn add_element(out: &mut Mentions, element: &Element) -> Result<(), AllocError> {
+#[tactic(auto, using(crate::proofs::Named::element_methods_are))]
+fn add_element(out: &mut Vec<u32>, element: &Element) -> Result<(), AllocError>
+    ensures { OnOk result (out.new.items ≡ out.old.items ++ element_methods element.now) }
+{
     add_value(out, &element.value)
 }
 
-/// Adds the methods that an annotation names.
+/// Adds the methods that the elements of an annotation name.
 #[cycle(values)]
-fn add_note(out: &mut Mentions, note: &Note) -> Result<(), AllocError> {
-    out.count(note.elements.len());
-    for element in note.elements.as_slice() {
+fn add_elements(out: &mut Vec<u32>, elements: &[Element]) -> Result<(), AllocError>
+    ensures { OnOk result (out.new.items ≡ out.old.items ++ flat_map element_methods elements.now) }
+{
+    for element in elements {
         add_element(out, element)?;
     }
     Ok(())
 }
 
+/// Adds the methods that an annotation names.
+#[cycle(values)]
+#[tactic(auto, using(crate::proofs::Named::note_methods_are))]
+fn add_note(out: &mut Vec<u32>, note: &Note) -> Result<(), AllocError>
+    ensures { OnOk result (out.new.items ≡ out.old.items ++ note_methods note.now) }
+{
+    add_elements(out, note.elements.as_slice())
+}
+
 /// Adds the methods that annotations name.
-fn add_marks(out: &mut Mentions, marks: &[Mark]) -> Result<(), AllocError> {
-    out.count(marks.len());
+fn add_marks(out: &mut Vec<u32>, marks: &[Mark]) -> Result<(), AllocError>
+    ensures { OnOk result (out.new.items ≡ out.old.items ++ marks_methods marks.now) }
+{
     for mark in marks {
         add_note(out, &mark.note)?;
     }
     Ok(())
 }
 
-/// Adds the methods that fields name in their annotations and first values.
-fn add_fields(out: &mut Mentions, fields: &[Field]) -> Result<(), AllocError> {
-    out.count(fields.len());
+/// Adds the methods that the first value of a field names.
+fn add_first(out: &mut Vec<u32>, first: &Option<EncValue>) -> Result<(), AllocError>
+    ensures { OnOk result (out.new.items ≡ out.old.items ++ first_methods first.now) }
+{
+    match first {
+        Some(value) => add_value(out, value),
+        None => Ok(()),
+    }
+}
+
+/// Adds the methods that the annotations and the first value of a field name.
+fn add_field(out: &mut Vec<u32>, field: &Field) -> Result<(), AllocError>
+    ensures { OnOk result (out.new.items ≡ out.old.items ++ field_methods field.now) }
+{
+    add_marks(out, field.marks.as_slice())?;
+    add_first(out, &field.first)
+}
+
+/// Adds the methods that fields name.
+fn add_fields(out: &mut Vec<u32>, fields: &[Field]) -> Result<(), AllocError>
+    ensures { OnOk result (out.new.items ≡ out.old.items ++ flat_map field_methods fields.now) }
+{
     for field in fields {
-        add_marks(out, field.marks.as_slice())?;
-        if let Some(first) = &field.first {
-            add_value(out, first)?;
-        }
+        add_field(out, field)?;
     }
     Ok(())
 }
 
-/// Counts the handlers of a body.
-fn add_handlers(out: &mut Mentions, body: &Body) {
-    for region in body.regions.as_slice() {
-        out.count(region.handlers.len());
-        out.count(1);
+/// Adds the methods that the annotations of parameters name.
+fn add_parameters(out: &mut Vec<u32>, lists: &[Seq<Mark>]) -> Result<(), AllocError>
+    ensures { OnOk result (out.new.items ≡ out.old.items ++ flat_map marks_methods lists.now) }
+{
+    for list in lists {
+        add_marks(out, list.as_slice())?;
     }
+    Ok(())
 }
 
 /// Adds the methods that the annotations of a method and of its parameters name.
-fn add_method(out: &mut Mentions, method: &Method) -> Result<(), AllocError> {
+fn add_method(out: &mut Vec<u32>, method: &Method) -> Result<(), AllocError>
+    ensures { OnOk result (out.new.items ≡ out.old.items ++ method_methods method.now) }
+{
     add_marks(out, method.marks.as_slice())?;
-    out.count(method.parameter_marks.len());
-    for marks in method.parameter_marks.as_slice() {
-        add_marks(out, marks.as_slice())?;
-    }
-    if let Some(body) = &method.body {
-        add_handlers(out, body);
-    }
-    Ok(())
+    add_parameters(out, method.parameter_marks.as_slice())
 }
 
-/// Adds the methods that a class names in its annotations and in those of its members.
-fn add_class(out: &mut Mentions, class: &Class) -> Result<(), AllocError> {
-    out.count(class.interfaces.len());
-    add_marks(out, class.marks.as_slice())?;
-    add_fields(out, class.fields.as_slice())?;
-    for method in class.methods.as_slice() {
+/// Adds the methods that methods name in their annotations.
+fn add_methods(out: &mut Vec<u32>, methods: &[Method]) -> Result<(), AllocError>
+    ensures { OnOk result (out.new.items ≡ out.old.items ++ flat_map method_methods methods.now) }
+{
+    for method in methods {
         add_method(out, method)?;
     }
     Ok(())
 }
 
+/// Adds the methods that a class names in its annotations and in those of its members.
+fn add_class(out: &mut Vec<u32>, class: &Class) -> Result<(), AllocError>
+    ensures { OnOk result (out.new.items ≡ out.old.items ++ class_methods class.now) }
+{
+    add_marks(out, class.marks.as_slice())?;
+    add_fields(out, class.fields.as_slice())?;
+    add_methods(out, class.methods.as_slice())
+}
+
+/// The method numbers that the annotations and first values of a program name.
+fn mentioned(alloc: Global, program: &Program) -> Result<Vec<u32>, AllocError>
+    ensures { IfOk result (λ numbers. numbers.items ≡ mentioned program.now) }
+{
+    let mut out = Vec::new(alloc);
+    for class in program.classes.as_slice() {
+        add_class(&mut out, class)?;
+    }
+    Ok(out)
+}
+
+/// Takes the mark of a method number, if there is one.
+pub(crate) fn bar(marks: &mut [bool], number: Option<u32>)
+    ensures long { length marks.new ≡ length marks.old }
+    ensures are { (n : ℕ) → is_on marks.new n ≡ (is_on marks.old n && not (is_this n number)) }
+{
+    if let Some(number) = number {
+        turn(marks, number, false);
+    }
+}
+
 impl Judged<'_> {
     /// The number of the method at a place.
-    pub(crate) fn number_of(&self, at: MethodAt) -> Option<u32> {
-        let class = self.class_at(at.class)?;
-        let method = class.methods.as_slice().get(at.place as usize)?;
-        Some(method.name)
-    }
-
-    /// The number of the method that a number resolves to.
-    pub(crate) fn resolved(&self, method: u32) -> Option<u32> {
-        let at = self.hierarchy.resolve_method(self.program, method)?;
-        self.number_of(at)
-    }
-
-    /// Counts the parameters of all protos.
-    fn add_parameters(&self, out: &mut Mentions) {
-        for proto in self.program.protos.as_slice() {
-            out.count(proto.parameters.len());
+    pub(crate) fn number_at(&self, at: MethodAt) -> Option<u32>
+        ensures { result ≡ number_at self.now.program.now at }
+    {
+        match self.program.classes.as_slice().get(at.class as usize) {
+            Some(class) => match class.methods.as_slice().get(at.place as usize) {
+                Some(method) => Some(method.name),
+                None => None,
+            },
+            None => None,
         }
     }
 
-    /// Takes the marks of the methods that annotations and first values name. It answers how many entries the lists of the
-    /// program have at most: types, annotations, values and handlers, with each field counted as if it had a first value and each
-    /// region as if it had a catch-all.
-    pub(crate) fn bar_mentioned(
-        &self,
-        alloc: Global,
-        loose: &mut [bool],
-    ) -> Result<u64, AllocError> {
-        let mut mentions = Mentions {
-            methods: Vec::new(alloc),
-            entries: 0,
-        };
-        self.add_parameters(&mut mentions);
-        for class in self.program.classes.as_slice() {
-            add_class(&mut mentions, class)?;
+    /// The method that a number names: the one that it resolves to, or that of this very number.
+    pub(crate) fn named(&self, called: u32) -> Option<u32>
+        ensures { IsJudged self.now → result ≡ named_by self.now.program.now called (resolves_method self.now.program.now called) }
+    {
+        match self.hierarchy.resolve_method(self.program, called) {
+            Some(at) => self.number_at(at),
+            None => Some(called),
         }
-        for method in mentions.methods.as_slice() {
-            match self.resolved(*method) {
-                Some(found) => turn(loose, found, false),
-                None => turn(loose, *method, false),
-            }
+    }
+
+    /// Takes the marks of the methods that some numbers name.
+    fn bar_named(&self, marks: &mut [bool], numbers: &[u32])
+        ensures long { length marks.new ≡ length marks.old }
+        ensures are { let p = self.now.program.now in IsJudged self.now → (n : ℕ) → is_on marks.new n ≡ (is_on marks.old n && not (list_any (names_it p n) numbers.now)) }
+    {
+        for number in numbers {
+            bar(marks, self.named(*number));
         }
-        Ok(mentions.entries)
+    }
+
+    /// Takes the marks of the methods that annotations and first values name.
+    pub(crate) fn bar_mentioned(&self, alloc: Global, marks: &mut [bool]) -> Result<(), AllocError>
+        ensures { let p = self.now.program.now in IsJudged self.now → OnOk result ((length marks.new ≡ length marks.old) × ((n : ℕ) → is_on marks.new n ≡ (is_on marks.old n && not (is_mentioned p n)))) }
+    {
+        let numbers = mentioned(alloc, self.program)?;
+        self.bar_named(marks, numbers.as_slice());
+        Ok(())
     }
 }

@@ -1,313 +1,402 @@
 //! The protos and short forms of methods that are made static.
 
+ghost use Rattle.std.specs.Prelude.{◌≡◌, ℕ, ◌∷◌, ◌&&◌, ◌||◌, ◌<◌, ◌+◌, ◌^◌, Some, true, cond, is_some, map, nat_eq, nat_le, nat_lt, length, position, sum_by, slice_set, IfOk, IfSome, OnOk};
+ghost use Rattle.std.specs.List.{list_any};
+ghost use Rattle.std.specs.Cmp.Lexicographic.{pointwise};
+ghost use Rattle.std.specs.Set.{contains_by};
+ghost use Rattle.program_model.specs.Cells.{capped};
+ghost use Rattle.program_model.specs.Distinct.{all_differ, text_key, proto_key};
+ghost use Rattle.program_model.specs.ProgramRules.{is_well_formed};
+ghost use Rattle.staticise.specs.Asked.{IsJudged};
+ghost use Rattle.staticise.specs.Judging.{Tables, tables_of, shorty, wanted, has_room, is_taken, text_at, proto_at, strings_with, items_with, texts_with, protos_with, text_place, place_or, with_new};
+ghost use Rattle.staticise.specs.Growing.{same_pair, is_pair, units_more, items_more, texts_in, keys_in, IsGrown, room_named, room_for, grown_methods, grown_classes};
+
 use crate::candidates::Judged;
-use crate::table::{is_on, turn};
+use crate::items::count_items;
+use crate::table::{is_on, word};
+use crate::texts::letter;
 use dex_base::Text;
-use program_model::{Class, Counted, Proto};
+use indexmap::IndexSet;
+use program_model::{Class, Method, MethodName, Program, Proto};
 use seq::Seq;
 use std::alloc::{AllocError, Global};
-use std::collections::BTreeMap;
 
-/// What is appended to the tables of a program for methods that are made static, and the new proto of each method by number.
-/// `strings` and `protos` give the numbers of short forms and of protos, whose keys are the result and the parameters; `names`
-/// has the name and the proto of each method in ascending order. `items` and `units` are what the tables may still hold.
+/// The proto that a method of a number and a name gets, its short form, and whether its parameters have annotations.
+#[derive(Drop)]
+pub(crate) struct Wanted {
+    number: u32,
+    name: u32,
+    result: u32,
+    parameters: Seq<u32>,
+    text: Seq<u16>,
+    marked: bool,
+}
+
+/// What is appended to the tables of a program for methods that are made static, and the new proto of each of them by number.
+/// `texts` has all strings, and `keys` of each proto the result and the parameters, both in the order of their tables; `names` has
+/// the name and the proto of each method. `units` and `items` are how many units the strings have, and how many items the program.
 #[derive(Drop)]
 pub(crate) struct Additions {
     pub(crate) new_strings: Vec<Text>,
     pub(crate) new_protos: Vec<Proto>,
-    pub(crate) proto_of: Vec<Option<u32>>,
-    strings: BTreeMap<Vec<u16>, u32>,
-    protos: BTreeMap<Vec<u32>, u32>,
-    names: Vec<u64>,
-    string_count: u64,
-    proto_count: u64,
-    items: u64,
+    pub(crate) given: Vec<Option<u32>>,
+    texts: IndexSet<Vec<u16>>,
+    keys: IndexSet<Vec<u32>>,
+    names: IndexSet<(u32, u32)>,
     units: u64,
+    items: u64,
 }
 
-/// The proto that a method gets, and its short form.
-#[derive(Drop)]
-struct Wanted {
-    name: u32,
-    result: u32,
-    parameters: Vec<u32>,
-    shorty: Vec<u16>,
-    marks: bool,
-}
-
-/// Whether a unit is a letter of short forms.
-fn is_letter(unit: u16) -> bool {
-    match u8::try_from(unit) {
-        Ok(byte) => matches!(
-            byte,
-            b'V' | b'Z' | b'B' | b'S' | b'C' | b'I' | b'J' | b'F' | b'D' | b'L'
-        ),
-        Err(_) => false,
-    }
-}
-
-/// Whether units may be a short form.
-fn is_shorty(units: &[u16]) -> bool {
-    !units.is_empty() && units.len() <= 256 && units.iter().all(|unit| is_letter(*unit))
-}
-
-/// The letter of a descriptor: that of an object stands for arrays too.
-fn letter(descriptor: &[u16]) -> u16 {
-    match descriptor.first() {
-        Some(&0x5b) | None => 0x4c,
-        Some(unit) => *unit,
-    }
-}
-
-/// A pair of numbers as one.
-fn pair(name: u32, proto: u32) -> u64 {
-    u64::from(name) * 0x1_0000_0000 + u64::from(proto)
+/// Where a short form and a proto stand in their tables.
+#[derive(Clone, Copy)]
+struct Room {
+    text: Option<usize>,
+    proto: Option<usize>,
 }
 
 /// The result and the parameters of a proto.
-fn key(alloc: Global, given: u32, parameters: &[u32]) -> Result<Vec<u32>, AllocError> {
-    let mut key = Vec::with_capacity(alloc, parameters.len())?;
+fn key(alloc: Global, given: u32, parameters: &[u32]) -> Result<Vec<u32>, AllocError>
+    ensures { IfOk result (λ key. key.items ≡ given ∷ parameters.now) }
+{
+    let mut key = Vec::new(alloc);
     key.push(given)?;
-    for parameter in parameters {
-        key.push(*parameter)?;
-    }
+    key.extend_from_slice(parameters)?;
     Ok(key)
 }
 
-impl<'a> Judged<'a> {
-    /// The strings that may be short forms.
-    fn shorties(&self, alloc: Global) -> Result<BTreeMap<Vec<u16>, u32>, AllocError> {
-        let mut shorties = BTreeMap::new(alloc);
-        let mut number: u32 = 0;
-        for text in self.program.strings.as_slice() {
-            if is_shorty(text.units()) {
-                shorties.insert(text.units().to_vec(alloc)?, number)?;
-            }
-            number = number.saturating_add(1);
+/// The letters of types in short forms, behind that of a result.
+fn short_form(
+    alloc: Global,
+    program: &Program,
+    given: u32,
+    parameters: &[u32],
+) -> Result<Vec<u16>, AllocError>
+    ensures { IfOk result (λ text. text.items ≡ shorty program.now given parameters.now) }
+{
+    let mut text = Vec::new(alloc);
+    text.push(letter(program, given))?;
+    for parameter in parameters {
+        text.push(letter(program, *parameter))?;
+    }
+    Ok(text)
+}
+
+/// The strings of a table, in its order.
+fn texts_of(alloc: Global, strings: &[Text]) -> Result<IndexSet<Vec<u16>>, AllocError>
+    ensures { all_differ text_key strings.now ≡ true → IfOk result (λ texts. map (λ v. v.items) texts.keys ≡ strings.now) }
+{
+    let mut texts = IndexSet::new(alloc);
+    for text in strings {
+        texts.insert(Vec::from_slice(alloc, text.units())?)?;
+    }
+    Ok(texts)
+}
+
+/// The results and parameters of protos, in their order.
+fn keys_of(alloc: Global, protos: &[Proto]) -> Result<IndexSet<Vec<u32>>, AllocError>
+    ensures { all_differ proto_key protos.now ≡ true → IfOk result (λ keys. map (λ v. v.items) keys.keys ≡ map proto_key protos.now) }
+{
+    let mut keys = IndexSet::new(alloc);
+    for proto in protos {
+        keys.insert(key(alloc, proto.result, proto.parameters.as_slice())?)?;
+    }
+    Ok(keys)
+}
+
+/// The name and the proto of each method.
+fn names_of(alloc: Global, methods: &[MethodName]) -> Result<IndexSet<(u32, u32)>, AllocError>
+    ensures { IfOk result (λ names. (name proto : ℕ) → contains_by (same_pair (name, proto)) names ≡ list_any (is_pair name proto) methods.now) }
+{
+    let mut names = IndexSet::new(alloc);
+    for method in methods {
+        names.insert((method.name, method.proto))?;
+    }
+    Ok(names)
+}
+
+/// How many units strings have.
+fn count_units(strings: &[Text]) -> u64
+    ensures { result ≡ capped (sum_by length strings.now) }
+{
+    let mut count: u64 = 0;
+    for text in strings {
+        count = count.saturating_add(text.units().len() as u64);
+    }
+    count
+}
+
+/// The tables to which nothing is appended yet.
+fn additions(alloc: Global, program: &Program) -> Result<Additions, AllocError>
+    ensures { is_well_formed program.now ≡ true → IfOk result (IsGrown program.now (tables_of program.now)) }
+{
+    Ok(Additions {
+        new_strings: Vec::new(alloc),
+        new_protos: Vec::new(alloc),
+        given: vec![in alloc; None; program.methods.len()]?,
+        texts: texts_of(alloc, program.strings.as_slice())?,
+        keys: keys_of(alloc, program.protos.as_slice())?,
+        names: names_of(alloc, program.methods.as_slice())?,
+        units: count_units(program.strings.as_slice()),
+        items: count_items(program),
+    })
+}
+
+/// What stands at a place, or past the end where it stands nowhere, as a number.
+fn place_or(end: usize, place: Option<usize>) -> u32
+    ensures { end < 2 ^ 32 → IfSome place (λ i. i < 2 ^ 32) → result ≡ place_or end place }
+{
+    match place {
+        Some(place) => word(place),
+        None => word(end),
+    }
+}
+
+impl Wanted {
+    /// How many units are appended to the strings.
+    fn more_units(&self, room: Room) -> u64
+        ensures { result ≡ units_more self.now room.text }
+    {
+        match room.text {
+            Some(_) => 0,
+            None => self.text.len() as u64,
         }
-        Ok(shorties)
     }
 
-    /// The protos by result and parameters.
-    fn signatures(&self, alloc: Global) -> Result<BTreeMap<Vec<u32>, u32>, AllocError> {
-        let mut signatures = BTreeMap::new(alloc);
-        let mut number: u32 = 0;
-        for proto in self.program.protos.as_slice() {
-            let key = key(alloc, proto.result, proto.parameters.as_slice())?;
-            signatures.insert(key, number)?;
-            number = number.saturating_add(1);
+    /// How many items the program gets.
+    fn more_items(&self, room: Room) -> u64
+        ensures { result ≡ capped (items_more self.now room.proto) }
+    {
+        let marks: u64 = if self.marked { 1 } else { 0 };
+        match room.proto {
+            Some(_) => marks,
+            None => (self.parameters.len() as u64).saturating_add(marks),
         }
-        Ok(signatures)
+    }
+}
+
+impl Additions {
+    /// Where the short form and the proto of a method stand.
+    fn room(&self, alloc: Global, wanted: &Wanted) -> Result<Room, AllocError>
+        ensures { (p : Program) (t : Tables) → IsGrown p t self.now → IfOk result (λ room. (room.text ≡ text_at t wanted.now) × (room.proto ≡ proto_at t wanted.now)) }
+    {
+        let key = key(alloc, wanted.result, wanted.parameters.as_slice())?;
+        Ok(Room {
+            text: self.texts.get_index_of(wanted.text.as_slice()),
+            proto: self.keys.get_index_of(key.as_slice()),
+        })
     }
 
-    /// The name and the proto of each method, in ascending order.
-    fn names(&self, alloc: Global) -> Result<Vec<u64>, AllocError> {
-        let mut names = Vec::with_capacity(alloc, self.program.methods.len())?;
-        for method in self.program.methods.as_slice() {
-            names.push(pair(method.name, method.proto))?;
+    /// Whether a method of the program has this name and the proto at this place.
+    fn is_taken(&self, name: u32, proto: Option<usize>) -> bool
+        ensures { (p : Program) (t : Tables) → IsGrown p t self.now → IfSome proto (λ i. i < 2 ^ 32) → result ≡ is_taken p name proto }
+    {
+        match proto {
+            Some(proto) => self.names.contains(&(name, word(proto))),
+            None => false,
         }
-        names.sort_unstable();
-        Ok(names)
     }
 
-    /// How many units the strings have.
-    fn count_units(&self) -> u64 {
-        let mut count: u64 = 0;
-        for text in self.program.strings.as_slice() {
-            count = count.saturating_add(text.units().len() as u64);
-        }
-        count
+    /// Whether the tables have places for what is appended.
+    fn has_places(&self, room: Room) -> bool
+        ensures { (p : Program) (t : Tables) → IsGrown p t self.now
+            → result ≡ ((is_some room.text || nat_lt (length t.strings) 65536) && (is_some room.proto || nat_lt (length t.protos) 65535)) }
+    {
+        (room.text.is_some() || self.texts.len() < 65_536)
+            && (room.proto.is_some() || self.keys.len() < 65_535)
     }
 
-    /// The short form of a result and parameters.
-    fn shorty(
-        &self,
+    /// Whether what is appended keeps the limits.
+    fn keeps_limits(&self, wanted: &Wanted, room: Room) -> bool
+        ensures { (p : Program) (t : Tables) → IsGrown p t self.now → room.text ≡ text_at t wanted.now → room.proto ≡ proto_at t wanted.now
+            → result ≡ (nat_le (sum_by length (strings_with t wanted.now)) 16777216 && nat_le (items_with t wanted.now) 16777216) }
+    {
+        self.units.saturating_add(wanted.more_units(room)) <= 16_777_216
+            && self.items.saturating_add(wanted.more_items(room)) <= 16_777_216
+    }
+
+    /// Whether a method may get its proto.
+    fn has_room(&self, wanted: &Wanted, room: Room) -> bool
+        ensures { (p : Program) (t : Tables) → IsGrown p t self.now → room.text ≡ text_at t wanted.now → room.proto ≡ proto_at t wanted.now → result ≡ has_room p t wanted.now }
+    {
+        !self.is_taken(wanted.name, room.proto)
+            && self.has_places(room)
+            && self.keeps_limits(wanted, room)
+    }
+
+    /// Counts what a method appends.
+    fn count(&mut self, wanted: &Wanted, room: Room)
+        ensures units { self.old.units + units_more wanted.now room.text < 2 ^ 64 → self.new.units ≡ self.old.units + units_more wanted.now room.text }
+        ensures items { self.old.items + items_more wanted.now room.proto < 2 ^ 64 → self.new.items ≡ self.old.items + items_more wanted.now room.proto }
+        ensures rest { self.new ≡ record self.old { units = self.new.units; items = self.new.items } }
+    {
+        self.units = self.units.saturating_add(wanted.more_units(room));
+        self.items = self.items.saturating_add(wanted.more_items(room));
+    }
+
+    /// Appends a short form, unless it stands at a place of the table.
+    fn keep_text(
+        &mut self,
         alloc: Global,
-        given: u32,
-        parameters: &[u32],
-    ) -> Result<Vec<u16>, AllocError> {
-        let mut shorty = Vec::with_capacity(alloc, parameters.len())?;
-        shorty.push(letter(self.descriptor(given)))?;
-        for parameter in parameters {
-            shorty.push(letter(self.descriptor(*parameter)))?;
+        text: &[u16],
+        place: Option<usize>,
+    ) -> Result<(), AllocError>
+        ensures strings { OnOk result (self.new.new_strings.items ≡ texts_with self.old.new_strings.items text.now place) }
+        ensures texts { place ≡ text_place (texts_in self.old) text.now → OnOk result (texts_in self.new ≡ texts_with (texts_in self.old) text.now place) }
+        ensures rest { OnOk result (self.new ≡ record self.old { new_strings = self.new.new_strings; texts = self.new.texts }) }
+    {
+        if place.is_none() {
+            self.new_strings.push(Text::from_units(alloc, text)?)?;
+            self.texts.insert(Vec::from_slice(alloc, text)?)?;
         }
-        Ok(shorty)
+        Ok(())
     }
 
+    /// Appends a proto, unless it stands at a place of the table.
+    fn keep_proto(
+        &mut self,
+        alloc: Global,
+        proto: Proto,
+        place: Option<usize>,
+    ) -> Result<(), AllocError>
+        ensures protos { OnOk result (self.new.new_protos.items ≡ protos_with self.old.new_protos.items proto place) }
+        ensures keys { place ≡ position (pointwise nat_eq (proto_key proto)) (keys_in self.old) → OnOk result (keys_in self.new ≡ texts_with (keys_in self.old) (proto_key proto) place) }
+        ensures rest { OnOk result (self.new ≡ record self.old { new_protos = self.new.new_protos; keys = self.new.keys }) }
+    {
+        if place.is_none() {
+            self.keys
+                .insert(key(alloc, proto.result, proto.parameters.as_slice())?)?;
+            self.new_protos.push(proto)?;
+        }
+        Ok(())
+    }
+
+    /// Notes the new proto of a method.
+    fn give(&mut self, number: u32, proto: u32)
+        ensures given { self.new.given.items ≡ slice_set self.old.given.items number (Some proto) }
+        ensures rest { self.new ≡ record self.old { given = self.new.given } }
+    {
+        let place = number as usize;
+        if place < self.given.len() {
+            self.given[place] = Some(proto);
+        }
+    }
+
+    /// Gives a method its proto.
+    fn append(&mut self, alloc: Global, wanted: Wanted, room: Room) -> Result<(), AllocError>
+        ensures { (p : Program) (t : Tables) → IsGrown p t self.old → room.text ≡ text_at t wanted → room.proto ≡ proto_at t wanted → has_room p t wanted ≡ true
+            → OnOk result (IsGrown p (with_new t wanted) self.new) }
+    {
+        let shorty = place_or(self.texts.len(), room.text);
+        let number = place_or(self.keys.len(), room.proto);
+        self.count(&wanted, room);
+        self.give(wanted.number, number);
+        self.keep_text(alloc, wanted.text.as_slice(), room.text)?;
+        let proto = Proto {
+            shorty,
+            result: wanted.result,
+            parameters: wanted.parameters,
+        };
+        self.keep_proto(alloc, proto, room.proto)
+    }
+
+    /// Gives a method its proto, if there is room for it.
+    fn add(&mut self, alloc: Global, wanted: Wanted) -> Result<(), AllocError>
+        ensures { (p : Program) (t : Tables) → IsGrown p t self.old → OnOk result (IsGrown p (cond (has_room p t wanted) (with_new t wanted) t) self.new) }
+    {
+        let room = self.room(alloc, &wanted)?;
+        if !self.has_room(&wanted, room) {
+            return Ok(());
+        }
+        self.append(alloc, wanted, room)
+    }
+}
+
+impl Judged<'_> {
     /// The proto that a method of a class gets, with the class in front of its parameters.
     fn wanted(
         &self,
         alloc: Global,
         class: &Class,
-        method: u32,
-        marks: bool,
-    ) -> Result<Option<Wanted>, AllocError> {
-        let name = match self.program.methods.as_slice().get(method as usize) {
-            Some(name) => name,
-            None => return Ok(None),
-        };
-        let proto = match self.program.protos.as_slice().get(name.proto as usize) {
-            Some(proto) => proto,
-            None => return Ok(None),
-        };
+        method: &Method,
+        name: &MethodName,
+        proto: &Proto,
+    ) -> Result<Wanted, AllocError>
+        ensures { IfOk result (λ w. w ≡ wanted self.now.program.now class.now method.now name.now proto.now) }
+    {
         let parameters = key(alloc, class.name, proto.parameters.as_slice())?;
-        let shorty = self.shorty(alloc, proto.result, parameters.as_slice())?;
-        Ok(Some(Wanted {
+        let text = short_form(alloc, self.program, proto.result, parameters.as_slice())?;
+        Ok(Wanted {
+            number: method.name,
             name: name.name,
             result: proto.result,
-            parameters,
-            shorty,
-            marks,
-        }))
-    }
-
-    /// The tables to which nothing is appended yet.
-    fn additions(&self, alloc: Global, items: u64) -> Result<Additions, AllocError> {
-        Ok(Additions {
-            new_strings: Vec::new(alloc),
-            new_protos: Vec::new(alloc),
-            proto_of: vec![in alloc; None; self.program.methods.len()]?,
-            strings: self.shorties(alloc)?,
-            protos: self.signatures(alloc)?,
-            names: self.names(alloc)?,
-            string_count: self.program.strings.len() as u64,
-            proto_count: self.program.protos.len() as u64,
-            items: Counted::Items.limit().saturating_sub(items),
-            units: Counted::TextUnits
-                .limit()
-                .saturating_sub(self.count_units()),
+            parameters: Seq::of_vec(parameters),
+            text: Seq::of_vec(text),
+            marked: !method.parameter_marks.is_empty(),
         })
     }
 
-    /// Gives each marked method of a class a proto, and takes the marks of those for which there is none.
+    /// Gives a method of a class its proto, if there is room for it, where it has this entry of the table of methods.
+    fn add_named(
+        &self,
+        alloc: Global,
+        additions: &mut Additions,
+        class: &Class,
+        method: &Method,
+        name: &MethodName,
+    ) -> Result<(), AllocError>
+        ensures { let p = self.now.program.now in (t : Tables) → IsGrown p t additions.old → OnOk result (IsGrown p (room_named p t class.now method.now name.now) additions.new) }
+    {
+        match self.program.protos.as_slice().get(name.proto as usize) {
+            Some(proto) => {
+                let wanted = self.wanted(alloc, class, method, name, proto)?;
+                additions.add(alloc, wanted)
+            }
+            None => Ok(()),
+        }
+    }
+
+    /// Gives a method of a class its proto, if there is room for it.
+    fn add_method(
+        &self,
+        alloc: Global,
+        additions: &mut Additions,
+        class: &Class,
+        method: &Method,
+    ) -> Result<(), AllocError>
+        ensures { let p = self.now.program.now in (t : Tables) → IsGrown p t additions.old → OnOk result (IsGrown p (room_for p t class.now method.now) additions.new) }
+    {
+        match self.program.methods.as_slice().get(method.name as usize) {
+            Some(name) => self.add_named(alloc, additions, class, method, name),
+            None => Ok(()),
+        }
+    }
+
+    /// Gives each marked method of a class a proto, where there is room for it.
     fn add_methods(
         &self,
         alloc: Global,
         additions: &mut Additions,
         class: &Class,
-        loose: &mut [bool],
-    ) -> Result<(), AllocError> {
+        loose: &[bool],
+    ) -> Result<(), AllocError>
+        ensures { let p = self.now.program.now in (t : Tables) → IsGrown p t additions.old → OnOk result (IsGrown p (grown_methods p loose.now t class.now class.now.methods) additions.new) }
+    {
         for method in class.methods.as_slice() {
             if is_on(loose, method.name) {
-                let marks = !method.parameter_marks.is_empty();
-                let given = match self.wanted(alloc, class, method.name, marks)? {
-                    Some(wanted) => additions.add(alloc, method.name, wanted)?,
-                    None => false,
-                };
-                turn(loose, method.name, given);
+                self.add_method(alloc, additions, class, method)?;
             }
         }
         Ok(())
     }
 
-    /// Gives each marked method a proto, in class and method order, and takes the marks of those for which there is none.
-    pub(crate) fn add_protos(
-        &self,
-        alloc: Global,
-        items: u64,
-        loose: &mut [bool],
-    ) -> Result<Additions, AllocError> {
-        let mut additions = self.additions(alloc, items)?;
+    /// Gives each marked method a proto, in class and method order, where there is room for it.
+    pub(crate) fn add_protos(&self, alloc: Global, loose: &[bool]) -> Result<Additions, AllocError>
+        ensures { let p = self.now.program.now in IsJudged self.now → IfOk result (IsGrown p (grown_classes p loose.now (tables_of p) p.classes)) }
+    {
+        let mut additions = additions(alloc, self.program)?;
         for class in self.program.classes.as_slice() {
             self.add_methods(alloc, &mut additions, class, loose)?;
         }
         Ok(additions)
-    }
-}
-
-impl Additions {
-    /// Whether a method has this name and this proto.
-    fn has_name(&self, name: u32, proto: u32) -> bool {
-        self.names
-            .as_slice()
-            .binary_search(&pair(name, proto))
-            .is_ok()
-    }
-
-    /// Notes the proto of a method.
-    fn note(&mut self, method: u32, proto: u32) {
-        let place = method as usize;
-        if place < self.proto_of.len() {
-            self.proto_of[place] = Some(proto);
-        }
-    }
-
-    /// How many items a proto adds, where it is new.
-    fn more_items(wanted: &Wanted, new: bool) -> u64 {
-        let marks: u64 = if wanted.marks { 1 } else { 0 };
-        if new {
-            marks.saturating_add(wanted.parameters.len() as u64)
-        } else {
-            marks
-        }
-    }
-
-    /// Gives a method a proto, and answers whether there is room for it.
-    fn add(&mut self, alloc: Global, method: u32, wanted: Wanted) -> Result<bool, AllocError> {
-        let key = key(alloc, wanted.result, wanted.parameters.as_slice())?;
-        match self.protos.get(&key).copied() {
-            Some(proto) => Ok(self.add_old(method, proto, &wanted)),
-            None => self.add_new(method, key, wanted),
-        }
-    }
-
-    /// Gives a method a proto that stands in the tables.
-    fn add_old(&mut self, method: u32, proto: u32, wanted: &Wanted) -> bool {
-        let more = Additions::more_items(wanted, false);
-        if self.has_name(wanted.name, proto) || more > self.items {
-            return false;
-        }
-        self.items = self.items.saturating_sub(more);
-        self.note(method, proto);
-        true
-    }
-
-    /// The number of a short form, which is appended where it stands nowhere. None where there is no room.
-    fn shorty_number(&mut self, shorty: Vec<u16>) -> Result<Option<u32>, AllocError> {
-        if let Some(number) = self.strings.get(&shorty).copied() {
-            return Ok(Some(number));
-        }
-        let alloc = *shorty.allocator();
-        let units = shorty.len() as u64;
-        if self.string_count >= 65_536 || units > self.units {
-            return Ok(None);
-        }
-        let number = self.string_count as u32;
-        self.new_strings
-            .push(Text::from_units(alloc, shorty.as_slice())?)?;
-        self.strings.insert(shorty, number)?;
-        self.string_count = self.string_count.saturating_add(1);
-        self.units = self.units.saturating_sub(units);
-        Ok(Some(number))
-    }
-
-    /// Gives a method a new proto, and answers whether there is room for it.
-    fn add_new(&mut self, method: u32, key: Vec<u32>, wanted: Wanted) -> Result<bool, AllocError> {
-        let more = Additions::more_items(&wanted, true);
-        if self.proto_count >= 65_535 || more > self.items {
-            return Ok(false);
-        }
-        let proto = self.proto_count as u32;
-        let Wanted {
-            name: _,
-            result,
-            parameters,
-            shorty,
-            marks: _,
-        } = wanted;
-        let shorty = match self.shorty_number(shorty)? {
-            Some(shorty) => shorty,
-            None => return Ok(false),
-        };
-        self.new_protos.push(Proto {
-            shorty,
-            result,
-            parameters: Seq::of_vec(parameters),
-        })?;
-        self.protos.insert(key, proto)?;
-        self.proto_count = self.proto_count.saturating_add(1);
-        self.items = self.items.saturating_sub(more);
-        self.note(method, proto);
-        Ok(true)
     }
 }

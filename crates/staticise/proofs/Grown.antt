@@ -1,5 +1,5 @@
 -- The tables with one method more.
-use Rattle.std.proofs.Common.{◌≡◌, ◌⊎◌, inl, inr, ℕ, zero, suc, ◌+◌, ◌<◌, ◌≤◌, ◌^◌, Bool, true, false, true≢false, nat_eq, List, [], ◌∷◌, ◌++◌, map, length, Option, Some, None, refl, sym, ap, ◌∙◌, subst, arith}
+use Rattle.std.proofs.Common.{◌≡◌, ◌⊎◌, inl, inr, ℕ, zero, suc, ◌+◌, ◌<◌, ◌≤◌, ◌^◌, Bool, true, false, true≢false, nat_eq, List, [], ◌∷◌, ◌++◌, map, length, get_or, take, Option, Some, None, refl, sym, ap, ◌∙◌, subst, arith}
 use Rattle.std.specs.Prelude.{◌&&◌, ◌||◌, not, cond, is_some, nat_le, nat_lt, position, slice_get, slice_set, sum_by, Vec}
 use Rattle.std.specs.List.{list_any}
 use Rattle.std.specs.Option.{option_map}
@@ -9,15 +9,18 @@ use Rattle.std.proofs.lemmas.List.{append_assoc}
 use Rattle.lemmas.proofs.Bools.{and_left, and_right, or_cases}
 use Rattle.lemmas.proofs.Lists.{map_append}
 use Rattle.program_model.specs.declared.pools.Proto.{Proto}
+use Rattle.program_model.specs.declared.program.Class.{Class}
+use Rattle.program_model.specs.declared.program.Method.{Method}
 use Rattle.program_model.specs.declared.program.Program.{Program}
+use Rattle.staticise.proofs.Placed.{one_more}
 use Rattle.program_model.specs.Distinct.{proto_key}
 use Rattle.class_defs.proofs.Positions.{position_step}
 use Rattle.class_defs.proofs.WellFormed.{below}
 use Rattle.std.proofs.lemmas.Bool.{leb-true}
 use Rattle.staticise.specs.declared.protos.Additions.{Additions}
 use Rattle.staticise.specs.declared.protos.Wanted.{Wanted}
-use Rattle.std.specs.Set.{contains_by}
-use Rattle.staticise.specs.Growing.{same_pair, texts_in, keys_in, units_more, items_more, IsGrown}
+use Rattle.std.specs.HashSet.{contains_by}
+use Rattle.staticise.specs.Growing.{same_pair, texts_in, keys_in, units_more, items_more, IsGrown, grown_method, grown_methods, grown_classes}
 use Rattle.staticise.specs.Judging.{Tables, same_text, text_place, proto_place, is_proto, texts_with, protos_with, place_or, proto_of, text_at, proto_at, strings_with, items_with, is_taken, has_room, with_new, proto_more}
 
 -- ---- places
@@ -137,3 +140,20 @@ module _ (p : Program) (t : Tables) (w : Wanted) (old new : Additions) (g : IsGr
     few_strings = texts_few t.strings w.text (text_at t w) g.few_strings tests.0;
     few_protos = protos_few t.protos (proto_of t w) (proto_at t w) g.few_protos tests.1.0;
   }
+
+-- ---- methods and classes in turn
+
+module _ (p : Program) (marks : List Bool) where
+  methods_end : (t : Tables) (k : Class) (ms : List Method) (m : Method) → grown_methods p marks t k (ms ++ m ∷ []) ≡ grown_method p marks (grown_methods p marks t k ms) k m
+  methods_end t k [] m = refl
+  methods_end t k (x ∷ ms) m = methods_end (grown_method p marks t k x) k ms m
+
+  pub methods_grown : (t : Tables) (k : Class) (ms : List Method) (i : ℕ) (m : Method) (new : Additions) → i < length ms → m ≡ get_or ms i m → IsGrown p (grown_method p marks (grown_methods p marks t k (take i ms)) k m) new → IsGrown p (grown_methods p marks t k (take (i + 1) ms)) new
+  methods_grown t k ms i m new lt e g = subst (λ u. IsGrown p u new) (sym (methods_end t k (take i ms) m) ∙ ap (grown_methods p marks t k) (sym (one_more ms i m lt e))) g
+
+  classes_end : (t : Tables) (ks : List Class) (k : Class) → grown_classes p marks t (ks ++ k ∷ []) ≡ grown_methods p marks (grown_classes p marks t ks) k k.methods
+  classes_end t [] k = refl
+  classes_end t (x ∷ ks) k = classes_end (grown_methods p marks t x x.methods) ks k
+
+  pub classes_grown : (t : Tables) (ks : List Class) (i : ℕ) (k : Class) (new : Additions) → i < length ks → k ≡ get_or ks i k → IsGrown p (grown_methods p marks (grown_classes p marks t (take i ks)) k k.methods) new → IsGrown p (grown_classes p marks t (take (i + 1) ks)) new
+  classes_grown t ks i k new lt e g = subst (λ u. IsGrown p u new) (sym (classes_end t (take i ks) k) ∙ ap (grown_classes p marks t) (sym (one_more ks i k lt e))) g

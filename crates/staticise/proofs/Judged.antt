@@ -62,7 +62,7 @@ module _ (p : Program) (facts : Facts) (o : Outside) (admitted : List Bool) wher
 
   -- ---- how many are given
 
-  pub IsSized : Tables → Type 0
+  abbrev pub IsSized : Tables → Type 0
   IsSized t = length t.given ≡ length p.methods
 
   set_long : (xs : List (Option ℕ)) (n : ℕ) (x : Option ℕ) → length (slice_set xs n x) ≡ length xs

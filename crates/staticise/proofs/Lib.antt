@@ -1,11 +1,11 @@
 mod Edited
 mod Named
 mod Marks
-mod Items
+mod Placed
 mod Differ
 mod Once
 mod Under
-mod Candidates
+mod Marking
 mod Given
 mod Found
 mod Plain
@@ -13,3 +13,9 @@ mod Bars
 mod Sifts
 mod Judged
 mod Grown
+mod Sieved
+mod Falls
+mod Few
+mod Ordered
+mod Allowed
+mod Barred

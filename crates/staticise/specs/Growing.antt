@@ -1,7 +1,7 @@
 -- The tables as they grow, and how they are kept while they do.
 use Rattle.std.specs.Prelude.{◌≡◌, ◌<◌, ◌≤◌, ◌^◌, ℕ, ◌+◌, ◌&&◌, Bool, true, false, nat_eq, List, [], ◌∷◌, ◌++◌, map, length, sum_by, Option, Some, None, slice_get, slice_index_or, cond}
 use Rattle.std.specs.List.{list_any}
-use Rattle.std.specs.Set.{contains_by}
+use Rattle.std.specs.HashSet.{contains_by}
 use Rattle.program_model.specs.declared.pools.MethodName.{MethodName}
 use Rattle.program_model.specs.declared.pools.Proto.{Proto}
 use Rattle.program_model.specs.declared.program.Class.{Class}

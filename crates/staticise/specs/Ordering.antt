@@ -1,9 +1,9 @@
 -- The order of the methods of a class, and what method numbers resolve to.
-use Rattle.std.specs.Prelude.{◌≡◌, ℕ, true, List, Option, None, Some, slice_get, slice_index_or}
+use Rattle.std.specs.Prelude.{◌≡◌, ◌<◌, ◌≤◌, ◌^◌, ◌+◌, ℕ, true, nat_eq, All, count_by, if◌then◌else◌, List, Option, None, Some, slice_get, slice_index_or}
 use Rattle.std.specs.List.{list_all}
 use Rattle.program_model.specs.declared.program.Method.{Method}
 use Rattle.program_model.specs.declared.program.Program.{Program}
-use Rattle.program_model.specs.MemberRules.{methods_in_order}
+use Rattle.program_model.specs.MemberRules.{is_direct, methods_in_order}
 use Rattle.program_model.specs.Neighbours.{neighbours}
 use Rattle.staticise.specs.Loosened.{target_of}
 
@@ -15,6 +15,11 @@ pub record AreTargets (p : Program) (given targets : List (Option ℕ)) : Type 0
 pub record IsOrdered (p : Program) (ms : List Method) : Type 0 where
   pub is : list_all (methods_in_order p) (neighbours ms) ≡ true
 
--- no number stands twice
-pub record DifferByName (ms : List Method) : Type 0 where
-  pub once : (i j : ℕ) (m x : Method) → slice_get ms i ≡ Some m → slice_get ms j ≡ Some x → m.name ≡ x.name → i ≡ j
+-- where a method stands
+abbrev pub order_of : Program → Method → ℕ
+order_of p m = (if is_direct p m then 0 else 4294967296) + m.name
+
+-- no number stands twice, and numbers have 32 bits
+pub record AreOwn (ms : List Method) : Type 0 where
+  pub once : (n : ℕ) → count_by (λ m. nat_eq m.name n) ms ≤ 1
+  pub short : All (λ m. m.name < 2 ^ 32) ms

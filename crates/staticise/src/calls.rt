@@ -2,7 +2,7 @@
 
 ghost use Rattle.std.specs.Prelude.{◌≡◌, ◌<◌, ◌^◌, ◌&&◌, ◌||◌, ℕ, Some, not, true, false, length, slice_get, flat_map, IfOk, OnOk};
 ghost use Rattle.std.specs.List.{list_any, list_all};
-ghost use Rattle.insn_set.specs.declared.ops.InvokeKind.TheVariants as call;
+ghost use Rattle.insn_set.specs.declared.ops.InvokeKind.TheVariants as invoke;
 ghost use Rattle.program_model.specs.declared.pools.MethodName.{MethodName};
 ghost use Rattle.program_model.specs.declared.pass.Outside.{Outside};
 ghost use Rattle.program_model.specs.declared.program.Class.{Class};
@@ -188,7 +188,7 @@ impl<'a> Judged<'a> {
         at: MethodAt,
     ) -> Result<bool, AllocError>
         ensures { let p = self.now.program.now in IsJudged self.now → slice_get p.methods called ≡ Some name.now → finds_static p called ≡ Some at
-            → (o : Outside) (n : ℕ) → IsCandidate p o n → is_it p n at ≡ true → IfOk result (λ b. b ≡ is_plain_call p n 0 call.Virtual called name.now) }
+            → (o : Outside) (n : ℕ) → IsCandidate p o n → is_it p n at ≡ true → IfOk result (λ b. b ≡ is_plain_call p n 0 invoke.Virtual called name.now) }
     {
         let upper = match self.hierarchy.place_of(name.class) {
             Some(upper) => upper,
@@ -322,7 +322,7 @@ impl<'a> Judged<'a> {
         name: &MethodName,
     ) -> Result<(), AllocError>
         ensures { let p = self.now.program.now in (o : Outside) → IsJudged self.now → slice_get p.methods called ≡ Some name.now → HasCandidates p o loose.old
-            → OnOk result (Keeps (λ n. not (concerns p n 0 call.Interface called name.now)) loose.old loose.new) }
+            → OnOk result (Keeps (λ n. not (concerns p n 0 invoke.Interface called name.now)) loose.old loose.new) }
     {
         bar(loose, self.named(called));
         self.bar_found(alloc, loose, called, name)
@@ -376,7 +376,7 @@ impl Sifter<'_> {
     /// Looks at a static call.
     fn judge_static(&self, marks: &mut Marks, called: u32)
         ensures { let p = self.now.judged.program.now in (o : Outside) (q : MethodName) (caller : ℕ) → IsJudged self.now.judged → slice_get p.methods called ≡ Some q → IsSifted p o marks.old
-            → Sifts p o (allows_so p caller call.Static called q false) marks.old marks.new }
+            → Sifts p o (allows_so p caller invoke.Static called q false) marks.old marks.new }
     {
         marks.bar(self.judged.named(called));
         marks.bar(self.judged.found_static(called));
@@ -392,9 +392,9 @@ impl Sifter<'_> {
     /// Looks at a call that finds one method. Any other one that it names or finds isn't left loose.
     fn judge_found(&self, marks: &mut Marks, call: &Call, found: Option<u32>)
         ensures direct { let p = self.now.judged.program.now in (o : Outside) (q : MethodName) → IsJudged self.now.judged → slice_get p.methods call.now.called ≡ Some q → IsSifted p o marks.old
-            → found ≡ number_found p (finds_static p call.now.called) → Sifts p o (allows_so p call.now.caller call.Direct call.now.called q call.now.safe) marks.old marks.new }
+            → found ≡ number_found p (finds_static p call.now.called) → Sifts p o (allows_so p call.now.caller invoke.Direct call.now.called q call.now.safe) marks.old marks.new }
         ensures above { let p = self.now.judged.program.now in (o : Outside) (q : MethodName) → IsJudged self.now.judged → slice_get p.methods call.now.called ≡ Some q → IsSifted p o marks.old
-            → found ≡ number_searched p (finds_super p call.now.caller call.now.called) → Sifts p o (allows_so p call.now.caller call.Super call.now.called q call.now.safe) marks.old marks.new }
+            → found ≡ number_searched p (finds_super p call.now.caller call.now.called) → Sifts p o (allows_so p call.now.caller invoke.Super call.now.called q call.now.safe) marks.old marks.new }
     {
         if !self.keeps_found(call, found) {
             marks.bar(self.judged.named(call.called));
@@ -411,7 +411,7 @@ impl Sifter<'_> {
         name: &MethodName,
     ) -> Result<(), AllocError>
         ensures { let p = self.now.judged.program.now in (o : Outside) → IsJudged self.now.judged → slice_get p.methods call.now.called ≡ Some name.now → IsSifted p o marks.old
-            → OnOk result (Sifts p o (allows_so p call.now.caller call.Interface call.now.called name.now call.now.safe) marks.old marks.new) }
+            → OnOk result (Sifts p o (allows_so p call.now.caller invoke.Interface call.now.called name.now call.now.safe) marks.old marks.new) }
     {
         if is_on(&marks.interface_calls, call.called) {
             return Ok(());
@@ -461,7 +461,7 @@ impl Sifter<'_> {
         name: &MethodName,
     ) -> Result<(), AllocError>
         ensures { let p = self.now.judged.program.now in (o : Outside) → IsJudged self.now.judged → slice_get p.methods call.now.called ≡ Some name.now → IsSifted p o marks.old
-            → OnOk result (Sifts p o (allows_so p call.now.caller call.Virtual call.now.called name.now call.now.safe) marks.old marks.new) }
+            → OnOk result (Sifts p o (allows_so p call.now.caller invoke.Virtual call.now.called name.now call.now.safe) marks.old marks.new) }
     {
         self.sift_once(alloc, marks, call.called, name)?;
         self.bar_unsafe(marks, call.called, call.safe);
@@ -471,7 +471,7 @@ impl Sifter<'_> {
     /// Looks at a super call.
     fn judge_super(&self, alloc: Global, marks: &mut Marks, call: &Call) -> Result<(), AllocError>
         ensures { let p = self.now.judged.program.now in (o : Outside) (q : MethodName) → IsJudged self.now.judged → slice_get p.methods call.now.called ≡ Some q → IsSifted p o marks.old
-            → OnOk result (Sifts p o (allows_so p call.now.caller call.Super call.now.called q call.now.safe) marks.old marks.new) }
+            → OnOk result (Sifts p o (allows_so p call.now.caller invoke.Super call.now.called q call.now.safe) marks.old marks.new) }
     {
         let found = self.judged.found_super(alloc, call.caller, call.called)?;
         self.judge_found(marks, call, found);
@@ -487,7 +487,7 @@ impl Sifter<'_> {
         name: &MethodName,
     ) -> Result<(), AllocError>
         ensures { let p = self.now.judged.program.now in (o : Outside) → IsJudged self.now.judged → slice_get p.methods call.now.called ≡ Some name.now → IsSifted p o marks.old
-            → (call.now.kind ≡ call.Static → call.now.safe ≡ false)
+            → (call.now.kind ≡ invoke.Static → call.now.safe ≡ false)
             → OnOk result (Sifts p o (allows_so p call.now.caller call.now.kind call.now.called name.now call.now.safe) marks.old marks.new) }
     {
         match call.kind {
@@ -507,7 +507,7 @@ impl Sifter<'_> {
 
     /// Looks at a call.
     fn judge(&self, alloc: Global, marks: &mut Marks, call: &Call) -> Result<(), AllocError>
-        ensures { let p = self.now.judged.program.now in (o : Outside) → IsJudged self.now.judged → IsSifted p o marks.old → (call.now.kind ≡ call.Static → call.now.safe ≡ false)
+        ensures { let p = self.now.judged.program.now in (o : Outside) → IsJudged self.now.judged → IsSifted p o marks.old → (call.now.kind ≡ invoke.Static → call.now.safe ≡ false)
             → OnOk result (Sifts p o (allows_entry p call.now.caller call.now.kind call.now.called (slice_get p.methods call.now.called) call.now.safe) marks.old marks.new) }
     {
         match self
@@ -626,12 +626,12 @@ impl Sifter<'_> {
 /// The marks of the methods that no call keeps from being loose, of these.
 pub(crate) fn sift<'a>(
     alloc: Global,
-    judged: Judged<'a>,
+    judged: &Judged<'a>,
     facts: &'a Facts,
     admitted: &'a Admitted,
     loose: Vec<bool>,
 ) -> Result<Vec<bool>, AllocError>
-    ensures { let p = judged.program.now in (o : Outside) → IsJudged judged → HasCandidates p o loose.items
+    ensures { let p = judged.now.program.now in (o : Outside) → IsJudged judged.now → HasCandidates p o loose.items
         → IfOk result (λ marks. Keeps (calls_allow p facts.now admitted.now.methods.items) loose.items marks.items) }
 {
     if !has_mark(&loose) {
@@ -639,7 +639,7 @@ pub(crate) fn sift<'a>(
     }
     let count = judged.program.methods.len();
     let sifter = Sifter {
-        judged,
+        judged: *judged,
         facts,
         admitted: admitted.methods.as_slice(),
     };

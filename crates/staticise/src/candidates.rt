@@ -90,10 +90,11 @@ impl<'a> Judged<'a> {
     ) -> Result<(), AllocError>
         ensures { IsJudged self.now → slice_get self.now.program.now.classes place ≡ Some class.now → OnOk result (MarksOutward self.now.program.now place marks.old marks.new) }
     {
-        if self.lists_outer(class) {
-            let under = self.under(alloc, place)?;
-            turn_all(marks, under.as_slice());
+        if !self.lists_outer(class) {
+            return Ok(());
         }
+        let under = self.under(alloc, place)?;
+        turn_all(marks, under.as_slice());
         Ok(())
     }
 

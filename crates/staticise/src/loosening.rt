@@ -1,13 +1,14 @@
 //! Methods that become static, and their calls.
 
-ghost use Rattle.std.specs.Prelude.{◌≡◌, ◌<◌, ◌^◌, ℕ, Option, Some, None, true, map, length, slice_get, slice_index_or, IfOk, OnOk};
-ghost use Rattle.std.specs.List.{list_all};
+ghost use Rattle.std.specs.Prelude.{◌≡◌, ℕ, Some, None, true, cond, map, slice_get, IfOk, OnOk};
 ghost use Rattle.std.specs.List.Sorted.{IsPermutation};
+ghost use Rattle.program_model.specs.ProgramRules.{is_well_formed};
 ghost use Rattle.program_model.specs.declared.program.Class.{Class};
+ghost use Rattle.hierarchy.specs.Shapes.{IsOf};
 ghost use Rattle.program_model.specs.declared.program.Program.{Program};
 ghost use Rattle.staticise.specs.Asked.{IsJudged};
-ghost use Rattle.staticise.specs.Loosened.{is_given, given_at, target_method, target_at, target_of, insn_loosened, body_loosened, self_loosened, method_loosened, IsLoosenedClass, AreEach};
-ghost use Rattle.staticise.specs.Ordering.{AreTargets, IsOrdered, DifferByName};
+ghost use Rattle.staticise.specs.Loosened.{is_given, given_at, target_at, target_of, insn_loosened, body_loosened, self_loosened, method_loosened, IsLoosenedClass, AreEach};
+ghost use Rattle.staticise.specs.Ordering.{order_of, AreTargets, IsOrdered, AreOwn};
 
 use crate::candidates::Judged;
 use crate::table::word;
@@ -32,6 +33,16 @@ fn given_at(given: &[Option<u32>], method: u32) -> Option<u32>
 {
     match given.get(method as usize) {
         Some(proto) => *proto,
+        None => None,
+    }
+}
+
+/// A number, where it is that of a method that is made static.
+fn if_given(given: &[Option<u32>], number: u32) -> Option<u32>
+    ensures { result ≡ cond (is_given given.now number) (Some number) None }
+{
+    match given_at(given, number) {
+        Some(_) => Some(number),
         None => None,
     }
 }
@@ -110,18 +121,30 @@ impl Loosening<'_> {
         Ok(())
     }
 
+    /// Where a method stands: direct methods before virtual ones, and each group by number.
+    fn order_of(&self, method: &Method) -> u64
+        ensures { (p : Program) → IsOf p self.now.hierarchy.now → result ≡ order_of p method.now }
+    {
+        let group: u64 = if self.hierarchy.is_virtual(method) {
+            0x1_0000_0000
+        } else {
+            0
+        };
+        group + u64::from(method.name)
+    }
+
     /// Lets direct methods stand before virtual ones, each group by number.
     fn order(&self, methods: &mut [Method])
         ensures permutation { IsPermutation methods.old methods.new }
-        ensures ordered { (p : Program) → IsOf p self.now.hierarchy.now → DifferByName methods.old → IsOrdered p methods.new }
+        ensures ordered { (p : Program) → IsOf p self.now.hierarchy.now → AreOwn methods.old → IsOrdered p methods.new }
     {
-        methods.sort_unstable_by_key(|method| (self.hierarchy.is_virtual(method), method.name));
+        methods.sort_unstable_by_key(|method| self.order_of(method));
     }
 
     /// Makes the methods of a class static that are to be, and all calls in it.
     fn loosen_all(&self, alloc: Global, methods: &mut [Method]) -> Result<(), AllocError>
         ensures permutation { (p : Program) → AreTargets p self.now.given.now self.now.targets.now → OnOk result (IsPermutation (map (method_loosened p self.now.given.now) methods.old) methods.new) }
-        ensures ordered { (p : Program) → AreTargets p self.now.given.now self.now.targets.now → IsOf p self.now.hierarchy.now → DifferByName methods.old → OnOk result (IsOrdered p methods.new) }
+        ensures ordered { (p : Program) → AreTargets p self.now.given.now self.now.targets.now → IsOf p self.now.hierarchy.now → AreOwn methods.old → OnOk result (IsOrdered p methods.new) }
     {
         self.loosen_methods(alloc, methods)?;
         self.order(methods);
@@ -130,7 +153,7 @@ impl Loosening<'_> {
 
     /// The same for a class.
     fn loosen_class(&self, alloc: Global, class: &mut Class) -> Result<(), AllocError>
-        ensures { (p : Program) → AreTargets p self.now.given.now self.now.targets.now → IsOf p self.now.hierarchy.now → DifferByName class.old.methods
+        ensures { (p : Program) → AreTargets p self.now.given.now self.now.targets.now → IsOf p self.now.hierarchy.now → AreOwn class.old.methods
             → OnOk result (IsLoosenedClass p self.now.given.now class.old class.new) }
     {
         self.loosen_all(alloc, class.methods.items.as_mut_slice())
@@ -139,7 +162,7 @@ impl Loosening<'_> {
     /// Makes methods of classes static, and all their calls.
     fn loosen_classes(&self, alloc: Global, classes: &mut [Class]) -> Result<(), AllocError>
         ensures { (p : Program) → AreTargets p self.now.given.now self.now.targets.now → IsOf p self.now.hierarchy.now
-            → ((k : ℕ) (c : Class) → slice_get classes.old k ≡ Some c → DifferByName c.methods) → OnOk result (AreEach (IsLoosenedClass p self.now.given.now) classes.old classes.new) }
+            → ((k : ℕ) (c : Class) → slice_get classes.old k ≡ Some c → AreOwn c.methods) → OnOk result (AreEach (IsLoosenedClass p self.now.given.now) classes.old classes.new) }
     {
         for place in 0..classes.len() {
             self.loosen_class(alloc, &mut classes[place])?;
@@ -158,22 +181,12 @@ impl Loosening<'_> {
 }
 
 impl Judged<'_> {
-    /// A number, where it is that of a method that is made static.
-    fn if_given(given: &[Option<u32>], number: u32) -> Option<u32>
-        ensures { result ≡ cond (is_given given.now number) (Some number) None }
-    {
-        match given_at(given, number) {
-            Some(_) => Some(number),
-            None => None,
-        }
-    }
-
     /// The method made static that stands at a place.
     fn target_at(&self, given: &[Option<u32>], at: MethodAt) -> Option<u32>
         ensures { result ≡ target_at self.now.program.now given.now (Some at) }
     {
         match self.number_at(at) {
-            Some(number) => Judged::if_given(given, number),
+            Some(number) => if_given(given, number),
             None => None,
         }
     }

@@ -1,14 +1,16 @@
 //! The pass.
 
-ghost use Rattle.std.specs.Prelude.{◌≡◌, ◌<◌, ◌≤◌, ◌+◌, ℕ, true, None, min, slice_index_or, IfOk, IfSome, OnOk};
+ghost use Rattle.std.specs.Prelude.{◌≡◌, ◌<◌, ◌≤◌, ◌+◌, true, None, is_some, min, slice_index_or, IfOk, IfSome, OnOk};
 ghost use Rattle.std.specs.List.{count_by};
 ghost use Rattle.program_model.specs.ProgramRules.{is_well_formed};
-ghost use Rattle.hierarchy.specs.Shapes.{IsOf, IsResolved};
+ghost use Rattle.program_model.specs.declared.program.Program.{Program};
+ghost use Rattle.hierarchy.specs.Shapes.{IsResolved};
+ghost use Rattle.staticise.specs.Ordering.{AreTargets};
 ghost use Rattle.staticise.specs.Asked.{IsJudged};
 ghost use Rattle.staticise.specs.Growing.{IsGrown};
-ghost use Rattle.staticise.specs.Judging.{Tables, judged};
+ghost use Rattle.staticise.specs.Judging.{Tables};
 ghost use Rattle.staticise.specs.Left.{NoneLeft, receivers_in};
-ghost use Rattle.staticise.specs.Loosened.{name_with, names_with, extended, count_given, IsLoosenedBy, IsStaticisedBy};
+ghost use Rattle.staticise.specs.Loosened.{name_with, names_with, extended, IsLoosenedBy, IsStaticisedBy};
 ghost use Rattle.staticise.specs.Planned.{IsSieved, IsPlanned};
 
 use crate::calls::sift;
@@ -31,32 +33,35 @@ fn count_given(given: &[Option<u32>]) -> u64
 /// The marks of the methods that other methods, annotations, first values and calls let be static.
 fn sieve<'a>(
     alloc: Global,
-    judged: Judged<'a>,
+    judged: &Judged<'a>,
     facts: &'a Facts,
     outside: &Outside,
     admitted: &'a Admitted,
 ) -> Result<Vec<bool>, AllocError>
-    ensures { IsJudged judged → IfOk result (λ marks. IsSieved judged.program.now facts.now outside.now admitted.now.methods.items marks.items) }
+    ensures { IsJudged judged.now → IfOk result (λ marks. IsSieved judged.now.program.now facts.now outside.now admitted.now.methods.items marks.items) }
 {
     let mut loose = judged.candidates(alloc, outside)?;
     judged.bar_mentioned(alloc, loose.as_mut_slice())?;
     sift(alloc, judged, facts, admitted, loose)
 }
 
-/// What the tables get for the methods of a program that are made static.
+/// What the tables get for the methods of a program that are made static, none where there are none.
 fn plan<'a>(
     alloc: Global,
-    judged: Judged<'a>,
+    program: &'a Program,
+    hierarchy: &'a Hierarchy,
     facts: &'a Facts,
     outside: &Outside,
     admitted: &'a Admitted,
 ) -> Result<Option<Additions>, AllocError>
-    ensures { IsJudged judged → IfOk result (IsPlanned judged.program.now facts.now outside.now admitted.now.methods.items) }
+    ensures planned { is_well_formed program.now ≡ true → IsResolved program.now hierarchy.now → IfOk result (IsPlanned program.now facts.now outside.now admitted.now.methods.items) }
+    ensures some { IfOk result (λ found. IfSome found (λ a. 0 < count_by is_some a.given.items)) }
 {
     if !outside.optimise {
         return Ok(None);
     }
-    let loose = sieve(alloc, judged, facts, outside, admitted)?;
+    let judged = Judged { program, hierarchy };
+    let loose = sieve(alloc, &judged, facts, outside, admitted)?;
     let additions = judged.add_protos(alloc, loose.as_slice())?;
     if count_given(additions.given.as_slice()) == 0 {
         return Ok(None);
@@ -110,6 +115,19 @@ fn append(program: &mut Program, additions: Additions) -> Result<(), AllocError>
     Ok(())
 }
 
+/// For each method number the method made static that it resolves to.
+fn targets_of(
+    alloc: Global,
+    program: &Program,
+    hierarchy: &Hierarchy,
+    given: &[Option<u32>],
+) -> Result<Vec<Option<u32>>, AllocError>
+    ensures { is_well_formed program.now ≡ true → IsResolved program.now hierarchy.now → IfOk result (λ targets. AreTargets program.now given.now targets.items) }
+{
+    let judged = Judged { program, hierarchy };
+    judged.targets(alloc, given)
+}
+
 /// Makes the methods of a program static that get new protos.
 fn write(
     alloc: Global,
@@ -119,13 +137,13 @@ fn write(
 ) -> Result<(), AllocError>
     ensures { (t : Tables) → is_well_formed program.old ≡ true → IsResolved program.old hierarchy.now → IsGrown program.old t additions → OnOk result (IsLoosenedBy program.old t program.new) }
 {
-    let targets = Judged { program, hierarchy }.targets(alloc, additions.given.as_slice())?;
-    Loosening {
+    let targets = targets_of(alloc, program, hierarchy, additions.given.as_slice())?;
+    let loosening = Loosening {
         hierarchy,
         given: additions.given.as_slice(),
         targets: targets.as_slice(),
-    }
-    .loosen(alloc, program)?;
+    };
+    loosening.loosen(alloc, program)?;
     append(program, additions)
 }
 
@@ -146,15 +164,10 @@ pub fn apply(
         → IfOk result (λ c. c.count ≡ 0 → NoneLeft program facts.now outside.now admitted.now.methods.items) }
     ensures same { IfOk result (λ changed. changed.count ≡ 0 → changed.program ≡ program) }
     ensures falls { is_well_formed program ≡ true → IsResolved program hierarchy.now → IfOk result (λ c. receivers_in c.program + min c.count 1 ≤ receivers_in program) }
-    ensures formed { is_well_formed program ≡ true → IsResolved program hierarchy.now → IfOk result (λ c. is_well_formed c.program ≡ true) }
 {
     let mut program = program;
     let origins = Seq::new(alloc);
-    let judged = Judged {
-        program: &program,
-        hierarchy,
-    };
-    match plan(alloc, judged, facts, outside, admitted)? {
+    match plan(alloc, &program, hierarchy, facts, outside, admitted)? {
         Some(additions) => {
             let count = count_given(additions.given.as_slice());
             write(alloc, &mut program, hierarchy, additions)?;

@@ -3,13 +3,13 @@
 ghost use Rattle.std.specs.Prelude.{◌≡◌, ℕ, ◌∷◌, ◌&&◌, ◌||◌, ◌<◌, ◌+◌, ◌^◌, Some, true, cond, is_some, map, nat_eq, nat_le, nat_lt, length, position, sum_by, slice_set, IfOk, IfSome, OnOk};
 ghost use Rattle.std.specs.List.{list_any};
 ghost use Rattle.std.specs.Cmp.Lexicographic.{pointwise};
-ghost use Rattle.std.specs.Set.{contains_by};
+ghost use Rattle.std.specs.HashSet.{contains_by};
 ghost use Rattle.program_model.specs.Cells.{capped};
 ghost use Rattle.program_model.specs.Distinct.{all_differ, text_key, proto_key};
 ghost use Rattle.program_model.specs.ProgramRules.{is_well_formed};
 ghost use Rattle.staticise.specs.Asked.{IsJudged};
 ghost use Rattle.staticise.specs.Judging.{Tables, tables_of, shorty, wanted, has_room, is_taken, text_at, proto_at, strings_with, items_with, texts_with, protos_with, text_place, place_or, with_new};
-ghost use Rattle.staticise.specs.Growing.{same_pair, is_pair, units_more, items_more, texts_in, keys_in, IsGrown, room_named, room_for, grown_methods, grown_classes};
+ghost use Rattle.staticise.specs.Growing.{same_pair, is_pair, units_more, items_more, texts_in, keys_in, IsGrown, room_named, room_for, grown_method, grown_methods, grown_classes};
 
 use crate::candidates::Judged;
 use crate::items::count_items;
@@ -126,7 +126,7 @@ fn count_units(strings: &[Text]) -> u64
 }
 
 /// The tables to which nothing is appended yet.
-fn additions(alloc: Global, program: &Program) -> Result<Additions, AllocError>
+fn no_additions(alloc: Global, program: &Program) -> Result<Additions, AllocError>
     ensures { is_well_formed program.now ≡ true → IfOk result (IsGrown program.now (tables_of program.now)) }
 {
     Ok(Additions {
@@ -371,20 +371,53 @@ impl Judged<'_> {
         }
     }
 
-    /// Gives each marked method of a class a proto, where there is room for it.
+    /// Gives a method of a class its proto, if it is marked and there is room for it.
+    fn add_marked(
+        &self,
+        alloc: Global,
+        additions: &mut Additions,
+        class: &Class,
+        method: &Method,
+        loose: &[bool],
+    ) -> Result<(), AllocError>
+        ensures { let p = self.now.program.now in (t : Tables) → IsGrown p t additions.old → OnOk result (IsGrown p (grown_method p loose.now t class.now method.now) additions.new) }
+    {
+        if is_on(loose, method.name) {
+            self.add_method(alloc, additions, class, method)
+        } else {
+            Ok(())
+        }
+    }
+
+    /// Gives each marked one of some methods of a class a proto, where there is room for it.
     fn add_methods(
         &self,
         alloc: Global,
         additions: &mut Additions,
         class: &Class,
+        methods: &[Method],
         loose: &[bool],
     ) -> Result<(), AllocError>
-        ensures { let p = self.now.program.now in (t : Tables) → IsGrown p t additions.old → OnOk result (IsGrown p (grown_methods p loose.now t class.now class.now.methods) additions.new) }
+        ensures { let p = self.now.program.now in (t : Tables) → IsGrown p t additions.old → OnOk result (IsGrown p (grown_methods p loose.now t class.now methods.now) additions.new) }
     {
-        for method in class.methods.as_slice() {
-            if is_on(loose, method.name) {
-                self.add_method(alloc, additions, class, method)?;
-            }
+        for method in methods {
+            self.add_marked(alloc, additions, class, method, loose)?;
+        }
+        Ok(())
+    }
+
+    /// The same for all methods of some classes.
+    fn add_classes(
+        &self,
+        alloc: Global,
+        additions: &mut Additions,
+        classes: &[Class],
+        loose: &[bool],
+    ) -> Result<(), AllocError>
+        ensures { let p = self.now.program.now in (t : Tables) → IsGrown p t additions.old → OnOk result (IsGrown p (grown_classes p loose.now t classes.now) additions.new) }
+    {
+        for class in classes {
+            self.add_methods(alloc, additions, class, class.methods.as_slice(), loose)?;
         }
         Ok(())
     }
@@ -393,10 +426,13 @@ impl Judged<'_> {
     pub(crate) fn add_protos(&self, alloc: Global, loose: &[bool]) -> Result<Additions, AllocError>
         ensures { let p = self.now.program.now in IsJudged self.now → IfOk result (IsGrown p (grown_classes p loose.now (tables_of p) p.classes)) }
     {
-        let mut additions = additions(alloc, self.program)?;
-        for class in self.program.classes.as_slice() {
-            self.add_methods(alloc, &mut additions, class, loose)?;
-        }
+        let mut additions = no_additions(alloc, self.program)?;
+        self.add_classes(
+            alloc,
+            &mut additions,
+            self.program.classes.as_slice(),
+            loose,
+        )?;
         Ok(additions)
     }
 }

@@ -2,8 +2,8 @@ use Rattle.std.proofs.Common.{◌≡◌, Some, ap, subst, sym, length, arith}
 use Rattle.std.specs.Prelude.{slice_get}
 use Rattle.class_defs.proofs.WellFormed.{few_classes}
 use Rattle.staticise.specs.Asked.{MarksClass}
-use Rattle.staticise.proofs.Items.{got_in}
-use Rattle.staticise.proofs.Candidates.{candidates_more, candidates_end}
+use Rattle.staticise.proofs.Placed.{got_in}
+use Rattle.staticise.proofs.Marking.{candidates_more, candidates_end}
 use Rattle.staticise.proofs.candidates.Judged.mark_classes.Goals as goal
 
 pub loop-place-init : goal.loop-place-init

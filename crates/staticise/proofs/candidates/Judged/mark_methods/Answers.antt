@@ -1,6 +1,6 @@
 use Rattle.std.proofs.Common.{sym, ap, length, arith}
-use Rattle.staticise.proofs.Candidates.{none_marked, marked_one, marked_all}
-use Rattle.staticise.proofs.Items.{got_in, entry_of}
+use Rattle.staticise.proofs.Marking.{none_marked, marked_one, marked_all}
+use Rattle.staticise.proofs.Placed.{got_in, entry_of}
 use Rattle.staticise.proofs.candidates.Judged.mark_methods.Goals as goal
 
 pub loop-method-init : goal.loop-method-init

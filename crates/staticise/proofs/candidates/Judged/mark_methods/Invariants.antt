@@ -6,7 +6,7 @@ use Rattle.staticise.specs.Asked.{IsJudged}
 use Rattle.staticise.specs.Judging.{is_plain_class, is_kept}
 use Rattle.staticise.specs.Loose.{has_outward}
 use Rattle.staticise.specs.Marking.{AreUnder, IsTable}
-use Rattle.staticise.proofs.Candidates.{MarkedTo}
+use Rattle.staticise.proofs.Marking.{MarkedTo}
 use Rattle.staticise.proofs.candidates.Judged.mark_methods.Given as goal
 
 abbrev pub invariant-loop-method : goal.invariant-loop-method

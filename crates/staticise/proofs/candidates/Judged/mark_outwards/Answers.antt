@@ -2,7 +2,7 @@ use Rattle.std.proofs.Common.{◌≡◌, Some, ap, subst, sym, length, arith}
 use Rattle.std.specs.Prelude.{slice_get}
 use Rattle.class_defs.proofs.WellFormed.{few_classes}
 use Rattle.staticise.specs.Asked.{MarksOutward}
-use Rattle.staticise.proofs.Items.{got_in}
+use Rattle.staticise.proofs.Placed.{got_in}
 use Rattle.staticise.proofs.Under.{outwards_more, outwards_end}
 use Rattle.staticise.proofs.candidates.Judged.mark_outwards.Goals as goal
 

@@ -164,11 +164,11 @@ module _ (p : Program) (h : Hierarchy) (wf : is_well_formed p ≡ true) (res : I
   found_among = same_test (list_any (λ d. is_own_it p n q d && is_found p n q) (definers_of p q.name q.proto)) (is_found p n q)
       (λ e. let a = any_of (λ d. is_own_it p n q d && is_found p n q) (definers_of p q.name q.proto) e in and_right (is_own_it p n q a.at) (is_found p n q) a.is)
       (λ e.
-          let d = any_of virtually (receivers p q.class) (sym found_is ∙ e) in
-          let f = finds_it p h wf res o n c q d.at d.is in
-          of_any (λ x. is_own_it p n q x && is_found p n q) (definers_of p q.name q.proto) f.at.class
-          (defines p q.name q.proto f.at.class f.at (own_short p q.name q.proto f.at.class f.at (owns p q.name q.proto f.at.class f.at f.own).method) f.own)
-          (and_both (is_own_it p n q f.at.class) (is_found p n q) (ap (λ x. is_this n (number_found p x)) f.own ∙ f.it) e))
+      let d = any_of virtually (receivers p q.class) (sym found_is ∙ e) in
+      let f = finds_it p h wf res o n c q d.at d.is in
+      of_any (λ x. is_own_it p n q x && is_found p n q) (definers_of p q.name q.proto) f.at.class
+      (defines p q.name q.proto f.at.class f.at (own_short p q.name q.proto f.at.class f.at (owns p q.name q.proto f.at.class f.at f.own).method) f.own)
+      (and_both (is_own_it p n q f.at.class) (is_found p n q) (ap (λ x. is_this n (number_found p x)) f.own ∙ f.it) e))
 
 -- ---- the method that a class defines
 

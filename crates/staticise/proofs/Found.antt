@@ -134,9 +134,10 @@ module _ (p : Program) (h : Hierarchy) (wf : is_well_formed p ≡ true) (res : I
     parts : (is_plain_class p c.place c.class ≡ true) × ((takes_receiver p c.name c.method ≡ true) × ((is_direct p c.method || is_alone p c.name c.place) ≡ true))
     parts =
         let three = and_left (is_plain_class p c.place c.class && takes_receiver p c.name c.method && not (is_kept o c.method.name)) (is_direct p c.method || is_alone p c.name c.place) c.holds in
-        let two = and_left (is_plain_class p c.place c.class && takes_receiver p c.name c.method) (not (is_kept o c.method.name)) three in
-        (and_left (is_plain_class p c.place c.class) (takes_receiver p c.name c.method) two,
-          (and_right (is_plain_class p c.place c.class) (takes_receiver p c.name c.method) two, and_right (is_plain_class p c.place c.class && takes_receiver p c.name c.method && not (is_kept o c.method.name)) (is_direct p c.method || is_alone p c.name c.place) c.holds))
+        let two = and_left (is_plain_class p c.place c.class && takes_receiver p c.name c.method) (not (is_kept o c.method.name)) three in (
+          and_left (is_plain_class p c.place c.class) (takes_receiver p c.name c.method) two,
+          (and_right (is_plain_class p c.place c.class) (takes_receiver p c.name c.method) two, and_right (is_plain_class p c.place c.class && takes_receiver p c.name c.method && not (is_kept o c.method.name)) (is_direct p c.method || is_alone p c.name c.place) c.holds),
+        )
 
     -- its class is no interface
     pub plain : interface_at p c.place ≡ false

@@ -103,11 +103,16 @@ module _ (p : Program) (t : Tables) (w : Wanted) (old new : Additions) (g : IsGr
   tests =
       let four = and_left (not (is_taken p w.name (proto_at t w)) && (is_some (text_at t w) || nat_lt (length t.strings) 65536) && (is_some (proto_at t w) || nat_lt (length t.protos) 65535) && nat_le (sum_by length (strings_with t w)) 16777216) (nat_le (items_with t w) 16777216) room in
       let three = and_left (not (is_taken p w.name (proto_at t w)) && (is_some (text_at t w) || nat_lt (length t.strings) 65536) && (is_some (proto_at t w) || nat_lt (length t.protos) 65535)) (nat_le (sum_by length (strings_with t w)) 16777216) four in
-      let two = and_left (not (is_taken p w.name (proto_at t w)) && (is_some (text_at t w) || nat_lt (length t.strings) 65536)) (is_some (proto_at t w) || nat_lt (length t.protos) 65535) three in
-      (and_right (not (is_taken p w.name (proto_at t w))) (is_some (text_at t w) || nat_lt (length t.strings) 65536) two,
-        (and_right (not (is_taken p w.name (proto_at t w)) && (is_some (text_at t w) || nat_lt (length t.strings) 65536)) (is_some (proto_at t w) || nat_lt (length t.protos) 65535) three,
-          (and_right (not (is_taken p w.name (proto_at t w)) && (is_some (text_at t w) || nat_lt (length t.strings) 65536) && (is_some (proto_at t w) || nat_lt (length t.protos) 65535)) (nat_le (sum_by length (strings_with t w)) 16777216) four,
-            and_right (not (is_taken p w.name (proto_at t w)) && (is_some (text_at t w) || nat_lt (length t.strings) 65536) && (is_some (proto_at t w) || nat_lt (length t.protos) 65535) && nat_le (sum_by length (strings_with t w)) 16777216) (nat_le (items_with t w) 16777216) room)))
+      let two = and_left (not (is_taken p w.name (proto_at t w)) && (is_some (text_at t w) || nat_lt (length t.strings) 65536)) (is_some (proto_at t w) || nat_lt (length t.protos) 65535) three in (
+        and_right (not (is_taken p w.name (proto_at t w))) (is_some (text_at t w) || nat_lt (length t.strings) 65536) two,
+        (
+          and_right (not (is_taken p w.name (proto_at t w)) && (is_some (text_at t w) || nat_lt (length t.strings) 65536)) (is_some (proto_at t w) || nat_lt (length t.protos) 65535) three,
+          (
+            and_right (not (is_taken p w.name (proto_at t w)) && (is_some (text_at t w) || nat_lt (length t.strings) 65536) && (is_some (proto_at t w) || nat_lt (length t.protos) 65535)) (nat_le (sum_by length (strings_with t w)) 16777216) four,
+            and_right (not (is_taken p w.name (proto_at t w)) && (is_some (text_at t w) || nat_lt (length t.strings) 65536) && (is_some (proto_at t w) || nat_lt (length t.protos) 65535) && nat_le (sum_by length (strings_with t w)) 16777216) (nat_le (items_with t w) 16777216) room,
+          ),
+        ),
+      )
 
   pub units_few : sum_by length (strings_with t w) ≤ 16777216
   units_few = leb-true (sum_by length (strings_with t w)) 16777216 tests.1.1.0

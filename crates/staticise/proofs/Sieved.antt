@@ -36,8 +36,10 @@ module _ (p : Program) (wf : is_well_formed p ≡ true) (once : (class : ℕ) �
           sym (ap (λ n. is_candidate p o n c.class c.name c.method) same.class ∙ ap (λ x. is_candidate p o place x c.name c.method) classes ∙ ap (λ x. is_candidate p o place k x c.method) names ∙ ap (is_candidate p o place k q) same.method) ∙ c.holds
 
   pub sieved : (facts : Facts) (admitted first second third : List Bool) → AreCandidates p o first → ((n : ℕ) → is_on second n ≡ (is_on first n && not (is_mentioned p n))) → Keeps (calls_allow p facts admitted) second third → IsSieved p facts o admitted third
-  sieved facts admitted first second third a m k = record { are = λ place i c x q e f g.
-      k.are x.name ∙ ap (λ b. b && calls_allow p facts admitted x.name) (m x.name ∙ ap (λ b. b && not (is_mentioned p x.name)) (is_marked first a place i c x q e f g)) }
+  sieved facts admitted first second third a m k = record {
+    are = λ place i c x q e f g.
+        k.are x.name ∙ ap (λ b. b && calls_allow p facts admitted x.name) (m x.name ∙ ap (λ b. b && not (is_mentioned p x.name)) (is_marked first a place i c x q e f g));
+  }
 
 -- what is left of candidates are candidates
 pub candidates_left : (p : Program) (o : Outside) (first second : List Bool) → AreCandidates p o first → ((n : ℕ) → is_on second n ≡ (is_on first n && not (is_mentioned p n))) → HasCandidates p o second

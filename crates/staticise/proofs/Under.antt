@@ -115,11 +115,11 @@ outward_same p c old new l e = record {
 pub any_numbers_more : (t : ℕ → Bool) (n : ℕ) → list_any t (range_with_len 0 (n + 1)) ≡ (list_any t (range_with_len 0 n) || t n)
 any_numbers_more t n = same_test (list_any t (range_with_len 0 (n + 1))) (list_any t (range_with_len 0 n) || t n)
     (λ e. let a = any_of t (range_with_len 0 (n + 1)) e in
-        let l = (in_numbers 0 (n + 1) a.at a.there).1 in
-        elim (cases_lt a.at n) [
-          | inl lt ↦ or_left (list_any t (range_with_len 0 n)) (t n) (of_any t (range_with_len 0 n) a.at (numbers_in 0 n a.at (omega arith) (omega (arith, lt))) a.is)
-          | inr ge ↦ or_right (list_any t (range_with_len 0 n)) (t n) (let same : a.at ≡ n = omega (arith, l, ge) in ap t (sym same) ∙ a.is)
-        ])
+    let l = (in_numbers 0 (n + 1) a.at a.there).1 in
+    elim (cases_lt a.at n) [
+      | inl lt ↦ or_left (list_any t (range_with_len 0 n)) (t n) (of_any t (range_with_len 0 n) a.at (numbers_in 0 n a.at (omega arith) (omega (arith, lt))) a.is)
+      | inr ge ↦ or_right (list_any t (range_with_len 0 n)) (t n) (let same : a.at ≡ n = omega (arith, l, ge) in ap t (sym same) ∙ a.is)
+    ])
     (λ e. elim (or_cases (list_any t (range_with_len 0 n)) (t n) e) [
       | inl f ↦ (let a = any_of t (range_with_len 0 n) f in let l = (in_numbers 0 n a.at a.there).1 in of_any t (range_with_len 0 (n + 1)) a.at (numbers_in 0 (n + 1) a.at (omega arith) (omega (arith, l))) a.is)
       | inr f ↦ of_any t (range_with_len 0 (n + 1)) n (numbers_in 0 (n + 1) n (omega arith) (omega arith)) f

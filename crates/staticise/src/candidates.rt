@@ -231,13 +231,7 @@ impl<'a> Judged<'a> {
     }
 
     /// Marks the methods of a class that may be static as far as other methods go.
-    fn mark_methods(
-        &self,
-        kept: &[bool],
-        place: &Place<'_>,
-        methods: &[Method],
-        marks: &mut [bool],
-    )
+    fn mark_methods(&self, kept: &[bool], place: &Place<'_>, methods: &[Method], marks: &mut [bool])
         ensures { let p = self.now.program.now in (o : Outside) (k : Class) → IsJudged self.now → slice_get p.classes place.now.class ≡ Some k → k.methods ≡ methods.now
             → is_plain_class p place.now.class k ≡ true → AreUnder p place.now.class place.now.under.now → place.now.outward ≡ has_outward p place.now.class
             → IsTable (length p.methods) (is_kept o) kept.now → length marks.old ≡ length p.methods → MarksClass p o place.now.class marks.old marks.new }

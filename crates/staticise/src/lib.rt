@@ -11,9 +11,12 @@
 //! same registers to the same code and initialises nothing that runs code. Methods are judged in class and method order, and
 //! the protos and strings that are appended for earlier ones count.
 //!
-//! What is proved is less: [`apply`] ensures what making methods static does to them, to all calls and to the tables, and that
-//! all else stays (`specs/Loosened.antt`, by number). Which methods are loose, what their new protos are, and that nothing
-//! loose is left is not part of it.
+//! [`apply`] ensures just that: `specs/Loose.antt` says by number what keeps a method from being loose, `specs/Judging.antt` which
+//! methods are made static and what the tables get for each, `specs/Loosened.antt` the program that comes, and `specs/Left.antt` that
+//! nothing loose is left where `count` is 0, and that else fewer methods have a receiver.
+//!
+//! The code goes over the classes once for the methods that other methods let be static, over the annotations and first values, and
+//! over all calls, which take the marks of the others; what virtual and interface calls of a method number find is looked up once.
 #![tactic(auto)]
 
 mod calls;

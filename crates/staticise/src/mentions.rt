@@ -203,7 +203,8 @@ impl Judged<'_> {
 
     /// Takes the marks of the methods that annotations and first values name.
     pub(crate) fn bar_mentioned(&self, alloc: Global, marks: &mut [bool]) -> Result<(), AllocError>
-        ensures { let p = self.now.program.now in IsJudged self.now → OnOk result ((length marks.new ≡ length marks.old) × ((n : ℕ) → is_on marks.new n ≡ (is_on marks.old n && not (is_mentioned p n)))) }
+        ensures { let p = self.now.program.now in IsJudged self.now
+            → OnOk result ((length marks.new ≡ length marks.old) × ((n : ℕ) → is_on marks.new n ≡ (is_on marks.old n && not (is_mentioned p n)))) }
     {
         let numbers = mentioned(alloc, self.program)?;
         self.bar_named(marks, numbers.as_slice());

@@ -1,0 +1,308 @@
+-- The types that names match, by the descriptors that they spell.
+use Rattle.std.proofs.Common.{◌≡◌, ℕ, zero, suc, ◌+◌, ◌<◌, ◌≤◌, Bool, true, false, true≢false, nat_eq, List, [], ◌∷◌, ◌++◌, length, map, take, drop, get_or, Option, Some, None, Result, Ok, Err, refl, sym, ap, subst, ◌∙◌, arith, inl, inr, eqb-true, eq-eqb}
+use Rattle.std.specs.Prelude.{◌&&◌, ◌||◌, ◌==◌, not, is_ok, slice_get, if◌then◌else◌, All}
+use Rattle.std.specs.List.{list_any}
+use Rattle.std.specs.HashMap.{HashMap}
+use Rattle.std.proofs.Common.{Bor}
+use Rattle.std.proofs.lemmas.List.Elements.{All-push}
+use Rattle.dex_base.specs.Descriptor.{is_alone, is_high, is_low, is_from, is_primitive, of_depth, behind_bracket, behind_character, in_name, next_spot, ended, go_on, ends_in, descriptor_of}
+use Rattle.dex_base.specs.declared.fault.BaseFault.{BaseFault}
+use Rattle.dex_base.specs.declared.descriptor.Descriptor.{Descriptor}
+use Rattle.dex_base.specs.declared.descriptor.Descriptor.TheVariants as desc
+use Rattle.dex_base.specs.declared.descriptor.Spot.{Spot}
+use Rattle.dex_base.specs.declared.descriptor.Spot.TheVariants.{Element, Name, Inside, Low, End}
+use Rattle.program_model.specs.declared.program.Program.{Program}
+use Rattle.program_model.specs.Texts.{has_string, string_text}
+use Rattle.program_model.specs.TableRules.{type_fits}
+use Rattle.dalvik_defs.specs.Names.{Text, text_eq, is_class_type, item_of}
+use Rattle.dalvik_defs.specs.Naming.{text_at, type_at}
+use Rattle.class_defs.proofs.Positions.{same_test, number_of, number_test, both, entry_at}
+use Rattle.class_defs.proofs.WellFormed.{Sound, all_at, and_left, and_right, below}
+use Rattle.name_bridge.proofs.Tables.{type_once}
+use Rattle.rule_text.specs.declared.pattern.Named.{Named}
+use Rattle.rule_text.specs.declared.pattern.Named.TheVariants as kind
+use Rattle.rule_text.specs.declared.pattern.NamePattern.{NamePattern}
+use Rattle.rule_text.specs.Tokens.{Word}
+use Rattle.rule_text.specs.Glob.{read_of, is_end, matches_of, behind_of}
+use Rattle.rule_text.specs.Pieces.{characters, pieces_of}
+use Rattle.rule_text.specs.Related.{IsPatternOf, AreEach}
+use Rattle.rule_match.proofs.GlobLemmas.{then_rest, pattern_matches}
+use Rattle.rule_defs.specs.Patterns.{inner, is_star, matches, class_name_fits, some_name_fits}
+use Rattle.keep_rules.specs.Table.{has}
+use Rattle.keep_rules.specs.Tried.{slashed, class_descriptor, HasDescriptor, AreCandidates, FitAmong}
+use Rattle.keep_rules.specs.View.{IsTypes, kind_of}
+use Rattle.keep_rules.specs.declared.names.Candidates.{Candidates}
+use Rattle.keep_rules.specs.declared.names.Candidates.TheVariants as candidates
+use Rattle.keep_rules.proofs.EachLemmas.{EachAt, each_at, each_end}
+use Rattle.keep_rules.proofs.AnyLemmas.{or_front, or_behind, or_cases, has_front, has_behind, has_self}
+
+-- ---- the name in a descriptor
+
+-- units that end in `;`, none of those before which is a dot
+abbrev pub closes : List ℕ → Bool
+closes [] = false
+closes (u ∷ []) = nat_eq u 59
+closes (u ∷ v ∷ us) = not (nat_eq u 46) && closes (v ∷ us)
+
+goes_on : (u : ℕ) (us : List ℕ) → nat_eq u 46 ≡ false → closes us ≡ true → closes (u ∷ us) ≡ true
+goes_on u [] e h = absurd (true≢false (sym h))
+goes_on u (v ∷ us) e h = ap (λ b. not b && closes (v ∷ us)) e ∙ h
+
+no_dot : (test : ℕ → Bool) (u : ℕ) → test 46 ≡ false → test u ≡ true → nat_eq u 46 ≡ false
+no_dot test u e h = same_test (nat_eq u 46) false (λ d. absurd (true≢false (sym h ∙ ap test (number_of u 46 d) ∙ e))) (λ d. absurd (true≢false (sym d)))
+
+alone_dot : is_alone 46 ≡ false
+unfolding is_alone
+alone_dot = refl
+
+is_result : (place : ℕ) (o : Option Spot) (more : Spot → Result Descriptor BaseFault) → is_ok (go_on place o more) ≡ true → (s : Spot) × ((o ≡ Some s) × (is_ok (more s) ≡ true))
+is_result place None more e = absurd (true≢false (sym e))
+is_result place (Some s) more e = (s, (refl, e))
+
+-- a spot in a name
+abbrev IsInName : Spot → Type 0
+IsInName (Element d) = ⊥
+IsInName (Name d) = Unit {0}
+IsInName (Inside d) = Unit {0}
+IsInName (Low d) = Unit {0}
+IsInName (End k) = ⊥
+
+in_name_step : (d u : ℕ) (s : Spot) → in_name d u ≡ Some s → (IsInName s) × (nat_eq u 46 ≡ false)
+in_name_step d u s e = step (is_alone u) refl e
+  where
+    high : (c : Bool) → is_high u ≡ c → (if c then Some (Low d) else None) ≡ Some s → (IsInName s) × (nat_eq u 46 ≡ false)
+    high true h g = let is : Low d ≡ s = cc in (subst IsInName is tt, no_dot is_high u refl h)
+    high false h g = cc
+
+    step : (b : Bool) → is_alone u ≡ b → (if b then Some (Inside d) else if is_high u then Some (Low d) else None) ≡ Some s → (IsInName s) × (nat_eq u 46 ≡ false)
+    step true h g = let is : Inside d ≡ s = cc in (subst IsInName is tt, no_dot is_alone u alone_dot h)
+    step false h g = high (is_high u) refl g
+
+abbrev spot_depth : Spot → ℕ
+spot_depth (Element d) = d
+spot_depth (Name d) = d
+spot_depth (Inside d) = d
+spot_depth (Low d) = d
+spot_depth (End k) = 0
+
+name_next : (d u : ℕ) → in_name d u ≡ next_spot (Name d) u
+unfolding next_spot
+name_next d u = refl
+
+inside_next : (d u : ℕ) → behind_character d u ≡ next_spot (Inside d) u
+unfolding next_spot
+inside_next d u = refl
+
+low_next : (d u : ℕ) → (if is_low u then Some (Inside d) else None) ≡ next_spot (Low d) u
+unfolding next_spot
+low_next d u = refl
+
+end_next : (k : Descriptor) (u : ℕ) → next_spot (End k) u ≡ None
+unfolding next_spot
+end_next k u = refl
+
+-- nothing stands behind the end
+at_end : (us : List ℕ) (place : ℕ) (k : Descriptor) → is_ok (ends_in place (End k) us) ≡ true → us ≡ []
+at_end [] place k e = refl
+at_end (v ∷ vs) place k e = absurd (true≢false (sym e ∙ ap (λ o. is_ok (go_on place o (λ next. ends_in (suc place) next vs))) (end_next k v)))
+
+-- one more unit in a name, where what is behind it is closed
+module _ (u : ℕ) (us : List ℕ) (place d : ℕ) (more : (s : Spot) → IsInName s → is_ok (ends_in (suc place) s us) ≡ true → closes us ≡ true) where
+  by_name : (s : Spot) → in_name d u ≡ Some s → is_ok (ends_in (suc place) s us) ≡ true → closes (u ∷ us) ≡ true
+  by_name s e k = let n = in_name_step d u s e in goes_on u us n.1 (more s n.0 k)
+
+  by_last : (b : Bool) → (u == 59) ≡ b → (s : Spot) → (if b then Some (End (of_depth d desc.Class)) else in_name d u) ≡ Some s → is_ok (ends_in (suc place) s us) ≡ true → closes (u ∷ us) ≡ true
+  by_last true h s g k =
+      let is : End (of_depth d desc.Class) ≡ s = cc in
+      let none = at_end us (suc place) (of_depth d desc.Class) (subst (λ x. is_ok (ends_in (suc place) x us) ≡ true) (sym is) k) in
+      ap (λ l. closes (u ∷ l)) none ∙ number_test u 59 (eqb-true u 59 h)
+  by_last false h s g k = by_name s g k
+
+  by_slash : (b : Bool) → (u == 47) ≡ b → (s : Spot) → (if b then Some (Name d) else if u == 59 then Some (End (of_depth d desc.Class)) else in_name d u) ≡ Some s → is_ok (ends_in (suc place) s us) ≡ true → closes (u ∷ us) ≡ true
+  by_slash true h s g k = let is : Name d ≡ s = cc in goes_on u us (no_dot (λ x. x == 47) u refl h) (more s (subst IsInName is tt) k)
+  by_slash false h s g k = by_last (u == 59) refl s g k
+
+  by_low : (b : Bool) → is_low u ≡ b → (s : Spot) → (if b then Some (Inside d) else None) ≡ Some s → is_ok (ends_in (suc place) s us) ≡ true → closes (u ∷ us) ≡ true
+  by_low true h s g k = let is : Inside d ≡ s = cc in goes_on u us (no_dot is_low u refl h) (more s (subst IsInName is tt) k)
+  by_low false h s g k = cc
+
+  by_spot : (spot : Spot) → IsInName spot → (s : Spot) → next_spot spot u ≡ Some s → spot_depth spot ≡ d → is_ok (ends_in (suc place) s us) ≡ true → closes (u ∷ us) ≡ true
+  by_spot (Element x) i s g z k = absurd i
+  by_spot (Name x) i s g z k = by_name s (ap (λ y. in_name y u) (sym z) ∙ name_next x u ∙ g) k
+  by_spot (Inside x) i s g z k = by_slash (u == 47) refl s (ap (λ y. behind_character y u) (sym z) ∙ inside_next x u ∙ g) k
+  by_spot (Low x) i s g z k = by_low (is_low u) refl s (ap (λ y. if is_low u then Some (Inside y) else None) (sym z) ∙ low_next x u ∙ g) k
+  by_spot (End x) i s g z k = absurd i
+
+-- the units behind a spot in a name are closed
+spot_closes : (us : List ℕ) (place : ℕ) (spot : Spot) → IsInName spot → is_ok (ends_in place spot us) ≡ true → closes us ≡ true
+spot_closes [] place (Element d) i e = absurd i
+spot_closes [] place (Name d) i e = absurd (true≢false (sym e))
+spot_closes [] place (Inside d) i e = absurd (true≢false (sym e))
+spot_closes [] place (Low d) i e = absurd (true≢false (sym e))
+spot_closes [] place (End k) i e = absurd i
+spot_closes (u ∷ us) place spot i e =
+    let r = is_result place (next_spot spot u) (λ next. ends_in (suc place) next us) e in
+    by_spot u us place (spot_depth spot) (λ s j k. spot_closes us (suc place) s j k) spot i r.0 r.1.0 refl r.1.1
+
+pub record IsClassText (t : Text) : Type 0 where
+  pub is : t ≡ 76 ∷ item_of t
+  pub closed : closes (item_of t) ≡ true
+
+class_closes : (us : List ℕ) → is_ok (ends_in 0 (Element 0) (76 ∷ us)) ≡ true → closes us ≡ true
+unfolding next_spot
+class_closes us g = spot_closes us 1 (Name 0) tt g
+
+pub class_text : (t : Text) → is_ok (descriptor_of t) ≡ true → is_class_type t ≡ true → IsClassText t
+unfolding descriptor_of
+class_text [] e h = absurd (true≢false (sym h))
+class_text (u ∷ us) e h =
+    let s : u ≡ 76 = number_of u 76 h in
+    record { is = ap (λ x. x ∷ us) s; closed = class_closes us (subst (λ x. is_ok (ends_in 0 (Element 0) (x ∷ us)) ≡ true) s e) }
+
+-- the type of a program
+pub type_descriptor : (p : Program) → Sound p → (n : ℕ) → n < length p.types → is_ok (descriptor_of (type_at p n)) ≡ true
+type_descriptor p s n low =
+    let i = entry_at p.types n low in
+    let has = below i.0 (length p.strings) (and_left (has_string p i.0) (is_ok (descriptor_of (string_text p i.0))) (all_at (type_fits p) p.types n i.0 s.types_fit i.1)) in
+    ap (λ (t : Text). is_ok (descriptor_of t)) (ap (λ (o : Option ℕ). elim o as (λ o. Text) [ Some t ↦ text_at p t | None ↦ [] ]) i.1 ∙ same i.0 has)
+    ∙ and_right (has_string p i.0) (is_ok (descriptor_of (string_text p i.0))) (all_at (type_fits p) p.types n i.0 s.types_fit i.1)
+  where
+    read : (xs : List Text) (k : ℕ) → elim (slice_get xs k) as (λ o. Text) [ Some t ↦ t | None ↦ [] ] ≡ get_or xs k []
+    read [] k = refl
+    read (x ∷ xs) zero = refl
+    read (x ∷ xs) (suc k) = read xs k
+
+    same : (k : ℕ) → k < length p.strings → text_at p k ≡ string_text p k
+    same k h = read p.strings k
+
+-- ---- the descriptor of a name without wildcards
+
+not_true : (b : Bool) → not b ≡ true → b ≡ false
+not_true true h = absurd (true≢false (sym h))
+not_true false h = refl
+
+-- one more unit, where the rest is spelled
+module _ (w : ℕ) (ws : List ℕ) (u v : ℕ) (us : List ℕ) (more : closes (v ∷ us) ≡ true → then_rest kind.Class [] (behind_of kind.Class (inner (v ∷ us)) ws) ≡ true → (v ∷ us ≡ map slashed ws ++ 59 ∷ []) × (list_any (nat_eq 47) ws ≡ false)) where
+  joined : closes (v ∷ us) ≡ true → (a : ℕ) → a ≡ w → slashed w ≡ u → nat_eq 47 w ≡ false → (b : Bool) → (a == w) ≡ b → then_rest kind.Class [] (if b then behind_of kind.Class (inner (v ∷ us)) ws else None) ≡ true
+      → (u ∷ v ∷ us ≡ map slashed (w ∷ ws) ++ 59 ∷ []) × (list_any (nat_eq 47) (w ∷ ws) ≡ false)
+  joined k a is so other true s g = let rest = more k g in
+      (ap (λ x. x ∷ v ∷ us) (sym so) ∙ ap (λ l. slashed w ∷ l) rest.0, ap (λ b. b || list_any (nat_eq 47) ws) other ∙ rest.1)
+  joined k a is so other false s g = absurd (true≢false (sym g))
+
+  wanted : (a : ℕ) (b : Bool) → (a == w) ≡ b → then_rest kind.Class [] (if b then behind_of kind.Class (inner (v ∷ us)) ws else None) ≡ true → a ≡ w
+  wanted a true s g = eqb-true a w s
+  wanted a false s g = absurd (true≢false (sym g))
+
+  slash_or : (b : Bool) → (u == 47) ≡ b → closes (v ∷ us) ≡ true → nat_eq u 46 ≡ false → then_rest kind.Class [] (if (if b then 46 else u) == w then behind_of kind.Class (inner (v ∷ us)) ws else None) ≡ true
+      → (u ∷ v ∷ us ≡ map slashed (w ∷ ws) ++ 59 ∷ []) × (list_any (nat_eq 47) (w ∷ ws) ≡ false)
+  slash_or true h k no g =
+      let is : 46 ≡ w = wanted 46 (46 == w) refl g in
+      joined k 46 is (ap slashed (sym is) ∙ sym (eqb-true u 47 h)) (ap (nat_eq 47) (sym is)) (46 == w) refl g
+  slash_or false h k no g =
+      let is : u ≡ w = wanted u (u == w) refl g in
+      joined k u is (ap slashed (sym is) ∙ ap (λ b. if b then 47 else u) no)
+      (ap (nat_eq 47) (sym is) ∙ same_test (nat_eq 47 u) false (λ d. absurd (true≢false (sym (number_test u 47 (sym (number_of 47 u d))) ∙ h))) (λ d. absurd (true≢false (sym d))))
+      (u == w) refl g
+
+spelled_so : (head s : List ℕ) → closes s ≡ true → then_rest kind.Class [] (behind_of kind.Class (inner s) head) ≡ true → (s ≡ map slashed head ++ 59 ∷ []) × (list_any (nat_eq 47) head ≡ false)
+spelled_so [] [] c e = absurd (true≢false (sym c))
+spelled_so [] (u ∷ []) c e = (ap (λ x. x ∷ []) (number_of u 59 c), refl)
+spelled_so [] (u ∷ v ∷ us) c e = absurd (true≢false (sym e))
+spelled_so (w ∷ ws) [] c e = absurd (true≢false (sym c))
+spelled_so (w ∷ ws) (u ∷ []) c e = absurd (true≢false (sym e))
+spelled_so (w ∷ ws) (u ∷ v ∷ us) c e =
+    let no : nat_eq u 46 ≡ false = not_true (nat_eq u 46) (and_left (not (nat_eq u 46)) (closes (v ∷ us)) c) in
+    slash_or w ws u v us (λ k g. spelled_so ws (v ∷ us) k g) (u == 47) refl (and_right (not (nat_eq u 46)) (closes (v ∷ us)) c) no e
+
+pub record SpellsName (head t : List ℕ) : Type 0 where
+  pub is : t ≡ class_descriptor head
+  pub plain : list_any (nat_eq 47) head ≡ false
+
+pub name_spells : (p : NamePattern) (w : Word) (t : Text) → IsPatternOf p w → p.rest.items ≡ [] → is_star w ≡ false → is_ok (descriptor_of t) ≡ true → class_name_fits w t ≡ true → SpellsName p.head.items t
+name_spells p w t is plain star ok fits =
+    let class = and_left (is_class_type t) (is_star w || matches kind.Class w (inner (item_of t))) fits in
+    let text = class_text t ok class in
+    let fit = ap (λ b. b || matches kind.Class w (inner (item_of t))) (sym star) ∙ and_right (is_class_type t) (is_star w || matches kind.Class w (inner (item_of t))) fits in
+    let so = spelled_so p.head.items (item_of t) text.closed
+    (ap (λ ps. then_rest kind.Class ps (behind_of kind.Class (inner (item_of t)) p.head.items)) (sym plain) ∙ sym (pattern_matches kind.Class p w (inner (item_of t)) is) ∙ fit) in
+    record { is = text.is ∙ ap (λ l. 76 ∷ l) so.0; plain = so.1 }
+
+-- ---- candidates
+
+module _ (p : Program) (s : Sound p) (q : NamePattern) (w : Word) (is : IsPatternOf q w) (plain : q.rest.items ≡ []) (star : is_star w ≡ false) where
+  spells : (k : ℕ) → k < length p.types → class_name_fits w (type_at p k) ≡ true → SpellsName q.head.items (type_at p k)
+  spells k l fits = name_spells q w (type_at p k) is plain star (type_descriptor p s k l) fits
+
+  pub no_candidates : list_any (nat_eq 47) q.head.items ≡ true → AreCandidates p w candidates.None
+  no_candidates e k l fits = true≢false (sym e ∙ (spells k l fits).plain)
+
+  pub named_candidates : (c : Candidates) → HasDescriptor p (class_descriptor q.head.items) c → AreCandidates p w c
+  named_candidates candidates.None h k l fits = h k l (spells k l fits).is
+  named_candidates (candidates.Type n) h = (h.0, λ k l fits. type_once p s k n l h.0 ((spells k l fits).is ∙ sym h.1))
+  named_candidates candidates.All h = absurd h
+
+-- the type of a descriptor by the table
+pub type_found : {S : Type 0} (p : Program) (types : HashMap (Bor (List ℕ)) ℕ S) (t : List ℕ) (k : ℕ) → IsTypes p types → kind_of types t ≡ Some k → HasDescriptor p t (candidates.Type k)
+type_found p types t k is e = is.sound t k e
+
+pub type_lacks : {S : Type 0} (p : Program) (types : HashMap (Bor (List ℕ)) ℕ S) (t : List ℕ) → IsTypes p types → kind_of types t ≡ None → HasDescriptor p t candidates.None
+type_lacks p types t is e k l same = let x : Some k ≡ None = sym (is.whole k l) ∙ ap (kind_of types) same ∙ e in cc
+
+-- ---- the types that names are tried on
+
+-- those that the names gone through match
+pub record TriedSo (p : Program) (ws : List Word) (kinds : List ℕ) (i : ℕ) : Type 0 where
+  pub below : All (λ k. k < length p.types) kinds
+  pub among : (k : ℕ) → k < length p.types → some_name_fits ws (type_at p k) ≡ true → (has kinds k || some_name_fits (drop i ws) (type_at p k)) ≡ true
+
+pub tried_start : (p : Program) (ws : List Word) (kinds : List ℕ) → kinds ≡ [] → TriedSo p ws kinds 0
+tried_start p ws kinds e = record {
+  below = subst (All (λ k. k < length p.types)) (sym e) (λ k d h. absurd (omega (arith, h)));
+  among = λ k l fits. or_behind (has kinds k) (some_name_fits ws (type_at p k)) fits;
+}
+
+module _ (p : Program) (qs : List NamePattern) (ws : List Word) (i : ℕ) (q : NamePattern) (are : AreEach IsPatternOf qs ws) (h : i < length qs) (e : q ≡ get_or qs i q) where
+  next_fits : (k : ℕ) → k < length p.types → (at : EachAt IsPatternOf qs ws i) → some_name_fits (drop i ws) (type_at p k) ≡ (class_name_fits at.one (type_at p k) || some_name_fits (drop (i + 1) ws) (type_at p k))
+  next_fits k l at = ap (λ l. some_name_fits l (type_at p k)) at.next
+
+  pub tried_none : (kinds : List ℕ) → ((w : Word) → IsPatternOf q w → AreCandidates p w candidates.None) → TriedSo p ws kinds i → TriedSo p ws kinds (i + 1)
+  tried_none kinds none so =
+      let at = each_at IsPatternOf qs ws i are h in
+      record {
+        below = so.below;
+        among = λ k l fits. elim (or_cases (has kinds k) (class_name_fits at.one (type_at p k) || some_name_fits (drop (i + 1) ws) (type_at p k)) (ap (λ b. has kinds k || b) (sym (next_fits k l at)) ∙ so.among k l fits)) [
+          | inl had ↦ or_front (has kinds k) (some_name_fits (drop (i + 1) ws) (type_at p k)) had
+          | inr more ↦
+              elim (or_cases (class_name_fits at.one (type_at p k)) (some_name_fits (drop (i + 1) ws) (type_at p k)) more) [
+                | inl this ↦ absurd (none at.one (at.is q e) k l this)
+                | inr rest ↦ or_behind (has kinds k) (some_name_fits (drop (i + 1) ws) (type_at p k)) rest
+              ]
+        ];
+      }
+
+  pub tried_type : (kinds next : List ℕ) (n : ℕ) → next ≡ kinds ++ n ∷ [] → ((w : Word) → IsPatternOf q w → AreCandidates p w (candidates.Type n)) → TriedSo p ws kinds i → TriedSo p ws next (i + 1)
+  tried_type kinds next n made one so =
+      let at = each_at IsPatternOf qs ws i are h in
+      let is = one at.one (at.is q e) in
+      record {
+        below = subst (All (λ k. k < length p.types)) (sym made) (All-push (λ k. k < length p.types) kinds n so.below is.0);
+        among = λ k l fits. ap (λ ks. has ks k || some_name_fits (drop (i + 1) ws) (type_at p k)) made
+            ∙ elim (or_cases (has kinds k) (class_name_fits at.one (type_at p k) || some_name_fits (drop (i + 1) ws) (type_at p k)) (ap (λ b. has kinds k || b) (sym (next_fits k l at)) ∙ so.among k l fits)) [
+              | inl had ↦ or_front (has (kinds ++ n ∷ []) k) (some_name_fits (drop (i + 1) ws) (type_at p k)) (has_front kinds (n ∷ []) k had)
+              | inr more ↦
+                  elim (or_cases (class_name_fits at.one (type_at p k)) (some_name_fits (drop (i + 1) ws) (type_at p k)) more) [
+                    | inl this ↦ or_front (has (kinds ++ n ∷ []) k) (some_name_fits (drop (i + 1) ws) (type_at p k)) (has_behind kinds (n ∷ []) k (has_self k n (is.1 k l this)))
+                    | inr rest ↦ or_behind (has (kinds ++ n ∷ []) k) (some_name_fits (drop (i + 1) ws) (type_at p k)) rest
+                  ]
+            ];
+      }
+
+pub tried_end : (p : Program) (qs : List NamePattern) (ws : List Word) (i : ℕ) (kinds : List ℕ) → AreEach IsPatternOf qs ws → length qs ≤ i → TriedSo p ws kinds i → FitAmong p ws kinds
+tried_end p qs ws i kinds are h so = record {
+  below = so.below;
+  among = λ k l fits. sym (none (has kinds k)) ∙ ap (λ l. has kinds k || some_name_fits l (type_at p k)) (sym (each_end IsPatternOf qs ws i are h)) ∙ so.among k l fits;
+}
+  where
+    none : (b : Bool) → (b || false) ≡ b
+    none true = refl
+    none false = refl

@@ -144,3 +144,19 @@ module _ {R : Type 0} (t : R → Bool) (rs : List R) (i : ℕ) (r : R) (b : Bool
 
 pub one_end : {R : Type 0} (t : R → Bool) (rs : List R) (i : ℕ) → length rs ≤ i → list_any t (drop i rs) ≡ list_any t rs → false ≡ list_any t rs
 one_end t rs i h inv = ap (list_any t) (sym (drop_all i rs h)) ∙ inv
+
+-- what is read at a place, whatever stands for none
+pub read_here : {A : Type 0} (xs : List A) (i : ℕ) (d : A) → i < length xs → get_or xs i d ≡ get_or xs i (get_or xs i d)
+read_here [] i d h = absurd (omega arith)
+read_here (x ∷ xs) zero d h = refl
+read_here (x ∷ xs) (suc i) d h = other xs i d (get_or xs i d) (omega arith)
+  where
+    other : {A : Type 0} (ls : List A) (j : ℕ) (a b : A) → j < length ls → get_or ls j a ≡ get_or ls j b
+    other [] j a b h = absurd (omega arith)
+    other (l ∷ ls) zero a b h = refl
+    other (l ∷ ls) (suc j) a b h = other ls j a b (omega arith)
+
+pub none_past : {A : Type 0} (xs : List A) (i : ℕ) → slice_get xs i ≡ None → length xs ≤ i
+none_past [] i e = omega arith
+none_past (x ∷ xs) zero e = cc
+none_past (x ∷ xs) (suc i) e = let l = none_past xs i e in omega (arith, l)

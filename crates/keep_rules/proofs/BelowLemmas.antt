@@ -64,7 +64,7 @@ any_either f g (x ∷ xs) = moved (f x) (g x) (list_any f xs) (list_any g xs) �
     moved false false false d = refl
 
 module _ (p : Program) (s : Sound p) (h : Hierarchy) (of : IsOf p h) (a : Above) where
-  asks : Text → Bool
+  abbrev asks : Text → Bool
   asks t = is_asked_above (named p) a t
 
   -- one step up
@@ -74,7 +74,7 @@ module _ (p : Program) (s : Sound p) (h : Hierarchy) (of : IsOf p h) (a : Above)
       ∙ ap (λ b. list_any asks (own_above (named p) t) || b) (any_flat asks (types_above n (named p)) (own_above (named p) t))
       ∙ any_either asks (λ u. list_any asks (types_above n (named p) u)) (own_above (named p) t)
 
-  lists : Option NamedClass → List Text
+  abbrev lists : Option NamedClass → List Text
   lists None = []
   lists (Some c) = c.superclass ∷ c.interfaces
 
@@ -142,7 +142,7 @@ module _ (p : Program) (s : Sound p) (h : Hierarchy) (of : IsOf p h) (a : Above)
       rest None all = all
       rest (Some c) all = and_right (t c) (list_all t (places_of p ks)) all
 
-  rank : ℕ → ℕ
+  abbrev rank : ℕ → ℕ
   rank = of.ranked.rank
 
   behind_parts : (place : ℕ) (c : Class) → slice_get p.classes place ≡ Some c → (rank place < length p.classes) × ((is_lower rank (rank place) (class_place p c.superclass) ≡ true) × (list_all (λ u. nat_lt (rank u) (rank place)) (places_of p c.interfaces) ≡ true))
@@ -184,7 +184,7 @@ module _ (p : Program) (s : Sound p) (h : Hierarchy) (of : IsOf p h) (a : Above)
           let less = lower place c e k u i d in
           subst (λ j. is_under_in p a m j ≡ true) r.named (more u r.class r.is (omega (arith, less, l)) (subst (λ j. is_under_in p a n j ≡ true) (sym r.named) q))
 
-  steps : ℕ
+  abbrev steps : ℕ
   steps = length (named p).classes
 
   pub whole : (n place : ℕ) (c : Class) → slice_get p.classes place ≡ Some c → is_under_in p a n c.name ≡ true → is_under p a c.name ≡ true
@@ -395,7 +395,7 @@ some_then p ps i place old mid new kinds between next h e a b = record {
   more = a.more ++ b.more;
   is = b.is ∙ ap (λ l. l ++ b.more) a.is ∙ append_assoc kinds a.more b.more;
   named = λ n c is on. elim (b.named n c is on) [
-    | inl was ↦ elim (a.named n c is was) [ inl first ↦ inl first | inr then ↦ inr (has_front a.more b.more c.name then) ]
+    | inl was ↦ elim (a.named n c is was) [ inl first ↦ inl first | inr between ↦ inr (has_front a.more b.more c.name between) ]
     | inr last ↦ inr (has_behind a.more b.more c.name last)
   ];
   from = λ k g. elim (has_either a.more b.more k g) [

@@ -8,6 +8,8 @@ use Rattle.std.proofs.Common.{Bor}
 use Rattle.std.specs.Cmp.Lexicographic.{bytes_decides}
 use Rattle.std.proofs.lemmas.List.{drop_more, drop_all}
 use Rattle.std.proofs.lemmas.List.Sorted.{list_any-IsPermutation}
+use Rattle.program_model.specs.declared.pools.FieldName.{FieldName}
+use Rattle.program_model.specs.declared.pools.MethodName.{MethodName}
 use Rattle.program_model.specs.declared.program.Class.{Class}
 use Rattle.program_model.specs.declared.program.Program.{Program}
 use Rattle.program_model.specs.Lookups.{class_place}
@@ -22,7 +24,7 @@ use Rattle.keep_rules.specs.Marks.{is_on}
 use Rattle.keep_rules.specs.Table.{has}
 use Rattle.keep_rules.specs.Grown.{Grew, Left}
 use Rattle.keep_rules.specs.View.{IsTypes, kind_of}
-use Rattle.keep_rules.specs.Described.{is_class_named, names_class, class_names, has_both, Listed, ListsLeft, Pairs, PairsLeft}
+use Rattle.keep_rules.specs.Described.{is_class_named, names_class, proto_names, method_names, field_names, class_names, has_both, Listed, ListsLeft, Pairs, PairsLeft}
 use Rattle.keep_rules.proofs.GrownLemmas.{grew_as, left_more, left_start, left_end}
 use Rattle.keep_rules.proofs.AnyLemmas.{has_last}
 use Rattle.keep_rules.proofs.PlaceLemmas.{undefined, defined_there}
@@ -165,3 +167,20 @@ all_pairs_end p fields methods cs i old new h l = record {
 
 pub pairs_sorted : (p : Program) (t : ℕ → ℕ → Bool) (xs ys : List (ℕ × ℕ)) → Pairs p t [] xs → IsPermutation xs ys → Pairs p t [] ys
 pairs_sorted p t xs ys q moves = record { are = λ n k h. sym (list_any-IsPermutation (λ pair. nat_eq n pair.0 && nat_eq k pair.1) xs ys moves) ∙ q.are n k h }
+
+-- ---- members by their names
+
+pub method_named : (p : Program) (n m : ℕ) (q : MethodName) → Some q ≡ slice_get p.methods m → proto_names p n (slice_get p.protos q.proto) ≡ method_names p n m
+method_named p n m q e = ap (λ o. elim o as (λ o. Bool) [ Some name ↦ proto_names p n (slice_get p.protos name.proto) | None ↦ false ]) e
+
+pub method_unnamed : (p : Program) (n m : ℕ) → None ≡ slice_get p.methods m → method_names p n m ≡ false
+method_unnamed p n m e = sym (ap (λ o. elim o as (λ o. Bool) [ Some name ↦ proto_names p n (slice_get p.protos name.proto) | None ↦ false ]) e)
+
+pub field_named : (p : Program) (n f : ℕ) (q : FieldName) → Some q ≡ slice_get p.fields f → names_class p n q.kind ≡ field_names p n f
+field_named p n f q e = ap (λ o. elim o as (λ o. Bool) [ Some name ↦ names_class p n name.kind | None ↦ false ]) e
+
+pub field_unnamed : (p : Program) (n f : ℕ) → None ≡ slice_get p.fields f → field_names p n f ≡ false
+field_unnamed p n f e = sym (ap (λ o. elim o as (λ o. Bool) [ Some name ↦ names_class p n name.kind | None ↦ false ]) e)
+
+pub listed_from : (p : Program) (t : ℕ → Bool) (old new : List ℕ) → old ≡ [] → Listed p t old new → Listed p t [] new
+listed_from p t old new e l = subst (λ xs. Listed p t xs new) e l

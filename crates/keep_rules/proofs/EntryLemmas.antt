@@ -1,7 +1,8 @@
 -- What all entries mark, entry by entry.
-use Rattle.std.proofs.Common.{◌≡◌, ℕ, zero, suc, ◌+◌, ◌<◌, ◌≤◌, Bool, true, false, true≢false, nat_eq, List, [], ◌∷◌, ◌++◌, length, drop, get_or, Option, Some, None, refl, sym, ap, subst, ◌∙◌, arith, inl, inr, ◌⊎◌}
-use Rattle.std.specs.Prelude.{◌&&◌, ◌||◌, not, slice_get, filter, All, if◌then◌else◌}
+use Rattle.std.proofs.Common.{◌≡◌, ℕ, zero, suc, ◌+◌, ◌<◌, ◌≤◌, Bool, true, false, true≢false, nat_eq, List, [], ◌∷◌, ◌++◌, length, drop, get_or, Option, Some, None, refl, sym, ap, subst, ◌∙◌, arith, inl, inr, ◌⊎◌, lt-ltb, ltb-true}
+use Rattle.std.specs.Prelude.{◌&&◌, ◌||◌, not, slice_get, nat_lt, filter, All, if◌then◌else◌}
 use Rattle.std.specs.List.{list_any}
+use Rattle.std.proofs.lemmas.Bool.{cases_lt}
 use Rattle.std.proofs.lemmas.List.Folds.{list_any-append}
 use Rattle.std.proofs.lemmas.List.{drop_more, drop_all}
 use Rattle.std.proofs.lemmas.List.Elements.{All-push}
@@ -27,8 +28,8 @@ use Rattle.rule_defs.specs.Patterns.{class_name_fits, some_name_fits}
 use Rattle.rule_defs.specs.Members.{names_method}
 use Rattle.rule_defs.specs.Kept.{is_conditional, has_modifier, rules_of, describing, is_setting, is_assumed}
 use Rattle.name_bridge.proofs.Tables.{method_is}
-use Rattle.class_defs.proofs.WellFormed.{Sound}
-use Rattle.class_defs.proofs.Positions.{same_test, number_of}
+use Rattle.class_defs.proofs.WellFormed.{Sound, and_left, and_right}
+use Rattle.class_defs.proofs.Positions.{same_test, both, number_of, number_test}
 use Rattle.keep_rules.specs.Table.{has_pair}
 use Rattle.keep_rules.specs.Grown.{Grew, Left, Part, Slot, Kinds, Fields, Methods, Silent, Kept, Live, Described, DescribedLive, marks_in, marks_of, is_in, GrewAll, LeftAll, is_always_of, is_describing, rule_classes, rule_fields, rule_methods, rule_marks, some_rule, rules_in, is_defined, all_marks}
 use Rattle.keep_rules.specs.Silent.{some_line_names, is_silent_type, is_named, is_silent_by}
@@ -37,7 +38,7 @@ use Rattle.keep_rules.specs.Entries.{entry_marks, AddsPair}
 use Rattle.keep_rules.specs.declared.marks.Marks.{Marks}
 use Rattle.keep_rules.proofs.GrownLemmas.{grew_none, grew_as, left_start, left_end, left_more}
 use Rattle.keep_rules.proofs.EachLemmas.{EachAt, each_at, each_end}
-use Rattle.keep_rules.proofs.AnyLemmas.{any_never, any_congr}
+use Rattle.keep_rules.proofs.AnyLemmas.{any_never, any_congr, any_at}
 
 -- ---- rules
 
@@ -310,3 +311,21 @@ pairs_more size pairs i q old new n k h e g l a inv =
 
 pub pairs_end : (pairs : List (ℕ × ℕ)) (i : ℕ) (out : List ClassIf) (n k : ℕ) → length pairs ≤ i → (has_pair out n k || has_both (drop i pairs) n k) ≡ has_both pairs n k → has_pair out n k ≡ has_both pairs n k
 pairs_end pairs i out n k h inv = sym (ap (λ ps. has_pair out n k || has_both ps n k) (drop_all i pairs h) ∙ or_none (has_pair out n k)) ∙ inv
+
+-- whether the numbers are below the size, as a test
+pub pair_far : (class owner size : ℕ) (b : Bool) (old : List ClassIf) → b ≡ (nat_lt class size && nat_lt owner size) → b ≡ false → AddsPair class owner size old old
+pair_far class owner size b old e f = pair_outside class owner size old (far (sym e ∙ f))
+  where
+    far : (nat_lt class size && nat_lt owner size) ≡ false → (size ≤ class) ⊎ (size ≤ owner)
+    far g = elim (cases_lt class size) [
+      | inr l ↦ inl l
+      | inl l ↦ elim (cases_lt owner size) [ inr m ↦ inr m | inl m ↦ absurd (true≢false (sym (both (nat_lt class size) (nat_lt owner size) (lt-ltb class size l) (lt-ltb owner size m)) ∙ g)) ]
+    ]
+
+pub pair_near : (class owner size : ℕ) (b : Bool) (old new : List ClassIf) → b ≡ (nat_lt class size && nat_lt owner size) → b ≡ true → new ≡ old ++ record { class = class; owner = owner } ∷ [] → AddsPair class owner size old new
+pair_near class owner size b old new e f g = pair_added class owner size old new
+    (ltb-true class size (and_left (nat_lt class size) (nat_lt owner size) (sym e ∙ f))) (ltb-true owner size (and_right (nat_lt class size) (nat_lt owner size) (sym e ∙ f))) g
+
+pub last_pair : (pairs : List ClassIf) (i : ℕ) (q : ClassIf) (class owner : ℕ) → slice_get pairs i ≡ Some q → (nat_eq q.class class && nat_eq q.owner owner) ≡ true → has_pair pairs class owner ≡ true
+last_pair pairs i q class owner e h = any_at (λ pair. nat_eq class pair.class && nat_eq owner pair.owner) pairs i q e
+    (both (nat_eq class q.class) (nat_eq owner q.owner) (number_test class q.class (sym (number_of q.class class (and_left (nat_eq q.class class) (nat_eq q.owner owner) h)))) (number_test owner q.owner (sym (number_of q.owner owner (and_right (nat_eq q.class class) (nat_eq q.owner owner) h)))))

@@ -397,7 +397,7 @@ pub standing_free : (p : Program) (r : Option ReadAbove) (above : Option Above) 
 standing_free p r above e are = by above (subst (λ x. AreBoth IsAboveOf x above) e are)
   where
     by : (o : Option Above) → AreBoth IsAboveOf None o → AreStanding p o None
-    by None are place c is = refl
+    by None are = λ place c is. refl
     by (Some a) are = absurd are
 
 pub standing_below : (p : Program) (r : Option ReadAbove) (above : Option Above) (q : ReadAbove) (marks : List Bool) (under : Bor (List Bool)) → r ≡ Some q → AreBoth IsAboveOf r above → under.now ≡ marks → ((a : Above) → IsAboveOf q a → AreUnder p a marks) → AreStanding p above (Some under)
@@ -405,7 +405,7 @@ standing_below p r above q marks under e are same are_under = by above (subst (�
   where
     by : (o : Option Above) → AreBoth IsAboveOf (Some q) o → AreStanding p o (Some under)
     by None are = absurd are
-    by (Some a) are place c is = ap (λ l. is_on l place) same ∙ are_under a are place c is
+    by (Some a) are = λ place c is. ap (λ l. is_on l place) same ∙ are_under a are place c is
 
 -- ---- what is marked of a class that a rule keeps
 

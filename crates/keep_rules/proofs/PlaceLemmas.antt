@@ -23,7 +23,7 @@ use Rattle.rule_defs.specs.Members.{has_mark}
 use Rattle.keep_rules.specs.Below.{has_mark_there, mark_holds_there, is_asked}
 use Rattle.keep_rules.specs.Silent.{is_silent_type}
 
-is_there : Option NamedClass → Bool
+abbrev is_there : Option NamedClass → Bool
 is_there None = false
 is_there (Some c) = true
 
@@ -42,7 +42,7 @@ module _ (p : Program) (s : Sound p) (k : ℕ) (h : k < length p.types) where
 
   -- ---- annotations
 
-  mark_in : Word → Option NamedClass → Bool
+  abbrev mark_in : Word → Option NamedClass → Bool
   mark_in w None = false
   mark_in w (Some c) = has_mark w c.marks
 

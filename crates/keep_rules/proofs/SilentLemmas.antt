@@ -9,7 +9,7 @@ use Rattle.program_model.specs.declared.pools.MethodName.{MethodName}
 use Rattle.program_model.specs.declared.program.Program.{Program}
 use Rattle.class_defs.proofs.Positions.{same_test, number_of, number_test, both}
 use Rattle.class_defs.proofs.WellFormed.{Sound, and_left, and_right}
-use Rattle.name_bridge.proofs.Tables.{method_class}
+use Rattle.name_bridge.proofs.Tables.{method_class, method_proto}
 use Rattle.dalvik_defs.specs.Naming.{type_at, named}
 use Rattle.rule_text.specs.Rules.{AssumeRule}
 use Rattle.rule_defs.specs.Patterns.{some_name_fits}
@@ -19,7 +19,7 @@ use Rattle.keep_rules.specs.Grown.{Grew, Left}
 use Rattle.keep_rules.specs.Rows.{row_in}
 use Rattle.keep_rules.specs.View.{AreRows, is_method_of}
 use Rattle.keep_rules.specs.Tried.{FitAmong}
-use Rattle.keep_rules.specs.Silent.{is_silent_type, is_named, is_silent_of, is_silent_by, is_before}
+use Rattle.keep_rules.specs.Silent.{some_line_names, is_silent_type, is_named, is_silent_of, is_silent_by, is_before}
 use Rattle.keep_rules.proofs.GrownLemmas.{grew_none, grew_as, grew_then, grew_if, left_start, left_end, left_more}
 use Rattle.keep_rules.proofs.AnyLemmas.{find_any, any_at, or_front, or_behind, or_cases, has_at, place_in}
 use Rattle.keep_rules.proofs.ViewLemmas.{method_of_at, method_past}
@@ -184,3 +184,14 @@ all_end p s k kind old new h g = grew_as (silent_before p k kind) (is_silent_by 
     by : (n : ℕ) (o : Option MethodName) → slice_get p.methods n ≡ o → silent_before p k kind n ≡ is_silent_by p k n
     by n None e = ap (λ x. x && is_silent_by p k n) (before_none p kind n e) ∙ sym (by_none p k n e)
     by n (Some m) e = ap (λ x. x && is_silent_by p k n) (before_at p kind n m e ∙ lt-ltb m.class kind (let l = method_class p s n m e in omega (arith, l, h)))
+
+-- ---- a method by its number
+
+pub proto_there : (p : Program) → Sound p → (n : ℕ) (m : MethodName) → Some m ≡ slice_get p.methods n → nat_lt m.proto (length p.protos) ≡ true
+proto_there p s n m e = lt-ltb m.proto (length p.protos) (method_proto p s n m (sym e))
+
+pub named_by : (p : Program) (k : AssumeRule) (n : ℕ) (m : MethodName) → Some m ≡ slice_get p.methods n → some_line_names p k.members m ≡ is_named p k n
+named_by p k n m e = ap (λ o. elim o as (λ o. Bool) [ Some m ↦ some_line_names p k.members m | None ↦ false ]) e
+
+pub named_none : (p : Program) (k : AssumeRule) (n : ℕ) → None ≡ slice_get p.methods n → false ≡ is_named p k n
+named_none p k n e = ap (λ o. elim o as (λ o. Bool) [ Some m ↦ some_line_names p k.members m | None ↦ false ]) e

@@ -1,16 +1,16 @@
 -- The types that names match, by the descriptors that they spell.
 use Rattle.std.proofs.Common.{◌≡◌, ℕ, zero, suc, ◌+◌, ◌<◌, ◌≤◌, Bool, true, false, true≢false, nat_eq, List, [], ◌∷◌, ◌++◌, length, map, take, drop, get_or, Option, Some, None, Result, Ok, Err, refl, sym, ap, subst, ◌∙◌, arith, inl, inr, eqb-true, eq-eqb}
 use Rattle.std.specs.Prelude.{◌&&◌, ◌||◌, ◌==◌, not, is_ok, slice_get, if◌then◌else◌, All}
-use Rattle.std.specs.List.{list_any}
+use Rattle.std.specs.List.{list_any, AllByRecursion, concat, join_with_byte}
+use Rattle.std.proofs.lemmas.List.Folds.{list_any-append}
 use Rattle.std.specs.HashMap.{HashMap}
 use Rattle.std.proofs.Common.{Bor}
 use Rattle.std.proofs.lemmas.List.Elements.{All-push}
-use Rattle.dex_base.specs.Descriptor.{is_alone, is_high, is_low, is_from, is_primitive, of_depth, behind_bracket, behind_character, in_name, next_spot, ended, go_on, ends_in, descriptor_of}
+use Rattle.dex_base.specs.Descriptor.{is_alone, is_high, is_low, is_primitive, descriptor_of}
+use Rattle.dex_base.specs.Grammar.{IsCharacter, IsName, AreNames, IsElement, OfLetter, OfClass, IsDescriptor, OfVoid, OfElement, OfArray}
+use Rattle.dex_base.proofs.Names.{descriptor_found}
 use Rattle.dex_base.specs.declared.fault.BaseFault.{BaseFault}
 use Rattle.dex_base.specs.declared.descriptor.Descriptor.{Descriptor}
-use Rattle.dex_base.specs.declared.descriptor.Descriptor.TheVariants as desc
-use Rattle.dex_base.specs.declared.descriptor.Spot.{Spot}
-use Rattle.dex_base.specs.declared.descriptor.Spot.TheVariants.{Element, Name, Inside, Low, End}
 use Rattle.program_model.specs.declared.program.Program.{Program}
 use Rattle.program_model.specs.Texts.{has_string, string_text}
 use Rattle.program_model.specs.TableRules.{type_fits}
@@ -55,109 +55,67 @@ alone_dot : is_alone 46 ≡ false
 unfolding is_alone
 alone_dot = refl
 
-is_result : (place : ℕ) (o : Option Spot) (more : Spot → Result Descriptor BaseFault) → is_ok (go_on place o more) ≡ true → (s : Spot) × ((o ≡ Some s) × (is_ok (more s) ≡ true))
-is_result place None more e = absurd (true≢false (sym e))
-is_result place (Some s) more e = (s, (refl, e))
+-- whether some unit is a dot
+abbrev has_dot : List ℕ → Bool
+has_dot us = list_any (λ u. nat_eq u 46) us
 
--- a spot in a name
-abbrev IsInName : Spot → Type 0
-IsInName (Element d) = ⊥
-IsInName (Name d) = Unit {0}
-IsInName (Inside d) = Unit {0}
-IsInName (Low d) = Unit {0}
-IsInName (End k) = ⊥
+no_dot_in : (xs ys : List ℕ) → has_dot xs ≡ false → has_dot ys ≡ false → has_dot (xs ++ ys) ≡ false
+no_dot_in xs ys e f = list_any-append (λ u. nat_eq u 46) xs ys ∙ ap (λ b. b || has_dot ys) e ∙ f
 
-in_name_step : (d u : ℕ) (s : Spot) → in_name d u ≡ Some s → (IsInName s) × (nat_eq u 46 ≡ false)
-in_name_step d u s e = step (is_alone u) refl e
-  where
-    high : (c : Bool) → is_high u ≡ c → (if c then Some (Low d) else None) ≡ Some s → (IsInName s) × (nat_eq u 46 ≡ false)
-    high true h g = let is : Low d ≡ s = cc in (subst IsInName is tt, no_dot is_high u refl h)
-    high false h g = cc
+one_dot : (u : ℕ) (us : List ℕ) → nat_eq u 46 ≡ false → has_dot us ≡ false → has_dot (u ∷ us) ≡ false
+one_dot u us e f = ap (λ b. b || has_dot us) e ∙ f
 
-    step : (b : Bool) → is_alone u ≡ b → (if b then Some (Inside d) else if is_high u then Some (Low d) else None) ≡ Some s → (IsInName s) × (nat_eq u 46 ≡ false)
-    step true h g = let is : Inside d ≡ s = cc in (subst IsInName is tt, no_dot is_alone u alone_dot h)
-    step false h g = high (is_high u) refl g
+character_dot : (c : List ℕ) → IsCharacter c → has_dot c ≡ false
+character_dot [] i = absurd i
+character_dot (u ∷ []) i = one_dot u [] (no_dot is_alone u alone_dot i) refl
+character_dot (u ∷ v ∷ []) i = one_dot u (v ∷ []) (no_dot is_high u refl i.0) (one_dot v [] (no_dot is_low v refl i.1) refl)
+character_dot (u ∷ v ∷ w ∷ us) i = absurd i
 
-abbrev spot_depth : Spot → ℕ
-spot_depth (Element d) = d
-spot_depth (Name d) = d
-spot_depth (Inside d) = d
-spot_depth (Low d) = d
-spot_depth (End k) = 0
+name_dot : (cs : List (List ℕ)) → AllByRecursion IsCharacter cs → has_dot (concat cs) ≡ false
+name_dot [] are = refl
+name_dot (c ∷ cs) are = no_dot_in c (concat cs) (character_dot c are.0) (name_dot cs are.1)
 
-name_next : (d u : ℕ) → in_name d u ≡ next_spot (Name d) u
-unfolding next_spot
-name_next d u = refl
+names_dot : (ns : List (List ℕ)) → AllByRecursion IsName ns → has_dot (join_with_byte 47 ns) ≡ false
+names_dot [] are = refl
+names_dot (n ∷ []) are = ap has_dot are.0.is ∙ name_dot are.0.characters are.0.are
+names_dot (n ∷ m ∷ ns) are = no_dot_in n (47 ∷ join_with_byte 47 (m ∷ ns)) (ap has_dot are.0.is ∙ name_dot are.0.characters are.0.are) (one_dot 47 (join_with_byte 47 (m ∷ ns)) refl (names_dot (m ∷ ns) are.1))
 
-inside_next : (d u : ℕ) → behind_character d u ≡ next_spot (Inside d) u
-unfolding next_spot
-inside_next d u = refl
+or_first : (a b : Bool) → (a || b) ≡ false → a ≡ false
+or_first true b e = e
+or_first false b e = refl
 
-low_next : (d u : ℕ) → (if is_low u then Some (Inside d) else None) ≡ next_spot (Low d) u
-unfolding next_spot
-low_next d u = refl
+or_second : (a b : Bool) → (a || b) ≡ false → b ≡ false
+or_second true b e = absurd (true≢false e)
+or_second false b e = e
 
-end_next : (k : Descriptor) (u : ℕ) → next_spot (End k) u ≡ None
-unfolding next_spot
-end_next k u = refl
-
--- nothing stands behind the end
-at_end : (us : List ℕ) (place : ℕ) (k : Descriptor) → is_ok (ends_in place (End k) us) ≡ true → us ≡ []
-at_end [] place k e = refl
-at_end (v ∷ vs) place k e = absurd (true≢false (sym e ∙ ap (λ o. is_ok (go_on place o (λ next. ends_in (suc place) next vs))) (end_next k v)))
-
--- one more unit in a name, where what is behind it is closed
-module _ (u : ℕ) (us : List ℕ) (place d : ℕ) (more : (s : Spot) → IsInName s → is_ok (ends_in (suc place) s us) ≡ true → closes us ≡ true) where
-  by_name : (s : Spot) → in_name d u ≡ Some s → is_ok (ends_in (suc place) s us) ≡ true → closes (u ∷ us) ≡ true
-  by_name s e k = let n = in_name_step d u s e in goes_on u us n.1 (more s n.0 k)
-
-  by_last : (b : Bool) → (u == 59) ≡ b → (s : Spot) → (if b then Some (End (of_depth d desc.Class)) else in_name d u) ≡ Some s → is_ok (ends_in (suc place) s us) ≡ true → closes (u ∷ us) ≡ true
-  by_last true h s g k =
-      let is : End (of_depth d desc.Class) ≡ s = cc in
-      let none = at_end us (suc place) (of_depth d desc.Class) (subst (λ x. is_ok (ends_in (suc place) x us) ≡ true) (sym is) k) in
-      ap (λ l. closes (u ∷ l)) none ∙ number_test u 59 (eqb-true u 59 h)
-  by_last false h s g k = by_name s g k
-
-  by_slash : (b : Bool) → (u == 47) ≡ b → (s : Spot) → (if b then Some (Name d) else if u == 59 then Some (End (of_depth d desc.Class)) else in_name d u) ≡ Some s → is_ok (ends_in (suc place) s us) ≡ true → closes (u ∷ us) ≡ true
-  by_slash true h s g k = let is : Name d ≡ s = cc in goes_on u us (no_dot (λ x. x == 47) u refl h) (more s (subst IsInName is tt) k)
-  by_slash false h s g k = by_last (u == 59) refl s g k
-
-  by_low : (b : Bool) → is_low u ≡ b → (s : Spot) → (if b then Some (Inside d) else None) ≡ Some s → is_ok (ends_in (suc place) s us) ≡ true → closes (u ∷ us) ≡ true
-  by_low true h s g k = let is : Inside d ≡ s = cc in goes_on u us (no_dot is_low u refl h) (more s (subst IsInName is tt) k)
-  by_low false h s g k = cc
-
-  by_spot : (spot : Spot) → IsInName spot → (s : Spot) → next_spot spot u ≡ Some s → spot_depth spot ≡ d → is_ok (ends_in (suc place) s us) ≡ true → closes (u ∷ us) ≡ true
-  by_spot (Element x) i s g z k = absurd i
-  by_spot (Name x) i s g z k = by_name s (ap (λ y. in_name y u) (sym z) ∙ name_next x u ∙ g) k
-  by_spot (Inside x) i s g z k = by_slash (u == 47) refl s (ap (λ y. behind_character y u) (sym z) ∙ inside_next x u ∙ g) k
-  by_spot (Low x) i s g z k = by_low (is_low u) refl s (ap (λ y. if is_low u then Some (Inside y) else None) (sym z) ∙ low_next x u ∙ g) k
-  by_spot (End x) i s g z k = absurd i
-
--- the units behind a spot in a name are closed
-spot_closes : (us : List ℕ) (place : ℕ) (spot : Spot) → IsInName spot → is_ok (ends_in place spot us) ≡ true → closes us ≡ true
-spot_closes [] place (Element d) i e = absurd i
-spot_closes [] place (Name d) i e = absurd (true≢false (sym e))
-spot_closes [] place (Inside d) i e = absurd (true≢false (sym e))
-spot_closes [] place (Low d) i e = absurd (true≢false (sym e))
-spot_closes [] place (End k) i e = absurd i
-spot_closes (u ∷ us) place spot i e =
-    let r = is_result place (next_spot spot u) (λ next. ends_in (suc place) next us) e in
-    by_spot u us place (spot_depth spot) (λ s j k. spot_closes us (suc place) s j k) spot i r.0 r.1.0 refl r.1.1
+closes_end : (us : List ℕ) → has_dot us ≡ false → closes (us ++ 59 ∷ []) ≡ true
+closes_end [] e = refl
+closes_end (u ∷ us) e = goes_on u (us ++ 59 ∷ []) (or_first (nat_eq u 46) (has_dot us) e) (closes_end us (or_second (nat_eq u 46) (has_dot us) e))
 
 pub record IsClassText (t : Text) : Type 0 where
   pub is : t ≡ 76 ∷ item_of t
   pub closed : closes (item_of t) ≡ true
 
-class_closes : (us : List ℕ) → is_ok (ends_in 0 (Element 0) (76 ∷ us)) ≡ true → closes us ≡ true
-unfolding next_spot
-class_closes us g = spot_closes us 1 (Name 0) tt g
+class_element : (t : Text) (k : Descriptor) → IsElement t k → is_class_type t ≡ true → IsClassText t
+class_element t k (OfLetter u p e at) h =
+    let s : u ≡ 76 = number_of u 76 (sym (ap is_class_type e) ∙ h) in absurd (true≢false (sym (subst (λ (x : ℕ). is_primitive x ≡ true) s p)))
+class_element t k (OfClass names are e at) h = record {
+  is = e ∙ ap (λ l. 76 ∷ l) (sym (ap item_of e));
+  closed = ap closes (ap item_of e ∙ are.is) ∙ closes_end (join_with_byte 47 are.names) (names_dot are.names are.are);
+}
+
+class_shape : (t : Text) (k : Descriptor) → IsDescriptor t k → is_class_type t ≡ true → IsClassText t
+class_shape t k (OfVoid e at) h = absurd (true≢false (sym (sym (ap is_class_type e) ∙ h)))
+class_shape t k (OfElement f) h = class_element t k f h
+class_shape t k (OfArray zero element of some few is f at) h = absurd (omega (arith, some))
+class_shape t k (OfArray (suc depth) element of some few is f at) h = absurd (true≢false (sym (sym (ap is_class_type is) ∙ h)))
 
 pub class_text : (t : Text) → is_ok (descriptor_of t) ≡ true → is_class_type t ≡ true → IsClassText t
-unfolding descriptor_of
-class_text [] e h = absurd (true≢false (sym h))
-class_text (u ∷ us) e h =
-    let s : u ≡ 76 = number_of u 76 h in
-    record { is = ap (λ x. x ∷ us) s; closed = class_closes us (subst (λ x. is_ok (ends_in 0 (Element 0) (x ∷ us)) ≡ true) s e) }
+class_text t e h = by (descriptor_of t) refl e
+  where
+    by : (r : Result Descriptor BaseFault) → descriptor_of t ≡ r → is_ok r ≡ true → IsClassText t
+    by (Ok k) f g = class_shape t k (descriptor_found t k f) h
+    by (Err x) f g = absurd (true≢false (sym g))
 
 -- the type of a program
 pub type_descriptor : (p : Program) → Sound p → (n : ℕ) → n < length p.types → is_ok (descriptor_of (type_at p n)) ≡ true

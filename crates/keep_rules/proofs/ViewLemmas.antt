@@ -1,5 +1,5 @@
 -- The tables of a view.
-use Rattle.std.proofs.Common.{◌≡◌, ℕ, zero, suc, ◌+◌, ◌<◌, ◌≤◌, Bool, true, false, true≢false, nat_eq, List, [], ◌∷◌, ◌++◌, length, set, get_or, take, Option, Some, None, refl, sym, ap, subst, ◌∙◌, arith, inl, inr, lt-ltb, ltb-true}
+use Rattle.std.proofs.Common.{◌≡◌, ℕ, zero, suc, ◌+◌, ◌<◌, ◌≤◌, Bool, true, false, true≢false, nat_eq, List, [], ◌∷◌, ◌++◌, length, set, get_or, take, Option, Some, None, refl, sym, ap, subst, ◌∙◌, arith, ◌⊎◌, inl, inr, lt-ltb, ltb-true}
 use Rattle.std.specs.Prelude.{◌&&◌, ◌||◌, cond, slice_get, nat_lt, Vec}
 use Rattle.std.specs.List.{list_any}
 use Rattle.std.specs.Cmp.Lexicographic.{bytes_decides}
@@ -7,7 +7,7 @@ use Rattle.std.specs.HashMap.{HashMap}
 use Rattle.std.proofs.Common.{Bor}
 use Rattle.std.specs.declared.alloc.Global.{Global}
 use Rattle.std.proofs.lemmas.Bool.{cases_lt}
-use Rattle.std.proofs.lemmas.List.{length-set, take_all}
+use Rattle.std.proofs.lemmas.List.{length-set, length_push, take_all}
 use Rattle.std.proofs.lemmas.List.Folds.{list_any_more}
 use Rattle.std.proofs.lemmas.Option.{slice_get_past}
 use Rattle.program_model.specs.declared.pools.MethodName.{MethodName}
@@ -212,3 +212,23 @@ below_at p k n c e = ap (λ o. elim o as (λ o. Bool) [ Some c ↦ list_any (nat
 
 pub method_of_at : (p : Program) (k n : ℕ) (m : MethodName) → slice_get p.methods n ≡ Some m → is_method_of p k n ≡ nat_eq k m.class
 method_of_at p k n m e = ap (λ o. elim o as (λ o. Bool) [ Some m ↦ nat_eq k m.class | None ↦ false ]) e
+
+-- ---- empty rows
+
+pub empty_start : (rows : List (Vec ℕ Global)) → rows ≡ [] → AreEmpty 0 rows
+empty_start rows e = record { size = ap length e; none = λ k. ap (λ l. row_in l k) e }
+
+pub empty_more : (count : ℕ) (old new : List (Vec ℕ Global)) (row : Vec ℕ Global) → AreEmpty count old → row.items ≡ [] → new ≡ old ++ row ∷ [] → AreEmpty (count + 1) new
+empty_more count old new row a e s = record {
+  size = ap length s ∙ length_push old row ∙ ap (λ n. n + 1) a.size;
+  none = λ k. ap (λ l. row_in l k) s ∙ behind old k (a.none k);
+}
+  where
+    alone : (k : ℕ) → row_in (row ∷ []) k ≡ []
+    alone zero = e
+    alone (suc k) = refl
+
+    behind : (xs : List (Vec ℕ Global)) (k : ℕ) → row_in xs k ≡ [] → row_in (xs ++ row ∷ []) k ≡ []
+    behind [] k h = alone k
+    behind (x ∷ xs) zero h = h
+    behind (x ∷ xs) (suc k) h = behind xs k h

@@ -102,9 +102,10 @@ fn add_wanted(
         → OnOk result (AddsAsked view.now.program.now a kind kinds.old.items kinds.new.items) }
 {
     let wanted = is_wanted(view, above, kind, row)?;
-    if wanted {
-        kinds.push(kind)?;
+    if !wanted {
+        return Ok(());
     }
+    kinds.push(kind)?;
     Ok(())
 }
 
@@ -218,15 +219,25 @@ fn mark_below(
     Ok(())
 }
 
+/// The number at a place.
+fn number_at(numbers: &[u32], at: usize) -> Option<u32>
+    ensures { result ≡ slice_get numbers.now at }
+{
+    match numbers.get(at) {
+        Some(number) => Some(*number),
+        None => None,
+    }
+}
+
 /// Marks all classes below the types. More than 2^64 steps are answered as want of memory.
 fn search(view: &View<'_>, under: &mut Vec<bool>, kinds: &mut Vec<u32>) -> Result<(), AllocError>
     ensures { (a : meant.Above) → IsReady view.now → IsSearch view.now.program.now a under.old.items kinds.old.items 0 → OnOk result (AreUnder view.now.program.now a under.new.items) }
 {
     for at in 0..usize::MAX {
-        let Some(kind) = kinds.get(at).copied() else {
-            return Ok(());
-        };
-        mark_below(view, kind, under, kinds)?;
+        match number_at(kinds.as_slice(), at) {
+            Some(kind) => mark_below(view, kind, under, kinds)?,
+            None => return Ok(()),
+        }
     }
     Err(AllocError)
 }

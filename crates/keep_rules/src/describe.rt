@@ -50,10 +50,13 @@ fn class_named(view: &View<'_>, units: &[u16]) -> Option<u32>
 fn add_option(kind: Option<u32>, out: &mut Vec<u32>) -> Result<(), AllocError>
     ensures { (p : Program) (t : Text) → IsClassOf p t kind → OnOk result (Listed p (λ n. is_class_named p n t) out.old.items out.new.items) }
 {
-    if let Some(kind) = kind {
-        out.push(kind)?;
+    match kind {
+        Some(kind) => {
+            out.push(kind)?;
+            Ok(())
+        }
+        None => Ok(()),
     }
-    Ok(())
 }
 
 /// Adds the class of the program that a type names, also as the item of an array.

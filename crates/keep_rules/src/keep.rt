@@ -54,6 +54,13 @@ fn flags_fit(rule: &ClassRule, flags: Flags) -> bool
     is_of_rule_kind(rule, flags) && access_fits(rule.conditions.as_slice(), Role::Class, flags)
 }
 
+/// Whether both hold.
+fn both(one: bool, other: bool) -> bool
+    ensures { result ≡ (one && other) }
+{
+    one && other
+}
+
 /// Whether the rule matches the class, where `under` says whether it stands below what the rule asks for.
 fn class_matches(
     rule: &ClassRule,
@@ -65,8 +72,8 @@ fn class_matches(
     ensures { (k : meant.ClassRule) → IsClassOf rule.now k → under ≡ stands_below (named program.now) k.above (type_at program.now class.now.name)
         → IfOk result (λ fits. fits ≡ matches_class (named program.now) k (named_class program.now class.now)) }
 {
-    let fits = flags_fit(rule, class.flags);
-    if !(under && fits) {
+    let fits = both(under, flags_fit(rule, class.flags));
+    if !fits {
         return Ok(false);
     }
     let named = some_class_fits(rule.names.as_slice(), descriptor(program, class.name), row)?;
@@ -288,7 +295,7 @@ fn keep_matching(
 
 /// Whether the class at a place is one of those below what is asked for, if anything is.
 fn is_under(under: Option<&[bool]>, place: u32) -> bool
-    ensures { result ≡ under_test under place }
+    ensures { result ≡ under_test under.entry place }
 {
     match under {
         Some(marks) => is_marked(marks, place),
@@ -305,7 +312,7 @@ fn keep_place(
     marks: &mut Marks,
     row: &mut Vec<bool>,
 ) -> Result<(), AllocError>
-    ensures { (k : meant.KeepRule) → is_well_formed program.now ≡ true → IsKeepOf rule.now k → keeps k ≡ true → AreStanding program.now k.class.above under
+    ensures { (k : meant.KeepRule) → is_well_formed program.now ≡ true → IsKeepOf rule.now k → keeps k ≡ true → AreStanding program.now k.class.above under.entry
         → OnOk result (GrewAll (rule_marks program.now k (class_there program.now place)) marks.old marks.new) }
 {
     match class_at(program, place) {
@@ -326,7 +333,7 @@ fn keep_kind(
     marks: &mut Marks,
     row: &mut Vec<bool>,
 ) -> Result<(), AllocError>
-    ensures { (k : meant.KeepRule) → IsReady view.now → IsKeepOf rule.now k → keeps k ≡ true → AreStanding view.now.program.now k.class.above under
+    ensures { (k : meant.KeepRule) → IsReady view.now → IsKeepOf rule.now k → keeps k ≡ true → AreStanding view.now.program.now k.class.above under.entry
         → OnOk result (GrewAll (rule_marks view.now.program.now k (class_of_kind view.now.program.now kind)) marks.old marks.new) }
 {
     match view.place_of(kind) {
@@ -347,7 +354,7 @@ fn keep_kinds(
     marks: &mut Marks,
     row: &mut Vec<bool>,
 ) -> Result<(), AllocError>
-    ensures { (k : meant.KeepRule) → IsReady view.now → IsKeepOf rule.now k → keeps k ≡ true → AreStanding view.now.program.now k.class.above under
+    ensures { (k : meant.KeepRule) → IsReady view.now → IsKeepOf rule.now k → keeps k ≡ true → AreStanding view.now.program.now k.class.above under.entry
         → OnOk result (GrewAll (rule_marks view.now.program.now k (flat_map (class_of_kind view.now.program.now) kinds.now)) marks.old marks.new) }
 {
     for kind in kinds {
@@ -365,7 +372,7 @@ fn keep_all(
     row: &mut Vec<bool>,
 ) -> Result<(), AllocError>
     requires { length program.now.classes < 2 ^ 32 }
-    ensures { (k : meant.KeepRule) → is_well_formed program.now ≡ true → IsKeepOf rule.now k → keeps k ≡ true → AreStanding program.now k.class.above under
+    ensures { (k : meant.KeepRule) → is_well_formed program.now ≡ true → IsKeepOf rule.now k → keeps k ≡ true → AreStanding program.now k.class.above under.entry
         → OnOk result (GrewAll (rule_marks program.now k program.now.classes) marks.old marks.new) }
 {
     for place in 0..program.classes.len() as u32 {
@@ -383,7 +390,7 @@ fn keep_places(
     marks: &mut Marks,
     row: &mut Vec<bool>,
 ) -> Result<(), AllocError>
-    ensures { (k : meant.KeepRule) → IsReady view.now → IsKeepOf rule.now k → keeps k ≡ true → AreStanding view.now.program.now k.class.above under
+    ensures { (k : meant.KeepRule) → IsReady view.now → IsKeepOf rule.now k → keeps k ≡ true → AreStanding view.now.program.now k.class.above under.entry
         → OnOk result (GrewAll (rule_marks view.now.program.now k view.now.program.now.classes) marks.old marks.new) }
 {
     match named_types(alloc, view, rule.class.names.as_slice())? {

@@ -1,6 +1,6 @@
 //! What the rules keep of a program.
 
-ghost use Rattle.std.specs.Prelude.{◌≡◌, ◌<◌, ◌^◌, ℕ, List, [], true, not, length, IfOk, OnOk, All};
+ghost use Rattle.std.specs.Prelude.{◌≡◌, ◌<◌, ◌^◌, ◌&&◌, ℕ, List, [], true, length, nat_lt, IfOk, OnOk, All};
 ghost use Rattle.std.specs.List.{list_any};
 ghost use Rattle.program_model.specs.ProgramRules.{is_well_formed};
 ghost use Rattle.hierarchy.specs.Shapes.{IsOf};
@@ -44,6 +44,13 @@ fn is_last(pairs: &[ClassIf], class: u32, owner: u32) -> bool
     }
 }
 
+/// Whether both numbers are below the size.
+fn are_below(class: u32, owner: u32, size: u32) -> bool
+    ensures { result ≡ (nat_lt class size && nat_lt owner size) }
+{
+    class < size && owner < size
+}
+
 /// Adds a pair whose numbers are below the size, unless it is the last.
 fn add_pair(
     class: u32,
@@ -53,13 +60,15 @@ fn add_pair(
 ) -> Result<(), AllocError>
     ensures { OnOk result (AddsPair class owner size pairs.old pairs.new) }
 {
-    if class >= size || owner >= size {
+    let below = are_below(class, owner, size);
+    if !below {
         return Ok(());
     }
     let last = is_last(pairs.as_slice(), class, owner);
-    if !last {
-        pairs.push(ClassIf { class, owner })?;
+    if last {
+        return Ok(());
     }
+    pairs.push(ClassIf { class, owner })?;
     Ok(())
 }
 

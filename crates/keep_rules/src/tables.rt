@@ -42,10 +42,13 @@ fn empty_lists(alloc: Global, count: usize) -> Result<Vec<Vec<u32>>, AllocError>
 fn add_to(lists: &mut Vec<Vec<u32>>, kind: u32, number: u32) -> Result<(), AllocError>
     ensures { OnOk result (AddsTo kind number lists.old.items lists.new.items) }
 {
-    if let Some(list) = lists.get_mut(kind as usize) {
-        list.push(number)?;
+    match lists.get_mut(kind as usize) {
+        Some(list) => {
+            list.push(number)?;
+            Ok(())
+        }
+        None => Ok(()),
     }
-    Ok(())
 }
 
 /// Adds a number to the lists of some types.

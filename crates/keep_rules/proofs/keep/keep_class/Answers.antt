@@ -5,4 +5,4 @@ pub returns-then-not-complete : goal.returns-then-not-complete
 returns-then-not-complete c = λ k is keeps fits known. stays c.args.program.now k c.args.class.now c.args.marks.now (incomplete c.args.program.now k c.args.class.now c.in_ok-complete.complete (c.in_ok-complete.ensures k known is) c.if-not-complete.true)
 
 pub returns : goal.returns
-returns c = λ k is keeps fits known. kept c.args.program.now k c.args.class.now c.args.marks.now _ (applied c.args.program.now k c.args.class.now c.in_ok-complete.complete keeps fits (c.in_ok-complete.ensures k known is) c.if-not-complete.false) (c.in_ok-keep_members.ensures k is known)
+returns c = λ k is keeps fits known. kept c.args.program.now k c.args.class.now c.args.marks.now c.keep_members.new.marks (applied c.args.program.now k c.args.class.now c.in_ok-complete.complete keeps fits (c.in_ok-complete.ensures k known is) c.if-not-complete.false) (c.in_ok-keep_members.ensures k is known)

@@ -6,7 +6,7 @@ pub returns-clause-ready : goal.returns-clause-ready
 returns-clause-ready c = λ formed of. record {
   formed = formed;
   of = of;
-  types = types_are c.args.program.now (sound c.args.program.now formed) c.in_ok-types_by_name.value c.in_ok-types_by_name.ensures;
+  types = types_are c.args.program.now (sound c.args.program.now formed) c.in_ok-types_by_name.field-0 c.in_ok-types_by_name.ensures;
   below = c.in_ok-classes_below.ensures;
   methods = c.in_ok-methods_by_class.ensures;
 }

@@ -1,0 +1,17 @@
+use Rattle.std.specs.List.{list_any}
+use Rattle.program_model.specs.declared.program.Class.{Class}
+use Rattle.keep_rules.specs.Described.{class_names}
+use Rattle.keep_rules.proofs.GrownLemmas.{left_start}
+use Rattle.keep_rules.proofs.DescribedLemmas.{described_more, described_end}
+use Rattle.keep_rules.proofs.describe.keep_described.Goals as goal
+
+pub loop-class-init : goal.loop-class-init
+loop-class-init c = λ ready size. let p = c.args.view.now.program.now in left_start (λ n. list_any (λ (d : Class). class_names p c.args.fields.now c.args.methods.now d n) p.classes) c.args.classes.now.items
+
+pub loop-class-preserved : goal.loop-class-preserved
+loop-class-preserved c = λ ready size. let p = c.args.view.now.program.now in
+    described_more p c.args.fields.now c.args.methods.now p.classes c.loop-class.class-index c.class-item.result c.in_ok-kinds.kinds.items c.args.classes.now.items c.loop-class.classes.items _ size c.loop-class-test.true c.class-item.is
+    (c.loop-class.invariant ready size) (c.in_ok-kinds.ensures ready) c.mark_each.ensures
+
+pub returns : goal.returns
+returns c = λ ready size. let p = c.args.view.now.program.now in described_end p c.args.fields.now c.args.methods.now p.classes c.loop-class.class-index c.args.classes.now.items c.loop-class.classes.items c.loop-class-test.false (c.loop-class.invariant ready size)

@@ -153,12 +153,12 @@ module _ (w : ℕ) (ws : List ℕ) (u v : ℕ) (us : List ℕ) (more : closes (v
 
   slash_or : (b : Bool) → (u == 47) ≡ b → closes (v ∷ us) ≡ true → nat_eq u 46 ≡ false → then_rest kind.Class [] (if (if b then 46 else u) == w then behind_of kind.Class (inner (v ∷ us)) ws else None) ≡ true
       → (u ∷ v ∷ us ≡ map slashed (w ∷ ws) ++ 59 ∷ []) × (list_any (nat_eq 47) (w ∷ ws) ≡ false)
-  slash_or true h k no g =
+  slash_or true h k plain g =
       let is : 46 ≡ w = wanted 46 (46 == w) refl g in
       joined k 46 is (ap slashed (sym is) ∙ sym (eqb-true u 47 h)) (ap (nat_eq 47) (sym is)) (46 == w) refl g
-  slash_or false h k no g =
+  slash_or false h k plain g =
       let is : u ≡ w = wanted u (u == w) refl g in
-      joined k u is (ap slashed (sym is) ∙ ap (λ b. if b then 47 else u) no)
+      joined k u is (ap slashed (sym is) ∙ ap (λ b. if b then 47 else u) plain)
       (ap (nat_eq 47) (sym is) ∙ same_test (nat_eq 47 u) false (λ d. absurd (true≢false (sym (number_test u 47 (sym (number_of 47 u d))) ∙ h))) (λ d. absurd (true≢false (sym d))))
       (u == w) refl g
 
@@ -169,8 +169,8 @@ spelled_so [] (u ∷ v ∷ us) c e = absurd (true≢false (sym e))
 spelled_so (w ∷ ws) [] c e = absurd (true≢false (sym c))
 spelled_so (w ∷ ws) (u ∷ []) c e = absurd (true≢false (sym e))
 spelled_so (w ∷ ws) (u ∷ v ∷ us) c e =
-    let no : nat_eq u 46 ≡ false = not_true (nat_eq u 46) (and_left (not (nat_eq u 46)) (closes (v ∷ us)) c) in
-    slash_or w ws u v us (λ k g. spelled_so ws (v ∷ us) k g) (u == 47) refl (and_right (not (nat_eq u 46)) (closes (v ∷ us)) c) no e
+    let plain : nat_eq u 46 ≡ false = not_true (nat_eq u 46) (and_left (not (nat_eq u 46)) (closes (v ∷ us)) c) in
+    slash_or w ws u v us (λ k g. spelled_so ws (v ∷ us) k g) (u == 47) refl (and_right (not (nat_eq u 46)) (closes (v ∷ us)) c) plain e
 
 pub record SpellsName (head t : List ℕ) : Type 0 where
   pub is : t ≡ class_descriptor head
@@ -195,7 +195,7 @@ module _ (p : Program) (s : Sound p) (q : NamePattern) (w : Word) (is : IsPatter
   no_candidates e k l fits = true≢false (sym e ∙ (spells k l fits).plain)
 
   pub named_candidates : (c : Candidates) → HasDescriptor p (class_descriptor q.head.items) c → AreCandidates p w c
-  named_candidates candidates.None h k l fits = h k l (spells k l fits).is
+  named_candidates candidates.None h = λ k l fits. h k l (spells k l fits).is
   named_candidates (candidates.Type n) h = (h.0, λ k l fits. type_once p s k n l h.0 ((spells k l fits).is ∙ sym h.1))
   named_candidates candidates.All h = absurd h
 

@@ -1,6 +1,6 @@
 //! What the rules keep of a program.
 
-ghost use Rattle.std.specs.Prelude.{◌≡◌, ◌<◌, ◌^◌, ◌&&◌, ℕ, List, [], true, length, nat_lt, IfOk, OnOk, All};
+ghost use Rattle.std.specs.Prelude.{◌≡◌, ◌<◌, ◌^◌, ◌&&◌, ℕ, List, [], true, length, nat_eq, nat_lt, IfOk, OnOk, All};
 ghost use Rattle.std.specs.List.{list_any};
 ghost use Rattle.program_model.specs.ProgramRules.{is_well_formed};
 ghost use Rattle.hierarchy.specs.Shapes.{IsOf};
@@ -34,12 +34,19 @@ enum Switch {
     Optimise,
 }
 
+/// Whether the pair is of these.
+fn is_pair(pair: &ClassIf, class: u32, owner: u32) -> bool
+    ensures { result ≡ (nat_eq pair.now.class class && nat_eq pair.now.owner owner) }
+{
+    pair.class == class && pair.owner == owner
+}
+
 /// Whether the last of the pairs is this one.
 fn is_last(pairs: &[ClassIf], class: u32, owner: u32) -> bool
     ensures { result ≡ true → has_pair pairs.now class owner ≡ true }
 {
     match pairs.last() {
-        Some(pair) => pair.class == class && pair.owner == owner,
+        Some(pair) => is_pair(pair, class, owner),
         None => false,
     }
 }

@@ -297,6 +297,11 @@ pair_added class owner size old new h l e = record {
   pairs = λ n k g m. ap (λ ps. has_pair ps n k) e ∙ pair_last old (record { class = class; owner = owner }) n k;
 }
 
+pub same_got : {A : Type 0} (xs : List A) (i : ℕ) (d e : A) → i < length xs → get_or xs i d ≡ get_or xs i e
+same_got [] i d e h = absurd (omega arith)
+same_got (x ∷ xs) zero d e h = refl
+same_got (x ∷ xs) (suc i) d e h = same_got xs i d e (omega arith)
+
 pub pairs_more : (size : ℕ) (pairs : List (ℕ × ℕ)) (i : ℕ) (q : ℕ × ℕ) (old new : List ClassIf) (n k : ℕ) → i < length pairs → q ≡ get_or pairs i q → n < size → k < size → AddsPair q.0 q.1 size old new
     → (has_pair old n k || has_both (drop i pairs) n k) ≡ has_both pairs n k → (has_pair new n k || has_both (drop (i + 1) pairs) n k) ≡ has_both pairs n k
 pairs_more size pairs i q old new n k h e g l a inv =

@@ -123,13 +123,10 @@ module _ (p : Program) (rs : List KeepRule) (k : ℕ) where
 -- ---- what descriptors name
 
 module _ (p : Program) (s : Sound p) (n : ℕ) where
-  here : Text
-  here = type_at p n
-
-  is_here : Bool
+  abbrev pub is_here : Bool
   is_here = defines (named p) (type_at p n)
 
-  base_test : ℕ → Bool
+  abbrev pub base_test : ℕ → Bool
   base_test kind = text_eq (base_of (type_at p kind)) (type_at p n)
 
   bases : (ks : List ℕ) → list_any base_test ks ≡ names_base (type_at p n) (map (type_at p) ks)
@@ -160,7 +157,7 @@ module _ (p : Program) (s : Sound p) (n : ℕ) where
 
   module _ (rs : List KeepRule) (fields methods : List Bool) (are_fields : (k : ℕ) → k < length p.fields → is_on fields k ≡ list_any (λ r. rule_fields p r p.classes k) (describing rs))
       (are_methods : (k : ℕ) → k < length p.methods → is_on methods k ≡ list_any (λ r. rule_methods p r p.classes k) (describing rs)) (g : ℕ → Bool) where
-    is_describer : Class → Bool
+    abbrev pub is_describer : Class → Bool
     is_describer c = g c.name && describes (named p) rs (named_class p c) (type_at p n)
 
     by_methods : (c : Class) → list_any (λ m. keeps_method (named p) (describing rs) (named_class p c) (named_method p m) && names_base (type_at p n) ((named_method p m).signature.result ∷ (named_method p m).signature.parameters)) c.methods ≡ true

@@ -1,6 +1,8 @@
 -- The types that names match, by the descriptors that they spell.
 use Rattle.std.proofs.Common.{◌≡◌, ℕ, zero, suc, ◌+◌, ◌<◌, ◌≤◌, Bool, true, false, true≢false, nat_eq, List, [], ◌∷◌, ◌++◌, length, map, take, drop, get_or, Option, Some, None, Result, Ok, Err, refl, sym, ap, subst, ◌∙◌, arith, inl, inr, eqb-true, eq-eqb}
 use Rattle.std.specs.Prelude.{◌&&◌, ◌||◌, ◌==◌, not, is_ok, slice_get, if◌then◌else◌, All}
+use Rattle.std.specs.Prelude.{Vec, IfSome, IfNone}
+use Rattle.std.specs.declared.alloc.Global.{Global}
 use Rattle.std.specs.List.{list_any, AllByRecursion, concat, join_with_byte}
 use Rattle.std.proofs.lemmas.List.Folds.{list_any-append}
 use Rattle.std.specs.HashMap.{HashMap}
@@ -205,6 +207,13 @@ type_found p types t k is e = is.sound t k e
 
 pub type_lacks : {S : Type 0} (p : Program) (types : HashMap (Bor (List ℕ)) ℕ S) (t : List ℕ) → IsTypes p types → kind_of types t ≡ None → HasDescriptor p t candidates.None
 type_lacks p types t is e k l same = let x : Some k ≡ None = sym (is.whole k l) ∙ ap (kind_of types) same ∙ e in cc
+
+-- what is said of an option's rows, where it is known
+pub some_row : (P : List ℕ → Type 0) (o : Option (Vec ℕ Global)) (v : Vec ℕ Global) → o ≡ Some v → IfSome o (λ w. P w.items) → P v.items
+some_row P o v e h = subst (λ x. IfSome x (λ w. P w.items)) e h
+
+pub none_row : (Q : Type 0) (o : Option (Vec ℕ Global)) → o ≡ None → IfNone o Q → Q
+none_row Q o e h = subst (λ x. IfNone x Q) e h
 
 -- ---- the types that names are tried on
 

@@ -104,6 +104,11 @@ row_added old new k n row h e is = record {
     step j m false g = ap (λ o. has (elim o as (λ o. List ℕ) [ Some r ↦ r.items | None ↦ [] ]) m) (get_set_other old k j row (λ s. true≢false (sym (number_test j k s) ∙ g)))
         ∙ sym (or_none (has (row_in old j) m))
 
+pub row_value : (rows : List (Vec ℕ Global)) (k : ℕ) (row : Vec ℕ Global) → k < length rows → row ≡ get_or rows k row → row_in rows k ≡ row.items
+row_value [] k row h e = absurd (omega (arith, h))
+row_value (x ∷ xs) zero row h e = ap (λ (r : Vec ℕ Global). r.items) (sym e)
+row_value (x ∷ xs) (suc k) row h e = row_value xs k row (omega (arith, h)) e
+
 pub row_past : (old : List (Vec ℕ Global)) (k n : ℕ) → length old ≤ k → AddsTo k n old old
 row_past old k n h = record {
   size = refl;
@@ -212,6 +217,25 @@ below_at p k n c e = ap (λ o. elim o as (λ o. Bool) [ Some c ↦ list_any (nat
 
 pub method_of_at : (p : Program) (k n : ℕ) (m : MethodName) → slice_get p.methods n ≡ Some m → is_method_of p k n ≡ nat_eq k m.class
 method_of_at p k n m e = ap (λ o. elim o as (λ o. Bool) [ Some m ↦ nat_eq k m.class | None ↦ false ]) e
+
+-- one more class, one more method
+got_or : {A : Type 0} (xs : List A) (i : ℕ) (d : A) → i < length xs → slice_get xs i ≡ Some (get_or xs i d)
+got_or [] i d h = absurd (omega (arith, h))
+got_or (x ∷ xs) zero d h = refl
+got_or (x ∷ xs) (suc i) d h = got_or xs i d (omega (arith, h))
+
+pub below_more : (p : Program) (size i : ℕ) (classes : List Class) (c : Class) (mid new : List (Vec ℕ Global)) → classes ≡ p.classes → i < length classes → c ≡ get_or classes i c
+    → AreRowsTo (is_below p) size i mid → AddsEach (c.superclass ∷ c.interfaces) i mid new → AreRowsTo (is_below p) size (i + 1) new
+below_more p size i classes c mid new e h is a adds =
+    let at : slice_get p.classes i ≡ Some c = subst (λ l. slice_get l i ≡ Some c) e (got_or classes i c h ∙ ap (λ (d : Class). Some d) (sym is)) in
+    rows_more (is_below p) size i (λ k. list_any (nat_eq k) (c.superclass ∷ c.interfaces)) mid new (λ k. below_at p k i c at) a adds.size adds.are
+
+pub methods_more : (p : Program) (size i : ℕ) (names : List MethodName) (d : MethodName) (mid new : List (Vec ℕ Global)) → names ≡ p.methods → i < length names
+    → AreRowsTo (is_method_of p) size i mid → AddsTo (get_or names i d).class i mid new → AreRowsTo (is_method_of p) size (i + 1) new
+methods_more p size i names d mid new e h a adds =
+    let m : MethodName = get_or names i d in
+    let at : slice_get p.methods i ≡ Some m = subst (λ l. slice_get l i ≡ Some m) e (got_or names i d h) in
+    rows_more (is_method_of p) size i (λ k. nat_eq k m.class) mid new (λ k. method_of_at p k i m at) a adds.size adds.are
 
 -- ---- empty rows
 

@@ -10,4 +10,4 @@ pub returns-then-last : goal.returns-then-last
 returns-then-last c = pair_there c.args.class c.args.owner c.args.size c.args.pairs.now (subst (λ l. has_pair l c.args.class c.args.owner ≡ true) c.as_slice.ensures (c.is_last-last.ensures c.if-last.true))
 
 pub returns : goal.returns
-returns c = pair_near c.args.class c.args.owner c.args.size c.are_below-below.result c.args.pairs.now _ c.are_below-below.ensures c.if-not-below.false c.in_ok-push.ensures.items
+returns c = pair_near c.args.class c.args.owner c.args.size c.are_below-below.result c.args.pairs.now _ c.are_below-below.ensures c.if-not-below.false c.in_ok-push.ensures.ok

@@ -1,6 +1,7 @@
-use Rattle.std.proofs.Common.{◌≡◌, ◌∙◌, subst}
+use Rattle.std.proofs.Common.{◌≡◌, ◌∙◌, subst, sym}
 use Rattle.std.specs.List.{list_any}
 use Rattle.program_model.specs.declared.program.Class.{Class}
+use Rattle.rule_text.specs.Related.{AreEach, IsEntryOf}
 use Rattle.keep_rules.specs.Grown.{Kinds, Fields, Methods, Silent, Grew, all_marks, size_of, marks_of}
 use Rattle.keep_rules.specs.Described.{class_names}
 use Rattle.keep_rules.proofs.GrownLemmas.{marked_is, marked_more}
@@ -11,7 +12,7 @@ returns c = λ es ready are.
     let p = c.args.view.now.program.now in
     let m = c.mark_entries.new.marks in
     let old = c.in_ok-marks.marks in
-    let grew = c.in_ok-mark_entries.ensures es ready are in
+    let grew = c.in_ok-mark_entries.ensures es ready (subst (λ l. AreEach IsEntryOf l es) (sym c.as_slice.ensures.value) are) in
     let kinds = marked_is (size_of p Kinds) (all_marks p es Kinds) (marks_of Kinds old) (marks_of Kinds m) (c.in_ok-marks.ensures Kinds) (grew Kinds) in
     record {
       classes = marked_more (size_of p Kinds) (all_marks p es Kinds) (λ n. list_any (λ (d : Class). class_names p m.fields.described.items m.methods.described.items d n) p.classes) m.classes.items c.keep_described.new.classes.items kinds

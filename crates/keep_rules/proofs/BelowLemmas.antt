@@ -13,7 +13,7 @@ use Rattle.program_model.specs.declared.program.Program.{Program}
 use Rattle.program_model.specs.Lookups.{class_place}
 use Rattle.program_model.specs.Texts.{has_type}
 use Rattle.class_defs.specs.Places.{super_place, placed, places_of, listed, interface_places}
-use Rattle.class_defs.proofs.Positions.{same_test, number_of, number_test}
+use Rattle.class_defs.proofs.Positions.{same_test, number_of}
 use Rattle.class_defs.proofs.WellFormed.{Sound, class_parts, and_left, and_right, below}
 use Rattle.dalvik_defs.specs.Names.{Text}
 use Rattle.dalvik_defs.specs.Naming.{type_at, named_class, named}
@@ -21,25 +21,24 @@ use Rattle.dalvik_defs.specs.Under.{class_named, own_above}
 use Rattle.dalvik_defs.specs.declared.program.NamedClass.{NamedClass}
 use Rattle.name_bridge.specs.Named.{class_at}
 use Rattle.name_bridge.proofs.Classes.{class_by_number}
-use Rattle.name_bridge.proofs.Above.{length_map, Defined, defined, own_place}
-use Rattle.hierarchy.specs.Ranks.{IsRanked, is_lower, is_lower_all, is_behind}
+use Rattle.name_bridge.proofs.Above.{length_map, defined, own_place}
+use Rattle.hierarchy.specs.Ranks.{is_lower, is_lower_all}
 use Rattle.hierarchy.specs.Shapes.{IsOf}
 use Rattle.hierarchy.specs.declared.build.Hierarchy.{Hierarchy}
 use Rattle.rule_text.specs.Rules.{Above}
 use Rattle.rule_defs.specs.Patterns.{class_name_fits}
-use Rattle.rule_defs.specs.Kept.{is_asked_above, types_above, stands_below}
+use Rattle.rule_defs.specs.Kept.{is_asked_above, types_above}
 use Rattle.keep_rules.specs.Marks.{is_on}
 use Rattle.keep_rules.specs.Table.{has}
 use Rattle.keep_rules.specs.Rows.{row_in}
 use Rattle.keep_rules.specs.View.{AreRows, is_below}
-use Rattle.keep_rules.specs.Below.{is_asked, is_under_in, is_under, AddsAsked, AddsAbove, AddsClass, AreWanted, AreWantedTo, IsOne, MarksSome, IsSearch, AreUnder}
+use Rattle.keep_rules.specs.Below.{is_asked, is_under_in, is_under, AddsAsked, AddsAbove, AddsClass, AreWanted, AreWantedTo, MarksSome, IsSearch, AreUnder}
 use Rattle.keep_rules.specs.Tried.{AreCandidates}
-use Rattle.keep_rules.specs.declared.names.Candidates.{Candidates}
 use Rattle.keep_rules.specs.declared.names.Candidates.TheVariants as candidates
 use Rattle.keep_rules.specs.Grown.{Grew}
 use Rattle.keep_rules.proofs.GrownLemmas.{grew_set}
-use Rattle.keep_rules.proofs.AnyLemmas.{Found, find_any, any_at, or_behind, or_front, or_cases, below_length, has_front, has_behind, has_either, has_one, has_self, has_at, PlaceOf, place_in, get_front, get_in_front}
-use Rattle.keep_rules.proofs.ViewLemmas.{below_at, below_past}
+use Rattle.keep_rules.proofs.AnyLemmas.{find_any, any_at, or_behind, or_front, or_cases, below_length, has_front, has_behind, has_either, has_one, has_self, has_at, place_in, get_in_front}
+use Rattle.keep_rules.proofs.ViewLemmas.{below_at}
 
 -- ---- what stands above by names
 

@@ -1,5 +1,5 @@
 -- The classes in the descriptors of marked members.
-use Rattle.std.proofs.Common.{◌≡◌, ℕ, zero, suc, ◌+◌, ◌<◌, ◌≤◌, Bool, true, false, true≢false, nat_eq, List, [], ◌∷◌, ◌++◌, length, drop, get_or, Option, Some, None, refl, sym, ap, subst, ◌∙◌, arith, inl, inr}
+use Rattle.std.proofs.Common.{◌≡◌, ℕ, ◌+◌, ◌<◌, ◌≤◌, Bool, true, false, true≢false, nat_eq, List, [], ◌∷◌, ◌++◌, length, drop, get_or, Some, None, refl, sym, ap, subst, ◌∙◌, arith}
 use Rattle.std.specs.Prelude.{◌&&◌, ◌||◌, slice_get}
 use Rattle.std.specs.List.{list_any}
 use Rattle.std.specs.List.Sorted.{IsPermutation}
@@ -15,17 +15,15 @@ use Rattle.program_model.specs.declared.program.Program.{Program}
 use Rattle.program_model.specs.Lookups.{class_place}
 use Rattle.class_defs.proofs.Positions.{same_test, number_of, number_test, both}
 use Rattle.class_defs.proofs.WellFormed.{Sound, and_left, and_right}
-use Rattle.name_bridge.proofs.Classes.{class_by_number, type_test}
-use Rattle.name_bridge.specs.Named.{class_at}
 use Rattle.dalvik_defs.specs.Names.{Text, text_eq}
-use Rattle.dalvik_defs.specs.Naming.{type_at, named_class, named}
-use Rattle.dalvik_defs.specs.Under.{defines, class_named}
+use Rattle.dalvik_defs.specs.Naming.{type_at, named}
+use Rattle.dalvik_defs.specs.Under.{defines}
 use Rattle.keep_rules.specs.Marks.{is_on}
 use Rattle.keep_rules.specs.Table.{has}
 use Rattle.keep_rules.specs.Grown.{Grew, Left}
 use Rattle.keep_rules.specs.View.{IsTypes, kind_of}
 use Rattle.keep_rules.specs.Described.{is_class_named, names_class, proto_names, method_names, field_names, class_names, has_both, Listed, ListsLeft, Pairs, PairsLeft}
-use Rattle.keep_rules.proofs.GrownLemmas.{grew_as, left_more, left_start, left_end}
+use Rattle.keep_rules.proofs.GrownLemmas.{left_end}
 use Rattle.keep_rules.proofs.AnyLemmas.{has_last}
 use Rattle.keep_rules.proofs.PlaceLemmas.{undefined, defined_there}
 

@@ -9,14 +9,12 @@ use Rattle.std.proofs.lemmas.List.Elements.{All-push}
 use Rattle.program_model.specs.declared.pools.MethodName.{MethodName}
 use Rattle.program_model.specs.declared.pass.ClassIf.{ClassIf}
 use Rattle.program_model.specs.declared.program.Program.{Program}
-use Rattle.dalvik_defs.specs.Names.{is_class_type}
 use Rattle.dalvik_defs.specs.Naming.{text_at, type_at, signature_at, method_at, named}
 use Rattle.dalvik_defs.specs.Under.{defines}
 use Rattle.dalvik_defs.specs.declared.names.MethodKey.{MethodKey}
-use Rattle.dalvik_defs.specs.declared.names.Signature.{Signature}
 use Rattle.rule_text.specs.Tokens.{Word}
 use Rattle.rule_text.specs.Rules.{KeepRule, AssumeRule, Entry, Setting, Keep, Assume}
-use Rattle.rule_text.specs.Related.{AreEach, IsEntryOf, OfSetting, OfKeep, OfAssume, IsSettingOf, IsKeepOf, IsAssumeOf}
+use Rattle.rule_text.specs.Related.{AreEach, IsEntryOf, OfSetting, OfKeep, OfAssume, IsKeepOf, IsAssumeOf}
 use Rattle.rule_text.specs.Spelling.{word_eq, setting_word}
 use Rattle.rule_text.specs.declared.rules.Entry.{Entry as ReadEntry}
 use Rattle.rule_text.specs.declared.rules.Entry.TheVariants as entry
@@ -24,21 +22,21 @@ use Rattle.rule_text.specs.declared.rules.Setting.{Setting as ReadSetting}
 use Rattle.rule_text.specs.declared.rules.KeepRule.{KeepRule as ReadKeep}
 use Rattle.rule_text.specs.declared.rules.AssumeRule.{AssumeRule as ReadAssume}
 use Rattle.rule_text.specs.declared.rules.SettingName.{SettingName}
-use Rattle.rule_defs.specs.Patterns.{class_name_fits, some_name_fits}
+use Rattle.rule_defs.specs.Patterns.{some_name_fits}
 use Rattle.rule_defs.specs.Members.{names_method}
-use Rattle.rule_defs.specs.Kept.{is_conditional, has_modifier, rules_of, describing, is_setting, is_assumed}
+use Rattle.rule_defs.specs.Kept.{is_conditional, rules_of, describing, is_setting, is_assumed}
 use Rattle.name_bridge.proofs.Tables.{method_is}
 use Rattle.class_defs.proofs.WellFormed.{Sound, and_left, and_right}
 use Rattle.class_defs.proofs.Positions.{same_test, both, number_of, number_test}
 use Rattle.keep_rules.specs.Table.{has_pair}
-use Rattle.keep_rules.specs.Grown.{Grew, Left, Part, Slot, Kinds, Fields, Methods, Silent, Kept, Live, Described, DescribedLive, marks_in, marks_of, is_in, GrewAll, LeftAll, is_always_of, is_describing, rule_classes, rule_fields, rule_methods, rule_marks, some_rule, rules_in, is_defined, all_marks}
+use Rattle.keep_rules.specs.Grown.{Grew, Part, Slot, Kinds, Fields, Methods, Silent, Kept, Live, Described, DescribedLive, marks_in, marks_of, is_in, GrewAll, LeftAll, is_always_of, is_describing, rule_classes, rule_fields, rule_methods, rule_marks, some_rule, rules_in, is_defined, all_marks}
 use Rattle.keep_rules.specs.Silent.{some_line_names, is_silent_type, is_named, is_silent_by}
 use Rattle.keep_rules.specs.Described.{has_both}
 use Rattle.keep_rules.specs.Entries.{entry_marks, AddsPair}
 use Rattle.keep_rules.specs.declared.marks.Marks.{Marks}
-use Rattle.keep_rules.proofs.GrownLemmas.{grew_none, grew_as, left_start, left_end, left_more}
-use Rattle.keep_rules.proofs.EachLemmas.{EachAt, each_at, each_end}
-use Rattle.keep_rules.proofs.AnyLemmas.{any_never, any_congr, any_at}
+use Rattle.keep_rules.proofs.GrownLemmas.{grew_none, left_start, left_end, left_more}
+use Rattle.keep_rules.proofs.EachLemmas.{each_at, each_end}
+use Rattle.keep_rules.proofs.AnyLemmas.{any_at}
 
 -- ---- rules
 

@@ -1,14 +1,11 @@
 -- Marks that grow.
-use Rattle.std.proofs.Common.{◌≡◌, ℕ, zero, suc, ◌+◌, ◌<◌, ◌≤◌, Bool, true, false, true≢false, nat_eq, List, [], ◌∷◌, length, set, get_or, drop, replicate, refl, sym, ap, subst, ◌∙◌, arith, inl, inr, eqb-true, eq-eqb}
-use Rattle.std.specs.Prelude.{◌&&◌, ◌||◌, not, if◌then◌else◌, slice_get, Some, None, Option}
-use Rattle.std.specs.List.{list_any}
-use Rattle.std.proofs.lemmas.Bool.{cases_lt}
+use Rattle.std.proofs.Common.{◌≡◌, ℕ, ◌+◌, ◌<◌, ◌≤◌, Bool, true, false, true≢false, nat_eq, List, length, set, get_or, drop, replicate, refl, sym, ap, subst, ◌∙◌, eqb-true, eq-eqb}
+use Rattle.std.specs.Prelude.{◌&&◌, ◌||◌, not, if◌then◌else◌}
 use Rattle.std.proofs.lemmas.List.{get_or-set_other, get_or-set_same, get_or-replicate, length-replicate, length-set, drop_more, drop_all}
-use Rattle.keep_rules.specs.Marks.{is_on, is_always}
+use Rattle.keep_rules.specs.Marks.{is_on}
 use Rattle.keep_rules.specs.Table.{has}
-use Rattle.keep_rules.specs.Grown.{Grew, Left, Part, Kept, Live, Described, DescribedLive, marks_in, is_in, GrewMembers, IsClear, AreMarked}
+use Rattle.keep_rules.specs.Grown.{Grew, Left, Kept, Live, Described, DescribedLive, marks_in, is_in, GrewMembers, IsClear, AreMarked}
 use Rattle.keep_rules.specs.declared.marks.MemberMarks.{MemberMarks}
-use Rattle.keep_rules.specs.declared.marks.Hold.{Hold}
 
 -- ---- one list of marks
 

@@ -1,13 +1,12 @@
 -- What a rule keeps, class by class.
 use Rattle.std.proofs.Common.{◌≡◌, ℕ, zero, suc, ◌+◌, ◌<◌, ◌≤◌, Bool, true, false, true≢false, nat_eq, List, [], ◌∷◌, ◌++◌, length, map, set, drop, get_or, Option, Some, None, Result, refl, sym, ap, subst, ◌∙◌, arith, inl, inr}
-use Rattle.std.specs.Prelude.{◌&&◌, ◌||◌, not, slice_get, nat_lt, if◌then◌else◌, IfOk}
+use Rattle.std.specs.Prelude.{◌&&◌, ◌||◌, slice_get, if◌then◌else◌, IfOk}
 use Rattle.std.specs.List.{list_any, list_all, flat_map}
 use Rattle.std.proofs.Common.{Bor}
 use Rattle.std.proofs.lemmas.Result.{IfOk-weaker}
 use Rattle.std.proofs.lemmas.List.{drop_more, drop_all}
 use Rattle.std.proofs.lemmas.List.Folds.{list_any-append}
 use Rattle.std.proofs.lemmas.Bool.{lt-ltb}
-use Rattle.program_model.specs.declared.pools.MethodName.{MethodName}
 use Rattle.program_model.specs.declared.program.Field.{Field}
 use Rattle.program_model.specs.declared.program.Method.{Method}
 use Rattle.program_model.specs.declared.program.Class.{Class}
@@ -15,9 +14,9 @@ use Rattle.program_model.specs.declared.program.Program.{Program}
 use Rattle.program_model.specs.ProgramRules.{is_well_formed}
 use Rattle.program_model.specs.Lookups.{class_place}
 use Rattle.class_defs.specs.ClassGraph.{IsTwice}
-use Rattle.class_defs.proofs.Positions.{same_test, both, number_of, number_test, find_place, place_entry}
+use Rattle.class_defs.proofs.Positions.{same_test, both}
 use Rattle.class_defs.proofs.WellFormed.{Sound, sound, class_parts, FieldFits, MethodFits, and_left, and_right}
-use Rattle.name_bridge.proofs.Above.{own_place, defined}
+use Rattle.name_bridge.proofs.Above.{own_place}
 use Rattle.name_bridge.proofs.Tables.{method_proto}
 use Rattle.dalvik_defs.specs.Naming.{type_at, mark_of, named_field, named_method, named_class, named}
 use Rattle.rule_text.specs.Rules.{Above, ClassRule, KeepRule}
@@ -25,19 +24,18 @@ use Rattle.rule_text.specs.Related.{AreBoth, IsAboveOf}
 use Rattle.rule_text.specs.declared.rules.Above.{Above as ReadAbove}
 use Rattle.rule_defs.specs.Patterns.{some_name_fits}
 use Rattle.rule_defs.specs.Members.{OfClass, conditions_hold}
-use Rattle.rule_defs.specs.Kept.{is_of_rule_kind, stands_below, matches_class, keeps, is_complete, applies, is_conditional, some_line_of_field, some_line_of_method}
+use Rattle.rule_defs.specs.Kept.{is_of_rule_kind, stands_below, matches_class, keeps, is_complete, applies, some_line_of_field, some_line_of_method}
 use Rattle.keep_rules.specs.Fits.{words_hold, marks_hold, has_signature, has_method_name, has_field_name, has_names}
 use Rattle.keep_rules.specs.Marks.{is_on}
-use Rattle.keep_rules.specs.Table.{has}
-use Rattle.keep_rules.specs.Grown.{Grew, Left, Part, Slot, Kinds, Fields, Methods, Silent, Kept, marks_in, marks_of, is_in, GrewMembers, LeftMembers, GrewAll, LeftAll, is_always_of, is_describing, lined_field, lined_method, rule_classes, rule_fields, rule_methods, rule_marks, class_there, class_of_kind}
-use Rattle.keep_rules.specs.Sought.{under_test, AreStanding, GrewKept}
+use Rattle.keep_rules.specs.Grown.{Grew, Slot, Kinds, Fields, Methods, Silent, marks_in, marks_of, is_in, GrewMembers, LeftMembers, GrewAll, LeftAll, is_always_of, is_describing, lined_field, lined_method, rule_classes, rule_fields, rule_methods, rule_marks, class_there, class_of_kind}
+use Rattle.keep_rules.specs.Sought.{AreStanding, GrewKept}
 use Rattle.keep_rules.specs.Tried.{FitAmong}
-use Rattle.keep_rules.specs.Below.{is_under, AreUnder}
+use Rattle.keep_rules.specs.Below.{AreUnder}
 use Rattle.keep_rules.specs.declared.marks.Marks.{Marks}
 use Rattle.keep_rules.specs.declared.marks.MemberMarks.{MemberMarks}
 use Rattle.keep_rules.proofs.AccessLemmas.{conditions_apart}
-use Rattle.keep_rules.proofs.GrownLemmas.{grew_none, grew_as, grew_if, left_start, left_end, left_more, left_stay}
-use Rattle.keep_rules.proofs.AnyLemmas.{Found, find_any, any_at, or_behind, or_front, or_cases, below_length, any_same_by, any_congr, any_never, has_at, place_in}
+use Rattle.keep_rules.proofs.GrownLemmas.{grew_none, grew_as, grew_if, left_start, left_end, left_more}
+use Rattle.keep_rules.proofs.AnyLemmas.{find_any, any_at, or_behind, or_front, or_cases, below_length, any_never, place_in}
 
 -- ---- members that have names
 

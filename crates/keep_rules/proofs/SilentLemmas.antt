@@ -1,6 +1,6 @@
 -- Which methods a rule assumes to do nothing.
-use Rattle.std.proofs.Common.{◌≡◌, ℕ, zero, suc, ◌+◌, ◌<◌, ◌≤◌, Bool, true, false, true≢false, nat_eq, List, [], ◌∷◌, length, set, take, drop, get_or, Option, Some, None, refl, sym, ap, subst, ◌∙◌, arith, inl, inr, lt-ltb, ltb-true}
-use Rattle.std.specs.Prelude.{◌&&◌, ◌||◌, not, slice_get, nat_lt, if◌then◌else◌, Vec, All}
+use Rattle.std.proofs.Common.{◌≡◌, ℕ, ◌+◌, ◌<◌, ◌≤◌, Bool, true, false, true≢false, nat_eq, List, [], ◌∷◌, length, set, drop, get_or, Option, Some, None, refl, sym, ap, subst, ◌∙◌, arith, inl, inr, lt-ltb, ltb-true}
+use Rattle.std.specs.Prelude.{◌&&◌, ◌||◌, not, slice_get, nat_lt, if◌then◌else◌, Vec}
 use Rattle.std.specs.List.{list_any}
 use Rattle.std.specs.declared.alloc.Global.{Global}
 use Rattle.std.proofs.lemmas.Bool.{cases_lt}
@@ -20,9 +20,9 @@ use Rattle.keep_rules.specs.Rows.{row_in}
 use Rattle.keep_rules.specs.View.{AreRows, is_method_of}
 use Rattle.keep_rules.specs.Tried.{FitAmong}
 use Rattle.keep_rules.specs.Silent.{some_line_names, is_silent_type, is_named, is_silent_of, is_silent_by, is_before}
-use Rattle.keep_rules.proofs.GrownLemmas.{grew_none, grew_as, grew_then, grew_if, left_start, left_end, left_more}
-use Rattle.keep_rules.proofs.AnyLemmas.{find_any, any_at, or_front, or_behind, or_cases, has_at, place_in}
-use Rattle.keep_rules.proofs.ViewLemmas.{method_of_at, method_past}
+use Rattle.keep_rules.proofs.GrownLemmas.{grew_none, grew_as, grew_then, grew_if, left_end, left_more}
+use Rattle.keep_rules.proofs.AnyLemmas.{find_any, any_at, place_in}
+use Rattle.keep_rules.proofs.ViewLemmas.{method_of_at}
 
 -- ---- methods by their numbers
 

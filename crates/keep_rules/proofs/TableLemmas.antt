@@ -1,10 +1,8 @@
 -- What is marked is the table of the rules.
-use Rattle.std.proofs.Common.{◌≡◌, ℕ, zero, suc, ◌+◌, ◌<◌, ◌≤◌, Bool, true, false, true≢false, nat_eq, List, [], ◌∷◌, length, map, Option, Some, None, refl, sym, ap, subst, ◌∙◌, arith, inl, inr, ◌⊎◌}
+use Rattle.std.proofs.Common.{◌≡◌, ℕ, zero, suc, ◌<◌, Bool, true, false, true≢false, nat_eq, List, [], ◌∷◌, length, map, Option, Some, None, refl, sym, ap, subst, ◌∙◌, arith, inl, inr, ◌⊎◌}
 use Rattle.std.specs.Prelude.{◌&&◌, ◌||◌, slice_get, All}
 use Rattle.std.specs.List.{list_any}
 use Rattle.program_model.specs.declared.pools.Proto.{Proto}
-use Rattle.program_model.specs.declared.pools.FieldName.{FieldName}
-use Rattle.program_model.specs.declared.pools.MethodName.{MethodName}
 use Rattle.program_model.specs.declared.pass.ClassIf.{ClassIf}
 use Rattle.program_model.specs.declared.pass.Outside.{Outside}
 use Rattle.program_model.specs.declared.program.Field.{Field}
@@ -14,24 +12,24 @@ use Rattle.program_model.specs.declared.program.Program.{Program}
 use Rattle.program_model.specs.Lookups.{class_place}
 use Rattle.class_defs.specs.ClassGraph.{IsTwice}
 use Rattle.class_defs.proofs.Positions.{same_test, both, number_of, number_test, entry_at}
-use Rattle.class_defs.proofs.WellFormed.{Sound, class_parts, ClassFits, FieldFits, MethodFits, and_left, and_right}
+use Rattle.class_defs.proofs.WellFormed.{Sound, class_parts, FieldFits, MethodFits, and_left, and_right}
 use Rattle.name_bridge.proofs.Classes.{type_test}
 use Rattle.name_bridge.proofs.Above.{defined, own_place}
 use Rattle.name_bridge.proofs.Tables.{method_is, field_is, method_proto}
 use Rattle.dalvik_defs.specs.Names.{Text, text_eq, base_of}
-use Rattle.dalvik_defs.specs.Naming.{type_at, signature_at, field_at, method_at, named_field, named_method, named_class, named}
+use Rattle.dalvik_defs.specs.Naming.{type_at, signature_at, named_field, named_method, named_class, named}
 use Rattle.dalvik_defs.specs.Under.{defines}
 use Rattle.dalvik_defs.specs.declared.names.Signature.{Signature}
 use Rattle.rule_text.specs.Rules.{KeepRule, Entry}
 use Rattle.rule_defs.specs.Kept.{applies, some_line_of_method, some_line_of_field, keeps_method, keeps_field, keeps_class, names_base, describes, describing, rules_of, some_class, table_of}
 use Rattle.keep_rules.specs.Marks.{is_on}
-use Rattle.keep_rules.specs.Table.{has, has_pair, defines_type, AgreesWith, OwnMembers, OwnClasses, IsTable}
+use Rattle.keep_rules.specs.Table.{has_pair, defines_type, AgreesWith, OwnClasses, IsTable}
 use Rattle.keep_rules.specs.Outside.{IsWithin}
-use Rattle.keep_rules.specs.Grown.{Part, Kinds, Fields, Methods, Silent, Kept, Live, Described, DescribedLive, lined_field, lined_method, rule_classes, rule_fields, rule_methods, some_rule, rules_in, all_marks, AreMarked}
-use Rattle.keep_rules.specs.Described.{is_class_named, names_class, proto_names, method_names, field_names, fields_name, methods_name, class_names, has_both, Pairs}
+use Rattle.keep_rules.specs.Grown.{Kinds, Kept, Live, Described, DescribedLive, lined_field, lined_method, rule_classes, rule_fields, rule_methods, all_marks}
+use Rattle.keep_rules.specs.Described.{names_class, proto_names, method_names, field_names, fields_name, methods_name, class_names, has_both, Pairs}
 use Rattle.keep_rules.specs.Entries.{IsMarked, IsListed, HasFlags}
 use Rattle.keep_rules.specs.declared.marks.Marks.{Marks}
-use Rattle.keep_rules.proofs.AnyLemmas.{Found, find_any, any_at, or_front, or_behind, or_cases, below_length, any_congr, any_congr_in}
+use Rattle.keep_rules.proofs.AnyLemmas.{find_any, any_at, or_front, or_behind, or_cases, below_length, any_congr, any_congr_in}
 use Rattle.keep_rules.proofs.RuleLemmas.{any_both, any_swap, any_either, keeps_method_is, keeps_field_is}
 use Rattle.keep_rules.proofs.OwnLemmas.{own_of, listed_below}
 use Rattle.keep_rules.proofs.PlaceLemmas.{undefined, defined_there}

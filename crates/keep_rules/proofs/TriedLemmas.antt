@@ -1,5 +1,5 @@
 -- The types that names match, by the descriptors that they spell.
-use Rattle.std.proofs.Common.{◌≡◌, ℕ, zero, suc, ◌+◌, ◌<◌, ◌≤◌, Bool, true, false, true≢false, nat_eq, List, [], ◌∷◌, ◌++◌, length, map, take, drop, get_or, Option, Some, None, Result, Ok, Err, refl, sym, ap, subst, ◌∙◌, arith, inl, inr, eqb-true, eq-eqb}
+use Rattle.std.proofs.Common.{◌≡◌, ℕ, zero, suc, ◌+◌, ◌<◌, ◌≤◌, Bool, true, false, true≢false, nat_eq, List, [], ◌∷◌, ◌++◌, length, map, drop, get_or, Option, Some, None, Result, Ok, Err, refl, sym, ap, subst, ◌∙◌, arith, inl, inr, eqb-true}
 use Rattle.std.specs.Prelude.{◌&&◌, ◌||◌, ◌==◌, not, is_ok, slice_get, if◌then◌else◌, All}
 use Rattle.std.specs.Prelude.{Vec, IfSome, IfNone}
 use Rattle.std.specs.declared.alloc.Global.{Global}
@@ -9,24 +9,22 @@ use Rattle.std.specs.HashMap.{HashMap}
 use Rattle.std.proofs.Common.{Bor}
 use Rattle.std.proofs.lemmas.List.Elements.{All-push}
 use Rattle.dex_base.specs.Descriptor.{is_alone, is_high, is_low, is_primitive, descriptor_of}
-use Rattle.dex_base.specs.Grammar.{IsCharacter, IsName, AreNames, IsElement, OfLetter, OfClass, IsDescriptor, OfVoid, OfElement, OfArray}
+use Rattle.dex_base.specs.Grammar.{IsCharacter, IsName, IsElement, OfLetter, OfClass, IsDescriptor, OfVoid, OfElement, OfArray}
 use Rattle.dex_base.proofs.Names.{descriptor_found}
 use Rattle.dex_base.specs.declared.fault.BaseFault.{BaseFault}
 use Rattle.dex_base.specs.declared.descriptor.Descriptor.{Descriptor}
 use Rattle.program_model.specs.declared.program.Program.{Program}
 use Rattle.program_model.specs.Texts.{has_string, string_text}
 use Rattle.program_model.specs.TableRules.{type_fits}
-use Rattle.dalvik_defs.specs.Names.{Text, text_eq, is_class_type, item_of}
+use Rattle.dalvik_defs.specs.Names.{Text, is_class_type, item_of}
 use Rattle.dalvik_defs.specs.Naming.{text_at, type_at}
-use Rattle.class_defs.proofs.Positions.{same_test, number_of, number_test, both, entry_at}
+use Rattle.class_defs.proofs.Positions.{same_test, number_of, number_test, entry_at}
 use Rattle.class_defs.proofs.WellFormed.{Sound, all_at, and_left, and_right, below}
 use Rattle.name_bridge.proofs.Tables.{type_once}
-use Rattle.rule_text.specs.declared.pattern.Named.{Named}
 use Rattle.rule_text.specs.declared.pattern.Named.TheVariants as kind
 use Rattle.rule_text.specs.declared.pattern.NamePattern.{NamePattern}
 use Rattle.rule_text.specs.Tokens.{Word}
-use Rattle.rule_text.specs.Glob.{read_of, is_end, matches_of, behind_of}
-use Rattle.rule_text.specs.Pieces.{characters, pieces_of}
+use Rattle.rule_text.specs.Glob.{behind_of}
 use Rattle.rule_text.specs.Related.{IsPatternOf, AreEach}
 use Rattle.rule_match.proofs.GlobLemmas.{then_rest, pattern_matches}
 use Rattle.rule_defs.specs.Patterns.{inner, is_star, matches, class_name_fits, some_name_fits}

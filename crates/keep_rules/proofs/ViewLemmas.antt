@@ -16,8 +16,8 @@ use Rattle.program_model.specs.declared.program.Program.{Program}
 use Rattle.dalvik_defs.specs.Names.{text_eq}
 use Rattle.dalvik_defs.specs.Naming.{type_at}
 use Rattle.class_defs.proofs.Positions.{same_test, number_of, number_test}
-use Rattle.class_defs.proofs.WellFormed.{Sound, class_parts}
-use Rattle.name_bridge.proofs.Tables.{type_once, method_class}
+use Rattle.class_defs.proofs.WellFormed.{Sound}
+use Rattle.name_bridge.proofs.Tables.{type_once}
 use Rattle.keep_rules.specs.Table.{has}
 use Rattle.keep_rules.specs.Rows.{row_in}
 use Rattle.keep_rules.specs.View.{AreRows, AreEmpty, AddsTo, AddsEach, is_below, is_method_of, kind_of, last_type, IsTypes}

@@ -1,5 +1,5 @@
 -- What is marked by one entry, and by all.
-use Rattle.std.specs.Prelude.{◌≡◌, ◌<◌, ℕ, Bool, true, false, not, ◌||◌, ◌&&◌, List, length, nat_eq, All}
+use Rattle.std.specs.Prelude.{◌≡◌, ◌<◌, ℕ, Bool, false, not, ◌||◌, ◌&&◌, List, length, nat_eq, All}
 use Rattle.std.specs.List.{list_any}
 use Rattle.program_model.specs.declared.program.Program.{Program}
 use Rattle.program_model.specs.declared.pass.Outside.{Outside}

@@ -1,9 +1,9 @@
 -- Which methods the rules assume to do nothing.
-use Rattle.std.specs.Prelude.{ℕ, Bool, true, false, ◌&&◌, not, List, nat_lt, Some, None, slice_get}
+use Rattle.std.specs.Prelude.{ℕ, Bool, false, ◌&&◌, not, List, nat_lt, Some, None, slice_get}
 use Rattle.std.specs.List.{list_any}
 use Rattle.program_model.specs.declared.pools.MethodName.{MethodName}
 use Rattle.program_model.specs.declared.program.Program.{Program}
-use Rattle.dalvik_defs.specs.Naming.{text_at, type_at, signature_at, method_at, named}
+use Rattle.dalvik_defs.specs.Naming.{text_at, type_at, signature_at, named}
 use Rattle.dalvik_defs.specs.Under.{defines}
 use Rattle.rule_text.specs.Rules.{MemberRule, AssumeRule}
 use Rattle.rule_defs.specs.Patterns.{some_name_fits}

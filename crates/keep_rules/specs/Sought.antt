@@ -1,5 +1,5 @@
 -- Whether a class stands below what a rule asks for, and what a rule keeps of a class that it matches.
-use Rattle.std.specs.Prelude.{◌≡◌, ◌&&◌, ℕ, Bool, true, List, [], ◌∷◌, Option, Some, None, nat_eq, slice_get}
+use Rattle.std.specs.Prelude.{◌≡◌, ◌&&◌, ℕ, Bool, true, List, Option, Some, None, nat_eq, slice_get}
 use Rattle.std.specs.List.{list_any}
 use Rattle.std.proofs.Common.{Bor}
 use Rattle.program_model.specs.declared.program.Class.{Class}
@@ -8,7 +8,7 @@ use Rattle.dalvik_defs.specs.Naming.{type_at, named}
 use Rattle.rule_text.specs.Rules.{KeepRule, Above}
 use Rattle.rule_defs.specs.Kept.{stands_below}
 use Rattle.keep_rules.specs.Marks.{is_on}
-use Rattle.keep_rules.specs.Grown.{Slot, Kinds, Fields, Methods, Silent, Part, Grew, GrewMembers, is_always_of, is_describing, lined_field, lined_method}
+use Rattle.keep_rules.specs.Grown.{Grew, GrewMembers, is_always_of, is_describing, lined_field, lined_method}
 use Rattle.keep_rules.specs.declared.marks.Marks.{Marks}
 
 abbrev pub under_test : Option (Bor (List Bool)) → ℕ → Bool

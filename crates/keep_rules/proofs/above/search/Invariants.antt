@@ -1,4 +1,3 @@
-use Rattle.std.proofs.Common.{ℕ}
 use Rattle.rule_text.specs.Rules.{Above}
 use Rattle.keep_rules.specs.View.{IsReady}
 use Rattle.keep_rules.specs.Below.{IsSearch}

@@ -1,5 +1,4 @@
-use Rattle.std.proofs.Common.{◌≡◌, ◌∙◌, ap, sym, subst}
-use Rattle.std.specs.Prelude.{nat_lt}
+use Rattle.std.proofs.Common.{◌∙◌, sym, subst}
 use Rattle.rule_text.specs.Related.{AreEach, IsMemberOf}
 use Rattle.class_defs.proofs.WellFormed.{sound}
 use Rattle.keep_rules.proofs.SilentLemmas.{named_by, named_none, proto_there}

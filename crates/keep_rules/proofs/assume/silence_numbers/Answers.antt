@@ -1,4 +1,4 @@
-use Rattle.keep_rules.proofs.SilentLemmas.{numbers_none, numbers_unnamed, numbers_named}
+use Rattle.keep_rules.proofs.SilentLemmas.{numbers_unnamed, numbers_named}
 use Rattle.keep_rules.proofs.assume.silence_numbers.Goals as goal
 
 pub returns-then-not-named : goal.returns-then-not-named

@@ -1,4 +1,4 @@
-use Rattle.std.proofs.Common.{◌≡◌, ◌∙◌, ap}
+use Rattle.std.proofs.Common.{◌∙◌, ap}
 use Rattle.dalvik_defs.specs.Names.{base_of}
 use Rattle.keep_rules.specs.Described.{is_class_named, names_class}
 use Rattle.keep_rules.proofs.DescribedLemmas.{listed_as}

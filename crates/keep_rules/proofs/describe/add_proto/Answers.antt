@@ -1,4 +1,4 @@
-use Rattle.std.proofs.Common.{ap, ◌≡◌}
+use Rattle.std.proofs.Common.{ap}
 use Rattle.std.specs.List.{list_any}
 use Rattle.std.specs.Prelude.{◌||◌}
 use Rattle.keep_rules.specs.Described.{names_class}

@@ -1,4 +1,4 @@
-use Rattle.std.proofs.Common.{ap, sym, refl}
+use Rattle.std.proofs.Common.{ap, sym}
 use Rattle.std.specs.List.{list_any}
 use Rattle.std.specs.Prelude.{◌∷◌, slice_get}
 use Rattle.keep_rules.specs.Described.{names_class, proto_names}

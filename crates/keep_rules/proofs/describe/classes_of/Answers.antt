@@ -1,6 +1,6 @@
-use Rattle.std.proofs.Common.{ap, ◌≡◌, []}
+use Rattle.std.proofs.Common.{ap}
 use Rattle.std.specs.List.{list_any}
-use Rattle.std.specs.Prelude.{◌||◌, ◌&&◌}
+use Rattle.std.specs.Prelude.{◌&&◌}
 use Rattle.program_model.specs.declared.program.Field.{Field}
 use Rattle.program_model.specs.declared.program.Method.{Method}
 use Rattle.keep_rules.specs.Marks.{is_on}

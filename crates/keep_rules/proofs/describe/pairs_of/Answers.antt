@@ -2,7 +2,7 @@ use Rattle.std.proofs.Common.{◌≡◌, nat_eq, ◌<◌, ◌≤◌, subst, [], 
 use Rattle.std.specs.Prelude.{◌&&◌, ◌||◌}
 use Rattle.keep_rules.specs.Table.{has}
 use Rattle.keep_rules.specs.Described.{has_both}
-use Rattle.keep_rules.proofs.DescribedLemmas.{all_pairs_start, all_pairs_more, all_pairs_end}
+use Rattle.keep_rules.proofs.DescribedLemmas.{all_pairs_more, all_pairs_end}
 use Rattle.keep_rules.proofs.describe.pairs_of.Goals as goal
 
 pub loop-class-preserved : goal.loop-class-preserved

@@ -1,4 +1,4 @@
-use Rattle.std.proofs.Common.{◌≡◌, ◌∙◌, sym, subst, true}
+use Rattle.std.proofs.Common.{◌≡◌, subst, true}
 use Rattle.keep_rules.specs.Table.{has_pair}
 use Rattle.keep_rules.proofs.EntryLemmas.{pair_far, pair_there, pair_near}
 use Rattle.keep_rules.proofs.outside.add_pair.Goals as goal

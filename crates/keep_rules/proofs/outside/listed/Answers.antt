@@ -1,5 +1,5 @@
 -- Each list is made by `numbers`, over the marks of its table.
-use Rattle.std.proofs.Common.{◌∙◌, subst, sym, ◌<◌}
+use Rattle.std.proofs.Common.{subst, sym, ◌<◌}
 use Rattle.keep_rules.proofs.MarkLemmas.{listed_is}
 use Rattle.keep_rules.proofs.NumberLemmas.{are_numbers, all_classes, all_owners}
 use Rattle.keep_rules.proofs.outside.listed.Goals as goal

@@ -1,4 +1,4 @@
-use Rattle.std.proofs.Common.{◌≡◌, ◌∙◌, subst, sym}
+use Rattle.std.proofs.Common.{subst, sym}
 use Rattle.std.specs.List.{list_any}
 use Rattle.program_model.specs.declared.program.Class.{Class}
 use Rattle.rule_text.specs.Related.{AreEach, IsEntryOf}

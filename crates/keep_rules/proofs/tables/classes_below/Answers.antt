@@ -1,5 +1,5 @@
 use native.Mathlib.Omega.{arith}
-use Rattle.std.proofs.Common.{length, subst, ap, ◌≤◌}
+use Rattle.std.proofs.Common.{length, subst, ap}
 use Rattle.keep_rules.specs.View.{is_below, AreEmpty}
 use Rattle.keep_rules.proofs.ViewLemmas.{below_more, rows_start, rows_end, below_past}
 use Rattle.keep_rules.proofs.tables.classes_below.Goals as goal

@@ -1,5 +1,5 @@
 use native.Mathlib.Omega.{arith}
-use Rattle.std.proofs.Common.{length, subst, ap, ◌≤◌}
+use Rattle.std.proofs.Common.{length, subst, ap}
 use Rattle.keep_rules.specs.View.{is_method_of, AreEmpty}
 use Rattle.keep_rules.proofs.ViewLemmas.{methods_more, rows_start, rows_end, method_past}
 use Rattle.keep_rules.proofs.tables.methods_by_class.Goals as goal

@@ -171,9 +171,9 @@ module _ (p : Program) (s : Sound p) (h : Hierarchy) (of : IsOf p h) (a : Above)
       under_step m place c e
       ∙ any_at (λ k. is_asked p a k || is_under_in p a m k) (c.superclass ∷ c.interfaces) f.at f.one f.is
       (elim (or_cases (is_asked p a f.one) (is_under_in p a n f.one) f.passes) [
-          | inl q ↦ or_front (is_asked p a f.one) (is_under_in p a m f.one) q
-          | inr q ↦ or_behind (is_asked p a f.one) (is_under_in p a m f.one) (further (λ u d i less g. ranked m n u d i less g) f.one (has_at (c.superclass ∷ c.interfaces) f.at f.one f.is) q (class_place p f.one) refl)
-        ])
+        | inl q ↦ or_front (is_asked p a f.one) (is_under_in p a m f.one) q
+        | inr q ↦ or_behind (is_asked p a f.one) (is_under_in p a m f.one) (further (λ u d i less g. ranked m n u d i less g) f.one (has_at (c.superclass ∷ c.interfaces) f.at f.one f.is) q (class_place p f.one) refl)
+      ])
     where
       further : ((u : ℕ) (d : Class) → slice_get p.classes u ≡ Some d → rank u < m → is_under_in p a n d.name ≡ true → is_under_in p a m d.name ≡ true)
           → (k : ℕ) → list_any (nat_eq k) (c.superclass ∷ c.interfaces) ≡ true → is_under_in p a n k ≡ true → (o : Option ℕ) → class_place p k ≡ o → is_under_in p a m k ≡ true

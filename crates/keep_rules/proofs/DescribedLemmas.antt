@@ -100,7 +100,8 @@ marked_lists p marks m f b old new e g l = listed_as p f (λ n. is_on marks m &&
 -- ---- marks
 
 pub described_more : (p : Program) (fields methods : List Bool) (cs : List Class) (i : ℕ) (c : Class) (kinds : List ℕ) (old mid new : List Bool) → length old ≡ length p.types → i < length cs → c ≡ get_or cs i c
-    → Left (λ n. list_any (λ c. class_names p fields methods c n) (drop i cs)) (λ n. list_any (λ c. class_names p fields methods c n) cs) old mid → Listed p (class_names p fields methods c) [] kinds → Grew (has kinds) mid new
+    → Left (λ n. list_any (λ c. class_names p fields methods c n) (drop i cs)) (λ n. list_any (λ c. class_names p fields methods c n) cs) old mid
+    → Listed p (class_names p fields methods c) [] kinds → Grew (has kinds) mid new
     → Left (λ n. list_any (λ c. class_names p fields methods c n) (drop (i + 1) cs)) (λ n. list_any (λ c. class_names p fields methods c n) cs) old new
 described_more p fields methods cs i c kinds old mid new size h e l k g = record {
   size = g.size ∙ l.size;
@@ -112,7 +113,8 @@ described_more p fields methods cs i c kinds old mid new size h e l k g = record
 }
 
 pub described_end : (p : Program) (fields methods : List Bool) (cs : List Class) (i : ℕ) (old new : List Bool) → length cs ≤ i
-    → Left (λ n. list_any (λ c. class_names p fields methods c n) (drop i cs)) (λ n. list_any (λ c. class_names p fields methods c n) cs) old new → Grew (λ n. list_any (λ c. class_names p fields methods c n) cs) old new
+    → Left (λ n. list_any (λ c. class_names p fields methods c n) (drop i cs)) (λ n. list_any (λ c. class_names p fields methods c n) cs) old new
+    → Grew (λ n. list_any (λ c. class_names p fields methods c n) cs) old new
 described_end p fields methods cs i old new h l = left_end (λ n. list_any (λ c. class_names p fields methods c n) (drop i cs)) (λ n. list_any (λ c. class_names p fields methods c n) cs) old new
     (λ n. ap (list_any (λ c. class_names p fields methods c n)) (drop_all i cs h)) l
 
@@ -148,7 +150,8 @@ pub all_pairs_start : (p : Program) (all : ℕ → ℕ → Bool) (old : List (�
 all_pairs_start p all old = record { are = λ n k h. refl }
 
 pub all_pairs_more : (p : Program) (fields methods : List Bool) (cs : List Class) (i : ℕ) (c : Class) (kinds : List ℕ) (old mid new : List (ℕ × ℕ)) → i < length cs → c ≡ get_or cs i c
-    → PairsLeft p (class_pairs p fields methods (drop i cs)) (class_pairs p fields methods cs) old mid → Listed p (class_names p fields methods c) [] kinds → ((n k : ℕ) → has_both new n k ≡ (has_both mid n k || (has kinds n && nat_eq k c.name)))
+    → PairsLeft p (class_pairs p fields methods (drop i cs)) (class_pairs p fields methods cs) old mid → Listed p (class_names p fields methods c) [] kinds
+    → ((n k : ℕ) → has_both new n k ≡ (has_both mid n k || (has kinds n && nat_eq k c.name)))
     → PairsLeft p (class_pairs p fields methods (drop (i + 1) cs)) (class_pairs p fields methods cs) old new
 all_pairs_more p fields methods cs i c kinds old mid new h e l g s = record {
   are = λ n k q. ap (λ b. b || class_pairs p fields methods (drop (i + 1) cs) n k) (s n k ∙ ap (λ b. has_both mid n k || (b && nat_eq k c.name)) (g.is n q))

@@ -134,8 +134,8 @@ module _ (p : Program) (s : Sound p) where
   assumed_none a n e =
       ap (λ o. elim o as (λ o. Bool) [ Some m ↦ is_silent_type p a m.class && is_named p a n | None ↦ false ]) e
       ∙ sym (ap (λ k. not (is_defined p n) && is_assumed k (Assume a)) (nameless n e)
-        ∙ ap (λ b. not (is_defined p n) && (b && list_any (λ line. names_method line.what [] (record { parameters = []; result = [] })) a.members)) (names_none a.names)
-        ∙ last (not (is_defined p n)))
+      ∙ ap (λ b. not (is_defined p n) && (b && list_any (λ line. names_method line.what [] (record { parameters = []; result = [] })) a.members)) (names_none a.names)
+      ∙ last (not (is_defined p n)))
     where
       last : (b : Bool) → (b && false) ≡ false
       last true = refl

@@ -88,7 +88,7 @@ pub marks_decide : {E : Type 0} (p : Program) (k : ClassRule) (c : Class) (under
     → n ≡ some_name_fits k.names (type_at p c.name) → n ≡ true → IfOk r (λ b. b ≡ marks_hold (map (mark_of p) c.marks) k.conditions) → IfOk r (λ b. b ≡ matches_class (named p) k (named_class p c))
 marks_decide p k c under fits n r f u e g d h =
     let same : marks_hold (map (mark_of p) c.marks) k.conditions ≡ matches_class (named p) k (named_class p c) = sym (matches_is p k c ∙ step (is_of_rule_kind k c.flags.0) (words_hold OfClass c.flags.0 k.conditions) (marks_hold (map (mark_of p) c.marks) k.conditions) (some_name_fits k.names (type_at p c.name)) (stands_below (named p) k.above (type_at p c.name))
-        (ap (λ b. b && (is_of_rule_kind k c.flags.0 && words_hold OfClass c.flags.0 k.conditions)) (sym u) ∙ ap (λ b. under && b) (sym f) ∙ e) (sym g ∙ d)) in
+    (ap (λ b. b && (is_of_rule_kind k c.flags.0 && words_hold OfClass c.flags.0 k.conditions)) (sym u) ∙ ap (λ b. under && b) (sym f) ∙ e) (sym g ∙ d)) in
     IfOk-weaker r (λ b. b ≡ marks_hold (map (mark_of p) c.marks) k.conditions) (λ b. b ≡ matches_class (named p) k (named_class p c)) (λ b i. i ∙ same) h
   where
     last : (m : Bool) → ((m && true) && true) ≡ m
@@ -118,8 +118,8 @@ pub field_more : (p : Program) (k : KeepRule) (always described : Bool) (fs : Li
 field_more p k always described fs i f b old mid new h e is l g s = left_more (λ n. is_in always described s && list_any (lined_field p k n) (drop i fs)) (λ n. is_in always described s && list_any (lined_field p k n) (drop (i + 1) fs)) (λ n. is_in always described s && list_any (lined_field p k n) fs)
     (λ n. is_in always described s && (nat_eq n f.name && b)) (marks_in s old) (marks_in s mid) (marks_in s new)
     (λ n. ap (λ xs. is_in always described s && list_any (lined_field p k n) xs) (drop_more fs i f h)
-        ∙ ap (λ x. is_in always described s && (x || list_any (lined_field p k n) (drop (i + 1) fs))) (ap (lined_field p k n) (sym e) ∙ is n)
-        ∙ spread (is_in always described s) (nat_eq n f.name && b) (list_any (lined_field p k n) (drop (i + 1) fs))) (l s) (g s)
+    ∙ ap (λ x. is_in always described s && (x || list_any (lined_field p k n) (drop (i + 1) fs))) (ap (lined_field p k n) (sym e) ∙ is n)
+    ∙ spread (is_in always described s) (nat_eq n f.name && b) (list_any (lined_field p k n) (drop (i + 1) fs))) (l s) (g s)
   where
     spread : (a x y : Bool) → (a && (x || y)) ≡ ((a && x) || (a && y))
     spread true x y = refl
@@ -140,8 +140,8 @@ pub method_more : (p : Program) (k : KeepRule) (always described : Bool) (ms : L
 method_more p k always described ms i m b old mid new h e is l g s = left_more (λ n. is_in always described s && list_any (lined_method p k n) (drop i ms)) (λ n. is_in always described s && list_any (lined_method p k n) (drop (i + 1) ms)) (λ n. is_in always described s && list_any (lined_method p k n) ms)
     (λ n. is_in always described s && (nat_eq n m.name && b)) (marks_in s old) (marks_in s mid) (marks_in s new)
     (λ n. ap (λ xs. is_in always described s && list_any (lined_method p k n) xs) (drop_more ms i m h)
-        ∙ ap (λ x. is_in always described s && (x || list_any (lined_method p k n) (drop (i + 1) ms))) (ap (lined_method p k n) (sym e) ∙ is n)
-        ∙ spread (is_in always described s) (nat_eq n m.name && b) (list_any (lined_method p k n) (drop (i + 1) ms))) (l s) (g s)
+    ∙ ap (λ x. is_in always described s && (x || list_any (lined_method p k n) (drop (i + 1) ms))) (ap (lined_method p k n) (sym e) ∙ is n)
+    ∙ spread (is_in always described s) (nat_eq n m.name && b) (list_any (lined_method p k n) (drop (i + 1) ms))) (l s) (g s)
   where
     spread : (a x y : Bool) → (a && (x || y)) ≡ ((a && x) || (a && y))
     spread true x y = refl
@@ -274,8 +274,8 @@ pub kinds_more : (p : Program) (k : KeepRule) (ks : List ℕ) (i j : ℕ) (old m
 kinds_more p k ks i j old mid new h e l g s = left_more (rule_marks p k (flat_map (class_of_kind p) (drop i ks)) s) (rule_marks p k (flat_map (class_of_kind p) (drop (i + 1) ks)) s) (rule_marks p k (flat_map (class_of_kind p) ks) s) (rule_marks p k (class_of_kind p j) s)
     (marks_of s old) (marks_of s mid) (marks_of s new)
     (λ n. ap (λ xs. rule_marks p k (flat_map (class_of_kind p) xs) s n) (drop_more ks i j h)
-        ∙ both_kept p k (class_of_kind p (get_or ks i j)) (flat_map (class_of_kind p) (drop (i + 1) ks)) s n
-        ∙ ap (λ x. rule_marks p k (class_of_kind p x) s n || rule_marks p k (flat_map (class_of_kind p) (drop (i + 1) ks)) s n) (sym e)) (l s) (g s)
+    ∙ both_kept p k (class_of_kind p (get_or ks i j)) (flat_map (class_of_kind p) (drop (i + 1) ks)) s n
+    ∙ ap (λ x. rule_marks p k (class_of_kind p x) s n || rule_marks p k (flat_map (class_of_kind p) (drop (i + 1) ks)) s n) (sym e)) (l s) (g s)
 
 pub kinds_end : (p : Program) (k : KeepRule) (ks : List ℕ) (i : ℕ) (old new : Marks) → length ks ≤ i → LeftAll (rule_marks p k (flat_map (class_of_kind p) (drop i ks))) (rule_marks p k (flat_map (class_of_kind p) ks)) old new
     → GrewAll (rule_marks p k (flat_map (class_of_kind p) ks)) old new
@@ -292,7 +292,8 @@ dropped (x ∷ xs) zero h = (x, (refl, refl))
 dropped (x ∷ xs) (suc i) h = let r = dropped xs i (omega arith) in (r.0, (r.1.0, r.1.1 ∙ ap (λ k. r.0 ∷ drop k (x ∷ xs)) (let e : suc (i + 1) ≡ suc i + 1 = omega arith in e)))
 
 pub places_more : (p : Program) (k : KeepRule) (i : ℕ) (old mid new : Marks) → i < length p.classes
-    → LeftAll (rule_marks p k (drop i p.classes)) (rule_marks p k p.classes) old mid → GrewAll (rule_marks p k (class_there p i)) mid new → LeftAll (rule_marks p k (drop (i + 1) p.classes)) (rule_marks p k p.classes) old new
+    → LeftAll (rule_marks p k (drop i p.classes)) (rule_marks p k p.classes) old mid → GrewAll (rule_marks p k (class_there p i)) mid new
+    → LeftAll (rule_marks p k (drop (i + 1) p.classes)) (rule_marks p k p.classes) old new
 places_more p k i old mid new h l g s =
     let r = dropped p.classes i h in
     left_more (rule_marks p k (drop i p.classes) s) (rule_marks p k (drop (i + 1) p.classes) s) (rule_marks p k p.classes s) (rule_marks p k (class_there p i) s) (marks_of s old) (marks_of s mid) (marks_of s new)
@@ -320,8 +321,8 @@ module _ (p : Program) (s : Sound p) (once : (class : ℕ) → IsTwice p class �
       let r = place_in ks c.name (fit.among c.name (class_parts p s i c e).name (name_of_applies p k c a)) in
       flat_at (class_of_kind p) ks r.at c.name r.is t
       (ap (λ o. list_any t (elim o as (λ o. List Class) [ Some place ↦ class_there p place | None ↦ [] ])) (own_place p once i c e)
-        ∙ ap (list_any t) (there_is p i c e)
-        ∙ or_front (t c) false h)
+      ∙ ap (list_any t) (there_is p i c e)
+      ∙ or_front (t c) false h)
 
   among_classes : (ks : List ℕ) (t : Class → Bool) → list_any t (flat_map (class_of_kind p) ks) ≡ true → list_any t p.classes ≡ true
   among_classes [] t e = absurd (true≢false (sym e))
@@ -409,7 +410,8 @@ standing_below p r above q marks under e are same are_under = by above (subst (�
 
 pub kept_so : (p : Program) (k : KeepRule) (c : Class) (hold always : Bool) (fs : List Field) (ms : List Method) (old new : Marks) → hold ≡ is_always_of k → always ≡ hold → fs ≡ c.fields → ms ≡ c.methods
     → new.classes.items ≡ (if always then set old.classes.items c.name true else old.classes.items)
-    → GrewMembers hold (is_describing k) (λ n. list_any (lined_field p k n) fs) old.fields new.fields → GrewMembers hold (is_describing k) (λ n. list_any (lined_method p k n) ms) old.methods new.methods
+    → GrewMembers hold (is_describing k) (λ n. list_any (lined_field p k n) fs) old.fields new.fields
+    → GrewMembers hold (is_describing k) (λ n. list_any (lined_method p k n) ms) old.methods new.methods
     → new.silent.items ≡ old.silent.items → GrewKept p k c old new
 kept_so p k c hold always fs ms old new h a f m classes fields methods silent = record {
   classes = subst (λ b. Grew (λ n. b && nat_eq n c.name) old.classes.items new.classes.items) (a ∙ h) (grew_if always old.classes.items new.classes.items c.name classes);

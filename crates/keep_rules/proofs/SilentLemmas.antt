@@ -172,7 +172,7 @@ all_more p k kind old mid new a b = grew_as (λ n. silent_before p k kind n || i
             ap (λ x. (nat_lt m.class kind && is_silent_by p k n) || x) (and_none (is_silent_type p k kind))
             ∙ last (nat_lt m.class kind && is_silent_by p k n)
             ∙ ap (λ x. x && is_silent_by p k n) (same_test (nat_lt m.class kind) (nat_lt m.class (kind + 1)) (λ h. let l = ltb-true m.class kind h in lt-ltb m.class (kind + 1) (omega (arith, l)))
-                (λ h. let l = ltb-true m.class (kind + 1) h in elim (cases_lt m.class kind) [ inl q ↦ lt-ltb m.class kind q | inr q ↦ let s : kind ≡ m.class = omega (arith, l, q) in absurd (true≢false (sym (number_test kind m.class s) ∙ g)) ]))
+            (λ h. let l = ltb-true m.class (kind + 1) h in elim (cases_lt m.class kind) [ inl q ↦ lt-ltb m.class kind q | inr q ↦ let s : kind ≡ m.class = omega (arith, l, q) in absurd (true≢false (sym (number_test kind m.class s) ∙ g)) ]))
           where
             last : (x : Bool) → (x || false) ≡ x
             last true = refl

@@ -87,8 +87,8 @@ module _ (p : Program) (rs : List KeepRule) (k : ℕ) where
       let l = and_right (applies (named p) r.one (named_class p q.class)) (some_line_of_method r.one.class (named_method p q.method)) r.passes in
       any_at (λ r. rule_methods p r p.classes k) rs r.at r.one r.is
       (any_at (λ c. applies (named p) r.one (named_class p c) && list_any (lined_method p r.one k) c.methods) p.classes q.place q.class q.is
-        (both (applies (named p) r.one (named_class p q.class)) (list_any (lined_method p r.one k) q.class.methods) a
-          (any_at (lined_method p r.one k) q.class.methods q.at q.method q.there (both (nat_eq k q.method.name) (some_line_of_method r.one.class (named_method p q.method)) (number_test k q.method.name (sym q.number)) l))))
+      (both (applies (named p) r.one (named_class p q.class)) (list_any (lined_method p r.one k) q.class.methods) a
+      (any_at (lined_method p r.one k) q.class.methods q.at q.method q.there (both (nat_eq k q.method.name) (some_line_of_method r.one.class (named_method p q.method)) (number_test k q.method.name (sym q.number)) l))))
 
   kept_field : list_any (λ r. rule_fields p r p.classes k) rs ≡ true → KeptField p rs k
   kept_field e =
@@ -115,8 +115,8 @@ module _ (p : Program) (rs : List KeepRule) (k : ℕ) where
       let l = and_right (applies (named p) r.one (named_class p q.class)) (some_line_of_field r.one.class (named_field p q.field)) r.passes in
       any_at (λ r. rule_fields p r p.classes k) rs r.at r.one r.is
       (any_at (λ c. applies (named p) r.one (named_class p c) && list_any (lined_field p r.one k) c.fields) p.classes q.place q.class q.is
-        (both (applies (named p) r.one (named_class p q.class)) (list_any (lined_field p r.one k) q.class.fields) a
-          (any_at (lined_field p r.one k) q.class.fields q.at q.field q.there (both (nat_eq k q.field.name) (some_line_of_field r.one.class (named_field p q.field)) (number_test k q.field.name (sym q.number)) l))))
+      (both (applies (named p) r.one (named_class p q.class)) (list_any (lined_field p r.one k) q.class.fields) a
+      (any_at (lined_field p r.one k) q.class.fields q.at q.field q.there (both (nat_eq k q.field.name) (some_line_of_field r.one.class (named_field p q.field)) (number_test k q.field.name (sym q.number)) l))))
 
 -- ---- what descriptors name
 
@@ -178,9 +178,9 @@ module _ (p : Program) (s : Sound p) (n : ℕ) where
     either_way c e = elim (or_cases
         (list_any (λ m. keeps_method (named p) (describing rs) (named_class p c) m && names_base (type_at p n) (m.signature.result ∷ m.signature.parameters)) (map (named_method p) c.methods))
         (list_any (λ f. keeps_field (named p) (describing rs) (named_class p c) f && names_base (type_at p n) (f.kind ∷ [])) (map (named_field p) c.fields)) e) [
-      | inl h ↦ inl (sym (any_map (λ m. keeps_method (named p) (describing rs) (named_class p c) m && names_base (type_at p n) (m.signature.result ∷ m.signature.parameters)) (named_method p) c.methods) ∙ h)
-      | inr h ↦ inr (sym (any_map (λ f. keeps_field (named p) (describing rs) (named_class p c) f && names_base (type_at p n) (f.kind ∷ [])) (named_field p) c.fields) ∙ h)
-    ]
+          | inl h ↦ inl (sym (any_map (λ m. keeps_method (named p) (describing rs) (named_class p c) m && names_base (type_at p n) (m.signature.result ∷ m.signature.parameters)) (named_method p) c.methods) ∙ h)
+          | inr h ↦ inr (sym (any_map (λ f. keeps_field (named p) (describing rs) (named_class p c) f && names_base (type_at p n) (f.kind ∷ [])) (named_field p) c.fields) ∙ h)
+        ]
 
     -- from what is marked
     from_method : (i : ℕ) (c : Class) → slice_get p.classes i ≡ Some c → g c.name ≡ true → methods_name p methods c n ≡ true → (is_here && list_any is_describer p.classes) ≡ true
@@ -196,9 +196,9 @@ module _ (p : Program) (s : Sound p) (n : ℕ) where
         let names = sym (method_bases q.class.name q.method other) ∙ ap (method_names p n) q.number ∙ and_right (is_on methods m.one.name) (method_names p n m.one.name) m.passes in
         both is_here (list_any is_describer p.classes) (and_left is_here (names_base (type_at p n) ((named_method p q.method).signature.result ∷ (named_method p q.method).signature.parameters)) names)
         (any_at is_describer p.classes q.place q.class q.is (both (g q.class.name) (describes (named p) rs (named_class p q.class) (type_at p n)) (ap g owner ∙ gc)
-            (by_methods q.class (any_at (λ m. keeps_method (named p) (describing rs) (named_class p q.class) (named_method p m) && names_base (type_at p n) ((named_method p m).signature.result ∷ (named_method p m).signature.parameters)) q.class.methods q.at q.method q.there
-                (both (keeps_method (named p) (describing rs) (named_class p q.class) (named_method p q.method)) (names_base (type_at p n) ((named_method p q.method).signature.result ∷ (named_method p q.method).signature.parameters)) q.kept
-                  (and_right is_here (names_base (type_at p n) ((named_method p q.method).signature.result ∷ (named_method p q.method).signature.parameters)) names))))))
+        (by_methods q.class (any_at (λ m. keeps_method (named p) (describing rs) (named_class p q.class) (named_method p m) && names_base (type_at p n) ((named_method p m).signature.result ∷ (named_method p m).signature.parameters)) q.class.methods q.at q.method q.there
+        (both (keeps_method (named p) (describing rs) (named_class p q.class) (named_method p q.method)) (names_base (type_at p n) ((named_method p q.method).signature.result ∷ (named_method p q.method).signature.parameters)) q.kept
+        (and_right is_here (names_base (type_at p n) ((named_method p q.method).signature.result ∷ (named_method p q.method).signature.parameters)) names))))))
 
     from_field : (i : ℕ) (c : Class) → slice_get p.classes i ≡ Some c → g c.name ≡ true → fields_name p fields c n ≡ true → (is_here && list_any is_describer p.classes) ≡ true
     from_field i c e gc h =
@@ -213,9 +213,9 @@ module _ (p : Program) (s : Sound p) (n : ℕ) where
         let names = sym (field_bases q.class.name q.field other) ∙ ap (field_names p n) q.number ∙ and_right (is_on fields f.one.name) (field_names p n f.one.name) f.passes in
         both is_here (list_any is_describer p.classes) (and_left is_here (names_base (type_at p n) ((named_field p q.field).kind ∷ [])) names)
         (any_at is_describer p.classes q.place q.class q.is (both (g q.class.name) (describes (named p) rs (named_class p q.class) (type_at p n)) (ap g owner ∙ gc)
-            (by_fields q.class (any_at (λ f. keeps_field (named p) (describing rs) (named_class p q.class) (named_field p f) && names_base (type_at p n) ((named_field p f).kind ∷ [])) q.class.fields q.at q.field q.there
-                (both (keeps_field (named p) (describing rs) (named_class p q.class) (named_field p q.field)) (names_base (type_at p n) ((named_field p q.field).kind ∷ [])) q.kept
-                  (and_right is_here (names_base (type_at p n) ((named_field p q.field).kind ∷ [])) names))))))
+        (by_fields q.class (any_at (λ f. keeps_field (named p) (describing rs) (named_class p q.class) (named_field p f) && names_base (type_at p n) ((named_field p f).kind ∷ [])) q.class.fields q.at q.field q.there
+        (both (keeps_field (named p) (describing rs) (named_class p q.class) (named_field p q.field)) (names_base (type_at p n) ((named_field p q.field).kind ∷ [])) q.kept
+        (and_right is_here (names_base (type_at p n) ((named_field p q.field).kind ∷ [])) names))))))
 
     -- from what the rules mean
     to_method : (i : ℕ) (c : Class) → slice_get p.classes i ≡ Some c → is_here ≡ true
@@ -228,11 +228,12 @@ module _ (p : Program) (s : Sound p) (n : ℕ) where
         let b = and_right (keeps_method (named p) (describing rs) (named_class p c) (named_method p m.one)) (names_base (type_at p n) ((named_method p m.one).signature.result ∷ (named_method p m.one).signature.parameters)) m.passes in
         any_at (λ m. is_on methods m.name && method_names p n m.name) c.methods m.at m.one m.is
         (both (is_on methods m.one.name) (method_names p n m.one.name)
-          (are_methods m.one.name inside ∙ method_kept p (describing rs) m.one.name (record { place = i; class = c; is = e; at = m.at; method = m.one; there = m.is; number = refl; kept = k }))
-          (method_bases c.name m.one fit ∙ both is_here (names_base (type_at p n) ((named_method p m.one).signature.result ∷ (named_method p m.one).signature.parameters)) d b))
+        (are_methods m.one.name inside ∙ method_kept p (describing rs) m.one.name (record { place = i; class = c; is = e; at = m.at; method = m.one; there = m.is; number = refl; kept = k }))
+        (method_bases c.name m.one fit ∙ both is_here (names_base (type_at p n) ((named_method p m.one).signature.result ∷ (named_method p m.one).signature.parameters)) d b))
 
     to_field : (i : ℕ) (c : Class) → slice_get p.classes i ≡ Some c → is_here ≡ true
-        → list_any (λ f. keeps_field (named p) (describing rs) (named_class p c) (named_field p f) && names_base (type_at p n) ((named_field p f).kind ∷ [])) c.fields ≡ true → fields_name p fields c n ≡ true
+        → list_any (λ f. keeps_field (named p) (describing rs) (named_class p c) (named_field p f) && names_base (type_at p n) ((named_field p f).kind ∷ [])) c.fields ≡ true
+        → fields_name p fields c n ≡ true
     to_field i c e d h =
         let f = find_any (λ f. keeps_field (named p) (describing rs) (named_class p c) (named_field p f) && names_base (type_at p n) ((named_field p f).kind ∷ [])) c.fields h in
         let fit = (class_parts p s i c e).fields f.at f.one f.is in
@@ -241,8 +242,8 @@ module _ (p : Program) (s : Sound p) (n : ℕ) where
         let b = and_right (keeps_field (named p) (describing rs) (named_class p c) (named_field p f.one)) (names_base (type_at p n) ((named_field p f.one).kind ∷ [])) f.passes in
         any_at (λ f. is_on fields f.name && field_names p n f.name) c.fields f.at f.one f.is
         (both (is_on fields f.one.name) (field_names p n f.one.name)
-          (are_fields f.one.name inside ∙ field_kept p (describing rs) f.one.name (record { place = i; class = c; is = e; at = f.at; field = f.one; there = f.is; number = refl; kept = k }))
-          (field_bases c.name f.one fit ∙ both is_here (names_base (type_at p n) ((named_field p f.one).kind ∷ [])) d b))
+        (are_fields f.one.name inside ∙ field_kept p (describing rs) f.one.name (record { place = i; class = c; is = e; at = f.at; field = f.one; there = f.is; number = refl; kept = k }))
+        (field_bases c.name f.one fit ∙ both is_here (names_base (type_at p n) ((named_field p f.one).kind ∷ [])) d b))
 
     pub described_is : list_any (λ c. class_names p fields methods c n && g c.name) p.classes ≡ (is_here && list_any is_describer p.classes)
     described_is = same_test (list_any (λ c. class_names p fields methods c n && g c.name) p.classes) (is_here && list_any is_describer p.classes)
@@ -253,10 +254,10 @@ module _ (p : Program) (s : Sound p) (n : ℕ) where
         let c = find_any is_describer p.classes (and_right is_here (list_any is_describer p.classes) e) in
         let gc = and_left (g c.one.name) (describes (named p) rs (named_class p c.one) (type_at p n)) c.passes in
         any_at (λ c. class_names p fields methods c n && g c.name) p.classes c.at c.one c.is (both (class_names p fields methods c.one n) (g c.one.name)
-            (elim (either_way c.one (and_right (g c.one.name) (describes (named p) rs (named_class p c.one) (type_at p n)) c.passes)) [
-                | inl h ↦ or_behind (fields_name p fields c.one n) (methods_name p methods c.one n) (to_method c.at c.one c.is d h)
-                | inr h ↦ or_front (fields_name p fields c.one n) (methods_name p methods c.one n) (to_field c.at c.one c.is d h)
-              ]) gc))
+        (elim (either_way c.one (and_right (g c.one.name) (describes (named p) rs (named_class p c.one) (type_at p n)) c.passes)) [
+          | inl h ↦ or_behind (fields_name p fields c.one n) (methods_name p methods c.one n) (to_method c.at c.one c.is d h)
+          | inr h ↦ or_front (fields_name p fields c.one n) (methods_name p methods c.one n) (to_field c.at c.one c.is d h)
+        ]) gc))
 
 -- ---- the table
 
@@ -316,14 +317,14 @@ module _ (p : Program) (s : Sound p) (once : (class : ℕ) → IsTwice p class �
   classes_are n h =
       m.classes.are n h
       ∙ ap (λ b. all_marks p es Kinds n || b) (
-        any_congr (λ c. class_names p marks.fields.described.items marks.methods.described.items c n) (λ c. class_names p marks.fields.described.items marks.methods.described.items c n && true) p.classes (λ c. sym (always (class_names p marks.fields.described.items marks.methods.described.items c n)))
-        ∙ described_is p s n (rules_of false es) marks.fields.described.items marks.methods.described.items (m.fields Described).are (m.methods Described).are (λ k. true)
+      any_congr (λ c. class_names p marks.fields.described.items marks.methods.described.items c n) (λ c. class_names p marks.fields.described.items marks.methods.described.items c n && true) p.classes (λ c. sym (always (class_names p marks.fields.described.items marks.methods.described.items c n)))
+      ∙ described_is p s n (rules_of false es) marks.fields.described.items marks.methods.described.items (m.fields Described).are (m.methods Described).are (λ k. true)
       )
       ∙ whole (defines (named p) (type_at p n)) (all_marks p es Kinds n) (list_any (λ c. describes (named p) (rules_of false es) (named_class p c) (type_at p n)) p.classes) (kept_defines n h)
       ∙ ap (λ b. defines (named p) (type_at p n) && b) (
-        ap (λ b. b || list_any (λ c. describes (named p) (rules_of false es) (named_class p c) (type_at p n)) p.classes) (sym (kept_classes n h))
-        ∙ ap (λ b. some_class (named p) (λ c. text_eq c.name (type_at p n) && keeps_class (named p) (rules_of false es) c) || b) (sym (any_map (λ c. describes (named p) (rules_of false es) c (type_at p n)) (named_class p) p.classes))
-        ∙ sym (any_either (λ c. text_eq c.name (type_at p n) && keeps_class (named p) (rules_of false es) c) (λ c. describes (named p) (rules_of false es) c (type_at p n)) (map (named_class p) p.classes))
+      ap (λ b. b || list_any (λ c. describes (named p) (rules_of false es) (named_class p c) (type_at p n)) p.classes) (sym (kept_classes n h))
+      ∙ ap (λ b. some_class (named p) (λ c. text_eq c.name (type_at p n) && keeps_class (named p) (rules_of false es) c) || b) (sym (any_map (λ c. describes (named p) (rules_of false es) c (type_at p n)) (named_class p) p.classes))
+      ∙ sym (any_either (λ c. text_eq c.name (type_at p n) && keeps_class (named p) (rules_of false es) c) (λ c. describes (named p) (rules_of false es) c (type_at p n)) (map (named_class p) p.classes))
       )
 
   pairs_are : (pairs : List (ℕ × ℕ)) → Pairs p (class_pairs p marks.fields.described_live.items marks.methods.described_live.items p.classes) [] pairs → (n k : ℕ) → n < length p.types → k < length p.types
@@ -332,9 +333,9 @@ module _ (p : Program) (s : Sound p) (once : (class : ℕ) → IsTwice p class �
       q.are n k h
       ∙ described_is p s n (rules_of true es) marks.fields.described_live.items marks.methods.described_live.items (m.fields DescribedLive).are (m.methods DescribedLive).are (nat_eq k)
       ∙ ap (λ b. defines (named p) (type_at p n) && b) (
-        any_congr_in (λ c. nat_eq k c.name && describes (named p) (rules_of true es) (named_class p c) (type_at p n)) (λ c. text_eq (type_at p c.name) (type_at p k) && describes (named p) (rules_of true es) (named_class p c) (type_at p n)) p.classes
-        (λ i c e. ap (λ b. b && describes (named p) (rules_of true es) (named_class p c) (type_at p n)) (sym (same_name k l i c e)))
-        ∙ sym (any_map (λ c. text_eq c.name (type_at p k) && describes (named p) (rules_of true es) c (type_at p n)) (named_class p) p.classes)
+      any_congr_in (λ c. nat_eq k c.name && describes (named p) (rules_of true es) (named_class p c) (type_at p n)) (λ c. text_eq (type_at p c.name) (type_at p k) && describes (named p) (rules_of true es) (named_class p c) (type_at p n)) p.classes
+      (λ i c e. ap (λ b. b && describes (named p) (rules_of true es) (named_class p c) (type_at p n)) (sym (same_name k l i c e)))
+      ∙ sym (any_map (λ c. text_eq c.name (type_at p k) && describes (named p) (rules_of true es) c (type_at p n)) (named_class p) p.classes)
       )
 
   agrees : (pairs : List (ℕ × ℕ)) (o : Outside) → Pairs p (class_pairs p marks.fields.described_live.items marks.methods.described_live.items p.classes) [] pairs → IsListed p marks pairs o → HasFlags es o → AgreesWith p (table_of (named p) es) o
@@ -369,7 +370,7 @@ module _ (p : Program) (s : Sound p) (once : (class : ℕ) → IsTwice p class �
           let t = sym (a.classes_if n k h l) ∙ e in (
             defined_type p s n h (and_left (defines (named p) (type_at p n)) (some_class (named p) (λ c. text_eq c.name (type_at p k) && describes (named p) (rules_of true es) c (type_at p n))) t),
             owned k l (sym (any_map (λ c. text_eq c.name (type_at p k) && describes (named p) (rules_of true es) c (type_at p n)) (named_class p) p.classes)
-              ∙ and_right (defines (named p) (type_at p n)) (some_class (named p) (λ c. text_eq c.name (type_at p k) && describes (named p) (rules_of true es) c (type_at p n))) t),
+                ∙ and_right (defines (named p) (type_at p n)) (some_class (named p) (λ c. text_eq c.name (type_at p k) && describes (named p) (rules_of true es) c (type_at p n))) t),
           )
         where
           owned : (k : ℕ) → k < length p.types → list_any (λ c. text_eq (type_at p c.name) (type_at p k) && describes (named p) (rules_of true es) (named_class p c) (type_at p n)) p.classes ≡ true → defines_type p k ≡ true

@@ -167,7 +167,8 @@ fn add_fields(
     fields: &[bool],
     out: &mut Vec<u32>,
 ) -> Result<(), AllocError>
-    ensures { IsReady view.now → OnOk result (Listed view.now.program.now (λ n. list_any (λ f. is_on fields.now f.name && field_names view.now.program.now n f.name) class_fields.now) out.old.items out.new.items) }
+    ensures { IsReady view.now
+        → OnOk result (Listed view.now.program.now (λ n. list_any (λ f. is_on fields.now f.name && field_names view.now.program.now n f.name) class_fields.now) out.old.items out.new.items) }
 {
     for field in class_fields {
         add_marked_field(view, fields, field.name, out)?;
@@ -182,7 +183,8 @@ fn add_methods(
     methods: &[bool],
     out: &mut Vec<u32>,
 ) -> Result<(), AllocError>
-    ensures { IsReady view.now → OnOk result (Listed view.now.program.now (λ n. list_any (λ m. is_on methods.now m.name && method_names view.now.program.now n m.name) class_methods.now) out.old.items out.new.items) }
+    ensures { IsReady view.now
+        → OnOk result (Listed view.now.program.now (λ n. list_any (λ m. is_on methods.now m.name && method_names view.now.program.now n m.name) class_methods.now) out.old.items out.new.items) }
 {
     for method in class_methods {
         add_marked_method(view, methods, method.name, out)?;
@@ -226,11 +228,7 @@ pub fn keep_described(
 }
 
 /// Adds a pair for each of the classes.
-fn add_pairs(
-    kinds: &[u32],
-    owner: u32,
-    pairs: &mut Vec<(u32, u32)>,
-) -> Result<(), AllocError>
+fn add_pairs(kinds: &[u32], owner: u32, pairs: &mut Vec<(u32, u32)>) -> Result<(), AllocError>
     ensures { (n k : ℕ) → OnOk result (has_both pairs.new.items n k ≡ (has_both pairs.old.items n k || (has kinds.now n && nat_eq k owner))) }
 {
     for kind in kinds {
@@ -246,7 +244,8 @@ fn pairs_of(
     fields: &[bool],
     methods: &[bool],
 ) -> Result<Vec<(u32, u32)>, AllocError>
-    ensures { IsReady view.now → IfOk result (λ pairs. Pairs view.now.program.now (λ n k. list_any (λ c. class_names view.now.program.now fields.now methods.now c n && nat_eq k c.name) view.now.program.now.classes) [] pairs.items) }
+    ensures { IsReady view.now
+        → IfOk result (λ pairs. Pairs view.now.program.now (λ n k. list_any (λ c. class_names view.now.program.now fields.now methods.now c n && nat_eq k c.name) view.now.program.now.classes) [] pairs.items) }
 {
     let mut pairs = Vec::new(alloc);
     let program = view.program;
@@ -265,7 +264,8 @@ pub fn described_pairs(
     fields: &[bool],
     methods: &[bool],
 ) -> Result<Vec<(u32, u32)>, AllocError>
-    ensures { IsReady view.now → IfOk result (λ pairs. Pairs view.now.program.now (λ n k. list_any (λ c. class_names view.now.program.now fields.now methods.now c n && nat_eq k c.name) view.now.program.now.classes) [] pairs.items) }
+    ensures { IsReady view.now
+        → IfOk result (λ pairs. Pairs view.now.program.now (λ n k. list_any (λ c. class_names view.now.program.now fields.now methods.now c n && nat_eq k c.name) view.now.program.now.classes) [] pairs.items) }
 {
     let mut pairs = pairs_of(alloc, view, fields, methods)?;
     pairs.sort()?;

@@ -59,12 +59,7 @@ fn are_below(class: u32, owner: u32, size: u32) -> bool
 }
 
 /// Adds a pair whose numbers are below the size, unless it is the last.
-fn add_pair(
-    class: u32,
-    owner: u32,
-    size: u32,
-    pairs: &mut Seq<ClassIf>,
-) -> Result<(), AllocError>
+fn add_pair(class: u32, owner: u32, size: u32, pairs: &mut Seq<ClassIf>) -> Result<(), AllocError>
     ensures { OnOk result (AddsPair class owner size pairs.old pairs.new) }
 {
     let below = are_below(class, owner, size);
@@ -185,13 +180,7 @@ fn mark_all(alloc: Global, rules: &Rules, view: &View<'_>) -> Result<Marks, Allo
 {
     let mut marks = Marks::new(alloc, view.program)?;
     let mut row = Vec::new(alloc);
-    mark_entries(
-        alloc,
-        rules.entries.as_slice(),
-        view,
-        &mut marks,
-        &mut row,
-    )?;
+    mark_entries(alloc, rules.entries.as_slice(), view, &mut marks, &mut row)?;
     keep_described(
         alloc,
         view,

@@ -11,10 +11,10 @@ loop-pattern-preserved c = λ ws ready are.
     elim c.match-branch-2.branch [
       | in-None w ↦ subst (λ l. TriedSo p ws l (at + 1)) (sym (ap (λ v. v.items) w.kinds-is))
           (tried_none p c.args.patterns.now ws at c.pattern-item.result are c.loop-pattern-test.true c.pattern-item.is c.loop-pattern.kinds.items
-            (λ word is. subst (AreCandidates p word) w.in-None.is (c.in_ok-candidates_of.ensures word ready is)) (c.loop-pattern.invariant ws ready are))
+          (λ word is. subst (AreCandidates p word) w.in-None.is (c.in_ok-candidates_of.ensures word ready is)) (c.loop-pattern.invariant ws ready are))
       | in-Type+in_ok-push-in-Type w ↦ subst (λ l. TriedSo p ws l (at + 1)) (sym (ap (λ v. v.items) w.kinds-is))
           (tried_type p c.args.patterns.now ws at c.pattern-item.result are c.loop-pattern-test.true c.pattern-item.is c.loop-pattern.kinds.items w.push.new.self.items w.in-Type.kind w.in_ok-push-in-Type.ensures.items
-            (λ word is. subst (AreCandidates p word) w.in-Type.is (c.in_ok-candidates_of.ensures word ready is)) (c.loop-pattern.invariant ws ready are))
+          (λ word is. subst (AreCandidates p word) w.in-Type.is (c.in_ok-candidates_of.ensures word ready is)) (c.loop-pattern.invariant ws ready are))
     ]
 
 pub returns : goal.returns

@@ -17,7 +17,7 @@ returns c = λ es ready are.
     record {
       classes = marked_more (size_of p Kinds) (all_marks p es Kinds) (λ n. list_any (λ (d : Class). class_names p m.fields.described.items m.methods.described.items d n) p.classes) m.classes.items c.keep_described.new.classes.items kinds
           (subst (λ fs. Grew (λ n. list_any (λ (d : Class). class_names p fs m.methods.described.items d n) p.classes) m.classes.items c.keep_described.new.classes.items) c.as_slice-2.ensures.value
-            (subst (λ ms. Grew (λ n. list_any (λ (d : Class). class_names p c.as_slice-2.result.now ms d n) p.classes) m.classes.items c.keep_described.new.classes.items) c.as_slice-3.ensures.value (c.in_ok-keep_described.ensures ready kinds.size)));
+          (subst (λ ms. Grew (λ n. list_any (λ (d : Class). class_names p c.as_slice-2.result.now ms d n) p.classes) m.classes.items c.keep_described.new.classes.items) c.as_slice-3.ensures.value (c.in_ok-keep_described.ensures ready kinds.size)));
       fields = λ s. marked_is (size_of p (Fields s)) (all_marks p es (Fields s)) (marks_of (Fields s) old) (marks_of (Fields s) m) (c.in_ok-marks.ensures (Fields s)) (grew (Fields s));
       methods = λ s. marked_is (size_of p (Methods s)) (all_marks p es (Methods s)) (marks_of (Methods s) old) (marks_of (Methods s) m) (c.in_ok-marks.ensures (Methods s)) (grew (Methods s));
       silent = marked_is (size_of p Silent) (all_marks p es Silent) (marks_of Silent old) (marks_of Silent m) (c.in_ok-marks.ensures Silent) (grew Silent);

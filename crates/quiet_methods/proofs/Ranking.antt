@@ -1,0 +1,135 @@
+-- Ranks as they are given.
+use Rattle.std.proofs.Common.{◌≡◌, ◌⊎◌, inl, inr, ℕ, zero, suc, ◌+◌, ◌<◌, ◌≤◌, ◌&&◌, Bool, true, false, not, cond, List, [], ◌∷◌, length, get_or, set, replicate, count_by, Option, Some, None, is_some, refl, sym, ap, ◌∙◌, subst, arith, rules, length-set, get_or-set_other, get_or-set_same}
+use Rattle.std.specs.Prelude.{slice_get, slice_index_or, Contains}
+use Rattle.std.specs.List.{sum_by, list_all}
+use Rattle.std.proofs.lemmas.Bool.{false≢true, cases_eq, cases_lt}
+use Rattle.std.proofs.lemmas.List.{length-replicate}
+use Rattle.std.proofs.lemmas.List.Sums.{sum_by-set}
+use Rattle.std.proofs.lemmas.Option.{slice_get_within}
+use Rattle.quiet_methods.specs.declared.settle.Node.{Node}
+use Rattle.quiet_methods.specs.Settled.{rank_at, has_rank, is_ready, IsLower, IsRank, IsSettled}
+
+abbrev pub blank : Option ℕ → ℕ
+blank o = cond (is_some o) 0 1
+
+-- Ranks below the next one, as many as it says.
+pub record AreRanks (nodes : List Node) (ranks : List (Option ℕ)) (next : ℕ) : Type 0 where
+  pub long : length ranks ≡ length nodes
+  pub below : (n r : ℕ) → rank_at ranks n ≡ Some r → r < next
+  pub sound : (n r : ℕ) (x : Node) → slice_get nodes n ≡ Some x → rank_at ranks n ≡ Some r → IsRank ranks x r
+  pub count : next + sum_by blank ranks ≡ length nodes
+
+-- a node that may have a rank has one
+pub record IsClosedAt (nodes : List Node) (n : ℕ) (ranks : List (Option ℕ)) : Type 0 where
+  pub closed : (x : Node) → slice_get nodes n ≡ Some x → is_ready ranks x ≡ true → has_rank ranks n ≡ true
+
+-- a rank was given, or nothing was left to give at the node
+pub record Turns (nodes : List Node) (n : ℕ) (ranks : List (Option ℕ)) (next : ℕ) (ranks' : List (Option ℕ)) (next' : ℕ) : Type 0 where
+  pub grows : next ≤ next'
+  pub still : next' ≡ next → ranks' ≡ ranks
+  pub closed : next' ≡ next → IsClosedAt nodes n ranks'
+
+-- ranks were given, or nothing was left to give at the last nodes
+pub record Sweeps (nodes : List Node) (k : ℕ) (next : ℕ) (ranks' : List (Option ℕ)) (next' : ℕ) : Type 0 where
+  pub grows : next ≤ next'
+  pub closed : next' ≡ next → (n : ℕ) → n < length nodes → length nodes ≤ n + k → IsClosedAt nodes n ranks'
+
+-- ---- one rank more
+
+none_ranked : (o : Option ℕ) (r : ℕ) → o ≡ None → o ≡ Some r → ⊥
+none_ranked o r e f = absurd (sym e ∙ f)
+
+-- a rank that was given stays
+stays : (ranks : List (Option ℕ)) (n t s : ℕ) (v : Option ℕ) → rank_at ranks n ≡ None → rank_at ranks t ≡ Some s → rank_at (set ranks n v) t ≡ Some s
+stays ranks n t s v free h = elim (cases_eq t n) [
+  | inl e ↦ absurd (none_ranked (rank_at ranks t) s (ap (rank_at ranks) e ∙ free) h)
+  | inr k ↦ get_or-set_other ranks n t v None k ∙ h
+]
+
+lower_stays : (ranks : List (Option ℕ)) (n t r : ℕ) (v : Option ℕ) → rank_at ranks n ≡ None → IsLower ranks r t → IsLower (set ranks n v) r t
+lower_stays ranks n t r v free l = record { rank = l.rank; is = stays ranks n t l.rank v free l.is; lower = l.lower }
+
+some_of : (o : Option ℕ) → is_some o ≡ true → (r : ℕ) × (o ≡ Some r)
+some_of (Some r) h = (r, refl)
+some_of None h = absurd (false≢true h)
+
+both_true : (a b : Bool) → (a && b) ≡ true → (a ≡ true) × (b ≡ true)
+both_true true true h = (refl, refl)
+both_true true false h = absurd (false≢true h)
+both_true false b h = absurd (false≢true h)
+
+all_in : (f : ℕ → Bool) (xs : List ℕ) (x : ℕ) → list_all f xs ≡ true → Contains xs x → f x ≡ true
+all_in f xs x h c = search rules
+
+ready_rank : (nodes : List Node) (ranks : List (Option ℕ)) (next : ℕ) (x : Node) → AreRanks nodes ranks next → is_ready ranks x ≡ true → IsRank ranks x next
+ready_rank nodes ranks next x a h =
+    let both : (x.may ≡ true) × (list_all (has_rank ranks) x.needs ≡ true) = both_true x.may (list_all (has_rank ranks) x.needs) h in
+    record {
+      may = both.0;
+      needs = λ n c. let r : (r : ℕ) × (rank_at ranks n ≡ Some r) = some_of (rank_at ranks n) (all_in (has_rank ranks) x.needs n both.1 c) in record { rank = r.0; is = r.1; lower = a.below n r.0 r.1 };
+    }
+
+rank_stays : (ranks : List (Option ℕ)) (n r : ℕ) (v : Option ℕ) (x : Node) → rank_at ranks n ≡ None → IsRank ranks x r → IsRank (set ranks n v) x r
+rank_stays ranks n r v x free i = record { may = i.may; needs = λ t c. lower_stays ranks n t r v free (i.needs t c) }
+
+same_some : (r s : ℕ) → Some r ≡ Some s → r ≡ s
+same_some r s h = search rules
+
+pub given : (nodes : List Node) (ranks : List (Option ℕ)) (next n : ℕ) (x : Node) → AreRanks nodes ranks next → slice_get nodes n ≡ Some x → rank_at ranks n ≡ None → is_ready ranks x ≡ true
+    → AreRanks nodes (set ranks n (Some next)) (next + 1)
+given nodes ranks next n x a there free ready =
+  let inside : n < length ranks = omega (arith, slice_get_within nodes n x there, a.long) in
+  let new : rank_at (set ranks n (Some next)) n ≡ Some next = get_or-set_same ranks n (Some next) None inside in
+  record {
+    long = length-set ranks n (Some next) ∙ a.long;
+    below = λ m r h. elim (cases_eq m n) [
+      | inl e ↦ (let is : next ≡ r = same_some next r (sym new ∙ ap (rank_at (set ranks n (Some next))) (sym e) ∙ h) in omega (arith, is))
+      | inr k ↦ (let lt : r < next = a.below m r (sym (get_or-set_other ranks n m (Some next) None k) ∙ h) in omega (arith, lt))
+    ];
+    sound = λ m r y at h. elim (cases_eq m n) [
+      | inl e ↦
+          (let is : next ≡ r = same_some next r (sym new ∙ ap (rank_at (set ranks n (Some next))) (sym e) ∙ h) in
+          let same : Some y ≡ Some x = sym at ∙ ap (slice_get nodes) e ∙ there in
+          let i : IsRank ranks x next = ready_rank nodes ranks next x a ready in
+          same_rank ranks n next r x y free is same i)
+      | inr k ↦ rank_stays ranks n r (Some next) y free (a.sound m r y at (sym (get_or-set_other ranks n m (Some next) None k) ∙ h))
+    ];
+    count =
+      (let was : blank (get_or ranks n None) ≡ 1 = ap blank free in
+      let sums : sum_by blank (set ranks n (Some next)) + blank (get_or ranks n None) ≡ sum_by blank ranks + blank (Some next) = sum_by-set blank ranks n (Some next) None inside in
+      omega (arith, was, sums, a.count));
+  }
+  where
+    same_rank : (ranks : List (Option ℕ)) (n next r : ℕ) (x y : Node) → rank_at ranks n ≡ None → next ≡ r → Some y ≡ Some x → IsRank ranks x next → IsRank (set ranks n (Some next)) y r
+    same_rank ranks n next r x y free is same i =
+        let e : y ≡ x = search rules in
+        subst (λ z. IsRank (set ranks n (Some next)) z r) (sym e) (subst (IsRank (set ranks n (Some next)) x) is (rank_stays ranks n next (Some next) x free i))
+
+-- ---- the beginning
+
+none_yet : (k n : ℕ) → rank_at (replicate k None) n ≡ None
+none_yet zero n = refl
+none_yet (suc k) zero = refl
+none_yet (suc k) (suc n) = none_yet k n
+
+all_blank : (k : ℕ) → sum_by blank (replicate k None) ≡ k
+all_blank zero = refl
+all_blank (suc k) = omega (arith, all_blank k)
+
+pub no_ranks : (nodes : List Node) → AreRanks nodes (replicate (length nodes) None) 0
+no_ranks nodes = record {
+  long = length-replicate (length nodes) None;
+  below = λ n r h. absurd (sym (none_yet (length nodes) n) ∙ h);
+  sound = λ n r x at h. absurd (sym (none_yet (length nodes) n) ∙ h);
+  count = all_blank (length nodes);
+}
+
+-- ---- the end
+
+pub settled : (nodes : List Node) (ranks : List (Option ℕ)) (next : ℕ) → AreRanks nodes ranks next → ((n : ℕ) → n < length nodes → IsClosedAt nodes n ranks) → IsSettled nodes ranks
+settled nodes ranks next a h = record {
+  long = a.long;
+  short = λ n r e. omega (arith, a.below n r e, a.count);
+  sound = a.sound;
+  closed = λ n x at ready. (h n (slice_get_within nodes n x at)).closed x at ready;
+}

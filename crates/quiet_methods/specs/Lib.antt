@@ -1,0 +1,4 @@
+pub mod Settled
+pub mod Forms
+pub mod Bodies
+pub mod Quiet

@@ -1,1 +1,3 @@
 pub mod Ranking
+pub mod Judging
+pub mod Collecting

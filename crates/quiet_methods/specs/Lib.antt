@@ -1,4 +1,6 @@
 pub mod Settled
+pub mod Steps
 pub mod Forms
 pub mod Bodies
 pub mod Quiet
+pub mod Owning

@@ -10,7 +10,7 @@ use Rattle.program_model.specs.declared.program.Program.{Program}
 use Rattle.dom_frame.specs.declared.frames.Frame.{Frame}
 use Rattle.quiet_methods.specs.declared.forms.Demand.{Demand}
 use Rattle.quiet_methods.specs.declared.forms.Demand.TheVariants.{Nothing, Call, Loud}
-use Rattle.quiet_methods.specs.Bodies.{frame_in, demand_in, ways_in}
+use Rattle.quiet_methods.specs.Bodies.{frame_in, demand_in, ways_in, IsLoudSelf, IsCalledIn}
 use Rattle.quiet_methods.specs.Settled.{rank_at, IsLower}
 
 abbrev pub is_on : List Bool → ℕ → Bool
@@ -54,22 +54,12 @@ pub record IsQuietBody (p : Program) (b : Body) (fs : List (Option Frame)) (leve
 
 -- ---- what isn't marked isn't quiet
 
--- positions from each of which a way leads to another one of them, or out of the body
-pub record IsCircling (b : Body) (fs : List (Option Frame)) : Type 0 where
-  pub stuck : ℕ → Bool
-  pub first : ℕ
-  pub within : first < length b.insns
-  pub begins : stuck first ≡ true
-  pub goes : (n : ℕ) (i : Insn) → slice_get b.insns n ≡ Some i → stuck n ≡ true → (m : ℕ) × Contains (ways_in (frame_in fs n) i n) m × (stuck m ≡ true)
-
 -- why a body isn't quiet where these methods are
 pub data IsLoudBody (p : Program) (b : Body) (fs : List (Option Frame)) (marks : List Bool) : Type 0 where
-  LoudAt : (n : ℕ) (i : Insn) → slice_get b.insns n ≡ Some i → demand_in p (frame_in fs n) i ≡ Loud → IsLoudBody p b fs marks
-  CallsLoud : (n : ℕ) (i : Insn) (k : ℕ) → slice_get b.insns n ≡ Some i → demand_in p (frame_in fs n) i ≡ Call k → is_on marks k ≡ false → IsLoudBody p b fs marks
-  Circles : IsCircling b fs → IsLoudBody p b fs marks
-  TooLong : 2 ^ 32 ≤ length b.insns → IsLoudBody p b fs marks
+  LoudSelf : IsLoudSelf p b.insns fs → IsLoudBody p b fs marks
+  CallsLoud : (k : ℕ) → IsCalledIn p b.insns fs k → is_on marks k ≡ false → IsLoudBody p b fs marks
 
--- the only method with code of its number
+-- all methods with code of its number are this one
 abbrev pub IsAlone : Program → Method → Body → Type 0
 IsAlone p m b = (m' : Method) (b' : Body) → IsCode p m' b' → m'.name ≡ m.name → (m' ≡ m) × (b' ≡ b)
 
@@ -81,5 +71,5 @@ pub record AreQuiet (p : Program) (frames : List (List (Option Frame))) (marks :
   pub long : length marks ≡ length p.methods
   pub marked : (k : ℕ) → is_on marks k ≡ is_some (rank_at levels k)
   pub coded : (k : ℕ) → is_on marks k ≡ true → (m : Method) × (b : Body) × IsCode p m b × (m.name ≡ k)
-  pub quiet : (m : Method) (b : Body) (level : ℕ) → IsCode p m b → rank_at levels m.name ≡ Some level → IsQuietBody p b (frames_of frames m.name) levels level (ranks_of ranks m.name)
+  pub quiet : (m : Method) (b : Body) (level : ℕ) → IsCode p m b → IsAlone p m b → rank_at levels m.name ≡ Some level → IsQuietBody p b (frames_of frames m.name) levels level (ranks_of ranks m.name)
   pub loud : (m : Method) (b : Body) → IsCode p m b → IsAlone p m b → m.name < length p.methods → is_on marks m.name ≡ false → IsLoudBody p b (frames_of frames m.name) marks

@@ -1,7 +1,7 @@
 -- Ranks of the nodes of a graph: a node has one where all that it needs have lower ones.
 use Rattle.std.specs.Prelude.{◌≡◌, ◌<◌, ◌&&◌, ℕ, Bool, true, List, length, Option, Some, None, is_some, slice_get, slice_index_or, Contains}
 use Rattle.std.specs.List.{list_all}
-use Rattle.quiet_methods.specs.declared.settle.Node.{Node}
+use Rattle.quiet_methods.specs.declared.ranks.Node.{Node}
 
 -- the rank of a node, none where it has none
 abbrev pub rank_at : List (Option ℕ) → ℕ → Option ℕ

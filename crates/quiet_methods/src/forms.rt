@@ -132,7 +132,7 @@ fn is_plain(insn: &Insn) -> bool
 }
 
 /// How many targets a form has.
-fn count_targets(insn: &Insn) -> usize
+pub(crate) fn count_targets(insn: &Insn) -> usize
     ensures { result ≡ length (targets_of insn.now) }
 {
     match insn {

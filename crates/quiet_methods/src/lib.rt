@@ -16,9 +16,7 @@
 
 mod bodies;
 mod forms;
-mod methods;
-mod settle;
+mod ranks;
 mod ways;
 
-pub use methods::quiet_methods;
-pub use settle::{Node, settle};
+pub use ranks::{Node, settle};

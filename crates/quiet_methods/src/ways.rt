@@ -1,6 +1,6 @@
 //! Where a run goes on behind a form.
 
-ghost use Rattle.std.specs.Prelude.{◌≡◌, ◌<◌, ◌+◌, ◌++◌, ◌^◌, length, is_some, IfOk, OnOk};
+ghost use Rattle.std.specs.Prelude.{◌≡◌, ◌<◌, ◌+◌, ◌++◌, ◌^◌, true, false, length, is_some, IfOk, OnOk};
 ghost use Rattle.insn_set.specs.Flow.{targets_of};
 ghost use Rattle.dom_frame.specs.Steps.{branched, unswitched, switched};
 ghost use Rattle.quiet_methods.specs.Forms.{one_if, cases_upto, switch_ways, branch_ways, ways};

@@ -3,7 +3,7 @@
 ghost use Rattle.std.specs.Prelude.{◌≡◌, ◌<◌, ◌≤◌, ◌^◌, ℕ, true, false, not, length, replicate, None, Some, is_some, IfOk, slice_get};
 ghost use Rattle.std.specs.List.{list_all};
 ghost use Rattle.quiet_methods.specs.Settled.{rank_at, has_rank, is_ready, IsSettled};
-ghost use Rattle.quiet_methods.proofs.Ranking.{AreRanks, IsClosedAt, Turns, Sweeps};
+ghost use Rattle.quiet_methods.specs.Steps.{AreRanks, IsClosedAt, Turns, Sweeps};
 
 use seq::Seq;
 use std::alloc::{AllocError, Global};

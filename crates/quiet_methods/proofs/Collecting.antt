@@ -1,9 +1,10 @@
 -- What is known of the code of each method number, and which methods are quiet by it.
-use Rattle.std.proofs.Common.{◌≡◌, ◌⊎◌, inl, inr, ℕ, zero, suc, ◌+◌, ◌<◌, ◌≤◌, ◌&&◌, Bool, true, false, not, List, [], ◌∷◌, ◌++◌, length, get_or, set, replicate, map, Option, Some, None, is_some, refl, sym, ap, ◌∙◌, subst, arith, rules, length-set, get_or-set_other, get_or-set_same}
+use Rattle.std.proofs.Common.{◌≡◌, ◌⊎◌, inl, inr, ℕ, zero, suc, ◌+◌, ◌<◌, ◌≤◌, ◌&&◌, Bool, true, false, not, List, [], ◌∷◌, ◌++◌, length, get_or, set, take, replicate, map, Option, Some, None, is_some, refl, sym, ap, ◌∙◌, subst, arith, rules, length-set, get_or-set_other, get_or-set_same}
 use Rattle.std.specs.Prelude.{slice_get, slice_index_or, Contains, flat_map, ◌^◌}
 use Rattle.std.specs.List.{list_all}
 use Rattle.std.proofs.lemmas.Bool.{false≢true, cases_eq, cases_lt}
-use Rattle.std.proofs.lemmas.List.{length-replicate, length-map}
+use Rattle.std.proofs.lemmas.List.{length-replicate, length-map, take_more, take_all, append_assoc, append-nil}
+use Rattle.std.proofs.lemmas.Grind.{flat_map-append}
 use Rattle.std.proofs.lemmas.List.Elements.{Contains-append_left, Contains-append_right, Contains-append_cases, Contains-push, Contains-push_cases, Contains-get_or}
 use Rattle.std.proofs.lemmas.Option.{slice_get-get_or, get_or_from_slice_get, slice_get_within}
 use Rattle.insn_set.specs.declared.form.Insn.{Insn}
@@ -18,7 +19,7 @@ use Rattle.quiet_methods.specs.declared.forms.Demand.TheVariants.{Nothing, Call,
 use Rattle.quiet_methods.specs.Settled.{rank_at, has_rank, is_ready, IsLower, IsRank, IsSettled}
 use Rattle.quiet_methods.specs.Bodies.{frame_in, demand_in, ways_in, IsMetBy, IsCalmAt, IsCalledIn, IsLoudSelf, IsOwn}
 use Rattle.quiet_methods.specs.Quiet.{is_on, frames_of, ranks_of, IsCode, IsMet, IsQuietAt, IsQuietBody, IsLoudBody, LoudSelf, CallsLoud, IsAlone, AreQuiet}
-use Rattle.quiet_methods.specs.Owning.{methods_of, node_in, IsEntry, AreOwns}
+use Rattle.quiet_methods.specs.Owning.{methods_of, no_node, node_in, IsEntry, AreOwns}
 use Rattle.quiet_methods.proofs.Judging.{fails_at}
 
 abbrev Frames : Type 0
@@ -94,7 +95,7 @@ noted p frames done m b nodes ranks x rs coded lt own a = record {
 
 -- ---- the beginning
 
-blank_at : (k n : ℕ) → (node_in (replicate k (record { may = false; needs = [] })) n).may ≡ false
+blank_at : (k n : ℕ) → (node_in (replicate k no_node) n).may ≡ false
 blank_at zero n = refl
 blank_at (suc k) zero = refl
 blank_at (suc k) (suc n) = blank_at k n
@@ -102,9 +103,9 @@ blank_at (suc k) (suc n) = blank_at k n
 nothing_in : (m : Method) → Contains [] m → ⊥
 nothing_in m c = omega (arith, c.1)
 
-pub none_yet : (p : Program) (frames : Frames) (ranks : Ranks) → length ranks ≡ length p.methods → AreOwns p frames [] (replicate (length p.methods) (record { may = false; needs = [] })) ranks
+pub none_yet : (p : Program) (frames : Frames) (ranks : Ranks) → length ranks ≡ length p.methods → AreOwns p frames [] (replicate (length p.methods) no_node) ranks
 none_yet p frames ranks long = record {
-  nodes_long = length-replicate (length p.methods) (record { may = false; needs = [] });
+  nodes_long = length-replicate (length p.methods) no_node;
   ranks_long = long;
   entry = λ m b c coded lt. absurd (nothing_in m c);
   only = λ k may. absurd (false≢true (sym (blank_at (length p.methods) k) ∙ may));
@@ -130,7 +131,7 @@ contained : {X : Type 0} (xs : List X) (n : ℕ) (x : X) → slice_get xs n ≡ 
 contained xs n x h = (n, slice_get_within xs n x h, get_or_from_slice_get xs n x x h)
 
 here : (cs : List Class) (m : Method) (at place : ℕ) (class : Class) → slice_get cs at ≡ Some class → slice_get class.methods place ≡ Some m → Contains (methods_of cs) m
-here [] m at place class h g = absurd h
+here [] m at place class h g = absurd (false≢true (ap is_some h))
 here (k ∷ cs) m zero place class h g = Contains-append_left k.methods (methods_of cs) m (subst (λ l. Contains l m) (own k class h) (contained class.methods place m g))
   where
     own : (k class : Class) → Some k ≡ Some class → class.methods ≡ k.methods
@@ -153,7 +154,7 @@ some_of (Some r) h = (r, refl)
 some_of None h = absurd (false≢true h)
 
 none_past : (levels : List (Option ℕ)) (k r : ℕ) → rank_at levels k ≡ Some r → k < length levels
-none_past [] k r h = absurd h
+none_past [] k r h = absurd (false≢true (ap is_some h))
 none_past (o ∷ levels) zero r h = omega arith
 none_past (o ∷ levels) (suc k) r h = omega (arith, none_past levels k r h)
 
@@ -162,7 +163,7 @@ ranked : (nodes : List Node) (levels : List (Option ℕ)) (k r : ℕ) → IsSett
 ranked nodes levels k r s h = s.sound k r (node_in nodes k) (slice_get-get_or nodes k _ (omega (arith, none_past levels k r h, s.long))) h
 
 met : (levels : List (Option ℕ)) (level : ℕ) (x : Node) (d : Demand) → IsRank levels x level → IsMetBy x.needs d → IsMet levels level d
-met levels level x Nothing i h = unit
+met levels level x Nothing i h = tt
 met levels level x (Call m) i h = i.needs m h
 met levels level x Loud i h = absurd h
 
@@ -216,3 +217,30 @@ quiet p frames nodes ranks levels a s = record {
       is_loud p b (frames_of frames m.name) nodes levels (ranks_of ranks m.name) m.name (node_in nodes m.name).may s (omega (arith, lt, a.nodes_long)) (sym (mark_of levels m.name) ∙ off)
           (subst (λ (x : Body). IsOwn p x.insns (frames_of frames m.name) (node_in nodes m.name) (ranks_of ranks m.name)) same.1 e.own) refl;
 }
+
+-- ---- as the loops note it
+
+pub one_more : (p : Program) (frames : Frames) (done ms : List Method) (k : ℕ) (m : Method) (nodes : List Node) (ranks : Ranks) → k < length ms → m ≡ get_or ms k m
+    → AreOwns p frames ((done ++ take k ms) ++ m ∷ []) nodes ranks → AreOwns p frames (done ++ take (k + 1) ms) nodes ranks
+one_more p frames done ms k m nodes ranks lt e a =
+    let more : take k ms ++ m ∷ [] ≡ take (k + 1) ms = ap (λ (x : Method). take k ms ++ x ∷ []) e ∙ sym (take_more ms k m lt) in
+    subst (λ (l : List Method). AreOwns p frames l nodes ranks) (append_assoc done (take k ms) (m ∷ []) ∙ ap (λ (l : List Method). done ++ l) more) a
+
+pub all_noted : (p : Program) (frames : Frames) (done ms : List Method) (k : ℕ) (nodes : List Node) (ranks : Ranks) → length ms ≤ k
+    → AreOwns p frames (done ++ take k ms) nodes ranks → AreOwns p frames (done ++ ms) nodes ranks
+all_noted p frames done ms k nodes ranks le a = subst (λ (l : List Method). AreOwns p frames (done ++ l) nodes ranks) (take_all k ms le) a
+
+pub class_more : (p : Program) (frames : Frames) (cs : List Class) (k : ℕ) (c : Class) (nodes : List Node) (ranks : Ranks) → k < length cs → c ≡ get_or cs k c
+    → AreOwns p frames (methods_of (take k cs) ++ c.methods) nodes ranks → AreOwns p frames (methods_of (take (k + 1) cs)) nodes ranks
+class_more p frames cs k c nodes ranks lt e a =
+    let more : take k cs ++ c ∷ [] ≡ take (k + 1) cs = ap (λ (x : Class). take k cs ++ x ∷ []) e ∙ sym (take_more cs k c lt) in
+    let end : methods_of (c ∷ []) ≡ c.methods = append-nil c.methods in
+    subst (λ (l : List Method). AreOwns p frames l nodes ranks)
+        (ap (λ (l : List Method). methods_of (take k cs) ++ l) (sym end) ∙ sym (flat_map-append (λ (x : Class). x.methods) (take k cs) (c ∷ [])) ∙ ap methods_of more) a
+
+pub classes_noted : (p : Program) (frames : Frames) (cs : List Class) (k : ℕ) (nodes : List Node) (ranks : Ranks) → length cs ≤ k
+    → AreOwns p frames (methods_of (take k cs)) nodes ranks → AreOwns p frames (methods_of cs) nodes ranks
+classes_noted p frames cs k nodes ranks le a = subst (λ (l : List Class). AreOwns p frames (methods_of l) nodes ranks) (take_all k cs le) a
+
+pub begun : (p : Program) (frames : Frames) (done ms : List Method) (nodes : List Node) (ranks : Ranks) → AreOwns p frames done nodes ranks → AreOwns p frames (done ++ take 0 ms) nodes ranks
+begun p frames done ms nodes ranks a = subst (λ (l : List Method). AreOwns p frames l nodes ranks) (sym (append-nil done)) a

@@ -1,9 +1,10 @@
 -- What is known of a body by itself, from its positions.
-use Rattle.std.proofs.Common.{◌≡◌, ◌⊎◌, inl, inr, ℕ, zero, suc, ◌+◌, ◌<◌, ◌≤◌, ◌&&◌, Bool, true, false, not, List, [], ◌∷◌, ◌++◌, length, get_or, Option, Some, None, is_some, refl, sym, ap, ◌∙◌, subst, arith, rules, length-append}
+use Rattle.std.proofs.Common.{◌≡◌, ◌⊎◌, inl, inr, ℕ, zero, suc, ◌+◌, ◌<◌, ◌≤◌, ◌&&◌, Bool, true, false, not, List, [], ◌∷◌, ◌++◌, length, get_or, cond, Option, Some, None, is_some, refl, sym, ap, ◌∙◌, subst, arith, rules, length-append}
 use Rattle.std.specs.Prelude.{slice_get, slice_index_or, Contains, ◌^◌}
 use Rattle.std.specs.List.{list_all}
 use Rattle.std.proofs.lemmas.Bool.{false≢true, cases_eq, cases_lt}
-use Rattle.std.proofs.lemmas.List.Elements.{Contains-append_left, Contains-push, Contains-push_cases, Contains-get_or}
+use Rattle.std.proofs.lemmas.List.Elements.{All-contains, Contains-append_left, Contains-push, Contains-push_cases, Contains-get_or}
+use Rattle.std.proofs.lemmas.List.Sums.{AllPass-from_list_all}
 use Rattle.std.proofs.lemmas.Option.{slice_get-get_or, get_or_from_slice_get, slice_get_within}
 use Rattle.insn_set.specs.declared.form.Insn.{Insn}
 use Rattle.program_model.specs.declared.program.Program.{Program}
@@ -13,6 +14,20 @@ use Rattle.quiet_methods.specs.declared.forms.Demand.{Demand}
 use Rattle.quiet_methods.specs.declared.forms.Demand.TheVariants.{Nothing, Call, Loud}
 use Rattle.quiet_methods.specs.Settled.{rank_at, has_rank, is_ready, IsLower, IsRank, IsSettled}
 use Rattle.quiet_methods.specs.Bodies.{frame_in, demand_in, ways_in, node_of, nodes_upto, with_demand, demand_of, calls_upto, IsRanked, IsMetBy, IsCalmAt, IsLoudAt, IsCalledIn, IsCircling, IsLoudSelf, LoudAt, Circles, TooLong, IsOwn}
+
+nothing_below : (n : ℕ) → n < 0 → ⊥
+nothing_below n lt = omega (arith, lt)
+
+none_called : (m : ℕ) → Contains [] m → ⊥
+none_called m c = omega (arith, c.1)
+
+abbrev is_loud : Demand → Bool
+is_loud Loud = true
+is_loud d = false
+
+abbrev is_call : Demand → Bool
+is_call (Call m) = true
+is_call d = false
 
 -- ---- demands, one after another
 
@@ -28,8 +43,8 @@ same_list a b h = search rules
 collected : (o : Option (List ℕ)) (d : Demand) (calls : List ℕ) → with_demand o d ≡ Some calls → Collected o d calls
 collected (Some b) Nothing calls h = record { before = b; is = refl; how = inl (refl, same_list b calls h) }
 collected (Some b) (Call m) calls h = record { before = b; is = refl; how = inr (m, refl, same_list (b ++ m ∷ []) calls h) }
-collected (Some b) Loud calls h = absurd h
-collected None d calls h = absurd h
+collected (Some b) Loud calls h = absurd (false≢true (ap is_some h))
+collected None d calls h = absurd (false≢true (ap is_some h))
 
 met_more : (calls more : List ℕ) (d : Demand) → IsMetBy calls d → IsMetBy (calls ++ more) d
 met_more calls more Nothing h = h
@@ -44,13 +59,13 @@ met_after o d e calls c h = elim c.how [
 
 met_now : (o : Option (List ℕ)) (d : Demand) (calls : List ℕ) → Collected o d calls → IsMetBy calls d
 met_now o d calls c = elim c.how [
-  | inl w ↦ subst (IsMetBy calls) (sym w.0) unit
+  | inl w ↦ subst (IsMetBy calls) (sym w.0) tt
   | inr w ↦ subst (IsMetBy calls) (sym w.1) (subst (λ l. Contains l w.0) (sym w.2) (Contains-push c.before w.0))
 ]
 
 pub met : (p : Program) (is : List Insn) (fs : List (Option Frame)) (k : ℕ) (calls : List ℕ) → calls_upto p is fs k ≡ Some calls → (n : ℕ) (i : Insn) → n < k → slice_get is n ≡ Some i
     → IsMetBy calls (demand_in p (frame_in fs n) i)
-met p is fs zero calls h n i lt at = omega (arith, lt)
+met p is fs zero calls h n i lt at = absurd (nothing_below n lt)
 met p is fs (suc k) calls h n i lt at =
     let c : Collected (calls_upto p is fs k) (demand_of p (frame_in fs k) (slice_get is k)) calls = collected (calls_upto p is fs k) (demand_of p (frame_in fs k) (slice_get is k)) calls h in
     elim (cases_eq n k) [
@@ -63,17 +78,14 @@ met p is fs (suc k) calls h n i lt at =
 -- a form with a demand stands there
 form_there : (p : Program) (o : Option Frame) (f : Option Insn) (m : ℕ) → demand_of p o f ≡ Call m → (i : Insn) × (f ≡ Some i) × (demand_in p o i ≡ Call m)
 form_there p o (Some i) m h = (i, refl, h)
-form_there p o None m h = absurd h
+form_there p o None m h = absurd (false≢true (ap is_call h))
 
 loud_there : (p : Program) (o : Option Frame) (f : Option Insn) → demand_of p o f ≡ Loud → (i : Insn) × (f ≡ Some i) × (demand_in p o i ≡ Loud)
 loud_there p o (Some i) h = (i, refl, h)
-loud_there p o None h = absurd h
+loud_there p o None h = absurd (false≢true (ap is_loud h))
 
 pub called : (p : Program) (is : List Insn) (fs : List (Option Frame)) (k : ℕ) (calls : List ℕ) → calls_upto p is fs k ≡ Some calls → (m : ℕ) → Contains calls m → IsCalledIn p is fs m
-called p is fs zero calls h m c = none_there (subst (λ l. Contains l m) (same_list [] calls h) c)
-  where
-    none_there : Contains [] m → IsCalledIn p is fs m
-    none_there c = omega (arith, c.1)
+called p is fs zero calls h m c = absurd (none_called m (subst (λ (l : List ℕ). Contains l m) (same_list [] calls h) c))
 called p is fs (suc k) calls h m c =
     let w : Collected (calls_upto p is fs k) (demand_of p (frame_in fs k) (slice_get is k)) calls = collected (calls_upto p is fs k) (demand_of p (frame_in fs k) (slice_get is k)) calls h in
     elim w.how [
@@ -88,12 +100,12 @@ called p is fs (suc k) calls h m c =
 
 lost : (o : Option (List ℕ)) (d : Demand) → with_demand o d ≡ None → (o ≡ None) ⊎ (d ≡ Loud)
 lost None d h = inl refl
-lost (Some b) Nothing h = absurd h
-lost (Some b) (Call m) h = absurd h
+lost (Some b) Nothing h = absurd (false≢true (ap is_some (sym h)))
+lost (Some b) (Call m) h = absurd (false≢true (ap is_some (sym h)))
 lost (Some b) Loud h = inr refl
 
 pub loud_found : (p : Program) (is : List Insn) (fs : List (Option Frame)) (k : ℕ) → calls_upto p is fs k ≡ None → IsLoudAt p is fs
-loud_found p is fs zero h = absurd h
+loud_found p is fs zero h = absurd (false≢true (ap is_some (sym h)))
 loud_found p is fs (suc k) h = elim (lost (calls_upto p is fs k) (demand_of p (frame_in fs k) (slice_get is k)) h) [
   | inl before ↦ loud_found p is fs k before
   | inr now ↦
@@ -103,7 +115,7 @@ loud_found p is fs (suc k) h = elim (lost (calls_upto p is fs k) (demand_of p (f
 
 -- what is lost stays lost
 pub lost_on : (p : Program) (is : List Insn) (fs : List (Option Frame)) (n k : ℕ) → k ≤ n → calls_upto p is fs k ≡ None → calls_upto p is fs n ≡ None
-lost_on p is fs zero k le h = ap (calls_upto p is fs) (omega (arith, le)) ∙ h
+lost_on p is fs zero k le h = let e : zero ≡ k = omega (arith, le) in ap (calls_upto p is fs) e ∙ h
 lost_on p is fs (suc n) k le h = elim (cases_eq k (suc n)) [
   | inl e ↦ ap (calls_upto p is fs) (sym e) ∙ h
   | inr other ↦ ap (λ o. with_demand o (demand_of p (frame_in fs n) (slice_get is n))) (lost_on p is fs n k (omega (arith, le, other)) h)
@@ -120,12 +132,12 @@ node_there [] x = refl
 node_there (y ∷ xs) x = node_there xs x
 
 node_stays : (xs ys : List Node) (n : ℕ) → n < length xs → slice_get (xs ++ ys) n ≡ slice_get xs n
-node_stays [] ys n lt = omega (arith, lt)
+node_stays [] ys n lt = absurd (nothing_below n lt)
 node_stays (x ∷ xs) ys zero lt = refl
 node_stays (x ∷ xs) ys (suc n) lt = node_stays xs ys n (omega (arith, lt))
 
 pub node_at : (is : List Insn) (fs : List (Option Frame)) (k n : ℕ) → n < k → slice_get (nodes_upto is fs k) n ≡ Some (node_of (frame_in fs n) (slice_get is n) n)
-node_at is fs zero n lt = omega (arith, lt)
+node_at is fs zero n lt = absurd (nothing_below n lt)
 node_at is fs (suc k) n lt = elim (cases_eq n k) [
   | inl e ↦
       (let at : n ≡ length (nodes_upto is fs k) = e ∙ sym (nodes_long is fs k) in
@@ -140,25 +152,16 @@ form_node is fs n i at = node_at is fs (length is) n (slice_get_within is n i at
 -- ---- tests on all of a list
 
 pub passes_at : {X : Type 0} (f : X → Bool) (xs : List X) (n : ℕ) (d : X) → list_all f xs ≡ true → n < length xs → f (get_or xs n d) ≡ true
-passes_at f [] n d h lt = omega (arith, lt)
-passes_at f (x ∷ xs) zero d h lt = both_first (f x) (list_all f xs) h
-  where
-    both_first : (a b : Bool) → (a && b) ≡ true → a ≡ true
-    both_first true b h = refl
-    both_first false b h = absurd (false≢true h)
-passes_at f (x ∷ xs) (suc n) d h lt = passes_at f xs n d (both_second (f x) (list_all f xs) h) (omega (arith, lt))
-  where
-    both_second : (a b : Bool) → (a && b) ≡ true → b ≡ true
-    both_second true b h = h
-    both_second false b h = absurd (false≢true h)
+passes_at f xs n d h lt = All-contains (λ y. f y ≡ true) xs (get_or xs n d) (AllPass-from_list_all f xs h) (Contains-get_or xs n d lt)
+
+fails_step : {X : Type 0} (f : X → Bool) (x : X) (xs : List X) (d : X) (b : Bool) → f x ≡ b → list_all f (x ∷ xs) ≡ false
+    → (list_all f xs ≡ false → (n : ℕ) × (n < length xs) × (f (get_or xs n d) ≡ false)) → (n : ℕ) × (n < length (x ∷ xs)) × (f (get_or (x ∷ xs) n d) ≡ false)
+fails_step f x xs d false e h ih = (0, omega arith, e)
+fails_step f x xs d true e h ih = let w : (n : ℕ) × (n < length xs) × (f (get_or xs n d) ≡ false) = ih (sym (ap (λ c. c && list_all f xs) e) ∙ h) in (suc w.0, omega (arith, w.1), w.2)
 
 pub fails_at : {X : Type 0} (f : X → Bool) (xs : List X) (d : X) → list_all f xs ≡ false → (n : ℕ) × (n < length xs) × (f (get_or xs n d) ≡ false)
 fails_at f [] d h = absurd (false≢true (sym h))
-fails_at f (x ∷ xs) d h = next (f x) refl
-  where
-    next : (b : Bool) → f x ≡ b → (n : ℕ) × (n < length (x ∷ xs)) × (f (get_or (x ∷ xs) n d) ≡ false)
-    next false e = (0, omega arith, e)
-    next true e = let w : (n : ℕ) × (n < length xs) × (f (get_or xs n d) ≡ false) = fails_at f xs d (sym (ap (λ c. c && list_all f xs) e) ∙ h) in (w.0 + 1, omega (arith, w.1), w.2)
+fails_at f (x ∷ xs) d h = fails_step f x xs d (f x) refl h (λ g. fails_at f xs d g)
 
 -- ---- what is known of a body by itself
 
@@ -207,12 +210,28 @@ own p is fs calls node ranks c r = record {
   loud = λ off. Circles (circling is fs ranks r.settled (sym r.may ∙ off));
 }
 
-none_called : (m : ℕ) → Contains [] m → ⊥
-none_called m c = omega (arith, c.1)
-
 pub loud_own : (p : Program) (is : List Insn) (fs : List (Option Frame)) (node : Node) (ranks : List (Option ℕ)) → node ≡ record { may = false; needs = [] } → IsLoudSelf p is fs → IsOwn p is fs node ranks
 loud_own p is fs node ranks e h = record {
   calm = λ may n i at. absurd (false≢true (sym (ap (λ (x : Node). x.may) e) ∙ may));
   called = λ m c. absurd (none_called m (subst (λ l. Contains l m) (ap (λ (x : Node). x.needs) e) c));
   loud = λ off. h;
 }
+
+-- ---- as the loops collect it
+
+form_at : (is : List Insn) (k : ℕ) (i : Insn) → k < length is → i ≡ get_or is k i → slice_get is k ≡ Some i
+form_at is k i lt e = slice_get-get_or is k i lt ∙ ap Some (sym e)
+
+pub call_more : (p : Program) (is : List Insn) (fs : List (Option Frame)) (k : ℕ) (i : Insn) (calls calls' : List ℕ) (d : Demand) (b : Bool) → k < length is → i ≡ get_or is k i
+    → Some calls ≡ calls_upto p is fs k → d ≡ demand_in p (frame_in fs k) i → cond b (Some calls') None ≡ with_demand (Some calls) d → b ≡ true → Some calls' ≡ calls_upto p is fs (k + 1)
+call_more p is fs k i calls calls' d b lt e before h step on =
+    let now : with_demand (Some calls) d ≡ calls_upto p is fs (suc k) = ap (with_demand (Some calls)) (h ∙ ap (demand_of p (frame_in fs k)) (sym (form_at is k i lt e))) ∙ ap (λ o. with_demand o (demand_of p (frame_in fs k) (slice_get is k))) before in
+    let next : suc k ≡ k + 1 = omega arith in
+    subst (λ m. Some calls' ≡ calls_upto p is fs m) next (sym (ap (λ c. cond c (Some calls') None) on) ∙ step ∙ now)
+
+pub call_lost : (p : Program) (is : List Insn) (fs : List (Option Frame)) (k : ℕ) (i : Insn) (calls calls' : List ℕ) (d : Demand) (b : Bool) → k < length is → i ≡ get_or is k i
+    → Some calls ≡ calls_upto p is fs k → d ≡ demand_in p (frame_in fs k) i → cond b (Some calls') None ≡ with_demand (Some calls) d → b ≡ false → None ≡ calls_upto p is fs (length is)
+call_lost p is fs k i calls calls' d b lt e before h step off =
+    let now : with_demand (Some calls) d ≡ calls_upto p is fs (suc k) = ap (with_demand (Some calls)) (h ∙ ap (demand_of p (frame_in fs k)) (sym (form_at is k i lt e))) ∙ ap (λ o. with_demand o (demand_of p (frame_in fs k) (slice_get is k))) before in
+    let none : calls_upto p is fs (suc k) ≡ None = sym now ∙ sym step ∙ ap (λ c. cond c (Some calls') None) off in
+    sym (lost_on p is fs (length is) (suc k) (omega (arith, lt)) none)

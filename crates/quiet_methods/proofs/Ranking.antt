@@ -4,8 +4,9 @@ use Rattle.std.specs.Prelude.{slice_get, slice_index_or, Contains}
 use Rattle.std.specs.List.{sum_by, list_all}
 use Rattle.std.proofs.lemmas.Bool.{false≢true, cases_eq, cases_lt}
 use Rattle.std.proofs.lemmas.List.{length-replicate}
-use Rattle.std.proofs.lemmas.List.Sums.{sum_by-set}
-use Rattle.std.proofs.lemmas.Option.{slice_get_within}
+use Rattle.std.proofs.lemmas.List.Sums.{sum_by-cons, sum_by-set, AllPass-from_list_all}
+use Rattle.std.proofs.lemmas.List.Elements.{All-contains}
+use Rattle.std.proofs.lemmas.Option.{slice_get_within, slice_get-get_or}
 use Rattle.quiet_methods.specs.declared.ranks.Node.{Node}
 use Rattle.quiet_methods.specs.Settled.{rank_at, has_rank, is_ready, IsLower, IsRank, IsSettled}
 use Rattle.quiet_methods.specs.Steps.{blank, AreRanks, IsClosedAt, Turns, Sweeps}
@@ -13,7 +14,7 @@ use Rattle.quiet_methods.specs.Steps.{blank, AreRanks, IsClosedAt, Turns, Sweeps
 -- ---- one rank more
 
 none_ranked : (o : Option ℕ) (r : ℕ) → o ≡ None → o ≡ Some r → ⊥
-none_ranked o r e f = absurd (sym e ∙ f)
+none_ranked o r e f = false≢true (ap is_some (sym e ∙ f))
 
 -- a rank that was given stays
 stays : (ranks : List (Option ℕ)) (n t s : ℕ) (v : Option ℕ) → rank_at ranks n ≡ None → rank_at ranks t ≡ Some s → rank_at (set ranks n v) t ≡ Some s
@@ -35,7 +36,7 @@ both_true true false h = absurd (false≢true h)
 both_true false b h = absurd (false≢true h)
 
 all_in : (f : ℕ → Bool) (xs : List ℕ) (x : ℕ) → list_all f xs ≡ true → Contains xs x → f x ≡ true
-all_in f xs x h c = search rules
+all_in f xs x h c = All-contains (λ y. f y ≡ true) xs x (AllPass-from_list_all f xs h) c
 
 ready_rank : (nodes : List Node) (ranks : List (Option ℕ)) (next : ℕ) (x : Node) → AreRanks nodes ranks next → is_ready ranks x ≡ true → IsRank ranks x next
 ready_rank nodes ranks next x a h =
@@ -90,14 +91,14 @@ none_yet (suc k) (suc n) = none_yet k n
 
 all_blank : (k : ℕ) → sum_by blank (replicate k None) ≡ k
 all_blank zero = refl
-all_blank (suc k) = omega (arith, all_blank k)
+all_blank (suc k) = omega (arith, all_blank k, sum_by-cons blank None (replicate k None))
 
 pub no_ranks : (nodes : List Node) → AreRanks nodes (replicate (length nodes) None) 0
 no_ranks nodes = record {
   long = length-replicate (length nodes) None;
-  below = λ n r h. absurd (sym (none_yet (length nodes) n) ∙ h);
-  sound = λ n r x at h. absurd (sym (none_yet (length nodes) n) ∙ h);
-  count = all_blank (length nodes);
+  below = λ n r h. absurd (false≢true (ap is_some (sym (none_yet (length nodes) n) ∙ h)));
+  sound = λ n r x at h. absurd (false≢true (ap is_some (sym (none_yet (length nodes) n) ∙ h)));
+  count = omega (arith, all_blank (length nodes));
 }
 
 -- ---- the end
@@ -108,4 +109,51 @@ settled nodes ranks next a h = record {
   short = λ n r e. omega (arith, a.below n r e, a.count);
   sound = a.sound;
   closed = λ n x at ready. (h n (slice_get_within nodes n x at)).closed x at ready;
+}
+
+-- ---- turns
+
+pub turned : (nodes : List Node) (ranks : List (Option ℕ)) (next n : ℕ) (x : Node) → AreRanks nodes ranks next → n < length nodes → x ≡ get_or nodes n x → rank_at ranks n ≡ None → is_ready ranks x ≡ true
+    → AreRanks nodes (set ranks n (Some next)) (next + 1)
+turned nodes ranks next n x a lt e free ready = given nodes ranks next n x a (slice_get-get_or nodes n x lt ∙ ap Some (sym e)) free ready
+
+pub turns_now : (nodes : List Node) (ranks ranks' : List (Option ℕ)) (next n : ℕ) → Turns nodes n ranks next ranks' (next + 1)
+turns_now nodes ranks ranks' next n = record { grows = omega arith; still = λ e. absurd (grown e); closed = λ e. absurd (grown e) }
+  where
+    grown : next + 1 ≡ next → ⊥
+    grown e = omega (arith, e)
+
+closed_by : (nodes : List Node) (ranks : List (Option ℕ)) (n : ℕ) → (is_some (rank_at ranks n) ≡ true) ⊎ ((x : Node) → slice_get nodes n ≡ Some x → is_ready ranks x ≡ false) → IsClosedAt nodes n ranks
+closed_by nodes ranks n h = record { closed = λ x at ready. elim h [ inl on ↦ on | inr off ↦ absurd (false≢true (sym (off x at) ∙ ready)) ] }
+
+pub turns_ranked : (nodes : List Node) (ranks : List (Option ℕ)) (next n : ℕ) → is_some (rank_at ranks n) ≡ true → Turns nodes n ranks next ranks next
+turns_ranked nodes ranks next n on = record { grows = omega arith; still = λ e. refl; closed = λ e. closed_by nodes ranks n (inl on) }
+
+same_node : (x y : Node) → Some x ≡ Some y → x ≡ y
+same_node x y h = search rules
+
+pub turns_unready : (nodes : List Node) (ranks : List (Option ℕ)) (next n : ℕ) (x : Node) → n < length nodes → x ≡ get_or nodes n x → is_ready ranks x ≡ false → Turns nodes n ranks next ranks next
+turns_unready nodes ranks next n x lt e off = record {
+  grows = omega arith;
+  still = λ h. refl;
+  closed = λ h. closed_by nodes ranks n (inr (λ y at. ap (is_ready ranks) (same_node y x (sym at ∙ slice_get-get_or nodes n x lt ∙ ap Some (sym e))) ∙ off));
+}
+
+pub sweeps_none : (nodes : List Node) (ranks : List (Option ℕ)) (next : ℕ) → Sweeps nodes 0 next ranks next
+sweeps_none nodes ranks next = record { grows = omega arith; closed = λ e n lt past. absurd (never n lt past) }
+  where
+    never : (n : ℕ) → n < length nodes → length nodes ≤ n + 0 → ⊥
+    never n lt past = omega (arith, lt, past)
+
+pub sweeps_on : (nodes : List Node) (k place first next next' : ℕ) (ranks ranks' : List (Option ℕ)) → k < length nodes → place + k + 1 ≡ length nodes → Sweeps nodes k first ranks next
+    → Turns nodes place ranks next ranks' next' → Sweeps nodes (k + 1) first ranks' next'
+sweeps_on nodes k place first next next' ranks ranks' lt at s t = record {
+  grows = omega (arith, s.grows, t.grows);
+  closed = λ e n inside past.
+      let old : next ≡ first = omega (arith, s.grows, t.grows, e) in
+      let same : next' ≡ next = omega (arith, s.grows, t.grows, e) in
+      elim (cases_eq n place) [
+        | inl here ↦ subst (λ m. IsClosedAt nodes m ranks') (sym here) (t.closed same)
+        | inr other ↦ subst (IsClosedAt nodes n) (sym (t.still same)) (s.closed old n inside (omega (arith, past, other, at)))
+      ];
 }

@@ -12,8 +12,12 @@ use Rattle.quiet_methods.specs.Quiet.{frames_of, ranks_of}
 abbrev pub methods_of : List Class → List Method
 methods_of classes = flat_map (λ c. c.methods) classes
 
+-- a node that has no rank
+abbrev pub no_node : Node
+no_node = record { may = false; needs = [] }
+
 abbrev pub node_in : List Node → ℕ → Node
-node_in nodes k = slice_index_or nodes k (record { may = false; needs = [] })
+node_in nodes k = slice_index_or nodes k no_node
 
 -- a method with code has the number, and what is known by itself is of its code
 pub record IsEntry (p : Program) (frames : List (List (Option Frame))) (done : List Method) (nodes : List Node) (ranks : List (List (Option ℕ))) (k : ℕ) : Type 0 where

@@ -16,7 +16,9 @@
 
 mod bodies;
 mod forms;
+mod methods;
 mod ranks;
 mod ways;
 
+pub use methods::quiet_methods;
 pub use ranks::{Node, settle};

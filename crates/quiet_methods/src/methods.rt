@@ -4,7 +4,7 @@ ghost use Rattle.std.specs.Prelude.{◌≡◌, ◌<◌, ◌^◌, ◌++◌, ◌�
 ghost use Rattle.program_model.specs.declared.program.Method.{Method};
 ghost use Rattle.hierarchy.specs.Shapes.{IsResolved};
 ghost use Rattle.quiet_methods.specs.Quiet.{frames_of, AreQuiet};
-ghost use Rattle.quiet_methods.specs.Owning.{AreOwns, methods_of};
+ghost use Rattle.quiet_methods.specs.Owning.{AreOwns, methods_of, no_node};
 
 use crate::bodies::Own;
 use crate::forms::Search;
@@ -34,7 +34,7 @@ fn frames_of(frames: &[Seq<Option<Frame>>], number: u32) -> &[Option<Frame>]
 
 /// So many nodes that may have no rank.
 fn no_nodes(alloc: Global, count: usize) -> Result<Vec<Node>, AllocError>
-    ensures { IfOk result (λ v. v.items ≡ replicate count (record { may = false; needs = [] })) }
+    ensures { IfOk result (λ v. v.items ≡ replicate count no_node) }
 {
     let mut nodes = Vec::with_capacity(alloc, count)?;
     for _ in 0..count {

@@ -36,12 +36,7 @@ fn has_rank(ranks: &[Option<u32>], node: u32) -> bool
 fn have_ranks(ranks: &[Option<u32>], nodes: &[u32]) -> bool
     ensures { result ≡ list_all (has_rank ranks.now) nodes.now }
 {
-    for node in nodes {
-        if !has_rank(ranks, *node) {
-            return false;
-        }
-    }
-    true
+    nodes.iter().all(|node| has_rank(ranks, *node))
 }
 
 /// Whether a node may have a rank, and all that it needs have one.

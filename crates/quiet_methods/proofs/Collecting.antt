@@ -201,7 +201,7 @@ pub quiet : (p : Program) (frames : Frames) (nodes : List Node) (ranks : Ranks) 
 quiet p frames nodes ranks levels a s = record {
   levels = levels;
   ranks = ranks;
-  long = length-map is_some levels ∙ s.long ∙ a.nodes_long;
+  long = length-map levels is_some ∙ s.long ∙ a.nodes_long;
   marked = mark_of levels;
   coded = λ k on.
       let r : (r : ℕ) × (rank_at levels k ≡ Some r) = some_of (rank_at levels k) (sym (mark_of levels k) ∙ on) in
@@ -244,3 +244,19 @@ classes_noted p frames cs k nodes ranks le a = subst (λ (l : List Class). AreOw
 
 pub begun : (p : Program) (frames : Frames) (done ms : List Method) (nodes : List Node) (ranks : Ranks) → AreOwns p frames done nodes ranks → AreOwns p frames (done ++ take 0 ms) nodes ranks
 begun p frames done ms nodes ranks a = subst (λ (l : List Method). AreOwns p frames l nodes ranks) (sym (append-nil done)) a
+
+pub noted_as : (p : Program) (frames : Frames) (done : List Method) (m : Method) (b : Body) (nodes nodes' : List Node) (ranks ranks' : Ranks) (number : ℕ) (x : Node) (rs : List (Option ℕ)) (is : List Insn)
+    (fs : List (Option Frame)) → m.body ≡ Some b → m.name ≡ number → number < length p.methods → is ≡ b.insns → fs ≡ frames_of frames number → IsOwn p is fs x rs → AreOwns p frames done nodes ranks
+    → nodes' ≡ set nodes number x → ranks' ≡ set ranks number rs → AreOwns p frames (done ++ m ∷ []) nodes' ranks'
+noted_as p frames done m b nodes nodes' ranks ranks' number x rs is fs coded name lt ei ef own a en er =
+    let one : IsOwn p b.insns fs x rs = subst (λ (l : List Insn). IsOwn p l fs x rs) ei own in
+    let two : IsOwn p b.insns (frames_of frames m.name) x rs = subst (λ (l : List (Option Frame)). IsOwn p b.insns l x rs) (ef ∙ ap (frames_of frames) (sym name)) one in
+    let all : AreOwns p frames (done ++ m ∷ []) (set nodes m.name x) (set ranks m.name rs) = noted p frames done m b nodes ranks x rs coded (subst (λ k. k < length p.methods) (sym name) lt) two a in
+    let n : set nodes m.name x ≡ nodes' = ap (λ k. set nodes k x) name ∙ sym en in
+    let r : set ranks m.name rs ≡ ranks' = ap (λ k. set ranks k rs) name ∙ sym er in
+    subst (λ (l : Ranks). AreOwns p frames (done ++ m ∷ []) nodes' l) r (subst (λ (l : List Node). AreOwns p frames (done ++ m ∷ []) l (set ranks m.name rs)) n all)
+
+pub marked : (p : Program) (frames : Frames) (nodes nodes' : List Node) (ranks : Ranks) (levels levels' : List (Option ℕ)) (marks : List Bool) → AreOwns p frames (methods_of p.classes) nodes ranks
+    → nodes' ≡ nodes → IsSettled nodes' levels → levels' ≡ levels → marks ≡ map is_some levels' → AreQuiet p frames marks
+marked p frames nodes nodes' ranks levels levels' marks a en s el em =
+    subst (AreQuiet p frames) (sym (em ∙ ap (map is_some) el)) (quiet p frames nodes ranks levels a (subst (λ (l : List Node). IsSettled l levels) en s))

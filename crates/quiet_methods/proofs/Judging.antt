@@ -1,6 +1,7 @@
 -- What is known of a body by itself, from its positions.
 use Rattle.std.proofs.Common.{◌≡◌, ◌⊎◌, inl, inr, ℕ, zero, suc, ◌+◌, ◌<◌, ◌≤◌, ◌&&◌, Bool, true, false, not, List, [], ◌∷◌, ◌++◌, length, get_or, cond, Option, Some, None, is_some, refl, sym, ap, ◌∙◌, subst, arith, rules, length-append}
-use Rattle.std.specs.Prelude.{slice_get, slice_index_or, Contains, ◌^◌}
+use Rattle.std.proofs.Common.{Result, Ok, Err}
+use Rattle.std.specs.Prelude.{IfOk, slice_get, slice_index_or, Contains, ◌^◌}
 use Rattle.std.specs.List.{list_all}
 use Rattle.std.proofs.lemmas.Bool.{false≢true, cases_eq, cases_lt}
 use Rattle.std.proofs.lemmas.List.Elements.{All-contains, Contains-append_left, Contains-push, Contains-push_cases, Contains-get_or}
@@ -235,3 +236,7 @@ call_lost p is fs k i calls calls' d b lt e before h step off =
     let now : with_demand (Some calls) d ≡ calls_upto p is fs (suc k) = ap (with_demand (Some calls)) (h ∙ ap (demand_of p (frame_in fs k)) (sym (form_at is k i lt e))) ∙ ap (λ o. with_demand o (demand_of p (frame_in fs k) (slice_get is k))) before in
     let none : calls_upto p is fs (suc k) ≡ None = sym now ∙ sym step ∙ ap (λ c. cond c (Some calls') None) off in
     sym (lost_on p is fs (length is) (suc k) (omega (arith, lt)) none)
+
+pub if_ok : {A E : Type 0} (P Q : A → Type 0) (r : Result A E) → ((a : A) → P a → Q a) → IfOk r P → IfOk r Q
+if_ok P Q (Ok a) f h = f a h
+if_ok P Q (Err e) f h = h

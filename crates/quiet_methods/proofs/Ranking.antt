@@ -3,7 +3,7 @@ use Rattle.std.proofs.Common.{◌≡◌, ◌⊎◌, inl, inr, ℕ, zero, suc, �
 use Rattle.std.specs.Prelude.{slice_get, slice_index_or, Contains}
 use Rattle.std.specs.List.{sum_by, list_all}
 use Rattle.std.proofs.lemmas.Bool.{false≢true, cases_eq, cases_lt}
-use Rattle.std.proofs.lemmas.List.{length-replicate}
+use Rattle.std.proofs.lemmas.List.{length-replicate, get_or_default}
 use Rattle.std.proofs.lemmas.List.Sums.{sum_by-cons, sum_by-set, AllPass-from_list_all}
 use Rattle.std.proofs.lemmas.List.Elements.{All-contains}
 use Rattle.std.proofs.lemmas.Option.{slice_get_within, slice_get-get_or}
@@ -157,3 +157,18 @@ sweeps_on nodes k place first next next' ranks ranks' lt at s t = record {
         | inr other ↦ subst (IsClosedAt nodes n) (sym (t.still same)) (s.closed old n inside (omega (arith, past, other, at)))
       ];
 }
+
+-- ---- what the code reads
+
+none_of : (o : Option ℕ) → is_some o ≡ false → o ≡ None
+none_of (Some r) h = absurd (false≢true (sym h))
+none_of None h = refl
+
+pub free_at : (ranks : List (Option ℕ)) (n : ℕ) (o : Option ℕ) (b : Bool) → n < length ranks → o ≡ get_or ranks n o → is_some o ≡ not b → b ≡ true → rank_at ranks n ≡ None
+free_at ranks n o b lt e h on = get_or_default ranks n None o lt ∙ sym e ∙ none_of o (h ∙ ap not on)
+
+pub ranked_at : (ranks : List (Option ℕ)) (n : ℕ) (o : Option ℕ) (b : Bool) → n < length ranks → o ≡ get_or ranks n o → is_some o ≡ not b → b ≡ false → is_some (rank_at ranks n) ≡ true
+ranked_at ranks n o b lt e h off = ap is_some (get_or_default ranks n None o lt ∙ sym e) ∙ h ∙ ap not off
+
+pub ready_of : (ranks rs : List (Option ℕ)) (x : Node) (b v : Bool) → rs ≡ ranks → b ≡ is_ready rs x → b ≡ v → is_ready ranks x ≡ v
+ready_of ranks rs x b v e h is = ap (λ l. is_ready l x) (sym e) ∙ sym h ∙ is

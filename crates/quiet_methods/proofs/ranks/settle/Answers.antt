@@ -3,7 +3,8 @@ use Rattle.std.specs.List.{list_all}
 use Rattle.quiet_methods.specs.Settled.{rank_at, has_rank, is_ready, IsSettled}
 use Rattle.quiet_methods.specs.Steps.{AreRanks, IsClosedAt, Turns, Sweeps}
 use Rattle.quiet_methods.proofs.ranks.settle.Goals as goal
+use Rattle.quiet_methods.proofs.Ranking.{settled}
 
 -- src/ranks.rt:86:1
 pub returns : goal.returns
-returns c = ?
+returns c = settled c.args.nodes.now c.loop-open.ranks.given.items c.loop-open.ranks.next c.loop-open.invariant.ranks (c.loop-open.invariant.closed c.loop-open-test.false)

@@ -194,7 +194,7 @@ is_loud : (p : Program) (b : Body) (fs : List (Option Frame)) (nodes : List Node
 is_loud p b fs nodes levels rs k false s lt off own e = LoudSelf (own.loud e)
 is_loud p b fs nodes levels rs k true s lt off own e =
     loud_calls p b fs levels (node_in nodes k) rs own
-        (unready (node_in nodes k).may (list_all (has_rank levels) (node_in nodes k).needs) (λ ready. false≢true (sym off ∙ s.closed k (node_in nodes k) (slice_get-get_or nodes k _ lt) ready)) e)
+    (unready (node_in nodes k).may (list_all (has_rank levels) (node_in nodes k).needs) (λ ready. false≢true (sym off ∙ s.closed k (node_in nodes k) (slice_get-get_or nodes k _ lt) ready)) e)
 
 pub quiet : (p : Program) (frames : Frames) (nodes : List Node) (ranks : Ranks) (levels : List (Option ℕ)) → AreOwns p frames (methods_of p.classes) nodes ranks → IsSettled nodes levels
     → AreQuiet p frames (map is_some levels)
@@ -215,7 +215,7 @@ quiet p frames nodes ranks levels a s = record {
       let e : IsEntry p frames (methods_of p.classes) nodes ranks m.name = a.entry m b (here p.classes m code.at code.place code.class code.defines code.there) code.coded lt in
       let same : (e.method ≡ m) × (e.body ≡ b) = alone e.method e.body (code_of p e.method e.body e.in_done e.coded) e.name in
       is_loud p b (frames_of frames m.name) nodes levels (ranks_of ranks m.name) m.name (node_in nodes m.name).may s (omega (arith, lt, a.nodes_long)) (sym (mark_of levels m.name) ∙ off)
-          (subst (λ (x : Body). IsOwn p x.insns (frames_of frames m.name) (node_in nodes m.name) (ranks_of ranks m.name)) same.1 e.own) refl;
+      (subst (λ (x : Body). IsOwn p x.insns (frames_of frames m.name) (node_in nodes m.name) (ranks_of ranks m.name)) same.1 e.own) refl;
 }
 
 -- ---- as the loops note it
@@ -236,7 +236,7 @@ class_more p frames cs k c nodes ranks lt e a =
     let more : take k cs ++ c ∷ [] ≡ take (k + 1) cs = ap (λ (x : Class). take k cs ++ x ∷ []) e ∙ sym (take_more cs k c lt) in
     let end : methods_of (c ∷ []) ≡ c.methods = append-nil c.methods in
     subst (λ (l : List Method). AreOwns p frames l nodes ranks)
-        (ap (λ (l : List Method). methods_of (take k cs) ++ l) (sym end) ∙ sym (flat_map-append (λ (x : Class). x.methods) (take k cs) (c ∷ [])) ∙ ap methods_of more) a
+    (ap (λ (l : List Method). methods_of (take k cs) ++ l) (sym end) ∙ sym (flat_map-append (λ (x : Class). x.methods) (take k cs) (c ∷ [])) ∙ ap methods_of more) a
 
 pub classes_noted : (p : Program) (frames : Frames) (cs : List Class) (k : ℕ) (nodes : List Node) (ranks : Ranks) → length cs ≤ k
     → AreOwns p frames (methods_of (take k cs)) nodes ranks → AreOwns p frames (methods_of cs) nodes ranks

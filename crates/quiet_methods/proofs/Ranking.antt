@@ -55,27 +55,27 @@ same_some r s h = search rules
 pub given : (nodes : List Node) (ranks : List (Option ℕ)) (next n : ℕ) (x : Node) → AreRanks nodes ranks next → slice_get nodes n ≡ Some x → rank_at ranks n ≡ None → is_ready ranks x ≡ true
     → AreRanks nodes (set ranks n (Some next)) (next + 1)
 given nodes ranks next n x a there free ready =
-  let inside : n < length ranks = omega (arith, slice_get_within nodes n x there, a.long) in
-  let new : rank_at (set ranks n (Some next)) n ≡ Some next = get_or-set_same ranks n (Some next) None inside in
-  record {
-    long = length-set ranks n (Some next) ∙ a.long;
-    below = λ m r h. elim (cases_eq m n) [
-      | inl e ↦ (let is : next ≡ r = same_some next r (sym new ∙ ap (rank_at (set ranks n (Some next))) (sym e) ∙ h) in omega (arith, is))
-      | inr k ↦ (let lt : r < next = a.below m r (sym (get_or-set_other ranks n m (Some next) None k) ∙ h) in omega (arith, lt))
-    ];
-    sound = λ m r y at h. elim (cases_eq m n) [
-      | inl e ↦
-          (let is : next ≡ r = same_some next r (sym new ∙ ap (rank_at (set ranks n (Some next))) (sym e) ∙ h) in
-          let same : Some y ≡ Some x = sym at ∙ ap (slice_get nodes) e ∙ there in
-          let i : IsRank ranks x next = ready_rank nodes ranks next x a ready in
-          same_rank ranks n next r x y free is same i)
-      | inr k ↦ rank_stays ranks n r (Some next) y free (a.sound m r y at (sym (get_or-set_other ranks n m (Some next) None k) ∙ h))
-    ];
-    count =
-      (let was : blank (get_or ranks n None) ≡ 1 = ap blank free in
-      let sums : sum_by blank (set ranks n (Some next)) + blank (get_or ranks n None) ≡ sum_by blank ranks + blank (Some next) = sum_by-set blank ranks n (Some next) None inside in
-      omega (arith, was, sums, a.count));
-  }
+    let inside : n < length ranks = omega (arith, slice_get_within nodes n x there, a.long) in
+    let new : rank_at (set ranks n (Some next)) n ≡ Some next = get_or-set_same ranks n (Some next) None inside in
+    record {
+      long = length-set ranks n (Some next) ∙ a.long;
+      below = λ m r h. elim (cases_eq m n) [
+        | inl e ↦ (let is : next ≡ r = same_some next r (sym new ∙ ap (rank_at (set ranks n (Some next))) (sym e) ∙ h) in omega (arith, is))
+        | inr k ↦ (let lt : r < next = a.below m r (sym (get_or-set_other ranks n m (Some next) None k) ∙ h) in omega (arith, lt))
+      ];
+      sound = λ m r y at h. elim (cases_eq m n) [
+        | inl e ↦
+            (let is : next ≡ r = same_some next r (sym new ∙ ap (rank_at (set ranks n (Some next))) (sym e) ∙ h) in
+            let same : Some y ≡ Some x = sym at ∙ ap (slice_get nodes) e ∙ there in
+            let i : IsRank ranks x next = ready_rank nodes ranks next x a ready in
+            same_rank ranks n next r x y free is same i)
+        | inr k ↦ rank_stays ranks n r (Some next) y free (a.sound m r y at (sym (get_or-set_other ranks n m (Some next) None k) ∙ h))
+      ];
+      count =
+          (let was : blank (get_or ranks n None) ≡ 1 = ap blank free in
+          let sums : sum_by blank (set ranks n (Some next)) + blank (get_or ranks n None) ≡ sum_by blank ranks + blank (Some next) = sum_by-set blank ranks n (Some next) None inside in
+          omega (arith, was, sums, a.count));
+    }
   where
     same_rank : (ranks : List (Option ℕ)) (n next r : ℕ) (x y : Node) → rank_at ranks n ≡ None → next ≡ r → Some y ≡ Some x → IsRank ranks x next → IsRank (set ranks n (Some next)) y r
     same_rank ranks n next r x y free is same i =

@@ -125,11 +125,7 @@ fn ways_in(
 }
 
 /// The positions of a body with the ways from them.
-fn nodes(
-    alloc: Global,
-    insns: &[Insn],
-    frames: &[Option<Frame>],
-) -> Result<Vec<Node>, AllocError>
+fn nodes(alloc: Global, insns: &[Insn], frames: &[Option<Frame>]) -> Result<Vec<Node>, AllocError>
     requires { length insns.now + 1 < 2 ^ 32 }
     ensures { IfOk result (λ v. v.items ≡ nodes_upto insns.now frames.now (length insns.now)) }
 {

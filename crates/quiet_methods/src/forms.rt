@@ -214,9 +214,7 @@ impl Search<'_> {
         ensures { IsResolved self.now.program.now self.now.hierarchy.now → result ≡ form_demand self.now.program.now frame.now.registers insn.now }
     {
         match insn {
-            Insn::Binary { op, b, .. } => {
-                quiet_if(never_throws(*op, frame.get(u32::from(*b))))
-            }
+            Insn::Binary { op, b, .. } => { quiet_if(never_throws(*op, frame.get(u32::from(*b)))) }
             Insn::Literal { op, value, .. } => quiet_if(!op.divides() || *value != 0),
             Insn::StaticGet { field, .. } => quiet_if(self.gets_quietly(*field)),
             Insn::Invoke { kind, method, .. } => self.call_demand(*kind, *method),

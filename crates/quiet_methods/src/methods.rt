@@ -144,11 +144,7 @@ impl Search<'_> {
     }
 
     /// What is known of all code of the program.
-    fn judge_all(
-        &self,
-        alloc: Global,
-        frames: &[Seq<Option<Frame>>],
-    ) -> Result<Owns, AllocError>
+    fn judge_all(&self, alloc: Global, frames: &[Seq<Option<Frame>>]) -> Result<Owns, AllocError>
         ensures { IsResolved self.now.program.now self.now.hierarchy.now
             → IfOk result (λ o. AreOwns self.now.program.now frames.now (methods_of self.now.program.now.classes) o.nodes.items o.ranks.items) }
     {

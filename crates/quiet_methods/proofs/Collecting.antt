@@ -1,8 +1,8 @@
 -- What is known of the code of each method number, and which methods are quiet by it.
-use Rattle.std.proofs.Common.{◌≡◌, ◌⊎◌, inl, inr, ℕ, zero, suc, ◌+◌, ◌<◌, ◌≤◌, ◌&&◌, Bool, true, false, not, List, [], ◌∷◌, ◌++◌, length, get_or, set, take, replicate, map, Option, Some, None, is_some, refl, sym, ap, ◌∙◌, subst, arith, rules, length-set, get_or-set_other, get_or-set_same}
-use Rattle.std.specs.Prelude.{slice_get, slice_index_or, Contains, flat_map, ◌^◌}
+use Rattle.std.proofs.Common.{◌≡◌, inl, inr, ℕ, zero, suc, ◌+◌, ◌<◌, ◌≤◌, ◌&&◌, Bool, true, false, List, [], ◌∷◌, ◌++◌, length, get_or, set, take, replicate, map, Option, Some, None, is_some, refl, sym, ap, ◌∙◌, subst, arith, rules, length-set, get_or-set_other, get_or-set_same}
+use Rattle.std.specs.Prelude.{slice_get, Contains}
 use Rattle.std.specs.List.{list_all}
-use Rattle.std.proofs.lemmas.Bool.{false≢true, cases_eq, cases_lt}
+use Rattle.std.proofs.lemmas.Bool.{false≢true, cases_eq}
 use Rattle.std.proofs.lemmas.List.{length-replicate, length-map, take_more, take_all, append_assoc, append-nil}
 use Rattle.std.proofs.lemmas.Grind.{flat_map-append}
 use Rattle.std.proofs.lemmas.List.Elements.{Contains-append_left, Contains-append_right, Contains-append_cases, Contains-push, Contains-push_cases, Contains-get_or}
@@ -16,9 +16,9 @@ use Rattle.dom_frame.specs.declared.frames.Frame.{Frame}
 use Rattle.quiet_methods.specs.declared.ranks.Node.{Node}
 use Rattle.quiet_methods.specs.declared.forms.Demand.{Demand}
 use Rattle.quiet_methods.specs.declared.forms.Demand.TheVariants.{Nothing, Call, Loud}
-use Rattle.quiet_methods.specs.Settled.{rank_at, has_rank, is_ready, IsLower, IsRank, IsSettled}
-use Rattle.quiet_methods.specs.Bodies.{frame_in, demand_in, ways_in, IsMetBy, IsCalmAt, IsCalledIn, IsLoudSelf, IsOwn}
-use Rattle.quiet_methods.specs.Quiet.{is_on, frames_of, ranks_of, IsCode, IsMet, IsQuietAt, IsQuietBody, IsLoudBody, LoudSelf, CallsLoud, IsAlone, AreQuiet}
+use Rattle.quiet_methods.specs.Settled.{rank_at, has_rank, IsRank, IsSettled}
+use Rattle.quiet_methods.specs.Bodies.{frame_in, demand_in, IsMetBy, IsCalmAt, IsOwn}
+use Rattle.quiet_methods.specs.Quiet.{is_on, frames_of, ranks_of, IsCode, IsMet, IsQuietAt, IsQuietBody, IsLoudBody, LoudSelf, CallsLoud, AreQuiet}
 use Rattle.quiet_methods.specs.Owning.{methods_of, no_node, node_in, IsEntry, AreOwns}
 use Rattle.quiet_methods.proofs.Judging.{fails_at}
 

@@ -1,20 +1,20 @@
 -- What is known of a body by itself, from its positions.
 use Rattle.std.proofs.Common.{◌≡◌, ◌⊎◌, inl, inr, ℕ, zero, suc, ◌+◌, ◌<◌, ◌≤◌, ◌&&◌, Bool, true, false, not, List, [], ◌∷◌, ◌++◌, length, get_or, cond, Option, Some, None, is_some, refl, sym, ap, ◌∙◌, subst, arith, rules, length-append}
 use Rattle.std.proofs.Common.{Result, Ok, Err}
-use Rattle.std.specs.Prelude.{IfOk, slice_get, slice_index_or, Contains, ◌^◌}
+use Rattle.std.specs.Prelude.{IfOk, slice_get, Contains, ◌^◌}
 use Rattle.std.specs.List.{list_all}
-use Rattle.std.proofs.lemmas.Bool.{false≢true, cases_eq, cases_lt}
+use Rattle.std.proofs.lemmas.Bool.{false≢true, cases_eq}
 use Rattle.std.proofs.lemmas.List.Elements.{All-contains, Contains-append_left, Contains-push, Contains-push_cases, Contains-get_or}
 use Rattle.std.proofs.lemmas.List.Sums.{AllPass-from_list_all}
-use Rattle.std.proofs.lemmas.Option.{slice_get-get_or, get_or_from_slice_get, slice_get_within}
+use Rattle.std.proofs.lemmas.Option.{slice_get-get_or, slice_get_within}
 use Rattle.insn_set.specs.declared.form.Insn.{Insn}
 use Rattle.program_model.specs.declared.program.Program.{Program}
 use Rattle.dom_frame.specs.declared.frames.Frame.{Frame}
 use Rattle.quiet_methods.specs.declared.ranks.Node.{Node}
 use Rattle.quiet_methods.specs.declared.forms.Demand.{Demand}
 use Rattle.quiet_methods.specs.declared.forms.Demand.TheVariants.{Nothing, Call, Loud}
-use Rattle.quiet_methods.specs.Settled.{rank_at, has_rank, is_ready, IsLower, IsRank, IsSettled}
-use Rattle.quiet_methods.specs.Bodies.{frame_in, demand_in, ways_in, node_of, nodes_upto, with_demand, demand_of, calls_upto, IsRanked, IsMetBy, IsCalmAt, IsLoudAt, IsCalledIn, IsCircling, IsLoudSelf, LoudAt, Circles, TooLong, IsOwn}
+use Rattle.quiet_methods.specs.Settled.{rank_at, has_rank, IsSettled}
+use Rattle.quiet_methods.specs.Bodies.{frame_in, demand_in, ways_in, node_of, nodes_upto, with_demand, demand_of, calls_upto, IsRanked, IsMetBy, IsCalmAt, IsLoudAt, IsCalledIn, IsCircling, IsLoudSelf, Circles, IsOwn}
 
 nothing_below : (n : ℕ) → n < 0 → ⊥
 nothing_below n lt = omega (arith, lt)

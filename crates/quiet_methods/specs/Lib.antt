@@ -4,3 +4,4 @@ pub mod Forms
 pub mod Bodies
 pub mod Quiet
 pub mod Owning
+pub mod Falling

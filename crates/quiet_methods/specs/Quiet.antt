@@ -1,7 +1,7 @@
 -- Quiet methods, by number: a method is quiet where each position to which a run comes has a quiet form, where no way among these
 -- positions comes back to where it was, and where each call finds a quiet method and no calls come back to the method (this
 -- project's profile).
-use Rattle.std.specs.Prelude.{◌≡◌, ◌<◌, ◌≤◌, ◌^◌, ◌⊎◌, ℕ, Bool, true, false, List, [], length, Option, Some, None, is_some, slice_get, slice_index_or, Contains}
+use Rattle.std.specs.Prelude.{◌≡◌, ◌<◌, ◌^◌, ℕ, Bool, true, false, List, [], length, Option, Some, is_some, slice_get, slice_index_or, Contains}
 use Rattle.insn_set.specs.declared.form.Insn.{Insn}
 use Rattle.program_model.specs.declared.body.Body.{Body}
 use Rattle.program_model.specs.declared.program.Class.{Class}

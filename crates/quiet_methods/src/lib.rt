@@ -16,9 +16,11 @@
 
 mod bodies;
 mod forms;
+mod laws;
 mod methods;
 mod ranks;
 mod ways;
 
+pub use laws::ranks_fall;
 pub use methods::quiet_methods;
 pub use ranks::{Node, settle};

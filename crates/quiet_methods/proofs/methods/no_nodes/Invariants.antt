@@ -1,4 +1,4 @@
-use Rattle.std.proofs.Common.{◌≡◌, false, [], replicate}
+use Rattle.std.proofs.Common.{◌≡◌, replicate}
 use Rattle.quiet_methods.specs.Owning.{no_node}
 use Rattle.quiet_methods.proofs.methods.no_nodes.Given as goal
 

@@ -1,4 +1,4 @@
-use Rattle.std.proofs.Common.{List, [], take}
+use Rattle.std.proofs.Common.{[], take}
 use Rattle.hierarchy.specs.Shapes.{IsResolved}
 use Rattle.quiet_methods.specs.Owning.{methods_of, AreOwns}
 use Rattle.quiet_methods.proofs.forms.Search.note_classes.Given as goal

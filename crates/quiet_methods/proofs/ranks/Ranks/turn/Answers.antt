@@ -1,7 +1,4 @@
-use Rattle.std.proofs.Common.{rules, ◌≡◌, ◌<◌, ◌≤◌, ◌^◌, ℕ, true, false, not, length, replicate, None, Some, is_some, IfOk, slice_get, ◌+◌, ◌-◌, ◌*◌, ◌/◌, ◌%◌, Bool, nat_eq, nat_lt, List, [], ◌∷◌, ◌++◌, slice_index_or, slice_set, bit_and, bit_or, Fits, w8, w32, w64, Bor, MutBor}
-use Rattle.std.specs.List.{list_all}
-use Rattle.quiet_methods.specs.Settled.{rank_at, has_rank, is_ready, IsSettled}
-use Rattle.quiet_methods.specs.Steps.{AreRanks, IsClosedAt, Turns, Sweeps}
+use Rattle.std.proofs.Common.{true, false}
 use Rattle.quiet_methods.proofs.ranks.Ranks.turn.Goals as goal
 use Rattle.std.proofs.Common.{arith}
 use Rattle.quiet_methods.proofs.Ranking.{turned, turns_unready, turns_ranked, free_at, ranked_at, ready_of}

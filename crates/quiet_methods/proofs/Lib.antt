@@ -1,0 +1,4 @@
+pub mod Ranking
+pub mod Judging
+pub mod Collecting
+pub mod Falling

@@ -1,0 +1,7 @@
+pub mod Settled
+pub mod Steps
+pub mod Forms
+pub mod Bodies
+pub mod Quiet
+pub mod Owning
+pub mod Falling

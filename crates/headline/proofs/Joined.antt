@@ -1,24 +1,31 @@
 -- From what a run gives to what it shows.
-use Rattle.std.proofs.Common.{ℕ, true, List, refl, ◌∙◌}
+use Rattle.std.proofs.Common.{◌≡◌, ℕ, true, List, Option, None, Some, ◌∙◌}
 use Rattle.program_model.specs.declared.pass.Outside.{Outside}
 use Rattle.program_model.specs.declared.program.Program.{Program}
+use Rattle.program_model.specs.ProgramRules.{is_well_formed}
+use Rattle.class_defs.specs.ClassGraph.{IsTwice}
 use Rattle.dalvik_defs.specs.Naming.{named}
 use Rattle.dalvik_defs.specs.Outer.{outer_of}
 use Rattle.removal_law.specs.Reach.{ShutsHold}
 use Rattle.reach_bridge.proofs.Unshut.{unshut}
+use Rattle.library_bridge.proofs.Narrowing.{narrowed_holds}
 use Rattle.command_line.specs.declared.command.CommandWords.{CommandWords}
 use Rattle.command_line.specs.declared.command.CommandWords.TheVariants.{Nothing, Optimise, Check, Live, Trace, Workload}
 use Rattle.silence_bridge.proofs.Optimised.{optimised_shows, optimised_sound, optimised_folded, optimised_bound, optimised_skips, optimised_dead, optimised_fresh, optimised_packed, optimised_stays}
 use Rattle.redex_outside.specs.Held.{Held}
 use Rattle.redex_cli.specs.Accepted.{IsAccepted}
 use Rattle.redex_cli.specs.Commands.{Commands}
-use Rattle.redex_cli.specs.Finished.{Finished, FinishedOf, IsOutputOf, IsRuled, Leaves}
+use Rattle.redex_cli.specs.Finished.{Finished, FinishedOf, IsOutputOf, Leaves}
 use Rattle.redex_cli.specs.Refusals.{OutputBy}
+use Rattle.redex_cli.specs.Tables.{IsTableWith}
+use Rattle.redex_cli.specs.declared.fetching.Inputs.{Inputs}
 use Rattle.headline.specs.Headline.{Headline, KeepsMeaning, Shrinks}
 
--- rules shut no method
-ruled_holds : (text : List ℕ) (p : Program) (o : Outside) → IsRuled text p o → ShutsHold (named p) (outer_of p o)
-ruled_holds text p o ruled = unshut p o (ruled.table.closes.shut ∙ ruled.table.unshut)
+-- rules alone shut no method, and what a library shuts is shut by the definition
+table_holds : (library : Option (List ℕ)) (p : Program) (o : Outside) → is_well_formed p ≡ true → ((class : ℕ) → IsTwice p class → ⊥) → IsTableWith library p o
+    → ShutsHold (named p) (outer_of p o)
+table_holds None p o well once table = unshut p o (table.closes.shut ∙ table.unshut)
+table_holds (Some bytes) p o well once table = narrowed_holds p well once table.closed o table.library table.narrowed
 
 pub keeps : (p r : Program) (o : Outside) (rounds spared : ℕ) → IsAccepted p → ShutsHold (named p) (outer_of p o) → Leaves p o r rounds spared → KeepsMeaning p o r
 keeps p r o rounds spared accepted holds leaves =
@@ -43,27 +50,26 @@ keeps p r o rounds spared accepted holds leaves =
       stays = optimised_stays p accepted.hierarchy well graph.resolved graph.acyclic graph.unsplit o accepted.types r leaves.origins leaves.advisers spared rounds leaves.before leaves.after done;
     }
 
-shrinks : (rules file output summary : List ℕ) → Finished rules file output summary → Shrinks rules file output
-shrinks rules file output summary f = record {
-  program = f.program;
-  reads = f.reads;
-  outside = f.outside;
-  ruled = f.ruled;
-  left = f.shrunk.left;
-  written = f.shrunk.written;
-  keeps = keeps f.program f.shrunk.left f.outside f.shrunk.rounds f.shrunk.spared f.accepted (ruled_holds rules f.program f.outside f.ruled) f.shrunk.leaves;
-}
+shrinks : (inputs : Inputs) (output summary : List ℕ) → Finished inputs output summary → Shrinks inputs output
+shrinks inputs output summary f =
+    let accepted = f.accepted in record {
+      program = f.program;
+      reads = f.reads;
+      outside = f.outside;
+      ruled = f.ruled;
+      left = f.shrunk.left;
+      written = f.shrunk.written;
+      keeps = keeps f.program f.shrunk.left f.outside f.shrunk.rounds f.shrunk.spared accepted (table_holds inputs.library f.program f.outside accepted.formed accepted.graph.once f.ruled.table) f.shrunk.leaves;
+    }
 
 of_command : (words : List (List ℕ)) (held : Held) (output summary : List ℕ) (command : CommandWords) → Commands words command
     → IsOutputOf true held command output summary → Headline words held output
 of_command words held output summary (Optimise asked) commands f = record {
   asked = asked;
   commands = commands;
-  rules = f.ruling;
-  ruled = f.ruled refl;
-  file = f.file;
-  filed = f.filed refl;
-  shrinks = shrinks f.ruling f.file output summary f.finished;
+  inputs = f.inputs;
+  are = f.are;
+  shrinks = shrinks f.inputs output summary f.finished;
 }
 of_command words held output summary Nothing commands f = absurd f
 of_command words held output summary (Check input) commands f = absurd f

@@ -35,11 +35,13 @@ same_text : {E : Type 0} (r : Result Bool E) (test : Text → Bool) (u v : Text)
 same_text r test u v e h = IfOk-weaker r (λ b. b ≡ test u) (λ b. b ≡ test v) (λ b f. f ∙ ap test e) h
 
 method_at_what : {E : Type 0} (t : TypePattern) (p : NamePattern) (read : ReadArguments) (w : What) (r : Result Bool E) (u v : Text) (s : Signature) → IsWhatOf (what.Method t p read) w → u ≡ v
-    → ((n k : Word) (a : Arguments) → IsPatternOf p n → IsTypeOf t k → AreArgumentsOf read a → IfOk r (λ b. b ≡ ((member_name_fits n u && type_fits k s.result) && arguments_fit a s.parameters))) → IfOk r (λ b. b ≡ names_method w v s)
+    → ((n k : Word) (a : Arguments) → IsPatternOf p n → IsTypeOf t k → AreArgumentsOf read a
+    → IfOk r (λ b. b ≡ ((member_name_fits n u && type_fits k s.result) && arguments_fit a s.parameters))) → IfOk r (λ b. b ≡ names_method w v s)
 method_at_what _ _ _ _ r u v s (OfMethod t p read result name a kind is args) e h = same_text r (λ x. (member_name_fits name x && type_fits result s.result) && arguments_fit a s.parameters) u v e (h name result a is kind args)
 
 pub method_what : {E : Type 0} (t : TypePattern) (p : NamePattern) (read : ReadArguments) (x : ReadWhat) (w : What) (r : Result Bool E) (u v : Text) (s : Signature) → x ≡ what.Method t p read → IsWhatOf x w → u ≡ v
-    → ((n k : Word) (a : Arguments) → IsPatternOf p n → IsTypeOf t k → AreArgumentsOf read a → IfOk r (λ b. b ≡ ((member_name_fits n u && type_fits k s.result) && arguments_fit a s.parameters))) → IfOk r (λ b. b ≡ names_method w v s)
+    → ((n k : Word) (a : Arguments) → IsPatternOf p n → IsTypeOf t k → AreArgumentsOf read a
+    → IfOk r (λ b. b ≡ ((member_name_fits n u && type_fits k s.result) && arguments_fit a s.parameters))) → IfOk r (λ b. b ≡ names_method w v s)
 method_what t p read x w r u v s e is = method_at_what t p read w r u v s (subst (λ y. IsWhatOf y w) e is)
 
 field_at_what : {E : Type 0} (t : TypePattern) (p : NamePattern) (w : What) (r : Result Bool E) (u d : Text) → IsWhatOf (what.Field t p) w

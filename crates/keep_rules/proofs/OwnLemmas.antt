@@ -146,7 +146,7 @@ module _ (p : Program) (s : Sound p) where
 
 -- ---- an answer that agrees with a table of rules keeps members that classes define
 
-listed_below : (size : ℕ) (xs : List ℕ) → All (λ k. k < size) xs → (n : ℕ) → has xs n ≡ true → n < size
+pub listed_below : (size : ℕ) (xs : List ℕ) → All (λ k. k < size) xs → (n : ℕ) → has xs n ≡ true → n < size
 listed_below size [] all n e = absurd (true≢false (sym e))
 listed_below size (x ∷ xs) all n e = step (listed_below size xs (λ k d h. all (suc k) d (omega (arith, h))) n) (nat_eq n x) refl e
   where

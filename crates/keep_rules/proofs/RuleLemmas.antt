@@ -19,7 +19,7 @@ any_never : {A : Type 0} (xs : List A) → list_any (λ (x : A). false) xs ≡ f
 any_never [] = refl
 any_never (x ∷ xs) = any_never xs
 
-any_either : {A : Type 0} (f g : A → Bool) (xs : List A) → list_any (λ x. f x || g x) xs ≡ (list_any f xs || list_any g xs)
+pub any_either : {A : Type 0} (f g : A → Bool) (xs : List A) → list_any (λ x. f x || g x) xs ≡ (list_any f xs || list_any g xs)
 any_either f g [] = refl
 any_either f g (x ∷ xs) = ap (λ b. (f x || g x) || b) (any_either f g xs) ∙ moved (f x) (g x) (list_any f xs) (list_any g xs)
   where

@@ -1,4 +1,13 @@
+pub mod Below
+pub mod Described
+pub mod Entries
 pub mod Fits
+pub mod Grown
 pub mod Marks
 pub mod Outside
+pub mod Rows
+pub mod Silent
+pub mod Sought
 pub mod Table
+pub mod Tried
+pub mod View

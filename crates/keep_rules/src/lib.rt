@@ -12,6 +12,7 @@ mod marks;
 mod members;
 mod names;
 mod outside;
+mod tables;
 mod view;
 
 pub use outside::outside_of;

@@ -1,8 +1,9 @@
 //! What is kept so far, as marks by number.
 
-ghost use Rattle.std.specs.Prelude.{◌≡◌, ◌<◌, ◌^◌, true, false, length, slice_set, slice_index_or, filter, if◌then◌else◌, ◌&&◌, IfOk, not, vec_len};
-ghost use Rattle.std.specs.Prelude.{ℕ, Bool, replicate};
-ghost use Rattle.keep_rules.specs.Marks.{is_always, numbers_of, PassMembers, HasOwn};
+ghost use Rattle.std.specs.Prelude.{◌≡◌, ◌&&◌, ℕ, true, false, not, nat_eq, slice_set, slice_index_or, if◌then◌else◌, IfOk, replicate, length};
+ghost use Rattle.keep_rules.specs.Marks.{is_always, numbers_of};
+ghost use Rattle.keep_rules.specs.Table.{has};
+ghost use Rattle.keep_rules.specs.Grown.{Part, Slot, Grew, GrewMembers, IsClear, marks_in, marks_of, size_of};
 
 use program_model::Program;
 use seq::Seq;
@@ -70,9 +71,8 @@ pub fn is_marked(marks: &[bool], number: u32) -> bool
 
 impl MemberMarks {
     /// No marks.
-    #[tactic(auto, using(crate::proofs::MarkLemmas::none_pass))]
     fn new(alloc: Global, size: usize) -> Result<MemberMarks, AllocError>
-        ensures { (test : ℕ → Bool) → IfOk result (PassMembers test) }
+        ensures { IfOk result (λ marks. (s : Part) → IsClear size (marks_in s marks)) }
     {
         Ok(MemberMarks {
             kept: unmarked(alloc, size)?,
@@ -108,9 +108,8 @@ impl MemberMarks {
 
 impl MemberMarks {
     /// Marks a member, and its descriptor where that is wanted, if it is to be kept.
-    #[tactic(auto, using(crate::proofs::MarkLemmas::kept_passes))]
     pub fn keep_where(&mut self, wanted: bool, number: u32, hold: Hold, described: bool)
-        ensures { (test : ℕ → Bool) → (wanted ≡ true → test number ≡ true) → PassMembers test self.old → PassMembers test self.new }
+        ensures { GrewMembers (is_always hold) described (λ n. nat_eq n number && wanted) self.old self.new }
     {
         if wanted {
             self.keep(number, hold, described);
@@ -121,7 +120,7 @@ impl MemberMarks {
 impl Marks {
     /// No marks.
     pub fn new(alloc: Global, program: &Program) -> Result<Marks, AllocError>
-        ensures { IfOk result (HasOwn program.now) }
+        ensures { IfOk result (λ marks. (s : Slot) → IsClear (size_of program.now s) (marks_of s marks)) }
     {
         Ok(Marks {
             classes: unmarked(alloc, program.types.len())?,
@@ -129,6 +128,15 @@ impl Marks {
             methods: MemberMarks::new(alloc, program.methods.len())?,
             silent: unmarked(alloc, program.methods.len())?,
         })
+    }
+}
+
+/// Marks each of the numbers.
+pub fn mark_each(marks: &mut Vec<bool>, numbers: &[u32])
+    ensures { Grew (has numbers.now) marks.old.items marks.new.items }
+{
+    for number in numbers {
+        mark(marks, *number);
     }
 }
 

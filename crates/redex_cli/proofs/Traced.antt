@@ -1,5 +1,5 @@
 -- What `trace` says, from what the machine says of a run.
-use Rattle.std.proofs.Common.{◌≡◌, ◌≤◌, ℕ, List, [], true, length, subst, Result, Ok, Err}
+use Rattle.std.proofs.Common.{◌≡◌, ◌≤◌, ℕ, List, [], true, length, subst, Option, Result, Ok, Err}
 use Rattle.std.specs.Prelude.{IfOk}
 use Rattle.array_law.proofs.Runs.{make_arrays}
 use Rattle.dalvik_defs.specs.Naming.{named}
@@ -19,7 +19,12 @@ use Rattle.text_defs.specs.EventLines.{event_lines}
 use Rattle.text_defs.specs.Plays.{play_of}
 use Rattle.text_defs.specs.declared.play.Play.{Play}
 use Rattle.redex_cli.specs.Accepted.{IsAccepted}
-use Rattle.redex_cli.specs.Traces.{IsTableFor, Traces, TracesFile}
+use Rattle.stub_library.specs.Shut.{IsNarrowed}
+use Rattle.stub_library.specs.Stubs.{library_at}
+use Rattle.stub_library.specs.declared.library.Library.{Library}
+use Rattle.redex_cli.specs.Tables.{IsTableBy, IsTableFor, IsTableWith}
+use Rattle.redex_cli.specs.Traces.{Traces, TracesFile}
+use Rattle.redex_cli.specs.declared.fetching.Inputs.{Inputs}
 
 -- ---- a run
 
@@ -37,6 +42,17 @@ subject p o f a script accepted =
 pub table_for : (p : Program) (ruled outside : Outside) → IsWithin p ruled → ruled.shut ≡ [] → Closes ruled outside → IsTableFor p outside
 table_for p ruled outside within unshut closes = record { ruled = ruled; within = within; unshut = unshut; closes = closes }
 
+-- and behind a library, whose bytes were found to be these
+pub table_by : (given bytes : List ℕ) (p : Program) (closed outside : Outside) (library : Library) → given ≡ bytes → IsTableFor p closed → library_at given ≡ Ok library
+    → IsNarrowed p closed library outside → IsTableBy bytes p outside
+table_by given bytes p closed outside library same table declares narrowed = record {
+  closed = closed;
+  table = table;
+  library = library;
+  declares = subst (λ (bs : List ℕ). library_at bs ≡ Ok library) same declares;
+  narrowed = narrowed;
+}
+
 -- what the machine answers of a run of an accepted program, where the script that it was given is this one
 pub shown : {T E : Type 0} (r : Result T E) (items : T → List Event) (p : Program) (o : Outside) (f : Framework) (a : Floats) (given script : List Move) (n : ℕ)
     → given ≡ script → IsAccepted p
@@ -46,11 +62,11 @@ shown r items p o f a given script n same accepted says =
     subst (λ (moves : List Move). IfOk r (λ x. items x ≡ shows (named p) (outer_of p o) f a moves n)) same
     (says (subject p o f a given accepted) (makes_arrays p o f a given n accepted))
 
-pub traces : (p : Program) (play : Play) (outside : Outside) (steps : ℕ) (events : List Event) (text : List ℕ)
-    → IsTableFor p outside → length events ≤ steps
+pub traces : (library : Option (List ℕ)) (p : Program) (play : Play) (outside : Outside) (steps : ℕ) (events : List Event) (text : List ℕ)
+    → IsTableWith library p outside → length events ≤ steps
     → events ≡ shows (named p) (outer_of p outside) play.framework play.floats play.moves steps
-    → text ≡ event_lines events → Traces p play steps text
-traces p play outside steps events text table few shown says = record {
+    → text ≡ event_lines events → Traces library p play steps text
+traces library p play outside steps events text table few shown says = record {
   outside = outside;
   table = table;
   events = events;
@@ -59,9 +75,9 @@ traces p play outside steps events text table few shown says = record {
   shown = shown;
 }
 
-pub traces_file : (p : Program) (play : Play) (bytes script : List ℕ) (steps : ℕ) (text : List ℕ)
-    → program_at bytes ≡ Ok p → IsAccepted p → play_of script ≡ Ok play → Traces p play steps text → TracesFile bytes script steps text
-traces_file p play bytes script steps text reads accepted plays traces = record {
+pub traces_file : (inputs : Inputs) (p : Program) (play : Play) (script : List ℕ) (steps : ℕ) (text : List ℕ)
+    → program_at inputs.file ≡ Ok p → IsAccepted p → play_of script ≡ Ok play → Traces inputs.library p play steps text → TracesFile inputs script steps text
+traces_file inputs p play script steps text reads accepted plays traces = record {
   program = p;
   reads = reads;
   accepted = accepted;

@@ -1,5 +1,5 @@
 -- Why a run is refused, and what holds where it is not.
-use Rattle.std.specs.Prelude.{◌≡◌, ◌⊎◌, ◌+◌, ◌++◌, ℕ, List, Bool, IsTrue, Option, Some, Err}
+use Rattle.std.specs.Prelude.{◌≡◌, ◌⊎◌, ◌+◌, ◌++◌, ℕ, List, Bool, IsTrue, Option, None, Some, Err}
 use Rattle.rule_text.specs.Fault.{IsFault}
 use Rattle.rule_text.specs.declared.fault.RuleFault.{RuleFault}
 use Rattle.rule_text.specs.declared.fault.RuleFault.TheVariants as rule
@@ -20,9 +20,10 @@ use Rattle.redex_outside.specs.Held.{Held}
 use Rattle.command_line.specs.declared.command.CommandWords.{CommandWords}
 use Rattle.redex_cli.specs.Commands.{Commands, CommandsNothing, Fetch, Puts, fetches, output_of}
 use Rattle.redex_cli.specs.Fetching.{Failures, AllWithin, FirstTooLong, OneBadLine, OneRose, PassesByOne}
-use Rattle.redex_cli.specs.Files.{AllRead, FileCause, RulesCause}
+use Rattle.redex_cli.specs.Files.{AllRead, BytesRefused, FileCause, HasLibrary, LibraryRefused, RulesCause}
 use Rattle.redex_cli.specs.Finished.{IsOutputOf, Results}
 use Rattle.redex_cli.specs.Stays.{Stays}
+use Rattle.redex_cli.specs.declared.fetching.Inputs.{Inputs}
 use Rattle.redex_cli.specs.declared.status.InputFault.{InputFault}
 use Rattle.redex_cli.specs.declared.status.InputFault.TheVariants as input
 use Rattle.redex_cli.specs.declared.status.Status.{Status}
@@ -49,12 +50,29 @@ abbrev pub IsTypeFault : TypeFault → Type 0
 IsTypeFault typing.NoMemory = ⊥
 IsTypeFault _ = Unit {0}
 
--- Libraries are not built yet.
+-- A fault of a file. A library is none.
 abbrev pub IsInputFault : InputFault → Type 0
 IsInputFault (input.Dex fault) = IsDexFault fault
 IsInputFault (input.Hierarchy fault) = IsHierarchyFault fault
 IsInputFault (input.Typing fault) = IsTypeFault fault
 IsInputFault (input.Library fault) = ⊥
+
+-- A fault of a library, where there is one.
+abbrev pub IsLibraryFault : Option (List ℕ) → DexFault → Type 0
+IsLibraryFault None fault = ⊥
+IsLibraryFault (Some library) fault = IsDexFault fault
+
+-- What the work on a library may be refused with.
+abbrev pub IsLibraryRefusal : Status → Type 0
+IsLibraryRefusal (BadDex (input.Library fault)) = IsDexFault fault
+IsLibraryRefusal (Limit fault) = PassesInFile fault
+IsLibraryRefusal NoMemory = Unit {0}
+IsLibraryRefusal _ = ⊥
+
+-- The same of a library that there may be, with what its bytes say of it.
+abbrev pub LibraryEnds : Option (List ℕ) → Status → Type 0
+LibraryEnds None status = ⊥
+LibraryEnds (Some bytes) status = IsLibraryRefusal status × LibraryRefused bytes status
 
 -- What the work on a file alone may be refused with.
 abbrev pub ReadRefused : Status → Type 0
@@ -63,32 +81,41 @@ ReadRefused (Limit fault) = PassesInFile fault
 ReadRefused NoMemory = Unit {0}
 ReadRefused _ = ⊥
 
--- What the work on rules of this text and a file may be refused with.
-abbrev pub WorkRefused : List ℕ → Status → Type 0
-WorkRefused rules (BadRules fault) = IsRuleFault fault × IsFault rules fault
-WorkRefused rules status = ReadRefused status
+-- What the work on these inputs may be refused with.
+abbrev pub WorkRefused : Inputs → Status → Type 0
+WorkRefused inputs (BadRules fault) = IsRuleFault fault × IsFault inputs.rules fault
+WorkRefused inputs (BadDex (input.Library fault)) = IsLibraryFault inputs.library fault
+WorkRefused inputs status = ReadRefused status
 
--- The same of rules that are made, whatever they are.
+-- The same of inputs that are made, whatever they are, without a library.
 pub record MadeRefused (status : Status) : Type 0 where
-  pub rules : List ℕ
-  pub refused : WorkRefused rules status
+  pub inputs : Inputs
+  pub alone : inputs.library ≡ None
+  pub refused : WorkRefused inputs status
+  pub bytes : BytesRefused inputs status
 
--- What the work on rules, a file and a script of these texts may be refused with.
-abbrev pub TraceRefused : List ℕ → List ℕ → Status → Type 0
-TraceRefused rules text (BadScript line) = play_of text ≡ Err (script.Line line)
-TraceRefused rules text status = WorkRefused rules status
+-- What the work on these inputs and a script of this text may be refused with.
+abbrev pub TraceRefused : Inputs → List ℕ → Status → Type 0
+TraceRefused inputs text (BadScript line) = play_of text ≡ Err (script.Line line)
+TraceRefused inputs text status = WorkRefused inputs status
 
 -- ---- the limits
 
--- All names keep their limits, and a quantity that is counted inside the file, which is none of bytes, passes its own.
+-- All names keep their limits, and a quantity that is counted inside the file or the library, which is none of bytes, passes its
+-- own.
 pub record PassesInside (tells : Bool) (held : Held) (names : List Fetch) (fault : LimitFault) : Type 0 where
   pub inside : PassesInFile fault
   pub within : IsTrue tells → AllWithin held names
   pub file : IsTrue tells → FileCause held names (Limit fault)
 
--- A fault of the file, which is one of those that the bytes have.
+-- A fault of a library comes where one is fetched.
+abbrev pub IsFaultOf : List Fetch → InputFault → Type 0
+IsFaultOf names (input.Library fault) = IsDexFault fault × HasLibrary names
+IsFaultOf names fault = IsInputFault fault
+
+-- A fault of the file or the library, which is one of those that the bytes have.
 pub record FileFault (tells : Bool) (held : Held) (names : List Fetch) (fault : InputFault) : Type 0 where
-  pub carried : IsInputFault fault
+  pub carried : IsFaultOf names fault
   pub file : IsTrue tells → FileCause held names (BadDex fault)
 
 -- A fault of the rules, which is the one that their text has.
@@ -96,7 +123,7 @@ pub record RulesFault (tells : Bool) (held : Held) (names : List Fetch) (fault :
   pub carried : IsRuleFault fault
   pub ruling : IsTrue tells → RulesCause held names fault
 
--- A fetch passed its limit, or something inside the file does. So the bytes of the rules, of a file or of a script are
+-- A fetch passed its limit, or something inside the file or the library does. So the bytes of the rules, of a file or of a script are
 -- named exactly where their fetch took one more than its limit.
 abbrev pub LimitCause : Bool → Held → List Fetch → LimitFault → Type 0
 LimitCause tells held names fault = PassesByOne tells held names fault ⊎ PassesInside tells held names fault
@@ -169,7 +196,7 @@ pub record PassesLimit (words : List (List ℕ)) (tells : Bool) (held : Held) (f
   pub commands : Commands words command
   pub cause : LimitCause tells held (fetches command) fault
 
--- A fault stands in the file that the words' command reads.
+-- A fault stands in the file or the library that the words' command reads.
 pub record HasFileFault (words : List (List ℕ)) (tells : Bool) (held : Held) (fault : InputFault) : Type 0 where
   pub command : CommandWords
   pub commands : Commands words command
@@ -187,7 +214,7 @@ pub record OutputBy (words : List (List ℕ)) (tells : Bool) (held : Held) (outp
   pub commands : Commands words command
   pub final : IsOutputOf tells held command output summary
 
--- The files that the words have fetched spell programs that are accepted.
+-- The files that the words have fetched spell programs that are accepted, and the library declares one.
 abbrev pub ReadsAll : List (List ℕ) → Held → Type 0
 ReadsAll words held = (command : CommandWords) → Commands words command → AllRead held (fetches command)
 

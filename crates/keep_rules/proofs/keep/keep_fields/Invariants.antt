@@ -1,9 +1,12 @@
-use Rattle.std.proofs.Common.{◌≡◌, ℕ, Some}
-use Rattle.std.specs.Prelude.{slice_get}
-use Rattle.program_model.specs.declared.program.Class.{Class}
-use Rattle.keep_rules.specs.Marks.{PassMembers}
-use Rattle.keep_rules.specs.Table.{defines_field}
+use Rattle.std.proofs.Common.{◌≡◌, true, drop}
+use Rattle.std.specs.List.{list_any, list_all}
+use Rattle.rule_text.specs.Rules.{KeepRule}
+use Rattle.rule_text.specs.Related.{IsKeepOf}
+use Rattle.keep_rules.specs.Fits.{has_field_name}
+use Rattle.keep_rules.specs.Marks.{is_always}
+use Rattle.keep_rules.specs.Grown.{is_describing, lined_field, LeftMembers}
 use Rattle.keep_rules.proofs.keep.keep_fields.Given as goal
 
 abbrev pub invariant-loop-field : goal.invariant-loop-field
-invariant-loop-field l = (place : ℕ) (c : Class) → slice_get l.program.classes place ≡ Some c → c.fields ≡ l.fields → PassMembers (defines_field l.program) l.initial.marks → PassMembers (defines_field l.program) l.marks
+invariant-loop-field l = (k : KeepRule) → IsKeepOf l.rule k → list_all (has_field_name l.program) l.fields ≡ true
+    → LeftMembers (is_always l.hold) (is_describing k) (λ n. list_any (lined_field l.program k n) (drop l.field-index l.fields)) (λ n. list_any (lined_field l.program k n) l.fields) l.initial.marks l.marks

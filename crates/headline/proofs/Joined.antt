@@ -22,10 +22,11 @@ use Rattle.redex_cli.specs.declared.fetching.Inputs.{Inputs}
 use Rattle.headline.specs.Headline.{Headline, KeepsMeaning, Shrinks}
 
 -- rules alone shut no method, and what a library shuts is shut by the definition
-table_holds : (library : Option (List ℕ)) (p : Program) (o : Outside) → is_well_formed p ≡ true → ((class : ℕ) → IsTwice p class → ⊥) → IsTableWith library p o
+table_holds : (rules : List ℕ) (library : Option (List ℕ)) (p : Program) (o : Outside) → is_well_formed p ≡ true → ((class : ℕ) → IsTwice p class → ⊥)
+    → IsTableWith rules library p o
     → ShutsHold (named p) (outer_of p o)
-table_holds None p o well once table = unshut p o (table.closes.shut ∙ table.unshut)
-table_holds (Some bytes) p o well once table = narrowed_holds p well once table.closed o table.library table.narrowed
+table_holds rules None p o well once table = unshut p o (table.closes.shut ∙ table.table.shut)
+table_holds rules (Some bytes) p o well once table = narrowed_holds p well once table.closed o table.library table.narrowed
 
 pub keeps : (p r : Program) (o : Outside) (rounds spared : ℕ) → IsAccepted p → ShutsHold (named p) (outer_of p o) → Leaves p o r rounds spared → KeepsMeaning p o r
 keeps p r o rounds spared accepted holds leaves =
@@ -56,10 +57,10 @@ shrinks inputs output summary f =
       program = f.program;
       reads = f.reads;
       outside = f.outside;
-      ruled = f.ruled;
+      table = f.table;
       left = f.shrunk.left;
       written = f.shrunk.written;
-      keeps = keeps f.program f.shrunk.left f.outside f.shrunk.rounds f.shrunk.spared accepted (table_holds inputs.library f.program f.outside accepted.formed accepted.graph.once f.ruled.table) f.shrunk.leaves;
+      keeps = keeps f.program f.shrunk.left f.outside f.shrunk.rounds f.shrunk.spared accepted (table_holds inputs.rules inputs.library f.program f.outside accepted.formed accepted.graph.once f.table) f.shrunk.leaves;
     }
 
 of_command : (words : List (List ℕ)) (held : Held) (output summary : List ℕ) (command : CommandWords) → Commands words command

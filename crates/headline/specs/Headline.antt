@@ -26,7 +26,7 @@ use Rattle.command_line.specs.declared.command.OptimiseWords.{OptimiseWords}
 use Rattle.redex_outside.specs.Held.{Held}
 use Rattle.redex_cli.specs.Commands.{Commands}
 use Rattle.redex_cli.specs.Files.{AreHeld}
-use Rattle.redex_cli.specs.Finished.{IsRuled}
+use Rattle.redex_cli.specs.Tables.{IsTableWith}
 use Rattle.redex_cli.specs.declared.fetching.Inputs.{Inputs}
 
 -- What is left of a program shows what the program shows without its silent calls in the admitted methods, to every
@@ -57,14 +57,14 @@ pub record KeepsMeaning (program : Program) (outside : Outside) (left : Program)
   pub packed : has_narrow_classes left ≡ true → AllPacked admitted left
   pub stays : Stays admitted program left
 
--- The file spells a program, the rules have a table for it, with the methods shut that the library shuts where there is one, and
--- the output is the file that is written for a program that keeps its meaning. Not said yet: how the table comes of the rules, and
--- that the written file spells that program and is valid.
+-- The file spells a program, the rules that their text spells make a table of it, which is closed, with the methods shut that the
+-- library shuts where there is one, and the output is the file that is written for a program that keeps its meaning. Not said yet:
+-- which conditions of the table are taken for met, and that the written file spells that program and is valid.
 pub record Shrinks (inputs : Inputs) (output : List ℕ) : Type 0 where
   pub program : Program
   pub reads : program_at inputs.file ≡ Ok program
   pub outside : Outside
-  pub ruled : IsRuled inputs.rules inputs.library program outside
+  pub table : IsTableWith inputs.rules inputs.library program outside
   pub left : Program
   pub written : IsWritten left output
   pub keeps : KeepsMeaning program outside left

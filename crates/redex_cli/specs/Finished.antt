@@ -15,8 +15,6 @@ use Rattle.program_model.specs.declared.program.Program.{Program}
 use Rattle.program_model.specs.Cells.{capped}
 use Rattle.pipeline.specs.Counts.{insns_of, members_of}
 use Rattle.pipeline.specs.Rounds.{IsOptimised}
-use Rattle.rule_text.specs.ReadEntries.{IsReading}
-use Rattle.rule_text.specs.declared.rules.Rules.{Rules}
 use Rattle.redex_cli.specs.Accepted.{IsAccepted}
 use Rattle.redex_cli.specs.Commands.{Commands}
 use Rattle.redex_cli.specs.Lists.{IsListed}
@@ -72,20 +70,14 @@ pub record Shrunk (program : Program) (outside : Outside) (before : Sizes) (outp
   pub says : summary ≡ summary_text before (sizes_in left (length output)) rounds spared
   pub one_round : 1 ≤ rounds
 
--- The text spells rules, and this is a table for the program with such a library. How the table comes of the rules is not said yet.
-pub record IsRuled (text : List ℕ) (library : Option (List ℕ)) (program : Program) (outside : Outside) : Type 0 where
-  pub rules : Rules
-  pub spelled : IsReading text rules
-  pub table : IsTableWith library program outside
-
--- The output is the finished one of these inputs, and this is its summary: the file spells a program that is accepted, the text of
--- the rules and the library have a table for it, and the output is what is written for what that leaves.
+-- The output is the finished one of these inputs, and this is its summary: the file spells a program that is accepted, and the
+-- output is what is written for what is left of it by the table of the rules and the library.
 pub record Finished (inputs : Inputs) (output summary : List ℕ) : Type 0 where
   pub program : Program
   pub reads : program_at inputs.file ≡ Ok program
   pub accepted : IsAccepted program
   pub outside : Outside
-  pub ruled : IsRuled inputs.rules inputs.library program outside
+  pub table : IsTableWith inputs.rules inputs.library program outside
   pub shrunk : Shrunk program outside (sizes_in program (length inputs.file)) output summary
 
 -- The same of what the names hold that these words have fetched, where the shelf tells it.

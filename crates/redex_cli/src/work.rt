@@ -16,7 +16,8 @@ ghost use Rattle.text_defs.specs.Plays.{play_of};
 ghost use Rattle.redex_cli.specs.Accepted.{IsAccepted};
 ghost use Rattle.redex_cli.specs.Files.{AreRead, BytesRefused, FileRefused, HasGraphFault, HasTypeFault, LibraryRefused};
 ghost use Rattle.rule_text.specs.Fault.{IsFault};
-ghost use Rattle.redex_cli.specs.Finished.{Checks, Finished, IsRuled, IsWorkload, Shrunk, program_text, sizes_in};
+ghost use Rattle.rule_text.specs.ReadEntries.{IsReading};
+ghost use Rattle.redex_cli.specs.Finished.{Checks, Finished, IsWorkload, Shrunk, program_text, sizes_in};
 ghost use Rattle.redex_cli.specs.Refusals.{IsLibraryRefusal, LibraryEnds, MadeRefused, ReadRefused, TraceRefused, WorkRefused};
 ghost use Rattle.redex_cli.specs.Lists.{ListsFile};
 ghost use Rattle.redex_cli.specs.Tables.{IsTableBy, IsTableFor, IsTableWith};
@@ -183,16 +184,17 @@ struct Input {
     outside: Outside,
 }
 
-/// What the rules keep of a program, closed.
-#[tactic(auto, using(crate::proofs::Traced::table_for))]
+/// What the rules keep of a program, closed: the table of each text from which they may have been read.
 fn closed_outside(
     alloc: Global,
     rules: &Rules,
     program: &Program,
     hierarchy: &Hierarchy,
 ) -> Result<Outside, AllocError>
-    requires { KeepsLimits program.now }
-    ensures { IfOk result (IsTableFor program.now) }
+    requires limits { KeepsLimits program.now }
+    requires formed { is_well_formed program.now ≡ true }
+    requires resolved { IsResolved program.now hierarchy.now }
+    ensures table { (text : List ℕ) → IsReading text rules.now → IfOk result (IsTableFor text program.now) }
 {
     let open = outside_of(alloc, rules, program, hierarchy)?;
     close(alloc, program, hierarchy, &open)
@@ -208,8 +210,7 @@ fn narrowed_outside(
 ) -> Result<Outside, Status>
     requires formed { is_well_formed program.now ≡ true }
     requires resolved { IsResolved program.now hierarchy.now }
-    requires table { IsTableFor program.now closed }
-    ensures table { IfOk result (IsTableBy library program.now) }
+    ensures table { (rules : List ℕ) → IsTableFor rules program.now closed → IfOk result (IsTableBy rules library program.now) }
     ensures refused { IfErr result IsLibraryRefusal }
     ensures library { IfErr result (LibraryRefused library) }
 {
@@ -234,8 +235,7 @@ fn table_with(
 ) -> Result<Outside, Status>
     requires formed { is_well_formed program.now ≡ true }
     requires resolved { IsResolved program.now hierarchy.now }
-    requires table { IsTableFor program.now closed }
-    ensures table { IfOk result (IsTableWith library program.now) }
+    ensures table { (rules : List ℕ) → IsTableFor rules program.now closed → IfOk result (IsTableWith rules library program.now) }
     ensures refused { IfErr result (LibraryEnds library) }
 {
     match library {
@@ -246,14 +246,14 @@ fn table_with(
 
 /// The rules, the file, its class graph and its types, and the library, in this order. The bytes are let go as soon as they are
 /// read.
-#[tactic(auto, using(crate::proofs::FinishedLemmas::work_reads, crate::proofs::FinishedLemmas::bytes_read, crate::proofs::FinishedLemmas::library_work, crate::proofs::FinishedLemmas::library_bytes, crate::proofs::FinishedLemmas::are_read, crate::proofs::FinishedLemmas::ruled))]
+#[tactic(auto, using(crate::proofs::FinishedLemmas::work_reads, crate::proofs::FinishedLemmas::bytes_read, crate::proofs::FinishedLemmas::library_work, crate::proofs::FinishedLemmas::library_bytes))]
 fn read_input(alloc: Global, inputs: Inputs) -> Result<Input, Status>
     requires { length inputs.rules < 2 ^ 32 }
     ensures program { IfOk result (λ input. program_at inputs.file ≡ Ok input.program) }
     ensures formed { IfOk result (λ input. is_well_formed input.program ≡ true) }
     ensures resolved { IfOk result (λ input. IsResolved input.program input.hierarchy) }
     ensures accepted { IfOk result (λ input. IsAccepted input.program) }
-    ensures ruled { IfOk result (λ input. IsRuled inputs.rules inputs.library input.program input.outside) }
+    ensures table { IfOk result (λ input. IsTableWith inputs.rules inputs.library input.program input.outside) }
     ensures read { OnOk result (AreRead inputs) }
     ensures refused { IfErr result (WorkRefused inputs) }
     ensures bytes { IfErr result (BytesRefused inputs) }
@@ -420,7 +420,7 @@ pub fn optimise_workload(
 fn live_of(alloc: Global, input: &Input) -> Result<Vec<u8>, Status>
     requires formed { is_well_formed input.now.program ≡ true }
     requires resolved { IsResolved input.now.program input.now.hierarchy }
-    ensures lists { (inputs : Inputs) → program_at inputs.file ≡ Ok input.now.program → IsAccepted input.now.program → IsTableWith inputs.library input.now.program input.now.outside
+    ensures lists { (inputs : Inputs) → program_at inputs.file ≡ Ok input.now.program → IsAccepted input.now.program → IsTableWith inputs.rules inputs.library input.now.program input.now.outside
         → IfOk result (λ text. ListsFile inputs text.items) }
     ensures refused { (inputs : Inputs) → IfErr result (WorkRefused inputs) }
     ensures bytes { (inputs : Inputs) → IfErr result (BytesRefused inputs) }
@@ -517,7 +517,8 @@ fn events_of(
 #[tactic(auto, using(crate::proofs::Traced::traces))]
 fn trace_play(alloc: Global, input: &Input, play: &Play, steps: u32) -> Result<Vec<u8>, AllocError>
     requires { IsAccepted input.now.program }
-    ensures { (library : Option (List ℕ)) → IsTableWith library input.now.program input.now.outside → IfOk result (λ text. Traces library input.now.program play.now steps text.items) }
+    ensures { (rules : List ℕ) (library : Option (List ℕ)) → IsTableWith rules library input.now.program input.now.outside
+        → IfOk result (λ text. Traces rules library input.now.program play.now steps text.items) }
 {
     let events = events_of(alloc, input, play, steps)?;
     write_events(alloc, events.as_slice())
@@ -528,7 +529,7 @@ fn trace_play(alloc: Global, input: &Input, play: &Play, steps: u32) -> Result<V
 fn trace_input(alloc: Global, input: &Input, script: &[u8], steps: u32) -> Result<Vec<u8>, Status>
     requires script { length script.now < 2 ^ 32 }
     requires accepted { IsAccepted input.now.program }
-    ensures traced { (inputs : Inputs) → program_at inputs.file ≡ Ok input.now.program → IsTableWith inputs.library input.now.program input.now.outside
+    ensures traced { (inputs : Inputs) → program_at inputs.file ≡ Ok input.now.program → IsTableWith inputs.rules inputs.library input.now.program input.now.outside
         → IfOk result (λ text. TracesFile inputs script.now steps text.items) }
     ensures refused { (inputs : Inputs) → IfErr result (TraceRefused inputs script.now) }
     ensures bytes { (inputs : Inputs) → IfErr result (BytesRefused inputs) }

@@ -1,5 +1,5 @@
 -- What the output of `optimise` is to the rules and the file that it comes from.
-use Rattle.std.specs.Prelude.{◌≡◌, ◌⊎◌, ℕ, Bool, true, List, Ok}
+use Rattle.std.specs.Prelude.{◌≡◌, ◌⊎◌, ℕ, Bool, true, false, List, Ok}
 use Rattle.dalvik_defs.specs.Naming.{named}
 use Rattle.dalvik_defs.specs.Outer.{outer_of}
 use Rattle.dalvik_defs.specs.Shown.{SameShown}
@@ -21,10 +21,10 @@ use Rattle.pipeline.specs.Passes.{KeepsForms}
 use Rattle.rounds_bridge.specs.Ended.{NoneKnown, NoneBindable}
 use Rattle.stay_law.specs.Stays.{Stays}
 use Rattle.silence_bridge.specs.Admitted.{admitted_in}
+use Rattle.command_line.specs.Spelling.{Spells}
 use Rattle.command_line.specs.declared.command.CommandWords.TheVariants.{Optimise}
 use Rattle.command_line.specs.declared.command.OptimiseWords.{OptimiseWords}
 use Rattle.redex_outside.specs.Held.{Held}
-use Rattle.redex_cli.specs.Commands.{Commands}
 use Rattle.redex_cli.specs.Files.{AreHeld}
 use Rattle.redex_cli.specs.Tables.{IsTableWith}
 use Rattle.redex_cli.specs.declared.fetching.Inputs.{Inputs}
@@ -69,10 +69,14 @@ pub record Shrinks (inputs : Inputs) (output : List ℕ) : Type 0 where
   pub written : IsWritten left output
   pub keeps : KeepsMeaning program outside left
 
+-- The words don't ask that calls are inlined. Of a program whose calls are inlined no law says yet what it shows.
+abbrev pub InlinesNothing : List (List ℕ) → Type 0
+InlinesNothing words = (asked : OptimiseWords) → Spells words (Optimise asked) → asked.inline ≡ false
+
 -- The words spell `optimise`, and the output is such a one of what the names hold.
 pub record Headline (words : List (List ℕ)) (held : Held) (output : List ℕ) : Type 0 where
   pub asked : OptimiseWords
-  pub commands : Commands words (Optimise asked)
+  pub spelled : Spells words (Optimise asked)
   pub inputs : Inputs
   pub are : AreHeld true held asked.rules asked.input asked.library inputs
   pub shrinks : Shrinks inputs output

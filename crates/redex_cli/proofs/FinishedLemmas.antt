@@ -10,14 +10,16 @@ use Rattle.dex_read.specs.declared.fault.DexFault.{DexFault}
 use Rattle.dex_write.specs.Written.{IsWritten}
 use Rattle.hierarchy.specs.Shapes.{IsCause}
 use Rattle.hierarchy.specs.declared.fault.HierarchyFault.{HierarchyFault}
+use Rattle.pipeline.specs.Inlined.{IsOptimisedInlined}
 use Rattle.pipeline.specs.Rounds.{IsOptimised}
 use Rattle.program_model.specs.ProgramRules.{is_well_formed}
 use Rattle.program_model.specs.declared.pass.Origin.{Origin}
 use Rattle.program_model.specs.declared.pass.Outside.{Outside}
 use Rattle.program_model.specs.declared.program.Program.{Program}
+use Rattle.redex_outside.specs.Voices.{Voice}
 use Rattle.redex_cli.specs.Accepted.{IsAccepted}
 use Rattle.redex_cli.specs.Files.{AreRead, BytesRefused, FileRefused, HasGraphFault, IsDeclared, IsRead}
-use Rattle.redex_cli.specs.Finished.{Checks, Finished, IsWorkload, Shrunk, program_text, sizes_in, summary_text}
+use Rattle.redex_cli.specs.Finished.{Checks, Finished, IsWorkload, LeavesBy, Shrunk, program_text, sizes_in, summary_text}
 use Rattle.redex_cli.specs.Lists.{ListsFile, live_text}
 use Rattle.redex_cli.specs.Refusals.{IsDexFault, IsLibraryFault, IsLibraryRefusal, LibraryEnds, MadeRefused, ReadRefused, WorkRefused}
 use Rattle.redex_cli.specs.Tables.{IsTableWith}
@@ -33,34 +35,46 @@ pub well_formed_if : (bytes : List ℕ) (result : Result Program DexFault) → (
 well_formed_if bytes (Ok p) formed gives = formed p gives
 well_formed_if bytes (Err e) formed gives = tt
 
-pub shrunk : (program : Program) (outside : Outside) (before after : Sizes) (left : Program) (rounds spared advisers : ℕ) (old new : List Bool) (origins : List (List Origin)) (output summary : List ℕ)
-    → is_well_formed program ≡ true → (is_well_formed program ≡ true → IsOptimised outside program advisers old new spared left origins rounds)
+pub leaves : (inline : Bool) (program : Program) (outside : Outside) (left : Program) (rounds spared advisers : ℕ) (old new : List Bool) (origins : List (List Origin))
+    → inline ≡ false → IsOptimised outside program advisers old new spared left origins rounds → LeavesBy inline program outside left rounds spared
+leaves false program outside left rounds spared advisers old new origins none optimised =
+    record { advisers = advisers; before = old; after = new; origins = origins; optimised = optimised }
+leaves true program outside left rounds spared advisers old new origins none optimised = cc
+
+pub leaves_inlined : (inline : Bool) (program : Program) (outside : Outside) (left : Program) (rounds spared : ℕ) (olds news : List Voice) (old new : List Bool) (origins : List (List Origin))
+    → inline ≡ true → IsOptimisedInlined outside program olds news old new spared left origins rounds → LeavesBy inline program outside left rounds spared
+leaves_inlined true program outside left rounds spared olds news old new origins some optimised =
+    record { olds = olds; news = news; before = old; after = new; origins = origins; optimised = optimised }
+leaves_inlined false program outside left rounds spared olds news old new origins some optimised = cc
+
+pub shrunk : (inline : Bool) (program : Program) (outside : Outside) (before after : Sizes) (left : Program) (rounds spared : ℕ) (output summary : List ℕ)
+    → LeavesBy inline program outside left rounds spared
     → IsWritten left output → after ≡ sizes_in left (length output) → summary ≡ summary_text before after rounds spared → 1 ≤ rounds
-    → Shrunk program outside before output summary
-shrunk program outside before after left rounds spared advisers old new origins output summary well optimised written sizes says one_round = record {
+    → Shrunk inline program outside before output summary
+shrunk inline program outside before after left rounds spared output summary leaves written sizes says one_round = record {
   left = left;
   rounds = rounds;
   spared = spared;
-  leaves = record { advisers = advisers; before = old; after = new; origins = origins; optimised = optimised well };
+  leaves = leaves;
   written = written;
   says = subst (λ (sizes : Sizes). summary ≡ summary_text before sizes rounds spared) sizes says;
   one_round = one_round;
 }
 
 -- the file is found to have so many bytes
-pub finished : (program : Program) (outside : Outside) (inputs : Inputs) (bytes : ℕ) (output summary : List ℕ) → bytes ≡ length inputs.file → program_at inputs.file ≡ Ok program
-    → IsAccepted program → IsTableWith inputs.rules inputs.library program outside
-    → Shrunk program outside (sizes_in program bytes) output summary → Finished inputs output summary
-finished program outside inputs bytes output summary same reads accepted table shrunk = record {
+pub finished : (inline : Bool) (program : Program) (outside : Outside) (inputs : Inputs) (bytes : ℕ) (output summary : List ℕ) → bytes ≡ length inputs.file
+    → program_at inputs.file ≡ Ok program → IsAccepted program → IsTableWith inputs.rules inputs.library program outside
+    → Shrunk inline program outside (sizes_in program bytes) output summary → Finished inline inputs output summary
+finished inline program outside inputs bytes output summary same reads accepted table shrunk = record {
   program = program;
   reads = reads;
   accepted = accepted;
   outside = outside;
   table = table;
-  shrunk = subst (λ (n : ℕ). Shrunk program outside (sizes_in program n) output summary) same shrunk;
+  shrunk = subst (λ (n : ℕ). Shrunk inline program outside (sizes_in program n) output summary) same shrunk;
 }
 
-pub is_workload : (inputs : Inputs) (output text : List ℕ) → inputs.library ≡ None → Finished inputs output text → IsWorkload text
+pub is_workload : (inputs : Inputs) (output text : List ℕ) → inputs.library ≡ None → Finished false inputs output text → IsWorkload text
 is_workload inputs output text alone finished = record { inputs = inputs; alone = alone; output = output; finished = finished }
 
 pub made : (inputs : Inputs) (status : Status) → inputs.library ≡ None → WorkRefused inputs status → BytesRefused inputs status → MadeRefused status

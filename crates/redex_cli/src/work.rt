@@ -17,7 +17,7 @@ ghost use Rattle.redex_cli.specs.Accepted.{IsAccepted};
 ghost use Rattle.redex_cli.specs.Files.{AreRead, BytesRefused, FileRefused, HasGraphFault, HasTypeFault, LibraryRefused};
 ghost use Rattle.rule_text.specs.Fault.{IsFault};
 ghost use Rattle.rule_text.specs.ReadEntries.{IsReading};
-ghost use Rattle.redex_cli.specs.Finished.{Checks, Finished, IsWorkload, Shrunk, program_text, sizes_in};
+ghost use Rattle.redex_cli.specs.Finished.{Checks, Finished, IsWorkload, LeavesBy, Shrunk, program_text, sizes_in};
 ghost use Rattle.redex_cli.specs.Refusals.{IsLibraryRefusal, LibraryEnds, MadeRefused, ReadRefused, TraceRefused, WorkRefused};
 ghost use Rattle.redex_cli.specs.Lists.{ListsFile};
 ghost use Rattle.redex_cli.specs.Tables.{IsTableBy, IsTableFor, IsTableWith};
@@ -36,7 +36,7 @@ use dex_read::{DexFault, read_dex};
 use dex_write::write_dex;
 use hierarchy::{Hierarchy, HierarchyFault};
 use keep_rules::{RuleFault, Rules, outside_of, read_rules};
-use pipeline::optimise;
+use pipeline::{Outcome, optimise, optimise_inlined};
 use program_model::{Outside, Program};
 use reach::close;
 use read_laws::programs::reads_well_formed;
@@ -299,19 +299,41 @@ pub struct Optimised {
     pub summary: String,
 }
 
+/// What is left of a program, with calls inlined before the rounds or without.
+#[tactic(auto, using(crate::proofs::FinishedLemmas::leaves, crate::proofs::FinishedLemmas::leaves_inlined))]
+fn left_of(
+    alloc: Global,
+    program: Program,
+    outside: &Outside,
+    inline: bool,
+    panel: &mut Panel,
+) -> Result<Outcome, AllocError>
+    requires advisers { 0 ≤ vec_len panel.old.advisers }
+    requires formed { is_well_formed program ≡ true }
+    ensures leaves { IfOk result (λ outcome. LeavesBy inline program outside.now outcome.program outcome.rounds outcome.spared) }
+    ensures rounds { IfOk result (λ outcome. 1 ≤ outcome.rounds) }
+{
+    if inline {
+        optimise_inlined(alloc, program, outside, panel)
+    } else {
+        optimise(alloc, program, outside, panel)
+    }
+}
+
 /// Optimises a program, writes what is left and sums up.
 #[tactic(auto, using(crate::proofs::FinishedLemmas::shrunk))]
 fn optimise_program(
     alloc: Global,
     program: Program,
     outside: &Outside,
+    inline: bool,
     before: Sizes,
     panel: &mut Panel,
 ) -> Result<Optimised, AllocError>
     requires { is_well_formed program ≡ true }
-    ensures { IfOk result (λ optimised. Shrunk program outside.now before optimised.bytes.items (string_bytes optimised.summary)) }
+    ensures { IfOk result (λ optimised. Shrunk inline program outside.now before optimised.bytes.items (string_bytes optimised.summary)) }
 {
-    let outcome = optimise(alloc, program, outside, panel)?;
+    let outcome = left_of(alloc, program, outside, inline, panel)?;
     let bytes = write_dex(alloc, &outcome.program)?;
     let after = sizes_of(&outcome.program, bytes.len());
     let summary = summary(alloc, before, after, outcome.rounds, outcome.spared)?;
@@ -333,14 +355,15 @@ fn told(
 fn optimise_input(
     alloc: Global,
     input: Input,
+    inline: bool,
     length: usize,
     panel: &mut Panel,
 ) -> Result<Optimised, AllocError>
     requires { is_well_formed input.program ≡ true }
-    ensures { IfOk result (λ optimised. Shrunk input.program input.outside (sizes_in input.program length) optimised.bytes.items (string_bytes optimised.summary)) }
+    ensures { IfOk result (λ optimised. Shrunk inline input.program input.outside (sizes_in input.program length) optimised.bytes.items (string_bytes optimised.summary)) }
 {
     let before = sizes_of(&input.program, length);
-    optimise_program(alloc, input.program, &input.outside, before, panel)
+    optimise_program(alloc, input.program, &input.outside, inline, before, panel)
 }
 
 /// Optimises a file by its rules, and by its library where there is one.
@@ -348,11 +371,12 @@ fn optimise_input(
 pub fn optimise_file(
     alloc: Global,
     inputs: Inputs,
+    inline: bool,
     tells: &[Tell],
     advisers: Vec<Box<dyn Adviser>>,
 ) -> Result<Optimised, Status>
     requires { length inputs.rules < 2 ^ 32 }
-    ensures finished { IfOk result (λ optimised. Finished inputs optimised.bytes.items (string_bytes optimised.summary)) }
+    ensures finished { IfOk result (λ optimised. Finished inline inputs optimised.bytes.items (string_bytes optimised.summary)) }
     ensures read { OnOk result (AreRead inputs) }
     ensures refused { IfErr result (WorkRefused inputs) }
     ensures bytes { IfErr result (BytesRefused inputs) }
@@ -366,7 +390,7 @@ pub fn optimise_file(
         Ok(panel) => panel,
         Err(_) => return Err(Status::NoMemory),
     };
-    match optimise_input(alloc, input, length, &mut panel) {
+    match optimise_input(alloc, input, inline, length, &mut panel) {
         Ok(optimised) => Ok(optimised),
         Err(_) => Err(Status::NoMemory),
     }
@@ -409,7 +433,7 @@ pub fn optimise_workload(
         Ok(inputs) => inputs,
         Err(_) => return Err(Status::NoMemory),
     };
-    match optimise_file(alloc, inputs, &[], advisers) {
+    match optimise_file(alloc, inputs, false, &[], advisers) {
         Ok(optimised) => Ok(optimised.summary),
         Err(status) => Err(status),
     }

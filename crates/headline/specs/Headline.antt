@@ -1,5 +1,5 @@
 -- What the output of `optimise` is to the rules and the file that it comes from.
-use Rattle.std.specs.Prelude.{◌≡◌, ◌⊎◌, ℕ, Bool, true, List, Some, Ok}
+use Rattle.std.specs.Prelude.{◌≡◌, ◌⊎◌, ℕ, Bool, true, false, List, Ok}
 use Rattle.dalvik_defs.specs.Naming.{named}
 use Rattle.dalvik_defs.specs.Outer.{outer_of}
 use Rattle.dalvik_defs.specs.Shown.{SameShown}
@@ -21,20 +21,23 @@ use Rattle.pipeline.specs.Passes.{KeepsForms}
 use Rattle.rounds_bridge.specs.Ended.{NoneKnown, NoneBindable}
 use Rattle.stay_law.specs.Stays.{Stays}
 use Rattle.silence_bridge.specs.Admitted.{admitted_in}
+use Rattle.command_line.specs.Spelling.{Spells}
 use Rattle.command_line.specs.declared.command.CommandWords.TheVariants.{Optimise}
 use Rattle.command_line.specs.declared.command.OptimiseWords.{OptimiseWords}
 use Rattle.redex_outside.specs.Held.{Held}
-use Rattle.redex_cli.specs.Commands.{Commands}
-use Rattle.redex_cli.specs.Finished.{IsRuled}
+use Rattle.redex_cli.specs.Files.{AreHeld}
+use Rattle.redex_cli.specs.Tables.{IsTableWith}
+use Rattle.redex_cli.specs.declared.fetching.Inputs.{Inputs}
 
 -- What is left of a program shows what the program shows without its silent calls in the admitted methods, to every
 -- framework, under every script and float table that fit, and is well-formed and typed. Some advisers were asked which methods
 -- may be rewritten: these are admitted. Facts that are certified of what is left leave nothing to write in their bodies (`NoneLeft`
--- of const_prop), and no call to name another method (`NoneLeft` of devirt), or there are no such facts, or none were asked for,
--- since no method is admitted or a kept constructor is none of its class (`KeepsForms` of pipeline). In their bodies, whose positions and regions 32 bits number, every position is reached, is no
--- goto to the next one and no nop, but where the branch behind it goes to it, and none computes what nobody reads; and unless
--- the program names a method of a wide type, no read of a copy could be one of the original (`IsStale` of pass_defs; 16 bits
--- number the body's registers), and no register could have a lower number (`IsPacked`). Every class, method
+-- of const_prop) and, where the superclass of no interface is a class of the program that is none, no call to name another method
+-- (`NoneLeft` of devirt), or there are no such facts, or none were asked for, since no method is admitted or a kept constructor is
+-- none of its class (`KeepsForms` of pipeline). In their bodies, whose positions and regions 32 bits number, every position is
+-- reached, is no goto to the next one and no nop, but where the branch behind it goes to it, and none computes what nobody reads;
+-- and unless the program names a method of a wide type, no read of a copy could be one of the original (`IsStale` of pass_defs; 16
+-- bits number the body's registers), and no register could have a lower number (`IsPacked`). Every class, method
 -- and field is one that the program has; a method that isn't admitted stays as it was, and no body has more registers (`Stays`).
 pub record KeepsMeaning (program : Program) (outside : Outside) (left : Program) : Type 0 where
   pub admitted : List Bool
@@ -54,24 +57,26 @@ pub record KeepsMeaning (program : Program) (outside : Outside) (left : Program)
   pub packed : has_narrow_classes left ≡ true → AllPacked admitted left
   pub stays : Stays admitted program left
 
--- The file spells a program, the rules have a table for it, and the output is the file that is written for a program that
--- keeps its meaning. Not said yet: how the table comes of the rules, and that the written file spells that program and is
--- valid.
-pub record Shrinks (rules file output : List ℕ) : Type 0 where
+-- The file spells a program, the rules that their text spells make a table of it, which is closed, with the methods shut that the
+-- library shuts where there is one, and the output is the file that is written for a program that keeps its meaning. Not said yet:
+-- which conditions of the table are taken for met, and that the written file spells that program and is valid.
+pub record Shrinks (inputs : Inputs) (output : List ℕ) : Type 0 where
   pub program : Program
-  pub reads : program_at file ≡ Ok program
+  pub reads : program_at inputs.file ≡ Ok program
   pub outside : Outside
-  pub ruled : IsRuled rules program outside
+  pub table : IsTableWith inputs.rules inputs.library program outside
   pub left : Program
   pub written : IsWritten left output
   pub keeps : KeepsMeaning program outside left
 
+-- The words don't ask that calls are inlined. Of a program whose calls are inlined no law says yet what it shows.
+abbrev pub InlinesNothing : List (List ℕ) → Type 0
+InlinesNothing words = (asked : OptimiseWords) → Spells words (Optimise asked) → asked.inline ≡ false
+
 -- The words spell `optimise`, and the output is such a one of what the names hold.
 pub record Headline (words : List (List ℕ)) (held : Held) (output : List ℕ) : Type 0 where
   pub asked : OptimiseWords
-  pub commands : Commands words (Optimise asked)
-  pub rules : List ℕ
-  pub ruled : held asked.rules ≡ Some rules
-  pub file : List ℕ
-  pub filed : held asked.input ≡ Some file
-  pub shrinks : Shrinks rules file output
+  pub spelled : Spells words (Optimise asked)
+  pub inputs : Inputs
+  pub are : AreHeld true held asked.rules asked.input asked.library inputs
+  pub shrinks : Shrinks inputs output

@@ -1,6 +1,8 @@
 -- Finished outputs.
-use Rattle.std.proofs.Common.{◌≡◌, ◌≤◌, ℕ, List, Bool, length, true, Result, Ok, Err, subst, sym}
+use Rattle.std.proofs.Common.{◌≡◌, ◌≤◌, ℕ, List, [], Bool, length, true, false, Option, None, Some, Result, Ok, Err, refl, subst, inl, inr}
 use Rattle.std.specs.Prelude.{IfOk}
+use Rattle.call_graph.specs.Closed.{IsClosedSet}
+use Rattle.call_graph.specs.declared.live_set.LiveSet.{LiveSet}
 use Rattle.dex_base.specs.Reading.{Gives}
 use Rattle.dex_read.specs.Faults.{is_free}
 use Rattle.dex_read.specs.File.{program_at}
@@ -8,18 +10,21 @@ use Rattle.dex_read.specs.declared.fault.DexFault.{DexFault}
 use Rattle.dex_write.specs.Written.{IsWritten}
 use Rattle.hierarchy.specs.Shapes.{IsCause}
 use Rattle.hierarchy.specs.declared.fault.HierarchyFault.{HierarchyFault}
+use Rattle.pipeline.specs.Inlined.{IsOptimisedInlined}
 use Rattle.pipeline.specs.Rounds.{IsOptimised}
 use Rattle.program_model.specs.ProgramRules.{is_well_formed}
 use Rattle.program_model.specs.declared.pass.Origin.{Origin}
 use Rattle.program_model.specs.declared.pass.Outside.{Outside}
 use Rattle.program_model.specs.declared.program.Program.{Program}
-use Rattle.rule_text.specs.ReadEntries.{IsReading}
-use Rattle.rule_text.specs.declared.rules.Rules.{Rules}
+use Rattle.redex_outside.specs.Voices.{Voice}
 use Rattle.redex_cli.specs.Accepted.{IsAccepted}
-use Rattle.redex_cli.specs.Files.{HasGraphFault, IsRead}
-use Rattle.redex_cli.specs.Finished.{Checks, Finished, IsRuled, IsWorkload, Shrunk, program_text, sizes_in, summary_text}
-use Rattle.redex_cli.specs.Refusals.{MadeRefused, ReadRefused, WorkRefused}
-use Rattle.redex_cli.specs.Traces.{IsTableFor}
+use Rattle.redex_cli.specs.Files.{AreRead, BytesRefused, FileRefused, HasGraphFault, IsDeclared, IsRead}
+use Rattle.redex_cli.specs.Finished.{Checks, Finished, IsWorkload, LeavesBy, Shrunk, program_text, sizes_in, summary_text}
+use Rattle.redex_cli.specs.Lists.{ListsFile, live_text}
+use Rattle.redex_cli.specs.Refusals.{IsDexFault, IsLibraryFault, IsLibraryRefusal, LibraryEnds, MadeRefused, ReadRefused, WorkRefused}
+use Rattle.redex_cli.specs.Tables.{IsTableWith}
+use Rattle.redex_cli.specs.declared.fetching.Inputs.{Inputs}
+use Rattle.redex_cli.specs.declared.status.InputFault.TheVariants as input
 use Rattle.redex_cli.specs.declared.status.Status.{Status}
 use Rattle.redex_cli.specs.declared.status.Status.TheVariants.{Done, Usage, BadRules, BadDex, Limit, ReadFault, WriteFault, NoMemory, BadScript}
 use Rattle.redex_cli.specs.declared.summary.Sizes.{Sizes}
@@ -30,59 +35,148 @@ pub well_formed_if : (bytes : List ℕ) (result : Result Program DexFault) → (
 well_formed_if bytes (Ok p) formed gives = formed p gives
 well_formed_if bytes (Err e) formed gives = tt
 
-pub shrunk : (program : Program) (outside : Outside) (before after : Sizes) (left : Program) (rounds spared advisers : ℕ) (old new : List Bool) (origins : List (List Origin)) (output summary : List ℕ)
-    → is_well_formed program ≡ true → (is_well_formed program ≡ true → IsOptimised outside program advisers old new spared left origins rounds)
+pub leaves : (inline : Bool) (program : Program) (outside : Outside) (left : Program) (rounds spared advisers : ℕ) (old new : List Bool) (origins : List (List Origin))
+    → inline ≡ false → IsOptimised outside program advisers old new spared left origins rounds → LeavesBy inline program outside left rounds spared
+leaves false program outside left rounds spared advisers old new origins none optimised =
+    record { advisers = advisers; before = old; after = new; origins = origins; optimised = optimised }
+leaves true program outside left rounds spared advisers old new origins none optimised = cc
+
+pub leaves_inlined : (inline : Bool) (program : Program) (outside : Outside) (left : Program) (rounds spared : ℕ) (olds news : List Voice) (old new : List Bool) (origins : List (List Origin))
+    → inline ≡ true → IsOptimisedInlined outside program olds news old new spared left origins rounds → LeavesBy inline program outside left rounds spared
+leaves_inlined true program outside left rounds spared olds news old new origins some optimised =
+    record { olds = olds; news = news; before = old; after = new; origins = origins; optimised = optimised }
+leaves_inlined false program outside left rounds spared olds news old new origins some optimised = cc
+
+pub shrunk : (inline : Bool) (program : Program) (outside : Outside) (before after : Sizes) (left : Program) (rounds spared : ℕ) (output summary : List ℕ)
+    → LeavesBy inline program outside left rounds spared
     → IsWritten left output → after ≡ sizes_in left (length output) → summary ≡ summary_text before after rounds spared → 1 ≤ rounds
-    → Shrunk program outside before output summary
-shrunk program outside before after left rounds spared advisers old new origins output summary well optimised written sizes says one_round = record {
+    → Shrunk inline program outside before output summary
+shrunk inline program outside before after left rounds spared output summary leaves written sizes says one_round = record {
   left = left;
   rounds = rounds;
   spared = spared;
-  leaves = record { advisers = advisers; before = old; after = new; origins = origins; optimised = optimised well };
+  leaves = leaves;
   written = written;
   says = subst (λ (sizes : Sizes). summary ≡ summary_text before sizes rounds spared) sizes says;
   one_round = one_round;
 }
 
-pub ruled : (rules : Rules) (program : Program) (outside : Outside) (text : List ℕ) → IsReading text rules → IsTableFor program outside → IsRuled text program outside
-ruled rules program outside text spelled table = record { rules = rules; spelled = spelled; table = table }
-
-pub finished : (program : Program) (outside : Outside) (rules file output summary : List ℕ) → program_at file ≡ Ok program → IsAccepted program
-    → IsRuled rules program outside → Shrunk program outside (sizes_in program (length file)) output summary → Finished rules file output summary
-finished program outside rules file output summary reads accepted ruled shrunk = record {
+-- the file is found to have so many bytes
+pub finished : (inline : Bool) (program : Program) (outside : Outside) (inputs : Inputs) (bytes : ℕ) (output summary : List ℕ) → bytes ≡ length inputs.file
+    → program_at inputs.file ≡ Ok program → IsAccepted program → IsTableWith inputs.rules inputs.library program outside
+    → Shrunk inline program outside (sizes_in program bytes) output summary → Finished inline inputs output summary
+finished inline program outside inputs bytes output summary same reads accepted table shrunk = record {
   program = program;
   reads = reads;
   accepted = accepted;
   outside = outside;
-  ruled = ruled;
-  shrunk = shrunk;
+  table = table;
+  shrunk = subst (λ (n : ℕ). Shrunk inline program outside (sizes_in program n) output summary) same shrunk;
 }
 
-pub is_workload : (rules file output text : List ℕ) → Finished rules file output text → IsWorkload text
-is_workload rules file output text finished = record { rules = rules; file = file; output = output; finished = finished }
+pub is_workload : (inputs : Inputs) (output text : List ℕ) → inputs.library ≡ None → Finished false inputs output text → IsWorkload text
+is_workload inputs output text alone finished = record { inputs = inputs; alone = alone; output = output; finished = finished }
 
-pub made : (rules : List ℕ) (status : Status) → WorkRefused rules status → MadeRefused status
-made rules status refused = record { rules = rules; refused = refused }
+pub made : (inputs : Inputs) (status : Status) → inputs.library ≡ None → WorkRefused inputs status → BytesRefused inputs status → MadeRefused status
+made inputs status alone refused bytes = record { inputs = inputs; alone = alone; refused = refused; bytes = bytes }
 
--- what refuses the work on a file refuses that on rules and a file
-pub work_reads : (rules : List ℕ) (status : Status) → ReadRefused status → WorkRefused rules status
-work_reads rules (BadRules fault) r = absurd r
-work_reads rules Done r = r
-work_reads rules Usage r = r
-work_reads rules (BadDex fault) r = r
-work_reads rules (Limit fault) r = r
-work_reads rules ReadFault r = r
-work_reads rules WriteFault r = r
-work_reads rules NoMemory r = r
-work_reads rules (BadScript line) r = r
+-- no memory for inputs
+pub none_made : MadeRefused NoMemory
+none_made = made (record { rules = []; file = []; library = None }) NoMemory refl tt (inl tt)
+
+-- ---- what refuses the work
+
+-- what refuses the work on a file refuses that on all inputs
+pub work_reads : (inputs : Inputs) (status : Status) → ReadRefused status → WorkRefused inputs status
+work_reads inputs (BadRules fault) r = absurd r
+work_reads inputs (BadDex (input.Library fault)) r = absurd r
+work_reads inputs (BadDex (input.Dex fault)) r = r
+work_reads inputs (BadDex (input.Hierarchy fault)) r = r
+work_reads inputs (BadDex (input.Typing fault)) r = r
+work_reads inputs Done r = r
+work_reads inputs Usage r = r
+work_reads inputs (Limit fault) r = r
+work_reads inputs ReadFault r = r
+work_reads inputs WriteFault r = r
+work_reads inputs NoMemory r = r
+work_reads inputs (BadScript line) r = r
+
+pub bytes_read : (inputs : Inputs) (status : Status) → FileRefused inputs.file status → BytesRefused inputs status
+bytes_read inputs status r = inl r
+
+some_library : (library : Option (List ℕ)) (bytes : List ℕ) (fault : DexFault) → library ≡ Some bytes → IsDexFault fault → IsLibraryFault library fault
+some_library None bytes fault e r = cc
+some_library (Some other) bytes fault e r = r
+
+library_refusal : (inputs : Inputs) (bytes : List ℕ) (status : Status) → inputs.library ≡ Some bytes → IsLibraryRefusal status → WorkRefused inputs status
+library_refusal inputs bytes (BadRules fault) is r = absurd r
+library_refusal inputs bytes (BadDex (input.Library fault)) is r = some_library inputs.library bytes fault is r
+library_refusal inputs bytes (BadDex (input.Dex fault)) is r = absurd r
+library_refusal inputs bytes (BadDex (input.Hierarchy fault)) is r = absurd r
+library_refusal inputs bytes (BadDex (input.Typing fault)) is r = absurd r
+library_refusal inputs bytes Done is r = absurd r
+library_refusal inputs bytes Usage is r = absurd r
+library_refusal inputs bytes (Limit fault) is r = r
+library_refusal inputs bytes ReadFault is r = absurd r
+library_refusal inputs bytes WriteFault is r = absurd r
+library_refusal inputs bytes NoMemory is r = tt
+library_refusal inputs bytes (BadScript line) is r = absurd r
+
+ends_work : (inputs : Inputs) (library : Option (List ℕ)) (status : Status) → inputs.library ≡ library → LibraryEnds library status → WorkRefused inputs status
+ends_work inputs None status is r = absurd r
+ends_work inputs (Some bytes) status is r = library_refusal inputs bytes status is r.0
+
+-- what refuses the library refuses the work on all inputs
+pub library_work : (inputs : Inputs) (status : Status) → LibraryEnds inputs.library status → WorkRefused inputs status
+library_work inputs status r = ends_work inputs inputs.library status refl r
+
+ends_bytes : (inputs : Inputs) (library : Option (List ℕ)) (status : Status) → IsRead inputs.file → inputs.library ≡ library → LibraryEnds library status → BytesRefused inputs status
+ends_bytes inputs None status read is r = absurd r
+ends_bytes inputs (Some bytes) status read is r = inr (record { read = read; bytes = bytes; is = is; refused = r.1 })
+
+pub library_bytes : (inputs : Inputs) (program : Program) (status : Status) → program_at inputs.file ≡ Ok program → IsAccepted program → LibraryEnds inputs.library status
+    → BytesRefused inputs status
+library_bytes inputs program status reads accepted r =
+    ends_bytes inputs inputs.library status (record { program = program; reads = reads; accepted = accepted }) refl r
+
+declared_by : (rules : List ℕ) (library : Option (List ℕ)) (program : Program) (outside : Outside) → IsTableWith rules library program outside → (bytes : List ℕ)
+    → library ≡ Some bytes → IsDeclared bytes
+declared_by rules None program outside table bytes e = cc
+declared_by rules (Some other) program outside table bytes e =
+    subst (λ (b : List ℕ). IsDeclared b) (same other bytes e) (record { library = table.library; declares = table.declares })
+  where
+    same : (other bytes : List ℕ) → Some other ≡ Some bytes → other ≡ bytes
+    same other bytes e = cc
+
+pub are_read : (inputs : Inputs) (program : Program) (outside : Outside) → program_at inputs.file ≡ Ok program → IsAccepted program
+    → IsTableWith inputs.rules inputs.library program outside → AreRead inputs
+are_read inputs program outside reads accepted table = record {
+  file = record { program = program; reads = reads; accepted = accepted };
+  library = declared_by inputs.rules inputs.library program outside table;
+}
+
+-- ---- a file alone
 
 pub checked : (program : Program) (bytes text : List ℕ) → program_at bytes ≡ Ok program → IsAccepted program → text ≡ program_text program
     → Checks bytes text
 checked program bytes text reads accepted says = record { program = program; reads = reads; accepted = accepted; says = says }
 
-pub read : (program : Program) (bytes : List ℕ) → program_at bytes ≡ Ok program → IsAccepted program → IsRead bytes
-read program bytes reads accepted = record { program = program; reads = reads; accepted = accepted }
-
 pub graph_fault : (program : Program) (bytes : List ℕ) (fault : HierarchyFault) → program_at bytes ≡ Ok program
     → is_well_formed program ≡ true → (is_well_formed program ≡ true → IsCause program fault) → HasGraphFault bytes fault
 graph_fault program bytes fault reads well cause = record { program = program; reads = reads; formed = well; cause = cause well }
+
+-- ---- what is live
+
+pub lists_file : (inputs : Inputs) (program : Program) (outside : Outside) (live : LiveSet) (text : List ℕ) → program_at inputs.file ≡ Ok program
+    → IsAccepted program → IsTableWith inputs.rules inputs.library program outside → IsClosedSet program outside live → text ≡ live_text program live
+    → ListsFile inputs text
+lists_file inputs program outside live text reads accepted table closed says = record {
+  program = program;
+  reads = reads;
+  accepted = accepted;
+  outside = outside;
+  table = table;
+  live = live;
+  closed = closed;
+  says = says;
+}

@@ -4,8 +4,9 @@ use Rattle.text_defs.specs.Plays.{IsRefusal, play_of}
 use Rattle.text_defs.specs.declared.fault.ScriptFault.{ScriptFault}
 use Rattle.text_defs.specs.declared.fault.ScriptFault.TheVariants as fault
 use Rattle.redex_cli.specs.Refusals.{TraceRefused}
+use Rattle.redex_cli.specs.declared.fetching.Inputs.{Inputs}
 use Rattle.redex_cli.specs.declared.status.Status.TheVariants.{BadScript}
 
-pub line_refuses : (rules text : List ℕ) (line : ℕ) → IsRefusal text (fault.Line line) → TraceRefused rules text (BadScript line)
-line_refuses rules text line (inl e) = cc
-line_refuses rules text line (inr e) = e
+pub line_refuses : (inputs : Inputs) (text : List ℕ) (line : ℕ) → IsRefusal text (fault.Line line) → TraceRefused inputs text (BadScript line)
+line_refuses inputs text line (inl e) = cc
+line_refuses inputs text line (inr e) = e

@@ -1,5 +1,5 @@
 -- What `trace` says, from what the machine says of a run.
-use Rattle.std.proofs.Common.{◌≡◌, ◌≤◌, ℕ, List, [], true, length, subst, Result, Ok, Err}
+use Rattle.std.proofs.Common.{◌≡◌, ◌≤◌, ℕ, List, [], true, length, subst, Option, Result, Ok, Err}
 use Rattle.std.specs.Prelude.{IfOk}
 use Rattle.array_law.proofs.Runs.{make_arrays}
 use Rattle.dalvik_defs.specs.Naming.{named}
@@ -11,15 +11,27 @@ use Rattle.dalvik_defs.specs.declared.tables.Floats.{Floats}
 use Rattle.dalvik_defs.specs.declared.tables.Framework.{Framework}
 use Rattle.dalvik_model.specs.Standing.{IsSubject, MakesOnlyArrays, shown_by, subject_of}
 use Rattle.dex_read.specs.File.{program_at}
-use Rattle.keep_rules.specs.Outside.{IsWithin}
+use Rattle.hierarchy.specs.Shapes.{IsOf, IsResolved}
+use Rattle.hierarchy.specs.declared.build.Hierarchy.{Hierarchy}
+use Rattle.keep_rules.specs.Table.{IsTable}
 use Rattle.program_model.specs.declared.pass.Outside.{Outside}
 use Rattle.program_model.specs.declared.program.Program.{Program}
+use Rattle.program_model.specs.ProgramRules.{is_well_formed}
 use Rattle.reach.specs.Kept.{Closes}
+use Rattle.rule_text.specs.ReadEntries.{IsReading}
+use Rattle.rule_text.specs.Related.{AreEntriesOf}
+use Rattle.rule_text.specs.Rules.{Entry}
+use Rattle.rule_text.specs.declared.rules.Rules.{Rules}
 use Rattle.text_defs.specs.EventLines.{event_lines}
 use Rattle.text_defs.specs.Plays.{play_of}
 use Rattle.text_defs.specs.declared.play.Play.{Play}
 use Rattle.redex_cli.specs.Accepted.{IsAccepted}
-use Rattle.redex_cli.specs.Traces.{IsTableFor, Traces, TracesFile}
+use Rattle.stub_library.specs.Shut.{IsNarrowed}
+use Rattle.stub_library.specs.Stubs.{library_at}
+use Rattle.stub_library.specs.declared.library.Library.{Library}
+use Rattle.redex_cli.specs.Tables.{IsTableBy, IsTableFor, IsTableWith}
+use Rattle.redex_cli.specs.Traces.{Traces, TracesFile}
+use Rattle.redex_cli.specs.declared.fetching.Inputs.{Inputs}
 
 -- ---- a run
 
@@ -33,9 +45,33 @@ subject p o f a script accepted =
     let graph = accepted.graph in
     record { well = accepted.formed; accepted = record { once = graph.once; acyclic = graph.acyclic; unsplit = graph.unsplit } }
 
--- what the table of the rules is
-pub table_for : (p : Program) (ruled outside : Outside) → IsWithin p ruled → ruled.shut ≡ [] → Closes ruled outside → IsTableFor p outside
-table_for p ruled outside within unshut closes = record { ruled = ruled; within = within; unshut = unshut; closes = closes }
+-- what the table of the rules is, from what is answered for all entries that are those of the rules
+pub table_for : (rules : Rules) (text : List ℕ) (p : Program) (h : Hierarchy) (ruled outside : Outside) → is_well_formed p ≡ true → IsResolved p h
+    → ((es : List Entry) → is_well_formed p ≡ true → IsOf p h → AreEntriesOf rules.entries.items es → IsTable p es ruled)
+    → IsReading text rules → Closes ruled outside → IsTableFor text p outside
+table_for rules text p h ruled outside well resolved tables reading closes = record {
+  entries = reading.entries;
+  spells = reading.spells;
+  ruled = ruled;
+  table = tables reading.entries well resolved.of reading.related;
+  closes = closes;
+}
+
+-- the table of a text that is found to be this one
+pub table_of_text : (given text : List ℕ) (library : Option (List ℕ)) (p : Program) (outside : Outside) → given ≡ text → IsTableWith given library p outside
+    → IsTableWith text library p outside
+table_of_text given text library p outside same table = subst (λ (rules : List ℕ). IsTableWith rules library p outside) same table
+
+-- and behind a library, whose bytes were found to be these
+pub table_by : (rules given bytes : List ℕ) (p : Program) (closed outside : Outside) (library : Library) → given ≡ bytes → IsTableFor rules p closed → library_at given ≡ Ok library
+    → IsNarrowed p closed library outside → IsTableBy rules bytes p outside
+table_by rules given bytes p closed outside library same table declares narrowed = record {
+  closed = closed;
+  table = table;
+  library = library;
+  declares = subst (λ (bs : List ℕ). library_at bs ≡ Ok library) same declares;
+  narrowed = narrowed;
+}
 
 -- what the machine answers of a run of an accepted program, where the script that it was given is this one
 pub shown : {T E : Type 0} (r : Result T E) (items : T → List Event) (p : Program) (o : Outside) (f : Framework) (a : Floats) (given script : List Move) (n : ℕ)
@@ -46,11 +82,11 @@ shown r items p o f a given script n same accepted says =
     subst (λ (moves : List Move). IfOk r (λ x. items x ≡ shows (named p) (outer_of p o) f a moves n)) same
     (says (subject p o f a given accepted) (makes_arrays p o f a given n accepted))
 
-pub traces : (p : Program) (play : Play) (outside : Outside) (steps : ℕ) (events : List Event) (text : List ℕ)
-    → IsTableFor p outside → length events ≤ steps
+pub traces : (rules : List ℕ) (library : Option (List ℕ)) (p : Program) (play : Play) (outside : Outside) (steps : ℕ) (events : List Event) (text : List ℕ)
+    → IsTableWith rules library p outside → length events ≤ steps
     → events ≡ shows (named p) (outer_of p outside) play.framework play.floats play.moves steps
-    → text ≡ event_lines events → Traces p play steps text
-traces p play outside steps events text table few shown says = record {
+    → text ≡ event_lines events → Traces rules library p play steps text
+traces rules library p play outside steps events text table few shown says = record {
   outside = outside;
   table = table;
   events = events;
@@ -59,9 +95,9 @@ traces p play outside steps events text table few shown says = record {
   shown = shown;
 }
 
-pub traces_file : (p : Program) (play : Play) (bytes script : List ℕ) (steps : ℕ) (text : List ℕ)
-    → program_at bytes ≡ Ok p → IsAccepted p → play_of script ≡ Ok play → Traces p play steps text → TracesFile bytes script steps text
-traces_file p play bytes script steps text reads accepted plays traces = record {
+pub traces_file : (inputs : Inputs) (p : Program) (play : Play) (script : List ℕ) (steps : ℕ) (text : List ℕ)
+    → program_at inputs.file ≡ Ok p → IsAccepted p → play_of script ≡ Ok play → Traces inputs.rules inputs.library p play steps text → TracesFile inputs script steps text
+traces_file inputs p play script steps text reads accepted plays traces = record {
   program = p;
   reads = reads;
   accepted = accepted;

@@ -2,13 +2,13 @@
 use Rattle.std.specs.Prelude.{◌≡◌, ◌⊎◌, ◌+◌, ◌<◌, ◌≤◌, ℕ, List, [], ◌∷◌, length, Bool, IsTrue, Option, Some, Err}
 use Rattle.program_model.specs.Limits.{limit_of}
 use Rattle.program_model.specs.declared.limits.Counted.{Counted}
-use Rattle.program_model.specs.declared.limits.Counted.TheVariants.{ScriptBytes}
 use Rattle.program_model.specs.declared.limits.LimitFault.{LimitFault}
 use Rattle.redex_outside.specs.Counts.{Rose, NoneFell}
 use Rattle.redex_outside.specs.Held.{Held, AllSame, OldOrPrefix}
 use Rattle.text_defs.specs.Plays.{play_of}
 use Rattle.text_defs.specs.declared.fault.ScriptFault.TheVariants as script
-use Rattle.redex_cli.specs.Commands.{Fetch}
+use Rattle.redex_cli.specs.Commands.{Fetch, counted_as}
+use Rattle.redex_cli.specs.declared.fetching.Kind.TheVariants as kind
 use Rattle.redex_cli.specs.declared.status.Status.{Status}
 use Rattle.redex_cli.specs.declared.status.Status.TheVariants.{Done, Usage, BadRules, BadDex, Limit, ReadFault, WriteFault, NoMemory, BadScript}
 
@@ -20,13 +20,13 @@ Failures = List ℕ → ℕ
 pub record HoldsWithin (held : Held) (fetch : Fetch) : Type 0 where
   pub bytes : List ℕ
   pub there : held fetch.name ≡ Some bytes
-  pub within : length bytes ≤ limit_of fetch.counted
+  pub within : length bytes ≤ limit_of (counted_as fetch.kind)
 
 -- The name holds bytes that pass their limit.
 pub record HoldsTooMuch (held : Held) (fetch : Fetch) : Type 0 where
   pub bytes : List ℕ
   pub there : held fetch.name ≡ Some bytes
-  pub passed : limit_of fetch.counted < length bytes
+  pub passed : limit_of (counted_as fetch.kind) < length bytes
 
 -- Each of these names holds bytes that keep their limit.
 abbrev pub AllWithin : Held → List Fetch → Type 0
@@ -37,7 +37,7 @@ AllWithin held (fetch ∷ later) = HoldsWithin held fetch × AllWithin held late
 abbrev pub FirstTooLong : Held → List Fetch → Counted → Type 0
 FirstTooLong held [] counted = ⊥
 FirstTooLong held (fetch ∷ later) counted =
-    (HoldsTooMuch held fetch × (fetch.counted ≡ counted)) ⊎ (HoldsWithin held fetch × FirstTooLong held later counted)
+    (HoldsTooMuch held fetch × (counted_as fetch.kind ≡ counted)) ⊎ (HoldsWithin held fetch × FirstTooLong held later counted)
 
 -- The count of one of these names rose.
 abbrev pub OneRose : Failures → Failures → List Fetch → Type 0
@@ -47,7 +47,7 @@ OneRose old new (fetch ∷ later) = Rose (old fetch.name) (new fetch.name) ⊎ O
 -- The bytes of one of these names are counted as this.
 abbrev pub OneCounts : List Fetch → Counted → Type 0
 OneCounts [] counted = ⊥
-OneCounts (fetch ∷ later) counted = (fetch.counted ≡ counted) ⊎ OneCounts later counted
+OneCounts (fetch ∷ later) counted = (counted_as fetch.kind ≡ counted) ⊎ OneCounts later counted
 
 -- A fetch took one byte more than its limit.
 pub record PassesByOne (tells : Bool) (held : Held) (fetches : List Fetch) (fault : LimitFault) : Type 0 where
@@ -79,7 +79,7 @@ PutRefused tells faults_old faults_new old new bytes _ = ⊥
 
 -- The name is fetched as a script, and holds a text whose first line outside the grammar is this one.
 pub record HoldsBadLine (held : Held) (fetch : Fetch) (line : ℕ) : Type 0 where
-  pub counted : fetch.counted ≡ ScriptBytes
+  pub is_script : fetch.kind ≡ kind.Script
   pub bytes : List ℕ
   pub there : held fetch.name ≡ Some bytes
   pub says : play_of bytes ≡ Err (script.Line line)

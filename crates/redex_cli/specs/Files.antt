@@ -1,21 +1,24 @@
--- What the bytes of a file are to a run.
-use Rattle.std.specs.Prelude.{◌≡◌, ◌⊎◌, ℕ, List, [], ◌∷◌, true, Some, Ok, Err}
+-- What the bytes of a file or a library are to a run.
+use Rattle.std.specs.Prelude.{◌≡◌, ◌⊎◌, ℕ, List, [], ◌∷◌, Bool, true, IsTrue, Option, None, Some, Ok, Err}
 use Rattle.dex_read.specs.File.{program_at}
 use Rattle.dex_read.specs.declared.fault.DexFault.TheVariants as dex
 use Rattle.hierarchy.specs.Shapes.{IsCause}
 use Rattle.hierarchy.specs.declared.fault.HierarchyFault.{HierarchyFault}
 use Rattle.program_model.specs.ProgramRules.{is_well_formed}
-use Rattle.program_model.specs.declared.limits.Counted.TheVariants.{FileBytes, RuleBytes}
 use Rattle.program_model.specs.declared.program.Program.{Program}
 use Rattle.redex_outside.specs.Held.{Held}
 use Rattle.rule_text.specs.Fault.{IsFault}
 use Rattle.rule_text.specs.declared.fault.RuleFault.{RuleFault}
+use Rattle.stub_library.specs.Stubs.{library_at}
+use Rattle.stub_library.specs.declared.library.Library.{Library}
 use Rattle.verify.specs.declared.fault.TypeFault.{TypeFault}
 use Rattle.redex_cli.specs.Accepted.{IsAccepted, IsTypeCause}
 use Rattle.redex_cli.specs.Commands.{Fetch}
+use Rattle.redex_cli.specs.declared.fetching.Inputs.{Inputs}
+use Rattle.redex_cli.specs.declared.fetching.Kind.TheVariants as kind
 use Rattle.redex_cli.specs.declared.status.InputFault.TheVariants as input
 use Rattle.redex_cli.specs.declared.status.Status.{Status}
-use Rattle.redex_cli.specs.declared.status.Status.TheVariants.{BadDex, Limit}
+use Rattle.redex_cli.specs.declared.status.Status.TheVariants.{BadDex, Limit, NoMemory}
 
 -- The bytes spell a program that is accepted.
 pub record IsRead (bytes : List ℕ) : Type 0 where
@@ -46,9 +49,71 @@ FileRefused bytes (BadDex (input.Library fault)) = ⊥
 FileRefused bytes (Limit fault) = program_at bytes ≡ Err (dex.Limit fault)
 FileRefused bytes _ = Unit {0}
 
+-- What a library of these bytes is refused with: the fault of its reading, or the passed limit, that the bytes give.
+abbrev pub LibraryRefused : List ℕ → Status → Type 0
+LibraryRefused bytes (BadDex (input.Library fault)) = library_at bytes ≡ Err fault
+LibraryRefused bytes (Limit fault) = library_at bytes ≡ Err (dex.Limit fault)
+LibraryRefused bytes NoMemory = Unit {0}
+LibraryRefused bytes _ = ⊥
+
+-- The bytes declare a library.
+pub record IsDeclared (bytes : List ℕ) : Type 0 where
+  pub library : Library
+  pub declares : library_at bytes ≡ Ok library
+
+-- The file spells a program that is accepted, and the library, where there is one, declares one.
+pub record AreRead (inputs : Inputs) : Type 0 where
+  pub file : IsRead inputs.file
+  pub library : (bytes : List ℕ) → inputs.library ≡ Some bytes → IsDeclared bytes
+
+-- A library that there is is refused so, behind a file that isn't refused.
+pub record RefusedBehind (inputs : Inputs) (status : Status) : Type 0 where
+  pub read : IsRead inputs.file
+  pub bytes : List ℕ
+  pub is : inputs.library ≡ Some bytes
+  pub refused : LibraryRefused bytes status
+
+-- What the file of these inputs is refused with, or the library behind it.
+abbrev pub BytesRefused : Inputs → Status → Type 0
+BytesRefused inputs status = FileRefused inputs.file status ⊎ RefusedBehind inputs status
+
+-- The name holds bytes that spell this program.
+pub record HoldsProgram (held : Held) (name : List ℕ) (program : Program) : Type 0 where
+  pub bytes : List ℕ
+  pub there : held name ≡ Some bytes
+  pub reads : program_at bytes ≡ Ok program
+
+-- The name holds bytes that spell a program that is accepted.
+pub record HoldsRead (held : Held) (fetch : Fetch) : Type 0 where
+  pub program : Program
+  pub holds : HoldsProgram held fetch.name program
+  pub accepted : IsAccepted program
+
+-- The name holds bytes that declare this library.
+pub record HoldsLibrary (held : Held) (fetch : Fetch) : Type 0 where
+  pub library : Library
+  pub bytes : List ℕ
+  pub there : held fetch.name ≡ Some bytes
+  pub declares : library_at bytes ≡ Ok library
+
+-- Each of these names that is fetched as a file holds such a program.
+abbrev pub AllFilesRead : Held → List Fetch → Type 0
+AllFilesRead held [] = Unit {0}
+AllFilesRead held (fetch ∷ later) = (fetch.kind ≡ kind.File → HoldsRead held fetch) × AllFilesRead held later
+
+-- Each of these names that is fetched as a library holds one.
+abbrev pub AllLibrariesRead : Held → List Fetch → Type 0
+AllLibrariesRead held [] = Unit {0}
+AllLibrariesRead held (fetch ∷ later) = (fetch.kind ≡ kind.Library → HoldsLibrary held fetch) × AllLibrariesRead held later
+
+-- Both.
+pub record AllRead (held : Held) (names : List Fetch) : Type 0 where
+  pub files : AllFilesRead held names
+  pub libraries : AllLibrariesRead held names
+
 -- The name is fetched as a file, and holds bytes that are refused so.
 pub record HoldsRefused (held : Held) (fetch : Fetch) (status : Status) : Type 0 where
-  pub counted : fetch.counted ≡ FileBytes
+  pub is_file : fetch.kind ≡ kind.File
   pub bytes : List ℕ
   pub there : held fetch.name ≡ Some bytes
   pub refused : FileRefused bytes status
@@ -58,14 +123,35 @@ abbrev pub OneRefused : Held → List Fetch → Status → Type 0
 OneRefused held [] status = ⊥
 OneRefused held (fetch ∷ later) status = HoldsRefused held fetch status ⊎ OneRefused held later status
 
+-- The name is fetched as a library, and holds bytes that are refused so.
+pub record HoldsBadLibrary (held : Held) (fetch : Fetch) (status : Status) : Type 0 where
+  pub is_library : fetch.kind ≡ kind.Library
+  pub bytes : List ℕ
+  pub there : held fetch.name ≡ Some bytes
+  pub refused : LibraryRefused bytes status
+
+-- One of these names holds such a library.
+abbrev pub OneBadLibrary : Held → List Fetch → Status → Type 0
+OneBadLibrary held [] status = ⊥
+OneBadLibrary held (fetch ∷ later) status = HoldsBadLibrary held fetch status ⊎ OneBadLibrary held later status
+
+-- One of these names holds such a file, or one holds such a library, and no file is refused.
+abbrev pub FilesCause : Held → List Fetch → Status → Type 0
+FilesCause held names status = OneRefused held names status ⊎ (AllFilesRead held names × OneBadLibrary held names status)
+
 -- The same of a command that has names fetched. One that fetches nothing makes its file itself.
 abbrev pub FileCause : Held → List Fetch → Status → Type 0
 FileCause held [] status = Unit {0}
-FileCause held (fetch ∷ later) status = OneRefused held (fetch ∷ later) status
+FileCause held (fetch ∷ later) status = FilesCause held (fetch ∷ later) status
+
+-- One of these names is fetched as a library.
+abbrev pub HasLibrary : List Fetch → Type 0
+HasLibrary [] = ⊥
+HasLibrary (fetch ∷ later) = (fetch.kind ≡ kind.Library) ⊎ HasLibrary later
 
 -- The name is fetched as rules, and holds a text that has this fault.
 pub record HoldsBadRules (held : Held) (fetch : Fetch) (fault : RuleFault) : Type 0 where
-  pub counted : fetch.counted ≡ RuleBytes
+  pub are_rules : fetch.kind ≡ kind.Rules
   pub bytes : List ℕ
   pub there : held fetch.name ≡ Some bytes
   pub bad : IsFault bytes fault
@@ -80,19 +166,14 @@ abbrev pub RulesCause : Held → List Fetch → RuleFault → Type 0
 RulesCause held [] fault = Unit {0}
 RulesCause held (fetch ∷ later) fault = OneBadRules held (fetch ∷ later) fault
 
--- The name holds bytes that spell this program.
-pub record HoldsProgram (held : Held) (name : List ℕ) (program : Program) : Type 0 where
-  pub bytes : List ℕ
-  pub there : held name ≡ Some bytes
-  pub reads : program_at bytes ≡ Ok program
+-- A library that is named is these bytes, where the shelf tells what it holds. Where none is named, there are none.
+abbrev pub HoldsNamed : Bool → Held → Option (List ℕ) → Option (List ℕ) → Type 0
+HoldsNamed tells held None None = Unit {0}
+HoldsNamed tells held (Some name) (Some bytes) = IsTrue tells → held name ≡ Some bytes
+HoldsNamed tells held _ _ = ⊥
 
--- The name holds bytes that spell a program that is accepted.
-pub record HoldsRead (held : Held) (fetch : Fetch) : Type 0 where
-  pub program : Program
-  pub holds : HoldsProgram held fetch.name program
-  pub accepted : IsAccepted program
-
--- Each of these names that is fetched as a file does so.
-abbrev pub AllRead : Held → List Fetch → Type 0
-AllRead held [] = Unit {0}
-AllRead held (fetch ∷ later) = (fetch.counted ≡ FileBytes → HoldsRead held fetch) × AllRead held later
+-- The inputs are what these names hold, where the shelf tells it.
+pub record AreHeld (tells : Bool) (held : Held) (rules input : List ℕ) (library : Option (List ℕ)) (inputs : Inputs) : Type 0 where
+  pub ruled : IsTrue tells → held rules ≡ Some inputs.rules
+  pub filed : IsTrue tells → held input ≡ Some inputs.file
+  pub named : HoldsNamed tells held library inputs.library

@@ -1,24 +1,28 @@
 -- What a command gives: a file to be put, and a text to be said.
-use Rattle.std.specs.Prelude.{◌≡◌, ◌≤◌, ℕ, Bool, true, IsTrue, Ok, Some, List, ◌++◌, length, sum_by, codes}
+use Rattle.std.specs.Prelude.{◌≡◌, ◌≤◌, ℕ, Bool, true, false, IsTrue, Ok, None, Some, Option, List, ◌++◌, length, sum_by, codes}
 use Rattle.std.specs.Fmt.{decimal}
+use Rattle.command_line.specs.Spelling.{Spells}
 use Rattle.command_line.specs.declared.command.CommandWords.{CommandWords}
 use Rattle.command_line.specs.declared.command.CommandWords.TheVariants.{Nothing, Optimise, Check, Live, Trace, Workload}
+use Rattle.command_line.specs.declared.command.OptimiseWords.{OptimiseWords}
 use Rattle.redex_cli.specs.FaultLines.{usage_text}
 use Rattle.dex_read.specs.File.{program_at}
 use Rattle.dex_write.specs.Written.{IsWritten}
 use Rattle.redex_outside.specs.Held.{Held}
-use Rattle.redex_cli.specs.Commands.{Commands}
-use Rattle.redex_cli.specs.Files.{HoldsProgram}
+use Rattle.redex_outside.specs.Voices.{Voice}
+use Rattle.redex_cli.specs.Files.{AreHeld, HoldsProgram}
 use Rattle.program_model.specs.declared.pass.Origin.{Origin}
 use Rattle.program_model.specs.declared.pass.Outside.{Outside}
 use Rattle.program_model.specs.declared.program.Program.{Program}
 use Rattle.program_model.specs.Cells.{capped}
 use Rattle.pipeline.specs.Counts.{insns_of, members_of}
+use Rattle.pipeline.specs.Inlined.{IsOptimisedInlined}
 use Rattle.pipeline.specs.Rounds.{IsOptimised}
-use Rattle.rule_text.specs.ReadEntries.{IsReading}
-use Rattle.rule_text.specs.declared.rules.Rules.{Rules}
 use Rattle.redex_cli.specs.Accepted.{IsAccepted}
-use Rattle.redex_cli.specs.Traces.{IsTableFor, IsTraced}
+use Rattle.redex_cli.specs.Lists.{IsListed}
+use Rattle.redex_cli.specs.Tables.{IsTableWith}
+use Rattle.redex_cli.specs.Traces.{IsTraced}
+use Rattle.redex_cli.specs.declared.fetching.Inputs.{Inputs}
 use Rattle.redex_cli.specs.declared.summary.Sizes.{Sizes}
 
 -- A line of the summary: `WHAT A -> B`.
@@ -57,44 +61,50 @@ pub record Leaves (program : Program) (outside : Outside) (left : Program) (roun
   pub origins : List (List Origin)
   pub optimised : IsOptimised outside program advisers before after spared left origins rounds
 
+-- The same where calls are inlined before the rounds, whatever the advisers reply.
+pub record LeavesInlined (program : Program) (outside : Outside) (left : Program) (rounds spared : ℕ) : Type 0 where
+  pub olds : List Voice
+  pub news : List Voice
+  pub before : List Bool
+  pub after : List Bool
+  pub origins : List (List Origin)
+  pub optimised : IsOptimisedInlined outside program olds news before after spared left origins rounds
+
+-- The one or the other, as the words ask.
+abbrev pub LeavesBy : Bool → Program → Outside → Program → ℕ → ℕ → Type 0
+LeavesBy false program outside left rounds spared = Leaves program outside left rounds spared
+LeavesBy true program outside left rounds spared = LeavesInlined program outside left rounds spared
+
 -- The output is the file that is written for what is left of the program by this table, and the summary counts the program,
 -- whose sizes are these, what is left, its file, the rounds and the spared methods.
-pub record Shrunk (program : Program) (outside : Outside) (before : Sizes) (output summary : List ℕ) : Type 0 where
+pub record Shrunk (inline : Bool) (program : Program) (outside : Outside) (before : Sizes) (output summary : List ℕ) : Type 0 where
   pub left : Program
   pub rounds : ℕ
   pub spared : ℕ
-  pub leaves : Leaves program outside left rounds spared
+  pub leaves : LeavesBy inline program outside left rounds spared
   pub written : IsWritten left output
   pub says : summary ≡ summary_text before (sizes_in left (length output)) rounds spared
   pub one_round : 1 ≤ rounds
 
--- The text spells rules, and this is a table for the program. How the table comes of the rules is not said yet.
-pub record IsRuled (text : List ℕ) (program : Program) (outside : Outside) : Type 0 where
-  pub rules : Rules
-  pub spelled : IsReading text rules
-  pub table : IsTableFor program outside
-
--- The output is the finished one of these rules and this file, and this is its summary: the file spells a program that is
--- accepted, the text of the rules has a table for it, and the output is what is written for what that leaves.
-pub record Finished (rules file output summary : List ℕ) : Type 0 where
+-- The output is the finished one of these inputs, and this is its summary: the file spells a program that is accepted, and the
+-- output is what is written for what is left of it by the table of the rules and the library.
+pub record Finished (inline : Bool) (inputs : Inputs) (output summary : List ℕ) : Type 0 where
   pub program : Program
-  pub reads : program_at file ≡ Ok program
+  pub reads : program_at inputs.file ≡ Ok program
   pub accepted : IsAccepted program
   pub outside : Outside
-  pub ruled : IsRuled rules program outside
-  pub shrunk : Shrunk program outside (sizes_in program (length file)) output summary
+  pub table : IsTableWith inputs.rules inputs.library program outside
+  pub shrunk : Shrunk inline program outside (sizes_in program (length inputs.file)) output summary
 
--- The same of the rules and the file that the names hold, where the shelf tells what it holds.
-pub record FinishedOf (tells : Bool) (held : Held) (rules input output summary : List ℕ) : Type 0 where
-  pub ruling : List ℕ
-  pub ruled : IsTrue tells → held rules ≡ Some ruling
-  pub file : List ℕ
-  pub filed : IsTrue tells → held input ≡ Some file
-  pub finished : Finished ruling file output summary
+-- The same of what the names hold that these words have fetched, where the shelf tells it.
+pub record FinishedOf (tells : Bool) (held : Held) (words : OptimiseWords) (output summary : List ℕ) : Type 0 where
+  pub inputs : Inputs
+  pub are : AreHeld tells held words.rules words.input words.library inputs
+  pub finished : Finished words.inline inputs output summary
 
 -- The output and the summary that a command may have, on what the names hold. The workload's is put nowhere.
 abbrev pub IsOutputOf : Bool → Held → CommandWords → List ℕ → List ℕ → Type 0
-IsOutputOf tells held (Optimise words) output summary = FinishedOf tells held words.rules words.input output summary
+IsOutputOf tells held (Optimise words) output summary = FinishedOf tells held words output summary
 IsOutputOf tells held _ output summary = ⊥
 
 -- A text that is the summary of such an output.
@@ -102,12 +112,12 @@ pub record IsSummary (IsOutput : List ℕ → List ℕ → Type 0) (text : List 
   pub output : List ℕ
   pub final : IsOutput output text
 
--- The same of some rules and some file, which the workload makes itself.
+-- The same of some inputs without a library, which the workload makes itself. Nothing is inlined.
 pub record IsWorkload (text : List ℕ) : Type 0 where
-  pub rules : List ℕ
-  pub file : List ℕ
+  pub inputs : Inputs
+  pub alone : inputs.library ≡ None
   pub output : List ℕ
-  pub finished : Finished rules file output text
+  pub finished : Finished false inputs output text
 
 -- `ok: C classes, M methods, I instructions`
 abbrev pub checked_text : ℕ → ℕ → ℕ → List ℕ
@@ -135,17 +145,17 @@ pub record IsChecked (tells : Bool) (held : Held) (name text : List ℕ) : Type 
   pub accepted : IsAccepted program
   pub says : text ≡ program_text program
 
--- The text is the command's result on what the names hold. Of the list of `live` nothing is said yet.
+-- The text is the command's result on what the names hold.
 abbrev pub IsResult : Bool → Held → CommandWords → List ℕ → Type 0
 IsResult tells held Nothing text = text ≡ usage_text
-IsResult tells held (Optimise words) text = IsSummary (FinishedOf tells held words.rules words.input) text
+IsResult tells held (Optimise words) text = IsSummary (FinishedOf tells held words) text
 IsResult tells held (Check input) text = IsChecked tells held input text
-IsResult tells held (Live rules input library) text = Unit {0}
-IsResult tells held (Trace rules input script steps library) text = IsTraced tells held input script steps text
+IsResult tells held (Live rules input library) text = IsListed tells held rules input library text
+IsResult tells held (Trace rules input script steps library) text = IsTraced tells held rules input library script steps text
 IsResult tells held (Workload count) text = IsWorkload text
 
 -- The text is the result of the command that the words spell.
 pub record Results (words : List (List ℕ)) (tells : Bool) (held : Held) (text : List ℕ) : Type 0 where
   pub command : CommandWords
-  pub commands : Commands words command
+  pub spelled : Spells words command
   pub result : IsResult tells held command text

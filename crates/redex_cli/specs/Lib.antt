@@ -4,6 +4,8 @@ pub mod Commands
 pub mod FaultLines
 pub mod Fetching
 pub mod Files
+pub mod Tables
+pub mod Lists
 pub mod Traces
 pub mod Finished
 pub mod Stays

@@ -1,5 +1,5 @@
 -- Why a run is refused, and what holds where it is not.
-use Rattle.std.specs.Prelude.{◌≡◌, ◌⊎◌, ◌+◌, ◌++◌, ℕ, List, Bool, IsTrue, Option, Some, Err}
+use Rattle.std.specs.Prelude.{◌≡◌, ◌⊎◌, ◌+◌, ◌++◌, ℕ, List, Bool, IsTrue, Option, None, Some, Err}
 use Rattle.rule_text.specs.Fault.{IsFault}
 use Rattle.rule_text.specs.declared.fault.RuleFault.{RuleFault}
 use Rattle.rule_text.specs.declared.fault.RuleFault.TheVariants as rule
@@ -18,11 +18,13 @@ use Rattle.program_model.specs.declared.limits.LimitFault.{LimitFault}
 use Rattle.redex_outside.specs.Counts.{Rose}
 use Rattle.redex_outside.specs.Held.{Held}
 use Rattle.command_line.specs.declared.command.CommandWords.{CommandWords}
-use Rattle.redex_cli.specs.Commands.{Commands, CommandsNothing, Fetch, Puts, fetches, output_of}
+use Rattle.command_line.specs.Spelling.{Spells}
+use Rattle.redex_cli.specs.Commands.{Fetch, Puts, SpellsNothing, fetches, output_of}
 use Rattle.redex_cli.specs.Fetching.{Failures, AllWithin, FirstTooLong, OneBadLine, OneRose, PassesByOne}
-use Rattle.redex_cli.specs.Files.{AllRead, FileCause, RulesCause}
+use Rattle.redex_cli.specs.Files.{AllRead, BytesRefused, FileCause, HasLibrary, LibraryRefused, RulesCause}
 use Rattle.redex_cli.specs.Finished.{IsOutputOf, Results}
 use Rattle.redex_cli.specs.Stays.{Stays}
+use Rattle.redex_cli.specs.declared.fetching.Inputs.{Inputs}
 use Rattle.redex_cli.specs.declared.status.InputFault.{InputFault}
 use Rattle.redex_cli.specs.declared.status.InputFault.TheVariants as input
 use Rattle.redex_cli.specs.declared.status.Status.{Status}
@@ -49,12 +51,29 @@ abbrev pub IsTypeFault : TypeFault → Type 0
 IsTypeFault typing.NoMemory = ⊥
 IsTypeFault _ = Unit {0}
 
--- Libraries are not built yet.
+-- A fault of a file. A library is none.
 abbrev pub IsInputFault : InputFault → Type 0
 IsInputFault (input.Dex fault) = IsDexFault fault
 IsInputFault (input.Hierarchy fault) = IsHierarchyFault fault
 IsInputFault (input.Typing fault) = IsTypeFault fault
 IsInputFault (input.Library fault) = ⊥
+
+-- A fault of a library, where there is one.
+abbrev pub IsLibraryFault : Option (List ℕ) → DexFault → Type 0
+IsLibraryFault None fault = ⊥
+IsLibraryFault (Some library) fault = IsDexFault fault
+
+-- What the work on a library may be refused with.
+abbrev pub IsLibraryRefusal : Status → Type 0
+IsLibraryRefusal (BadDex (input.Library fault)) = IsDexFault fault
+IsLibraryRefusal (Limit fault) = PassesInFile fault
+IsLibraryRefusal NoMemory = Unit {0}
+IsLibraryRefusal _ = ⊥
+
+-- The same of a library that there may be, with what its bytes say of it.
+abbrev pub LibraryEnds : Option (List ℕ) → Status → Type 0
+LibraryEnds None status = ⊥
+LibraryEnds (Some bytes) status = IsLibraryRefusal status × LibraryRefused bytes status
 
 -- What the work on a file alone may be refused with.
 abbrev pub ReadRefused : Status → Type 0
@@ -63,32 +82,41 @@ ReadRefused (Limit fault) = PassesInFile fault
 ReadRefused NoMemory = Unit {0}
 ReadRefused _ = ⊥
 
--- What the work on rules of this text and a file may be refused with.
-abbrev pub WorkRefused : List ℕ → Status → Type 0
-WorkRefused rules (BadRules fault) = IsRuleFault fault × IsFault rules fault
-WorkRefused rules status = ReadRefused status
+-- What the work on these inputs may be refused with.
+abbrev pub WorkRefused : Inputs → Status → Type 0
+WorkRefused inputs (BadRules fault) = IsRuleFault fault × IsFault inputs.rules fault
+WorkRefused inputs (BadDex (input.Library fault)) = IsLibraryFault inputs.library fault
+WorkRefused inputs status = ReadRefused status
 
--- The same of rules that are made, whatever they are.
+-- The same of inputs that are made, whatever they are, without a library.
 pub record MadeRefused (status : Status) : Type 0 where
-  pub rules : List ℕ
-  pub refused : WorkRefused rules status
+  pub inputs : Inputs
+  pub alone : inputs.library ≡ None
+  pub refused : WorkRefused inputs status
+  pub bytes : BytesRefused inputs status
 
--- What the work on rules, a file and a script of these texts may be refused with.
-abbrev pub TraceRefused : List ℕ → List ℕ → Status → Type 0
-TraceRefused rules text (BadScript line) = play_of text ≡ Err (script.Line line)
-TraceRefused rules text status = WorkRefused rules status
+-- What the work on these inputs and a script of this text may be refused with.
+abbrev pub TraceRefused : Inputs → List ℕ → Status → Type 0
+TraceRefused inputs text (BadScript line) = play_of text ≡ Err (script.Line line)
+TraceRefused inputs text status = WorkRefused inputs status
 
 -- ---- the limits
 
--- All names keep their limits, and a quantity that is counted inside the file, which is none of bytes, passes its own.
+-- All names keep their limits, and a quantity that is counted inside the file or the library, which is none of bytes, passes its
+-- own.
 pub record PassesInside (tells : Bool) (held : Held) (names : List Fetch) (fault : LimitFault) : Type 0 where
   pub inside : PassesInFile fault
   pub within : IsTrue tells → AllWithin held names
   pub file : IsTrue tells → FileCause held names (Limit fault)
 
--- A fault of the file, which is one of those that the bytes have.
+-- A fault of a library comes where one is fetched.
+abbrev pub IsFaultOf : List Fetch → InputFault → Type 0
+IsFaultOf names (input.Library fault) = IsDexFault fault × HasLibrary names
+IsFaultOf names fault = IsInputFault fault
+
+-- A fault of the file or the library, which is one of those that the bytes have.
 pub record FileFault (tells : Bool) (held : Held) (names : List Fetch) (fault : InputFault) : Type 0 where
-  pub carried : IsInputFault fault
+  pub carried : IsFaultOf names fault
   pub file : IsTrue tells → FileCause held names (BadDex fault)
 
 -- A fault of the rules, which is the one that their text has.
@@ -96,7 +124,7 @@ pub record RulesFault (tells : Bool) (held : Held) (names : List Fetch) (fault :
   pub carried : IsRuleFault fault
   pub ruling : IsTrue tells → RulesCause held names fault
 
--- A fetch passed its limit, or something inside the file does. So the bytes of the rules, of a file or of a script are
+-- A fetch passed its limit, or something inside the file or the library does. So the bytes of the rules, of a file or of a script are
 -- named exactly where their fetch took one more than its limit.
 abbrev pub LimitCause : Bool → Held → List Fetch → LimitFault → Type 0
 LimitCause tells held names fault = PassesByOne tells held names fault ⊎ PassesInside tells held names fault
@@ -154,56 +182,56 @@ pub record Gives (names : List Fetch) (output : Option (List ℕ)) (IsFinal : Li
 -- The count of failed fetches rose for a name that the words have fetched.
 pub record CouldNotFetch (words : List (List ℕ)) (old new : Failures) : Type 0 where
   pub command : CommandWords
-  pub commands : Commands words command
+  pub spelled : Spells words command
   pub rose : OneRose old new (fetches command)
 
 -- The count of failed puts rose for the name that the words have put.
 pub record CouldNotPut (words : List (List ℕ)) (old new : Failures) : Type 0 where
   pub command : CommandWords
-  pub commands : Commands words command
+  pub spelled : Spells words command
   pub rose : OutputRose (output_of command) old new
 
 -- A limit is passed that the words' command counts.
 pub record PassesLimit (words : List (List ℕ)) (tells : Bool) (held : Held) (fault : LimitFault) : Type 0 where
   pub command : CommandWords
-  pub commands : Commands words command
+  pub spelled : Spells words command
   pub cause : LimitCause tells held (fetches command) fault
 
--- A fault stands in the file that the words' command reads.
+-- A fault stands in the file or the library that the words' command reads.
 pub record HasFileFault (words : List (List ℕ)) (tells : Bool) (held : Held) (fault : InputFault) : Type 0 where
   pub command : CommandWords
-  pub commands : Commands words command
+  pub spelled : Spells words command
   pub cause : FileFault tells held (fetches command) fault
 
 -- The rules that the words' command reads have this fault.
 pub record HasRulesFault (words : List (List ℕ)) (tells : Bool) (held : Held) (fault : RuleFault) : Type 0 where
   pub command : CommandWords
-  pub commands : Commands words command
+  pub spelled : Spells words command
   pub cause : RulesFault tells held (fetches command) fault
 
 -- The words' command may have this output, with this summary.
 pub record OutputBy (words : List (List ℕ)) (tells : Bool) (held : Held) (output summary : List ℕ) : Type 0 where
   pub command : CommandWords
-  pub commands : Commands words command
+  pub spelled : Spells words command
   pub final : IsOutputOf tells held command output summary
 
--- The files that the words have fetched spell programs that are accepted.
+-- The files that the words have fetched spell programs that are accepted, and the library declares one.
 abbrev pub ReadsAll : List (List ℕ) → Held → Type 0
-ReadsAll words held = (command : CommandWords) → Commands words command → AllRead held (fetches command)
+ReadsAll words held = (command : CommandWords) → Spells words command → AllRead held (fetches command)
 
 -- The script that the words have fetched has this first line outside the grammar.
 pub record HasBadLine (words : List (List ℕ)) (tells : Bool) (held : Held) (line : ℕ) : Type 0 where
   pub command : CommandWords
-  pub commands : Commands words command
+  pub spelled : Spells words command
   pub bad : IsTrue tells → OneBadLine held (fetches command) line
 
 -- A name that the words have fetched holds too much, and is the first. Its bytes are counted as this.
 pub record TooLong (words : List (List ℕ)) (held : Held) (counted : Counted) : Type 0 where
   pub command : CommandWords
-  pub commands : Commands words command
+  pub spelled : Spells words command
   pub first : FirstTooLong held (fetches command) counted
 
--- The words spell no command that is built: the run ends so, or memory ran out.
+-- The words spell no command: the run ends so, or memory ran out.
 abbrev pub EndsUnspelled : Status → Type 0
 EndsUnspelled Usage = Unit {0}
 EndsUnspelled NoMemory = Unit {0}
@@ -211,14 +239,14 @@ EndsUnspelled _ = ⊥
 
 -- What words may be refused with before anything is fetched.
 abbrev pub WordsRefused : List (List ℕ) → Status → Type 0
-WordsRefused words Usage = CommandsNothing words
+WordsRefused words Usage = SpellsNothing words
 WordsRefused words NoMemory = Unit {0}
 WordsRefused words _ = ⊥
 
 -- Why these words are refused with this status.
 abbrev pub CauseFor : List (List ℕ) → Bool → Held → Failures → Failures → Failures → Failures → Status → Type 0
 CauseFor words tells held fetches_old fetches_new puts_old puts_new Done = ⊥
-CauseFor words tells held fetches_old fetches_new puts_old puts_new Usage = CommandsNothing words
+CauseFor words tells held fetches_old fetches_new puts_old puts_new Usage = SpellsNothing words
 CauseFor words tells held fetches_old fetches_new puts_old puts_new (BadRules fault) = HasRulesFault words tells held fault
 CauseFor words tells held fetches_old fetches_new puts_old puts_new (BadDex fault) = HasFileFault words tells held fault
 CauseFor words tells held fetches_old fetches_new puts_old puts_new (Limit fault) = PassesLimit words tells held fault
@@ -231,7 +259,7 @@ CauseFor words tells held fetches_old fetches_new puts_old puts_new (BadScript l
 pub record RefusesFor (words : List (List ℕ)) (tells : Bool) (old new : Held)
     (fetches_old fetches_new puts_old puts_new : Failures) (status : Status) : Type 0 where
   pub cause : CauseFor words tells old fetches_old fetches_new puts_old puts_new status
-  pub unspelled : CommandsNothing words → EndsUnspelled status
+  pub unspelled : SpellsNothing words → EndsUnspelled status
   pub too_long : (counted : Counted) → IsTrue tells → TooLong words old counted → EndsTooLong counted status
   pub stays : IsTrue tells → Stays (Puts words) (OutputBy words tells old) status puts_old puts_new old new
 

@@ -1,46 +1,33 @@
 //! The top call.
 
-ghost use Rattle.std.specs.Prelude.{◌≡◌, false, IsTrue, IfOk, IfErr, map, string_bytes};
+ghost use Rattle.std.specs.Prelude.{◌≡◌, IsTrue, IfOk, IfErr, map, string_bytes};
 ghost use Rattle.program_model.specs.declared.limits.Counted.{Counted};
 ghost use Rattle.command_line.specs.Spelling.{Spells};
 ghost use Rattle.command_line.specs.declared.command.CommandWords.{CommandWords};
-ghost use Rattle.redex_cli.specs.Commands.{Commands, CommandsNothing, CountsWithin, Puts, is_built};
+ghost use Rattle.redex_cli.specs.Commands.{CountsWithin, Puts, SpellsNothing};
 ghost use Rattle.redex_cli.specs.Ends.{Caused, Delivers, Ends};
 ghost use Rattle.redex_cli.specs.Finished.{Results};
 ghost use Rattle.redex_cli.specs.Refusals.{EndsTooLong, EndsUnspelled, GivesFor, OutputBy, ReadsAll, RefusesFor, TooLong, WordsRefused};
 ghost use Rattle.redex_cli.specs.Said.{Said, SaysResult, SaysStatus, unsaid};
 ghost use Rattle.redex_cli.specs.Stays.{Stays};
 
-use crate::command::{is_built, perform};
+use crate::command::perform;
 use crate::fault_lines::status_line;
 use crate::status::Status;
 use command_line::{CommandWords, read_words};
 use redex_outside::{Adviser, NoteFault, Notes, Shelf};
 use std::alloc::Global;
 
-/// The command where it is built.
-fn if_built(command: CommandWords) -> Result<CommandWords, Status>
-    ensures same { IfOk result (λ c. c ≡ command) }
-    ensures built { IfOk result (λ c. IsTrue (is_built c)) }
-    ensures refused { IfErr result (λ status. (status ≡ Status.Usage) × (is_built command ≡ false)) }
-{
-    if is_built(&command) {
-        Ok(command)
-    } else {
-        Err(Status::Usage)
-    }
-}
-
-/// The command that the words spell, which is built.
-#[tactic(auto, using(crate::proofs::WordsLemmas::spelled_within, crate::proofs::WordsLemmas::only_spelled, crate::proofs::WordsLemmas::none_spelled, crate::proofs::WordsLemmas::none_built))]
+/// The command that the words spell.
+#[tactic(auto, using(crate::proofs::WordsLemmas::spelled_within, crate::proofs::WordsLemmas::only_spelled, crate::proofs::WordsLemmas::none_spelled))]
 fn asked(alloc: Global, words: &[String]) -> Result<CommandWords, Status>
-    ensures found { IfOk result (λ command. Commands (map string_bytes words.now) command) }
-    ensures only { IfOk result (λ command. (other : CommandWords) → Commands (map string_bytes words.now) other → other ≡ command) }
+    ensures found { IfOk result (λ command. Spells (map string_bytes words.now) command) }
+    ensures only { IfOk result (λ command. (other : CommandWords) → Spells (map string_bytes words.now) other → other ≡ command) }
     ensures within { IfOk result CountsWithin }
     ensures refused { IfErr result (WordsRefused (map string_bytes words.now)) }
 {
     match read_words(alloc, words) {
-        Ok(Some(command)) => if_built(command),
+        Ok(Some(command)) => Ok(command),
         Ok(None) => Err(Status::Usage),
         Err(_) => Err(Status::NoMemory),
     }
@@ -55,7 +42,8 @@ fn obey<H: Shelf>(
     advisers: Vec<Box<dyn Adviser>>,
 ) -> Result<Vec<u8>, Status>
     ensures given { IfOk result (λ text. GivesFor (map string_bytes words.now) (H.tells shelf.old) (H.held shelf.old) (H.held shelf.new) text.items) }
-    ensures refused { IfErr result (λ status. RefusesFor (map string_bytes words.now) (H.tells shelf.old) (H.held shelf.old) (H.held shelf.new) (H.fetch_faults shelf.old) (H.fetch_faults shelf.new) (H.put_faults shelf.old) (H.put_faults shelf.new) status) }
+    ensures refused { IfErr result (λ status. RefusesFor (map string_bytes words.now) (H.tells shelf.old) (H.held shelf.old) (H.held shelf.new) (H.fetch_faults shelf.old)
+        (H.fetch_faults shelf.new) (H.put_faults shelf.old) (H.put_faults shelf.new) status) }
 {
     let command = match asked(alloc, words) {
         Ok(command) => command,
@@ -113,7 +101,8 @@ fn answer<H: Shelf, N: Notes>(
     notes: &mut N,
     advisers: Vec<Box<dyn Adviser>>,
 ) -> Status
-    ensures { Ends (map string_bytes words.now) (H.tells shelf.old) (H.held shelf.old) (H.held shelf.new) (H.fetch_faults shelf.old) (H.fetch_faults shelf.new) (H.put_faults shelf.old) (H.put_faults shelf.new) (N.tells notes.old) (N.said notes.old) (N.said notes.new) (N.faults notes.old) (N.faults notes.new) result }
+    ensures { Ends (map string_bytes words.now) (H.tells shelf.old) (H.held shelf.old) (H.held shelf.new) (H.fetch_faults shelf.old) (H.fetch_faults shelf.new)
+        (H.put_faults shelf.old) (H.put_faults shelf.new) (N.tells notes.old) (N.said notes.old) (N.said notes.new) (N.faults notes.old) (N.faults notes.new) result }
 {
     match obey(alloc, words, shelf, advisers) {
         Ok(text) => say_result(alloc, notes, text.as_slice()),
@@ -124,10 +113,10 @@ fn answer<H: Shelf, N: Notes>(
 /// Does what the words ask for: fetches the rules and the file that they name, checks, optimises or lists, puts the output and
 /// says the result or the line of the fault, by one call each.
 ///
-/// Refusals come in this order: the words; the fetch of the rules, then of the file; the rules; the file's header,
-/// checksum, limits, tables, classes and bodies; the graph of its classes; the types of its bodies, in class and method
-/// order; the put; the saying. The advisers are told
-/// what the options say when the rules and the file are found good, and are asked about each live method with code.
+/// Refusals come in this order: the words; the fetch of the rules, then of the file, of the library and of the script; the
+/// rules; the file's header, checksum, limits, tables, classes and bodies; the graph of its classes; the types of its bodies, in
+/// class and method order; the library; the script; the put; the saying. The advisers are told what the options say, and are
+/// asked about each live method with code when all inputs are found good.
 pub fn run<H: Shelf, N: Notes>(
     alloc: Global,
     words: &[String],
@@ -137,23 +126,28 @@ pub fn run<H: Shelf, N: Notes>(
 ) -> Status
     // Each status has its cause: `Usage` in the words, `ReadFault` and `WriteFault` in a count that rose, `Limit` of
     // bytes in what the first name holds that holds too much, every other `Limit` and each `BadDex` of the reading in
-    // what the file's bytes give, `BadDex` of the classes or of the types in the program that they spell.
-    ensures cause { Caused (map string_bytes words.now) (H.tells shelf.old) (H.held shelf.old) (H.fetch_faults shelf.old) (H.fetch_faults shelf.new) (H.put_faults shelf.old) (H.put_faults shelf.new) (N.faults notes.old) (N.faults notes.new) result }
+    // what the bytes of the file or of the library give, `BadDex` of the classes or of the types in the program that the
+    // file spells.
+    ensures cause { Caused (map string_bytes words.now) (H.tells shelf.old) (H.held shelf.old) (H.fetch_faults shelf.old) (H.fetch_faults shelf.new) (H.put_faults shelf.old)
+        (H.put_faults shelf.new) (N.faults notes.old) (N.faults notes.new) result }
 
-    // Words that spell no command that is built are `Usage`, and a name that holds too much is its limit.
-    ensures unspelled { CommandsNothing (map string_bytes words.now) → EndsUnspelled result }
+    // Words that spell no command are `Usage`, and a name that holds too much is its limit.
+    ensures unspelled { SpellsNothing (map string_bytes words.now) → EndsUnspelled result }
     ensures too_long { (counted : Counted) → IsTrue (H.tells shelf.old) → TooLong (map string_bytes words.now) (H.held shelf.old) counted → EndsTooLong counted result }
 
     // Where the run is done, each file that was fetched spells a program whose class graph has no fault and whose bodies
-    // are well typed.
+    // are well typed, and the library declares classes.
     ensures read { result ≡ Status.Done → IsTrue (H.tells shelf.old) → ReadsAll (map string_bytes words.now) (H.held shelf.old) }
 
-    // What the names hold, and what was said: of `check` the counts of the program that the file spells, of `trace` the
-    // lines of what that program shows in so many steps of the play that the script spells (`specs/Finished.antt`).
+    // What the names hold, and what was said: of `check` the counts of the program that the file spells, of `live` the list
+    // of what is live, of `trace` the lines of what that program shows in so many steps of the play that the script spells
+    // (`specs/Finished.antt`).
     ensures stays { IsTrue (H.tells shelf.old) → Stays (Puts (map string_bytes words.now)) (OutputBy (map string_bytes words.now) (H.tells shelf.old) (H.held shelf.old))
         result (H.put_faults shelf.old) (H.put_faults shelf.new) (H.held shelf.old) (H.held shelf.new) }
-    ensures said { IsTrue (N.tells notes.old) → Said (Results (map string_bytes words.now) (H.tells shelf.old) (H.held shelf.old)) result (N.faults notes.old) (N.faults notes.new) (N.said notes.old) (N.said notes.new) }
-    ensures done { result ≡ Status.Done → IsTrue (H.tells shelf.old) → IsTrue (N.tells notes.old) → Delivers (map string_bytes words.now) (H.tells shelf.old) (H.held shelf.old) (H.held shelf.new) (N.said notes.old) (N.said notes.new) }
+    ensures said { IsTrue (N.tells notes.old)
+        → Said (Results (map string_bytes words.now) (H.tells shelf.old) (H.held shelf.old)) result (N.faults notes.old) (N.faults notes.new) (N.said notes.old) (N.said notes.new) }
+    ensures done { result ≡ Status.Done → IsTrue (H.tells shelf.old) → IsTrue (N.tells notes.old)
+        → Delivers (map string_bytes words.now) (H.tells shelf.old) (H.held shelf.old) (H.held shelf.new) (N.said notes.old) (N.said notes.new) }
 {
     answer(alloc, words, shelf, notes, advisers)
 }

@@ -1,6 +1,6 @@
 //! What the commands do between fetching and putting: values in, a value or a status out.
 
-ghost use Rattle.std.specs.Prelude.{◌≡◌, ◌<◌, ◌≤◌, ◌^◌, ℕ, List, true, Ok, length, vec_len, string_bytes, IfOk, IfErr, OnOk};
+ghost use Rattle.std.specs.Prelude.{◌≡◌, ◌<◌, ◌≤◌, ◌^◌, ℕ, List, true, None, Option, Ok, length, vec_len, string_bytes, IfOk, IfErr, OnOk};
 ghost use Rattle.dalvik_defs.specs.Naming.{named};
 ghost use Rattle.dalvik_defs.specs.Outer.{outer_of};
 ghost use Rattle.dalvik_defs.specs.Step.{shows};
@@ -9,17 +9,23 @@ ghost use Rattle.dex_read.specs.Counts.{CountsInFile};
 ghost use Rattle.dex_read.specs.Faults.{is_free};
 ghost use Rattle.dex_read.specs.File.{program_at};
 ghost use Rattle.dex_read.specs.Kept.{KeepsLimits};
-ghost use Rattle.hierarchy.specs.Shapes.{IsCause};
+ghost use Rattle.hierarchy.specs.Shapes.{IsCause, IsResolved};
 ghost use Rattle.program_model.specs.ProgramRules.{is_well_formed};
+ghost use Rattle.stub_library.specs.Stubs.{library_at};
 ghost use Rattle.text_defs.specs.Plays.{play_of};
 ghost use Rattle.redex_cli.specs.Accepted.{IsAccepted};
-ghost use Rattle.redex_cli.specs.Files.{FileRefused, HasGraphFault, HasTypeFault, IsRead};
+ghost use Rattle.redex_cli.specs.Files.{AreRead, BytesRefused, FileRefused, HasGraphFault, HasTypeFault, LibraryRefused};
 ghost use Rattle.rule_text.specs.Fault.{IsFault};
-ghost use Rattle.redex_cli.specs.Finished.{Checks, Finished, IsRuled, IsWorkload, Shrunk, program_text, sizes_in};
-ghost use Rattle.redex_cli.specs.Refusals.{MadeRefused, ReadRefused, TraceRefused, WorkRefused};
-ghost use Rattle.redex_cli.specs.Traces.{IsTableFor, Traces, TracesFile};
+ghost use Rattle.rule_text.specs.ReadEntries.{IsReading};
+ghost use Rattle.redex_cli.specs.Finished.{Checks, Finished, IsWorkload, LeavesBy, Shrunk, program_text, sizes_in};
+ghost use Rattle.redex_cli.specs.Refusals.{IsLibraryRefusal, LibraryEnds, MadeRefused, ReadRefused, TraceRefused, WorkRefused};
+ghost use Rattle.redex_cli.specs.Lists.{ListsFile};
+ghost use Rattle.redex_cli.specs.Tables.{IsTableBy, IsTableFor, IsTableWith};
+ghost use Rattle.redex_cli.specs.Traces.{Traces, TracesFile};
+ghost use Rattle.redex_cli.specs.declared.fetching.Inputs.{Inputs};
 
 use crate::check_line::check_line;
+use crate::fetching::Inputs;
 use crate::live_list::live_list;
 use crate::status::{InputFault, Status};
 use crate::summary::{Sizes, sizes_of, summary};
@@ -30,14 +36,16 @@ use dex_read::{DexFault, read_dex};
 use dex_write::write_dex;
 use hierarchy::{Hierarchy, HierarchyFault};
 use keep_rules::{RuleFault, Rules, outside_of, read_rules};
-use pipeline::optimise;
+use pipeline::{Outcome, optimise, optimise_inlined};
 use program_model::{Outside, Program};
 use reach::close;
 use read_laws::programs::reads_well_formed;
 use redex_gen::generate;
 use redex_outside::{Adviser, Key, Panel};
 use script_text::{Play, ScriptFault, read_script, write_events};
+use seq::Seq;
 use std::alloc::{AllocError, Global};
+use stub_library::{narrow, read_library};
 use verify::{TypeFault, verify_all};
 
 /// The rules of the workload, which keep what its first class, that of number zero, has as `run`.
@@ -45,8 +53,8 @@ const WORKLOAD_RULES: &[u8] = b"-keep class ?0 { public static int run(int); }\n
 
 /// A fault of the rules as a status.
 fn rules_status(fault: RuleFault) -> Status
-    ensures refused { (text : List ℕ) → IsFault text fault → WorkRefused text result }
-    ensures file { (bytes : List ℕ) → FileRefused bytes result }
+    ensures refused { (inputs : Inputs) → IsFault inputs.rules fault → WorkRefused inputs result }
+    ensures file { (inputs : Inputs) → BytesRefused inputs result }
 {
     match fault {
         RuleFault::NoMemory => Status::NoMemory,
@@ -75,6 +83,27 @@ fn dex_status(fault: DexFault) -> Status
         | DexFault::Member { .. }
         | DexFault::Root { .. }
         | DexFault::FrameSize { .. } => Status::BadDex(InputFault::Dex(fault)),
+    }
+}
+
+/// A fault of the library as a status.
+fn library_status(fault: DexFault) -> Status
+    requires { CountsInFile fault }
+    ensures refused { IsLibraryRefusal result }
+    ensures library { (bytes : List ℕ) → FailsIf (is_free fault) fault (library_at bytes) → LibraryRefused bytes result }
+{
+    match fault {
+        DexFault::NoMemory => Status::NoMemory,
+        DexFault::Limit(limit) => Status::Limit(limit),
+        DexFault::Short { .. }
+        | DexFault::Magic
+        | DexFault::Header { .. }
+        | DexFault::Checksum { .. }
+        | DexFault::Pool(_)
+        | DexFault::Code { .. }
+        | DexFault::Member { .. }
+        | DexFault::Root { .. }
+        | DexFault::FrameSize { .. } => Status::BadDex(InputFault::Library(fault)),
     }
 }
 
@@ -123,15 +152,16 @@ fn read_program(alloc: Global, bytes: &[u8]) -> Result<Program, DexFault>
 
 /// The file, its class graph and its types, in this order. The bytes are let go as soon as they are read.
 #[tactic(auto, using(crate::proofs::FinishedLemmas::graph_fault))]
-fn read_classes(alloc: Global, file: Vec<u8>) -> Result<Classes, Status>
+fn read_classes(alloc: Global, file: Seq<u8>) -> Result<Classes, Status>
     ensures limits { IfOk result (λ classes. KeepsLimits classes.program) }
-    ensures read { IfOk result (λ classes. program_at file.items ≡ Ok classes.program) }
+    ensures read { IfOk result (λ classes. program_at file ≡ Ok classes.program) }
     ensures formed { IfOk result (λ classes. is_well_formed classes.program ≡ true) }
+    ensures resolved { IfOk result (λ classes. IsResolved classes.program classes.hierarchy) }
     ensures accepted { IfOk result (λ classes. IsAccepted classes.program) }
     ensures refused { IfErr result ReadRefused }
-    ensures file { IfErr result (FileRefused file.items) }
+    ensures file { IfErr result (FileRefused file) }
 {
-    let program = match read_program(alloc, &file) {
+    let program = match read_program(alloc, file.as_slice()) {
         Ok(program) => program,
         Err(fault) => return Err(dex_status(fault)),
     };
@@ -146,7 +176,7 @@ fn read_classes(alloc: Global, file: Vec<u8>) -> Result<Classes, Status>
     }
 }
 
-/// A program that was read, with its hierarchy and what the rules keep of it.
+/// A program that was read, with its hierarchy and the table of what the framework may reach of it.
 #[derive(Drop)]
 struct Input {
     program: Program,
@@ -154,50 +184,101 @@ struct Input {
     outside: Outside,
 }
 
-/// What the rules keep of a program, closed.
-#[tactic(auto, using(crate::proofs::Traced::table_for))]
+/// What the rules keep of a program, closed: the table of each text from which they may have been read.
 fn closed_outside(
     alloc: Global,
     rules: &Rules,
     program: &Program,
     hierarchy: &Hierarchy,
 ) -> Result<Outside, AllocError>
-    requires { KeepsLimits program.now }
-    ensures { IfOk result (IsTableFor program.now) }
+    requires limits { KeepsLimits program.now }
+    requires formed { is_well_formed program.now ≡ true }
+    requires resolved { IsResolved program.now hierarchy.now }
+    ensures table { (text : List ℕ) → IsReading text rules.now → IfOk result (IsTableFor text program.now) }
 {
     let open = outside_of(alloc, rules, program, hierarchy)?;
     close(alloc, program, hierarchy, &open)
 }
 
-/// The rules, the file, its class graph and its types, in this order. The bytes are let go as soon as they are read.
-#[tactic(auto, using(crate::proofs::FinishedLemmas::work_reads, crate::proofs::FinishedLemmas::ruled))]
-fn read_input(alloc: Global, rules: Vec<u8>, file: Vec<u8>) -> Result<Input, Status>
-    requires { vec_len rules < 2 ^ 32 }
-    ensures read { IfOk result (λ input. program_at file.items ≡ Ok input.program) }
-    ensures formed { IfOk result (λ input. is_well_formed input.program ≡ true) }
-    ensures accepted { IfOk result (λ input. IsAccepted input.program) }
-    ensures ruled { IfOk result (λ input. IsRuled rules.items input.program input.outside) }
-    ensures refused { IfErr result (WorkRefused rules.items) }
-    ensures file { IfErr result (FileRefused file.items) }
+/// The closed table without the methods that the library shuts. The bytes are let go as soon as they are read.
+fn narrowed_outside(
+    alloc: Global,
+    library: Seq<u8>,
+    program: &Program,
+    hierarchy: &Hierarchy,
+    closed: Outside,
+) -> Result<Outside, Status>
+    requires formed { is_well_formed program.now ≡ true }
+    requires resolved { IsResolved program.now hierarchy.now }
+    ensures table { (rules : List ℕ) → IsTableFor rules program.now closed → IfOk result (IsTableBy rules library program.now) }
+    ensures refused { IfErr result IsLibraryRefusal }
+    ensures library { IfErr result (LibraryRefused library) }
 {
-    let parsed = match read_rules(alloc, &rules) {
-        Ok(parsed) => parsed,
+    let stubs = match read_library(alloc, library.as_slice()) {
+        Ok(stubs) => stubs,
+        Err(fault) => return Err(library_status(fault)),
+    };
+    drop(library);
+    match narrow(alloc, &stubs, program, hierarchy, &closed) {
+        Ok(outside) => Ok(outside),
+        Err(_) => Err(Status::NoMemory),
+    }
+}
+
+/// The closed table, without the methods that the library shuts where there is one.
+fn table_with(
+    alloc: Global,
+    library: Option<Seq<u8>>,
+    program: &Program,
+    hierarchy: &Hierarchy,
+    closed: Outside,
+) -> Result<Outside, Status>
+    requires formed { is_well_formed program.now ≡ true }
+    requires resolved { IsResolved program.now hierarchy.now }
+    ensures table { (rules : List ℕ) → IsTableFor rules program.now closed → IfOk result (IsTableWith rules library program.now) }
+    ensures refused { IfErr result (LibraryEnds library) }
+{
+    match library {
+        None => Ok(closed),
+        Some(library) => narrowed_outside(alloc, library, program, hierarchy, closed),
+    }
+}
+
+/// The rules, the file, its class graph and its types, and the library, in this order. The bytes are let go as soon as they are
+/// read.
+#[tactic(auto, using(crate::proofs::FinishedLemmas::work_reads, crate::proofs::FinishedLemmas::bytes_read, crate::proofs::FinishedLemmas::library_work, crate::proofs::FinishedLemmas::library_bytes))]
+fn read_input(alloc: Global, inputs: Inputs) -> Result<Input, Status>
+    requires { length inputs.rules < 2 ^ 32 }
+    ensures program { IfOk result (λ input. program_at inputs.file ≡ Ok input.program) }
+    ensures formed { IfOk result (λ input. is_well_formed input.program ≡ true) }
+    ensures resolved { IfOk result (λ input. IsResolved input.program input.hierarchy) }
+    ensures accepted { IfOk result (λ input. IsAccepted input.program) }
+    ensures table { IfOk result (λ input. IsTableWith inputs.rules inputs.library input.program input.outside) }
+    ensures read { OnOk result (AreRead inputs) }
+    ensures refused { IfErr result (WorkRefused inputs) }
+    ensures bytes { IfErr result (BytesRefused inputs) }
+{
+    let rules = match read_rules(alloc, inputs.rules.as_slice()) {
+        Ok(rules) => rules,
         Err(fault) => return Err(rules_status(fault)),
     };
-    drop(rules);
-    let Classes { program, hierarchy } = match read_classes(alloc, file) {
+    drop(inputs.rules);
+    let Classes { program, hierarchy } = match read_classes(alloc, inputs.file) {
         Ok(classes) => classes,
         Err(status) => return Err(status),
     };
-    let outside = match closed_outside(alloc, &parsed, &program, &hierarchy) {
-        Ok(outside) => outside,
+    let closed = match closed_outside(alloc, &rules, &program, &hierarchy) {
+        Ok(closed) => closed,
         Err(_) => return Err(Status::NoMemory),
     };
-    Ok(Input {
-        program,
-        hierarchy,
-        outside,
-    })
+    match table_with(alloc, inputs.library, &program, &hierarchy, closed) {
+        Ok(outside) => Ok(Input {
+            program,
+            hierarchy,
+            outside,
+        }),
+        Err(status) => Err(status),
+    }
 }
 
 /// Tells the advisers what the words say, in their order.
@@ -218,19 +299,41 @@ pub struct Optimised {
     pub summary: String,
 }
 
+/// What is left of a program, with calls inlined before the rounds or without.
+#[tactic(auto, using(crate::proofs::FinishedLemmas::leaves, crate::proofs::FinishedLemmas::leaves_inlined))]
+fn left_of(
+    alloc: Global,
+    program: Program,
+    outside: &Outside,
+    inline: bool,
+    panel: &mut Panel,
+) -> Result<Outcome, AllocError>
+    requires advisers { 0 ≤ vec_len panel.old.advisers }
+    requires formed { is_well_formed program ≡ true }
+    ensures leaves { IfOk result (λ outcome. LeavesBy inline program outside.now outcome.program outcome.rounds outcome.spared) }
+    ensures rounds { IfOk result (λ outcome. 1 ≤ outcome.rounds) }
+{
+    if inline {
+        optimise_inlined(alloc, program, outside, panel)
+    } else {
+        optimise(alloc, program, outside, panel)
+    }
+}
+
 /// Optimises a program, writes what is left and sums up.
 #[tactic(auto, using(crate::proofs::FinishedLemmas::shrunk))]
 fn optimise_program(
     alloc: Global,
     program: Program,
     outside: &Outside,
+    inline: bool,
     before: Sizes,
     panel: &mut Panel,
 ) -> Result<Optimised, AllocError>
     requires { is_well_formed program ≡ true }
-    ensures { IfOk result (λ optimised. Shrunk program outside.now before optimised.bytes.items (string_bytes optimised.summary)) }
+    ensures { IfOk result (λ optimised. Shrunk inline program outside.now before optimised.bytes.items (string_bytes optimised.summary)) }
 {
-    let outcome = optimise(alloc, program, outside, panel)?;
+    let outcome = left_of(alloc, program, outside, inline, panel)?;
     let bytes = write_dex(alloc, &outcome.program)?;
     let after = sizes_of(&outcome.program, bytes.len());
     let summary = summary(alloc, before, after, outcome.rounds, outcome.spared)?;
@@ -252,41 +355,42 @@ fn told(
 fn optimise_input(
     alloc: Global,
     input: Input,
+    inline: bool,
     length: usize,
     panel: &mut Panel,
 ) -> Result<Optimised, AllocError>
     requires { is_well_formed input.program ≡ true }
-    ensures { IfOk result (λ optimised. Shrunk input.program input.outside (sizes_in input.program length) optimised.bytes.items (string_bytes optimised.summary)) }
+    ensures { IfOk result (λ optimised. Shrunk inline input.program input.outside (sizes_in input.program length) optimised.bytes.items (string_bytes optimised.summary)) }
 {
     let before = sizes_of(&input.program, length);
-    optimise_program(alloc, input.program, &input.outside, before, panel)
+    optimise_program(alloc, input.program, &input.outside, inline, before, panel)
 }
 
-/// Optimises a file by its rules.
-#[tactic(auto, using(crate::proofs::FinishedLemmas::read, crate::proofs::FinishedLemmas::finished))]
+/// Optimises a file by its rules, and by its library where there is one.
+#[tactic(auto, using(crate::proofs::FinishedLemmas::finished))]
 pub fn optimise_file(
     alloc: Global,
-    rules: Vec<u8>,
-    file: Vec<u8>,
+    inputs: Inputs,
+    inline: bool,
     tells: &[Tell],
     advisers: Vec<Box<dyn Adviser>>,
 ) -> Result<Optimised, Status>
-    requires { vec_len rules < 2 ^ 32 }
-    ensures finished { IfOk result (λ optimised. Finished rules.items file.items optimised.bytes.items (string_bytes optimised.summary)) }
-    ensures read { OnOk result (IsRead file.items) }
-    ensures refused { IfErr result (WorkRefused rules.items) }
-    ensures file { IfErr result (FileRefused file.items) }
+    requires { length inputs.rules < 2 ^ 32 }
+    ensures finished { IfOk result (λ optimised. Finished inline inputs optimised.bytes.items (string_bytes optimised.summary)) }
+    ensures read { OnOk result (AreRead inputs) }
+    ensures refused { IfErr result (WorkRefused inputs) }
+    ensures bytes { IfErr result (BytesRefused inputs) }
 {
-    let length = file.len();
+    let length = inputs.file.len();
+    let input = match read_input(alloc, inputs) {
+        Ok(input) => input,
+        Err(status) => return Err(status),
+    };
     let mut panel = match told(alloc, tells, advisers) {
         Ok(panel) => panel,
         Err(_) => return Err(Status::NoMemory),
     };
-    let input = match read_input(alloc, rules, file) {
-        Ok(input) => input,
-        Err(status) => return Err(status),
-    };
-    match optimise_input(alloc, input, length, &mut panel) {
+    match optimise_input(alloc, input, inline, length, &mut panel) {
         Ok(optimised) => Ok(optimised),
         Err(_) => Err(Status::NoMemory),
     }
@@ -300,17 +404,22 @@ fn workload_file(alloc: Global, count: u32) -> Result<Vec<u8>, AllocError>
 }
 
 /// The rules and the file of the workload of so many classes.
-fn workload_input(alloc: Global, count: u32) -> Result<(Vec<u8>, Vec<u8>), AllocError>
+fn workload_inputs(alloc: Global, count: u32) -> Result<Inputs, AllocError>
     requires { count ≤ 2000 }
-    ensures { IfOk result (λ input. vec_len input.0 < 2 ^ 32) }
+    ensures short { IfOk result (λ inputs. length inputs.rules < 2 ^ 32) }
+    ensures alone { IfOk result (λ inputs. inputs.library ≡ None) }
 {
     let file = workload_file(alloc, count)?;
     let rules = Vec::from_slice(alloc, WORKLOAD_RULES)?;
-    Ok((rules, file))
+    Ok(Inputs {
+        rules: Seq::of_vec(rules),
+        file: Seq::of_vec(file),
+        library: None,
+    })
 }
 
 /// Optimises the workload of so many classes, and answers the summary.
-#[tactic(auto, using(crate::proofs::FinishedLemmas::is_workload, crate::proofs::FinishedLemmas::made))]
+#[tactic(auto, using(crate::proofs::FinishedLemmas::is_workload, crate::proofs::FinishedLemmas::made, crate::proofs::FinishedLemmas::none_made))]
 pub fn optimise_workload(
     alloc: Global,
     count: u32,
@@ -320,20 +429,25 @@ pub fn optimise_workload(
     ensures summary { IfOk result (λ text. IsWorkload (string_bytes text)) }
     ensures refused { IfErr result MadeRefused }
 {
-    let (rules, file) = match workload_input(alloc, count) {
-        Ok(input) => input,
+    let inputs = match workload_inputs(alloc, count) {
+        Ok(inputs) => inputs,
         Err(_) => return Err(Status::NoMemory),
     };
-    match optimise_file(alloc, rules, file, &[], advisers) {
+    match optimise_file(alloc, inputs, false, &[], advisers) {
         Ok(optimised) => Ok(optimised.summary),
         Err(status) => Err(status),
     }
 }
 
 /// The live classes and members of an input, as they are said.
+#[tactic(auto, using(crate::proofs::FinishedLemmas::lists_file))]
 fn live_of(alloc: Global, input: &Input) -> Result<Vec<u8>, Status>
-    ensures refused { (rules : List ℕ) → IfErr result (WorkRefused rules) }
-    ensures file { (bytes : List ℕ) → IfErr result (FileRefused bytes) }
+    requires formed { is_well_formed input.now.program ≡ true }
+    requires resolved { IsResolved input.now.program input.now.hierarchy }
+    ensures lists { (inputs : Inputs) → program_at inputs.file ≡ Ok input.now.program → IsAccepted input.now.program → IsTableWith inputs.rules inputs.library input.now.program input.now.outside
+        → IfOk result (λ text. ListsFile inputs text.items) }
+    ensures refused { (inputs : Inputs) → IfErr result (WorkRefused inputs) }
+    ensures bytes { (inputs : Inputs) → IfErr result (BytesRefused inputs) }
 {
     let live = match live_members(alloc, &input.program, &input.hierarchy, &input.outside) {
         Ok(live) => live,
@@ -345,15 +459,15 @@ fn live_of(alloc: Global, input: &Input) -> Result<Vec<u8>, Status>
     }
 }
 
-/// The live classes and members of a file by its rules, as they are said.
-#[tactic(auto, using(crate::proofs::FinishedLemmas::read))]
-pub fn list_live(alloc: Global, rules: Vec<u8>, file: Vec<u8>) -> Result<Vec<u8>, Status>
-    requires { vec_len rules < 2 ^ 32 }
-    ensures read { OnOk result (IsRead file.items) }
-    ensures refused { IfErr result (WorkRefused rules.items) }
-    ensures file { IfErr result (FileRefused file.items) }
+/// The live classes and members of a file by its rules, and by its library where there is one, as they are said.
+pub fn list_live(alloc: Global, inputs: Inputs) -> Result<Vec<u8>, Status>
+    requires { length inputs.rules < 2 ^ 32 }
+    ensures lists { IfOk result (λ text. ListsFile inputs text.items) }
+    ensures read { OnOk result (AreRead inputs) }
+    ensures refused { IfErr result (WorkRefused inputs) }
+    ensures bytes { IfErr result (BytesRefused inputs) }
 {
-    let input = match read_input(alloc, rules, file) {
+    let input = match read_input(alloc, inputs) {
         Ok(input) => input,
         Err(status) => return Err(status),
     };
@@ -374,10 +488,10 @@ fn counts_of(alloc: Global, program: &Program) -> Result<Vec<u8>, Status>
 
 /// How many classes, methods and instructions a well typed file has, as they are said.
 #[tactic(auto, using(crate::proofs::FinishedLemmas::checked))]
-pub fn check_file(alloc: Global, file: Vec<u8>) -> Result<Vec<u8>, Status>
-    ensures checked { IfOk result (λ text. Checks file.items text.items) }
+pub fn check_file(alloc: Global, file: Seq<u8>) -> Result<Vec<u8>, Status>
+    ensures checked { IfOk result (λ text. Checks file text.items) }
     ensures refused { IfErr result ReadRefused }
-    ensures file { IfErr result (FileRefused file.items) }
+    ensures file { IfErr result (FileRefused file) }
 {
     let classes = match read_classes(alloc, file) {
         Ok(classes) => classes,
@@ -391,8 +505,8 @@ pub fn check_file(alloc: Global, file: Vec<u8>) -> Result<Vec<u8>, Status>
 fn read_play(alloc: Global, script: &[u8]) -> Result<Play, Status>
     requires { length script.now < 2 ^ 32 }
     ensures plays { IfOk result (λ play. play_of script.now ≡ Ok play) }
-    ensures refused { (rules : List ℕ) → IfErr result (TraceRefused rules script.now) }
-    ensures file { (bytes : List ℕ) → IfErr result (FileRefused bytes) }
+    ensures refused { (inputs : Inputs) → IfErr result (TraceRefused inputs script.now) }
+    ensures bytes { (inputs : Inputs) → IfErr result (BytesRefused inputs) }
 {
     match read_script(alloc, script) {
         Ok(play) => Ok(play),
@@ -426,9 +540,9 @@ fn events_of(
 /// The lines of these events.
 #[tactic(auto, using(crate::proofs::Traced::traces))]
 fn trace_play(alloc: Global, input: &Input, play: &Play, steps: u32) -> Result<Vec<u8>, AllocError>
-    requires accepted { IsAccepted input.now.program }
-    requires table { IsTableFor input.now.program input.now.outside }
-    ensures { IfOk result (λ text. Traces input.now.program play.now steps text.items) }
+    requires { IsAccepted input.now.program }
+    ensures { (rules : List ℕ) (library : Option (List ℕ)) → IsTableWith rules library input.now.program input.now.outside
+        → IfOk result (λ text. Traces rules library input.now.program play.now steps text.items) }
 {
     let events = events_of(alloc, input, play, steps)?;
     write_events(alloc, events.as_slice())
@@ -439,10 +553,10 @@ fn trace_play(alloc: Global, input: &Input, play: &Play, steps: u32) -> Result<V
 fn trace_input(alloc: Global, input: &Input, script: &[u8], steps: u32) -> Result<Vec<u8>, Status>
     requires script { length script.now < 2 ^ 32 }
     requires accepted { IsAccepted input.now.program }
-    requires table { IsTableFor input.now.program input.now.outside }
-    ensures traced { (bytes : List ℕ) → program_at bytes ≡ Ok input.now.program → IfOk result (λ text. TracesFile bytes script.now steps text.items) }
-    ensures refused { (rules : List ℕ) → IfErr result (TraceRefused rules script.now) }
-    ensures file { (bytes : List ℕ) → IfErr result (FileRefused bytes) }
+    ensures traced { (inputs : Inputs) → program_at inputs.file ≡ Ok input.now.program → IsTableWith inputs.rules inputs.library input.now.program input.now.outside
+        → IfOk result (λ text. TracesFile inputs script.now steps text.items) }
+    ensures refused { (inputs : Inputs) → IfErr result (TraceRefused inputs script.now) }
+    ensures bytes { (inputs : Inputs) → IfErr result (BytesRefused inputs) }
 {
     let play = match read_play(alloc, script) {
         Ok(play) => play,
@@ -455,22 +569,21 @@ fn trace_input(alloc: Global, input: &Input, script: &[u8], steps: u32) -> Resul
 }
 
 /// The events of so many steps of a file under a script, as they are said.
-#[tactic(auto, using(crate::proofs::CommandLemmas::work_traces, crate::proofs::FinishedLemmas::read))]
+#[tactic(auto, using(crate::proofs::CommandLemmas::work_traces))]
 pub fn trace_file(
     alloc: Global,
-    rules: Vec<u8>,
-    file: Vec<u8>,
+    inputs: Inputs,
     script: &[u8],
     steps: u32,
 ) -> Result<Vec<u8>, Status>
-    requires rules { vec_len rules < 2 ^ 32 }
+    requires rules { length inputs.rules < 2 ^ 32 }
     requires script { length script.now < 2 ^ 32 }
-    ensures traced { IfOk result (λ text. TracesFile file.items script.now steps text.items) }
-    ensures read { OnOk result (IsRead file.items) }
-    ensures refused { IfErr result (TraceRefused rules.items script.now) }
-    ensures file { IfErr result (FileRefused file.items) }
+    ensures traced { IfOk result (λ text. TracesFile inputs script.now steps text.items) }
+    ensures read { OnOk result (AreRead inputs) }
+    ensures refused { IfErr result (TraceRefused inputs script.now) }
+    ensures bytes { IfErr result (BytesRefused inputs) }
 {
-    let input = match read_input(alloc, rules, file) {
+    let input = match read_input(alloc, inputs) {
         Ok(input) => input,
         Err(status) => return Err(status),
     };

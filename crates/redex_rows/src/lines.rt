@@ -1,7 +1,7 @@
 //! The words that begin a line.
 
 use crate::desk::Desk;
-use crate::files::{changed, raw, summed};
+use crate::files::{changed, file_of, raw, summed};
 use crate::many::{each_cut, each_turn};
 use redex_outside::Fail;
 use row_text::{Trouble, digits_of, place};
@@ -66,6 +66,7 @@ fn prepare(
         "row:" => desk.begin(text, None),
         "fails" => desk.begin(text, Some(fail_of(rest)?)),
         "rules" | "script" => Ok(desk.add_line(first, rest)?),
+        "library" => Ok(desk.put(rest, file_of(alloc, text)?.as_slice())?),
         "bytes" => {
             let (name, words) = two(rest)?;
             Ok(desk.put(name, raw(alloc, words)?.as_slice())?)

@@ -8,6 +8,7 @@
 //! - `row:` and a sentence begin a row: the shelf then holds the program above it, written as a file, under `in`, and `old`
 //!   under `out`. In place of a program the bytes of a file may stand, as hexadecimal digits, and `+N` for N zeros.
 //! - `rules` and `script` add a line to what the shelf holds under that name; the last one has no end.
+//! - `library NAME` puts the program above it under that name, written as a file.
 //! - `bytes NAME` puts bytes there, `cut N` leaves the first N of `in`, `over N` puts bytes over those of `in` from N on,
 //!   and `sum` makes its checksum right.
 //! - `fails N KEPT` begins the row anew, on a shelf whose call N, from 0, fails and keeps so many bytes, or `none`;

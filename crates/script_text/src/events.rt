@@ -63,8 +63,8 @@ fn push_unit(out: &mut Vec<u8>, unit: u16) -> Result<(), AllocError>
     push_hex(out, 4, u64::from(unit))
 }
 
-/// Adds a text as it is written.
-fn push_escaped(out: &mut Vec<u8>, text: &Text) -> Result<(), AllocError>
+/// Adds a text as it is written. The only error is want of memory.
+pub fn push_escaped(out: &mut Vec<u8>, text: &Text) -> Result<(), AllocError>
     ensures { OnOk result (out.new.items ≡ out.old.items ++ escaped text.now) }
 {
     for unit in text.units() {

@@ -1,7 +1,8 @@
 //! A library from the bytes of a DEX file.
 
-ghost use Rattle.std.specs.Prelude.{◌≡◌, ◌++◌, ◌∷◌, [], ◌==◌, map, filter, cond, slice_get, IfOk, OnOk};
+ghost use Rattle.std.specs.Prelude.{◌≡◌, ◌++◌, ◌∷◌, [], ◌==◌, map, filter, cond, slice_get, IfOk, IfErr, OnOk};
 ghost use Rattle.dex_base.specs.Reading.{Gives};
+ghost use Rattle.dex_read.specs.Counts.{CountsInFile};
 ghost use Rattle.dex_read.specs.Faults.{is_free};
 ghost use Rattle.program_model.specs.MemberRules.{is_direct};
 ghost use Rattle.program_model.specs.Texts.{first_unit, type_text};
@@ -147,7 +148,8 @@ fn library_of(alloc: Global, program: &Program) -> Result<Library, AllocError>
 /// The classes and virtual methods that the bytes of a DEX file declare. The file is read whole, and is refused exactly
 /// where `read_dex` refuses it, by the same fault. Its bodies are neither typed nor run.
 pub fn read_library(alloc: Global, bytes: &[u8]) -> Result<Library, DexFault>
-    ensures { Gives is_free (λ library. library) result (library_at bytes.now) }
+    ensures gives { Gives is_free (λ library. library) result (library_at bytes.now) }
+    ensures counts { IfErr result CountsInFile }
 {
     let program = read_dex(alloc, bytes)?;
     Ok(library_of(alloc, &program)?)

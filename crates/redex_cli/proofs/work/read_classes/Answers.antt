@@ -9,7 +9,7 @@ returns-in-Ok-verify_all-clause-accepted c =
     c.in-Ok-verify_all.ensures.typed
 
 pub returns-in-Err-verify_all-clause-file : goal.returns-in-Err-verify_all-clause-file
-returns-in-Err-verify_all-clause-file c = c.typing_status.ensures.file c.args.file.items
-    (type_fault c.in-Ok.program c.in-Ok-build.hierarchy c.args.file.items c.in-Err-verify_all.fault
-    (subst (λ (bytes : List ℕ). program_at bytes ≡ Ok c.in-Ok.program) c.deref.ensures.value c.in-Ok.ensures.gives) c.in-Ok.ensures.formed
+returns-in-Err-verify_all-clause-file c = c.typing_status.ensures.file c.args.file
+    (type_fault c.in-Ok.program c.in-Ok-build.hierarchy c.args.file c.in-Err-verify_all.fault
+    (subst (λ (bytes : List ℕ). program_at bytes ≡ Ok c.in-Ok.program) c.as_slice.ensures c.in-Ok.ensures.gives) c.in-Ok.ensures.formed
     c.in-Ok-build.ensures.resolved c.in-Ok-build.ensures.acyclic c.in-Ok-build.ensures.unsplit c.in-Err-verify_all.ensures.refused)

@@ -226,6 +226,7 @@ fn narrowed_outside(
 }
 
 /// The closed table, without the methods that the library shuts where there is one.
+#[tactic(auto, using(crate::proofs::Traced::table_with_library))]
 fn table_with(
     alloc: Global,
     library: Option<Seq<u8>>,

@@ -194,7 +194,7 @@ fn closed_outside(
     requires limits { KeepsLimits program.now }
     requires formed { is_well_formed program.now ≡ true }
     requires resolved { IsResolved program.now hierarchy.now }
-    ensures table { (text : List ℕ) → IsReading text rules.now → IfOk result (IsTableFor text program.now) }
+    ensures { (text : List ℕ) → IsReading text rules.now → IfOk result (IsTableFor text program.now) }
 {
     let open = outside_of(alloc, rules, program, hierarchy)?;
     close(alloc, program, hierarchy, &open)
@@ -226,7 +226,6 @@ fn narrowed_outside(
 }
 
 /// The closed table, without the methods that the library shuts where there is one.
-#[tactic(auto, using(crate::proofs::Traced::table_with_library))]
 fn table_with(
     alloc: Global,
     library: Option<Seq<u8>>,

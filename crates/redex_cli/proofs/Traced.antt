@@ -1,5 +1,5 @@
 -- What `trace` says, from what the machine says of a run.
-use Rattle.std.proofs.Common.{◌≡◌, ◌≤◌, ℕ, List, [], true, length, subst, Option, Result, Ok, Err}
+use Rattle.std.proofs.Common.{◌≡◌, ◌≤◌, ℕ, List, true, length, subst, Option, Result, Ok, Err, Some, sym}
 use Rattle.std.specs.Prelude.{IfOk}
 use Rattle.array_law.proofs.Runs.{make_arrays}
 use Rattle.dalvik_defs.specs.Naming.{named}
@@ -32,6 +32,7 @@ use Rattle.stub_library.specs.declared.library.Library.{Library}
 use Rattle.redex_cli.specs.Tables.{IsTableBy, IsTableFor, IsTableWith}
 use Rattle.redex_cli.specs.Traces.{Traces, TracesFile}
 use Rattle.redex_cli.specs.declared.fetching.Inputs.{Inputs}
+use Rattle.redex_cli.specs.declared.status.Status.{Status}
 
 -- ---- a run
 
@@ -72,6 +73,13 @@ table_by rules given bytes p closed outside library same table declares narrowed
   declares = subst (λ (bs : List ℕ). library_at bs ≡ Ok library) same declares;
   narrowed = narrowed;
 }
+
+-- where there is a library, whose bytes are these
+pub table_with_library : (library : Option (List ℕ)) (bytes : List ℕ) (p : Program) (closed : Outside) (result : Result Outside Status) → library ≡ Some bytes
+    → ((rules : List ℕ) → IsTableFor rules p closed → IfOk result (IsTableBy rules bytes p))
+    → (rules : List ℕ) → IsTableFor rules p closed → IfOk result (IsTableWith rules library p)
+table_with_library library bytes p closed result is by rules table =
+    subst (λ (l : Option (List ℕ)). IfOk result (IsTableWith rules l p)) (sym is) (by rules table)
 
 -- what the machine answers of a run of an accepted program, where the script that it was given is this one
 pub shown : {T E : Type 0} (r : Result T E) (items : T → List Event) (p : Program) (o : Outside) (f : Framework) (a : Floats) (given script : List Move) (n : ℕ)

@@ -194,7 +194,7 @@ fn closed_outside(
     requires limits { KeepsLimits program.now }
     requires formed { is_well_formed program.now ≡ true }
     requires resolved { IsResolved program.now hierarchy.now }
-    ensures table { (text : List ℕ) → IsReading text rules.now → IfOk result (IsTableFor text program.now) }
+    ensures { (text : List ℕ) → IsReading text rules.now → IfOk result (IsTableFor text program.now) }
 {
     let open = outside_of(alloc, rules, program, hierarchy)?;
     close(alloc, program, hierarchy, &open)

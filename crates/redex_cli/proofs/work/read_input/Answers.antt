@@ -14,7 +14,7 @@ returns-in-Err-clause-bytes c = c.rules_status.ensures.file c.args.inputs
 pub returns-in-Ok-table_with-clause-table : goal.returns-in-Ok-table_with-clause-table
 returns-in-Ok-table_with-clause-table c =
     table_of_text c.as_slice.result.now c.args.inputs.rules c.args.inputs.library c.in-Ok-read_classes.classes.program c.in-Ok-table_with.outside
-    c.as_slice.ensures (c.in-Ok-table_with.ensures.table c.as_slice.result.now (c.in-Ok-closed_outside.ensures.table c.as_slice.result.now c.in-Ok.ensures.ok))
+    c.as_slice.ensures (c.in-Ok-table_with.ensures.table c.as_slice.result.now (c.in-Ok-closed_outside.ensures c.as_slice.result.now c.in-Ok.ensures.ok))
 
 pub returns-in-Ok-table_with-clause-read : goal.returns-in-Ok-table_with-clause-read
 returns-in-Ok-table_with-clause-read c =

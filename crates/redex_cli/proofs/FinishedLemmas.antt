@@ -1,5 +1,5 @@
 -- Finished outputs.
-use Rattle.std.proofs.Common.{◌≡◌, ◌≤◌, ℕ, List, [], Bool, length, true, false, Option, None, Some, Result, Ok, Err, refl, subst, inl, inr}
+use Rattle.std.proofs.Common.{◌≡◌, ◌≤◌, ℕ, List, [], Bool, length, true, false, Option, None, Some, Result, Ok, Err, refl, subst, sym, inl, inr}
 use Rattle.std.specs.Prelude.{IfOk}
 use Rattle.call_graph.specs.Closed.{IsClosedSet}
 use Rattle.call_graph.specs.declared.live_set.LiveSet.{LiveSet}
@@ -37,15 +37,13 @@ well_formed_if bytes (Err e) formed gives = tt
 
 pub leaves : (inline : Bool) (program : Program) (outside : Outside) (left : Program) (rounds spared advisers : ℕ) (old new : List Bool) (origins : List (List Origin))
     → inline ≡ false → IsOptimised outside program advisers old new spared left origins rounds → LeavesBy inline program outside left rounds spared
-leaves false program outside left rounds spared advisers old new origins none optimised =
-    record { advisers = advisers; before = old; after = new; origins = origins; optimised = optimised }
-leaves true program outside left rounds spared advisers old new origins none optimised = cc
+leaves inline program outside left rounds spared advisers old new origins none optimised =
+    subst (λ (chosen : Bool). LeavesBy chosen program outside left rounds spared) (sym none) (record { advisers = advisers; before = old; after = new; origins = origins; optimised = optimised })
 
 pub leaves_inlined : (inline : Bool) (program : Program) (outside : Outside) (left : Program) (rounds spared : ℕ) (olds news : List Voice) (old new : List Bool) (origins : List (List Origin))
     → inline ≡ true → IsOptimisedInlined outside program olds news old new spared left origins rounds → LeavesBy inline program outside left rounds spared
-leaves_inlined true program outside left rounds spared olds news old new origins some optimised =
-    record { olds = olds; news = news; before = old; after = new; origins = origins; optimised = optimised }
-leaves_inlined false program outside left rounds spared olds news old new origins some optimised = cc
+leaves_inlined inline program outside left rounds spared olds news old new origins some optimised =
+    subst (λ (chosen : Bool). LeavesBy chosen program outside left rounds spared) (sym some) (record { olds = olds; news = news; before = old; after = new; origins = origins; optimised = optimised })
 
 pub shrunk : (inline : Bool) (program : Program) (outside : Outside) (before after : Sizes) (left : Program) (rounds spared : ℕ) (output summary : List ℕ)
     → LeavesBy inline program outside left rounds spared

@@ -2,4 +2,4 @@ mod Tests
 mod Numbers
 mod Owned
 mod Same
-mod Narrowing
+pub mod Narrowing

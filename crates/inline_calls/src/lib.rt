@@ -30,5 +30,9 @@ mod room;
 mod site;
 mod texts;
 
+pub use caller::{Accepted, Inliner};
+pub use done::Done;
+pub use editing::Edit;
 pub use laws::candidates_law;
 pub use pass::apply;
+pub use site::{Caller, Known};

@@ -5,3 +5,4 @@ pub mod Shuts
 pub mod Looked
 pub mod Tested
 pub mod Kept
+pub mod Stayed

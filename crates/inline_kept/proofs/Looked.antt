@@ -200,11 +200,11 @@ module _ (p : Program) (h : Hierarchy) (facts : Facts) (resolved : IsResolved p 
           takes = subst (λ r. TakesFrom p r (taken_by (slice_get b.insns (n + 1)))) (same_result p y.method.now.name)
               (subst (λ (z : Body). TakesFrom p (result_of p y.method.now.name) (taken_by (slice_get z.insns (n + 1)))) is_body (takes_by p y.method.now (taken_by (slice_get c.body.now.insns (n + 1))) takes));
           static = λ e. ap (λ (z : Hierarchy). slice_index_or z.starts.trivial.items x.place.class false) (sym hierarchy) ∙ x.enters.static e;
-          direct = λ e. never (x.enters.direct e) q.receiver (got_short b.insns n x.insn here);
+          direct = λ e. never x.insn (receiver_of q.args) (x.enters.direct e) q.receiver (got_short b.insns n x.insn here);
         }
       where
-        never : {r : ℕ} {i : Insn} → KnowsReceiver k.facts.now c.method.now.name (min n 4294967295) (receiver_in i) → receiver_in i ≡ r → n < length b.insns → NeverNull facts m.name n r
-        never {r} {i} z e l =
+        never : (i : Insn) (r : ℕ) → KnowsReceiver k.facts.now c.method.now.name (min n 4294967295) (receiver_in i) → receiver_in i ≡ r → n < length b.insns → NeverNull facts m.name n r
+        never i r z e l =
             let at_n : min n 4294967295 ≡ n = min-eq_left (let f = few in omega (arith, f, l)) in
             let y = subst (λ x. KnowsReceiver facts m.name n x) e
             (subst (λ x. KnowsReceiver facts m.name x (receiver_in i)) at_n (subst (λ (x : Method). KnowsReceiver facts x.name (min n 4294967295) (receiver_in i)) is_method (subst (λ (x : Facts). KnowsReceiver x c.method.now.name (min n 4294967295) (receiver_in i)) known z))) in
@@ -223,19 +223,19 @@ tries_some i c cells n old _ _ (Unsuited none) h = h
 tries_some i c cells n old _ _ (Suited y new rows None candidate with_it weighs) h = h
 tries_some i c cells n old _ _ (Suited y new rows (Some s) candidate with_it weighs) h = inr (record { place = n; callee = y; there = with_it.here })
 
-tried_some : (i : Inliner) (c : Caller) (cells n : ℕ) (rows : List Row) (chosen : List (Option Callee)) → HasTried i c cells n rows chosen → (chosen ≡ []) ⊎ IsSome chosen
+pub tried_some : (i : Inliner) (c : Caller) (cells n : ℕ) (rows : List Row) (chosen : List (Option Callee)) → HasTried i c cells n rows chosen → (chosen ≡ []) ⊎ IsSome chosen
 tried_some i c cells _ _ _ Untried = inl refl
 tried_some i c cells _ _ _ (Tried n rows more old new before tries) = tries_some i c cells n old new more tries (tried_some i c cells n rows old before)
 
 -- ---- lists that were looked at
 
-record LookedAt {A E : Type 0} (looks : ℕ → A → Done → List Row → E → Done → Type 0) (given : List E) (k : ℕ) (x : A) : Type 0 where
-  one : E
-  there : slice_get given k ≡ Some one
-  before : Done
-  rows : List Row
-  behind : Done
-  looked : looks k x before rows one behind
+pub record LookedAt {A E : Type 0} (looks : ℕ → A → Done → List Row → E → Done → Type 0) (given : List E) (k : ℕ) (x : A) : Type 0 where
+  pub one : E
+  pub there : slice_get given k ≡ Some one
+  pub before : Done
+  pub rows : List Row
+  pub behind : Done
+  pub looked : looks k x before rows one behind
 
 get_first : {E : Type 0} (xs ys : List E) (k : ℕ) (e : E) → slice_get xs k ≡ Some e → slice_get (xs ++ ys) k ≡ Some e
 get_first [] ys k e h = none_some e h
@@ -253,16 +253,16 @@ one_longer [] e = omega arith
 one_longer (x ∷ xs) e = let h = one_longer xs e in omega (arith, h)
 
 module _ {A E : Type 0} (looks : ℕ → A → Done → List Row → E → Done → Type 0) (xs : List A) (d : Done) where
-  looked_long : (n : ℕ) (rows : List Row) (given : List E) (e : Done) → HaveLooked looks xs d n rows given e → length given ≡ n
+  pub looked_long : (n : ℕ) (rows : List Row) (given : List E) (e : Done) → HaveLooked looks xs d n rows given e → length given ≡ n
   looked_long _ _ _ _ NoneLooked = refl
   looked_long _ _ _ _ (OneLooked n x rows more given one e f before got looked) = let h = looked_long n rows given e before in let l = one_longer given one in omega (arith, h, l)
 
-  looked_at : (n : ℕ) (rows : List Row) (given : List E) (e : Done) → HaveLooked looks xs d n rows given e → (k : ℕ) (x : A) → k < n → slice_get xs k ≡ Some x → LookedAt looks given k x
+  pub looked_at : (n : ℕ) (rows : List Row) (given : List E) (e : Done) → HaveLooked looks xs d n rows given e → (k : ℕ) (x : A) → k < n → slice_get xs k ≡ Some x → LookedAt looks given k x
   looked_at _ _ _ _ NoneLooked k x l g = absurd (omega (arith, l))
-  looked_at _ _ _ _ (OneLooked n z rows more given one e f before got looked) k x l g = by (cases_lt k n)
+  looked_at _ _ _ _ (OneLooked n z rows more given one e f before got looked) k x l g = by (λ m. looked_at n rows given e before k x m g) (cases_lt k n)
     where
-      there : k < n → LookedAt looks (given ++ one ∷ []) k x
-      there m = let r = looked_at n rows given e before k x m g in record { one = r.one; there = get_first given (one ∷ []) k r.one r.there; before = r.before; rows = r.rows; behind = r.behind; looked = r.looked }
+      there : LookedAt looks given k x → LookedAt looks (given ++ one ∷ []) k x
+      there r = record { one = r.one; there = get_first given (one ∷ []) k r.one r.there; before = r.before; rows = r.rows; behind = r.behind; looked = r.looked }
 
       here : k ≡ n → LookedAt looks (given ++ one ∷ []) k x
       here m = let same : z ≡ x = some_same z x (sym got ∙ ap (slice_get xs) (sym m) ∙ g) in record {
@@ -274,9 +274,9 @@ module _ {A E : Type 0} (looks : ℕ → A → Done → List Row → E → Done 
         looked = subst (λ (j : ℕ). looks j x e more one f) (sym m) (subst (λ (y : A). looks n y e more one f) same looked);
       }
 
-      by : (k < n) ⊎ (n ≤ k) → LookedAt looks (given ++ one ∷ []) k x
-      by (inl m) = there m
-      by (inr m) = here (omega (arith, l, m))
+      by : (k < n → LookedAt looks given k x) → (k < n) ⊎ (n ≤ k) → LookedAt looks (given ++ one ∷ []) k x
+      by earlier (inl m) = there (earlier m)
+      by earlier (inr m) = here (omega (arith, l, m))
 
 pub pairs_given : {A E : Type 0} (by : E → A → A) (R : A → A → Type 0) (xs : List A) (es : List E) → length es ≡ length xs → ((k : ℕ) (x : A) (e : E) → slice_get xs k ≡ Some x → slice_get es k ≡ Some e → R x (by e x))
     → Pairwise R xs (each_by by es xs)

@@ -122,12 +122,12 @@ module _ (p : NamedProgram) where
           let shift = greatest p b accepted in
           let now = copied shift t end (λ j. first + copy_place t y.body.forms j) f in
           let rest = copies p key m b accepted y n first end t (suc i) fs in
-          by (any_split now (forms rest) (sym (ap (list_any says) (map_append (λ q. q.form) (map (copy_piece p key m b accepted y n i) now) rest
+          by (copies_say y n first end t (suc i) fs) (any_split now (forms rest) (sym (ap (list_any says) (map_append (λ q. q.form) (map (copy_piece p key m b accepted y n i) now) rest
           ∙ ap (λ xs. xs ++ forms rest) (of_forms (copy_piece p key m b accepted y n i) (λ z. refl) now))) ∙ e))
         where
-          by : (list_any says (copied (greatest p b accepted) t end (λ j. first + copy_place t y.body.forms j) f) ≡ true) ⊎ (list_any says (forms (copies p key m b accepted y n first end t (suc i) fs)) ≡ true) → (says f || list_any says fs) ≡ true
-          by (inl j) = or_left (says f) (list_any says fs) (copied_says (greatest p b accepted) t end (λ j. first + copy_place t y.body.forms j) f j)
-          by (inr j) = or_right (says f) (list_any says fs) (copies_say y n first end t (suc i) fs j)
+          by : (list_any says (forms (copies p key m b accepted y n first end t (suc i) fs)) ≡ true → list_any says fs ≡ true) → (list_any says (copied (greatest p b accepted) t end (λ j. first + copy_place t y.body.forms j) f) ≡ true) ⊎ (list_any says (forms (copies p key m b accepted y n first end t (suc i) fs)) ≡ true) → (says f || list_any says fs) ≡ true
+          by later (inl j) = or_left (says f) (list_any says fs) (copied_says (greatest p b accepted) t end (λ j. first + copy_place t y.body.forms j) f j)
+          by later (inr j) = or_right (says f) (list_any says fs) (later j)
 
       -- a callee at a position says it
       record CalleeSays : Type 0 where
@@ -164,7 +164,7 @@ module _ (p : NamedProgram) where
       pieces_say n (f ∷ fs) e =
           let now = pieces_at p key m b accepted n f (callee_at p b accepted n) in
           let rest = pieces_from p key m b accepted (suc n) fs in
-          by (any_split (forms now) (forms rest) (sym (ap (list_any says) (map_append (λ q. q.form) now rest)) ∙ e))
+          by (pieces_say (suc n) fs) (any_split (forms now) (forms rest) (sym (ap (list_any says) (map_append (λ q. q.form) now rest)) ∙ e))
         where
           first : (says f ≡ true) ⊎ CalleeSays → ((says f || list_any says fs) ≡ true) ⊎ CalleeSays
           first (inl j) = inl (or_left (says f) (list_any says fs) j)
@@ -174,9 +174,10 @@ module _ (p : NamedProgram) where
           more (inl j) = inl (or_right (says f) (list_any says fs) j)
           more (inr j) = inr j
 
-          by : (list_any says (forms (pieces_at p key m b accepted n f (callee_at p b accepted n))) ≡ true) ⊎ (list_any says (forms (pieces_from p key m b accepted (suc n) fs)) ≡ true) → ((says f || list_any says fs) ≡ true) ⊎ CalleeSays
-          by (inl j) = first (position_says n f (callee_at p b accepted n) refl j)
-          by (inr j) = more (pieces_say (suc n) fs j)
+          by : (list_any says (forms (pieces_from p key m b accepted (suc n) fs)) ≡ true → (list_any says fs ≡ true) ⊎ CalleeSays)
+              → (list_any says (forms (pieces_at p key m b accepted n f (callee_at p b accepted n))) ≡ true) ⊎ (list_any says (forms (pieces_from p key m b accepted (suc n) fs)) ≡ true) → ((says f || list_any says fs) ≡ true) ⊎ CalleeSays
+          by later (inl j) = first (position_says n f (callee_at p b accepted n) refl j)
+          by later (inr j) = more (later j)
 
 -- ---- programs
 

@@ -9,6 +9,7 @@ use Rattle.program_model.specs.Lookups.{method_at}
 use Rattle.program_model.specs.MemberRules.{frame_fits}
 use Rattle.program_model.specs.OperandRules.{numbers_fit}
 use Rattle.program_model.specs.ProgramRules.{is_well_formed}
+use Rattle.program_model.specs.Texts.{letter_of, type_text}
 use Rattle.program_model.specs.declared.body.Body.{Body}
 use Rattle.program_model.specs.declared.pass.Origin.{Origin}
 use Rattle.program_model.specs.declared.program.Class.{Class}
@@ -90,7 +91,7 @@ module _ (p : Program) (cs : List Class) where
   numbers_same x = refl
 
   frame_same : (m : Method) (b d : Body) (lines : List ℕ) → frame_fits (record p { classes = cs }) (record m { body = Some b; lines = lines }) d ≡ frame_fits p m d
-  unfolding frame_fits
+  unfolding frame_fits letter_of type_text
   frame_same m b d lines = refl
 
   code_same : (m : Method) (d : Body) (lines : List ℕ) → IsCode (record p { classes = cs }) (record m { body = Some d; lines = lines }) d → IsCode p m d

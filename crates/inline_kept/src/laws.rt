@@ -26,6 +26,7 @@ ghost use Rattle.fold_kept.specs.Kept.{IsKeptFor};
 ghost use Rattle.bodies_law.specs.Numbered.{OtherNumberedBodies};
 ghost use Rattle.inline_calls.specs.Asked.{Row};
 ghost use Rattle.inline_calls.specs.Plans.{IsInlined};
+ghost use Rattle.stay_law.specs.Stays.{StaysInlined};
 ghost use Rattle.inline_kept.specs.Spliced.{SplicesSo};
 
 /// What the pass leaves of a program is the program with other code: in each body, copies stand at sites.
@@ -56,4 +57,10 @@ pub fn inlined_typed_law()
 pub fn inlined_shut_law()
     ensures { (p q : Program) (h : Hierarchy) (facts : Facts) (admitted : List Bool) (count : ℕ) (origins : List (List Origin)) (rows : List Row) (o : Outer) → is_well_formed p ≡ true → IsResolved p h
         → IsTyped (named p) → IsInlined p h facts admitted q count origins rows → ShutsHold (named p) o → ShutsHold (named q) o }
+{}
+
+/// A method that isn't admitted stays whole, and a body has no more registers than before, or at most 16.
+pub fn inlined_stays_law()
+    ensures { (p q : Program) (h : Hierarchy) (facts : Facts) (admitted : List Bool) (count : ℕ) (origins : List (List Origin)) (rows : List Row) → IsInlined p h facts admitted q count origins rows
+        → StaysInlined admitted p q }
 {}

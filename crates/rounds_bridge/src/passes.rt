@@ -1,9 +1,17 @@
 //! Laws of the passes.
 
-ghost use Rattle.std.specs.Prelude.{Bool, List};
+ghost use Rattle.std.specs.Prelude.{◌≡◌, ℕ, Bool, true, List};
+ghost use Rattle.program_model.specs.ProgramRules.{is_well_formed};
+ghost use Rattle.program_model.specs.declared.pass.Origin.{Origin};
 ghost use Rattle.program_model.specs.declared.pass.Outside.{Outside};
-ghost use Rattle.pipeline.specs.Passes.{Reach, ConstProp, Devirt, CopyProp, DeadCode, Squeeze, Compact};
-ghost use Rattle.rounds_bridge.specs.Owed.{Keeps};
+ghost use Rattle.program_model.specs.declared.program.Program.{Program};
+ghost use Rattle.hierarchy.specs.Shapes.{IsResolved};
+ghost use Rattle.hierarchy.specs.declared.build.Hierarchy.{Hierarchy};
+ghost use Rattle.facts.specs.declared.facts.Facts.{Facts};
+ghost use Rattle.inline_calls.specs.Asked.{Row};
+ghost use Rattle.inline_calls.specs.Plans.{IsInlined};
+ghost use Rattle.pipeline.specs.Passes.{Reach, ConstProp, Devirt, CopyProp, DeadCode, Squeeze, Compact, AreKnown};
+ghost use Rattle.rounds_bridge.specs.Owed.{IsSound, Owes, Keeps};
 
 /// A removal of what is not reached keeps what a pass owes, and so does a removal that is barred.
 pub fn reach_keeps_law()
@@ -38,4 +46,11 @@ pub fn squeeze_keeps_law()
 /// Bodies whose registers have the least numbers that they can have keep what a pass owes.
 pub fn compact_keeps_law()
     ensures { (o : Outside) (admitted : List Bool) → Keeps o admitted Compact }
+{}
+
+/// What is left of a sound program once calls are inlined, before any round, by facts that are known of it, owes what a pass owes,
+/// where it is well-formed, as the pass tests it to be.
+pub fn inlined_owes_law()
+    ensures { (o : Outside) (admitted : List Bool) (p q : Program) (h : Hierarchy) (facts : Facts) (count : ℕ) (origins : List (List Origin)) (rows : List Row) → IsSound p → IsResolved p h → AreKnown o p facts
+        → IsInlined p h facts admitted q count origins rows → is_well_formed q ≡ true → Owes o p q }
 {}

@@ -35,7 +35,7 @@ use Rattle.inline_calls.specs.Asked.{Row}
 use Rattle.inline_calls.specs.Plans.{IsInlined}
 use Rattle.inline_kept.specs.Spliced.{SplicesSo}
 use Rattle.inline_kept.proofs.Looked.{inlined_bodies}
-use Rattle.inline_kept.proofs.Shown.{spliced_shown}
+use Rattle.inline_kept.proofs.Shown.{spliced_shown, frameless_shown}
 use Rattle.inline_kept.proofs.Shuts.{spliced_holds}
 use Rattle.inline_kept.proofs.Tested.{inlined_typed}
 
@@ -70,7 +70,16 @@ module _ (p q : Program) (h : Hierarchy) (facts : Facts) (admitted : List Bool) 
     formed = formed;
     typed = inlined_typed p h w resolved typed q facts admitted count origins rows inlined formed;
     others = any_bodies (SplicesSo p h facts) p q others;
-    shown = λ shuts. spliced_shown p h w resolved acyclic typed facts q others (named_facts p facts) (outer_of p o) names
+    shown = λ shuts. spliced_shown p h w resolved acyclic typed facts q others (outer_of p o) (named_facts p facts) names
         (λ f. tabled (values p) (named p) (outer_of p o) f (named_facts p facts) (tabled_apart p o f w resolved.of.once acyclic typed words shuts (makers_named p (sound p w) resolved.of.once o own))
         (closed_named p o live targets facts (record { formed = w; once = resolved.of.once; grounded = acyclic; sized = fits; closed = marks }) exact closed));
+  }
+
+  -- where there are no frames of facts, static calls alone are inlined
+  pub frameless_kept : (acyclic : IsAcyclic p) (o : Outside) → facts.frames.items ≡ [] → is_well_formed q ≡ true → IsKeptFor o p q
+  frameless_kept acyclic o none formed = record {
+    formed = formed;
+    typed = inlined_typed p h w resolved typed q facts admitted count origins rows inlined formed;
+    others = any_bodies (SplicesSo p h facts) p q others;
+    shown = λ shuts. frameless_shown p h w resolved acyclic typed facts q others (outer_of p o) none;
   }

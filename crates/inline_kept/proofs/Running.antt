@@ -72,13 +72,18 @@ use Rattle.pass_defs.specs.Registers.{Kinds, kind_at}
 use Rattle.pass_defs.specs.Typed.{wrong_return, ends_early, is_wrong, IsTyped}
 use Rattle.pass_defs.specs.Walks.{form_at}
 use Rattle.invariant_law.specs.Holds.{Each, Holds as HoldsBy}
+use Rattle.invariant_law.proofs.Invariants.{holds_after}
+use Rattle.invariant_law.proofs.Plain.{grown, keeps_plainly}
 use Rattle.run_facts.specs.Covered.{CoversTop}
 use Rattle.run_facts.specs.ValueAnalysis.{datum_of, value_analysis}
-use Rattle.stuck_law.specs.TypedStates.{AllHold, TypedFrame}
+use Rattle.stuck_law.specs.TypedStates.{AllHold, TypedFrame, typed_states}
 use Rattle.stuck_law.specs.Wides.{HoldsWides}
 use Rattle.stuck_law.proofs.Here.{At, at_form}
-use Rattle.stuck_law.proofs.Settled.{IsSettled}
+use Rattle.stuck_law.proofs.Runs.{settled, keeps_typed, typed_opening, each_move}
+use Rattle.stuck_law.proofs.Searches.{finds_regularly}
+use Rattle.stuck_law.proofs.Settled.{IsSettled, FindsRegularly}
 use Rattle.stuck_law.proofs.Wides.{wides_held}
+use Rattle.stuck_bridge.proofs.Formed.{regular_program}
 use Rattle.form_law.proofs.Asking.{low_is, high_is}
 use Rattle.name_bridge.proofs.Above.{own_place}
 use Rattle.name_bridge.proofs.Started.{trivial_by_number}
@@ -91,7 +96,7 @@ use Rattle.callee_law.proofs.Unread.{unread}
 use Rattle.inline_law.specs.Entered.{Enterable, Statically, Directly, AreEnterable, FactsHold}
 use Rattle.bodies_law.specs.Numbered.{OtherNumberedBodies}
 use Rattle.fold_bridge.specs.Folds.{AreNamed, StandsAt}
-use Rattle.fold_bridge.proofs.Covered.{one_more, reg, covered_calm}
+use Rattle.fold_bridge.proofs.Covered.{one_more, covered_calm}
 use Rattle.splice.specs.declared.callee.Callee.{Callee}
 use Rattle.splice.specs.Moves.{parameters_of}
 use Rattle.inline_bridge.specs.Sites.{Calls, Passed, Plainly, Behind, NeverNull, IsSite, receiver_of}
@@ -174,29 +179,83 @@ module _ (p : Program) (h : Hierarchy) (w : is_well_formed p ≡ true) (resolved
           ∙ sym (one_more (setting_of (named p) o f floats) (bodies_of (named p)) (calm_opening (quiet_within (face_of (named p) f) (suc (length (named p).classes))) script) r.count);
     }
 
+    -- a register that the facts know to hold no null at a site holds none
+    abbrev pub KeepsNoNull : Type 0
+    KeepsNoNull = (v : World) (c : Classes) (g : Frame) (rest : List Waiting) (moves : List Move) → Reaches (On v c (OfMethod g ∷ rest) moves) → (y : inlining.Callee)
+        → (a : AtSite p h w resolved typed facts q others g.method g.position y) → (x : ℕ) → slice_get g.registers x ≡ Some (register g x) → NeverNull facts a.method.name g.position x → is_null (register g x) ≡ false
+
+  -- facts without frames know nothing
+  frameless : facts.frames.items ≡ [] → (method n r : ℕ) → NeverNull facts method n r → ⊥
+  frameless none method n r never =
+      let e : frame_at [] method n ≡ Some never.frame = subst (λ (items : List (List (Option Values))). frame_at items method n ≡ Some never.frame) none never.here in none_some never.frame e
+
+  pub frameless_keeps : facts.frames.items ≡ [] → (o : Outer) (f : Framework) (floats : Floats) (script : List Move) → KeepsNoNull o f floats script
+  frameless_keeps none o f floats script v c g rest moves r y a x there never = absurd (frameless none a.method.name g.position x never)
+
+  -- facts that cover the run say what they say
   module _ (o : Outer) (f : Framework) (floats : Floats) (script : List Move) (t : by_name.Facts Parts) (names : AreNamed p o facts t) (base : IsCoverable (value_analysis (named p) operators) (named p) o f floats t)
       (fit : Fit (named p) o f script) (ranged : Each RangedMove script) where
     abbrev V : Analysis Parts
     V = value_analysis (named p) operators
 
+    abbrev calm : Text → Bool
+    calm = quiet_within (face_of (named p) f) level
+
+    covered : (v : World) (c : Classes) (g : Frame) (rest : List Waiting) (moves : List Move) → Reaches o f floats script (On v c (OfMethod g ∷ rest) moves) → HoldsBy (covered_states V (named p) o f t) (On v c (OfMethod g ∷ rest) moves)
+    covered v c g rest moves r = by (covered_calm V (named p) o f floats t script base fit calm ranged r.count)
+      where
+        by : (after (setting_of (named p) o f floats) (bodies_of (named p)) (calm_opening calm script) r.count ≡ Ended) ⊎ HoldsBy (covered_states V (named p) o f t) (after (setting_of (named p) o f floats) (bodies_of (named p)) (calm_opening calm script) r.count)
+            → HoldsBy (covered_states V (named p) o f t) (On v c (OfMethod g ∷ rest) moves)
+        by (inl e) = let k : On v c (OfMethod g ∷ rest) moves ≡ Ended = r.at ∙ e in absurd (cc)
+        by (inr x) = subst (HoldsBy (covered_states V (named p) o f t)) (sym r.at) x
+
+    pub covered_keeps : KeepsNoNull o f floats script
+    covered_keeps v c g rest moves r y a x there never = by (is_null (register g x)) refl
+      where
+        top : CoversTop V (named p) o t v g
+        top = (covered v c g rest moves r).1.0.1
+
+        stands : StandsAt top.stands.registers (frame_at facts.frames.items a.method.name g.position)
+        stands = names.frames a.at.class a.class a.method g.position top.stands.registers a.is_class (contains_at a.class.methods a.at.place a.method a.is_method)
+            (sym (ap (λ k. t.registers k g.position) a.is_key) ∙ top.stands.reached)
+
+        within : Within value_holds (top.stands.registers x) (value_at never.frame.registers x)
+        within = let z : StandsAt top.stands.registers (Some never.frame) = subst (StandsAt top.stands.registers) never.here stands in z x
+
+        by : (b : Bool) → is_null (register g x) ≡ b → b ≡ false
+        by false e = refl
+        by true e = absurd (never.never_null (within (Plain (Single 0)) (subst (λ z. value_holds (top.stands.registers x) (datum_of (named p) (kind_of v z) z)) (null_word (register g x) e) (top.stands.hold x (register g x) there))))
+
+  module _ (o : Outer) (f : Framework) (floats : Floats) (script : List Move) (fit : Fit (named p) o f script) (no_null : KeepsNoNull o f floats script) where
     abbrev s : Setting
     s = setting_of (named p) o f floats
 
     abbrev find : Bodies
     find = bodies_of (named p)
 
-    abbrev calm : Text → Bool
-    calm = quiet_within (face_of (named p) f) level
+    abbrev opened : State
+    opened = calm_opening (quiet_within (face_of (named p) f) level) script
 
-    settled : IsSettled (named p)
-    settled = reg V (named p) o f floats t script base fit
+    reg : IsSettled (named p)
+    reg = settled (named p) o f script (regular_program p w resolved.of.once typed) fit
 
-    covered : (v : World) (c : Classes) (g : Frame) (rest : List Waiting) (moves : List Move) → Reaches o f floats script (On v c (OfMethod g ∷ rest) moves) → HoldsBy (covered_states V (named p) o f t) (On v c (OfMethod g ∷ rest) moves)
-    covered v c g rest moves r = by (covered_calm V (named p) o f floats t script base fit calm ranged r.count)
+    finds : FindsRegularly (named p) f
+    finds = finds_regularly (named p) f reg
+
+    abbrev Typed : State → Type 0
+    Typed = HoldsBy (typed_states (named p) f o)
+
+    -- each state of a run that begins with the calm classes done is typed, or it has ended
+    typed_calm : (n : ℕ) → (after s find opened n ≡ Ended) ⊎ Typed (after s find opened n)
+    typed_calm n = holds_after s find (grown s find (typed_states (named p) f o)) (keeps_plainly s find (typed_states (named p) f o) (keeps_typed (named p) o f floats reg finds)) n opened
+        (typed_opening (named p) o f floats reg finds, (tt, refl), each_move (named p) o f floats reg finds script fit.values)
+
+    typed_frame : (v : World) (c : Classes) (g : Frame) (rest : List Waiting) (moves : List Move) → Reaches o f floats script (On v c (OfMethod g ∷ rest) moves) → TypedFrame (named p) f v g
+    typed_frame v c g rest moves r = (by (typed_calm r.count)).1.0
       where
-        by : (after s find (calm_opening calm script) r.count ≡ Ended) ⊎ HoldsBy (covered_states V (named p) o f t) (after s find (calm_opening calm script) r.count) → HoldsBy (covered_states V (named p) o f t) (On v c (OfMethod g ∷ rest) moves)
+        by : (after s find opened r.count ≡ Ended) ⊎ Typed (after s find opened r.count) → Typed (On v c (OfMethod g ∷ rest) moves)
         by (inl e) = let k : On v c (OfMethod g ∷ rest) moves ≡ Ended = r.at ∙ e in absurd (cc)
-        by (inr x) = subst (HoldsBy (covered_states V (named p) o f t)) (sym r.at) x
+        by (inr x) = subst Typed (sym r.at) x
 
     -- ---- registers
 
@@ -209,12 +268,12 @@ module _ (p : Program) (h : Hierarchy) (w : is_well_formed p ≡ true) (resolved
     in_range c v (k ∷ ks) (u ∷ vs) (suc r) x = in_range c v ks vs r x.1
 
     module _ (v : World) (g : Frame) (td : TypedFrame (named p) f v g) where
-      typed_form : (x : Form) → form_here find g ≡ Some x → At (named p) o f floats settled v g td x
+      typed_form : (x : Form) → form_here find g ≡ Some x → At (named p) o f floats reg v g td x
       typed_form x e =
-          let y = at_form (named p) o f floats settled v g td in
-          subst (At (named p) o f floats settled v g td) (some_same y.0 x (sym y.1.has ∙ sym (ap (option_and_then (λ (b : NamedBody). slice_get b.forms g.position)) (ap find td.of ∙ td.in_method.has_body)) ∙ e)) y.1
+          let y = at_form (named p) o f floats reg v g td in
+          subst (At (named p) o f floats reg v g td) (some_same y.0 x (sym y.1.has ∙ sym (ap (option_and_then (λ (b : NamedBody). slice_get b.forms g.position)) (ap find td.of ∙ td.in_method.has_body)) ∙ e)) y.1
 
-      there_read : (x : Form) (r : ℕ) → At (named p) o f floats settled v g td x → reads x r ≡ true → slice_get g.registers r ≡ Some (register g r)
+      there_read : (x : Form) (r : ℕ) → At (named p) o f floats reg v g td x → reads x r ≡ true → slice_get g.registers r ≡ Some (register g r)
       there_read x r a e = by (in_range td.in_method.class.name v td.kinds.registers g.registers r td.holds.registers)
         where
           by : (kind_at td.kinds.registers r ≡ Undefined) ⊎ (slice_get g.registers r ≡ Some (register g r)) → slice_get g.registers r ≡ Some (register g r)
@@ -222,7 +281,7 @@ module _ (p : Program) (h : Hierarchy) (w : is_well_formed p ≡ true) (resolved
           by (inr i) = i
 
       -- a wide that is given back is whole
-      whole : (s : Slot) (from : ℕ) → is_wide_slot s ≡ true → At (named p) o f floats settled v g td (form.Return s from) → (n : ℕ) × ((register g from ≡ Low n) × (register g (from + 1) ≡ High n))
+      whole : (s : Slot) (from : ℕ) → is_wide_slot s ≡ true → At (named p) o f floats reg v g td (form.Return s from) → (n : ℕ) × ((register g from ≡ Low n) × (register g (from + 1) ≡ High n))
       whole s from wide a =
           let m = td.in_method.method in
           let right = neither_of (wrong_return s m.signature.result) (ends_early (named p) td.in_method.class m td.kinds) a.right in
@@ -239,24 +298,7 @@ module _ (p : Program) (h : Hierarchy) (w : is_well_formed p ≡ true) (resolved
     module _ (v : World) (c : Classes) (g : Frame) (rest : List Waiting) (moves : List Move) (r : Reaches o f floats script (On v c (OfMethod g ∷ rest) moves)) (y : inlining.Callee)
         (a : AtSite p h w resolved typed facts q others g.method g.position y) where
       td : TypedFrame (named p) f v g
-      td = (covered v c g rest moves r).1.0.0.0.0
-
-      top : CoversTop V (named p) o t v g
-      top = (covered v c g rest moves r).1.0.1
-
-      seen : (x : ℕ) → slice_get g.registers x ≡ Some (register g x) → NeverNull facts a.method.name g.position x → is_null (register g x) ≡ false
-      seen x there never = by (is_null (register g x)) refl
-        where
-          stands : StandsAt top.stands.registers (frame_at facts.frames.items a.method.name g.position)
-          stands = names.frames a.at.class a.class a.method g.position top.stands.registers a.is_class (contains_at a.class.methods a.at.place a.method a.is_method)
-              (sym (ap (λ k. t.registers k g.position) a.is_key) ∙ top.stands.reached)
-
-          within : Within value_holds (top.stands.registers x) (value_at never.frame.registers x)
-          within = let z : StandsAt top.stands.registers (Some never.frame) = subst (StandsAt top.stands.registers) never.here stands in z x
-
-          by : (b : Bool) → is_null (register g x) ≡ b → b ≡ false
-          by false e = refl
-          by true e = absurd (never.never_null (within (Plain (Single 0)) (subst (λ z. value_holds (top.stands.registers x) (datum_of (named p) (kind_of v z) z)) (null_word (register g x) e) (top.stands.hold x (register g x) there))))
+      td = typed_frame v c g rest moves r
 
       here : form_here find g ≡ Some (form_of p a.site.insn)
       here = here_form g.method g.position y a g refl refl
@@ -266,7 +308,7 @@ module _ (p : Program) (h : Hierarchy) (w : is_well_formed p ≡ true) (resolved
           → Passed p (parameters_of p a.callee.method.now.name) static args → (k : MethodKey) (rs : List ℕ) → form_of p i ≡ form.Invoke call.Direct k rs → is_null (receiver (map (register g) args)) ≡ false
       direct _ _ args j e (by_number.Statically method x) same pass k rs d = absurd (cc)
       direct _ _ _ j e (by_number.Directly method x) same (Behind on more held) k rs d =
-          seen on (there_read v g td (form_of p (insn.Invoke call.Direct method (on ∷ more))) on (typed_form v g td (form_of p (insn.Invoke call.Direct method (on ∷ more))) (here ∙ ap (λ z. Some (form_of p z)) j))
+          no_null v c g rest moves r y a on (there_read v g td (form_of p (insn.Invoke call.Direct method (on ∷ more))) on (typed_form v g td (form_of p (insn.Invoke call.Direct method (on ∷ more))) (here ∙ ap (λ z. Some (form_of p z)) j))
           (or_left (nat_eq on on) (list_any (λ b. nat_eq b on) more) (same_number on)))
           (subst (λ z. NeverNull facts a.method.name g.position (receiver_of z)) (sym same) (a.site.direct e))
 
@@ -279,7 +321,7 @@ module _ (p : Program) (h : Hierarchy) (w : is_well_formed p ≡ true) (resolved
           subst (λ z. is_null (receiver (map (register g) z)) ≡ false) (sym args)
           (direct v c g rest moves r y a (has_flag a.callee.method.now.flags 8) a.site.insn a.site.args refl refl a.site.calls refl a.site.passes k y.args same);
       wholes = λ v c g u rest moves y s from r e m i wide.
-          let x = (covered v c g (OfMethod u ∷ rest) moves r).1.0.0.0.0 in
+          let x = typed_frame v c g (OfMethod u ∷ rest) moves r in
           whole v g x s from wide (typed_form v g x (form.Return s from) i);
       keeps = reaches_on o f floats script;
     }

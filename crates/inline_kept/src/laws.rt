@@ -1,6 +1,6 @@
 //! The laws.
 
-ghost use Rattle.std.specs.Prelude.{◌≡◌, ℕ, Bool, true, List};
+ghost use Rattle.std.specs.Prelude.{◌≡◌, ℕ, Bool, true, List, []};
 ghost use Rattle.program_model.specs.ProgramRules.{is_well_formed};
 ghost use Rattle.program_model.specs.declared.pass.Origin.{Origin};
 ghost use Rattle.program_model.specs.declared.pass.Outside.{Outside};
@@ -44,6 +44,13 @@ pub fn inlined_kept_law()
         → is_well_formed p ≡ true → IsResolved p h → IsAcyclic p → IsTyped (named p) → AllHaveWords p → MakersAreOwn p o → Fits p live → IsClosedSet p o live → IsTargeted p o live targets
         → AreClosed p o live targets facts → AreNamed p (outer_of p o) facts (named_facts p facts) → IsInlined p h facts admitted q count origins rows
         → is_well_formed q ≡ true → IsKeptFor o p q }
+{}
+
+/// Where there are no frames of facts, no receiver is known, and so static calls alone are inlined; what is left is kept for every
+/// outside.
+pub fn frameless_kept_law()
+    ensures { (p q : Program) (h : Hierarchy) (o : Outside) (facts : Facts) (admitted : List Bool) (count : ℕ) (origins : List (List Origin)) (rows : List Row) → is_well_formed p ≡ true → IsResolved p h
+        → IsAcyclic p → IsTyped (named p) → facts.frames.items ≡ [] → IsInlined p h facts admitted q count origins rows → is_well_formed q ≡ true → IsKeptFor o p q }
 {}
 
 /// What is left of a well-formed and typed program is typed where it is well-formed, whatever the facts are.

@@ -1,6 +1,6 @@
 //! Laws of the passes.
 
-ghost use Rattle.std.specs.Prelude.{◌≡◌, ℕ, Bool, true, List};
+ghost use Rattle.std.specs.Prelude.{◌≡◌, ℕ, Bool, true, List, []};
 ghost use Rattle.program_model.specs.ProgramRules.{is_well_formed};
 ghost use Rattle.program_model.specs.declared.pass.Origin.{Origin};
 ghost use Rattle.program_model.specs.declared.pass.Outside.{Outside};
@@ -48,9 +48,11 @@ pub fn compact_keeps_law()
     ensures { (o : Outside) (admitted : List Bool) → Keeps o admitted Compact }
 {}
 
-/// What is left of a sound program once calls are inlined, before any round, by facts that are known of it, owes what a pass owes,
-/// where it is well-formed, as the pass tests it to be.
+/// What is left of a sound program once calls are inlined, before any round, owes what a pass owes, where it is well-formed, as the
+/// pass tests it to be: by facts that are known of the program, and by facts that know nothing.
 pub fn inlined_owes_law()
-    ensures { (o : Outside) (admitted : List Bool) (p q : Program) (h : Hierarchy) (facts : Facts) (count : ℕ) (origins : List (List Origin)) (rows : List Row) → IsSound p → IsResolved p h → AreKnown o p facts
-        → IsInlined p h facts admitted q count origins rows → is_well_formed q ≡ true → Owes o p q }
+    ensures known { (o : Outside) (admitted : List Bool) (p q : Program) (h : Hierarchy) (facts : Facts) (count : ℕ) (origins : List (List Origin)) (rows : List Row) → IsSound p → IsResolved p h
+        → IsInlined p h facts admitted q count origins rows → is_well_formed q ≡ true → AreKnown o p facts → Owes o p q }
+    ensures frameless { (o : Outside) (admitted : List Bool) (p q : Program) (h : Hierarchy) (facts : Facts) (count : ℕ) (origins : List (List Origin)) (rows : List Row) → IsSound p → IsResolved p h
+        → IsInlined p h facts admitted q count origins rows → is_well_formed q ≡ true → facts.frames.items ≡ [] → Owes o p q }
 {}

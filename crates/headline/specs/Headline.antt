@@ -1,5 +1,5 @@
 -- What the output of `optimise` is to the rules and the file that it comes from.
-use Rattle.std.specs.Prelude.{◌≡◌, ◌⊎◌, ℕ, Bool, true, List, Ok}
+use Rattle.std.specs.Prelude.{◌≡◌, ◌⊎◌, ℕ, Bool, true, false, List, Ok}
 use Rattle.dalvik_defs.specs.Naming.{named}
 use Rattle.dalvik_defs.specs.Outer.{outer_of}
 use Rattle.dalvik_defs.specs.Shown.{SameShown}
@@ -21,12 +21,12 @@ use Rattle.pipeline.specs.Passes.{KeepsForms}
 use Rattle.rounds_bridge.specs.Ended.{NoneKnown, NoneBindable}
 use Rattle.stay_law.specs.Stays.{Stays}
 use Rattle.silence_bridge.specs.Admitted.{admitted_in}
+use Rattle.command_line.specs.Spelling.{Spells}
 use Rattle.command_line.specs.declared.command.CommandWords.TheVariants.{Optimise}
 use Rattle.command_line.specs.declared.command.OptimiseWords.{OptimiseWords}
 use Rattle.redex_outside.specs.Held.{Held}
-use Rattle.redex_cli.specs.Commands.{Commands}
 use Rattle.redex_cli.specs.Files.{AreHeld}
-use Rattle.redex_cli.specs.Finished.{IsRuled}
+use Rattle.redex_cli.specs.Tables.{IsTableWith}
 use Rattle.redex_cli.specs.declared.fetching.Inputs.{Inputs}
 
 -- What is left of a program shows what the program shows without its silent calls in the admitted methods, to every
@@ -57,22 +57,26 @@ pub record KeepsMeaning (program : Program) (outside : Outside) (left : Program)
   pub packed : has_narrow_classes left ≡ true → AllPacked admitted left
   pub stays : Stays admitted program left
 
--- The file spells a program, the rules have a table for it, with the methods shut that the library shuts where there is one, and
--- the output is the file that is written for a program that keeps its meaning. Not said yet: how the table comes of the rules, and
--- that the written file spells that program and is valid.
+-- The file spells a program, the rules that their text spells make a table of it, which is closed, with the methods shut that the
+-- library shuts where there is one, and the output is the file that is written for a program that keeps its meaning. Not said yet:
+-- which conditions of the table are taken for met, and that the written file spells that program and is valid.
 pub record Shrinks (inputs : Inputs) (output : List ℕ) : Type 0 where
   pub program : Program
   pub reads : program_at inputs.file ≡ Ok program
   pub outside : Outside
-  pub ruled : IsRuled inputs.rules inputs.library program outside
+  pub table : IsTableWith inputs.rules inputs.library program outside
   pub left : Program
   pub written : IsWritten left output
   pub keeps : KeepsMeaning program outside left
 
+-- The words don't ask that calls are inlined. Of a program whose calls are inlined no law says yet what it shows.
+abbrev pub InlinesNothing : List (List ℕ) → Type 0
+InlinesNothing words = (asked : OptimiseWords) → Spells words (Optimise asked) → asked.inline ≡ false
+
 -- The words spell `optimise`, and the output is such a one of what the names hold.
 pub record Headline (words : List (List ℕ)) (held : Held) (output : List ℕ) : Type 0 where
   pub asked : OptimiseWords
-  pub commands : Commands words (Optimise asked)
+  pub spelled : Spells words (Optimise asked)
   pub inputs : Inputs
   pub are : AreHeld true held asked.rules asked.input asked.library inputs
   pub shrinks : Shrinks inputs output

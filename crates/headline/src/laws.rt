@@ -10,13 +10,14 @@ ghost use Rattle.redex_cli.specs.Accepted.{IsAccepted};
 ghost use Rattle.redex_cli.specs.Finished.{Leaves};
 ghost use Rattle.redex_outside.specs.Held.{Held};
 ghost use Rattle.redex_cli.specs.Refusals.{OutputBy};
-ghost use Rattle.headline.specs.Headline.{Headline, KeepsMeaning};
+ghost use Rattle.headline.specs.Headline.{Headline, InlinesNothing, KeepsMeaning};
 
-/// What a run of `optimise` puts keeps the meaning of the file. The premise is what `run` says of the output's name where the
-/// run is done, and where the name's put failed or the saying did (`stays` and `done` of its contract), of a shelf that tells
-/// what it holds.
+/// What a run of `optimise` puts that inlines no calls keeps the meaning of the file. The other premise is what `run` says of the
+/// output's name where the run is done, and where the name's put failed or the saying did (`stays` and `done` of its contract),
+/// of a shelf that tells what it holds.
 pub fn headline()
-    ensures { (words : List (List ℕ)) (held : Held) (output summary : List ℕ) → OutputBy words true held output summary → Headline words held output }
+    ensures { (words : List (List ℕ)) (held : Held) (output summary : List ℕ) → InlinesNothing words → OutputBy words true held output summary
+        → Headline words held output }
 {}
 
 /// What `optimise` leaves of an accepted program keeps its meaning for any outside whose table of shut methods holds what it

@@ -50,7 +50,7 @@ not_asked count s m x v e = subst (λ b. AreAnswered count (if b then m.name ∷
 pub is_one : (count : ℕ) (s : LiveSet) (m : Method) (x y : List Bool) (v w : Verdict) → is_asked s m ≡ true → AreAnswered count (m.name ∷ []) x y v w → AreAnswered count (asked_one s m) x y v w
 is_one count s m x y v w e a = subst (λ b. AreAnswered count (if b then m.name ∷ [] else []) x y v w) (sym e) a
 
-flat_next : {A : Type 0} (f : A → List ℕ) (xs : List A) (i : ℕ) (d : A) → i < length xs → flat_map f (take (i + 1) xs) ≡ flat_map f (take i xs) ++ f (get_or xs i d)
+pub flat_next : {A B : Type 0} (f : A → List B) (xs : List A) (i : ℕ) (d : A) → i < length xs → flat_map f (take (i + 1) xs) ≡ flat_map f (take i xs) ++ f (get_or xs i d)
 flat_next f [] i d lt = absurd (omega arith)
 flat_next f (x ∷ xs) zero d lt = append-nil (f x)
 flat_next f (x ∷ xs) (suc i) d lt = rw add-one (ap (λ l. f x ++ l) (sym (ap (λ n. flat_map f (take n xs)) (add-one i)) ∙ flat_next f xs i d (omega arith)) ∙ sym (append_assoc (f x) (flat_map f (take i xs)) (f (get_or xs i d))))

@@ -5,7 +5,10 @@ pub mod Each
 pub mod Few
 pub mod Formed
 pub mod Graphs
+pub mod Inlines
 pub mod Passing
+pub mod Preparing
 pub mod RoundLemmas
 pub mod Silencing
 pub mod Tracing
+pub mod Turns

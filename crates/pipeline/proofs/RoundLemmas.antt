@@ -6,23 +6,16 @@ use Rattle.program_model.specs.declared.pass.Outside.{Outside}
 use Rattle.program_model.specs.declared.program.Method.{Method}
 use Rattle.program_model.specs.declared.program.Class.{Class}
 use Rattle.program_model.specs.declared.program.Program.{Program}
-use Rattle.program_model.specs.ProgramRules.{is_well_formed}
-use Rattle.hierarchy.specs.Shapes.{IsResolved}
-use Rattle.hierarchy.specs.declared.build.Hierarchy.{Hierarchy}
-use Rattle.call_graph.specs.declared.live_set.LiveSet.{LiveSet}
-use Rattle.call_graph.specs.Facts.{Fits}
-use Rattle.call_graph.specs.Closed.{IsClosedSet}
 use Rattle.const_prop.specs.Measure.{open_forms}
 use Rattle.devirt.specs.Measure.{calls_in}
 use Rattle.moves_law.specs.Measure.{moves_in}
 use Rattle.pipeline.specs.Advised.{IsAdvised}
-use Rattle.pipeline.specs.Asks.{Verdict, asked, no_verdict, AreAnswered}
+use Rattle.pipeline.specs.Asks.{Verdict}
 use Rattle.pipeline.specs.Changes.{total_of, rank_of, HasFewerCopies, IsNearer, IsPlainer, IsLess, Falls}
 use Rattle.pipeline.specs.Counts.{counted}
-use Rattle.pipeline.specs.Graph.{HasGraph, HasGraphFault}
 use Rattle.pipeline.specs.Silence.{IsSilent, is_quiet, silenced_body, silenced_method, silenced_class, silenced}
 use Rattle.pipeline.specs.Passes.{passes, AreStill, HavePassed}
-use Rattle.pipeline.specs.Rounds.{Rounds, Ended, Next, Rounding, HaveRun, HaveRunFrom, IsOptimised}
+use Rattle.pipeline.specs.Rounds.{Rounds, Ended, Next, Rounding, HaveRunFrom}
 use Rattle.pipeline.specs.declared.rounds.Outcome.{Outcome}
 use Rattle.pipeline.specs.declared.traces.Changes.{Changes}
 use Rattle.pipeline.specs.declared.traces.Passed.{Passed}
@@ -173,53 +166,24 @@ module _ (s : ℕ → Bool) (k : ℕ) where
   program_same : (p : Program) → silenced s (replicate k false) p ≡ p
   program_same p = ap (λ cs. record p { classes = cs }) (each_same (silenced_class s (replicate k false)) class_same p.classes)
 
-unsilenced : (silent : List ℕ) (admitted : List Bool) (p q : Program) (k : ℕ) → IsSilent silent admitted p q → admitted ≡ replicate k false → q ≡ p
+pub unsilenced : (silent : List ℕ) (admitted : List Bool) (p q : Program) (k : ℕ) → IsSilent silent admitted p q → admitted ≡ replicate k false → q ≡ p
 unsilenced silent admitted p q k (inl is) e = is ∙ ap (λ a. silenced (is_quiet p silent) a p) e ∙ program_same (is_quiet p silent) k p
 unsilenced silent admitted p q k (inr same) e = same.0
 
 -- ---- the advice
 
-pub unasked : (o : Outside) (p : Program) (advisers : ℕ) (before after : List Bool) (v : Verdict) → after ≡ before → v ≡ no_verdict p → (o.optimise ≡ false) ⊎ HasGraphFault p
-    → IsAdvised o p advisers before after v
-unasked o p advisers before after v none nothing barred = inr (record { barred = barred; none = none; nothing = nothing })
-
-pub answered : (o : Outside) (p : Program) (h : Hierarchy) (s : LiveSet) (advisers : ℕ) (before after : List Bool) (v : Verdict) → o.optimise ≡ true → is_well_formed p ≡ true → HasGraph p h
-    → Fits p s → (is_well_formed p ≡ true → IsResolved p h → IsClosedSet p o s) → AreAnswered advisers (asked s p) before after (no_verdict p) v → IsAdvised o p advisers before after v
-answered o p h s advisers before after v allowed formed graph sized closed answers = inl (record {
-  allowed = allowed;
-  marks = s;
-  marked = record { formed = formed; once = graph.resolved.of.once; grounded = graph.grounded; sized = sized; closed = closed formed graph.resolved };
-  answered = answers;
-})
-
 true_false : true ≡ false → ⊥
 true_false e = cc
 
-none_admitted : (o : Outside) (p : Program) (advisers : ℕ) (before after : List Bool) (v : Verdict) → IsAdvised o p advisers before after v → o.optimise ≡ false → v.admitted ≡ replicate (length p.methods) false
+pub none_admitted : (o : Outside) (p : Program) (advisers : ℕ) (before after : List Bool) (v : Verdict) → IsAdvised o p advisers before after v → o.optimise ≡ false → v.admitted ≡ replicate (length p.methods) false
 none_admitted o p advisers before after v (inl said) e = absurd (true_false (sym said.allowed ∙ e))
 none_admitted o p advisers before after v (inr still) e = ap (λ w. w.admitted) still.nothing
 
--- ---- the whole
+-- ---- the outcome
 
-pub optimised : (o : Outside) (p q : Program) (t : Traced) (advisers : ℕ) (before after : List Bool) (v : Verdict) (n : ℕ) → is_well_formed p ≡ true
-    → (is_well_formed p ≡ true → IsAdvised o p advisers before after v)
-    → (is_well_formed p ≡ true → IsSilent o.silent v.admitted p q) → (is_well_formed p ≡ true → is_well_formed q ≡ true)
-    → HaveRun o v.admitted q t n → IsOptimised o p advisers before after v.spared t.program t.origins n
-optimised o p q t advisers before after v n formed advised silent still ran = record {
-  admitted = v.admitted;
-  advised = advised formed;
-  silenced = q;
-  silent = silent formed;
-  unsilenced = λ e. unsilenced o.silent v.admitted p q (length p.methods) (silent formed) (none_admitted o p advisers before after v (advised formed) e);
-  formed = still formed;
-  ran = ran;
-}
-
--- what the outcome says
-pub optimised_so : (o : Outside) (p : Program) (t : Traced) (r : Outcome) (advisers : ℕ) (before after : List Bool) {spared rounds : ℕ} → r.program ≡ t.program → r.origins ≡ t.origins → r.rounds ≡ rounds → r.spared ≡ spared
-    → IsOptimised o p advisers before after spared t.program t.origins rounds → IsOptimised o p advisers before after r.spared r.program r.origins r.rounds
-optimised_so o p t r advisers before after {spared} {rounds} program origins count out h =
-    subst (λ n. IsOptimised o p advisers before after r.spared r.program r.origins n) (sym count)
-    (subst (λ n. IsOptimised o p advisers before after n r.program r.origins rounds) (sym out)
-    (subst (λ q. IsOptimised o p advisers before after spared q r.origins rounds) (sym program)
-    (subst (λ os. IsOptimised o p advisers before after spared t.program os rounds) (sym origins) h)))
+pub ran_so : (o : Outside) (admitted : List Bool) (first t : Traced) (r : Outcome) {rounds : ℕ} → r.program ≡ t.program → r.origins ≡ t.origins → r.rounds ≡ rounds → HaveRunFrom o admitted first t rounds
+    → HaveRunFrom o admitted first (record { program = r.program; origins = r.origins }) r.rounds
+ran_so o admitted first t r {rounds} program origins count h =
+    subst (λ n. HaveRunFrom o admitted first (record { program = r.program; origins = r.origins }) n) (sym count)
+    (subst (λ q. HaveRunFrom o admitted first (record { program = q; origins = r.origins }) rounds) (sym program)
+    (subst (λ os. HaveRunFrom o admitted first (record { program = t.program; origins = os }) rounds) (sym origins) h))

@@ -1,15 +1,19 @@
 -- What the rounds do to a program, by number (this project's profile).
-use Rattle.std.specs.Prelude.{◌≡◌, ℕ, zero, suc, Bool, true, false, List, []}
+use Rattle.std.specs.Prelude.{◌≡◌, ℕ, zero, suc, Bool, true, false, List, [], length}
 use Rattle.program_model.specs.declared.pass.Origin.{Origin}
 use Rattle.program_model.specs.declared.pass.Outside.{Outside}
 use Rattle.program_model.specs.declared.program.Program.{Program}
 use Rattle.program_model.specs.ProgramRules.{is_well_formed}
+use Rattle.redex_outside.specs.Turns.{Turn}
+use Rattle.redex_outside.specs.Voices.{Voice}
+use Rattle.redex_outside.specs.Panels.{HasRun}
 use Rattle.pipeline.specs.declared.traces.Passed.{Passed}
 use Rattle.pipeline.specs.declared.traces.Traced.{Traced}
 use Rattle.pipeline.specs.Advised.{IsAdvised}
 use Rattle.pipeline.specs.Changes.{IsLess}
 use Rattle.pipeline.specs.Counts.{counted}
 use Rattle.pipeline.specs.Passes.{passes, Steps, AreStill, HavePassed}
+use Rattle.pipeline.specs.Prepared.{IsPrepared}
 use Rattle.pipeline.specs.Silence.{IsSilent}
 
 -- So many rounds, one after another, each of which leaves less.
@@ -50,4 +54,14 @@ pub record IsOptimised (o : Outside) (p : Program) (advisers : ℕ) (before afte
   pub silent : IsSilent o.silent admitted p silenced
   pub unsilenced : o.optimise ≡ false → silenced ≡ p
   pub formed : is_well_formed silenced ≡ true
+  pub ran : HaveRun o admitted silenced (record { program = r; origins = origins }) rounds
+
+-- The same of advisers who reply so before and after: what they were asked about methods, and that, read by adviser, their answers
+-- are what it would have replied at the beginning to these asks in order.
+pub record IsOptimisedBy (o : Outside) (p : Program) (olds news : List Voice) (before after : List Bool) (spared : ℕ) (r : Program) (origins : List (List Origin)) (rounds : ℕ) : Type 0 where
+  pub admitted : List Bool
+  pub methods : List Turn
+  pub silenced : Program
+  pub prepared : IsPrepared o p (length olds) before after (record { admitted = admitted; spared = spared }) silenced methods
+  pub replied : HasRun methods olds news before after
   pub ran : HaveRun o admitted silenced (record { program = r; origins = origins }) rounds

@@ -1,13 +1,17 @@
 //! The asks about methods.
 
-ghost use Rattle.std.specs.Prelude.{◌≡◌, ◌∷◌, [], false, slice_index_or, length, IfOk, OnOk};
+ghost use Rattle.std.specs.Prelude.{◌≡◌, ◌∷◌, [], false, slice_index_or, length, map, IfOk, OnOk, OnErr};
+ghost use Rattle.redex_outside.specs.Turns.{Weighed};
+ghost use Rattle.redex_outside.specs.Panels.{HasRun};
 ghost use Rattle.pipeline.specs.Asks.{ask_of, is_asked, asked_one, asked_in, asked, judged, no_verdict, AreAnswered};
 ghost use Rattle.pipeline.specs.Advised.{verdict};
+ghost use Rattle.pipeline.specs.Counts.{counted, method_insns};
+ghost use Rattle.pipeline.specs.Replies.{ask_about, turns_one, turns_in, turns_about, HaveTaken, AreFirstOf};
 
 use crate::texts::{name_text, signature_text, type_text};
 use call_graph::LiveSet;
 use program_model::{Admitted, Class, Method, Program};
-use redex_outside::{Ask, Panel};
+use redex_outside::{Adviser, Ask, Panel};
 use std::alloc::{AllocError, Global};
 
 /// What the advisers said: which methods may be rewritten, and how many of those that were asked about may not.
@@ -53,8 +57,10 @@ fn is_asked(live: &LiveSet, method: &Method) -> bool
     method.body.is_some() && is_live(live, method.name)
 }
 
-/// How many instructions a method has.
-fn instructions_of(method: &Method) -> u32 {
+/// How many instructions a method has, none where it has no code. The greatest number of 32 bits stands for all above it.
+fn instructions_of(method: &Method) -> u32
+    ensures { result ≡ counted (method_insns method.now) }
+{
     match &method.body {
         Some(body) => u32::try_from(body.insns.len()).unwrap_or(u32::MAX),
         None => 0,
@@ -74,6 +80,19 @@ fn judge(advice: &mut Advice, method: u32, admitted: bool)
     }
 }
 
+/// The ask about a method of a class: its names, and how many instructions it has.
+fn ask_about(
+    alloc: Global,
+    program: &Program,
+    class: &Class,
+    method: &Method,
+) -> Result<Ask, AllocError>
+    ensures { IfOk result (λ ask. ask ≡ ask_about program.now class.now method.now) }
+{
+    let instructions = instructions_of(method);
+    ask_of(alloc, program, class.name, method.name, instructions)
+}
+
 /// Asks about one method, and notes the answer.
 fn ask_one(
     alloc: Global,
@@ -85,21 +104,23 @@ fn ask_one(
 ) -> Result<(), AllocError>
     ensures answered { OnOk result (AreAnswered (length panel.old.advisers.items) (method.now.name ∷ []) panel.old.answers.items panel.new.answers.items (verdict advice.old) (verdict advice.new)) }
     ensures count { length panel.new.advisers.items ≡ length panel.old.advisers.items }
+    ensures run { OnOk result (HasRun (Weighed (ask_about program.now class.now method.now) ∷ [])
+        (map (λ b. (⟦<dyn Adviser as Adviser>⟧ b.vtable).replies b.value) panel.old.advisers.items)
+        (map (λ b. (⟦<dyn Adviser as Adviser>⟧ b.vtable).replies b.value) panel.new.advisers.items)
+        panel.old.answers.items panel.new.answers.items) }
+    ensures begun { OnErr result (HasRun []
+        (map (λ b. (⟦<dyn Adviser as Adviser>⟧ b.vtable).replies b.value) panel.old.advisers.items)
+        (map (λ b. (⟦<dyn Adviser as Adviser>⟧ b.vtable).replies b.value) panel.new.advisers.items)
+        panel.old.answers.items panel.new.answers.items) }
 {
-    let ask = ask_of(
-        alloc,
-        program,
-        class.name,
-        method.name,
-        instructions_of(method),
-    )?;
+    let ask = ask_about(alloc, program, class, method)?;
     let admitted = panel.ask(alloc, &ask)?;
     judge(advice, method.name, admitted);
     Ok(())
 }
 
 /// Asks about one method, where it is live and has code, and notes the answer.
-fn ask_about(
+fn ask_live(
     alloc: Global,
     program: &Program,
     live: &LiveSet,
@@ -110,6 +131,14 @@ fn ask_about(
 ) -> Result<(), AllocError>
     ensures answered { OnOk result (AreAnswered (length panel.old.advisers.items) (asked_one live.now method.now) panel.old.answers.items panel.new.answers.items (verdict advice.old) (verdict advice.new)) }
     ensures count { length panel.new.advisers.items ≡ length panel.old.advisers.items }
+    ensures run { OnOk result (HasRun (turns_one live.now program.now class.now method.now)
+        (map (λ b. (⟦<dyn Adviser as Adviser>⟧ b.vtable).replies b.value) panel.old.advisers.items)
+        (map (λ b. (⟦<dyn Adviser as Adviser>⟧ b.vtable).replies b.value) panel.new.advisers.items)
+        panel.old.answers.items panel.new.answers.items) }
+    ensures begun { OnErr result (HasRun []
+        (map (λ b. (⟦<dyn Adviser as Adviser>⟧ b.vtable).replies b.value) panel.old.advisers.items)
+        (map (λ b. (⟦<dyn Adviser as Adviser>⟧ b.vtable).replies b.value) panel.new.advisers.items)
+        panel.old.answers.items panel.new.answers.items) }
 {
     if is_asked(live, method) {
         ask_one(alloc, program, class, method, panel, advice)?;
@@ -128,9 +157,17 @@ fn ask_class(
 ) -> Result<(), AllocError>
     ensures answered { OnOk result (AreAnswered (length panel.old.advisers.items) (asked_in live.now class.now) panel.old.answers.items panel.new.answers.items (verdict advice.old) (verdict advice.new)) }
     ensures count { length panel.new.advisers.items ≡ length panel.old.advisers.items }
+    ensures run { OnOk result (HasRun (turns_in live.now program.now class.now)
+        (map (λ b. (⟦<dyn Adviser as Adviser>⟧ b.vtable).replies b.value) panel.old.advisers.items)
+        (map (λ b. (⟦<dyn Adviser as Adviser>⟧ b.vtable).replies b.value) panel.new.advisers.items)
+        panel.old.answers.items panel.new.answers.items) }
+    ensures begun { OnErr result (HaveTaken (AreFirstOf (turns_in live.now program.now class.now))
+        (map (λ b. (⟦<dyn Adviser as Adviser>⟧ b.vtable).replies b.value) panel.old.advisers.items)
+        (map (λ b. (⟦<dyn Adviser as Adviser>⟧ b.vtable).replies b.value) panel.new.advisers.items)
+        panel.old.answers.items panel.new.answers.items) }
 {
     for method in class.methods.as_slice() {
-        ask_about(alloc, program, live, class, method, panel, advice)?;
+        ask_live(alloc, program, live, class, method, panel, advice)?;
     }
     Ok(())
 }
@@ -157,6 +194,14 @@ pub fn ask_all(
 ) -> Result<Advice, AllocError>
     ensures answered { IfOk result (λ advice. AreAnswered (length panel.old.advisers.items) (asked live.now program.now) panel.old.answers.items panel.new.answers.items (no_verdict program.now) (verdict advice)) }
     ensures count { IfOk result (λ advice. length panel.new.advisers.items ≡ length panel.old.advisers.items) }
+    ensures run { OnOk result (HasRun (turns_about live.now program.now)
+        (map (λ b. (⟦<dyn Adviser as Adviser>⟧ b.vtable).replies b.value) panel.old.advisers.items)
+        (map (λ b. (⟦<dyn Adviser as Adviser>⟧ b.vtable).replies b.value) panel.new.advisers.items)
+        panel.old.answers.items panel.new.answers.items) }
+    ensures begun { OnErr result (HaveTaken (AreFirstOf (turns_about live.now program.now))
+        (map (λ b. (⟦<dyn Adviser as Adviser>⟧ b.vtable).replies b.value) panel.old.advisers.items)
+        (map (λ b. (⟦<dyn Adviser as Adviser>⟧ b.vtable).replies b.value) panel.new.advisers.items)
+        panel.old.answers.items panel.new.answers.items) }
 {
     let mut advice = no_advice(alloc, program)?;
     for class in program.classes.as_slice() {

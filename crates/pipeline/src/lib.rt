@@ -1,10 +1,12 @@
 //! The passes over a program: each live method with code is asked about, silent calls become nops in those that may be
-//! rewritten, and then rounds of passes run until one changes nothing.
+//! rewritten, calls of small methods are inlined where that is wished, and then rounds of passes run until one changes
+//! nothing.
 #![tactic(auto)]
 
 mod asks;
 mod counts;
 mod graph;
+mod inlined;
 mod passes;
 mod rounds;
 mod silent;
@@ -12,6 +14,6 @@ mod texts;
 mod traces;
 
 pub use counts::{count_instructions, count_members};
-pub use rounds::{Outcome, optimise};
+pub use rounds::{Outcome, optimise, optimise_inlined};
 pub use silent::silence;
 pub use texts::proto_text;

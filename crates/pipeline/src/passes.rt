@@ -130,7 +130,7 @@ fn known_facts(
 
 /// The same of a program with this hierarchy. They are asked for only where some method may be rewritten, each kept
 /// constructor is one of its class, and lists of interfaces name interfaces alone.
-fn facts_by(
+pub fn facts_by(
     alloc: Global,
     program: &Program,
     hierarchy: &Hierarchy,

@@ -1,9 +1,9 @@
 //! The asks and the rounds.
 
-ghost use Rattle.std.specs.Prelude.{◌≡◌, ◌≤◌, ◌-◌, ◌+◌, ◌∷◌, [], min, length, true, vec_len, IfOk};
+ghost use Rattle.std.specs.Prelude.{◌≡◌, ◌≤◌, ◌-◌, ◌+◌, ◌∷◌, [], min, length, map, true, vec_len, IfOk, OnErr};
 ghost use Rattle.program_model.specs.Cells.{capped};
 ghost use Rattle.program_model.specs.ProgramRules.{is_well_formed};
-ghost use Rattle.pipeline.specs.Advised.{IsAdvised, verdict};
+ghost use Rattle.pipeline.specs.Advised.{verdict};
 ghost use Rattle.const_prop.specs.Measure.{open_forms};
 ghost use Rattle.devirt.specs.Measure.{calls_in};
 ghost use Rattle.moves_law.specs.Measure.{moves_in};
@@ -11,21 +11,25 @@ ghost use Rattle.pipeline.specs.Changes.{bulk_of, total_of};
 ghost use Rattle.pipeline.specs.Counts.{members_of, insns_of};
 ghost use Rattle.pipeline.specs.Graph.{IsGraph};
 ghost use Rattle.pipeline.specs.Passes.{ConstProp, Devirt, passes, HavePassed};
-ghost use Rattle.pipeline.specs.Rounds.{HaveRunFrom, IsOptimised, Rounding, first_of};
+ghost use Rattle.pipeline.specs.Inlined.{InlinedBegins, IsOptimisedInlined};
+ghost use Rattle.pipeline.specs.Prepared.{IsAdvisedBy, IsPrepared, MayBegin};
+ghost use Rattle.pipeline.specs.Replies.{HaveTaken};
+ghost use Rattle.pipeline.specs.Rounds.{HaveRunFrom, IsOptimised, IsOptimisedBy, Rounding};
 
 use crate::asks::{Advice, ask_all, no_advice};
 use crate::counts::{count_instructions, count_members};
 use crate::graph::hierarchy_of;
+use crate::inlined::inline_sites;
 use crate::passes::{
     clean_bodies, compact_bodies, facts_after, facts_of, fold_constants, propagate_copies,
     rebind_calls, remove_unreached, squeeze_bodies,
 };
 use crate::silent::silence;
-use crate::traces::{Passed, Traced, and_then};
+use crate::traces::{Passed, Traced, and_then, unmoved};
 use call_graph::live_members;
 use hierarchy::Hierarchy;
 use program_model::{Admitted, Origin, Outside, Program};
-use redex_outside::Panel;
+use redex_outside::{Adviser, Panel};
 use seq::Seq;
 use std::alloc::{AllocError, Global};
 
@@ -44,25 +48,37 @@ pub struct Outcome {
 }
 
 /// What the advisers say of the live methods with code. Where nothing is to be rewritten, none is asked about.
-#[tactic(auto, using(crate::proofs::RoundLemmas::unasked, crate::proofs::RoundLemmas::answered))]
 fn advice_on(
     alloc: Global,
     program: &Program,
     outside: &Outside,
     panel: &mut Panel,
 ) -> Result<Advice, AllocError>
-    ensures advised { is_well_formed program.now ≡ true → IfOk result (λ advice. IsAdvised outside.now program.now (length panel.old.advisers.items) panel.old.answers.items panel.new.answers.items (verdict advice)) }
-    ensures count { IfOk result (λ advice. length panel.new.advisers.items ≡ length panel.old.advisers.items) }
+    ensures advised { is_well_formed program.now ≡ true → IfOk result (λ advice.
+        HaveTaken (IsAdvisedBy outside.now program.now (length panel.old.advisers.items) panel.old.answers.items panel.new.answers.items (verdict advice))
+        (map (λ b. (⟦<dyn Adviser as Adviser>⟧ b.vtable).replies b.value) panel.old.advisers.items)
+        (map (λ b. (⟦<dyn Adviser as Adviser>⟧ b.vtable).replies b.value) panel.new.advisers.items)
+        panel.old.answers.items panel.new.answers.items) }
+    ensures begun { is_well_formed program.now ≡ true
+        → OnErr result (HaveTaken (MayBegin outside.now program.now)
+        (map (λ b. (⟦<dyn Adviser as Adviser>⟧ b.vtable).replies b.value) panel.old.advisers.items)
+        (map (λ b. (⟦<dyn Adviser as Adviser>⟧ b.vtable).replies b.value) panel.new.advisers.items)
+        panel.old.answers.items panel.new.answers.items) }
 {
     if !outside.optimise {
-        return no_advice(alloc, program);
+        let advice = no_advice(alloc, program)?;
+        return Ok(advice);
     }
     match hierarchy_of(alloc, program)? {
         Some(hierarchy) => {
             let live = live_members(alloc, program, &hierarchy, outside)?;
-            Ok(ask_all(alloc, program, &live, panel)?)
+            let advice = ask_all(alloc, program, &live, panel)?;
+            Ok(advice)
         }
-        None => no_advice(alloc, program),
+        None => {
+            let advice = no_advice(alloc, program)?;
+            Ok(advice)
+        }
     }
 }
 
@@ -229,14 +245,28 @@ fn all_rounds(
     Ok((left.traced, rounds))
 }
 
-/// A program no position of which has moved.
-fn unmoved(alloc: Global, program: Program) -> Traced
-    ensures { result ≡ first_of program }
+/// What the advisers say of the live methods with code, and the program without the silent calls of those that may be
+/// rewritten. The only error is want of memory; the panel was then asked about the first of these methods.
+fn prepare(
+    alloc: Global,
+    program: Program,
+    outside: &Outside,
+    panel: &mut Panel,
+) -> Result<(Advice, Program), AllocError>
+    ensures prepared { is_well_formed program ≡ true → IfOk result (λ r.
+        HaveTaken (IsPrepared outside.now program (length panel.old.advisers.items) panel.old.answers.items panel.new.answers.items (verdict r.0) r.1)
+        (map (λ b. (⟦<dyn Adviser as Adviser>⟧ b.vtable).replies b.value) panel.old.advisers.items)
+        (map (λ b. (⟦<dyn Adviser as Adviser>⟧ b.vtable).replies b.value) panel.new.advisers.items)
+        panel.old.answers.items panel.new.answers.items) }
+    ensures begun { is_well_formed program ≡ true
+        → OnErr result (HaveTaken (MayBegin outside.now program)
+        (map (λ b. (⟦<dyn Adviser as Adviser>⟧ b.vtable).replies b.value) panel.old.advisers.items)
+        (map (λ b. (⟦<dyn Adviser as Adviser>⟧ b.vtable).replies b.value) panel.new.advisers.items)
+        panel.old.answers.items panel.new.answers.items) }
 {
-    Traced {
-        program,
-        origins: Seq::new(alloc),
-    }
+    let advice = advice_on(alloc, &program, outside, panel)?;
+    let silenced = silence(alloc, program, outside, &advice.admitted)?;
+    Ok((advice, silenced))
 }
 
 /// What rounds left of a program that had so many members and instructions.
@@ -260,6 +290,25 @@ fn outcome_of(left: Traced, rounds: u32, members: u64, instructions: u64, spared
     }
 }
 
+/// Runs the rounds from this on, for a program that had so many members and instructions. The only error is want of memory.
+fn finish(
+    alloc: Global,
+    first: Traced,
+    outside: &Outside,
+    advice: &Advice,
+    members: u64,
+    instructions: u64,
+) -> Result<Outcome, AllocError>
+    ensures ran { IfOk result (λ outcome. HaveRunFrom outside.now advice.now.admitted.methods.items first (record { program = outcome.program; origins = outcome.origins }) outcome.rounds) }
+    ensures rounds { IfOk result (λ outcome. 1 ≤ outcome.rounds) }
+    ensures spared { IfOk result (λ outcome. outcome.spared ≡ advice.now.spared) }
+    ensures members { IfOk result (λ outcome. outcome.removed_members ≡ members - capped (members_of outcome.program)) }
+    ensures instructions { IfOk result (λ outcome. outcome.removed_instructions ≡ instructions - capped (insns_of outcome.program)) }
+{
+    let (left, rounds) = all_rounds(alloc, first, outside, &advice.admitted)?;
+    Ok(outcome_of(left, rounds, members, instructions, advice.spared))
+}
+
 /// Optimises a program: asks the panel about each live method with code, in class and method order, unless the rules
 /// forbid all rewriting, makes the silent calls of the admitted ones nops, and then runs rounds of the passes until one
 /// changes nothing. `outside` is closed. The only error is want of memory; the panel was then asked about the first of these
@@ -274,16 +323,61 @@ pub fn optimise(
     panel: &mut Panel,
 ) -> Result<Outcome, AllocError>
     requires { 0 ≤ vec_len panel.old.advisers }
-    ensures optimised { is_well_formed program ≡ true → IfOk result (λ outcome. IsOptimised outside.now program (length panel.old.advisers.items) panel.old.answers.items panel.new.answers.items outcome.spared outcome.program outcome.origins outcome.rounds) }
+    ensures optimised { is_well_formed program ≡ true
+        → IfOk result (λ outcome. IsOptimised outside.now program (length panel.old.advisers.items) panel.old.answers.items panel.new.answers.items outcome.spared outcome.program outcome.origins outcome.rounds) }
     ensures rounds { IfOk result (λ outcome. 1 ≤ outcome.rounds) }
     ensures members { IfOk result (λ outcome. outcome.removed_members ≡ capped (members_of program) - capped (members_of outcome.program)) }
     ensures instructions { IfOk result (λ outcome. outcome.removed_instructions ≡ capped (insns_of program) - capped (insns_of outcome.program)) }
+    ensures asked { is_well_formed program ≡ true
+        → IfOk result (λ outcome. IsOptimisedBy outside.now program
+        (map (λ b. (⟦<dyn Adviser as Adviser>⟧ b.vtable).replies b.value) panel.old.advisers.items)
+        (map (λ b. (⟦<dyn Adviser as Adviser>⟧ b.vtable).replies b.value) panel.new.advisers.items)
+        panel.old.answers.items panel.new.answers.items outcome.spared outcome.program outcome.origins outcome.rounds) }
+    ensures begun { is_well_formed program ≡ true
+        → OnErr result (HaveTaken (MayBegin outside.now program)
+        (map (λ b. (⟦<dyn Adviser as Adviser>⟧ b.vtable).replies b.value) panel.old.advisers.items)
+        (map (λ b. (⟦<dyn Adviser as Adviser>⟧ b.vtable).replies b.value) panel.new.advisers.items)
+        panel.old.answers.items panel.new.answers.items) }
 {
     let members = count_members(&program);
     let instructions = count_instructions(&program);
-    let advice = advice_on(alloc, &program, outside, panel)?;
-    let program = silence(alloc, program, outside, &advice.admitted)?;
+    let (advice, program) = prepare(alloc, program, outside, panel)?;
     let first = unmoved(alloc, program);
-    let (left, rounds) = all_rounds(alloc, first, outside, &advice.admitted)?;
-    Ok(outcome_of(left, rounds, members, instructions, advice.spared))
+    let outcome = finish(alloc, first, outside, &advice, members, instructions)?;
+    Ok(outcome)
+}
+
+/// The same with calls inlined once before the rounds: behind the asks about methods the panel is asked about each call of
+/// an admitted method that may be inlined, in class and method order and by position, and those are inlined of which every
+/// adviser says yes. `spared` counts methods alone, and `removed_instructions` is 0 where more are left. The only error is
+/// want of memory; the panel was then asked the first of these asks.
+///
+/// The `requires` always holds, as above.
+pub fn optimise_inlined(
+    alloc: Global,
+    program: Program,
+    outside: &Outside,
+    panel: &mut Panel,
+) -> Result<Outcome, AllocError>
+    requires { 0 ≤ vec_len panel.old.advisers }
+    ensures optimised { is_well_formed program ≡ true
+        → IfOk result (λ outcome. IsOptimisedInlined outside.now program
+        (map (λ b. (⟦<dyn Adviser as Adviser>⟧ b.vtable).replies b.value) panel.old.advisers.items)
+        (map (λ b. (⟦<dyn Adviser as Adviser>⟧ b.vtable).replies b.value) panel.new.advisers.items)
+        panel.old.answers.items panel.new.answers.items outcome.spared outcome.program outcome.origins outcome.rounds) }
+    ensures rounds { IfOk result (λ outcome. 1 ≤ outcome.rounds) }
+    ensures members { IfOk result (λ outcome. outcome.removed_members ≡ capped (members_of program) - capped (members_of outcome.program)) }
+    ensures instructions { IfOk result (λ outcome. outcome.removed_instructions ≡ capped (insns_of program) - capped (insns_of outcome.program)) }
+    ensures begun { is_well_formed program ≡ true
+        → OnErr result (HaveTaken (InlinedBegins outside.now program (length panel.old.advisers.items) panel.old.answers.items)
+        (map (λ b. (⟦<dyn Adviser as Adviser>⟧ b.vtable).replies b.value) panel.old.advisers.items)
+        (map (λ b. (⟦<dyn Adviser as Adviser>⟧ b.vtable).replies b.value) panel.new.advisers.items)
+        panel.old.answers.items panel.new.answers.items) }
+{
+    let members = count_members(&program);
+    let instructions = count_instructions(&program);
+    let (advice, program) = prepare(alloc, program, outside, panel)?;
+    let first = inline_sites(alloc, program, outside, &advice.admitted, panel)?;
+    let outcome = finish(alloc, first, outside, &advice, members, instructions)?;
+    Ok(outcome)
 }

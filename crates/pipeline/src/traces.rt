@@ -4,9 +4,11 @@ ghost use Rattle.std.specs.Prelude.{◌≡◌, ◌+◌, map, nat_eq};
 ghost use Rattle.program_model.specs.Cells.{capped};
 ghost use Rattle.pipeline.specs.Changes.{no_changes, total_of};
 ghost use Rattle.pipeline.specs.Origins.{origin_by, row_at, AreAfter, Follow};
+ghost use Rattle.pipeline.specs.Rounds.{first_of};
 
 use program_model::{Changed, Origin, Program};
 use seq::Seq;
+use std::alloc::Global;
 
 /// A program, and where its positions come from: for each method number an origin for each position, and no list at all
 /// where no position has moved.
@@ -14,6 +16,16 @@ use seq::Seq;
 pub struct Traced {
     pub program: Program,
     pub origins: Seq<Seq<Origin>>,
+}
+
+/// A program no position of which has moved.
+pub fn unmoved(alloc: Global, program: Program) -> Traced
+    ensures { result ≡ first_of program }
+{
+    Traced {
+        program,
+        origins: Seq::new(alloc),
+    }
 }
 
 /// How much passes took away, over how many instructions they wrote what is known of them, how many calls they let name what

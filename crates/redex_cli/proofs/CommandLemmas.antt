@@ -431,7 +431,7 @@ put_refuses names IsFinal name tells tells' old mid new f g p m q bytes summary 
 -- the finished output of what the names hold, put from bytes that are found to be these
 pub output_refuses : (words : OptimiseWords) (inputs : Inputs) (tells tells' : Bool) (old mid new : Held) (f g p m q : Failures) (bytes content summary : List ℕ) (status : Status)
     → content ≡ bytes → AreHeld tells old words.rules words.input words.library inputs → (IsTrue tells → AllWithin old (input_files words.rules words.input words.library))
-    → Finished inputs bytes summary → tells' ≡ tells → (IsTrue tells → AllSame old mid) → NoneFell p m
+    → Finished words.inline inputs bytes summary → tells' ≡ tells → (IsTrue tells → AllSame old mid) → NoneFell p m
     → PutRefused tells' (m words.output) (q words.output) (mid words.output) (new words.output) content status → (IsTrue tells' → OthersSame words.output mid new)
     → Refuses (input_files words.rules words.input words.library) (Some words.output) (FinishedOf tells old words) tells old new f g p q status
 output_refuses words inputs tells tells' old mid new f g p m q bytes content summary status is are within finished e same fell r others =
@@ -441,7 +441,7 @@ output_refuses words inputs tells tells' old mid new f g p m q bytes content sum
 
 put_gives : (words : OptimiseWords) (inputs : Inputs) (tells tells' : Bool) (old mid new : Held) (bytes summary : List ℕ)
     → AreRead inputs → AreHeld tells old words.rules words.input words.library inputs → (IsTrue tells → AllWithin old (input_files words.rules words.input words.library))
-    → Finished inputs bytes summary → tells' ≡ tells → (IsTrue tells → AllSame old mid)
+    → Finished words.inline inputs bytes summary → tells' ≡ tells → (IsTrue tells → AllSame old mid)
     → (IsTrue tells' → new words.output ≡ Some bytes) → (IsTrue tells' → OthersSame words.output mid new)
     → Gives (input_files words.rules words.input words.library) (Some words.output) (FinishedOf tells old words) (IsSummary (FinishedOf tells old words)) tells old new summary
 put_gives words inputs tells tells' old mid new bytes summary read are within finished e same put others =
@@ -457,7 +457,7 @@ put_gives words inputs tells tells' old mid new bytes summary read are within fi
 pub output_gives : (words : OptimiseWords) (inputs : Inputs) (tells tells' : Bool) (old mid new : Held) (bytes content summary text : List ℕ)
     → content ≡ bytes → text ≡ summary
     → AreRead inputs → AreHeld tells old words.rules words.input words.library inputs → (IsTrue tells → AllWithin old (input_files words.rules words.input words.library))
-    → Finished inputs bytes summary → tells' ≡ tells → (IsTrue tells → AllSame old mid)
+    → Finished words.inline inputs bytes summary → tells' ≡ tells → (IsTrue tells → AllSame old mid)
     → (IsTrue tells' → new words.output ≡ Some content) → (IsTrue tells' → OthersSame words.output mid new)
     → Gives (input_files words.rules words.input words.library) (Some words.output) (FinishedOf tells old words) (IsSummary (FinishedOf tells old words)) tells old new text
 output_gives words inputs tells tells' old mid new bytes content summary text is_bytes is_text read are within finished e same put others =

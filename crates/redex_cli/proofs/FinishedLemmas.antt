@@ -10,16 +10,16 @@ use Rattle.dex_read.specs.declared.fault.DexFault.{DexFault}
 use Rattle.dex_write.specs.Written.{IsWritten}
 use Rattle.hierarchy.specs.Shapes.{IsCause}
 use Rattle.hierarchy.specs.declared.fault.HierarchyFault.{HierarchyFault}
+use Rattle.pipeline.specs.Inlined.{IsOptimisedInlined}
 use Rattle.pipeline.specs.Rounds.{IsOptimised}
 use Rattle.program_model.specs.ProgramRules.{is_well_formed}
 use Rattle.program_model.specs.declared.pass.Origin.{Origin}
 use Rattle.program_model.specs.declared.pass.Outside.{Outside}
 use Rattle.program_model.specs.declared.program.Program.{Program}
-use Rattle.rule_text.specs.ReadEntries.{IsReading}
-use Rattle.rule_text.specs.declared.rules.Rules.{Rules}
+use Rattle.redex_outside.specs.Voices.{Voice}
 use Rattle.redex_cli.specs.Accepted.{IsAccepted}
 use Rattle.redex_cli.specs.Files.{AreRead, BytesRefused, FileRefused, HasGraphFault, IsDeclared, IsRead}
-use Rattle.redex_cli.specs.Finished.{Checks, Finished, IsRuled, IsWorkload, Shrunk, program_text, sizes_in, summary_text}
+use Rattle.redex_cli.specs.Finished.{Checks, Finished, IsWorkload, LeavesBy, Shrunk, program_text, sizes_in, summary_text}
 use Rattle.redex_cli.specs.Lists.{ListsFile, live_text}
 use Rattle.redex_cli.specs.Refusals.{IsDexFault, IsLibraryFault, IsLibraryRefusal, LibraryEnds, MadeRefused, ReadRefused, WorkRefused}
 use Rattle.redex_cli.specs.Tables.{IsTableWith}
@@ -35,40 +35,46 @@ pub well_formed_if : (bytes : List ℕ) (result : Result Program DexFault) → (
 well_formed_if bytes (Ok p) formed gives = formed p gives
 well_formed_if bytes (Err e) formed gives = tt
 
-pub shrunk : (program : Program) (outside : Outside) (before after : Sizes) (left : Program) (rounds spared advisers : ℕ) (old new : List Bool) (origins : List (List Origin)) (output summary : List ℕ)
-    → is_well_formed program ≡ true → (is_well_formed program ≡ true → IsOptimised outside program advisers old new spared left origins rounds)
+pub leaves : (inline : Bool) (program : Program) (outside : Outside) (left : Program) (rounds spared advisers : ℕ) (old new : List Bool) (origins : List (List Origin))
+    → inline ≡ false → IsOptimised outside program advisers old new spared left origins rounds → LeavesBy inline program outside left rounds spared
+leaves false program outside left rounds spared advisers old new origins none optimised =
+    record { advisers = advisers; before = old; after = new; origins = origins; optimised = optimised }
+leaves true program outside left rounds spared advisers old new origins none optimised = cc
+
+pub leaves_inlined : (inline : Bool) (program : Program) (outside : Outside) (left : Program) (rounds spared : ℕ) (olds news : List Voice) (old new : List Bool) (origins : List (List Origin))
+    → inline ≡ true → IsOptimisedInlined outside program olds news old new spared left origins rounds → LeavesBy inline program outside left rounds spared
+leaves_inlined true program outside left rounds spared olds news old new origins some optimised =
+    record { olds = olds; news = news; before = old; after = new; origins = origins; optimised = optimised }
+leaves_inlined false program outside left rounds spared olds news old new origins some optimised = cc
+
+pub shrunk : (inline : Bool) (program : Program) (outside : Outside) (before after : Sizes) (left : Program) (rounds spared : ℕ) (output summary : List ℕ)
+    → LeavesBy inline program outside left rounds spared
     → IsWritten left output → after ≡ sizes_in left (length output) → summary ≡ summary_text before after rounds spared → 1 ≤ rounds
-    → Shrunk program outside before output summary
-shrunk program outside before after left rounds spared advisers old new origins output summary well optimised written sizes says one_round = record {
+    → Shrunk inline program outside before output summary
+shrunk inline program outside before after left rounds spared output summary leaves written sizes says one_round = record {
   left = left;
   rounds = rounds;
   spared = spared;
-  leaves = record { advisers = advisers; before = old; after = new; origins = origins; optimised = optimised well };
+  leaves = leaves;
   written = written;
   says = subst (λ (sizes : Sizes). summary ≡ summary_text before sizes rounds spared) sizes says;
   one_round = one_round;
 }
 
--- what was read is found to be this text
-pub ruled : (rules : Rules) (library : Option (List ℕ)) (program : Program) (outside : Outside) (given text : List ℕ) → given ≡ text → IsReading given rules
-    → IsTableWith library program outside → IsRuled text library program outside
-ruled rules library program outside given text same spelled table =
-    record { rules = rules; spelled = subst (λ (bytes : List ℕ). IsReading bytes rules) same spelled; table = table }
-
 -- the file is found to have so many bytes
-pub finished : (program : Program) (outside : Outside) (inputs : Inputs) (bytes : ℕ) (output summary : List ℕ) → bytes ≡ length inputs.file → program_at inputs.file ≡ Ok program
-    → IsAccepted program → IsRuled inputs.rules inputs.library program outside
-    → Shrunk program outside (sizes_in program bytes) output summary → Finished inputs output summary
-finished program outside inputs bytes output summary same reads accepted ruled shrunk = record {
+pub finished : (inline : Bool) (program : Program) (outside : Outside) (inputs : Inputs) (bytes : ℕ) (output summary : List ℕ) → bytes ≡ length inputs.file
+    → program_at inputs.file ≡ Ok program → IsAccepted program → IsTableWith inputs.rules inputs.library program outside
+    → Shrunk inline program outside (sizes_in program bytes) output summary → Finished inline inputs output summary
+finished inline program outside inputs bytes output summary same reads accepted table shrunk = record {
   program = program;
   reads = reads;
   accepted = accepted;
   outside = outside;
-  ruled = ruled;
-  shrunk = subst (λ (n : ℕ). Shrunk program outside (sizes_in program n) output summary) same shrunk;
+  table = table;
+  shrunk = subst (λ (n : ℕ). Shrunk inline program outside (sizes_in program n) output summary) same shrunk;
 }
 
-pub is_workload : (inputs : Inputs) (output text : List ℕ) → inputs.library ≡ None → Finished inputs output text → IsWorkload text
+pub is_workload : (inputs : Inputs) (output text : List ℕ) → inputs.library ≡ None → Finished false inputs output text → IsWorkload text
 is_workload inputs output text alone finished = record { inputs = inputs; alone = alone; output = output; finished = finished }
 
 pub made : (inputs : Inputs) (status : Status) → inputs.library ≡ None → WorkRefused inputs status → BytesRefused inputs status → MadeRefused status
@@ -133,20 +139,20 @@ pub library_bytes : (inputs : Inputs) (program : Program) (status : Status) → 
 library_bytes inputs program status reads accepted r =
     ends_bytes inputs inputs.library status (record { program = program; reads = reads; accepted = accepted }) refl r
 
-declared_by : (library : Option (List ℕ)) (program : Program) (outside : Outside) → IsTableWith library program outside → (bytes : List ℕ)
+declared_by : (rules : List ℕ) (library : Option (List ℕ)) (program : Program) (outside : Outside) → IsTableWith rules library program outside → (bytes : List ℕ)
     → library ≡ Some bytes → IsDeclared bytes
-declared_by None program outside table bytes e = cc
-declared_by (Some other) program outside table bytes e =
+declared_by rules None program outside table bytes e = cc
+declared_by rules (Some other) program outside table bytes e =
     subst (λ (b : List ℕ). IsDeclared b) (same other bytes e) (record { library = table.library; declares = table.declares })
   where
     same : (other bytes : List ℕ) → Some other ≡ Some bytes → other ≡ bytes
     same other bytes e = cc
 
 pub are_read : (inputs : Inputs) (program : Program) (outside : Outside) → program_at inputs.file ≡ Ok program → IsAccepted program
-    → IsTableWith inputs.library program outside → AreRead inputs
+    → IsTableWith inputs.rules inputs.library program outside → AreRead inputs
 are_read inputs program outside reads accepted table = record {
   file = record { program = program; reads = reads; accepted = accepted };
-  library = declared_by inputs.library program outside table;
+  library = declared_by inputs.rules inputs.library program outside table;
 }
 
 -- ---- a file alone
@@ -162,7 +168,7 @@ graph_fault program bytes fault reads well cause = record { program = program; r
 -- ---- what is live
 
 pub lists_file : (inputs : Inputs) (program : Program) (outside : Outside) (live : LiveSet) (text : List ℕ) → program_at inputs.file ≡ Ok program
-    → IsAccepted program → IsTableWith inputs.library program outside → IsClosedSet program outside live → text ≡ live_text program live
+    → IsAccepted program → IsTableWith inputs.rules inputs.library program outside → IsClosedSet program outside live → text ≡ live_text program live
     → ListsFile inputs text
 lists_file inputs program outside live text reads accepted table closed says = record {
   program = program;

@@ -3,7 +3,7 @@ use Rattle.std.proofs.Common.{◌≡◌, ◌⊎◌, ℕ, List, ◌++◌, Bool, I
 use Rattle.redex_outside.specs.Counts.{Rose}
 use Rattle.redex_outside.specs.Held.{Held}
 use Rattle.program_model.specs.declared.limits.Counted.{Counted}
-use Rattle.redex_cli.specs.Commands.{CommandsNothing, Puts}
+use Rattle.redex_cli.specs.Commands.{Puts, SpellsNothing}
 use Rattle.redex_cli.specs.Ends.{Caused, Ends}
 use Rattle.redex_cli.specs.Fetching.{Failures}
 use Rattle.redex_cli.specs.Finished.{Results}
@@ -27,8 +27,8 @@ result_long : (words : List (List ℕ)) (tells : Bool) (old new : Held) (text : 
 result_long words tells old new text counted status g told long = absurd (g.within counted told long)
 
 result_spelled : (words : List (List ℕ)) (tells : Bool) (old new : Held) (text : List ℕ) (status : Status)
-    → GivesFor words tells old new text → CommandsNothing words → EndsUnspelled status
-result_spelled words tells old new text status g none = absurd (none g.answer.command g.answer.commands)
+    → GivesFor words tells old new text → SpellsNothing words → EndsUnspelled status
+result_spelled words tells old new text status g none = absurd (none g.answer.command g.answer.spelled)
 
 pub result_ends : (words : List (List ℕ)) (tells : Bool) (old new : Held) (f g p q : Failures) (notes_tell : Bool) (so sn : List ℕ) (n m : ℕ) (text : List ℕ) (status : Status)
     → GivesFor words tells old new text → SaysResult text notes_tell n m so sn status

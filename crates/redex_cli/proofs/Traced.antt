@@ -11,10 +11,17 @@ use Rattle.dalvik_defs.specs.declared.tables.Floats.{Floats}
 use Rattle.dalvik_defs.specs.declared.tables.Framework.{Framework}
 use Rattle.dalvik_model.specs.Standing.{IsSubject, MakesOnlyArrays, shown_by, subject_of}
 use Rattle.dex_read.specs.File.{program_at}
-use Rattle.keep_rules.specs.Outside.{IsWithin}
+use Rattle.hierarchy.specs.Shapes.{IsOf, IsResolved}
+use Rattle.hierarchy.specs.declared.build.Hierarchy.{Hierarchy}
+use Rattle.keep_rules.specs.Table.{IsTable}
 use Rattle.program_model.specs.declared.pass.Outside.{Outside}
 use Rattle.program_model.specs.declared.program.Program.{Program}
+use Rattle.program_model.specs.ProgramRules.{is_well_formed}
 use Rattle.reach.specs.Kept.{Closes}
+use Rattle.rule_text.specs.ReadEntries.{IsReading}
+use Rattle.rule_text.specs.Related.{AreEntriesOf}
+use Rattle.rule_text.specs.Rules.{Entry}
+use Rattle.rule_text.specs.declared.rules.Rules.{Rules}
 use Rattle.text_defs.specs.EventLines.{event_lines}
 use Rattle.text_defs.specs.Plays.{play_of}
 use Rattle.text_defs.specs.declared.play.Play.{Play}
@@ -38,14 +45,27 @@ subject p o f a script accepted =
     let graph = accepted.graph in
     record { well = accepted.formed; accepted = record { once = graph.once; acyclic = graph.acyclic; unsplit = graph.unsplit } }
 
--- what the table of the rules is
-pub table_for : (p : Program) (ruled outside : Outside) → IsWithin p ruled → ruled.shut ≡ [] → Closes ruled outside → IsTableFor p outside
-table_for p ruled outside within unshut closes = record { ruled = ruled; within = within; unshut = unshut; closes = closes }
+-- what the table of the rules is, from what is answered for all entries that are those of the rules
+pub table_for : (rules : Rules) (text : List ℕ) (p : Program) (h : Hierarchy) (ruled outside : Outside) → is_well_formed p ≡ true → IsResolved p h
+    → ((es : List Entry) → is_well_formed p ≡ true → IsOf p h → AreEntriesOf rules.entries.items es → IsTable p es ruled)
+    → IsReading text rules → Closes ruled outside → IsTableFor text p outside
+table_for rules text p h ruled outside well resolved tables reading closes = record {
+  entries = reading.entries;
+  spells = reading.spells;
+  ruled = ruled;
+  table = tables reading.entries well resolved.of reading.related;
+  closes = closes;
+}
+
+-- the table of a text that is found to be this one
+pub table_of_text : (given text : List ℕ) (library : Option (List ℕ)) (p : Program) (outside : Outside) → given ≡ text → IsTableWith given library p outside
+    → IsTableWith text library p outside
+table_of_text given text library p outside same table = subst (λ (rules : List ℕ). IsTableWith rules library p outside) same table
 
 -- and behind a library, whose bytes were found to be these
-pub table_by : (given bytes : List ℕ) (p : Program) (closed outside : Outside) (library : Library) → given ≡ bytes → IsTableFor p closed → library_at given ≡ Ok library
-    → IsNarrowed p closed library outside → IsTableBy bytes p outside
-table_by given bytes p closed outside library same table declares narrowed = record {
+pub table_by : (rules given bytes : List ℕ) (p : Program) (closed outside : Outside) (library : Library) → given ≡ bytes → IsTableFor rules p closed → library_at given ≡ Ok library
+    → IsNarrowed p closed library outside → IsTableBy rules bytes p outside
+table_by rules given bytes p closed outside library same table declares narrowed = record {
   closed = closed;
   table = table;
   library = library;
@@ -62,11 +82,11 @@ shown r items p o f a given script n same accepted says =
     subst (λ (moves : List Move). IfOk r (λ x. items x ≡ shows (named p) (outer_of p o) f a moves n)) same
     (says (subject p o f a given accepted) (makes_arrays p o f a given n accepted))
 
-pub traces : (library : Option (List ℕ)) (p : Program) (play : Play) (outside : Outside) (steps : ℕ) (events : List Event) (text : List ℕ)
-    → IsTableWith library p outside → length events ≤ steps
+pub traces : (rules : List ℕ) (library : Option (List ℕ)) (p : Program) (play : Play) (outside : Outside) (steps : ℕ) (events : List Event) (text : List ℕ)
+    → IsTableWith rules library p outside → length events ≤ steps
     → events ≡ shows (named p) (outer_of p outside) play.framework play.floats play.moves steps
-    → text ≡ event_lines events → Traces library p play steps text
-traces library p play outside steps events text table few shown says = record {
+    → text ≡ event_lines events → Traces rules library p play steps text
+traces rules library p play outside steps events text table few shown says = record {
   outside = outside;
   table = table;
   events = events;
@@ -76,7 +96,7 @@ traces library p play outside steps events text table few shown says = record {
 }
 
 pub traces_file : (inputs : Inputs) (p : Program) (play : Play) (script : List ℕ) (steps : ℕ) (text : List ℕ)
-    → program_at inputs.file ≡ Ok p → IsAccepted p → play_of script ≡ Ok play → Traces inputs.library p play steps text → TracesFile inputs script steps text
+    → program_at inputs.file ≡ Ok p → IsAccepted p → play_of script ≡ Ok play → Traces inputs.rules inputs.library p play steps text → TracesFile inputs script steps text
 traces_file inputs p play script steps text reads accepted plays traces = record {
   program = p;
   reads = reads;

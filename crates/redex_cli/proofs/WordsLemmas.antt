@@ -7,7 +7,7 @@ use Rattle.command_line.specs.Spelling as spelling
 use Rattle.command_line.specs.declared.sorted.Sorted.{Sorted}
 use Rattle.command_line.specs.declared.command.CommandWords.{CommandWords}
 use Rattle.command_line.specs.declared.command.CommandWords.TheVariants.{Nothing, Optimise, Check, Live, Trace, Workload}
-use Rattle.redex_cli.specs.Commands.{Commands, CommandsNothing, CountsWithin, Puts, fetches, is_built, output_of}
+use Rattle.redex_cli.specs.Commands.{CountsWithin, Puts, SpellsNothing, fetches, output_of}
 use Rattle.redex_cli.specs.Fetching.{Failures, FirstTooLong}
 use Rattle.redex_cli.specs.Files.{AllRead}
 use Rattle.redex_cli.specs.Finished.{IsOutputOf, IsResult}
@@ -28,101 +28,94 @@ spelled_within _ _ spelling.silent = tt
 spelled_within _ _ (spelling.command c rest pieces says asks) = asked_within (sorted_of pieces) c asks
 
 pub only_spelled : (words : List (List ℕ)) (command other : CommandWords)
-    → ((c : CommandWords) → Spells words c → Some command ≡ Some c) → Commands words other → other ≡ command
-only_spelled words command other only commands = let e : Some command ≡ Some other = only other commands.spelled in cc
+    → ((c : CommandWords) → Spells words c → Some command ≡ Some c) → Spells words other → other ≡ command
+only_spelled words command other only spelled = let e : Some command ≡ Some other = only other spelled in cc
 
-pub none_spelled : (words : List (List ℕ)) → ((c : CommandWords) → Spells words c → ⊥) → CommandsNothing words
-none_spelled words none command commands = none command commands.spelled
-
-pub none_built : (words : List (List ℕ)) (command : CommandWords)
-    → ((c : CommandWords) → Spells words c → Some command ≡ Some c) → is_built command ≡ false → CommandsNothing words
-none_built words command only unbuilt other commands =
-    let e : other ≡ command = only_spelled words command other only commands in
-    let built : is_built command ≡ true = subst (λ (c : CommandWords). is_built c ≡ true) e commands.built in
-    cc
+pub none_spelled : (words : List (List ℕ)) → ((c : CommandWords) → Spells words c → ⊥) → SpellsNothing words
+none_spelled words none command spelled = none command spelled
 
 -- ---- refusals
 
 words_cause : (words : List (List ℕ)) (command : CommandWords) (tells : Bool) (old : Held) (f g p q : Failures) (status : Status)
-    → Commands words command → Cause (fetches command) (output_of command) tells old f g p q status
+    → Spells words command → Cause (fetches command) (output_of command) tells old f g p q status
     → CauseFor words tells old f g p q status
-words_cause words command tells old f g p q Done commands c = c
-words_cause words command tells old f g p q Usage commands c = absurd c
-words_cause words command tells old f g p q (BadRules fault) commands c = record { command = command; commands = commands; cause = c }
-words_cause words command tells old f g p q (BadDex fault) commands c = record { command = command; commands = commands; cause = c }
-words_cause words command tells old f g p q (Limit fault) commands c = record { command = command; commands = commands; cause = c }
-words_cause words command tells old f g p q ReadFault commands c = record { command = command; commands = commands; rose = c }
-words_cause words command tells old f g p q WriteFault commands c = record { command = command; commands = commands; rose = c }
-words_cause words command tells old f g p q NoMemory commands c = tt
-words_cause words command tells old f g p q (BadScript line) commands c = record { command = command; commands = commands; bad = c }
+words_cause words command tells old f g p q Done spelled c = c
+words_cause words command tells old f g p q Usage spelled c = absurd c
+words_cause words command tells old f g p q (BadRules fault) spelled c = record { command = command; spelled = spelled; cause = c }
+words_cause words command tells old f g p q (BadDex fault) spelled c = record { command = command; spelled = spelled; cause = c }
+words_cause words command tells old f g p q (Limit fault) spelled c = record { command = command; spelled = spelled; cause = c }
+words_cause words command tells old f g p q ReadFault spelled c = record { command = command; spelled = spelled; rose = c }
+words_cause words command tells old f g p q WriteFault spelled c = record { command = command; spelled = spelled; rose = c }
+words_cause words command tells old f g p q NoMemory spelled c = tt
+words_cause words command tells old f g p q (BadScript line) spelled c = record { command = command; spelled = spelled; bad = c }
 
 long_of : (words : List (List ℕ)) (command : CommandWords) (old : Held) (counted : Counted)
-    → ((c : CommandWords) → Commands words c → c ≡ command) → TooLong words old counted → FirstTooLong old (fetches command) counted
+    → ((c : CommandWords) → Spells words c → c ≡ command) → TooLong words old counted → FirstTooLong old (fetches command) counted
 long_of words command old counted only long =
-    subst (λ (c : CommandWords). FirstTooLong old (fetches c) counted) (only long.command long.commands) long.first
+    subst (λ (c : CommandWords). FirstTooLong old (fetches c) counted) (only long.command long.spelled) long.first
 
 output_by_words : (words : List (List ℕ)) (command : CommandWords) (name : List ℕ)
-    → ((c : CommandWords) → Commands words c → c ≡ command) → Puts words name → output_of command ≡ Some name
+    → ((c : CommandWords) → Spells words c → c ≡ command) → Puts words name → output_of command ≡ Some name
 output_by_words words command name only puts =
-    subst (λ (c : CommandWords). output_of c ≡ Some name) (only puts.command puts.commands) puts.output
+    subst (λ (c : CommandWords). output_of c ≡ Some name) (only puts.command puts.spelled) puts.output
 
-output_by : (words : List (List ℕ)) (command : CommandWords) (tells : Bool) (held : Held) → Commands words command
+output_by : (words : List (List ℕ)) (command : CommandWords) (tells : Bool) (held : Held) → Spells words command
     → (output summary : List ℕ) → IsOutputOf tells held command output summary → OutputBy words tells held output summary
-output_by words command tells held commands output summary final = record { command = command; commands = commands; final = final }
+output_by words command tells held spelled output summary final = record { command = command; spelled = spelled; final = final }
 
-holds_finished : (words : List (List ℕ)) (command : CommandWords) (tells : Bool) (old : Held) → Commands words command → (new : Option (List ℕ))
+holds_finished : (words : List (List ℕ)) (command : CommandWords) (tells : Bool) (old : Held) → Spells words command → (new : Option (List ℕ))
     → HoldsFinished (IsOutputOf tells old command) new → HoldsFinished (OutputBy words tells old) new
-holds_finished words command tells old commands new h =
-    record { output = h.output; summary = h.summary; final = output_by words command tells old commands h.output h.summary h.final; there = h.there }
+holds_finished words command tells old spelled new h =
+    record { output = h.output; summary = h.summary; final = output_by words command tells old spelled h.output h.summary h.final; there = h.there }
 
 -- what the output's name holds, from what a command says to what its words say
-output_holds : (words : List (List ℕ)) (command : CommandWords) (tells : Bool) (held : Held) → Commands words command → (status : Status) (p q : ℕ) (old new : Option (List ℕ))
+output_holds : (words : List (List ℕ)) (command : CommandWords) (tells : Bool) (held : Held) → Spells words command → (status : Status) (p q : ℕ) (old new : Option (List ℕ))
     → OutputHolds (IsOutputOf tells held command) status p q old new → OutputHolds (OutputBy words tells held) status p q old new
-output_holds words command tells held commands Done p q old new h = holds_finished words command tells held commands new h
-output_holds words command tells held commands WriteFault p q old new (inl h) = inl (holds_finished words command tells held commands new h)
-output_holds words command tells held commands WriteFault p q old new (inr h) = inr (record {
+output_holds words command tells held spelled Done p q old new h = holds_finished words command tells held spelled new h
+output_holds words command tells held spelled WriteFault p q old new (inl h) = inl (holds_finished words command tells held spelled new h)
+output_holds words command tells held spelled WriteFault p q old new (inr h) = inr (record {
   output = h.output;
   summary = h.summary;
-  final = output_by words command tells held commands h.output h.summary h.final;
+  final = output_by words command tells held spelled h.output h.summary h.final;
   rose = h.rose;
   there = h.there;
 })
-output_holds words command tells held commands NoMemory p q old new (inl e) = inl e
-output_holds words command tells held commands NoMemory p q old new (inr h) = inr (holds_finished words command tells held commands new h)
-output_holds words command tells held commands Usage p q old new e = e
-output_holds words command tells held commands (BadRules fault) p q old new e = e
-output_holds words command tells held commands (BadDex fault) p q old new e = e
-output_holds words command tells held commands (Limit fault) p q old new e = e
-output_holds words command tells held commands ReadFault p q old new e = e
-output_holds words command tells held commands (BadScript line) p q old new e = e
+output_holds words command tells held spelled NoMemory p q old new (inl e) = inl e
+output_holds words command tells held spelled NoMemory p q old new (inr h) = inr (holds_finished words command tells held spelled new h)
+output_holds words command tells held spelled Usage p q old new e = e
+output_holds words command tells held spelled (BadRules fault) p q old new e = e
+output_holds words command tells held spelled (BadDex fault) p q old new e = e
+output_holds words command tells held spelled (Limit fault) p q old new e = e
+output_holds words command tells held spelled ReadFault p q old new e = e
+output_holds words command tells held spelled (BadScript line) p q old new e = e
 
 pub words_refuse : (words : List (List ℕ)) (command : CommandWords) (tells : Bool) (old new : Held) (f g p q : Failures) (status : Status)
-    → Commands words command → ((c : CommandWords) → Commands words c → c ≡ command)
+    → Spells words command → ((c : CommandWords) → Spells words c → c ≡ command)
     → Refuses (fetches command) (output_of command) (IsOutputOf tells old command) tells old new f g p q status
     → RefusesFor words tells old new f g p q status
-words_refuse words command tells old new f g p q status commands only r = record {
-  cause = words_cause words command tells old f g p q status commands r.cause;
-  unspelled = λ none. absurd (none command commands);
+words_refuse words command tells old new f g p q status spelled only r = record {
+  cause = words_cause words command tells old f g p q status spelled r.cause;
+  unspelled = λ none. absurd (none command spelled);
   too_long = λ counted told long. r.too_long counted told (long_of words command old counted only long);
   stays = λ told. record {
     refused = (r.stays told).refused;
-    others = λ name differs. (r.stays told).others name (λ e. differs (record { command = command; commands = commands; output = e }));
-    output = λ name puts. output_holds words command tells old commands status (p name) (q name) (old name) (new name)
+    others = λ name differs. (r.stays told).others name (λ e. differs (record { command = command; spelled = spelled; output = e }));
+    output = λ name puts. output_holds words command tells old spelled status (p name) (q name) (old name) (new name)
         ((r.stays told).output name (output_by_words words command name only puts));
   };
 }
 
 pub words_give : (words : List (List ℕ)) (command : CommandWords) (tells : Bool) (old new : Held) (text : List ℕ)
-    → Commands words command → ((c : CommandWords) → Commands words c → c ≡ command)
+    → Spells words command → ((c : CommandWords) → Spells words c → c ≡ command)
     → Gives (fetches command) (output_of command) (IsOutputOf tells old command) (IsResult tells old command) tells old new text
     → GivesFor words tells old new text
-words_give words command tells old new text commands only g = record {
-  answer = record { command = command; commands = commands; result = g.answer };
-  read = λ told c spelled. subst (λ (d : CommandWords). AllRead old (fetches d)) (sym (only c spelled)) (g.read told);
+words_give words command tells old new text spelled only g = record {
+  answer = record { command = command; spelled = spelled; result = g.answer };
+  read = λ told c is. subst (λ (d : CommandWords). AllRead old (fetches d)) (sym (only c is)) (g.read told);
   within = λ counted told long. within_or_long old (fetches command) counted (g.within told) (long_of words command old counted only long);
-  others = λ told name differs. g.others told name (λ e. differs (record { command = command; commands = commands; output = e }));
+  others = λ told name differs. g.others told name (λ e. differs (record { command = command; spelled = spelled; output = e }));
   put = λ told name puts. let h = g.put told name (output_by_words words command name only puts) in
-      record { output = h.output; final = output_by words command tells old commands h.output text h.final; there = h.there };
+      record { output = h.output; final = output_by words command tells old spelled h.output text h.final; there = h.there };
 }
 
 -- ---- words that are refused before anything is fetched
@@ -140,7 +133,7 @@ early_unspelled words _ r = absurd r
 
 early_long : (words : List (List ℕ)) (held : Held) (status : Status) (counted : Counted)
     → WordsRefused words status → TooLong words held counted → EndsTooLong counted status
-early_long words held Usage counted r long = absurd (r long.command long.commands)
+early_long words held Usage counted r long = absurd (r long.command long.spelled)
 early_long words held NoMemory counted r long = tt
 early_long words held _ counted r long = absurd r
 

@@ -1,5 +1,5 @@
--- Which commands are built, and what each has fetched and put.
-use Rattle.std.specs.Prelude.{◌≡◌, ◌≤◌, ℕ, List, [], ◌∷◌, ◌++◌, Bool, true, not, IsTrue, Option, None, Some}
+-- What each command has fetched and put.
+use Rattle.std.specs.Prelude.{◌≡◌, ◌≤◌, ℕ, List, [], ◌∷◌, ◌++◌, Option, None, Some}
 use Rattle.program_model.specs.declared.limits.Counted.{Counted}
 use Rattle.program_model.specs.declared.limits.Counted.TheVariants.{RuleBytes, FileBytes, ScriptBytes}
 use Rattle.command_line.specs.declared.command.CommandWords.{CommandWords}
@@ -8,19 +8,9 @@ use Rattle.command_line.specs.Spelling.{Spells}
 use Rattle.redex_cli.specs.declared.fetching.Kind.{Kind}
 use Rattle.redex_cli.specs.declared.fetching.Kind.TheVariants as kind
 
--- `--inline` is not built yet.
-abbrev pub is_built : CommandWords → Bool
-is_built (Optimise words) = not words.inline
-is_built _ = true
-
--- The words spell this command, and it is built.
-pub record Commands (words : List (List ℕ)) (command : CommandWords) : Type 0 where
-  pub spelled : Spells words command
-  pub built : IsTrue (is_built command)
-
--- The words spell no command that is built.
-abbrev pub CommandsNothing : List (List ℕ) → Type 0
-CommandsNothing words = (command : CommandWords) → Commands words command → ⊥
+-- The words spell no command.
+abbrev pub SpellsNothing : List (List ℕ) → Type 0
+SpellsNothing words = (command : CommandWords) → Spells words command → ⊥
 
 -- What a workload may count. The words spell no other.
 abbrev pub CountsWithin : CommandWords → Type 0
@@ -77,5 +67,5 @@ output_of _ = None
 -- The words have this name put.
 pub record Puts (words : List (List ℕ)) (name : List ℕ) : Type 0 where
   pub command : CommandWords
-  pub commands : Commands words command
+  pub spelled : Spells words command
   pub output : output_of command ≡ Some name

@@ -3,7 +3,7 @@ use Rattle.std.specs.Prelude.{◌≡◌, ◌⊎◌, ◌++◌, ℕ, List, Bool, I
 use Rattle.program_model.specs.declared.limits.Counted.{Counted}
 use Rattle.redex_outside.specs.Counts.{Rose}
 use Rattle.redex_outside.specs.Held.{Held}
-use Rattle.redex_cli.specs.Commands.{CommandsNothing, Puts}
+use Rattle.redex_cli.specs.Commands.{Puts, SpellsNothing}
 use Rattle.redex_cli.specs.Fetching.{Failures}
 use Rattle.redex_cli.specs.Finished.{Results}
 use Rattle.redex_cli.specs.Refusals.{CouldNotFetch, CouldNotPut, EndsTooLong, EndsUnspelled, HasBadLine, HasFileFault, HasRulesFault, HoldsSummed, OutputBy, PassesLimit, ReadsAll, TooLong}
@@ -15,7 +15,7 @@ use Rattle.redex_cli.specs.declared.status.Status.TheVariants.{Done, Usage, BadR
 -- Why a run of these words ends with this status: what its counts say, and the faults that are carried.
 abbrev pub Caused : List (List ℕ) → Bool → Held → Failures → Failures → Failures → Failures → ℕ → ℕ → Status → Type 0
 Caused words tells held fetches_old fetches_new puts_old puts_new notes_old notes_new Done = Unit {0}
-Caused words tells held fetches_old fetches_new puts_old puts_new notes_old notes_new Usage = CommandsNothing words
+Caused words tells held fetches_old fetches_new puts_old puts_new notes_old notes_new Usage = SpellsNothing words
 Caused words tells held fetches_old fetches_new puts_old puts_new notes_old notes_new (BadRules fault) = HasRulesFault words tells held fault
 Caused words tells held fetches_old fetches_new puts_old puts_new notes_old notes_new (BadDex fault) = HasFileFault words tells held fault
 Caused words tells held fetches_old fetches_new puts_old puts_new notes_old notes_new (Limit fault) = PassesLimit words tells held fault
@@ -36,7 +36,7 @@ pub record Delivers (words : List (List ℕ)) (tells : Bool) (old new : Held) (s
 pub record Ends (words : List (List ℕ)) (tells : Bool) (old new : Held) (fetches_old fetches_new puts_old puts_new : Failures)
     (notes_tell : Bool) (said_old said_new : List ℕ) (notes_old notes_new : ℕ) (status : Status) : Type 0 where
   pub cause : Caused words tells old fetches_old fetches_new puts_old puts_new notes_old notes_new status
-  pub unspelled : CommandsNothing words → EndsUnspelled status
+  pub unspelled : SpellsNothing words → EndsUnspelled status
   pub too_long : (counted : Counted) → IsTrue tells → TooLong words old counted → EndsTooLong counted status
   pub stays : IsTrue tells → Stays (Puts words) (OutputBy words tells old) status puts_old puts_new old new
   pub said : IsTrue notes_tell → Said (Results words tells old) status notes_old notes_new said_old said_new

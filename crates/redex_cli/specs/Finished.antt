@@ -1,6 +1,7 @@
 -- What a command gives: a file to be put, and a text to be said.
-use Rattle.std.specs.Prelude.{◌≡◌, ◌≤◌, ℕ, Bool, IsTrue, Ok, None, Some, Option, List, ◌++◌, length, sum_by, codes}
+use Rattle.std.specs.Prelude.{◌≡◌, ◌≤◌, ℕ, Bool, true, false, IsTrue, Ok, None, Some, Option, List, ◌++◌, length, sum_by, codes}
 use Rattle.std.specs.Fmt.{decimal}
+use Rattle.command_line.specs.Spelling.{Spells}
 use Rattle.command_line.specs.declared.command.CommandWords.{CommandWords}
 use Rattle.command_line.specs.declared.command.CommandWords.TheVariants.{Nothing, Optimise, Check, Live, Trace, Workload}
 use Rattle.command_line.specs.declared.command.OptimiseWords.{OptimiseWords}
@@ -8,17 +9,16 @@ use Rattle.redex_cli.specs.FaultLines.{usage_text}
 use Rattle.dex_read.specs.File.{program_at}
 use Rattle.dex_write.specs.Written.{IsWritten}
 use Rattle.redex_outside.specs.Held.{Held}
+use Rattle.redex_outside.specs.Voices.{Voice}
 use Rattle.redex_cli.specs.Files.{AreHeld, HoldsProgram}
 use Rattle.program_model.specs.declared.pass.Origin.{Origin}
 use Rattle.program_model.specs.declared.pass.Outside.{Outside}
 use Rattle.program_model.specs.declared.program.Program.{Program}
 use Rattle.program_model.specs.Cells.{capped}
 use Rattle.pipeline.specs.Counts.{insns_of, members_of}
+use Rattle.pipeline.specs.Inlined.{IsOptimisedInlined}
 use Rattle.pipeline.specs.Rounds.{IsOptimised}
-use Rattle.rule_text.specs.ReadEntries.{IsReading}
-use Rattle.rule_text.specs.declared.rules.Rules.{Rules}
 use Rattle.redex_cli.specs.Accepted.{IsAccepted}
-use Rattle.redex_cli.specs.Commands.{Commands}
 use Rattle.redex_cli.specs.Lists.{IsListed}
 use Rattle.redex_cli.specs.Tables.{IsTableWith}
 use Rattle.redex_cli.specs.Traces.{IsTraced}
@@ -61,38 +61,46 @@ pub record Leaves (program : Program) (outside : Outside) (left : Program) (roun
   pub origins : List (List Origin)
   pub optimised : IsOptimised outside program advisers before after spared left origins rounds
 
+-- The same where calls are inlined before the rounds, whatever the advisers reply.
+pub record LeavesInlined (program : Program) (outside : Outside) (left : Program) (rounds spared : ℕ) : Type 0 where
+  pub olds : List Voice
+  pub news : List Voice
+  pub before : List Bool
+  pub after : List Bool
+  pub origins : List (List Origin)
+  pub optimised : IsOptimisedInlined outside program olds news before after spared left origins rounds
+
+-- The one or the other, as the words ask.
+abbrev pub LeavesBy : Bool → Program → Outside → Program → ℕ → ℕ → Type 0
+LeavesBy false program outside left rounds spared = Leaves program outside left rounds spared
+LeavesBy true program outside left rounds spared = LeavesInlined program outside left rounds spared
+
 -- The output is the file that is written for what is left of the program by this table, and the summary counts the program,
 -- whose sizes are these, what is left, its file, the rounds and the spared methods.
-pub record Shrunk (program : Program) (outside : Outside) (before : Sizes) (output summary : List ℕ) : Type 0 where
+pub record Shrunk (inline : Bool) (program : Program) (outside : Outside) (before : Sizes) (output summary : List ℕ) : Type 0 where
   pub left : Program
   pub rounds : ℕ
   pub spared : ℕ
-  pub leaves : Leaves program outside left rounds spared
+  pub leaves : LeavesBy inline program outside left rounds spared
   pub written : IsWritten left output
   pub says : summary ≡ summary_text before (sizes_in left (length output)) rounds spared
   pub one_round : 1 ≤ rounds
 
--- The text spells rules, and this is a table for the program with such a library. How the table comes of the rules is not said yet.
-pub record IsRuled (text : List ℕ) (library : Option (List ℕ)) (program : Program) (outside : Outside) : Type 0 where
-  pub rules : Rules
-  pub spelled : IsReading text rules
-  pub table : IsTableWith library program outside
-
--- The output is the finished one of these inputs, and this is its summary: the file spells a program that is accepted, the text of
--- the rules and the library have a table for it, and the output is what is written for what that leaves.
-pub record Finished (inputs : Inputs) (output summary : List ℕ) : Type 0 where
+-- The output is the finished one of these inputs, and this is its summary: the file spells a program that is accepted, and the
+-- output is what is written for what is left of it by the table of the rules and the library.
+pub record Finished (inline : Bool) (inputs : Inputs) (output summary : List ℕ) : Type 0 where
   pub program : Program
   pub reads : program_at inputs.file ≡ Ok program
   pub accepted : IsAccepted program
   pub outside : Outside
-  pub ruled : IsRuled inputs.rules inputs.library program outside
-  pub shrunk : Shrunk program outside (sizes_in program (length inputs.file)) output summary
+  pub table : IsTableWith inputs.rules inputs.library program outside
+  pub shrunk : Shrunk inline program outside (sizes_in program (length inputs.file)) output summary
 
 -- The same of what the names hold that these words have fetched, where the shelf tells it.
 pub record FinishedOf (tells : Bool) (held : Held) (words : OptimiseWords) (output summary : List ℕ) : Type 0 where
   pub inputs : Inputs
   pub are : AreHeld tells held words.rules words.input words.library inputs
-  pub finished : Finished inputs output summary
+  pub finished : Finished words.inline inputs output summary
 
 -- The output and the summary that a command may have, on what the names hold. The workload's is put nowhere.
 abbrev pub IsOutputOf : Bool → Held → CommandWords → List ℕ → List ℕ → Type 0
@@ -104,12 +112,12 @@ pub record IsSummary (IsOutput : List ℕ → List ℕ → Type 0) (text : List 
   pub output : List ℕ
   pub final : IsOutput output text
 
--- The same of some inputs without a library, which the workload makes itself.
+-- The same of some inputs without a library, which the workload makes itself. Nothing is inlined.
 pub record IsWorkload (text : List ℕ) : Type 0 where
   pub inputs : Inputs
   pub alone : inputs.library ≡ None
   pub output : List ℕ
-  pub finished : Finished inputs output text
+  pub finished : Finished false inputs output text
 
 -- `ok: C classes, M methods, I instructions`
 abbrev pub checked_text : ℕ → ℕ → ℕ → List ℕ
@@ -149,5 +157,5 @@ IsResult tells held (Workload count) text = IsWorkload text
 -- The text is the result of the command that the words spell.
 pub record Results (words : List (List ℕ)) (tells : Bool) (held : Held) (text : List ℕ) : Type 0 where
   pub command : CommandWords
-  pub commands : Commands words command
+  pub spelled : Spells words command
   pub result : IsResult tells held command text

@@ -50,15 +50,15 @@ live_class p live class = cond (is_marked live.classes.items class.name) (class_
 abbrev pub live_text : Program → LiveSet → List ℕ
 live_text p live = flat_map (live_class p live) p.classes
 
--- The text lists what is live of the program that the file of these inputs spells, which is accepted, by a table for their
--- library: sets that hold all that the table keeps and all that something in them entails. That they are the least is not
--- said.
+-- The text lists what is live of the program that the file of these inputs spells, which is accepted, by the table of their rules
+-- and their library: sets that hold all that the table keeps and all that something in them entails. That they are the least is
+-- not said.
 pub record ListsFile (inputs : Inputs) (text : List ℕ) : Type 0 where
   pub program : Program
   pub reads : program_at inputs.file ≡ Ok program
   pub accepted : IsAccepted program
   pub outside : Outside
-  pub table : IsTableWith inputs.library program outside
+  pub table : IsTableWith inputs.rules inputs.library program outside
   pub live : LiveSet
   pub closed : IsClosedSet program outside live
   pub says : text ≡ live_text program live

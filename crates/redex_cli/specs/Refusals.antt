@@ -18,7 +18,8 @@ use Rattle.program_model.specs.declared.limits.LimitFault.{LimitFault}
 use Rattle.redex_outside.specs.Counts.{Rose}
 use Rattle.redex_outside.specs.Held.{Held}
 use Rattle.command_line.specs.declared.command.CommandWords.{CommandWords}
-use Rattle.redex_cli.specs.Commands.{Commands, CommandsNothing, Fetch, Puts, fetches, output_of}
+use Rattle.command_line.specs.Spelling.{Spells}
+use Rattle.redex_cli.specs.Commands.{Fetch, Puts, SpellsNothing, fetches, output_of}
 use Rattle.redex_cli.specs.Fetching.{Failures, AllWithin, FirstTooLong, OneBadLine, OneRose, PassesByOne}
 use Rattle.redex_cli.specs.Files.{AllRead, BytesRefused, FileCause, HasLibrary, LibraryRefused, RulesCause}
 use Rattle.redex_cli.specs.Finished.{IsOutputOf, Results}
@@ -181,56 +182,56 @@ pub record Gives (names : List Fetch) (output : Option (List ℕ)) (IsFinal : Li
 -- The count of failed fetches rose for a name that the words have fetched.
 pub record CouldNotFetch (words : List (List ℕ)) (old new : Failures) : Type 0 where
   pub command : CommandWords
-  pub commands : Commands words command
+  pub spelled : Spells words command
   pub rose : OneRose old new (fetches command)
 
 -- The count of failed puts rose for the name that the words have put.
 pub record CouldNotPut (words : List (List ℕ)) (old new : Failures) : Type 0 where
   pub command : CommandWords
-  pub commands : Commands words command
+  pub spelled : Spells words command
   pub rose : OutputRose (output_of command) old new
 
 -- A limit is passed that the words' command counts.
 pub record PassesLimit (words : List (List ℕ)) (tells : Bool) (held : Held) (fault : LimitFault) : Type 0 where
   pub command : CommandWords
-  pub commands : Commands words command
+  pub spelled : Spells words command
   pub cause : LimitCause tells held (fetches command) fault
 
 -- A fault stands in the file or the library that the words' command reads.
 pub record HasFileFault (words : List (List ℕ)) (tells : Bool) (held : Held) (fault : InputFault) : Type 0 where
   pub command : CommandWords
-  pub commands : Commands words command
+  pub spelled : Spells words command
   pub cause : FileFault tells held (fetches command) fault
 
 -- The rules that the words' command reads have this fault.
 pub record HasRulesFault (words : List (List ℕ)) (tells : Bool) (held : Held) (fault : RuleFault) : Type 0 where
   pub command : CommandWords
-  pub commands : Commands words command
+  pub spelled : Spells words command
   pub cause : RulesFault tells held (fetches command) fault
 
 -- The words' command may have this output, with this summary.
 pub record OutputBy (words : List (List ℕ)) (tells : Bool) (held : Held) (output summary : List ℕ) : Type 0 where
   pub command : CommandWords
-  pub commands : Commands words command
+  pub spelled : Spells words command
   pub final : IsOutputOf tells held command output summary
 
 -- The files that the words have fetched spell programs that are accepted, and the library declares one.
 abbrev pub ReadsAll : List (List ℕ) → Held → Type 0
-ReadsAll words held = (command : CommandWords) → Commands words command → AllRead held (fetches command)
+ReadsAll words held = (command : CommandWords) → Spells words command → AllRead held (fetches command)
 
 -- The script that the words have fetched has this first line outside the grammar.
 pub record HasBadLine (words : List (List ℕ)) (tells : Bool) (held : Held) (line : ℕ) : Type 0 where
   pub command : CommandWords
-  pub commands : Commands words command
+  pub spelled : Spells words command
   pub bad : IsTrue tells → OneBadLine held (fetches command) line
 
 -- A name that the words have fetched holds too much, and is the first. Its bytes are counted as this.
 pub record TooLong (words : List (List ℕ)) (held : Held) (counted : Counted) : Type 0 where
   pub command : CommandWords
-  pub commands : Commands words command
+  pub spelled : Spells words command
   pub first : FirstTooLong held (fetches command) counted
 
--- The words spell no command that is built: the run ends so, or memory ran out.
+-- The words spell no command: the run ends so, or memory ran out.
 abbrev pub EndsUnspelled : Status → Type 0
 EndsUnspelled Usage = Unit {0}
 EndsUnspelled NoMemory = Unit {0}
@@ -238,14 +239,14 @@ EndsUnspelled _ = ⊥
 
 -- What words may be refused with before anything is fetched.
 abbrev pub WordsRefused : List (List ℕ) → Status → Type 0
-WordsRefused words Usage = CommandsNothing words
+WordsRefused words Usage = SpellsNothing words
 WordsRefused words NoMemory = Unit {0}
 WordsRefused words _ = ⊥
 
 -- Why these words are refused with this status.
 abbrev pub CauseFor : List (List ℕ) → Bool → Held → Failures → Failures → Failures → Failures → Status → Type 0
 CauseFor words tells held fetches_old fetches_new puts_old puts_new Done = ⊥
-CauseFor words tells held fetches_old fetches_new puts_old puts_new Usage = CommandsNothing words
+CauseFor words tells held fetches_old fetches_new puts_old puts_new Usage = SpellsNothing words
 CauseFor words tells held fetches_old fetches_new puts_old puts_new (BadRules fault) = HasRulesFault words tells held fault
 CauseFor words tells held fetches_old fetches_new puts_old puts_new (BadDex fault) = HasFileFault words tells held fault
 CauseFor words tells held fetches_old fetches_new puts_old puts_new (Limit fault) = PassesLimit words tells held fault
@@ -258,7 +259,7 @@ CauseFor words tells held fetches_old fetches_new puts_old puts_new (BadScript l
 pub record RefusesFor (words : List (List ℕ)) (tells : Bool) (old new : Held)
     (fetches_old fetches_new puts_old puts_new : Failures) (status : Status) : Type 0 where
   pub cause : CauseFor words tells old fetches_old fetches_new puts_old puts_new status
-  pub unspelled : CommandsNothing words → EndsUnspelled status
+  pub unspelled : SpellsNothing words → EndsUnspelled status
   pub too_long : (counted : Counted) → IsTrue tells → TooLong words old counted → EndsTooLong counted status
   pub stays : IsTrue tells → Stays (Puts words) (OutputBy words tells old) status puts_old puts_new old new
 

@@ -17,16 +17,16 @@ use Rattle.redex_cli.specs.Tables.{IsTableWith}
 use Rattle.redex_cli.specs.declared.fetching.Inputs.{Inputs}
 
 -- The text is the lines of events, one for a step at most: exactly those that the program shows in so many steps of the play,
--- by the table for this library.
-pub record Traces (library : Option (List ℕ)) (program : Program) (play : Play) (steps : ℕ) (text : List ℕ) : Type 0 where
+-- by the table of these rules and this library.
+pub record Traces (rules : List ℕ) (library : Option (List ℕ)) (program : Program) (play : Play) (steps : ℕ) (text : List ℕ) : Type 0 where
   pub outside : Outside
-  pub table : IsTableWith library program outside
+  pub table : IsTableWith rules library program outside
   pub events : List Event
   pub says : text ≡ event_lines events
   pub few : length events ≤ steps
   pub shown : events ≡ shows (named program) (outer_of program outside) play.framework play.floats play.moves steps
 
--- The same of the program that the file of these inputs spells, which is accepted, of their library, and of the play that the
+-- The same of the program that the file of these inputs spells, which is accepted, of their rules and their library, and of the play that the
 -- script spells.
 pub record TracesFile (inputs : Inputs) (script : List ℕ) (steps : ℕ) (text : List ℕ) : Type 0 where
   pub program : Program
@@ -34,7 +34,7 @@ pub record TracesFile (inputs : Inputs) (script : List ℕ) (steps : ℕ) (text 
   pub accepted : IsAccepted program
   pub play : Play
   pub plays : play_of script ≡ Ok play
-  pub traces : Traces inputs.library program play steps text
+  pub traces : Traces inputs.rules inputs.library program play steps text
 
 -- The same of what the names hold, where the shelf tells it.
 pub record IsTraced (tells : Bool) (held : Held) (rules input : List ℕ) (library : Option (List ℕ)) (script : List ℕ) (steps : ℕ) (text : List ℕ) : Type 0 where

@@ -1,7 +1,7 @@
 //! What each command fetches and puts.
 
 ghost use Rattle.std.specs.Prelude.{◌≡◌, ◌≤◌, [], None, Some, IsTrue, IfOk, IfErr};
-ghost use Rattle.redex_cli.specs.Commands.{CountsWithin, fetches, file_alone, input_files, is_built, output_of, trace_files};
+ghost use Rattle.redex_cli.specs.Commands.{CountsWithin, fetches, file_alone, input_files, output_of, trace_files};
 ghost use Rattle.redex_cli.specs.FaultLines.{usage_text};
 ghost use Rattle.redex_cli.specs.Finished.{FinishedOf, IsChecked, IsOutputOf, IsResult, IsSummary, IsWorkload};
 ghost use Rattle.redex_cli.specs.Lists.{IsListed};
@@ -35,7 +35,13 @@ fn run_optimise<H: Shelf>(
         Ok(inputs) => inputs,
         Err(status) => return Err(status),
     };
-    let optimised = match optimise_file(alloc, inputs, words.tells.as_slice(), advisers) {
+    let optimised = match optimise_file(
+        alloc,
+        inputs,
+        words.inline,
+        words.tells.as_slice(),
+        advisers,
+    ) {
         Ok(optimised) => optimised,
         Err(status) => return Err(status),
     };
@@ -142,20 +148,6 @@ fn run_workload(
     }
 }
 
-/// Whether a command is built.
-pub fn is_built(command: &CommandWords) -> bool
-    ensures { result ≡ is_built command.now }
-{
-    match command {
-        CommandWords::Optimise(words) => !words.inline,
-        CommandWords::Nothing
-        | CommandWords::Check { .. }
-        | CommandWords::Live { .. }
-        | CommandWords::Trace { .. }
-        | CommandWords::Workload { .. } => true,
-    }
-}
-
 /// Does what a command asks for, and answers its result, which is still to be said.
 #[tactic(auto, using(crate::proofs::CommandLemmas::made_refuses, crate::proofs::CommandLemmas::made_gives))]
 pub fn perform<H: Shelf>(
@@ -164,8 +156,7 @@ pub fn perform<H: Shelf>(
     shelf: &mut H,
     advisers: Vec<Box<dyn Adviser>>,
 ) -> Result<Vec<u8>, Status>
-    requires within { CountsWithin command.now }
-    requires built { IsTrue (is_built command.now) }
+    requires { CountsWithin command.now }
     ensures given { IfOk result (λ text. Gives (fetches command.now) (output_of command.now)
         (IsOutputOf (H.tells shelf.old) (H.held shelf.old) command.now) (IsResult (H.tells shelf.old) (H.held shelf.old) command.now)
         (H.tells shelf.old) (H.held shelf.old) (H.held shelf.new) text.items) }

@@ -1,46 +1,33 @@
 //! The top call.
 
-ghost use Rattle.std.specs.Prelude.{◌≡◌, false, IsTrue, IfOk, IfErr, map, string_bytes};
+ghost use Rattle.std.specs.Prelude.{◌≡◌, IsTrue, IfOk, IfErr, map, string_bytes};
 ghost use Rattle.program_model.specs.declared.limits.Counted.{Counted};
 ghost use Rattle.command_line.specs.Spelling.{Spells};
 ghost use Rattle.command_line.specs.declared.command.CommandWords.{CommandWords};
-ghost use Rattle.redex_cli.specs.Commands.{Commands, CommandsNothing, CountsWithin, Puts, is_built};
+ghost use Rattle.redex_cli.specs.Commands.{CountsWithin, Puts, SpellsNothing};
 ghost use Rattle.redex_cli.specs.Ends.{Caused, Delivers, Ends};
 ghost use Rattle.redex_cli.specs.Finished.{Results};
 ghost use Rattle.redex_cli.specs.Refusals.{EndsTooLong, EndsUnspelled, GivesFor, OutputBy, ReadsAll, RefusesFor, TooLong, WordsRefused};
 ghost use Rattle.redex_cli.specs.Said.{Said, SaysResult, SaysStatus, unsaid};
 ghost use Rattle.redex_cli.specs.Stays.{Stays};
 
-use crate::command::{is_built, perform};
+use crate::command::perform;
 use crate::fault_lines::status_line;
 use crate::status::Status;
 use command_line::{CommandWords, read_words};
 use redex_outside::{Adviser, NoteFault, Notes, Shelf};
 use std::alloc::Global;
 
-/// The command where it is built.
-fn if_built(command: CommandWords) -> Result<CommandWords, Status>
-    ensures same { IfOk result (λ c. c ≡ command) }
-    ensures built { IfOk result (λ c. IsTrue (is_built c)) }
-    ensures refused { IfErr result (λ status. (status ≡ Status.Usage) × (is_built command ≡ false)) }
-{
-    if is_built(&command) {
-        Ok(command)
-    } else {
-        Err(Status::Usage)
-    }
-}
-
-/// The command that the words spell, which is built.
-#[tactic(auto, using(crate::proofs::WordsLemmas::spelled_within, crate::proofs::WordsLemmas::only_spelled, crate::proofs::WordsLemmas::none_spelled, crate::proofs::WordsLemmas::none_built))]
+/// The command that the words spell.
+#[tactic(auto, using(crate::proofs::WordsLemmas::spelled_within, crate::proofs::WordsLemmas::only_spelled, crate::proofs::WordsLemmas::none_spelled))]
 fn asked(alloc: Global, words: &[String]) -> Result<CommandWords, Status>
-    ensures found { IfOk result (λ command. Commands (map string_bytes words.now) command) }
-    ensures only { IfOk result (λ command. (other : CommandWords) → Commands (map string_bytes words.now) other → other ≡ command) }
+    ensures found { IfOk result (λ command. Spells (map string_bytes words.now) command) }
+    ensures only { IfOk result (λ command. (other : CommandWords) → Spells (map string_bytes words.now) other → other ≡ command) }
     ensures within { IfOk result CountsWithin }
     ensures refused { IfErr result (WordsRefused (map string_bytes words.now)) }
 {
     match read_words(alloc, words) {
-        Ok(Some(command)) => if_built(command),
+        Ok(Some(command)) => Ok(command),
         Ok(None) => Err(Status::Usage),
         Err(_) => Err(Status::NoMemory),
     }
@@ -144,8 +131,8 @@ pub fn run<H: Shelf, N: Notes>(
     ensures cause { Caused (map string_bytes words.now) (H.tells shelf.old) (H.held shelf.old) (H.fetch_faults shelf.old) (H.fetch_faults shelf.new) (H.put_faults shelf.old)
         (H.put_faults shelf.new) (N.faults notes.old) (N.faults notes.new) result }
 
-    // Words that spell no command that is built are `Usage`, and a name that holds too much is its limit.
-    ensures unspelled { CommandsNothing (map string_bytes words.now) → EndsUnspelled result }
+    // Words that spell no command are `Usage`, and a name that holds too much is its limit.
+    ensures unspelled { SpellsNothing (map string_bytes words.now) → EndsUnspelled result }
     ensures too_long { (counted : Counted) → IsTrue (H.tells shelf.old) → TooLong (map string_bytes words.now) (H.held shelf.old) counted → EndsTooLong counted result }
 
     // Where the run is done, each file that was fetched spells a program whose class graph has no fault and whose bodies

@@ -16,7 +16,8 @@ ghost use Rattle.text_defs.specs.Plays.{play_of};
 ghost use Rattle.redex_cli.specs.Accepted.{IsAccepted};
 ghost use Rattle.redex_cli.specs.Files.{AreRead, BytesRefused, FileRefused, HasGraphFault, HasTypeFault, LibraryRefused};
 ghost use Rattle.rule_text.specs.Fault.{IsFault};
-ghost use Rattle.redex_cli.specs.Finished.{Checks, Finished, IsRuled, IsWorkload, Shrunk, program_text, sizes_in};
+ghost use Rattle.rule_text.specs.ReadEntries.{IsReading};
+ghost use Rattle.redex_cli.specs.Finished.{Checks, Finished, IsWorkload, LeavesBy, Shrunk, program_text, sizes_in};
 ghost use Rattle.redex_cli.specs.Refusals.{IsLibraryRefusal, LibraryEnds, MadeRefused, ReadRefused, TraceRefused, WorkRefused};
 ghost use Rattle.redex_cli.specs.Lists.{ListsFile};
 ghost use Rattle.redex_cli.specs.Tables.{IsTableBy, IsTableFor, IsTableWith};
@@ -35,7 +36,7 @@ use dex_read::{DexFault, read_dex};
 use dex_write::write_dex;
 use hierarchy::{Hierarchy, HierarchyFault};
 use keep_rules::{RuleFault, Rules, outside_of, read_rules};
-use pipeline::optimise;
+use pipeline::{Outcome, optimise, optimise_inlined};
 use program_model::{Outside, Program};
 use reach::close;
 use read_laws::programs::reads_well_formed;
@@ -183,16 +184,17 @@ struct Input {
     outside: Outside,
 }
 
-/// What the rules keep of a program, closed.
-#[tactic(auto, using(crate::proofs::Traced::table_for))]
+/// What the rules keep of a program, closed: the table of each text from which they may have been read.
 fn closed_outside(
     alloc: Global,
     rules: &Rules,
     program: &Program,
     hierarchy: &Hierarchy,
 ) -> Result<Outside, AllocError>
-    requires { KeepsLimits program.now }
-    ensures { IfOk result (IsTableFor program.now) }
+    requires limits { KeepsLimits program.now }
+    requires formed { is_well_formed program.now ≡ true }
+    requires resolved { IsResolved program.now hierarchy.now }
+    ensures table { (text : List ℕ) → IsReading text rules.now → IfOk result (IsTableFor text program.now) }
 {
     let open = outside_of(alloc, rules, program, hierarchy)?;
     close(alloc, program, hierarchy, &open)
@@ -208,8 +210,7 @@ fn narrowed_outside(
 ) -> Result<Outside, Status>
     requires formed { is_well_formed program.now ≡ true }
     requires resolved { IsResolved program.now hierarchy.now }
-    requires table { IsTableFor program.now closed }
-    ensures table { IfOk result (IsTableBy library program.now) }
+    ensures table { (rules : List ℕ) → IsTableFor rules program.now closed → IfOk result (IsTableBy rules library program.now) }
     ensures refused { IfErr result IsLibraryRefusal }
     ensures library { IfErr result (LibraryRefused library) }
 {
@@ -234,8 +235,7 @@ fn table_with(
 ) -> Result<Outside, Status>
     requires formed { is_well_formed program.now ≡ true }
     requires resolved { IsResolved program.now hierarchy.now }
-    requires table { IsTableFor program.now closed }
-    ensures table { IfOk result (IsTableWith library program.now) }
+    ensures table { (rules : List ℕ) → IsTableFor rules program.now closed → IfOk result (IsTableWith rules library program.now) }
     ensures refused { IfErr result (LibraryEnds library) }
 {
     match library {
@@ -246,14 +246,14 @@ fn table_with(
 
 /// The rules, the file, its class graph and its types, and the library, in this order. The bytes are let go as soon as they are
 /// read.
-#[tactic(auto, using(crate::proofs::FinishedLemmas::work_reads, crate::proofs::FinishedLemmas::bytes_read, crate::proofs::FinishedLemmas::library_work, crate::proofs::FinishedLemmas::library_bytes, crate::proofs::FinishedLemmas::are_read, crate::proofs::FinishedLemmas::ruled))]
+#[tactic(auto, using(crate::proofs::FinishedLemmas::work_reads, crate::proofs::FinishedLemmas::bytes_read, crate::proofs::FinishedLemmas::library_work, crate::proofs::FinishedLemmas::library_bytes))]
 fn read_input(alloc: Global, inputs: Inputs) -> Result<Input, Status>
     requires { length inputs.rules < 2 ^ 32 }
     ensures program { IfOk result (λ input. program_at inputs.file ≡ Ok input.program) }
     ensures formed { IfOk result (λ input. is_well_formed input.program ≡ true) }
     ensures resolved { IfOk result (λ input. IsResolved input.program input.hierarchy) }
     ensures accepted { IfOk result (λ input. IsAccepted input.program) }
-    ensures ruled { IfOk result (λ input. IsRuled inputs.rules inputs.library input.program input.outside) }
+    ensures table { IfOk result (λ input. IsTableWith inputs.rules inputs.library input.program input.outside) }
     ensures read { OnOk result (AreRead inputs) }
     ensures refused { IfErr result (WorkRefused inputs) }
     ensures bytes { IfErr result (BytesRefused inputs) }
@@ -299,19 +299,41 @@ pub struct Optimised {
     pub summary: String,
 }
 
+/// What is left of a program, with calls inlined before the rounds or without.
+#[tactic(auto, using(crate::proofs::FinishedLemmas::leaves, crate::proofs::FinishedLemmas::leaves_inlined))]
+fn left_of(
+    alloc: Global,
+    program: Program,
+    outside: &Outside,
+    inline: bool,
+    panel: &mut Panel,
+) -> Result<Outcome, AllocError>
+    requires advisers { 0 ≤ vec_len panel.old.advisers }
+    requires formed { is_well_formed program ≡ true }
+    ensures leaves { IfOk result (λ outcome. LeavesBy inline program outside.now outcome.program outcome.rounds outcome.spared) }
+    ensures rounds { IfOk result (λ outcome. 1 ≤ outcome.rounds) }
+{
+    if inline {
+        optimise_inlined(alloc, program, outside, panel)
+    } else {
+        optimise(alloc, program, outside, panel)
+    }
+}
+
 /// Optimises a program, writes what is left and sums up.
 #[tactic(auto, using(crate::proofs::FinishedLemmas::shrunk))]
 fn optimise_program(
     alloc: Global,
     program: Program,
     outside: &Outside,
+    inline: bool,
     before: Sizes,
     panel: &mut Panel,
 ) -> Result<Optimised, AllocError>
     requires { is_well_formed program ≡ true }
-    ensures { IfOk result (λ optimised. Shrunk program outside.now before optimised.bytes.items (string_bytes optimised.summary)) }
+    ensures { IfOk result (λ optimised. Shrunk inline program outside.now before optimised.bytes.items (string_bytes optimised.summary)) }
 {
-    let outcome = optimise(alloc, program, outside, panel)?;
+    let outcome = left_of(alloc, program, outside, inline, panel)?;
     let bytes = write_dex(alloc, &outcome.program)?;
     let after = sizes_of(&outcome.program, bytes.len());
     let summary = summary(alloc, before, after, outcome.rounds, outcome.spared)?;
@@ -333,14 +355,15 @@ fn told(
 fn optimise_input(
     alloc: Global,
     input: Input,
+    inline: bool,
     length: usize,
     panel: &mut Panel,
 ) -> Result<Optimised, AllocError>
     requires { is_well_formed input.program ≡ true }
-    ensures { IfOk result (λ optimised. Shrunk input.program input.outside (sizes_in input.program length) optimised.bytes.items (string_bytes optimised.summary)) }
+    ensures { IfOk result (λ optimised. Shrunk inline input.program input.outside (sizes_in input.program length) optimised.bytes.items (string_bytes optimised.summary)) }
 {
     let before = sizes_of(&input.program, length);
-    optimise_program(alloc, input.program, &input.outside, before, panel)
+    optimise_program(alloc, input.program, &input.outside, inline, before, panel)
 }
 
 /// Optimises a file by its rules, and by its library where there is one.
@@ -348,11 +371,12 @@ fn optimise_input(
 pub fn optimise_file(
     alloc: Global,
     inputs: Inputs,
+    inline: bool,
     tells: &[Tell],
     advisers: Vec<Box<dyn Adviser>>,
 ) -> Result<Optimised, Status>
     requires { length inputs.rules < 2 ^ 32 }
-    ensures finished { IfOk result (λ optimised. Finished inputs optimised.bytes.items (string_bytes optimised.summary)) }
+    ensures finished { IfOk result (λ optimised. Finished inline inputs optimised.bytes.items (string_bytes optimised.summary)) }
     ensures read { OnOk result (AreRead inputs) }
     ensures refused { IfErr result (WorkRefused inputs) }
     ensures bytes { IfErr result (BytesRefused inputs) }
@@ -366,7 +390,7 @@ pub fn optimise_file(
         Ok(panel) => panel,
         Err(_) => return Err(Status::NoMemory),
     };
-    match optimise_input(alloc, input, length, &mut panel) {
+    match optimise_input(alloc, input, inline, length, &mut panel) {
         Ok(optimised) => Ok(optimised),
         Err(_) => Err(Status::NoMemory),
     }
@@ -409,7 +433,7 @@ pub fn optimise_workload(
         Ok(inputs) => inputs,
         Err(_) => return Err(Status::NoMemory),
     };
-    match optimise_file(alloc, inputs, &[], advisers) {
+    match optimise_file(alloc, inputs, false, &[], advisers) {
         Ok(optimised) => Ok(optimised.summary),
         Err(status) => Err(status),
     }
@@ -420,7 +444,7 @@ pub fn optimise_workload(
 fn live_of(alloc: Global, input: &Input) -> Result<Vec<u8>, Status>
     requires formed { is_well_formed input.now.program ≡ true }
     requires resolved { IsResolved input.now.program input.now.hierarchy }
-    ensures lists { (inputs : Inputs) → program_at inputs.file ≡ Ok input.now.program → IsAccepted input.now.program → IsTableWith inputs.library input.now.program input.now.outside
+    ensures lists { (inputs : Inputs) → program_at inputs.file ≡ Ok input.now.program → IsAccepted input.now.program → IsTableWith inputs.rules inputs.library input.now.program input.now.outside
         → IfOk result (λ text. ListsFile inputs text.items) }
     ensures refused { (inputs : Inputs) → IfErr result (WorkRefused inputs) }
     ensures bytes { (inputs : Inputs) → IfErr result (BytesRefused inputs) }
@@ -517,7 +541,8 @@ fn events_of(
 #[tactic(auto, using(crate::proofs::Traced::traces))]
 fn trace_play(alloc: Global, input: &Input, play: &Play, steps: u32) -> Result<Vec<u8>, AllocError>
     requires { IsAccepted input.now.program }
-    ensures { (library : Option (List ℕ)) → IsTableWith library input.now.program input.now.outside → IfOk result (λ text. Traces library input.now.program play.now steps text.items) }
+    ensures { (rules : List ℕ) (library : Option (List ℕ)) → IsTableWith rules library input.now.program input.now.outside
+        → IfOk result (λ text. Traces rules library input.now.program play.now steps text.items) }
 {
     let events = events_of(alloc, input, play, steps)?;
     write_events(alloc, events.as_slice())
@@ -528,7 +553,7 @@ fn trace_play(alloc: Global, input: &Input, play: &Play, steps: u32) -> Result<V
 fn trace_input(alloc: Global, input: &Input, script: &[u8], steps: u32) -> Result<Vec<u8>, Status>
     requires script { length script.now < 2 ^ 32 }
     requires accepted { IsAccepted input.now.program }
-    ensures traced { (inputs : Inputs) → program_at inputs.file ≡ Ok input.now.program → IsTableWith inputs.library input.now.program input.now.outside
+    ensures traced { (inputs : Inputs) → program_at inputs.file ≡ Ok input.now.program → IsTableWith inputs.rules inputs.library input.now.program input.now.outside
         → IfOk result (λ text. TracesFile inputs script.now steps text.items) }
     ensures refused { (inputs : Inputs) → IfErr result (TraceRefused inputs script.now) }
     ensures bytes { (inputs : Inputs) → IfErr result (BytesRefused inputs) }

@@ -1,6 +1,17 @@
-use Rattle.std.proofs.Common.{ap, string_bytes}
-use Rattle.redex_cli.proofs.CommandLemmas.{output_gives, output_refuses}
+use Rattle.std.proofs.Common.{Some, ap, string_bytes}
+use Rattle.redex_cli.specs.Finished.{FinishedOf}
+use Rattle.redex_cli.proofs.CommandLemmas.{inputs_refuse, output_gives, output_refuses}
 use Rattle.redex_cli.proofs.command.run_optimise.Goals as goal
+
+pub returns-in-Err-optimise_file-clause-refused : goal.returns-in-Err-optimise_file-clause-refused
+returns-in-Err-optimise_file-clause-refused g c =
+    let words = c.args.words.now in
+    let old = c.args.shelf.now in
+    let new = c.fetch_inputs.new.shelf in
+    inputs_refuse words.rules words.input words.library (Some words.output) (FinishedOf (g.H.Shelf.tells old) (g.H.Shelf.held old) words) c.in-Ok.inputs
+    (g.H.Shelf.tells old) (g.H.Shelf.held old) (g.H.Shelf.held new) (g.H.Shelf.fetch_faults old) (g.H.Shelf.fetch_faults new)
+    (g.H.Shelf.put_faults old) (g.H.Shelf.put_faults new) c.in-Err-optimise_file.status c.in-Err-optimise_file.ensures.refused
+    c.in-Err-optimise_file.ensures.bytes c.in-Ok.ensures.are c.in-Ok.ensures.within c.fetch_inputs.ensures.stays.held
 
 pub returns-in-Err-put-clause-refused : goal.returns-in-Err-put-clause-refused
 returns-in-Err-put-clause-refused g c =

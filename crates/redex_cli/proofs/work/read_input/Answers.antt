@@ -1,6 +1,7 @@
 use Rattle.std.proofs.Common.{List, ℕ, subst}
 use Rattle.rule_text.specs.Fault.{IsFault}
-use Rattle.redex_cli.proofs.FinishedLemmas.{ruled, library_bytes}
+use Rattle.redex_cli.proofs.FinishedLemmas.{are_read, library_bytes}
+use Rattle.redex_cli.proofs.Traced.{table_of_text}
 use Rattle.redex_cli.proofs.work.read_input.Goals as goal
 
 pub returns-in-Err-clause-refused : goal.returns-in-Err-clause-refused
@@ -10,10 +11,15 @@ returns-in-Err-clause-refused c = c.rules_status.ensures.refused c.args.inputs
 pub returns-in-Err-clause-bytes : goal.returns-in-Err-clause-bytes
 returns-in-Err-clause-bytes c = c.rules_status.ensures.file c.args.inputs
 
-pub returns-in-Ok-table_with-clause-ruled : goal.returns-in-Ok-table_with-clause-ruled
-returns-in-Ok-table_with-clause-ruled c =
-    ruled c.in-Ok.rules c.args.inputs.library c.in-Ok-read_classes.classes.program c.in-Ok-table_with.outside c.as_slice.result.now c.args.inputs.rules
-    c.as_slice.ensures c.in-Ok.ensures.ok c.in-Ok-table_with.ensures.table
+pub returns-in-Ok-table_with-clause-table : goal.returns-in-Ok-table_with-clause-table
+returns-in-Ok-table_with-clause-table c =
+    table_of_text c.as_slice.result.now c.args.inputs.rules c.args.inputs.library c.in-Ok-read_classes.classes.program c.in-Ok-table_with.outside
+    c.as_slice.ensures (c.in-Ok-table_with.ensures.table c.as_slice.result.now (c.in-Ok-closed_outside.ensures.table c.as_slice.result.now c.in-Ok.ensures.ok))
+
+pub returns-in-Ok-table_with-clause-read : goal.returns-in-Ok-table_with-clause-read
+returns-in-Ok-table_with-clause-read c =
+    are_read c.args.inputs c.in-Ok-read_classes.classes.program c.in-Ok-table_with.outside c.in-Ok-read_classes.ensures.read c.in-Ok-read_classes.ensures.accepted
+    (returns-in-Ok-table_with-clause-table c)
 
 pub returns-clause-bytes : goal.returns-clause-bytes
 returns-clause-bytes c = library_bytes c.args.inputs c.in-Ok-read_classes.classes.program c.in-Err-table_with.status c.in-Ok-read_classes.ensures.read

@@ -10,8 +10,11 @@ ghost use Rattle.hierarchy.specs.declared.build.Hierarchy.{Hierarchy};
 ghost use Rattle.facts.specs.declared.facts.Facts.{Facts};
 ghost use Rattle.inline_calls.specs.Asked.{Row};
 ghost use Rattle.inline_calls.specs.Plans.{IsInlined};
+ghost use Rattle.pipeline.specs.declared.traces.Traced.{Traced};
+ghost use Rattle.pipeline.specs.Inlining.{IsInlining};
 ghost use Rattle.pipeline.specs.Passes.{Reach, ConstProp, Devirt, CopyProp, DeadCode, Squeeze, Compact, AreKnown};
 ghost use Rattle.rounds_bridge.specs.Owed.{IsSound, Owes, Keeps};
+ghost use Rattle.stay_law.specs.Stays.{StaysInlined};
 
 /// A removal of what is not reached keeps what a pass owes, and so does a removal that is barred.
 pub fn reach_keeps_law()
@@ -55,4 +58,11 @@ pub fn inlined_owes_law()
         → IsInlined p h facts admitted q count origins rows → is_well_formed q ≡ true → AreKnown o p facts → Owes o p q }
     ensures frameless { (o : Outside) (admitted : List Bool) (p q : Program) (h : Hierarchy) (facts : Facts) (count : ℕ) (origins : List (List Origin)) (rows : List Row) → IsSound p → IsResolved p h
         → IsInlined p h facts admitted q count origins rows → is_well_formed q ≡ true → facts.frames.items ≡ [] → Owes o p q }
+{}
+
+/// What pipeline leaves of a sound program once calls are inlined before the rounds owes what a pass owes, whatever facts were taken;
+/// a method that isn't admitted stays whole, and a body has no more registers, or at most 16.
+pub fn inlining_owes_law()
+    ensures owes { (o : Outside) (admitted : List Bool) (p : Program) (t : Traced) (rows : List Row) → IsSound p → IsInlining o admitted p t rows → Owes o p t.program }
+    ensures stays { (o : Outside) (admitted : List Bool) (p : Program) (t : Traced) (rows : List Row) → IsInlining o admitted p t rows → StaysInlined admitted p t.program }
 {}

@@ -54,7 +54,7 @@ module _ (p : Program) (h : Hierarchy) (formed : is_well_formed p ≡ true) (res
   silent_named admitted q silent = ap named (is_silenced admitted q silent) ∙ silenced_named p o admitted formed
 
   -- its tables are the program's, so that what the outside names is the same
-  silent_outer : (admitted : List Bool) (q : Program) → IsSilent o.silent admitted p q → outer_of q o ≡ outer_of p o
+  pub silent_outer : (admitted : List Bool) (q : Program) → IsSilent o.silent admitted p q → outer_of q o ≡ outer_of p o
   silent_outer admitted q silent = ap (λ x. outer_of x o) (is_silenced admitted q silent)
 
   module _ (types : TypesAll p h) where

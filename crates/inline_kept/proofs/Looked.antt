@@ -12,7 +12,7 @@ use Rattle.insn_set.specs.declared.ops.InvokeKind.TheVariants as call
 use Rattle.insn_set.specs.declared.form.Insn.{Insn}
 use Rattle.insn_set.specs.declared.form.Insn.TheVariants as insn
 use Rattle.program_model.specs.Lookups.{method_at}
-use Rattle.program_model.specs.MemberRules.{has_flag, proto_of}
+use Rattle.program_model.specs.MemberRules.{has_flag}
 use Rattle.program_model.specs.ProgramRules.{is_well_formed}
 use Rattle.program_model.specs.Texts.{letter_of, is_void, is_wide}
 use Rattle.program_model.specs.declared.body.Body.{Body}
@@ -23,7 +23,6 @@ use Rattle.program_model.specs.declared.program.Class.{Class}
 use Rattle.program_model.specs.declared.program.Method.{Method}
 use Rattle.program_model.specs.declared.program.MethodAt.{MethodAt}
 use Rattle.program_model.specs.declared.program.Program.{Program}
-use Rattle.class_defs.specs.Finding.{finds_static}
 use Rattle.class_defs.proofs.WellFormed.{few_classes}
 use Rattle.hierarchy.specs.Shapes.{IsOf, IsResolved}
 use Rattle.hierarchy.specs.declared.build.Hierarchy.{Hierarchy}
@@ -34,7 +33,6 @@ use Rattle.bodies_law.specs.Others.{Pairwise}
 use Rattle.bodies_law.specs.Numbered.{NumberedCodes, OtherNumberedMethod, OtherNumberedClass, OtherNumberedBodies}
 use Rattle.fold_kept.proofs.Few.{few_members}
 use Rattle.splice.specs.declared.callee.Callee.{Callee}
-use Rattle.splice.specs.declared.spliced.Spliced.{Spliced}
 use Rattle.splice.specs.Callees.{chosen_at, taken_by}
 use Rattle.splice.specs.Moves.{parameters_of}
 use Rattle.splice.specs.Pieces.{spliced}
@@ -44,16 +42,16 @@ use Rattle.inline_calls.specs.declared.site.Caller.{Caller}
 use Rattle.inline_calls.specs.declared.caller.Inliner.{Inliner}
 use Rattle.inline_calls.specs.declared.editing.Edit.{Edit}
 use Rattle.inline_calls.specs.declared.done.Done.{Done}
-use Rattle.inline_calls.specs.Accepting.{Weighs, Unasked, Refused, Agreed, Tries, Unsuited, Suited, HasTried, Untried, Tried}
+use Rattle.inline_calls.specs.Accepting.{Tries, Unsuited, Suited, HasTried, Untried, Tried}
 use Rattle.inline_calls.specs.Asked.{Row}
-use Rattle.inline_calls.specs.Candidates.{found_by, is_suited, is_beside, is_plain, is_small, has_registers, result_stands_alone, second_behind, arg_behind, args_fit, args_behind, passes_args, result_in, result_of, takes_result, is_agreeing, receiver_in, starts_trivially, KnowsReceiver, EntersAtOnce, IsCandidate, AreCandidates, IsWith}
+use Rattle.inline_calls.specs.Candidates.{found_by, is_suited, is_beside, is_plain, is_small, has_registers, result_stands_alone, second_behind, arg_behind, args_fit, args_behind, passes_args, result_in, result_of, takes_result, is_agreeing, receiver_in, KnowsReceiver, IsCandidate}
 use Rattle.inline_calls.specs.Edited.{method_by, each_by, class_by, program_by}
-use Rattle.inline_calls.specs.Plans.{nothing_done, edit_of, IsCallerOf, HasLooked, LooksAt, Bare, Barred, Looked, HaveLooked, NoneLooked, OneLooked, LooksAtMethod, LooksInClass, LooksThrough, IsFor, IsInlined}
+use Rattle.inline_calls.specs.Plans.{nothing_done, edit_of, IsCallerOf, LooksAt, Bare, Barred, Looked, HaveLooked, NoneLooked, OneLooked, LooksAtMethod, LooksInClass, LooksThrough, IsInlined}
 use Rattle.inline_calls.specs.Rooms.{spliced_by, new_of}
 use Rattle.inline_calls.proofs.Chosen.{tried_candidates}
 use Rattle.inline_bridge.specs.Sites.{Calls, Statically, Directly, Holds, HoldsNone, HoldsOne, HoldsTwo, Passed, Plainly, Behind, TakesFrom, NeverNull, receiver_of, IsSite}
 use Rattle.inline_bridge.specs.Sites as by_number
-use Rattle.inline_bridge.proofs.Bodies.{IsCode, is_code, few_positions}
+use Rattle.inline_bridge.proofs.Bodies.{is_code, few_positions}
 use Rattle.inline_kept.specs.Spliced.{AreSites, SplicesSo, NoCode, Same, Spliced as SplicedCode}
 
 -- ---- a candidate is a site

@@ -1,10 +1,9 @@
 -- A program with copies at sites by number is by name one with accepted calls inlined.
-use Rattle.std.proofs.Common.{◌≡◌, ℕ, zero, suc, ◌+◌, ◌≤◌, Bool, true, false, true≢false, List, [], ◌∷◌, Option, Some, None, refl, sym, ap, ◌∙◌, subst, arith}
+use Rattle.std.proofs.Common.{◌≡◌, ℕ, zero, suc, ◌+◌, ◌≤◌, true, true≢false, List, [], ◌∷◌, Option, Some, None, refl, sym, ap, ◌∙◌, subst, arith}
 use Rattle.std.specs.Prelude.{if◌then◌else◌, is_some, slice_get, Contains}
 use Rattle.std.specs.Option.{option_map}
 use Rattle.lemmas.proofs.Lists.{contains_here, contains_there, get_map}
 use Rattle.lemmas.proofs.Options.{none_some, some_same}
-use Rattle.insn_set.specs.declared.form.Insn.{Insn}
 use Rattle.program_model.specs.ProgramRules.{is_well_formed}
 use Rattle.program_model.specs.declared.body.Body.{Body}
 use Rattle.program_model.specs.declared.program.Class.{Class}
@@ -20,12 +19,10 @@ use Rattle.dalvik_defs.specs.Silence.{key_in}
 use Rattle.dalvik_defs.specs.declared.names.MethodKey.{MethodKey}
 use Rattle.dalvik_defs.specs.declared.forms.Form.{Form}
 use Rattle.dalvik_defs.specs.declared.program.NamedBody.{NamedBody}
-use Rattle.dalvik_defs.specs.declared.program.NamedClass.{NamedClass}
-use Rattle.dalvik_defs.specs.declared.program.NamedMethod.{NamedMethod}
 use Rattle.dalvik_defs.specs.declared.program.NamedProgram.{NamedProgram}
 use Rattle.pass_defs.specs.Typed.{IsTyped}
 use Rattle.pass_defs.specs.Walks.{form_at, IsReached}
-use Rattle.pass_defs.specs.Inlined.{callee_of, is_among, callee_at, greatest, taken_by, inlined}
+use Rattle.pass_defs.specs.Inlined.{callee_of, is_among, callee_at, taken_by, inlined}
 use Rattle.pass_defs.specs.Inlined as by_name
 use Rattle.silence_law.specs.Results.{TakesInPlace}
 use Rattle.silence_law.proofs.WellFormed.{well_placed}
@@ -45,12 +42,11 @@ use Rattle.inline_law.proofs.Meets.{inlined_is}
 use Rattle.inline_law.proofs.Programs.{unchanged}
 use Rattle.splice.specs.declared.callee.Callee.{Callee}
 use Rattle.splice.specs.Callees.{chosen_at}
-use Rattle.splice.specs.Pieces.{body_spliced}
-use Rattle.splice_bridge.specs.Copied.{accepted_from, accepted_by, IsCopied, IsWithin, AreCopied}
+use Rattle.splice_bridge.specs.Copied.{accepted_by, IsWithin, AreCopied}
 use Rattle.splice_bridge.proofs.Chosen.{among}
 use Rattle.splice_bridge.proofs.Pieces.{spliced_named}
 use Rattle.inline_bridge.specs.Sites.{IsSite, IsSoundSite}
-use Rattle.inline_bridge.proofs.Bodies.{IsCode, is_code, is_within}
+use Rattle.inline_bridge.proofs.Bodies.{is_code, is_within}
 use Rattle.inline_bridge.proofs.Sites.{found_callee, site_found, copied, sound_site}
 use Rattle.inline_kept.specs.Spliced.{AreSites, SplicesSo}
 use Rattle.inline_kept.specs.Spliced as by_number

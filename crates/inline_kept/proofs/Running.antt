@@ -1,31 +1,27 @@
 -- What is known of the states of a run: receivers of sites aren't null, and wides that are given back are whole.
-use Rattle.std.proofs.Common.{◌≡◌, ◌⊎◌, inl, inr, ℕ, zero, suc, ◌+◌, ◌<◌, Bool, true, false, true≢false, List, [], ◌∷◌, length, map, Option, Some, None, refl, sym, ap, ap₂, ◌∙◌, subst, arith, nat_eq, eq-eqb}
-use Rattle.std.specs.Prelude.{◌&&◌, ◌||◌, is_some, slice_get, slice_index_or, Contains}
+use Rattle.std.proofs.Common.{◌≡◌, ◌⊎◌, inl, inr, ℕ, zero, suc, ◌+◌, ◌<◌, Bool, true, false, true≢false, List, [], ◌∷◌, length, map, Option, Some, refl, sym, ap, ap₂, ◌∙◌, subst, nat_eq}
+use Rattle.std.specs.Prelude.{◌&&◌, ◌||◌, is_some, slice_get, slice_index_or}
 use Rattle.std.specs.List.{list_any, list_all}
 use Rattle.std.specs.Option.{option_map, option_and_then}
 use Rattle.std.proofs.lemmas.Bool.{eqb-true}
-use Rattle.lemmas.proofs.Bools.{and_left, and_right, neither_of, not_false, or_left, clash}
+use Rattle.lemmas.proofs.Bools.{and_left, and_right, neither_of, not_false, or_left}
 use Rattle.lemmas.proofs.Lists.{get_map, got_short}
 use Rattle.lemmas.proofs.Numbers.{same_number}
 use Rattle.lemmas.proofs.Options.{none_some, some_same}
 use Rattle.insn_set.specs.Widths.{is_wide_slot}
 use Rattle.insn_set.specs.declared.ops.Slot.{Slot}
 use Rattle.insn_set.specs.declared.ops.Slot.TheVariants as slot
-use Rattle.insn_set.specs.declared.ops.InvokeKind.{InvokeKind}
 use Rattle.insn_set.specs.declared.ops.InvokeKind.TheVariants as call
 use Rattle.insn_set.specs.declared.form.Insn.{Insn}
 use Rattle.insn_set.specs.declared.form.Insn.TheVariants as insn
 use Rattle.program_model.specs.MemberRules.{has_flag}
 use Rattle.program_model.specs.ProgramRules.{is_well_formed}
-use Rattle.program_model.specs.declared.program.Class.{Class}
-use Rattle.program_model.specs.declared.program.Method.{Method}
 use Rattle.program_model.specs.declared.program.Program.{Program}
 use Rattle.class_defs.specs.ClassGraph.{IsAncestor}
-use Rattle.class_defs.specs.Starts.{is_trivial as is_trivial_at}
-use Rattle.class_defs.proofs.WellFormed.{Sound, sound, class_parts}
+use Rattle.class_defs.proofs.WellFormed.{sound, class_parts}
 use Rattle.hierarchy.specs.Shapes.{IsResolved}
 use Rattle.hierarchy.specs.declared.build.Hierarchy.{Hierarchy}
-use Rattle.domains.specs.Datum.{Datum, Plain, Single, Within}
+use Rattle.domains.specs.Datum.{Plain, Single, Within}
 use Rattle.domains.specs.Values.{Parts, value_holds}
 use Rattle.dom_frame.specs.Registers.{value_at}
 use Rattle.dom_frame.specs.declared.frames.Frame.{Frame as Values}
@@ -33,16 +29,14 @@ use Rattle.facts.specs.Lent.{frame_at}
 use Rattle.facts.specs.declared.facts.Facts.{Facts}
 use Rattle.dalvik_defs.specs.Names.{Text, is_wide}
 use Rattle.dalvik_defs.specs.Naming.{type_at, method_at, form_of, body_of, named, named_class, named_method}
-use Rattle.dalvik_defs.specs.Silence.{key_in}
 use Rattle.dalvik_defs.specs.Effect.{register}
 use Rattle.dalvik_defs.specs.Outcome.{receiver}
 use Rattle.dalvik_defs.specs.Outer.{Outer}
 use Rattle.dalvik_defs.specs.Face.{Bodies, face_of, bodies_of}
-use Rattle.dalvik_defs.specs.Find.{Found, found_in}
-use Rattle.dalvik_defs.specs.Flags.{is_static}
+use Rattle.dalvik_defs.specs.Find.{found_in}
 use Rattle.dalvik_defs.specs.Happens.{Setting}
 use Rattle.dalvik_defs.specs.Initialised.{is_trivial}
-use Rattle.dalvik_defs.specs.Quiet.{EndsWithin, quiet_within, calm_opening}
+use Rattle.dalvik_defs.specs.Quiet.{quiet_within, calm_opening}
 use Rattle.dalvik_defs.specs.Shown.{Fit}
 use Rattle.dalvik_defs.specs.Stack.{form_at as form_here}
 use Rattle.dalvik_defs.specs.State.{World, Classes, State, On, Ended, kind_of, is_null}
@@ -57,7 +51,6 @@ use Rattle.dalvik_defs.specs.declared.state.Value.TheVariants.{Word, Low, High}
 use Rattle.dalvik_defs.specs.declared.state.Waiting.{Waiting}
 use Rattle.dalvik_defs.specs.declared.state.Waiting.TheVariants.{Method as OfMethod}
 use Rattle.dalvik_defs.specs.declared.program.NamedBody.{NamedBody}
-use Rattle.dalvik_defs.specs.declared.program.NamedProgram.{NamedProgram}
 use Rattle.dalvik_defs.specs.declared.tables.Floats.{Floats}
 use Rattle.dalvik_defs.specs.declared.tables.Framework.{Framework}
 use Rattle.dalvik_defs.proofs.Quiet.{trivial_quiet}
@@ -68,8 +61,8 @@ use Rattle.pass_defs.specs.Facts as by_name
 use Rattle.pass_defs.specs.Inlined as inlining
 use Rattle.pass_defs.specs.Kinds.{Kind, Undefined, kind_eq}
 use Rattle.pass_defs.specs.Kinds as kind
-use Rattle.pass_defs.specs.Registers.{Kinds, kind_at}
-use Rattle.pass_defs.specs.Typed.{wrong_return, ends_early, is_wrong, IsTyped}
+use Rattle.pass_defs.specs.Registers.{kind_at}
+use Rattle.pass_defs.specs.Typed.{wrong_return, ends_early, IsTyped}
 use Rattle.pass_defs.specs.Walks.{form_at}
 use Rattle.invariant_law.specs.Holds.{Each, Holds as HoldsBy}
 use Rattle.invariant_law.proofs.Invariants.{holds_after}
@@ -77,7 +70,6 @@ use Rattle.invariant_law.proofs.Plain.{grown, keeps_plainly}
 use Rattle.run_facts.specs.Covered.{CoversTop}
 use Rattle.run_facts.specs.ValueAnalysis.{datum_of, value_analysis}
 use Rattle.stuck_law.specs.TypedStates.{AllHold, TypedFrame, typed_states}
-use Rattle.stuck_law.specs.Wides.{HoldsWides}
 use Rattle.stuck_law.proofs.Here.{At, at_form}
 use Rattle.stuck_law.proofs.Runs.{settled, keeps_typed, typed_opening, each_move}
 use Rattle.stuck_law.proofs.Searches.{finds_regularly}
@@ -99,7 +91,7 @@ use Rattle.fold_bridge.specs.Folds.{AreNamed, StandsAt}
 use Rattle.fold_bridge.proofs.Covered.{one_more, covered_calm}
 use Rattle.splice.specs.declared.callee.Callee.{Callee}
 use Rattle.splice.specs.Moves.{parameters_of}
-use Rattle.inline_bridge.specs.Sites.{Calls, Passed, Plainly, Behind, NeverNull, IsSite, receiver_of}
+use Rattle.inline_bridge.specs.Sites.{Calls, Passed, Behind, NeverNull, receiver_of}
 use Rattle.inline_bridge.specs.Sites as by_number
 use Rattle.inline_bridge.proofs.Sites.{found_callee, statically, flag_same, body_is}
 use Rattle.inline_kept.specs.Spliced.{SplicesSo}

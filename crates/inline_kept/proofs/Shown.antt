@@ -1,5 +1,5 @@
 -- A program with copies at sites shows the same.
-use Rattle.std.proofs.Common.{◌≡◌, ℕ, suc, true, List, [], length, sym}
+use Rattle.std.proofs.Common.{◌≡◌, ℕ, true, List, [], sym}
 use Rattle.program_model.specs.ProgramRules.{is_well_formed}
 use Rattle.program_model.specs.declared.program.Program.{Program}
 use Rattle.class_defs.specs.ClassGraph.{IsAncestor}
@@ -10,7 +10,6 @@ use Rattle.facts.specs.declared.facts.Facts.{Facts}
 use Rattle.dalvik_defs.specs.Naming.{named}
 use Rattle.dalvik_defs.specs.Outer.{Outer}
 use Rattle.dalvik_defs.specs.Shown.{Fit, SameShown}
-use Rattle.dalvik_defs.specs.State.{State}
 use Rattle.dalvik_defs.specs.declared.script.Move.{Move}
 use Rattle.dalvik_defs.specs.declared.tables.Floats.{Floats}
 use Rattle.dalvik_defs.specs.declared.tables.Framework.{Framework}

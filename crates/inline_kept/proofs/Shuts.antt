@@ -3,11 +3,9 @@ use Rattle.std.proofs.Common.{◌≡◌, ◌⊎◌, inl, inr, ℕ, zero, suc, �
 use Rattle.std.specs.Prelude.{◌||◌, if◌then◌else◌, slice_get, option_and_then}
 use Rattle.std.specs.List.{list_any}
 use Rattle.std.specs.Option.{option_map}
-use Rattle.std.proofs.lemmas.Bool.{or_cases}
-use Rattle.lemmas.proofs.Bools.{or_left, or_right, clash}
+use Rattle.lemmas.proofs.Bools.{or_left, or_right}
 use Rattle.lemmas.proofs.Lists.{map_append}
 use Rattle.lemmas.proofs.Options.{none_some, some_same}
-use Rattle.insn_set.specs.declared.ops.Slot.{Slot}
 use Rattle.insn_set.specs.declared.ops.InvokeKind.TheVariants as call
 use Rattle.program_model.specs.Lookups.{method_at}
 use Rattle.program_model.specs.ProgramRules.{is_well_formed}
@@ -37,17 +35,14 @@ use Rattle.pass_defs.specs.Inlined.{Callee, Taken, Piece, taken_by, callee_at, g
 use Rattle.removal_law.specs.Left.{In, here, there}
 use Rattle.removal_law.specs.Reach.{ShutsHold}
 use Rattle.removal_law.proofs.Outward.{any_here}
-use Rattle.removal_law.proofs.ShutLeft.{any_code, Code, some_code, code_there}
-use Rattle.bodies_law.specs.Others.{OtherMethod, OtherClass, OtherBodies}
+use Rattle.removal_law.proofs.ShutLeft.{any_code, some_code}
+use Rattle.bodies_law.specs.Others.{OtherMethod, OtherClass}
 use Rattle.bodies_law.specs.Numbered.{OtherNumberedBodies}
 use Rattle.shut_law.specs.Said.{Said, Quiet, said}
 use Rattle.shut_law.proofs.Changed.{partner, other_holds}
-use Rattle.splice.specs.declared.callee.Callee.{Callee as Numbered}
 use Rattle.splice_bridge.specs.Copied.{accepted_by}
-use Rattle.inline_bridge.proofs.Sites.{body_is}
-use Rattle.inline_bridge.specs.Sites.{IsSite}
-use Rattle.inline_kept.specs.Spliced.{AreSites, SplicesSo}
-use Rattle.inline_kept.proofs.Named.{SplicesNamed, NoCode, Same, Spliced, named_others, SiteThere, site_there}
+use Rattle.inline_kept.specs.Spliced.{SplicesSo}
+use Rattle.inline_kept.proofs.Named.{SplicesNamed, NoCode, Same, Spliced, named_others, site_there}
 
 -- ---- what forms say
 

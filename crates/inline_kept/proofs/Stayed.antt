@@ -14,7 +14,7 @@ use Rattle.program_model.specs.declared.program.Program.{Program}
 use Rattle.hierarchy.specs.declared.build.Hierarchy.{Hierarchy}
 use Rattle.facts.specs.declared.facts.Facts.{Facts}
 use Rattle.splice.specs.declared.callee.Callee.{Callee}
-use Rattle.splice.specs.Callees.{chosen_at, registers_of, greatest}
+use Rattle.splice.specs.Callees.{chosen_at, greatest}
 use Rattle.splice.specs.Shifted.{shifted, word}
 use Rattle.inline_calls.specs.declared.site.Caller.{Caller}
 use Rattle.inline_calls.specs.declared.caller.Inliner.{Inliner}
@@ -24,13 +24,13 @@ use Rattle.inline_calls.specs.Accepting.{HasTried}
 use Rattle.inline_calls.specs.Asked.{Row}
 use Rattle.inline_calls.specs.declared.site.Known.{Known}
 use Rattle.inline_calls.specs.Candidates.{IsCandidate, is_beside, is_plain, is_small, has_registers, result_stands_alone}
-use Rattle.inline_calls.specs.Edited.{method_by, each_by, class_by, program_by}
+use Rattle.inline_calls.specs.Edited.{method_by, each_by, class_by}
 use Rattle.inline_calls.specs.Plans.{nothing_done, edit_of, IsCallerOf, LooksAt, Bare, Barred, Looked, LooksAtMethod, LooksInClass, IsInlined}
 use Rattle.inline_calls.specs.Rooms.{spliced_by, new_of}
 use Rattle.inline_calls.proofs.Chosen.{tried_candidates}
 use Rattle.stay_law.specs.Stays.{FewRegisters, MethodStaysBy, ClassStaysBy, StaysInlined}
 use Rattle.stay_law.proofs.Staying.{few_same, method_same_by}
-use Rattle.inline_kept.proofs.Looked.{IsSome, tried_some, looked_long, LookedAt, looked_at}
+use Rattle.inline_kept.proofs.Looked.{IsSome, tried_some, looked_long, looked_at}
 
 -- what stands in a list that is changed item by item comes of what stood at its place
 record WasThere {A E : Type 0} (by : E → A → A) (es : List E) (xs : List A) (k : ℕ) (y : A) : Type 0 where

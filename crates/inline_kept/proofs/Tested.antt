@@ -1,5 +1,5 @@
 -- Each new body has a typing by name, since the pass tested it: so what is left of a typed program is typed.
-use Rattle.std.proofs.Common.{◌≡◌, ◌⊎◌, inl, inr, ℕ, zero, suc, ◌<◌, ◌≤◌, Bool, true, false, List, [], ◌∷◌, length, Option, Some, None, refl, sym, ap, ap₂, ◌∙◌, subst}
+use Rattle.std.proofs.Common.{◌≡◌, ◌⊎◌, inl, inr, ℕ, zero, suc, ◌<◌, ◌≤◌, Bool, true, List, [], ◌∷◌, length, Option, Some, None, refl, sym, ap, ap₂, ◌∙◌, subst}
 use Rattle.std.specs.Prelude.{is_some, slice_get, option_and_then, Contains}
 use Rattle.std.specs.Option.{option_map}
 use Rattle.lemmas.proofs.Options.{none_some, some_same}
@@ -49,16 +49,15 @@ use Rattle.stuck_law.proofs.Here.{into_map}
 use Rattle.stuck_bridge.proofs.Formed.{regular_program}
 use Rattle.splice.specs.declared.callee.Callee.{Callee}
 use Rattle.splice.specs.declared.spliced.Spliced.{Spliced}
-use Rattle.splice.specs.Pieces.{spliced}
 use Rattle.inline_calls.specs.declared.site.Caller.{Caller}
 use Rattle.inline_calls.specs.declared.caller.Inliner.{Inliner}
 use Rattle.inline_calls.specs.declared.editing.Edit.{Edit}
 use Rattle.inline_calls.specs.declared.done.Done.{Done}
-use Rattle.inline_calls.specs.Accepting.{Weighs, Unasked, Refused, Agreed, Tries, Unsuited, Suited, HasTried, Untried, Tried}
+use Rattle.inline_calls.specs.Accepting.{Weighs, Agreed, Tries, Unsuited, Suited, HasTried, Untried, Tried}
 use Rattle.inline_calls.specs.Asked.{Row}
 use Rattle.inline_calls.specs.Edited.{method_by, each_by, class_by, program_by}
-use Rattle.inline_calls.specs.Plans.{nothing_done, edit_of, IsCallerOf, HasLooked, LooksAt, Bare, Barred, Looked, IsInlined}
-use Rattle.inline_calls.specs.Rooms.{IsTypedWith, HasRoom, spliced_by, new_of}
+use Rattle.inline_calls.specs.Plans.{nothing_done, edit_of, IsCallerOf, LooksAt, Bare, Barred, Looked, IsInlined}
+use Rattle.inline_calls.specs.Rooms.{HasRoom, spliced_by, new_of}
 use Rattle.inline_kept.proofs.Named.{contains_at}
 use Rattle.inline_kept.proofs.Looked.{all_classes}
 

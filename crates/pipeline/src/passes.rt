@@ -1,6 +1,6 @@
 //! The passes of a round, each over a whole program.
 
-ghost use Rattle.std.specs.Prelude.{◌≡◌, ◌∷◌, [], Bool, true, false, List, Some, IfOk, IfSome};
+ghost use Rattle.std.specs.Prelude.{◌≡◌, ◌∷◌, [], Bool, true, false, List, Some, IfOk, IfSome, OnOk};
 ghost use Rattle.std.specs.List.{list_any};
 ghost use Rattle.program_model.specs.ProgramRules.{is_well_formed};
 ghost use Rattle.hierarchy.specs.Shapes.{IsResolved};
@@ -32,19 +32,20 @@ fn unchanged(traced: Traced) -> Passed
     }
 }
 
-/// The hierarchy of what a pass left of a program: the program's own where nothing changed.
-fn graph_after(
+/// Makes a hierarchy that of what a pass left of a program: it stays where nothing changed, and is built again where something
+/// did.
+fn refresh_graph(
     alloc: Global,
-    hierarchy: Hierarchy,
+    graph: &mut Option<Hierarchy>,
     passed: &Passed,
-) -> Result<Option<Hierarchy>, AllocError>
-    ensures { (p : Program) → IsGraph p (Some hierarchy) → (total_of passed.now.changes ≡ 0 → passed.now.traced.program ≡ p) → IfOk result (IsGraph passed.now.traced.program) }
+) -> Result<(), AllocError>
+    ensures { (p : Program) → IsGraph p graph.old → (total_of passed.now.changes ≡ 0 → passed.now.traced.program ≡ p) → OnOk result (IsGraph passed.now.traced.program graph.new) }
 {
     if passed.changes.is_none() {
-        Ok(Some(hierarchy))
-    } else {
-        Ok(hierarchy_of(alloc, &passed.traced.program)?)
+        return Ok(());
     }
+    *graph = hierarchy_of(alloc, &passed.traced.program)?;
+    Ok(())
 }
 
 /// Removes what is not reached by a program's hierarchy. The only error is want of memory.
@@ -62,40 +63,39 @@ fn remove_by(
     Ok(left_by(traced.origins, changed, changes))
 }
 
-/// The same, with the hierarchy of what is left.
+/// The same, unless the class graph has a fault.
 fn remove_graphed(
     alloc: Global,
     traced: Traced,
-    hierarchy: Hierarchy,
+    graph: &Option<Hierarchy>,
     outside: &Outside,
-) -> Result<(Passed, Option<Hierarchy>), AllocError>
+) -> Result<Passed, AllocError>
     requires { outside.now.shrink ≡ true }
-    ensures passed { IsGraph traced.program (Some hierarchy) → IfOk result (λ left. (admitted : List Bool) → HavePassed outside.now admitted (Reach ∷ []) traced left.0) }
-    ensures graph { IsGraph traced.program (Some hierarchy) → IfOk result (λ left. IsGraph left.0.traced.program left.1) }
+    ensures { IsGraph traced.program graph.now → IfOk result (λ passed. (admitted : List Bool) → HavePassed outside.now admitted (Reach ∷ []) traced passed) }
 {
-    let passed = remove_by(alloc, traced, &hierarchy, outside)?;
-    let graph = graph_after(alloc, hierarchy, &passed)?;
-    Ok((passed, graph))
+    match graph {
+        Some(hierarchy) => remove_by(alloc, traced, hierarchy, outside),
+        None => Ok(unchanged(traced)),
+    }
 }
 
-/// Removes what is not reached, unless the rules forbid it or the class graph has a fault. The only error is want of
-/// memory.
+/// Removes what is not reached, unless the rules forbid it or the class graph has a fault; the graph is then that of what is
+/// left. The only error is want of memory.
 pub fn remove_unreached(
     alloc: Global,
     traced: Traced,
+    graph: &mut Option<Hierarchy>,
     outside: &Outside,
-) -> Result<(Passed, Option<Hierarchy>), AllocError>
-    ensures passed { IfOk result (λ left. (admitted : List Bool) → HavePassed outside.now admitted (Reach ∷ []) traced left.0) }
-    ensures graph { IfOk result (λ left. IsGraph left.0.traced.program left.1) }
+) -> Result<Passed, AllocError>
+    ensures passed { IsGraph traced.program graph.old → IfOk result (λ passed. (admitted : List Bool) → HavePassed outside.now admitted (Reach ∷ []) traced passed) }
+    ensures graph { IsGraph traced.program graph.old → IfOk result (λ passed. IsGraph passed.traced.program graph.new) }
 {
-    let graph = hierarchy_of(alloc, &traced.program)?;
     if !outside.shrink {
-        return Ok((unchanged(traced), graph));
+        return Ok(unchanged(traced));
     }
-    match graph {
-        Some(hierarchy) => Ok(remove_graphed(alloc, traced, hierarchy, outside)?),
-        None => Ok((unchanged(traced), None)),
-    }
+    let passed = remove_graphed(alloc, traced, graph, outside)?;
+    refresh_graph(alloc, graph, &passed)?;
+    Ok(passed)
 }
 
 /// Whether any method may be rewritten.
@@ -174,24 +174,24 @@ pub fn facts_of(
     }
 }
 
-/// Facts of what a pass left of a program: the program's own where nothing changed. The only error is want of memory.
-pub fn facts_after(
+/// Makes facts those of what a pass left of a program: they stay where nothing changed. The only error is want of memory.
+pub fn refresh_facts(
     alloc: Global,
+    facts: &mut Option<Facts>,
     passed: &Passed,
     graph: &Option<Hierarchy>,
-    facts: Option<Facts>,
     outside: &Outside,
     admitted: &Admitted,
-) -> Result<Option<Facts>, AllocError>
-    ensures { (p : Program) → IsGraph passed.now.traced.program graph.now → IsAnalysis outside.now admitted.now.methods.items p facts
+) -> Result<(), AllocError>
+    ensures { (p : Program) → IsGraph passed.now.traced.program graph.now → IsAnalysis outside.now admitted.now.methods.items p facts.old
         → (total_of passed.now.changes ≡ 0 → passed.now.traced.program ≡ p)
-        → IfOk result (IsAnalysis outside.now admitted.now.methods.items passed.now.traced.program) }
+        → OnOk result (IsAnalysis outside.now admitted.now.methods.items passed.now.traced.program facts.new) }
 {
     if passed.changes.is_none() {
-        return Ok(facts);
+        return Ok(());
     }
-    let facts = facts_of(alloc, &passed.traced.program, graph, outside, admitted)?;
-    Ok(facts)
+    *facts = facts_of(alloc, &passed.traced.program, graph, outside, admitted)?;
+    Ok(())
 }
 
 /// Folds what facts say of the instructions of admitted methods, by a program's hierarchy. The only error is want of memory.
@@ -228,28 +228,40 @@ fn fold_by(
     }
 }
 
+/// The same, unless the class graph has a fault.
+fn fold_graphed(
+    alloc: Global,
+    traced: Traced,
+    graph: &Option<Hierarchy>,
+    facts: &Option<Facts>,
+    admitted: &Admitted,
+) -> Result<Passed, AllocError>
+    ensures { IsGraph traced.program graph.now → (outside : Outside) → IsAnalysis outside admitted.now.methods.items traced.program facts.now
+        → IfOk result (HavePassed outside admitted.now.methods.items (ConstProp ∷ []) traced) }
+{
+    match graph {
+        Some(hierarchy) => fold_by(alloc, traced, hierarchy, facts, admitted),
+        None => Ok(unchanged(traced)),
+    }
+}
+
 /// Makes constants of instructions of admitted methods whose results are known in every run, and gotos or nops of branches
-/// whose outcomes are, where facts are known; with the hierarchy of what is left. The only error is want of memory.
+/// whose outcomes are, where facts are known; the graph is then that of what is left. The only error is want of memory.
 pub fn fold_constants(
     alloc: Global,
     traced: Traced,
-    graph: Option<Hierarchy>,
+    graph: &mut Option<Hierarchy>,
     facts: &Option<Facts>,
     admitted: &Admitted,
-) -> Result<(Passed, Option<Hierarchy>), AllocError>
-    ensures passed { IsGraph traced.program graph → (outside : Outside) → IsAnalysis outside admitted.now.methods.items traced.program facts.now
-        → IfOk result (λ left. HavePassed outside admitted.now.methods.items (ConstProp ∷ []) traced left.0) }
-    ensures graph { IsGraph traced.program graph → (outside : Outside) → IsAnalysis outside admitted.now.methods.items traced.program facts.now
-        → IfOk result (λ left. IsGraph left.0.traced.program left.1) }
+) -> Result<Passed, AllocError>
+    ensures passed { IsGraph traced.program graph.old → (outside : Outside) → IsAnalysis outside admitted.now.methods.items traced.program facts.now
+        → IfOk result (HavePassed outside admitted.now.methods.items (ConstProp ∷ []) traced) }
+    ensures graph { IsGraph traced.program graph.old → (outside : Outside) → IsAnalysis outside admitted.now.methods.items traced.program facts.now
+        → IfOk result (λ passed. IsGraph passed.traced.program graph.new) }
 {
-    match graph {
-        Some(hierarchy) => {
-            let passed = fold_by(alloc, traced, &hierarchy, facts, admitted)?;
-            let graph = graph_after(alloc, hierarchy, &passed)?;
-            Ok((passed, graph))
-        }
-        None => Ok((unchanged(traced), None)),
-    }
+    let passed = fold_graphed(alloc, traced, graph, facts, admitted)?;
+    refresh_graph(alloc, graph, &passed)?;
+    Ok(passed)
 }
 
 /// Lets calls in admitted methods name what all their receivers find, by a program's hierarchy and facts. The only error is
@@ -286,28 +298,40 @@ fn rebind_by(
     }
 }
 
+/// The same, unless the class graph has a fault.
+fn rebind_graphed(
+    alloc: Global,
+    traced: Traced,
+    graph: &Option<Hierarchy>,
+    facts: &Option<Facts>,
+    admitted: &Admitted,
+) -> Result<Passed, AllocError>
+    ensures { IsGraph traced.program graph.now → (outside : Outside) → IsAnalysis outside admitted.now.methods.items traced.program facts.now
+        → IfOk result (HavePassed outside admitted.now.methods.items (Devirt ∷ []) traced) }
+{
+    match graph {
+        Some(hierarchy) => rebind_by(alloc, traced, hierarchy, facts, admitted),
+        None => Ok(unchanged(traced)),
+    }
+}
+
 /// Lets virtual and interface calls in admitted methods name the one method that all their receivers find, where facts are
-/// known; with the hierarchy of what is left. The only error is want of memory.
+/// known; the graph is then that of what is left. The only error is want of memory.
 pub fn rebind_calls(
     alloc: Global,
     traced: Traced,
-    graph: Option<Hierarchy>,
+    graph: &mut Option<Hierarchy>,
     facts: &Option<Facts>,
     admitted: &Admitted,
-) -> Result<(Passed, Option<Hierarchy>), AllocError>
-    ensures passed { IsGraph traced.program graph → (outside : Outside) → IsAnalysis outside admitted.now.methods.items traced.program facts.now
-        → IfOk result (λ left. HavePassed outside admitted.now.methods.items (Devirt ∷ []) traced left.0) }
-    ensures graph { IsGraph traced.program graph → (outside : Outside) → IsAnalysis outside admitted.now.methods.items traced.program facts.now
-        → IfOk result (λ left. IsGraph left.0.traced.program left.1) }
+) -> Result<Passed, AllocError>
+    ensures passed { IsGraph traced.program graph.old → (outside : Outside) → IsAnalysis outside admitted.now.methods.items traced.program facts.now
+        → IfOk result (HavePassed outside admitted.now.methods.items (Devirt ∷ []) traced) }
+    ensures graph { IsGraph traced.program graph.old → (outside : Outside) → IsAnalysis outside admitted.now.methods.items traced.program facts.now
+        → IfOk result (λ passed. IsGraph passed.traced.program graph.new) }
 {
-    match graph {
-        Some(hierarchy) => {
-            let passed = rebind_by(alloc, traced, &hierarchy, facts, admitted)?;
-            let graph = graph_after(alloc, hierarchy, &passed)?;
-            Ok((passed, graph))
-        }
-        None => Ok((unchanged(traced), None)),
-    }
+    let passed = rebind_graphed(alloc, traced, graph, facts, admitted)?;
+    refresh_graph(alloc, graph, &passed)?;
+    Ok(passed)
 }
 
 /// Whether every body of a program is well typed. The only error is want of memory.
@@ -363,25 +387,35 @@ fn propagate_by(
     Ok(left_by(traced.origins, changed, changes))
 }
 
+/// The same, unless the class graph has a fault.
+fn propagate_graphed(
+    alloc: Global,
+    traced: Traced,
+    graph: &Option<Hierarchy>,
+    admitted: &Admitted,
+) -> Result<Passed, AllocError>
+    ensures { IsGraph traced.program graph.now → IfOk result (λ passed. (outside : Outside) → HavePassed outside admitted.now.methods.items (CopyProp ∷ []) traced passed) }
+{
+    match graph {
+        Some(hierarchy) => propagate_by(alloc, traced, hierarchy, admitted),
+        None => Ok(unchanged(traced)),
+    }
+}
+
 /// Lets stale reads of admitted methods read originals, unless the class graph has a fault, the program names a method of a
-/// wide type, or some body is ill typed; with the hierarchy of what is left. The only error is want of memory.
+/// wide type, or some body is ill typed; the graph is then that of what is left. The only error is want of memory.
 pub fn propagate_copies(
     alloc: Global,
     traced: Traced,
-    graph: Option<Hierarchy>,
+    graph: &mut Option<Hierarchy>,
     admitted: &Admitted,
-) -> Result<(Passed, Option<Hierarchy>), AllocError>
-    ensures passed { IsGraph traced.program graph → IfOk result (λ left. (outside : Outside) → HavePassed outside admitted.now.methods.items (CopyProp ∷ []) traced left.0) }
-    ensures graph { IsGraph traced.program graph → IfOk result (λ left. IsGraph left.0.traced.program left.1) }
+) -> Result<Passed, AllocError>
+    ensures passed { IsGraph traced.program graph.old → IfOk result (λ passed. (outside : Outside) → HavePassed outside admitted.now.methods.items (CopyProp ∷ []) traced passed) }
+    ensures graph { IsGraph traced.program graph.old → IfOk result (λ passed. IsGraph passed.traced.program graph.new) }
 {
-    match graph {
-        Some(hierarchy) => {
-            let passed = propagate_by(alloc, traced, &hierarchy, admitted)?;
-            let graph = graph_after(alloc, hierarchy, &passed)?;
-            Ok((passed, graph))
-        }
-        None => Ok((unchanged(traced), None)),
-    }
+    let passed = propagate_graphed(alloc, traced, graph, admitted)?;
+    refresh_graph(alloc, graph, &passed)?;
+    Ok(passed)
 }
 
 /// Takes what computes what nobody reads out of the bodies of admitted methods, unless the class graph has a fault. A

@@ -10,7 +10,7 @@ ghost use Rattle.moves_law.specs.Measure.{moves_in};
 ghost use Rattle.pipeline.specs.Changes.{bulk_of, total_of};
 ghost use Rattle.pipeline.specs.Counts.{members_of, insns_of};
 ghost use Rattle.pipeline.specs.Graph.{IsGraph};
-ghost use Rattle.pipeline.specs.Passes.{ConstProp, Devirt, passes, HavePassed};
+ghost use Rattle.pipeline.specs.Passes.{ConstProp, Devirt, passes, HavePassed, IsAnalysis};
 ghost use Rattle.pipeline.specs.Inlined.{InlinedBegins, IsOptimisedInlined};
 ghost use Rattle.pipeline.specs.Prepared.{IsAdvisedBy, IsPrepared, MayBegin};
 ghost use Rattle.pipeline.specs.Replies.{HaveTaken};
@@ -21,12 +21,13 @@ use crate::counts::{count_instructions, count_members};
 use crate::graph::hierarchy_of;
 use crate::inlined::inline_sites;
 use crate::passes::{
-    clean_bodies, compact_bodies, facts_after, facts_of, fold_constants, propagate_copies,
-    rebind_calls, remove_unreached, squeeze_bodies,
+    clean_bodies, compact_bodies, facts_of, fold_constants, propagate_copies, rebind_calls,
+    refresh_facts, remove_unreached, squeeze_bodies,
 };
 use crate::silent::silence;
 use crate::traces::{Passed, Traced, and_then, unmoved};
 use call_graph::live_members;
+use facts::Facts;
 use hierarchy::Hierarchy;
 use program_model::{Admitted, Origin, Outside, Program};
 use redex_outside::{Adviser, Panel};
@@ -82,25 +83,65 @@ fn advice_on(
     }
 }
 
-/// The passes that take facts, each those of the program as it stands before it; with the hierarchy of what is left.
+/// The passes that take facts, by those of the program, which are then made those of what each leaves, as the graph is.
+fn value_passes_by(
+    alloc: Global,
+    traced: Traced,
+    graph: &mut Option<Hierarchy>,
+    facts: &mut Option<Facts>,
+    outside: &Outside,
+    admitted: &Admitted,
+) -> Result<Passed, AllocError>
+    ensures passed { IsGraph traced.program graph.old → IsAnalysis outside.now admitted.now.methods.items traced.program facts.old
+        → IfOk result (HavePassed outside.now admitted.now.methods.items (ConstProp ∷ Devirt ∷ []) traced) }
+    ensures graph { IsGraph traced.program graph.old → IsAnalysis outside.now admitted.now.methods.items traced.program facts.old
+        → IfOk result (λ passed. IsGraph passed.traced.program graph.new) }
+{
+    let folded = fold_constants(alloc, traced, graph, facts, admitted)?;
+    refresh_facts(alloc, facts, &folded, graph, outside, admitted)?;
+    let rebound = rebind_calls(alloc, folded.traced, graph, facts, admitted)?;
+    Ok(and_then(folded.changes, rebound))
+}
+
+/// The passes that take facts, each those of the program as it stands before it; the graph is then that of what is left.
 fn value_passes(
     alloc: Global,
     traced: Traced,
-    graph: Option<Hierarchy>,
+    graph: &mut Option<Hierarchy>,
     outside: &Outside,
     admitted: &Admitted,
-) -> Result<(Passed, Option<Hierarchy>), AllocError>
-    ensures passed { IsGraph traced.program graph → IfOk result (λ left. HavePassed outside.now admitted.now.methods.items (ConstProp ∷ Devirt ∷ []) traced left.0) }
-    ensures graph { IsGraph traced.program graph → IfOk result (λ left. IsGraph left.0.traced.program left.1) }
+) -> Result<Passed, AllocError>
+    ensures passed { IsGraph traced.program graph.old → IfOk result (HavePassed outside.now admitted.now.methods.items (ConstProp ∷ Devirt ∷ []) traced) }
+    ensures graph { IsGraph traced.program graph.old → IfOk result (λ passed. IsGraph passed.traced.program graph.new) }
 {
-    let facts = facts_of(alloc, &traced.program, &graph, outside, admitted)?;
-    let (folded, graph) = fold_constants(alloc, traced, graph, &facts, admitted)?;
-    let facts = facts_after(alloc, &folded, &graph, facts, outside, admitted)?;
-    let (rebound, graph) = rebind_calls(alloc, folded.traced, graph, &facts, admitted)?;
-    Ok((and_then(folded.changes, rebound), graph))
+    let mut facts = facts_of(alloc, &traced.program, graph, outside, admitted)?;
+    value_passes_by(alloc, traced, graph, &mut facts, outside, admitted)
 }
 
-/// One round: each pass once, in its order.
+/// Each pass once, in its order, by the graph of the program as it stands before it.
+fn all_passes(
+    alloc: Global,
+    traced: Traced,
+    graph: &mut Option<Hierarchy>,
+    outside: &Outside,
+    admitted: &Admitted,
+) -> Result<Passed, AllocError>
+    ensures { IsGraph traced.program graph.old → IfOk result (HavePassed outside.now admitted.now.methods.items passes traced) }
+{
+    let reached = remove_unreached(alloc, traced, graph, outside)?;
+    let valued = value_passes(alloc, reached.traced, graph, outside, admitted)?;
+    let valued = and_then(reached.changes, valued);
+    let copied = propagate_copies(alloc, valued.traced, graph, admitted)?;
+    let copied = and_then(valued.changes, copied);
+    let cleaned = clean_bodies(alloc, copied.traced, graph, admitted)?;
+    let cleaned = and_then(copied.changes, cleaned);
+    let squeezed = squeeze_bodies(alloc, cleaned.traced, admitted)?;
+    let squeezed = and_then(cleaned.changes, squeezed);
+    let compacted = compact_bodies(alloc, squeezed.traced, admitted)?;
+    Ok(and_then(squeezed.changes, compacted))
+}
+
+/// One round: each pass once, in its order. It owns the graph, which the passes are lent.
 fn round(
     alloc: Global,
     traced: Traced,
@@ -109,17 +150,8 @@ fn round(
 ) -> Result<Passed, AllocError>
     ensures { IfOk result (HavePassed outside.now admitted.now.methods.items passes traced) }
 {
-    let (reached, graph) = remove_unreached(alloc, traced, outside)?;
-    let (valued, graph) = value_passes(alloc, reached.traced, graph, outside, admitted)?;
-    let valued = and_then(reached.changes, valued);
-    let (copied, graph) = propagate_copies(alloc, valued.traced, graph, admitted)?;
-    let copied = and_then(valued.changes, copied);
-    let cleaned = clean_bodies(alloc, copied.traced, &graph, admitted)?;
-    let cleaned = and_then(copied.changes, cleaned);
-    let squeezed = squeeze_bodies(alloc, cleaned.traced, admitted)?;
-    let squeezed = and_then(cleaned.changes, squeezed);
-    let compacted = compact_bodies(alloc, squeezed.traced, admitted)?;
-    Ok(and_then(squeezed.changes, compacted))
+    let mut graph = hierarchy_of(alloc, &traced.program)?;
+    all_passes(alloc, traced, &mut graph, outside, admitted)
 }
 
 /// Rounds, until one changes more than the numbers of registers, or nothing: what the last one left, and how many ran.
